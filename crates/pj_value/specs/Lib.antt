@@ -1,0 +1,5 @@
+pub mod Bags
+pub mod Laws
+pub mod Options
+pub mod Values
+pub mod Texts

@@ -1,0 +1,64 @@
+// Each call that takes memory, once with ample memory, on values from outside.
+use super::*;
+use std::alloc::Global;
+use std::cmp::Ordering;
+
+fn text(alloc: Global, bytes: &[u8]) -> Result<Value, NoMemory> {
+    Ok(Value::Text(List::copy_of(alloc, bytes)?))
+}
+
+fn two_columns(alloc: Global) -> Result<Row, NoMemory> {
+    let mut values = List::new(alloc);
+    values.push(Value::Int(1))?;
+    values.push(text(alloc, b"ann")?)?;
+    Ok(Row::of(values))
+}
+
+#[test]
+fn lists_grow(rt: HostRuntime) {
+    let mut list = List::new(rt.alloc());
+    assert_eq!(rt; list.push(7u8), Ok(()));
+    assert_eq!(rt; list.append(&[8, 9]), Ok(()));
+    let more = List::copy_of(rt.alloc(), &[1u8, 2]);
+    assert!(rt; matches!(&more, Ok(more) if more.as_slice() == [1u8, 2].as_slice()));
+    assert!(rt; list.as_slice() == [7u8, 8, 9].as_slice());
+}
+
+#[test]
+fn values_are_spelled(rt: HostRuntime) {
+    let alloc = rt.alloc();
+    for (bytes, spelling) in [
+        (b"ann".as_slice(), b"\"ann\"".as_slice()),
+        (b"q\"\\\nA", b"\"q\\\"\\\\\\nA\""),
+        (b"\r\t\x00\x1f\x7f\xff", b"\"\\r\\t\\x00\\x1f\\x7f\xff\""),
+        (b"", b"\"\""),
+    ] {
+        let mut out = List::new(alloc);
+        let value = text(alloc, bytes);
+        assert!(rt; matches!(&value, Ok(value) if value_text(alloc, value, &mut out).is_ok()));
+        assert!(rt; out.as_slice() == spelling);
+    }
+    for (number, spelling) in [
+        (0, b"0".as_slice()),
+        (-7, b"-7"),
+        (9223372036854775807, b"9223372036854775807"),
+        (-9223372036854775808, b"-9223372036854775808"),
+    ] {
+        let mut out = List::new(alloc);
+        assert!(rt; value_text(alloc, &Value::Int(number), &mut out).is_ok());
+        assert!(rt; out.as_slice() == spelling);
+    }
+}
+
+#[test]
+fn rows_are_copied(rt: HostRuntime) {
+    let alloc = rt.alloc();
+    let row = two_columns(alloc);
+    assert!(rt; row.is_ok());
+    if let Ok(row) = row {
+        let copy = row.copy(alloc);
+        assert!(rt; matches!(&copy, Ok(copy) if copy.len() == 2 && copy.same(&row)));
+    }
+    let nine = text(alloc, b"9");
+    assert!(rt; matches!(&nine, Ok(nine) if Value::Int(10).order(nine) == Ordering::Less));
+}
