@@ -1,0 +1,29 @@
+//! Sources, sinks and folders: what the program reads and writes, with counted faults.
+#![tactic(auto)]
+
+mod book;
+mod disk;
+mod finding;
+mod folder;
+mod memory_folder;
+mod memory_sink;
+mod memory_source;
+mod planned;
+mod sink;
+mod source;
+mod standard;
+mod whole;
+
+pub use disk::{DiskFolder, FileSource};
+pub use folder::{Folder, OpenStop};
+pub use memory_folder::MemFolder;
+pub use memory_sink::MemSink;
+pub use memory_source::MemSource;
+pub use planned::{HasRoom, Planned, PlannedFolder};
+pub use sink::{Sink, write_all};
+pub use source::{Failed, Source};
+pub use standard::{Holds, StdSink};
+pub use whole::{WholeStop, read_whole};
+
+#[cfg(test)]
+mod tests;

@@ -1,0 +1,109 @@
+// A source read to its end.
+ghost use Rattle.std.specs.Prelude.{◌≡◌, ◌≤◌, ◌<◌, ◌^◌, ◌+◌, ◌++◌, List, ℕ, Bool, IsTrue, length, vec_len, IfOk, OnOk, OnErr, IsErrOf, []};
+ghost use Rattle.pj_io.specs.Causes.{Rose};
+ghost use Rattle.pj_io.specs.Pieces.{Takes, TakesAtMost, TakesExactly};
+
+use crate::{Failed, Source};
+use pj_value::{Bytes, List, NoMemory};
+use std::alloc::Global;
+
+/// How many bytes a read asks for at most.
+const PIECE: usize = 65536;
+
+/// Why a source was not read whole.
+#[derive(Clone, Copy, Debug, PartialEq, Eq)]
+pub enum WholeStop {
+    /// A read failed.
+    Fault,
+    /// The source gave more bytes than the limit.
+    TooLong,
+    /// Memory could not be had.
+    NoMemory,
+}
+
+/// All bytes to the end, if they are no more than the limit, which is below 2^63. Never are more than one byte beyond
+/// the limit taken from the source.
+#[tactic(auto, using(crate::proofs::Wholes::takes_more))]
+pub fn read_whole<S: Source>(alloc: Global, source: &mut S, limit: u64) -> Result<Bytes, WholeStop>
+    requires { limit < 2 ^ 63 }
+    ensures short { IfOk result (λ bytes. length bytes ≤ limit) }
+    ensures all { IsTrue (S.tells source.old) → IfOk result (λ bytes.
+        Takes (S.left source.old) [] (S.taken source.old) (S.taken source.new) bytes) }
+    ensures ended { IsTrue (S.tells source.old) → OnOk result (S.left source.new ≡ []) }
+    ensures long { IsTrue (S.tells source.old) → IsErrOf result WholeStop.TooLong → limit < length (S.left source.old) }
+    ensures one_more { IsTrue (S.tells source.old) → IsErrOf result WholeStop.TooLong →
+        TakesExactly (limit + 1) (S.left source.old) (S.left source.new) (S.taken source.old) (S.taken source.new) }
+    ensures most { IsTrue (S.tells source.old) → OnErr result
+        (TakesAtMost (limit + 1) (S.left source.old) (S.left source.new) (S.taken source.old) (S.taken source.new)) }
+    ensures tells { S.tells source.new ≡ S.tells source.old }
+    ensures name { S.name source.new ≡ S.name source.old }
+    ensures later { S.faults source.old ≤ S.faults source.new }
+    ensures fault { IsErrOf result WholeStop.Fault → Rose (S.faults source.old) (S.faults source.new) }
+{
+    let mut held = piece_buffer(alloc)?;
+    let buffer = held.as_mut_slice();
+    let mut whole = List::new(alloc);
+    while whole.len() as u64 <= limit {
+        let most = limit - whole.len() as u64 + 1;
+        if read_piece(source, most, buffer, &mut whole)? == 0 {
+            return Ok(whole);
+        }
+    }
+    Err(WholeStop::TooLong)
+}
+
+impl From<NoMemory> for WholeStop {
+    ghost use Rattle.pj_io.specs.declared.whole.WholeStop.TheVariants.{NoMemory as OutOfMemory};
+
+    ghost from_gives = { λ _ e. e ≡ OutOfMemory };
+
+    fn from(_: NoMemory) -> WholeStop {
+        WholeStop::NoMemory
+    }
+}
+
+impl From<Failed> for WholeStop {
+    ghost use Rattle.pj_io.specs.declared.whole.WholeStop.TheVariants.{Fault};
+
+    ghost from_gives = { λ _ e. e ≡ Fault };
+
+    fn from(_: Failed) -> WholeStop {
+        WholeStop::Fault
+    }
+}
+
+// Room for one piece.
+fn piece_buffer(alloc: Global) -> Result<Vec<u8>, NoMemory>
+    ensures { IfOk result (λ buffer. vec_len buffer ≡ PIECE) }
+{
+    Ok(vec![in alloc; 0u8; PIECE]?)
+}
+
+// Reads once through the buffer and appends what came, at most so many bytes.
+fn read_piece<S: Source>(
+    source: &mut S,
+    most: u64,
+    buffer: &mut [u8],
+    whole: &mut List<u8>,
+) -> Result<usize, WholeStop>
+    requires most { 0 < most }
+    requires buffer { 0 < length buffer.old }
+    ensures bound { IfOk result (λ n. n ≤ most) }
+    ensures count { IfOk result (λ n. length whole.new ≡ length whole.old + n) }
+    ensures some { IsTrue (S.tells source.old) → IfOk result (λ n. (piece : List ℕ)
+        × Takes (S.left source.old) (S.left source.new) (S.taken source.old) (S.taken source.new) piece
+        × (whole.new ≡ whole.old ++ piece) × (n ≡ 0 → S.left source.new ≡ [])) }
+    ensures err { IsTrue (S.tells source.old) → OnErr result
+        (TakesAtMost most (S.left source.old) (S.left source.new) (S.taken source.old) (S.taken source.new)) }
+    ensures never_long { IsErrOf result WholeStop.TooLong → ⊥ }
+    ensures tells { S.tells source.new ≡ S.tells source.old }
+    ensures name { S.name source.new ≡ S.name source.old }
+    ensures later { S.faults source.old ≤ S.faults source.new }
+    ensures fault { IsErrOf result WholeStop.Fault → Rose (S.faults source.old) (S.faults source.new) }
+{
+    let room = (buffer.len() as u64).min(most) as usize;
+    let (front, _) = buffer.split_at_mut(room);
+    let count = source.read(front)?;
+    whole.append(&front[..count])?;
+    Ok(count)
+}
