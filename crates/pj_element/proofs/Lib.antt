@@ -1,0 +1,14 @@
+pub mod Again
+pub mod Columns
+pub mod Cuts
+pub mod Feeds
+pub mod Fronts
+pub mod Numbers
+pub mod Parts
+pub mod Pieces
+pub mod ReadCells
+pub mod ReadLines
+pub mod ReadValues
+pub mod Tagged
+pub mod Lawful
+pub mod Positions
