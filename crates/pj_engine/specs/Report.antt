@@ -1,0 +1,54 @@
+-- The report of a run and the lines of the statuses, each with its line feed.
+use Rattle.std.specs.Prelude.{ℕ, ◌^◌, ◌-◌, min, List, [], ◌∷◌, ◌++◌, map, length, codes}
+use Rattle.std.specs.Fmt.{decimal}
+use Rattle.pj_element.specs.declared.element.Element.{Element}
+use Rattle.pj_element.specs.declared.element.Reject.{Reject}
+use Rattle.pj_element.specs.declared.element.Reject.TheVariants.{NotElement, Closed}
+use Rattle.pj_element.specs.declared.tally.Tally.{Tally}
+use Rattle.pj_element.specs.Runs.{rows_of, puncts_of, fed}
+use Rattle.pj_engine.specs.declared.status.Status.{Status}
+use Rattle.pj_engine.specs.declared.status.Status.TheVariants.{Done, NotBuilt, ReadFault, WriteFault, NoMemory}
+
+abbrev pub reject_words : Reject → List ℕ
+reject_words NotElement = codes "not an element"
+reject_words (Closed line) = codes "closed by line " ++ decimal line
+
+-- `# stream S tuples T punctuations P rejected R`
+abbrev pub stream_line : List ℕ → Tally → List ℕ
+stream_line name tally =
+    fed (codes "# stream " ++ name ++ codes " tuples " ++ decimal tally.tuples ++ codes " punctuations " ++ decimal tally.puncts ++ codes " rejected " ++ decimal tally.rejected)
+
+-- `# reject S line N WORDS`
+abbrev pub reject_line : List ℕ → ℕ × Reject → List ℕ
+reject_line name (line, why) = fed (codes "# reject " ++ name ++ codes " line " ++ decimal line ++ codes " " ++ reject_words why)
+
+-- the lines of a stream: its counts, and its first rejects
+abbrev pub stream_lines : List ℕ → Tally → List (List ℕ)
+stream_lines name tally = stream_line name tally ∷ map (reject_line name) tally.listed
+
+-- a count of result lines stops at the greatest number of 64 bits
+abbrev pub counted_to : ℕ → ℕ
+counted_to n = min n (2 ^ 64 - 1)
+
+abbrev pub results_text : ℕ → ℕ → List ℕ
+results_text rows puncts = fed (codes "# results " ++ decimal rows ++ codes " punctuations " ++ decimal puncts)
+
+-- `# results R punctuations P`
+abbrev pub results_line : List Element → List ℕ
+results_line outputs = results_text (counted_to (length (rows_of outputs))) (counted_to (length (puncts_of outputs)))
+
+-- the line of a status, with its line feed; nothing where it has none
+abbrev pub status_line : Status → List ℕ
+status_line Done = []
+status_line NotBuilt = fed (codes "# refused not built")
+status_line (ReadFault operand) = fed (codes "# stopped read fault operand " ++ decimal operand)
+status_line WriteFault = []
+status_line NoMemory = fed (codes "# stopped no memory")
+
+-- the exit status of the program
+abbrev pub status_number : Status → ℕ
+status_number Done = 0
+status_number NotBuilt = 9
+status_number (ReadFault operand) = 3
+status_number WriteFault = 4
+status_number NoMemory = 5
