@@ -1,0 +1,27 @@
+//! Reads a plan and its files, and writes the results to standard output.
+#![tactic(auto)]
+
+use pj_engine::run_words;
+use pj_io::{DiskFolder, StdSink};
+use std::env;
+use std::process::ExitCode;
+
+const NO_MEMORY: u8 = 5;
+
+const NO_WORDS: u8 = 65;
+
+fn main(rt: HostRuntime) -> ExitCode {
+    let words = match env::args(&rt) {
+        Ok(args) => args,
+        Err(_) => return ExitCode::from(NO_WORDS),
+    };
+    let Ok(words) = words.skip(1).collect::<Vec<String>>(rt.alloc()) else {
+        return ExitCode::from(NO_MEMORY);
+    };
+    let mut folder = DiskFolder::new(rt.alloc(), &rt);
+    let Ok(mut out) = StdSink::new(rt.alloc(), &rt) else {
+        return ExitCode::from(NO_MEMORY);
+    };
+    let status = run_words(&rt, words.as_slice(), &mut folder, &mut out);
+    ExitCode::from(status.number())
+}
