@@ -3,7 +3,7 @@ use Rattle.std.proofs.Common.{◌≡◌, ℕ, ◌+◌, ◌<◌, ◌≤◌, arith
 use Rattle.std.proofs.lemmas.List.{at_drop_more, at_drop_all}
 use Rattle.std.specs.Option.{option_map}
 use Rattle.pj_value.specs.Options.{with_first, with_front, both, plus}
-use Rattle.pj_element.specs.declared.element.Column.{Column}
+use Rattle.pj_shape.specs.declared.columns.Column.{Column}
 use Rattle.pj_element.specs.Cells.{cells_of}
 use Rattle.pj_element.specs.Elements.{columns_in}
 

@@ -10,7 +10,7 @@ use Rattle.pj_value.specs.declared.values.Kind.{Kind}
 use Rattle.pj_value.specs.declared.values.Kind.TheVariants.{Int as IntKind, Text as TextKind}
 use Rattle.pj_value.specs.declared.values.Value.{Value}
 use Rattle.pj_value.specs.declared.values.Value.TheVariants.{Int, Text}
-use Rattle.pj_element.specs.declared.element.Column.{Column}
+use Rattle.pj_shape.specs.declared.columns.Column.{Column}
 use Rattle.pj_element.specs.declared.element.Pattern.{Pattern}
 use Rattle.pj_element.specs.declared.element.Pattern.TheVariants.{Wild, Constant}
 use Rattle.pj_element.specs.declared.element.Reject.TheVariants.{NotElement, Closed}

@@ -5,7 +5,7 @@ use Rattle.std.specs.Option.{option_map, option_map_or}
 use Rattle.std.specs.Str.{bytes_eq}
 use Rattle.pj_value.specs.Options.{with_first}
 use Rattle.pj_value.specs.declared.values.Value.{Value}
-use Rattle.pj_element.specs.declared.element.Column.{Column}
+use Rattle.pj_shape.specs.declared.columns.Column.{Column}
 use Rattle.pj_element.specs.declared.element.Pattern.{Pattern}
 use Rattle.pj_element.specs.declared.element.Read.TheVariants.{Tuple, Punct, Bad}
 use Rattle.pj_element.specs.declared.element.Reject.TheVariants.{NotElement}

@@ -1,7 +1,7 @@
 -- Lists of elements: the rows and punctuations in them, when they are lawful, and their text.
 use Rattle.std.specs.Prelude.{◌≡◌, ℕ, false, List, [], ◌∷◌, ◌++◌, map, length, replicate}
 use Rattle.pj_value.specs.declared.values.Value.{Value}
-use Rattle.pj_element.specs.declared.element.Column.{Column}
+use Rattle.pj_shape.specs.declared.columns.Column.{Column}
 use Rattle.pj_element.specs.declared.element.Pattern.{Pattern}
 use Rattle.pj_element.specs.declared.element.Pattern.TheVariants.{Wild}
 use Rattle.pj_element.specs.declared.element.Element.{Element}

@@ -1,17 +1,10 @@
-// Streams' columns, the elements of a stream, and what a line may say.
+// The elements of a stream, and what a line may say.
 ghost use Rattle.std.specs.Prelude.{◌≡◌, ◌<◌, IfOk, length, replicate, slice_get};
 ghost use Rattle.pj_element.specs.Elements.{matches_value, matches_row};
 
-use pj_value::{Bytes, Kind, List, NoMemory, Row, Value};
+use pj_value::{List, NoMemory, Row, Value};
 use std::alloc::Global;
 use std::marker::Model;
-
-/// A column of a stream: its name, and the kind of its values.
-#[derive(Drop)]
-pub struct Column {
-    pub name: Bytes,
-    pub kind: Kind,
-}
 
 /// What a punctuation asks of a column.
 #[derive(Drop)]
@@ -30,21 +23,6 @@ pub enum Reject {
     /// It is a tuple that matches a punctuation accepted before it, the first of them on this line,
     /// counted from 1.
     Closed { line: u64 },
-}
-
-/// The columns of a stream. A contract sees the list of them.
-#[derive(Drop)]
-pub struct Schema {
-    columns: List<Column>,
-}
-
-impl Model for Schema {
-    ghost use Rattle.std.specs.Prelude.{List};
-    ghost use Rattle.pj_element.specs.declared.element.Column.{Column};
-
-    ghost Value = { List Column };
-
-    ghost view = { λ s. s.columns };
 }
 
 /// A punctuation (Tucker et al. 2003): no later tuple of the stream matches it. It has a pattern for
@@ -78,68 +56,6 @@ pub enum Read {
 pub enum Element {
     Tuple(Row),
     Punct(Punct),
-}
-
-impl Column {
-    /// An equal column, or `NoMemory`.
-    pub fn copy(&self, alloc: Global) -> Result<Column, NoMemory>
-        ensures { IfOk result (λ c. c ≡ self.now) }
-    {
-        Ok(Column {
-            name: List::copy_of(alloc, self.name.as_slice())?,
-            kind: self.kind,
-        })
-    }
-}
-
-impl Schema {
-    /// A schema with these columns.
-    pub fn of(columns: List<Column>) -> Schema
-        ensures { result ≡ columns }
-    {
-        Schema { columns }
-    }
-
-    /// How many columns it has.
-    pub fn len(&self) -> usize
-        ensures { result ≡ length self.now }
-    {
-        self.columns.len()
-    }
-
-    /// The column at a place, counted from 0.
-    pub fn at(&self, place: usize) -> &Column
-        requires { place < length self.now }
-        ensures { slice_get self.now place ≡ Some result.now }
-    {
-        &self.columns.as_slice()[place]
-    }
-
-    /// All columns in order.
-    pub fn columns(&self) -> &[Column]
-        ensures { result.now ≡ self.now }
-    {
-        self.columns.as_slice()
-    }
-
-    /// An equal schema, or `NoMemory`.
-    pub fn copy(&self, alloc: Global) -> Result<Schema, NoMemory>
-        ensures { IfOk result (λ s. s ≡ self.now) }
-    {
-        Ok(Schema {
-            columns: copy_columns(alloc, self.columns.as_slice())?,
-        })
-    }
-}
-
-fn copy_columns(alloc: Global, columns: &[Column]) -> Result<List<Column>, NoMemory>
-    ensures { IfOk result (λ l. l ≡ columns.now) }
-{
-    let mut copy = List::new(alloc);
-    for column in columns {
-        copy.push(column.copy(alloc)?)?;
-    }
-    Ok(copy)
 }
 
 impl Pattern {

@@ -2,14 +2,15 @@
 ghost use Rattle.std.specs.Prelude.{◌≡◌, ◌++◌, ◌∷◌, ℕ, List, Option, length, IfOk, OnOk, OnErr};
 ghost use Rattle.std.specs.Option.{option_map};
 ghost use Rattle.std.specs.List.{flat_map};
-ghost use Rattle.pj_element.specs.declared.element.Column.{Column};
+ghost use Rattle.pj_shape.specs.declared.columns.Column.{Column};
 ghost use Rattle.pj_value.specs.Texts.{value_spelling, IsFront};
 ghost use Rattle.pj_element.specs.Cells.{cells_of};
 ghost use Rattle.pj_element.specs.Elements.{columns_in, value_in, pattern_in, pattern_spelling};
 
 use crate::cells::{Cut, next_cell};
-use crate::element::{Column, Pattern};
+use crate::element::Pattern;
 use crate::spelled::read_value;
+use pj_shape::Column;
 use pj_value::{List, NoMemory, Value, value_text};
 use std::alloc::Global;
 

@@ -3,7 +3,7 @@ ghost use Rattle.std.specs.Prelude.{◌≡◌, ◌<◌, ◌↔◌, List, ℕ, Op
 ghost use Rattle.std.specs.List.{AllByRecursion, flat_map};
 ghost use Rattle.pj_value.specs.Texts.{spelled_byte};
 ghost use Rattle.pj_value.specs.declared.values.Value.{Value};
-ghost use Rattle.pj_element.specs.declared.element.Column.{Column};
+ghost use Rattle.pj_shape.specs.declared.columns.Column.{Column};
 ghost use Rattle.pj_element.specs.declared.element.Pattern.{Pattern};
 ghost use Rattle.pj_element.specs.declared.element.Read.{Read};
 ghost use Rattle.pj_element.specs.Lines.{HasNo};

@@ -4,9 +4,10 @@ ghost use Rattle.pj_element.specs.Elements.{reading_of, tagged_in, row_line, pun
 ghost use Rattle.pj_element.specs.Cells.{cells_of};
 
 use crate::cells::{Cut, next_cell};
-use crate::element::{Punct, Read, Reject, Schema};
+use crate::element::{Punct, Read, Reject};
 use crate::items::{append_items, count_cells, read_items};
 use crate::lines::is_skipped;
+use pj_shape::Schema;
 use pj_value::{List, NoMemory, Row};
 use std::alloc::Global;
 

@@ -7,6 +7,7 @@ ghost use Rattle.pj_element.specs.Cells.{cells_of};
 ghost use Rattle.pj_element.specs.Elements.{reading_of};
 
 use super::*;
+use pj_shape::{Column, Schema};
 use pj_value::{Kind, List, NoMemory, Row, Value};
 use std::alloc::Global;
 use std::test::Fail;

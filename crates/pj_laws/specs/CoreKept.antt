@@ -1,0 +1,101 @@
+-- What a core has to keep of a history.
+use Rattle.std.specs.Prelude.{ℕ, ◌≡◌, Bool, List, [], ◌∷◌, map, length, Option}
+use Rattle.pj_value.specs.declared.values.Value.{Value}
+use Rattle.pj_shape.specs.declared.plans.SmallPlan.{SmallPlan}
+use Rattle.pj_shape.specs.declared.plans.SmallStream.{SmallStream}
+use Rattle.pj_shape.specs.declared.plans.SmallJoin.{SmallJoin}
+use Rattle.std.specs.Prelude.{Some, None, false, ◌++◌, ◌<◌, slice_index_or}
+use Rattle.pj_shape.specs.declared.columns.Column.{Column}
+use Rattle.pj_shape.specs.Sound.{IsSoundSpec}
+use Rattle.pj_laws.specs.Join.{In, AreDistinct, start, upto_from}
+use Rattle.pj_laws.specs.Kept.{Kept, kept_of}
+use Rattle.pj_laws.specs.Operators.{UnionState}
+use Rattle.pj_laws.specs.Plan.{Operator, Stream, Select, Project, Union, Join, Group, Node}
+use Rattle.pj_laws.specs.History.{Entry, Out, Stop, reached_of, nodes_from}
+use Rattle.pj_laws.specs.Outcomes.{arrivals_at, peak_of}
+
+-- what is kept of an operator
+pub data KeptOperator : Type 0 where
+  NothingKept : KeptOperator
+  UnionKept : UnionState → KeptOperator
+  JoinKept : Kept → KeptOperator
+  GroupKept : List (List Value) → KeptOperator
+
+abbrev pub kept_in : Operator → KeptOperator
+kept_in (Stream schema sent) = NothingKept
+kept_in (Select test) = NothingKept
+kept_in (Project columns) = NothingKept
+kept_in (Union n u) = UnionKept u
+kept_in (Join spec s) = JoinKept (kept_of s)
+kept_in (Group spec rows) = GroupKept rows
+
+-- what each node keeps, how many elements have reached it, the greatest number of tuples stored there,
+-- the streams that are closed, the outputs that are not drained, whether a halt came, and the stop
+pub record CoreKept : Type 0 where
+  pub nodes : List KeptOperator
+  pub counts : List ℕ
+  pub peaks : List ℕ
+  pub closed : List ℕ
+  pub undrained : List Out
+  pub halted : Bool
+  pub stop : Option Stop
+
+-- what is to be kept of a history of the plan, with a trace or without
+abbrev pub core_kept : Bool → List Node → List Entry → CoreKept
+core_kept trace plan history = record {
+  nodes = map (λ node. kept_in node.operator) (nodes_from plan history);
+  counts = map (λ n. length (arrivals_at plan history n)) (upto_from 0 (length plan));
+  peaks = map (peak_of plan history) (upto_from 0 (length plan));
+  closed = (reached_of trace plan history).closed;
+  undrained = (reached_of trace plan history).undrained;
+  halted = (reached_of trace plan history).halted;
+  stop = (reached_of trace plan history).stop;
+}
+
+-- a core keeps what it has to after a history of the plan; after a stop it is the outputs, the halt and the stop alone
+abbrev pub Stands : Bool → List Node → CoreKept → List Entry → Type 0
+Stands trace plan k history =
+    ((reached_of trace plan history).stop ≡ None → k ≡ core_kept trace plan history)
+    × (k.undrained ≡ (reached_of trace plan history).undrained)
+    × (k.halted ≡ (reached_of trace plan history).halted)
+    × (k.stop ≡ (reached_of trace plan history).stop)
+
+-- ---- plans of streams, and of at most one join
+
+abbrev pub stream_of : SmallStream → Node
+stream_of stream = record { inputs = []; operator = Stream stream.schema [] }
+
+-- a join that is never swept, and hands up no punctuations
+abbrev pub join_of : SmallJoin → Node
+join_of join = record {
+  inputs = join.inputs;
+  operator = Join (record { shape = join.spec; schemes = []; certs = []; propagates = false }) start;
+}
+
+abbrev pub joins_of : Option SmallJoin → List Node
+joins_of None = []
+joins_of (Some join) = join_of join ∷ []
+
+-- the nodes of a small plan: its streams, and its join
+abbrev pub nodes_of : SmallPlan → List Node
+nodes_of plan = map stream_of plan.streams ++ joins_of plan.join
+
+-- the columns of a stream of these
+abbrev pub columns_of : List SmallStream → ℕ → List Column
+columns_of streams k = slice_index_or (map (λ stream. stream.schema) streams) k []
+
+-- the join is sound, names each of the streams once, and its inputs have their columns
+pub record IsJoinOf (streams : List SmallStream) (join : SmallJoin) : Type 0 where
+  pub there : (k : ℕ) → In k join.inputs → k < length streams
+  pub once : AreDistinct join.inputs
+  pub all : length join.inputs ≡ length streams
+  pub columns : join.spec.inputs ≡ map (columns_of streams) join.inputs
+  pub sound : IsSoundSpec join.spec
+
+abbrev pub IsPlanOf : List SmallStream → Option SmallJoin → Type 0
+IsPlanOf streams None = length streams ≡ 1
+IsPlanOf streams (Some join) = (length streams ≡ 2) × IsJoinOf streams join
+
+-- one stream, or two streams and a join of them
+abbrev pub IsSmallPlan : SmallPlan → Type 0
+IsSmallPlan plan = IsPlanOf plan.streams plan.join

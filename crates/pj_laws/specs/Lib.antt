@@ -1,0 +1,12 @@
+pub mod Patterns
+pub mod Bags
+pub mod Join
+pub mod Kept
+pub mod Laws
+pub mod Operators
+pub mod Plan
+pub mod History
+pub mod Outcomes
+pub mod OneThread
+pub mod CoreKept
+pub mod HistoryLaws

@@ -1,0 +1,17 @@
+//! Histories of joins and plans, and the laws of them.
+#![tactic(auto)]
+
+mod events;
+mod history_laws;
+mod join_laws;
+mod plan_laws;
+
+pub use events::{Entry, Event, Look, Out, Stop};
+pub use history_laws::{
+    history_answers, history_lawfulness, history_steps, joins_of_histories, never_retracted,
+    one_thread, small_plans,
+};
+pub use join_laws::{
+    completeness, forgetting_is_safe, lawfulness, ripeness, settling, standing, without_sweeps,
+};
+pub use plan_laws::{complete_answers, plan_answers, plan_lawfulness, same_bags};

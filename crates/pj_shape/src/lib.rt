@@ -1,0 +1,15 @@
+//! The shapes of streams, joins and groups: columns, schemes, classes, certificates and plans of one join.
+#![tactic(auto)]
+
+mod columns;
+mod copies;
+mod groups;
+mod joins;
+mod plans;
+#[cfg(test)]
+mod tests;
+
+pub use columns::{Column, Instance, Schema, Scheme, Schemes};
+pub use groups::{Agg, GroupSpec};
+pub use joins::{Cert, CertStep, ClassCol, JoinSpec};
+pub use plans::{SmallJoin, SmallPlan, SmallStream};
