@@ -1,0 +1,174 @@
+-- What the calls of a join cite.
+use Rattle.std.proofs.Common.{ℕ, zero, suc, ◌+◌, ◌<◌, ◌≤◌, ◌^◌, Bool, true, false, cond, ◌||◌, not, List, [], ◌∷◌, ◌++◌, ◌≡◌, Option, Some, None, map, filter, take, drop, length, get_or, set, refl, sym, ap, ◌∙◌, subst, eqb, ltb, arith}
+use Rattle.std.specs.List.{slice_get, position, position_or_len}
+use Rattle.std.proofs.lemmas.Bool.{eqb-true, eq-eqb, false_from_ne_true, ltb-false}
+use Rattle.std.proofs.lemmas.List.Sums.{fails_before_first}
+use Rattle.std.proofs.lemmas.List.{length-map}
+use Rattle.std.proofs.lemmas.List.Quantifiers.{position-Some}
+use Rattle.std.proofs.lemmas.Option.{slice_get_within, get_or_from_slice_get}
+use Rattle.pj_shape.specs.declared.columns.Column.{Column}
+use Rattle.pj_shape.specs.declared.joins.JoinSpec.{JoinSpec}
+use Rattle.pj_laws.specs.Join.{Value, TupleAt, PunctAt, Take, TupleComes, results, agree, product, joined, has, inputs, of_input, upto_from}
+use Rattle.pj_laws.specs.Kept.{least, without}
+use Rattle.pj_join.specs.Joins.{Found, TakesLeast, unswept, after, found_of}
+use Rattle.pj_join.specs.Walks.{choices}
+use Rattle.pj_join.specs.Insides.{tickets, seen, Rise, IsOrdered}
+use Rattle.pj_join.proofs.Orders.{ordered-tuple, ordered-take, seen-tuple, rise-front, rise-to, rise-length, rise-has, without-none, least-first, pending-first, seen-take, taken-first, IsTakenFirst}
+use Rattle.pj_join.proofs.Finding.{choices-results, length-upto}
+
+-- ---- the low-water ticket
+
+pub low-taken : (taken pending : List ℕ) (next t : ℕ) → Some t ≡ slice_get taken 0 → Rise 0 (taken ++ pending) next → t ≡ least next (taken ++ pending)
+low-taken [] pending next t e r = let lt : 0 < 0 = slice_get_within [] 0 t (sym e) in absurd (omega (arith, lt))
+low-taken (u ∷ taken) pending next t e r = sym (get_or_from_slice_get (u ∷ taken) 0 t 0 (sym e)) ∙ sym (least-first 0 u (taken ++ pending) next r)
+
+pub low-pending : (taken : List ℕ) (log : List TupleAt) (next done : ℕ) (x : TupleAt) → length taken ≤ 0 → Some x ≡ slice_get log done → Rise 0 (taken ++ tickets (drop done log)) next
+    → x.ticket ≡ least next (taken ++ tickets (drop done log))
+low-pending (u ∷ taken) log next done x few e r = absurd (omega (arith, few))
+low-pending [] log next done x few e r =
+    sym (ap (λ (y : TupleAt). y.ticket) (get_or_from_slice_get log done x x (sym e)))
+    ∙ sym (least-first 0 (get_or log done x).ticket (tickets (drop (done + 1) log)) next (subst (λ ts. Rise 0 ts next) first r))
+    ∙ ap (least next) (sym first)
+  where
+    first : tickets (drop done log) ≡ (get_or log done x).ticket ∷ tickets (drop (done + 1) log)
+    first = pending-first done log x (slice_get_within log done x (sym e))
+
+none-left : (xs : List TupleAt) (i : ℕ) → None ≡ slice_get xs i → drop i xs ≡ []
+none-left [] zero e = refl
+none-left [] (suc i) e = refl
+none-left (x ∷ xs) zero e = absurd (clash e)
+  where
+    clash : None ≡ Some x → ⊥
+    clash p = subst (λ (o : Option TupleAt). is_none o) p tt
+      where
+        is_none : Option TupleAt → Type 0
+        is_none None = Unit {0}
+        is_none (Some y) = ⊥
+none-left (x ∷ xs) (suc i) e = none-left xs i e
+
+pub none-pending : (log : List TupleAt) (done : ℕ) → None ≡ slice_get log done → tickets (drop done log) ≡ []
+none-pending log done e = ap tickets (none-left log done e)
+
+pub low-next : (taken : List ℕ) (log : List TupleAt) (next done : ℕ) → length taken ≤ 0 → None ≡ slice_get log done → next ≡ least next (taken ++ tickets (drop done log))
+low-next (u ∷ taken) log next done few e = absurd (omega (arith, few))
+low-next [] log next done few e = ap (least next) (sym (none-pending log done e))
+
+-- ---- tickets that are forgotten
+
+forget-place : (from : ℕ) (ts : List ℕ) (end i u : ℕ) → Rise from ts end → i < length ts → get_or ts i 0 ≡ u → take i ts ++ drop (suc i) ts ≡ without ts u
+forget-place from [] end i u r lt e = absurd (omega (arith, lt))
+forget-place from (t ∷ ts) end zero u r lt e =
+    sym (without-none ts u (rise-has (t + 1) ts end u r.1 (omega (arith, e)))) ∙ ap (λ b. cond (not b) (t ∷ without ts u) (without ts u)) (sym (eq-eqb t u e))
+forget-place from (t ∷ ts) end (suc i) u r lt e =
+    ap (λ us. t ∷ us) (forget-place (t + 1) ts end i u r.1 (omega (arith, lt)) e)
+    ∙ ap (λ b. cond (not b) (t ∷ without ts u) (without ts u)) (sym (false_from_ne_true (eqb t u) (λ k. omega (arith, eqb-true t u k, e, above (t + 1) ts end i r.1 (omega (arith, lt))))))
+  where
+    above : (low : ℕ) (us : List ℕ) (last k : ℕ) → Rise low us last → k < length us → low ≤ get_or us k 0
+    above low [] last k s l = absurd (omega (arith, l))
+    above low (v ∷ us) last zero s l = s.0
+    above low (v ∷ us) last (suc k) s l = omega (arith, s.0, above (v + 1) us last k s.1 (omega (arith, l)))
+
+pub forget-found : (ts : List ℕ) (end i u : ℕ) → Rise 0 ts end → position (λ t. eqb t u) ts ≡ Some i → take i ts ++ drop (suc i) ts ≡ without ts u
+forget-found ts end i u r p =
+    let here = position-Some (λ t. eqb t u) ts i 0 p in
+    forget-place 0 ts end i u r here.0 (eqb-true (get_or ts i 0) u here.1)
+
+has-none : (ts : List ℕ) (u : ℕ) → ((k : ℕ) → k < length ts → eqb (get_or ts k 0) u ≡ false) → has ts u ≡ false
+has-none [] u f = refl
+has-none (t ∷ ts) u f = ap (λ b. b || has ts u) (f 0 (omega arith)) ∙ has-none ts u (λ k lt. f (suc k) (omega (arith, lt)))
+
+pub forget-none : (ts : List ℕ) (u : ℕ) → None ≡ position (λ t. eqb t u) ts → ts ≡ without ts u
+forget-none ts u e = go (ltb (position_or_len (λ t. eqb t u) ts) (length ts)) refl e
+  where
+    clash : (i : ℕ) → None ≡ Some i → ⊥
+    clash i p = subst (λ (o : Option ℕ). is_none o) p tt
+      where
+        is_none : Option ℕ → Type 0
+        is_none None = Unit {0}
+        is_none (Some y) = ⊥
+
+    go : (b : Bool) → ltb (position_or_len (λ t. eqb t u) ts) (length ts) ≡ b → None ≡ cond b (Some (position_or_len (λ t. eqb t u) ts)) None → ts ≡ without ts u
+    go true k p = absurd (clash (position_or_len (λ t. eqb t u) ts) p)
+    go false k p = sym (without-none ts u (has-none ts u (λ i lt. fails_before_first (λ t. eqb t u) ts i 0 (omega (arith, lt, ltb-false (position_or_len (λ t. eqb t u) ts) (length ts) k)))))
+
+-- ---- calls
+
+-- a ticket that was taken may be taken out
+pub may-forget : (spec : JoinSpec) (limit next done : ℕ) (log : List TupleAt) (sides : List (List TupleAt)) (taken : List ℕ) → IsOrdered spec limit next done log sides taken → Rise 0 taken (2 ^ 64)
+may-forget spec limit next done log sides taken o =
+    rise-to 0 taken next (2 ^ 64) (omega (arith, o.small, o.below)) (rise-front 0 taken (tickets (drop done log)) next o.open_rising)
+
+-- one more ticket can be counted
+pub done-fits : (spec : JoinSpec) (limit next done : ℕ) (log : List TupleAt) (sides : List (List TupleAt)) (taken : List ℕ) → IsOrdered spec limit next done log sides taken → done < 2 ^ 40 + 1
+done-fits spec limit next done log sides taken o =
+    omega (arith, o.small, o.below, o.within, rise-length 0 (tickets log) next o.rising, length-map log (λ (x : TupleAt). x.ticket))
+
+pub several : (spec : JoinSpec) (limit next done : ℕ) (log : List TupleAt) (sides : List (List TupleAt)) (taken : List ℕ) → IsOrdered spec limit next done log sides taken → 1 < inputs (unswept spec)
+several spec limit next done log sides taken o = omega (arith, o.sound.few_inputs.0, length-map spec.inputs (λ (schema : List Column). length schema))
+
+-- what a take leaves and finds
+pub takes-least : (node : ℕ) (spec : JoinSpec) (limit next done : ℕ) (log : List TupleAt) (sides : List (List TupleAt)) (puncts : List PunctAt) (taken : List ℕ) (x : TupleAt) (found : Found)
+    → IsOrdered spec limit next done log sides taken → done < length log → get_or log done x ≡ x
+    → found ≡ record { join = node; ticket = x.ticket; rows = map joined (filter (agree spec.classes) (product (choices spec.classes x sides))) }
+    → TakesLeast (seen node spec limit next done log puncts taken) (seen node spec limit next (done + 1) log puncts (taken ++ found.ticket ∷ [])) found
+takes-least node spec limit next done log sides puncts taken x found o lt here is = subst (λ (f : Found). TakesLeast (seen node spec limit next done log puncts taken) (seen node spec limit next (done + 1) log puncts (taken ++ f.ticket ∷ [])) f) (sym (is ∙ rows)) main
+  where
+    rows : record { join = node; ticket = x.ticket; rows = map joined (filter (agree spec.classes) (product (choices spec.classes x sides))) } ≡ found_of (seen node spec limit next done log puncts taken) x.ticket
+    rows = ap (λ (rs : List (List Value)). the_found rs) (subst (λ (y : TupleAt). map joined (filter (agree spec.classes) (product (choices spec.classes y sides))) ≡ map joined (results (unswept spec) log log y.ticket)) here (choices-results spec limit next done log sides taken x o lt))
+      where
+        the_found : List (List Value) → Found
+        the_found rs = record { join = node; ticket = x.ticket; rows = rs }
+
+    first : IsTakenFirst taken done log x.ticket
+    first = subst (λ (y : TupleAt). IsTakenFirst taken done log y.ticket) here (taken-first next done log taken x o.open_rising lt)
+
+    main : TakesLeast (seen node spec limit next done log puncts taken) (seen node spec limit next (done + 1) log puncts (taken ++ x.ticket ∷ [])) (found_of (seen node spec limit next done log puncts taken) x.ticket)
+    main = record {
+      pending = first.pending;
+      least = first.least;
+      finds = refl;
+      changes = subst (λ (y : TupleAt). seen node spec limit next (done + 1) log puncts (taken ++ y.ticket ∷ []) ≡ after (seen node spec limit next done log puncts taken) (Take y.ticket)) here (seen-take node spec limit next done log puncts taken x o.open_rising lt);
+      taken = (first.opened, first.gone);
+    }
+
+-- a tuple is kept
+pub tuple-keeps : (node : ℕ) (spec : JoinSpec) (limit next done : ℕ) (log more : List TupleAt) (puncts : List PunctAt) (taken : List ℕ) (input : ℕ) (row : List Value) (x : TupleAt)
+    → done ≤ length log → x ≡ record { ticket = next; input = input; row = row } → more ≡ log ++ x ∷ []
+    → seen node spec limit (next + 1) done more puncts taken ≡ after (seen node spec limit next done log puncts taken) (TupleComes input row)
+tuple-keeps node spec limit next done log more puncts taken input row x le e m =
+    ap (λ (l : List TupleAt). seen node spec limit (next + 1) done l puncts taken) (m ∙ ap (λ (y : TupleAt). log ++ y ∷ []) e)
+    ∙ seen-tuple node spec limit next done log puncts taken input row le
+
+pub tuple-ordered : (spec : JoinSpec) (limit next done : ℕ) (log more : List TupleAt) (sides all : List (List TupleAt)) (taken : List ℕ) (input : ℕ) (row : List Value) (x : TupleAt)
+    → IsOrdered spec limit next done log sides taken → (next ≡ limit → ⊥) → input < inputs (unswept spec) → x ≡ record { ticket = next; input = input; row = row } → more ≡ log ++ x ∷ []
+    → all ≡ set sides input (get_or sides input [] ++ x ∷ []) → IsOrdered spec limit (next + 1) done more all taken
+tuple-ordered spec limit next done log more sides all taken input row x o ne lt e m s =
+    subst (λ (l : List TupleAt). IsOrdered spec limit (next + 1) done l all taken) (sym (m ∙ ap (λ (y : TupleAt). log ++ y ∷ []) e))
+    (subst (λ (a : List (List TupleAt)). IsOrdered spec limit (next + 1) done (log ++ record { ticket = next; input = input; row = row } ∷ []) a taken) (sym (s ∙ ap (λ (y : TupleAt). set sides input (get_or sides input [] ++ y ∷ [])) e))
+    (ordered-tuple spec limit next done log sides taken (record { ticket = next; input = input; row = row }) o o.below ne refl (omega (arith, lt, length-map spec.inputs (λ (schema : List Column). length schema)))))
+
+-- an input has its side
+pub has-side : (spec : JoinSpec) (limit next done : ℕ) (log : List TupleAt) (sides : List (List TupleAt)) (taken : List ℕ) (input : ℕ) → IsOrdered spec limit next done log sides taken → input < inputs (unswept spec) → input < length sides
+has-side spec limit next done log sides taken input o lt =
+    omega (arith, lt, length-map spec.inputs (λ (schema : List Column). length schema), length-upto 0 (length spec.inputs), length-map (upto_from 0 (length spec.inputs)) (λ k. of_input k log), ap (λ (s : List (List TupleAt)). length s) o.by_input)
+
+pub same-at : {A : Type 0} (xs : List A) (i : ℕ) (d e : A) → i < length xs → get_or xs i d ≡ get_or xs i e
+same-at [] i d e lt = absurd (omega (arith, lt))
+same-at (x ∷ xs) zero d e lt = refl
+same-at (x ∷ xs) (suc i) d e lt = same-at xs i d e (omega (arith, lt))
+
+-- a ticket is taken
+pub take-ordered : (node : ℕ) (spec : JoinSpec) (limit next done : ℕ) (log : List TupleAt) (sides : List (List TupleAt)) (taken new : List ℕ) (x : TupleAt) (found : Found) (rows : List (List Value)) (t : ℕ)
+    → IsOrdered spec limit next done log sides taken → Some x ≡ slice_get log done → found ≡ record { join = node; ticket = x.ticket; rows = rows } → t ≡ found.ticket → new ≡ taken ++ t ∷ []
+    → IsOrdered spec limit next (done + 1) log sides new
+take-ordered node spec limit next done log sides taken new x found rows t o here is e n =
+    subst (λ ts. IsOrdered spec limit next (done + 1) log sides ts) (sym (n ∙ ap (λ u. taken ++ u ∷ []) (e ∙ ap (λ (f : Found). f.ticket) is ∙ sym (ap (λ (y : TupleAt). y.ticket) (get_or_from_slice_get log done x x (sym here))))))
+    (ordered-take spec limit next done log sides taken x o (slice_get_within log done x (sym here)))
+
+pub take-finds : (node : ℕ) (spec : JoinSpec) (limit next done : ℕ) (log : List TupleAt) (sides : List (List TupleAt)) (puncts : List PunctAt) (taken new : List ℕ) (x : TupleAt) (found : Found) (t : ℕ)
+    → IsOrdered spec limit next done log sides taken → Some x ≡ slice_get log done
+    → found ≡ record { join = node; ticket = x.ticket; rows = map joined (filter (agree spec.classes) (product (choices spec.classes x sides))) } → t ≡ found.ticket → new ≡ taken ++ t ∷ []
+    → TakesLeast (seen node spec limit next done log puncts taken) (seen node spec limit next (done + 1) log puncts new) found
+take-finds node spec limit next done log sides puncts taken new x found t o here is e n =
+    subst (λ ts. TakesLeast (seen node spec limit next done log puncts taken) (seen node spec limit next (done + 1) log puncts ts) found) (sym (n ∙ ap (λ u. taken ++ u ∷ []) e))
+    (takes-least node spec limit next done log sides puncts taken x found o (slice_get_within log done x (sym here)) (get_or_from_slice_get log done x x (sym here)) is)

@@ -1,0 +1,150 @@
+-- The choices of a tuple give all its results.
+use Rattle.std.proofs.Common.{ℕ, zero, suc, ◌+◌, ◌<◌, ◌≤◌, Bool, true, false, cond, ◌&&◌, ◌||◌, List, [], ◌∷◌, ◌++◌, ◌≡◌, map, filter, flat_map, length, get_or, refl, sym, ap, ap₂, ◌∙◌, subst, inl, inr, eqb, ltb, arith, append-nil}
+use Rattle.std.specs.List.{list_all}
+use Rattle.std.proofs.lemmas.Bool.{eqb-true, eq-eqb, false≢true, or_right}
+use Rattle.std.proofs.lemmas.List.{length-map}
+use Rattle.pj_shape.specs.declared.joins.JoinSpec.{JoinSpec}
+use Rattle.pj_laws.specs.Join.{In, TupleAt, ClassCol, agree, product, joined, of_input, older, upto_from, candidates, combinations, results}
+use Rattle.pj_join.specs.Joins.{unswept}
+use Rattle.pj_join.specs.Walks.{suits, choice, choices}
+use Rattle.pj_join.specs.Insides.{IsOrdered}
+use Rattle.pj_join.proofs.Members.{In-flat_map, In-map, all_from, filter-agree, filter-filter}
+use Rattle.pj_join.proofs.Agreeing.{agree-mono, pair-suits}
+use Rattle.pj_join.proofs.Combining.{product-filter}
+use Rattle.pj_join.proofs.Orders.{only-of}
+
+-- ---- numbers from one on
+
+pub length-upto : (base n : ℕ) → length (upto_from base n) ≡ n
+length-upto base zero = refl
+length-upto base (suc n) = ap suc (length-upto (base + 1) n)
+
+pub upto-push : (base n : ℕ) → upto_from base (suc n) ≡ upto_from base n ++ (base + n) ∷ []
+upto-push base zero = ap (λ k. k ∷ []) (omega arith)
+upto-push base (suc n) = ap (λ ks. base ∷ ks) (upto-push (base + 1) n ∙ ap (λ k. upto_from (base + 1) n ++ k ∷ []) (omega arith))
+
+pub get_or-upto : {A : Type 0} (f : ℕ → A) (base n k : ℕ) (d : A) → k < n → get_or (map f (upto_from base n)) k d ≡ f (base + k)
+get_or-upto f base zero k d lt = absurd (omega (arith, lt))
+get_or-upto f base (suc n) zero d lt = ap f (omega arith)
+get_or-upto f base (suc n) (suc k) d lt = get_or-upto f (base + 1) n k d (omega (arith, lt)) ∙ ap f (omega arith)
+
+map-upto : {A : Type 0} (f g : ℕ → A) (base n : ℕ) → ((k : ℕ) → k < base + n → f k ≡ g k) → map f (upto_from base n) ≡ map g (upto_from base n)
+map-upto f g base zero e = refl
+map-upto {A} f g base (suc n) e = ap₂ (λ (x : A) (xs : List A). x ∷ xs) (e base (omega arith)) (map-upto f g (base + 1) n (λ k lt. e k (omega (arith, lt))))
+
+map-map_upto : {A B : Type 0} (g : A → B) (f : ℕ → A) (base n : ℕ) → map g (map f (upto_from base n)) ≡ map (λ k. g (f k)) (upto_from base n)
+map-map_upto g f base zero = refl
+map-map_upto {A} {B} g f base (suc n) = ap (λ (ys : List B). g (f base) ∷ ys) (map-map_upto g f (base + 1) n)
+
+-- ---- the tuple stands in each combination
+
+product-has : {A : Type 0} (x : A) (f : ℕ → List A) (i base n : ℕ) → f i ≡ x ∷ [] → base ≤ i → i < base + n → (c : List A) → In c (product (map f (upto_from base n))) → In x c
+product-has x f i base zero e le lt c h = absurd (omega (arith, le, lt))
+product-has {A} x f i base (suc n) e le lt c h = go (eqb base i) refl (In-flat_map (λ (y : A). map (λ d. y ∷ d) (product (map f (upto_from (base + 1) n)))) c (f base) h) (product-has x f i (base + 1) n e)
+  where
+    go : (b : Bool) → eqb base i ≡ b → (y : A) × In y (f base) × In c (map (λ d. y ∷ d) (product (map f (upto_from (base + 1) n))))
+        → (base + 1 ≤ i → i < (base + 1) + n → (d : List A) → In d (product (map f (upto_from (base + 1) n))) → In x d) → In x c
+    go true k (y, hy, hc) ih =
+        let d = In-map (λ (d : List A). y ∷ d) c (product (map f (upto_from (base + 1) n))) hc in
+        subst (λ (z : List A). In x z) d.2 (inl (only (subst (λ (ys : List A). In y ys) (ap f (eqb-true base i k) ∙ e) hy)))
+      where
+        only : In y (x ∷ []) → y ≡ x
+        only (inl q) = sym q
+        only (inr q) = absurd q
+    go false k (y, hy, hc) ih =
+        let d = In-map (λ (d : List A). y ∷ d) c (product (map f (upto_from (base + 1) n))) hc in
+        subst (λ (z : List A). In x z) d.2 (inr (ih (omega (arith, le, apart)) (omega (arith, lt)) d.0 d.1))
+      where
+        apart : base ≡ i → ⊥
+        apart q = false≢true (sym k ∙ eq-eqb base i q)
+
+-- a tuple that stands in a combination may be put before it
+agree-own : (classes : List (List ClassCol)) (x : TupleAt) (c : List TupleAt) → In x c → agree classes (x ∷ c) ≡ agree classes c
+agree-own classes x c h = go (agree classes c) (agree classes (x ∷ c)) (agree-mono classes c (x ∷ c) (λ y k. inr k)) (agree-mono classes (x ∷ c) c sub)
+  where
+    sub : (y : TupleAt) → In y (x ∷ c) → In y c
+    sub y (inl e) = subst (λ (z : TupleAt). In z c) e h
+    sub y (inr k) = k
+
+    go : (a b : Bool) → (b ≡ true → a ≡ true) → (a ≡ true → b ≡ true) → b ≡ a
+    go true b f g = g refl
+    go false true f g = sym (f refl)
+    go false false f g = refl
+
+-- ---- choices and candidates
+
+-- of an input's candidates those of the tuple's own input, and of others what suits it, are its choice
+choice-candidates : (classes : List (List ClassCol)) (x : TupleAt) (log : List TupleAt) (sides : List (List TupleAt)) (k : ℕ) → get_or sides k [] ≡ of_input k log
+    → filter (λ y. eqb y.input x.input || suits classes (x ∷ []) y) (candidates x log k) ≡ choice classes x sides k
+choice-candidates classes x log sides k e = go (eqb k x.input) refl
+  where
+    same : eqb k x.input ≡ false → (y : TupleAt) → In y log
+        → ((ltb y.ticket x.ticket && eqb y.input k) && (eqb y.input x.input || suits classes (x ∷ []) y)) ≡ (eqb y.input k && (ltb y.ticket x.ticket && suits classes (x ∷ []) y))
+    same f y h = cases (ltb y.ticket x.ticket) (eqb y.input k) refl
+      where
+        cases : (a b : Bool) → eqb y.input k ≡ b → ((a && b) && (eqb y.input x.input || suits classes (x ∷ []) y)) ≡ (b && (a && suits classes (x ∷ []) y))
+        cases true true q = ap (λ c. c || suits classes (x ∷ []) y) (ap (λ m. eqb m x.input) (eqb-true y.input k q) ∙ f)
+        cases true false q = refl
+        cases false true q = refl
+        cases false false q = refl
+
+    go : (b : Bool) → eqb k x.input ≡ b
+        → filter (λ y. eqb y.input x.input || suits classes (x ∷ []) y) (cond b (x ∷ []) (of_input k (older x.ticket log))) ≡ cond b (x ∷ []) (filter (λ y. ltb y.ticket x.ticket && suits classes (x ∷ []) y) (get_or sides k []))
+    go true q = ap (λ b. cond (b || suits classes (x ∷ []) x) (x ∷ []) []) (eq-eqb x.input x.input refl)
+    go false q =
+        ap (filter (λ y. eqb y.input x.input || suits classes (x ∷ []) y)) (filter-filter (λ (y : TupleAt). ltb y.ticket x.ticket) (λ (y : TupleAt). eqb y.input k) log)
+        ∙ filter-filter (λ (y : TupleAt). ltb y.ticket x.ticket && eqb y.input k) (λ (y : TupleAt). eqb y.input x.input || suits classes (x ∷ []) y) log
+        ∙ filter-agree (λ (y : TupleAt). (ltb y.ticket x.ticket && eqb y.input k) && (eqb y.input x.input || suits classes (x ∷ []) y)) (λ (y : TupleAt). eqb y.input k && (ltb y.ticket x.ticket && suits classes (x ∷ []) y)) log (same q)
+        ∙ sym (filter-filter (λ (y : TupleAt). eqb y.input k) (λ (y : TupleAt). ltb y.ticket x.ticket && suits classes (x ∷ []) y) log)
+        ∙ ap (filter (λ y. ltb y.ticket x.ticket && suits classes (x ∷ []) y)) (sym e)
+
+-- the combinations of the choices that join are those of all candidates
+choices-combinations : (spec : JoinSpec) (x : TupleAt) (log : List TupleAt) (sides : List (List TupleAt)) → x.input < length spec.inputs → sides ≡ map (λ k. of_input k log) (upto_from 0 (length spec.inputs))
+    → filter (agree spec.classes) (product (choices spec.classes x sides)) ≡ filter (agree spec.classes) (product (map (candidates x log) (upto_from 0 (length spec.inputs))))
+choices-combinations spec x log sides lt e =
+    ap (λ m. filter (agree spec.classes) (product (map (choice spec.classes x sides) (upto_from 0 m)))) count
+    ∙ sym (own-first (choice spec.classes x sides) own-choice)
+    ∙ ap (λ (lists : List (List TupleAt)). filter (λ c. agree spec.classes (x ∷ c)) (product lists)) (sym filtered)
+    ∙ sym (product-filter (λ y. eqb y.input x.input || suits spec.classes (x ∷ []) y) (λ c. agree spec.classes (x ∷ c)) (map (candidates x log) (upto_from 0 (length spec.inputs))) all-pass)
+    ∙ own-first (candidates x log) own-candidate
+  where
+    count : length sides ≡ length spec.inputs
+    count = ap (λ (s : List (List TupleAt)). length s) e ∙ length-map (upto_from 0 (length spec.inputs)) (λ k. of_input k log) ∙ length-upto 0 (length spec.inputs)
+
+    own-choice : choice spec.classes x sides x.input ≡ x ∷ []
+    own-choice = ap (λ b. cond b (x ∷ []) (filter (λ y. ltb y.ticket x.ticket && suits spec.classes (x ∷ []) y) (get_or sides x.input []))) (eq-eqb x.input x.input refl)
+
+    own-candidate : candidates x log x.input ≡ x ∷ []
+    own-candidate = ap (λ b. cond b (x ∷ []) (of_input x.input (older x.ticket log))) (eq-eqb x.input x.input refl)
+
+    own-first : (f : ℕ → List TupleAt) → f x.input ≡ x ∷ [] → filter (λ c. agree spec.classes (x ∷ c)) (product (map f (upto_from 0 (length spec.inputs)))) ≡ filter (agree spec.classes) (product (map f (upto_from 0 (length spec.inputs))))
+    own-first f own =
+        filter-agree (λ c. agree spec.classes (x ∷ c)) (agree spec.classes) (product (map f (upto_from 0 (length spec.inputs)))) (λ c h.
+        agree-own spec.classes x c (product-has x f x.input 0 (length spec.inputs) own (omega arith) (omega (arith, lt)) c h))
+
+    side-at : (k : ℕ) → k < 0 + length spec.inputs → get_or sides k [] ≡ of_input k log
+    side-at k l = ap (λ (s : List (List TupleAt)). get_or s k []) e ∙ get_or-upto (λ i. of_input i log) 0 (length spec.inputs) k [] (omega (arith, l)) ∙ ap (λ i. of_input i log) (omega arith)
+
+    filtered : map (filter (λ y. eqb y.input x.input || suits spec.classes (x ∷ []) y)) (map (candidates x log) (upto_from 0 (length spec.inputs))) ≡ map (choice spec.classes x sides) (upto_from 0 (length spec.inputs))
+    filtered =
+        map-map_upto (filter (λ y. eqb y.input x.input || suits spec.classes (x ∷ []) y)) (candidates x log) 0 (length spec.inputs)
+        ∙ map-upto (λ k. filter (λ y. eqb y.input x.input || suits spec.classes (x ∷ []) y) (candidates x log k)) (choice spec.classes x sides) 0 (length spec.inputs) (λ k l. choice-candidates spec.classes x log sides k (side-at k l))
+
+    all-pass : (c : List TupleAt) → agree spec.classes (x ∷ c) ≡ true → list_all (λ y. eqb y.input x.input || suits spec.classes (x ∷ []) y) c ≡ true
+    all-pass c t = all_from (λ y. eqb y.input x.input || suits spec.classes (x ∷ []) y) c (λ y h. or_right (eqb y.input x.input) (suits spec.classes (x ∷ []) y) (pair-suits spec.classes (x ∷ c) x y t (inl refl) (inr h)))
+
+-- what a tuple's choices give is the results of its ticket
+pub choices-results : (spec : JoinSpec) (limit next done : ℕ) (log : List TupleAt) (sides : List (List TupleAt)) (taken : List ℕ) (d : TupleAt) → IsOrdered spec limit next done log sides taken → done < length log
+    → map joined (filter (agree spec.classes) (product (choices spec.classes (get_or log done d) sides))) ≡ map joined (results (unswept spec) log log (get_or log done d).ticket)
+choices-results spec limit next done log sides taken d o lt =
+    ap (map joined) (
+    choices-combinations spec (get_or log done d) log sides (o.placed (get_or log done d) (get_or-in log done d lt)) o.by_input
+    ∙ ap (λ m. filter (agree spec.classes) (product (map (candidates (get_or log done d) log) (upto_from 0 m)))) (sym (length-map spec.inputs (λ (schema : List _). length schema)))
+    ∙ sym (append-nil (combinations (unswept spec) log (get_or log done d)))
+    ∙ ap (flat_map (combinations (unswept spec) log)) (sym (only-of 0 log next done d o.rising lt))
+    )
+  where
+    get_or-in : (xs : List TupleAt) (i : ℕ) (e : TupleAt) → i < length xs → In (get_or xs i e) xs
+    get_or-in [] i e l = absurd (omega (arith, l))
+    get_or-in (x ∷ xs) zero e l = inl refl
+    get_or-in (x ∷ xs) (suc i) e l = inr (get_or-in xs i e (omega (arith, l)))

@@ -1,0 +1,42 @@
+-- What stands inside a join, and how it is seen.
+use Rattle.std.specs.Prelude.{ℕ, ◌+◌, ◌<◌, ◌^◌, ◌≤◌, ◌≡◌, List, [], ◌∷◌, ◌++◌, map, drop, length}
+use Rattle.pj_shape.specs.declared.joins.JoinSpec.{JoinSpec}
+use Rattle.pj_shape.specs.Sound.{IsSoundSpec}
+use Rattle.pj_laws.specs.Join.{In, TupleAt, PunctAt, of_input, upto_from}
+use Rattle.pj_join.specs.Joins.{JoinView, unswept}
+
+abbrev pub tickets : List TupleAt → List ℕ
+tickets xs = map (λ x. x.ticket) xs
+
+-- the join of these parts: the log has all tuples in order, of which the first so many are taken; of those, the ones
+-- that are not given are listed
+abbrev pub seen : ℕ → JoinSpec → ℕ → ℕ → ℕ → List TupleAt → List PunctAt → List ℕ → JoinView
+seen node spec limit next done log puncts taken = record {
+  node = node;
+  spec = unswept spec;
+  limit = limit;
+  kept = record {
+    next = next;
+    stored = log;
+    puncts = puncts;
+    pending = tickets (drop done log);
+    opened = taken ++ tickets (drop done log);
+    waiting = [];
+  };
+}
+
+-- the numbers rise, from at least the first number to below the last
+abbrev pub Rise : ℕ → List ℕ → ℕ → Type 0
+Rise from [] end = from ≤ end
+Rise from (t ∷ ts) end = (from ≤ t) × Rise (t + 1) ts end
+
+-- the tickets of the log rise, as do those that are not given; the sides hold the log's tuples by their inputs
+pub record IsOrdered (spec : JoinSpec) (limit next done : ℕ) (log : List TupleAt) (sides : List (List TupleAt)) (taken : List ℕ) : Type 0 where
+  pub sound : IsSoundSpec spec
+  pub small : limit ≤ 2 ^ 40
+  pub below : next ≤ limit
+  pub within : done ≤ length log
+  pub rising : Rise 0 (tickets log) next
+  pub open_rising : Rise 0 (taken ++ tickets (drop done log)) next
+  pub placed : (x : TupleAt) → In x log → x.input < length spec.inputs
+  pub by_input : sides ≡ map (λ k. of_input k log) (upto_from 0 (length spec.inputs))

@@ -1,0 +1,4 @@
+pub mod Joins
+pub mod Walks
+pub mod Insides
+pub mod Triples

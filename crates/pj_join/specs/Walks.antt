@@ -1,0 +1,34 @@
+-- How combinations that join are found one tuple after the other.
+use Rattle.std.specs.Prelude.{ℕ, Bool, not, ◌==◌, nat_lt, ◌&&◌, ◌||◌, if◌then◌else◌, List, [], ◌∷◌, ◌++◌, map, filter, slice_index_or, length}
+use Rattle.std.specs.List.{list_all}
+use Rattle.pj_value.specs.Values.{value_eq}
+use Rattle.pj_laws.specs.Join.{ClassCol, TupleAt, Value, agree, product, upto_from, value_at}
+
+-- the tuple has this value in the column, where that is a column of its input
+abbrev pub has_there : Value → ClassCol → TupleAt → Bool
+has_there v at x = not (x.input == at.input) || value_eq v (value_at x.row at.column)
+
+-- the tuple, and each of the others, has this value in each column of the class that is of its input
+abbrev pub all_have : List ClassCol → List TupleAt → TupleAt → Value → Bool
+all_have class xs more v = list_all (λ at. has_there v at more && list_all (has_there v at) xs) class
+
+-- the tuple's values in the class are those that the others have in it
+abbrev pub suits_class : List TupleAt → TupleAt → List ClassCol → Bool
+suits_class xs more class = list_all (λ at. not (more.input == at.input) || all_have class xs more (value_at more.row at.column)) class
+
+-- whether the tuple joins with these, which join with each other
+abbrev pub suits : List (List ClassCol) → List TupleAt → TupleAt → Bool
+suits classes xs more = list_all (suits_class xs more) classes
+
+-- these tuples with one of each list, where they join
+abbrev pub completed : List (List ClassCol) → List TupleAt → List (List TupleAt) → List (List TupleAt)
+completed classes xs lists = filter (agree classes) (map (λ c. xs ++ c) (product lists))
+
+-- of an input's tuples those that are older than this one and join with it; of its own input itself alone
+abbrev pub choice : List (List ClassCol) → TupleAt → List (List TupleAt) → ℕ → List TupleAt
+choice classes own sides input =
+    if input == own.input then (own ∷ []) else filter (λ y. nat_lt y.ticket own.ticket && suits classes (own ∷ []) y) (slice_index_or sides input [])
+
+-- the choice of each input
+abbrev pub choices : List (List ClassCol) → TupleAt → List (List TupleAt) → List (List TupleAt)
+choices classes own sides = map (choice classes own sides) (upto_from 0 (length sides))

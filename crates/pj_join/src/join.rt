@@ -1,0 +1,247 @@
+// A join over plain lists.
+ghost use Rattle.std.specs.Prelude.{◌≡◌, ◌<◌, ◌≤◌, ◌+◌, ◌^◌, ◌↔◌, List, [], ◌∷◌, ◌++◌, length, OnOk, OnErr, IfOk, IsErrOf, IsTrue, Err, map, ◌==◌};
+ghost use Rattle.pj_shape.specs.Sound.{IsSoundSpec};
+ghost use Rattle.pj_laws.specs.Join.{Step, TupleComes, PunctComes, Take, Give, IsNew, start, run, low, inputs, arity, of_input, upto_from};
+ghost use Rattle.pj_laws.specs.Kept.{kept_of, kept_low, without};
+ghost use Rattle.std.specs.List.{position};
+ghost use Rattle.pj_join.specs.Insides.{Rise};
+ghost use Rattle.pj_join.specs.Joins.{IsTaken, StandsFor, StandsTaken, Takes, after, unswept};
+
+use crate::arrivals::{Arrived, Heard};
+use crate::{JoinStop, Probe};
+use pj_element::Punct;
+use pj_laws::{standing, without_sweeps};
+use pj_shape::JoinSpec;
+use pj_value::{List, NoMemory, Row};
+use std::alloc::Global;
+use std::marker::Model;
+use std::sync::Arc;
+
+/// A join by equal columns. It keeps every element that reaches it, each under its ticket, and lends its tuples to probes.
+/// A contract sees its number, its shape, its limit and what it keeps.
+#[derive(Drop)]
+pub struct Join {
+    alloc: Global,
+    node: u32,
+    spec: Arc<JoinSpec, Global>,
+    limit: u64,
+    next: u64,
+    log: List<Arrived>,
+    sides: Vec<List<Arrived>>,
+    puncts: List<Heard>,
+    done: usize,
+    taken: Vec<u64>,
+}
+
+impl Model for Join {
+    ghost use Rattle.std.specs.Arc.{arc_value};
+    ghost use Rattle.pj_join.specs.Joins.{JoinView};
+    ghost use Rattle.pj_join.specs.Insides.{seen, IsOrdered};
+
+    ghost Value = { JoinView };
+
+    ghost view = { λ j. seen j.node (arc_value j.spec) j.limit j.next j.done j.log j.puncts j.taken.items };
+
+    ghost invariant = { λ j. IsOrdered (arc_value j.spec) j.limit j.next j.done j.log j.sides.items j.taken.items };
+}
+
+impl Join {
+    /// A join with this number among the nodes that takes at most `limit` elements, from 1 to 2^40.
+    pub fn new(alloc: Global, node: u32, spec: JoinSpec, limit: u64) -> Result<Join, NoMemory>
+        requires sound { IsSoundSpec spec }
+        requires limit { (1 ≤ limit) × (limit ≤ 2 ^ 40) }
+        ensures { IfOk result (λ join. join ≡ record { node = node; spec = unswept spec; limit = limit; kept = kept_of start }) }
+    {
+        let sides = empty_sides(alloc, spec.inputs.len())?;
+        Ok(Join {
+            alloc,
+            node,
+            spec: Arc::new(alloc, spec)?,
+            limit,
+            next: 0,
+            log: List::new(alloc),
+            sides,
+            puncts: List::new(alloc),
+            done: 0,
+            taken: Vec::new(alloc),
+        })
+    }
+
+    /// Stores a tuple of an input under the next ticket and gives the ticket. On a refusal the join is as before.
+    ///
+    /// `Limit` comes exactly where as many elements have come as may.
+    pub fn tuple(&mut self, input: u32, row: Row) -> Result<u64, JoinStop>
+        requires fits { (input < inputs self.old.spec) × (length row ≡ arity self.old.spec input) }
+        ensures ticket { IfOk result (λ ticket. ticket ≡ self.old.kept.next) }
+        ensures keeps { OnOk result (self.new ≡ after self.old (TupleComes input row)) }
+        ensures stands { OnOk result (IsNew self.old.kept.puncts input row → (steps : List Step) → StandsFor self.old steps → StandsFor self.new (steps ++ TupleComes input row ∷ [])) }
+        ensures limit { IsErrOf result JoinStop.Limit ↔ (self.old.kept.next ≡ self.old.limit) }
+        ensures refused { OnErr result (self.new ≡ self.old) }
+    {
+        standing();
+        if is_full(self.next, self.limit) {
+            return Err(JoinStop::Limit);
+        }
+        let ticket = self.next;
+        let arrived = Arrived::new(self.alloc, ticket, input, row)?;
+        store(&mut self.log, &mut self.sides[input as usize], arrived)?;
+        self.next = ticket + 1;
+        Ok(ticket)
+    }
+
+    /// Keeps a punctuation of an input under the next ticket and gives the ticket; `out` stays as it was. On a refusal
+    /// the join is as before.
+    ///
+    /// `Limit` comes exactly where as many elements have come as may.
+    pub fn punct(
+        &mut self,
+        input: u32,
+        punct: Punct,
+        out: &mut List<Punct>,
+    ) -> Result<u64, JoinStop>
+        requires fits { (input < inputs self.old.spec) × (length punct ≡ arity self.old.spec input) }
+        ensures ticket { IfOk result (λ ticket. ticket ≡ self.old.kept.next) }
+        ensures keeps { OnOk result (self.new ≡ after self.old (PunctComes input punct)) }
+        ensures stands { OnOk result ((steps : List Step) → StandsFor self.old steps → StandsFor self.new (steps ++ PunctComes input punct ∷ [])) }
+        ensures limit { IsErrOf result JoinStop.Limit ↔ (self.old.kept.next ≡ self.old.limit) }
+        ensures refused { OnErr result (self.new ≡ self.old) }
+        ensures silent { out.new ≡ out.old }
+    {
+        standing();
+        let _ = out;
+        if is_full(self.next, self.limit) {
+            return Err(JoinStop::Limit);
+        }
+        let ticket = self.next;
+        self.puncts.push(Heard::new(ticket, input, punct))?;
+        self.next += 1;
+        Ok(ticket)
+    }
+
+    /// Takes the least ticket that is pending; `None` exactly where none is. On a refusal the join is as before.
+    pub fn take(&mut self) -> Result<Option<Probe>, NoMemory>
+        ensures takes { IfOk result (λ answer. Takes self.old self.new answer) }
+        ensures stands { IfOk result (λ answer. (steps : List Step) → StandsFor self.old steps → StandsTaken self.new steps answer) }
+        ensures refused { OnErr result (self.new ≡ self.old) }
+    {
+        standing();
+        without_sweeps();
+        let place = self.done;
+        match self.log.get(place) {
+            None => Ok(None),
+            Some(own) => {
+                let probe = Probe::new(
+                    self.alloc,
+                    self.node,
+                    &self.spec,
+                    own,
+                    self.sides.as_slice(),
+                )?;
+                self.taken.push(probe.ticket())?;
+                self.done += 1;
+                Ok(Some(probe))
+            }
+        }
+    }
+
+    /// Marks the probe's ticket, which was taken here and not given, as given. It takes no memory.
+    pub fn give(&mut self, probe: Probe)
+        requires { IsTaken self.old.kept probe.ticket }
+        ensures gives { self.new ≡ after self.old (Give probe.ticket) }
+        ensures stands { (steps : List Step) → StandsFor self.old steps → StandsFor self.new (steps ++ Give probe.ticket ∷ []) }
+    {
+        standing();
+        forget(&mut self.taken, probe.ticket());
+    }
+
+    /// The low-water ticket: the least that is not given, else the next.
+    pub fn low(&self) -> u64
+        ensures kept { result ≡ kept_low self.now.kept }
+        ensures exact { (steps : List Step) → StandsFor self.now steps → result ≡ low (run self.now.spec start steps) }
+    {
+        match self.taken.first() {
+            Some(ticket) => *ticket,
+            None => match self.log.get(self.done) {
+                Some(first) => first.ticket(),
+                None => self.next,
+            },
+        }
+    }
+
+    /// How many tuples are stored.
+    pub fn stored(&self) -> u64
+        ensures { result ≡ length self.now.kept.stored }
+    {
+        self.log.len() as u64
+    }
+
+    /// How many tickets are not taken.
+    pub fn pending(&self) -> u64
+        ensures { result ≡ length self.now.kept.pending }
+    {
+        (self.log.len() - self.done) as u64
+    }
+
+    /// How many tickets are taken and not given.
+    pub fn taken(&self) -> u64
+        ensures { result + length self.now.kept.pending ≡ length self.now.kept.opened }
+    {
+        self.taken.len() as u64
+    }
+}
+
+fn is_full(next: u64, limit: u64) -> bool
+    ensures { IsTrue result ↔ (next ≡ limit) }
+{
+    next == limit
+}
+
+/// So many empty lists.
+fn empty_sides(alloc: Global, count: usize) -> Result<Vec<List<Arrived>>, NoMemory>
+    ensures { IfOk result (λ sides. sides.items ≡ map (λ k. of_input k []) (upto_from 0 count)) }
+{
+    let mut sides = Vec::new(alloc);
+    for input in 0..count {
+        sides.push(List::new(alloc))?;
+    }
+    Ok(sides)
+}
+
+/// Puts a tuple at the end of the log and of its side, or of neither.
+fn store(
+    log: &mut List<Arrived>,
+    side: &mut List<Arrived>,
+    arrived: Arrived,
+) -> Result<(), NoMemory>
+    ensures ok { OnOk result ((log.new ≡ log.old ++ arrived ∷ []) × (side.new ≡ side.old ++ arrived ∷ [])) }
+    ensures err { OnErr result ((log.new ≡ log.old) × (side.new ≡ side.old)) }
+{
+    let count = side.len();
+    side.push(arrived.share()?)?;
+    match log.push(arrived) {
+        Ok(()) => Ok(()),
+        Err(stop) => {
+            side.truncate(count);
+            Err(stop)
+        }
+    }
+}
+
+/// Takes a ticket out of tickets that rise.
+fn forget(taken: &mut Vec<u64>, ticket: u64)
+    requires { Rise 0 taken.old.items (2 ^ 64) }
+    ensures { taken.new.items ≡ without taken.old.items ticket }
+{
+    match place_of(taken.as_slice(), ticket) {
+        Some(place) => {
+            taken.remove(place);
+        }
+        None => {}
+    }
+}
+
+fn place_of(tickets: &[u64], ticket: u64) -> Option<usize>
+    ensures { result ≡ position (λ t. t == ticket) tickets.now }
+{
+    tickets.iter().position(|t| *t == ticket)
+}

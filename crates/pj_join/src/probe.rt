@@ -1,0 +1,99 @@
+// A tuple on its way through the work of a join.
+ghost use Rattle.std.specs.Prelude.{◌≡◌, IfOk, map, filter};
+ghost use Rattle.std.specs.Arc.{arc_value};
+ghost use Rattle.pj_laws.specs.Join.{joined, agree, product};
+ghost use Rattle.pj_join.specs.Walks.{choices};
+
+use crate::Found;
+use crate::arrivals::Arrived;
+use crate::walk::{choices, complete};
+use pj_shape::JoinSpec;
+use pj_value::{List, NoMemory};
+use std::alloc::Global;
+use std::marker::Model;
+use std::sync::Arc;
+
+/// A tuple that was taken, with the stored rows that may join with it. It is seen as what its work finds.
+#[derive(Drop)]
+pub struct Probe {
+    join: u32,
+    ticket: u64,
+    spec: Arc<JoinSpec, Global>,
+    sides: List<List<Arrived>>,
+}
+
+impl Model for Probe {
+    ghost use Rattle.std.specs.Prelude.{map, filter};
+    ghost use Rattle.std.specs.Arc.{arc_value};
+    ghost use Rattle.pj_join.specs.declared.found.Found.{Found};
+    ghost use Rattle.pj_laws.specs.Join.{joined, agree, product};
+
+    ghost Value = { Found };
+
+    ghost view = { λ p. record { join = p.join; ticket = p.ticket; rows = map joined (filter (agree (arc_value p.spec).classes) (product p.sides)) } };
+}
+
+impl Probe {
+    /// A probe of this tuple at the join with this number, over the stored tuples of each input.
+    pub(crate) fn new(
+        alloc: Global,
+        join: u32,
+        spec: &Arc<JoinSpec, Global>,
+        own: &Arrived,
+        sides: &[List<Arrived>],
+    ) -> Result<Probe, NoMemory>
+        ensures { IfOk result (λ probe. probe ≡ record { join = join; ticket = own.now.ticket; rows = map joined (filter (agree (arc_value spec.now).classes) (product (choices (arc_value spec.now).classes own.now sides.now))) }) }
+    {
+        let spec = share_spec(spec)?;
+        let sides = choices(alloc, spec.classes.as_slice(), own, sides)?;
+        Ok(Probe {
+            join,
+            ticket: own.ticket(),
+            spec,
+            sides,
+        })
+    }
+
+    /// The number of its join.
+    pub fn join(&self) -> u32
+        ensures { result ≡ self.now.join }
+    {
+        self.join
+    }
+
+    /// Its ticket there.
+    pub fn ticket(&self) -> u64
+        ensures { result ≡ self.now.ticket }
+    {
+        self.ticket
+    }
+
+    /// Finds its results: each combination with one older tuple of each other input in which all classes agree, joined
+    /// to a row, in the order of their tickets.
+    #[tactic(auto, using(crate::proofs::Walking::whole_walk))]
+    pub fn work(&self, alloc: Global) -> Result<Found, NoMemory>
+        ensures { IfOk result (λ found. found ≡ self.now) }
+    {
+        let mut parts = List::new(alloc);
+        let mut rows = List::new(alloc);
+        complete(
+            alloc,
+            self.spec.classes.as_slice(),
+            &mut parts,
+            self.sides.as_slice(),
+            &mut rows,
+        )?;
+        Ok(Found {
+            join: self.join,
+            ticket: self.ticket,
+            rows,
+        })
+    }
+}
+
+/// A second handle of the same shape.
+fn share_spec(spec: &Arc<JoinSpec, Global>) -> Result<Arc<JoinSpec, Global>, NoMemory>
+    ensures { IfOk result (λ copy. arc_value copy ≡ arc_value spec.now) }
+{
+    Ok(Arc::try_clone(spec)?)
+}
