@@ -1,0 +1,16 @@
+pub mod Form
+pub mod Entering
+pub mod Moves
+pub mod Tickets
+pub mod Entries
+pub mod Alone
+pub mod Shapes
+pub mod Arriving
+pub mod Probing
+pub mod Standing
+pub mod Fitting
+pub mod Words
+pub mod Ended
+pub mod Fresh
+pub mod Turning
+pub mod Samples

@@ -1,0 +1,214 @@
+-- What the calls of a core answer, and what they make of it.
+use Rattle.std.specs.Prelude.{ℕ, ◌+◌, ◌<◌, ◌≡◌, false, List, [], ◌∷◌, ◌++◌, map, filter, length, sum, Option, Some, None}
+use Rattle.pj_shape.specs.declared.plans.SmallPlan.{SmallPlan}
+use Rattle.pj_element.specs.declared.element.Element.{Element}
+use Rattle.pj_element.specs.declared.element.Element.TheVariants.{Punct}
+use Rattle.pj_laws.specs.Patterns.{all_wild}
+use Rattle.pj_laws.specs.CoreKept.{columns_of}
+use Rattle.pj_laws.specs.declared.events.Entry.{Entry}
+use Rattle.pj_laws.specs.declared.events.Event.{Event}
+use Rattle.pj_laws.specs.declared.events.Event.TheVariants.{Arrive, Take as Taken, Give as Given, Look as Looked, Stopped, Idle}
+use Rattle.pj_laws.specs.declared.events.Look.{Look}
+use Rattle.pj_laws.specs.declared.events.Out.{Out}
+use Rattle.pj_laws.specs.declared.events.Stop.{Stop}
+use Rattle.pj_laws.specs.declared.events.Stop.TheVariants.{Limit, NoMemory}
+use Rattle.pj_laws.specs.Join.{has, upto_from}
+use Rattle.pj_laws.specs.Kept.{lacking}
+use Rattle.pj_laws.specs.Plan.{Node}
+use Rattle.pj_laws.specs.History.{pending_in, reached_of, state_in}
+use Rattle.pj_laws.specs.Outcomes.{goes_beyond, outputs_of, peak_of, results_of}
+use Rattle.pj_laws.specs.OneThread.{Turn, arrival_of, next_probe, plain, turn_entries}
+use Rattle.pj_join.specs.declared.found.Found.{Found}
+use Rattle.pj_join.specs.Joins.{IsTaken}
+use Rattle.pj_core.specs.Cores.{CoreState, JoinPart, MayFollow, Notes, NotesAllowed, StandsFor, nodes_after, nodes_in, pending_list}
+
+-- ---- a new core
+
+-- nothing has happened yet
+pub record IsFresh (core : CoreState) (plan : SmallPlan) (limit : ℕ) : Type 0 where
+  pub of_plan : core.plan ≡ plan
+  pub with_limit : core.limit ≡ limit
+  pub undrained : core.undrained ≡ []
+  pub on : core.stop ≡ None
+  pub stands : StandsFor core []
+
+-- ---- stops
+
+-- the event brings no element beyond the limit
+abbrev pub StaysWithin : CoreState → Event → Type 0
+StaysWithin core event = (history : List Entry) → StandsFor core history → goes_beyond core.limit (nodes_in core) history event ≡ None
+
+-- a limit stops the event that brings one element beyond it, at that node; memory may be wanting at any time
+abbrev pub IsCause : CoreState → Event → Stop → Type 0
+IsCause core event (Limit node) =
+    (history : List Entry) → StandsFor core history → goes_beyond core.limit (nodes_in core) history event ≡ Some node
+IsCause core event NoMemory = Unit {0}
+
+-- the core stops now, and what it has to hand out stays
+pub record StopsNow (old new : CoreState) (stop : Stop) : Type 0 where
+  pub notes : Notes old new (plain (Stopped stop))
+  pub stopped : new.stop ≡ Some stop
+  pub undrained : new.undrained ≡ old.undrained
+
+-- a core that stopped before answers that stop again and stays as it is
+pub record StaysStopped (old new : CoreState) (before stop : Stop) : Type 0 where
+  pub again : stop ≡ before
+  pub stays : new ≡ old
+  pub notes : Notes old new (plain Idle)
+
+-- the answer is the stop that was answered before; where there was none the core stops now, for this cause
+abbrev pub IsRefused : Option Stop → CoreState → CoreState → Stop → Type 0 → Type 0
+IsRefused None old new stop cause = StopsNow old new stop × cause
+IsRefused (Some before) old new stop cause = StaysStopped old new before stop
+
+-- ---- arrivals
+
+-- the element has arrived, and none went beyond the limit
+pub record HasArrived (old new : CoreState) (entry : Entry) : Type 0 where
+  pub on : (old.stop ≡ None) × (new.stop ≡ None)
+  pub notes : NotesAllowed old new entry
+  pub within : StaysWithin old entry.event
+
+-- ---- probes
+
+-- the probe's ticket is taken at this join, and not given
+abbrev pub IsOpenAt : ℕ → Option JoinPart → Found → Type 0
+IsOpenAt join None probe = ⊥
+IsOpenAt join (Some part) probe = (probe.join ≡ join) × IsTaken part.kept probe.ticket
+
+-- the join of a plan stands behind its streams
+abbrev pub join_node : CoreState → ℕ
+join_node core = length core.plan.streams
+
+-- the probe was taken from the core, and its ticket is not given
+abbrev pub IsOpen : CoreState → Found → Type 0
+IsOpen core probe = IsOpenAt (join_node core) core.joined probe
+
+-- nothing is pending, and the core stays as it is
+pub record FindsNone (old new : CoreState) : Type 0 where
+  pub none : (history : List Entry) → StandsFor old history → next_probe (nodes_after old history) ≡ None
+  pub pending : pending_list old.joined ≡ []
+  pub stays : new ≡ old
+  pub notes : Notes old new (plain Idle)
+
+-- the probe is that of the next ticket, and its work finds the results of the ticket over all that arrived
+pub record TakesNext (old new : CoreState) (probe : Found) : Type 0 where
+  pub next : (history : List Entry) → StandsFor old history
+      → next_probe (nodes_after old history) ≡ Some (record { join = probe.join; ticket = probe.ticket })
+  pub finds : (history : List Entry) → StandsFor old history → probe.rows ≡ results_of (nodes_in old) history probe.join probe.ticket
+  pub keeps : (history : List Entry) → StandsFor old history
+      → probe.rows ≡ results_of (nodes_in new) (history ++ plain (Taken probe.join probe.ticket) ∷ []) probe.join probe.ticket
+  pub node : probe.join ≡ 2
+  pub opens : IsOpen new probe
+  pub notes : Notes old new (plain (Taken probe.join probe.ticket))
+  pub on : new.stop ≡ None
+  pub undrained : new.undrained ≡ old.undrained
+  pub fewer : length (pending_list new.joined) < length (pending_list old.joined)
+  pub first : (history : List Entry) → StandsFor old history → pending_list old.joined ≡ probe.ticket ∷ pending_list new.joined
+
+-- none where nothing is pending, else the next
+abbrev pub Takes : CoreState → CoreState → Option Found → Type 0
+Takes old new None = FindsNone old new
+Takes old new (Some probe) = TakesNext old new probe
+
+-- the rows are handed out, and where they are the results of the ticket, the ticket is given
+pub record HasGiven (old new : CoreState) (probe found : Found) : Type 0 where
+  pub on : (old.stop ≡ None) × (new.stop ≡ None)
+  pub pending : pending_list new.joined ≡ pending_list old.joined
+  pub plan : new.plan ≡ old.plan
+  pub limit : new.limit ≡ old.limit
+  pub undrained : new.undrained ≡ old.undrained ++ map Out.Tuple found.rows
+  pub stands : (history : List Entry) → StandsFor old history
+      → found.rows ≡ results_of (nodes_in old) history probe.join probe.ticket
+      → StandsFor new (history ++ plain (Given probe.join probe.ticket) ∷ [])
+
+-- ---- looks
+
+-- the number of tuples that are stored at these nodes, of those that are not given, and of punctuations that wait
+abbrev pub stored_in : List Node → ℕ
+stored_in nodes = sum (map (λ node. length (state_in node.operator).stored) nodes)
+
+abbrev pub opened_in : List Node → ℕ
+opened_in nodes = sum (map (λ node. length (lacking (state_in node.operator).given (state_in node.operator).tuples)) nodes)
+
+abbrev pub waiting_in : List Node → ℕ
+waiting_in nodes = sum (map (λ node. length (state_in node.operator).waiting) nodes)
+
+-- how many of so many streams are among the closed
+abbrev pub ended_of : ℕ → List ℕ → ℕ
+ended_of streams closed = length (filter (has closed) (upto_from 0 streams))
+
+-- what a look tells of a core that has not stopped; what is not given is taken or pending
+pub record Tells (core : CoreState) (history : List Entry) (look : Look) : Type 0 where
+  pub pending : look.pending ≡ pending_in (nodes_after core history)
+  pub taken : look.taken + look.pending ≡ opened_in (nodes_after core history)
+  pub stored : look.stored ≡ stored_in (nodes_after core history)
+  pub waiting : look.waiting ≡ waiting_in (nodes_after core history)
+  pub ended : look.ended ≡ ended_of (length core.plan.streams) (reached_of false (nodes_in core) history).closed
+
+-- the outputs, the streams and the stop are always told, the other numbers while nothing stopped
+pub record IsLookAt (core : CoreState) (look : Look) : Type 0 where
+  pub outputs : look.outputs ≡ length core.undrained
+  pub halted : look.halted ≡ false
+  pub stop : look.stop ≡ core.stop
+  pub streams : look.streams ≡ length core.plan.streams
+  pub tells : core.stop ≡ None → (history : List Entry) → StandsFor core history → Tells core history look
+  pub notes : Notes core core (plain (Looked look.pending))
+
+-- the node is the join of the core's plan
+abbrev pub IsJoinNode : CoreState → ℕ → Type 0
+IsJoinNode core join = elim core.plan.join [
+  | None ↦ ⊥
+  | Some _ ↦ join ≡ join_node core
+]
+
+-- the greatest number of tuples that was stored at a join, while nothing stopped
+abbrev pub IsPeak : CoreState → ℕ → ℕ → Type 0
+IsPeak core join peak =
+    core.stop ≡ None → (history : List Entry) → StandsFor core history → peak ≡ peak_of (nodes_in core) history join
+
+-- ---- turns
+
+-- the turn that brings an element to a stream
+abbrev pub arriving_of : ℕ → Element → Turn
+arriving_of stream element = record { stream = stream; element = element; closing = 0 }
+
+-- the turn that closes a stream, by a punctuation with a wildcard for each of its columns
+abbrev pub closing_of : CoreState → ℕ → Turn
+closing_of core stream = record { stream = stream; element = Punct (all_wild (length (columns_of core.plan.streams stream))); closing = 1 }
+
+-- the entries of the turn behind this history
+abbrev pub turn_behind : CoreState → List Entry → Turn → List Entry
+turn_behind core history turn = turn_entries false (nodes_after core history) turn
+
+-- the whole turn was taken, and all that was not drained is handed out with what the turn gained
+pub record TakesTurn (old new : CoreState) (turn : Turn) (outs : List Out) : Type 0 where
+  pub on : (old.stop ≡ None) × (new.stop ≡ None)
+  pub plan : new.plan ≡ old.plan
+  pub limit : new.limit ≡ old.limit
+  pub undrained : new.undrained ≡ []
+  pub within : StaysWithin old (Arrive turn.stream turn.element)
+  pub stands : (history : List Entry) → StandsFor old history → MayFollow old history (arrival_of turn)
+      → StandsFor new (history ++ turn_behind old history turn)
+  pub hands : (history : List Entry) → StandsFor old history → MayFollow old history (arrival_of turn)
+      → outs ≡ old.undrained ++ outputs_of false (nodes_after old history) (turn_behind old history turn)
+
+-- a front of the turn was taken before the core stopped, and what it gained is not drained
+pub record TakesFront (old new : CoreState) (history : List Entry) (turn : Turn) (stop : Stop) : Type 0 where
+  pub front : List Entry
+  pub back : List Entry
+  pub parts : turn_behind old history turn ≡ front ++ back
+  pub stands : StandsFor new (history ++ front ++ plain (Stopped stop) ∷ [])
+  pub undrained : new.undrained ≡ old.undrained ++ outputs_of false (nodes_after old history) front
+
+pub record StopsInTurn (old new : CoreState) (turn : Turn) (stop : Stop) : Type 0 where
+  pub plan : new.plan ≡ old.plan
+  pub limit : new.limit ≡ old.limit
+  pub stopped : new.stop ≡ Some stop
+  pub cause : IsCause old (Arrive turn.stream turn.element) stop
+  pub takes : (history : List Entry) → StandsFor old history → MayFollow old history (arrival_of turn) → TakesFront old new history turn stop
+
+-- the answer is the stop that was answered before; where there was none the core stops in the turn
+abbrev pub IsTurnRefused : Option Stop → CoreState → CoreState → Turn → Stop → Type 0
+IsTurnRefused None old new turn stop = StopsInTurn old new turn stop
+IsTurnRefused (Some before) old new turn stop = StaysStopped old new before stop

@@ -1,0 +1,182 @@
+-- What the parts of a core are seen as, and what an arrival makes of them.
+use Rattle.std.specs.Prelude.{ℕ, ◌<◌, ◌≤◌, ◌≡◌, ◌≢◌, true, List, [], ◌∷◌, ◌++◌, map, length, max, Option, Some, None}
+use Rattle.pj_shape.specs.declared.plans.SmallJoin.{SmallJoin}
+use Rattle.pj_shape.specs.declared.plans.SmallStream.{SmallStream}
+use Rattle.pj_element.specs.declared.element.Element.{Element}
+use Rattle.pj_laws.specs.declared.events.Out.{Out}
+use Rattle.pj_laws.specs.declared.events.Stop.{Stop}
+use Rattle.pj_laws.specs.declared.events.Stop.TheVariants.{Limit, NoMemory}
+use Rattle.pj_laws.specs.Join.{Give, In, Step, Take, arity, has, inputs, joined, results, run, start}
+use Rattle.pj_shape.specs.Sound.{IsSoundSpec}
+use Rattle.pj_laws.specs.Kept.{kept_of}
+use Rattle.pj_laws.specs.Plan.{Fits, join_step}
+use Rattle.pj_laws.specs.History.{out_of}
+use Rattle.pj_laws.specs.Outcomes.{place_in}
+use Rattle.pj_laws.specs.CoreKept.{IsPlanOf}
+use Rattle.pj_join.specs.declared.found.Found.{Found}
+use Rattle.pj_join.specs.declared.found.JoinStop.{JoinStop}
+use Rattle.pj_join.specs.declared.found.JoinStop.TheVariants.{Limit as JoinFull, NoMemory as JoinWants}
+use Rattle.pj_join.specs.Joins.{IsTaken, JoinView, StandsFor as JoinStandsFor, after, unswept}
+use Rattle.pj_core.specs.declared.joined.Joined.{Joined}
+use Rattle.pj_core.specs.Cores.{CoreState, JoinPart, pending_list}
+
+-- ---- what is seen of a join
+
+-- the join of the plan
+abbrev pub join_in : Option Joined → Option SmallJoin
+join_in None = None
+join_in (Some joined) = Some (record { name = joined.name; inputs = joined.inputs; spec = joined.join.spec.shape })
+
+-- what is kept of the join
+abbrev pub part_in : Option Joined → Option JoinPart
+part_in None = None
+part_in (Some joined) = Some (record { kept = joined.join.kept; peak = joined.peak })
+
+-- the join stands behind two streams, has this limit, is never swept and hands up rows alone
+abbrev pub IsJoinedTo : ℕ → Option Joined → Type 0
+IsJoinedTo limit None = Unit {0}
+IsJoinedTo limit (Some joined) =
+    (joined.node ≡ 2) × (joined.join.node ≡ 2) × (joined.join.limit ≡ limit) × (joined.join.spec ≡ unswept joined.join.spec.shape)
+
+-- the streams and the join are those of a small plan
+abbrev pub IsMadeOf : List SmallStream → ℕ → Option Joined → Type 0
+IsMadeOf streams limit joined = IsPlanOf streams (join_in joined) × IsJoinedTo limit joined
+
+-- ---- what is kept, in numbers
+
+-- the number of pending tickets, of those that are not given, and of stored tuples; 0 where there is no join
+abbrev pub pending_kept : Option JoinPart → ℕ
+pending_kept part = length (pending_list part)
+
+abbrev pub opened_kept : Option JoinPart → ℕ
+opened_kept None = 0
+opened_kept (Some part) = length part.kept.opened
+
+abbrev pub stored_kept : Option JoinPart → ℕ
+stored_kept None = 0
+stored_kept (Some part) = length part.kept.stored
+
+abbrev pub peak_kept : Option JoinPart → ℕ
+peak_kept None = 0
+peak_kept (Some part) = part.peak
+
+-- a new join of this limit
+abbrev pub fresh_joined : ℕ → SmallJoin → Joined
+fresh_joined limit join = record {
+  node = 2;
+  name = join.name;
+  inputs = join.inputs;
+  join = record { node = 2; spec = unswept join.spec; limit = limit; kept = kept_of start };
+  peak = 0;
+}
+
+abbrev pub any_fresh : ℕ → Option SmallJoin → Option Joined
+any_fresh limit None = None
+any_fresh limit (Some join) = Some (fresh_joined limit join)
+
+-- the join of the plan is sound
+abbrev pub IsSoundAny : Option SmallJoin → Type 0
+IsSoundAny None = Unit {0}
+IsSoundAny (Some join) = IsSoundSpec join.spec
+
+-- ---- arrivals
+
+abbrev pub number_or_zero : Option ℕ → ℕ
+number_or_zero None = 0
+number_or_zero (Some n) = n
+
+-- the input that names the stream
+abbrev pub input_named : List ℕ → ℕ → ℕ
+input_named inputs stream = number_or_zero (place_in 0 inputs stream)
+
+-- the step of a join at an element of a stream
+abbrev pub step_for : List ℕ → ℕ → Element → Step
+step_for inputs stream e = join_step (input_named inputs stream) e
+
+-- there are at most 16 inputs, one is for the stream, and the element has as many columns
+abbrev pub FitsInput : Joined → ℕ → Element → Type 0
+FitsInput joined stream e =
+    (length joined.inputs ≤ 16) × (input_named joined.inputs stream < inputs joined.join.spec)
+    × Fits (arity joined.join.spec (input_named joined.inputs stream)) e
+
+abbrev pub FitsAny : Option Joined → ℕ → Element → Type 0
+FitsAny None stream e = Unit {0}
+FitsAny (Some joined) stream e = FitsInput joined stream e
+
+-- the join behind an element of a stream
+abbrev pub entered : Joined → ℕ → Element → Joined
+entered joined stream e =
+    let join = after joined.join (step_for joined.inputs stream e) in
+    record joined { join = join; peak = max joined.peak (length join.kept.stored) }
+
+abbrev pub any_entered : Option Joined → ℕ → Element → Option Joined
+any_entered None stream e = None
+any_entered (Some joined) stream e = Some (entered joined stream e)
+
+-- the outputs behind an arrival: where there is no join, the element is handed out
+abbrev pub outs_after : Option SmallJoin → List Out → Element → List Out
+outs_after None outs e = outs ++ out_of e ∷ []
+outs_after (Some join) outs e = outs
+
+-- what a core with these parts is seen as
+abbrev pub core_of : List SmallStream → ℕ → Option Joined → List ℕ → List Out → Option Stop → CoreState
+core_of streams limit joined closed undrained stop = record {
+  plan = record { streams = streams; join = join_in joined };
+  limit = limit;
+  joined = part_in joined;
+  closed = closed;
+  undrained = undrained;
+  stop = stop;
+}
+
+-- fewer elements than the limit have reached the join, where there is one
+abbrev pub HasRoom : Option Joined → Type 0
+HasRoom None = Unit {0}
+HasRoom (Some joined) = joined.join.kept.next ≢ joined.join.limit
+
+-- as many elements as the limit have reached the join
+abbrev pub IsFull : Option Joined → Type 0
+IsFull None = ⊥
+IsFull (Some joined) = joined.join.kept.next ≡ joined.join.limit
+
+-- a join stops at its own node, and only where it is full
+abbrev pub IsStopOf : Option Joined → Stop → Type 0
+IsStopOf joined (Limit node) = (node ≡ 2) × IsFull joined
+IsStopOf joined NoMemory = Unit {0}
+
+-- what a core answers where its join takes no more
+abbrev pub join_stop : JoinStop → Stop
+join_stop JoinFull = Limit 2
+join_stop JoinWants = NoMemory
+
+-- ---- probes
+
+-- the rows are the results of the ticket, over all that came by any steps that the join stands for
+abbrev pub FindsResults : JoinView → Found → Type 0
+FindsResults join found =
+    (steps : List Step) → JoinStandsFor join steps
+    → found.rows ≡ map joined (results join.spec (run join.spec start steps).tuples (run join.spec start steps).tuples found.ticket)
+
+-- the join has taken its least pending ticket
+pub record TakesOf (joined : Joined) (new : Option Joined) (found : Found) : Type 0 where
+  pub changes : new ≡ Some (record joined { join = after joined.join (Take found.ticket) })
+  pub pending : has joined.join.kept.pending found.ticket ≡ true
+  pub least : (u : ℕ) → In u joined.join.kept.pending → found.ticket ≤ u
+  pub node : found.join ≡ joined.join.node
+  pub taken : IsTaken (after joined.join (Take found.ticket)).kept found.ticket
+  pub finds : FindsResults joined.join found
+
+abbrev pub TakesAny : Option Joined → Option Joined → Option Found → Type 0
+TakesAny joined new None = (new ≡ joined) × (pending_kept (part_in joined) ≡ 0)
+TakesAny None new (Some found) = ⊥
+TakesAny (Some joined) new (Some found) = TakesOf joined new found
+
+-- the join has given the ticket
+abbrev pub given : Option Joined → ℕ → Option Joined
+given None ticket = None
+given (Some joined) ticket = Some (record joined { join = after joined.join (Give ticket) })
+
+-- the ticket is taken and not given
+abbrev pub IsTakenOf : Option Joined → ℕ → Type 0
+IsTakenOf None ticket = ⊥
+IsTakenOf (Some joined) ticket = IsTaken joined.join.kept ticket

@@ -1,0 +1,93 @@
+-- What a turn is made of.
+use Rattle.std.specs.Prelude.{ℕ, ◌<◌, ◌≡◌, Bool, true, false, List, [], ◌∷◌, ◌++◌, length, Some, None}
+use Rattle.pj_laws.specs.declared.events.Entry.{Entry}
+use Rattle.pj_laws.specs.declared.events.Event.TheVariants.{Drain, Stopped}
+use Rattle.pj_laws.specs.declared.events.Stop.{Stop}
+use Rattle.pj_laws.specs.declared.events.Stop.TheVariants.{NoMemory}
+use Rattle.pj_laws.specs.declared.events.Out.{Out}
+use Rattle.pj_laws.specs.Outcomes.{outputs_of}
+use Rattle.pj_laws.specs.OneThread.{plain, probes, probes_at}
+use Rattle.pj_core.specs.Cores.{CoreState, StandsFor, nodes_after, pending_list}
+
+-- the probes of the pending tickets are all that the history asks for
+pub record ListsProbes (core : CoreState) : Type 0 where
+  pub all : core.stop ≡ None → (history : List Entry) → StandsFor core history → probes (nodes_after core history) ≡ probes_at 2 (pending_list core.joined)
+
+-- the first pending ticket was taken and given
+pub record ProbesFirst (old new : CoreState) (history : List Entry) : Type 0 where
+  pub ticket : ℕ
+  pub first : pending_list old.joined ≡ ticket ∷ pending_list new.joined
+  pub stands : StandsFor new (history ++ probes_at 2 (ticket ∷ []))
+
+pub record ProbesOne (old new : CoreState) : Type 0 where
+  pub plan : new.plan ≡ old.plan
+  pub limit : new.limit ≡ old.limit
+  pub on : new.stop ≡ None
+  pub fewer : length (pending_list new.joined) < length (pending_list old.joined)
+  pub probes : (history : List Entry) → StandsFor old history → ProbesFirst old new history
+
+-- one probe was done, or there was none to do
+abbrev pub MayProbe : Bool → CoreState → CoreState → Type 0
+MayProbe true old new = ProbesOne old new
+MayProbe false old new = (new ≡ old) × (pending_list old.joined ≡ [])
+
+-- every pending ticket was taken and given, in order
+pub record ProbesAll (old new : CoreState) : Type 0 where
+  pub plan : new.plan ≡ old.plan
+  pub limit : new.limit ≡ old.limit
+  pub on : new.stop ≡ None
+  pub stands : (history : List Entry) → StandsFor old history → StandsFor new (history ++ probes_at 2 (pending_list old.joined))
+
+-- a front of these tickets was taken and given
+pub record GoesTo (old now : CoreState) (history : List Entry) : Type 0 where
+  pub tickets : List ℕ
+  pub parts : pending_list old.joined ≡ tickets ++ pending_list now.joined
+  pub stands : StandsFor now (history ++ probes_at 2 tickets)
+
+pub record SoFar (old now : CoreState) : Type 0 where
+  pub plan : now.plan ≡ old.plan
+  pub limit : now.limit ≡ old.limit
+  pub on : now.stop ≡ None
+  pub goes : (history : List Entry) → StandsFor old history → GoesTo old now history
+
+-- memory was wanting among the probes
+pub record StopsAt (old new : CoreState) (history : List Entry) (stop : Stop) : Type 0 where
+  pub front : List Entry
+  pub back : List Entry
+  pub parts : probes_at 2 (pending_list old.joined) ≡ front ++ back
+  pub stands : StandsFor new (history ++ front ++ plain (Stopped stop) ∷ [])
+
+pub record StopsProbing (old new : CoreState) (stop : Stop) : Type 0 where
+  pub plan : new.plan ≡ old.plan
+  pub limit : new.limit ≡ old.limit
+  pub stopped : new.stop ≡ Some stop
+  pub memory : stop ≡ NoMemory
+  pub stops : (history : List Entry) → StandsFor old history → StopsAt old new history stop
+
+-- all probes that the history asks for, and a drain
+abbrev pub finish_behind : CoreState → List Entry → List Entry
+finish_behind core history = probes (nodes_after core history) ++ plain Drain ∷ []
+
+-- every pending ticket was taken and given, and all is handed out
+pub record Finishes (old new : CoreState) (outs : List Out) : Type 0 where
+  pub plan : new.plan ≡ old.plan
+  pub limit : new.limit ≡ old.limit
+  pub on : new.stop ≡ None
+  pub undrained : new.undrained ≡ []
+  pub stands : (history : List Entry) → StandsFor old history → StandsFor new (history ++ finish_behind old history)
+  pub hands : (history : List Entry) → StandsFor old history → outs ≡ old.undrained ++ outputs_of false (nodes_after old history) (finish_behind old history)
+
+-- memory was wanting on the way
+pub record FinishesFront (old new : CoreState) (history : List Entry) (stop : Stop) : Type 0 where
+  pub front : List Entry
+  pub back : List Entry
+  pub parts : finish_behind old history ≡ front ++ back
+  pub stands : StandsFor new (history ++ front ++ plain (Stopped stop) ∷ [])
+  pub undrained : new.undrained ≡ old.undrained ++ outputs_of false (nodes_after old history) front
+
+pub record StopsFinishing (old new : CoreState) (stop : Stop) : Type 0 where
+  pub plan : new.plan ≡ old.plan
+  pub limit : new.limit ≡ old.limit
+  pub stopped : new.stop ≡ Some stop
+  pub memory : stop ≡ NoMemory
+  pub stops : (history : List Entry) → StandsFor old history → FinishesFront old new history stop

@@ -1,0 +1,321 @@
+// The core of a run.
+ghost use Rattle.std.specs.Prelude.{◌≡◌, ◌<◌, ◌≤◌, ◌^◌, [], ◌∷◌, ◌++◌, None, length, IfErr, IfOk, OnErr, OnOk, IsErrOf};
+ghost use Rattle.pj_element.specs.declared.element.Element.TheVariants.{Punct as PunctOf};
+ghost use Rattle.pj_laws.specs.declared.events.Event.TheVariants.{Arrive as Arrives, Drain as Drains};
+ghost use Rattle.pj_laws.specs.Patterns.{all_wild};
+ghost use Rattle.pj_laws.specs.Join.{has};
+ghost use Rattle.pj_laws.specs.Plan.{FitsSchema};
+ghost use Rattle.pj_laws.specs.OneThread.{arrival_of, plain};
+ghost use Rattle.pj_laws.specs.CoreKept.{IsSmallPlan, columns_of};
+ghost use Rattle.pj_core.specs.Cores.{Notes};
+ghost use Rattle.pj_core.specs.Calls.{arriving_of, closing_of, ended_of, HasArrived, HasGiven, IsCause, IsFresh, IsJoinNode, IsLookAt, IsOpen, IsPeak, IsRefused, StopsNow, Takes};
+ghost use Rattle.pj_core.specs.Turns.{ListsProbes};
+ghost use Rattle.pj_core.specs.Parts.{FitsAny, HasRoom, IsFull, any_entered, join_in, join_stop, outs_after};
+
+use crate::handed::hand_out_rows;
+use crate::joined::{
+    JOIN, Joined, enter, give_to, new_joined, peak_in, pending_in, stored_in, take_next, taken_in,
+};
+use crate::known::known;
+use pj_element::{Element, Pattern, Punct};
+use pj_join::{Found, JoinStop, Probe};
+use pj_laws::{Look, Out, Stop};
+use pj_shape::{Column, SmallPlan, SmallStream};
+use pj_value::{List, NoMemory};
+use std::alloc::Global;
+use std::marker::Model;
+
+/// The core of one stream, or of two streams and a join of them.
+///
+/// A contract sees its plan, its limit, and what it keeps. It stands for a history of its plan where that is what the
+/// history leaves, and each call takes it from a history to the same with the entry of the call behind it.
+#[derive(Drop)]
+pub struct Core {
+    alloc: Global,
+    streams: List<SmallStream>,
+    limit: u64,
+    joined: Option<Joined>,
+    closed: List<u32>,
+    undrained: List<Out>,
+    stop: Option<Stop>,
+}
+
+impl Model for Core {
+    ghost use Rattle.std.specs.Prelude.{reverse};
+    ghost use Rattle.pj_core.specs.Cores.{CoreState};
+
+    ghost Value = { CoreState };
+
+    ghost use Rattle.pj_core.specs.Parts.{IsMadeOf, core_of};
+
+    ghost view = { λ c. core_of c.streams c.limit c.joined (reverse c.closed) c.undrained c.stop };
+
+    ghost invariant = { λ c. IsMadeOf c.streams c.limit c.joined };
+}
+
+impl Core {
+    /// A core of this plan, at whose join at most `limit` elements may arrive, from 1 to 2^40. It stands for the empty
+    /// history.
+    pub fn new(alloc: Global, plan: SmallPlan, limit: u64) -> Result<Core, NoMemory>
+        requires plan { IsSmallPlan plan }
+        requires limit { (1 ≤ limit) × (limit ≤ 2 ^ 40) }
+        ensures { IfOk result (λ core. IsFresh core plan limit) }
+    {
+        known();
+        let SmallPlan { streams, join } = plan;
+        let joined = new_joined(alloc, join, limit)?;
+        Ok(Core {
+            alloc,
+            streams,
+            limit,
+            joined,
+            closed: List::new(alloc),
+            undrained: List::new(alloc),
+            stop: None,
+        })
+    }
+
+    /// An element arrives at a stream, counted from 0. It fits the stream's columns.
+    ///
+    /// `Limit` comes exactly where as many elements as may have arrived at the join and this is one more; `NoMemory`
+    /// where memory could not be had. After a stop the core answers the same stop and changes nothing.
+    pub fn arrive(&mut self, stream: u32, element: Element) -> Result<(), Stop>
+        requires there { stream < length self.old.plan.streams }
+        requires fits { FitsSchema (columns_of self.old.plan.streams stream) element }
+        ensures ok { OnOk result (HasArrived self.old self.new (arrival_of (arriving_of stream element))) }
+        ensures err { IfErr result (λ stop. IsRefused self.old.stop self.old self.new stop (IsCause self.old (Arrives stream element) stop)) }
+    {
+        known();
+        match self.stop {
+            Some(stop) => Err(stop),
+            None => match enter(
+                self.alloc,
+                &mut self.joined,
+                &mut self.undrained,
+                stream,
+                element,
+            ) {
+                Ok(()) => Ok(()),
+                Err(stop) => {
+                    let met = stop_at_join(stop);
+                    self.stop = Some(met);
+                    Err(met)
+                }
+            },
+        }
+    }
+
+    /// A stream, counted from 0, ends: a punctuation of wildcards alone arrives, and is marked as its closing.
+    ///
+    /// The stops are those of an arrival.
+    pub fn close_stream(&mut self, stream: u32) -> Result<(), Stop>
+        requires there { stream < length self.old.plan.streams }
+        ensures ok { OnOk result (HasArrived self.old self.new (arrival_of (closing_of self.old stream))) }
+        ensures err { IfErr result (λ stop. IsRefused self.old.stop self.old self.new stop (IsCause self.old (Arrives stream (closing_of self.old stream).element) stop)) }
+    {
+        known();
+        match self.stop {
+            Some(stop) => Err(stop),
+            None => match close(
+                self.alloc,
+                self.streams.as_slice(),
+                &mut self.closed,
+                &mut self.joined,
+                &mut self.undrained,
+                stream,
+            ) {
+                Ok(()) => Ok(()),
+                Err(stop) => {
+                    let stop = stop_at_join(stop);
+                    self.stop = Some(stop);
+                    Err(stop)
+                }
+            },
+        }
+    }
+
+    /// Takes the least ticket that is pending at the join; `None` exactly where none is.
+    ///
+    /// `NoMemory` comes where memory could not be had, any other stop only where it was answered before.
+    pub fn take(&mut self) -> Result<Option<Probe>, Stop>
+        ensures on { OnOk result (self.old.stop ≡ None) }
+        ensures ok { IfOk result (λ answer. Takes self.old self.new answer) }
+        ensures err { IfErr result (λ stop. IsRefused self.old.stop self.old self.new stop (stop ≡ Stop.NoMemory)) }
+    {
+        known();
+        match self.stop {
+            Some(stop) => Err(stop),
+            None => match take_next(&mut self.joined) {
+                Ok(answer) => Ok(answer),
+                Err(NoMemory) => {
+                    self.stop = Some(Stop::NoMemory);
+                    Err(Stop::NoMemory)
+                }
+            },
+        }
+    }
+
+    /// Hands out what the work of a probe found, and gives its ticket. The probe was taken from this core and is not
+    /// given yet, and `found` is of its join and ticket.
+    ///
+    /// `NoMemory` comes where memory could not be had, any other stop only where it was answered before.
+    pub fn give(&mut self, probe: Probe, found: Found) -> Result<(), Stop>
+        requires open { self.old.stop ≡ None → IsOpen self.old probe }
+        requires same { (found.join ≡ probe.join) × (found.ticket ≡ probe.ticket) }
+        ensures ok { OnOk result (HasGiven self.old self.new probe found) }
+        ensures err { IfErr result (λ stop. IsRefused self.old.stop self.old self.new stop (stop ≡ Stop.NoMemory)) }
+    {
+        known();
+        match self.stop {
+            Some(stop) => Err(stop),
+            None => match hand_out_rows(&mut self.undrained, found.rows) {
+                Ok(()) => {
+                    give_to(&mut self.joined, probe);
+                    Ok(())
+                }
+                Err(NoMemory) => {
+                    self.stop = Some(Stop::NoMemory);
+                    Err(Stop::NoMemory)
+                }
+            },
+        }
+    }
+
+    /// Hands out all that was not drained, in order. It takes no memory, and goes on after a stop.
+    pub fn drain(&mut self) -> List<Out>
+        ensures handed { result ≡ self.old.undrained }
+        ensures left { self.new ≡ record self.old { undrained = [] } }
+        ensures notes { Notes self.old self.new (plain Drains) }
+    {
+        known();
+        let empty = List::new(self.alloc);
+        std::mem::replace(&mut self.undrained, empty)
+    }
+
+    // The core stops for want of memory.
+    pub(crate) fn run_dry(&mut self) -> Stop
+        requires { self.old.stop ≡ None }
+        ensures memory { result ≡ Stop.NoMemory }
+        ensures stops { StopsNow self.old self.new result }
+    {
+        known();
+        self.stop = Some(Stop::NoMemory);
+        Stop::NoMemory
+    }
+
+    // What is pending are all probes that are to be done.
+    pub(crate) fn lists_probes(&self)
+        ensures { ListsProbes self.now }
+    {
+        known();
+        let _stop = self.stop;
+    }
+
+    /// How the run stands. After a stop only the streams, the outputs that are not drained and the stop are told.
+    pub fn look(&self) -> Look
+        ensures { IsLookAt self.now result }
+    {
+        known();
+        let streams = self.streams.len() as u32;
+        Look {
+            pending: pending_in(&self.joined),
+            taken: taken_in(&self.joined),
+            streams,
+            ended: count_ended(self.closed.as_slice(), streams),
+            stored: stored_in(&self.joined),
+            waiting: 0,
+            outputs: self.undrained.len() as u64,
+            halted: false,
+            stop: self.stop,
+        }
+    }
+
+    /// The greatest number of tuples that was stored at the join, which is the node of this number, after any entry so
+    /// far. After a stop nothing is said of it.
+    pub fn peak(&self, join: u32) -> u64
+        requires { IsJoinNode self.now join }
+        ensures { IsPeak self.now join result }
+    {
+        peak_in(&self.joined)
+    }
+}
+
+// The stop of a core whose join takes no more.
+fn stop_at_join(stop: JoinStop) -> Stop
+    ensures { result ≡ join_stop stop }
+{
+    match stop {
+        JoinStop::Limit => Stop::Limit { node: JOIN },
+        JoinStop::NoMemory => Stop::NoMemory,
+    }
+}
+
+// Marks the stream as closed, and hands a punctuation of wildcards alone to the join; where there is none it is handed out.
+fn close(
+    alloc: Global,
+    streams: &[SmallStream],
+    closed: &mut List<u32>,
+    joined: &mut Option<Joined>,
+    outs: &mut List<Out>,
+    stream: u32,
+) -> Result<(), JoinStop>
+    requires there { stream < length streams.now }
+    requires fits { FitsAny joined.old stream (PunctOf (all_wild (length (columns_of streams.now stream)))) }
+    ensures closed { OnOk result (closed.new ≡ closed.old ++ stream ∷ []) }
+    ensures joined { OnOk result (joined.new ≡ any_entered joined.old stream (PunctOf (all_wild (length (columns_of streams.now stream))))) }
+    ensures outs { OnOk result (outs.new ≡ outs_after (join_in joined.old) outs.old (PunctOf (all_wild (length (columns_of streams.now stream))))) }
+    ensures room { OnOk result (HasRoom joined.old) }
+    ensures full { IsErrOf result JoinStop.Limit → IsFull joined.old }
+    ensures refused { OnErr result ((joined.new ≡ joined.old) × (outs.new ≡ outs.old)) }
+{
+    match mark(alloc, &streams[stream as usize], closed, stream) {
+        Ok(punct) => enter(alloc, joined, outs, stream, Element::Punct(punct)),
+        Err(NoMemory) => Err(JoinStop::NoMemory),
+    }
+}
+
+// Marks the stream as closed, and gives a punctuation with a wildcard for each of its columns.
+fn mark(
+    alloc: Global,
+    shape: &SmallStream,
+    closed: &mut List<u32>,
+    stream: u32,
+) -> Result<Punct, NoMemory>
+    ensures punct { IfOk result (λ punct. punct ≡ all_wild (length shape.now.schema)) }
+    ensures closed { OnOk result (closed.new ≡ closed.old ++ stream ∷ []) }
+{
+    let punct = wild_for(alloc, shape.schema.columns())?;
+    closed.push(stream)?;
+    Ok(punct)
+}
+
+// A punctuation with a wildcard for each of these columns.
+fn wild_for(alloc: Global, columns: &[Column]) -> Result<Punct, NoMemory>
+    ensures { IfOk result (λ punct. punct ≡ all_wild (length columns.now)) }
+{
+    let mut patterns = List::new(alloc);
+    for _column in columns {
+        patterns.push(Pattern::Wild)?;
+    }
+    Ok(Punct::of(patterns))
+}
+
+// How many of so many streams are closed.
+#[tactic(auto, using(crate::proofs::Ended::ended_more, crate::proofs::Ended::ended_same))]
+fn count_ended(closed: &[u32], streams: u32) -> u32
+    ensures { result ≡ ended_of streams closed.now }
+{
+    let mut ended = 0;
+    for stream in 0..streams {
+        if is_closed(closed, stream) {
+            ended += 1;
+        }
+    }
+    ended
+}
+
+fn is_closed(closed: &[u32], stream: u32) -> bool
+    ensures { result ≡ has closed.now stream }
+{
+    closed.iter().any(|other| *other == stream)
+}
