@@ -3,7 +3,7 @@ use Rattle.std.proofs.Common.{◌≡◌, ◌<◌, ℕ, List, [], ◌∷◌, ◌+
 use Rattle.std.proofs.lemmas.List.{take-append-drop, take_more, map-append}
 use Rattle.pj_io.specs.Pieces.{GrewByLess}
 use Rattle.pj_engine.specs.declared.status.Status.{Status}
-use Rattle.pj_engine.specs.declared.status.Status.TheVariants.{Done, NotBuilt, ReadFault, WriteFault, NoMemory}
+use Rattle.pj_engine.specs.declared.status.Status.TheVariants.{Done, NotBuilt, ReadFault, WriteFault, NoMemory, Limit}
 use Rattle.pj_engine.specs.Written.{flat, StopLeaves, Writes}
 
 pub flat-append : (xs ys : List (List ℕ)) → flat (xs ++ ys) ≡ flat xs ++ flat ys
@@ -36,6 +36,12 @@ stop_then NoMemory xs ys before mid after first stop = record {
   all = append_assoc xs stop.first stop.others ∙ ap (λ (zs : List (List ℕ)). xs ++ zs) stop.all;
   written = stop.written ∙ (ap (λ (zs : List ℕ). zs ++ flat stop.first) first ∙ (append_assoc before (flat xs) (flat stop.first) ∙ ap (λ (zs : List ℕ). before ++ zs) (sym (flat-append xs stop.first))));
 }
+stop_then (Limit what) xs ys before mid after first stop = record {
+  first = xs ++ stop.first;
+  others = stop.others;
+  all = append_assoc xs stop.first stop.others ∙ ap (λ (zs : List (List ℕ)). xs ++ zs) stop.all;
+  written = stop.written ∙ (ap (λ (zs : List ℕ). zs ++ flat stop.first) first ∙ (append_assoc before (flat xs) (flat stop.first) ∙ ap (λ (zs : List ℕ). before ++ zs) (sym (flat-append xs stop.first))));
+}
 
 -- these lines, and then those
 pub writes_then : (result : Result (Unit {0}) Status) (xs ys : List (List ℕ)) (before mid after : List ℕ) → Writes xs before mid (Ok tt) → Writes ys mid after result → Writes (xs ++ ys) before after result
@@ -54,6 +60,12 @@ stop_before WriteFault xs ys before after stop = record {
   written = stop.written;
 }
 stop_before NoMemory xs ys before after stop = record {
+  first = stop.first;
+  others = stop.others ++ ys;
+  all = sym (append_assoc stop.first stop.others ys) ∙ ap (λ (zs : List (List ℕ)). zs ++ ys) stop.all;
+  written = stop.written;
+}
+stop_before (Limit what) xs ys before after stop = record {
   first = stop.first;
   others = stop.others ++ ys;
   all = sym (append_assoc stop.first stop.others ys) ∙ ap (λ (zs : List (List ℕ)). zs ++ ys) stop.all;

@@ -1,59 +1,46 @@
--- What a run leaves written, and what it spells.
-use Rattle.std.proofs.Common.{◌≡◌, ◌≢◌, ◌≤◌, ℕ, Bool, true, not, ◌==◌, inl, inr, List, [], ◌∷◌, ◌++◌, map, length, take, drop, Some, Result, Ok, IsErrAnd, get_or, refl, ap, sym, ◌∙◌, subst, append-nil, arith}
+-- What a run leaves written.
+use Rattle.std.proofs.Common.{◌≡◌, ◌≤◌, ◌<◌, ◌≢◌, ◌+◌, ◌⊎◌, ℕ, Bool, true, not, ◌==◌, inl, inr, List, [], ◌∷◌, ◌++◌, map, length, take, drop, Option, None, Some, Result, Ok, Err, refl, ap, sym, ◌∙◌, subst, append-nil, arith}
 use Rattle.std.specs.Prelude.{codes}
-use Rattle.std.specs.List.{list_all, flat_map}
+use Rattle.std.specs.List.{list_all}
 use Rattle.std.specs.Fmt.{decimal}
-use Rattle.std.specs.String.{string_bytes}
-use Rattle.std.specs.declared.string.String.{String}
-use Rattle.std.specs.declared.alloc.Global.{Global}
 use Rattle.std.proofs.lemmas.Bool.{false≢true, and_parts}
 use Rattle.std.proofs.lemmas.Bool.Decides.{nat_tests, eqb_tells}
-use Rattle.std.proofs.lemmas.List.{take-append-drop}
 use Rattle.pj_io.specs.Causes.{Rose}
-use Rattle.pj_io.specs.Pieces.{GrewByLess}
-use Rattle.pj_element.specs.declared.element.Pattern.{Pattern}
+use Rattle.pj_shape.specs.declared.plans.SmallPlan.{SmallPlan}
+use Rattle.pj_shape.specs.declared.plans.SmallStream.{SmallStream}
+use Rattle.pj_shape.specs.declared.plans.SmallJoin.{SmallJoin}
 use Rattle.pj_element.specs.declared.element.Element.{Element}
-use Rattle.pj_element.specs.declared.element.Element.TheVariants.{Tuple, Punct}
 use Rattle.pj_element.specs.declared.element.Reject.{Reject}
 use Rattle.pj_element.specs.declared.element.Reject.TheVariants.{NotElement, Closed}
 use Rattle.pj_element.specs.declared.tally.Tally.{Tally}
 use Rattle.pj_element.specs.Lines.{HasNo}
-use Rattle.pj_element.specs.Runs.{rows_of, puncts_of, IsLawful, NoneMatches, closing}
-use Rattle.pj_element.specs.Accepted.{reads_of, fates_of, tally_of}
+use Rattle.pj_element.specs.Runs.{rows_of, puncts_of, element_lines}
+use Rattle.pj_element.specs.Accepted.{fates_of, tally_of}
 use Rattle.pj_element.proofs.Feeds.{both_have_no, decimal_no_feed}
-use Rattle.pj_element.proofs.Lawful.{lawful_behind}
-use Rattle.pj_engine.specs.declared.plan.Plan.{Plan}
+use Rattle.pj_laws.specs.CoreKept.{nodes_of}
+use Rattle.pj_laws.specs.Outcomes.{peak_of}
 use Rattle.pj_engine.specs.declared.status.Status.{Status}
-use Rattle.pj_engine.specs.declared.status.Status.TheVariants.{Done, NotBuilt, ReadFault, WriteFault, NoMemory}
-use Rattle.pj_engine.specs.Plans.{plan_of, statements, is_name, is_column_name, is_name_byte}
-use Rattle.pj_element.specs.Lines.{pieces}
-use Rattle.pj_engine.specs.Report.{stream_line, stream_lines, reject_line, reject_words, results_line, counted_to, status_line}
-use Rattle.pj_engine.specs.Runs.{outputs_of, report_of, run_lines, AreLawful}
-use Rattle.pj_engine.specs.Top.{operands, Ran, StoppedRun, RunLeaves}
-use Rattle.pj_engine.specs.Top.{StopLeaves as RunStopLeaves}
-use Rattle.pj_engine.specs.Written.{flat, FrontOf, Delivered, StopLeaves}
+use Rattle.pj_engine.specs.declared.status.Status.TheVariants.{Done, NotBuilt, ReadFault, WriteFault, NoMemory, Limit}
+use Rattle.pj_engine.specs.Files.{IsOverStop}
+use Rattle.pj_engine.specs.Statements.{is_name_byte}
+use Rattle.pj_engine.specs.PlanForms.{HasPlainNames, is_plain, are_plain, is_plain_join}
+use Rattle.pj_engine.specs.Plans.{plan_of}
+use Rattle.pj_engine.specs.Report.{stream_line, stream_lines, reject_line, reject_words, results_line, peak_line, counted_to, status_line}
+use Rattle.pj_engine.specs.Runs.{outputs_of, history_of, report_of, run_lines, streams_report, peaks_report}
+use Rattle.pj_engine.specs.Top.{Ran, StoppedRun, join_name}
+use Rattle.pj_engine.specs.Written.{flat, FrontOf, Delivered, StopLeaves, Writes}
 use Rattle.pj_engine.proofs.Fronts.{IsNoteLine, AreNotes, notes-append}
-use Rattle.pj_engine.proofs.Lines.{err_is}
-use Rattle.pj_engine.proofs.PlanLines.{plan_holds}
 
--- ---- the line of a status
+-- ---- a run that is done
 
-pub cut_delivered : (line before after : List ℕ) (faults faults' : ℕ) → GrewByLess before after line → Rose faults faults' → Delivered line before after faults faults'
-cut_delivered line before after faults faults' grew rose =
-    inr (rose, record { front = take grew.0 line; others = drop grew.0 line; all = take-append-drop grew.0 line; written = grew.1.grew })
+-- all lines were written, and this holds of the outputs
+pub ran : (Holds : SmallPlan → List (List ℕ) → List Element → List (List ℕ) → Type 0) (plan : SmallPlan) (plan_bytes : List ℕ) (ready files : List (List ℕ)) (before after : List ℕ)
+    → plan_of plan_bytes ≡ Some plan → ready ≡ files → Writes (run_lines plan ready) before after (Ok tt) → Holds plan ready (outputs_of plan ready) (report_of plan ready (outputs_of plan ready)) → Ran Holds plan_bytes files before after
+ran Holds plan plan_bytes ready files before after read same written holds =
+    subst (λ (fs : List (List ℕ)). Ran Holds plan_bytes fs before after) same
+    (plan, outputs_of plan ready, report_of plan ready (outputs_of plan ready), read, refl, written, holds)
 
 -- ---- a run that stopped
-
-run_stop : (status : Status) (plan : Plan) (plan_bytes : List ℕ) (files : List (List ℕ)) (before after : List ℕ) → plan_of plan_bytes ≡ Some plan → StopLeaves status (run_lines plan files) before after → RunStopLeaves status plan_bytes files before after
-run_stop Done plan plan_bytes files before after read stop = stop
-run_stop NotBuilt plan plan_bytes files before after read stop = absurd stop
-run_stop (ReadFault n) plan plan_bytes files before after read stop = absurd stop
-run_stop WriteFault plan plan_bytes files before after read stop = (plan, read, stop)
-run_stop NoMemory plan plan_bytes files before after read stop = inr (plan, read, stop)
-
-pub run_stopped : (result : Result (Unit {0}) Status) (status : Status) (plan : Plan) (plan_bytes : List ℕ) (files : List (List ℕ)) (before after : List ℕ) → plan_of plan_bytes ≡ Some plan
-    → StopLeaves status (run_lines plan files) before after → IsErrAnd result (λ x. x ≡ status) → RunLeaves plan_bytes files before after result
-run_stopped result status plan plan_bytes files before after read stop h = rw (err_is result status h) (run_stop status plan plan_bytes files before after read stop)
 
 pub nothing_left : (front others : List ℕ) → front ++ others ≡ [] → front ≡ []
 nothing_left [] others e = refl
@@ -68,35 +55,25 @@ earlier_rose : (line before after : List ℕ) (faults mid faults' : ℕ) → fau
 earlier_rose line before after faults mid faults' le (inl e) = inl e
 earlier_rose line before after faults mid faults' le (inr cut) = inr (omega (arith, cut.0), cut.1)
 
-pub run_stopped_so : (status : Status) (plan_bytes : List ℕ) (files : List (List ℕ)) (before mid after : List ℕ) (faults faults_mid faults' : ℕ) → RunStopLeaves status plan_bytes files before mid
-    → faults ≤ faults_mid → Delivered (status_line status) mid after faults_mid faults' → StoppedRun status plan_bytes files before after faults faults'
-run_stopped_so Done plan_bytes files before mid after faults faults_mid faults' stop le line = absurd stop
-run_stopped_so NotBuilt plan_bytes files before mid after faults faults_mid faults' stop le line = tt
-run_stopped_so (ReadFault n) plan_bytes files before mid after faults faults_mid faults' stop le line = tt
-run_stopped_so WriteFault plan_bytes files before mid after faults faults_mid faults' stop le line =
-    (stop.0, stop.1, subst (λ (now : List ℕ). FrontOf (flat (run_lines stop.0 files)) before now) (sym (same_after mid after faults_mid faults' line)) stop.2)
-run_stopped_so NoMemory plan_bytes files before mid after faults faults_mid faults' stop le line =
-    (mid, stop, earlier_rose (status_line NoMemory) mid after faults faults_mid faults' le line)
+stopped_at : (status : Status) (plan : SmallPlan) (plan_bytes : List ℕ) (files : List (List ℕ)) (before mid after : List ℕ) (faults faults_mid faults' : ℕ) → plan_of plan_bytes ≡ Some plan
+    → StopLeaves status (run_lines plan files) before mid → faults ≤ faults_mid → Delivered (status_line (join_name plan.join) status) mid after faults_mid faults' → StoppedRun status plan_bytes files before after faults faults'
+stopped_at Done plan plan_bytes files before mid after faults faults_mid faults' read stop le line = absurd stop
+stopped_at NotBuilt plan plan_bytes files before mid after faults faults_mid faults' read stop le line = absurd stop
+stopped_at (ReadFault n) plan plan_bytes files before mid after faults faults_mid faults' read stop le line = absurd stop
+stopped_at WriteFault plan plan_bytes files before mid after faults faults_mid faults' read stop le line =
+    (plan, read, subst (λ (now : List ℕ). FrontOf (flat (run_lines plan files)) before now) (sym (same_after mid after faults_mid faults' line)) stop)
+stopped_at NoMemory plan plan_bytes files before mid after faults faults_mid faults' read stop le line =
+    (mid, inr (plan, read, stop), earlier_rose (status_line [] NoMemory) mid after faults faults_mid faults' le line)
+stopped_at (Limit what) plan plan_bytes files before mid after faults faults_mid faults' read stop le line =
+    (plan, mid, read, stop, earlier_rose (status_line (join_name plan.join) (Limit what)) mid after faults faults_mid faults' le line)
 
--- ---- lawful
-
-pub outputs_lawful : (plan : Plan) (files : List (List ℕ)) → IsLawful (outputs_of plan files)
-outputs_lawful plan [] = tt
-outputs_lawful plan (bytes ∷ others) = lawful_behind (closing plan.schema) [] (reads_of plan.schema bytes)
-
-none_matches_front : (p : List Pattern) (xs ys : List Element) → NoneMatches p (xs ++ ys) → NoneMatches p xs
-none_matches_front p [] ys n = tt
-none_matches_front p (Tuple row ∷ xs) ys n = (n.0, none_matches_front p xs ys n.1)
-none_matches_front p (Punct punct ∷ xs) ys n = none_matches_front p xs ys n
-
-pub lawful_front : (xs ys : List Element) → IsLawful (xs ++ ys) → IsLawful xs
-lawful_front [] ys n = tt
-lawful_front (Tuple row ∷ xs) ys n = lawful_front xs ys n
-lawful_front (Punct punct ∷ xs) ys n = (none_matches_front punct xs ys n.0, lawful_front xs ys n.1)
-
-pub ran_lawful : (plan_bytes : List ℕ) (files : List (List ℕ)) (before after : List ℕ) → RunLeaves plan_bytes files before after (Ok tt) → Ran AreLawful plan_bytes files before after
-ran_lawful plan_bytes files before after ran =
-    (ran.0, outputs_of ran.0 files, report_of ran.0 files (outputs_of ran.0 files), ran.1, refl, ran.2, outputs_lawful ran.0 files)
+-- the run stopped, and then the line of its status was written
+pub stopped : (status : Status) (plan : SmallPlan) (plan_bytes name : List ℕ) (ready files : List (List ℕ)) (before mid after : List ℕ) (faults faults_mid faults' : ℕ) → plan_of plan_bytes ≡ Some plan → ready ≡ files
+    → name ≡ join_name plan.join → StopLeaves status (run_lines plan ready) before mid → faults ≤ faults_mid → Delivered (status_line name status) mid after faults_mid faults' → StoppedRun status plan_bytes files before after faults faults'
+stopped status plan plan_bytes name ready files before mid after faults faults_mid faults' read same named stop le line =
+    stopped_at status plan plan_bytes files before mid after faults faults_mid faults' read
+    (subst (λ (fs : List (List ℕ)). StopLeaves status (run_lines plan fs) before mid) same stop) le
+    (subst (λ (n : List ℕ). Delivered (status_line n status) mid after faults_mid faults') named line)
 
 -- ---- notes
 
@@ -109,18 +86,13 @@ no_feeds (x ∷ xs) e =
     let p = and_parts (not (x == 10)) (no_feed_test xs) e in
     (elim (eqb_tells x 10) [ inl same ↦ absurd (false≢true (ap not (sym same.0) ∙ p.0)) | inr other ↦ other.1 ], no_feeds xs p.1)
 
-names_no_feed : (xs : List ℕ) → list_all is_name_byte xs ≡ true → HasNo 10 xs
-names_no_feed [] e = tt
-names_no_feed (x ∷ xs) e = let p = and_parts (is_name_byte x) (list_all is_name_byte xs) e in (name_byte x p.0, names_no_feed xs p.1)
+-- a name of small letters, digits and `_`
+pub name_no_feed : (xs : List ℕ) → is_plain xs ≡ true → HasNo 10 xs
+name_no_feed [] e = tt
+name_no_feed (x ∷ xs) e = let p = and_parts (is_name_byte x) (is_plain xs) e in (name_byte x p.0, name_no_feed xs p.1)
   where
     name_byte : (x : ℕ) → is_name_byte x ≡ true → x ≢ 10
     name_byte x e = grind (arith, nat_tests)
-
-name_no_feed : (name : List ℕ) → is_name name ≡ true → HasNo 10 name
-name_no_feed name e = names_no_feed name (and_parts _ _ (and_parts _ _ (and_parts _ _ (and_parts (is_column_name name) _ e).0).1).1).0
-
-plan_name : (plan_bytes : List ℕ) (plan : Plan) → plan_of plan_bytes ≡ Some plan → HasNo 10 plan.name
-plan_name plan_bytes plan e = plan_holds (λ p. HasNo 10 p.name) (λ n cs named is. name_no_feed n named) (statements (pieces plan_bytes)) plan e
 
 -- no byte is a line feed
 record NoFeed (xs : List ℕ) : Type 0 where
@@ -166,19 +138,27 @@ results_note outputs =
     and_then (and_then (and_then (literal (codes "# results ") refl) (number rows)) (literal (codes " punctuations ") refl)) (number puncts) in
     record { words = codes "# results " ++ decimal rows ++ codes " punctuations " ++ decimal puncts; is = refl; note = refl; whole = counts.it }
 
-files_note : (plan : Plan) (files : List (List ℕ)) → HasNo 10 plan.name → AreNotes (flat_map (λ bytes. stream_lines plan.name (tally_of (fates_of plan.schema bytes))) files)
-files_note plan [] none = tt
-files_note plan (bytes ∷ files) none =
-    notes-append (stream_lines plan.name (tally_of (fates_of plan.schema bytes))) _ (stream_note plan.name (tally_of (fates_of plan.schema bytes)) none, rejects_note plan.name (tally_of (fates_of plan.schema bytes)).listed none) (files_note plan files none)
+peak_note : (name : List ℕ) (peak : ℕ) → HasNo 10 name → IsNoteLine (peak_line name peak)
+peak_note name peak none =
+    let named : NoFeed name = record { it = none } in
+    let all : NoFeed (codes "# peak " ++ name ++ codes " " ++ decimal peak) = and_then (and_then (and_then (literal (codes "# peak ") refl) named) (literal (codes " ") refl)) (number peak) in
+    record { words = codes "# peak " ++ name ++ codes " " ++ decimal peak; is = refl; note = refl; whole = all.it }
 
-pub report_notes : (plan_bytes : List ℕ) (plan : Plan) (files : List (List ℕ)) (outputs : List Element) → plan_of plan_bytes ≡ Some plan → AreNotes (report_of plan files outputs)
-report_notes plan_bytes plan files outputs read = notes-append _ (results_line outputs ∷ []) (files_note plan files (plan_name plan_bytes plan read)) (results_note outputs, tt)
+streams_note : (streams : List SmallStream) (files : List (List ℕ)) → are_plain streams ≡ true → AreNotes (streams_report streams files)
+streams_note [] files plain = tt
+streams_note (stream ∷ streams) [] plain = tt
+streams_note (stream ∷ streams) (bytes ∷ files) plain =
+    let p = and_parts (is_plain stream.name) (are_plain streams) plain in
+    let none = name_no_feed stream.name p.0 in
+    let tally = tally_of (fates_of stream.schema bytes) in
+    notes-append (stream_lines stream.name tally) _ (stream_note stream.name tally none, rejects_note stream.name tally.listed none) (streams_note streams files p.1)
 
--- ---- the operands
+peaks_note : (join : Option SmallJoin) (peak : ℕ) → is_plain_join join ≡ true → AreNotes (peaks_report join peak)
+peaks_note None peak plain = tt
+peaks_note (Some join) peak plain = (peak_note join.name peak (name_no_feed join.name plain), tt)
 
-pub three_words : (words : List (String Global)) (a b : String Global) → length words ≡ 3 → a ≡ get_or words 1 a → b ≡ get_or words 2 b → operands words ≡ string_bytes a ∷ string_bytes b ∷ []
-three_words [] a b e ea eb = absurd (omega arith)
-three_words (x ∷ []) a b e ea eb = absurd (omega arith)
-three_words (x ∷ y ∷ []) a b e ea eb = absurd (omega arith)
-three_words (x ∷ y ∷ z ∷ []) a b e ea eb = ap (λ (w : String Global). string_bytes w ∷ string_bytes z ∷ []) (sym ea) ∙ ap (λ (w : String Global). string_bytes a ∷ string_bytes w ∷ []) (sym eb)
-three_words (x ∷ y ∷ z ∷ w ∷ ws) a b e ea eb = absurd (omega arith)
+pub report_notes : (plan : SmallPlan) (files : List (List ℕ)) (outputs : List Element) → HasPlainNames plan → AreNotes (report_of plan files outputs)
+report_notes plan files outputs plain =
+    notes-append (streams_report plan.streams files ++ results_line outputs ∷ []) _
+    (notes-append (streams_report plan.streams files) (results_line outputs ∷ []) (streams_note plan.streams files plain.0) (results_note outputs, tt))
+    (peaks_note plan.join (peak_of (nodes_of plan) (history_of plan files) (length plan.streams)) plain.1)

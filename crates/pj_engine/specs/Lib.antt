@@ -1,8 +1,13 @@
+pub mod Feeds
 pub mod Files
+pub mod Outcome
+pub mod Outs
+pub mod PlanForms
 pub mod Plans
 pub mod Report
 pub mod Runs
 pub mod Seen
 pub mod Statements
 pub mod Top
+pub mod Turning
 pub mod Written

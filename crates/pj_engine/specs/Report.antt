@@ -7,7 +7,7 @@ use Rattle.pj_element.specs.declared.element.Reject.TheVariants.{NotElement, Clo
 use Rattle.pj_element.specs.declared.tally.Tally.{Tally}
 use Rattle.pj_element.specs.Runs.{rows_of, puncts_of, fed}
 use Rattle.pj_engine.specs.declared.status.Status.{Status}
-use Rattle.pj_engine.specs.declared.status.Status.TheVariants.{Done, NotBuilt, ReadFault, WriteFault, NoMemory}
+use Rattle.pj_engine.specs.declared.status.Status.TheVariants.{Done, NotBuilt, ReadFault, WriteFault, NoMemory, Limit}
 
 abbrev pub reject_words : Reject → List ℕ
 reject_words NotElement = codes "not an element"
@@ -37,13 +37,18 @@ results_text rows puncts = fed (codes "# results " ++ decimal rows ++ codes " pu
 abbrev pub results_line : List Element → List ℕ
 results_line outputs = results_text (counted_to (length (rows_of outputs))) (counted_to (length (puncts_of outputs)))
 
--- the line of a status, with its line feed; nothing where it has none
-abbrev pub status_line : Status → List ℕ
-status_line Done = []
-status_line NotBuilt = fed (codes "# refused not built")
-status_line (ReadFault operand) = fed (codes "# stopped read fault operand " ++ decimal operand)
-status_line WriteFault = []
-status_line NoMemory = fed (codes "# stopped no memory")
+-- `# peak J N`
+abbrev pub peak_line : List ℕ → ℕ → List ℕ
+peak_line name peak = fed (codes "# peak " ++ name ++ codes " " ++ decimal peak)
+
+-- the line of a status, with its line feed; nothing where it has none. The node of a limit has this name
+abbrev pub status_line : List ℕ → Status → List ℕ
+status_line name Done = []
+status_line name NotBuilt = fed (codes "# refused not built")
+status_line name (ReadFault operand) = fed (codes "# stopped read fault operand " ++ decimal operand)
+status_line name WriteFault = []
+status_line name NoMemory = fed (codes "# stopped no memory")
+status_line name (Limit what) = fed (codes "# stopped limit node " ++ name)
 
 -- the exit status of the program
 abbrev pub status_number : Status → ℕ
@@ -52,3 +57,4 @@ status_number NotBuilt = 9
 status_number (ReadFault operand) = 3
 status_number WriteFault = 4
 status_number NoMemory = 5
+status_number (Limit what) = 6

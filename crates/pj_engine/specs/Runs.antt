@@ -1,56 +1,107 @@
 -- What a plan's run over files hands out, and the lines that it writes. There is one file for each stream.
-use Rattle.std.specs.Prelude.{◌≡◌, ℕ, List, [], ◌∷◌, ◌++◌, map}
-use Rattle.std.specs.List.{flat_map}
+use Rattle.std.specs.Prelude.{◌≡◌, Bool, false, ℕ, ◌^◌, nat_le, List, [], ◌∷◌, ◌++◌, map, length, Option, Some, None}
 use Rattle.pj_value.specs.declared.values.Value.{Value}
-use Rattle.pj_value.specs.Bags.{SameBag}
+use Rattle.pj_value.specs.Bags.{SameBag as SameBagOf}
+use Rattle.pj_shape.specs.declared.plans.SmallPlan.{SmallPlan}
+use Rattle.pj_shape.specs.declared.plans.SmallStream.{SmallStream}
+use Rattle.pj_shape.specs.declared.plans.SmallJoin.{SmallJoin}
 use Rattle.pj_element.specs.declared.element.Pattern.{Pattern}
 use Rattle.pj_element.specs.declared.element.Element.{Element}
-use Rattle.pj_element.specs.Runs.{rows_of, puncts_of, IsLawful, element_lines}
-use Rattle.pj_element.specs.Accepted.{accepted_elements, fates_of, tally_of}
-use Rattle.pj_engine.specs.declared.plan.Plan.{Plan}
-use Rattle.pj_engine.specs.Report.{stream_lines, results_line}
+use Rattle.pj_element.specs.declared.element.Element.TheVariants.{Punct}
+use Rattle.pj_element.specs.Runs.{rows_of, puncts_of, IsLawful, element_lines, closing}
+use Rattle.pj_element.specs.Accepted.{taken_of, fates_of, tally_of}
+use Rattle.pj_laws.specs.Bags.{SameBag}
+use Rattle.pj_laws.specs.declared.events.Entry.{Entry}
+use Rattle.pj_laws.specs.Outcomes.{elements_out, peak_of, goes_beyond}
+use Rattle.pj_laws.specs.Outcomes.{outputs_of as handed_out, answer_of as plan_answer}
+use Rattle.pj_laws.specs.OneThread.{one_thread_of}
+use Rattle.pj_laws.specs.CoreKept.{nodes_of}
+use Rattle.pj_engine.specs.Report.{stream_lines, results_line, peak_line}
+
+-- the accepted elements of these streams, without their closings
+abbrev pub accepted_of : List SmallStream → List (List ℕ) → List (List Element)
+accepted_of [] files = []
+accepted_of (stream ∷ streams) [] = [] ∷ accepted_of streams []
+accepted_of (stream ∷ streams) (bytes ∷ files) = taken_of (fates_of stream.schema bytes) ∷ accepted_of streams files
+
+-- these elements of streams, each stream's with its closing behind them
+abbrev pub with_closings : List SmallStream → List (List Element) → List (List Element)
+with_closings [] lists = []
+with_closings (stream ∷ streams) [] = (Punct (closing stream.schema) ∷ []) ∷ with_closings streams []
+with_closings (stream ∷ streams) (es ∷ lists) = (es ++ Punct (closing stream.schema) ∷ []) ∷ with_closings streams lists
 
 -- the accepted elements of each stream, with the closing punctuation
-abbrev pub elements_of : Plan → List (List ℕ) → List (List Element)
-elements_of plan files = map (accepted_elements plan.schema) files
+abbrev pub elements_of : SmallPlan → List (List ℕ) → List (List Element)
+elements_of plan files = with_closings plan.streams (accepted_of plan.streams files)
 
--- the answer of a plan over complete lists of rows, one for each stream: a stream's answer is its rows
-abbrev pub answer_of : Plan → List (List (List Value)) → List (List Value)
-answer_of plan [] = []
-answer_of plan (rows ∷ others) = rows
+-- the nested-loop answer of a plan over complete lists of rows, one for each stream
+abbrev pub answer_of : SmallPlan → List (List (List Value)) → List (List Value)
+answer_of plan lists = plan_answer (nodes_of plan) lists
 
--- the punctuations that a plan hands out, over those of each stream: a stream hands out its own
-abbrev pub punctuations_of : Plan → List (List (List Pattern)) → List (List Pattern)
-punctuations_of plan [] = []
-punctuations_of plan (puncts ∷ others) = puncts
+-- the punctuations that a plan of one stream hands out: the stream's own
+abbrev pub first_puncts : List (List (List Pattern)) → List (List Pattern)
+first_puncts [] = []
+first_puncts (puncts ∷ others) = puncts
+
+-- the history of the run on one thread
+abbrev pub history_of : SmallPlan → List (List ℕ) → List Entry
+history_of plan files = one_thread_of false (nodes_of plan) (accepted_of plan.streams files)
 
 -- the outputs of the run on one thread
-abbrev pub outputs_of : Plan → List (List ℕ) → List Element
-outputs_of plan [] = []
-outputs_of plan (bytes ∷ others) = accepted_elements plan.schema bytes
+abbrev pub outputs_of : SmallPlan → List (List ℕ) → List Element
+outputs_of plan files = elements_out (handed_out false (nodes_of plan) (history_of plan files))
 
--- the report: the lines of each stream, then the counts of results
-abbrev pub report_of : Plan → List (List ℕ) → List Element → List (List ℕ)
-report_of plan files outputs = flat_map (λ bytes. stream_lines plan.name (tally_of (fates_of plan.schema bytes))) files ++ results_line outputs ∷ []
+-- the lines of each stream
+abbrev pub streams_report : List SmallStream → List (List ℕ) → List (List ℕ)
+streams_report [] files = []
+streams_report (stream ∷ streams) [] = []
+streams_report (stream ∷ streams) (bytes ∷ files) = stream_lines stream.name (tally_of (fates_of stream.schema bytes)) ++ streams_report streams files
+
+-- the line of the join's peak, where there is a join
+abbrev pub peaks_report : Option SmallJoin → ℕ → List (List ℕ)
+peaks_report None peak = []
+peaks_report (Some join) peak = peak_line join.name peak ∷ []
+
+-- the report: the lines of each stream, the counts of results, and the peak of the join, which stands behind the streams
+abbrev pub report_of : SmallPlan → List (List ℕ) → List Element → List (List ℕ)
+report_of plan files outputs =
+    streams_report plan.streams files ++ results_line outputs ∷ [] ++ peaks_report plan.join (peak_of (nodes_of plan) (history_of plan files) (length plan.streams))
 
 -- all lines of the run
-abbrev pub run_lines : Plan → List (List ℕ) → List (List ℕ)
+abbrev pub run_lines : SmallPlan → List (List ℕ) → List (List ℕ)
 run_lines plan files = element_lines (outputs_of plan files) ++ report_of plan files (outputs_of plan files)
 
 -- ---- what holds of the outputs of a run that is done
 
 -- the rows are the plan's answer over exactly the accepted rows, as a bag
-abbrev pub IsAnswer : Plan → List (List ℕ) → List Element → List (List ℕ) → Type 0
-IsAnswer plan files outputs report = SameBag (rows_of outputs) (answer_of plan (map rows_of (elements_of plan files)))
+abbrev pub IsAnswer : SmallPlan → List (List ℕ) → List Element → List (List ℕ) → Type 0
+IsAnswer plan files outputs report = SameBag (rows_of outputs) (answer_of plan (map rows_of (accepted_of plan.streams files)))
 
--- the punctuations are those of the plan, as a bag
-abbrev pub ArePunctuations : Plan → List (List ℕ) → List Element → List (List ℕ) → Type 0
-ArePunctuations plan files outputs report = SameBag (puncts_of outputs) (punctuations_of plan (map puncts_of (elements_of plan files)))
+-- where the plan is one stream, the punctuations are those of the stream and its closing, as a bag
+abbrev pub ArePunctuations : SmallPlan → List (List ℕ) → List Element → List (List ℕ) → Type 0
+ArePunctuations plan files outputs report = plan.join ≡ None → SameBagOf (puncts_of outputs) (first_puncts (map puncts_of (elements_of plan files)))
 
 -- no row matches a punctuation before it
-abbrev pub AreLawful : Plan → List (List ℕ) → List Element → List (List ℕ) → Type 0
+abbrev pub AreLawful : SmallPlan → List (List ℕ) → List Element → List (List ℕ) → Type 0
 AreLawful plan files outputs report = IsLawful outputs
 
--- the counts and the listed rejects are those of the files, and the counts of results those of the outputs
-abbrev pub AreTallies : Plan → List (List ℕ) → List Element → List (List ℕ) → Type 0
+-- the counts, the listed rejects and the peak are those of the files, and the counts of results those of the outputs
+abbrev pub AreTallies : SmallPlan → List (List ℕ) → List Element → List (List ℕ) → Type 0
 AreTallies plan files outputs report = report ≡ report_of plan files outputs
+
+-- ---- limits
+
+-- how many elements may arrive at a join
+abbrev pub most_arrivals : ℕ
+most_arrivals = 2 ^ 40
+
+-- behind a front of the run on one thread its next event brings one element beyond the limit, at this node
+pub record GoesBeyond (plan : SmallPlan) (files : List (List ℕ)) (node : ℕ) : Type 0 where
+  pub front : List Entry
+  pub next : Entry
+  pub back : List Entry
+  pub run : history_of plan files ≡ front ++ next ∷ back
+  pub beyond : goes_beyond most_arrivals (nodes_of plan) front next.event ≡ Some node
+
+abbrev pub is_short : List ℕ → Bool
+is_short bytes = nat_le (length bytes) 1048576

@@ -1,14 +1,15 @@
 -- What is kept of the lines of a stream that were read.
 use Rattle.std.specs.Prelude.{◌≡◌, ◌<◌, ℕ, ◌+◌, ◌-◌, ◌^◌, List, [], ◌∷◌, ◌++◌, length, nat_lt, Option, Some, None, if◌then◌else◌}
 use Rattle.pj_value.specs.declared.values.Value.{Value}
+use Rattle.pj_shape.specs.declared.columns.Column.{Column}
 use Rattle.pj_element.specs.declared.element.Read.{Read}
 use Rattle.pj_element.specs.declared.element.Read.TheVariants.{Skip, Tuple, Punct, Bad}
 use Rattle.pj_element.specs.declared.tally.Tally.{Tally}
 use Rattle.pj_element.specs.declared.element.Reject.{Reject}
+use Rattle.pj_element.specs.declared.element.Element.{Element}
 use Rattle.pj_element.specs.declared.element.Element.TheVariants.{Tuple as AcceptedTuple, Punct as AcceptedPunct}
 use Rattle.pj_element.specs.Elements.{matches_row}
-use Rattle.pj_element.specs.Runs.{element_line, fed}
-use Rattle.pj_element.specs.Accepted.{Fate, Passed, Taken, Refused, tuple_fate, fates, tally_of}
+use Rattle.pj_element.specs.Accepted.{Fate, Passed, Taken, Refused, tuple_fate, fates, taken_of, fates_of, tally_of}
 use Rattle.pj_engine.specs.declared.seen.Closer.{Closer}
 
 abbrev pub with_closer : ℕ → Read → List Closer → List Closer
@@ -65,13 +66,18 @@ pub record HasRoom (line : ℕ) (tally : Tally) : Type 0 where
   pub puncts : tally.puncts < 2 ^ 64 - 1
   pub rejected : tally.rejected < 2 ^ 64 - 1
 
--- the lines that are written for a line with this fate: the element's, where it is taken
-abbrev pub fate_lines : Fate → List (List ℕ)
-fate_lines Passed = []
-fate_lines (Taken e) = fed (element_line e) ∷ []
-fate_lines (Refused why) = []
+-- the element of a line with this fate, where it is taken
+abbrev pub element_in : Fate → Option Element
+element_in Passed = None
+element_in (Taken e) = Some e
+element_in (Refused why) = None
 
-abbrev pub fate_text : Fate → List ℕ
-fate_text Passed = []
-fate_text (Taken e) = fed (element_line e)
-fate_text (Refused why) = []
+-- an element as a list, or none
+abbrev pub listed : Option Element → List Element
+listed None = []
+listed (Some e) = e ∷ []
+
+-- exactly what becomes of the lines of the file
+pub record IsIntake (columns : List Column) (bytes : List ℕ) (elements : List Element) (tally : Tally) : Type 0 where
+  pub taken : elements ≡ taken_of (fates_of columns bytes)
+  pub counts : tally ≡ tally_of (fates_of columns bytes)

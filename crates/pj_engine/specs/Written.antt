@@ -4,7 +4,7 @@ use Rattle.pj_io.specs.Causes.{Rose}
 use Rattle.pj_element.specs.declared.element.Element.{Element}
 use Rattle.pj_element.specs.Runs.{element_line}
 use Rattle.pj_engine.specs.declared.status.Status.{Status}
-use Rattle.pj_engine.specs.declared.status.Status.TheVariants.{Done, NotBuilt, ReadFault, WriteFault, NoMemory}
+use Rattle.pj_engine.specs.declared.status.Status.TheVariants.{Done, NotBuilt, ReadFault, WriteFault, NoMemory, Limit}
 
 -- the lines one after another
 abbrev pub flat : List (List ℕ) → List ℕ
@@ -37,6 +37,7 @@ StopLeaves NotBuilt lines before after = ⊥
 StopLeaves (ReadFault operand) lines before after = ⊥
 StopLeaves WriteFault lines before after = FrontOf (flat lines) before after
 StopLeaves NoMemory lines before after = WholeLines lines before after
+StopLeaves (Limit what) lines before after = WholeLines lines before after
 
 -- these lines were written, or as much of them as the stop leaves
 abbrev pub Writes : List (List ℕ) → List ℕ → List ℕ → Result (Unit {0}) Status → Type 0

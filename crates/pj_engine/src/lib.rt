@@ -1,20 +1,26 @@
 //! The top call: reads a plan and its files, and writes the results.
 #![tactic(auto)]
 
+mod classes;
+mod feeds;
 mod files;
+mod intake;
 mod output;
+mod outs;
 mod plan;
 mod reader;
+mod ready;
 mod report;
+mod run;
 mod seen;
+mod statements;
 mod status;
 mod stops;
-mod stream;
 mod top;
+mod turns;
 
-pub use plan::Plan;
 pub use reader::read_plan;
-pub use status::Status;
+pub use status::{LimitOf, Status};
 pub use top::run_words;
 
 #[cfg(test)]

@@ -1,276 +1,278 @@
-// Reads a plan of one stream.
-ghost use Rattle.std.specs.Prelude.{◌≡◌, ◌<◌, ◌≤◌, IfOk, IfSome, None, MatchOption, length, position};
-ghost use Rattle.std.specs.List.{list_all};
-ghost use Rattle.pj_element.specs.Lines.{pieces};
-ghost use Rattle.pj_element.specs.Cells.{cells_of};
-ghost use Rattle.pj_engine.specs.Plans.{plan_of, plan_body, statements, is_last as none_left, ends_in_output as output_last, after_word as behind_word, is_end as ends, is_head as head, is_output as output, stream_in, named_stream, column_of, named_column, is_colon, columns_in, kind_named as kind_of_name, is_column_name as column_name, is_name as name_form, is_schema as schema_form, has_name as has, is_name_byte as name_byte, begins_small, names_differ as differ};
-ghost use Rattle.pj_engine.specs.Statements.{IsStatement};
+// Reads a plan of one stream, or of two streams and a join of them.
+ghost use Rattle.std.specs.Prelude.{◌≡◌, ◌<◌, ◌≤◌, IfOk, IfSome, None, length, take, [], ◌∷◌};
+ghost use Rattle.std.specs.List.{list_all, list_any};
+ghost use Rattle.pj_laws.specs.CoreKept.{IsSmallPlan};
+ghost use Rattle.pj_engine.specs.PlanForms.{HasPlainNames};
+ghost use Rattle.pj_engine.specs.Plans.{plan_of, plan_in as plan_stated, plan_with as plan_by, streams_in as streams_of, joins_in as joins_of, schemes_in as schemes_of, with_schemes, is_plan as states_plan, is_stream_of as is_stream, declares as declared, is_placed as placed, are_placed as all_placed, is_end as ends, ends_in as ends_by, is_in_order as in_order, are_names as names_fit, has_name as has, names_differ as differ, is_schema as schema_form, share_no_name as none_shared, are_schemas as schemas_fit, are_schemes as schemes_fit, no_schemes as unmarked, is_stream_plan as stream_fits, is_join_plan as join_fits, stream_plan, joined, joined_by, join_plan, has_width, inputs_are};
 
-use crate::plan::{Plan, Statement};
-use pj_element::{Column, Cut, Schema, first_piece, is_skipped, line_of_piece, next_cell};
-use pj_value::{Kind, List, NoMemory};
+use crate::classes::{are_classes, read_classes};
+use crate::plan::{ClassLine, JoinLine, Statement};
+use crate::statements::{is_name, read_statements};
+use pj_shape::{ClassCol, Column, JoinSpec, Schema, Scheme, SmallJoin, SmallPlan, SmallStream};
+use pj_value::{List, NoMemory};
 use std::alloc::Global;
 
-const LINE_LIMIT: usize = 65536;
+const STATEMENT_LIMIT: usize = 36;
 
-/// The plan that the bytes spell, if they spell one.
-#[tactic(auto, using(crate::proofs::PlanLines::headed, crate::proofs::PlanLines::headless))]
-pub fn read_plan(alloc: Global, bytes: &[u8]) -> Result<Option<Plan>, NoMemory>
+/// The plan that the bytes spell, if they spell one without fault.
+///
+/// A plan is `plan 1` and then either one stream that is the output, or two streams with any
+/// schemes and a join of both that is the output.
+pub fn read_plan(alloc: Global, bytes: &[u8]) -> Result<Option<SmallPlan>, NoMemory>
     ensures plan { IfOk result (λ plan. plan ≡ plan_of bytes.now) }
-    ensures columns { IfOk result (λ plan. IfSome plan (λ p. length p.schema ≤ 120)) }
+    ensures small { IfOk result (λ plan. IfSome plan IsSmallPlan) }
+    ensures names { IfOk result (λ plan. IfSome plan HasPlainNames) }
 {
-    match next_statement(bytes) {
-        Statement::Line(line, rest) => {
-            if !is_head(line) {
+    match read_statements(alloc, bytes)? {
+        Some(statements) => Ok(plan_in(alloc, statements.as_slice())?),
+        None => Ok(None),
+    }
+}
+
+#[tactic(auto, using(crate::proofs::PlanForms::plan_in_small, crate::proofs::PlanForms::plan_in_names))]
+fn plan_in(alloc: Global, statements: &[Statement]) -> Result<Option<SmallPlan>, NoMemory>
+    ensures plan { IfOk result (λ plan. plan ≡ plan_stated statements.now) }
+    ensures small { IfOk result (λ plan. IfSome plan IsSmallPlan) }
+    ensures names { IfOk result (λ plan. IfSome plan HasPlainNames) }
+{
+    Ok(plan_of_statements(alloc, statements)?)
+}
+
+fn plan_of_statements(
+    alloc: Global,
+    statements: &[Statement],
+) -> Result<Option<SmallPlan>, NoMemory>
+    ensures { IfOk result (λ plan. plan ≡ plan_stated statements.now) }
+{
+    match statements {
+        [] => Ok(None),
+        [first, rest @ ..] => {
+            if !(is_plan(first) && rest.len() <= STATEMENT_LIMIT) {
                 return Ok(None);
             }
-            Ok(read_body(alloc, rest)?)
+            let streams = streams_in(alloc, rest)?;
+            let joins = joins_in(alloc, rest)?;
+            Ok(plan_with(alloc, rest, streams.as_slice(), joins.as_slice())?)
         }
-        Statement::End => Ok(None),
-        Statement::Unreadable => Ok(None),
     }
 }
 
-fn read_body(alloc: Global, bytes: &[u8]) -> Result<Option<Plan>, NoMemory>
-    ensures { IfOk result (λ plan. plan ≡ plan_body (statements (pieces bytes.now))) }
+fn plan_with(
+    alloc: Global,
+    rest: &[Statement],
+    streams: &[SmallStream],
+    joins: &[JoinLine],
+) -> Result<Option<SmallPlan>, NoMemory>
+    ensures { IfOk result (λ plan. plan ≡ plan_by rest.now streams.now joins.now) }
 {
-    match next_statement(bytes) {
-        Statement::Line(line, rest) => match read_stream(alloc, line)? {
-            Some(plan) => {
-                if !ends_in_output(plan.name.as_slice(), rest) {
-                    return Ok(None);
-                }
-                Ok(Some(plan))
-            }
-            None => Ok(None),
+    match streams {
+        [] => Ok(None),
+        [a] => match joins {
+            [] => Ok(plan_of_stream(alloc, rest, full_stream(alloc, rest, a)?)?),
+            [_, ..] => Ok(None),
         },
-        Statement::End => Ok(None),
-        Statement::Unreadable => Ok(None),
-    }
-}
-
-#[tactic(auto, using(crate::proofs::PlanLines::last_output))]
-fn ends_in_output(name: &[u8], bytes: &[u8]) -> bool
-    ensures { result ≡ output_last name.now (statements (pieces bytes.now)) }
-{
-    match next_statement(bytes) {
-        Statement::Line(line, rest) => is_output(line, name) && is_last(rest),
-        Statement::End => false,
-        Statement::Unreadable => false,
-    }
-}
-
-#[tactic(auto, using(crate::proofs::PlanLines::not_last))]
-fn is_last(bytes: &[u8]) -> bool
-    ensures { result ≡ none_left (statements (pieces bytes.now)) }
-{
-    match next_statement(bytes) {
-        Statement::End => true,
-        Statement::Unreadable => false,
-        Statement::Line(_, _) => false,
-    }
-}
-
-// The next line of a plan that is not skipped.
-fn next_statement(bytes: &[u8]) -> Statement<'_>
-    ensures { IsStatement bytes.now result }
-{
-    let mut rest = bytes;
-    while !rest.is_empty() {
-        let (piece, behind) = first_piece(rest);
-        if piece.len() > LINE_LIMIT {
-            return Statement::Unreadable;
-        }
-        let line = line_of_piece(piece);
-        if !is_skipped(line) {
-            return Statement::Line(line, behind);
-        }
-        rest = behind;
-    }
-    Statement::End
-}
-
-// What stands behind a word on a line, if the line begins with it.
-#[tactic(auto, using(crate::proofs::PlanLines::word_found, crate::proofs::PlanLines::word_missing))]
-fn after_word<'a>(line: &'a [u8], word: &[u8]) -> Option<&'a [u8]>
-    ensures { MatchOption result (behind_word word.now (cells_of line.now) ≡ None) (λ rest. behind_word word.now (cells_of line.now) ≡ cells_of rest.now) }
-{
-    match next_cell(line) {
-        Cut::Cell(cell, rest) => { if cell == word { Some(rest) } else { None } }
-        Cut::End => None,
-        Cut::Unclosed => None,
-    }
-}
-
-#[tactic(auto, using(crate::proofs::PlanLines::no_end))]
-fn is_end(line: &[u8]) -> bool
-    ensures { result ≡ ends (cells_of line.now) }
-{
-    match next_cell(line) {
-        Cut::End => true,
-        Cut::Unclosed => false,
-        Cut::Cell(_, _) => false,
-    }
-}
-
-fn is_head(line: &[u8]) -> bool
-    ensures { result ≡ head (cells_of line.now) }
-{
-    match after_word(line, b"plan") {
-        Some(rest) => match after_word(rest, b"1") {
-            Some(rest) => is_end(rest),
-            None => false,
+        [a, b] => match joins {
+            [] => Ok(None),
+            [join] => Ok(plan_of_two(alloc, rest, a, b, join)?),
+            [_, _, ..] => Ok(None),
         },
-        None => false,
+        [_, _, _, ..] => Ok(None),
     }
 }
 
-fn is_output(line: &[u8], name: &[u8]) -> bool
-    ensures { result ≡ output name.now (cells_of line.now) }
+// ---- what is stated
+
+fn streams_in(alloc: Global, rest: &[Statement]) -> Result<List<SmallStream>, NoMemory>
+    ensures { IfOk result (λ streams. streams ≡ streams_of rest.now) }
 {
-    match after_word(line, b"output") {
-        Some(rest) => match after_word(rest, name) {
-            Some(rest) => is_end(rest),
-            None => false,
-        },
-        None => false,
+    let mut streams = List::new(alloc);
+    let mut left = rest;
+    while let [statement, behind @ ..] = left {
+        match statement {
+            Statement::Stream(stream) => streams.push(stream.copy(alloc)?)?,
+            Statement::Plan => {}
+            Statement::Scheme(_) => {}
+            Statement::Join(_) => {}
+            Statement::Output(_) => {}
+        }
+        left = behind;
     }
+    Ok(streams)
 }
 
-fn read_stream(alloc: Global, line: &[u8]) -> Result<Option<Plan>, NoMemory>
-    ensures { IfOk result (λ plan. plan ≡ stream_in (cells_of line.now)) }
+fn joins_in(alloc: Global, rest: &[Statement]) -> Result<List<JoinLine>, NoMemory>
+    ensures { IfOk result (λ joins. joins ≡ joins_of rest.now) }
 {
-    match after_word(line, b"stream") {
-        Some(rest) => read_named(alloc, rest),
-        None => Ok(None),
+    let mut joins = List::new(alloc);
+    let mut left = rest;
+    while let [statement, behind @ ..] = left {
+        match statement {
+            Statement::Join(join) => joins.push(copy_join(alloc, join)?)?,
+            Statement::Plan => {}
+            Statement::Stream(_) => {}
+            Statement::Scheme(_) => {}
+            Statement::Output(_) => {}
+        }
+        left = behind;
     }
+    Ok(joins)
 }
 
-#[tactic(auto, using(crate::proofs::PlanLines::stream_unnamed))]
-fn read_named(alloc: Global, line: &[u8]) -> Result<Option<Plan>, NoMemory>
-    ensures { IfOk result (λ plan. plan ≡ named_stream (cells_of line.now)) }
+fn copy_join(alloc: Global, join: &JoinLine) -> Result<JoinLine, NoMemory>
+    ensures { IfOk result (λ copy. copy ≡ join.now) }
 {
-    match next_cell(line) {
-        Cut::Cell(name, rest) => {
-            if !is_name(name) {
-                return Ok(None);
-            }
-            match read_columns(alloc, rest)? {
-                Some(columns) => {
-                    if !is_schema(columns.as_slice()) {
-                        return Ok(None);
-                    }
-                    Ok(Some(Plan {
-                        name: List::copy_of(alloc, name)?,
-                        schema: Schema::of(columns),
-                    }))
+    Ok(JoinLine {
+        name: List::copy_of(alloc, join.name.as_slice())?,
+        first: List::copy_of(alloc, join.first.as_slice())?,
+        second: List::copy_of(alloc, join.second.as_slice())?,
+        classes: copy_classes(alloc, join.classes.as_slice())?,
+    })
+}
+
+fn copy_classes(alloc: Global, classes: &[ClassLine]) -> Result<List<ClassLine>, NoMemory>
+    ensures { IfOk result (λ copy. copy ≡ classes.now) }
+{
+    let mut copy = List::new(alloc);
+    for class in classes {
+        copy.push(copy_class(alloc, class)?)?;
+    }
+    Ok(copy)
+}
+
+fn copy_class(alloc: Global, class: &ClassLine) -> Result<ClassLine, NoMemory>
+    ensures { IfOk result (λ copy. copy ≡ class.now) }
+{
+    Ok(ClassLine {
+        left: List::copy_of(alloc, class.left.as_slice())?,
+        right: List::copy_of(alloc, class.right.as_slice())?,
+    })
+}
+
+fn full_stream(
+    alloc: Global,
+    rest: &[Statement],
+    stream: &SmallStream,
+) -> Result<SmallStream, NoMemory>
+    ensures { IfOk result (λ full. full ≡ with_schemes rest.now stream.now) }
+{
+    Ok(SmallStream {
+        name: List::copy_of(alloc, stream.name.as_slice())?,
+        schema: stream.schema.copy(alloc)?,
+        schemes: schemes_in(alloc, stream.name.as_slice(), rest)?,
+    })
+}
+
+fn schemes_in(alloc: Global, name: &[u8], rest: &[Statement]) -> Result<List<Scheme>, NoMemory>
+    ensures { IfOk result (λ schemes. schemes ≡ schemes_of name.now rest.now) }
+{
+    let mut schemes = List::new(alloc);
+    let mut left = rest;
+    while let [statement, behind @ ..] = left {
+        match statement {
+            Statement::Scheme(line) => {
+                if line.stream.as_slice() == name {
+                    schemes.push(Scheme::of(List::copy_of(alloc, line.marks.as_slice())?))?;
                 }
-                None => Ok(None),
             }
+            Statement::Plan => {}
+            Statement::Stream(_) => {}
+            Statement::Join(_) => {}
+            Statement::Output(_) => {}
         }
-        Cut::End => Ok(None),
-        Cut::Unclosed => Ok(None),
+        left = behind;
+    }
+    Ok(schemes)
+}
+
+// ---- the order of the statements
+
+fn is_plan(statement: &Statement) -> bool
+    ensures { result ≡ states_plan statement.now }
+{
+    match statement {
+        Statement::Plan => true,
+        Statement::Stream(_) => false,
+        Statement::Scheme(_) => false,
+        Statement::Join(_) => false,
+        Statement::Output(_) => false,
     }
 }
 
-#[tactic(auto, using(crate::proofs::PlanLines::columns_more, crate::proofs::PlanLines::columns_bad))]
-fn read_columns(alloc: Global, cells: &[u8]) -> Result<Option<List<Column>>, NoMemory>
-    ensures { IfOk result (λ columns. columns ≡ columns_in (cells_of cells.now)) }
+fn is_stream_of(name: &[u8], statement: &Statement) -> bool
+    ensures { result ≡ is_stream name.now statement.now }
 {
-    let mut columns = List::new(alloc);
-    let mut rest = cells;
-    loop {
-        match next_cell(rest) {
-            Cut::End => return Ok(Some(columns)),
-            Cut::Unclosed => return Ok(None),
-            Cut::Cell(cell, behind) => {
-                match read_column(alloc, cell)? {
-                    Some(column) => columns.push(column)?,
-                    None => return Ok(None),
-                }
-                rest = behind;
-            }
+    match statement {
+        Statement::Stream(stream) => stream.name.as_slice() == name,
+        Statement::Plan => false,
+        Statement::Scheme(_) => false,
+        Statement::Join(_) => false,
+        Statement::Output(_) => false,
+    }
+}
+
+fn declares(statements: &[Statement], name: &[u8]) -> bool
+    ensures { result ≡ declared statements.now name.now }
+{
+    statements
+        .iter()
+        .any(|statement| is_stream_of(name, statement))
+}
+
+fn is_placed(before: &[Statement], statement: &Statement) -> bool
+    ensures { result ≡ placed before.now statement.now }
+{
+    match statement {
+        Statement::Plan => false,
+        Statement::Stream(_) => true,
+        Statement::Scheme(line) => declares(before, line.stream.as_slice()),
+        Statement::Join(join) => {
+            declares(before, join.first.as_slice()) && declares(before, join.second.as_slice())
+        }
+        Statement::Output(_) => true,
+    }
+}
+
+fn are_placed(statements: &[Statement]) -> bool
+    ensures { result ≡ all_placed [] statements.now }
+{
+    for (i, statement) in statements.iter().enumerate() {
+        let (before, _behind) = statements.split_at(i);
+        if !is_placed(before, statement) {
+            return false;
         }
     }
+    true
 }
 
-fn read_column(alloc: Global, cell: &[u8]) -> Result<Option<Column>, NoMemory>
-    ensures { IfOk result (λ column. column ≡ column_of cell.now) }
+fn ends_in(name: &[u8], statements: &[Statement]) -> bool
+    ensures { result ≡ ends_by name.now statements.now }
 {
-    match colon(cell) {
-        Some(at) => {
-            let (name, behind) = cell.split_at(at);
-            let (_colon, word) = behind.split_at(1);
-            Ok(read_named_column(alloc, name, word)?)
+    let mut left = statements;
+    while let [statement, behind @ ..] = left {
+        match statement {
+            Statement::Output(out) => return out.as_slice() == name && behind.is_empty(),
+            Statement::Plan => {}
+            Statement::Stream(_) => {}
+            Statement::Scheme(_) => {}
+            Statement::Join(_) => {}
         }
-        None => Ok(None),
+        left = behind;
     }
+    false
 }
 
-fn colon(cell: &[u8]) -> Option<usize>
-    ensures place { result ≡ position is_colon cell.now }
-    ensures within { IfSome result (λ at. at < length cell.now) }
+fn is_in_order(name: &[u8], rest: &[Statement]) -> bool
+    ensures { result ≡ in_order name.now rest.now }
 {
-    cell.iter().position(|byte| *byte == b':')
+    are_placed(rest) && ends_in(name, rest)
 }
 
-fn read_named_column(alloc: Global, name: &[u8], word: &[u8]) -> Result<Option<Column>, NoMemory>
-    ensures { IfOk result (λ column. column ≡ named_column name.now word.now) }
-{
-    if !is_column_name(name) {
-        return Ok(None);
-    }
-    match kind_named(word) {
-        Some(kind) => Ok(Some(Column {
-            name: List::copy_of(alloc, name)?,
-            kind,
-        })),
-        None => Ok(None),
-    }
-}
+// ---- names, columns and schemes
 
-fn kind_named(word: &[u8]) -> Option<Kind>
-    ensures { result ≡ kind_of_name word.now }
+fn are_names(a: &[u8], b: &[u8], join: &[u8]) -> bool
+    ensures { result ≡ names_fit a.now b.now join.now }
 {
-    match word {
-        b"int" => Some(Kind::Int),
-        b"text" => Some(Kind::Text),
-        _ => None,
-    }
-}
-
-fn is_name(cell: &[u8]) -> bool
-    ensures { result ≡ name_form cell.now }
-{
-    is_column_name(cell)
-        && !(cell == b"on".as_slice() || cell == b"where".as_slice() || cell == b"by".as_slice())
-}
-
-fn is_column_name(cell: &[u8]) -> bool
-    ensures { result ≡ column_name cell.now }
-{
-    begins_small(cell) && cell.len() <= 32 && all_name_bytes(cell) && !(cell == b"of".as_slice())
-}
-
-fn all_name_bytes(cell: &[u8]) -> bool
-    ensures { result ≡ list_all name_byte cell.now }
-{
-    cell.iter().all(|byte| is_name_byte(*byte))
-}
-
-fn begins_small(cell: &[u8]) -> bool
-    ensures { result ≡ begins_small cell.now }
-{
-    match cell {
-        [first, ..] => first.is_ascii_lowercase(),
-        [] => false,
-    }
-}
-
-fn is_name_byte(byte: u8) -> bool
-    ensures { result ≡ name_byte byte }
-{
-    matches!(byte, b'a'..=b'z' | b'0'..=b'9' | b'_')
+    is_name(a) && is_name(b) && is_name(join) && !(a == b) && !(a == join) && !(b == join)
 }
 
 fn is_schema(columns: &[Column]) -> bool
@@ -292,6 +294,19 @@ fn names_differ(columns: &[Column]) -> bool
     true
 }
 
+fn share_no_name(columns: &[Column], others: &[Column]) -> bool
+    ensures { result ≡ none_shared columns.now others.now }
+{
+    let mut rest = columns;
+    while let [first, behind @ ..] = rest {
+        if has_name(first.name.as_slice(), others) {
+            return false;
+        }
+        rest = behind;
+    }
+    true
+}
+
 fn has_name(name: &[u8], columns: &[Column]) -> bool
     ensures { result ≡ has name.now columns.now }
 {
@@ -301,4 +316,188 @@ fn has_name(name: &[u8], columns: &[Column]) -> bool
         }
     }
     false
+}
+
+fn are_schemas(a: &[Column], b: &[Column]) -> bool
+    ensures { result ≡ schemas_fit a.now b.now }
+{
+    is_schema(a) && is_schema(b) && share_no_name(a, b) && a.len() + b.len() <= 120
+}
+
+fn are_schemes(width: usize, schemes: &[Scheme]) -> bool
+    ensures { result ≡ schemes_fit width schemes.now }
+{
+    schemes.len() <= 16 && have_width(width, schemes)
+}
+
+fn have_width(width: usize, schemes: &[Scheme]) -> bool
+    ensures { result ≡ list_all (has_width width) schemes.now }
+{
+    schemes.iter().all(|scheme| scheme.len() == width)
+}
+
+// ---- plans
+
+fn is_stream_plan(rest: &[Statement], a: &SmallStream) -> bool
+    ensures { result ≡ stream_fits rest.now a.now }
+{
+    is_in_order(a.name.as_slice(), rest)
+        && a.schemes.as_slice().is_empty()
+        && is_name(a.name.as_slice())
+        && is_schema(a.schema.columns())
+}
+
+fn is_join_plan(rest: &[Statement], a: &SmallStream, b: &SmallStream, join: &JoinLine) -> bool
+    ensures { result ≡ join_fits rest.now a.now b.now join.now }
+{
+    is_in_order(join.name.as_slice(), rest)
+        && are_names(a.name.as_slice(), b.name.as_slice(), join.name.as_slice())
+        && are_schemas(a.schema.columns(), b.schema.columns())
+        && are_schemes(a.schema.len(), a.schemes.as_slice())
+        && are_schemes(b.schema.len(), b.schemes.as_slice())
+}
+
+fn plan_of_stream(
+    alloc: Global,
+    rest: &[Statement],
+    a: SmallStream,
+) -> Result<Option<SmallPlan>, NoMemory>
+    ensures { IfOk result (λ plan. plan ≡ stream_plan rest.now a) }
+{
+    if !is_stream_plan(rest, &a) {
+        return Ok(None);
+    }
+    let mut streams = List::new(alloc);
+    streams.push(a)?;
+    Ok(Some(SmallPlan {
+        streams,
+        join: None,
+    }))
+}
+
+fn plan_of_two(
+    alloc: Global,
+    rest: &[Statement],
+    a: &SmallStream,
+    b: &SmallStream,
+    join: &JoinLine,
+) -> Result<Option<SmallPlan>, NoMemory>
+    ensures { IfOk result (λ plan. plan ≡ join_plan rest.now (with_schemes rest.now a.now) (with_schemes rest.now b.now) join.now) }
+{
+    let a = full_stream(alloc, rest, a)?;
+    let b = full_stream(alloc, rest, b)?;
+    Ok(plan_of_join(alloc, rest, a, b, join)?)
+}
+
+#[tactic(auto, using(crate::proofs::PlanForms::first_few, crate::proofs::PlanForms::second_few))]
+fn plan_of_join(
+    alloc: Global,
+    rest: &[Statement],
+    a: SmallStream,
+    b: SmallStream,
+    join: &JoinLine,
+) -> Result<Option<SmallPlan>, NoMemory>
+    ensures { IfOk result (λ plan. plan ≡ join_plan rest.now a b join.now) }
+{
+    if !is_join_plan(rest, &a, &b, join) {
+        return Ok(None);
+    }
+    Ok(plan_joined_by(alloc, a, b, join)?)
+}
+
+fn plan_joined_by(
+    alloc: Global,
+    a: SmallStream,
+    b: SmallStream,
+    join: &JoinLine,
+) -> Result<Option<SmallPlan>, NoMemory>
+    requires left { length a.schema ≤ 120 }
+    requires right { length b.schema ≤ 120 }
+    ensures { IfOk result (λ plan. plan ≡ joined_by a b join.now) }
+{
+    if names_inputs(join, a.name.as_slice(), b.name.as_slice()) {
+        let classes = read_classes(
+            alloc,
+            a.schema.columns(),
+            b.schema.columns(),
+            join.classes.as_slice(),
+        )?;
+        let schemas = two(alloc, a.schema.copy(alloc)?, b.schema.copy(alloc)?)?;
+        let streams = two(alloc, a, b)?;
+        let inputs = two(alloc, 0, 1)?;
+        return Ok(plan_joined(
+            alloc,
+            streams,
+            join.name.as_slice(),
+            inputs,
+            schemas,
+            classes,
+        )?);
+    }
+    if names_inputs(join, b.name.as_slice(), a.name.as_slice()) {
+        let classes = read_classes(
+            alloc,
+            b.schema.columns(),
+            a.schema.columns(),
+            join.classes.as_slice(),
+        )?;
+        let schemas = two(alloc, b.schema.copy(alloc)?, a.schema.copy(alloc)?)?;
+        let streams = two(alloc, a, b)?;
+        let inputs = two(alloc, 1, 0)?;
+        return Ok(plan_joined(
+            alloc,
+            streams,
+            join.name.as_slice(),
+            inputs,
+            schemas,
+            classes,
+        )?);
+    }
+    Ok(None)
+}
+
+fn names_inputs(join: &JoinLine, first: &[u8], second: &[u8]) -> bool
+    ensures { result ≡ inputs_are join.now first.now second.now }
+{
+    join.first.as_slice() == first && join.second.as_slice() == second
+}
+
+fn two<T: Drop>(alloc: Global, first: T, second: T) -> Result<List<T>, NoMemory>
+    ensures { IfOk result (λ list. list ≡ first ∷ second ∷ []) }
+{
+    let mut list = List::new(alloc);
+    list.push(first)?;
+    list.push(second)?;
+    Ok(list)
+}
+
+fn plan_joined(
+    alloc: Global,
+    streams: List<SmallStream>,
+    name: &[u8],
+    inputs: List<u32>,
+    schemas: List<Schema>,
+    classes: Option<List<List<ClassCol>>>,
+) -> Result<Option<SmallPlan>, NoMemory>
+    ensures { IfOk result (λ plan. plan ≡ joined streams name.now inputs schemas classes) }
+{
+    match classes {
+        Some(classes) => {
+            if !are_classes(classes.as_slice()) {
+                return Ok(None);
+            }
+            Ok(Some(SmallPlan {
+                streams,
+                join: Some(SmallJoin {
+                    name: List::copy_of(alloc, name)?,
+                    inputs,
+                    spec: JoinSpec {
+                        inputs: schemas,
+                        classes,
+                    },
+                }),
+            }))
+        }
+        None => Ok(None),
+    }
 }

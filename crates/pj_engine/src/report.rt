@@ -1,22 +1,115 @@
 // The report's lines.
-ghost use Rattle.std.specs.Prelude.{◌≡◌, ◌≤◌, ◌++◌, ◌∷◌, [], ℕ, List, map, IsTrue, IfErr, OnOk, Err};
+ghost use Rattle.std.specs.Prelude.{◌≡◌, ◌≤◌, ◌++◌, ◌∷◌, [], ℕ, List, map, length, IsTrue, IfErr, OnOk, Err};
 ghost use Rattle.std.specs.Fmt.{decimal};
 ghost use Rattle.pj_io.specs.Causes.{Rose};
 ghost use Rattle.pj_element.specs.Runs.{fed};
 ghost use Rattle.pj_engine.specs.Files.{IsWriteStop};
-ghost use Rattle.pj_engine.specs.Report.{stream_line, stream_lines, reject_line, reject_words, results_text};
+ghost use Rattle.pj_engine.specs.Report.{stream_line, stream_lines, reject_line, reject_words, results_text, peak_line};
+ghost use Rattle.pj_engine.specs.Runs.{peaks_report};
+ghost use Rattle.pj_engine.specs.Outcome.{report_lines, tally_lines};
 ghost use Rattle.pj_engine.specs.Written.{Writes};
 
 use crate::Status;
 use crate::output::write_piece;
+use crate::outs::Counts;
 use itoa::Buffer;
 use pj_element::{Reject, Tally};
 use pj_io::Sink;
+use pj_shape::{SmallJoin, SmallPlan, SmallStream};
 use pj_value::{List, NoMemory};
 
-/// Writes the lines of a stream: its counts, and its first rejects. `text` is where lines are made.
+/// Writes the report: the lines of each stream, the counts of results, and the peak of the join, where there is one.
+/// `text` is where lines are made.
+pub fn write_report<K: Sink>(
+    plan: &SmallPlan,
+    tallies: &[Tally],
+    counts: Counts,
+    peak: u64,
+    text: &mut List<u8>,
+    out: &mut K,
+) -> Result<(), Status>
+    requires { length tallies.now ≡ length plan.now.streams }
+    ensures tells { IsTrue (K.tells out.new) → IsTrue (K.tells out.old) }
+    ensures lines { IsTrue (K.tells out.new) → Writes (report_lines plan.now tallies.now counts peak) (K.written out.old) (K.written out.new) result }
+    ensures later { K.faults out.old ≤ K.faults out.new }
+    ensures fault { result ≡ Err Status.WriteFault → Rose (K.faults out.old) (K.faults out.new) }
+    ensures others { IfErr result IsWriteStop }
+{
+    write_streams(plan.streams.as_slice(), tallies, text, out)?;
+    write_results(counts.rows, counts.puncts, text, out)?;
+    write_peak(&plan.join, peak, text, out)?;
+    Ok(())
+}
+
+fn write_streams<K: Sink>(
+    streams: &[SmallStream],
+    tallies: &[Tally],
+    text: &mut List<u8>,
+    out: &mut K,
+) -> Result<(), Status>
+    requires { length tallies.now ≡ length streams.now }
+    ensures tells { IsTrue (K.tells out.new) → IsTrue (K.tells out.old) }
+    ensures lines { IsTrue (K.tells out.new) → Writes (tally_lines streams.now tallies.now) (K.written out.old) (K.written out.new) result }
+    ensures later { K.faults out.old ≤ K.faults out.new }
+    ensures fault { result ≡ Err Status.WriteFault → Rose (K.faults out.old) (K.faults out.new) }
+    ensures others { IfErr result IsWriteStop }
+{
+    for i in 0..streams.len() {
+        write_stream(streams[i].name.as_slice(), &tallies[i], text, out)?;
+    }
+    Ok(())
+}
+
+fn write_peak<K: Sink>(
+    join: &Option<SmallJoin>,
+    peak: u64,
+    text: &mut List<u8>,
+    out: &mut K,
+) -> Result<(), Status>
+    ensures tells { IsTrue (K.tells out.new) → IsTrue (K.tells out.old) }
+    ensures lines { IsTrue (K.tells out.new) → Writes (peaks_report join.now peak) (K.written out.old) (K.written out.new) result }
+    ensures later { K.faults out.old ≤ K.faults out.new }
+    ensures fault { result ≡ Err Status.WriteFault → Rose (K.faults out.old) (K.faults out.new) }
+    ensures others { IfErr result IsWriteStop }
+{
+    match join {
+        None => Ok(()),
+        Some(join) => Ok(write_peak_line(join.name.as_slice(), peak, text, out)?),
+    }
+}
+
+fn write_peak_line<K: Sink>(
+    name: &[u8],
+    peak: u64,
+    text: &mut List<u8>,
+    out: &mut K,
+) -> Result<(), Status>
+    ensures tells { IsTrue (K.tells out.new) → IsTrue (K.tells out.old) }
+    ensures lines { IsTrue (K.tells out.new) → Writes (peak_line name.now peak ∷ []) (K.written out.old) (K.written out.new) result }
+    ensures later { K.faults out.old ≤ K.faults out.new }
+    ensures fault { result ≡ Err Status.WriteFault → Rose (K.faults out.old) (K.faults out.new) }
+    ensures others { IfErr result IsWriteStop }
+{
+    peak_text(name, peak, text)?;
+    write_piece(out, text.as_slice())?;
+    Ok(())
+}
+
+fn peak_text(name: &[u8], peak: u64, text: &mut List<u8>) -> Result<(), NoMemory>
+    ensures { OnOk result (text.new ≡ peak_line name.now peak) }
+{
+    text.truncate(0);
+    text.append(b"# peak ")?;
+    text.append(name)?;
+    text.push(b' ')?;
+    append_number(peak, text)?;
+    text.push(b'\n')?;
+    Ok(())
+}
+
+// Writes the lines of a stream: its counts, and its first rejects.
 #[tactic(auto, using(crate::proofs::Lines::writes_none))]
-pub fn write_stream<K: Sink>(
+fn write_stream<K: Sink>(
     name: &[u8],
     tally: &Tally,
     text: &mut List<u8>,
@@ -53,8 +146,8 @@ fn write_rejects<K: Sink>(
     Ok(())
 }
 
-/// Writes the counts of result rows and of result punctuations.
-pub fn write_results<K: Sink>(
+// Writes the counts of result rows and of result punctuations.
+fn write_results<K: Sink>(
     rows: u64,
     puncts: u64,
     text: &mut List<u8>,

@@ -3,11 +3,10 @@ ghost use Rattle.std.specs.Prelude.{◌≡◌, ◌≤◌, ◌<◌, ◌+◌, ◌^
 ghost use Rattle.pj_element.specs.declared.element.Read.{Read};
 ghost use Rattle.pj_element.specs.Accepted.{fate_behind};
 ghost use Rattle.pj_element.specs.Elements.{reading_at};
-ghost use Rattle.pj_engine.specs.Seen.{closer_line, IsSeen, HasRoom, with_closer, with_fate, with_reject, fate_by, fate_text};
+ghost use Rattle.pj_engine.specs.Seen.{closer_line, IsSeen, HasRoom, with_closer, with_fate, with_reject, fate_by, element_in};
 
-use pj_element::{
-    Punct, Read, Reject, Schema, Tally, line_of_piece, punct_text, read_element, row_text,
-};
+use pj_element::{Element, Punct, Read, Reject, Tally, line_of_piece, read_element};
+use pj_shape::Schema;
 use pj_value::{List, NoMemory, Row};
 use std::alloc::Global;
 
@@ -68,41 +67,40 @@ pub fn none_seen(alloc: Global) -> Seen
     }
 }
 
-/// Judges one line more, and puts what is to be written for it into `text`: the element's line, or nothing.
-pub fn accept(
-    alloc: Global,
-    read: Read,
-    seen: &mut Seen,
-    text: &mut List<u8>,
-) -> Result<(), NoMemory>
+/// Judges one line more, and gives the element that it has, if it is accepted.
+pub fn accept(alloc: Global, read: Read, seen: &mut Seen) -> Result<Option<Element>, NoMemory>
     requires { HasRoom seen.old.line seen.old.tally }
     ensures line { OnOk result (seen.new.line ≡ seen.old.line + 1) }
     ensures closers { OnOk result (seen.new.closers ≡ seen.old.closers ++ with_closer (seen.old.line + 1) read []) }
     ensures tally { OnOk result (seen.new.tally ≡ with_fate (seen.old.line + 1) (fate_by seen.old.closers read) seen.old.tally) }
-    ensures text { OnOk result (text.new ≡ fate_text (fate_by seen.old.closers read)) }
+    ensures element { IfOk result (λ element. element ≡ element_in (fate_by seen.old.closers read)) }
 {
-    text.truncate(0);
     let line = seen.line + 1;
-    match read {
-        Read::Skip => {}
+    let element = match read {
+        Read::Skip => None,
         Read::Tuple(row) => match first_closer(seen.closers.as_slice(), &row) {
             None => {
-                row_text(alloc, &row, text)?;
-                text.push(b'\n')?;
                 seen.tally.tuples += 1;
+                Some(Element::Tuple(row))
             }
-            Some(earlier) => note_reject(&mut seen.tally, line, Reject::Closed { line: earlier })?,
+            Some(earlier) => {
+                note_reject(&mut seen.tally, line, Reject::Closed { line: earlier })?;
+                None
+            }
         },
         Read::Punct(punct) => {
-            punct_text(alloc, &punct, text)?;
-            text.push(b'\n')?;
-            seen.closers.push(Closer { line, punct })?;
+            let kept = punct.copy(alloc)?;
+            seen.closers.push(Closer { line, punct: kept })?;
             seen.tally.puncts += 1;
+            Some(Element::Punct(punct))
         }
-        Read::Bad(why) => note_reject(&mut seen.tally, line, why)?,
-    }
+        Read::Bad(why) => {
+            note_reject(&mut seen.tally, line, why)?;
+            None
+        }
+    };
     seen.line = line;
-    Ok(())
+    Ok(element)
 }
 
 fn note_reject(tally: &mut Tally, line: u64, why: Reject) -> Result<(), NoMemory>

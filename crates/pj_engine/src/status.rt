@@ -18,10 +18,19 @@ pub enum Status {
     WriteFault,
     /// Memory could not be had.
     NoMemory,
+    /// More came than the limit of this.
+    Limit { what: LimitOf },
+}
+
+/// What has a limit.
+#[derive(Clone, Copy, Debug, PartialEq, Eq)]
+pub enum LimitOf {
+    /// The arrivals at a join, by the number of its node.
+    Node(u32),
 }
 
 impl Status {
-    /// The exit status of the program: 0, 9, 3, 4 or 5.
+    /// The exit status of the program: 0, 9, 3, 4, 5 or 6.
     pub fn number(self) -> u8
         ensures { result ≡ status_number self }
     {
@@ -31,6 +40,7 @@ impl Status {
             Status::ReadFault { .. } => 3,
             Status::WriteFault => 4,
             Status::NoMemory => 5,
+            Status::Limit { .. } => 6,
         }
     }
 }

@@ -72,6 +72,27 @@ fn odd_lines_in_any_pieces(rt: HostRuntime) -> Result<(), Fail> {
     Ok(())
 }
 
+const AUCTION: &[u8] =
+    b"plan 1\nstream items item:int seller:text\nstream bids bitem:int price:int\nscheme items + _\nscheme bids + _\njoin j items bids on item=bitem\noutput j\n";
+
+const AUCTION_OUT: &[u8] =
+    b"t 1 \"ann\" 1 50\n# stream items tuples 1 punctuations 1 rejected 0\n# stream bids tuples 1 punctuations 1 rejected 1\n# reject bids line 3 closed by line 2\n# results 1 punctuations 0\n# peak j 2\n";
+
+#[test]
+fn two_streams_are_joined(rt: HostRuntime) -> Result<(), Fail> {
+    let alloc = rt.alloc();
+    let mut folder = MemFolder::new(alloc, &[])?;
+    folder.add(alloc, b"plan", AUCTION, 100, &[])?;
+    folder.add(alloc, b"items", b"t 1 \"ann\"\np 1 *\n", 7, &[])?;
+    folder.add(alloc, b"bids", b"t 1 50\np 1 *\nt 1 60\n", 1, &[])?;
+    let words = words_of(alloc, "run plan items bids")?;
+    let mut out = sink_of(alloc, 4096, &[])?;
+    let status = run_words(&rt, words.as_slice(), &mut folder, &mut out);
+    assert_eq!(rt; status, Status::Done);
+    assert_eq!(rt; out.bytes(), AUCTION_OUT);
+    Ok(())
+}
+
 #[test]
 fn each_opening_and_read_fails_in_turn(rt: HostRuntime) -> Result<(), Fail> {
     for nth in 0u64..2 {
@@ -163,7 +184,6 @@ fn other_words_plans_and_sizes_are_refused(rt: HostRuntime) -> Result<(), Fail> 
         "walk plan file",
         "run -plan file",
         "run plan --file",
-        "run plan file file",
     ] {
         let mut folder = MemFolder::new(alloc, &[])?;
         let words = words_of(alloc, command)?;

@@ -1,15 +1,11 @@
-use Rattle.std.proofs.Common.{◌≡◌, arith}
-use Rattle.std.proofs.lemmas.Fmt.{decimal_digit}
+use Rattle.std.proofs.Common.{◌∙◌, sym}
 use Rattle.pj_engine.proofs.stops.write_status.Goals as goal
 
-pub returns-then-operand-eq1-clause-line : goal.returns-then-operand-eq1-clause-line
-returns-then-operand-eq1-clause-line g c = λ t. rw (c.in-ReadFault.is, c.if-operand-eq1.true, decimal_digit 1 (omega arith)) (c.deliver-then-operand-eq1.ensures.line t)
-
-pub returns-else-operand-eq1-clause-line : goal.returns-else-operand-eq1-clause-line
-returns-else-operand-eq1-clause-line g c = λ t.
-    let stop = rw c.in-ReadFault.is at c.requires in
-    let two : c.in-ReadFault.operand ≡ 2 = grind arith in
-    rw (c.in-ReadFault.is, two, decimal_digit 2 (omega arith)) (c.deliver-else-operand-eq1.ensures.line t)
+pub returns-in-ReadFault-clause-line : goal.returns-in-ReadFault-clause-line
+returns-in-ReadFault-clause-line g c = λ t. rw (c.in-ReadFault.is, sym (c.as_bytes.ensures.value ∙ c.format-text.ensures.text)) (c.deliver-in-ReadFault.ensures.line t)
 
 pub returns-in-NoMemory-clause-line : goal.returns-in-NoMemory-clause-line
 returns-in-NoMemory-clause-line g c = λ t. rw c.in-NoMemory.is (c.deliver-in-NoMemory.ensures.line t)
+
+pub returns-in-Limit-clause-line : goal.returns-in-Limit-clause-line
+returns-in-Limit-clause-line g c = λ t. rw c.in-Limit.is (c.deliver-in-Limit.ensures.line t)

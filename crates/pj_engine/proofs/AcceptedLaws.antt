@@ -1,0 +1,238 @@
+-- What is accepted of the files of a small plan's streams.
+use Rattle.std.proofs.Common.{◌≡◌, ◌<◌, ℕ, zero, suc, Bool, true, false, if◌then◌else◌, inl, inr, List, [], ◌∷◌, ◌++◌, length, map, get_or, Option, Some, None, refl, ap, ap₂, ◌∙◌, subst, arith}
+use Rattle.std.specs.Prelude.{option_and_then, nat_lt}
+use Rattle.std.specs.Option.{option_map, option_map_or}
+use Rattle.std.specs.Str.{bytes_eq}
+use Rattle.pj_value.specs.Options.{both}
+use Rattle.pj_value.specs.declared.values.Value.{Value}
+use Rattle.pj_shape.specs.declared.columns.Column.{Column}
+use Rattle.pj_shape.specs.declared.plans.SmallPlan.{SmallPlan}
+use Rattle.pj_shape.specs.declared.plans.SmallStream.{SmallStream}
+use Rattle.pj_shape.specs.declared.plans.SmallJoin.{SmallJoin}
+use Rattle.pj_shape.specs.Lists.{In}
+use Rattle.pj_element.specs.declared.element.Pattern.{Pattern}
+use Rattle.pj_element.specs.declared.element.Pattern.TheVariants.{Wild, Constant}
+use Rattle.pj_element.specs.declared.element.Element.{Element}
+use Rattle.pj_element.specs.declared.element.Element.TheVariants.{Tuple, Punct}
+use Rattle.pj_element.specs.declared.element.Read.{Read}
+use Rattle.pj_element.specs.declared.element.Read.TheVariants.{Skip, Bad}
+use Rattle.pj_element.specs.declared.element.Read.TheVariants.{Tuple as ReadTuple, Punct as ReadPunct}
+use Rattle.pj_element.specs.declared.element.Reject.TheVariants.{NotElement}
+use Rattle.pj_element.specs.Lines.{pieces, line_of, is_skipped}
+use Rattle.pj_element.specs.Cells.{cells_of}
+use Rattle.pj_element.specs.Spelled.{value_of}
+use Rattle.pj_element.specs.Elements.{is_kind, matches_row, columns_of, value_in, pattern_in, tagged, judged, reading_of, reading_at}
+use Rattle.pj_element.specs.Runs.{NoneMatches, IsLawful, rows_of, closing}
+use Rattle.pj_element.specs.Accepted.{tuple_fate, fate_behind, fates, with_taken, taken_of, closing_line, reads_of, fates_of}
+use Rattle.pj_element.proofs.Lawful.{lawful_behind}
+use Rattle.pj_laws.specs.Plan.{FitsSchema, row_fits, punct_fits}
+use Rattle.pj_laws.specs.Patterns.{is_of_kind}
+use Rattle.pj_laws.specs.Join.{IsLawful as IsLawfulRun, rows_of as rows_in}
+use Rattle.pj_laws.specs.CoreKept.{nodes_of, IsPlanOf, IsSmallPlan}
+use Rattle.pj_laws.specs.HistoryLaws.{AreAccepted, AreAcceptedLists, schema_at}
+use Rattle.pj_engine.specs.Runs.{accepted_of}
+
+-- ---- what is read fits the columns
+
+-- the value, where there is one, is of the column's kind
+abbrev ValueFits : Column → Option Value → Type 0
+ValueFits column None = Unit {0}
+ValueFits column (Some v) = is_kind column.kind v ≡ true
+
+abbrev PatternFits : Column → Option Pattern → Type 0
+PatternFits column None = Unit {0}
+PatternFits column (Some p) = is_of_kind column.kind p ≡ true
+
+-- the row, where there is one, fits the columns
+abbrev RowFits : List Column → Option (List Value) → Type 0
+RowFits columns None = Unit {0}
+RowFits columns (Some row) = row_fits columns row ≡ true
+
+abbrev PunctFits : List Column → Option (List Pattern) → Type 0
+PunctFits columns None = Unit {0}
+PunctFits columns (Some punct) = punct_fits columns punct ≡ true
+
+-- a tuple or a punctuation that was read fits the columns
+abbrev ReadFits : List Column → Read → Type 0
+ReadFits columns Skip = Unit {0}
+ReadFits columns (ReadTuple row) = row_fits columns row ≡ true
+ReadFits columns (ReadPunct punct) = punct_fits columns punct ≡ true
+ReadFits columns (Bad why) = Unit {0}
+
+value_kept : (column : Column) (v : Value) (b : Bool) → is_kind column.kind v ≡ b → ValueFits column (if b then Some v else None)
+value_kept column v true e = e
+value_kept column v false e = tt
+
+value_of_kind : (column : Column) (o : Option Value) → ValueFits column (option_and_then (λ (v : Value). if is_kind column.kind v then Some v else None) o)
+value_of_kind column None = tt
+value_of_kind column (Some v) = value_kept column v (is_kind column.kind v) refl
+
+value_fits : (column : Column) (cell : List ℕ) → ValueFits column (value_in column cell)
+value_fits column cell = value_of_kind column (value_of cell)
+
+pattern_kept : (column : Column) (b : Bool) (o : Option Value) → ValueFits column o → PatternFits column (if b then Some Wild else option_map Constant o)
+pattern_kept column true o f = refl
+pattern_kept column false None f = tt
+pattern_kept column false (Some v) f = f
+
+pattern_fits : (column : Column) (cell : List ℕ) → PatternFits column (pattern_in column cell)
+pattern_fits column cell = pattern_kept column (bytes_eq cell (42 ∷ [])) (value_in column cell) (value_fits column cell)
+
+row_more : (k : Column) (ks : List Column) (o : Option Value) (os : Option (List Value)) → ValueFits k o → RowFits ks os → RowFits (k ∷ ks) (both o os)
+row_more k ks None os f g = tt
+row_more k ks (Some v) None f g = tt
+row_more k ks (Some v) (Some vs) f g = rw f g
+
+punct_more : (k : Column) (ks : List Column) (o : Option Pattern) (os : Option (List Pattern)) → PatternFits k o → PunctFits ks os → PunctFits (k ∷ ks) (both o os)
+punct_more k ks None os f g = tt
+punct_more k ks (Some p) None f g = tt
+punct_more k ks (Some p) (Some ps) f g = rw f g
+
+values_fit : (columns : List Column) (cells : List (List ℕ)) → RowFits columns (columns_of value_in columns cells)
+values_fit [] [] = refl
+values_fit [] (c ∷ cs) = tt
+values_fit (k ∷ ks) [] = tt
+values_fit (k ∷ ks) (c ∷ cs) = row_more k ks (value_in k c) (columns_of value_in ks cs) (value_fits k c) (values_fit ks cs)
+
+patterns_fit : (columns : List Column) (cells : List (List ℕ)) → PunctFits columns (columns_of pattern_in columns cells)
+patterns_fit [] [] = refl
+patterns_fit [] (c ∷ cs) = tt
+patterns_fit (k ∷ ks) [] = tt
+patterns_fit (k ∷ ks) (c ∷ cs) = punct_more k ks (pattern_in k c) (columns_of pattern_in ks cs) (pattern_fits k c) (patterns_fit ks cs)
+
+by_tag : (columns : List Column) (t p : Bool) (row : Option (List Value)) (punct : Option (List Pattern)) → RowFits columns row → PunctFits columns punct
+    → ReadFits columns (if t then option_map_or ReadTuple row (Bad NotElement) else (if p then option_map_or ReadPunct punct (Bad NotElement) else Bad NotElement))
+by_tag columns true p None punct f g = tt
+by_tag columns true p (Some row) punct f g = f
+by_tag columns false true row None f g = tt
+by_tag columns false true row (Some punct) f g = g
+by_tag columns false false row punct f g = tt
+
+tagged_fits : (columns : List Column) (cells : List (List ℕ)) → ReadFits columns (tagged columns cells)
+tagged_fits columns [] = tt
+tagged_fits columns (tag ∷ cells) =
+    by_tag columns (bytes_eq tag (116 ∷ [])) (bytes_eq tag (112 ∷ [])) (columns_of value_in columns cells) (columns_of pattern_in columns cells) (values_fit columns cells) (patterns_fit columns cells)
+
+or_bad : (columns : List Column) (b : Bool) (r : Read) → ReadFits columns r → ReadFits columns (if b then Bad NotElement else r)
+or_bad columns true r f = tt
+or_bad columns false r f = f
+
+or_skip : (columns : List Column) (b : Bool) (r : Read) → ReadFits columns r → ReadFits columns (if b then Skip else r)
+or_skip columns true r f = tt
+or_skip columns false r f = f
+
+judged_fits : (columns : List Column) (cells : Option (List (List ℕ))) → ReadFits columns (judged columns cells)
+judged_fits columns None = tt
+judged_fits columns (Some cells) = or_bad columns (nat_lt 128 (length cells)) (tagged columns cells) (tagged_fits columns cells)
+
+reading_fits : (columns : List Column) (piece : List ℕ) → ReadFits columns (reading_at columns piece)
+reading_fits columns piece =
+    or_bad columns (nat_lt 65536 (length piece)) (reading_of columns (line_of piece))
+    (or_skip columns (is_skipped (line_of piece)) (judged columns (cells_of (line_of piece))) (judged_fits columns (cells_of (line_of piece))))
+
+-- ---- what is accepted fits the columns
+
+abbrev AllFit : List Column → List Element → Type 0
+AllFit columns [] = Unit {0}
+AllFit columns (e ∷ es) = FitsSchema columns e × AllFit columns es
+
+all_fit-at : (columns : List Column) (es : List Element) → AllFit columns es → (e : Element) → In e es → FitsSchema columns e
+all_fit-at columns [] f e h = absurd h
+all_fit-at columns (x ∷ es) f e (inl is) = subst (FitsSchema columns) is f.0
+all_fit-at columns (x ∷ es) f e (inr h) = all_fit-at columns es f.1 e h
+
+tuple_fits : (columns : List Column) (row : List Value) (closed : Option ℕ) (es : List Element) → row_fits columns row ≡ true → AllFit columns es → AllFit columns (with_taken (tuple_fate row closed) es)
+tuple_fits columns row None es f g = (f, g)
+tuple_fits columns row (Some n) es f g = g
+
+line_fits : (columns : List Column) (earlier : List Read) (r : Read) (es : List Element) → ReadFits columns r → AllFit columns es → AllFit columns (with_taken (fate_behind earlier r) es)
+line_fits columns earlier Skip es f g = g
+line_fits columns earlier (ReadTuple row) es f g = tuple_fits columns row (closing_line 1 earlier row) es f g
+line_fits columns earlier (ReadPunct punct) es f g = (f, g)
+line_fits columns earlier (Bad why) es f g = g
+
+taken_fit : (columns : List Column) (earlier : List Read) (ps : List (List ℕ)) → AllFit columns (taken_of (fates earlier (map (reading_at columns) ps)))
+taken_fit columns earlier [] = tt
+taken_fit columns earlier (p ∷ ps) =
+    line_fits columns earlier (reading_at columns p) (taken_of (fates (earlier ++ reading_at columns p ∷ []) (map (reading_at columns) ps))) (reading_fits columns p)
+    (taken_fit columns (earlier ++ reading_at columns p ∷ []) ps)
+
+-- ---- lawful lists, in both words
+
+none_matches-in : (punct : List Pattern) (es : List Element) → NoneMatches punct es → (row : List Value) → In (Tuple row) es → matches_row punct row ≡ false
+none_matches-in punct [] n row h = absurd h
+none_matches-in punct (Tuple first ∷ es) n row (inl is) = ap (matches_row punct) (cc) ∙ n.0
+none_matches-in punct (Tuple first ∷ es) n row (inr h) = none_matches-in punct es n.1 row h
+none_matches-in punct (Punct other ∷ es) n row (inl is) = absurd (cc)
+none_matches-in punct (Punct other ∷ es) n row (inr h) = none_matches-in punct es n row h
+
+none_matches-from : (punct : List Pattern) (es : List Element) → ((row : List Value) → In (Tuple row) es → matches_row punct row ≡ false) → NoneMatches punct es
+none_matches-from punct [] f = tt
+none_matches-from punct (Tuple row ∷ es) f = (f row (inl refl), none_matches-from punct es (λ r h. f r (inr h)))
+none_matches-from punct (Punct other ∷ es) f = none_matches-from punct es (λ r h. f r (inr h))
+
+pub lawful_run : (es : List Element) → IsLawful es → IsLawfulRun es
+lawful_run [] l = tt
+lawful_run (Tuple row ∷ es) l = lawful_run es l
+lawful_run (Punct punct ∷ es) l = (none_matches-in punct es l.0, lawful_run es l.1)
+
+pub lawful_list : (es : List Element) → IsLawfulRun es → IsLawful es
+lawful_list [] l = tt
+lawful_list (Tuple row ∷ es) l = lawful_list es l
+lawful_list (Punct punct ∷ es) l = (none_matches-from punct es l.0, lawful_list es l.1)
+
+none_matches_front : (p : List Pattern) (xs ys : List Element) → NoneMatches p (xs ++ ys) → NoneMatches p xs
+none_matches_front p [] ys n = tt
+none_matches_front p (Tuple row ∷ xs) ys n = (n.0, none_matches_front p xs ys n.1)
+none_matches_front p (Punct punct ∷ xs) ys n = none_matches_front p xs ys n
+
+pub lawful_front : (xs ys : List Element) → IsLawful (xs ++ ys) → IsLawful xs
+lawful_front [] ys n = tt
+lawful_front (Tuple row ∷ xs) ys n = lawful_front xs ys n
+lawful_front (Punct punct ∷ xs) ys n = (none_matches_front punct xs ys n.0, lawful_front xs ys n.1)
+
+-- ---- rows, in both words
+
+pub rows_same : (es : List Element) → rows_of es ≡ rows_in es
+rows_same [] = refl
+rows_same (Tuple row ∷ es) = ap (λ (rows : List (List Value)). row ∷ rows) (rows_same es)
+rows_same (Punct punct ∷ es) = rows_same es
+
+pub lists_same : (lists : List (List Element)) → map rows_of lists ≡ map rows_in lists
+lists_same [] = refl
+lists_same (es ∷ lists) = ap₂ (λ (rows : List (List Value)) (more : List (List (List Value))). rows ∷ more) (rows_same es) (lists_same lists)
+
+-- ---- the accepted lists
+
+pub accepted_file : (columns : List Column) (bytes : List ℕ) → AreAccepted columns (taken_of (fates_of columns bytes))
+accepted_file columns bytes = (
+  all_fit-at columns (taken_of (fates_of columns bytes)) (taken_fit columns [] (pieces bytes)),
+  lawful_run (taken_of (fates_of columns bytes)) (lawful_front (taken_of (fates_of columns bytes)) (Punct (closing columns) ∷ []) (lawful_behind (closing columns) [] (reads_of columns bytes))),
+)
+
+accepted_by : (streams : List SmallStream) (join : Option SmallJoin) (files : List (List ℕ)) → IsPlanOf streams join → length files ≡ length streams
+    → AreAcceptedLists (nodes_of (record { streams = streams; join = join })) (accepted_of streams files)
+accepted_by [] None files p l = absurd (omega (arith, p))
+accepted_by (s ∷ []) None [] p l = absurd (omega (arith, l))
+accepted_by (s ∷ []) None (f ∷ []) p l = (refl, at)
+  where
+    at : (stream : ℕ) → stream < 1 → AreAccepted (schema_at (nodes_of (record { streams = s ∷ []; join = None })) stream) (get_or (taken_of (fates_of s.schema f) ∷ []) stream [])
+    at zero lt = accepted_file s.schema f
+    at (suc n) lt = absurd (omega arith)
+accepted_by (s ∷ []) None (f ∷ g ∷ files) p l = absurd (omega (arith, l))
+accepted_by (s ∷ t ∷ streams) None files p l = absurd (omega (arith, p))
+accepted_by [] (Some join) files p l = absurd (omega (arith, p.0))
+accepted_by (s ∷ []) (Some join) files p l = absurd (omega (arith, p.0))
+accepted_by (s ∷ t ∷ []) (Some join) [] p l = absurd (omega (arith, l))
+accepted_by (s ∷ t ∷ []) (Some join) (f ∷ []) p l = absurd (omega (arith, l))
+accepted_by (s ∷ t ∷ []) (Some join) (f ∷ g ∷ []) p l = (refl, at)
+  where
+    at : (stream : ℕ) → stream < 2 → AreAccepted (schema_at (nodes_of (record { streams = s ∷ t ∷ []; join = Some join })) stream) (get_or (taken_of (fates_of s.schema f) ∷ taken_of (fates_of t.schema g) ∷ []) stream [])
+    at zero lt = accepted_file s.schema f
+    at (suc zero) lt = accepted_file t.schema g
+    at (suc (suc n)) lt = absurd (omega arith)
+accepted_by (s ∷ t ∷ []) (Some join) (f ∷ g ∷ h ∷ files) p l = absurd (omega (arith, l))
+accepted_by (s ∷ t ∷ u ∷ streams) (Some join) files p l = absurd (omega (arith, p.0))
+
+pub accepted_lists : (plan : SmallPlan) (files : List (List ℕ)) → IsSmallPlan plan → length files ≡ length plan.streams → AreAcceptedLists (nodes_of plan) (accepted_of plan.streams files)
+accepted_lists plan files p l = accepted_by plan.streams plan.join files p l
