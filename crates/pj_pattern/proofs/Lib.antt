@@ -1,0 +1,9 @@
+pub mod Orders
+pub mod Sets
+pub mod Ends
+pub mod Meeting
+pub mod Searching
+pub mod Covering
+pub mod Bounds
+pub mod Both
+pub mod Rows

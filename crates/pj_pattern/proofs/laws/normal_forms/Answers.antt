@@ -1,0 +1,5 @@
+use Rattle.pj_pattern.proofs.Bounds.{kind_kept, normal_again, same_matched}
+use Rattle.pj_pattern.proofs.laws.normal_forms.Goals as goal
+
+pub returns : goal.returns
+returns c = record { same = same_matched; normal = normal_again; kind = kind_kept }

@@ -1,0 +1,217 @@
+// Patterns by their forms.
+ghost use Rattle.std.specs.Prelude.{◌≡◌, IfOk};
+ghost use Rattle.pj_pattern.specs.Patterns.{all_of_kind, covers_high, covers_low, covers_pattern, covers_range, has_value, is_end_of_kind, is_from, is_kind, is_of_kind, is_to, is_wild, matches_all, matches_value, same_kind, up_to};
+ghost use Rattle.pj_pattern.specs.Normal.{IsNormal};
+
+use crate::pattern::Form;
+use pj_value::{Kind, List, NoMemory, Value};
+use std::alloc::Global;
+
+pub(crate) fn form_fits(form: &Form, kind: Kind) -> bool
+    ensures { result ≡ is_of_kind kind form.now }
+{
+    match form {
+        Form::Wild => true,
+        Form::Empty => true,
+        Form::Constant(value) => has_kind(value, kind),
+        Form::Range(low, high) => end_fits(low, kind) && end_fits(high, kind),
+        Form::Members(values) => all_fit(values.as_slice(), kind),
+    }
+}
+
+fn has_kind(value: &Value, kind: Kind) -> bool
+    ensures { result ≡ is_kind kind value.now }
+{
+    match (kind, value) {
+        (Kind::Int, Value::Int(_)) => true,
+        (Kind::Int, Value::Text(_)) => false,
+        (Kind::Text, Value::Int(_)) => false,
+        (Kind::Text, Value::Text(_)) => true,
+    }
+}
+
+fn end_fits(end: &Option<Value>, kind: Kind) -> bool
+    ensures { result ≡ is_end_of_kind kind end.now }
+{
+    match end {
+        None => true,
+        Some(value) => has_kind(value, kind),
+    }
+}
+
+fn all_fit(values: &[Value], kind: Kind) -> bool
+    ensures { result ≡ all_of_kind kind values.now }
+{
+    for value in values {
+        if !has_kind(value, kind) {
+            return false;
+        }
+    }
+    true
+}
+
+pub(crate) fn form_matches(form: &Form, value: &Value) -> bool
+    requires { IsNormal form.now }
+    ensures { result ≡ matches_value form.now value.now }
+{
+    match form {
+        Form::Wild => true,
+        Form::Empty => false,
+        Form::Constant(constant) => constant.same(value),
+        Form::Range(low, high) => is_from(low, value) && is_to(high, value),
+        Form::Members(members) => has_value(members.as_slice(), value),
+    }
+}
+
+// Whether the value is not below this end.
+fn is_from(low: &Option<Value>, value: &Value) -> bool
+    ensures { result ≡ is_from low.now value.now }
+{
+    match low {
+        None => true,
+        Some(low) => is_up_to(low, value),
+    }
+}
+
+// Whether the value is not above this end.
+fn is_to(high: &Option<Value>, value: &Value) -> bool
+    ensures { result ≡ is_to high.now value.now }
+{
+    match high {
+        None => true,
+        Some(high) => is_up_to(value, high),
+    }
+}
+
+// Whether both are of one kind and the first is not above the second.
+fn is_up_to(low: &Value, high: &Value) -> bool
+    ensures { result ≡ up_to low.now high.now }
+{
+    are_of_one_kind(low, high) && !low.order(high).is_gt()
+}
+
+fn are_of_one_kind(one: &Value, other: &Value) -> bool
+    ensures { result ≡ same_kind one.now other.now }
+{
+    match (one, other) {
+        (Value::Int(_), Value::Int(_)) => true,
+        (Value::Int(_), Value::Text(_)) => false,
+        (Value::Text(_), Value::Int(_)) => false,
+        (Value::Text(_), Value::Text(_)) => true,
+    }
+}
+
+// A binary search, since the members stand in order.
+fn has_value(members: &[Value], value: &Value) -> bool
+    requires { IsNormal (Form.Members members.now) }
+    ensures { result ≡ has_value members.now value.now }
+{
+    members
+        .binary_search_by(|member| member.order(value))
+        .is_ok()
+}
+
+pub(crate) fn form_covers(form: &Form, other: &Form) -> bool
+    requires { IsNormal form.now }
+    ensures { result ≡ covers_pattern form.now other.now }
+{
+    match other {
+        Form::Wild => form_is_wild(form),
+        Form::Empty => true,
+        Form::Constant(value) => form_matches(form, value),
+        Form::Range(low, high) => covers_range(form, low, high),
+        Form::Members(values) => matches_all(form, values.as_slice()),
+    }
+}
+
+pub(crate) fn form_is_wild(form: &Form) -> bool
+    ensures { result ≡ is_wild form.now }
+{
+    match form {
+        Form::Wild => true,
+        Form::Empty => false,
+        Form::Constant(_) => false,
+        Form::Range(_, _) => false,
+        Form::Members(_) => false,
+    }
+}
+
+fn covers_range(form: &Form, low: &Option<Value>, high: &Option<Value>) -> bool
+    ensures { result ≡ covers_range form.now low.now high.now }
+{
+    match form {
+        Form::Wild => true,
+        Form::Empty => false,
+        Form::Constant(_) => false,
+        Form::Range(from, to) => covers_low(from, low) && covers_high(to, high),
+        Form::Members(_) => false,
+    }
+}
+
+// Whether a low end is no closer than another.
+fn covers_low(low: &Option<Value>, other: &Option<Value>) -> bool
+    ensures { result ≡ covers_low low.now other.now }
+{
+    match (low, other) {
+        (None, _) => true,
+        (Some(_), None) => false,
+        (Some(low), Some(other)) => is_up_to(low, other),
+    }
+}
+
+// Whether a high end is no closer than another.
+fn covers_high(high: &Option<Value>, other: &Option<Value>) -> bool
+    ensures { result ≡ covers_high high.now other.now }
+{
+    match (high, other) {
+        (None, _) => true,
+        (Some(_), None) => false,
+        (Some(high), Some(other)) => is_up_to(other, high),
+    }
+}
+
+fn matches_all(form: &Form, values: &[Value]) -> bool
+    requires { IsNormal form.now }
+    ensures { result ≡ matches_all form.now values.now }
+{
+    for value in values {
+        if !form_matches(form, value) {
+            return false;
+        }
+    }
+    true
+}
+
+pub(crate) fn copy_form(alloc: Global, form: &Form) -> Result<Form, NoMemory>
+    ensures { IfOk result (λ f. f ≡ form.now) }
+{
+    match form {
+        Form::Wild => Ok(Form::Wild),
+        Form::Empty => Ok(Form::Empty),
+        Form::Constant(value) => Ok(Form::Constant(value.copy(alloc)?)),
+        Form::Range(low, high) => {
+            let low = copy_end(alloc, low)?;
+            Ok(Form::Range(low, copy_end(alloc, high)?))
+        }
+        Form::Members(values) => Ok(Form::Members(copy_values(alloc, values.as_slice())?)),
+    }
+}
+
+pub(crate) fn copy_end(alloc: Global, end: &Option<Value>) -> Result<Option<Value>, NoMemory>
+    ensures { IfOk result (λ e. e ≡ end.now) }
+{
+    match end {
+        None => Ok(None),
+        Some(value) => Ok(Some(value.copy(alloc)?)),
+    }
+}
+
+fn copy_values(alloc: Global, values: &[Value]) -> Result<List<Value>, NoMemory>
+    ensures { IfOk result (λ l. l ≡ values.now) }
+{
+    let mut copy = List::new(alloc);
+    for value in values {
+        copy.push(value.copy(alloc)?)?;
+    }
+    Ok(copy)
+}
