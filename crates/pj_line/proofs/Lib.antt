@@ -1,0 +1,10 @@
+pub mod CutCells
+pub mod CutPieces
+pub mod Cuts
+pub mod Feeds
+pub mod Fronts
+pub mod Opens
+pub mod PieceLaws
+pub mod Searching
+pub mod Windows
+pub mod Splits

@@ -1,0 +1,7 @@
+pub mod Buffers
+pub mod Cells
+pub mod Cutting
+pub mod Held
+pub mod Lines
+pub mod PieceLaws
+pub mod Searches
