@@ -48,6 +48,7 @@ pub trait Folder {
     /// Opens the file of a name, from its first byte on. The room that `close_file` needs is made here.
     fn open_file(&mut self, alloc: Global, name: &[u8]) -> Result<Self::File, OpenStop>
         ensures fresh { IfOk result (λ file. (Self.File.faults file ≡ 0) × (Self.File.name file ≡ name.now)) }
+        ensures untaken { IfOk result (λ file. IsTrue (Self.File.tells file) → Self.File.taken file ≡ []) }
         ensures told { IsTrue (tells self.old name.now) → IfOk result (λ file.
             IsFresh (Self.File.tells file) (Self.File.taken file) (Self.File.left file) (contents self.old name.now)) }
         ensures opened { OnOk result (IsTrue (opened self.new name.now)) }
