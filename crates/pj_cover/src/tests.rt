@@ -1,0 +1,34 @@
+// What no clause says: that the calls succeed with ample memory, on worked punctuations.
+ghost use Rattle.std.specs.Prelude.{◌≡◌, length, IfOk};
+
+use super::*;
+use pj_pattern::{Pattern, Punct};
+use pj_value::{List, NoMemory, Row, Value};
+use std::alloc::Global;
+use std::test::Fail;
+
+// The punctuation of one column that closes a number.
+fn closing(alloc: Global, number: i64) -> Result<Punct, NoMemory>
+    ensures { IfOk result (λ punct. length punct ≡ 1) }
+{
+    let mut patterns = List::new(alloc);
+    patterns.push(Pattern::constant(Value::Int(number)))?;
+    Ok(Punct::of(patterns))
+}
+
+fn row_of(alloc: Global, number: i64) -> Result<Row, NoMemory> {
+    let mut values = List::new(alloc);
+    values.push(Value::Int(number))?;
+    Ok(Row::of(values))
+}
+
+#[test]
+fn the_first_match_is_named(rt: HostRuntime) -> Result<(), Fail> {
+    let alloc = rt.alloc();
+    let mut store = PunctStore::new(alloc, 1)?;
+    store.push(closing(alloc, 5)?, 3)?;
+    store.push(closing(alloc, 5)?, 8)?;
+    assert!(rt; store.first_match(&row_of(alloc, 5)?) == Some(3));
+    assert!(rt; store.first_match(&row_of(alloc, 6)?) == None);
+    Ok(())
+}
