@@ -4,7 +4,7 @@ use Rattle.std.proofs.lemmas.List.{append-nil}
 use Rattle.pj_value.specs.declared.values.Value.{Value}
 use Rattle.pj_shape.specs.declared.plans.SmallStream.{SmallStream}
 use Rattle.pj_shape.specs.declared.plans.SmallJoin.{SmallJoin}
-use Rattle.pj_element.specs.declared.element.Element.{Element}
+use Rattle.pj_pattern.specs.declared.element.Element.{Element}
 use Rattle.pj_laws.specs.declared.events.Entry.{Entry}
 use Rattle.pj_laws.specs.declared.events.Event.{Event}
 use Rattle.pj_laws.specs.declared.events.Event.TheVariants.{Arrive, Take as Taken, Give as Given, Drain, Look, Idle}

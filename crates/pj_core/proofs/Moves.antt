@@ -1,8 +1,8 @@
 -- What each event does to two streams and a join.
 use Rattle.std.proofs.Common.{ℕ, ◌+◌, Bool, true, false, cond, List, [], ◌∷◌, ◌++◌, ◌≡◌, map, length, get_or, eqb, Option, Some, None, refl, ap, ◌∙◌, arith}
 use Rattle.pj_shape.specs.declared.columns.Column.{Column}
-use Rattle.pj_element.specs.declared.element.Element.{Element}
-use Rattle.pj_element.specs.declared.element.Element.TheVariants.{Tuple, Punct}
+use Rattle.pj_pattern.specs.declared.element.Element.{Element}
+use Rattle.pj_pattern.specs.declared.element.Element.TheVariants.{Tuple, Punct}
 use Rattle.pj_laws.specs.declared.events.Event.{Event}
 use Rattle.pj_laws.specs.declared.events.Event.TheVariants.{Arrive, Take as Taken, Give as Given, Drain, Look, Stopped, Idle}
 use Rattle.pj_laws.specs.declared.events.Stop.{Stop}

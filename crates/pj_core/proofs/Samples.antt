@@ -1,4 +1,4 @@
--- The plan of the tests is small.
+-- The plans of the tests are small.
 use Rattle.std.proofs.Common.{ℕ, zero, suc, pos, true, length, ◌<◌, ◌≡◌, List, [], ◌∷◌, Option, Some, None, refl, sym, ap, inl, inr, arith, subst}
 use Rattle.pj_value.specs.declared.values.Kind.TheVariants.{Int as IntKind}
 use Rattle.pj_value.specs.declared.values.Value.TheVariants.{Int}
@@ -12,7 +12,7 @@ use Rattle.pj_laws.specs.OneThread.{Turn}
 use Rattle.pj_laws.specs.CoreKept.{IsSmallPlan, columns_of}
 use Rattle.pj_core.specs.Cores.{CoreState}
 use Rattle.pj_core.specs.Calls.{IsTurnRefused}
-use Rattle.pj_core.specs.Sample.{at, equal, number, sample}
+use Rattle.pj_core.specs.Sample.{at, equal, lone, number, sample}
 
 only : IsSoundClass ((number ∷ []) ∷ (number ∷ []) ∷ []) (at 0 ∷ at 1 ∷ [])
 only = record {
@@ -78,3 +78,14 @@ fits_sample p s e lt = subst (λ (z : SmallPlan). row_fits (columns_of z.streams
 
 pub there_sample : (p : SmallPlan) (s : ℕ) → p ≡ sample → s < 2 → s < length p.streams
 there_sample p s e lt = subst (λ (z : SmallPlan). s < length z.streams) (sym e) lt
+
+-- ---- the plan of one stream
+
+pub lone_small : IsSmallPlan lone
+lone_small = refl
+
+pub fits_lone : (p : SmallPlan) → p ≡ lone → row_fits (columns_of p.streams 0) (Int (pos 7) ∷ []) ≡ true
+fits_lone p e = subst (λ (z : SmallPlan). row_fits (columns_of z.streams 0) (Int (pos 7) ∷ []) ≡ true) (sym e) refl
+
+pub there_lone : (p : SmallPlan) → p ≡ lone → 0 < length p.streams
+there_lone p e = subst (λ (z : SmallPlan). 0 < length z.streams) (sym e) (omega arith)

@@ -4,7 +4,7 @@ use Rattle.std.proofs.lemmas.Bool.{false≢true, eqb-true, eq-eqb, ne_eqb, or_ca
 use Rattle.std.proofs.lemmas.List.{append-nil}
 use Rattle.pj_shape.specs.declared.columns.Column.{Column}
 use Rattle.pj_shape.specs.Lists.{In}
-use Rattle.pj_element.specs.declared.element.Element.{Element}
+use Rattle.pj_pattern.specs.declared.element.Element.{Element}
 use Rattle.pj_laws.specs.Join.{TupleAt, JoinData, JoinState, Step, TupleComes, PunctComes, Take, Give, Sweep, start, run, step, has, new_tuple}
 use Rattle.pj_laws.specs.Kept.{lacking, without}
 use Rattle.pj_laws.specs.OneThread.{first_of, next_probe, probes, probes_at}

@@ -9,7 +9,7 @@ use Rattle.pj_laws.specs.declared.events.Event.TheVariants.{Arrive, Take as Take
 use Rattle.pj_laws.specs.declared.events.Out.{Out}
 use Rattle.pj_laws.specs.declared.events.Stop.{Stop}
 use Rattle.pj_laws.specs.declared.events.Stop.TheVariants.{NoMemory}
-use Rattle.pj_element.specs.declared.element.Element.{Element}
+use Rattle.pj_pattern.specs.declared.element.Element.{Element}
 use Rattle.pj_laws.specs.Plan.{Comes, Local, Node, Pass, batches, brought_from, handed_at, hands_all}
 use Rattle.pj_laws.specs.History.{Reached, next, reached_from, reached_of, begun, nodes_by, nodes_from, gained, out_of, root_of, undrained_after}
 use Rattle.pj_laws.specs.Outcomes.{outputs_of}

@@ -2,8 +2,8 @@
 use Rattle.std.proofs.Common.{ℕ, ◌<◌, List, [], ◌∷◌, ◌++◌, ◌≡◌, map, length, reverse, Option, Some, None, refl, sym, ap, ◌∙◌, subst}
 use Rattle.pj_shape.specs.declared.plans.SmallStream.{SmallStream}
 use Rattle.std.proofs.lemmas.List.{reverse-append}
-use Rattle.pj_element.specs.declared.element.Element.{Element}
-use Rattle.pj_element.specs.declared.element.Element.TheVariants.{Punct}
+use Rattle.pj_pattern.specs.declared.element.Element.{Element}
+use Rattle.pj_pattern.specs.declared.element.Element.TheVariants.{Punct}
 use Rattle.pj_laws.specs.Patterns.{all_wild}
 use Rattle.pj_laws.specs.CoreKept.{columns_of}
 use Rattle.pj_core.proofs.Fitting.{fits-any, wild-fits}

@@ -1,8 +1,8 @@
 -- What the calls of a core answer, and what they make of it.
 use Rattle.std.specs.Prelude.{ℕ, ◌+◌, ◌<◌, ◌≡◌, false, List, [], ◌∷◌, ◌++◌, map, filter, length, sum, Option, Some, None}
 use Rattle.pj_shape.specs.declared.plans.SmallPlan.{SmallPlan}
-use Rattle.pj_element.specs.declared.element.Element.{Element}
-use Rattle.pj_element.specs.declared.element.Element.TheVariants.{Punct}
+use Rattle.pj_pattern.specs.declared.element.Element.{Element}
+use Rattle.pj_pattern.specs.declared.element.Element.TheVariants.{Punct}
 use Rattle.pj_laws.specs.Patterns.{all_wild}
 use Rattle.pj_laws.specs.CoreKept.{columns_of}
 use Rattle.pj_laws.specs.declared.events.Entry.{Entry}

@@ -1,5 +1,5 @@
--- A plan of two streams of one number each and a join of them, for the tests.
-use Rattle.std.specs.Prelude.{ℕ, [], ◌∷◌, Some}
+-- A plan of two streams of one number each and a join of them, and a plan of one such stream, for the tests.
+use Rattle.std.specs.Prelude.{ℕ, [], ◌∷◌, Some, None}
 use Rattle.pj_value.specs.declared.values.Kind.TheVariants.{Int}
 use Rattle.pj_shape.specs.declared.columns.Column.{Column}
 use Rattle.pj_shape.specs.declared.joins.ClassCol.{ClassCol}
@@ -23,3 +23,6 @@ equal = record { inputs = (number ∷ []) ∷ (number ∷ []) ∷ []; classes = 
 -- the first input of the join is the second stream
 abbrev pub sample : SmallPlan
 sample = record { streams = numbers ∷ numbers ∷ []; join = Some (record { name = 110 ∷ []; inputs = 1 ∷ 0 ∷ []; spec = equal }) }
+
+abbrev pub lone : SmallPlan
+lone = record { streams = numbers ∷ []; join = None }

@@ -2,8 +2,8 @@
 ghost use Rattle.std.specs.Prelude.{◌≡◌, [], ◌∷◌, ◌++◌, map, length, take, OnOk, OnErr};
 ghost use Rattle.pj_laws.specs.History.{out_of};
 
-use pj_element::Element;
 use pj_laws::Out;
+use pj_pattern::Element;
 use pj_value::{List, NoMemory, Row};
 
 /// Puts an element at the end; on a refusal the list is as before.

@@ -3,9 +3,9 @@ ghost use Rattle.std.specs.Prelude.{◌≡◌, ◌↔◌, ◌≤◌, ◌^◌, �
 ghost use Rattle.pj_core.specs.Parts.{FitsAny, FitsInput, HasRoom, IsFull, IsSoundAny, IsTakenOf, TakesAny, any_entered, any_fresh, entered, given, input_named, join_in, opened_kept, outs_after, part_in, peak_kept, pending_kept, stored_kept};
 
 use crate::handed::hand_out;
-use pj_element::Element;
 use pj_join::{Join, JoinStop, Probe};
 use pj_laws::Out;
+use pj_pattern::Element;
 use pj_shape::SmallJoin;
 use pj_value::{Bytes, List, NoMemory};
 use std::alloc::Global;

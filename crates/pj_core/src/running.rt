@@ -1,6 +1,6 @@
 // The core of a run.
 ghost use Rattle.std.specs.Prelude.{◌≡◌, ◌<◌, ◌≤◌, ◌^◌, [], ◌∷◌, ◌++◌, None, length, IfErr, IfOk, OnErr, OnOk, IsErrOf};
-ghost use Rattle.pj_element.specs.declared.element.Element.TheVariants.{Punct as PunctOf};
+ghost use Rattle.pj_pattern.specs.declared.element.Element.TheVariants.{Punct as PunctOf};
 ghost use Rattle.pj_laws.specs.declared.events.Event.TheVariants.{Arrive as Arrives, Drain as Drains};
 ghost use Rattle.pj_laws.specs.Patterns.{all_wild};
 ghost use Rattle.pj_laws.specs.Join.{has};
@@ -17,9 +17,9 @@ use crate::joined::{
     JOIN, Joined, enter, give_to, new_joined, peak_in, pending_in, stored_in, take_next, taken_in,
 };
 use crate::known::known;
-use pj_element::{Element, Pattern, Punct};
 use pj_join::{Found, JoinStop, Probe};
 use pj_laws::{Look, Out, Stop};
+use pj_pattern::{Element, Pattern, Punct};
 use pj_shape::{Column, SmallPlan, SmallStream};
 use pj_value::{List, NoMemory};
 use std::alloc::Global;
@@ -295,7 +295,7 @@ fn wild_for(alloc: Global, columns: &[Column]) -> Result<Punct, NoMemory>
 {
     let mut patterns = List::new(alloc);
     for _column in columns {
-        patterns.push(Pattern::Wild)?;
+        patterns.push(Pattern::wild())?;
     }
     Ok(Punct::of(patterns))
 }

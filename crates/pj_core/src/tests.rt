@@ -1,9 +1,9 @@
 // What no clause says: that the calls succeed with ample memory, and what they give on runs by hand.
-ghost use Rattle.std.specs.Prelude.{◌≡◌, ◌<◌, ◌≤◌, ◌^◌, [], ◌∷◌, IfOk, pos};
-ghost use Rattle.pj_core.specs.Sample.{at, equal, number, numbers, sample};
+ghost use Rattle.std.specs.Prelude.{◌≡◌, ◌<◌, ◌≤◌, ◌^◌, [], ◌∷◌, IfOk, OnOk, pos};
+ghost use Rattle.pj_core.specs.Sample.{at, equal, lone, number, numbers, sample};
 
 use super::*;
-use pj_element::Element;
+use pj_pattern::Element;
 use pj_shape::{ClassCol, Column, JoinSpec, Schema, SmallJoin, SmallPlan, SmallStream};
 use pj_value::{Kind, List, NoMemory, Row, Value};
 use std::alloc::Global;
@@ -111,5 +111,69 @@ fn the_limit_stops_the_fourth_arrival(rt: HostRuntime) -> Result<(), Fail> {
     }
     assert_eq!(rt; counts.as_slice(), [0, 1, 1, -2, -2].as_slice());
     assert_eq!(rt; core.look().stop, Some(Stop::Limit { node: 2 }));
+    Ok(())
+}
+
+// A core of one stream and no join.
+#[tactic(auto, using(crate::proofs::Samples::lone_small))]
+fn lone_core(alloc: Global) -> Result<Core, NoMemory>
+    ensures { IfOk result (λ core. core.plan ≡ lone) }
+{
+    let mut streams = List::new(alloc);
+    streams.push(stream(alloc)?)?;
+    let plan = SmallPlan {
+        streams,
+        join: None,
+    };
+    Core::new(alloc, plan, 1)
+}
+
+#[tactic(auto, using(crate::proofs::Samples::fits_lone, crate::proofs::Samples::there_lone))]
+fn hand_in(core: &mut Core, row: Row) -> Result<(), Stop>
+    requires plan { core.old.plan ≡ lone }
+    requires row { row ≡ Value.Int (pos 7) ∷ [] }
+    ensures { OnOk result (core.new.plan ≡ lone) }
+{
+    core.arrive(0, Element::Tuple(row))
+}
+
+#[tactic(auto, using(crate::proofs::Samples::there_lone))]
+fn close(alloc: Global, core: &mut Core) -> Result<List<Out>, Stop>
+    requires { core.old.plan ≡ lone }
+{
+    core.closing_turn(alloc, 0)
+}
+
+// The number of a row, and -1 for a punctuation.
+fn number_of(out: &Out) -> i64 {
+    match out {
+        Out::Tuple(row) => match row.as_slice().first() {
+            Some(Value::Int(n)) => *n,
+            Some(Value::Text(_)) => -2,
+            None => -3,
+        },
+        Out::Punct(_) => -1,
+        Out::Purged { .. } => -4,
+    }
+}
+
+fn numbers_of(alloc: Global, outs: &List<Out>) -> Result<Vec<i64>, NoMemory> {
+    let mut all = Vec::new(alloc);
+    for out in outs.as_slice() {
+        all.push(number_of(out))?;
+    }
+    Ok(all)
+}
+
+#[test]
+fn a_lone_stream_hands_out_its_elements(rt: HostRuntime) -> Result<(), Fail> {
+    let alloc = rt.alloc();
+    let mut core = lone_core(alloc)?;
+    hand_in(&mut core, row(alloc, 7)?)?;
+    let outs = core.drain();
+    assert_eq!(rt; numbers_of(alloc, &outs)?.as_slice(), [7].as_slice());
+    let outs = close(alloc, &mut core)?;
+    assert_eq!(rt; numbers_of(alloc, &outs)?.as_slice(), [-1].as_slice());
+    assert_eq!(rt; core.look().ended, 1);
     Ok(())
 }

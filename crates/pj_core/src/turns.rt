@@ -6,9 +6,9 @@ ghost use Rattle.pj_core.specs.Calls.{HasGiven, IsOpen, IsTurnRefused, StopsNow,
 ghost use Rattle.pj_core.specs.Turns.{Finishes, MayProbe, ProbesAll, StopsFinishing, StopsProbing};
 
 use crate::Core;
-use pj_element::Element;
 use pj_join::Probe;
 use pj_laws::{Out, Stop};
+use pj_pattern::Element;
 use pj_value::{List, NoMemory};
 use std::alloc::Global;
 

@@ -2,13 +2,13 @@
 use Rattle.std.proofs.Common.{◌≡◌, ℕ, suc, ◌+◌, true, false, cond, List, [], ◌∷◌, ◌++◌, Option, Some, None, is_some, refl, ap, sym, ◌∙◌, append_assoc, length, append-nil}
 use Rattle.std.proofs.lemmas.Bool.{false≢true}
 use Rattle.pj_value.specs.declared.values.Value.{Value}
-use Rattle.pj_element.specs.declared.element.Pattern.{Pattern}
+use Rattle.pj_pattern.specs.Patterns.{Pattern}
 use Rattle.pj_element.specs.declared.element.Read.{Read}
 use Rattle.pj_element.specs.declared.element.Read.TheVariants.{Skip, Tuple, Punct, Bad}
-use Rattle.pj_element.specs.declared.element.Element.{Element}
-use Rattle.pj_element.specs.declared.element.Element.TheVariants.{Punct as AcceptedPunct}
-use Rattle.pj_element.specs.Elements.{matches_row}
-use Rattle.pj_element.specs.Runs.{NoneMatches, IsLawful}
+use Rattle.pj_pattern.specs.declared.element.Element.{Element}
+use Rattle.pj_pattern.specs.declared.element.Element.TheVariants.{Punct as AcceptedPunct}
+use Rattle.pj_pattern.specs.Columns.{matches_row}
+use Rattle.pj_pattern.specs.Elements.{NoneMatches, IsLawful}
 use Rattle.pj_element.specs.Accepted.{closes, closing_line, Fate, Passed, Taken, Refused, tuple_fate, fate_behind, fates, with_taken, taken_of}
 
 closed_stays : (n : ℕ) (earlier : List Read) (r : Read) (row : List Value) → is_some (closing_line n earlier row) ≡ true → is_some (closing_line n (earlier ++ r ∷ []) row) ≡ true

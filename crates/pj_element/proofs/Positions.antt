@@ -4,8 +4,8 @@ use Rattle.pj_value.specs.declared.values.Value.{Value}
 use Rattle.pj_element.specs.declared.element.Read.{Read}
 use Rattle.pj_element.specs.declared.element.Read.TheVariants.{Skip, Tuple, Punct, Bad}
 use Rattle.pj_element.specs.declared.element.Reject.TheVariants.{Closed}
-use Rattle.pj_element.specs.declared.element.Element.{Element}
-use Rattle.pj_element.specs.declared.element.Element.TheVariants.{Tuple as AcceptedTuple, Punct as AcceptedPunct}
+use Rattle.pj_pattern.specs.declared.element.Element.{Element}
+use Rattle.pj_pattern.specs.declared.element.Element.TheVariants.{Tuple as AcceptedTuple, Punct as AcceptedPunct}
 use Rattle.pj_element.specs.Accepted.{closes, closing_line, ClosedBy, IsAccepted, Fate, Taken, Refused, tuple_fate, fate_behind, fates}
 
 -- none of the lines closes the row

@@ -3,15 +3,31 @@ use Rattle.std.proofs.Common.{◌≡◌, ◌≢◌, ℕ, ◌<◌, Bool, true, fa
 use Rattle.std.proofs.lemmas.Bool.{ne_eqb, eqb-false}
 use Rattle.std.proofs.lemmas.Bool.Decides.{nat_tests}
 use Rattle.pj_value.specs.Options.{with_first}
-use Rattle.pj_element.specs.declared.cells.Quote.TheVariants.{Outside, Inside}
-use Rattle.pj_element.specs.Lines.{is_blank}
-use Rattle.pj_element.specs.Cells.{cells_from, cells_of, onto_cell}
+use Rattle.pj_line.specs.declared.quote.Quote.TheVariants.{Outside, Inside}
+use Rattle.pj_line.specs.Lines.{is_blank}
+use Rattle.pj_line.specs.Cells.{cells_from, cells_of, onto_cell}
 use Rattle.pj_element.specs.Reading.{EndsQuoted, end_quote, taken_byte, quoted_byte, StaysQuoted, no_more, takes_none, taken_open, quoted_open, AreParts, no_part, plain_byte, quoted_part, IsCell, AreCells, no_cell, behind_blank, last_cell, first_cell, IsUnclosed, open_part, behind_byte, behind_part}
-use Rattle.pj_element.proofs.Fronts.{folded}
-use Rattle.pj_element.proofs.Cuts.{folded_cell_first, folded_cell_none, cell_begins}
 
 pub number_is : (b n : ℕ) → eqb b n ≡ true → b ≡ n
 number_is b n e = grind (arith, nat_tests)
+
+-- a step for each byte, from the last to the first
+abbrev folded : {R : Type 0} → (ℕ → R → R) → List ℕ → R → R
+folded f [] r = r
+folded f (x ∷ xs) r = f x (folded f xs r)
+
+folded_cell_first : (front : List ℕ) (o : Option (List (List ℕ))) → folded onto_cell front (with_first [] o) ≡ with_first front o
+folded_cell_first [] o = refl
+folded_cell_first (x ∷ xs) None = ap (onto_cell x) (folded_cell_first xs None)
+folded_cell_first (x ∷ xs) (Some cs) = ap (onto_cell x) (folded_cell_first xs (Some cs))
+
+folded_cell_none : (front : List ℕ) → folded onto_cell front None ≡ None
+folded_cell_none [] = refl
+folded_cell_none (x ∷ xs) = ap (onto_cell x) (folded_cell_none xs)
+
+-- a cell begins at a byte that is no blank
+cell_begins : (b : ℕ) (rest : List ℕ) → is_blank b ≡ false → cells_of (b ∷ rest) ≡ cells_from (Some Outside) (b ∷ rest)
+cell_begins b rest e = rw e refl
 
 -- ---- what the grammar says is what is computed
 
@@ -48,7 +64,7 @@ begins_no_blank _ rest some (quoted_part part {bytes} q p) = refl
 cell_is : (cell rest : List ℕ) → IsCell cell → cells_of (cell ++ rest) ≡ folded onto_cell cell (cells_from (Some Outside) rest)
 cell_is cell rest c = begins_no_blank cell rest c.0 c.1 ∙ parts_are cell rest c.1
 
-append_nil : (xs : List ℕ) → xs ++ [] ≡ xs
+pub append_nil : (xs : List ℕ) → xs ++ [] ≡ xs
 append_nil [] = refl
 append_nil (x ∷ xs) = ap (λ (ys : List ℕ). x ∷ ys) (append_nil xs)
 

@@ -22,7 +22,7 @@ digit_test b d = grind (arith, nat_tests, d.0, d.1)
 test_digit : (b : ℕ) → is_digit b ≡ true → IsDigit b
 test_digit b e = (grind (arith, nat_tests), grind (arith, nat_tests))
 
-digit_more : (m b : ℕ) (ds : List ℕ) → is_digit b ≡ true → number_from m (b ∷ ds) ≡ number_from (10 * m + (b - 48)) ds
+pub digit_more : (m b : ℕ) (ds : List ℕ) → is_digit b ≡ true → number_from m (b ∷ ds) ≡ number_from (10 * m + (b - 48)) ds
 digit_more m b ds e = rw e refl
 
 no_digit : (m b : ℕ) (ds : List ℕ) → is_digit b ≡ false → number_from m (b ∷ ds) ≡ None
@@ -48,7 +48,7 @@ nonempty _ _ (more_digits {digits = ds} {n} b s d) = pushed ds b
     pushed [] x = omega arith
     pushed (y ∷ xs) x = omega arith
 
-some_number : (ds : List ℕ) → 0 < length ds → number_of ds ≡ number_from 0 ds
+pub some_number : (ds : List ℕ) → 0 < length ds → number_of ds ≡ number_from 0 ds
 some_number [] some = absurd (omega arith)
 some_number (b ∷ ds) some = refl
 
@@ -209,7 +209,7 @@ data Before : Part → List ℕ → Type 0 where
 abbrev Whole : List ℕ → Type 0
 Whole bytes = (part : Part) (front : List ℕ) → Before part front → (text : List ℕ) → text_from part bytes ≡ Some text → SpellsParts (front ++ bytes) text
 
-first_some : (x : ℕ) (o : Option (List ℕ)) (text : List ℕ) → with_first x o ≡ Some text → (rest : List ℕ) × ((o ≡ Some rest) × (x ∷ rest ≡ text))
+pub first_some : (x : ℕ) (o : Option (List ℕ)) (text : List ℕ) → with_first x o ≡ Some text → (rest : List ℕ) × ((o ≡ Some rest) × (x ∷ rest ≡ text))
 first_some x None text e = absurd (cc)
 first_some x (Some rest) text e = (rest, (refl, cc))
 

@@ -6,11 +6,12 @@ use Rattle.pj_element.specs.declared.element.Read.{Read}
 use Rattle.pj_element.specs.declared.element.Read.TheVariants.{Skip, Tuple, Punct, Bad}
 use Rattle.pj_element.specs.declared.element.Reject.{Reject}
 use Rattle.pj_element.specs.declared.element.Reject.TheVariants.{Closed}
-use Rattle.pj_element.specs.declared.element.Element.{Element}
-use Rattle.pj_element.specs.declared.element.Element.TheVariants.{Tuple as AcceptedTuple, Punct as AcceptedPunct}
+use Rattle.pj_pattern.specs.declared.element.Element.{Element}
+use Rattle.pj_pattern.specs.declared.element.Element.TheVariants.{Tuple as AcceptedTuple, Punct as AcceptedPunct}
 use Rattle.pj_element.specs.declared.tally.Tally.{Tally}
-use Rattle.pj_element.specs.Lines.{pieces}
-use Rattle.pj_element.specs.Elements.{reading_at, matches_row}
+use Rattle.pj_line.specs.Lines.{pieces}
+use Rattle.pj_pattern.specs.Columns.{matches_row}
+use Rattle.pj_element.specs.Elements.{reading_at}
 use Rattle.pj_element.specs.Runs.{rows_of, puncts_of, closing}
 
 -- the line has a punctuation that the row matches

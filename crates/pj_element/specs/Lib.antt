@@ -1,7 +1,8 @@
-pub mod Lines
-pub mod Cells
 pub mod Spelled
+pub mod Forms
+pub mod Splits
 pub mod Elements
 pub mod Runs
 pub mod Accepted
 pub mod Reading
+pub mod Laws

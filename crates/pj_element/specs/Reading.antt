@@ -1,16 +1,20 @@
 -- What lines say, as a grammar: the cells of a line, the values that cells spell, the elements that lines stand for.
-use Rattle.std.specs.Prelude.{◌≢◌, ℕ, ℤ, pos, neg_ℤ, ◌+◌, ◌-◌, ◌*◌, ◌^◌, ◌<◌, ◌≤◌, List, [], ◌∷◌, ◌++◌, length, IsTrue, IsFalse}
+use Rattle.std.specs.Prelude.{◌≡◌, ◌≢◌, ℕ, ℤ, pos, neg_ℤ, ◌+◌, ◌-◌, ◌*◌, ◌^◌, ◌<◌, ◌≤◌, ◌⊎◌, ⊤, true, List, [], ◌∷◌, ◌++◌, length, Option, Some, None, IsTrue, IsFalse}
 use Rattle.pj_value.specs.declared.values.Kind.{Kind}
 use Rattle.pj_value.specs.declared.values.Kind.TheVariants.{Int as IntKind, Text as TextKind}
 use Rattle.pj_value.specs.declared.values.Value.{Value}
 use Rattle.pj_value.specs.declared.values.Value.TheVariants.{Int, Text}
 use Rattle.pj_shape.specs.declared.columns.Column.{Column}
-use Rattle.pj_element.specs.declared.element.Pattern.{Pattern}
-use Rattle.pj_element.specs.declared.element.Pattern.TheVariants.{Wild, Constant}
-use Rattle.pj_element.specs.declared.element.Reject.TheVariants.{NotElement, Closed}
+use Rattle.pj_pattern.specs.declared.pattern.Form.{Form}
+use Rattle.pj_pattern.specs.declared.pattern.Form.TheVariants.{Wild, Constant, Range, Members}
+use Rattle.pj_pattern.specs.Patterns.{Pattern, is_of_kind}
+use Rattle.pj_pattern.specs.Normal.{normal_of}
+use Rattle.pj_element.specs.declared.element.Reject.{Reject}
+use Rattle.pj_element.specs.declared.element.Reject.TheVariants.{TooLong, NotElement, Arity, BadCell, WrongKind, Closed}
 use Rattle.pj_element.specs.declared.element.Read.{Read}
 use Rattle.pj_element.specs.declared.element.Read.TheVariants.{Skip, Tuple, Punct, Bad}
-use Rattle.pj_element.specs.Lines.{is_blank, is_skipped}
+use Rattle.pj_line.specs.Lines.{is_blank, is_skipped}
+use Rattle.pj_element.specs.Elements.{width}
 
 -- ---- cells
 
@@ -92,6 +96,26 @@ pub data SpellsValue : List ℕ → Value → Type 0 where
   spells_int : {cell : List ℕ} {n : ℤ} → SpellsInt cell n → SpellsValue cell (Int n)
   spells_text : {parts text : List ℕ} → SpellsParts parts text → SpellsValue (34 ∷ parts) (Text text)
 
+-- ---- patterns
+
+-- one or more values, parted by vertical bars
+pub data SpellsMembers : List ℕ → List Value → Type 0 where
+  one_member : {cell : List ℕ} {value : Value} → SpellsValue cell value → SpellsMembers cell (value ∷ [])
+  more_members : {cell cells : List ℕ} {value : Value} {values : List Value} → SpellsValue cell value → SpellsMembers cells values → SpellsMembers (cell ++ 124 ∷ cells) (value ∷ values)
+
+-- an end of a range: a value, or nothing
+pub data SpellsEnd : List ℕ → Option Value → Type 0 where
+  no_end : SpellsEnd [] None
+  value_end : {cell : List ℕ} {value : Value} → SpellsValue cell value → SpellsEnd cell (Some value)
+
+-- the pattern, not yet in normal form, that a cell spells: `*`, `{}`, `{v|v|..}`, `[low..high]` or a value
+pub data SpellsForm : List ℕ → Form → Type 0 where
+  spells_star : SpellsForm (42 ∷ []) Wild
+  spells_empty : SpellsForm (123 ∷ 125 ∷ []) (Members [])
+  spells_list : {cells : List ℕ} {values : List Value} → SpellsMembers cells values → SpellsForm (123 ∷ cells ++ 125 ∷ []) (Members values)
+  spells_range : {low high : List ℕ} {from to : Option Value} → SpellsEnd low from → SpellsEnd high to → SpellsForm (91 ∷ low ++ 46 ∷ 46 ∷ high ++ 93 ∷ []) (Range from to)
+  spells_constant : {cell : List ℕ} {value : Value} → SpellsValue cell value → SpellsForm cell (Constant value)
+
 -- ---- elements
 
 -- the kind of a value
@@ -99,44 +123,73 @@ pub data HasKind : Value → Kind → Type 0 where
   int_kind : (n : ℤ) → HasKind (Int n) IntKind
   text_kind : (text : List ℕ) → HasKind (Text text) TextKind
 
+-- each value that stands in the pattern is of the kind
+abbrev pub HasFormKind : Form → Kind → Type 0
+HasFormKind form kind = is_of_kind kind form ≡ true
+
 -- the cell spells a value of the column's kind
 abbrev pub SpellsIn : Column → List ℕ → Value → Type 0
 SpellsIn column cell value = SpellsValue cell value × HasKind value column.kind
 
--- the cell is the wildcard's star, or it spells a constant of the column's kind
-pub data SpellsPattern : Column → List ℕ → Pattern → Type 0 where
-  star : (column : Column) → SpellsPattern column (42 ∷ []) Wild
-  constant : {column : Column} {cell : List ℕ} {value : Value} → SpellsIn column cell value → SpellsPattern column cell (Constant value)
+-- the cell spells a pattern whose values are of the column's kind, and this is its normal form
+abbrev pub SpellsPattern : Column → List ℕ → Pattern → Type 0
+SpellsPattern column cell pattern = (form : Form) × SpellsForm cell form × HasFormKind form column.kind × (pattern ≡ normal_of form)
 
 -- a cell for each column, and what each cell spells
 pub data EachSpells {A : Type 0} (Spells : Column → List ℕ → A → Type 0) : List Column → List (List ℕ) → List A → Type 0 where
   no_column : EachSpells Spells [] [] []
   next_column : {column : Column} {columns : List Column} {cell : List ℕ} {cells : List (List ℕ)} {item : A} {items : List A} → Spells column cell item → EachSpells Spells columns cells items → EachSpells Spells (column ∷ columns) (cell ∷ cells) (item ∷ items)
 
--- the line has this tag as its first cell, at most 128 cells in all, and behind the tag a cell for each column
-abbrev pub IsTagged : {A : Type 0} → (Column → List ℕ → A → Type 0) → ℕ → List Column → List ℕ → List A → Type 0
-IsTagged Spells tag columns line items =
-    (cells : List (List ℕ)) × AreCells line ((tag ∷ []) ∷ cells) × (length cells < 128) × EachSpells Spells columns cells items
+-- from the left, the first column, the first of these having this number, whose cell spells nothing or something of another kind
+pub data IsFirstFault {A : Type 0} (Spells : List ℕ → A → Type 0) (IsOf : A → Kind → Type 0) : ℕ → List Column → List (List ℕ) → Reject → Type 0 where
+  spells_nothing : (n : ℕ) (column : Column) (columns : List Column) (cell : List ℕ) (cells : List (List ℕ)) → ((item : A) → Spells cell item → ⊥) → IsFirstFault Spells IsOf n (column ∷ columns) (cell ∷ cells) (BadCell n)
+  spells_other : (n : ℕ) (column : Column) (columns : List Column) (cell : List ℕ) (cells : List (List ℕ)) (item : A) → Spells cell item → (IsOf item column.kind → ⊥) → IsFirstFault Spells IsOf n (column ∷ columns) (cell ∷ cells) (WrongKind n)
+  behind_column : (n : ℕ) (column : Column) (columns : List Column) (cell : List ℕ) (cells : List (List ℕ)) (item : A) (why : Reject) → Spells cell item → IsOf item column.kind → IsFirstFault Spells IsOf (n + 1) columns cells why → IsFirstFault Spells IsOf n (column ∷ columns) (cell ∷ cells) why
+
+-- the line is not skipped, has at most 128 cells, the first of which is this tag, and these others
+abbrev pub IsTagged : ℕ → List ℕ → List (List ℕ) → Type 0
+IsTagged tag line cells = IsFalse (is_skipped line) × AreCells line ((tag ∷ []) ∷ cells) × (length cells < 128)
 
 -- the tag is `t`, and the cells spell the row's values
 abbrev pub IsTupleLine : List Column → List ℕ → List Value → Type 0
-IsTupleLine columns line row = IsFalse (is_skipped line) × IsTagged SpellsIn 116 columns line row
+IsTupleLine columns line row = (cells : List (List ℕ)) × IsTagged 116 line cells × EachSpells SpellsIn columns cells row
 
 -- the tag is `p`, and the cells spell the punctuation's patterns
 abbrev pub IsPunctLine : List Column → List ℕ → List Pattern → Type 0
-IsPunctLine columns line punct = IsFalse (is_skipped line) × IsTagged SpellsPattern 112 columns line punct
+IsPunctLine columns line punct = (cells : List (List ℕ)) × IsTagged 112 line cells × EachSpells SpellsPattern columns cells punct
 
--- the line is neither skipped nor a tuple nor a punctuation
-abbrev pub IsNoElement : List Column → List ℕ → Type 0
-IsNoElement columns line =
+-- the first cell is neither `t` nor `p`
+abbrev pub IsUntagged : List (List ℕ) → Type 0
+IsUntagged [] = ⊤
+IsUntagged (tag ∷ cells) = (tag ≢ 116 ∷ []) × (tag ≢ 112 ∷ [])
+
+-- the line is not skipped, and it is unclosed, has more than 128 cells, or has neither tag
+abbrev pub IsNoElement : List ℕ → Type 0
+IsNoElement line =
     IsFalse (is_skipped line)
-    × ((row : List Value) → IsTupleLine columns line row → ⊥)
-    × ((punct : List Pattern) → IsPunctLine columns line punct → ⊥)
+    × (IsUnclosed line ⊎ ((cells : List (List ℕ)) × AreCells line cells × ((128 < length cells) ⊎ IsUntagged cells)))
+
+-- the line has a tag, and behind it not as many cells as there are columns
+abbrev pub HasOtherWidth : List Column → List ℕ → ℕ → ℕ → Type 0
+HasOtherWidth columns line want got =
+    (tag : ℕ) × (cells : List (List ℕ)) × ((tag ≡ 116) ⊎ (tag ≡ 112)) × IsTagged tag line cells
+    × (length cells ≢ length columns) × (want ≡ width columns) × (got ≡ length cells)
+
+-- the line has a tag and a cell for each column, and this is its first fault
+abbrev pub HasFault : List Column → List ℕ → Reject → Type 0
+HasFault columns line why =
+    (cells : List (List ℕ)) × (length cells ≡ length columns)
+    × ((IsTagged 116 line cells × IsFirstFault SpellsValue HasKind 1 columns cells why)
+    ⊎ (IsTagged 112 line cells × IsFirstFault SpellsForm HasFormKind 1 columns cells why))
 
 -- what a line says of a stream with these columns
 abbrev pub ReadsAs : List Column → List ℕ → Read → Type 0
 ReadsAs columns line Skip = IsTrue (is_skipped line)
 ReadsAs columns line (Tuple row) = IsTupleLine columns line row
 ReadsAs columns line (Punct punct) = IsPunctLine columns line punct
-ReadsAs columns line (Bad NotElement) = IsNoElement columns line
-ReadsAs columns line (Bad (Closed first)) = ⊥
+ReadsAs columns line (Bad TooLong) = ⊥
+ReadsAs columns line (Bad NotElement) = IsNoElement line
+ReadsAs columns line (Bad (Arity want got)) = HasOtherWidth columns line want got
+ReadsAs columns line (Bad (BadCell n)) = HasFault columns line (BadCell n)
+ReadsAs columns line (Bad (WrongKind n)) = HasFault columns line (WrongKind n)
+ReadsAs columns line (Bad (Closed n)) = ⊥

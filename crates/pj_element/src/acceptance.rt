@@ -2,7 +2,7 @@
 ghost use Rattle.std.specs.Prelude.{◌≡◌, ◌+◌, ◌↔◌, ℕ, List, [], Some, slice_get};
 ghost use Rattle.pj_value.specs.declared.values.Value.{Value};
 ghost use Rattle.pj_shape.specs.declared.columns.Column.{Column};
-ghost use Rattle.pj_element.specs.declared.element.Element.{Element};
+ghost use Rattle.pj_pattern.specs.declared.element.Element.{Element};
 ghost use Rattle.pj_element.specs.declared.element.Read.{Read};
 ghost use Rattle.pj_element.specs.declared.element.Read.TheVariants.{Tuple as ReadTuple};
 ghost use Rattle.pj_element.specs.declared.element.Reject.TheVariants.{Closed};

@@ -1,35 +1,39 @@
 // What stands in the cells of an element line: values of a tuple, or patterns of a punctuation.
-ghost use Rattle.std.specs.Prelude.{◌≡◌, ◌++◌, ◌∷◌, ℕ, List, Option, length, IfOk, OnOk, OnErr};
-ghost use Rattle.std.specs.Option.{option_map};
+ghost use Rattle.std.specs.Prelude.{◌≡◌, ◌≤◌, ◌++◌, ◌∷◌, ℕ, List, length, IfOk, OnOk, OnErr};
 ghost use Rattle.std.specs.List.{flat_map};
 ghost use Rattle.pj_shape.specs.declared.columns.Column.{Column};
 ghost use Rattle.pj_value.specs.Texts.{value_spelling, IsFront};
-ghost use Rattle.pj_element.specs.Cells.{cells_of};
-ghost use Rattle.pj_element.specs.Elements.{columns_in, value_in, pattern_in, pattern_spelling};
+ghost use Rattle.pj_pattern.specs.Patterns.{is_kind};
+ghost use Rattle.pj_line.specs.Cells.{bytes_in};
+ghost use Rattle.pj_element.specs.declared.element.Judged.{Judged};
+ghost use Rattle.pj_element.specs.Elements.{items_from, items_in, pattern_in, pattern_spelling, value_in};
 
-use crate::cells::{Cut, next_cell};
-use crate::element::Pattern;
+use crate::element::{Judged, Reject};
+use crate::forms::read_form;
 use crate::spelled::read_value;
+use crate::written::append_pattern;
+use pj_line::Cell;
+use pj_pattern::Pattern;
 use pj_shape::Column;
-use pj_value::{List, NoMemory, Value, value_text};
+use pj_value::{Kind, List, NoMemory, Value, value_text};
 use std::alloc::Global;
 
-/// What a cell of an element line spells for a column, and how it is spelled.
+/// What a cell of an element line says of a column, and how it is spelled.
 pub trait Item: Drop {
-    /// What a cell of the column spells.
-    ghost item_in: { Column → List ℕ → Option Self };
+    /// What a cell says of the column.
+    ghost item_in: { Column → List ℕ → Judged Self };
 
     /// The canonical spelling.
     ghost spelling: { Self → List ℕ };
 
-    /// The item that the cell spells for the column, if it spells one.
-    fn read_item(alloc: Global, column: &Column, cell: &[u8]) -> Result<Option<Self>, NoMemory>
-        ensures { IfOk result (λ item. item ≡ item_in column.now cell.now) };
+    /// What the cell says of the column: the item that it spells, if its values are of the column's kind.
+    fn read_item(alloc: Global, column: &Column, cell: &[u8]) -> Result<Judged<Self>, NoMemory>
+        ensures { IfOk result (λ judged. judged ≡ item_in column.now cell.now) };
 
-    /// Appends the canonical spelling.
+    /// Appends the canonical spelling. On a refusal some of it may stand.
     fn write_item(&self, alloc: Global, out: &mut List<u8>) -> Result<(), NoMemory>
         ensures ok { OnOk result (out.new ≡ out.old ++ spelling self.now) }
-        ensures err { OnErr result (out.new ≡ out.old) };
+        ensures err { OnErr result (IsFront out.old out.new) };
 }
 
 impl Item for Value {
@@ -37,15 +41,34 @@ impl Item for Value {
 
     ghost spelling = { value_spelling };
 
-    fn read_item(alloc: Global, column: &Column, cell: &[u8]) -> Result<Option<Value>, NoMemory> {
+    fn read_item(alloc: Global, column: &Column, cell: &[u8]) -> Result<Judged<Value>, NoMemory> {
         match read_value(alloc, cell)? {
-            Some(value) if value.kind() == column.kind => Ok(Some(value)),
-            _ => Ok(None),
+            Some(value) => {
+                if has_kind(&value, column.kind) {
+                    Ok(Judged::Fits(value))
+                } else {
+                    Ok(Judged::OtherKind)
+                }
+            }
+            None => Ok(Judged::Unspelled),
         }
     }
 
     fn write_item(&self, alloc: Global, out: &mut List<u8>) -> Result<(), NoMemory> {
-        value_text(alloc, self, out)
+        value_text(alloc, self, out)?;
+        Ok(())
+    }
+}
+
+// Whether the value is of the kind.
+fn has_kind(value: &Value, kind: Kind) -> bool
+    ensures { result ≡ is_kind kind value.now }
+{
+    match (kind, value) {
+        (Kind::Int, Value::Int(_)) => true,
+        (Kind::Int, Value::Text(_)) => false,
+        (Kind::Text, Value::Int(_)) => false,
+        (Kind::Text, Value::Text(_)) => true,
     }
 }
 
@@ -54,50 +77,66 @@ impl Item for Pattern {
 
     ghost spelling = { pattern_spelling };
 
-    fn read_item(alloc: Global, column: &Column, cell: &[u8]) -> Result<Option<Pattern>, NoMemory> {
-        if cell == b"*".as_slice() {
-            return Ok(Some(Pattern::Wild));
-        }
-        match Value::read_item(alloc, column, cell)? {
-            Some(value) => Ok(Some(Pattern::Constant(value))),
-            None => Ok(None),
+    fn read_item(alloc: Global, column: &Column, cell: &[u8]) -> Result<Judged<Pattern>, NoMemory> {
+        match read_form(alloc, cell)? {
+            Some(form) => {
+                if form.fits(column.kind) {
+                    Ok(Judged::Fits(Pattern::of_form(alloc, form)?))
+                } else {
+                    Ok(Judged::OtherKind)
+                }
+            }
+            None => Ok(Judged::Unspelled),
         }
     }
 
     fn write_item(&self, alloc: Global, out: &mut List<u8>) -> Result<(), NoMemory> {
-        match self {
-            Pattern::Wild => out.append(b"*"),
-            Pattern::Constant(value) => value_text(alloc, value, out),
-        }
+        append_pattern(alloc, self, out)?;
+        Ok(())
     }
 }
 
-/// The items that the cells spell, one for each column.
-#[tactic(auto, using(crate::proofs::Columns::items_more, crate::proofs::Columns::items_none, crate::proofs::Columns::items_unclosed, crate::proofs::Columns::items_over))]
+/// The items that the cells spell, one for each column, or the first reject that holds: `Arity` where there are not as many
+/// cells as columns, and from the left the first column whose cell spells nothing or something of another kind, counted from 1.
+#[tactic(auto, using(crate::proofs::Lines::other_width, crate::proofs::Lines::fitting_width))]
 pub fn read_items<T: Item>(
     alloc: Global,
     columns: &[Column],
-    cells: &[u8],
-) -> Result<Option<List<T>>, NoMemory>
-    ensures { IfOk result (λ items. items ≡ columns_in T.item_in columns.now (cells_of cells.now)) }
+    cells: &[Cell<'_>],
+) -> Result<Result<List<T>, Reject>, NoMemory>
+    requires { length cells.now ≤ 128 }
+    ensures { IfOk result (λ items. items ≡ items_in T.item_in columns.now (bytes_in cells.now)) }
+{
+    if cells.len() != columns.len() {
+        return Ok(Err(Reject::Arity {
+            want: columns.len().min(u32::MAX as usize) as u32,
+            got: cells.len() as u32,
+        }));
+    }
+    Ok(read_each(alloc, columns, cells)?)
+}
+
+// The items of the columns, or the fault of the first column whose cell does not fit.
+#[tactic(auto, using(crate::proofs::Columns::items_start, crate::proofs::Columns::items_more, crate::proofs::Columns::items_unspelled, crate::proofs::Columns::items_other, crate::proofs::Columns::items_end))]
+fn read_each<T: Item>(
+    alloc: Global,
+    columns: &[Column],
+    cells: &[Cell<'_>],
+) -> Result<Result<List<T>, Reject>, NoMemory>
+    requires many { length columns.now ≤ 128 }
+    requires same { length cells.now ≡ length columns.now }
+    ensures { IfOk result (λ items. items ≡ items_from T.item_in 1 columns.now (bytes_in cells.now)) }
 {
     let mut items = List::new(alloc);
-    let mut rest = cells;
-    for column in columns {
-        let Cut::Cell(cell, behind) = next_cell(rest) else {
-            return Ok(None);
-        };
-        match T::read_item(alloc, column, cell)? {
-            Some(item) => items.push(item)?,
-            None => return Ok(None),
+    for at in 0..columns.len() {
+        let column = at as u32 + 1;
+        match T::read_item(alloc, &columns[at], cells[at].bytes)? {
+            Judged::Fits(item) => items.push(item)?,
+            Judged::OtherKind => return Ok(Err(Reject::WrongKind { column })),
+            Judged::Unspelled => return Ok(Err(Reject::BadCell { column })),
         }
-        rest = behind;
     }
-    match next_cell(rest) {
-        Cut::End => Ok(Some(items)),
-        Cut::Unclosed => Ok(None),
-        Cut::Cell(_, _) => Ok(None),
-    }
+    Ok(Ok(items))
 }
 
 /// Appends the items, each behind a space. On a refusal some of it may stand.
@@ -110,23 +149,4 @@ pub fn append_items<T: Item>(alloc: Global, items: &[T], out: &mut List<u8>) -> 
         item.write_item(alloc, out)?;
     }
     Ok(())
-}
-
-/// How many cells a line has, if it is closed.
-#[tactic(auto, using(crate::proofs::Columns::count_none, crate::proofs::Columns::count_more))]
-pub fn count_cells(line: &[u8]) -> Option<usize>
-    ensures { result ≡ option_map length (cells_of line.now) }
-{
-    let mut count = 0;
-    let mut rest = line;
-    loop {
-        match next_cell(rest) {
-            Cut::End => return Some(count),
-            Cut::Unclosed => return None,
-            Cut::Cell(_, behind) => {
-                count += 1;
-                rest = behind;
-            }
-        }
-    }
 }

@@ -1,25 +1,20 @@
-// Laws of the lines, the cells and the spellings.
-ghost use Rattle.std.specs.Prelude.{◌≡◌, ◌<◌, ◌↔◌, List, ℕ, Option, Some, None, ◌∷◌, ◌++◌, []};
-ghost use Rattle.std.specs.List.{AllByRecursion, flat_map};
-ghost use Rattle.pj_value.specs.Texts.{spelled_byte};
+// Laws of the cells, the spellings and the canonical lines, as contracts of functions that do nothing.
+ghost use Rattle.std.specs.Prelude.{List, ℕ};
 ghost use Rattle.pj_value.specs.declared.values.Value.{Value};
-ghost use Rattle.pj_shape.specs.declared.columns.Column.{Column};
-ghost use Rattle.pj_element.specs.declared.element.Pattern.{Pattern};
-ghost use Rattle.pj_element.specs.declared.element.Read.{Read};
-ghost use Rattle.pj_element.specs.Lines.{HasNo};
-ghost use Rattle.pj_element.specs.Cells.{cells_of};
-ghost use Rattle.pj_element.specs.Spelled.{text_of, value_of};
-ghost use Rattle.pj_element.specs.Elements.{reading_of, row_line, punct_line};
-ghost use Rattle.pj_element.specs.Reading.{AreCells, IsUnclosed, SpellsValue, ReadsAs};
+ghost use Rattle.pj_pattern.specs.Patterns.{Pattern};
+ghost use Rattle.pj_line.specs.Lines.{HasNo};
+ghost use Rattle.pj_element.specs.Elements.{row_line, punct_line};
+ghost use Rattle.pj_element.specs.Laws.{CellsAreExact, UnclosedIsExact, ValuesAreExact, FormsAreExact, LinesAreExact, RowsAreReadAgain, PunctsAreReadAgain};
 
-/// The grammar and what is computed agree on every line, in both directions: on the cells of a line,
-/// on the lines that are unclosed, on the values that cells spell, and on what a line says of a stream.
-/// So each line has one reading and only one.
+/// The grammar and what is computed agree on every line, in both directions: on the cells of a line, on the lines that are
+/// unclosed, on the values and patterns that cells spell, and on what a line says of a stream. So each line has one reading
+/// and only one.
 pub fn reading_is_exact()
-    ensures cells { (line : List ℕ) (cells : List (List ℕ)) → AreCells line cells ↔ (cells_of line ≡ Some cells) }
-    ensures unclosed { (line : List ℕ) → IsUnclosed line ↔ (cells_of line ≡ None) }
-    ensures values { (cell : List ℕ) (value : Value) → SpellsValue cell value ↔ (value_of cell ≡ Some value) }
-    ensures lines { (columns : List Column) (line : List ℕ) (read : Read) → ReadsAs columns line read ↔ (read ≡ reading_of columns line) }
+    ensures cells { CellsAreExact }
+    ensures unclosed { UnclosedIsExact }
+    ensures values { ValuesAreExact }
+    ensures forms { FormsAreExact }
+    ensures lines { LinesAreExact }
 {}
 
 /// No byte of a canonical line is a line feed.
@@ -28,7 +23,8 @@ pub fn lines_hold_no_feed()
     ensures puncts { (punct : List Pattern) → HasNo 10 (punct_line punct) }
 {}
 
-/// A text that is spelled is read again.
-pub fn text_again()
-    ensures { (bytes : List ℕ) → AllByRecursion (λ b. b < 256) bytes → text_of (34 ∷ flat_map spelled_byte bytes ++ 34 ∷ []) ≡ Some bytes }
+/// A canonical line is read again as what was printed.
+pub fn lines_are_read_again()
+    ensures rows { RowsAreReadAgain }
+    ensures puncts { PunctsAreReadAgain }
 {}

@@ -1,23 +1,24 @@
-//! Lines, cells, and the elements that lines spell.
+//! The elements that lines spell, their canonical lines, and which lines are accepted.
 #![tactic(auto)]
 
 mod acceptance;
-mod cells;
 mod element;
+mod forms;
 mod items;
 mod laws;
-mod lines;
+mod places;
 mod reading;
 mod spelled;
+mod storable;
 mod tally;
 #[cfg(test)]
 mod tests;
+mod written;
 
 pub use acceptance::{acceptance_goes_by_position, accepted_elements_are_lawful};
-pub use cells::{Cut, next_cell};
-pub use element::{Element, Pattern, Punct, Read, Reject};
-pub use laws::{lines_hold_no_feed, reading_is_exact, text_again};
-pub use lines::{first_piece, is_skipped, line_of_piece};
+pub use element::{Read, Reject};
+pub use forms::{Spelled, read_pattern};
+pub use laws::{lines_are_read_again, lines_hold_no_feed, reading_is_exact};
 pub use reading::{punct_text, read_element, row_text};
 pub use spelled::read_value;
 pub use tally::Tally;

@@ -1,74 +1,91 @@
 // From a line to an element, and back.
-ghost use Rattle.std.specs.Prelude.{◌≡◌, ◌++◌, IfOk, OnOk, OnErr};
-ghost use Rattle.pj_element.specs.Elements.{reading_of, tagged_in, row_line, punct_line};
-ghost use Rattle.pj_element.specs.Cells.{cells_of};
+ghost use Rattle.std.specs.Prelude.{◌≡◌, ◌≤◌, ◌<◌, ◌^◌, ◌++◌, length, IfOk, OnOk, OnErr};
+ghost use Rattle.pj_line.specs.Cells.{bytes_in};
+ghost use Rattle.pj_element.specs.Elements.{reading_of, tagged, read_row as row_read, read_punct as punct_read, items_in, value_in, pattern_in, row_line, punct_line};
+ghost use Rattle.pj_element.specs.Laws.{RowIsReadAgain, PunctIsReadAgain};
 
-use crate::cells::{Cut, next_cell};
-use crate::element::{Punct, Read, Reject};
-use crate::items::{append_items, count_cells, read_items};
-use crate::lines::is_skipped;
-use pj_shape::Schema;
+use crate::element::{Read, Reject};
+use crate::items::{append_items, read_items};
+use crate::storable::{see_patterns, see_values};
+use pj_line::{Cell, cells, is_skipped};
+use pj_pattern::Punct;
+use pj_shape::{Column, Schema};
 use pj_value::{List, NoMemory, Row};
 use std::alloc::Global;
 
-// The most cells of an element line, the tag among them.
-const MOST_CELLS: usize = 128;
-
-/// What the line says of a stream with these columns: it is skipped; it is a tuple or a punctuation, with
-/// a cell for each column and at most 128 cells in all; or it is `Bad(NotElement)`, which stands for every
-/// other line, an unclosed one too. It is never `Bad(Closed)`, which is no matter of one line.
+/// What the line says of a stream with these columns: it is skipped; it is a tuple or a punctuation; or it is the first reject
+/// that holds: `NotElement` for a line that is unclosed, has more than 128 cells or has neither tag, `Arity` where there is not
+/// a cell for each column, and from the left the first column whose cell spells nothing (`BadCell`) or something of another
+/// kind (`WrongKind`). It never answers `TooLong` or `Closed`, which are no matter of one line alone. The line has fewer than 2^32 bytes.
+///
 /// The law `reading_is_exact` has the grammar. `NoMemory` comes only where memory could not be had.
-#[tactic(auto, using(crate::proofs::Tagged::judged_few, crate::proofs::Tagged::judged_many, crate::proofs::Tagged::judged_none))]
+#[tactic(auto, using(crate::proofs::Lines::cut_line, crate::proofs::Lines::uncut_line))]
 pub fn read_element(alloc: Global, schema: &Schema, line: &[u8]) -> Result<Read, NoMemory>
+    requires { length line.now < 2 ^ 32 }
     ensures { IfOk result (λ read. read ≡ reading_of schema.now line.now) }
 {
     if is_skipped(line) {
         return Ok(Read::Skip);
     }
-    match count_cells(line) {
-        Some(count) => {
-            if count > MOST_CELLS {
-                return Ok(Read::Bad(Reject::NotElement));
-            }
-            Ok(read_tagged(alloc, schema, line)?)
-        }
-        None => Ok(Read::Bad(Reject::NotElement)),
+    match cells(line) {
+        Ok(cells) => Ok(read_tagged(alloc, schema.columns(), cells.as_slice())?),
+        Err(_) => Ok(Read::Bad(Reject::NotElement)),
     }
 }
 
-// What the line's first cell and those behind it say.
-#[tactic(auto, using(crate::proofs::Tagged::tuple_read, crate::proofs::Tagged::tuple_bad, crate::proofs::Tagged::punct_read, crate::proofs::Tagged::punct_bad, crate::proofs::Tagged::other_read))]
-fn read_tagged(alloc: Global, schema: &Schema, line: &[u8]) -> Result<Read, NoMemory>
-    ensures { IfOk result (λ read. read ≡ tagged_in schema.now (cells_of line.now)) }
+// What these cells of a line say.
+#[tactic(auto, using(crate::proofs::Lines::tuple_tag, crate::proofs::Lines::punct_tag, crate::proofs::Lines::other_tag))]
+fn read_tagged(alloc: Global, columns: &[Column], cells: &[Cell<'_>]) -> Result<Read, NoMemory>
+    requires { length cells.now ≤ 128 }
+    ensures { IfOk result (λ read. read ≡ tagged columns.now (bytes_in cells.now)) }
 {
-    match next_cell(line) {
-        Cut::Cell(tag, cells) => {
-            if tag == b"t".as_slice() {
-                return match read_items(alloc, schema.columns(), cells)? {
-                    Some(values) => Ok(Read::Tuple(Row::of(values))),
-                    None => Ok(Read::Bad(Reject::NotElement)),
-                };
+    match cells {
+        [] => Ok(Read::Bad(Reject::NotElement)),
+        [tag, others @ ..] => {
+            if tag.bytes == b"t".as_slice() {
+                return Ok(read_tuple(alloc, columns, others)?);
             }
-            if tag == b"p".as_slice() {
-                return match read_items(alloc, schema.columns(), cells)? {
-                    Some(patterns) => Ok(Read::Punct(Punct::of(patterns))),
-                    None => Ok(Read::Bad(Reject::NotElement)),
-                };
+            if tag.bytes == b"p".as_slice() {
+                return Ok(read_punct(alloc, columns, others)?);
             }
             Ok(Read::Bad(Reject::NotElement))
         }
-        _ => Ok(Read::Bad(Reject::NotElement)),
+    }
+}
+
+// What the cells behind a `t` say.
+fn read_tuple(alloc: Global, columns: &[Column], cells: &[Cell<'_>]) -> Result<Read, NoMemory>
+    requires { length cells.now ≤ 128 }
+    ensures { IfOk result (λ read. read ≡ row_read (items_in value_in columns.now (bytes_in cells.now))) }
+{
+    match read_items(alloc, columns, cells)? {
+        Ok(values) => Ok(Read::Tuple(Row::of(values))),
+        Err(why) => Ok(Read::Bad(why)),
+    }
+}
+
+// What the cells behind a `p` say.
+fn read_punct(alloc: Global, columns: &[Column], cells: &[Cell<'_>]) -> Result<Read, NoMemory>
+    requires { length cells.now ≤ 128 }
+    ensures { IfOk result (λ read. read ≡ punct_read (items_in pattern_in columns.now (bytes_in cells.now))) }
+{
+    match read_items(alloc, columns, cells)? {
+        Ok(patterns) => Ok(Read::Punct(Punct::of(patterns))),
+        Err(why) => Ok(Read::Bad(why)),
     }
 }
 
 /// Appends the row's canonical line, without a line feed: `t`, and behind one space each the canonical
-/// spellings of its values. On `NoMemory` the bytes are as they were.
+/// spellings of its values. A row that fits at most 120 columns is read again as itself. On `NoMemory` the bytes are as they were.
+#[tactic(auto, using(crate::proofs::LinesAgain::row_again))]
 pub fn row_text(alloc: Global, row: &Row, out: &mut List<u8>) -> Result<(), NoMemory>
     ensures ok { OnOk result (out.new ≡ out.old ++ row_line row.now) }
+    ensures again { OnOk result (RowIsReadAgain row.now) }
     ensures err { OnErr result (out.new ≡ out.old) }
 {
     let start = out.len();
     out.push(b't')?;
+    see_values(row.as_slice());
     match append_items(alloc, row.as_slice(), out) {
         Ok(()) => Ok(()),
         Err(stop) => {
@@ -78,14 +95,18 @@ pub fn row_text(alloc: Global, row: &Row, out: &mut List<u8>) -> Result<(), NoMe
     }
 }
 
-/// Appends the punctuation's canonical line, without a line feed: `p`, and behind one space each `*` for a
-/// wildcard and the canonical spelling of a constant. On `NoMemory` the bytes are as they were.
+/// Appends the punctuation's canonical line, without a line feed: `p`, and behind one space each the canonical
+/// spellings of its patterns. A punctuation that fits at most 120 columns is read again as itself. On `NoMemory` the bytes are
+/// as they were.
+#[tactic(auto, using(crate::proofs::LinesAgain::punct_again))]
 pub fn punct_text(alloc: Global, punct: &Punct, out: &mut List<u8>) -> Result<(), NoMemory>
     ensures ok { OnOk result (out.new ≡ out.old ++ punct_line punct.now) }
+    ensures again { OnOk result (PunctIsReadAgain punct.now) }
     ensures err { OnErr result (out.new ≡ out.old) }
 {
     let start = out.len();
     out.push(b'p')?;
+    see_patterns(punct.as_slice());
     match append_items(alloc, punct.as_slice(), out) {
         Ok(()) => Ok(()),
         Err(stop) => {

@@ -1,14 +1,14 @@
 // What no clause says: that the calls succeed with ample memory, and that the definitions mean the format.
-ghost use Rattle.std.specs.Prelude.{◌≡◌, [], ◌∷◌, negsuc, codes};
+ghost use Rattle.std.specs.Prelude.{◌≡◌, [], ◌∷◌, None, Some, pos, negsuc, codes};
 ghost use Rattle.pj_value.specs.declared.values.Value.TheVariants.{Int as IntValue, Text as TextValue};
-ghost use Rattle.pj_element.specs.declared.element.Read.TheVariants.{Tuple as TupleRead, Punct as PunctRead};
-ghost use Rattle.pj_element.specs.Lines.{lines_of};
-ghost use Rattle.pj_element.specs.Cells.{cells_of};
+ghost use Rattle.pj_pattern.specs.declared.pattern.Form.TheVariants.{Constant, Empty, Members, Range, Wild};
+ghost use Rattle.pj_element.specs.declared.element.Read.TheVariants.{Tuple as TupleRead, Punct as PunctRead, Bad as BadRead};
+ghost use Rattle.pj_element.specs.declared.element.Reject.TheVariants.{Arity, BadCell, NotElement, WrongKind};
 ghost use Rattle.pj_element.specs.Elements.{reading_of};
 
 use super::*;
 use pj_shape::{Column, Schema};
-use pj_value::{Kind, List, NoMemory, Row, Value};
+use pj_value::{Kind, List, NoMemory, Value};
 use std::alloc::Global;
 use std::test::Fail;
 
@@ -21,126 +21,149 @@ fn columns_of(alloc: Global, kind: Kind, count: u32) -> Result<List<Column>, NoM
     Ok(columns)
 }
 
-// The canonical line of what is read, or a word where that is no element.
+// An int column and a text column.
+fn pair_of(alloc: Global) -> Result<Schema, NoMemory> {
+    let mut columns = columns_of(alloc, Kind::Int, 1)?;
+    columns.push(Column {
+        name: List::copy_of(alloc, b"d")?,
+        kind: Kind::Text,
+    })?;
+    Ok(Schema::of(columns))
+}
+
+// What is read of a line that is not too long.
+fn read_short(alloc: Global, schema: &Schema, line: &[u8]) -> Result<Read, NoMemory> {
+    if line.len() > 65536 {
+        return Ok(Read::Bad(Reject::TooLong));
+    }
+    Ok(read_element(alloc, schema, line)?)
+}
+
+// A number below 10.
+fn digit(number: u32) -> u8 {
+    b'0' + (number % 10) as u8
+}
+
+// The canonical line of what is read, or the words of the reject.
 fn shown(alloc: Global, schema: &Schema, line: &[u8]) -> Result<List<u8>, NoMemory> {
     let mut out = List::new(alloc);
-    match read_element(alloc, schema, line)? {
+    match read_short(alloc, schema, line)? {
         Read::Skip => out.append(b"skip")?,
         Read::Tuple(row) => row_text(alloc, &row, &mut out)?,
         Read::Punct(punct) => punct_text(alloc, &punct, &mut out)?,
-        Read::Bad(_) => out.append(b"bad")?,
+        Read::Bad(why) => append_words(why, &mut out)?,
     }
     Ok(out)
 }
 
-// Whether each line of the table is read as the line behind it says.
-fn reads_table(alloc: Global, schema: &Schema, table: &[u8]) -> Result<bool, NoMemory> {
-    let mut rest = table;
-    'rows: while !rest.is_empty() {
-        let (line, behind) = first_piece(rest);
-        if behind.is_empty() {
-            return Ok(false);
+fn append_words(why: Reject, out: &mut List<u8>) -> Result<(), NoMemory> {
+    match why {
+        Reject::TooLong => out.append(b"too long"),
+        Reject::NotElement => out.append(b"no element"),
+        Reject::Arity { want, got } => out.append(&[b'w', digit(want), b'g', digit(got)]),
+        Reject::BadCell { column } => out.append(&[b'b', digit(column)]),
+        Reject::WrongKind { column } => out.append(&[b'k', digit(column)]),
+        Reject::Closed { line: _ } => out.append(b"closed"),
+    }
+}
+
+// Whether each line of the table is read as what stands behind its arrow says.
+fn are_read(alloc: Global, schema: &Schema, table: &str) -> Result<bool, NoMemory> {
+    for row in table.split('\n') {
+        match row.split_once(" => ") {
+            Some((line, want)) => {
+                let out = shown(alloc, schema, line.as_bytes())?;
+                if out.as_slice() != want.as_bytes() {
+                    return Ok(false);
+                }
+            }
+            None => return Ok(false),
         }
-        let (want, more) = first_piece(behind);
-        let out = shown(alloc, schema, line)?;
-        if out.as_slice() != want {
-            return Ok(false);
-        }
-        rest = more;
     }
     Ok(true)
 }
 
-// Lines of a stream with one int column, each with what is read of it.
-fn int_lines() -> &'static str {
+// Tuples of a stream with one int column, each with what is read of it.
+fn int_tuples() -> &'static str {
     concat!(
-        "\nskip\n",
-        " \t \nskip\n",
-        "# t 1\nskip\n",
-        "\t#t 1\nskip\n",
-        "#\"\nskip\n",
-        "t 1\nt 1\n",
-        " \tt\t 1 \t\nt 1\n",
-        "t 1 #\nbad\n",
-        "t\nbad\n",
-        "t 1 2\nbad\n",
-        "t1\nbad\n",
-        "tt 1\nbad\n",
-        "T 1\nbad\n",
-        "1\nbad\n",
-        "\r\nbad\n",
-        "t 1\r\nbad\n",
-        "t\r 1\nbad\n",
-        "t -7\nt -7\n",
-        "t 007\nt 7\n",
-        "t -0\nt 0\n",
-        "t -\nbad\n",
-        "t --1\nbad\n",
-        "t +1\nbad\n",
-        "t 1-\nbad\n",
-        "t 0x1\nbad\n",
-        "t 9223372036854775807\nt 9223372036854775807\n",
-        "t 9223372036854775808\nbad\n",
-        "t -9223372036854775808\nt -9223372036854775808\n",
-        "t -9223372036854775809\nbad\n",
-        "t 000000000000000000000000000000000001\nt 1\n",
-        "t *\nbad\n",
-        "t \"1\"\nbad\n",
-        "p *\np *\n",
-        "p 1\np 1\n",
-        "p -01\np -1\n",
-        "p **\nbad\n",
-        "p \"1\"\nbad\n",
-        "p* 1\nbad\n",
-        "p\nbad\n",
+        " => skip\n",
+        " \t  => skip\n",
+        "\t#t 1 => skip\n",
+        " \tt\t 1 \t => t 1\n",
+        "t -7 => t -7\n",
+        "t 007 => t 7\n",
+        "t -0 => t 0\n",
+        "t 9223372036854775807 => t 9223372036854775807\n",
+        "t -9223372036854775808 => t -9223372036854775808\n",
+        "t 000000000000000000000000000000000001 => t 1\n",
+        "t\r 1 => no element\n",
+        "T 1 => no element\n",
+        "t \"1 => no element\n",
+        "t => w1g0\n",
+        "t - => b1\n",
+        "t +1 => b1\n",
+        "t 9223372036854775808 => b1\n",
+        "t -9223372036854775809 => b1\n",
+        "t * => b1\n",
+        "t \"1\" => k1",
     )
 }
 
-// The same of one text column.
+// Punctuations of the same stream.
+fn int_puncts() -> &'static str {
+    concat!(
+        "p -01 => p -1\n",
+        "p * => p *\n",
+        "p {} => p {}\n",
+        "p {7} => p 7\n",
+        "p {2|1|2} => p {1|2}\n",
+        "p [5..5] => p 5\n",
+        "p [5..3] => p {}\n",
+        "p [01..09] => p [1..9]\n",
+        "p [..] => p *\n",
+        "p [-9223372036854775808..] => p *\n",
+        "p [9223372036854775807..] => p 9223372036854775807\n",
+        "p [-9223372036854775808..9] => p [..9]\n",
+        "p 1 # => w1g2\n",
+        "p {1|} => b1\n",
+        "p [1..2..3] => b1\n",
+        "p [1.2] => b1\n",
+        "p [\"\"..] => k1\n",
+        "p {1|\"a|b\"} => k1",
+    )
+}
+
+// Lines of a stream with one text column.
 fn text_lines() -> &'static str {
     concat!(
-        "t \"\"\nt \"\"\n",
-        "t \"a b\"\nt \"a b\"\n",
-        "t \" # \"\nt \" # \"\n",
-        "t \"a\tb\"\nt \"a\\tb\"\n",
-        "t \"a\rb\"\nt \"a\\rb\"\n",
-        "t \"\\\"\\\\\\n\\r\\t\"\nt \"\\\"\\\\\\n\\r\\t\"\n",
-        "t \"\\x41\\x4a\\x4A\"\nt \"AJJ\"\n",
-        "t \"\\x00\\x1F\\x7f\\x0a\"\nt \"\\x00\\x1f\\x7f\\n\"\n",
-        "t \"\u{e9}\\xC3\\xa9\"\nt \"\u{e9}\u{e9}\"\n",
-        "t \"\\x4\"\nbad\n",
-        "t \"\\x\"\nbad\n",
-        "t \"\\x4g\"\nbad\n",
-        "t \"\\X41\"\nbad\n",
-        "t \"\\q\"\nbad\n",
-        "t \"a\\ b\"\nbad\n",
-        "t \"a\nbad\n",
-        "t \"a\\\"\nbad\n",
-        "t \"\nbad\n",
-        "t \"a\"b\nbad\n",
-        "t b\"a\"\nbad\n",
-        "t \"a\"\"b\"\nbad\n",
-        "t\"a\"\nbad\n",
-        "t a\nbad\n",
-        "t 'a'\nbad\n",
-        "t 1\nbad\n",
-        "p \"*\"\np \"*\"\n",
-        "p *\np *\n",
+        "t \" # \" => t \" # \"\n",
+        "t \"a\tb\" => t \"a\\tb\"\n",
+        "t \"\\\"\\\\\\n\\r\\t\" => t \"\\\"\\\\\\n\\r\\t\"\n",
+        "t \"\\x41\\x4a\\x4A\" => t \"AJJ\"\n",
+        "t \"\\x00\\x1F\\x7f\\x0a\" => t \"\\x00\\x1f\\x7f\\n\"\n",
+        "p [\"\"..] => p *\n",
+        "p [..\"\"] => p \"\"\n",
+        "p {\"b|\"|\"a..\"} => p {\"a..\"|\"b|\"}\n",
+        "p [\"a..\"..\"b]\"] => p [\"a..\"..\"b]\"]\n",
+        "t \"\\x4\" => b1\n",
+        "t \"\\X41\" => b1\n",
+        "t \"a\"b => b1\n",
+        "t b\"a\" => b1\n",
+        "t 'a' => b1\n",
+        "t\"a\" => no element\n",
+        "t \"a\\\" => no element\n",
+        "p [5..3] => k1",
     )
 }
 
-// The same of an int column and a text column.
+// Lines of a stream with an int column and a text column.
 fn pair_lines() -> &'static str {
     concat!(
-        "t 1 \"x\"\nt 1 \"x\"\n",
-        "t  1\t\"x\"\nt 1 \"x\"\n",
-        "t \"x\" 1\nbad\n",
-        "t 1\"x\"\nbad\n",
-        "t 1\nbad\n",
-        "p * \"x\"\np * \"x\"\n",
-        "p 1 *\np 1 *\n",
-        "p * *\np * *\n",
-        "p \"x\" *\nbad\n",
+        "t  1\t\"x\" => t 1 \"x\"\n",
+        "p {} * => p {} *\n",
+        "t 1 1 => k2\n",
+        "t \"x\" x => k1\n",
+        "p * x => b2",
     )
 }
 
@@ -148,25 +171,12 @@ fn pair_lines() -> &'static str {
 fn odd_lines(rt: HostRuntime) -> Result<(), Fail> {
     let alloc = rt.alloc();
     let ints = Schema::of(columns_of(alloc, Kind::Int, 1)?);
-    assert!(rt; reads_table(alloc, &ints, int_lines().as_bytes())?);
+    assert!(rt; are_read(alloc, &ints, int_tuples())?);
+    assert!(rt; are_read(alloc, &ints, int_puncts())?);
     let texts = Schema::of(columns_of(alloc, Kind::Text, 1)?);
-    assert!(rt; reads_table(alloc, &texts, text_lines().as_bytes())?);
-    Ok(())
-}
-
-#[test]
-fn lines_of_two_columns(rt: HostRuntime) -> Result<(), Fail> {
-    let alloc = rt.alloc();
-    let mut columns = columns_of(alloc, Kind::Int, 1)?;
-    let name = List::new(alloc);
-    columns.push(Column {
-        name,
-        kind: Kind::Text,
-    })?;
-    let pairs = Schema::of(columns).copy(alloc)?;
-    assert_eq!(rt; pairs.len(), 2);
-    assert!(rt; pairs.at(1).kind == Kind::Text);
-    assert!(rt; reads_table(alloc, &pairs, pair_lines().as_bytes())?);
+    assert!(rt; are_read(alloc, &texts, text_lines())?);
+    let pairs = pair_of(alloc)?;
+    assert!(rt; are_read(alloc, &pairs, pair_lines())?);
     Ok(())
 }
 
@@ -189,49 +199,31 @@ fn at_most_128_cells(rt: HostRuntime) -> Result<(), Fail> {
 }
 
 #[test]
-fn canonical_row(rt: HostRuntime) -> Result<(), Fail> {
+fn values_and_patterns(rt: HostRuntime) -> Result<(), Fail> {
     let alloc = rt.alloc();
-    let mut values = List::new(alloc);
-    values.push(Value::Int(-5))?;
-    values.push(Value::Text(List::copy_of(alloc, b"a\"\x01\xff")?))?;
-    let row = Row::of(values);
-    let mut out = List::copy_of(alloc, b"> ")?;
-    row_text(alloc, &row, &mut out)?;
-    assert!(rt; out.as_slice() == b"> t -5 \"a\\\"\\x01\xff\"".as_slice());
-    let wild = Punct::all_wild(alloc, 2)?;
-    assert!(rt; wild.matches(&row));
-    Ok(())
-}
-
-#[test]
-fn canonical_punctuation(rt: HostRuntime) -> Result<(), Fail> {
-    let alloc = rt.alloc();
-    let mut patterns = List::new(alloc);
-    patterns.push(Pattern::Wild.copy(alloc)?)?;
-    patterns.push(Pattern::Constant(Value::Text(List::copy_of(alloc, b"\n")?)))?;
-    let punct = Punct::of(patterns).copy(alloc)?;
-    let mut out = List::copy_of(alloc, b"> ")?;
-    punct_text(alloc, &punct, &mut out)?;
-    assert!(rt; out.as_slice() == b"> p * \"\\n\"".as_slice());
-    Ok(())
-}
-
-#[test]
-fn values_and_pieces(rt: HostRuntime) -> Result<(), Fail> {
-    let value = read_value(rt.alloc(), b"-3")?;
+    let value = read_value(alloc, b"-3")?;
     assert!(rt; matches!(value, Some(Value::Int(-3))));
-    let (piece, rest) = first_piece(b"a\r\r\n\nb");
-    assert!(rt; line_of_piece(piece) == b"a\r".as_slice());
-    assert!(rt; rest == b"\nb".as_slice());
+    let good = read_pattern(alloc, b"{4}")?;
+    let four = Value::Int(4);
+    assert!(rt; matches!(&good, Spelled::Good(pattern) if pattern.matches(&four)));
+    let mixed = read_pattern(alloc, b"[1..\"a\"]")?;
+    assert!(rt; matches!(mixed, Spelled::Mixed));
+    let none = read_pattern(alloc, b"{1")?;
+    assert!(rt; matches!(none, Spelled::Not));
     Ok(())
 }
 
 // The definitions, computed on a few lines.
 fn worked_lines()
-    ensures lines { lines_of (codes "a\n\nb") ≡ codes "a" ∷ [] ∷ codes "b" ∷ [] }
-    ensures cells { cells_of (codes " t 1") ≡ Some (codes "t" ∷ codes "1" ∷ []) }
     ensures tuple { reading_of (record { name = []; kind = Kind.Int } ∷ []) (codes "t -07") ≡ TupleRead (IntValue (negsuc 6) ∷ []) }
-    ensures punct { reading_of (record { name = []; kind = Kind.Text } ∷ []) (codes "p *") ≡ PunctRead (Pattern.Wild ∷ []) }
     ensures text { reading_of (record { name = []; kind = Kind.Text } ∷ []) (116 ∷ 32 ∷ 34 ∷ 92 ∷ 120 ∷ 52 ∷ 65 ∷ 34 ∷ []) ≡ TupleRead (TextValue (74 ∷ []) ∷ []) }
     ensures comment { reading_of [] (codes " #") ≡ Read.Skip }
+    ensures wild { reading_of (record { name = []; kind = Kind.Text } ∷ []) (codes "p *") ≡ PunctRead (Wild ∷ []) }
+    ensures list { reading_of (record { name = []; kind = Kind.Int } ∷ []) (codes "p {2|1|2}") ≡ PunctRead (Members (IntValue (pos 1) ∷ IntValue (pos 2) ∷ []) ∷ []) }
+    ensures range { reading_of (record { name = []; kind = Kind.Int } ∷ []) (codes "p [..9]") ≡ PunctRead (Range None (Some (IntValue (pos 9))) ∷ []) }
+    ensures empty { reading_of (record { name = []; kind = Kind.Int } ∷ []) (codes "p [5..3]") ≡ PunctRead (Empty ∷ []) }
+    ensures arity { reading_of (record { name = []; kind = Kind.Int } ∷ []) (codes "t 1 2") ≡ BadRead (Arity 1 2) }
+    ensures cell { reading_of (record { name = []; kind = Kind.Int } ∷ []) (codes "t x") ≡ BadRead (BadCell 1) }
+    ensures kind { reading_of (record { name = []; kind = Kind.Text } ∷ []) (codes "p [5..3]") ≡ BadRead (WrongKind 1) }
+    ensures tag { reading_of [] (codes "x") ≡ BadRead NotElement }
 {}

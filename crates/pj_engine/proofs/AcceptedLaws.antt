@@ -1,32 +1,37 @@
 -- What is accepted of the files of a small plan's streams.
-use Rattle.std.proofs.Common.{◌≡◌, ◌<◌, ℕ, zero, suc, Bool, true, false, if◌then◌else◌, inl, inr, List, [], ◌∷◌, ◌++◌, length, map, get_or, Option, Some, None, refl, ap, ap₂, ◌∙◌, subst, arith}
-use Rattle.std.specs.Prelude.{option_and_then, nat_lt}
-use Rattle.std.specs.Option.{option_map, option_map_or}
+use Rattle.std.proofs.Common.{◌≡◌, ◌<◌, ◌+◌, ◌==◌, ℕ, zero, suc, Bool, true, false, if◌then◌else◌, inl, inr, List, [], ◌∷◌, ◌++◌, length, map, get_or, Option, Some, None, Result, Ok, Err, refl, ap, ap₂, ◌∙◌, subst, arith}
+use Rattle.std.specs.Prelude.{nat_lt}
 use Rattle.std.specs.Str.{bytes_eq}
-use Rattle.pj_value.specs.Options.{both}
+use Rattle.std.proofs.lemmas.Bool.{eqb-true}
 use Rattle.pj_value.specs.declared.values.Value.{Value}
 use Rattle.pj_shape.specs.declared.columns.Column.{Column}
 use Rattle.pj_shape.specs.declared.plans.SmallPlan.{SmallPlan}
 use Rattle.pj_shape.specs.declared.plans.SmallStream.{SmallStream}
 use Rattle.pj_shape.specs.declared.plans.SmallJoin.{SmallJoin}
 use Rattle.pj_shape.specs.Lists.{In}
-use Rattle.pj_element.specs.declared.element.Pattern.{Pattern}
-use Rattle.pj_element.specs.declared.element.Pattern.TheVariants.{Wild, Constant}
-use Rattle.pj_element.specs.declared.element.Element.{Element}
-use Rattle.pj_element.specs.declared.element.Element.TheVariants.{Tuple, Punct}
+use Rattle.pj_pattern.specs.Patterns.{Pattern, is_kind, is_of_kind}
+use Rattle.pj_pattern.specs.Normal.{normal_of}
+use Rattle.pj_pattern.specs.Columns.{matches_row}
+use Rattle.pj_pattern.specs.Elements.{NoneMatches, IsLawful, rows_of}
+use Rattle.pj_pattern.specs.declared.element.Element.{Element}
+use Rattle.pj_pattern.specs.declared.element.Element.TheVariants.{Tuple, Punct}
+use Rattle.pj_pattern.proofs.Bounds.{kind_kept}
+use Rattle.pj_line.specs.Lines.{pieces, line_of, is_skipped}
+use Rattle.pj_line.specs.Cells.{cells_of}
+use Rattle.pj_element.specs.declared.element.Judged.{Judged}
+use Rattle.pj_element.specs.declared.element.Judged.TheVariants.{Fits, OtherKind, Unspelled}
 use Rattle.pj_element.specs.declared.element.Read.{Read}
 use Rattle.pj_element.specs.declared.element.Read.TheVariants.{Skip, Bad}
 use Rattle.pj_element.specs.declared.element.Read.TheVariants.{Tuple as ReadTuple, Punct as ReadPunct}
-use Rattle.pj_element.specs.declared.element.Reject.TheVariants.{NotElement}
-use Rattle.pj_element.specs.Lines.{pieces, line_of, is_skipped}
-use Rattle.pj_element.specs.Cells.{cells_of}
+use Rattle.pj_element.specs.declared.element.Reject.{Reject}
+use Rattle.pj_element.specs.declared.element.Reject.TheVariants.{TooLong, NotElement, Arity}
 use Rattle.pj_element.specs.Spelled.{value_of}
-use Rattle.pj_element.specs.Elements.{is_kind, matches_row, columns_of, value_in, pattern_in, tagged, judged, reading_of, reading_at}
-use Rattle.pj_element.specs.Runs.{NoneMatches, IsLawful, rows_of, closing}
+use Rattle.pj_element.specs.Forms.{form_of}
+use Rattle.pj_element.specs.Elements.{judged_value, value_in, judged_form, pattern_in, with_item, items_from, items_in, width, read_row, read_punct, tagged, judged, reading_of, reading_at}
+use Rattle.pj_element.specs.Runs.{closing}
 use Rattle.pj_element.specs.Accepted.{tuple_fate, fate_behind, fates, with_taken, taken_of, closing_line, reads_of, fates_of}
 use Rattle.pj_element.proofs.Lawful.{lawful_behind}
 use Rattle.pj_laws.specs.Plan.{FitsSchema, row_fits, punct_fits}
-use Rattle.pj_laws.specs.Patterns.{is_of_kind}
 use Rattle.pj_laws.specs.Join.{IsLawful as IsLawfulRun, rows_of as rows_in}
 use Rattle.pj_laws.specs.CoreKept.{nodes_of, IsPlanOf, IsSmallPlan}
 use Rattle.pj_laws.specs.HistoryLaws.{AreAccepted, AreAcceptedLists, schema_at}
@@ -35,22 +40,24 @@ use Rattle.pj_engine.specs.Runs.{accepted_of}
 -- ---- what is read fits the columns
 
 -- the value, where there is one, is of the column's kind
-abbrev ValueFits : Column → Option Value → Type 0
-ValueFits column None = Unit {0}
-ValueFits column (Some v) = is_kind column.kind v ≡ true
+abbrev ValueFits : Column → Judged Value → Type 0
+ValueFits column (Fits v) = is_kind column.kind v ≡ true
+ValueFits column OtherKind = Unit {0}
+ValueFits column Unspelled = Unit {0}
 
-abbrev PatternFits : Column → Option Pattern → Type 0
-PatternFits column None = Unit {0}
-PatternFits column (Some p) = is_of_kind column.kind p ≡ true
+abbrev PatternFits : Column → Judged Pattern → Type 0
+PatternFits column (Fits p) = is_of_kind column.kind p ≡ true
+PatternFits column OtherKind = Unit {0}
+PatternFits column Unspelled = Unit {0}
 
 -- the row, where there is one, fits the columns
-abbrev RowFits : List Column → Option (List Value) → Type 0
-RowFits columns None = Unit {0}
-RowFits columns (Some row) = row_fits columns row ≡ true
+abbrev RowFits : List Column → Result (List Value) Reject → Type 0
+RowFits columns (Ok row) = row_fits columns row ≡ true
+RowFits columns (Err why) = Unit {0}
 
-abbrev PunctFits : List Column → Option (List Pattern) → Type 0
-PunctFits columns None = Unit {0}
-PunctFits columns (Some punct) = punct_fits columns punct ≡ true
+abbrev PunctFits : List Column → Result (List Pattern) Reject → Type 0
+PunctFits columns (Ok punct) = punct_fits columns punct ≡ true
+PunctFits columns (Err why) = Unit {0}
 
 -- a tuple or a punctuation that was read fits the columns
 abbrev ReadFits : List Column → Read → Type 0
@@ -59,63 +66,87 @@ ReadFits columns (ReadTuple row) = row_fits columns row ≡ true
 ReadFits columns (ReadPunct punct) = punct_fits columns punct ≡ true
 ReadFits columns (Bad why) = Unit {0}
 
-value_kept : (column : Column) (v : Value) (b : Bool) → is_kind column.kind v ≡ b → ValueFits column (if b then Some v else None)
+value_kept : (column : Column) (v : Value) (b : Bool) → is_kind column.kind v ≡ b → ValueFits column (if b then Fits v else OtherKind)
 value_kept column v true e = e
 value_kept column v false e = tt
 
-value_of_kind : (column : Column) (o : Option Value) → ValueFits column (option_and_then (λ (v : Value). if is_kind column.kind v then Some v else None) o)
-value_of_kind column None = tt
-value_of_kind column (Some v) = value_kept column v (is_kind column.kind v) refl
+value_judged : (column : Column) (o : Option Value) → ValueFits column (judged_value column o)
+value_judged column None = tt
+value_judged column (Some v) = value_kept column v (is_kind column.kind v) refl
 
 value_fits : (column : Column) (cell : List ℕ) → ValueFits column (value_in column cell)
-value_fits column cell = value_of_kind column (value_of cell)
+value_fits column cell = value_judged column (value_of cell)
 
-pattern_kept : (column : Column) (b : Bool) (o : Option Value) → ValueFits column o → PatternFits column (if b then Some Wild else option_map Constant o)
-pattern_kept column true o f = refl
-pattern_kept column false None f = tt
-pattern_kept column false (Some v) f = f
+-- a normal form has the kinds of the values that were spelled
+pattern_kept : (column : Column) (form : Pattern) (b : Bool) → is_of_kind column.kind form ≡ b → PatternFits column (if b then Fits (normal_of form) else OtherKind)
+pattern_kept column form true e = kind_kept column.kind form e
+pattern_kept column form false e = tt
+
+pattern_judged : (column : Column) (o : Option Pattern) → PatternFits column (judged_form column o)
+pattern_judged column None = tt
+pattern_judged column (Some form) = pattern_kept column form (is_of_kind column.kind form) refl
 
 pattern_fits : (column : Column) (cell : List ℕ) → PatternFits column (pattern_in column cell)
-pattern_fits column cell = pattern_kept column (bytes_eq cell (42 ∷ [])) (value_in column cell) (value_fits column cell)
+pattern_fits column cell = pattern_judged column (form_of cell)
 
-row_more : (k : Column) (ks : List Column) (o : Option Value) (os : Option (List Value)) → ValueFits k o → RowFits ks os → RowFits (k ∷ ks) (both o os)
-row_more k ks None os f g = tt
-row_more k ks (Some v) None f g = tt
-row_more k ks (Some v) (Some vs) f g = rw f g
+row_more : (k : Column) (ks : List Column) (n : ℕ) (j : Judged Value) (r : Result (List Value) Reject) → ValueFits k j → RowFits ks r → RowFits (k ∷ ks) (with_item n j r)
+row_more k ks n (Fits v) (Ok vs) f g = rw f g
+row_more k ks n (Fits v) (Err why) f g = tt
+row_more k ks n OtherKind r f g = tt
+row_more k ks n Unspelled r f g = tt
 
-punct_more : (k : Column) (ks : List Column) (o : Option Pattern) (os : Option (List Pattern)) → PatternFits k o → PunctFits ks os → PunctFits (k ∷ ks) (both o os)
-punct_more k ks None os f g = tt
-punct_more k ks (Some p) None f g = tt
-punct_more k ks (Some p) (Some ps) f g = rw f g
+punct_more : (k : Column) (ks : List Column) (n : ℕ) (j : Judged Pattern) (r : Result (List Pattern) Reject) → PatternFits k j → PunctFits ks r → PunctFits (k ∷ ks) (with_item n j r)
+punct_more k ks n (Fits p) (Ok ps) f g = rw f g
+punct_more k ks n (Fits p) (Err why) f g = tt
+punct_more k ks n OtherKind r f g = tt
+punct_more k ks n Unspelled r f g = tt
 
-values_fit : (columns : List Column) (cells : List (List ℕ)) → RowFits columns (columns_of value_in columns cells)
-values_fit [] [] = refl
-values_fit [] (c ∷ cs) = tt
-values_fit (k ∷ ks) [] = tt
-values_fit (k ∷ ks) (c ∷ cs) = row_more k ks (value_in k c) (columns_of value_in ks cs) (value_fits k c) (values_fit ks cs)
+values_fit : (n : ℕ) (columns : List Column) (cells : List (List ℕ)) → length cells ≡ length columns → RowFits columns (items_from value_in n columns cells)
+values_fit n [] cells same = refl
+values_fit n (k ∷ ks) [] same = absurd (omega arith)
+values_fit n (k ∷ ks) (c ∷ cs) same = row_more k ks n (value_in k c) (items_from value_in (n + 1) ks cs) (value_fits k c) (values_fit (n + 1) ks cs (omega arith))
 
-patterns_fit : (columns : List Column) (cells : List (List ℕ)) → PunctFits columns (columns_of pattern_in columns cells)
-patterns_fit [] [] = refl
-patterns_fit [] (c ∷ cs) = tt
-patterns_fit (k ∷ ks) [] = tt
-patterns_fit (k ∷ ks) (c ∷ cs) = punct_more k ks (pattern_in k c) (columns_of pattern_in ks cs) (pattern_fits k c) (patterns_fit ks cs)
+patterns_fit : (n : ℕ) (columns : List Column) (cells : List (List ℕ)) → length cells ≡ length columns → PunctFits columns (items_from pattern_in n columns cells)
+patterns_fit n [] cells same = refl
+patterns_fit n (k ∷ ks) [] same = absurd (omega arith)
+patterns_fit n (k ∷ ks) (c ∷ cs) same = punct_more k ks n (pattern_in k c) (items_from pattern_in (n + 1) ks cs) (pattern_fits k c) (patterns_fit (n + 1) ks cs (omega arith))
 
-by_tag : (columns : List Column) (t p : Bool) (row : Option (List Value)) (punct : Option (List Pattern)) → RowFits columns row → PunctFits columns punct
-    → ReadFits columns (if t then option_map_or ReadTuple row (Bad NotElement) else (if p then option_map_or ReadPunct punct (Bad NotElement) else Bad NotElement))
-by_tag columns true p None punct f g = tt
-by_tag columns true p (Some row) punct f g = f
-by_tag columns false true row None f g = tt
-by_tag columns false true row (Some punct) f g = g
+row_in_fits : (columns : List Column) (cells : List (List ℕ)) → RowFits columns (items_in value_in columns cells)
+row_in_fits columns cells = go (length cells == length columns) refl
+  where
+    go : (b : Bool) → (length cells == length columns) ≡ b → RowFits columns (if b then items_from value_in 1 columns cells else Err (Arity (width columns) (length cells)))
+    go true e = values_fit 1 columns cells (eqb-true (length cells) (length columns) e)
+    go false e = tt
+
+punct_in_fits : (columns : List Column) (cells : List (List ℕ)) → PunctFits columns (items_in pattern_in columns cells)
+punct_in_fits columns cells = go (length cells == length columns) refl
+  where
+    go : (b : Bool) → (length cells == length columns) ≡ b → PunctFits columns (if b then items_from pattern_in 1 columns cells else Err (Arity (width columns) (length cells)))
+    go true e = patterns_fit 1 columns cells (eqb-true (length cells) (length columns) e)
+    go false e = tt
+
+row_read : (columns : List Column) (r : Result (List Value) Reject) → RowFits columns r → ReadFits columns (read_row r)
+row_read columns (Ok row) f = f
+row_read columns (Err why) f = tt
+
+punct_read : (columns : List Column) (r : Result (List Pattern) Reject) → PunctFits columns r → ReadFits columns (read_punct r)
+punct_read columns (Ok punct) f = f
+punct_read columns (Err why) f = tt
+
+by_tag : (columns : List Column) (t p : Bool) (row : Result (List Value) Reject) (punct : Result (List Pattern) Reject) → RowFits columns row → PunctFits columns punct
+    → ReadFits columns (if t then read_row row else (if p then read_punct punct else Bad NotElement))
+by_tag columns true p row punct f g = row_read columns row f
+by_tag columns false true row punct f g = punct_read columns punct g
 by_tag columns false false row punct f g = tt
 
 tagged_fits : (columns : List Column) (cells : List (List ℕ)) → ReadFits columns (tagged columns cells)
 tagged_fits columns [] = tt
 tagged_fits columns (tag ∷ cells) =
-    by_tag columns (bytes_eq tag (116 ∷ [])) (bytes_eq tag (112 ∷ [])) (columns_of value_in columns cells) (columns_of pattern_in columns cells) (values_fit columns cells) (patterns_fit columns cells)
+    by_tag columns (bytes_eq tag (116 ∷ [])) (bytes_eq tag (112 ∷ [])) (items_in value_in columns cells) (items_in pattern_in columns cells) (row_in_fits columns cells) (punct_in_fits columns cells)
 
-or_bad : (columns : List Column) (b : Bool) (r : Read) → ReadFits columns r → ReadFits columns (if b then Bad NotElement else r)
-or_bad columns true r f = tt
-or_bad columns false r f = f
+or_bad : (columns : List Column) (b : Bool) (why : Reject) (r : Read) → ReadFits columns r → ReadFits columns (if b then Bad why else r)
+or_bad columns true why r f = tt
+or_bad columns false why r f = f
 
 or_skip : (columns : List Column) (b : Bool) (r : Read) → ReadFits columns r → ReadFits columns (if b then Skip else r)
 or_skip columns true r f = tt
@@ -123,11 +154,11 @@ or_skip columns false r f = f
 
 judged_fits : (columns : List Column) (cells : Option (List (List ℕ))) → ReadFits columns (judged columns cells)
 judged_fits columns None = tt
-judged_fits columns (Some cells) = or_bad columns (nat_lt 128 (length cells)) (tagged columns cells) (tagged_fits columns cells)
+judged_fits columns (Some cells) = or_bad columns (nat_lt 128 (length cells)) NotElement (tagged columns cells) (tagged_fits columns cells)
 
 reading_fits : (columns : List Column) (piece : List ℕ) → ReadFits columns (reading_at columns piece)
 reading_fits columns piece =
-    or_bad columns (nat_lt 65536 (length piece)) (reading_of columns (line_of piece))
+    or_bad columns (nat_lt 65536 (length piece)) TooLong (reading_of columns (line_of piece))
     (or_skip columns (is_skipped (line_of piece)) (judged columns (cells_of (line_of piece))) (judged_fits columns (cells_of (line_of piece))))
 
 -- ---- what is accepted fits the columns

@@ -11,7 +11,7 @@ use Rattle.pj_laws.specs.OneThread.{schema_of}
 use Rattle.pj_laws.specs.HistoryLaws.{AreAccepted, AreAcceptedLists}
 use Rattle.pj_laws.specs.CoreKept.{stream_of, joins_of, nodes_of, columns_of}
 use Rattle.pj_engine.specs.Runs.{accepted_of}
-use Rattle.pj_engine.proofs.Fitting.{taken_accepted}
+use Rattle.pj_engine.proofs.AcceptedLaws.{accepted_file}
 
 -- ---- the streams of a plan
 
@@ -55,7 +55,7 @@ none-accepted ks = (λ e h. absurd h, tt)
 pub accepted-from : (k : ℕ) (streams : List SmallStream) (files : List (List ℕ)) → k < length streams → AreAccepted (columns_of streams k) (get_or (accepted_of streams files) k [])
 accepted-from k [] files lt = absurd (omega arith)
 accepted-from zero (s ∷ streams) [] lt = none-accepted s.schema
-accepted-from zero (s ∷ streams) (bytes ∷ files) lt = taken_accepted s.schema bytes
+accepted-from zero (s ∷ streams) (bytes ∷ files) lt = accepted_file s.schema bytes
 accepted-from (suc k) (s ∷ streams) [] lt = accepted-from k streams [] (omega arith)
 accepted-from (suc k) (s ∷ streams) (bytes ∷ files) lt = accepted-from k streams files (omega arith)
 

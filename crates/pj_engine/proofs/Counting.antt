@@ -1,7 +1,7 @@
 -- The lines and the counts of what was handed out, one by one.
 use Rattle.std.proofs.Common.{◌≡◌, ℕ, ◌+◌, ◌-◌, ◌<◌, ◌^◌, min, List, [], ◌∷◌, ◌++◌, length, take, get_or, drop, ap, ap₂, sym, ◌∙◌, append_assoc, arith}
 use Rattle.std.proofs.lemmas.List.{length-append, take_more, take-append-drop, map-append}
-use Rattle.pj_element.specs.declared.element.Element.{Element}
+use Rattle.pj_pattern.specs.declared.element.Element.{Element}
 use Rattle.pj_element.specs.Runs.{rows_of, puncts_of, element_lines}
 use Rattle.pj_laws.specs.declared.events.Out.{Out}
 use Rattle.pj_laws.specs.Outcomes.{elements_out}
@@ -9,7 +9,7 @@ use Rattle.pj_laws.proofs.Steps.{elements-append}
 use Rattle.pj_engine.specs.declared.outs.Counts.{Counts}
 use Rattle.pj_engine.specs.Report.{counted_to}
 use Rattle.pj_engine.specs.Outs.{out_lines, counts_of}
-use Rattle.pj_engine.proofs.SeenLaws.{rows_of-append, puncts_of-append}
+use Rattle.pj_intake.proofs.Counts.{rows_of-append, puncts_of-append}
 
 counted_sum : (a b : ℕ) → min (counted_to a + b) (2 ^ 64 - 1) ≡ counted_to (a + b)
 counted_sum a b = omega arith

@@ -1,31 +1,14 @@
 -- Turns of streams, one by one.
-use Rattle.std.proofs.Common.{◌≡◌, ℕ, ◌+◌, ◌<◌, ◌≤◌, Bool, true, cond, List, [], ◌∷◌, ◌++◌, map, length, take, drop, get_or, set, subst, reverse, refl, ap, ap₂, sym, ◌∙◌, append_assoc, append-nil, arith, Option, Some, None, IfNone}
-use Rattle.std.proofs.lemmas.List.{reverse-append, reverse-reverse, take_more_set, drop-set-lt, drop_more, map-append, drop_all, take_all}
+use Rattle.std.proofs.Common.{◌≡◌, ◌⊎◌, ℕ, zero, suc, ◌+◌, ◌-◌, ◌<◌, ◌≤◌, false, List, [], ◌∷◌, ◌++◌, map, length, take, drop, get_or, set, subst, refl, ap, ap₂, sym, ◌∙◌, append_assoc, append-nil, arith, Some, inl, inr}
+use Rattle.std.specs.List.{slice_get}
+use Rattle.std.proofs.lemmas.List.{take_more, take_more_set, drop-set-lt, drop_more, map-append, drop_all, take_all, take-append-drop}
+use Rattle.std.proofs.lemmas.Option.{slice_get_within, get_or_from_slice_get}
 use Rattle.pj_shape.specs.declared.plans.SmallStream.{SmallStream}
-use Rattle.pj_element.specs.declared.element.Element.{Element}
+use Rattle.pj_laws.specs.Join.{In}
 use Rattle.pj_laws.specs.OneThread.{Turn, heads, tails, rounds, longest, in_rounds}
+use Rattle.pj_laws.proofs.Lists.{In-append_left, In-append_right}
 use Rattle.pj_laws.proofs.OneThreadAnswer.{rounds-go-on}
-use Rattle.pj_engine.specs.declared.feeds.Next.{Next}
-use Rattle.pj_engine.specs.declared.feeds.Next.TheVariants.{Bring, Close}
-use Rattle.pj_engine.specs.declared.feeds.Feed.{Feed}
-use Rattle.pj_engine.specs.Feeds.{turn_in, turn_of, feed_left, round_left, feeds_left, Gives, GivesOfRound}
-
--- the turns of these elements of a stream, in order
-abbrev pub brought : List SmallStream → ℕ → List Element → List Turn
-brought streams stream es = map (λ e. turn_in streams (Bring stream e)) es
-
--- its closing, where that is still to come
-abbrev pub closes : List SmallStream → ℕ → Bool → List Turn
-closes streams stream still = cond still (turn_in streams (Close stream) ∷ []) []
-
--- elements that are kept the last one first
-pub none_gone : (streams : List SmallStream) (stream : ℕ) (es items : List Element) → items ≡ reverse es → brought streams stream (reverse items) ++ closes streams stream true ≡ brought streams stream es ++ turn_in streams (Close stream) ∷ []
-none_gone streams stream es items is = ap (λ (xs : List Element). brought streams stream xs ++ closes streams stream true) (ap reverse is ∙ reverse-reverse es)
-
--- the last of the kept ones is the next
-pub one_gone : (streams : List SmallStream) (stream : ℕ) (still : Bool) (items rest : List Element) (e : Element) → items ≡ rest ++ e ∷ []
-    → brought streams stream (reverse items) ++ closes streams stream still ≡ turn_in streams (Bring stream e) ∷ (brought streams stream (reverse rest) ++ closes streams stream still)
-one_gone streams stream still items rest e is = ap (λ (xs : List Element). brought streams stream xs ++ closes streams stream still) (ap reverse is ∙ reverse-append rest (e ∷ []))
+use Rattle.pj_engine.specs.Feeds.{FeedState, feed_left, round_left, feeds_left, AllClosed, IsFirstOpen, HasTurn}
 
 -- ---- rounds
 
@@ -39,75 +22,161 @@ pub wraps : (lists : List (List Turn)) → round_left lists [] ≡ round_left []
 wraps lists = ap in_rounds (append-nil lists) ∙ rounds-go-on lists
 
 -- all of these lists are empty
-abbrev pub AreEmpty : List (List Turn) → Type 0
+abbrev AreEmpty : List (List Turn) → Type 0
 AreEmpty [] = Unit {0}
 AreEmpty (xs ∷ lists) = (xs ≡ []) × AreEmpty lists
 
-pub empty_more : (lists : List (List Turn)) (xs : List Turn) → AreEmpty lists → xs ≡ [] → AreEmpty (lists ++ xs ∷ [])
-empty_more [] xs e none = (none, tt)
-empty_more (ys ∷ lists) xs e none = (e.0, empty_more lists xs e.1 none)
-
-pub none_in_rounds : (lists : List (List Turn)) → AreEmpty lists → longest lists ≡ 0
+none_in_rounds : (lists : List (List Turn)) → AreEmpty lists → longest lists ≡ 0
 none_in_rounds [] e = refl
 none_in_rounds (xs ∷ lists) e = rw e.0 (rw (none_in_rounds lists e.1) refl)
 
-pub none_left : (lists : List (List Turn)) → AreEmpty lists → in_rounds lists ≡ []
+none_left : (lists : List (List Turn)) → AreEmpty lists → in_rounds lists ≡ []
 none_left lists e = ap (λ (n : ℕ). rounds n lists) (none_in_rounds lists e)
 
--- ---- one stream's turn
+-- ---- places
 
-module _ (streams : List SmallStream) (feeds feeds' : List Feed) (at : ℕ) (feed feed' : Feed) (there : at < length feeds) (is : feed ≡ get_or feeds at feed) (moved : feeds' ≡ set feeds at feed') where
-  had : take (at + 1) feeds' ≡ take at feeds ++ feed' ∷ []
-  had = ap (take (at + 1)) moved ∙ take_more_set feeds at feed' there
+-- the stream at a place splits the others
+at_place : (feeds : List FeedState) (at : ℕ) (feed : FeedState) → slice_get feeds at ≡ Some feed
+    → (drop at feeds ≡ feed ∷ drop (at + 1) feeds) × (take (at + 1) feeds ≡ take at feeds ++ feed ∷ [])
+at_place feeds at feed is =
+    let there : at < length feeds = slice_get_within feeds at feed is in
+    let here : get_or feeds at feed ≡ feed = get_or_from_slice_get feeds at feed feed is in (
+      drop_more feeds at feed there ∙ ap (λ (f : FeedState). f ∷ drop (at + 1) feeds) here,
+      take_more feeds at feed there ∙ ap (λ (f : FeedState). take at feeds ++ f ∷ []) here,
+    )
 
-  others : drop (at + 1) feeds' ≡ drop (at + 1) feeds
-  others = ap (drop (at + 1)) moved ∙ drop-set-lt (at + 1) feeds at feed' (omega arith)
-
-  here : drop at feeds ≡ feed ∷ drop (at + 1) feeds
-  here = drop_more feeds at feed there ∙ ap (λ (f : Feed). f ∷ drop (at + 1) feeds) (sym is)
-
-  abbrev left : Feed → List Turn
+module _ (streams : List SmallStream) where
+  abbrev left : FeedState → List Turn
   left = feed_left streams
 
-  lists : map left (take (at + 1) feeds') ≡ map left (take at feeds) ++ left feed' ∷ []
-  lists = ap (map left) had ∙ map-append left (take at feeds) (feed' ∷ [])
+  -- nothing is left of these
+  abbrev pub AreDone : List FeedState → Type 0
+  AreDone [] = Unit {0}
+  AreDone (f ∷ fs) = (left f ≡ []) × AreDone fs
 
-  after : feeds_left streams feeds' (at + 1) ≡ round_left (map left (take at feeds) ++ left feed' ∷ []) (map left (drop (at + 1) feeds))
-  after = ap₂ (λ (xs ys : List (List Turn)). round_left xs ys) lists (ap (map left) others)
+  -- nothing is left of a stream whose closing had its turn
+  abbrev pub ClosedAreDone : List FeedState → Type 0
+  ClosedAreDone feeds = (f : FeedState) → In f feeds → f.is_open ≡ false → left f ≡ []
 
-  before : feeds_left streams feeds at ≡ round_left (map left (take at feeds)) (left feed ∷ map left (drop (at + 1) feeds))
-  before = ap (λ (xs : List Feed). round_left (map left (take at feeds)) (map left xs)) here
+  all_done : (feeds some : List FeedState) → ClosedAreDone feeds → ((f : FeedState) → In f some → In f feeds) → AllClosed some → AreDone some
+  all_done feeds [] done sub closed = tt
+  all_done feeds (f ∷ fs) done sub closed = (done f (sub f (inl refl)) closed.0, all_done feeds fs done (λ g h. sub g (inr h)) closed.1)
 
-  pub feed_skipped : left feed ≡ [] → left feed' ≡ [] → feeds_left streams feeds at ≡ feeds_left streams feeds' (at + 1)
-  feed_skipped none none' =
-      before
+  done_empty : (fs : List FeedState) → AreDone fs → AreEmpty (map left fs)
+  done_empty [] d = tt
+  done_empty (f ∷ fs) d = (d.0, done_empty fs d.1)
+
+  -- a stream of which nothing is left is passed over
+  passed : (feeds : List FeedState) (at : ℕ) (feed : FeedState) → slice_get feeds at ≡ Some feed → left feed ≡ [] → feeds_left streams feeds at ≡ feeds_left streams feeds (at + 1)
+  passed feeds at feed is none =
+      let p = at_place feeds at feed is in
+      ap (λ (fs : List FeedState). round_left (map left (take at feeds)) (map left fs)) p.0
       ∙ (ap (λ (ts : List Turn). round_left (map left (take at feeds)) (ts ∷ map left (drop (at + 1) feeds))) none
       ∙ (skips (map left (take at feeds)) (map left (drop (at + 1) feeds))
-      ∙ (ap (λ (ts : List Turn). round_left (map left (take at feeds) ++ ts ∷ []) (map left (drop (at + 1) feeds))) (sym none') ∙ sym after)))
+      ∙ ap (λ (ls : List (List Turn)). round_left ls (map left (drop (at + 1) feeds)))
+      (ap (λ (ts : List Turn). map left (take at feeds) ++ ts ∷ []) (sym none)
+      ∙ (sym (map-append left (take at feeds) (feed ∷ [])) ∙ ap (map left) (sym p.1)))))
 
-  pub feed_gave : (t : Turn) → left feed ≡ t ∷ left feed' → feeds_left streams feeds at ≡ t ∷ feeds_left streams feeds' (at + 1)
-  feed_gave t gave =
-      before
-      ∙ (ap (λ (ts : List Turn). round_left (map left (take at feeds)) (ts ∷ map left (drop (at + 1) feeds))) gave
-      ∙ (gives (map left (take at feeds)) (map left (drop (at + 1) feeds)) t (left feed')
-      ∙ ap (λ (ts : List Turn). t ∷ ts) (sym after)))
+  first_of : (fs : List FeedState) (n : ℕ) → 0 < n → n ≤ length fs → (f : FeedState) × (slice_get fs 0 ≡ Some f)
+  first_of [] n some le = absurd (omega (arith, some, le))
+  first_of (f ∷ fs) n some le = (f, refl)
 
-  pub empty_so_far : AreEmpty (map left (take at feeds)) → left feed' ≡ [] → AreEmpty (map left (take (at + 1) feeds'))
-  empty_so_far e none = subst AreEmpty (sym lists) (empty_more (map left (take at feeds)) (left feed') e none)
+  get_behind : (fs : List FeedState) (at : ℕ) → slice_get (drop at fs) 0 ≡ slice_get fs at
+  get_behind [] zero = refl
+  get_behind [] (suc at) = refl
+  get_behind (f ∷ fs) zero = refl
+  get_behind (f ∷ fs) (suc at) = get_behind fs at
 
--- at the end of a round the next one begins
-pub all_had : (streams : List SmallStream) (feeds : List Feed) (at : ℕ) → length feeds ≤ at → feeds_left streams feeds at ≡ feeds_left streams feeds 0
-all_had streams feeds at le =
-    ap₂ (λ (xs ys : List Feed). round_left (map (feed_left streams) xs) (map (feed_left streams) ys)) (take_all at feeds le) (drop_all at feeds le)
-    ∙ wraps (map (feed_left streams) feeds)
+  drop-length : (fs : List FeedState) (at : ℕ) → at ≤ length fs → length (drop at fs) ≡ length fs - at
+  drop-length [] zero le = refl
+  drop-length [] (suc at) le = absurd (omega (arith, le))
+  drop-length (f ∷ fs) zero le = omega arith
+  drop-length (f ∷ fs) (suc at) le = let r = drop-length fs at (omega (arith, le)) in omega (arith, r, le)
 
-pub none_of_all : (streams : List SmallStream) (feeds : List Feed) (at : ℕ) → length feeds ≤ at → AreEmpty (map (feed_left streams) (take at feeds)) → feeds_left streams feeds at ≡ []
-none_of_all streams feeds at le e =
-    ap₂ (λ (xs ys : List Feed). round_left (map (feed_left streams) xs) (map (feed_left streams) ys)) (take_all at feeds le) (drop_all at feeds le)
-    ∙ (ap in_rounds (append-nil (map (feed_left streams) feeds))
-    ∙ none_left (map (feed_left streams) feeds) (subst (λ (xs : List Feed). AreEmpty (map (feed_left streams) xs)) (take_all at feeds le) e))
+  -- several of which nothing is left are passed over
+  all_passed : (n at : ℕ) (feeds : List FeedState) → at + n ≤ length feeds → AreDone (take n (drop at feeds)) → feeds_left streams feeds at ≡ feeds_left streams feeds (at + n)
+  all_passed zero at feeds le done = let e : at ≡ at + 0 = omega arith in ap (feeds_left streams feeds) e
+  all_passed (suc n) at feeds le done =
+      let long : length (drop at feeds) ≡ length feeds - at = drop-length feeds at (omega (arith, le)) in
+      let f = first_of (drop at feeds) 1 (omega arith) (omega (arith, long, le)) in
+      let is : slice_get feeds at ≡ Some f.0 = sym (get_behind feeds at) ∙ f.1 in
+      let p = at_place feeds at f.0 is in
+      let d : AreDone (take (suc n) (f.0 ∷ drop (at + 1) feeds)) = subst (λ (fs : List FeedState). AreDone (take (suc n) fs)) p.0 done in
+      let e : at + 1 + n ≡ at + suc n = omega arith in
+      passed feeds at f.0 is d.0
+      ∙ (all_passed n (at + 1) feeds (omega (arith, le)) d.1 ∙ ap (feeds_left streams feeds) e)
 
--- nothing more of one round, and then the next round
-pub next_round : (streams : List SmallStream) (next : Option Next) (old mid new : List Turn) → old ≡ mid → GivesOfRound mid new (turn_of streams next) → IfNone next (mid ≡ []) → Gives old new (turn_of streams next)
-next_round streams None old mid new e gives none = e ∙ none
-next_round streams (Some n) old mid new e gives none = e ∙ gives
+  -- at the end of a round the next one begins
+  all_had : (feeds : List FeedState) (at : ℕ) → length feeds ≤ at → feeds_left streams feeds at ≡ feeds_left streams feeds 0
+  all_had feeds at le =
+      ap₂ (λ (xs ys : List FeedState). round_left (map left xs) (map left ys)) (take_all at feeds le) (drop_all at feeds le)
+      ∙ wraps (map left feeds)
+
+  -- none of this round is left
+  rest_had : (feeds : List FeedState) (at : ℕ) → ClosedAreDone feeds → AllClosed (drop at feeds) → feeds_left streams feeds at ≡ feeds_left streams feeds 0
+  rest_had feeds at done closed = elim (le_or (length feeds) at) [
+    | inl le ↦ all_had feeds at le
+    | inr lt ↦
+        let n : ℕ = length feeds - at in
+        let long : length (drop at feeds) ≡ n = drop-length feeds at (omega (arith, lt)) in
+        let rest : AreDone (drop at feeds) = all_done feeds (drop at feeds) done (λ f h. subst (In f) (take-append-drop at feeds) (In-append_right f (take at feeds) (drop at feeds) h)) closed in
+        let e : at + n ≡ length feeds = omega (arith, lt) in
+        all_passed n at feeds (omega (arith, e)) (subst AreDone (sym (take_all n (drop at feeds) (omega (arith, long)))) rest)
+        ∙ all_had feeds (at + n) (omega (arith, e))
+  ]
+    where
+      le_or : (a b : ℕ) → (a ≤ b) ⊎ (b < a)
+      le_or zero b = inl (omega arith)
+      le_or (suc a) zero = inr (omega arith)
+      le_or (suc a) (suc b) = elim (le_or a b) [ inl h ↦ inl (omega (arith, h)) | inr h ↦ inr (omega (arith, h)) ]
+
+  -- the first open stream of this round has the turn
+  first_has : (feeds : List FeedState) (at place : ℕ) → ClosedAreDone feeds → IsFirstOpen feeds at (Some place) → feeds_left streams feeds at ≡ feeds_left streams feeds place
+  first_has feeds at place done first =
+      let lt : place < length feeds = slice_get_within feeds place first.0 first.2 in
+      let e : at + (place - at) ≡ place = omega (arith, first.1) in
+      let sub : (f : FeedState) → In f (take (place - at) (drop at feeds)) → In f feeds = λ f h.
+      subst (In f) (take-append-drop at feeds) (In-append_right f (take at feeds) (drop at feeds)
+      (subst (In f) (take-append-drop (place - at) (drop at feeds)) (In-append_left f (take (place - at) (drop at feeds)) (drop (place - at) (drop at feeds)) h))) in
+      all_passed (place - at) at feeds (omega (arith, e, lt)) (all_done feeds (take (place - at) (drop at feeds)) done sub first.4)
+      ∙ ap (feeds_left streams feeds) e
+
+  -- the stream at the place that has the turn
+  pub turn_at : (feeds : List FeedState) (at place : ℕ) → ClosedAreDone feeds → HasTurn feeds at (Some place) → feeds_left streams feeds at ≡ feeds_left streams feeds place
+  turn_at feeds at place done (inl first) = first_has feeds at place done first
+  turn_at feeds at place done (inr wrapped) = rest_had feeds at done wrapped.0 ∙ first_has feeds 0 place done wrapped.1
+
+  -- no stream has a turn
+  pub no_turn : (feeds : List FeedState) (at : ℕ) → ClosedAreDone feeds → AllClosed feeds → feeds_left streams feeds at ≡ []
+  no_turn feeds at done closed =
+      let all : AreDone feeds = all_done feeds feeds done (λ f h. h) closed in
+      rest_had feeds at done (closed_behind at feeds closed)
+      ∙ (sym (wraps (map left feeds)) ∙ (ap in_rounds (append-nil (map left feeds)) ∙ none_left (map left feeds) (done_empty feeds all)))
+    where
+      closed_behind : (at : ℕ) (fs : List FeedState) → AllClosed fs → AllClosed (drop at fs)
+      closed_behind zero fs c = c
+      closed_behind (suc at) [] c = tt
+      closed_behind (suc at) (f ∷ fs) c = closed_behind at fs c.1
+
+  -- its turn was made
+  pub turn_made_at : (feeds : List FeedState) (place : ℕ) (feed feed' : FeedState) (t : Turn) → slice_get feeds place ≡ Some feed → left feed ≡ t ∷ left feed'
+      → feeds_left streams feeds place ≡ t ∷ feeds_left streams (set feeds place feed') (place + 1)
+  turn_made_at feeds place feed feed' t is gave =
+      let there : place < length feeds = slice_get_within feeds place feed is in
+      let p = at_place feeds place feed is in
+      let had : map left (take (place + 1) (set feeds place feed')) ≡ map left (take place feeds) ++ left feed' ∷ [] =
+      ap (map left) (take_more_set feeds place feed' there) ∙ map-append left (take place feeds) (feed' ∷ []) in
+      let others : map left (drop (place + 1) (set feeds place feed')) ≡ map left (drop (place + 1) feeds) = ap (map left) (drop-set-lt (place + 1) feeds place feed' (omega arith)) in
+      ap (λ (fs : List FeedState). round_left (map left (take place feeds)) (map left fs)) p.0
+      ∙ (ap (λ (ts : List Turn). round_left (map left (take place feeds)) (ts ∷ map left (drop (place + 1) feeds))) gave
+      ∙ (gives (map left (take place feeds)) (map left (drop (place + 1) feeds)) t (left feed')
+      ∙ ap (λ (ts : List Turn). t ∷ ts) (sym (ap₂ (λ (xs ys : List (List Turn)). round_left xs ys) had others))))
+
+  -- the next turn is one of the stream that has it
+  pub turn_begins : (feeds : List FeedState) (place : ℕ) (feed : FeedState) (t : Turn) (ts : List Turn) → slice_get feeds place ≡ Some feed → left feed ≡ t ∷ ts
+      → feeds_left streams feeds place ≡ t ∷ round_left (map left (take place feeds) ++ ts ∷ []) (map left (drop (place + 1) feeds))
+  turn_begins feeds place feed t ts is gave =
+      let p = at_place feeds place feed is in
+      ap (λ (fs : List FeedState). round_left (map left (take place feeds)) (map left fs)) p.0
+      ∙ (ap (λ (us : List Turn). round_left (map left (take place feeds)) (us ∷ map left (drop (place + 1) feeds))) gave
+      ∙ gives (map left (take place feeds)) (map left (drop (place + 1) feeds)) t ts)

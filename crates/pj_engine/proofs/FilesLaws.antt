@@ -1,18 +1,17 @@
--- Files that are read one after the other.
-use Rattle.std.proofs.Common.{◌≡◌, ◌≢◌, ◌≤◌, ◌<◌, ◌+◌, ◌-◌, ℕ, suc, Bool, true, false, ◌⊎◌, inl, inr, List, [], ◌∷◌, map, length, get_or, take, drop, Result, Ok, IsTrue, OnOk, refl, ap, sym, ◌∙◌, subst, arith}
-use Rattle.std.specs.Prelude.{slice_index_or}
+-- The operands of a call, and what is told of their files.
+use Rattle.std.proofs.Common.{◌≡◌, ◌≢◌, ◌≤◌, ◌<◌, ◌-◌, ℕ, Bool, true, false, ◌⊎◌, inl, inr, List, [], ◌∷◌, map, length, get_or, take, drop, None, Some, IsTrue, refl, ap, sym, ◌∙◌, subst, arith}
 use Rattle.std.specs.Str.{bytes_eq}
 use Rattle.std.specs.String.{string_bytes}
 use Rattle.std.specs.declared.string.String.{String}
 use Rattle.std.specs.declared.alloc.Global.{Global}
 use Rattle.std.proofs.lemmas.Bool.{and_parts}
-use Rattle.std.proofs.lemmas.List.{take_all}
+use Rattle.std.proofs.lemmas.List.{take_all, length-map}
 use Rattle.std.proofs.lemmas.Bool.Decides.{not_from_Decides}
 use Rattle.std.proofs.lemmas.Slice.Eq.{bytes_eq-Decides}
-use Rattle.pj_io.specs.Causes.{Rose}
-use Rattle.pj_io.specs.Folders.{NoneFalls, SameElsewhere}
-use Rattle.pj_engine.specs.declared.status.Status.{Status}
-use Rattle.pj_engine.specs.Top.{operands, are_told, plan_contents, file_contents, IsNoRun, IsUnbuilt, HasPlanOf, HasPlanFor}
+use Rattle.pj_io.specs.Folders.{SameElsewhere}
+use Rattle.pj_shape.specs.declared.plans.SmallPlan.{SmallPlan}
+use Rattle.pj_engine.specs.Plans.{plan_of}
+use Rattle.pj_engine.specs.Top.{operands, are_told, plan_contents, file_contents, IsNoPlan, IsUnbuilt}
 
 -- a name is this one or another
 pub same_or_other : (a b : List ℕ) → (a ≡ b) ⊎ (a ≢ b)
@@ -30,22 +29,6 @@ last_of first name contents last last' read others same =
       | inr other ↦ others name other ∙ same
     ]
 
--- all operands are told: the first, and the rest
-pub first_told : (tells : List ℕ → Bool) (names rest : List (String Global)) (first : String Global) → names ≡ first ∷ rest → IsTrue (are_told tells (map string_bytes names)) → IsTrue (tells (string_bytes first))
-first_told tells names rest first is told = (and_parts _ _ (subst (λ ns. IsTrue (are_told tells (map string_bytes ns))) is told)).0
-
-pub rest_told : (tells tells' : List ℕ → Bool) (names rest : List (String Global)) (first : String Global) → names ≡ first ∷ rest → tells' ≡ tells → IsTrue (are_told tells (map string_bytes names)) → IsTrue (are_told tells' (map string_bytes rest))
-rest_told tells tells' names rest first is same told =
-    subst (λ ts. IsTrue (are_told ts (map string_bytes rest))) (sym same) (and_parts _ _ (subst (λ ns. IsTrue (are_told tells (map string_bytes ns))) is told)).1
-
--- a fault at one of the rest
-pub rest_fault : (n operand k : ℕ) (names rest : List (String Global)) (first : String Global) (faults mid faults' : List ℕ → ℕ) → names ≡ first ∷ rest → NoneFalls faults mid
-    → n ≡ operand + 1 + k → k < length rest → Rose (mid (get_or (map string_bytes rest) k [])) (faults' (get_or (map string_bytes rest) k []))
-    → (x : ℕ) × (n ≡ operand + x) × (x < length names) × Rose (faults (get_or (map string_bytes names) x [])) (faults' (get_or (map string_bytes names) x []))
-rest_fault n operand k names rest first faults mid faults' is falls at within rose =
-    subst (λ ns. (x : ℕ) × (n ≡ operand + x) × (x < length ns) × Rose (faults (get_or (map string_bytes ns) x [])) (faults' (get_or (map string_bytes ns) x []))) (sym is)
-    (suc k, omega (arith, at), omega (arith, within), omega (arith, rose, falls (get_or (map string_bytes rest) k [])))
-
 -- the operands behind the command: the plan's name, and the names of the files
 pub named_operands : (words : List (String Global)) (plan : String Global) (plan_name : List ℕ) → 3 ≤ length words → plan ≡ get_or words 1 plan → plan_name ≡ string_bytes plan
     → operands words ≡ plan_name ∷ map string_bytes (take (length words - 2) (drop 2 words))
@@ -57,16 +40,29 @@ named_operands (x ∷ y ∷ ws) plan plan_name some is name =
     ∙ (ap (λ (n : List ℕ). n ∷ map string_bytes ws) (sym name)
     ∙ ap (λ (rest : List (String Global)). plan_name ∷ map string_bytes rest) (sym all))
 
--- what is told of the named files is told of the operands
-pub not_built_named : (tells : List ℕ → Bool) (contents : List ℕ → List ℕ) (words : List (String Global)) (names : List (List ℕ)) (plan_name : List ℕ) → operands words ≡ plan_name ∷ names
-    → (IsTrue (tells plan_name) → IsTrue (are_told tells names) → IsNoRun (contents plan_name) (map contents names))
-    → IsTrue (are_told tells (operands words)) → IsUnbuilt words (plan_contents contents (operands words)) (file_contents contents (operands words))
-not_built_named tells contents words names plan_name is unbuilt told =
-    let p = and_parts _ _ (subst (λ ns. IsTrue (are_told tells ns)) is told) in
-    subst (λ ns. IsUnbuilt words (plan_contents contents ns) (file_contents contents ns)) (sym is) (inr (unbuilt p.0 p.1))
+-- there are as many names of files as words behind the second
+pub names_counted : (words : List (String Global)) → 3 ≤ length words → length words - 2 ≡ length (map string_bytes (take (length words - 2) (drop 2 words)))
+names_counted [] some = absurd (omega (arith, some))
+names_counted (x ∷ []) some = absurd (omega (arith, some))
+names_counted (x ∷ y ∷ ws) some =
+    let all : take (length (x ∷ y ∷ ws) - 2) ws ≡ ws = take_all (length (x ∷ y ∷ ws) - 2) ws (omega arith) in
+    let counted : length (x ∷ y ∷ ws) - 2 ≡ length ws = omega arith in
+    counted ∙ (sym (length-map ws string_bytes) ∙ ap (λ (rest : List (String Global)). length (map string_bytes rest)) (sym all))
 
-pub late_named : (tells : List ℕ → Bool) (contents : List ℕ → List ℕ) (words : List (String Global)) (names : List (List ℕ)) (plan_name : List ℕ) (count : ℕ) → operands words ≡ plan_name ∷ names → length names ≡ count
-    → (IsTrue (tells plan_name) → HasPlanOf count (contents plan_name)) → IsTrue (are_told tells (operands words)) → HasPlanFor (plan_contents contents (operands words)) (operands words)
-late_named tells contents words names plan_name count is counted has told =
-    let p = and_parts _ _ (subst (λ ns. IsTrue (are_told tells ns)) is told) in
-    subst (λ ns. HasPlanFor (plan_contents contents ns) ns) (sym is) (subst (λ n. HasPlanOf n (contents plan_name)) (sym counted) (has p.0))
+-- the plan that a name spells is that of the operands
+pub not_built_named : (contents : List ℕ → List ℕ) (words : List (String Global)) (names : List (List ℕ)) (plan_name : List ℕ) (count : ℕ) → operands words ≡ plan_name ∷ names → count ≡ length names
+    → IsNoPlan count (contents plan_name) → IsUnbuilt words (plan_contents contents (operands words)) (file_contents contents (operands words))
+not_built_named contents words names plan_name count is counted none =
+    subst (λ ns. IsUnbuilt words (plan_contents contents ns) (file_contents contents ns)) (sym is) (inr (go none))
+  where
+    go : IsNoPlan count (contents plan_name) → (1048576 < length (contents plan_name)) ⊎ (plan_of (contents plan_name) ≡ None)
+        ⊎ ((plan : SmallPlan) × (plan_of (contents plan_name) ≡ Some plan) × (length (map contents names) ≡ length plan.streams → ⊥))
+    go (inl large) = inl large
+    go (inr (inl no_plan)) = inr (inl no_plan)
+    go (inr (inr other)) = inr (inr (other.0, other.1, λ e. other.2 (counted ∙ (sym (length-map names contents) ∙ e))))
+
+pub first_told : (tells : List ℕ → Bool) (words : List (String Global)) (names : List (List ℕ)) (plan_name : List ℕ) → operands words ≡ plan_name ∷ names → IsTrue (are_told tells (operands words)) → IsTrue (tells plan_name)
+first_told tells words names plan_name is told = (and_parts _ _ (subst (λ ns. IsTrue (are_told tells ns)) is told)).0
+
+pub rest_told : (tells : List ℕ → Bool) (words : List (String Global)) (names : List (List ℕ)) (plan_name : List ℕ) → operands words ≡ plan_name ∷ names → IsTrue (are_told tells (operands words)) → IsTrue (are_told tells names)
+rest_told tells words names plan_name is told = (and_parts _ _ (subst (λ ns. IsTrue (are_told tells ns)) is told)).1

@@ -4,8 +4,8 @@ use Rattle.std.proofs.lemmas.List.{length-append}
 use Rattle.pj_value.specs.declared.values.Value.{Value}
 use Rattle.pj_shape.specs.declared.plans.SmallPlan.{SmallPlan}
 use Rattle.pj_shape.specs.declared.plans.SmallStream.{SmallStream}
-use Rattle.pj_element.specs.declared.element.Element.{Element}
-use Rattle.pj_element.specs.Runs.{rows_of}
+use Rattle.pj_pattern.specs.declared.element.Element.{Element}
+use Rattle.pj_pattern.specs.Elements.{rows_of}
 use Rattle.pj_laws.specs.Bags.{times, SubBag}
 use Rattle.pj_laws.specs.Join.{upto_from}
 use Rattle.pj_laws.specs.Join.{rows_of as rows_in}
@@ -23,7 +23,7 @@ use Rattle.pj_laws.proofs.Retract.{never-retracts}
 use Rattle.pj_laws.proofs.Small.{small-planned, small-nodes, small-no_group}
 use Rattle.pj_engine.specs.Runs.{accepted_of, history_of, outputs_of, answer_of}
 use Rattle.pj_engine.specs.Top.{arrived_in, gone_on, StaysRight}
-use Rattle.pj_engine.proofs.SeenLaws.{rows_of-append}
+use Rattle.pj_intake.proofs.Counts.{rows_of-append}
 use Rattle.pj_engine.proofs.AcceptedLaws.{accepted_lists, rows_same}
 use Rattle.pj_engine.proofs.OutputLaws.{whole_run}
 

@@ -2,9 +2,9 @@
 use Rattle.std.proofs.Common.{◌≡◌, ◌≢◌, ℕ, true, false, not, ◌==◌, inl, inr, List, [], ◌∷◌, ◌++◌, refl, ap, sym, ◌∙◌, append_assoc, append-nil, subst}
 use Rattle.std.specs.Prelude.{filter}
 use Rattle.std.proofs.lemmas.Bool.Decides.{eqb_tells}
-use Rattle.pj_element.specs.declared.element.Element.{Element}
-use Rattle.pj_element.specs.declared.element.Element.TheVariants.{Tuple, Punct}
-use Rattle.pj_element.specs.Lines.{HasNo}
+use Rattle.pj_pattern.specs.declared.element.Element.{Element}
+use Rattle.pj_pattern.specs.declared.element.Element.TheVariants.{Tuple, Punct}
+use Rattle.pj_line.specs.Lines.{HasNo}
 use Rattle.pj_element.specs.Runs.{element_line, element_lines, fed}
 use Rattle.pj_element.proofs.Feeds.{row_no_feed, punct_no_feed}
 use Rattle.pj_engine.specs.Written.{flat, lines_behind, whole_lines, is_note, result_lines, Spells}

@@ -23,7 +23,12 @@ writes_none lines before = record { first = []; others = lines; all = refl; writ
 stop_then : (status : Status) (xs ys : List (List ℕ)) (before mid after : List ℕ) → mid ≡ before ++ flat xs → StopLeaves status ys mid after → StopLeaves status (xs ++ ys) before after
 stop_then Done xs ys before mid after first stop = stop
 stop_then NotBuilt xs ys before mid after first stop = stop
-stop_then (ReadFault operand) xs ys before mid after first stop = stop
+stop_then (ReadFault operand) xs ys before mid after first stop = record {
+  first = xs ++ stop.first;
+  others = stop.others;
+  all = append_assoc xs stop.first stop.others ∙ ap (λ (zs : List (List ℕ)). xs ++ zs) stop.all;
+  written = stop.written ∙ (ap (λ (zs : List ℕ). zs ++ flat stop.first) first ∙ (append_assoc before (flat xs) (flat stop.first) ∙ ap (λ (zs : List ℕ). before ++ zs) (sym (flat-append xs stop.first))));
+}
 stop_then WriteFault xs ys before mid after first stop = record {
   front = flat xs ++ stop.front;
   others = stop.others;
@@ -52,7 +57,12 @@ writes_then (Err status) xs ys before mid after first then = stop_then status xs
 stop_before : (status : Status) (xs ys : List (List ℕ)) (before after : List ℕ) → StopLeaves status xs before after → StopLeaves status (xs ++ ys) before after
 stop_before Done xs ys before after stop = stop
 stop_before NotBuilt xs ys before after stop = stop
-stop_before (ReadFault operand) xs ys before after stop = stop
+stop_before (ReadFault operand) xs ys before after stop = record {
+  first = stop.first;
+  others = stop.others ++ ys;
+  all = sym (append_assoc stop.first stop.others ys) ∙ ap (λ (zs : List (List ℕ)). zs ++ ys) stop.all;
+  written = stop.written;
+}
 stop_before WriteFault xs ys before after stop = record {
   front = stop.front;
   others = stop.others ++ flat ys;

@@ -7,8 +7,8 @@ use Rattle.pj_shape.specs.declared.columns.Column.{Column}
 use Rattle.pj_shape.specs.declared.plans.SmallPlan.{SmallPlan}
 use Rattle.pj_shape.specs.declared.plans.SmallStream.{SmallStream}
 use Rattle.pj_shape.specs.declared.plans.SmallJoin.{SmallJoin}
-use Rattle.pj_element.specs.declared.element.Element.{Element}
-use Rattle.pj_element.specs.declared.element.Element.TheVariants.{Tuple, Punct}
+use Rattle.pj_pattern.specs.declared.element.Element.{Element}
+use Rattle.pj_pattern.specs.declared.element.Element.TheVariants.{Tuple, Punct}
 use Rattle.pj_element.specs.Runs.{IsLawful, rows_of, puncts_of, closing}
 use Rattle.pj_element.specs.Accepted.{taken_of, fates_of}
 use Rattle.pj_laws.specs.Bags.{SameBag}

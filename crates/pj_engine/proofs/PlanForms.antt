@@ -1,26 +1,26 @@
 -- What holds of a plan that is read: it is small, and its names are plain.
-use Rattle.std.proofs.Common.{◌≡◌, ◌≢◌, ◌⊎◌, ℕ, ◌+◌, ◌≤◌, ◌<◌, Bool, true, false, ◌&&◌, ◌||◌, not, cond, List, [], ◌∷◌, Option, Some, None, length, slice_get, refl, ap, sym, ◌∙◌, subst, inl, inr, IfSome, arith, map}
+use Rattle.std.proofs.Common.{◌≡◌, ◌≢◌, ℕ, ◌+◌, ◌≤◌, ◌<◌, Bool, true, false, ◌&&◌, cond, List, [], ◌∷◌, Option, Some, None, length, slice_get, refl, ap, sym, ◌∙◌, subst, inl, inr, IfSome, arith, map}
 use Rattle.std.proofs.lemmas.Bool.{false≢true, and_parts, and_from, or_left, or_right, not-true, leb-true, eq-eqb}
 use Rattle.std.specs.List.{list_all, list_any}
 use Rattle.std.specs.Prelude.{◌==◌, nat_le}
 use Rattle.pj_value.specs.declared.values.Kind.{Kind}
 use Rattle.pj_value.specs.declared.values.Kind.TheVariants.{Int, Text}
-use Rattle.pj_value.specs.Options.{both, with_first}
+use Rattle.pj_value.specs.Options.{both}
 use Rattle.pj_shape.specs.declared.columns.Column.{Column}
 use Rattle.pj_shape.specs.declared.joins.ClassCol.{ClassCol}
 use Rattle.pj_shape.specs.declared.plans.SmallPlan.{SmallPlan}
 use Rattle.pj_shape.specs.declared.plans.SmallStream.{SmallStream}
 use Rattle.pj_shape.specs.Lists.{In}
 use Rattle.pj_shape.specs.Joining.{has_column}
-use Rattle.pj_shape.specs.Sound.{IsOfKind, AreOfOtherInputs, IsSoundClass, AreApart, IsSoundSpec}
+use Rattle.pj_shape.specs.Sound.{IsOfKind, IsSoundClass, AreApart, IsSoundSpec}
 use Rattle.pj_laws.specs.CoreKept.{IsSmallPlan, columns_of}
 use Rattle.pj_laws.specs.Join.{AreDistinct}
 use Rattle.pj_engine.specs.declared.plan.Statement.{Statement}
 use Rattle.pj_engine.specs.declared.plan.ClassLine.{ClassLine}
 use Rattle.pj_engine.specs.declared.plan.JoinLine.{JoinLine}
-use Rattle.pj_engine.specs.Statements.{all_of, is_name, is_column_name, begins_small, is_name_byte}
+use Rattle.pj_engine.specs.Statements.{all_of, is_name, is_column_name}
 use Rattle.pj_engine.specs.PlanForms.{HasPlainNames, is_plain, place_of, kind_eq, same_kind, pair_of, paired, class_between, or_else, class_in, is_apart, are_apart, are_classes}
-use Rattle.pj_engine.specs.Plans.{plan_in, plan_with, stream_plan, is_stream_plan, join_plan, is_join_plan, joined, joined_by, inputs_are, are_schemas, is_schema, are_names, is_in_order, no_schemes, are_schemes, names_differ, share_no_name, is_plan, with_schemes, streams_in, joins_in}
+use Rattle.pj_engine.specs.Plans.{plan_in, plan_with, stream_plan, is_stream_plan, join_plan, is_join_plan, joined, joined_by, inputs_are, are_schemas, is_schema, are_names, is_plan, with_schemes, streams_in, joins_in}
 
 -- ---- how many columns
 

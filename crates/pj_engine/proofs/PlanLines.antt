@@ -1,10 +1,16 @@
 -- The statements of a plan.
-use Rattle.std.proofs.Common.{◌≡◌, ℕ, ◌≤◌, Bool, true, false, ◌&&◌, cond, List, [], ◌∷◌, ◌++◌, Option, Some, None, length, refl, ap, sym, ◌∙◌, append_assoc, subst, inl, inr, IfSome}
+use Rattle.std.proofs.Common.{◌≡◌, ℕ, suc, ◌+◌, ◌-◌, ◌^◌, ◌≤◌, ◌<◌, ◌==◌, Bool, true, false, cond, if◌then◌else◌, List, [], ◌∷◌, ◌++◌, Option, Some, None, Ok, Err, length, take, drop, get_or, refl, ap, sym, ◌∙◌, append_assoc, arith}
+use Rattle.std.specs.Prelude.{slice_index}
+use Rattle.std.proofs.lemmas.Bool.Decides.{nat_tests}
+use Rattle.std.proofs.lemmas.List.{at_drop_more, at_drop_all, length-take}
 use Rattle.pj_value.specs.Options.{with_first, with_front, both}
-use Rattle.pj_element.specs.Lines.{pieces}
-use Rattle.pj_element.specs.Cells.{cells_of}
+use Rattle.pj_line.specs.declared.cell.Cell.{Cell}
+use Rattle.pj_line.specs.declared.cell.CellFault.{CellFault}
+use Rattle.pj_line.specs.declared.cell.CellFault.TheVariants.{Unclosed, TooMany}
+use Rattle.pj_line.specs.Lines.{pieces, line_of}
+use Rattle.pj_line.specs.Cells.{AreCut, bytes_in, cells_of}
 use Rattle.pj_engine.specs.declared.plan.Statement.{Statement}
-use Rattle.pj_engine.specs.Statements.{all_of, statements_of, is_passed, line_stated}
+use Rattle.pj_engine.specs.Statements.{all_of, statements_of, is_passed, is_short, line_stated, statement_in, statement_of}
 
 one_more : {A : Type 0} (done : List A) (x : A) (o : Option (List A)) → with_front done (with_first x o) ≡ with_front (done ++ x ∷ []) o
 one_more done x None = refl
@@ -33,13 +39,50 @@ item_bad f items rest behind item done before cut said =
 pub items_end : {A : Type 0} {B : Type 0} (f : A → Option B) (items rest : List A) (done : List B) → all_of f items ≡ with_front done (all_of f rest) → rest ≡ [] → all_of f items ≡ Some done
 items_end f items rest done before end = before ∙ (ap (λ (r : List _). with_front done (all_of f r)) end ∙ ap Some (append_none done))
 
--- the loop over the cells of a line
-pub cell_more : (line rest cell behind : List ℕ) (copy : List ℕ) (done : List (List ℕ)) → cells_of line ≡ with_front done (cells_of rest) → cells_of rest ≡ with_first cell (cells_of behind) → copy ≡ cell → cells_of line ≡ with_front (done ++ copy ∷ []) (cells_of behind)
-cell_more line rest cell behind copy done before cut same =
-    before ∙ (ap (with_front done) cut ∙ (ap (λ (c : List ℕ). with_front done (with_first c (cells_of behind))) (sym same) ∙ one_more done copy (cells_of behind)))
+-- ---- the cells of a line
 
-pub cells_end : (line rest : List ℕ) (done : List (List ℕ)) → cells_of line ≡ with_front done (cells_of rest) → cells_of rest ≡ Some [] → cells_of line ≡ Some done
-cells_end line rest done before end = before ∙ (ap (with_front done) end ∙ ap Some (append_none done))
+-- the loop over the cells of a line
+pub cells_more : (cells : List Cell) (i : ℕ) (cell : Cell) (done : List (List ℕ)) (copy : List ℕ) → done ++ bytes_in (drop i cells) ≡ bytes_in cells → i < length cells → cell ≡ get_or cells i cell → copy ≡ cell.bytes.now
+    → (done ++ copy ∷ []) ++ bytes_in (drop (i + 1) cells) ≡ bytes_in cells
+cells_more cells i cell done copy before lt is same =
+    append_assoc done (copy ∷ []) (bytes_in (drop (i + 1) cells))
+    ∙ (ap (λ (c : List ℕ). done ++ (c ∷ bytes_in (drop (i + 1) cells))) (same ∙ ap (λ (c : Cell). c.bytes.now) is)
+    ∙ (ap (λ (cs : List (List ℕ)). done ++ cs) (sym (at_drop_more bytes_in cells i cell lt)) ∙ before))
+
+pub cells_end : (cells : List Cell) (i : ℕ) (done : List (List ℕ)) → done ++ bytes_in (drop i cells) ≡ bytes_in cells → length cells ≤ i → done ≡ bytes_in cells
+cells_end cells i done before le = sym (append_none done) ∙ (ap (λ (cs : List (List ℕ)). done ++ cs) (sym (at_drop_all bytes_in cells i le)) ∙ before)
+
+length-bytes_in : (cells : List Cell) → length (bytes_in cells) ≡ length cells
+length-bytes_in [] = refl
+length-bytes_in (c ∷ cs) = ap suc (length-bytes_in cs)
+
+short_line : (b : Bool) (piece : List ℕ) → length (if b then take (length piece - 1) piece else piece) ≤ length piece
+short_line true piece = omega (arith, length-take (length piece - 1) piece)
+short_line false piece = omega arith
+
+-- the line of a piece is no longer than the piece
+pub line_is_short : (piece line : List ℕ) → line ≡ line_of piece → length piece ≤ 65536 → length line < 2 ^ 32
+line_is_short piece line is le = omega (arith, ap length is, le, short_line (slice_index piece (length piece - 1) == 13) piece)
+
+short_stated : (piece : List ℕ) → is_short piece ≡ true → line_stated piece ≡ statement_in (cells_of (line_of piece))
+short_stated piece e = rw e refl
+
+few_cells : (cells : List (List ℕ)) → length cells ≤ 128 → statement_in (Some cells) ≡ statement_of cells
+few_cells cells few = grind (arith, nat_tests)
+
+many_cells : (cells : List (List ℕ)) → 128 < length cells → statement_in (Some cells) ≡ None
+many_cells cells many = grind (arith, nat_tests)
+
+-- a line that is cut into cells
+pub line_cut : (piece line : List ℕ) (cells : List Cell) → is_short piece ≡ true → line ≡ line_of piece → AreCut line (Ok cells) → line_stated piece ≡ statement_of (bytes_in cells)
+line_cut piece line cells e is cut =
+    short_stated piece e ∙ (ap (λ (l : List ℕ). statement_in (cells_of l)) (sym is)
+    ∙ (ap statement_in cut.0 ∙ few_cells (bytes_in cells) (omega (arith, cut.1, length-bytes_in cells))))
+
+-- and one that is not
+pub line_uncut : (piece line : List ℕ) (fault : CellFault) → is_short piece ≡ true → line ≡ line_of piece → AreCut line (Err fault) → line_stated piece ≡ None
+line_uncut piece line (Unclosed at) e is cut = short_stated piece e ∙ (ap (λ (l : List ℕ). statement_in (cells_of l)) (sym is) ∙ ap statement_in cut.0)
+line_uncut piece line TooMany e is cut = short_stated piece e ∙ (ap (λ (l : List ℕ). statement_in (cells_of l)) (sym is) ∙ (ap statement_in cut.1 ∙ many_cells cut.0 cut.2))
 
 -- the loop over the lines
 abbrev pub LinesSoFar : List ℕ → List Statement → List ℕ → Type 0

@@ -1,33 +1,31 @@
 -- What a run leaves written.
-use Rattle.std.proofs.Common.{◌≡◌, ◌≤◌, ◌<◌, ◌≢◌, ◌+◌, ◌⊎◌, ℕ, Bool, true, not, ◌==◌, inl, inr, List, [], ◌∷◌, ◌++◌, map, length, take, drop, Option, None, Some, Result, Ok, Err, refl, ap, sym, ◌∙◌, subst, append-nil, arith}
+use Rattle.std.proofs.Common.{◌≡◌, ◌≤◌, ◌≢◌, ℕ, Bool, true, not, ◌==◌, inl, inr, List, [], ◌∷◌, ◌++◌, map, length, Option, None, Some, Ok, refl, ap, sym, ◌∙◌, subst, append-nil, arith}
 use Rattle.std.specs.Prelude.{codes}
 use Rattle.std.specs.List.{list_all}
 use Rattle.std.specs.Fmt.{decimal}
 use Rattle.std.proofs.lemmas.Bool.{false≢true, and_parts}
 use Rattle.std.proofs.lemmas.Bool.Decides.{nat_tests, eqb_tells}
-use Rattle.pj_io.specs.Causes.{Rose}
 use Rattle.pj_shape.specs.declared.plans.SmallPlan.{SmallPlan}
 use Rattle.pj_shape.specs.declared.plans.SmallStream.{SmallStream}
 use Rattle.pj_shape.specs.declared.plans.SmallJoin.{SmallJoin}
-use Rattle.pj_element.specs.declared.element.Element.{Element}
+use Rattle.pj_pattern.specs.declared.element.Element.{Element}
 use Rattle.pj_element.specs.declared.element.Reject.{Reject}
-use Rattle.pj_element.specs.declared.element.Reject.TheVariants.{NotElement, Closed}
+use Rattle.pj_element.specs.declared.element.Reject.TheVariants.{TooLong, NotElement, Arity, BadCell, WrongKind, Closed}
 use Rattle.pj_element.specs.declared.tally.Tally.{Tally}
-use Rattle.pj_element.specs.Lines.{HasNo}
-use Rattle.pj_element.specs.Runs.{rows_of, puncts_of, element_lines}
+use Rattle.pj_line.specs.Lines.{HasNo}
+use Rattle.pj_element.specs.Runs.{rows_of, puncts_of}
 use Rattle.pj_element.specs.Accepted.{fates_of, tally_of}
 use Rattle.pj_element.proofs.Feeds.{both_have_no, decimal_no_feed}
 use Rattle.pj_laws.specs.CoreKept.{nodes_of}
 use Rattle.pj_laws.specs.Outcomes.{peak_of}
 use Rattle.pj_engine.specs.declared.status.Status.{Status}
 use Rattle.pj_engine.specs.declared.status.Status.TheVariants.{Done, NotBuilt, ReadFault, WriteFault, NoMemory, Limit}
-use Rattle.pj_engine.specs.Files.{IsOverStop}
 use Rattle.pj_engine.specs.Statements.{is_name_byte}
 use Rattle.pj_engine.specs.PlanForms.{HasPlainNames, is_plain, are_plain, is_plain_join}
 use Rattle.pj_engine.specs.Plans.{plan_of}
 use Rattle.pj_engine.specs.Report.{stream_line, stream_lines, reject_line, reject_words, results_line, peak_line, counted_to, status_line}
 use Rattle.pj_engine.specs.Runs.{outputs_of, history_of, report_of, run_lines, streams_report, peaks_report}
-use Rattle.pj_engine.specs.Top.{Ran, StoppedRun, join_name}
+use Rattle.pj_engine.specs.Top.{Ran, StoppedRun, RunEnds, stop_name, limit_name}
 use Rattle.pj_engine.specs.Written.{flat, FrontOf, Delivered, StopLeaves, Writes}
 use Rattle.pj_engine.proofs.Fronts.{IsNoteLine, AreNotes, notes-append}
 
@@ -55,25 +53,20 @@ earlier_rose : (line before after : List ℕ) (faults mid faults' : ℕ) → fau
 earlier_rose line before after faults mid faults' le (inl e) = inl e
 earlier_rose line before after faults mid faults' le (inr cut) = inr (omega (arith, cut.0), cut.1)
 
-stopped_at : (status : Status) (plan : SmallPlan) (plan_bytes : List ℕ) (files : List (List ℕ)) (before mid after : List ℕ) (faults faults_mid faults' : ℕ) → plan_of plan_bytes ≡ Some plan
-    → StopLeaves status (run_lines plan files) before mid → faults ≤ faults_mid → Delivered (status_line (join_name plan.join) status) mid after faults_mid faults' → StoppedRun status plan_bytes files before after faults faults'
-stopped_at Done plan plan_bytes files before mid after faults faults_mid faults' read stop le line = absurd stop
-stopped_at NotBuilt plan plan_bytes files before mid after faults faults_mid faults' read stop le line = absurd stop
-stopped_at (ReadFault n) plan plan_bytes files before mid after faults faults_mid faults' read stop le line = absurd stop
-stopped_at WriteFault plan plan_bytes files before mid after faults faults_mid faults' read stop le line =
-    (plan, read, subst (λ (now : List ℕ). FrontOf (flat (run_lines plan files)) before now) (sym (same_after mid after faults_mid faults' line)) stop)
-stopped_at NoMemory plan plan_bytes files before mid after faults faults_mid faults' read stop le line =
-    (mid, inr (plan, read, stop), earlier_rose (status_line [] NoMemory) mid after faults faults_mid faults' le line)
-stopped_at (Limit what) plan plan_bytes files before mid after faults faults_mid faults' read stop le line =
-    (plan, mid, read, stop, earlier_rose (status_line (join_name plan.join) (Limit what)) mid after faults faults_mid faults' le line)
-
 -- the run stopped, and then the line of its status was written
-pub stopped : (status : Status) (plan : SmallPlan) (plan_bytes name : List ℕ) (ready files : List (List ℕ)) (before mid after : List ℕ) (faults faults_mid faults' : ℕ) → plan_of plan_bytes ≡ Some plan → ready ≡ files
-    → name ≡ join_name plan.join → StopLeaves status (run_lines plan ready) before mid → faults ≤ faults_mid → Delivered (status_line name status) mid after faults_mid faults' → StoppedRun status plan_bytes files before after faults faults'
-stopped status plan plan_bytes name ready files before mid after faults faults_mid faults' read same named stop le line =
-    stopped_at status plan plan_bytes files before mid after faults faults_mid faults' read
-    (subst (λ (fs : List (List ℕ)). StopLeaves status (run_lines plan fs) before mid) same stop) le
-    (subst (λ (n : List ℕ). Delivered (status_line n status) mid after faults_mid faults') named line)
+pub stopped : (status : Status) (plan : SmallPlan) (plan_bytes name : List ℕ) (files names : List (List ℕ)) (last_before last_after : List ℕ → ℕ) (before mid after : List ℕ) (faults faults_mid faults' : ℕ) → plan_of plan_bytes ≡ Some plan
+    → name ≡ stop_name plan status → StopLeaves status (run_lines plan files) before mid → RunEnds status plan files names last_before last_after before mid → faults ≤ faults_mid
+    → Delivered (status_line name status) mid after faults_mid faults' → StoppedRun status plan_bytes files names last_before last_after before after faults faults'
+stopped Done plan plan_bytes name files names last_before last_after before mid after faults faults_mid faults' read named stop ends le line = absurd stop
+stopped NotBuilt plan plan_bytes name files names last_before last_after before mid after faults faults_mid faults' read named stop ends le line = absurd stop
+stopped (ReadFault n) plan plan_bytes name files names last_before last_after before mid after faults faults_mid faults' read named stop ends le line =
+    inr (plan, mid, read, ends, earlier_rose (status_line [] (ReadFault n)) mid after faults faults_mid faults' le (subst (λ (x : List ℕ). Delivered (status_line x (ReadFault n)) mid after faults_mid faults') named line))
+stopped WriteFault plan plan_bytes name files names last_before last_after before mid after faults faults_mid faults' read named stop ends le line =
+    (plan, read, subst (λ (now : List ℕ). FrontOf (flat (run_lines plan files)) before now) (sym (same_after mid after faults_mid faults' line)) stop)
+stopped NoMemory plan plan_bytes name files names last_before last_after before mid after faults faults_mid faults' read named stop ends le line =
+    (mid, inr (plan, read, stop), earlier_rose (status_line [] NoMemory) mid after faults faults_mid faults' le line)
+stopped (Limit what) plan plan_bytes name files names last_before last_after before mid after faults faults_mid faults' read named stop ends le line =
+    (plan, mid, read, ends, earlier_rose (status_line (limit_name plan what) (Limit what)) mid after faults faults_mid faults' le (subst (λ (x : List ℕ). Delivered (status_line x (Limit what)) mid after faults_mid faults') named line))
 
 -- ---- notes
 
@@ -108,7 +101,11 @@ number : (n : ℕ) → NoFeed (decimal n)
 number n = record { it = decimal_no_feed n }
 
 words_no_feed : (why : Reject) → NoFeed (reject_words why)
+words_no_feed TooLong = literal (codes "too long") refl
 words_no_feed NotElement = literal (codes "not an element") refl
+words_no_feed (Arity want got) = and_then (and_then (and_then (literal (codes "arity want ") refl) (number want)) (literal (codes " got ") refl)) (number got)
+words_no_feed (BadCell column) = and_then (literal (codes "bad cell ") refl) (number column)
+words_no_feed (WrongKind column) = and_then (literal (codes "wrong kind ") refl) (number column)
 words_no_feed (Closed line) = and_then (literal (codes "closed by line ") refl) (number line)
 
 reject_note : (name : List ℕ) (r : ℕ × Reject) → HasNo 10 name → IsNoteLine (reject_line name r)

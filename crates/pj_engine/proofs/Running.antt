@@ -1,25 +1,28 @@
 -- A run on one thread, turn by turn.
-use Rattle.std.proofs.Common.{◌≡◌, ◌⊎◌, ℕ, zero, suc, ◌<◌, false, List, [], ◌∷◌, ◌++◌, length, map, get_or, Option, Some, None, Result, Ok, Err, IsErrAnd, refl, ap, ap₂, sym, ◌∙◌, append_assoc, append-nil, subst, inl, inr, arith, zero-add}
-use Rattle.std.proofs.lemmas.List.{length-map, same_lists, get_or_default}
+use Rattle.std.proofs.Common.{◌≡◌, ℕ, ◌+◌, ◌<◌, false, List, [], ◌∷◌, ◌++◌, length, map, get_or, Some, None, Result, Ok, Err, IsErrAnd, refl, ap, ap₂, sym, ◌∙◌, append_assoc, append-nil, subst, arith, zero-add, Bool, true, take, drop}
+use Rattle.std.specs.List.{slice_get}
+use Rattle.std.specs.Option.{option_map}
+use Rattle.std.proofs.lemmas.List.{length-map, length-append, map-append, take-append-drop, same_lists, get_or_default}
+use Rattle.std.proofs.lemmas.Option.{slice_get-map, get_or_from_slice_get}
 use Rattle.pj_shape.specs.declared.columns.Column.{Column}
 use Rattle.pj_shape.specs.declared.plans.SmallPlan.{SmallPlan}
 use Rattle.pj_shape.specs.declared.plans.SmallStream.{SmallStream}
 use Rattle.pj_shape.specs.declared.plans.SmallJoin.{SmallJoin}
-use Rattle.pj_element.specs.declared.element.Element.{Element}
+use Rattle.pj_pattern.specs.declared.element.Element.{Element}
+use Rattle.pj_pattern.specs.declared.element.Element.TheVariants.{Punct}
 use Rattle.pj_element.specs.declared.tally.Tally.{Tally}
 use Rattle.pj_laws.specs.declared.events.Entry.{Entry}
 use Rattle.pj_laws.specs.declared.events.Event.TheVariants.{Arrive}
 use Rattle.pj_laws.specs.declared.events.Out.{Out}
 use Rattle.pj_laws.specs.declared.events.Stop.TheVariants.{Limit as CoreLimit}
-use Rattle.pj_laws.specs.Join.{In}
+use Rattle.pj_laws.specs.Patterns.{all_wild}
 use Rattle.pj_laws.specs.Plan.{Node, FitsSchema, operator_at}
 use Rattle.pj_laws.specs.History.{nodes_from, reached_of, streams_of, IsLegal, IsEntryAllowed}
 use Rattle.pj_laws.specs.Outcomes.{elements_out, goes_beyond, peak_of}
-use Rattle.pj_laws.specs.Outcomes.{outputs_of as handed_out}
-use Rattle.pj_laws.specs.OneThread.{Turn, follow_up, turns_of, heads, tails, rounds, longest, in_rounds, arrival_of, turn_entries, turns_entries, all_turns, schema_of}
+use Rattle.pj_laws.specs.Outcomes.{outputs_of as handed_out, elements_of as arrived_at}
+use Rattle.pj_laws.specs.OneThread.{Turn, follow_up, turns_of, in_rounds, arrival_of, turn_entries, turns_entries, all_turns, schema_of}
 use Rattle.pj_laws.specs.CoreKept.{nodes_of, columns_of, IsSmallPlan}
-use Rattle.pj_laws.proofs.Lists.{In-append_cases}
-use Rattle.pj_laws.proofs.Rounds.{length-all, all-at}
+use Rattle.pj_laws.proofs.Rounds.{AreTagged, length-all, all-at}
 use Rattle.pj_laws.proofs.Probes.{nodes-append}
 use Rattle.pj_laws.proofs.Steps.{elements-append}
 use Rattle.pj_laws.proofs.Small.{small-planned}
@@ -27,21 +30,26 @@ use Rattle.pj_laws.proofs.HistoryAnswers.{grows-legally, fronts-are-legal}
 use Rattle.pj_laws.proofs.OneThreadAnswer.{unswept-whole, rounds-go-on}
 use Rattle.pj_core.specs.Cores.{CoreState, StandsFor, MayFollow}
 use Rattle.pj_core.specs.Calls.{IsFresh, IsCause, IsPeak, turn_behind}
-use Rattle.pj_engine.specs.declared.feeds.Feed.{Feed}
 use Rattle.pj_engine.specs.declared.feeds.Next.{Next}
+use Rattle.pj_engine.specs.declared.feeds.Next.TheVariants.{Bring, Close}
 use Rattle.pj_engine.specs.declared.outs.Counts.{Counts}
 use Rattle.pj_engine.specs.declared.status.Status.{Status}
 use Rattle.pj_engine.specs.declared.status.Status.TheVariants.{NoMemory}
-use Rattle.pj_engine.specs.Feeds.{feed_left, feeds_left, turn_in, turn_of, tallies_of, AreFeeds, Gives}
+use Rattle.pj_intake.specs.declared.intake.IntakeStop.{IntakeStop}
+use Rattle.pj_intake.specs.declared.intake.IntakeStop.TheVariants.{ReadFault as IntakeFault, ByteLimit, NoMemory as OutOfMemory}
+use Rattle.pj_engine.specs.Feeds.{FeedState, feed_left, feeds_left, brought, closes, turn_in, tallies_of, all_accepted, count_of, files_of, AreFeeds, AreNew, AreSameFeeds, AllTold, BringsIn, FeedStops, StopsIn, status_of_feed}
 use Rattle.pj_engine.specs.Outcome.{IsOutcome}
 use Rattle.pj_engine.specs.Outs.{out_lines, counts_of}
 use Rattle.pj_engine.specs.Runs.{accepted_of, history_of, GoesBeyond, most_arrivals}
-use Rattle.pj_engine.specs.Turning.{IsTurnOf, turn_outs, TurnDone}
+use Rattle.pj_engine.specs.Turning.{IsTurnOf, turn_outs, TurnDone, TurnsEnd}
+use Rattle.pj_engine.specs.Top.{EndsBefore}
 use Rattle.pj_engine.specs.Written.{Writes, done_of}
 use Rattle.pj_engine.proofs.Lines.{stopped_none, stopped_then}
 use Rattle.pj_engine.proofs.Counting.{out_lines-append}
 use Rattle.pj_engine.proofs.TurnLaws.{outputs-append}
-use Rattle.pj_engine.proofs.Accepting.{count-streams, schema-is, accepted-from, accepted_lists}
+use Rattle.pj_engine.proofs.Accepting.{count-streams, schema-is, accepted_lists}
+use Rattle.pj_engine.proofs.AllFeeds.{all_same, all_same_then, told_at, told_still, files_still, IsOneOf, one_of, feeds_long, first_left, left_tagged, tagged_parts, accepted_of_feed}
+use Rattle.pj_engine.proofs.Arrivals.{elements-turns, brought-left, arrived-is}
 
 -- ---- all turns
 
@@ -58,62 +66,22 @@ list-at plan files k lt =
     ∙ sym (all-at (nodes_of plan) 0 k 0 (streams_of (nodes_of plan)) (accepted_of plan.streams files) (omega (arith, lt, count-streams plan))))
 
 -- the turns that are left in the feeds at first are those of the history
-feeds-lists : (plan : SmallPlan) (files : List (List ℕ)) (feeds : List Feed) → AreFeeds plan.streams files feeds → map (feed_left plan.streams) feeds ≡ turn_lists plan files
-feeds-lists plan files feeds f =
-    same_lists (map (feed_left plan.streams) feeds) (turn_lists plan files)
-    (length-map feeds (feed_left plan.streams) ∙ (f.all ∙ sym (count-lists plan files)))
+feeds-lists : (plan : SmallPlan) (feeds : List FeedState) → AreFeeds 0 plan.streams feeds → AreNew feeds → map (feed_left plan.streams) feeds ≡ turn_lists plan (files_of feeds)
+feeds-lists plan feeds f new =
+    same_lists (map (feed_left plan.streams) feeds) (turn_lists plan (files_of feeds))
+    (length-map feeds (feed_left plan.streams) ∙ (feeds_long 0 plan.streams feeds f ∙ sym (count-lists plan (files_of feeds))))
     (λ k d lt. at k d lt)
   where
-    at : (k : ℕ) (d : List Turn) → k < length (map (feed_left plan.streams) feeds) → get_or (map (feed_left plan.streams) feeds) k d ≡ get_or (turn_lists plan files) k d
+    at : (k : ℕ) (d : List Turn) → k < length (map (feed_left plan.streams) feeds) → get_or (map (feed_left plan.streams) feeds) k d ≡ get_or (turn_lists plan (files_of feeds)) k d
     at k d lt =
         let there : k < length feeds = omega (arith, lt, length-map feeds (feed_left plan.streams)) in
-        let place : k < length plan.streams = omega (arith, there, f.all) in
+        let place : k < length plan.streams = omega (arith, there, feeds_long 0 plan.streams feeds f) in
         get_or_default (map (feed_left plan.streams) feeds) k d [] lt
-        ∙ (f.turns k there ∙ (list-at plan files k place ∙ get_or_default (turn_lists plan files) k [] d (omega (arith, place, count-lists plan files))))
-
-abbrev IsSome : Turn → List (List Turn) → Type 0
-IsSome t [] = ⊥
-IsSome t (xs ∷ lists) = In t xs ⊎ IsSome t lists
-
-in-heads : (t : Turn) (lists : List (List Turn)) → In t (heads lists) → IsSome t lists
-in-heads t [] h = h
-in-heads t ([] ∷ lists) h = inr (in-heads t lists h)
-in-heads t ((x ∷ xs) ∷ lists) (inl q) = inl (inl q)
-in-heads t ((x ∷ xs) ∷ lists) (inr h) = inr (in-heads t lists h)
-
-in-tails : (t : Turn) (lists : List (List Turn)) → IsSome t (tails lists) → IsSome t lists
-in-tails t [] h = h
-in-tails t ([] ∷ lists) (inl h) = inl h
-in-tails t ([] ∷ lists) (inr h) = inr (in-tails t lists h)
-in-tails t ((x ∷ xs) ∷ lists) (inl h) = inl (inr h)
-in-tails t ((x ∷ xs) ∷ lists) (inr h) = inr (in-tails t lists h)
-
-in-rounds : (n : ℕ) (t : Turn) (lists : List (List Turn)) → In t (rounds n lists) → IsSome t lists
-in-rounds zero t lists h = absurd h
-in-rounds (suc n) t lists h = elim (In-append_cases t (heads lists) (rounds n (tails lists)) h) [ inl a ↦ in-heads t lists a | inr b ↦ in-tails t lists (in-rounds n t (tails lists) b) ]
-
-turn-fits : (streams : List SmallStream) (k : ℕ) (es : List Element) (t : Turn) → k < length streams → ((e : Element) → In e es → FitsSchema (columns_of streams k) e) → In t (turns_of k (columns_of streams k) es) → IsTurnOf streams t
-turn-fits streams k [] t there fit (inl q) = subst (IsTurnOf streams) q (there, λ z. absurd (omega (arith, z)))
-turn-fits streams k [] t there fit (inr h) = absurd h
-turn-fits streams k (e ∷ es) t there fit (inl q) = subst (IsTurnOf streams) q (there, λ z. fit e (inl refl))
-turn-fits streams k (e ∷ es) t there fit (inr h) = turn-fits streams k es t there (λ x m. fit x (inr m)) h
-
--- a turn of one of these lists stands at some place
-some-at : (t : Turn) (lists : List (List Turn)) → IsSome t lists → (k : ℕ) × (k < length lists) × In t (get_or lists k [])
-some-at t [] h = absurd h
-some-at t (xs ∷ lists) (inl h) = (0, omega arith, h)
-some-at t (xs ∷ lists) (inr h) = let r = some-at t lists h in (suc r.0, omega (arith, r.1), r.2)
+        ∙ (first_left plan.streams 0 plan.streams feeds k f new there
+        ∙ (ap (λ (n : ℕ). brought plan.streams n (get_or (accepted_of plan.streams (files_of feeds)) k []) ++ closes plan.streams n true) (zero-add k)
+        ∙ (list-at plan (files_of feeds) k place ∙ get_or_default (turn_lists plan (files_of feeds)) k [] d (omega (arith, place, count-lists plan (files_of feeds))))))
 
 -- ---- what holds while the run goes on
-
--- all turns that are left are of these streams and fit them
-abbrev pub AreTurnsOf : List SmallStream → List Turn → Type 0
-AreTurnsOf streams [] = Unit {0}
-AreTurnsOf streams (t ∷ ts) = IsTurnOf streams t × AreTurnsOf streams ts
-
-turns-from : (streams : List SmallStream) (ts : List Turn) → ((t : Turn) → In t ts → IsTurnOf streams t) → AreTurnsOf streams ts
-turns-from streams [] f = tt
-turns-from streams (t ∷ ts) f = (f t (inl refl), turns-from streams ts (λ x h. f x (inr h)))
 
 -- the turns that made this history were made, and the core stands for it; these are left
 pub record Ran (plan : SmallPlan) (files : List (List ℕ)) (history : List Entry) (core : CoreState) (left : List Turn) (counts : Counts) : Type 0 where
@@ -123,35 +91,22 @@ pub record Ran (plan : SmallPlan) (files : List (List ℕ)) (history : List Entr
   pub drained : core.undrained ≡ []
   pub stands : StandsFor core history
   pub all : history ++ turns_entries false (nodes_from (nodes_of plan) history) left ≡ history_of plan files
-  pub of : AreTurnsOf plan.streams left
   pub counted : counts ≡ counts_of (elements_out (handed_out false (nodes_of plan) history))
 
-first-turns : (plan : SmallPlan) (files : List (List ℕ)) (feeds : List Feed) (at : ℕ) → at ≡ 0 → AreFeeds plan.streams files feeds
-    → feeds_left plan.streams feeds at ≡ in_rounds (all_turns (nodes_of plan) 0 (streams_of (nodes_of plan)) (accepted_of plan.streams files))
-first-turns plan files feeds at first f =
-    ap (feeds_left plan.streams feeds) first ∙ (sym (rounds-go-on (map (feed_left plan.streams) feeds)) ∙ ap in_rounds (feeds-lists plan files feeds f))
+first-turns : (plan : SmallPlan) (feeds : List FeedState) (at : ℕ) → at ≡ 0 → AreFeeds 0 plan.streams feeds → AreNew feeds
+    → feeds_left plan.streams feeds at ≡ in_rounds (all_turns (nodes_of plan) 0 (streams_of (nodes_of plan)) (accepted_of plan.streams (files_of feeds)))
+first-turns plan feeds at first f new =
+    ap (feeds_left plan.streams feeds) first ∙ (sym (rounds-go-on (map (feed_left plan.streams) feeds)) ∙ ap in_rounds (feeds-lists plan feeds f new))
 
-first-fit : (plan : SmallPlan) (files : List (List ℕ)) (feeds : List Feed) (at : ℕ) → at ≡ 0 → AreFeeds plan.streams files feeds → AreTurnsOf plan.streams (feeds_left plan.streams feeds at)
-first-fit plan files feeds at first f =
-    subst (AreTurnsOf plan.streams) (rounds-go-on (map (feed_left plan.streams) feeds) ∙ ap (feeds_left plan.streams feeds) (sym first))
-    (turns-from plan.streams (in_rounds (map (feed_left plan.streams) feeds)) (λ t h. fits t (some-at t (map (feed_left plan.streams) feeds) (in-rounds (longest (map (feed_left plan.streams) feeds)) t (map (feed_left plan.streams) feeds) h))))
-  where
-    fits : (t : Turn) → (k : ℕ) × (k < length (map (feed_left plan.streams) feeds)) × In t (get_or (map (feed_left plan.streams) feeds) k []) → IsTurnOf plan.streams t
-    fits t r =
-        let there : r.0 < length feeds = omega (arith, r.1, length-map feeds (feed_left plan.streams)) in
-        let place : r.0 < length plan.streams = omega (arith, there, f.all) in
-        turn-fits plan.streams r.0 (get_or (accepted_of plan.streams files) r.0 []) t place (accepted-from r.0 plan.streams files place).0 (subst (In t) (f.turns r.0 there) r.2)
-
-pub begins : (plan : SmallPlan) (files : List (List ℕ)) (feeds : List Feed) (at : ℕ) (core : CoreState) (counts : Counts) → AreFeeds plan.streams files feeds → at ≡ 0 → IsFresh core plan most_arrivals → counts ≡ counts_of []
-    → Ran plan files [] core (feeds_left plan.streams feeds at) counts
-begins plan files feeds at core counts f first fresh none = record {
+pub begins : (plan : SmallPlan) (feeds : List FeedState) (at : ℕ) (core : CoreState) (counts : Counts) → AreFeeds 0 plan.streams feeds → AreNew feeds → at ≡ 0 → IsFresh core plan most_arrivals → counts ≡ counts_of []
+    → Ran plan (files_of feeds) [] core (feeds_left plan.streams feeds at) counts
+begins plan feeds at core counts f new first fresh none = record {
   of_plan = fresh.of_plan;
   limit = fresh.with_limit;
   on = fresh.on;
   drained = fresh.undrained;
   stands = fresh.stands;
-  all = ap (turns_entries false (nodes_of plan)) (first-turns plan files feeds at first f);
-  of = first-fit plan files feeds at first f;
+  all = ap (turns_entries false (nodes_of plan)) (first-turns plan feeds at first f new);
   counted = none;
 }
 
@@ -176,9 +131,6 @@ module _ (plan : SmallPlan) (files : List (List ℕ)) (small : IsSmallPlan plan)
   may_follow =
       subst (λ (p : SmallPlan). IsEntryAllowed (reached_of false (nodes_of p) history) (arrival_of t)) (sym ran.of_plan)
       ((grows-legally (nodes_of plan) history (arrival_of t)).0 (fronts-are-legal (nodes_of plan) (history ++ arrival_of t ∷ []) rest (subst (IsLegal (nodes_of plan)) (sym (append_assoc history (arrival_of t ∷ []) rest)) all-legal))).1
-
-  pub turn_of_streams : IsTurnOf core.plan.streams t
-  turn_of_streams = subst (λ (p : SmallPlan). IsTurnOf p.streams t) (sym ran.of_plan) ran.of.0
 
   parts : (history ++ turn_behind core history t) ++ turns_entries false (nodes_from nodes here) left ≡ history_of plan files
   parts =
@@ -223,7 +175,6 @@ module _ (plan : SmallPlan) (files : List (List ℕ)) (small : IsSmallPlan plan)
     drained = done.takes.undrained;
     stands = done.takes.stands history ran.stands may_follow;
     all = ap (λ (ns : List Node). (history ++ turn_behind core history t) ++ turns_entries false ns left) nodes-are ∙ parts;
-    of = ran.of.1;
     counted = done.counted (elements_out (handed_out false (nodes_of plan) history)) ran.counted
         ∙ ap counts_of (ap (λ (es : List Out). elements_out (handed_out false (nodes_of plan) history) ++ elements_out es) (done.takes.hands history ran.stands may_follow ∙ ap (λ (xs : List Out). xs ++ turn_outs core history t) ran.drained)
         ∙ (sym (elements-append (handed_out false (nodes_of plan) history) (turn_outs core history t)) ∙ ap elements_out (sym outs-are)));
@@ -256,17 +207,23 @@ pub err_same : {T : Type 0} (result : Result T Status) (status s : Status) → I
 err_same (Ok x) status s h e = absurd h
 err_same (Err x) status s h e = let same : x ≡ s = cc e in sym h ∙ same
 
-pub none_given : (streams : List SmallStream) (next : Option Next) (old new : List Turn) → next ≡ None → Gives old new (turn_of streams next) → old ≡ []
-none_given streams None old new e gives = gives
-none_given streams (Some n) old new e gives = absurd (cc)
+-- what a turn brings is of one of these streams and fits its columns
+pub turn_of_feeds : (streams : List SmallStream) (feeds : List FeedState) (next : Next) → AreFeeds 0 streams feeds → BringsIn feeds (Some next) → IsTurnOf streams (turn_in streams next)
+turn_of_feeds streams feeds (Bring stream element) f b =
+    let o = one_of 0 streams feeds b.0 b.1 f b.2 in
+    let number : stream ≡ b.0 = b.3.0 ∙ (o.is_number ∙ zero-add b.0) in
+    (omega (arith, number, o.there), λ z. subst (λ (ks : List Column). FitsSchema ks element) (o.schema ∙ ap (columns_of streams) (sym number)) b.3.1)
+turn_of_feeds streams feeds (Close stream) f b =
+    let o = one_of 0 streams feeds b.0 b.1 f b.2 in
+    let number : stream ≡ b.0 = b.3 ∙ (o.is_number ∙ zero-add b.0) in
+    (omega (arith, number, o.there), λ z. absurd (omega (arith, z)))
 
 -- the next turn is the first of those that are left
-pub ran_next : (plan : SmallPlan) (files : List (List ℕ)) (history : List Entry) (core : CoreState) (counts : Counts) (next : Next) (feeds feeds' : List Feed) (at at' : ℕ) → Ran plan files history core (feeds_left plan.streams feeds at) counts
-    → ((streams : List SmallStream) → feeds_left streams feeds at ≡ turn_in streams next ∷ feeds_left streams feeds' at')
-    → Ran plan files history core (turn_in core.plan.streams next ∷ feeds_left plan.streams feeds' at') counts
-ran_next plan files history core counts next feeds feeds' at at' ran gives =
+pub ran_next : (plan : SmallPlan) (files : List (List ℕ)) (history : List Entry) (core : CoreState) (counts : Counts) (next : Next) (old new : List Turn) → Ran plan files history core old counts
+    → old ≡ turn_in plan.streams next ∷ new → Ran plan files history core (turn_in core.plan.streams next ∷ new) counts
+ran_next plan files history core counts next old new ran gives =
     subst (λ (ts : List Turn). Ran plan files history core ts counts)
-    (gives plan.streams ∙ ap (λ (p : SmallPlan). turn_in p.streams next ∷ feeds_left plan.streams feeds' at') (sym ran.of_plan)) ran
+    (gives ∙ ap (λ (p : SmallPlan). turn_in p.streams next ∷ new) (sym ran.of_plan)) ran
 
 -- what is known once nothing is left
 pub outcome_of : (plan : SmallPlan) (files : List (List ℕ)) (history : List Entry) (core : CoreState) (left : List Turn) (counts : Counts) (tallies : List Tally) (peak : ℕ) → Ran plan files history core left counts → left ≡ []
@@ -277,3 +234,144 @@ outcome_of plan files history core left counts tallies peak ran none each stored
   stored = λ join is. stored join is ran.on history ran.stands
       ∙ ap₂ (λ (p : SmallPlan) (h : List Entry). peak_of (nodes_of p) h (length plan.streams)) ran.of_plan (all_ran plan files history core left counts ran none);
 }
+
+-- ---- a turn that could not be made
+
+-- the lines of the outputs are written up to a turn of this stream
+pub ends_before : (plan : SmallPlan) (files : List (List ℕ)) (history : List Entry) (core : CoreState) (left : List Turn) (counts : Counts) (t : Turn) (rest : List Turn) (stream : ℕ) (before lines : List ℕ) → Ran plan files history core left counts
+    → left ≡ t ∷ rest → t.stream ≡ stream → Writes (out_lines (handed_out false (nodes_of plan) history)) before lines (Ok tt) → EndsBefore plan files stream before lines
+ends_before plan files history core left counts t rest stream before lines ran is mine written =
+    let nodes : List Node = nodes_from (nodes_of plan) history in
+    record {
+      front = history;
+      next = arrival_of t;
+      back = follow_up false (nodes_from nodes (arrival_of t ∷ [])) t.element ++ turns_entries false (nodes_from nodes (turn_entries false nodes t)) rest;
+      run = sym (ap (λ (ts : List Turn). history ++ turns_entries false nodes ts) is) ∙ ran.all;
+      element = t.element;
+      turn = ap (λ (n : ℕ). Arrive n t.element) mine;
+      written = written;
+    }
+
+-- what arrived at a stream so far are the elements that were accepted of it
+pub arrived_so_far : (plan : SmallPlan) (small : IsSmallPlan plan) (files : List (List ℕ)) (history : List Entry) (core : CoreState) (feeds : List FeedState) (at : ℕ) (counts : Counts) (place : ℕ) (feed : FeedState)
+    → Ran plan files history core (feeds_left plan.streams feeds at) counts → AreFeeds 0 plan.streams feeds → files_of feeds ≡ files → slice_get feeds place ≡ Some feed → feed.is_open ≡ true
+    → arrived_at place history ≡ take (count_of feed) (all_accepted feed)
+arrived_so_far plan small files history core feeds at counts place feed ran f same is still =
+    arrived-is history (turns_entries false nodes (feeds_left plan.streams feeds at)) place (count_of feed) (all_accepted feed) closing (feeds_left plan.streams feeds at) whole rest
+  where
+    nodes : List Node
+    nodes = nodes_from (nodes_of plan) history
+
+    o : IsOneOf plan.streams (0 + place) place feed
+    o = one_of 0 plan.streams feeds place feed f is
+
+    closing : Element
+    closing = Punct (all_wild (length (columns_of plan.streams place)))
+
+    within : place < length (streams_of (nodes_of plan))
+    within = omega (arith, o.there, count-streams plan)
+
+    mine : get_or (accepted_of plan.streams files) place [] ≡ all_accepted feed
+    mine = ap (λ (fs : List (List ℕ)). get_or (accepted_of plan.streams fs) place []) (sym same) ∙ accepted_of_feed 0 plan.streams feeds place feed f is
+
+    whole : arrived_at place (history ++ turns_entries false nodes (feeds_left plan.streams feeds at)) ≡ all_accepted feed ++ closing ∷ []
+    whole =
+        ap (arrived_at place) ran.all
+        ∙ ((unswept-whole (nodes_of plan) (small-planned plan small) (accepted_of plan.streams files) (accepted_lists plan files)).elements place within
+        ∙ ap₂ (λ (es : List Element) (ks : List Column). es ++ Punct (all_wild (length ks)) ∷ []) mine (schema-is plan place (length (nodes_of plan)) o.there))
+
+    lists : List (List Turn)
+    lists = map (feed_left plan.streams) feeds
+
+    split : map (feed_left plan.streams) (take at feeds) ++ map (feed_left plan.streams) (drop at feeds) ≡ lists
+    split = sym (map-append (feed_left plan.streams) (take at feeds) (drop at feeds)) ∙ ap (map (feed_left plan.streams)) (take-append-drop at feeds)
+
+    here : get_or lists place [] ≡ feed_left plan.streams feed
+    here = get_or_from_slice_get lists place (feed_left plan.streams feed) [] (slice_get-map (feed_left plan.streams) feeds place ∙ ap (option_map (feed_left plan.streams)) is)
+
+    tagged : AreTagged 0 (map (feed_left plan.streams) (take at feeds) ++ map (feed_left plan.streams) (drop at feeds))
+    tagged = subst (AreTagged 0) (sym split) (left_tagged plan.streams 0 plan.streams feeds f)
+
+    long : length (map (feed_left plan.streams) (take at feeds)) + length (map (feed_left plan.streams) (drop at feeds)) ≡ length plan.streams
+    long = sym (length-append (map (feed_left plan.streams) (take at feeds)) (map (feed_left plan.streams) (drop at feeds))) ∙ (ap length split ∙ (length-map feeds (feed_left plan.streams) ∙ feeds_long 0 plan.streams feeds f))
+
+    turns-elements : (es : List Element) → map (λ t. t.element) (brought plan.streams feed.stream es ++ closes plan.streams feed.stream true) ≡ es ++ Punct (all_wild (length (columns_of plan.streams feed.stream))) ∷ []
+    turns-elements [] = refl
+    turns-elements (e ∷ es) = ap (λ (xs : List Element). e ∷ xs) (turns-elements es)
+
+    rest : arrived_at place (turns_entries false nodes (feeds_left plan.streams feeds at)) ≡ drop (count_of feed) (all_accepted feed) ++ closing ∷ []
+    rest =
+        elements-turns place nodes (feeds_left plan.streams feeds at)
+        ∙ (brought-left (map (feed_left plan.streams) (take at feeds)) (map (feed_left plan.streams) (drop at feeds)) place (tagged_parts (map (feed_left plan.streams) (take at feeds)) (map (feed_left plan.streams) (drop at feeds)) tagged).0 (tagged_parts (map (feed_left plan.streams) (take at feeds)) (map (feed_left plan.streams) (drop at feeds)) tagged).1 (omega (arith, long, o.there))
+        ∙ (ap (λ (ls : List (List Turn)). map (λ t. t.element) (get_or ls place [])) split
+        ∙ (ap (map (λ t. t.element)) (here ∙ ap (λ (b : Bool). brought plan.streams feed.stream (drop (count_of feed) (all_accepted feed)) ++ closes plan.streams feed.stream b) still)
+        ∙ (turns-elements (drop (count_of feed) (all_accepted feed))
+        ∙ ap (λ (n : ℕ). drop (count_of feed) (all_accepted feed) ++ Punct (all_wild (length (columns_of plan.streams n))) ∷ []) (o.is_number ∙ zero-add place)))))
+
+-- ---- what holds between turns
+
+-- the feeds are those of the streams, the core goes on, and, where all bytes are told, the run is the history so far
+pub record IsGoing (plan : SmallPlan) (start feeds : List FeedState) (at : ℕ) (history : List Entry) (core : CoreState) (counts : Counts) : Type 0 where
+  pub fed : AreFeeds 0 plan.streams feeds
+  pub same : AreSameFeeds start feeds
+  pub of_plan : core.plan ≡ plan
+  pub on : core.stop ≡ None
+  pub drained : core.undrained ≡ []
+  pub ran : AllTold start → Ran plan (files_of start) history core (feeds_left plan.streams feeds at) counts
+
+pub going_begins : (plan : SmallPlan) (feeds : List FeedState) (at : ℕ) (core : CoreState) (counts : Counts) → AreFeeds 0 plan.streams feeds → AreNew feeds → at ≡ 0 → IsFresh core plan most_arrivals → counts ≡ counts_of []
+    → IsGoing plan feeds feeds at [] core counts
+going_begins plan feeds at core counts f new first fresh none = record {
+  fed = f;
+  same = all_same feeds;
+  of_plan = fresh.of_plan;
+  on = fresh.on;
+  drained = fresh.undrained;
+  ran = λ told. begins plan feeds at core counts f new first fresh none;
+}
+
+-- the next turn, with what a call of the feeds gives
+module _ (plan : SmallPlan) (start feeds feeds' : List FeedState) (at at' : ℕ) (history : List Entry) (core : CoreState) (counts : Counts) (next : Next) (going : IsGoing plan start feeds at history core counts)
+    (gives : AllTold feeds → (streams : List SmallStream) → AreFeeds 0 streams feeds → feeds_left streams feeds at ≡ turn_in streams next ∷ feeds_left streams feeds' at') where
+  pub going_of : BringsIn feeds (Some next) → IsTurnOf core.plan.streams (turn_in core.plan.streams next)
+  going_of brings = subst (λ (p : SmallPlan). IsTurnOf p.streams (turn_in p.streams next)) (sym going.of_plan) (turn_of_feeds plan.streams feeds next going.fed brings)
+
+  pub going_next : AllTold start → Ran plan (files_of start) history core (turn_in core.plan.streams next ∷ feeds_left plan.streams feeds' at') counts
+  going_next told = ran_next plan (files_of start) history core counts next (feeds_left plan.streams feeds at) (feeds_left plan.streams feeds' at') (going.ran told) (gives (told_still start feeds going.same told) plan.streams going.fed)
+
+  pub going_more : IsSmallPlan plan → AreFeeds 0 plan.streams feeds' → AreSameFeeds feeds feeds' → (core' : CoreState) (counts' : Counts) → TurnDone core core' (turn_in core.plan.streams next) counts counts'
+      → IsGoing plan start feeds' at' (history ++ turn_behind core history (turn_in core.plan.streams next)) core' counts'
+  going_more small f' same' core' counts' done = record {
+    fed = f';
+    same = all_same_then start feeds feeds' going.same same';
+    of_plan = done.takes.plan ∙ going.of_plan;
+    on = done.takes.on.1;
+    drained = done.takes.undrained;
+    ran = λ told. turn_made plan (files_of start) small history core (turn_in core.plan.streams next) (feeds_left plan.streams feeds' at') counts (going_next told) core' counts' done;
+  }
+
+-- a stream's turn could not be made
+pub going_stops : (plan : SmallPlan) (small : IsSmallPlan plan) (start feeds feeds' : List FeedState) (at : ℕ) (history : List Entry) (core : CoreState) (counts : Counts) (status : Status) (before lines : List ℕ) → IsGoing plan start feeds at history core counts
+    → AreSameFeeds feeds feeds' → StopsIn feeds feeds' at status → AllTold start → Writes (out_lines (handed_out false (nodes_of plan) history)) before lines (Ok tt) → TurnsEnd status plan (files_of start) feeds' before lines
+unfolding ends_before
+going_stops plan small start feeds feeds' at history core counts status before lines going same stop told written =
+    subst (λ (s : Status). TurnsEnd s plan (files_of start) feeds' before lines) (sym stop.status_is) (go stop.why stop.stops)
+  where
+    told' : AllTold feeds
+    told' = told_still start feeds going.same told
+
+    ran : Ran plan (files_of start) history core (feeds_left plan.streams feeds at) counts
+    ran = going.ran told
+
+    ends : EndsBefore plan (files_of start) stop.place before lines
+    ends = let n = stop.next told' plan.streams going.fed in ends_before plan (files_of start) history core (feeds_left plan.streams feeds at) counts n.0 n.1 stop.place before lines ran n.2 n.3 written
+
+    arrived : arrived_at stop.place history ≡ take (count_of stop.old) (all_accepted stop.old)
+    arrived = arrived_so_far plan small (files_of start) history core feeds at counts stop.place stop.old ran going.fed (files_still start feeds going.same told) stop.before stop.still
+
+    go : (why : IntakeStop) → FeedStops stop.old stop.new why → TurnsEnd (status_of_feed stop.place why) plan (files_of start) feeds' before lines
+    go IntakeFault f =
+        let e : stop.place + 2 ≡ 2 + stop.place = omega arith in
+        (stop.place, stop.new, e, stop.now, ends, arrived ∙ sym (f.1 (told_at feeds stop.place stop.old told' stop.before)))
+    go ByteLimit f = ends
+    go OutOfMemory f = tt

@@ -1,22 +1,26 @@
 -- What was written spells outputs that stay right.
-use Rattle.std.proofs.Common.{◌≡◌, ℕ, true, ◌⊎◌, inl, inr, List, [], ◌∷◌, ◌++◌, map, length, Option, None, Some, Ok, refl, ap, sym, ◌∙◌, subst, append_assoc, append-nil}
+use Rattle.std.proofs.Common.{◌≡◌, ℕ, zero, suc, true, ◌⊎◌, inl, inr, List, [], ◌∷◌, ◌++◌, length, Option, None, Some, Ok, refl, ap, sym, ◌∙◌, subst, append_assoc, append-nil}
 use Rattle.std.specs.Prelude.{codes}
 use Rattle.std.specs.Fmt.{decimal}
 use Rattle.pj_shape.specs.declared.plans.SmallPlan.{SmallPlan}
+use Rattle.pj_shape.specs.declared.plans.SmallStream.{SmallStream}
 use Rattle.pj_shape.specs.declared.plans.SmallJoin.{SmallJoin}
-use Rattle.pj_element.specs.declared.element.Element.{Element}
-use Rattle.pj_element.specs.Lines.{HasNo}
-use Rattle.pj_element.specs.Runs.{IsLawful, element_lines, fed}
+use Rattle.std.proofs.lemmas.Bool.{and_parts}
+use Rattle.pj_pattern.specs.declared.element.Element.{Element}
+use Rattle.pj_line.specs.Lines.{HasNo}
+use Rattle.pj_element.specs.Runs.{IsLawful, element_lines}
 use Rattle.pj_element.proofs.Feeds.{both_have_no, decimal_no_feed}
 use Rattle.pj_laws.specs.CoreKept.{IsSmallPlan}
 use Rattle.pj_engine.specs.declared.status.Status.{Status}
+use Rattle.pj_engine.specs.declared.status.LimitOf.{LimitOf}
+use Rattle.pj_engine.specs.declared.status.LimitOf.TheVariants.{Node, File}
 use Rattle.pj_engine.specs.declared.status.Status.TheVariants.{Done, NotBuilt, ReadFault, WriteFault, NoMemory, Limit}
 use Rattle.pj_engine.specs.Files.{IsFilesStop}
-use Rattle.pj_engine.specs.PlanForms.{HasPlainNames, is_plain_join}
+use Rattle.pj_engine.specs.PlanForms.{HasPlainNames, is_plain, are_plain, is_plain_join}
 use Rattle.pj_engine.specs.Plans.{plan_of}
 use Rattle.pj_engine.specs.Report.{status_line}
 use Rattle.pj_engine.specs.Runs.{outputs_of, report_of, run_lines}
-use Rattle.pj_engine.specs.Top.{StaysRight, NeverRetracted, join_name}
+use Rattle.pj_engine.specs.Top.{StaysRight, NeverRetracted, join_name, stream_name, limit_name, stop_name}
 use Rattle.pj_engine.specs.Written.{flat, WholeLines, Delivered, StopLeaves, Writes}
 use Rattle.pj_engine.proofs.AcceptedLaws.{lawful_front}
 use Rattle.pj_engine.proofs.FrontLaws.{stays}
@@ -72,17 +76,32 @@ read_fault_note n = record {
   whole = both_have_no (codes "# stopped read fault operand ") (decimal n) (no_feeds (codes "# stopped read fault operand ") refl) (decimal_no_feed n);
 }
 
-limit_note : (name : List ℕ) → HasNo 10 name → IsNoteLine (fed (codes "# stopped limit node " ++ name))
-limit_note name none = record {
+limit_note : (what : LimitOf) (name : List ℕ) → HasNo 10 name → IsNoteLine (status_line name (Limit what))
+limit_note (Node node) name none = record {
   words = codes "# stopped limit node " ++ name;
   is = refl;
   note = refl;
   whole = both_have_no (codes "# stopped limit node ") name (no_feeds (codes "# stopped limit node ") refl) none;
 }
+limit_note (File stream) name none = record {
+  words = codes "# stopped limit file " ++ name;
+  is = refl;
+  note = refl;
+  whole = both_have_no (codes "# stopped limit file ") name (no_feeds (codes "# stopped limit file ") refl) none;
+}
 
 join_name_no_feed : (join : Option SmallJoin) → is_plain_join join ≡ true → HasNo 10 (join_name join)
 join_name_no_feed None plain = tt
 join_name_no_feed (Some join) plain = name_no_feed join.name plain
+
+stream_name_no_feed : (streams : List SmallStream) (n : ℕ) → are_plain streams ≡ true → HasNo 10 (stream_name streams n)
+stream_name_no_feed [] n plain = tt
+stream_name_no_feed (s ∷ streams) zero plain = name_no_feed s.name (and_parts (is_plain s.name) (are_plain streams) plain).0
+stream_name_no_feed (s ∷ streams) (suc n) plain = stream_name_no_feed streams n (and_parts (is_plain s.name) (are_plain streams) plain).1
+
+limit_name_no_feed : (plan : SmallPlan) (what : LimitOf) → HasPlainNames plan → HasNo 10 (limit_name plan what)
+limit_name_no_feed plan (Node node) plain = join_name_no_feed plan.join plain.1
+limit_name_no_feed plan (File stream) plain = stream_name_no_feed plan.streams stream plain.0
 
 -- what was delivered of a line
 pub record Part (line before after : List ℕ) : Type 0 where
@@ -130,27 +149,30 @@ never_done plan plan_bytes files before after ready written =
     front_never plan plan_bytes files outputs [] (report_of plan files outputs) (flat (run_lines plan files)) [] before after ready (append-nil outputs) (report_notes plan files outputs ready.names) (append-nil (flat (run_lines plan files))) written
 
 -- the run stopped, and then the line of its status was written
-pub never_stopped : (status : Status) (plan : SmallPlan) (plan_bytes : List ℕ) (files : List (List ℕ)) (before mid after : List ℕ) (faults faults' : ℕ) → IsReady plan plan_bytes files
-    → StopLeaves status (run_lines plan files) before mid → Delivered (status_line (join_name plan.join) status) mid after faults faults' → NeverRetracted plan_bytes files before after
-never_stopped Done plan plan_bytes files before mid after faults faults' ready stop delivered = absurd stop
-never_stopped NotBuilt plan plan_bytes files before mid after faults faults' ready stop delivered = absurd stop
-never_stopped (ReadFault n) plan plan_bytes files before mid after faults faults' ready stop delivered = absurd stop
-never_stopped WriteFault plan plan_bytes files before mid after faults faults' ready stop delivered =
+pub never_stopped : (status : Status) (plan : SmallPlan) (plan_bytes name : List ℕ) (files : List (List ℕ)) (before mid after : List ℕ) (faults faults' : ℕ) → IsReady plan plan_bytes files
+    → name ≡ stop_name plan status → StopLeaves status (run_lines plan files) before mid → Delivered (status_line name status) mid after faults faults' → NeverRetracted plan_bytes files before after
+never_stopped Done plan plan_bytes name files before mid after faults faults' ready named stop delivered = absurd stop
+never_stopped NotBuilt plan plan_bytes name files before mid after faults faults' ready named stop delivered = absurd stop
+never_stopped (ReadFault n) plan plan_bytes name files before mid after faults faults' ready named stop delivered =
+    whole_never plan plan_bytes files before mid after (status_line [] (ReadFault n)) faults faults' ready (read_fault_note n) stop (subst (λ (x : List ℕ). Delivered (status_line x (ReadFault n)) mid after faults faults') named delivered)
+never_stopped WriteFault plan plan_bytes name files before mid after faults faults' ready named stop delivered =
     let outputs : List Element = outputs_of plan files in
     front_never plan plan_bytes files outputs [] (report_of plan files outputs) stop.front stop.others before after ready (append-nil outputs) (report_notes plan files outputs ready.names) stop.all (same_after mid after faults faults' delivered ∙ stop.written)
-never_stopped NoMemory plan plan_bytes files before mid after faults faults' ready stop delivered =
-    whole_never plan plan_bytes files before mid after (status_line (join_name plan.join) NoMemory) faults faults' ready (no_memory_note (join_name plan.join)) stop delivered
-never_stopped (Limit what) plan plan_bytes files before mid after faults faults' ready stop delivered =
-    whole_never plan plan_bytes files before mid after (status_line (join_name plan.join) (Limit what)) faults faults' ready (limit_note (join_name plan.join) (join_name_no_feed plan.join ready.names.1)) stop delivered
+never_stopped NoMemory plan plan_bytes name files before mid after faults faults' ready named stop delivered =
+    whole_never plan plan_bytes files before mid after (status_line name NoMemory) faults faults' ready (no_memory_note name) stop delivered
+never_stopped (Limit what) plan plan_bytes name files before mid after faults faults' ready named stop delivered =
+    whole_never plan plan_bytes files before mid after (status_line (limit_name plan what) (Limit what)) faults faults' ready (limit_note what (limit_name plan what) (limit_name_no_feed plan what ready.names)) stop
+    (subst (λ (x : List ℕ). Delivered (status_line x (Limit what)) mid after faults faults') named delivered)
 
--- ---- as the top call has it: the files that were read are those that the words name
+-- ---- the call
 
-pub done_of_call : (plan : SmallPlan) (plan_bytes : List ℕ) (ready files : List (List ℕ)) (before after : List ℕ) → IsReady plan plan_bytes ready → ready ≡ files → Writes (run_lines plan ready) before after (Ok tt) → NeverRetracted plan_bytes files before after
+-- the same over the files of the call
+pub done_of_call : (plan : SmallPlan) (plan_bytes : List ℕ) (ready files : List (List ℕ)) (before after : List ℕ) → IsReady plan plan_bytes ready → ready ≡ files → Writes (run_lines plan ready) before after (Ok tt)
+    → NeverRetracted plan_bytes files before after
 done_of_call plan plan_bytes ready files before after is same written =
     subst (λ (fs : List (List ℕ)). NeverRetracted plan_bytes fs before after) same (never_done plan plan_bytes ready before after is written)
 
 pub stop_of_call : (status : Status) (plan : SmallPlan) (plan_bytes name : List ℕ) (ready files : List (List ℕ)) (before mid after : List ℕ) (faults faults' : ℕ) → IsReady plan plan_bytes ready → ready ≡ files
-    → name ≡ join_name plan.join → StopLeaves status (run_lines plan ready) before mid → Delivered (status_line name status) mid after faults faults' → NeverRetracted plan_bytes files before after
+    → name ≡ stop_name plan status → StopLeaves status (run_lines plan ready) before mid → Delivered (status_line name status) mid after faults faults' → NeverRetracted plan_bytes files before after
 stop_of_call status plan plan_bytes name ready files before mid after faults faults' is same named stop delivered =
-    subst (λ (fs : List (List ℕ)). NeverRetracted plan_bytes fs before after) same
-    (never_stopped status plan plan_bytes ready before mid after faults faults' is stop (subst (λ (n : List ℕ). Delivered (status_line n status) mid after faults faults') named delivered))
+    subst (λ (fs : List (List ℕ)). NeverRetracted plan_bytes fs before after) same (never_stopped status plan plan_bytes name ready before mid after faults faults' is named stop delivered)

@@ -1,9 +1,9 @@
 -- The line of a status, written in parts.
-use Rattle.std.proofs.Common.{◌≡◌, ◌≤◌, ℕ, inl, inr, List, [], ◌∷◌, ◌++◌, take, drop, refl, ap, sym, ◌∙◌, append_assoc, append-nil, arith}
+use Rattle.std.proofs.Common.{◌≡◌, ◌≤◌, ℕ, inr, List, ◌++◌, take, drop, ap, sym, ◌∙◌, append_assoc, arith}
 use Rattle.std.proofs.lemmas.List.{take-append-drop}
 use Rattle.pj_io.specs.Causes.{Rose}
 use Rattle.pj_io.specs.Pieces.{GrewByLess}
-use Rattle.pj_engine.specs.Written.{FrontOf, Delivered}
+use Rattle.pj_engine.specs.Written.{Delivered}
 
 -- the sink failed in the first part of this
 pub cut_delivered : (part rest all before after : List ℕ) (faults faults' : ℕ) → GrewByLess before after part → Rose faults faults' → part ++ rest ≡ all → Delivered all before after faults faults'

@@ -1,16 +1,96 @@
 -- What is left of the streams of a run, in turns.
-use Rattle.std.specs.Prelude.{◌≡◌, ℕ, ◌<◌, slice_index_or, List, [], ◌∷◌, ◌++◌, map, take, drop, length, reverse, Option, Some, None, if◌then◌else◌}
+use Rattle.std.specs.Prelude.{◌≡◌, ℕ, ◌+◌, ◌-◌, ◌<◌, ◌≤◌, ◌^◌, ◌⊎◌, ⊤, Bool, true, false, ◌==◌, List, [], ◌∷◌, ◌++◌, map, take, drop, length, Option, Some, None, if◌then◌else◌, IsTrue, slice_get}
+use Rattle.pj_shape.specs.declared.columns.Column.{Column}
 use Rattle.pj_shape.specs.declared.plans.SmallStream.{SmallStream}
-use Rattle.pj_element.specs.declared.element.Element.TheVariants.{Punct}
+use Rattle.pj_io.specs.Causes.{Rose}
+use Rattle.pj_pattern.specs.declared.element.Element.{Element}
+use Rattle.pj_pattern.specs.declared.element.Element.TheVariants.{Punct}
+use Rattle.pj_line.specs.Buffers.{Buffered}
 use Rattle.pj_element.specs.declared.tally.Tally.{Tally}
-use Rattle.pj_element.specs.Accepted.{fates_of, tally_of}
+use Rattle.pj_element.specs.Accepted.{taken_of, fates_of, tally_of}
+use Rattle.pj_intake.specs.declared.seen.Seen.{Seen}
+use Rattle.pj_intake.specs.declared.intake.IntakeStop.{IntakeStop}
+use Rattle.pj_intake.specs.declared.intake.IntakeStop.TheVariants.{ReadFault, ByteLimit, NoMemory}
+use Rattle.pj_intake.specs.Steps.{Follows}
+use Rattle.pj_intake.specs.States.{Taking}
 use Rattle.pj_laws.specs.Patterns.{all_wild}
+use Rattle.pj_laws.specs.Plan.{FitsSchema}
 use Rattle.pj_laws.specs.CoreKept.{columns_of}
-use Rattle.pj_laws.specs.OneThread.{Turn, turns_of, heads, tails, in_rounds}
+use Rattle.pj_laws.specs.OneThread.{Turn, heads, tails, in_rounds}
+use Rattle.pj_engine.specs.declared.status.Status.{Status}
+use Rattle.pj_engine.specs.declared.status.Status.TheVariants.{ReadFault as StatusFault, Limit as StatusLimit, NoMemory as OutOfMemory}
+use Rattle.pj_engine.specs.declared.status.LimitOf.TheVariants.{File}
 use Rattle.pj_engine.specs.declared.feeds.Next.{Next}
 use Rattle.pj_engine.specs.declared.feeds.Next.TheVariants.{Bring, Close}
-use Rattle.pj_engine.specs.declared.feeds.Feed.{Feed}
-use Rattle.pj_engine.specs.Runs.{accepted_of}
+
+-- A stream that is fed: its number, whether its closing is still to come, its columns; what its source tells of itself, of the
+-- bytes taken, of those left, of its faults and its name; the lines that are buffered, what is kept of those that were judged,
+-- and why no further line is judged
+pub record FeedState : Type 0 where
+  pub stream : ℕ
+  pub is_open : Bool
+  pub columns : List Column
+  pub told : Bool
+  pub taken : List ℕ
+  pub left : List ℕ
+  pub faults : ℕ
+  pub name : List ℕ
+  pub buffer : Buffered
+  pub seen : Seen
+  pub stopped : Option IntakeStop
+
+-- all bytes of the stream's file
+abbrev pub bytes_of : FeedState → List ℕ
+bytes_of feed = feed.taken ++ feed.left
+
+-- all elements that are accepted of the file
+abbrev pub all_accepted : FeedState → List Element
+all_accepted feed = taken_of (fates_of feed.columns (bytes_of feed))
+
+-- how many of them were accepted so far
+abbrev pub count_of : FeedState → ℕ
+count_of feed = feed.seen.tally.tuples + feed.seen.tally.puncts
+
+-- What was judged of the file; once the closing had its turn, that is all of it
+pub record IsFed (feed : FeedState) : Type 0 where
+  pub judged : List ℕ
+  pub goes_on : feed.stopped ≡ None
+  pub follows : Follows feed.columns feed.buffer feed.seen judged
+  pub limit : feed.buffer.limit ≡ 2 ^ 40
+  pub bytes : IsTrue feed.told → feed.taken ≡ judged ++ feed.buffer.held
+  pub at_end : feed.buffer.ended ≡ true → IsTrue feed.told → feed.left ≡ []
+  pub closed : feed.is_open ≡ false → (feed.buffer.ended ≡ true) × (feed.buffer.held ≡ [])
+
+-- how many bytes may still be judged, and the closing
+abbrev pub work_of : FeedState → ℕ
+work_of feed = (feed.buffer.limit - (feed.buffer.count - length feed.buffer.held)) + (if feed.is_open then 1 else 0)
+
+-- a turn, or a closing, may change a feed so far: its bytes are those of before
+pub record IsSameFeed (old new : FeedState) : Type 0 where
+  pub stream : new.stream ≡ old.stream
+  pub columns : new.columns ≡ old.columns
+  pub told : new.told ≡ old.told
+  pub name : new.name ≡ old.name
+  pub faults : old.faults ≤ new.faults
+  pub bytes : IsTrue old.told → bytes_of new ≡ bytes_of old
+
+-- what this is for an intake, where this is what its source tells
+abbrev pub state_of : {S : Type 0} → (S → Bool) → (S → List ℕ) → (S → List ℕ) → (S → ℕ) → (S → List ℕ) → ℕ → Bool → Taking S → FeedState
+state_of tells taken left faults name stream is_open intake = record {
+  stream = stream;
+  is_open = is_open;
+  columns = intake.columns;
+  told = tells intake.source;
+  taken = taken intake.source;
+  left = left intake.source;
+  faults = faults intake.source;
+  name = name intake.source;
+  buffer = intake.buffer;
+  seen = intake.seen;
+  stopped = intake.stopped;
+}
+
+-- ---- turns
 
 -- the turn that this is, where these are the streams
 abbrev pub turn_in : List SmallStream → Next → Turn
@@ -21,18 +101,24 @@ abbrev pub turn_of : List SmallStream → Option Next → Option Turn
 turn_of streams None = None
 turn_of streams (Some next) = Some (turn_in streams next)
 
--- what is left of a stream: its elements, of which the next is kept last, and its closing
-abbrev pub feed_left : List SmallStream → Feed → List Turn
-feed_left streams feed =
-    map (λ e. turn_in streams (Bring feed.stream e)) (reverse feed.elements.items)
-    ++ (if feed.is_open then (turn_in streams (Close feed.stream) ∷ []) else [])
+-- the turns of these elements of a stream, in order
+abbrev pub brought : List SmallStream → ℕ → List Element → List Turn
+brought streams stream es = map (λ e. turn_in streams (Bring stream e)) es
+
+-- its closing, where that is still to come
+abbrev pub closes : List SmallStream → ℕ → Bool → List Turn
+closes streams stream still = if still then (turn_in streams (Close stream) ∷ []) else []
+
+-- what is left of a stream: the elements that are accepted behind those that were, and its closing
+abbrev pub feed_left : List SmallStream → FeedState → List Turn
+feed_left streams feed = brought streams feed.stream (drop (count_of feed) (all_accepted feed)) ++ closes streams feed.stream feed.is_open
 
 -- what is left of these lists in rounds, where the first ones had their turn of this round
 abbrev pub round_left : List (List Turn) → List (List Turn) → List Turn
 round_left had others = heads others ++ in_rounds (had ++ tails others)
 
 -- what is left of streams, where those before this place had their turn of this round
-abbrev pub feeds_left : List SmallStream → List Feed → ℕ → List Turn
+abbrev pub feeds_left : List SmallStream → List FeedState → ℕ → List Turn
 feeds_left streams feeds at = round_left (map (feed_left streams) (take at feeds)) (map (feed_left streams) (drop at feeds))
 
 -- the first of what was left, or that nothing was
@@ -40,10 +126,84 @@ abbrev pub Gives : List Turn → List Turn → Option Turn → Type 0
 Gives old new None = old ≡ []
 Gives old new (Some turn) = old ≡ turn ∷ new
 
--- the first of what was left, or that none of this round was
-abbrev pub GivesOfRound : List Turn → List Turn → Option Turn → Type 0
-GivesOfRound old new None = old ≡ new
-GivesOfRound old new (Some turn) = old ≡ turn ∷ new
+-- ---- the bytes up to the last line feed
+
+abbrev pub onto_fed : ℕ → List ℕ → List ℕ
+onto_fed b [] = if b == 10 then b ∷ [] else []
+onto_fed b (c ∷ cs) = b ∷ c ∷ cs
+
+-- the lines that end with a line feed
+abbrev pub fed_part : List ℕ → List ℕ
+fed_part [] = []
+fed_part (b ∷ bs) = onto_fed b (fed_part bs)
+
+-- the elements that are accepted of the lines that end with a line feed in these bytes
+abbrev pub fed_elements : List Column → List ℕ → List Element
+fed_elements columns bytes = taken_of (fates_of columns (fed_part bytes))
+
+-- ---- one stream
+
+-- what a turn brings is of this stream and fits its columns
+abbrev pub BringsOf : FeedState → Next → Type 0
+BringsOf feed (Bring stream element) = (stream ≡ feed.stream) × FitsSchema feed.columns element
+BringsOf feed (Close stream) = stream ≡ feed.stream
+
+-- why a stream's turn was not made: a read failed, and of the file exactly the elements were accepted that the lines hold which
+-- end with a line feed in the bytes taken; or so many bytes were taken
+abbrev pub FeedStops : FeedState → FeedState → IntakeStop → Type 0
+FeedStops old new ReadFault = Rose old.faults new.faults × (IsTrue old.told → fed_elements new.columns new.taken ≡ take (count_of old) (all_accepted old))
+FeedStops old new ByteLimit = IsTrue old.told → 2 ^ 40 ≤ length (bytes_of old)
+FeedStops old new NoMemory = ⊤
+
+-- the next element of a stream is this one, or there is none and its file was judged whole
+abbrev pub IsNextOf : FeedState → FeedState → Option Element → Type 0
+IsNextOf old new None =
+    (work_of new ≤ work_of old) × (new.buffer.ended ≡ true) × (new.buffer.held ≡ []) × (IsTrue old.told → drop (count_of old) (all_accepted old) ≡ [])
+    × (count_of new ≡ count_of old)
+IsNextOf old new (Some e) =
+    (work_of new < work_of old) × FitsSchema old.columns e × (IsTrue old.told → drop (count_of old) (all_accepted old) ≡ e ∷ drop (count_of new) (all_accepted new))
+
+-- ---- all streams
+
+-- there is a feed for each stream, from this number on
+abbrev pub AreFeeds : ℕ → List SmallStream → List FeedState → Type 0
+AreFeeds k [] [] = ⊤
+AreFeeds k [] (feed ∷ feeds) = ⊥
+AreFeeds k (stream ∷ streams) [] = ⊥
+AreFeeds k (stream ∷ streams) (feed ∷ feeds) = (feed.stream ≡ k) × (feed.columns ≡ stream.schema) × IsFed feed × AreFeeds (k + 1) streams feeds
+
+-- nothing was taken yet
+abbrev pub AreNew : List FeedState → Type 0
+AreNew [] = ⊤
+AreNew (feed ∷ feeds) = (feed.is_open ≡ true) × (count_of feed ≡ 0) × AreNew feeds
+
+abbrev pub AreSameFeeds : List FeedState → List FeedState → Type 0
+AreSameFeeds [] [] = ⊤
+AreSameFeeds [] (new ∷ news) = ⊥
+AreSameFeeds (old ∷ olds) [] = ⊥
+AreSameFeeds (old ∷ olds) (new ∷ news) = IsSameFeed old new × AreSameFeeds olds news
+
+abbrev pub work_in : List FeedState → ℕ
+work_in [] = 0
+work_in (feed ∷ feeds) = work_of feed + work_in feeds
+
+-- all of them tell their bytes
+abbrev pub AllTold : List FeedState → Type 0
+AllTold [] = ⊤
+AllTold (feed ∷ feeds) = IsTrue feed.told × AllTold feeds
+
+-- the files of the streams
+abbrev pub files_of : List FeedState → List (List ℕ)
+files_of feeds = map bytes_of feeds
+
+-- the counts of the streams so far
+abbrev pub tallies_in : List FeedState → List Tally
+tallies_in feeds = map (λ feed. feed.seen.tally) feeds
+
+-- all bytes of each stream's file were taken
+abbrev pub AreAllTaken : List FeedState → Type 0
+AreAllTaken [] = ⊤
+AreAllTaken (feed ∷ feeds) = (IsTrue feed.told → feed.left ≡ []) × AreAllTaken feeds
 
 -- the counts of each stream
 abbrev pub tallies_of : List SmallStream → List (List ℕ) → List Tally
@@ -51,8 +211,46 @@ tallies_of [] files = []
 tallies_of (stream ∷ streams) [] = []
 tallies_of (stream ∷ streams) (bytes ∷ files) = tally_of (fates_of stream.schema bytes) ∷ tallies_of streams files
 
--- there is a feed for each stream, and all turns of the stream are left
-pub record AreFeeds (streams : List SmallStream) (files : List (List ℕ)) (feeds : List Feed) : Type 0 where
-  pub all : length feeds ≡ length streams
-  pub turns : (k : ℕ) → k < length feeds
-      → slice_index_or (map (feed_left streams) feeds) k [] ≡ turns_of k (columns_of streams k) (slice_index_or (accepted_of streams files) k [])
+abbrev pub AllClosed : List FeedState → Type 0
+AllClosed [] = ⊤
+AllClosed (feed ∷ feeds) = (feed.is_open ≡ false) × AllClosed feeds
+
+-- the first stream from this place on whose closing is still to come, or that there is none
+abbrev pub IsFirstOpen : List FeedState → ℕ → Option ℕ → Type 0
+IsFirstOpen feeds from None = AllClosed (drop from feeds)
+IsFirstOpen feeds from (Some place) =
+    (feed : FeedState) × (from ≤ place) × (slice_get feeds place ≡ Some feed) × (feed.is_open ≡ true) × AllClosed (take (place - from) (drop from feeds))
+
+-- the stream that has the next turn: the first open one from this place on, else the first of all
+abbrev pub HasTurn : List FeedState → ℕ → Option ℕ → Type 0
+HasTurn feeds at None = AllClosed feeds
+HasTurn feeds at (Some place) = IsFirstOpen feeds at (Some place) ⊎ (IsFirstOpen feeds at None × IsFirstOpen feeds 0 (Some place))
+
+-- what a turn brings is of one of these streams and fits its columns
+abbrev pub BringsIn : List FeedState → Option Next → Type 0
+BringsIn feeds None = AllClosed feeds
+BringsIn feeds (Some next) = (place : ℕ) × (feed : FeedState) × (slice_get feeds place ≡ Some feed) × BringsOf feed next
+
+-- the status of a run in which the turn of a stream could not be made
+abbrev pub status_of_feed : ℕ → IntakeStop → Status
+status_of_feed stream ReadFault = StatusFault (stream + 2)
+status_of_feed stream ByteLimit = StatusLimit (File stream)
+status_of_feed stream NoMemory = OutOfMemory
+
+-- a turn that was made leaves less to do
+abbrev pub WorksOn : List FeedState → List FeedState → Option Next → Type 0
+WorksOn olds news None = ⊤
+WorksOn olds news (Some next) = work_in news < work_in olds
+
+-- the turn of one of these streams was the next, and could not be made
+pub record StopsIn (olds news : List FeedState) (at : ℕ) (status : Status) : Type 0 where
+  pub place : ℕ
+  pub old : FeedState
+  pub new : FeedState
+  pub why : IntakeStop
+  pub before : slice_get olds place ≡ Some old
+  pub now : slice_get news place ≡ Some new
+  pub stops : FeedStops old new why
+  pub status_is : status ≡ status_of_feed place why
+  pub still : old.is_open ≡ true
+  pub next : AllTold olds → (streams : List SmallStream) → AreFeeds 0 streams olds → (turn : Turn) × (rest : List Turn) × (feeds_left streams olds at ≡ turn ∷ rest) × (turn.stream ≡ place)

@@ -1,6 +1,7 @@
 -- Which answers the parts of a run give.
-use Rattle.std.specs.Prelude.{◌≡◌, ℕ, ⊤, ◌⊎◌}
+use Rattle.std.specs.Prelude.{◌≡◌, ℕ, ⊤}
 use Rattle.pj_engine.specs.declared.status.Status.{Status}
+use Rattle.pj_engine.specs.declared.status.LimitOf.TheVariants.{Node, File}
 use Rattle.pj_engine.specs.declared.status.Status.TheVariants.{Done, NotBuilt, ReadFault, WriteFault, NoMemory, Limit}
 
 -- the answers of a file that was to be read whole
@@ -21,11 +22,21 @@ IsWriteStop WriteFault = ⊤
 IsWriteStop NoMemory = ⊤
 IsWriteStop (Limit what) = ⊥
 
+-- the answers of a turn
+abbrev pub IsTurnStop : Status → Type 0
+IsTurnStop Done = ⊥
+IsTurnStop NotBuilt = ⊥
+IsTurnStop (ReadFault operand) = ⊥
+IsTurnStop WriteFault = ⊤
+IsTurnStop NoMemory = ⊤
+IsTurnStop (Limit (Node node)) = ⊤
+IsTurnStop (Limit (File stream)) = ⊥
+
 -- the answers of a run over files
 abbrev pub IsOverStop : Status → Type 0
 IsOverStop Done = ⊥
 IsOverStop NotBuilt = ⊥
-IsOverStop (ReadFault operand) = ⊥
+IsOverStop (ReadFault operand) = ⊤
 IsOverStop WriteFault = ⊤
 IsOverStop NoMemory = ⊤
 IsOverStop (Limit what) = ⊤
@@ -56,3 +67,12 @@ IsFilesStop (ReadFault operand) = ⊤
 IsFilesStop WriteFault = ⊥
 IsFilesStop NoMemory = ⊤
 IsFilesStop (Limit what) = ⊥
+
+-- the answers of files that were to be opened
+abbrev pub IsOpenStop : Status → Type 0
+IsOpenStop Done = ⊥
+IsOpenStop NotBuilt = ⊥
+IsOpenStop (ReadFault operand) = ⊤
+IsOpenStop WriteFault = ⊥
+IsOpenStop NoMemory = ⊤
+IsOpenStop (Limit what) = ⊥

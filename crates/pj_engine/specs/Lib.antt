@@ -1,4 +1,5 @@
 pub mod Feeds
+pub mod Opened
 pub mod Files
 pub mod Outcome
 pub mod Outs
@@ -6,7 +7,6 @@ pub mod PlanForms
 pub mod Plans
 pub mod Report
 pub mod Runs
-pub mod Seen
 pub mod Statements
 pub mod Top
 pub mod Turning

@@ -1,6 +1,6 @@
 -- The lines of what is handed out, and the counts of them.
 use Rattle.std.specs.Prelude.{ℕ, List, length}
-use Rattle.pj_element.specs.declared.element.Element.{Element}
+use Rattle.pj_pattern.specs.declared.element.Element.{Element}
 use Rattle.pj_element.specs.Runs.{rows_of, puncts_of, element_lines}
 use Rattle.pj_laws.specs.declared.events.Out.{Out}
 use Rattle.pj_laws.specs.Outcomes.{elements_out}

@@ -11,7 +11,7 @@ use Rattle.pj_shape.specs.declared.plans.SmallStream.{SmallStream}
 use Rattle.pj_shape.specs.declared.plans.SmallJoin.{SmallJoin}
 use Rattle.pj_shape.specs.Joining.{has_column}
 use Rattle.pj_engine.specs.declared.plan.ClassLine.{ClassLine}
-use Rattle.pj_engine.specs.Statements.{all_of, is_name_byte}
+use Rattle.pj_engine.specs.Statements.{is_name_byte}
 
 -- the place of the column of this name
 abbrev pub place_of : List ℕ → List Column → Option ℕ

@@ -1,16 +1,21 @@
 -- The report of a run and the lines of the statuses, each with its line feed.
 use Rattle.std.specs.Prelude.{ℕ, ◌^◌, ◌-◌, min, List, [], ◌∷◌, ◌++◌, map, length, codes}
 use Rattle.std.specs.Fmt.{decimal}
-use Rattle.pj_element.specs.declared.element.Element.{Element}
+use Rattle.pj_pattern.specs.declared.element.Element.{Element}
 use Rattle.pj_element.specs.declared.element.Reject.{Reject}
-use Rattle.pj_element.specs.declared.element.Reject.TheVariants.{NotElement, Closed}
+use Rattle.pj_element.specs.declared.element.Reject.TheVariants.{TooLong, NotElement, Arity, BadCell, WrongKind, Closed}
 use Rattle.pj_element.specs.declared.tally.Tally.{Tally}
 use Rattle.pj_element.specs.Runs.{rows_of, puncts_of, fed}
 use Rattle.pj_engine.specs.declared.status.Status.{Status}
+use Rattle.pj_engine.specs.declared.status.LimitOf.TheVariants.{Node, File}
 use Rattle.pj_engine.specs.declared.status.Status.TheVariants.{Done, NotBuilt, ReadFault, WriteFault, NoMemory, Limit}
 
 abbrev pub reject_words : Reject → List ℕ
+reject_words TooLong = codes "too long"
 reject_words NotElement = codes "not an element"
+reject_words (Arity want got) = codes "arity want " ++ decimal want ++ codes " got " ++ decimal got
+reject_words (BadCell column) = codes "bad cell " ++ decimal column
+reject_words (WrongKind column) = codes "wrong kind " ++ decimal column
 reject_words (Closed line) = codes "closed by line " ++ decimal line
 
 -- `# stream S tuples T punctuations P rejected R`
@@ -41,14 +46,15 @@ results_line outputs = results_text (counted_to (length (rows_of outputs))) (cou
 abbrev pub peak_line : List ℕ → ℕ → List ℕ
 peak_line name peak = fed (codes "# peak " ++ name ++ codes " " ++ decimal peak)
 
--- the line of a status, with its line feed; nothing where it has none. The node of a limit has this name
+-- the line of a status, with its line feed; nothing where it has none. What has a limit has this name
 abbrev pub status_line : List ℕ → Status → List ℕ
 status_line name Done = []
 status_line name NotBuilt = fed (codes "# refused not built")
 status_line name (ReadFault operand) = fed (codes "# stopped read fault operand " ++ decimal operand)
 status_line name WriteFault = []
 status_line name NoMemory = fed (codes "# stopped no memory")
-status_line name (Limit what) = fed (codes "# stopped limit node " ++ name)
+status_line name (Limit (Node node)) = fed (codes "# stopped limit node " ++ name)
+status_line name (Limit (File stream)) = fed (codes "# stopped limit file " ++ name)
 
 -- the exit status of the program
 abbrev pub status_number : Status → ℕ

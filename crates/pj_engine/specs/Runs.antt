@@ -1,13 +1,13 @@
 -- What a plan's run over files hands out, and the lines that it writes. There is one file for each stream.
-use Rattle.std.specs.Prelude.{◌≡◌, Bool, false, ℕ, ◌^◌, nat_le, List, [], ◌∷◌, ◌++◌, map, length, Option, Some, None}
+use Rattle.std.specs.Prelude.{◌≡◌, false, ℕ, ◌^◌, List, [], ◌∷◌, ◌++◌, map, length, Option, Some, None}
 use Rattle.pj_value.specs.declared.values.Value.{Value}
 use Rattle.pj_value.specs.Bags.{SameBag as SameBagOf}
 use Rattle.pj_shape.specs.declared.plans.SmallPlan.{SmallPlan}
 use Rattle.pj_shape.specs.declared.plans.SmallStream.{SmallStream}
 use Rattle.pj_shape.specs.declared.plans.SmallJoin.{SmallJoin}
-use Rattle.pj_element.specs.declared.element.Pattern.{Pattern}
-use Rattle.pj_element.specs.declared.element.Element.{Element}
-use Rattle.pj_element.specs.declared.element.Element.TheVariants.{Punct}
+use Rattle.pj_pattern.specs.Patterns.{Pattern}
+use Rattle.pj_pattern.specs.declared.element.Element.{Element}
+use Rattle.pj_pattern.specs.declared.element.Element.TheVariants.{Punct}
 use Rattle.pj_element.specs.Runs.{rows_of, puncts_of, IsLawful, element_lines, closing}
 use Rattle.pj_element.specs.Accepted.{taken_of, fates_of, tally_of}
 use Rattle.pj_laws.specs.Bags.{SameBag}
@@ -102,6 +102,3 @@ pub record GoesBeyond (plan : SmallPlan) (files : List (List ℕ)) (node : ℕ) 
   pub back : List Entry
   pub run : history_of plan files ≡ front ++ next ∷ back
   pub beyond : goes_beyond most_arrivals (nodes_of plan) front next.event ≡ Some node
-
-abbrev pub is_short : List ℕ → Bool
-is_short bytes = nat_le (length bytes) 1048576

@@ -1,5 +1,5 @@
 -- What the lines of a plan state.
-use Rattle.std.specs.Prelude.{ℕ, Bool, true, false, ◌||◌, ◌&&◌, not, List, [], ◌∷◌, Option, Some, None, if◌then◌else◌, ◌==◌, nat_lt, nat_le, length, take, drop, position, codes}
+use Rattle.std.specs.Prelude.{ℕ, Bool, true, false, ◌||◌, ◌&&◌, not, List, [], ◌∷◌, Option, Some, None, if◌then◌else◌, ◌==◌, nat_le, length, take, drop, position}
 use Rattle.std.specs.Option.{option_map}
 use Rattle.std.specs.List.{list_all, list_any}
 use Rattle.std.specs.Str.{bytes_eq}
@@ -7,8 +7,8 @@ use Rattle.pj_value.specs.declared.values.Kind.{Kind}
 use Rattle.pj_value.specs.declared.values.Kind.TheVariants.{Int, Text}
 use Rattle.pj_value.specs.Options.{both}
 use Rattle.pj_shape.specs.declared.columns.Column.{Column}
-use Rattle.pj_element.specs.Lines.{line_of, is_skipped}
-use Rattle.pj_element.specs.Cells.{cells_of}
+use Rattle.pj_line.specs.Lines.{line_of, is_skipped}
+use Rattle.pj_line.specs.Cells.{cells_of}
 use Rattle.pj_engine.specs.declared.plan.Statement.{Statement}
 use Rattle.pj_engine.specs.declared.plan.Statement.TheVariants.{Plan, Stream, Scheme, Join, Output}
 use Rattle.pj_engine.specs.declared.plan.ClassLine.{ClassLine}

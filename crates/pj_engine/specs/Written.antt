@@ -1,7 +1,7 @@
 -- What was written: whole lines, or a front of them.
 use Rattle.std.specs.Prelude.{◌≡◌, ℕ, Bool, false, not, ◌==◌, List, [], ◌∷◌, ◌++◌, map, filter, Result, Ok, Err, if◌then◌else◌, ◌⊎◌}
 use Rattle.pj_io.specs.Causes.{Rose}
-use Rattle.pj_element.specs.declared.element.Element.{Element}
+use Rattle.pj_pattern.specs.declared.element.Element.{Element}
 use Rattle.pj_element.specs.Runs.{element_line}
 use Rattle.pj_engine.specs.declared.status.Status.{Status}
 use Rattle.pj_engine.specs.declared.status.Status.TheVariants.{Done, NotBuilt, ReadFault, WriteFault, NoMemory, Limit}
@@ -34,7 +34,7 @@ Delivered bytes before after faults_before faults_after =
 abbrev pub StopLeaves : Status → List (List ℕ) → List ℕ → List ℕ → Type 0
 StopLeaves Done lines before after = ⊥
 StopLeaves NotBuilt lines before after = ⊥
-StopLeaves (ReadFault operand) lines before after = ⊥
+StopLeaves (ReadFault operand) lines before after = WholeLines lines before after
 StopLeaves WriteFault lines before after = FrontOf (flat lines) before after
 StopLeaves NoMemory lines before after = WholeLines lines before after
 StopLeaves (Limit what) lines before after = WholeLines lines before after

@@ -1,10 +1,15 @@
-// The elements of all streams, in turns.
-ghost use Rattle.std.specs.Prelude.{◌≡◌, ◌≤◌, List, [], ◌∷◌, ◌++◌, map, length, reverse, None, IfNone};
+// The elements of all streams, in turns, as their files are read.
+ghost use Rattle.std.specs.Prelude.{◌≡◌, ◌<◌, ◌≤◌, ℕ, List, [], ◌∷◌, length, true, false, IsTrue, IfOk, OnOk, IfErr, IfNone, None};
 ghost use Rattle.pj_shape.specs.declared.plans.SmallStream.{SmallStream};
-ghost use Rattle.pj_engine.specs.Feeds.{turn_in, turn_of, feed_left, feeds_left, Gives, GivesOfRound};
+ghost use Rattle.pj_intake.specs.States.{IsOpen};
+ghost use Rattle.pj_engine.specs.Feeds.{state_of, turn_in, turn_of, feed_left, feeds_left, count_of, Gives, work_of, IsFed, IsSameFeed, IsNextOf, BringsOf, FeedStops, AreFeeds, AreSameFeeds, AllTold, IsFirstOpen, HasTurn, BringsIn, WorksOn, StopsIn, status_of_feed};
 
-use pj_element::Element;
-use pj_value::List;
+use crate::{LimitOf, Status};
+use pj_element::Tally;
+use pj_intake::{Intake, IntakeStop, Step};
+use pj_io::Source;
+use pj_pattern::Element;
+use std::marker::Model;
 
 /// What a turn brings: an element of a stream, or its closing. Streams are counted from 0.
 #[derive(Drop)]
@@ -13,83 +18,164 @@ pub enum Next {
     Close { stream: u32 },
 }
 
-/// What is left of a stream: its elements, of which the next is the last, and whether its closing is still to come.
+/// A stream that is fed from its file, and whether its closing is still to come.
 #[derive(Drop)]
-pub struct Feed {
-    pub stream: u32,
-    pub elements: Vec<Element>,
-    pub is_open: bool,
+pub struct Feed<S: Source> {
+    stream: u32,
+    intake: Intake<S>,
+    is_open: bool,
 }
 
-impl Feed {
-    /// A stream with these elements, in order, of which none had its turn.
-    #[tactic(auto, using(crate::proofs::Feeding::none_gone))]
-    pub fn new(stream: u32, elements: List<Element>) -> Feed
-        ensures { (streams : List SmallStream) → feed_left streams result ≡ map (λ e. turn_in streams (Next.Bring stream e)) elements ++ turn_in streams (Next.Close stream) ∷ [] }
+impl<S: Source> Model for Feed<S> {
+    ghost use Rattle.pj_engine.specs.Feeds.{FeedState, state_of};
+
+    ghost Value = { FeedState };
+
+    ghost view = { λ f. state_of S.tells S.taken S.left S.faults S.name f.stream f.is_open f.intake };
+}
+
+impl<S: Source> Feed<S> {
+    /// A stream whose intake has judged no line yet.
+    pub fn new(stream: u32, intake: Intake<S>) -> Feed<S>
+        ensures { result ≡ state_of S.tells S.taken S.left S.faults S.name stream true intake }
     {
-        let mut items = elements.into_vec();
-        items.reverse();
         Feed {
             stream,
-            elements: items,
+            intake,
             is_open: true,
         }
     }
 
-    /// The next turn of the stream; `None` exactly where nothing is left.
-    pub fn next(&mut self) -> Option<Next>
-        ensures gives { (streams : List SmallStream) → Gives (feed_left streams self.old) (feed_left streams self.new) (turn_of streams result) }
-        ensures none { IfNone result ((streams : List SmallStream) → feed_left streams self.new ≡ []) }
+    /// Whether its closing is still to come.
+    pub fn is_open(&self) -> bool
+        ensures { result ≡ self.now.is_open }
+    {
+        self.is_open
+    }
+
+    /// The next turn of the stream, whose closing is still to come: its next accepted element, read from its file, or its
+    /// closing.
+    pub fn next(&mut self) -> Result<Next, IntakeStop>
+        requires fed { IsFed self.old }
+        requires open { self.old.is_open ≡ true }
+        ensures fed { OnOk result (IsFed self.new) }
+        ensures same { IsSameFeed self.old self.new }
+        ensures left { IsTrue self.old.told → IfOk result (λ next. (streams : List SmallStream) → feed_left streams self.old ≡ turn_in streams next ∷ feed_left streams self.new) }
+        ensures works { OnOk result (work_of self.new < work_of self.old) }
+        ensures brings { IfOk result (λ next. BringsOf self.old next) }
+        ensures stops { IfErr result (λ stop. FeedStops self.old self.new stop) }
     {
         let stream = self.stream;
-        match self.elements.pop() {
-            Some(element) => Some(Next::Bring { stream, element }),
-            None => {
-                if self.is_open {
-                    self.is_open = false;
-                    return Some(Next::Close { stream });
-                }
-                None
+        match next_element(&mut self.intake) {
+            Ok(Some(element)) => Ok(Next::Bring { stream, element }),
+            Ok(None) => {
+                self.is_open = false;
+                Ok(Next::Close { stream })
             }
+            Err(stop) => Err(stop),
+        }
+    }
+
+    /// Its file, and the counts of its lines.
+    pub fn close(self) -> (S, Tally)
+        ensures tally { result.1 ≡ self.seen.tally }
+        ensures told { S.tells result.0 ≡ self.told }
+        ensures taken { S.taken result.0 ≡ self.taken }
+        ensures faults { S.faults result.0 ≡ self.faults }
+        ensures name { S.name result.0 ≡ self.name }
+    {
+        let Feed { intake, .. } = self;
+        intake.close()
+    }
+}
+
+// The next element that is accepted; `None` exactly where all lines were judged.
+fn next_element<S: Source>(intake: &mut Intake<S>) -> Result<Option<Element>, IntakeStop>
+    requires fed { IsFed (state_of S.tells S.taken S.left S.faults S.name 0 true intake.old) }
+    ensures fed { OnOk result (IsFed (state_of S.tells S.taken S.left S.faults S.name 0 true intake.new)) }
+    ensures same { IsSameFeed (state_of S.tells S.taken S.left S.faults S.name 0 true intake.old) (state_of S.tells S.taken S.left S.faults S.name 0 true intake.new) }
+    ensures next { IfOk result (λ next. IsNextOf (state_of S.tells S.taken S.left S.faults S.name 0 true intake.old) (state_of S.tells S.taken S.left S.faults S.name 0 true intake.new) next) }
+    ensures stops { IfErr result (λ stop. FeedStops (state_of S.tells S.taken S.left S.faults S.name 0 true intake.old) (state_of S.tells S.taken S.left S.faults S.name 0 true intake.new) stop) }
+{
+    loop {
+        match intake.next() {
+            Ok(Step::Tuple(row)) => return Ok(Some(Element::Tuple(row))),
+            Ok(Step::Punct(punct)) => return Ok(Some(Element::Punct(punct))),
+            Ok(Step::Rejected(_, _)) => {}
+            Ok(Step::End) => return Ok(None),
+            Err(stop) => return Err(stop),
         }
     }
 }
 
-/// What is left of all streams, and the place of the one whose turn comes next.
+/// All streams, and the place of the one whose turn comes next.
 #[derive(Drop)]
-pub struct Feeds {
-    pub feeds: Vec<Feed>,
+pub struct Feeds<S: Source> {
+    pub feeds: Vec<Feed<S>>,
     pub at: usize,
 }
 
-impl Feeds {
-    /// The next turn: in rounds each stream has one, as long as it has any left. `None` exactly where nothing is left.
-    pub fn next(&mut self) -> Option<Next>
-        ensures { (streams : List SmallStream) → Gives (feeds_left streams self.old.feeds.items self.old.at) (feeds_left streams self.new.feeds.items self.new.at) (turn_of streams result) }
+impl<S: Source> Feeds<S> {
+    /// The next turn: in rounds each stream has one, as long as its closing is still to come. `None` exactly where no stream
+    /// has. After an `Err` no further turn can be made.
+    pub fn next(&mut self) -> Result<Option<Next>, Status>
+        requires fed { (streams : List SmallStream) × AreFeeds 0 streams self.old.feeds.items }
+        requires few { length self.old.feeds.items ≤ 128 }
+        ensures fed { (streams : List SmallStream) → AreFeeds 0 streams self.old.feeds.items → OnOk result (AreFeeds 0 streams self.new.feeds.items) }
+        ensures same { AreSameFeeds self.old.feeds.items self.new.feeds.items }
+        ensures gives { AllTold self.old.feeds.items → IfOk result (λ next. (streams : List SmallStream) → AreFeeds 0 streams self.old.feeds.items
+            → Gives (feeds_left streams self.old.feeds.items self.old.at) (feeds_left streams self.new.feeds.items self.new.at) (turn_of streams next)) }
+        ensures works { IfOk result (λ next. WorksOn self.old.feeds.items self.new.feeds.items next) }
+        ensures brings { IfOk result (λ next. BringsIn self.old.feeds.items next) }
+        ensures nothing { IfOk result (λ next. IfNone next (self.new.feeds.items ≡ self.old.feeds.items)) }
+        ensures stops { IfErr result (λ status. StopsIn self.old.feeds.items self.new.feeds.items self.old.at status) }
     {
-        match self.next_of_round() {
-            Some(next) => Some(next),
-            None => {
-                self.at = 0;
-                self.next_of_round()
+        match self.turn_place() {
+            None => Ok(None),
+            Some(place) => {
+                self.at = place + 1;
+                match self.feeds[place].next() {
+                    Ok(next) => Ok(Some(next)),
+                    Err(stop) => Err(status_of(place as u32, stop)),
+                }
             }
         }
     }
 
-    // The next turn of this round.
-    fn next_of_round(&mut self) -> Option<Next>
-        ensures gives { (streams : List SmallStream) → GivesOfRound (feeds_left streams self.old.feeds.items self.old.at) (feeds_left streams self.new.feeds.items self.new.at) (turn_of streams result) }
-        ensures over { IfNone result (length self.new.feeds.items ≤ self.new.at) }
-        ensures nothing { self.old.at ≡ 0 → (streams : List SmallStream) → IfNone result (feeds_left streams self.old.feeds.items 0 ≡ []) }
+    // The place of the stream that has the next turn.
+    fn turn_place(&self) -> Option<usize>
+        ensures { HasTurn self.now.feeds.items self.now.at result }
     {
-        while self.at < self.feeds.len() {
-            let next = self.feeds[self.at].next();
-            self.at += 1;
-            match next {
-                Some(next) => return Some(next),
-                None => {}
-            }
+        match first_open(self.feeds.as_slice(), self.at) {
+            Some(place) => Some(place),
+            None => first_open(self.feeds.as_slice(), 0),
         }
-        None
+    }
+}
+
+// The first stream from this place on whose closing is still to come.
+fn first_open<S: Source>(feeds: &[Feed<S>], from: usize) -> Option<usize>
+    ensures { IsFirstOpen feeds.now from result }
+{
+    for place in from..feeds.len() {
+        if feeds[place].is_open() {
+            return Some(place);
+        }
+    }
+    None
+}
+
+fn status_of(stream: u32, stop: IntakeStop) -> Status
+    requires { stream ≤ 128 }
+    ensures { result ≡ status_of_feed stream stop }
+{
+    match stop {
+        IntakeStop::ReadFault => Status::ReadFault {
+            operand: stream + 2,
+        },
+        IntakeStop::ByteLimit => Status::Limit {
+            what: LimitOf::File(stream),
+        },
+        IntakeStop::NoMemory => Status::NoMemory,
     }
 }

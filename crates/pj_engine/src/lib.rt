@@ -4,7 +4,6 @@
 mod classes;
 mod feeds;
 mod files;
-mod intake;
 mod output;
 mod outs;
 mod plan;
@@ -12,7 +11,6 @@ mod reader;
 mod ready;
 mod report;
 mod run;
-mod seen;
 mod statements;
 mod status;
 mod stops;

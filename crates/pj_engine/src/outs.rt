@@ -1,7 +1,7 @@
 // The lines of what a core hands out.
 ghost use Rattle.std.specs.Prelude.{◌≡◌, ◌≤◌, ◌++◌, ◌∷◌, [], List, length, IsTrue, IfErr, OnOk, Err};
-ghost use Rattle.pj_element.specs.declared.element.Element.{Element};
-ghost use Rattle.pj_element.specs.Runs.{rows_of, puncts_of};
+ghost use Rattle.pj_pattern.specs.declared.element.Element.{Element};
+ghost use Rattle.pj_pattern.specs.Elements.{rows_of, puncts_of};
 ghost use Rattle.pj_io.specs.Causes.{Rose};
 ghost use Rattle.pj_laws.specs.Outcomes.{elements_out};
 ghost use Rattle.pj_engine.specs.Files.{IsWriteStop};

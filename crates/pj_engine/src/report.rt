@@ -210,7 +210,22 @@ fn append_words(why: Reject, text: &mut List<u8>) -> Result<(), NoMemory>
     ensures { OnOk result (text.new ≡ text.old ++ reject_words why) }
 {
     match why {
+        Reject::TooLong => text.append(b"too long")?,
         Reject::NotElement => text.append(b"not an element")?,
+        Reject::Arity { want, got } => {
+            text.append(b"arity want ")?;
+            append_number(u64::from(want), text)?;
+            text.append(b" got ")?;
+            append_number(u64::from(got), text)?;
+        }
+        Reject::BadCell { column } => {
+            text.append(b"bad cell ")?;
+            append_number(u64::from(column), text)?;
+        }
+        Reject::WrongKind { column } => {
+            text.append(b"wrong kind ")?;
+            append_number(u64::from(column), text)?;
+        }
         Reject::Closed { line } => {
             text.append(b"closed by line ")?;
             append_number(line, text)?;

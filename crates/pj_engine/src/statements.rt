@@ -1,19 +1,17 @@
 // What the lines of a plan state.
 ghost use Rattle.std.specs.Prelude.{◌≡◌, ◌<◌, ◌≤◌, IfOk, IfSome, None, length, position};
 ghost use Rattle.std.specs.List.{list_all, list_any};
-ghost use Rattle.pj_element.specs.Lines.{pieces};
-ghost use Rattle.pj_element.specs.Cells.{cells_of};
+ghost use Rattle.pj_line.specs.Lines.{pieces};
+ghost use Rattle.pj_line.specs.Cells.{bytes_in};
 ghost use Rattle.pj_engine.specs.Statements.{all_of, statements_of, is_passed as passed, is_short as short, line_stated, statement_in, statement_of, stated as stated_by, plan_stated as plan_form, stream_stated as stream_form, scheme_stated as scheme_form, join_stated as join_form, output_stated as output_form, column_of, named_column, is_colon, kind_named as kind_of_name, mark_of, class_line, is_equals, is_marked, is_column_name as column_name, is_name as name_form, is_name_byte as name_byte, begins_small as begins};
 
 use crate::plan::{ClassLine, JoinLine, SchemeLine, Statement};
-use pj_element::{Cut, first_piece, is_skipped, line_of_piece, next_cell};
+use pj_line::{Cell, cells, first_piece, is_skipped, line_of_piece};
 use pj_shape::{Column, Schema, SmallStream};
 use pj_value::{Bytes, Kind, List, NoMemory};
 use std::alloc::Global;
 
 const LINE_LIMIT: usize = 65536;
-
-const CELL_LIMIT: usize = 128;
 
 /// What the lines of a plan state, in order; `None` where a line that is not skipped states nothing.
 #[tactic(auto, using(crate::proofs::PlanLines::line_passed, crate::proofs::PlanLines::line_good, crate::proofs::PlanLines::line_bad, crate::proofs::PlanLines::at_end))]
@@ -47,40 +45,32 @@ fn is_passed(piece: &[u8]) -> bool
     is_short(piece) && is_skipped(line_of_piece(piece))
 }
 
+#[tactic(auto, using(crate::proofs::PlanLines::line_is_short, crate::proofs::PlanLines::line_cut, crate::proofs::PlanLines::line_uncut))]
 fn read_line(alloc: Global, piece: &[u8]) -> Result<Option<Statement>, NoMemory>
     ensures { IfOk result (λ statement. statement ≡ line_stated piece.now) }
 {
     if !is_short(piece) {
         return Ok(None);
     }
-    match read_cells(alloc, line_of_piece(piece))? {
-        Some(cells) => {
-            if cells.len() > CELL_LIMIT {
-                return Ok(None);
-            }
-            Ok(read_statement(alloc, cells.as_slice())?)
+    match cells(line_of_piece(piece)) {
+        Ok(cells) => {
+            let copies = copy_cells(alloc, cells.as_slice())?;
+            Ok(read_statement(alloc, copies.as_slice())?)
         }
-        None => Ok(None),
+        Err(_) => Ok(None),
     }
 }
 
-// The cells of a line; `None` where it is unclosed.
-#[tactic(auto, using(crate::proofs::PlanLines::cell_more, crate::proofs::PlanLines::cells_end))]
-fn read_cells(alloc: Global, line: &[u8]) -> Result<Option<List<Bytes>>, NoMemory>
-    ensures { IfOk result (λ cells. cells ≡ cells_of line.now) }
+// The bytes of these cells.
+#[tactic(auto, using(crate::proofs::PlanLines::cells_more, crate::proofs::PlanLines::cells_end))]
+fn copy_cells(alloc: Global, cells: &[Cell<'_>]) -> Result<List<Bytes>, NoMemory>
+    ensures { IfOk result (λ copies. copies ≡ bytes_in cells.now) }
 {
-    let mut cells = List::new(alloc);
-    let mut rest = line;
-    loop {
-        match next_cell(rest) {
-            Cut::End => return Ok(Some(cells)),
-            Cut::Unclosed => return Ok(None),
-            Cut::Cell(cell, behind) => {
-                cells.push(List::copy_of(alloc, cell)?)?;
-                rest = behind;
-            }
-        }
+    let mut copies = List::new(alloc);
+    for cell in cells {
+        copies.push(List::copy_of(alloc, cell.bytes)?)?;
     }
+    Ok(copies)
 }
 
 fn read_statement(alloc: Global, cells: &[Bytes]) -> Result<Option<Statement>, NoMemory>

@@ -10,7 +10,7 @@ use pj_value::NoMemory;
 pub enum Status {
     /// All files were read to their ends, and every line was written.
     Done,
-    /// The words, the plan or a file's size are none that can be run.
+    /// The words or the plan are none that can be run, or there is another number of files.
     NotBuilt,
     /// A file could not be opened or read; operands are counted from 1, the plan being 1.
     ReadFault { operand: u32 },
@@ -27,6 +27,8 @@ pub enum Status {
 pub enum LimitOf {
     /// The arrivals at a join, by the number of its node.
     Node(u32),
+    /// The bytes of a stream's file, by the number of the stream.
+    File(u32),
 }
 
 impl Status {

@@ -5,12 +5,12 @@ ghost use Rattle.pj_engine.specs.Files.{IsRunStop};
 ghost use Rattle.pj_engine.specs.Report.{status_line};
 ghost use Rattle.pj_engine.specs.Written.{Delivered};
 
-use crate::Status;
+use crate::{LimitOf, Status};
 use itoa::Buffer;
 use pj_io::{Failed, Sink, write_all};
 
 /// Writes the line of a status, takes no memory for it, and hands on what the sink holds back. Where that fails, the
-/// status stays what it was. The node of a limit has this name.
+/// status stays what it was. What has a limit has this name.
 pub fn write_status<K: Sink>(name: &[u8], status: Status, out: &mut K)
     requires { IsRunStop status }
     ensures tells { IsTrue (K.tells out.new) → IsTrue (K.tells out.old) }
@@ -27,7 +27,10 @@ pub fn write_status<K: Sink>(name: &[u8], status: Status, out: &mut K)
         }
         Status::WriteFault => Ok(()),
         Status::NoMemory => deliver(out, b"# stopped no memory", b""),
-        Status::Limit { .. } => deliver(out, b"# stopped limit node ", name),
+        Status::Limit { what } => match what {
+            LimitOf::Node(_) => deliver(out, b"# stopped limit node ", name),
+            LimitOf::File(_) => deliver(out, b"# stopped limit file ", name),
+        },
     };
 }
 

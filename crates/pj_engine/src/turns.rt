@@ -8,7 +8,7 @@ ghost use Rattle.pj_core.specs.Cores.{StandsFor, MayFollow};
 ghost use Rattle.pj_core.specs.Calls.{IsCause, IsTurnRefused, TakesTurn};
 ghost use Rattle.pj_engine.specs.declared.status.LimitOf.TheVariants.{Node};
 ghost use Rattle.pj_engine.specs.Feeds.{turn_in};
-ghost use Rattle.pj_engine.specs.Files.{IsOverStop};
+ghost use Rattle.pj_engine.specs.Files.{IsTurnStop};
 ghost use Rattle.pj_engine.specs.Outs.{out_lines};
 ghost use Rattle.pj_engine.specs.Turning.{IsTurnOf, turn_outs, Turned, TurnDone, status_for};
 ghost use Rattle.pj_engine.specs.Written.{Writes};
@@ -46,7 +46,7 @@ pub fn take_turn<K: Sink>(
         → IsCause core.old (Arrive (turn_in core.old.plan.streams next).stream (turn_in core.old.plan.streams next).element) (Stop.Limit node) }
     ensures later { K.faults out.old ≤ K.faults out.new }
     ensures fault { result ≡ Err Status.WriteFault → Rose (K.faults out.old) (K.faults out.new) }
-    ensures others { IfErr result IsOverStop }
+    ensures others { IfErr result IsTurnStop }
 {
     let handed = turn_core(alloc, core, next);
     write_outs(alloc, handed.outs.as_slice(), counts, text, out)?;

@@ -1,7 +1,7 @@
 // Elements that have reached a join, with their tickets.
 ghost use Rattle.std.specs.Prelude.{◌≡◌, IfOk};
 
-use pj_element::Punct;
+use pj_pattern::Punct;
 use pj_value::{NoMemory, Row};
 use std::alloc::Global;
 use std::marker::Model;

@@ -9,8 +9,8 @@ ghost use Rattle.pj_join.specs.Joins.{IsTaken, StandsFor, StandsTaken, Takes, af
 
 use crate::arrivals::{Arrived, Heard};
 use crate::{JoinStop, Probe};
-use pj_element::Punct;
 use pj_laws::{standing, without_sweeps};
+use pj_pattern::Punct;
 use pj_shape::JoinSpec;
 use pj_value::{List, NoMemory, Row};
 use std::alloc::Global;

@@ -4,7 +4,7 @@ ghost use Rattle.pj_join.specs.Joins.{unswept};
 ghost use Rattle.pj_join.specs.Triples.{at, number, pair, triple};
 
 use super::*;
-use pj_element::{Pattern, Punct};
+use pj_pattern::{Pattern, Punct};
 use pj_shape::{ClassCol, Column, JoinSpec, Schema};
 use pj_value::{Kind, List, NoMemory, Row, Value};
 use std::alloc::Global;
@@ -99,8 +99,8 @@ fn say(alloc: Global, join: &mut Join, input: u32, a: i64) -> Result<u64, JoinSt
     ensures { join.new.spec ≡ join.old.spec }
 {
     let mut patterns = List::new(alloc);
-    patterns.push(Pattern::Constant(Value::Int(a)))?;
-    patterns.push(Pattern::Wild)?;
+    patterns.push(Pattern::constant(Value::Int(a)))?;
+    patterns.push(Pattern::wild())?;
     let mut out = List::new(alloc);
     join.punct(input, Punct::of(patterns), &mut out)
 }

@@ -5,7 +5,7 @@ use Rattle.pj_value.specs.declared.values.Kind.TheVariants.{Int as IntKind, Text
 use Rattle.pj_value.specs.declared.values.Value.{Value}
 use Rattle.pj_value.specs.declared.values.Value.TheVariants.{Int, Text}
 use Rattle.pj_shape.specs.declared.columns.Column.{Column}
-use Rattle.pj_element.specs.declared.element.Pattern.TheVariants.{Constant}
+use Rattle.pj_pattern.specs.declared.pattern.Form.TheVariants.{Constant}
 use Rattle.pj_laws.specs.Patterns.{wild}
 use Rattle.pj_laws.specs.Join.{AreCertified, Element, Tuple, Punct, JoinData, start}
 use Rattle.pj_laws.specs.Operators.{Count, Sum, Min, Max}

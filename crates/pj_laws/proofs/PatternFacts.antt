@@ -3,34 +3,21 @@ use Rattle.std.proofs.Common.{ℕ, zero, suc, Bool, true, false, ◌&&◌, List,
 use Rattle.std.proofs.lemmas.Bool.{and_parts, and_from, false≢true}
 use Rattle.std.proofs.lemmas.List.{length-replicate}
 use Rattle.pj_value.specs.declared.values.Value.{Value}
-use Rattle.pj_element.specs.declared.element.Pattern.TheVariants.{Wild, Constant}
+use Rattle.pj_pattern.specs.declared.pattern.Form.TheVariants.{Wild, Empty, Constant, Range, Members}
+use Rattle.pj_pattern.specs.Patterns.{matches_all}
 use Rattle.pj_laws.specs.Patterns.{Pattern, wild, all_wild, is_wild, matches_value, matches_row, covers_pattern, covers_punct, covers, MatchesInstance}
-use Rattle.pj_laws.proofs.Values.{value_eq-true, eq-value_eq}
 
 -- ---- one pattern
 
 -- a wildcard matches all
 pub wild-matches : (p : Pattern) (v : Value) → is_wild p ≡ true → matches_value p v ≡ true
 wild-matches Wild v e = refl
+wild-matches Empty v e = absurd (false≢true e)
 wild-matches (Constant c) v e = absurd (false≢true e)
-
--- what a pattern covers it matches
-pub covers-matches_value : (p q : Pattern) (v : Value) → covers_pattern p q ≡ true → matches_value q v ≡ true → matches_value p v ≡ true
-covers-matches_value Wild q v c t = refl
-covers-matches_value (Constant c) Wild v e t = absurd (false≢true e)
-covers-matches_value (Constant c) (Constant d) v e t = eq-value_eq c v (value_eq-true c d e ∙ value_eq-true d v t)
+wild-matches (Range low high) v e = absurd (false≢true e)
+wild-matches (Members ms) v e = absurd (false≢true e)
 
 -- ---- punctuations
-
-pub covers-punct : (ps qs : List Pattern) (row : List Value) → covers_punct ps qs ≡ true → matches_row qs row ≡ true → matches_row ps row ≡ true
-covers-punct [] [] row c t = t
-covers-punct [] (q ∷ qs) row c t = absurd (false≢true c)
-covers-punct (p ∷ ps) [] row c t = absurd (false≢true c)
-covers-punct (p ∷ ps) (q ∷ qs) [] c t = absurd (false≢true t)
-covers-punct (p ∷ ps) (q ∷ qs) (v ∷ row) c t =
-    let a = and_parts (covers_pattern p q) (covers_punct ps qs) c in
-    let b = and_parts (matches_value q v) (matches_row qs row) t in
-    and_from (matches_value p v) (matches_row ps row) (covers-matches_value p q v a.0 b.0) (covers-punct ps qs row a.1 b.1)
 
 pub matches-append : (ps qs : List Pattern) (vs ws : List Value) → length ps ≡ length vs → matches_row (ps ++ qs) (vs ++ ws) ≡ (matches_row ps vs && matches_row qs ws)
 matches-append [] qs [] ws l = refl
@@ -53,11 +40,22 @@ wilds-match [] (suc n) l = absurd (omega arith)
 wilds-match (v ∷ vs) zero l = absurd (omega arith)
 wilds-match (v ∷ vs) (suc n) l = wilds-match vs n (omega arith)
 
+all-match : (vs : List Value) → matches_all wild vs ≡ true
+all-match [] = refl
+all-match (v ∷ vs) = all-match vs
+
+wild-covers : (p : Pattern) → covers_pattern wild p ≡ true
+wild-covers Wild = refl
+wild-covers Empty = refl
+wild-covers (Constant c) = refl
+wild-covers (Range low high) = refl
+wild-covers (Members ms) = all-match ms
+
 pub wilds-cover_punct : (n : ℕ) (ps : List Pattern) → length ps ≡ n → covers_punct (all_wild n) ps ≡ true
 wilds-cover_punct zero [] l = refl
 wilds-cover_punct zero (p ∷ ps) l = absurd (omega arith)
 wilds-cover_punct (suc n) [] l = absurd (omega arith)
-wilds-cover_punct (suc n) (p ∷ ps) l = wilds-cover_punct n ps (omega arith)
+wilds-cover_punct (suc n) (p ∷ ps) l = and_from (covers_pattern wild p) (covers_punct (all_wild n) ps) (wild-covers p) (wilds-cover_punct n ps (omega arith))
 
 -- wildcards alone cover each instance of their length
 pub wilds-cover : (n : ℕ) (cells : List (Option Value)) → length cells ≡ n → covers (all_wild n) cells ≡ true

@@ -18,7 +18,7 @@ abbrev pub AreTagged : ℕ → List (List Turn) → Type 0
 AreTagged k [] = Unit {0}
 AreTagged k (xs ∷ lists) = ((t : Turn) → In t xs → t.stream ≡ k) × AreTagged (k + 1) lists
 
-tails-tagged : (k : ℕ) (lists : List (List Turn)) → AreTagged k lists → AreTagged k (tails lists)
+pub tails-tagged : (k : ℕ) (lists : List (List Turn)) → AreTagged k lists → AreTagged k (tails lists)
 tails-tagged k [] a = tt
 tails-tagged k ([] ∷ lists) a = (a.0, tails-tagged (k + 1) lists a.1)
 tails-tagged k ((x ∷ xs) ∷ lists) a = (λ t h. a.0 t (inr h), tails-tagged (k + 1) lists a.1)
@@ -29,7 +29,7 @@ length-tails ([] ∷ lists) = ap suc (length-tails lists)
 length-tails ((x ∷ xs) ∷ lists) = ap suc (length-tails lists)
 
 -- no first item is of a stream below
-none-below : (k s : ℕ) (lists : List (List Turn)) → AreTagged k lists → s < k → mine s (heads lists) ≡ []
+pub none-below : (k s : ℕ) (lists : List (List Turn)) → AreTagged k lists → s < k → mine s (heads lists) ≡ []
 none-below k s [] a lt = refl
 none-below k s ([] ∷ lists) a lt = none-below (k + 1) s lists a.1 (omega arith)
 none-below k s ((x ∷ xs) ∷ lists) a lt =
@@ -37,7 +37,7 @@ none-below k s ((x ∷ xs) ∷ lists) a lt =
     ∙ none-below (k + 1) s lists a.1 (omega arith)
 
 -- the first item of a stream and the others are its list
-mine-heads : (k i : ℕ) (lists : List (List Turn)) → AreTagged k lists → i < length lists → mine (k + i) (heads lists) ++ get_or (tails lists) i [] ≡ get_or lists i []
+pub mine-heads : (k i : ℕ) (lists : List (List Turn)) → AreTagged k lists → i < length lists → mine (k + i) (heads lists) ++ get_or (tails lists) i [] ≡ get_or lists i []
 mine-heads k i [] a lt = absurd (omega arith)
 mine-heads k zero ([] ∷ lists) a lt = ap (λ (xs : List Turn). xs ++ []) (none-below (k + 1) (k + 0) lists a.1 (omega arith))
 mine-heads k zero ((x ∷ xs) ∷ lists) a lt =

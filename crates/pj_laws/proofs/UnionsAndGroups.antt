@@ -3,13 +3,14 @@ use Rattle.std.proofs.Common.{ℕ, zero, suc, ◌+◌, ◌<◌, ◌≤◌, Bool,
 use Rattle.std.specs.List.{list_any}
 use Rattle.std.proofs.lemmas.Bool.{and_parts, or_cases, false≢true, eqb-true, eq-eqb, cases_eq, false_from_ne_true, not-true}
 use Rattle.std.proofs.lemmas.List.{length-map}
+use Rattle.pj_pattern.proofs.Covering.{row_covered}
 use Rattle.pj_laws.specs.Patterns.{Pattern, wild, all_wild, matches_row, covers_punct}
 use Rattle.pj_laws.specs.Join.{In, Value, no_value, Element, Tuple, Punct, IsLawful}
 use Rattle.pj_laws.specs.Bags.{same_row}
 use Rattle.pj_laws.specs.Operators.{picked_cells, picked_patterns, drops_wildcards, aggregate, keys_from, group_row, group_rows, GroupSpec, Sent, UnionState, all_sent_from, union_after, union_hands, group_after, group_hands}
 use Rattle.pj_laws.specs.Plan.{Union, Group, Local, Comes, Fed, Own, hands_all}
 use Rattle.pj_laws.proofs.Lists.{In-append_left, In-append_right, In-append_cases, In-filter, In-map, any_at}
-use Rattle.pj_laws.proofs.PatternFacts.{covers-punct, matches-append}
+use Rattle.pj_laws.proofs.PatternFacts.{matches-append}
 use Rattle.pj_laws.proofs.Lawful.{AreClear, IsLawful-append, no-closed, no-row, rows-lawful, closed-lawful}
 use Rattle.pj_laws.proofs.Glue.{from_input}
 use Rattle.pj_laws.proofs.Operators.{AllFit, lawful-tail, picked-at, picked-matches, AreWithin}
@@ -113,7 +114,7 @@ union-lawful n u (Comes i (Punct ps) ∷ ls) w l clear wait =
         elim (all_sent-at 0 n came r.0 f.1 g.0 (omega arith) (omega (arith, g.1))) [
           | inl e ↦ clear' r.0 (sent r.0 f.0) row (subst (λ (j : ℕ). In (Tuple row) (from_input j ls)) e g.2)
           | inr q ↦ false_from_ne_true (matches_row r.0.patterns row) (λ t.
-              false≢true (sym (clear' q.0 q.1 row (subst (λ (j : ℕ). In (Tuple row) (from_input j ls)) (sym q.2) g.2)) ∙ covers-punct q.0.patterns r.0.patterns row q.3 t))
+              false≢true (sym (clear' q.0 q.1 row (subst (λ (j : ℕ). In (Tuple row) (from_input j ls)) (sym q.2) g.2)) ∙ row_covered q.0.patterns r.0.patterns row q.3 t))
         ]
 
 -- ---- a group

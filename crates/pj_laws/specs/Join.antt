@@ -8,8 +8,9 @@ pub use Rattle.pj_shape.specs.declared.joins.JoinSpec.{JoinSpec}
 pub use Rattle.pj_shape.specs.Lists.{In, product}
 pub use Rattle.pj_shape.specs.Joining.{Part, value_at, no_value, values, joins, joined_row, class_of}
 use Rattle.pj_shape.specs.Sound.{arities_of}
-pub use Rattle.pj_element.specs.declared.element.Element.{Element}
-pub use Rattle.pj_element.specs.declared.element.Element.TheVariants.{Tuple, Punct}
+pub use Rattle.pj_pattern.specs.declared.element.Element.{Element}
+pub use Rattle.pj_pattern.specs.declared.element.Element.TheVariants.{Tuple, Punct}
+pub use Rattle.pj_pattern.specs.Elements.{rows_of, puncts_of}
 use Rattle.pj_laws.specs.Patterns.{Pattern, all_wild, matches_row, covers}
 
 -- ---- what a join is
@@ -338,16 +339,6 @@ IsLawful (Tuple row ∷ es) = IsLawful es
 IsLawful (Punct patterns ∷ es) = ((row : List Value) → In (Tuple row) es → matches_row patterns row ≡ false) × IsLawful es
 
 -- ---- the whole
-
-abbrev pub rows_of : List Element → List (List Value)
-rows_of [] = []
-rows_of (Tuple row ∷ es) = row ∷ rows_of es
-rows_of (Punct patterns ∷ es) = rows_of es
-
-abbrev pub puncts_of : List Element → List (List Pattern)
-puncts_of [] = []
-puncts_of (Tuple row ∷ es) = puncts_of es
-puncts_of (Punct patterns ∷ es) = patterns ∷ puncts_of es
 
 -- every tuple is given
 abbrev pub AllGiven : JoinState → Type 0

@@ -1,7 +1,7 @@
 -- The history of a run on one thread.
 use Rattle.std.specs.Prelude.{ℕ, zero, suc, ◌+◌, Bool, true, false, ◌&&◌, if◌then◌else◌, List, [], ◌∷◌, ◌++◌, map, length, max, Option, Some, None}
-use Rattle.pj_element.specs.declared.element.Element.{Element}
-use Rattle.pj_element.specs.declared.element.Element.TheVariants.{Tuple, Punct}
+use Rattle.pj_pattern.specs.declared.element.Element.{Element}
+use Rattle.pj_pattern.specs.declared.element.Element.TheVariants.{Tuple, Punct}
 use Rattle.pj_shape.specs.declared.columns.Column.{Column}
 use Rattle.pj_laws.specs.Patterns.{all_wild}
 use Rattle.pj_laws.specs.Join.{inputs, upto_from}

@@ -10,8 +10,8 @@ pub use Rattle.pj_shape.specs.declared.groups.Agg.{Agg}
 pub use Rattle.pj_shape.specs.declared.groups.Agg.TheVariants.{Count, Sum, Min, Max}
 pub use Rattle.pj_shape.specs.declared.groups.GroupSpec.{GroupSpec}
 use Rattle.pj_shape.specs.Joining.{value_at, no_value}
-use Rattle.pj_element.specs.declared.element.Element.{Element}
-use Rattle.pj_element.specs.declared.element.Element.TheVariants.{Tuple, Punct}
+use Rattle.pj_pattern.specs.declared.element.Element.{Element}
+use Rattle.pj_pattern.specs.declared.element.Element.TheVariants.{Tuple, Punct}
 use Rattle.pj_laws.specs.Bags.{same_row, weigh}
 use Rattle.pj_laws.specs.Patterns.{Pattern, wild, all_wild, is_wild, matches_row, covers_punct}
 

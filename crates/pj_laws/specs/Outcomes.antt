@@ -1,8 +1,8 @@
 -- What a history has brought to each node, what stands there, and what it handed out.
 use Rattle.std.specs.Prelude.{ℕ, zero, suc, ◌+◌, ◌≡◌, Bool, true, false, ◌==◌, ◌&&◌, if◌then◌else◌, List, [], ◌∷◌, ◌++◌, map, length, slice_index_or, flat_map, max, Option, Some, None}
 use Rattle.pj_value.specs.declared.values.Value.{Value}
-use Rattle.pj_element.specs.declared.element.Element.{Element}
-use Rattle.pj_element.specs.declared.element.Element.TheVariants.{Tuple, Punct}
+use Rattle.pj_pattern.specs.declared.element.Element.{Element}
+use Rattle.pj_pattern.specs.declared.element.Element.TheVariants.{Tuple, Punct}
 use Rattle.pj_laws.specs.Join.{Step, Take, Give, Sweep, TupleAt, low, ripe, results, joined, of_input, rows_of, upto_from}
 use Rattle.pj_laws.specs.Plan.{Operator, Join, Group, Node, Comes, join_step, batches, after, hands, nowhere, answers_from}
 use Rattle.pj_laws.specs.History.{Entry, Event, Arrive, Taken, Given, Swept, Drain, Out, RowOut, PunctOut, Purged, streams_of, stream_node, root_of, join_at, data_at, step_of, nodes_by, gained, Reached, begun, next, nodes_from}

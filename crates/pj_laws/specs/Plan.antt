@@ -3,8 +3,8 @@ use Rattle.std.specs.Prelude.{ℕ, ◌+◌, ◌<◌, ◌≡◌, Bool, true, fals
 use Rattle.pj_value.specs.declared.values.Value.{Value}
 use Rattle.pj_shape.specs.declared.columns.Column.{Column}
 use Rattle.pj_shape.specs.Joining.{join_answer}
-use Rattle.pj_element.specs.declared.element.Element.{Element}
-use Rattle.pj_element.specs.declared.element.Element.TheVariants.{Tuple, Punct}
+use Rattle.pj_pattern.specs.declared.element.Element.{Element}
+use Rattle.pj_pattern.specs.declared.element.Element.TheVariants.{Tuple, Punct}
 use Rattle.pj_laws.specs.Bags.{AreSameBag}
 use Rattle.pj_laws.specs.Patterns.{Pattern, all_wild, matches_row, is_kind, is_of_kind}
 use Rattle.pj_laws.specs.Join.{In, JoinData, JoinState, Step, TupleComes, PunctComes, Take, Give, Sweep, start, run, outputs, IsAllowed, AllGiven, IsSettled, arities, inputs, rows_of, IsLawful}

@@ -1,5 +1,5 @@
 // What happens to a plan that runs, and what it hands out.
-use pj_element::{Element, Punct};
+use pj_pattern::{Element, Punct};
 use pj_value::Row;
 
 /// What is handed out: an element of the root, or the note of a row that a sweep removed from an input of a join.

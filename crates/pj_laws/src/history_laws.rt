@@ -1,7 +1,7 @@
 // Laws of whole histories of a plan.
 ghost use Rattle.std.specs.Prelude.{Bool, ◌<◌, ◌≡◌, true, false, List, [], length};
 ghost use Rattle.pj_laws.specs.Plan.{Node, ArePlanned};
-ghost use Rattle.pj_element.specs.declared.element.Element.{Element};
+ghost use Rattle.pj_pattern.specs.declared.element.Element.{Element};
 ghost use Rattle.pj_shape.specs.declared.plans.SmallPlan.{SmallPlan};
 ghost use Rattle.pj_shape.specs.declared.plans.SmallStream.{SmallStream};
 ghost use Rattle.pj_shape.specs.declared.plans.SmallJoin.{SmallJoin};

@@ -9,7 +9,7 @@ mod plan_laws;
 pub use events::{Entry, Event, Look, Out, Stop};
 pub use history_laws::{
     history_answers, history_lawfulness, history_steps, joins_of_histories, never_retracted,
-    one_thread, small_plans,
+    one_thread, probing, small_joins, small_plans, turns,
 };
 pub use join_laws::{
     completeness, forgetting_is_safe, lawfulness, ripeness, settling, standing, without_sweeps,

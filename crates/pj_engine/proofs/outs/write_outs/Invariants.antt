@@ -1,5 +1,5 @@
 use Rattle.std.proofs.Common.{◌≡◌, ◌≤◌, ◌++◌, Ok, IsTrue, List, take}
-use Rattle.pj_element.specs.declared.element.Element.{Element}
+use Rattle.pj_pattern.specs.declared.element.Element.{Element}
 use Rattle.pj_laws.specs.Outcomes.{elements_out}
 use Rattle.pj_engine.specs.Outs.{out_lines, counts_of}
 use Rattle.pj_engine.specs.Written.{Writes}

@@ -1,4 +1,4 @@
-use Rattle.std.proofs.Common.{◌≡◌, length, drop, take, ◌++◌, []}
+use Rattle.std.proofs.Common.{◌≡◌, drop, take, []}
 use Rattle.pj_engine.specs.Plans.{are_placed}
 use Rattle.pj_engine.proofs.reader.are_placed.Given as goal
 

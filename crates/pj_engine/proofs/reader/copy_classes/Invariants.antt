@@ -1,5 +1,4 @@
-use Rattle.std.proofs.Common.{◌≡◌, length, drop, take, ◌++◌, []}
-use Rattle.pj_engine.specs.Plans.{ends_in}
+use Rattle.std.proofs.Common.{◌≡◌, take}
 use Rattle.pj_engine.proofs.reader.copy_classes.Given as goal
 
 abbrev pub invariant-loop-class : goal.invariant-loop-class

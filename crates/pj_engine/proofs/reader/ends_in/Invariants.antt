@@ -1,4 +1,4 @@
-use Rattle.std.proofs.Common.{◌≡◌, length, drop, take, ◌++◌, []}
+use Rattle.std.proofs.Common.{◌≡◌, length}
 use Rattle.pj_engine.specs.Plans.{ends_in}
 use Rattle.pj_engine.proofs.reader.ends_in.Given as goal
 

@@ -1,4 +1,4 @@
-use Rattle.std.proofs.Common.{◌≡◌, length, drop, take, ◌++◌, []}
+use Rattle.std.proofs.Common.{◌≡◌, length, ◌++◌}
 use Rattle.pj_engine.specs.Plans.{schemes_in}
 use Rattle.pj_engine.proofs.reader.schemes_in.Given as goal
 

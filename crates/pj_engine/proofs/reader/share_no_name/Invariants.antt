@@ -1,4 +1,4 @@
-use Rattle.std.proofs.Common.{◌≡◌, length, drop, take, ◌++◌, []}
+use Rattle.std.proofs.Common.{◌≡◌, length}
 use Rattle.pj_engine.specs.Plans.{share_no_name}
 use Rattle.pj_engine.proofs.reader.share_no_name.Given as goal
 

@@ -1,4 +1,4 @@
-use Rattle.std.proofs.Common.{◌≡◌, ◌∷◌, ◌++◌, [], Some, arith, rules}
+use Rattle.std.proofs.Common.{◌≡◌, ◌∷◌, ◌++◌, [], Some, arith}
 use Rattle.std.proofs.lemmas.Grind.{common_steps}
 use Rattle.pj_engine.specs.Statements.{class_line}
 use Rattle.pj_engine.proofs.PlanLines.{item_good}

@@ -1,4 +1,4 @@
-use Rattle.std.proofs.Common.{◌≡◌, length}
+use Rattle.std.proofs.Common.{length}
 use Rattle.pj_engine.proofs.PlanLines.{LinesSoFar}
 use Rattle.pj_engine.proofs.statements.read_statements.Given as goal
 

@@ -1,4 +1,4 @@
-use Rattle.std.proofs.Common.{[], ◌∷◌, ◌++◌, sym, refl, append_assoc}
+use Rattle.std.proofs.Common.{[], ◌∷◌, ◌++◌, sym, append_assoc}
 use Rattle.pj_engine.proofs.StopLaws.{cut_delivered, next_cut}
 use Rattle.pj_engine.proofs.stops.deliver.Goals as goal
 

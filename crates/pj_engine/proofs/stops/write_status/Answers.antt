@@ -6,6 +6,3 @@ returns-in-ReadFault-clause-line g c = λ t. rw (c.in-ReadFault.is, sym (c.as_by
 
 pub returns-in-NoMemory-clause-line : goal.returns-in-NoMemory-clause-line
 returns-in-NoMemory-clause-line g c = λ t. rw c.in-NoMemory.is (c.deliver-in-NoMemory.ensures.line t)
-
-pub returns-in-Limit-clause-line : goal.returns-in-Limit-clause-line
-returns-in-Limit-clause-line g c = λ t. rw c.in-Limit.is (c.deliver-in-Limit.ensures.line t)

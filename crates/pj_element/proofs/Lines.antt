@@ -1,0 +1,78 @@
+-- What a line says, by its cells.
+use Rattle.std.proofs.Common.{◌≡◌, ℕ, suc, ◌-◌, ◌<◌, ◌≤◌, true, false, List, [], ◌∷◌, Some, Ok, Err, length, get_or, take, drop, refl, ap, sym, ◌∙◌, arith}
+use Rattle.std.proofs.lemmas.Bool.{eq-eqb, ne_eqb}
+use Rattle.std.proofs.lemmas.Bool.Decides.{nat_tests}
+use Rattle.std.proofs.lemmas.List.{take_all}
+use Rattle.std.specs.Str.{bytes_eq}
+use Rattle.pj_shape.specs.declared.columns.Column.{Column}
+use Rattle.pj_line.specs.declared.cell.Cell.{Cell}
+use Rattle.pj_line.specs.declared.cell.CellFault.{CellFault}
+use Rattle.pj_line.specs.declared.cell.CellFault.TheVariants.{Unclosed, TooMany}
+use Rattle.pj_line.specs.Lines.{is_skipped}
+use Rattle.pj_line.specs.Cells.{AreCut, bytes_in, cells_of}
+use Rattle.pj_element.specs.declared.element.Judged.{Judged}
+use Rattle.pj_element.specs.declared.element.Read.TheVariants.{Bad}
+use Rattle.pj_element.specs.declared.element.Reject.TheVariants.{Arity, NotElement}
+use Rattle.pj_element.specs.Elements.{items_from, items_in, judged, pattern_in, read_punct, read_row, reading_of, tagged, value_in, width}
+
+length-bytes_in : (cells : List Cell) → length (bytes_in cells) ≡ length cells
+length-bytes_in [] = refl
+length-bytes_in (c ∷ cs) = ap suc (length-bytes_in cs)
+
+-- ---- widths
+
+pub fitting_width : {A : Type 0} (f : Column → List ℕ → Judged A) (columns : List Column) (cells : List Cell) → length cells ≡ length columns → items_in f columns (bytes_in cells) ≡ items_from f 1 columns (bytes_in cells)
+fitting_width f columns cells same = rw (eq-eqb (length (bytes_in cells)) (length columns) (length-bytes_in cells ∙ same)) refl
+
+pub other_width : {A : Type 0} (f : Column → List ℕ → Judged A) (columns : List Column) (cells : List Cell) → (length cells ≡ length columns → ⊥) → items_in f columns (bytes_in cells) ≡ Err (Arity (width columns) (length cells))
+other_width f columns cells differ =
+    rw (ne_eqb (length (bytes_in cells)) (length columns) (λ same. differ (sym (length-bytes_in cells) ∙ same)))
+    (ap (λ (n : ℕ). Err (Arity (width columns) n)) (length-bytes_in cells))
+
+-- ---- tags
+
+tag_tuple : (columns : List Column) (tag : List ℕ) (cells : List (List ℕ)) → bytes_eq tag (116 ∷ []) ≡ true → tagged columns (tag ∷ cells) ≡ read_row (items_in value_in columns cells)
+tag_tuple columns tag cells e = rw e refl
+
+tag_punct : (columns : List Column) (tag : List ℕ) (cells : List (List ℕ)) → bytes_eq tag (116 ∷ []) ≡ false → bytes_eq tag (112 ∷ []) ≡ true → tagged columns (tag ∷ cells) ≡ read_punct (items_in pattern_in columns cells)
+tag_punct columns tag cells e f = rw (e, f) refl
+
+tag_other : (columns : List Column) (tag : List ℕ) (cells : List (List ℕ)) → bytes_eq tag (116 ∷ []) ≡ false → bytes_eq tag (112 ∷ []) ≡ false → tagged columns (tag ∷ cells) ≡ Bad NotElement
+tag_other columns tag cells e f = rw (e, f) refl
+
+-- the first cell is the tag, and these others stand behind it
+first_and_others : (cells others : List Cell) (tag : Cell) → 1 ≤ length cells → tag ≡ get_or cells 0 tag → others ≡ take (length cells - 1) (drop 1 cells) → cells ≡ tag ∷ others
+first_and_others [] others tag some is_tag are_others = absurd (omega arith)
+first_and_others (c ∷ cs) others tag some is_tag are_others =
+    rw (is_tag, are_others, take_all (length (c ∷ cs) - 1) cs (omega arith)) refl
+
+pub tuple_tag : (columns : List Column) (cells others : List Cell) (tag : Cell) → 1 ≤ length cells → tag ≡ get_or cells 0 tag → others ≡ take (length cells - 1) (drop 1 cells) → bytes_eq tag.bytes.now (116 ∷ []) ≡ true → tagged columns (bytes_in cells) ≡ read_row (items_in value_in columns (bytes_in others))
+tuple_tag columns cells others tag some is_tag are_others e =
+    ap (λ (cs : List Cell). tagged columns (bytes_in cs)) (first_and_others cells others tag some is_tag are_others) ∙ tag_tuple columns tag.bytes.now (bytes_in others) e
+
+pub punct_tag : (columns : List Column) (cells others : List Cell) (tag : Cell) → 1 ≤ length cells → tag ≡ get_or cells 0 tag → others ≡ take (length cells - 1) (drop 1 cells) → bytes_eq tag.bytes.now (116 ∷ []) ≡ false → bytes_eq tag.bytes.now (112 ∷ []) ≡ true → tagged columns (bytes_in cells) ≡ read_punct (items_in pattern_in columns (bytes_in others))
+punct_tag columns cells others tag some is_tag are_others e f =
+    ap (λ (cs : List Cell). tagged columns (bytes_in cs)) (first_and_others cells others tag some is_tag are_others) ∙ tag_punct columns tag.bytes.now (bytes_in others) e f
+
+pub other_tag : (columns : List Column) (cells others : List Cell) (tag : Cell) → 1 ≤ length cells → tag ≡ get_or cells 0 tag → others ≡ take (length cells - 1) (drop 1 cells) → bytes_eq tag.bytes.now (116 ∷ []) ≡ false → bytes_eq tag.bytes.now (112 ∷ []) ≡ false → tagged columns (bytes_in cells) ≡ Bad NotElement
+other_tag columns cells others tag some is_tag are_others e f =
+    ap (λ (cs : List Cell). tagged columns (bytes_in cs)) (first_and_others cells others tag some is_tag are_others) ∙ tag_other columns tag.bytes.now (bytes_in others) e f
+
+-- ---- lines
+
+few_cells : (columns : List Column) (cells : List (List ℕ)) → length cells ≤ 128 → judged columns (Some cells) ≡ tagged columns cells
+few_cells columns cells few = grind (arith, nat_tests)
+
+many_cells : (columns : List Column) (cells : List (List ℕ)) → 128 < length cells → judged columns (Some cells) ≡ Bad NotElement
+many_cells columns cells many = grind (arith, nat_tests)
+
+unskipped : (columns : List Column) (line : List ℕ) → is_skipped line ≡ false → reading_of columns line ≡ judged columns (cells_of line)
+unskipped columns line e = rw e refl
+
+pub cut_line : (columns : List Column) (line : List ℕ) (cells : List Cell) → is_skipped line ≡ false → AreCut line (Ok cells) → reading_of columns line ≡ tagged columns (bytes_in cells)
+cut_line columns line cells e cut =
+    unskipped columns line e ∙ (ap (judged columns) cut.0 ∙ few_cells columns (bytes_in cells) (omega (arith, cut.1, length-bytes_in cells)))
+
+pub uncut_line : (columns : List Column) (line : List ℕ) (fault : CellFault) → is_skipped line ≡ false → AreCut line (Err fault) → reading_of columns line ≡ Bad NotElement
+uncut_line columns line (Unclosed at) e cut = unskipped columns line e ∙ ap (judged columns) cut.0
+uncut_line columns line TooMany e cut = unskipped columns line e ∙ (ap (judged columns) cut.1 ∙ many_cells columns cut.0 cut.2)

@@ -1,0 +1,33 @@
+-- Loops over values and patterns that are storable.
+use Rattle.std.proofs.Common.{◌≡◌, ℕ, zero, suc, ◌+◌, ◌<◌, ◌≤◌, List, [], ◌∷◌, length, get_or, drop, sym, subst}
+use Rattle.std.proofs.lemmas.List.{drop_more, at_drop_all}
+use Rattle.std.specs.List.{AllByRecursion}
+use Rattle.pj_value.specs.declared.values.Value.{Value}
+use Rattle.pj_pattern.specs.Patterns.{Pattern}
+use Rattle.pj_element.specs.Laws.{AreKeptPatterns, AreStorable, IsKeptPattern, IsStorable}
+
+pub bytes_small : (bytes : List ℕ) → ((i : ℕ) → get_or bytes i 0 < 256) → AllByRecursion (λ b. b < 256) bytes
+bytes_small [] small = tt
+bytes_small (b ∷ bs) small = (small zero, bytes_small bs (λ i. small (suc i)))
+
+-- all are storable, if those from the i-th on are
+abbrev pub StorableSoFar : List Value → ℕ → Type 0
+StorableSoFar values i = AreStorable (drop i values) → AreStorable values
+
+pub storable_more : (values : List Value) (i : ℕ) (value : Value) → StorableSoFar values i → i < length values → value ≡ get_or values i value → IsStorable value → StorableSoFar values (i + 1)
+storable_more values i value before lt is stored = λ later.
+    before (subst AreStorable (sym (drop_more values i value lt)) (subst IsStorable is stored, later))
+
+pub storable_end : (values : List Value) (i : ℕ) → StorableSoFar values i → length values ≤ i → AreStorable values
+storable_end values i before le = before (subst AreStorable (sym (at_drop_all (λ (vs : List Value). vs) values i le)) tt)
+
+-- all are kept, if those from the i-th on are
+abbrev pub KeptSoFar : List Pattern → ℕ → Type 0
+KeptSoFar patterns i = AreKeptPatterns (drop i patterns) → AreKeptPatterns patterns
+
+pub kept_more : (patterns : List Pattern) (i : ℕ) (pattern : Pattern) → KeptSoFar patterns i → i < length patterns → pattern ≡ get_or patterns i pattern → IsKeptPattern pattern → KeptSoFar patterns (i + 1)
+kept_more patterns i pattern before lt is kept = λ later.
+    before (subst AreKeptPatterns (sym (drop_more patterns i pattern lt)) (subst IsKeptPattern is kept, later))
+
+pub kept_end : (patterns : List Pattern) (i : ℕ) → KeptSoFar patterns i → length patterns ≤ i → AreKeptPatterns patterns
+kept_end patterns i before le = before (subst AreKeptPatterns (sym (at_drop_all (λ (ps : List Pattern). ps) patterns i le)) tt)

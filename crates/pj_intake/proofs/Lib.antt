@@ -1,0 +1,5 @@
+pub mod Counts
+pub mod GoOn
+mod Fitting
+mod Ended
+mod Turning
