@@ -1,2 +1,4 @@
+pub mod Bags
+pub mod Members
 pub mod Orders
 pub mod Printable

@@ -1,6 +1,5 @@
 -- The canonical spelling of a value.
-use Rattle.std.specs.Prelude.{◌≡◌, length, take}
-use Rattle.std.specs.Prelude.{ℕ, List, [], ◌∷◌, ◌++◌, if◌then◌else◌, ◌==◌, ◌||◌, nat_lt, ◌/◌, ◌%◌, ◌+◌}
+use Rattle.std.specs.Prelude.{ℕ, List, [], ◌∷◌, ◌++◌, ◌≡◌, if◌then◌else◌, ◌==◌, ◌||◌, nat_lt, ◌/◌, ◌%◌, ◌+◌, length, take, codes}
 use Rattle.std.specs.List.{flat_map}
 use Rattle.std.specs.Fmt.{signed_decimal}
 use Rattle.pj_value.specs.declared.values.Value.{Value}
@@ -10,15 +9,15 @@ use Rattle.pj_value.specs.declared.values.Value.TheVariants.{Int, Text}
 abbrev pub hex_digit : ℕ → ℕ
 hex_digit n = if nat_lt n 10 then 48 + n else (87 + n)
 
--- a byte inside quotes
+-- a byte inside quotes: the quote, the backslash and the control bytes are escaped
 abbrev pub spelled_byte : ℕ → List ℕ
 spelled_byte b =
-    if b == 34 then 92 ∷ 34 ∷ []
-    else (if b == 92 then 92 ∷ 92 ∷ []
-    else (if b == 10 then 92 ∷ 110 ∷ []
-    else (if b == 13 then 92 ∷ 114 ∷ []
-    else (if b == 9 then 92 ∷ 116 ∷ []
-    else (if nat_lt b 32 || (b == 127) then 92 ∷ 120 ∷ hex_digit (b / 16) ∷ hex_digit (b % 16) ∷ []
+    if b == 34 then codes "\\\""
+    else (if b == 92 then codes "\\\\"
+    else (if b == 10 then codes "\\n"
+    else (if b == 13 then codes "\\r"
+    else (if b == 9 then codes "\\t"
+    else (if nat_lt b 32 || (b == 127) then codes "\\x" ++ hex_digit (b / 16) ∷ hex_digit (b % 16) ∷ []
     else (b ∷ []))))))
 
 -- an integer in decimals, a text in quotes

@@ -1,7 +1,7 @@
 // A row: a list of values.
 ghost use Rattle.std.specs.Prelude.{◌≡◌, ◌<◌, ◌↔◌, length, slice_get, IsTrue, IfOk, Some};
 
-use crate::{List, NoMemory, Value};
+use crate::{List, NoMemory, Value, copy_values};
 use std::alloc::Global;
 use std::marker::Model;
 
@@ -79,14 +79,4 @@ fn same_values(a: &[Value], b: &[Value]) -> bool
         }
     }
     true
-}
-
-fn copy_values(alloc: Global, values: &[Value]) -> Result<List<Value>, NoMemory>
-    ensures { IfOk result (λ l. l ≡ values.now) }
-{
-    let mut copy = List::new(alloc);
-    for value in values {
-        copy.push(value.copy(alloc)?)?;
-    }
-    Ok(copy)
 }

@@ -50,15 +50,20 @@ fn values_are_spelled(rt: HostRuntime) {
     }
 }
 
+fn copied(alloc: Global) -> Result<(Row, Row), NoMemory> {
+    let row = two_columns(alloc)?;
+    let copy = row.copy(alloc)?;
+    Ok((row, copy))
+}
+
 #[test]
 fn rows_are_copied(rt: HostRuntime) {
-    let alloc = rt.alloc();
-    let row = two_columns(alloc);
-    assert!(rt; row.is_ok());
-    if let Ok(row) = row {
-        let copy = row.copy(alloc);
-        assert!(rt; matches!(&copy, Ok(copy) if copy.len() == 2 && copy.same(&row)));
-    }
-    let nine = text(alloc, b"9");
+    let rows = copied(rt.alloc());
+    assert!(rt; matches!(&rows, Ok((row, copy)) if copy.len() == 2 && copy.same(row)));
+}
+
+#[test]
+fn integers_come_first(rt: HostRuntime) {
+    let nine = text(rt.alloc(), b"9");
     assert!(rt; matches!(&nine, Ok(nine) if Value::Int(10).order(nine) == Ordering::Less));
 }

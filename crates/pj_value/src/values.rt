@@ -1,6 +1,6 @@
 // A value: an integer or a string of bytes.
 ghost use Rattle.std.specs.Prelude.{◌≡◌, ◌↔◌, IfOk, IsTrue};
-ghost use Rattle.pj_value.specs.Values.{kind_of, value_cmp, value_eq};
+ghost use Rattle.pj_value.specs.Values.{is_kind, kind_of, value_cmp, value_eq};
 
 use crate::{Bytes, List, NoMemory};
 use std::alloc::Global;
@@ -28,6 +28,18 @@ impl Value {
         match self {
             Value::Int(_) => Kind::Int,
             Value::Text(_) => Kind::Text,
+        }
+    }
+
+    /// Whether it is of the kind.
+    pub fn is_of(&self, kind: Kind) -> bool
+        ensures { result ≡ is_kind kind self.now }
+    {
+        match (kind, self) {
+            (Kind::Int, Value::Int(_)) => true,
+            (Kind::Int, Value::Text(_)) => false,
+            (Kind::Text, Value::Int(_)) => false,
+            (Kind::Text, Value::Text(_)) => true,
         }
     }
 
