@@ -1,8 +1,8 @@
 -- What a folder in memory has under a name, after a file was added at the end.
 use Rattle.std.proofs.Common.{◌≡◌, Bool, true, false, cond, ℕ, List, [], ◌∷◌, ◌++◌, Option, Some, None, refl, ap, ◌∙◌}
 use Rattle.std.specs.Str.{bytes_eq}
-use Rattle.pj_io.specs.declared.memory_folder.Kept.{Kept}
-use Rattle.pj_io.specs.Kept.{Added, added_of}
+use Rattle.pj_io.specs.declared.memory_file.MemFile.{MemFile}
+use Rattle.pj_io.specs.MemoryFolders.{Added, added_of}
 use Rattle.pj_io.specs.Plans.{fresh_plan}
 use Rattle.pj_io.proofs.Notes.{same_bytes, other_bytes}
 
@@ -11,12 +11,12 @@ behind_none : (b : Bool) (here there : Added) (o p : Option Added) → (o ≡ No
 behind_none true here there o p f h = absurd (cc)
 behind_none false here there o p f h = f h
 
-pub added_push : (ks : List Kept) (k : Kept) (name : List ℕ) → k.name ≡ name → added_of ks name ≡ None → added_of (ks ++ k ∷ []) name ≡ Some (record { bytes = k.bytes; plan = fresh_plan k.fails k.cut })
+pub added_push : (fs : List MemFile) (k : MemFile) (name : List ℕ) → k.name ≡ name → added_of fs name ≡ None → added_of (fs ++ k ∷ []) name ≡ Some (record { bytes = k.bytes; plan = fresh_plan k.fails k.cut })
 added_push [] k name is none = rw (ap (bytes_eq name) is ∙ same_bytes name) refl
-added_push (m ∷ ks) k name is none =
-    behind_none (bytes_eq name m.name) (record { bytes = m.bytes; plan = fresh_plan m.fails m.cut }) (record { bytes = k.bytes; plan = fresh_plan k.fails k.cut }) (added_of ks name) (added_of (ks ++ k ∷ []) name) (added_push ks k name is) none
+added_push (m ∷ fs) k name is none =
+    behind_none (bytes_eq name m.name) (record { bytes = m.bytes; plan = fresh_plan m.fails m.cut }) (record { bytes = k.bytes; plan = fresh_plan k.fails k.cut }) (added_of fs name) (added_of (fs ++ k ∷ []) name) (added_push fs k name is) none
 
-pub added_push_other : (ks : List Kept) (k : Kept) (name other : List ℕ) → k.name ≡ name → (other ≡ name → ⊥) → added_of (ks ++ k ∷ []) other ≡ added_of ks other
+pub added_push_other : (fs : List MemFile) (k : MemFile) (name other : List ℕ) → k.name ≡ name → (other ≡ name → ⊥) → added_of (fs ++ k ∷ []) other ≡ added_of fs other
 added_push_other [] k name other is differ = rw (ap (bytes_eq other) is ∙ other_bytes other name differ) refl
-added_push_other (m ∷ ks) k name other is differ =
-    ap (λ (o : Option Added). cond (bytes_eq other m.name) (Some (record { bytes = m.bytes; plan = fresh_plan m.fails m.cut })) o) (added_push_other ks k name other is differ)
+added_push_other (m ∷ fs) k name other is differ =
+    ap (λ (o : Option Added). cond (bytes_eq other m.name) (Some (record { bytes = m.bytes; plan = fresh_plan m.fails m.cut })) o) (added_push_other fs k name other is differ)

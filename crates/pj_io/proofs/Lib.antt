@@ -3,4 +3,4 @@ pub mod Grown
 pub mod Handing
 pub mod MemoryReads
 pub mod Notes
-pub mod Wholes
+pub mod Pieces

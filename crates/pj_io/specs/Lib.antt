@@ -2,6 +2,8 @@ pub mod Books
 pub mod Causes
 pub mod Folders
 pub mod Held
-pub mod Kept
+pub mod Memory
+pub mod MemoryFolders
 pub mod Pieces
 pub mod Plans
+pub mod States

@@ -1,15 +1,16 @@
 // Files on disk: the edge of what is proved. They tell no contents.
 ghost use Rattle.std.specs.Prelude.{◌≡◌, ◌≤◌, List, ℕ, [], false, IsTrue, length, IfOk};
-ghost use Rattle.pj_io.specs.Books.{faults_of, last_of, has_note};
+ghost use Rattle.pj_io.specs.Books.{faults_of, last_of, opened_in};
 ghost use Rattle.pj_io.specs.Causes.{HasCause, CountsErrors};
 ghost use Rattle.pj_io.specs.Pieces.{Reads};
 
-use crate::book::{Note, count_faults, enter, note_last};
+use crate::book::{Note, count_faults, enter, note_opened};
 use crate::{Failed, Folder, OpenStop, Source};
 use pj_value::{Bytes, List};
 use std::alloc::Global;
 use std::fs;
 use std::io::Read;
+use std::marker::Model;
 use std::rt::Files;
 
 /// An open file, with its faults counted. Each read asks the system once, so read it in large pieces.
@@ -20,26 +21,26 @@ pub struct FileSource<R> {
     faults: u64,
 }
 
+impl<R> Model for FileSource<R> {
+    ghost use Rattle.std.specs.Prelude.{false, []};
+    ghost use Rattle.pj_io.specs.States.{SourceState};
+
+    ghost Value = { SourceState };
+
+    ghost view = { λ s. record { told = false; taken = []; left = []; faults = s.faults; name = s.name } };
+}
+
 impl<R: Read> Source for FileSource<R> {
-    ghost tells = { λ s. false };
-
-    ghost taken = { λ s. [] };
-
-    ghost left = { λ s. [] };
-
-    ghost faults = { λ s. s.faults };
-
-    ghost name = { λ s. s.name };
+    ghost state = { λ s. s };
 
     /// Reads once from the system, and counts each error.
     fn read(&mut self, buf: &mut [u8]) -> Result<usize, Failed>
         ensures bound { IfOk result (λ n. n ≤ length buf.new) }
-        ensures bytes { IsTrue (⟦<FileSource<R> as Source>⟧.tells self.old) →
-            Reads (⟦<FileSource<R> as Source>⟧.left self.old) (⟦<FileSource<R> as Source>⟧.left self.new) (⟦<FileSource<R> as Source>⟧.taken self.old) (⟦<FileSource<R> as Source>⟧.taken self.new) buf.new result }
-        ensures tells { ⟦<FileSource<R> as Source>⟧.tells self.new ≡ ⟦<FileSource<R> as Source>⟧.tells self.old }
-        ensures name { ⟦<FileSource<R> as Source>⟧.name self.new ≡ ⟦<FileSource<R> as Source>⟧.name self.old }
-        ensures cause { HasCause (⟦<FileSource<R> as Source>⟧.faults self.old) (⟦<FileSource<R> as Source>⟧.faults self.new) result }
-        ensures counts { CountsErrors (⟦<FileSource<R> as Source>⟧.faults self.old) (⟦<FileSource<R> as Source>⟧.faults self.new) result }
+        ensures bytes { IsTrue self.old.told → Reads self.old self.new buf.new result }
+        ensures told { self.new.told ≡ self.old.told }
+        ensures name { self.new.name ≡ self.old.name }
+        ensures cause { HasCause self.old.faults self.new.faults result }
+        ensures counts { CountsErrors self.old.faults self.new.faults result }
     {
         match self.inner.read(buf) {
             Ok(count) => Ok(count),
@@ -66,8 +67,8 @@ impl<'a, R> Drop for DiskFolder<'a, R> {
 impl<'a, R: Files> DiskFolder<'a, R> {
     /// The files that the runtime reaches, of which none was opened. It takes no memory.
     pub fn new(alloc: Global, rt: &'a R) -> DiskFolder<'a, R>
-        ensures opened { (name : List ℕ) → ⟦<DiskFolder<'a, R> as Folder>⟧.opened result name ≡ false }
-        ensures faults { (name : List ℕ) → ⟦<DiskFolder<'a, R> as Folder>⟧.faults result name ≡ 0 }
+        ensures opened { (name : List ℕ) → (⟦<DiskFolder<'a, R> as Folder>⟧.state result).opened name ≡ false }
+        ensures faults { (name : List ℕ) → (⟦<DiskFolder<'a, R> as Folder>⟧.state result).faults name ≡ 0 }
     {
         DiskFolder {
             rt,
@@ -79,15 +80,13 @@ impl<'a, R: Files> DiskFolder<'a, R> {
 impl<'a, R: Files> Folder for DiskFolder<'a, R> {
     type File = FileSource<R::File>;
 
-    ghost tells = { λ f name. false };
-
-    ghost contents = { λ f name. [] };
-
-    ghost opened = { λ f. has_note f.notes.items };
-
-    ghost last = { λ f. last_of f.notes.items };
-
-    ghost faults = { λ f. faults_of f.notes.items };
+    ghost state = { λ f. record {
+      told = λ name. false;
+      contents = λ name. [];
+      opened = opened_in f.notes.items;
+      last = last_of f.notes.items;
+      faults = faults_of f.notes.items;
+    } };
 
     fn open_file(&mut self, alloc: Global, name: &[u8]) -> Result<FileSource<R::File>, OpenStop> {
         enter(alloc, &mut self.notes, name)?;
@@ -97,11 +96,14 @@ impl<'a, R: Files> Folder for DiskFolder<'a, R> {
             return Err(OpenStop::Failed);
         };
         match fs::open(self.rt, path) {
-            Ok(inner) => Ok(FileSource {
-                inner,
-                name: copy,
-                faults: 0,
-            }),
+            Ok(inner) => {
+                note_opened(&mut self.notes, name);
+                Ok(FileSource {
+                    inner,
+                    name: copy,
+                    faults: 0,
+                })
+            }
             Err(_) => {
                 count_faults(&mut self.notes, name, 1);
                 Err(OpenStop::Failed)
@@ -109,6 +111,7 @@ impl<'a, R: Files> Folder for DiskFolder<'a, R> {
         }
     }
 
+    #[tactic(auto, using(crate::proofs::Notes::opened_has))]
     fn close_file(&mut self, file: FileSource<R::File>) {
         count_faults(&mut self.notes, file.name.as_slice(), file.faults);
     }

@@ -1,7 +1,8 @@
 // Where files are found by name.
-ghost use Rattle.std.specs.Prelude.{◌≡◌, List, ℕ, [], Bool, IsTrue, length, IfOk, OnOk, IsErrOf};
+ghost use Rattle.std.specs.Prelude.{◌≡◌, IsTrue, length, IfOk, OnOk, OnErr, IsErrOf};
 ghost use Rattle.pj_io.specs.Causes.{Rose, counted};
-ghost use Rattle.pj_io.specs.Folders.{IsFresh, KeepsNames, NoneFalls, SameElsewhere, SameNumbers};
+ghost use Rattle.pj_io.specs.Folders.{IsFresh, IsNew, KeepsNames, NoneFalls, SameElsewhere, SameEverywhere};
+ghost use Rattle.pj_io.specs.States.{FolderState};
 
 use crate::Source;
 use pj_value::NoMemory;
@@ -30,45 +31,33 @@ impl From<NoMemory> for OpenStop {
 pub trait Folder {
     type File: Source;
 
-    /// Whether the contents of a name are told.
-    ghost tells: { Self → List ℕ → Bool };
-
-    /// The contents of a name, where they are told.
-    ghost contents: { Self → List ℕ → List ℕ };
-
-    /// Whether files were opened under a name.
-    ghost opened: { Self → List ℕ → Bool };
-
-    /// How many bytes were taken from the file of a name that was closed last, where it tells them.
-    ghost last: { Self → List ℕ → ℕ };
-
-    /// How many faults there were at a name.
-    ghost faults: { Self → List ℕ → ℕ };
+    /// What it tells of itself.
+    ghost state: { Self → FolderState };
 
     /// Opens the file of a name, from its first byte on. The room that `close_file` needs is made here.
     fn open_file(&mut self, alloc: Global, name: &[u8]) -> Result<Self::File, OpenStop>
-        ensures fresh { IfOk result (λ file. (Self.File.faults file ≡ 0) × (Self.File.name file ≡ name.now)) }
-        ensures untaken { IfOk result (λ file. IsTrue (Self.File.tells file) → Self.File.taken file ≡ []) }
-        ensures told { IsTrue (tells self.old name.now) → IfOk result (λ file.
-            IsFresh (Self.File.tells file) (Self.File.taken file) (Self.File.left file) (contents self.old name.now)) }
-        ensures opened { OnOk result (IsTrue (opened self.new name.now)) }
-        ensures keeps { KeepsNames (opened self.old) (opened self.new) }
-        ensures tells { tells self.new ≡ tells self.old }
-        ensures contents { contents self.new ≡ contents self.old }
-        ensures last { SameNumbers (last self.old) (last self.new) }
-        ensures later { NoneFalls (faults self.old) (faults self.new) }
-        ensures cause { IsErrOf result OpenStop.Failed → Rose (faults self.old name.now) (faults self.new name.now) }
-        ensures others { SameElsewhere name.now (faults self.old) (faults self.new) };
+        ensures new { IfOk result (λ file. IsNew name.now (Self.File.state file)) }
+        ensures fresh { IsTrue ((state self.old).told name.now) → IfOk result (λ file. IsFresh ((state self.old).contents name.now) (Self.File.state file)) }
+        ensures opened { OnOk result (IsTrue ((state self.new).opened name.now)) }
+        ensures keeps { KeepsNames (state self.old).opened (state self.new).opened }
+        ensures other_opened { SameElsewhere name.now (state self.old).opened (state self.new).opened }
+        ensures not_opened { OnErr result (SameEverywhere (state self.old).opened (state self.new).opened) }
+        ensures told { (state self.new).told ≡ (state self.old).told }
+        ensures contents { (state self.new).contents ≡ (state self.old).contents }
+        ensures last { SameEverywhere (state self.old).last (state self.new).last }
+        ensures later { NoneFalls (state self.old).faults (state self.new).faults }
+        ensures cause { IsErrOf result OpenStop.Failed → Rose ((state self.old).faults name.now) ((state self.new).faults name.now) }
+        ensures other_faults { SameElsewhere name.now (state self.old).faults (state self.new).faults };
 
     /// Takes a file back: its faults are added to those of its name, and how much was taken from it is noted.
     fn close_file(&mut self, file: Self::File)
-        requires { IsTrue (opened self.old (Self.File.name file)) }
-        ensures keeps { KeepsNames (opened self.old) (opened self.new) }
-        ensures tells { tells self.new ≡ tells self.old }
-        ensures contents { contents self.new ≡ contents self.old }
-        ensures later { NoneFalls (faults self.old) (faults self.new) }
-        ensures faults { faults self.new (Self.File.name file) ≡ counted (faults self.old (Self.File.name file)) (Self.File.faults file) }
-        ensures last { IsTrue (Self.File.tells file) → last self.new (Self.File.name file) ≡ length (Self.File.taken file) }
-        ensures other_faults { SameElsewhere (Self.File.name file) (faults self.old) (faults self.new) }
-        ensures other_last { SameElsewhere (Self.File.name file) (last self.old) (last self.new) };
+        requires { IsTrue ((state self.old).opened (Self.File.state file).name) }
+        ensures opened { SameEverywhere (state self.old).opened (state self.new).opened }
+        ensures told { (state self.new).told ≡ (state self.old).told }
+        ensures contents { (state self.new).contents ≡ (state self.old).contents }
+        ensures later { NoneFalls (state self.old).faults (state self.new).faults }
+        ensures faults { (state self.new).faults (Self.File.state file).name ≡ counted ((state self.old).faults (Self.File.state file).name) (Self.File.state file).faults }
+        ensures last { IsTrue (Self.File.state file).told → (state self.new).last (Self.File.state file).name ≡ length (Self.File.state file).taken }
+        ensures other_faults { SameElsewhere (Self.File.state file).name (state self.old).faults (state self.new).faults }
+        ensures other_last { SameElsewhere (Self.File.state file).name (state self.old).last (state self.new).last };
 }

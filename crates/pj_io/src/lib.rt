@@ -5,10 +5,11 @@ mod book;
 mod disk;
 mod finding;
 mod folder;
+mod held;
+mod memory_file;
 mod memory_folder;
 mod memory_sink;
 mod memory_source;
-mod planned;
 mod sink;
 mod source;
 mod standard;
@@ -19,10 +20,9 @@ pub use folder::{Folder, OpenStop};
 pub use memory_folder::MemFolder;
 pub use memory_sink::MemSink;
 pub use memory_source::MemSource;
-pub use planned::{HasRoom, Planned, PlannedFolder};
 pub use sink::{Sink, write_all};
 pub use source::{Failed, Source};
-pub use standard::{Holds, StdSink};
+pub use standard::StdSink;
 pub use whole::{WholeStop, read_whole};
 
 #[cfg(test)]

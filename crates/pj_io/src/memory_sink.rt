@@ -1,13 +1,13 @@
 // A sink in memory, which fails at planned calls.
-ghost use Rattle.std.specs.Prelude.{◌≡◌, ◌≤◌, ◌<◌, ◌+◌, ◌-◌, ◌||◌, nat_lt, [], ℕ, true, length, min, is_err, IfOk, OnOk, OnErr, IsOk, IsTrue, vec_len, vec_capacity};
+ghost use Rattle.std.specs.Prelude.{◌≡◌, ◌≤◌, ◌<◌, ◌+◌, ◌-◌, ◌||◌, nat_lt, [], true, length, min, is_err, IfOk, OnOk, OnErr, IsOk, IsTrue};
 ghost use Rattle.pj_io.specs.Causes.{HasCause, CountsErrors};
-ghost use Rattle.pj_io.specs.Pieces.{Writes};
+ghost use Rattle.pj_io.specs.Pieces.{Appends};
 ghost use Rattle.pj_io.specs.Plans.{fresh_plan, fails_next, after_call};
 
-use crate::planned::{HasRoom, Planned};
 use crate::{Failed, Sink};
 use pj_value::{List, NoMemory};
 use std::alloc::Global;
+use std::marker::Model;
 
 /// Takes at most `cut` bytes at a time, where room was made; the calls whose numbers are in `fails` fail.
 #[derive(Drop)]
@@ -18,40 +18,40 @@ pub struct MemSink {
     fails: List<u64>,
     calls: u64,
     faults: u64,
-    ghost cuts: { 0 < cut },
-    ghost reserved: { vec_len bytes + room ≤ vec_capacity bytes },
 }
 
-impl Planned for MemSink {
-    ghost plan = { λ s. record { fails = s.fails; cut = s.cut; calls = s.calls } };
-}
+impl Model for MemSink {
+    ghost use Rattle.std.specs.Prelude.{◌≤◌, ◌<◌, ◌+◌, true, vec_len, vec_capacity};
+    ghost use Rattle.pj_io.specs.Memory.{MemSinkState};
 
-impl HasRoom for MemSink {
-    ghost room = { λ s. s.room };
+    ghost Value = { MemSinkState };
+
+    ghost view = { λ s. record {
+      sink = record { told = true; written = s.bytes.items; faults = s.faults };
+      plan = record { fails = s.fails; cut = s.cut; calls = s.calls };
+      room = s.room;
+    } };
+
+    ghost invariant = { λ s. (0 < s.cut) × (vec_len s.bytes + s.room ≤ vec_capacity s.bytes) };
 }
 
 impl Sink for MemSink {
-    ghost tells = { λ s. true };
-
-    ghost written = { λ s. s.bytes.items };
-
-    ghost faults = { λ s. s.faults };
+    ghost state = { λ s. s.sink };
 
     /// Takes as much of the piece as is within the cut. Fails exactly at the planned calls and where there is no room
     /// for that much.
     fn write(&mut self, piece: &[u8]) -> Result<usize, Failed>
         ensures bound { IfOk result (λ n. n ≤ length piece.now) }
         ensures progress { IfOk result (λ n. 0 < length piece.now → 0 < n) }
-        ensures tells { IsTrue (⟦<MemSink as Sink>⟧.tells self.new) → IsTrue (⟦<MemSink as Sink>⟧.tells self.old) }
-        ensures bytes { Writes (⟦<MemSink as Sink>⟧.written self.old) (⟦<MemSink as Sink>⟧.written self.new) piece.now result }
-        ensures cause { HasCause (⟦<MemSink as Sink>⟧.faults self.old) (⟦<MemSink as Sink>⟧.faults self.new) result }
-        ensures counts { CountsErrors (⟦<MemSink as Sink>⟧.faults self.old) (⟦<MemSink as Sink>⟧.faults self.new) result }
-        ensures failed { is_err result ≡ (fails_next (⟦<MemSink as Planned>⟧.plan self.old)
-            || nat_lt (⟦<MemSink as HasRoom>⟧.room self.old) (min (length piece.now) (⟦<MemSink as Planned>⟧.plan self.old).cut)) }
-        ensures amount { IfOk result (λ n. n ≡ min (length piece.now) (⟦<MemSink as Planned>⟧.plan self.old).cut) }
-        ensures plan { ⟦<MemSink as Planned>⟧.plan self.new ≡ after_call (⟦<MemSink as Planned>⟧.plan self.old) }
-        ensures room { IfOk result (λ n. ⟦<MemSink as HasRoom>⟧.room self.new ≡ ⟦<MemSink as HasRoom>⟧.room self.old - n) }
-        ensures room_stays { OnErr result (⟦<MemSink as HasRoom>⟧.room self.new ≡ ⟦<MemSink as HasRoom>⟧.room self.old) }
+        ensures told { IsTrue self.new.sink.told → IsTrue self.old.sink.told }
+        ensures bytes { Appends self.old.sink self.new.sink piece.now result }
+        ensures cause { HasCause self.old.sink.faults self.new.sink.faults result }
+        ensures counts { CountsErrors self.old.sink.faults self.new.sink.faults result }
+        ensures failed { is_err result ≡ (fails_next self.old.plan || nat_lt self.old.room (min (length piece.now) self.old.plan.cut)) }
+        ensures amount { IfOk result (λ n. n ≡ min (length piece.now) self.old.plan.cut) }
+        ensures plan { self.new.plan ≡ after_call self.old.plan }
+        ensures room { IfOk result (λ n. self.new.room ≡ self.old.room - n) }
+        ensures room_stays { OnErr result (self.new.room ≡ self.old.room) }
     {
         let call = self.calls;
         self.calls = call.saturating_add(1);
@@ -74,9 +74,9 @@ impl Sink for MemSink {
 
     /// Does nothing, since nothing is held back.
     fn flush(&mut self) -> Result<(), Failed>
-        ensures tells { IsTrue (⟦<MemSink as Sink>⟧.tells self.new) → IsTrue (⟦<MemSink as Sink>⟧.tells self.old) }
-        ensures bytes { ⟦<MemSink as Sink>⟧.written self.new ≡ ⟦<MemSink as Sink>⟧.written self.old }
-        ensures cause { HasCause (⟦<MemSink as Sink>⟧.faults self.old) (⟦<MemSink as Sink>⟧.faults self.new) result }
+        ensures told { IsTrue self.new.sink.told → IsTrue self.old.sink.told }
+        ensures bytes { self.new.sink.written ≡ self.old.sink.written }
+        ensures cause { HasCause self.old.sink.faults self.new.sink.faults result }
         ensures never { IsOk result }
         ensures same { self.new ≡ self.old }
     {
@@ -88,10 +88,9 @@ impl MemSink {
     /// An empty sink without room. `cut` is at least 1; calls are counted from 0.
     pub fn new(alloc: Global, cut: usize, fails: &[u64]) -> Result<MemSink, NoMemory>
         requires { 0 < cut }
-        ensures written { IfOk result (λ s. ⟦<MemSink as Sink>⟧.written s ≡ []) }
-        ensures faults { IfOk result (λ s. ⟦<MemSink as Sink>⟧.faults s ≡ 0) }
-        ensures plan { IfOk result (λ s. ⟦<MemSink as Planned>⟧.plan s ≡ fresh_plan fails.now cut) }
-        ensures room { IfOk result (λ s. ⟦<MemSink as HasRoom>⟧.room s ≡ 0) }
+        ensures sink { IfOk result (λ s. s.sink ≡ record { told = true; written = []; faults = 0 }) }
+        ensures plan { IfOk result (λ s. s.plan ≡ fresh_plan fails.now cut) }
+        ensures room { IfOk result (λ s. s.room ≡ 0) }
     {
         Ok(MemSink {
             bytes: Vec::new(alloc),
@@ -105,11 +104,10 @@ impl MemSink {
 
     /// Makes room for so many more bytes. On a refusal there is as much room as before.
     pub fn room(&mut self, bytes: usize) -> Result<(), NoMemory>
-        ensures written { ⟦<MemSink as Sink>⟧.written self.new ≡ ⟦<MemSink as Sink>⟧.written self.old }
-        ensures faults { ⟦<MemSink as Sink>⟧.faults self.new ≡ ⟦<MemSink as Sink>⟧.faults self.old }
-        ensures plan { ⟦<MemSink as Planned>⟧.plan self.new ≡ ⟦<MemSink as Planned>⟧.plan self.old }
-        ensures ok { OnOk result (⟦<MemSink as HasRoom>⟧.room self.new ≡ ⟦<MemSink as HasRoom>⟧.room self.old + bytes) }
-        ensures err { OnErr result (⟦<MemSink as HasRoom>⟧.room self.new ≡ ⟦<MemSink as HasRoom>⟧.room self.old) }
+        ensures sink { self.new.sink ≡ self.old.sink }
+        ensures plan { self.new.plan ≡ self.old.plan }
+        ensures ok { OnOk result (self.new.room ≡ self.old.room + bytes) }
+        ensures err { OnErr result (self.new.room ≡ self.old.room) }
     {
         let all = self.room.checked_add(bytes).ok_or(NoMemory)?;
         self.bytes.try_reserve(all)?;
@@ -119,7 +117,7 @@ impl MemSink {
 
     /// What was written.
     pub fn bytes(&self) -> &[u8]
-        ensures { result.now ≡ ⟦<MemSink as Sink>⟧.written self.now }
+        ensures { result.now ≡ self.now.sink.written }
     {
         self.bytes.as_slice()
     }

@@ -1,14 +1,14 @@
 // A source in memory, which fails at planned calls.
-ghost use Rattle.std.specs.Prelude.{◌≡◌, ◌≤◌, ◌<◌, [], ℕ, true, length, take, drop, min, is_err, IfOk, IsTrue};
+ghost use Rattle.std.specs.Prelude.{◌≡◌, ◌≤◌, ◌<◌, [], length, min, is_err, IfOk};
 ghost use Rattle.pj_io.specs.Causes.{HasCause, CountsErrors};
-ghost use Rattle.pj_io.specs.Folders.{IsFresh};
+ghost use Rattle.pj_io.specs.Folders.{IsFresh, IsNew};
 ghost use Rattle.pj_io.specs.Pieces.{Reads};
 ghost use Rattle.pj_io.specs.Plans.{fresh_plan, fails_next, after_call};
 
-use crate::planned::Planned;
 use crate::{Failed, Source};
 use pj_value::{Bytes, List, NoMemory};
 use std::alloc::Global;
+use std::marker::Model;
 
 /// Bytes that are given in pieces of at most `cut`; the calls whose numbers are in `fails` fail.
 #[derive(Drop)]
@@ -20,38 +20,36 @@ pub struct MemSource {
     fails: List<u64>,
     calls: u64,
     faults: u64,
-    ghost within: { at ≤ length bytes },
-    ghost cuts: { 0 < cut },
 }
 
-impl Planned for MemSource {
-    ghost plan = { λ s. record { fails = s.fails; cut = s.cut; calls = s.calls } };
+impl Model for MemSource {
+    ghost use Rattle.std.specs.Prelude.{◌≤◌, ◌<◌, length};
+    ghost use Rattle.pj_io.specs.Memory.{MemSourceState, source_at};
+
+    ghost Value = { MemSourceState };
+
+    ghost view = { λ s. record {
+      source = source_at s.bytes s.at s.faults s.name;
+      plan = record { fails = s.fails; cut = s.cut; calls = s.calls };
+    } };
+
+    ghost invariant = { λ s. (s.at ≤ length s.bytes) × (0 < s.cut) };
 }
 
 impl Source for MemSource {
-    ghost tells = { λ s. true };
-
-    ghost taken = { λ s. take s.at s.bytes };
-
-    ghost left = { λ s. drop s.at s.bytes };
-
-    ghost faults = { λ s. s.faults };
-
-    ghost name = { λ s. s.name };
+    ghost state = { λ s. s.source };
 
     /// Fails exactly at the planned calls, and gives as many bytes as are left, fit the buffer and are within the cut.
     fn read(&mut self, buf: &mut [u8]) -> Result<usize, Failed>
         ensures bound { IfOk result (λ n. n ≤ length buf.new) }
-        ensures bytes { Reads (⟦<MemSource as Source>⟧.left self.old) (⟦<MemSource as Source>⟧.left self.new)
-            (⟦<MemSource as Source>⟧.taken self.old) (⟦<MemSource as Source>⟧.taken self.new) buf.new result }
-        ensures tells { ⟦<MemSource as Source>⟧.tells self.new ≡ ⟦<MemSource as Source>⟧.tells self.old }
-        ensures name { ⟦<MemSource as Source>⟧.name self.new ≡ ⟦<MemSource as Source>⟧.name self.old }
-        ensures cause { HasCause (⟦<MemSource as Source>⟧.faults self.old) (⟦<MemSource as Source>⟧.faults self.new) result }
-        ensures counts { CountsErrors (⟦<MemSource as Source>⟧.faults self.old) (⟦<MemSource as Source>⟧.faults self.new) result }
-        ensures failed { is_err result ≡ fails_next (⟦<MemSource as Planned>⟧.plan self.old) }
-        ensures amount { IfOk result (λ n. n ≡ min (length (⟦<MemSource as Source>⟧.left self.old))
-            (min (length buf.old) (⟦<MemSource as Planned>⟧.plan self.old).cut)) }
-        ensures plan { ⟦<MemSource as Planned>⟧.plan self.new ≡ after_call (⟦<MemSource as Planned>⟧.plan self.old) }
+        ensures bytes { Reads self.old.source self.new.source buf.new result }
+        ensures told { self.new.source.told ≡ self.old.source.told }
+        ensures name { self.new.source.name ≡ self.old.source.name }
+        ensures cause { HasCause self.old.source.faults self.new.source.faults result }
+        ensures counts { CountsErrors self.old.source.faults self.new.source.faults result }
+        ensures failed { is_err result ≡ fails_next self.old.plan }
+        ensures amount { IfOk result (λ n. n ≡ min (length self.old.source.left) (min (length buf.old) self.old.plan.cut)) }
+        ensures plan { self.new.plan ≡ after_call self.old.plan }
     {
         let call = self.calls;
         self.calls = call.saturating_add(1);
@@ -76,10 +74,9 @@ impl MemSource {
         fails: &[u64],
     ) -> Result<MemSource, NoMemory>
         requires { 0 < cut }
-        ensures fresh { IfOk result (λ s. IsFresh (⟦<MemSource as Source>⟧.tells s) (⟦<MemSource as Source>⟧.taken s) (⟦<MemSource as Source>⟧.left s) bytes.now) }
-        ensures faults { IfOk result (λ s. ⟦<MemSource as Source>⟧.faults s ≡ 0) }
-        ensures name { IfOk result (λ s. ⟦<MemSource as Source>⟧.name s ≡ []) }
-        ensures plan { IfOk result (λ s. ⟦<MemSource as Planned>⟧.plan s ≡ fresh_plan fails.now cut) }
+        ensures new { IfOk result (λ s. IsNew [] s.source) }
+        ensures fresh { IfOk result (λ s. IsFresh bytes.now s.source) }
+        ensures plan { IfOk result (λ s. s.plan ≡ fresh_plan fails.now cut) }
     {
         MemSource::opened(alloc, &[], bytes, cut, fails)
     }
@@ -93,10 +90,9 @@ impl MemSource {
         fails: &[u64],
     ) -> Result<MemSource, NoMemory>
         requires { 0 < cut }
-        ensures fresh { IfOk result (λ s. IsFresh (⟦<MemSource as Source>⟧.tells s) (⟦<MemSource as Source>⟧.taken s) (⟦<MemSource as Source>⟧.left s) bytes.now) }
-        ensures faults { IfOk result (λ s. ⟦<MemSource as Source>⟧.faults s ≡ 0) }
-        ensures name { IfOk result (λ s. ⟦<MemSource as Source>⟧.name s ≡ name.now) }
-        ensures plan { IfOk result (λ s. ⟦<MemSource as Planned>⟧.plan s ≡ fresh_plan fails.now cut) }
+        ensures new { IfOk result (λ s. IsNew name.now s.source) }
+        ensures fresh { IfOk result (λ s. IsFresh bytes.now s.source) }
+        ensures plan { IfOk result (λ s. s.plan ≡ fresh_plan fails.now cut) }
     {
         Ok(MemSource {
             name: List::copy_of(alloc, name)?,
@@ -111,9 +107,9 @@ impl MemSource {
 
     // Its name, its faults and how much was taken.
     pub(crate) fn closed(self) -> (Bytes, u64, u64)
-        ensures name { result.0 ≡ ⟦<MemSource as Source>⟧.name self }
-        ensures faults { result.1 ≡ ⟦<MemSource as Source>⟧.faults self }
-        ensures taken { result.2 ≡ length (⟦<MemSource as Source>⟧.taken self) }
+        ensures name { result.0 ≡ self.source.name }
+        ensures faults { result.1 ≡ self.source.faults }
+        ensures taken { result.2 ≡ length self.source.taken }
     {
         let MemSource {
             name,

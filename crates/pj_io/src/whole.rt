@@ -1,7 +1,7 @@
 // A source read to its end.
 ghost use Rattle.std.specs.Prelude.{◌≡◌, ◌≤◌, ◌<◌, ◌^◌, ◌+◌, ◌++◌, List, ℕ, Bool, IsTrue, length, vec_len, IfOk, OnOk, OnErr, IsErrOf, []};
 ghost use Rattle.pj_io.specs.Causes.{Rose};
-ghost use Rattle.pj_io.specs.Pieces.{Takes, TakesAtMost, TakesExactly};
+ghost use Rattle.pj_io.specs.Pieces.{Consumes, ConsumesAtMost, ConsumesExactly};
 
 use crate::{Failed, Source};
 use pj_value::{Bytes, List, NoMemory};
@@ -23,22 +23,19 @@ pub enum WholeStop {
 
 /// All bytes to the end, if they are no more than the limit, which is below 2^63. Never are more than one byte beyond
 /// the limit taken from the source.
-#[tactic(auto, using(crate::proofs::Wholes::takes_more))]
+#[tactic(auto, using(crate::proofs::Pieces::consumes_more))]
 pub fn read_whole<S: Source>(alloc: Global, source: &mut S, limit: u64) -> Result<Bytes, WholeStop>
     requires { limit < 2 ^ 63 }
     ensures short { IfOk result (λ bytes. length bytes ≤ limit) }
-    ensures all { IsTrue (S.tells source.old) → IfOk result (λ bytes.
-        Takes (S.left source.old) [] (S.taken source.old) (S.taken source.new) bytes) }
-    ensures ended { IsTrue (S.tells source.old) → OnOk result (S.left source.new ≡ []) }
-    ensures long { IsTrue (S.tells source.old) → IsErrOf result WholeStop.TooLong → limit < length (S.left source.old) }
-    ensures one_more { IsTrue (S.tells source.old) → IsErrOf result WholeStop.TooLong →
-        TakesExactly (limit + 1) (S.left source.old) (S.left source.new) (S.taken source.old) (S.taken source.new) }
-    ensures most { IsTrue (S.tells source.old) → OnErr result
-        (TakesAtMost (limit + 1) (S.left source.old) (S.left source.new) (S.taken source.old) (S.taken source.new)) }
-    ensures tells { S.tells source.new ≡ S.tells source.old }
-    ensures name { S.name source.new ≡ S.name source.old }
-    ensures later { S.faults source.old ≤ S.faults source.new }
-    ensures fault { IsErrOf result WholeStop.Fault → Rose (S.faults source.old) (S.faults source.new) }
+    ensures all { IsTrue (S.state source.old).told → IfOk result (λ bytes. Consumes (S.state source.old) (S.state source.new) bytes) }
+    ensures ended { IsTrue (S.state source.old).told → OnOk result ((S.state source.new).left ≡ []) }
+    ensures long { IsTrue (S.state source.old).told → IsErrOf result WholeStop.TooLong → limit < length (S.state source.old).left }
+    ensures one_more { IsTrue (S.state source.old).told → IsErrOf result WholeStop.TooLong → ConsumesExactly (limit + 1) (S.state source.old) (S.state source.new) }
+    ensures most { IsTrue (S.state source.old).told → OnErr result (ConsumesAtMost (limit + 1) (S.state source.old) (S.state source.new)) }
+    ensures told { (S.state source.new).told ≡ (S.state source.old).told }
+    ensures name { (S.state source.new).name ≡ (S.state source.old).name }
+    ensures later { (S.state source.old).faults ≤ (S.state source.new).faults }
+    ensures fault { IsErrOf result WholeStop.Fault → Rose (S.state source.old).faults (S.state source.new).faults }
 {
     let mut held = piece_buffer(alloc)?;
     let buffer = held.as_mut_slice();
@@ -90,16 +87,14 @@ fn read_piece<S: Source>(
     requires buffer { 0 < length buffer.old }
     ensures bound { IfOk result (λ n. n ≤ most) }
     ensures count { IfOk result (λ n. length whole.new ≡ length whole.old + n) }
-    ensures some { IsTrue (S.tells source.old) → IfOk result (λ n. (piece : List ℕ)
-        × Takes (S.left source.old) (S.left source.new) (S.taken source.old) (S.taken source.new) piece
-        × (whole.new ≡ whole.old ++ piece) × (n ≡ 0 → S.left source.new ≡ [])) }
-    ensures err { IsTrue (S.tells source.old) → OnErr result
-        (TakesAtMost most (S.left source.old) (S.left source.new) (S.taken source.old) (S.taken source.new)) }
+    ensures some { IsTrue (S.state source.old).told → IfOk result (λ n. (piece : List ℕ)
+        × Consumes (S.state source.old) (S.state source.new) piece × (whole.new ≡ whole.old ++ piece) × (n ≡ 0 → (S.state source.new).left ≡ [])) }
+    ensures err { IsTrue (S.state source.old).told → OnErr result (ConsumesAtMost most (S.state source.old) (S.state source.new)) }
     ensures never_long { IsErrOf result WholeStop.TooLong → ⊥ }
-    ensures tells { S.tells source.new ≡ S.tells source.old }
-    ensures name { S.name source.new ≡ S.name source.old }
-    ensures later { S.faults source.old ≤ S.faults source.new }
-    ensures fault { IsErrOf result WholeStop.Fault → Rose (S.faults source.old) (S.faults source.new) }
+    ensures told { (S.state source.new).told ≡ (S.state source.old).told }
+    ensures name { (S.state source.new).name ≡ (S.state source.old).name }
+    ensures later { (S.state source.old).faults ≤ (S.state source.new).faults }
+    ensures fault { IsErrOf result WholeStop.Fault → Rose (S.state source.old).faults (S.state source.new).faults }
 {
     let room = (buffer.len() as u64).min(most) as usize;
     let (front, _) = buffer.split_at_mut(room);

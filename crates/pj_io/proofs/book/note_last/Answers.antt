@@ -1,7 +1,7 @@
-use Rattle.std.proofs.Common.{◌≡◌, ℕ, Option, Some, ap, sym, ◌∙◌, subst, IsTrue, is_some}
+use Rattle.std.proofs.Common.{◌≡◌, false, Some, ap, ◌∙◌}
 use Rattle.pj_io.specs.declared.book.Note.{Note}
 use Rattle.pj_io.specs.Books.{place_of}
-use Rattle.pj_io.proofs.Notes.{name_at, number_set, number_set_other, number_set_same, place_set}
+use Rattle.pj_io.proofs.Notes.{name_at, noted_set, noted_set_other, noted_set_same}
 use Rattle.pj_io.proofs.book.note_last.Goals as goal
 
 pub returns-in-Some-clause-last : goal.returns-in-Some-clause-last
@@ -12,7 +12,7 @@ returns-in-Some-clause-last c =
     let d = c.index_mut.result.now in
     let place : place_of ns name ≡ Some i = cc (c.in-Some.ensures.place) in
     let named : d.name ≡ name = ap (λ (n : Note). n.name) c.index_mut.ensures.value ∙ name_at ns i d name place in
-    number_set (λ n. n.last) ns i _ name place named
+    noted_set (λ n. n.last) 0 ns i _ name place named
 
 pub returns-in-Some-clause-others : goal.returns-in-Some-clause-others
 returns-in-Some-clause-others c = λ other differ.
@@ -22,7 +22,17 @@ returns-in-Some-clause-others c = λ other differ.
     let d = c.index_mut.result.now in
     let place : place_of ns name ≡ Some i = cc (c.in-Some.ensures.place) in
     let named : d.name ≡ name = ap (λ (n : Note). n.name) c.index_mut.ensures.value ∙ name_at ns i d name place in
-    number_set_other (λ n. n.last) ns i _ name other place named differ
+    noted_set_other (λ n. n.last) 0 ns i _ name other place named differ
+
+pub returns-in-Some-clause-opened : goal.returns-in-Some-clause-opened
+returns-in-Some-clause-opened c = λ other.
+    let ns = c.args.notes.now.items in
+    let name = c.args.name.now in
+    let i = c.in-Some.i in
+    let d = c.index_mut.result.now in
+    let place : place_of ns name ≡ Some i = cc (c.in-Some.ensures.place) in
+    let named : d.name ≡ name = ap (λ (n : Note). n.name) c.index_mut.ensures.value ∙ name_at ns i d name place in
+    noted_set_same (λ n. n.opened) false ns i _ d name other place named (ap (λ (n : Note). n.opened) c.index_mut.ensures.value)
 
 pub returns-in-Some-clause-faults : goal.returns-in-Some-clause-faults
 returns-in-Some-clause-faults c = λ other.
@@ -32,14 +42,4 @@ returns-in-Some-clause-faults c = λ other.
     let d = c.index_mut.result.now in
     let place : place_of ns name ≡ Some i = cc (c.in-Some.ensures.place) in
     let named : d.name ≡ name = ap (λ (n : Note). n.name) c.index_mut.ensures.value ∙ name_at ns i d name place in
-    number_set_same (λ n. n.faults) ns i _ d name other place named (ap (λ (n : Note). n.faults) c.index_mut.ensures.value)
-
-pub returns-in-Some-clause-names : goal.returns-in-Some-clause-names
-returns-in-Some-clause-names c = λ other has.
-    let ns = c.args.notes.now.items in
-    let name = c.args.name.now in
-    let i = c.in-Some.i in
-    let d = c.index_mut.result.now in
-    let place : place_of ns name ≡ Some i = cc (c.in-Some.ensures.place) in
-    let named : d.name ≡ name = ap (λ (n : Note). n.name) c.index_mut.ensures.value ∙ name_at ns i d name place in
-    subst (λ (o : Option ℕ). IsTrue (is_some o)) (sym (place_set ns i _ name other place named)) has
+    noted_set_same (λ n. n.faults) 0 ns i _ d name other place named (ap (λ (n : Note). n.faults) c.index_mut.ensures.value)

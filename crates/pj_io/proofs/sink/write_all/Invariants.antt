@@ -4,9 +4,9 @@ use Rattle.pj_io.proofs.sink.write_all.Given as goal
 abbrev pub invariant-loop-done : goal.invariant-loop-done
 invariant-loop-done g l = record {
   within : l.done ≤ length l.piece;
-  tells : IsTrue (g.K.Sink.tells l.sink) → IsTrue (g.K.Sink.tells l.fn.sink);
-  bytes : IsTrue (g.K.Sink.tells l.sink) → g.K.Sink.written l.sink ≡ g.K.Sink.written l.fn.sink ++ take l.done l.piece;
-  later : g.K.Sink.faults l.fn.sink ≤ g.K.Sink.faults l.sink;
+  told : IsTrue (g.K.Sink.state l.sink).told → IsTrue (g.K.Sink.state l.fn.sink).told;
+  bytes : IsTrue (g.K.Sink.state l.sink).told → (g.K.Sink.state l.sink).written ≡ (g.K.Sink.state l.fn.sink).written ++ take l.done l.piece;
+  later : (g.K.Sink.state l.fn.sink).faults ≤ (g.K.Sink.state l.sink).faults;
 }
 
 abbrev pub decreases-loop-done : goal.decreases-loop-done

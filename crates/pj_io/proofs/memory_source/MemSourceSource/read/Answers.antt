@@ -3,4 +3,5 @@ use Rattle.pj_io.proofs.memory_source.MemSourceSource.read.Goals as goal
 
 pub returns-clause-bytes : goal.returns-clause-bytes
 returns-clause-bytes c =
-    memory_read c.args.self.now.bytes c.args.buf.now c.copy_from_slice.new.self c.as_slice-2.result.now c.args.self.now.at c.min-count.result c.min.result c.args.self.now.cut c.as_slice-2.ensures c.args.self.now.within c.args.self.now.cuts c.min.ensures c.min-count.ensures c.copy_from_slice.ensures.after
+    let s = c.self.inside in
+    rw (← c.self.view_is) (memory_read s.bytes c.args.buf.now c.copy_from_slice.new.self c.as_slice-2.result.now s.name s.at c.min-count.result c.min.result s.cut s.faults c.as_slice-2.ensures c.self.invariant.0 c.self.invariant.1 c.min.ensures c.min-count.ensures c.copy_from_slice.ensures.after)
