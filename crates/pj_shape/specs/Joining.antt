@@ -1,10 +1,11 @@
 -- Rows that join, and the nested-loop answer of a join.
-use Rattle.std.specs.Prelude.{ℕ, ◌+◌, ◌≡◌, Bool, ◌==◌, ◌&&◌, if◌then◌else◌, List, [], ◌∷◌, ◌++◌, Option, Some, None, map, filter, flat_map, slice_index_or}
+use Rattle.std.specs.Prelude.{ℕ, ◌+◌, ◌≡◌, Bool, ◌==◌, ◌&&◌, if◌then◌else◌, List, [], ◌∷◌, Option, Some, None, map, filter, flat_map, slice_index_or}
 use Rattle.std.specs.List.{list_all, list_any}
 use Rattle.pj_value.specs.declared.values.Value.{Value}
 use Rattle.pj_value.specs.declared.values.Value.TheVariants.{Text}
 use Rattle.pj_value.specs.Values.{value_eq}
-use Rattle.pj_shape.specs.Lists.{In, product}
+use Rattle.pj_value.specs.Lists.{In}
+use Rattle.pj_shape.specs.Lists.{product}
 use Rattle.pj_shape.specs.declared.joins.ClassCol.{ClassCol}
 
 -- stands for a value where a row has none

@@ -1,3 +1,5 @@
+pub mod Columns
 pub mod Lists
 pub mod Joining
+pub mod Laws
 pub mod Sound

@@ -1,7 +1,7 @@
 -- Which joins are sound.
-use Rattle.std.specs.Prelude.{ℕ, ◌<◌, ◌≤◌, ◌≡◌, ◌≢◌, ◌⊎◌, List, [], ◌∷◌, map, length, sum, slice_get, Option, Some}
+use Rattle.std.specs.Prelude.{ℕ, ◌≤◌, ◌≡◌, ◌≢◌, List, [], ◌∷◌, map, length, sum, slice_get, Some}
 use Rattle.pj_value.specs.declared.values.Kind.{Kind}
-use Rattle.pj_shape.specs.Lists.{In}
+use Rattle.pj_value.specs.Lists.{In}
 use Rattle.pj_shape.specs.declared.columns.Column.{Column}
 use Rattle.pj_shape.specs.declared.joins.ClassCol.{ClassCol}
 use Rattle.pj_shape.specs.declared.joins.JoinSpec.{JoinSpec}

@@ -1,8 +1,7 @@
 // The columns of a stream, and the schemes of its punctuations.
 ghost use Rattle.std.specs.Prelude.{◌≡◌, ◌<◌, Some, length, slice_get, IfOk};
 
-use crate::copies::Twin;
-use pj_value::{Bytes, Kind, List, NoMemory, Value};
+use pj_value::{Bytes, Kind, List, NoMemory, TryClone, Value};
 use std::alloc::Global;
 use std::marker::Model;
 
@@ -99,7 +98,7 @@ impl Schema {
         ensures { IfOk result (λ copy. copy ≡ self.now) }
     {
         Ok(Schema {
-            columns: self.columns.twin(alloc)?,
+            columns: self.columns.try_clone(alloc)?,
         })
     }
 }
@@ -165,13 +164,13 @@ impl Schemes {
         ensures { IfOk result (λ copy. copy ≡ self.now) }
     {
         Ok(Schemes {
-            lists: self.lists.twin(alloc)?,
+            lists: self.lists.try_clone(alloc)?,
         })
     }
 }
 
-impl Twin for Column {
-    fn twin(&self, alloc: Global) -> Result<Column, NoMemory> {
+impl TryClone for Column {
+    fn try_clone(&self, alloc: Global) -> Result<Column, NoMemory> {
         Ok(Column {
             name: List::copy_of(alloc, self.name.as_slice())?,
             kind: self.kind,
@@ -179,14 +178,14 @@ impl Twin for Column {
     }
 }
 
-impl Twin for Schema {
-    fn twin(&self, alloc: Global) -> Result<Schema, NoMemory> {
+impl TryClone for Schema {
+    fn try_clone(&self, alloc: Global) -> Result<Schema, NoMemory> {
         self.copy(alloc)
     }
 }
 
-impl Twin for Scheme {
-    fn twin(&self, alloc: Global) -> Result<Scheme, NoMemory> {
+impl TryClone for Scheme {
+    fn try_clone(&self, alloc: Global) -> Result<Scheme, NoMemory> {
         self.copy(alloc)
     }
 }

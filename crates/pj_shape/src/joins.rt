@@ -4,8 +4,7 @@ ghost use Rattle.pj_shape.specs.Joining.{has_column, class_of};
 ghost use Rattle.pj_shape.specs.Sound.{IsSoundSpec};
 
 use crate::Schema;
-use crate::copies::Twin;
-use pj_value::{List, NoMemory};
+use pj_value::{List, NoMemory, TryClone};
 use std::alloc::Global;
 use std::marker::Model;
 
@@ -59,8 +58,8 @@ impl JoinSpec {
         ensures { IfOk result (λ copy. copy ≡ self.now) }
     {
         Ok(JoinSpec {
-            inputs: self.inputs.twin(alloc)?,
-            classes: self.classes.twin(alloc)?,
+            inputs: self.inputs.try_clone(alloc)?,
+            classes: self.classes.try_clone(alloc)?,
         })
     }
 }
@@ -98,14 +97,14 @@ impl Cert {
     }
 }
 
-impl Twin for ClassCol {
-    fn twin(&self, _alloc: Global) -> Result<ClassCol, NoMemory> {
+impl TryClone for ClassCol {
+    fn try_clone(&self, _alloc: Global) -> Result<ClassCol, NoMemory> {
         Ok(*self)
     }
 }
 
-impl Twin for Cert {
-    fn twin(&self, alloc: Global) -> Result<Cert, NoMemory> {
+impl TryClone for Cert {
+    fn try_clone(&self, alloc: Global) -> Result<Cert, NoMemory> {
         self.copy(alloc)
     }
 }

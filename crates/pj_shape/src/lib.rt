@@ -2,9 +2,9 @@
 #![tactic(auto)]
 
 mod columns;
-mod copies;
 mod groups;
 mod joins;
+mod laws;
 mod plans;
 #[cfg(test)]
 mod tests;
@@ -12,4 +12,5 @@ mod tests;
 pub use columns::{Column, Instance, Schema, Scheme, Schemes};
 pub use groups::{Agg, GroupSpec};
 pub use joins::{Cert, CertStep, ClassCol, JoinSpec};
+pub use laws::joining_is_tested;
 pub use plans::{SmallJoin, SmallPlan, SmallStream};

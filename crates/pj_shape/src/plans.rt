@@ -1,9 +1,8 @@
 // Plans of one stream, or of two streams and a join.
 ghost use Rattle.std.specs.Prelude.{◌≡◌, IfOk};
 
-use crate::copies::Twin;
 use crate::{JoinSpec, Schema, Scheme};
-use pj_value::{Bytes, List, NoMemory};
+use pj_value::{Bytes, List, NoMemory, TryClone};
 use std::alloc::Global;
 
 /// Streams, and at most one join of them.
@@ -35,7 +34,7 @@ impl SmallPlan {
         ensures { IfOk result (λ copy. copy ≡ self.now) }
     {
         Ok(SmallPlan {
-            streams: self.streams.twin(alloc)?,
+            streams: self.streams.try_clone(alloc)?,
             join: copy_join(alloc, &self.join)?,
         })
     }
@@ -49,7 +48,7 @@ impl SmallStream {
         Ok(SmallStream {
             name: List::copy_of(alloc, self.name.as_slice())?,
             schema: self.schema.copy(alloc)?,
-            schemes: self.schemes.twin(alloc)?,
+            schemes: self.schemes.try_clone(alloc)?,
         })
     }
 }
@@ -67,8 +66,8 @@ impl SmallJoin {
     }
 }
 
-impl Twin for SmallStream {
-    fn twin(&self, alloc: Global) -> Result<SmallStream, NoMemory> {
+impl TryClone for SmallStream {
+    fn try_clone(&self, alloc: Global) -> Result<SmallStream, NoMemory> {
         self.copy(alloc)
     }
 }

@@ -1,151 +1,154 @@
-// Each public call that allocates, with ample memory.
-ghost use Rattle.std.specs.Prelude.{◌≡◌, IfOk, length};
-
+// Each public call that allocates, with ample memory. A copy of a plan copies its streams and its join.
 use crate::{
     Agg, Cert, CertStep, ClassCol, Column, GroupSpec, JoinSpec, Schema, Scheme, Schemes, SmallJoin,
     SmallPlan, SmallStream,
 };
 use pj_value::{Kind, List, NoMemory};
 use std::alloc::Global;
-use std::test::Fail;
 
-fn list_of<T: Drop>(alloc: Global, a: T, b: T) -> Result<List<T>, NoMemory> {
+fn only<T: Drop>(alloc: Global, item: T) -> Result<List<T>, NoMemory> {
     let mut list = List::new(alloc);
-    list.push(a)?;
-    list.push(b)?;
+    list.push(item)?;
     Ok(list)
 }
 
 fn schema(alloc: Global) -> Result<Schema, NoMemory> {
-    let key = Column {
-        name: List::copy_of(alloc, b"k")?,
-        kind: Kind::Int,
-    };
-    let word = Column {
-        name: List::copy_of(alloc, b"word")?,
-        kind: Kind::Text,
-    };
-    Ok(Schema::of(list_of(alloc, key, word)?))
-}
-
-fn scheme(alloc: Global) -> Result<Scheme, NoMemory> {
-    Ok(Scheme::of(list_of(alloc, true, false)?))
-}
-
-fn join(alloc: Global) -> Result<JoinSpec, NoMemory> {
-    let class = list_of(
-        alloc,
-        ClassCol {
-            input: 0,
-            column: 0,
-        },
-        ClassCol {
-            input: 1,
-            column: 0,
-        },
-    )?;
-    let mut classes = List::new(alloc);
-    classes.push(class)?;
-    Ok(JoinSpec {
-        inputs: list_of(alloc, schema(alloc)?, schema(alloc)?)?,
-        classes,
-    })
+    let name = List::copy_of(alloc, b"word")?;
+    let kind = Kind::Text;
+    Ok(Schema::of(only(alloc, Column { name, kind })?))
 }
 
 fn is_schema(schema: &Schema) -> bool {
     match schema.columns() {
-        [key, word] => {
-            key.name.as_slice() == b"k".as_slice()
-                && key.kind == Kind::Int
-                && word.name.as_slice() == b"word".as_slice()
-                && word.kind == Kind::Text
-        }
+        [column] => column.name.as_slice() == b"word".as_slice() && column.kind == Kind::Text,
         _ => false,
     }
 }
 
-fn is_scheme(scheme: &Scheme) -> bool {
-    scheme.len() == 2 && *scheme.at(0) && !*scheme.at(1)
+fn schemes(alloc: Global) -> Result<List<Scheme>, NoMemory> {
+    let marks = List::copy_of(alloc, &[true, false])?;
+    only(alloc, Scheme::of(marks))
 }
 
-fn is_join(join: &JoinSpec) -> bool {
-    match (join.inputs.as_slice(), join.classes.as_slice()) {
-        ([a, b], [class]) => is_schema(a) && is_schema(b) && is_class(class.as_slice()),
+fn are_schemes(schemes: &[Scheme]) -> bool {
+    match schemes {
+        [scheme] => scheme.len() == 2 && *scheme.at(0) && !*scheme.at(1),
+        _ => false,
+    }
+}
+
+fn spec(alloc: Global) -> Result<JoinSpec, NoMemory> {
+    let (input, column) = (1, 2);
+    let class = List::copy_of(alloc, &[ClassCol { input, column }])?;
+    let classes = only(alloc, class)?;
+    let inputs = only(alloc, schema(alloc)?)?;
+    Ok(JoinSpec { inputs, classes })
+}
+
+fn is_spec(spec: &JoinSpec) -> bool {
+    match (spec.inputs.as_slice(), spec.classes.as_slice()) {
+        ([input], [class]) => is_schema(input) && is_class(class.as_slice()),
         _ => false,
     }
 }
 
 fn is_class(class: &[ClassCol]) -> bool {
     match class {
-        [a, b] => a.input == 0 && a.column == 0 && b.input == 1 && b.column == 0,
+        [at] => at.input == 1 && at.column == 2,
+        _ => false,
+    }
+}
+
+fn stream(alloc: Global) -> Result<SmallStream, NoMemory> {
+    let name = List::copy_of(alloc, b"s")?;
+    let schema = schema(alloc)?;
+    let schemes = schemes(alloc)?;
+    Ok(SmallStream {
+        name,
+        schema,
+        schemes,
+    })
+}
+
+fn is_stream(stream: &SmallStream) -> bool {
+    stream.name.as_slice() == b"s".as_slice()
+        && is_schema(&stream.schema)
+        && are_schemes(stream.schemes.as_slice())
+}
+
+fn join(alloc: Global) -> Result<SmallJoin, NoMemory> {
+    let name = List::copy_of(alloc, b"j")?;
+    let inputs = List::copy_of(alloc, &[1, 0])?;
+    let spec = spec(alloc)?;
+    Ok(SmallJoin { name, inputs, spec })
+}
+
+fn is_join(join: &SmallJoin) -> bool {
+    join.name.as_slice() == b"j".as_slice()
+        && join.inputs.as_slice() == [1, 0].as_slice()
+        && is_spec(&join.spec)
+}
+
+fn plan(alloc: Global) -> Result<SmallPlan, NoMemory> {
+    let streams = only(alloc, stream(alloc)?)?;
+    let join = Some(join(alloc)?);
+    Ok(SmallPlan { streams, join })
+}
+
+fn copied_plan(alloc: Global) -> Result<SmallPlan, NoMemory> {
+    let plan = plan(alloc)?;
+    plan.copy(alloc)
+}
+
+fn is_plan(plan: &SmallPlan) -> bool {
+    match (plan.streams.as_slice(), &plan.join) {
+        ([stream], Some(join)) => is_stream(stream) && is_join(join),
         _ => false,
     }
 }
 
 #[test]
-fn shapes_are_copied(rt: HostRuntime) -> Result<(), Fail> {
-    let alloc = rt.alloc();
-    assert!(rt; is_schema(&schema(alloc)?.copy(alloc)?));
-    assert!(rt; is_scheme(&scheme(alloc)?.copy(alloc)?));
-    assert!(rt; is_join(&join(alloc)?.copy(alloc)?));
-    let schemes = Schemes::of(list_of(
-        alloc,
-        list_of(alloc, scheme(alloc)?, scheme(alloc)?)?,
-        List::new(alloc),
-    )?);
-    let schemes = schemes.copy(alloc)?;
-    assert_eq!(rt; schemes.len(), 2);
-    let steps = list_of(
-        alloc,
-        CertStep {
-            input: 1,
-            scheme: 0,
-        },
-        CertStep {
-            input: 2,
-            scheme: 3,
-        },
-    )?;
-    let cert = Cert::of(steps).copy(alloc)?;
-    assert_eq!(rt; cert.len(), 2);
-    let group = GroupSpec {
-        keys: list_of(alloc, 3, 1)?,
-        aggs: list_of(alloc, Agg::Count, Agg::Sum(2))?,
-    };
-    let group = group.copy(alloc)?;
-    assert_eq!(rt; group.keys.as_slice(), [3, 1].as_slice());
-    assert_eq!(rt; group.aggs.as_slice(), [Agg::Count, Agg::Sum(2)].as_slice());
-    Ok(())
+fn plans_are_copied(rt: HostRuntime) {
+    let copy = copied_plan(rt.alloc());
+    assert!(rt; matches!(&copy, Ok(copy) if is_plan(copy)));
+}
+
+fn copied_schemes(alloc: Global) -> Result<Schemes, NoMemory> {
+    let schemes = Schemes::of(only(alloc, schemes(alloc)?)?);
+    schemes.copy(alloc)
 }
 
 #[test]
-fn plans_are_copied(rt: HostRuntime) -> Result<(), Fail> {
-    let alloc = rt.alloc();
-    let stream = SmallStream {
-        name: List::copy_of(alloc, b"s")?,
-        schema: schema(alloc)?,
-        schemes: list_of(alloc, scheme(alloc)?, scheme(alloc)?)?,
-    };
-    let other = stream.copy(alloc)?;
-    let plan = SmallPlan {
-        streams: list_of(alloc, stream, other)?,
-        join: Some(SmallJoin {
-            name: List::copy_of(alloc, b"j")?,
-            inputs: list_of(alloc, 1, 0)?,
-            spec: join(alloc)?,
-        }),
-    };
-    let plan = plan.copy(alloc)?;
-    match (plan.streams.as_slice(), &plan.join) {
-        ([a, b], Some(join)) => {
-            assert_eq!(rt; a.name.as_slice(), b"s".as_slice());
-            assert!(rt; is_schema(&b.schema));
-            assert_eq!(rt; b.schemes.len(), 2);
-            assert_eq!(rt; join.name.as_slice(), b"j".as_slice());
-            assert_eq!(rt; join.inputs.as_slice(), [1, 0].as_slice());
-            assert!(rt; is_join(&join.spec));
-        }
-        _ => assert!(rt; false),
-    }
-    Ok(())
+fn schemes_are_copied(rt: HostRuntime) {
+    let copy = copied_schemes(rt.alloc());
+    assert!(rt; matches!(&copy, Ok(copy) if copy.len() == 1 && are_schemes(copy.at(0).as_slice())));
+}
+
+fn copied_cert(alloc: Global) -> Result<Cert, NoMemory> {
+    let (input, scheme) = (2, 3);
+    let cert = Cert::of(List::copy_of(alloc, &[CertStep { input, scheme }])?);
+    cert.copy(alloc)
+}
+
+#[test]
+fn certificates_are_copied(rt: HostRuntime) {
+    let copy = copied_cert(rt.alloc());
+    assert!(rt; matches!(&copy, Ok(copy) if copy.len() == 1 && copy.at(0).scheme == 3));
+}
+
+fn copied_group(alloc: Global) -> Result<GroupSpec, NoMemory> {
+    let keys = List::copy_of(alloc, &[3, 1])?;
+    let aggs = List::copy_of(alloc, &[Agg::Count, Agg::Sum(2)])?;
+    GroupSpec { keys, aggs }.copy(alloc)
+}
+
+fn is_group(group: &GroupSpec) -> bool {
+    group.keys.as_slice() == [3, 1].as_slice()
+        && group.aggs.as_slice() == [Agg::Count, Agg::Sum(2)].as_slice()
+}
+
+#[test]
+fn groups_are_copied(rt: HostRuntime) {
+    let copy = copied_group(rt.alloc());
+    assert!(rt; matches!(&copy, Ok(copy) if is_group(copy)));
 }
