@@ -1,14 +1,15 @@
 -- What is covered is matched.
 use Rattle.std.proofs.Common.{◌≡◌, Bool, true, false, ◌&&◌, ◌||◌, List, [], ◌∷◌, Option, Some, None, refl, subst}
-use Rattle.std.proofs.lemmas.Bool.{and_parts, false≢true}
+use Rattle.std.proofs.lemmas.Bool.{and_from, and_parts, false≢true}
 use Rattle.pj_value.specs.declared.values.Value.{Value}
 use Rattle.pj_value.specs.Values.{value_eq}
+use Rattle.pj_value.proofs.Orders.{same_if_equal}
 use Rattle.pj_pattern.specs.declared.pattern.Form.TheVariants.{Wild, Empty, Constant, Range, Members}
 use Rattle.pj_pattern.specs.Patterns.{Pattern, covers_high, covers_low, covers_pattern, covers_range, has_value, is_from, is_to, is_wild, matches_all, matches_value}
 use Rattle.pj_pattern.specs.Columns.{covers_punct, matches_row}
-use Rattle.pj_pattern.proofs.Orders.{and_true, same_if_equal, up_chain}
+use Rattle.pj_pattern.proofs.UpTo.{up_chain}
 
-wild_matches : (p : Pattern) (v : Value) → is_wild p ≡ true → matches_value p v ≡ true
+pub wild_matches : (p : Pattern) (v : Value) → is_wild p ≡ true → matches_value p v ≡ true
 wild_matches Wild v w = refl
 wild_matches Empty v w = absurd (false≢true w)
 wild_matches (Constant c) v w = absurd (false≢true w)
@@ -32,7 +33,7 @@ range_covered (Constant k) low high v c m = absurd (false≢true c)
 range_covered (Range from to) low high v c m =
     let one = and_parts (covers_low from low) (covers_high to high) c in
     let two = and_parts (is_from low v) (is_to high v) m in
-    and_true (is_from from v) (is_to to v) (low_covered from low v one.0 two.0) (high_covered to high v one.1 two.1)
+    and_from (is_from from v) (is_to to v) (low_covered from low v one.0 two.0) (high_covered to high v one.1 two.1)
 range_covered (Members ms) low high v c m = absurd (false≢true c)
 
 members_covered : (p : Pattern) (ms : List Value) (v : Value) → matches_all p ms ≡ true → has_value ms v ≡ true → matches_value p v ≡ true
@@ -60,4 +61,4 @@ row_covered (p ∷ ps) (q ∷ qs) [] c m = absurd (false≢true m)
 row_covered (p ∷ ps) (q ∷ qs) (v ∷ vs) c m =
     let one = and_parts (covers_pattern p q) (covers_punct ps qs) c in
     let two = and_parts (matches_value q v) (matches_row qs vs) m in
-    and_true (matches_value p v) (matches_row ps vs) (covered p q v one.0 two.0) (row_covered ps qs vs one.1 two.1)
+    and_from (matches_value p v) (matches_row ps vs) (covered p q v one.0 two.0) (row_covered ps qs vs one.1 two.1)

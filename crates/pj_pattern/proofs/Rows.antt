@@ -1,38 +1,71 @@
 -- Punctuations and rows, column by column.
-use Rattle.std.proofs.Common.{◌≡◌, true, false, ◌&&◌, List, [], ◌∷◌, ◌++◌, length, refl, ap, ◌∙◌, arith, length-append}
+use Rattle.std.proofs.Common.{ℕ, zero, suc, ◌≡◌, true, false, ◌&&◌, List, [], ◌∷◌, ◌++◌, length, refl, ap, sym, ◌∙◌, arith, length-append}
 use Rattle.std.proofs.lemmas.List.{length-replicate}
+use Rattle.std.proofs.Math.Bool.{and-false, and_assoc}
+use Rattle.std.proofs.lemmas.Bool.{and_from}
 use Rattle.pj_value.specs.declared.values.Value.{Value}
-use Rattle.pj_pattern.specs.Patterns.{Pattern, covers_pattern, matches_value}
+use Rattle.pj_pattern.specs.Patterns.{Pattern, covers_pattern, matches_all, matches_value}
 use Rattle.pj_pattern.specs.Columns.{all_wild, covers_punct, matches_row, widen_of}
-use Rattle.pj_pattern.specs.declared.pattern.Form.TheVariants.{Wild}
-use Rattle.pj_pattern.proofs.Orders.{and_false}
+use Rattle.pj_pattern.specs.declared.pattern.Form.TheVariants.{Wild, Empty, Constant, Range, Members}
 
 pub matches_length : (patterns : List Pattern) (values : List Value) → (length patterns ≡ length values → ⊥) → matches_row patterns values ≡ false
 matches_length [] [] differ = absurd (differ refl)
 matches_length [] (v ∷ vs) differ = refl
 matches_length (p ∷ ps) [] differ = refl
-matches_length (p ∷ ps) (v ∷ vs) differ = rw (matches_length ps vs (λ e. differ (omega (arith, e)))) (and_false (matches_value p v))
+matches_length (p ∷ ps) (v ∷ vs) differ = rw (matches_length ps vs (λ e. differ (omega (arith, e)))) (and-false (matches_value p v))
 
 pub covers_length : (patterns others : List Pattern) → (length patterns ≡ length others → ⊥) → covers_punct patterns others ≡ false
 covers_length [] [] differ = absurd (differ refl)
 covers_length [] (q ∷ qs) differ = refl
 covers_length (p ∷ ps) [] differ = refl
-covers_length (p ∷ ps) (q ∷ qs) differ = rw (covers_length ps qs (λ e. differ (omega (arith, e)))) (and_false (covers_pattern p q))
+covers_length (p ∷ ps) (q ∷ qs) differ = rw (covers_length ps qs (λ e. differ (omega (arith, e)))) (and-false (covers_pattern p q))
+
+-- ---- one behind the other
+
+pub matches-append : (ps qs : List Pattern) (vs ws : List Value) → length ps ≡ length vs → matches_row (ps ++ qs) (vs ++ ws) ≡ (matches_row ps vs && matches_row qs ws)
+matches-append [] qs [] ws l = refl
+matches-append [] qs (v ∷ vs) ws l = absurd (omega (arith, l))
+matches-append (p ∷ ps) qs [] ws l = absurd (omega (arith, l))
+matches-append (p ∷ ps) qs (v ∷ vs) ws l = ap (λ b. matches_value p v && b) (matches-append ps qs vs ws (omega (arith, l))) ∙ sym (and_assoc (matches_value p v) (matches_row ps vs) (matches_row qs ws))
+
+-- ---- wildcards alone
+
+pub wilds-length : (n : ℕ) → length (all_wild n) ≡ n
+wilds-length n = length-replicate n Wild
+
+pub wilds-match : (vs : List Value) (n : ℕ) → length vs ≡ n → matches_row (all_wild n) vs ≡ true
+wilds-match [] zero l = refl
+wilds-match [] (suc n) l = absurd (omega (arith, l))
+wilds-match (v ∷ vs) zero l = absurd (omega (arith, l))
+wilds-match (v ∷ vs) (suc n) l = wilds-match vs n (omega (arith, l))
+
+all-match : (vs : List Value) → matches_all Wild vs ≡ true
+all-match [] = refl
+all-match (v ∷ vs) = all-match vs
+
+wild-covers : (p : Pattern) → covers_pattern Wild p ≡ true
+wild-covers Wild = refl
+wild-covers Empty = refl
+wild-covers (Constant c) = refl
+wild-covers (Range low high) = refl
+wild-covers (Members ms) = all-match ms
+
+pub wilds-cover_punct : (n : ℕ) (ps : List Pattern) → length ps ≡ n → covers_punct (all_wild n) ps ≡ true
+wilds-cover_punct zero [] l = refl
+wilds-cover_punct zero (p ∷ ps) l = absurd (omega (arith, l))
+wilds-cover_punct (suc n) [] l = absurd (omega (arith, l))
+wilds-cover_punct (suc n) (p ∷ ps) l = and_from (covers_pattern Wild p) (covers_punct (all_wild n) ps) (wild-covers p) (wilds-cover_punct n ps (omega (arith, l)))
 
 -- ---- wildcards in front and behind
-
-wilds_match : (back : List Value) → matches_row (all_wild (length back)) back ≡ true
-wilds_match [] = refl
-wilds_match (v ∷ vs) = wilds_match vs
 
 front_matches : (front : List Value) (punct : List Pattern) (row : List Value) → matches_row (all_wild (length front) ++ punct) (front ++ row) ≡ matches_row punct row
 front_matches [] punct row = refl
 front_matches (v ∷ vs) punct row = front_matches vs punct row
 
 back_matches : (punct : List Pattern) (row back : List Value) → matches_row (punct ++ all_wild (length back)) (row ++ back) ≡ matches_row punct row
-back_matches [] [] back = wilds_match back
-back_matches [] (v ∷ vs) back = matches_length (all_wild (length back)) (v ∷ vs ++ back) (λ e. omega (arith, e, length-replicate (length back) Wild, length-append (v ∷ vs) back))
-back_matches (p ∷ ps) [] back = matches_length (p ∷ ps ++ all_wild (length back)) back (λ e. omega (arith, e, length-append (p ∷ ps) (all_wild (length back)), length-replicate (length back) Wild))
+back_matches [] [] back = wilds-match back (length back) refl
+back_matches [] (v ∷ vs) back = matches_length (all_wild (length back)) (v ∷ vs ++ back) (λ e. omega (arith, e, wilds-length (length back), length-append (v ∷ vs) back))
+back_matches (p ∷ ps) [] back = matches_length (p ∷ ps ++ all_wild (length back)) back (λ e. omega (arith, e, length-append (p ∷ ps) (all_wild (length back)), wilds-length (length back)))
 back_matches (p ∷ ps) (v ∷ vs) back = ap (λ b. matches_value p v && b) (back_matches ps vs back)
 
 pub widened : (front row back : List Value) (punct : List Pattern) → matches_row (widen_of (length front) (length back) punct) (front ++ row ++ back) ≡ matches_row punct row

@@ -1,5 +1,6 @@
 -- Punctuations: a pattern for each column.
 use Rattle.std.specs.Prelude.{ℕ, ◌+◌, ◌==◌, ◌&&◌, ◌||◌, Bool, true, false, List, [], ◌∷◌, ◌++◌, map, replicate, Option, Some, None, if◌then◌else◌, slice_index_or}
+use Rattle.std.specs.List.{list_any}
 use Rattle.pj_value.specs.declared.values.Value.{Value}
 use Rattle.pj_pattern.specs.declared.pattern.Form.TheVariants.{Wild}
 use Rattle.pj_pattern.specs.Patterns.{Pattern, matches_value, covers_pattern, is_wild}
@@ -24,8 +25,7 @@ all_wild columns = replicate columns Wild
 
 -- the column is one of these
 abbrev pub is_named : List ℕ → ℕ → Bool
-is_named [] column = false
-is_named (c ∷ cs) column = c == column || is_named cs column
+is_named columns column = list_any (λ c. c == column) columns
 
 -- each of these patterns, from this column on, is a wildcard, or its column is one of those named
 abbrev pub others_wild : List ℕ → ℕ → List Pattern → Bool

@@ -1,11 +1,16 @@
--- Laws of patterns and punctuations.
-use Rattle.std.specs.Prelude.{◌≡◌, true, ◌&&◌, List, ◌++◌, length}
+-- Laws of patterns, punctuations and lists of elements.
+use Rattle.std.specs.Prelude.{◌≡◌, ◌↔◌, true, false, ◌&&◌, List, ◌∷◌, ◌++◌, length}
 use Rattle.pj_value.specs.declared.values.Kind.{Kind}
 use Rattle.pj_value.specs.declared.values.Value.{Value}
-use Rattle.pj_pattern.specs.Patterns.{Pattern, matches_value, covers_pattern, is_kind, is_of_kind, is_of_one_kind}
+use Rattle.pj_value.specs.Lists.{In}
+use Rattle.pj_value.specs.Values.{is_kind}
+use Rattle.pj_pattern.specs.Patterns.{Pattern, matches_value, covers_pattern, is_of_kind, is_of_one_kind}
 use Rattle.pj_pattern.specs.Normal.{normal_of, IsNormal, IsInBounds}
 use Rattle.pj_pattern.specs.Meets.{meet_of}
 use Rattle.pj_pattern.specs.Columns.{matches_row, covers_punct, widen_of}
+use Rattle.pj_pattern.specs.declared.element.Element.{Element}
+use Rattle.pj_pattern.specs.declared.element.Element.TheVariants.{Tuple, Punct}
+use Rattle.pj_pattern.specs.Elements.{IsLawful}
 
 -- on values of its kind, integers being those of 64 bits, a pattern and its normal form match the same
 abbrev pub NormalMatchesSame : Type 0
@@ -37,3 +42,8 @@ MeetMatchesBoth = (kind : Kind) (p q : Pattern) → is_of_kind kind p ≡ true �
 abbrev pub WidenedMatches : Type 0
 WidenedMatches = (front row back : List Value) (punct : List Pattern)
     → matches_row (widen_of (length front) (length back) punct) (front ++ row ++ back) ≡ matches_row punct row
+
+-- a list is lawful exactly where no row behind a punctuation matches it
+abbrev pub LawfulByPosition : Type 0
+LawfulByPosition = (es : List Element) → IsLawful es ↔ ((front back : List Element) (punct : List Pattern) (row : List Value)
+    → es ≡ front ++ Punct punct ∷ back → In (Tuple row) back → matches_row punct row ≡ false)

@@ -4,4 +4,5 @@ pub mod Meets
 pub mod Shapes
 pub mod Columns
 pub mod Elements
+pub mod Fitting
 pub mod Laws

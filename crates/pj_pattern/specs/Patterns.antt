@@ -5,20 +5,13 @@ use Rattle.pj_value.specs.declared.values.Kind.{Kind}
 use Rattle.pj_value.specs.declared.values.Kind.TheVariants.{Int as IntKind, Text as TextKind}
 use Rattle.pj_value.specs.declared.values.Value.{Value}
 use Rattle.pj_value.specs.declared.values.Value.TheVariants.{Int, Text}
-use Rattle.pj_value.specs.Values.{value_cmp, value_eq}
+use Rattle.pj_value.specs.Values.{is_kind, value_cmp, value_eq}
 use Rattle.pj_pattern.specs.declared.pattern.Form.{Form}
 use Rattle.pj_pattern.specs.declared.pattern.Form.TheVariants.{Wild, Empty, Constant, Range, Members}
 
 -- what a contract sees of a pattern; it need not be in normal form
 abbrev pub Pattern : Type 0
 Pattern = Form
-
--- whether the value is of the kind
-abbrev pub is_kind : Kind → Value → Bool
-is_kind IntKind (Int n) = true
-is_kind IntKind (Text bytes) = false
-is_kind TextKind (Int n) = false
-is_kind TextKind (Text bytes) = true
 
 abbrev pub same_kind : Value → Value → Bool
 same_kind (Int m) (Int n) = true

@@ -1,4 +1,4 @@
--- The form of a pattern that is lent, and the ends of ranges.
+-- The form of a pattern, lent.
 use Rattle.std.specs.Prelude.{◌≡◌}
 use Rattle.std.specs.Option.{option_copied}
 use Rattle.pj_pattern.specs.declared.pattern.Form.TheVariants.{Wild, Empty, Constant, Range, Members}

@@ -1,10 +1,10 @@
 // Patterns by their forms.
 ghost use Rattle.std.specs.Prelude.{◌≡◌, IfOk};
-ghost use Rattle.pj_pattern.specs.Patterns.{all_of_kind, covers_high, covers_low, covers_pattern, covers_range, has_value, is_end_of_kind, is_from, is_kind, is_of_kind, is_to, is_wild, matches_all, matches_value, same_kind, up_to};
+ghost use Rattle.pj_pattern.specs.Patterns.{all_of_kind, covers_high, covers_low, covers_pattern, covers_range, has_value, is_end_of_kind, is_from, is_of_kind, is_to, is_wild, matches_all, matches_value, same_kind, up_to};
 ghost use Rattle.pj_pattern.specs.Normal.{IsNormal};
 
 use crate::pattern::Form;
-use pj_value::{Kind, List, NoMemory, Value};
+use pj_value::{Kind, NoMemory, Value, copy_values};
 use std::alloc::Global;
 
 pub(crate) fn form_fits(form: &Form, kind: Kind) -> bool
@@ -13,20 +13,9 @@ pub(crate) fn form_fits(form: &Form, kind: Kind) -> bool
     match form {
         Form::Wild => true,
         Form::Empty => true,
-        Form::Constant(value) => has_kind(value, kind),
+        Form::Constant(value) => value.is_of(kind),
         Form::Range(low, high) => end_fits(low, kind) && end_fits(high, kind),
         Form::Members(values) => all_fit(values.as_slice(), kind),
-    }
-}
-
-fn has_kind(value: &Value, kind: Kind) -> bool
-    ensures { result ≡ is_kind kind value.now }
-{
-    match (kind, value) {
-        (Kind::Int, Value::Int(_)) => true,
-        (Kind::Int, Value::Text(_)) => false,
-        (Kind::Text, Value::Int(_)) => false,
-        (Kind::Text, Value::Text(_)) => true,
     }
 }
 
@@ -35,7 +24,7 @@ fn end_fits(end: &Option<Value>, kind: Kind) -> bool
 {
     match end {
         None => true,
-        Some(value) => has_kind(value, kind),
+        Some(value) => value.is_of(kind),
     }
 }
 
@@ -43,7 +32,7 @@ fn all_fit(values: &[Value], kind: Kind) -> bool
     ensures { result ≡ all_of_kind kind values.now }
 {
     for value in values {
-        if !has_kind(value, kind) {
+        if !value.is_of(kind) {
             return false;
         }
     }
@@ -204,14 +193,4 @@ pub(crate) fn copy_end(alloc: Global, end: &Option<Value>) -> Result<Option<Valu
         None => Ok(None),
         Some(value) => Ok(Some(value.copy(alloc)?)),
     }
-}
-
-fn copy_values(alloc: Global, values: &[Value]) -> Result<List<Value>, NoMemory>
-    ensures { IfOk result (λ l. l ≡ values.now) }
-{
-    let mut copy = List::new(alloc);
-    for value in values {
-        copy.push(value.copy(alloc)?)?;
-    }
-    Ok(copy)
 }

@@ -1,5 +1,5 @@
-// Laws of patterns and punctuations, as contracts of functions that do nothing.
-ghost use Rattle.pj_pattern.specs.Laws.{CoveredIsMatched, CoveredRowIsMatched, MeetMatchesBoth, NormalIsNormal, NormalKeepsKind, NormalMatchesSame, WidenedMatches};
+// Laws of patterns, punctuations and lists of elements, as contracts of functions that do nothing.
+ghost use Rattle.pj_pattern.specs.Laws.{CoveredIsMatched, CoveredRowIsMatched, LawfulByPosition, MeetMatchesBoth, NormalIsNormal, NormalKeepsKind, NormalMatchesSame, WidenedMatches};
 
 /// On values of its kind a pattern, however it was spelled, and its normal form match the same. The normal form has no other
 /// kinds of values, and, where the values of the pattern are of one kind, is its own normal form.
@@ -24,4 +24,9 @@ pub fn meets_match_both()
 /// A punctuation with wildcards in front and behind matches a row exactly where the part between them is matched.
 pub fn widened_matches()
     ensures { WidenedMatches }
+{}
+
+/// A list of elements is lawful (Tucker et al. 2003) exactly where no row matches a punctuation that stands before it.
+pub fn lawful_lists()
+    ensures { LawfulByPosition }
 {}

@@ -1,4 +1,5 @@
-//! Patterns and punctuations (Tucker et al. 2003), and the elements of streams.
+//! Patterns, punctuations and the elements of streams, after P. A. Tucker, D. Maier, T. Sheard and L. Fegaras, Exploiting
+//! Punctuation Semantics in Continuous Data Streams, IEEE Transactions on Knowledge and Data Engineering 15(3), 2003.
 #![tactic(auto)]
 
 mod element;
@@ -12,6 +13,6 @@ mod punct;
 mod tests;
 
 pub use element::Element;
-pub use laws::{covered_is_matched, meets_match_both, normal_forms, widened_matches};
+pub use laws::{covered_is_matched, lawful_lists, meets_match_both, normal_forms, widened_matches};
 pub use pattern::{Form, Pattern, Shape};
 pub use punct::Punct;

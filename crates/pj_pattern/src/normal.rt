@@ -95,18 +95,8 @@ fn high_end(value: Value) -> Option<Value>
     }
 }
 
-/// The normal form of a list.
-#[tactic(auto, using(crate::proofs::Sets::dropped_is_set))]
-pub(crate) fn list_form(values: List<Value>) -> Result<Form, NoMemory>
-    ensures { IfOk result (λ p. p ≡ normal_of (Form.Members values)) }
-{
-    let mut values = values.into_vec();
-    sort_values(&mut values)?;
-    drop_repeats(&mut values);
-    Ok(members_form(List::of(values)))
-}
-
-fn sort_values(values: &mut Vec<Value>) -> Result<(), NoMemory>
+/// The values in order.
+pub(crate) fn sort_values(values: &mut Vec<Value>) -> Result<(), NoMemory>
     ensures same { IsPermutation values.old.items values.new.items }
     ensures sorted { OnOk result (IsSorted value_cmp values.new.items) }
 {
@@ -114,8 +104,8 @@ fn sort_values(values: &mut Vec<Value>) -> Result<(), NoMemory>
     Ok(())
 }
 
-// Each value goes that is the same as the one before it.
-fn drop_repeats(values: &mut Vec<Value>)
+/// Each value goes that is the same as the one before it.
+pub(crate) fn drop_repeats(values: &mut Vec<Value>)
     ensures { values.new.items ≡ dedup value_eq values.old.items }
 {
     values.dedup_by(|value, kept| value.same(kept));

@@ -7,12 +7,12 @@ ghost use Rattle.pj_pattern.specs.Shapes.{IsShape};
 
 use crate::forms::{copy_form, form_covers, form_fits, form_is_wild, form_matches};
 use crate::meets::meet_forms;
-use crate::normal::{list_form, range_form};
-use pj_value::{Kind, List, NoMemory, Value};
+use crate::normal::{drop_repeats, members_form, range_form, sort_values};
+use pj_value::{Kind, List, NoMemory, TryClone, Value};
 use std::alloc::Global;
 use std::marker::Model;
 
-/// What a contract sees of a pattern: what kind of pattern it is, and its values.
+/// What a contract sees of a pattern: which of the five kinds of pattern of Tucker et al. (2003) it is, and its values.
 #[derive(Drop)]
 pub enum Form {
     /// It matches every value.
@@ -46,8 +46,9 @@ pub enum Shape<'a> {
     Members(&'a [Value]),
 }
 
-/// What a punctuation asks of a column, always in normal form: a list stands in order without repeats and has two or more
-/// members; a range has an end, its low end is below its high end, and no end is the least or the greatest value.
+/// What a punctuation says of a column (Tucker et al. 2003): which values of it are complete. A pattern is always in normal
+/// form: a list stands in order without repeats and has two or more members; a range has an end, its low end is below its
+/// high end where it has both, and no end is the least or the greatest value of its kind.
 #[derive(Drop)]
 pub struct Pattern {
     form: Form,
@@ -90,7 +91,7 @@ impl Pattern {
 
     /// The values from one to another, both among them; an end that is missing is no bound. Both are of one kind. It is the
     /// normal form of this range.
-    #[tactic(auto, using(crate::proofs::Ends::range_normal))]
+    #[tactic(auto, using(crate::proofs::NormalRanges::range_normal))]
     pub fn range(low: Option<Value>, high: Option<Value>) -> Pattern
         requires { is_of_one_kind (Form.Range low high) ≡ true }
         ensures { result ≡ normal_of (Form.Range low high) }
@@ -102,13 +103,16 @@ impl Pattern {
 
     /// The pattern that matches these values and no other; all are of one kind. It is the normal form of this list, or
     /// `NoMemory`.
-    #[tactic(auto, using(crate::proofs::Sets::set_normal))]
+    #[tactic(auto, using(crate::proofs::Rising::set_normal, crate::proofs::Rising::dropped_is_set))]
     pub fn list(_alloc: Global, values: List<Value>) -> Result<Pattern, NoMemory>
         requires { is_of_one_kind (Form.Members values) ≡ true }
         ensures { IfOk result (λ p. p ≡ normal_of (Form.Members values)) }
     {
+        let mut values = values.into_vec();
+        sort_values(&mut values)?;
+        drop_repeats(&mut values);
         Ok(Pattern {
-            form: list_form(values)?,
+            form: members_form(List::of(values)),
         })
     }
 
@@ -164,7 +168,7 @@ impl Pattern {
     }
 
     /// The pattern that matches exactly what both match, or `NoMemory`. Both fit one kind.
-    #[tactic(auto, using(crate::proofs::Meeting::meet_normal))]
+    #[tactic(auto, using(crate::proofs::NormalMeets::meet_normal))]
     pub fn meet(&self, alloc: Global, other: &Pattern) -> Result<Pattern, NoMemory>
         requires { (kind : Kind) × (is_of_kind kind self.now ≡ true) × (is_of_kind kind other.now ≡ true) }
         ensures { IfOk result (λ p. p ≡ meet_of self.now other.now) }
@@ -187,5 +191,11 @@ impl Pattern {
         Ok(Pattern {
             form: copy_form(alloc, &self.form)?,
         })
+    }
+}
+
+impl TryClone for Pattern {
+    fn try_clone(&self, alloc: Global) -> Result<Pattern, NoMemory> {
+        self.copy(alloc)
     }
 }

@@ -4,12 +4,12 @@ ghost use Rattle.pj_pattern.specs.Columns.{all_wild, covers_punct, is_named, kee
 ghost use Rattle.pj_pattern.specs.Patterns.{is_wild};
 
 use crate::Pattern;
-use pj_value::{List, NoMemory, Row, Value};
+use pj_value::{List, NoMemory, Row, TryClone, Value};
 use std::alloc::Global;
 use std::marker::Model;
 
-/// A punctuation (Tucker et al. 2003): no later tuple of the stream matches it. It has a pattern for each column, and a
-/// contract sees the list of them.
+/// A punctuation (Tucker et al. 2003): a pattern for each column, which promises that no later tuple of its stream matches
+/// them all. A contract sees the list of the patterns.
 #[derive(Drop)]
 pub struct Punct {
     patterns: List<Pattern>,
@@ -107,9 +107,9 @@ impl Punct {
     pub fn copy(&self, alloc: Global) -> Result<Punct, NoMemory>
         ensures { IfOk result (λ p. p ≡ self.now) }
     {
-        let mut patterns = List::new(alloc);
-        append_copies(alloc, self.patterns.as_slice(), &mut patterns)?;
-        Ok(Punct { patterns })
+        Ok(Punct {
+            patterns: self.patterns.try_clone(alloc)?,
+        })
     }
 }
 
@@ -186,12 +186,7 @@ fn is_named_or_wild(columns: &[u32], at: usize, pattern: &Pattern) -> bool
 fn is_named(columns: &[u32], at: usize) -> bool
     ensures { result ≡ is_named columns.now at }
 {
-    for column in columns {
-        if *column as usize == at {
-            return true;
-        }
-    }
-    false
+    columns.iter().any(|column| *column as usize == at)
 }
 
 // The patterns of these columns, in their order.

@@ -1,5 +1,5 @@
 // What no clause says: that the calls succeed with ample memory, and that the definitions mean the format.
-ghost use Rattle.std.specs.Prelude.{◌≡◌, ◌&&◌, ℤ, pos, neg_ℤ, negsuc, Bool, true, false, List, [], ◌∷◌, Some, None, IfOk};
+ghost use Rattle.std.specs.Prelude.{◌≡◌, ◌<◌, All, ◌&&◌, ℤ, pos, neg_ℤ, negsuc, Bool, true, false, List, [], ◌∷◌, Some, None, IfOk};
 ghost use Rattle.pj_value.specs.declared.values.Value.TheVariants.{Int, Text};
 ghost use Rattle.pj_pattern.specs.declared.pattern.Form.TheVariants.{Wild, Empty, Constant, Range, Members};
 ghost use Rattle.pj_pattern.specs.Patterns.{covers_pattern, matches_value};
@@ -8,19 +8,15 @@ ghost use Rattle.pj_pattern.specs.Meets.{meet_of};
 ghost use Rattle.pj_pattern.specs.Columns.{keep_of, widen_of};
 
 use super::*;
-use pj_value::{Kind, List, NoMemory, Row, Value};
+use pj_value::{Kind, List, NoMemory, Value, copy_values};
 use std::alloc::Global;
-use std::test::Fail;
 
-// The list of 1 and 3.
+// The list of 1 and 3, from 3, 1 and 3.
 fn one_and_three(alloc: Global) -> Result<Pattern, NoMemory>
     ensures { IfOk result (λ p. p ≡ Members (Int (pos 1) ∷ Int (pos 3) ∷ [])) }
 {
-    let mut values = List::new(alloc);
-    values.push(Value::Int(3))?;
-    values.push(Value::Int(1))?;
-    values.push(Value::Int(3))?;
-    Ok(Pattern::list(alloc, values)?)
+    let values = copy_values(alloc, &[Value::Int(3), Value::Int(1), Value::Int(3)])?;
+    Pattern::list(alloc, values)
 }
 
 fn is_constant(pattern: &Pattern, number: i64) -> bool {
@@ -30,19 +26,40 @@ fn is_constant(pattern: &Pattern, number: i64) -> bool {
     }
 }
 
-#[test]
-fn patterns_meet(rt: HostRuntime) -> Result<(), Fail> {
-    let alloc = rt.alloc();
+fn copied_list(alloc: Global) -> Result<Pattern, NoMemory> {
     let list = one_and_three(alloc)?;
-    let copy = list.copy(alloc)?;
-    assert!(rt; matches!(copy.shape(), Shape::Members([Value::Int(1), Value::Int(3)])));
+    list.copy(alloc)
+}
+
+#[test]
+fn lists_are_copied(rt: HostRuntime) {
+    let list = copied_list(rt.alloc());
+    assert!(rt;
+        matches!(&list, Ok(list) if matches!(list.shape(), Shape::Members([Value::Int(1), Value::Int(3)])))
+    );
+}
+
+fn met_with_range(alloc: Global) -> Result<Pattern, NoMemory> {
+    let list = one_and_three(alloc)?;
+    list.meet(
+        alloc,
+        &Pattern::range(Some(Value::Int(2)), Some(Value::Int(9))),
+    )
+}
+
+#[test]
+fn patterns_meet(rt: HostRuntime) {
+    let meet = met_with_range(rt.alloc());
+    assert!(rt; matches!(&meet, Ok(meet) if is_constant(meet, 3)));
+}
+
+#[test]
+fn a_range_covers_its_values(rt: HostRuntime) {
     let range = Pattern::range(Some(Value::Int(2)), Some(Value::Int(9)));
-    let meet = list.meet(alloc, &range)?;
-    assert!(rt; is_constant(&meet, 3));
-    assert!(rt; range.covers(&meet));
-    assert!(rt; !list.covers(&range));
+    let nine = Pattern::constant(Value::Int(9));
+    assert!(rt; range.covers(&nine));
+    assert!(rt; !nine.covers(&range));
     assert!(rt; range.fits(Kind::Int));
-    Ok(())
 }
 
 // The punctuation of a wildcard and 5.
@@ -55,23 +72,42 @@ fn wild_and_five(alloc: Global) -> Result<Punct, NoMemory>
     Ok(Punct::of(patterns))
 }
 
-#[test]
-fn punctuations_are_cut_and_widened(rt: HostRuntime) -> Result<(), Fail> {
-    let alloc = rt.alloc();
+fn five_kept(alloc: Global, columns: &[u32]) -> Result<Option<Punct>, NoMemory>
+    requires { All (λ column. column < 2) columns.now }
+{
     let punct = wild_and_five(alloc)?;
-    let twice = punct.keep(alloc, &[1, 1])?;
+    punct.keep(alloc, columns)
+}
+
+#[test]
+fn punctuations_are_cut(rt: HostRuntime) {
+    let twice = five_kept(rt.alloc(), &[1, 1]);
     assert!(rt;
-        matches!(&twice, Some(twice) if matches!(twice.as_slice(), [one, two] if is_constant(one, 5) && is_constant(two, 5)))
+        matches!(&twice, Ok(Some(twice)) if matches!(twice.as_slice(), [one, two] if is_constant(one, 5) && is_constant(two, 5)))
     );
-    let none = punct.keep(alloc, &[0])?;
-    assert!(rt; none.is_none());
-    let wide = punct.widen(alloc, 0, 1)?;
-    let copy = wide.copy(alloc)?;
-    assert!(rt; matches!(copy.as_slice(), [_, five, _] if is_constant(five, 5)));
-    let all = Punct::all_wild(alloc, 3)?;
-    assert!(rt; all.covers(&copy));
-    assert!(rt; !copy.covers(&all));
-    Ok(())
+    assert!(rt; matches!(&five_kept(rt.alloc(), &[0]), Ok(None)));
+}
+
+fn widened(alloc: Global) -> Result<Punct, NoMemory> {
+    let punct = wild_and_five(alloc)?;
+    punct.widen(alloc, 0, 1)
+}
+
+fn widened_copy(alloc: Global) -> Result<Punct, NoMemory> {
+    let wide = widened(alloc)?;
+    wide.copy(alloc)
+}
+
+#[test]
+fn punctuations_are_widened(rt: HostRuntime) {
+    let copy = widened_copy(rt.alloc());
+    assert!(rt;
+        matches!(&copy, Ok(copy) if matches!(copy.as_slice(), [_, five, _] if is_constant(five, 5)))
+    );
+    let all = Punct::all_wild(rt.alloc(), 3);
+    assert!(rt;
+        matches!((&all, &copy), (Ok(all), Ok(copy)) if all.covers(copy) && !copy.covers(all))
+    );
 }
 
 // The definitions, computed on a few patterns.

@@ -1,7 +1,7 @@
 use Rattle.std.proofs.Common.{◌≡◌, ◌∙◌, rules}
 use Rattle.std.proofs.lemmas.Fn.{always_returns_same}
 use Rattle.pj_value.specs.Values.{value_cmp}
-use Rattle.pj_pattern.proofs.Searching.{searched}
+use Rattle.pj_pattern.proofs.BinarySearch.{searched}
 use Rattle.pj_pattern.proofs.forms.has_value.Goals as goal
 
 pub returns : goal.returns

@@ -1,4 +1,4 @@
-use Rattle.pj_pattern.proofs.Both.{meet_both}
+use Rattle.pj_pattern.proofs.MeetMatches.{meet_both}
 use Rattle.pj_pattern.proofs.laws.meets_match_both.Goals as goal
 
 pub returns : goal.returns

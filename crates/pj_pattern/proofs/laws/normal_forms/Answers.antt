@@ -1,4 +1,5 @@
-use Rattle.pj_pattern.proofs.Bounds.{kind_kept, normal_again, same_matched}
+use Rattle.pj_pattern.proofs.NormalKinds.{kind_kept}
+use Rattle.pj_pattern.proofs.NormalMatches.{normal_again, same_matched}
 use Rattle.pj_pattern.proofs.laws.normal_forms.Goals as goal
 
 pub returns : goal.returns

@@ -1,22 +1,24 @@
--- What the normal forms of patterns match, and of what kind their values are.
-use Rattle.std.proofs.Common.{◌≡◌, ℤ, ◌<ℤ◌, Bool, true, false, not, ◌&&◌, ◌||◌, cond, List, [], ◌∷◌, Option, Some, None, refl, ap, sym, subst, ◌∙◌}
+-- What the normal forms of patterns match.
+use Rattle.std.proofs.Common.{◌≡◌, ℤ, ◌<ℤ◌, Bool, true, false, not, ◌&&◌, cond, List, [], ◌∷◌, Option, Some, None, refl, ap, sym, subst, ◌∙◌}
 use Rattle.std.specs.declared.cmp.Ordering.{Ordering}
 use Rattle.std.specs.declared.cmp.Ordering.TheVariants.{Less, Equal, Greater}
 use Rattle.std.specs.Ordering.{int_cmp, is_gt, MatchOrdering}
 use Rattle.std.specs.Cmp.{int_ranks}
 use Rattle.std.specs.Int.Signed.{clash_ℤ}
 use Rattle.std.proofs.lemmas.Bool.{and_parts, false≢true}
+use Rattle.std.proofs.Math.Bool.{or-false}
 use Rattle.pj_value.specs.declared.values.Kind.{Kind}
-use Rattle.pj_value.specs.declared.values.Kind.TheVariants.{Int as IntKind, Text as TextKind}
 use Rattle.pj_value.specs.declared.values.Value.{Value}
 use Rattle.pj_value.specs.declared.values.Value.TheVariants.{Int, Text}
-use Rattle.pj_value.specs.Values.{value_cmp, value_eq}
+use Rattle.pj_value.specs.Values.{is_kind, value_cmp, value_eq}
+use Rattle.pj_value.proofs.Orders.{same_if_equal, same_if_tied}
 use Rattle.pj_pattern.specs.declared.pattern.Form.TheVariants.{Wild, Empty, Constant, Range, Members}
-use Rattle.pj_pattern.specs.Patterns.{Pattern, all_of_kind, has_value, is_end_of_kind, is_from, is_kind, is_of_kind, is_of_one_kind, is_to, matches_value, same_kind, up_to}
-use Rattle.pj_pattern.specs.Normal.{between, by_order, from_low, greatest_int, greatest_of, high_end, insert, insert_by, least_int, least_of, low_end, normal_of, of_ends, of_members, range_of, sorted_set, IsInBounds, IsNormal}
-use Rattle.pj_pattern.proofs.Orders.{and_true, none_between, pinned, same_if_equal, same_if_tied}
-use Rattle.pj_pattern.proofs.Ends.{range_normal, same_kinds}
-use Rattle.pj_pattern.proofs.Sets.{set_has, set_normal}
+use Rattle.pj_pattern.specs.Patterns.{Pattern, has_value, is_from, is_of_kind, is_of_one_kind, is_to, matches_value, same_kind, up_to}
+use Rattle.pj_pattern.specs.Normal.{between, by_order, from_low, greatest_int, greatest_of, high_end, least_int, least_of, low_end, normal_of, of_ends, of_members, range_of, sorted_set, IsInBounds, IsNormal}
+use Rattle.pj_pattern.proofs.UpTo.{none_between, pinned}
+use Rattle.pj_pattern.proofs.NormalRanges.{range_normal, same_kinds}
+use Rattle.pj_pattern.proofs.NormalKinds.{least_kind}
+use Rattle.pj_pattern.proofs.Rising.{set_has, set_normal}
 
 -- ---- what ranges match
 
@@ -70,12 +72,6 @@ high_bounds (Int m) (Int n) k b = go (value_eq (Int m) (Int greatest_int)) refl
 high_bounds (Int m) (Text y) k b = absurd (false≢true k)
 high_bounds (Text x) v k b = refl
 
-least_kind : (kind : Kind) (x : Value) → is_kind kind x ≡ true → is_kind kind (least_of x) ≡ true
-least_kind IntKind (Int n) k = refl
-least_kind IntKind (Text x) k = absurd (false≢true k)
-least_kind TextKind (Int n) k = absurd (false≢true k)
-least_kind TextKind (Text x) k = refl
-
 below_match : (kind : Kind) (y v : Value) → is_kind kind y ≡ true → is_kind kind v ≡ true → IsInBounds v → matches_value (between (least_of y) y) v ≡ up_to v y
 below_match kind y v k l b =
     between_matches (least_of y) y v (low_bounds (least_of y) v (same_kinds kind (least_of y) v (least_kind kind y k) l) b) (high_bounds y v (same_kinds kind y v k l) b)
@@ -96,13 +92,9 @@ range_matches kind (Some x) (Some y) v k l b =
     let both = and_parts (is_kind kind x) (is_kind kind y) k in
     between_matches x y v (low_bounds x v (same_kinds kind x v both.0 l) b) (high_bounds y v (same_kinds kind y v both.1 l) b)
 
-or_right : (b : Bool) → (b || false) ≡ b
-or_right true = refl
-or_right false = refl
-
 pub members_match : (ms : List Value) (v : Value) → matches_value (of_members ms) v ≡ has_value ms v
 members_match [] v = refl
-members_match (m ∷ []) v = sym (or_right (value_eq m v))
+members_match (m ∷ []) v = sym (or-false (value_eq m v))
 members_match (m ∷ n ∷ ms) v = refl
 
 pub same_matched : (kind : Kind) (p : Pattern) (v : Value) → is_of_kind kind p ≡ true → is_kind kind v ≡ true → IsInBounds v → matches_value (normal_of p) v ≡ matches_value p v
@@ -118,71 +110,3 @@ normal_again Empty k = refl
 normal_again (Constant c) k = refl
 normal_again (Range low high) k = range_normal low high k
 normal_again (Members ms) k = set_normal ms
-
--- ---- kinds
-
-low_kind : (kind : Kind) (x : Value) → is_kind kind x ≡ true → is_end_of_kind kind (low_end x) ≡ true
-low_kind kind x k = go (value_eq x (least_of x))
-  where
-    go : (t : Bool) → is_end_of_kind kind (cond t None (Some x)) ≡ true
-    go true = refl
-    go false = k
-
-high_kind : (kind : Kind) (y : Value) → is_kind kind y ≡ true → is_end_of_kind kind (high_end y) ≡ true
-high_kind kind (Int n) k = go (value_eq (Int n) (Int greatest_int))
-  where
-    go : (t : Bool) → is_end_of_kind kind (cond t None (Some (Int n))) ≡ true
-    go true = refl
-    go false = k
-high_kind kind (Text y) k = k
-
-ends_kind : (kind : Kind) (low high : Option Value) → is_end_of_kind kind low ≡ true → is_end_of_kind kind high ≡ true → is_of_kind kind (of_ends low high) ≡ true
-ends_kind kind None None k l = refl
-ends_kind kind None (Some h) k l = l
-ends_kind kind (Some x) high k l = and_true (is_kind kind x) (is_end_of_kind kind high) k l
-
-between_kind : (kind : Kind) (x y : Value) → is_kind kind x ≡ true → is_kind kind y ≡ true → is_of_kind kind (between x y) ≡ true
-between_kind kind x y k l = go (value_cmp x y)
-  where
-    go : (o : Ordering) → is_of_kind kind (by_order o x y) ≡ true
-    go Less = ends_kind kind (low_end x) (high_end y) (low_kind kind x k) (high_kind kind y l)
-    go Equal = k
-    go Greater = refl
-
-above_kind : (kind : Kind) (x : Value) → is_kind kind x ≡ true → is_of_kind kind (from_low x (greatest_of x)) ≡ true
-above_kind IntKind (Int m) k = between_kind IntKind (Int m) (Int greatest_int) refl refl
-above_kind TextKind (Int m) k = absurd (false≢true k)
-above_kind kind (Text x) k = ends_kind kind (low_end (Text x)) None (low_kind kind (Text x) k) refl
-
-range_kind : (kind : Kind) (low high : Option Value) → is_of_kind kind (Range low high) ≡ true → is_of_kind kind (range_of low high) ≡ true
-range_kind kind None None k = refl
-range_kind kind None (Some y) k = between_kind kind (least_of y) y (least_kind kind y k) k
-range_kind kind (Some x) None k = above_kind kind x (and_parts (is_kind kind x) true k).0
-range_kind kind (Some x) (Some y) k = let both = and_parts (is_kind kind x) (is_kind kind y) k in between_kind kind x y both.0 both.1
-
-insert_kind : (kind : Kind) (v : Value) (ws : List Value) → is_kind kind v ≡ true → all_of_kind kind ws ≡ true → all_of_kind kind (insert v ws) ≡ true
-insert_kind kind v [] k l = and_true (is_kind kind v) true k refl
-insert_kind kind v (w ∷ ws) k l =
-    let both = and_parts (is_kind kind w) (all_of_kind kind ws) l in
-    go (value_cmp v w) both.0 (insert_kind kind v ws k both.1)
-  where
-    go : (o : Ordering) → is_kind kind w ≡ true → all_of_kind kind (insert v ws) ≡ true → all_of_kind kind (insert_by o v w ws (insert v ws)) ≡ true
-    go Less first ih = and_true (is_kind kind v) (is_kind kind w && all_of_kind kind ws) k l
-    go Equal first ih = l
-    go Greater first ih = and_true (is_kind kind w) (all_of_kind kind (insert v ws)) first ih
-
-set_kind : (kind : Kind) (vs : List Value) → all_of_kind kind vs ≡ true → all_of_kind kind (sorted_set vs) ≡ true
-set_kind kind [] k = refl
-set_kind kind (v ∷ vs) k = let both = and_parts (is_kind kind v) (all_of_kind kind vs) k in insert_kind kind v (sorted_set vs) both.0 (set_kind kind vs both.1)
-
-members_kind : (kind : Kind) (ms : List Value) → all_of_kind kind ms ≡ true → is_of_kind kind (of_members ms) ≡ true
-members_kind kind [] k = refl
-members_kind kind (m ∷ []) k = (and_parts (is_kind kind m) true k).0
-members_kind kind (m ∷ n ∷ ms) k = k
-
-pub kind_kept : (kind : Kind) (p : Pattern) → is_of_kind kind p ≡ true → is_of_kind kind (normal_of p) ≡ true
-kind_kept kind Wild k = refl
-kind_kept kind Empty k = refl
-kind_kept kind (Constant c) k = k
-kind_kept kind (Range low high) k = range_kind kind low high k
-kind_kept kind (Members ms) k = members_kind kind (sorted_set ms) (set_kind kind ms k)

@@ -3,23 +3,21 @@ use Rattle.std.proofs.Common.{◌≡◌, Bool, true, false, not, ◌&&◌, ◌||
 use Rattle.std.specs.declared.cmp.Ordering.{Ordering}
 use Rattle.std.specs.declared.cmp.Ordering.TheVariants.{Less, Equal, Greater}
 use Rattle.std.specs.Ordering.{is_gt}
-use Rattle.std.proofs.lemmas.Bool.{and_parts, false≢true}
+use Rattle.std.proofs.lemmas.Bool.{and_from, and_parts, false≢true}
+use Rattle.std.proofs.Math.Bool.{and-false, and-true, and_comm}
 use Rattle.pj_value.specs.declared.values.Kind.{Kind}
 use Rattle.pj_value.specs.declared.values.Value.{Value}
 use Rattle.pj_value.specs.declared.values.Value.TheVariants.{Int, Text}
 use Rattle.pj_value.specs.Values.{value_cmp, value_eq}
+use Rattle.pj_value.proofs.Orders.{less_if_greater, same_if_equal}
 use Rattle.pj_pattern.specs.declared.pattern.Form.TheVariants.{Wild, Empty, Constant, Range, Members}
 use Rattle.pj_pattern.specs.Patterns.{Pattern, has_value, is_end_of_kind, is_from, is_of_kind, is_to, matches_value, same_kind, up_to}
 use Rattle.pj_pattern.specs.Normal.{between, by_order, greatest_int, high_end, least_of, low_end, of_ends, of_members, range_of, IsNormal}
 use Rattle.pj_pattern.specs.Meets.{constant_if, earlier_high, later_low, matched, meet_of, range_met}
-use Rattle.pj_pattern.proofs.Orders.{and_false, and_right, and_true, less_if_greater, same_if_equal, up_chain}
-use Rattle.pj_pattern.proofs.Ends.{same_kinds}
-use Rattle.pj_pattern.proofs.Bounds.{between_matches, members_match}
-use Rattle.pj_pattern.proofs.Meeting.{met_normal}
-
-and_turn : (b c : Bool) → (b && c) ≡ (c && b)
-and_turn true c = sym (and_right c)
-and_turn false c = sym (and_false c)
+use Rattle.pj_pattern.proofs.UpTo.{up_chain}
+use Rattle.pj_pattern.proofs.NormalRanges.{same_kinds}
+use Rattle.pj_pattern.proofs.NormalMatches.{between_matches, members_match}
+use Rattle.pj_pattern.proofs.NormalMeets.{met_normal}
 
 -- ---- constants and lists
 
@@ -33,7 +31,7 @@ constant_met q c v = go (value_eq c v) refl (matches_value q c) refl
     go false e false f = refl
 
 matched_has : (p : Pattern) (ms : List Value) (v : Value) → has_value (matched p ms) v ≡ (matches_value p v && has_value ms v)
-matched_has p [] v = sym (and_false (matches_value p v))
+matched_has p [] v = sym (and-false (matches_value p v))
 matched_has p (m ∷ ms) v = go (value_eq m v) refl (matches_value p m) refl (matched_has p ms v)
   where
     go : (b : Bool) → value_eq m v ≡ b → (t : Bool) → matches_value p m ≡ t → has_value (matched p ms) v ≡ (matches_value p v && has_value ms v)
@@ -161,13 +159,13 @@ up_both x w v k l = go (value_cmp x w) refl (up_to x v) refl (up_to w v) refl
   where
     go : (o : Ordering) → value_cmp x w ≡ o → (b : Bool) → up_to x v ≡ b → (c : Bool) → up_to w v ≡ c → is_from (cond (is_gt o) (Some x) (Some w)) v ≡ (b && c)
     go Greater e true p true q = p
-    go Greater e true p false q = absurd (false≢true (sym q ∙ up_chain w x v (and_true (same_kind w x) (not (is_gt (value_cmp w x))) l (ap (λ o. not (is_gt o)) (less_if_greater x w e))) p))
+    go Greater e true p false q = absurd (false≢true (sym q ∙ up_chain w x v (and_from (same_kind w x) (not (is_gt (value_cmp w x))) l (ap (λ o. not (is_gt o)) (less_if_greater x w e))) p))
     go Greater e false p c q = p
     go Less e true p c q = q
-    go Less e false p true q = absurd (false≢true (sym p ∙ up_chain x w v (and_true (same_kind x w) (not (is_gt (value_cmp x w))) k (ap (λ o. not (is_gt o)) e)) q))
+    go Less e false p true q = absurd (false≢true (sym p ∙ up_chain x w v (and_from (same_kind x w) (not (is_gt (value_cmp x w))) k (ap (λ o. not (is_gt o)) e)) q))
     go Less e false p false q = q
     go Equal e true p c q = q
-    go Equal e false p true q = absurd (false≢true (sym p ∙ up_chain x w v (and_true (same_kind x w) (not (is_gt (value_cmp x w))) k (ap (λ o. not (is_gt o)) e)) q))
+    go Equal e false p true q = absurd (false≢true (sym p ∙ up_chain x w v (and_from (same_kind x w) (not (is_gt (value_cmp x w))) k (ap (λ o. not (is_gt o)) e)) q))
     go Equal e false p false q = q
 
 down_both : (y z v : Value) → same_kind y z ≡ true → same_kind z y ≡ true → is_to (cond (is_gt (value_cmp y z)) (Some z) (Some y)) v ≡ (up_to v y && up_to v z)
@@ -175,28 +173,28 @@ down_both y z v k l = go (value_cmp y z) refl (up_to v y) refl (up_to v z) refl
   where
     go : (o : Ordering) → value_cmp y z ≡ o → (b : Bool) → up_to v y ≡ b → (c : Bool) → up_to v z ≡ c → is_to (cond (is_gt o) (Some z) (Some y)) v ≡ (b && c)
     go Greater e true p c q = q
-    go Greater e false p true q = absurd (false≢true (sym p ∙ up_chain v z y q (and_true (same_kind z y) (not (is_gt (value_cmp z y))) l (ap (λ o. not (is_gt o)) (less_if_greater y z e)))))
+    go Greater e false p true q = absurd (false≢true (sym p ∙ up_chain v z y q (and_from (same_kind z y) (not (is_gt (value_cmp z y))) l (ap (λ o. not (is_gt o)) (less_if_greater y z e)))))
     go Greater e false p false q = q
     go Less e true p true q = p
-    go Less e true p false q = absurd (false≢true (sym q ∙ up_chain v y z p (and_true (same_kind y z) (not (is_gt (value_cmp y z))) k (ap (λ o. not (is_gt o)) e))))
+    go Less e true p false q = absurd (false≢true (sym q ∙ up_chain v y z p (and_from (same_kind y z) (not (is_gt (value_cmp y z))) k (ap (λ o. not (is_gt o)) e))))
     go Less e false p c q = p
     go Equal e true p true q = p
-    go Equal e true p false q = absurd (false≢true (sym q ∙ up_chain v y z p (and_true (same_kind y z) (not (is_gt (value_cmp y z))) k (ap (λ o. not (is_gt o)) e))))
+    go Equal e true p false q = absurd (false≢true (sym q ∙ up_chain v y z p (and_from (same_kind y z) (not (is_gt (value_cmp y z))) k (ap (λ o. not (is_gt o)) e))))
     go Equal e false p c q = p
 
 later_both : (kind : Kind) (low from : Option Value) (v : Value) → is_end_of_kind kind low ≡ true → is_end_of_kind kind from ≡ true → is_from (later_low low from) v ≡ (is_from low v && is_from from v)
 later_both kind None from v k l = refl
-later_both kind (Some x) None v k l = sym (and_right (up_to x v))
+later_both kind (Some x) None v k l = sym (and-true (up_to x v))
 later_both kind (Some x) (Some w) v k l = up_both x w v (same_kinds kind x w k l) (same_kinds kind w x l k)
 
 earlier_both : (kind : Kind) (high to : Option Value) (v : Value) → is_end_of_kind kind high ≡ true → is_end_of_kind kind to ≡ true → is_to (earlier_high high to) v ≡ (is_to high v && is_to to v)
 earlier_both kind None to v k l = refl
-earlier_both kind (Some y) None v k l = sym (and_right (up_to v y))
+earlier_both kind (Some y) None v k l = sym (and-true (up_to v y))
 earlier_both kind (Some y) (Some z) v k l = down_both y z v (same_kinds kind y z k l) (same_kinds kind z y l k)
 
 and_cross : (a b c d : Bool) → ((a && c) && (b && d)) ≡ ((a && b) && (c && d))
 and_cross true true c d = refl
-and_cross true false c d = and_false c
+and_cross true false c d = and-false c
 and_cross false b c d = refl
 
 ranges_met : (kind : Kind) (low high from to : Option Value) (v : Value) → is_of_kind kind (Range low high) ≡ true → is_of_kind kind (Range from to) ≡ true → IsNormal (Range low high) → IsNormal (Range from to)
@@ -211,9 +209,9 @@ ranges_met kind low high from to v k l n o =
 
 range_both : (kind : Kind) (low high : Option Value) (q : Pattern) (v : Value) → is_of_kind kind (Range low high) ≡ true → is_of_kind kind q ≡ true → IsNormal (Range low high) → IsNormal q
     → matches_value (range_met low high q) v ≡ ((is_from low v && is_to high v) && matches_value q v)
-range_both kind low high Wild v k l n o = sym (and_right (is_from low v && is_to high v))
-range_both kind low high Empty v k l n o = sym (and_false (is_from low v && is_to high v))
-range_both kind low high (Constant c) v k l n o = constant_met (Range low high) c v ∙ and_turn (value_eq c v) (is_from low v && is_to high v)
+range_both kind low high Wild v k l n o = sym (and-true (is_from low v && is_to high v))
+range_both kind low high Empty v k l n o = sym (and-false (is_from low v && is_to high v))
+range_both kind low high (Constant c) v k l n o = constant_met (Range low high) c v ∙ and_comm (value_eq c v) (is_from low v && is_to high v)
 range_both kind low high (Range from to) v k l n o = ranges_met kind low high from to v k l n o
 range_both kind low high (Members ms) v k l n o = list_met (Range low high) ms v
 
@@ -222,7 +220,7 @@ met_both kind Wild q v k l n o = refl
 met_both kind Empty q v k l n o = refl
 met_both kind (Constant c) q v k l n o = constant_met q c v
 met_both kind (Range low high) q v k l n o = range_both kind low high q v k l n o
-met_both kind (Members ms) q v k l n o = list_met q ms v ∙ and_turn (matches_value q v) (has_value ms v)
+met_both kind (Members ms) q v k l n o = list_met q ms v ∙ and_comm (matches_value q v) (has_value ms v)
 
 pub meet_both : (kind : Kind) (p q : Pattern) → is_of_kind kind p ≡ true → is_of_kind kind q ≡ true → IsNormal p → IsNormal q
     → IsNormal (meet_of p q) × ((v : Value) → matches_value (meet_of p q) v ≡ (matches_value p v && matches_value q v))

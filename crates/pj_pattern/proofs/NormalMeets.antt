@@ -1,8 +1,8 @@
 -- The meets of patterns in normal form.
 use Rattle.std.proofs.Common.{◌≡◌, Bool, true, false, ◌||◌, cond, List, [], ◌∷◌, Option, Some, None, refl, ap, subst, ◌∙◌}
-use Rattle.std.specs.declared.cmp.Ordering.TheVariants.{Less}
 use Rattle.std.specs.Ordering.{is_gt}
-use Rattle.std.proofs.lemmas.Bool.{and_parts}
+use Rattle.std.proofs.lemmas.Bool.{and_from, and_parts}
+use Rattle.std.proofs.Math.Bool.{or-true}
 use Rattle.pj_value.specs.declared.values.Kind.{Kind}
 use Rattle.pj_value.specs.declared.values.Kind.TheVariants.{Int as IntKind, Text as TextKind}
 use Rattle.pj_value.specs.declared.values.Value.{Value}
@@ -11,9 +11,8 @@ use Rattle.pj_pattern.specs.declared.pattern.Form.TheVariants.{Wild, Empty, Cons
 use Rattle.pj_pattern.specs.Patterns.{Pattern, matches_value, is_end_of_kind, is_of_kind, is_of_one_kind}
 use Rattle.pj_pattern.specs.Normal.{of_members, sorted_set, range_of, IsNormal}
 use Rattle.pj_pattern.specs.Meets.{constant_if, earlier_high, later_low, matched, meet_of, range_met}
-use Rattle.pj_pattern.proofs.Orders.{and_true, less_less, or_true}
-use Rattle.pj_pattern.proofs.Sets.{IsBelow, IsRising, members_normal, rising_set}
-use Rattle.pj_pattern.proofs.Ends.{range_normal}
+use Rattle.pj_pattern.proofs.Rising.{IsBelow, IsRising, members_normal, rising_set, below_next}
+use Rattle.pj_pattern.proofs.NormalRanges.{range_normal}
 
 -- a list in normal form stands in order
 pub rising_if_normal : (ms : List Value) → IsNormal (Members ms) → IsRising ms
@@ -24,13 +23,9 @@ rising_if_normal ms n = go (sorted_set ms) (rising_set ms) n
     go (v ∷ []) r e = absurd (cc)
     go (v ∷ w ∷ vs) r e = let same : v ∷ w ∷ vs ≡ ms = cc in subst IsRising same r
 
-below_later : (v w : Value) (ws : List Value) → value_cmp v w ≡ Less → IsBelow w ws → IsBelow v ws
-below_later v w [] p q = tt
-below_later v w (x ∷ xs) p q = less_less v w x p q
-
 below_matched : (p : Pattern) (v : Value) (ws : List Value) → IsBelow v ws → IsRising ws → IsBelow v (matched p ws)
 below_matched p v [] b r = tt
-below_matched p v (w ∷ ws) b r = go (matches_value p w) (below_matched p v ws (below_later v w ws b r.0) r.1)
+below_matched p v (w ∷ ws) b r = go (matches_value p w) (below_matched p v ws (below_next v w ws b r.0) r.1)
   where
     go : (t : Bool) → IsBelow v (matched p ws) → IsBelow v (cond t (w ∷ matched p ws) (matched p ws))
     go true ih = b
@@ -53,7 +48,7 @@ constant_normal false c = refl
 
 pub one_of_kind : (kind : Kind) (p : Pattern) → is_of_kind kind p ≡ true → is_of_one_kind p ≡ true
 one_of_kind IntKind p k = ap (λ b. b || is_of_kind TextKind p) k
-one_of_kind TextKind p k = ap (λ b. is_of_kind IntKind p || b) k ∙ or_true (is_of_kind IntKind p)
+one_of_kind TextKind p k = ap (λ b. is_of_kind IntKind p || b) k ∙ or-true (is_of_kind IntKind p)
 
 later_of_kind : (kind : Kind) (low other : Option Value) → is_end_of_kind kind low ≡ true → is_end_of_kind kind other ≡ true → is_end_of_kind kind (later_low low other) ≡ true
 later_of_kind kind None other k l = l
@@ -78,7 +73,7 @@ ranges_normal kind low high from to k l =
     let one = and_parts (is_end_of_kind kind low) (is_end_of_kind kind high) k in
     let two = and_parts (is_end_of_kind kind from) (is_end_of_kind kind to) l in
     range_normal (later_low low from) (earlier_high high to) (one_of_kind kind (Range (later_low low from) (earlier_high high to))
-    (and_true (is_end_of_kind kind (later_low low from)) (is_end_of_kind kind (earlier_high high to)) (later_of_kind kind low from one.0 two.0) (earlier_of_kind kind high to one.1 two.1)))
+    (and_from (is_end_of_kind kind (later_low low from)) (is_end_of_kind kind (earlier_high high to)) (later_of_kind kind low from one.0 two.0) (earlier_of_kind kind high to one.1 two.1)))
 
 range_met_normal : (kind : Kind) (low high : Option Value) (q : Pattern) → is_of_kind kind (Range low high) ≡ true → is_of_kind kind q ≡ true → IsNormal (Range low high) → IsNormal q → IsNormal (range_met low high q)
 range_met_normal kind low high Wild k l n o = n

@@ -7,13 +7,13 @@ use Rattle.std.proofs.lemmas.List.Kept.{IsStrictlySortedBy-dedup}
 use Rattle.std.proofs.lemmas.List.Sorted.{list_any-IsPermutation}
 use Rattle.std.specs.declared.cmp.Ordering.{Ordering}
 use Rattle.std.specs.declared.cmp.Ordering.TheVariants.{Less, Equal, Greater}
+use Rattle.std.proofs.Math.Bool.{or-true, or_self_left}
 use Rattle.pj_value.specs.declared.values.Value.{Value}
 use Rattle.pj_value.specs.Values.{value_cmp, value_eq}
+use Rattle.pj_value.proofs.Orders.{differ_if_greater, eq_is, equal_itself, greater_if_less, less_if_greater, less_less, same_if_equal, same_if_tied, total}
 use Rattle.pj_pattern.specs.declared.pattern.Form.TheVariants.{Members}
 use Rattle.pj_pattern.specs.Patterns.{has_value}
 use Rattle.pj_pattern.specs.Normal.{insert_by, insert, sorted_set, of_members, normal_of, IsNormal}
-use Rattle.pj_value.proofs.Orders.{total}
-use Rattle.pj_pattern.proofs.Orders.{differ_if_greater, eq_is, equal_itself, greater_if_less, less_if_greater, less_less, or_true, same_if_equal, same_if_tied}
 
 -- the value is below the first of these
 abbrev pub IsBelow : Value → List Value → Type 0
@@ -66,12 +66,8 @@ set_normal vs = members_normal (sorted_set vs) (rising_set vs)
 
 -- ---- members
 
-or_again : (b c : Bool) → (b || (b || c)) ≡ (b || c)
-or_again true c = refl
-or_again false c = refl
-
 or_turn : (b c d : Bool) → (b || (c || d)) ≡ (c || (b || d))
-or_turn true c d = sym (or_true c)
+or_turn true c d = sym (or-true c)
 or_turn false c d = refl
 
 insert_has : (v : Value) (ws : List Value) (u : Value) → has_value (insert v ws) u ≡ (value_eq v u || has_value ws u)
@@ -80,7 +76,7 @@ insert_has v (w ∷ ws) u = go (value_cmp v w) refl (insert_has v ws u)
   where
     go : (o : Ordering) → value_cmp v w ≡ o → has_value (insert v ws) u ≡ (value_eq v u || has_value ws u) → has_value (insert_by o v w ws (insert v ws)) u ≡ (value_eq v u || (value_eq w u || has_value ws u))
     go Less e ih = refl
-    go Equal e ih = sym (ap (λ (x : Value). value_eq x u || (value_eq w u || has_value ws u)) (same_if_tied v w e) ∙ or_again (value_eq w u) (has_value ws u))
+    go Equal e ih = sym (ap (λ (x : Value). value_eq x u || (value_eq w u || has_value ws u)) (same_if_tied v w e) ∙ or_self_left (value_eq w u) (has_value ws u))
     go Greater e ih = ap (λ b. value_eq w u || b) ih ∙ or_turn (value_eq w u) (value_eq v u) (has_value ws u)
 
 -- the set has the members of the list
@@ -88,14 +84,14 @@ pub set_has : (vs : List Value) (u : Value) → has_value (sorted_set vs) u ≡ 
 set_has [] u = refl
 set_has (v ∷ vs) u = insert_has v (sorted_set vs) u ∙ ap (λ b. value_eq v u || b) (set_has vs u)
 
+pub below_next : (u v : Value) (vs : List Value) → value_cmp u v ≡ Less → IsBelow v vs → IsBelow u vs
+below_next u v [] p q = tt
+below_next u v (w ∷ ws) p q = less_less u v w p q
+
 -- below the first is no member
 below_has : (u : Value) (vs : List Value) → IsBelow u vs → IsRising vs → has_value vs u ≡ false
 below_has u [] b r = refl
 below_has u (v ∷ vs) b r = rw (differ_if_greater v u (greater_if_less u v b)) (below_has u vs (below_next u v vs b r.0) r.1)
-  where
-    below_next : (u v : Value) (vs : List Value) → value_cmp u v ≡ Less → IsBelow v vs → IsBelow u vs
-    below_next u v [] p q = tt
-    below_next u v (w ∷ ws) p q = less_less u v w p q
 
 first_has : (v : Value) (vs : List Value) → has_value (v ∷ vs) v ≡ true
 first_has v vs = ap (λ b. b || has_value vs v) (equal_itself v)
@@ -134,7 +130,7 @@ dedup_from_has k (v ∷ vs) u = go (value_eq v k) refl (dedup_from_has k vs u) (
   where
     go : (b : Bool) → value_eq v k ≡ b → has_value (dedup_from value_eq k vs) u ≡ (value_eq k u || has_value vs u) → has_value (dedup_from value_eq v vs) u ≡ (value_eq v u || has_value vs u)
         → has_value (cond b (dedup_from value_eq k vs) (k ∷ dedup_from value_eq v vs)) u ≡ (value_eq k u || (value_eq v u || has_value vs u))
-    go true e here next = here ∙ sym (ap (λ (x : Value). value_eq k u || (value_eq x u || has_value vs u)) (same_if_equal v k e) ∙ or_again (value_eq k u) (has_value vs u))
+    go true e here next = here ∙ sym (ap (λ (x : Value). value_eq k u || (value_eq x u || has_value vs u)) (same_if_equal v k e) ∙ or_self_left (value_eq k u) (has_value vs u))
     go false e here next = ap (λ b. value_eq k u || b) next
 
 dedup_has : (vs : List Value) (u : Value) → has_value (dedup value_eq vs) u ≡ has_value vs u

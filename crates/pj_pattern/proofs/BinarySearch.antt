@@ -7,19 +7,20 @@ use Rattle.std.specs.declared.result.Result.TheVariants.{Ok, Err}
 use Rattle.std.specs.Result.{is_ok}
 use Rattle.std.specs.Ordering.{is_eq, ordering_index}
 use Rattle.std.specs.List.Sorted.{IsBinarySearchResult, IsSearchInRange}
+use Rattle.std.proofs.Math.Bool.{or-true}
 use Rattle.pj_value.specs.declared.values.Value.{Value}
 use Rattle.pj_value.specs.Values.{value_cmp, value_eq}
+use Rattle.pj_value.proofs.Orders.{eq_is, greater_if_less, less_if_greater, less_less, same_if_tied}
 use Rattle.pj_pattern.specs.declared.pattern.Form.TheVariants.{Members}
 use Rattle.pj_pattern.specs.Patterns.{has_value}
 use Rattle.pj_pattern.specs.Normal.{IsNormal}
-use Rattle.pj_pattern.proofs.Orders.{eq_is, greater_if_less, less_if_greater, less_less, or_true, same_if_tied}
-use Rattle.pj_pattern.proofs.Sets.{IsBelow, IsRising}
-use Rattle.pj_pattern.proofs.Meeting.{rising_if_normal}
+use Rattle.pj_pattern.proofs.Rising.{IsBelow, IsRising}
+use Rattle.pj_pattern.proofs.NormalMeets.{rising_if_normal}
 
 has_at : (ms : List Value) (i : ℕ) (v d : Value) → i < length ms → value_cmp (get_or ms i d) v ≡ Equal → has_value ms v ≡ true
 has_at [] i v d l e = absurd (omega (arith, l))
 has_at (m ∷ ms) zero v d l e = ap (λ b. b || has_value ms v) (eq_is m v ∙ ap is_eq e)
-has_at (m ∷ ms) (suc i) v d l e = ap (λ b. value_eq m v || b) (has_at ms i v d (omega (arith, l)) e) ∙ or_true (value_eq m v)
+has_at (m ∷ ms) (suc i) v d l e = ap (λ b. value_eq m v || b) (has_at ms i v d (omega (arith, l)) e) ∙ or-true (value_eq m v)
 
 has_none : (ms : List Value) (v : Value) → ((k : ℕ) (d : Value) → k < length ms → is_eq (value_cmp (get_or ms k d) v) ≡ false) → has_value ms v ≡ false
 has_none [] v h = refl

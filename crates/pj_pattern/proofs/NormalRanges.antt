@@ -6,11 +6,11 @@ use Rattle.pj_value.specs.declared.values.Kind.{Kind}
 use Rattle.pj_value.specs.declared.values.Kind.TheVariants.{Int as IntKind, Text as TextKind}
 use Rattle.pj_value.specs.declared.values.Value.{Value}
 use Rattle.pj_value.specs.declared.values.Value.TheVariants.{Int, Text}
-use Rattle.pj_value.specs.Values.{value_cmp, value_eq}
+use Rattle.pj_value.specs.Values.{is_kind, value_cmp, value_eq}
+use Rattle.pj_value.proofs.Orders.{same_if_equal}
 use Rattle.pj_pattern.specs.declared.pattern.Form.TheVariants.{Range}
-use Rattle.pj_pattern.specs.Patterns.{is_kind, same_kind, is_of_one_kind}
+use Rattle.pj_pattern.specs.Patterns.{same_kind, is_of_one_kind}
 use Rattle.pj_pattern.specs.Normal.{least_of, greatest_of, least_int, greatest_int, low_end, high_end, unless_greatest, of_ends, by_order, between, from_low, range_of, IsNormal}
-use Rattle.pj_pattern.proofs.Orders.{same_if_equal}
 
 low_least : (v : Value) → value_eq v (least_of v) ≡ true → low_end v ≡ None
 low_least v e = ap (λ b. cond b None (Some v)) e
