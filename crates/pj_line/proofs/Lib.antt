@@ -1,6 +1,7 @@
 pub mod CutCells
 pub mod CutPieces
 pub mod Cuts
+pub mod FedPieces
 pub mod Feeds
 pub mod Fronts
 pub mod Opens

@@ -5,7 +5,7 @@ use Rattle.pj_line.specs.Lines.{pieces, onto}
 use Rattle.pj_line.specs.Buffers.IsPiece.{fed_piece, last_piece}
 use Rattle.pj_line.specs.PieceLaws.{FedPieceIsFirst, LastPieceIsAll, CutPieceIsFirst}
 
-pieces_at_other : (b : ℕ) (bs : List ℕ) → (b ≡ 10 → ⊥) → pieces (b ∷ bs) ≡ onto b (pieces bs)
+pub pieces_at_other : (b : ℕ) (bs : List ℕ) → (b ≡ 10 → ⊥) → pieces (b ∷ bs) ≡ onto b (pieces bs)
 pieces_at_other b bs is_not = grind (arith, nat_tests)
 
 pub fed_piece_is_first : FedPieceIsFirst

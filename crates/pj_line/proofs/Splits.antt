@@ -8,9 +8,6 @@ use Rattle.pj_line.proofs.Fronts.{folded}
 pub pieces_at_feed : (b : ℕ) (bs : List ℕ) → b ≡ 10 → pieces (b ∷ bs) ≡ [] ∷ pieces bs
 pieces_at_feed b bs is = grind (arith, nat_tests)
 
-pub pieces_at_other : (b : ℕ) (bs : List ℕ) → (b ≡ 10 → ⊥) → pieces (b ∷ bs) ≡ onto b (pieces bs)
-pieces_at_other b bs is_not = grind (arith, nat_tests)
-
 pub folded_onto_first : (front : List ℕ) (ps : List (List ℕ)) → folded onto front ([] ∷ ps) ≡ front ∷ ps
 folded_onto_first [] ps = refl
 folded_onto_first (x ∷ xs) ps = ap (onto x) (folded_onto_first xs ps)

@@ -1,7 +1,8 @@
 -- What a buffer of lines keeps, and what one call on it gives.
 use Rattle.std.specs.Prelude.{◌≡◌, ℕ, ◌+◌, ◌≤◌, ◌<◌, Bool, true, false, List, [], ◌∷◌, ◌++◌, length, Option, Some, None, Result, Ok, Err, IsTrue}
 use Rattle.pj_io.specs.Causes.{Rose}
-use Rattle.pj_io.specs.Pieces.{Takes}
+use Rattle.pj_io.specs.Pieces.{Consumes}
+use Rattle.pj_io.specs.States.{SourceState}
 use Rattle.pj_line.specs.declared.buffer.Line.{Line}
 use Rattle.pj_line.specs.declared.buffer.Line.TheVariants.{Whole, TooLong, End}
 use Rattle.pj_line.specs.declared.buffer.LineStop.{LineStop}
@@ -53,9 +54,13 @@ abbrev pub GoesOn : Option LineStop → Buffered → List ℕ → Buffered → R
 GoesOn None old taken new result faults_before faults_now = Advances old taken new result faults_before faults_now
 GoesOn (Some stop) old taken new result faults_before faults_now = (result ≡ Err stop) × (taken ≡ []) × (new ≡ old)
 
+-- once a read for this buffer has told that the source has ended, nothing is left of it, where it tells
+abbrev pub KnowsEnd : Buffered → SourceState → Type 0
+KnowsEnd buffer source = buffer.ended ≡ true → IsTrue source.told → source.left ≡ []
+
 -- what a call did: of the source's bytes left, where it tells them, the next ones were taken, and none is left at the end
-pub record Called (old new : Buffered) (result : Result Line LineStop) (told : Bool) (left_before left_now taken_before taken_now : List ℕ) (faults_before faults_now : ℕ) : Type 0 where
+pub record Called (old new : Buffered) (result : Result Line LineStop) (before now : SourceState) : Type 0 where
   pub bytes : List ℕ
-  pub goes_on : GoesOn old.stopped old bytes new result faults_before faults_now
-  pub takes : IsTrue told → Takes left_before left_now taken_before taken_now bytes
-  pub at_end : new.ended ≡ true → IsTrue told → left_now ≡ []
+  pub goes_on : GoesOn old.stopped old bytes new result before.faults now.faults
+  pub consumes : IsTrue before.told → Consumes before now bytes
+  pub at_end : KnowsEnd new now

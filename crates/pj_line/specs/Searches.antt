@@ -2,7 +2,8 @@
 use Rattle.std.specs.Prelude.{◌≡◌, ℕ, ◌+◌, ◌≤◌, ◌<◌, Bool, true, false, List, [], ◌∷◌, ◌++◌, length, slice_range, Result, Ok, Err, Option, Some, None, ⊤, IsTrue}
 use denote.Ref.{Bor}
 use Rattle.pj_io.specs.Causes.{Rose}
-use Rattle.pj_io.specs.Pieces.{Takes}
+use Rattle.pj_io.specs.Pieces.{Consumes}
+use Rattle.pj_io.specs.States.{SourceState}
 use Rattle.pj_line.specs.declared.buffer.Line.{Line}
 use Rattle.pj_line.specs.declared.buffer.Line.TheVariants.{Whole, TooLong, End}
 use Rattle.pj_line.specs.declared.buffer.LineStop.{LineStop}
@@ -11,7 +12,7 @@ use Rattle.pj_line.specs.declared.pieces.Found.{Found}
 use Rattle.pj_line.specs.declared.pieces.Found.TheVariants.{Piece, LongPiece, NoPiece}
 use Rattle.pj_line.specs.declared.pieces.PieceBuf.{PieceBuf}
 use Rattle.pj_line.specs.Lines.{line_of, HasNo}
-use Rattle.pj_line.specs.Buffers.{Buffered, IsPiece}
+use Rattle.pj_line.specs.Buffers.{Buffered, Called, IsPiece, KnowsEnd}
 use Rattle.pj_line.specs.Held.{held}
 
 -- what the fields of a buffer stand for
@@ -24,6 +25,11 @@ IsLent items (Ok (Piece start end)) line = (lent : Bor (List ℕ)) × (line ≡ 
 IsLent items (Ok LongPiece) line = line ≡ Ok TooLong
 IsLent items (Ok NoPiece) line = line ≡ Ok End
 IsLent items (Err stop) line = line ≡ Err stop
+
+-- a line that is lent for what was found is the one that a call gives
+abbrev pub FindsLine : PieceBuf → PieceBuf → Result Found LineStop → SourceState → SourceState → Type 0
+FindsLine old new result before now =
+    (line : Result Line LineStop) → IsLent new.window.bytes.items result line → Called (buffered old) (buffered new) line before now
 
 -- what was found stands in the buffer
 abbrev pub StandsIn : Found → List ℕ → Type 0
@@ -57,13 +63,13 @@ PassesOver size before too_long now true = (now ≡ []) × (too_long ≡ false �
 PassesOver size before too_long now false = (now ≡ before) × (too_long ≡ false) × (length before ≤ size)
 
 -- a read added bytes behind those that are held, none of them only at the end; or it did not come to it
-abbrev pub ReadsOn : Buffered → Buffered → Result Unit LineStop → Bool → List ℕ → List ℕ → List ℕ → List ℕ → ℕ → ℕ → Type 0
-ReadsOn old new (Ok done) told left_before left_now taken_before taken_now faults_before faults_now =
+abbrev pub ReadsOn : Buffered → Buffered → Result Unit LineStop → SourceState → SourceState → Type 0
+ReadsOn old new (Ok done) before now =
     (piece : List ℕ) × (new ≡ record old { count = old.count + length piece; held = old.held ++ piece; ended = new.ended })
     × (new.ended ≡ false → 0 < length piece)
-    × (IsTrue told → Takes left_before left_now taken_before taken_now piece)
-    × (new.ended ≡ true → IsTrue told → left_now ≡ [])
-ReadsOn old new (Err Fault) told left_before left_now taken_before taken_now faults_before faults_now =
-    (new ≡ record old { stopped = Some Fault }) × Rose faults_before faults_now × (IsTrue told → Takes left_before left_now taken_before taken_now [])
-ReadsOn old new (Err ByteLimit) told left_before left_now taken_before taken_now faults_before faults_now =
-    (new ≡ record old { stopped = Some ByteLimit }) × (old.count ≡ old.limit) × (IsTrue told → Takes left_before left_now taken_before taken_now [])
+    × (IsTrue before.told → Consumes before now piece)
+    × KnowsEnd new now
+ReadsOn old new (Err Fault) before now =
+    (new ≡ record old { stopped = Some Fault }) × Rose before.faults now.faults × (IsTrue before.told → Consumes before now [])
+ReadsOn old new (Err ByteLimit) before now =
+    (new ≡ record old { stopped = Some ByteLimit }) × (old.count ≡ old.limit) × (IsTrue before.told → Consumes before now [])

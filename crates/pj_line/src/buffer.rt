@@ -2,7 +2,7 @@
 ghost use Rattle.std.specs.Prelude.{◌≡◌, ◌≤◌, ◌^◌, [], true, IfOk, IsTrue};
 ghost use Rattle.std.specs.Borrow.{sem};
 ghost use Rattle.std.specs.Io.BufRead.{Rests};
-ghost use Rattle.pj_line.specs.Buffers.{fresh, Called};
+ghost use Rattle.pj_line.specs.Buffers.{fresh, Called, KnowsEnd};
 
 use crate::lines::line_of_piece;
 use crate::pieces::{Found, PieceBuf};
@@ -66,12 +66,12 @@ impl LineBuf {
     /// `ByteLimit` exactly where `limit` bytes were taken without the end having been read and no line feed is left in the
     /// buffer. After a stop every call gives the same stop and reads nothing.
     pub fn next_line<S: Source>(&mut self, source: &mut S) -> Result<Line<'_>, LineStop>
-        requires { self.old.ended ≡ true → IsTrue (S.tells source.old) → S.left source.old ≡ [] }
+        requires { KnowsEnd self.old (S.state source.old) }
         ensures* line { sem 𝓛 (Rests the_row self.entry (λ new.
-            Called self.old new result (S.tells source.old) (S.left source.old) (S.left source.new) (S.taken source.old) (S.taken source.new) (S.faults source.old) (S.faults source.new))) }
-        ensures tells { S.tells source.new ≡ S.tells source.old }
-        ensures name { S.name source.new ≡ S.name source.old }
-        ensures later { S.faults source.old ≤ S.faults source.new }
+            Called self.old new result (S.state source.old) (S.state source.new))) }
+        ensures told { (S.state source.new).told ≡ (S.state source.old).told }
+        ensures name { (S.state source.new).name ≡ (S.state source.old).name }
+        ensures later { (S.state source.old).faults ≤ (S.state source.new).faults }
     {
         match self.pieces.advance(source)? {
             Found::Piece { start, end } => {

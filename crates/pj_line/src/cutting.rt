@@ -2,7 +2,7 @@
 ghost use Rattle.std.specs.Prelude.{◌≡◌, ◌≤◌, ◌<◌, ◌+◌, ◌^◌, ◌&&◌, false, length, drop, slice_index, IfSome};
 ghost use Rattle.pj_line.specs.Lines.{is_blank as blank};
 ghost use Rattle.pj_line.specs.Cells.{AreCut, after as after_byte, cells_of, is_outside, open_quote as open_place};
-ghost use Rattle.pj_line.specs.Cutting.{IsCellLen, IsNext, IsFault};
+ghost use Rattle.pj_line.specs.Cutting.{IsCellLen, IsAhead, IsFault};
 
 use crate::cell::{Cell, CellFault, Cells};
 use crate::lines::is_blank;
@@ -21,10 +21,10 @@ pub fn cells(line: &[u8]) -> Result<Cells<'_>, CellFault>
     let mut items = ArrayVec::new();
     let mut from = 0;
     loop {
-        match next_cell(line, from) {
-            Next::NoCell => return Ok(Cells { items }),
-            Next::OpenCell => return Err(fault_of(line)),
-            Next::NextCell(cell) => {
+        match cell_ahead(line, from) {
+            CellAhead::NoCell => return Ok(Cells { items }),
+            CellAhead::OpenCell => return Err(fault_of(line)),
+            CellAhead::ClosedCell(cell) => {
                 if items.is_full() {
                     return Err(fault_of(line));
                 }
@@ -35,33 +35,33 @@ pub fn cells(line: &[u8]) -> Result<Cells<'_>, CellFault>
     }
 }
 
-// What comes next on a line.
+// The cell that comes next on a line.
 #[derive(Clone, Copy)]
-enum Next<'a> {
-    NextCell(Cell<'a>),
+enum CellAhead<'a> {
+    ClosedCell(Cell<'a>),
     // no cell is left
     NoCell,
     // a cell that is unclosed
     OpenCell,
 }
 
-// What comes next on the line from this place on.
-fn next_cell(line: &[u8], from: usize) -> Next<'_>
+// The cell that comes next on the line from this place on.
+fn cell_ahead(line: &[u8], from: usize) -> CellAhead<'_>
     requires line { length line.now < 2 ^ 32 }
     requires from { from ≤ length line.now }
-    ensures { IsNext line.now from result }
+    ensures { IsAhead line.now from result }
 {
     let (_, behind) = line.split_at(from);
     let start = from + count_blanks(behind);
     if start == line.len() {
-        return Next::NoCell;
+        return CellAhead::NoCell;
     }
     let (_, rest) = line.split_at(start);
     match cell_len(rest) {
-        None => Next::OpenCell,
+        None => CellAhead::OpenCell,
         Some(len) => {
             let (bytes, _) = rest.split_at(len);
-            Next::NextCell(Cell {
+            CellAhead::ClosedCell(Cell {
                 bytes,
                 start: start as u32,
             })

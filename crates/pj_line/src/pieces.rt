@@ -32,13 +32,11 @@ pub(crate) enum Found {
 }
 
 impl PieceBuf {
-    ghost use Rattle.std.specs.Prelude.{◌≡◌, ◌≤◌, ◌<◌, ◌+◌, ◌^◌, [], List, ℕ, false, true, Result, None, Some, IsTrue, IfOk, IfSome, length, take, drop};
+    ghost use Rattle.std.specs.Prelude.{◌≡◌, ◌≤◌, ◌<◌, ◌+◌, ◌^◌, [], false, None, IsTrue, IfOk, IfSome, length, take, drop};
     ghost use Rattle.pj_line.specs.Lines.{HasNo};
-    ghost use Rattle.pj_line.specs.Buffers.{fresh, Called};
-    ghost use Rattle.pj_line.specs.Searches.{buffered, Finds, IsLent, IsTaken, PassesOver, ReadsOn, StandsIn};
+    ghost use Rattle.pj_line.specs.Buffers.{fresh, KnowsEnd};
+    ghost use Rattle.pj_line.specs.Searches.{buffered, Finds, FindsLine, IsTaken, PassesOver, ReadsOn, StandsIn};
     ghost use Rattle.pj_line.specs.Held.{held};
-    ghost use Rattle.pj_line.specs.declared.buffer.Line.{Line};
-    ghost use Rattle.pj_line.specs.declared.buffer.LineStop.{LineStop};
 
     // A buffer that has taken nothing.
     pub(crate) fn new(alloc: Global, size: u32, limit: u64) -> Result<PieceBuf, NoMemory>
@@ -58,12 +56,12 @@ impl PieceBuf {
 
     // The next piece, or the stop that came before.
     pub(crate) fn advance<S: Source>(&mut self, source: &mut S) -> Result<Found, LineStop>
-        requires { self.old.ended ≡ true → IsTrue (S.tells source.old) → S.left source.old ≡ [] }
-        ensures called { (line : Result Line LineStop) → IsLent self.new.window.bytes.items result line → Called (buffered self.old) (buffered self.new) line (S.tells source.old) (S.left source.old) (S.left source.new) (S.taken source.old) (S.taken source.new) (S.faults source.old) (S.faults source.new) }
+        requires { KnowsEnd (buffered self.old) (S.state source.old) }
+        ensures called { FindsLine self.old self.new result (S.state source.old) (S.state source.new) }
         ensures places { IfOk result (λ found. StandsIn found self.new.window.bytes.items) }
-        ensures tells { S.tells source.new ≡ S.tells source.old }
-        ensures name { S.name source.new ≡ S.name source.old }
-        ensures later { S.faults source.old ≤ S.faults source.new }
+        ensures told { (S.state source.new).told ≡ (S.state source.old).told }
+        ensures name { (S.state source.new).name ≡ (S.state source.old).name }
+        ensures later { (S.state source.old).faults ≤ (S.state source.new).faults }
     {
         match self.stopped {
             Some(stop) => Err(stop),
@@ -74,12 +72,12 @@ impl PieceBuf {
     // The next piece of a buffer that has not stopped.
     fn search<S: Source>(&mut self, source: &mut S) -> Result<Found, LineStop>
         requires goes_on { self.old.stopped ≡ None }
-        requires ended { self.old.ended ≡ true → IsTrue (S.tells source.old) → S.left source.old ≡ [] }
-        ensures called { (line : Result Line LineStop) → IsLent self.new.window.bytes.items result line → Called (buffered self.old) (buffered self.new) line (S.tells source.old) (S.left source.old) (S.left source.new) (S.taken source.old) (S.taken source.new) (S.faults source.old) (S.faults source.new) }
+        requires ended { KnowsEnd (buffered self.old) (S.state source.old) }
+        ensures called { FindsLine self.old self.new result (S.state source.old) (S.state source.new) }
         ensures places { IfOk result (λ found. StandsIn found self.new.window.bytes.items) }
-        ensures tells { S.tells source.new ≡ S.tells source.old }
-        ensures name { S.name source.new ≡ S.name source.old }
-        ensures later { S.faults source.old ≤ S.faults source.new }
+        ensures told { (S.state source.new).told ≡ (S.state source.old).told }
+        ensures name { (S.state source.new).name ≡ (S.state source.old).name }
+        ensures later { (S.state source.old).faults ≤ (S.state source.new).faults }
     {
         let mut searched = 0;
         let mut too_long = false;
@@ -153,10 +151,10 @@ impl PieceBuf {
     fn read_on<S: Source>(&mut self, source: &mut S) -> Result<(), LineStop>
         requires room { length (held self.old.window) ≤ self.old.size }
         requires ended { self.old.ended ≡ false }
-        ensures reads { ReadsOn (buffered self.old) (buffered self.new) result (S.tells source.old) (S.left source.old) (S.left source.new) (S.taken source.old) (S.taken source.new) (S.faults source.old) (S.faults source.new) }
-        ensures tells { S.tells source.new ≡ S.tells source.old }
-        ensures name { S.name source.new ≡ S.name source.old }
-        ensures later { S.faults source.old ≤ S.faults source.new }
+        ensures reads { ReadsOn (buffered self.old) (buffered self.new) result (S.state source.old) (S.state source.new) }
+        ensures told { (S.state source.new).told ≡ (S.state source.old).told }
+        ensures name { (S.state source.new).name ≡ (S.state source.old).name }
+        ensures later { (S.state source.old).faults ≤ (S.state source.new).faults }
     {
         if self.count == self.limit {
             self.stopped = Some(LineStop::ByteLimit);

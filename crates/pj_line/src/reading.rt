@@ -1,7 +1,7 @@
 // Reading into a part of a buffer.
 ghost use Rattle.std.specs.Prelude.{◌≡◌, ◌+◌, ◌<◌, ◌≤◌, [], IsTrue, IfOk, OnErr, length, take, drop};
 ghost use Rattle.pj_io.specs.Causes.{HasCause};
-ghost use Rattle.pj_io.specs.Pieces.{Takes, Reads};
+ghost use Rattle.pj_io.specs.Pieces.{Consumes, Reads};
 
 use pj_io::{Failed, Source};
 
@@ -17,13 +17,13 @@ pub(crate) fn read_behind<S: Source>(
     ensures len { length bytes.new ≡ length bytes.old }
     ensures front { take end bytes.new ≡ take end bytes.old }
     ensures bound { IfOk result (λ n. (n ≤ most) × (end + n ≤ length bytes.new)) }
-    ensures some { IsTrue (S.tells source.old) → IfOk result (λ n.
-        Takes (S.left source.old) (S.left source.new) (S.taken source.old) (S.taken source.new) (take n (drop end bytes.new))
-        × (n ≡ 0 → S.left source.new ≡ [])) }
-    ensures kept { IsTrue (S.tells source.old) → OnErr result (Takes (S.left source.old) (S.left source.new) (S.taken source.old) (S.taken source.new) []) }
-    ensures tells { S.tells source.new ≡ S.tells source.old }
-    ensures name { S.name source.new ≡ S.name source.old }
-    ensures cause { HasCause (S.faults source.old) (S.faults source.new) result }
+    ensures some { IsTrue (S.state source.old).told → IfOk result (λ n.
+        Consumes (S.state source.old) (S.state source.new) (take n (drop end bytes.new))
+        × (n ≡ 0 → (S.state source.new).left ≡ [])) }
+    ensures kept { IsTrue (S.state source.old).told → OnErr result (Consumes (S.state source.old) (S.state source.new) []) }
+    ensures told { (S.state source.new).told ≡ (S.state source.old).told }
+    ensures name { (S.state source.new).name ≡ (S.state source.old).name }
+    ensures cause { HasCause (S.state source.old).faults (S.state source.new).faults result }
 {
     let room = ((bytes.len() - end) as u64).min(most) as usize;
     let (_, free) = bytes.split_at_mut(end);

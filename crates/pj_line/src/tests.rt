@@ -1,81 +1,84 @@
 // What no clause says: that the calls succeed with ample memory, and that the definitions mean the format.
-ghost use Rattle.std.specs.Prelude.{◌≡◌, ◌≤◌, ◌<◌, ◌^◌, [], ◌∷◌, None, Some, true, IsTrue, codes};
+ghost use Rattle.std.specs.Prelude.{◌≡◌, ◌≤◌, ◌^◌, [], ◌∷◌, None, Some, true, codes};
+ghost use Rattle.pj_line.specs.Buffers.{KnowsEnd};
 ghost use Rattle.pj_line.specs.Lines.{lines_of, is_skipped as skipped};
 ghost use Rattle.pj_line.specs.Cells.{cells_of, open_quote};
 
 use super::*;
 use pj_io::{MemSource, Source};
-use pj_value::{Bytes, List, NoMemory};
+use pj_value::NoMemory;
 use std::alloc::Global;
-use std::test::Fail;
 
-// Notes what the next call gives.
-fn note_next<S: Source>(
-    buffer: &mut LineBuf,
-    source: &mut S,
-    out: &mut Bytes,
-) -> Result<(), NoMemory>
-    requires { buffer.old.ended ≡ true → IsTrue (S.tells source.old) → S.left source.old ≡ [] }
-    ensures { buffer.new.ended ≡ true → IsTrue (S.tells source.new) → S.left source.new ≡ [] }
+// Whether the next call gives this line, or the stop of this name.
+fn next_is<S: Source>(buffer: &mut LineBuf, source: &mut S, want: &[u8]) -> bool
+    requires { KnowsEnd buffer.old (S.state source.old) }
+    ensures { KnowsEnd buffer.new (S.state source.new) }
 {
     match buffer.next_line(source) {
-        Ok(Line::Whole(line)) => out.append(line)?,
-        Ok(Line::TooLong) => out.append(b"long")?,
-        Ok(Line::End) => out.append(b"end")?,
-        Err(LineStop::Fault) => out.append(b"fault")?,
-        Err(LineStop::ByteLimit) => out.append(b"limit")?,
+        Ok(Line::Whole(line)) => line == want,
+        Ok(Line::TooLong) => want == b"TooLong".as_slice(),
+        Ok(Line::End) => want == b"End".as_slice(),
+        Err(LineStop::Fault) => want == b"Fault".as_slice(),
+        Err(LineStop::ByteLimit) => want == b"ByteLimit".as_slice(),
     }
-    out.push(b'|')?;
-    Ok(())
 }
 
-// What that many calls give.
-fn notes(
+// Whether calls give these lines and stops of the bytes, three at a time; the read of this number fails.
+fn are_given(
     alloc: Global,
     bytes: &[u8],
-    cut: usize,
-    fails: &[u64],
     size: u32,
     limit: u64,
-    calls: u32,
-) -> Result<Bytes, NoMemory>
-    requires cut { 0 < cut }
+    fail: u64,
+    want: &[&[u8]],
+) -> Result<bool, NoMemory>
     requires size { size ≤ 2 ^ 20 }
     requires limit { 1 ≤ limit }
 {
     let mut buffer = LineBuf::new(alloc, size, limit)?;
-    let mut source = MemSource::new(alloc, bytes, cut, fails)?;
-    let mut out = List::new(alloc);
-    for _ in 0..calls {
-        note_next(&mut buffer, &mut source, &mut out)?;
+    let mut source = MemSource::new(alloc, bytes, 3, &[fail])?;
+    for line in want {
+        if !next_is(&mut buffer, &mut source, line) {
+            return Ok(false);
+        }
     }
-    Ok(out)
+    Ok(true)
 }
 
 #[test]
-fn lines_for_every_cut(rt: HostRuntime) -> Result<(), Fail> {
-    for cut in [1, 3, 4096] {
-        let out = notes(rt.alloc(), b"ab\r\n\nc\rd", cut, &[], 100, 100, 5)?;
-        assert!(rt; out.as_slice() == b"ab||c\rd|end|end|".as_slice());
-    }
-    Ok(())
+fn lines_are_given(rt: HostRuntime) {
+    let lines: [&[u8]; 5] = [b"ab", b"", b"c\rd", b"End", b"End"];
+    assert!(rt;
+        matches!(
+            are_given(rt.alloc(), b"ab\r\n\nc\rd", 3, 9, 9, &lines),
+            Ok(true)
+        )
+    );
+    let long: [&[u8]; 4] = [b"TooLong", b"ef", b"TooLong", b"End"];
+    assert!(rt;
+        matches!(
+            are_given(rt.alloc(), b"abcd\nef\r\n123\r", 3, 99, 9, &long),
+            Ok(true)
+        )
+    );
 }
 
 #[test]
-fn long_lines_are_passed_over(rt: HostRuntime) -> Result<(), Fail> {
-    let out = notes(rt.alloc(), b"abcd\nef\r\n123\r", 2, &[], 3, 100, 4)?;
-    assert!(rt; out.as_slice() == b"long|ef|long|end|".as_slice());
-    Ok(())
-}
-
-#[test]
-fn stops_stay(rt: HostRuntime) -> Result<(), Fail> {
-    let alloc = rt.alloc();
-    let limited = notes(alloc, b"ab\ncd", 9, &[], 9, 4, 3)?;
-    assert!(rt; limited.as_slice() == b"ab|limit|limit|".as_slice());
-    let broken = notes(alloc, b"ab\ncd\n", 3, &[1], 9, 99, 3)?;
-    assert!(rt; broken.as_slice() == b"ab|fault|fault|".as_slice());
-    Ok(())
+fn stops_stay(rt: HostRuntime) {
+    let limited: [&[u8]; 3] = [b"ab", b"ByteLimit", b"ByteLimit"];
+    assert!(rt;
+        matches!(
+            are_given(rt.alloc(), b"ab\ncd", 9, 4, 9, &limited),
+            Ok(true)
+        )
+    );
+    let broken: [&[u8]; 3] = [b"ab", b"Fault", b"Fault"];
+    assert!(rt;
+        matches!(
+            are_given(rt.alloc(), b"ab\ncd\n", 9, 99, 1, &broken),
+            Ok(true)
+        )
+    );
 }
 
 #[test]
@@ -107,6 +110,6 @@ fn worked_lines()
     ensures lines { lines_of (codes "a\n\nb") ≡ codes "a" ∷ [] ∷ codes "b" ∷ [] }
     ensures cells { cells_of (codes " t 1") ≡ Some (codes "t" ∷ codes "1" ∷ []) }
     ensures closed { open_quote (codes "t 1") ≡ None }
-    ensures open { open_quote (116 ∷ 32 ∷ 34 ∷ 32 ∷ []) ≡ Some 2 }
+    ensures open { open_quote (codes "t \" ") ≡ Some 2 }
     ensures comment { skipped (codes " #") ≡ true }
 {}

@@ -18,7 +18,7 @@ pub(crate) struct Window {
 impl Window {
     ghost use Rattle.std.specs.Prelude.{◌≡◌, ◌≢◌, ◌+◌, ◌-◌, ◌<◌, ◌≤◌, List, ℕ, IsTrue, IfOk, OnErr, [], ◌++◌, length, take, drop, slice_range, vec_len};
     ghost use Rattle.pj_io.specs.Causes.{HasCause};
-    ghost use Rattle.pj_io.specs.Pieces.{Takes};
+    ghost use Rattle.pj_io.specs.Pieces.{Consumes};
     ghost use Rattle.pj_line.specs.Lines.{HasNo};
     ghost use Rattle.pj_line.specs.Held.{held, IsFeedAt};
 
@@ -115,13 +115,13 @@ impl Window {
         requires room { length (held self.old) < vec_len self.old.bytes }
         ensures len { vec_len self.new.bytes ≡ vec_len self.old.bytes }
         ensures some { IfOk result (λ n. (piece : List ℕ) × (length piece ≡ n) × (n ≤ most) × (held self.new ≡ held self.old ++ piece)
-            × (IsTrue (S.tells source.old) → Takes (S.left source.old) (S.left source.new) (S.taken source.old) (S.taken source.new) piece
-            × (n ≡ 0 → S.left source.new ≡ []))) }
+            × (IsTrue (S.state source.old).told → Consumes (S.state source.old) (S.state source.new) piece
+            × (n ≡ 0 → (S.state source.new).left ≡ []))) }
         ensures none { OnErr result (held self.new ≡ held self.old) }
-        ensures kept { IsTrue (S.tells source.old) → OnErr result (Takes (S.left source.old) (S.left source.new) (S.taken source.old) (S.taken source.new) []) }
-        ensures tells { S.tells source.new ≡ S.tells source.old }
-        ensures name { S.name source.new ≡ S.name source.old }
-        ensures cause { HasCause (S.faults source.old) (S.faults source.new) result }
+        ensures kept { IsTrue (S.state source.old).told → OnErr result (Consumes (S.state source.old) (S.state source.new) []) }
+        ensures told { (S.state source.new).told ≡ (S.state source.old).told }
+        ensures name { (S.state source.new).name ≡ (S.state source.old).name }
+        ensures cause { HasCause (S.state source.old).faults (S.state source.new).faults result }
     {
         self.make_room();
         let count = read_behind(source, self.bytes.as_mut_slice(), self.end, most)?;

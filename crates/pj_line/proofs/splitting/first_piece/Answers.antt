@@ -1,8 +1,9 @@
 use Rattle.std.proofs.Common.{◌∷◌, List, ℕ, ◌+◌, take, drop, ap, sym, ◌∙◌}
 use Rattle.pj_line.specs.Lines.{pieces, onto}
 use Rattle.pj_line.proofs.Fronts.{folded_turn, folded_stop, folded_end}
-use Rattle.pj_line.proofs.Splits.{pieces_at_feed, pieces_at_other, folded_onto_first, folded_onto_none, tail_is}
+use Rattle.pj_line.proofs.Splits.{pieces_at_feed, folded_onto_first, folded_onto_none, tail_is}
 use Rattle.pj_line.proofs.splitting.first_piece.Goals as goal
+use Rattle.pj_line.proofs.PieceLaws.{pieces_at_other}
 
 pub returns-then-byte-eq10-clause-piece : goal.returns-then-byte-eq10-clause-piece
 returns-then-byte-eq10-clause-piece c =

@@ -5,10 +5,9 @@ use Rattle.pj_line.proofs.pieces.PieceBuf.search.Given as goal
 
 abbrev pub invariant-loop-found : goal.invariant-loop-found
 invariant-loop-found g l = record {
-  searching : Searching (buffered l.fn.self) (buffered l.self) (g.S.Source.tells l.fn.source) (g.S.Source.left l.fn.source) (g.S.Source.left l.source) (g.S.Source.taken l.fn.source) (g.S.Source.taken l.source) l.searched l.too_long;
-  tells : g.S.Source.tells l.source ≡ g.S.Source.tells l.fn.source;
-  name : g.S.Source.name l.source ≡ g.S.Source.name l.fn.source;
-  later : g.S.Source.faults l.fn.source ≤ g.S.Source.faults l.source;
+  searching : Searching (buffered l.fn.self) (buffered l.self) (g.S.Source.state l.fn.source) (g.S.Source.state l.source) l.searched l.too_long;
+  name : (g.S.Source.state l.source).name ≡ (g.S.Source.state l.fn.source).name;
+  later : (g.S.Source.state l.fn.source).faults ≤ (g.S.Source.state l.source).faults;
 }
 
 abbrev pub decreases-loop-found : goal.decreases-loop-found

@@ -2,7 +2,7 @@ use Rattle.std.proofs.Common.{◌≡◌, ◌<◌, ◌+◌, false, get_or, drop, 
 use Rattle.std.proofs.lemmas.Grind.{common_steps}
 use Rattle.pj_line.specs.Lines.{is_blank}
 use Rattle.pj_line.proofs.CutCells.{begins_at, next_cut, place_is}
-use Rattle.pj_line.proofs.cutting.next_cell.Goals as goal
+use Rattle.pj_line.proofs.cutting.cell_ahead.Goals as goal
 
 pub returns-in-Some : goal.returns-in-Some
 returns-in-Some c =
