@@ -1,5 +1,6 @@
 -- What is printed is read again.
 use Rattle.std.proofs.Common.{◌≡◌, ℕ, ◌/◌, ◌%◌, ◌<◌, Bool, true, false, cond, ◌||◌, eqb, ltb, List, [], ◌∷◌, ◌++◌, Some, refl, ap, sym, ◌∙◌, append_assoc, arith}
+use Rattle.std.proofs.lemmas.Bool.{eqb-true}
 use Rattle.std.proofs.lemmas.Bool.Decides.{nat_tests}
 use Rattle.std.specs.List.{flat_map, AllByRecursion}
 use Rattle.pj_value.specs.Options.{with_first}
@@ -25,18 +26,15 @@ by_test : (t : Bool) (x y : List ℕ) (P : List ℕ → Type 0) → (t ≡ true 
 by_test true x y P f g = f refl
 by_test false x y P f g = g refl
 
-number_is : (b n : ℕ) → eqb b n ≡ true → b ≡ n
-number_is b n e = grind (arith, nat_tests)
-
 -- a byte, behind which more comes
 pub byte_again : (b : ℕ) (rest : List ℕ) → b < 256 → text_from Plain (spelled_byte b ++ rest) ≡ with_first b (text_from Plain rest)
 byte_again b rest small =
     let P : List ℕ → Type 0 = λ xs. text_from Plain (xs ++ rest) ≡ with_first b (text_from Plain rest) in
-    by_test (eqb b 34) _ _ P (λ e. slash 34 b rest refl (ap Some (sym (number_is b 34 e)))) (λ no34.
-    by_test (eqb b 92) _ _ P (λ e. slash 92 b rest refl (ap Some (sym (number_is b 92 e)))) (λ no92.
-    by_test (eqb b 10) _ _ P (λ e. slash 110 b rest refl (ap Some (sym (number_is b 10 e)))) (λ no10.
-    by_test (eqb b 13) _ _ P (λ e. slash 114 b rest refl (ap Some (sym (number_is b 13 e)))) (λ no13.
-    by_test (eqb b 9) _ _ P (λ e. slash 116 b rest refl (ap Some (sym (number_is b 9 e)))) (λ no9.
+    by_test (eqb b 34) _ _ P (λ e. slash 34 b rest refl (ap Some (sym (eqb-true b 34 e)))) (λ no34.
+    by_test (eqb b 92) _ _ P (λ e. slash 92 b rest refl (ap Some (sym (eqb-true b 92 e)))) (λ no92.
+    by_test (eqb b 10) _ _ P (λ e. slash 110 b rest refl (ap Some (sym (eqb-true b 10 e)))) (λ no10.
+    by_test (eqb b 13) _ _ P (λ e. slash 114 b rest refl (ap Some (sym (eqb-true b 13 e)))) (λ no13.
+    by_test (eqb b 9) _ _ P (λ e. slash 116 b rest refl (ap Some (sym (eqb-true b 9 e)))) (λ no9.
     by_test (ltb b 32 || eqb b 127) _ _ P (λ e. hex b rest small) (λ no_control. plain b rest no34 no92))))))
 
 pub text_read_again : (bytes : List ℕ) → AllByRecursion (λ b. b < 256) bytes → text_from Plain (flat_map spelled_byte bytes ++ 34 ∷ []) ≡ Some bytes

@@ -1,8 +1,9 @@
 pub mod Again
 pub mod Columns
 pub mod Feeds
+pub mod Fitting
 pub mod FormCells
-pub mod Fronts
+pub mod GoOn
 pub mod Lawful
 pub mod Lines
 pub mod LinesAgain
@@ -14,6 +15,7 @@ pub mod ReadForms
 pub mod ReadLines
 pub mod ReadValues
 pub mod SpelledAgain
+pub mod Rejects
 pub mod Spellings
 pub mod Splits
 pub mod Stored

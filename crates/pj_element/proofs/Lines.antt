@@ -1,5 +1,5 @@
 -- What a line says, by its cells.
-use Rattle.std.proofs.Common.{◌≡◌, ℕ, suc, ◌-◌, ◌<◌, ◌≤◌, true, false, List, [], ◌∷◌, Some, Ok, Err, length, get_or, take, drop, refl, ap, sym, ◌∙◌, arith}
+use Rattle.std.proofs.Common.{◌≡◌, ℕ, ◌-◌, ◌<◌, ◌≤◌, true, false, List, [], ◌∷◌, Some, Ok, Err, length, get_or, take, drop, refl, ap, sym, ◌∙◌, arith}
 use Rattle.std.proofs.lemmas.Bool.{eq-eqb, ne_eqb}
 use Rattle.std.proofs.lemmas.Bool.Decides.{nat_tests}
 use Rattle.std.proofs.lemmas.List.{take_all}
@@ -14,20 +14,17 @@ use Rattle.pj_element.specs.declared.element.Judged.{Judged}
 use Rattle.pj_element.specs.declared.element.Read.TheVariants.{Bad}
 use Rattle.pj_element.specs.declared.element.Reject.TheVariants.{Arity, NotElement}
 use Rattle.pj_element.specs.Elements.{items_from, items_in, judged, pattern_in, read_punct, read_row, reading_of, tagged, value_in, width}
-
-length-bytes_in : (cells : List Cell) → length (bytes_in cells) ≡ length cells
-length-bytes_in [] = refl
-length-bytes_in (c ∷ cs) = ap suc (length-bytes_in cs)
+use Rattle.pj_line.proofs.CutCells.{bytes_count}
 
 -- ---- widths
 
 pub fitting_width : {A : Type 0} (f : Column → List ℕ → Judged A) (columns : List Column) (cells : List Cell) → length cells ≡ length columns → items_in f columns (bytes_in cells) ≡ items_from f 1 columns (bytes_in cells)
-fitting_width f columns cells same = rw (eq-eqb (length (bytes_in cells)) (length columns) (length-bytes_in cells ∙ same)) refl
+fitting_width f columns cells same = rw (eq-eqb (length (bytes_in cells)) (length columns) (bytes_count cells ∙ same)) refl
 
 pub other_width : {A : Type 0} (f : Column → List ℕ → Judged A) (columns : List Column) (cells : List Cell) → (length cells ≡ length columns → ⊥) → items_in f columns (bytes_in cells) ≡ Err (Arity (width columns) (length cells))
 other_width f columns cells differ =
-    rw (ne_eqb (length (bytes_in cells)) (length columns) (λ same. differ (sym (length-bytes_in cells) ∙ same)))
-    (ap (λ (n : ℕ). Err (Arity (width columns) n)) (length-bytes_in cells))
+    rw (ne_eqb (length (bytes_in cells)) (length columns) (λ same. differ (sym (bytes_count cells) ∙ same)))
+    (ap (λ (n : ℕ). Err (Arity (width columns) n)) (bytes_count cells))
 
 -- ---- tags
 
@@ -37,7 +34,7 @@ tag_tuple columns tag cells e = rw e refl
 tag_punct : (columns : List Column) (tag : List ℕ) (cells : List (List ℕ)) → bytes_eq tag (116 ∷ []) ≡ false → bytes_eq tag (112 ∷ []) ≡ true → tagged columns (tag ∷ cells) ≡ read_punct (items_in pattern_in columns cells)
 tag_punct columns tag cells e f = rw (e, f) refl
 
-tag_other : (columns : List Column) (tag : List ℕ) (cells : List (List ℕ)) → bytes_eq tag (116 ∷ []) ≡ false → bytes_eq tag (112 ∷ []) ≡ false → tagged columns (tag ∷ cells) ≡ Bad NotElement
+pub tag_other : (columns : List Column) (tag : List ℕ) (cells : List (List ℕ)) → bytes_eq tag (116 ∷ []) ≡ false → bytes_eq tag (112 ∷ []) ≡ false → tagged columns (tag ∷ cells) ≡ Bad NotElement
 tag_other columns tag cells e f = rw (e, f) refl
 
 -- the first cell is the tag, and these others stand behind it
@@ -60,18 +57,18 @@ other_tag columns cells others tag some is_tag are_others e f =
 
 -- ---- lines
 
-few_cells : (columns : List Column) (cells : List (List ℕ)) → length cells ≤ 128 → judged columns (Some cells) ≡ tagged columns cells
+pub few_cells : (columns : List Column) (cells : List (List ℕ)) → length cells ≤ 128 → judged columns (Some cells) ≡ tagged columns cells
 few_cells columns cells few = grind (arith, nat_tests)
 
-many_cells : (columns : List Column) (cells : List (List ℕ)) → 128 < length cells → judged columns (Some cells) ≡ Bad NotElement
+pub many_cells : (columns : List Column) (cells : List (List ℕ)) → 128 < length cells → judged columns (Some cells) ≡ Bad NotElement
 many_cells columns cells many = grind (arith, nat_tests)
 
-unskipped : (columns : List Column) (line : List ℕ) → is_skipped line ≡ false → reading_of columns line ≡ judged columns (cells_of line)
+pub unskipped : (columns : List Column) (line : List ℕ) → is_skipped line ≡ false → reading_of columns line ≡ judged columns (cells_of line)
 unskipped columns line e = rw e refl
 
 pub cut_line : (columns : List Column) (line : List ℕ) (cells : List Cell) → is_skipped line ≡ false → AreCut line (Ok cells) → reading_of columns line ≡ tagged columns (bytes_in cells)
 cut_line columns line cells e cut =
-    unskipped columns line e ∙ (ap (judged columns) cut.0 ∙ few_cells columns (bytes_in cells) (omega (arith, cut.1, length-bytes_in cells)))
+    unskipped columns line e ∙ (ap (judged columns) cut.0 ∙ few_cells columns (bytes_in cells) (omega (arith, cut.1, bytes_count cells)))
 
 pub uncut_line : (columns : List Column) (line : List ℕ) (fault : CellFault) → is_skipped line ≡ false → AreCut line (Err fault) → reading_of columns line ≡ Bad NotElement
 uncut_line columns line (Unclosed at) e cut = unskipped columns line e ∙ ap (judged columns) cut.0

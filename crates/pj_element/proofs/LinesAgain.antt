@@ -1,21 +1,25 @@
 -- A canonical line is read again as what was printed.
-use Rattle.std.proofs.Common.{◌≡◌, ℕ, ◌+◌, ◌≤◌, true, false, eqb, ltb, List, [], ◌∷◌, ◌++◌, map, Option, Some, None, length, refl, ap, sym, ◌∙◌, subst, arith}
+use Rattle.std.proofs.Common.{◌≡◌, ℕ, ◌+◌, ◌≤◌, true, false, eqb, ltb, List, [], ◌∷◌, ◌++◌, map, Option, Some, None, length, refl, ap, sym, ◌∙◌, subst, append-nil, arith}
 use Rattle.std.specs.Prelude.{Ok}
 use Rattle.std.specs.List.{flat_map}
+use Rattle.std.proofs.lemmas.Bool.{and_parts, false≢true}
 use Rattle.std.proofs.lemmas.Bool.Decides.{nat_tests}
 use Rattle.pj_value.specs.declared.values.Value.{Value}
 use Rattle.pj_value.specs.Texts.{value_spelling}
+use Rattle.pj_value.specs.Values.{is_kind}
 use Rattle.pj_shape.specs.declared.columns.Column.{Column}
+use Rattle.pj_shape.specs.Columns.{kinds_of}
 use Rattle.pj_pattern.specs.declared.pattern.Form.{Form}
 use Rattle.pj_pattern.specs.declared.pattern.Form.TheVariants.{Wild, Empty, Constant, Range, Members}
-use Rattle.pj_pattern.specs.Patterns.{Pattern, is_kind, is_of_kind}
+use Rattle.pj_pattern.specs.Patterns.{Pattern, is_of_kind}
+use Rattle.pj_pattern.specs.Fitting.{row_fits, punct_fits}
 use Rattle.pj_pattern.specs.Normal.{normal_of}
 use Rattle.pj_element.specs.declared.element.Judged.{Judged}
 use Rattle.pj_element.specs.declared.element.Judged.TheVariants.{Fits}
 use Rattle.pj_element.specs.Elements.{value_in, pattern_in, items_from, items_in, read_row, read_punct, tagged, judged, end_spelling, more_members, pattern_spelling, row_line, punct_line}
 use Rattle.pj_element.specs.Reading.{IsCell, AreCells, last_cell, first_cell, plain_byte, no_part, SpellsMembers, one_member, more_members as member_behind, SpellsEnd, no_end, value_end, SpellsForm, spells_star, spells_empty, spells_list, spells_range, spells_constant}
-use Rattle.pj_element.specs.Laws.{IsStorable, IsStorableEnd, AreStorable, IsKeptPattern, AreKeptPatterns, FitRow, FitPunct, RowIsReadAgain, PunctIsReadAgain}
-use Rattle.pj_element.proofs.ReadCells.{cells_are, append_nil}
+use Rattle.pj_element.specs.Laws.{IsStorable, IsStorableEnd, AreStorable, IsKeptPattern, AreKeptPatterns, RowIsReadAgain, PunctIsReadAgain}
+use Rattle.pj_element.proofs.ReadCells.{cells_are}
 use Rattle.pj_element.proofs.ReadForms.{form_sound}
 use Rattle.pj_element.proofs.FormCells.{value_cell, form_cell}
 use Rattle.pj_element.proofs.SpelledAgain.{value_again, value_spelled}
@@ -36,7 +40,7 @@ end_spelled (Some v) storable = value_end (value_spelled v storable)
 
 members_spelled : (v : Value) (vs : List Value) → IsStorable v → AreStorable vs → SpellsMembers (value_spelling v ++ more_members vs) (v ∷ vs)
 members_spelled v [] first others =
-    subst (λ (c : List ℕ). SpellsMembers c (v ∷ [])) (sym (append_nil (value_spelling v))) (one_member (value_spelled v first))
+    subst (λ (c : List ℕ). SpellsMembers c (v ∷ [])) (sym (append-nil (value_spelling v))) (one_member (value_spelled v first))
 members_spelled v (w ∷ ws) first others = member_behind (value_spelled v first) (members_spelled w ws others.0 others.1)
 
 pattern_spelled : (p : Pattern) → IsKeptPattern p → SpellsForm (pattern_spelling p) (read_as p)
@@ -79,7 +83,7 @@ data AreItems {A : Type 0} (f : Column → List ℕ → Judged A) (spelling : A 
 
 module _ {A : Type 0} (f : Column → List ℕ → Judged A) (spelling : A → List ℕ) where
   line_cells : (cell : List ℕ) → IsCell cell → (columns : List Column) (items : List A) → AreItems f spelling columns items → AreCells (cell ++ flat_map (λ item. 32 ∷ spelling item) items) (cell ∷ map spelling items)
-  line_cells cell c _ _ no_item = subst (λ (line : List ℕ). AreCells line (cell ∷ [])) (sym (append_nil cell)) (last_cell cell c)
+  line_cells cell c _ _ no_item = subst (λ (line : List ℕ). AreCells line (cell ∷ [])) (sym (append-nil cell)) (last_cell cell c)
   line_cells cell c _ _ (next_item {column} {columns} {item} {items} d is more) = first_cell cell 32 c refl (line_cells (spelling item) d columns items more)
 
   items_from_again : (n : ℕ) (columns : List Column) (items : List A) → AreItems f spelling columns items → items_from f n columns (map spelling items) ≡ Ok items
@@ -98,19 +102,21 @@ module _ {A : Type 0} (f : Column → List ℕ → Judged A) (spelling : A → L
   few_cells : (columns : List Column) (items : List A) → AreItems f spelling columns items → length columns ≤ 120 → (cell : List ℕ) → ltb 128 (length (cell ∷ map spelling items)) ≡ false
   few_cells columns items all few cell = let same = as_many columns items all in grind (arith, nat_tests)
 
-row_items : (columns : List Column) (row : List Value) → AreStorable row → FitRow columns row → AreItems value_in value_spelling columns row
+row_items : (columns : List Column) (row : List Value) → AreStorable row → row_fits (kinds_of columns) row ≡ true → AreItems value_in value_spelling columns row
 row_items [] [] storable fits = no_item
-row_items [] (v ∷ vs) storable fits = absurd fits
-row_items (c ∷ cs) [] storable fits = absurd fits
+row_items [] (v ∷ vs) storable fits = absurd (false≢true fits)
+row_items (c ∷ cs) [] storable fits = absurd (false≢true fits)
 row_items (c ∷ cs) (v ∷ vs) storable fits =
-    next_item (value_cell (value_spelling v) v (value_spelled v storable.0)) (value_fits c v storable.0 fits.0) (row_items cs vs storable.1 fits.1)
+    let both = and_parts (is_kind c.kind v) (row_fits (kinds_of cs) vs) fits in
+    next_item (value_cell (value_spelling v) v (value_spelled v storable.0)) (value_fits c v storable.0 both.0) (row_items cs vs storable.1 both.1)
 
-punct_items : (columns : List Column) (punct : List Pattern) → AreKeptPatterns punct → FitPunct columns punct → AreItems pattern_in pattern_spelling columns punct
+punct_items : (columns : List Column) (punct : List Pattern) → AreKeptPatterns punct → punct_fits (kinds_of columns) punct ≡ true → AreItems pattern_in pattern_spelling columns punct
 punct_items [] [] kept fits = no_item
-punct_items [] (p ∷ ps) kept fits = absurd fits
-punct_items (c ∷ cs) [] kept fits = absurd fits
+punct_items [] (p ∷ ps) kept fits = absurd (false≢true fits)
+punct_items (c ∷ cs) [] kept fits = absurd (false≢true fits)
 punct_items (c ∷ cs) (p ∷ ps) kept fits =
-    next_item (form_cell (pattern_spelling p) (read_as p) (pattern_spelled p kept.0)) (pattern_fits c p kept.0 fits.0) (punct_items cs ps kept.1 fits.1)
+    let both = and_parts (is_of_kind c.kind p) (punct_fits (kinds_of cs) ps) fits in
+    next_item (form_cell (pattern_spelling p) (read_as p) (pattern_spelled p kept.0)) (pattern_fits c p kept.0 both.0) (punct_items cs ps kept.1 both.1)
 
 tuple_tag : IsCell (116 ∷ [])
 tuple_tag = (omega arith, plain_byte 116 refl (λ e. omega (arith, e)) no_part)

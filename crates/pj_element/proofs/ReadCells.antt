@@ -1,33 +1,13 @@
 -- The cells of a line are those of the grammar.
-use Rattle.std.proofs.Common.{◌≡◌, ◌≢◌, ℕ, ◌<◌, Bool, true, false, List, [], ◌∷◌, ◌++◌, Option, Some, None, length, refl, ap, sym, ◌∙◌, subst, append_assoc, eqb, arith}
-use Rattle.std.proofs.lemmas.Bool.{ne_eqb, eqb-false}
-use Rattle.std.proofs.lemmas.Bool.Decides.{nat_tests}
+use Rattle.std.proofs.Common.{◌≡◌, ◌≢◌, ℕ, ◌<◌, Bool, true, false, List, [], ◌∷◌, ◌++◌, Option, Some, None, length, refl, ap, sym, ◌∙◌, subst, append_assoc, append-nil, eqb, arith}
+use Rattle.std.proofs.lemmas.Bool.{ne_eqb, eqb-false, eqb-true}
 use Rattle.pj_value.specs.Options.{with_first}
 use Rattle.pj_line.specs.declared.quote.Quote.TheVariants.{Outside, Inside}
 use Rattle.pj_line.specs.Lines.{is_blank}
 use Rattle.pj_line.specs.Cells.{cells_from, cells_of, onto_cell}
+use Rattle.pj_line.proofs.Fronts.{folded}
+use Rattle.pj_line.proofs.Cuts.{folded_cell_first, folded_cell_none, cell_begins}
 use Rattle.pj_element.specs.Reading.{EndsQuoted, end_quote, taken_byte, quoted_byte, StaysQuoted, no_more, takes_none, taken_open, quoted_open, AreParts, no_part, plain_byte, quoted_part, IsCell, AreCells, no_cell, behind_blank, last_cell, first_cell, IsUnclosed, open_part, behind_byte, behind_part}
-
-pub number_is : (b n : ℕ) → eqb b n ≡ true → b ≡ n
-number_is b n e = grind (arith, nat_tests)
-
--- a step for each byte, from the last to the first
-abbrev folded : {R : Type 0} → (ℕ → R → R) → List ℕ → R → R
-folded f [] r = r
-folded f (x ∷ xs) r = f x (folded f xs r)
-
-folded_cell_first : (front : List ℕ) (o : Option (List (List ℕ))) → folded onto_cell front (with_first [] o) ≡ with_first front o
-folded_cell_first [] o = refl
-folded_cell_first (x ∷ xs) None = ap (onto_cell x) (folded_cell_first xs None)
-folded_cell_first (x ∷ xs) (Some cs) = ap (onto_cell x) (folded_cell_first xs (Some cs))
-
-folded_cell_none : (front : List ℕ) → folded onto_cell front None ≡ None
-folded_cell_none [] = refl
-folded_cell_none (x ∷ xs) = ap (onto_cell x) (folded_cell_none xs)
-
--- a cell begins at a byte that is no blank
-cell_begins : (b : ℕ) (rest : List ℕ) → is_blank b ≡ false → cells_of (b ∷ rest) ≡ cells_from (Some Outside) (b ∷ rest)
-cell_begins b rest e = rw e refl
 
 -- ---- what the grammar says is what is computed
 
@@ -64,14 +44,10 @@ begins_no_blank _ rest some (quoted_part part {bytes} q p) = refl
 cell_is : (cell rest : List ℕ) → IsCell cell → cells_of (cell ++ rest) ≡ folded onto_cell cell (cells_from (Some Outside) rest)
 cell_is cell rest c = begins_no_blank cell rest c.0 c.1 ∙ parts_are cell rest c.1
 
-pub append_nil : (xs : List ℕ) → xs ++ [] ≡ xs
-append_nil [] = refl
-append_nil (x ∷ xs) = ap (λ (ys : List ℕ). x ∷ ys) (append_nil xs)
-
 pub cells_are : (line : List ℕ) (cells : List (List ℕ)) → AreCells line cells → cells_of line ≡ Some cells
 cells_are _ _ no_cell = refl
 cells_are _ _ (behind_blank b {line} {cells} blank c) = rw blank (cells_are line cells c)
-cells_are _ _ (last_cell cell c) = ap cells_of (sym (append_nil cell)) ∙ (cell_is cell [] c ∙ folded_cell_first cell (Some []))
+cells_are _ _ (last_cell cell c) = ap cells_of (sym (append-nil cell)) ∙ (cell_is cell [] c ∙ folded_cell_first cell (Some []))
 cells_are _ _ (first_cell cell b {line} {cells} c blank rest) =
     cell_is cell (b ∷ line) c
     ∙ (ap (folded onto_cell cell) (rw blank (ap (with_first []) (cells_are line cells rest)))
@@ -173,7 +149,7 @@ cell_at : (b : ℕ) (line : List ℕ) → From line → FromCell (b ∷ line)
 cell_at b line f = go (eqb b 34) refl (is_blank b) refl
   where
     go : (t : Bool) → eqb b 34 ≡ t → (u : Bool) → is_blank b ≡ u → FromCell (b ∷ line)
-    go true e u d = subst (λ (x : ℕ). FromCell (x ∷ line)) (sym (number_is b 34 e)) (at_quote f.quote)
+    go true e u d = subst (λ (x : ℕ). FromCell (x ∷ line)) (sym (eqb-true b 34 e)) (at_quote f.quote)
     go false e true d = at_blank b d (eqb-false b 34 e) f.blank
     go false e false d = in_cell b d (eqb-false b 34 e) f.cell
 
@@ -188,8 +164,8 @@ quote_at : (b : ℕ) (line : List ℕ) → From line → FromQuote (b ∷ line)
 quote_at b line f = go (eqb b 34) refl (eqb b 92) refl
   where
     go : (t : Bool) → eqb b 34 ≡ t → (u : Bool) → eqb b 92 ≡ u → FromQuote (b ∷ line)
-    go true e u d = subst (λ (x : ℕ). FromQuote (x ∷ line)) (sym (number_is b 34 e)) (ends_there (34 ∷ []) end_quote f.cell)
-    go false e true d = subst (λ (x : ℕ). FromQuote (x ∷ line)) (sym (number_is b 92 d)) (at_slash f.taken)
+    go true e u d = subst (λ (x : ℕ). FromQuote (x ∷ line)) (sym (eqb-true b 34 e)) (ends_there (34 ∷ []) end_quote f.cell)
+    go false e true d = subst (λ (x : ℕ). FromQuote (x ∷ line)) (sym (eqb-true b 92 d)) (at_slash f.taken)
     go false e false d = in_quote b (eqb-false b 34 e) (eqb-false b 92 d) f.quote
 
 from : (line : List ℕ) → From line

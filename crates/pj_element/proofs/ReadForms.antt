@@ -1,7 +1,7 @@
 -- The patterns that cells spell are those of the grammar.
-use Rattle.std.proofs.Common.{◌≡◌, ◌≢◌, ℕ, ◌<◌, Bool, true, false, ◌&&◌, eqb, List, [], ◌∷◌, ◌++◌, Option, Some, None, length, refl, ap, sym, ◌∙◌, subst, append_assoc, arith}
+use Rattle.std.proofs.Common.{◌≡◌, ◌≢◌, ℕ, ◌<◌, Bool, true, false, ◌&&◌, eqb, List, [], ◌∷◌, ◌++◌, Option, Some, None, length, refl, ap, sym, ◌∙◌, subst, append_assoc, append-nil, arith}
 use Rattle.std.specs.Option.{option_map}
-use Rattle.std.proofs.lemmas.Bool.{ne_eqb}
+use Rattle.std.proofs.lemmas.Bool.{ne_eqb, eqb-true}
 use Rattle.std.proofs.lemmas.Bool.Decides.{nat_tests}
 use Rattle.pj_value.specs.Options.{with_first, both}
 use Rattle.pj_value.specs.declared.values.Value.{Value}
@@ -11,11 +11,11 @@ use Rattle.pj_line.specs.Lines.{is_blank, onto}
 use Rattle.pj_line.specs.Cells.{after, is_outside}
 use Rattle.pj_pattern.specs.declared.pattern.Form.{Form}
 use Rattle.pj_pattern.specs.declared.pattern.Form.TheVariants.{Wild, Constant, Range, Members}
-use Rattle.pj_element.specs.Spelled.{value_of}
-use Rattle.pj_element.specs.Forms.{before_last, parts_from, values_of, members_of, begins, behind_first, onto_first, ends_from, end_of, both_ends, range_in, braced, bracketed, is_star, form_of}
+use Rattle.pj_element.specs.Spelled.{first_is, value_of}
+use Rattle.pj_element.specs.Forms.{before_last, parts_from, values_of, members_of, without_first, onto_first, ends_from, end_of, both_ends, range_in, braced, bracketed, is_star, form_of}
 use Rattle.pj_element.specs.Reading.{EndsQuoted, end_quote, taken_byte, quoted_byte, AreParts, no_part, plain_byte, quoted_part, IsDigit, SpellsNumber, one_digit, more_digits, SpellsInt, plain_int, minus_int, IsHexDigit, hex_digit, small_letter, large_letter, SpellsParts, closing_quote, byte_itself, escaped_byte, hex_byte, SpellsValue, spells_int, spells_text, SpellsMembers, one_member, more_members, SpellsEnd, no_end, value_end, SpellsForm, spells_star, spells_empty, spells_list, spells_range, spells_constant}
-use Rattle.pj_element.proofs.ReadCells.{number_is, append_nil}
 use Rattle.pj_element.proofs.ReadValues.{first_some, value_sound, value_complete}
+use Rattle.pj_line.proofs.FedPieces.{onto-some}
 
 -- ---- what values are made of: quoted parts, and bytes that are no blanks, quotes, bars or dots
 
@@ -72,7 +72,7 @@ value_quiet _ _ (spells_int s) = int_quiet _ _ s
     int_quiet _ _ (plain_int {cell} {n} s le) = number_quiet cell n s
     int_quiet _ _ (minus_int {digits} {n} s le) = quiet_byte 45 minus_quiet (number_quiet digits n s)
 value_quiet _ _ (spells_text {parts} {text} s) =
-    subst IsQuiet (append_nil (34 ∷ parts)) (quiet_part parts (parts_end parts text s) quiet_end)
+    subst IsQuiet (append-nil (34 ∷ parts)) (quiet_part parts (parts_end parts text s) quiet_end)
 
 pub quiet_parts : (cell : List ℕ) → IsQuiet cell → AreParts cell
 quiet_parts _ quiet_end = no_part
@@ -136,13 +136,13 @@ last_off close (b ∷ c ∷ bs) = ap (with_first b) (last_off close (c ∷ bs))
 
 members_are : (bytes : List ℕ) (values : List Value) → SpellsMembers bytes values → values_of (parts_from Outside bytes) ≡ Some values
 members_are _ _ (one_member {cell} {value} s) =
-    ap (λ (bs : List ℕ). values_of (parts_from Outside bs)) (sym (append_nil cell))
+    ap (λ (bs : List ℕ). values_of (parts_from Outside bs)) (sym (append-nil cell))
     ∙ (ap values_of (quiet_bars cell [] [] [] (value_quiet cell value s) refl)
-    ∙ (ap (λ (c : List ℕ). values_of (c ∷ [])) (append_nil cell)
+    ∙ (ap (λ (c : List ℕ). values_of (c ∷ [])) (append-nil cell)
     ∙ rw (value_sound cell value s) refl))
 members_are _ _ (more_members {cell} {cells} {value} {values} s more) =
     ap values_of (quiet_bars cell (124 ∷ cells) [] (parts_from Outside cells) (value_quiet cell value s) refl)
-    ∙ (ap (λ (c : List ℕ). values_of (c ∷ parts_from Outside cells)) (append_nil cell)
+    ∙ (ap (λ (c : List ℕ). values_of (c ∷ parts_from Outside cells)) (append-nil cell)
     ∙ rw (value_sound cell value s, members_are cells values more) refl)
 
 -- no value is spelled by no byte
@@ -178,7 +178,7 @@ end_quiet _ _ (value_end {cell} {value} s) = value_quiet cell value s
 ends_are : (low high : List ℕ) (from : Option Value) → SpellsEnd low from → Ends Outside (low ++ 46 ∷ 46 ∷ high) low high
 ends_are low high from s =
     quiet_dots low (46 ∷ 46 ∷ high) [] high (end_quiet low from s) refl
-    ∙ ap (λ (c : List ℕ). Some (c, high)) (append_nil low)
+    ∙ ap (λ (c : List ℕ). Some (c, high)) (append-nil low)
 
 range_form : (low high : List ℕ) (from to : Option Value) → SpellsEnd low from → SpellsEnd high to → form_of (91 ∷ low ++ 46 ∷ 46 ∷ high ++ 93 ∷ []) ≡ Some (Range from to)
 range_form low high from to s t =
@@ -191,12 +191,12 @@ value_form [] value e = absurd (cc)
 value_form (b ∷ bs) value e = go (eqb b 123) refl (eqb b 91) refl (is_star b bs) refl
   where
     star_is : (bs : List ℕ) → is_star b bs ≡ true → value_of (b ∷ bs) ≡ Some value → form_of (b ∷ bs) ≡ Some (Constant value)
-    star_is [] h e = absurd (cc (ap (λ (x : ℕ). value_of (x ∷ [])) (number_is b 42 h)))
+    star_is [] h e = absurd (cc (ap (λ (x : ℕ). value_of (x ∷ [])) (eqb-true b 42 h)))
     star_is (c ∷ cs) h e = absurd (cc)
 
     go : (t : Bool) → eqb b 123 ≡ t → (u : Bool) → eqb b 91 ≡ u → (v : Bool) → is_star b bs ≡ v → form_of (b ∷ bs) ≡ Some (Constant value)
-    go true h u hu v hv = absurd (cc (ap (λ (x : ℕ). value_of (x ∷ bs)) (number_is b 123 h)))
-    go false h true hu v hv = absurd (cc (ap (λ (x : ℕ). value_of (x ∷ bs)) (number_is b 91 hu)))
+    go true h u hu v hv = absurd (cc (ap (λ (x : ℕ). value_of (x ∷ bs)) (eqb-true b 123 h)))
+    go false h true hu v hv = absurd (cc (ap (λ (x : ℕ). value_of (x ∷ bs)) (eqb-true b 91 hu)))
     go false h false hu true hv = star_is bs hv e
     go false h false hu false hv = rw (h, hu, hv, e) refl
 
@@ -217,7 +217,7 @@ last_is_there close (b ∷ []) inner e = go (eqb b close) refl
     go true h =
         let none : Some [] ≡ Some inner = sym (rw h refl) ∙ e in
         let same : [] ≡ inner = cc in
-        ap (λ (x : ℕ). x ∷ []) (number_is b close h) ∙ ap (λ (xs : List ℕ). xs ++ close ∷ []) same
+        ap (λ (x : ℕ). x ∷ []) (eqb-true b close h) ∙ ap (λ (xs : List ℕ). xs ++ close ∷ []) same
     go false h = absurd (let none : None ≡ Some inner = sym (rw h refl) ∙ e in cc)
 last_is_there close (b ∷ c ∷ bs) inner e =
     let found = first_some b (before_last close (c ∷ bs)) inner e in
@@ -249,7 +249,7 @@ behind_is q (b ∷ bs) = go (is_outside q && eqb b 124) refl
     go false h = rw h (onto_behind (parts_from (after q b) bs))
 
 bar_there : (q : Quote) (b : ℕ) → (is_outside q && eqb b 124) ≡ true → b ≡ 124
-bar_there Outside b e = number_is b 124 e
+bar_there Outside b e = eqb-true b 124 e
 bar_there Inside b e = absurd (cc)
 bar_there Taken b e = absurd (cc)
 
@@ -272,7 +272,7 @@ values_spelled p [] values e =
     let none : Some [] ≡ Some found.1 = found.3 in
     let same : [] ≡ found.1 = cc in
     subst (SpellsMembers (p ++ [])) (ap (λ (vs : List Value). found.0 ∷ vs) same ∙ found.4)
-    (subst (λ (c : List ℕ). SpellsMembers c (found.0 ∷ [])) (sym (append_nil p)) (one_member (value_complete p found.0 found.2)))
+    (subst (λ (c : List ℕ). SpellsMembers c (found.0 ∷ [])) (sym (append-nil p)) (one_member (value_complete p found.0 found.2)))
 values_spelled p (c ∷ cs) values e =
     let found = both_some (value_of p) (values_of (c ∷ cs)) values e in
     subst (SpellsMembers (joined (p ∷ c ∷ cs))) found.4 (more_members (value_complete p found.0 found.2) (values_spelled c cs found.1 found.3))
@@ -281,17 +281,13 @@ members_there : (parts : List (List ℕ)) (values : List Value) → 0 < length p
 members_there [] values some e = absurd (omega arith)
 members_there (p ∷ ps) values some e = values_spelled p ps values e
 
-onto_some : (b : ℕ) (parts : List (List ℕ)) → 0 < length (onto b parts)
-onto_some b [] = omega arith
-onto_some b (p ∷ ps) = omega arith
-
 parts_some : (q : Quote) (bytes : List ℕ) → 0 < length (parts_from q bytes)
 parts_some q [] = omega arith
 parts_some q (b ∷ bs) = go (is_outside q && eqb b 124) refl
   where
     go : (t : Bool) → (is_outside q && eqb b 124) ≡ t → 0 < length (parts_from q (b ∷ bs))
     go true h = rw h (omega arith)
-    go false h = rw h (onto_some b (parts_from (after q b) bs))
+    go false h = rw h (onto-some b (parts_from (after q b) bs))
 
 braced_complete : (inner : List ℕ) (form : Form) → members_of inner ≡ Some form → SpellsForm (123 ∷ inner ++ 125 ∷ []) form
 braced_complete [] form e = subst (SpellsForm (123 ∷ 125 ∷ [])) (let same : Some (Members []) ≡ Some form = e in cc) spells_empty
@@ -314,12 +310,12 @@ onto_first_some b (Some (rest, behind)) front back e =
     let same = some_pair (b ∷ rest, behind) (front, back) e in
     (rest, ap (λ (xs : List ℕ). Some (rest, xs)) same.1, same.0)
 
-two_dots : (q : Quote) (b : ℕ) (bs : List ℕ) → (is_outside q && (eqb b 46 && begins 46 bs)) ≡ true → b ∷ bs ≡ 46 ∷ 46 ∷ behind_first bs
+two_dots : (q : Quote) (b : ℕ) (bs : List ℕ) → (is_outside q && (eqb b 46 && first_is 46 bs)) ≡ true → b ∷ bs ≡ 46 ∷ 46 ∷ without_first bs
 two_dots Outside b [] e = absurd (grind (arith, nat_tests))
 two_dots Outside b (c ∷ cs) e = go (eqb b 46) refl (eqb c 46) refl
   where
     go : (t : Bool) → eqb b 46 ≡ t → (u : Bool) → eqb c 46 ≡ u → b ∷ c ∷ cs ≡ 46 ∷ 46 ∷ cs
-    go true h true hu = ap (λ (x : ℕ). x ∷ c ∷ cs) (number_is b 46 h) ∙ ap (λ (x : ℕ). 46 ∷ x ∷ cs) (number_is c 46 hu)
+    go true h true hu = ap (λ (x : ℕ). x ∷ c ∷ cs) (eqb-true b 46 h) ∙ ap (λ (x : ℕ). 46 ∷ x ∷ cs) (eqb-true c 46 hu)
     go true h false hu = absurd (let none : false ≡ true = sym (rw (h, hu) refl) ∙ e in cc)
     go false h u hu = absurd (let none : false ≡ true = sym (rw h refl) ∙ e in cc)
 two_dots Inside b bs e = absurd (cc)
@@ -327,11 +323,11 @@ two_dots Taken b bs e = absurd (cc)
 
 ends_there : (q : Quote) (bytes front back : List ℕ) → ends_from q bytes ≡ Some (front, back) → bytes ≡ front ++ 46 ∷ 46 ∷ back
 ends_there q [] front back e = absurd (cc)
-ends_there q (b ∷ bs) front back e = go (is_outside q && (eqb b 46 && begins 46 bs)) refl (λ r f h. ends_there r bs f back h)
+ends_there q (b ∷ bs) front back e = go (is_outside q && (eqb b 46 && first_is 46 bs)) refl (λ r f h. ends_there r bs f back h)
   where
-    go : (t : Bool) → (is_outside q && (eqb b 46 && begins 46 bs)) ≡ t → ((r : Quote) (f : List ℕ) → ends_from r bs ≡ Some (f, back) → bs ≡ f ++ 46 ∷ 46 ∷ back) → b ∷ bs ≡ front ++ 46 ∷ 46 ∷ back
+    go : (t : Bool) → (is_outside q && (eqb b 46 && first_is 46 bs)) ≡ t → ((r : Quote) (f : List ℕ) → ends_from r bs ≡ Some (f, back) → bs ≡ f ++ 46 ∷ 46 ∷ back) → b ∷ bs ≡ front ++ 46 ∷ 46 ∷ back
     go true h ih =
-        let same = some_pair ([], behind_first bs) (front, back) (sym (rw h refl) ∙ e) in
+        let same = some_pair ([], without_first bs) (front, back) (sym (rw h refl) ∙ e) in
         two_dots q b bs h ∙ (ap (λ (xs : List ℕ). 46 ∷ 46 ∷ xs) same.1 ∙ ap (λ (xs : List ℕ). xs ++ 46 ∷ 46 ∷ back) same.0)
     go false h ih =
         let found = onto_first_some b (ends_from (after q b) bs) front back (sym (rw h refl) ∙ e) in
@@ -361,7 +357,7 @@ bracketed_complete inner form e = go (ends_from Outside inner) refl e
         (subst (SpellsForm (91 ∷ front ++ 46 ∷ 46 ∷ back ++ 93 ∷ [])) found.4 (spells_range (end_there front found.0 found.2) (end_there back found.1 found.3)))
 
 star_there : (b : ℕ) (bs : List ℕ) → is_star b bs ≡ true → b ∷ bs ≡ 42 ∷ []
-star_there b [] e = ap (λ (x : ℕ). x ∷ []) (number_is b 42 e)
+star_there b [] e = ap (λ (x : ℕ). x ∷ []) (eqb-true b 42 e)
 star_there b (c ∷ cs) e = absurd (cc)
 
 pub form_complete : (cell : List ℕ) (form : Form) → form_of cell ≡ Some form → SpellsForm cell form
@@ -382,9 +378,9 @@ form_complete (b ∷ bs) form e = go (eqb b 123) refl (eqb b 91) refl (is_star b
 
     go : (t : Bool) → eqb b 123 ≡ t → (u : Bool) → eqb b 91 ≡ u → (v : Bool) → is_star b bs ≡ v → SpellsForm (b ∷ bs) form
     go true h u hu v hv =
-        subst (λ (x : ℕ). SpellsForm (x ∷ bs) form) (sym (number_is b 123 h)) (in_braces (before_last 125 bs) refl (sym (rw h refl) ∙ e))
+        subst (λ (x : ℕ). SpellsForm (x ∷ bs) form) (sym (eqb-true b 123 h)) (in_braces (before_last 125 bs) refl (sym (rw h refl) ∙ e))
     go false h true hu v hv =
-        subst (λ (x : ℕ). SpellsForm (x ∷ bs) form) (sym (number_is b 91 hu)) (in_brackets (before_last 93 bs) refl (sym (rw (h, hu) refl) ∙ e))
+        subst (λ (x : ℕ). SpellsForm (x ∷ bs) form) (sym (eqb-true b 91 hu)) (in_brackets (before_last 93 bs) refl (sym (rw (h, hu) refl) ∙ e))
     go false h false hu true hv =
         subst (λ (c : List ℕ). SpellsForm c form) (sym (star_there b bs hv))
         (subst (SpellsForm (42 ∷ [])) (let same : Some Wild ≡ Some form = sym (rw (h, hu, hv) refl) ∙ e in cc) spells_star)

@@ -4,13 +4,14 @@ use Rattle.std.specs.Prelude.{◌↔◌}
 use Rattle.std.specs.Str.{bytes_eq}
 use Rattle.std.proofs.lemmas.Bool.Decides.{nat_tests}
 use Rattle.std.proofs.lemmas.Slice.Eq.{bytes_eq-Decides}
+use Rattle.pj_value.specs.Values.{is_kind}
 use Rattle.pj_value.specs.declared.values.Kind.{Kind}
 use Rattle.pj_value.specs.declared.values.Kind.TheVariants.{Int as IntKind, Text as TextKind}
 use Rattle.pj_value.specs.declared.values.Value.{Value}
 use Rattle.pj_value.specs.declared.values.Value.TheVariants.{Int, Text}
 use Rattle.pj_shape.specs.declared.columns.Column.{Column}
 use Rattle.pj_pattern.specs.declared.pattern.Form.{Form}
-use Rattle.pj_pattern.specs.Patterns.{Pattern, is_kind, is_of_kind}
+use Rattle.pj_pattern.specs.Patterns.{Pattern, is_of_kind}
 use Rattle.pj_pattern.specs.Normal.{normal_of}
 use Rattle.pj_line.specs.Lines.{is_skipped}
 use Rattle.pj_line.specs.Cells.{cells_of}
@@ -27,6 +28,7 @@ use Rattle.pj_element.specs.Reading.{AreCells, IsUnclosed, SpellsValue, SpellsFo
 use Rattle.pj_element.proofs.ReadCells.{cells_are, cells_exact, unclosed_is, unclosed_exact}
 use Rattle.pj_element.proofs.ReadValues.{value_sound, value_complete}
 use Rattle.pj_element.proofs.ReadForms.{form_sound, form_complete}
+use Rattle.pj_element.proofs.Lines.{tag_other, few_cells, many_cells, unskipped}
 
 same_bytes : (xs ys : List ℕ) → bytes_eq xs ys ≡ true → xs ≡ ys
 same_bytes xs ys e = (bytes_eq-Decides xs ys).0 e
@@ -190,19 +192,10 @@ fault_reads Spells IsOf all_columns line _ _ _ _ (behind_column n column columns
 
 -- ---- what the grammar says is what is computed
 
-few_judged : (columns : List Column) (cells : List (List ℕ)) → length cells ≤ 128 → judged columns (Some cells) ≡ tagged columns cells
-few_judged columns cells few = let test : ltb 128 (length cells) ≡ false = grind (arith, nat_tests) in rw test refl
-
-many_judged : (columns : List Column) (cells : List (List ℕ)) → 128 < length cells → judged columns (Some cells) ≡ Bad NotElement
-many_judged columns cells many = let test : ltb 128 (length cells) ≡ true = grind (arith, nat_tests) in rw test refl
-
-not_skipped : (columns : List Column) (line : List ℕ) → is_skipped line ≡ false → reading_of columns line ≡ judged columns (cells_of line)
-not_skipped columns line e = rw e refl
-
 tagged_reading : (tag : ℕ) (columns : List Column) (line : List ℕ) (cells : List (List ℕ)) → IsTagged tag line cells → reading_of columns line ≡ tagged columns ((tag ∷ []) ∷ cells)
 tagged_reading tag columns line cells t =
-    not_skipped columns line t.0
-    ∙ (ap (judged columns) (cells_are line ((tag ∷ []) ∷ cells) t.1) ∙ few_judged columns ((tag ∷ []) ∷ cells) (let few : length cells < 128 = t.2 in omega arith))
+    unskipped columns line t.0
+    ∙ (ap (judged columns) (cells_are line ((tag ∷ []) ∷ cells) t.1) ∙ few_cells columns ((tag ∷ []) ∷ cells) (let few : length cells < 128 = t.2 in omega arith))
 
 tuple_reading : (columns : List Column) (line : List ℕ) (row : List Value) → IsTupleLine columns line row → reading_of columns line ≡ Tuple row
 tuple_reading columns line row t =
@@ -252,9 +245,6 @@ width_reading columns line want got h = go h.2 ∙ rw (h.5, h.6) refl
     go (inl e) = tuple_width columns line h.1 (subst (λ (tag : ℕ). IsTagged tag line h.1) e h.3) h.4
     go (inr e) = punct_width columns line h.1 (subst (λ (tag : ℕ). IsTagged tag line h.1) e h.3) h.4
 
-other_tag : (columns : List Column) (tag : List ℕ) (cells : List (List ℕ)) → bytes_eq tag (116 ∷ []) ≡ false → bytes_eq tag (112 ∷ []) ≡ false → tagged columns (tag ∷ cells) ≡ Bad NotElement
-other_tag columns tag cells no_t no_p = rw (no_t, no_p) refl
-
 unlike : (xs ys : List ℕ) → xs ≢ ys → bytes_eq xs ys ≡ false
 unlike xs ys differ = go (bytes_eq xs ys) refl
   where
@@ -268,13 +258,13 @@ untagged_is columns (tag ∷ cells) u = go (ltb 128 (length (tag ∷ cells))) re
   where
     go : (t : Bool) → ltb 128 (length (tag ∷ cells)) ≡ t → judged columns (Some (tag ∷ cells)) ≡ Bad NotElement
     go true h = rw h refl
-    go false h = rw h (other_tag columns tag cells (unlike tag (116 ∷ []) u.0) (unlike tag (112 ∷ []) u.1))
+    go false h = rw h (tag_other columns tag cells (unlike tag (116 ∷ []) u.0) (unlike tag (112 ∷ []) u.1))
 
 no_element_reading : (columns : List Column) (line : List ℕ) → IsNoElement line → reading_of columns line ≡ Bad NotElement
-no_element_reading columns line n = not_skipped columns line n.0 ∙ go n.1
+no_element_reading columns line n = unskipped columns line n.0 ∙ go n.1
   where
     by_cells : (cells : List (List ℕ)) → AreCells line cells → (128 < length cells) ⊎ IsUntagged cells → judged columns (cells_of line) ≡ Bad NotElement
-    by_cells cells c (inl many) = ap (judged columns) (cells_are line cells c) ∙ many_judged columns cells many
+    by_cells cells c (inl many) = ap (judged columns) (cells_are line cells c) ∙ many_cells columns cells many
     by_cells cells c (inr u) = ap (judged columns) (cells_are line cells c) ∙ untagged_is columns cells u
 
     go : IsUnclosed line ⊎ ((cells : List (List ℕ)) × AreCells line cells × ((128 < length cells) ⊎ IsUntagged cells)) → judged columns (cells_of line) ≡ Bad NotElement
@@ -333,7 +323,7 @@ by_tag columns line tag cells e c few = go (bytes_eq tag (116 ∷ [])) refl (byt
     go false h false hp =
         let no_t : tag ≢ 116 ∷ [] = λ is. absurd (cc) in
         let no_p : tag ≢ 112 ∷ [] = λ is. absurd (cc) in
-        subst (ReadsAs columns line) (sym (other_tag columns tag cells h hp)) (e, inr (tag ∷ cells, c, inr (no_t, no_p)))
+        subst (ReadsAs columns line) (sym (tag_other columns tag cells h hp)) (e, inr (tag ∷ cells, c, inr (no_t, no_p)))
 
 by_cells : (columns : List Column) (line : List ℕ) (cells : List (List ℕ)) → is_skipped line ≡ false → AreCells line cells → ReadsAs columns line (judged columns (Some cells))
 by_cells columns line [] e c = (e, inr ([], c, inr tt))
@@ -353,9 +343,9 @@ reads columns line = go (is_skipped line) refl (cells_of line) refl
     go : (t : Bool) → is_skipped line ≡ t → (o : Option (List (List ℕ))) → cells_of line ≡ o → ReadsAs columns line (reading_of columns line)
     go true e o is = let skip : reading_of columns line ≡ Skip = rw e refl in subst (ReadsAs columns line) (sym skip) e
     go false e None is =
-        subst (ReadsAs columns line) (sym (not_skipped columns line e ∙ ap (judged columns) is)) (e, inl (unclosed_exact line is))
+        subst (ReadsAs columns line) (sym (unskipped columns line e ∙ ap (judged columns) is)) (e, inl (unclosed_exact line is))
     go false e (Some cells) is =
-        subst (ReadsAs columns line) (sym (not_skipped columns line e ∙ ap (judged columns) is)) (by_cells columns line cells e (cells_exact line cells is))
+        subst (ReadsAs columns line) (sym (unskipped columns line e ∙ ap (judged columns) is)) (by_cells columns line cells e (cells_exact line cells is))
 
 pub reading_exact : (columns : List Column) (line : List ℕ) (read : Read) → ReadsAs columns line read ↔ (read ≡ reading_of columns line)
 reading_exact columns line read = (only_reading columns line read, λ is. subst (ReadsAs columns line) (sym is) (reads columns line))

@@ -1,18 +1,17 @@
 -- The values that cells spell are those of the grammar.
-use Rattle.std.proofs.Common.{◌≡◌, ℕ, ◌+◌, ◌-◌, ◌*◌, ◌^◌, ◌<◌, ◌≤◌, Bool, true, false, ◌&&◌, eqb, leb, List, [], ◌∷◌, ◌++◌, Option, Some, None, length, refl, ap, sym, ◌∙◌, subst, append_assoc, arith}
+use Rattle.std.proofs.Common.{◌≡◌, ℕ, ◌+◌, ◌-◌, ◌*◌, ◌^◌, ◌<◌, ◌≤◌, Bool, true, false, ◌&&◌, eqb, leb, List, [], ◌∷◌, ◌++◌, Option, Some, None, length, refl, ap, sym, ◌∙◌, subst, append_assoc, append-nil, arith}
 use Rattle.std.specs.Prelude.{ℤ, pos, neg_ℤ, option_and_then}
 use Rattle.std.specs.Option.{option_map}
-use Rattle.std.proofs.lemmas.Bool.{ne_eqb, eqb-false}
+use Rattle.std.proofs.lemmas.Bool.{ne_eqb, eqb-false, eqb-true}
 use Rattle.std.proofs.lemmas.Bool.Decides.{nat_tests}
 use Rattle.pj_value.specs.Options.{with_first}
 use Rattle.pj_value.specs.declared.values.Value.{Value}
 use Rattle.pj_value.specs.declared.values.Value.TheVariants.{Int, Text}
 use Rattle.pj_element.specs.declared.spelled.Part.{Part}
 use Rattle.pj_element.specs.declared.spelled.Part.TheVariants.{Plain, Slash, Hex, HexAfter}
-use Rattle.pj_element.specs.Spelled.{is_digit, number_from, number_of, at_most, int_of, hex_value, escaped, text_from, starts_quoted, value_of}
+use Rattle.pj_element.specs.Spelled.{is_digit, number_from, number_of, at_most, int_of, hex_value, escaped, text_from, first_is, value_of}
 use Rattle.pj_element.specs.Reading.{IsDigit, SpellsNumber, one_digit, more_digits, SpellsInt, plain_int, minus_int, EscapesTo, quote_escape, backslash_escape, feed_escape, return_escape, tab_escape, IsHexDigit, hex_digit, small_letter, large_letter, SpellsParts, closing_quote, byte_itself, escaped_byte, hex_byte, SpellsValue, spells_int, spells_text}
 use Rattle.pj_element.proofs.Again.{plain, slash}
-use Rattle.pj_element.proofs.ReadCells.{number_is}
 
 -- ---- numbers
 
@@ -56,11 +55,7 @@ pub number_sound : (ds : List ℕ) (n : ℕ) → SpellsNumber ds n → number_of
 number_sound ds n s = some_number ds (nonempty ds n s) ∙ number_is_from ds n s
 
 number_on : (ds front : List ℕ) (m n : ℕ) → SpellsNumber front m → number_from m ds ≡ Some n → SpellsNumber (front ++ ds) n
-number_on [] front m n s e = subst (SpellsNumber (front ++ [])) (let same : Some m ≡ Some n = e in cc) (subst (λ (xs : List ℕ). SpellsNumber xs m) (at_end front) s)
-  where
-    at_end : (xs : List ℕ) → xs ≡ xs ++ []
-    at_end [] = refl
-    at_end (x ∷ xs) = ap (λ (ys : List ℕ). x ∷ ys) (at_end xs)
+number_on [] front m n s e = subst (SpellsNumber (front ++ [])) (let same : Some m ≡ Some n = e in cc) (subst (λ (xs : List ℕ). SpellsNumber xs m) (sym (append-nil front)) s)
 number_on (b ∷ ds) front m n s e = go (is_digit b) refl (λ f k t h. number_on ds f k n t h)
   where
     go : (t : Bool) → is_digit b ≡ t → ((f : List ℕ) (k : ℕ) → SpellsNumber f k → number_from k ds ≡ Some n → SpellsNumber (f ++ ds) n) → SpellsNumber (front ++ b ∷ ds) n
@@ -138,7 +133,7 @@ int_complete (b ∷ bs) z e = go (eqb b 45) refl
     go : (t : Bool) → eqb b 45 ≡ t → SpellsInt (b ∷ bs) z
     go true h =
         let found = int_there (2 ^ 63) (λ (n : ℕ). neg_ℤ (pos n)) bs z (sym (minus_is b bs h) ∙ e) in
-        subst (λ (x : ℕ). SpellsInt (x ∷ bs) z) (sym (number_is b 45 h))
+        subst (λ (x : ℕ). SpellsInt (x ∷ bs) z) (sym (eqb-true b 45 h))
         (subst (SpellsInt (45 ∷ bs)) found.1.2 (minus_int found.1.0 found.1.1))
     go false h =
         let found = int_there (2 ^ 63 - 1) pos (b ∷ bs) z (sym (plain_is b bs h) ∙ e) in
@@ -170,7 +165,7 @@ parts_sound _ _ (hex_byte h l high low {bytes} {text} is_high is_low s) =
     hex_is h l high low bytes (hex_sound h high is_high) (hex_sound l low is_low) ∙ ap (with_first (16 * high + low)) (parts_sound bytes text s)
 
 by_escape : (b x n m : ℕ) → eqb b n ≡ true → Some m ≡ Some x → EscapesTo n m → EscapesTo b x
-by_escape b x n m e is escape = subst (λ (y : ℕ). EscapesTo y x) (sym (number_is b n e)) (subst (EscapesTo n) (cc) escape)
+by_escape b x n m e is escape = subst (λ (y : ℕ). EscapesTo y x) (sym (eqb-true b n e)) (subst (EscapesTo n) (cc) escape)
 
 escape_complete : (b x : ℕ) → escaped b ≡ Some x → EscapesTo b x
 escape_complete b x e = go (eqb b 34) refl (eqb b 92) refl (eqb b 110) refl (eqb b 114) refl (eqb b 116) refl
@@ -216,7 +211,7 @@ first_some x (Some rest) text e = (rest, (refl, cc))
 closes : (b : ℕ) (bs text : List ℕ) → eqb b 34 ≡ true → text_from Plain (b ∷ bs) ≡ Some text → SpellsParts (b ∷ bs) text
 closes b [] text h e =
     let same : Some [] ≡ Some text = sym (rw h refl) ∙ e in
-    subst (λ (x : ℕ). SpellsParts (x ∷ []) text) (sym (number_is b 34 h)) (subst (SpellsParts (34 ∷ [])) (cc) closing_quote)
+    subst (λ (x : ℕ). SpellsParts (x ∷ []) text) (sym (eqb-true b 34 h)) (subst (SpellsParts (34 ∷ [])) (cc) closing_quote)
 closes b (c ∷ bs) text h e = absurd (let none : None ≡ Some text = sym (rw h refl) ∙ e in cc)
 
 to_slash : (b : ℕ) (bs : List ℕ) → eqb b 34 ≡ false → eqb b 92 ≡ true → text_from Plain (b ∷ bs) ≡ text_from Slash bs
@@ -228,7 +223,7 @@ at_plain b bs text ih e = go (eqb b 34) refl (eqb b 92) refl
     go : (t : Bool) → eqb b 34 ≡ t → (u : Bool) → eqb b 92 ≡ u → SpellsParts (b ∷ bs) text
     go true h u hu = closes b bs text h e
     go false h true hu =
-        subst (λ (x : ℕ). SpellsParts (x ∷ bs) text) (sym (number_is b 92 hu)) (ih Slash (92 ∷ []) before_slash text (sym (to_slash b bs h hu) ∙ e))
+        subst (λ (x : ℕ). SpellsParts (x ∷ bs) text) (sym (eqb-true b 92 hu)) (ih Slash (92 ∷ []) before_slash text (sym (to_slash b bs h hu) ∙ e))
     go false h false hu =
         let found = first_some b (text_from Plain bs) text (sym (plain b bs h hu) ∙ e) in
         subst (SpellsParts (b ∷ bs)) found.1.1 (byte_itself b (eqb-false b 34 h) (eqb-false b 92 hu) (ih Plain [] before_plain found.0 found.1.0))
@@ -244,7 +239,7 @@ at_slash b bs text ih e = go (eqb b 120) refl (escaped b) refl
   where
     go : (t : Bool) → eqb b 120 ≡ t → (o : Option ℕ) → escaped b ≡ o → SpellsParts (92 ∷ b ∷ bs) text
     go true h o is =
-        subst (λ (x : ℕ). SpellsParts (92 ∷ x ∷ bs) text) (sym (number_is b 120 h)) (ih Hex (92 ∷ 120 ∷ []) before_hex text (sym (to_hex b bs h) ∙ e))
+        subst (λ (x : ℕ). SpellsParts (92 ∷ x ∷ bs) text) (sym (eqb-true b 120 h)) (ih Hex (92 ∷ 120 ∷ []) before_hex text (sym (to_hex b bs h) ∙ e))
     go false h None is = absurd (cc (no_escape b bs h is))
     go false h (Some x) is =
         let found = first_some x (text_from Plain bs) text (sym (slash b x bs h is) ∙ e) in
@@ -294,9 +289,9 @@ parts_complete bytes text e = whole bytes Plain [] before_plain text e
 -- ---- values
 
 quote_is_no_int : (b : ℕ) (bs : List ℕ) → eqb b 34 ≡ true → int_of (b ∷ bs) ≡ None
-quote_is_no_int b bs e = ap (λ (x : ℕ). int_of (x ∷ bs)) (number_is b 34 e)
+quote_is_no_int b bs e = ap (λ (x : ℕ). int_of (x ∷ bs)) (eqb-true b 34 e)
 
-int_not_quoted : (cell : List ℕ) (z : ℤ) → int_of cell ≡ Some z → starts_quoted cell ≡ false
+int_not_quoted : (cell : List ℕ) (z : ℤ) → int_of cell ≡ Some z → first_is 34 cell ≡ false
 int_not_quoted [] z e = refl
 int_not_quoted (b ∷ bs) z e = go (eqb b 34) refl
   where
@@ -331,5 +326,5 @@ value_complete (b ∷ bs) value e = go (eqb b 34) refl
   where
     go : (t : Bool) → eqb b 34 ≡ t → SpellsValue (b ∷ bs) value
     go true h =
-        subst (λ (x : ℕ). SpellsValue (x ∷ bs) value) (sym (number_is b 34 h)) (some_text bs value (text_from Plain bs) refl (sym (quoted_is b bs h) ∙ e))
+        subst (λ (x : ℕ). SpellsValue (x ∷ bs) value) (sym (eqb-true b 34 h)) (some_text bs value (text_from Plain bs) refl (sym (quoted_is b bs h) ∙ e))
     go false h = some_int (b ∷ bs) value (int_of (b ∷ bs)) refl (sym (unquoted_is b bs h) ∙ e)

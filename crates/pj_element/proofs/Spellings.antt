@@ -11,8 +11,8 @@ more_push (w ∷ ws) v =
     ap (λ (xs : List ℕ). 124 ∷ value_spelling w ++ xs) (more_push ws v)
     ∙ ap (λ (xs : List ℕ). 124 ∷ xs) (sym (append_assoc (value_spelling w) (more_members ws) (124 ∷ value_spelling v)))
 
-pub more_turn : (values : List Value) (i : ℕ) (v : Value) (start out barred written : List ℕ) → i < length values → v ≡ get_or values i v → out ≡ start ++ more_members (take i values) → barred ≡ out ++ 124 ∷ [] → written ≡ barred ++ value_spelling v → written ≡ start ++ more_members (take (i + 1) values)
-more_turn values i v start out barred written lt is before bar spelled =
+pub one_more_member : (values : List Value) (i : ℕ) (v : Value) (start out barred written : List ℕ) → i < length values → v ≡ get_or values i v → out ≡ start ++ more_members (take i values) → barred ≡ out ++ 124 ∷ [] → written ≡ barred ++ value_spelling v → written ≡ start ++ more_members (take (i + 1) values)
+one_more_member values i v start out barred written lt is before bar spelled =
     spelled
     ∙ (ap (λ (xs : List ℕ). xs ++ value_spelling v) (bar ∙ ap (λ (xs : List ℕ). xs ++ 124 ∷ []) before)
     ∙ (append_assoc (start ++ more_members (take i values)) (124 ∷ []) (value_spelling v)

@@ -11,13 +11,10 @@ use Rattle.pj_line.specs.Cells.{after, is_outside}
 use Rattle.pj_element.specs.Spelled.{value_of}
 use Rattle.pj_element.specs.Forms.{before_last, both_ends, end_of, range_in, ends_from, onto_first, parts_from, values_of}
 use Rattle.pj_element.specs.Splits.{are_dots, AreDots, IsPartLen, parts_behind}
-use Rattle.pj_element.proofs.Fronts.{folded, folded_push, folded_turn, folded_stop, folded_end}
+use Rattle.pj_line.proofs.Fronts.{folded, folded_push, folded_turn, folded_stop, folded_end}
+use Rattle.pj_line.proofs.Splits.{folded_onto_first}
 
 -- ---- the first part
-
-folded_onto_first : (front : List ℕ) (ps : List (List ℕ)) → folded onto front ([] ∷ ps) ≡ front ∷ ps
-folded_onto_first [] ps = refl
-folded_onto_first (x ∷ xs) ps = ap (onto x) (folded_onto_first xs ps)
 
 -- the first i bytes of the first part were passed
 abbrev pub PartPassed : List ℕ → ℕ → Quote → Type 0

@@ -89,10 +89,6 @@ fates_of columns bytes = fates [] (reads_of columns bytes)
 abbrev pub accepted_elements : List Column → List ℕ → List Element
 accepted_elements columns bytes = taken_of (fates_of columns bytes) ++ AcceptedPunct (closing columns) ∷ []
 
--- the accepted rows of a file in order
-abbrev pub accepted_rows : List Column → List ℕ → List (List Value)
-accepted_rows columns bytes = rows_of (accepted_elements columns bytes)
-
 -- Line n, counted from 0, closes the tuple on line m, and no line before n does
 pub record ClosedBy (reads : List Read) (m n : ℕ) (row : List Value) : Type 0 where
   pub tuple : slice_get reads m ≡ Some (Tuple row)

@@ -1,13 +1,14 @@
 -- What a line of a stream's file says.
-use Rattle.std.specs.Prelude.{ℕ, ◌+◌, ◌-◌, ◌^◌, min, List, [], ◌∷◌, ◌++◌, Option, Some, None, Result, Ok, Err, if◌then◌else◌, ◌==◌, nat_lt, length}
+use Rattle.std.specs.Prelude.{ℕ, ◌+◌, ◌-◌, ◌^◌, min, List, [], ◌∷◌, ◌++◌, Option, Some, None, Result, Ok, Err, if◌then◌else◌, ◌==◌, nat_lt, length, codes}
 use Rattle.std.specs.List.{flat_map}
 use Rattle.std.specs.Str.{bytes_eq}
 use Rattle.pj_value.specs.declared.values.Value.{Value}
 use Rattle.pj_value.specs.Texts.{value_spelling}
+use Rattle.pj_value.specs.Values.{is_kind}
 use Rattle.pj_shape.specs.declared.columns.Column.{Column}
 use Rattle.pj_pattern.specs.declared.pattern.Form.{Form}
 use Rattle.pj_pattern.specs.declared.pattern.Form.TheVariants.{Wild, Empty, Constant, Range, Members}
-use Rattle.pj_pattern.specs.Patterns.{Pattern, is_kind, is_of_kind}
+use Rattle.pj_pattern.specs.Patterns.{Pattern, is_of_kind}
 use Rattle.pj_pattern.specs.Normal.{normal_of}
 use Rattle.pj_line.specs.Lines.{is_skipped, line_of}
 use Rattle.pj_line.specs.Cells.{cells_of}
@@ -78,8 +79,8 @@ read_punct (Err why) = Bad why
 abbrev pub tagged : List Column → List (List ℕ) → Read
 tagged columns [] = Bad NotElement
 tagged columns (tag ∷ cells) =
-    if bytes_eq tag (116 ∷ []) then read_row (items_in value_in columns cells)
-    else (if bytes_eq tag (112 ∷ []) then read_punct (items_in pattern_in columns cells)
+    if bytes_eq tag (codes "t") then read_row (items_in value_in columns cells)
+    else (if bytes_eq tag (codes "p") then read_punct (items_in pattern_in columns cells)
     else Bad NotElement)
 
 -- the same, where an unclosed line and one of more than 128 cells are no elements
@@ -114,8 +115,8 @@ members_spelling (v ∷ vs) = value_spelling v ++ more_members vs
 
 -- the canonical spelling of a pattern: `*`, `{}`, a value, `[low..high]`, or `{v|v|..}`
 abbrev pub pattern_spelling : Pattern → List ℕ
-pattern_spelling Wild = 42 ∷ []
-pattern_spelling Empty = 123 ∷ 125 ∷ []
+pattern_spelling Wild = codes "*"
+pattern_spelling Empty = codes "{}"
 pattern_spelling (Constant v) = value_spelling v
 pattern_spelling (Range low high) = 91 ∷ end_spelling low ++ 46 ∷ 46 ∷ end_spelling high ++ 93 ∷ []
 pattern_spelling (Members vs) = 123 ∷ members_spelling vs ++ 125 ∷ []

@@ -11,7 +11,7 @@ use Rattle.pj_pattern.specs.declared.pattern.Form.{Form}
 use Rattle.pj_pattern.specs.declared.pattern.Form.TheVariants.{Wild, Constant, Range, Members}
 use Rattle.pj_pattern.specs.Patterns.{is_of_one_kind}
 use Rattle.pj_pattern.specs.Normal.{normal_of}
-use Rattle.pj_element.specs.Spelled.{value_of}
+use Rattle.pj_element.specs.Spelled.{first_is, value_of}
 use Rattle.pj_element.specs.declared.forms.Spelled.{Spelled}
 use Rattle.pj_element.specs.declared.forms.Spelled.TheVariants.{Good, Mixed, Not}
 
@@ -36,14 +36,9 @@ abbrev pub members_of : List ℕ → Option Form
 members_of [] = Some (Members [])
 members_of (b ∷ bs) = option_map Members (values_of (parts_from Outside (b ∷ bs)))
 
--- whether the first byte is this one
-abbrev pub begins : ℕ → List ℕ → Bool
-begins byte [] = false
-begins byte (b ∷ bs) = b == byte
-
-abbrev pub behind_first : List ℕ → List ℕ
-behind_first [] = []
-behind_first (b ∷ bs) = bs
+abbrev pub without_first : List ℕ → List ℕ
+without_first [] = []
+without_first (b ∷ bs) = bs
 
 -- the byte goes to the front of the first of two parts
 abbrev pub onto_first : ℕ → Option (List ℕ × List ℕ) → Option (List ℕ × List ℕ)
@@ -54,7 +49,7 @@ onto_first b (Some (front, back)) = Some (b ∷ front, back)
 abbrev pub ends_from : Quote → List ℕ → Option (List ℕ × List ℕ)
 ends_from q [] = None
 ends_from q (b ∷ bs) =
-    if is_outside q && ((b == 46) && begins 46 bs) then Some ([], behind_first bs)
+    if is_outside q && ((b == 46) && first_is 46 bs) then Some ([], without_first bs)
     else onto_first b (ends_from (after q b) bs)
 
 -- an end of a range: a value, or nothing

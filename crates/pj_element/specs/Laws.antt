@@ -4,9 +4,11 @@ use Rattle.std.specs.List.{AllByRecursion}
 use Rattle.pj_value.specs.declared.values.Value.{Value}
 use Rattle.pj_value.specs.declared.values.Value.TheVariants.{Int, Text}
 use Rattle.pj_shape.specs.declared.columns.Column.{Column}
+use Rattle.pj_shape.specs.Columns.{kinds_of}
 use Rattle.pj_pattern.specs.declared.pattern.Form.{Form}
 use Rattle.pj_pattern.specs.declared.pattern.Form.TheVariants.{Wild, Empty, Constant, Range, Members}
-use Rattle.pj_pattern.specs.Patterns.{Pattern, is_kind, is_of_kind}
+use Rattle.pj_pattern.specs.Patterns.{Pattern}
+use Rattle.pj_pattern.specs.Fitting.{row_fits, punct_fits}
 use Rattle.pj_pattern.specs.Normal.{IsNormal, IsInBounds}
 use Rattle.pj_line.specs.Cells.{cells_of}
 use Rattle.pj_element.specs.declared.element.Read.{Read}
@@ -60,27 +62,13 @@ abbrev pub AreKeptPatterns : List Pattern → Type 0
 AreKeptPatterns [] = ⊤
 AreKeptPatterns (p ∷ ps) = IsKeptPattern p × AreKeptPatterns ps
 
--- a value of each column's kind
-abbrev pub FitRow : List Column → List Value → Type 0
-FitRow [] [] = ⊤
-FitRow [] (v ∷ vs) = ⊥
-FitRow (c ∷ cs) [] = ⊥
-FitRow (c ∷ cs) (v ∷ vs) = (is_kind c.kind v ≡ true) × FitRow cs vs
-
--- a pattern for each column, with values of the column's kind
-abbrev pub FitPunct : List Column → List Pattern → Type 0
-FitPunct [] [] = ⊤
-FitPunct [] (p ∷ ps) = ⊥
-FitPunct (c ∷ cs) [] = ⊥
-FitPunct (c ∷ cs) (p ∷ ps) = (is_of_kind c.kind p ≡ true) × FitPunct cs ps
-
 -- a row that fits at most 120 columns, printed, is read again as itself
 abbrev pub RowIsReadAgain : List Value → Type 0
-RowIsReadAgain row = (columns : List Column) → length columns ≤ 120 → FitRow columns row → reading_of columns (row_line row) ≡ Tuple row
+RowIsReadAgain row = (columns : List Column) → length columns ≤ 120 → row_fits (kinds_of columns) row ≡ true → reading_of columns (row_line row) ≡ Tuple row
 
 -- a punctuation that fits at most 120 columns, printed, is read again as itself
 abbrev pub PunctIsReadAgain : List Pattern → Type 0
-PunctIsReadAgain punct = (columns : List Column) → length columns ≤ 120 → FitPunct columns punct → reading_of columns (punct_line punct) ≡ Punct punct
+PunctIsReadAgain punct = (columns : List Column) → length columns ≤ 120 → punct_fits (kinds_of columns) punct ≡ true → reading_of columns (punct_line punct) ≡ Punct punct
 
 abbrev pub RowsAreReadAgain : Type 0
 RowsAreReadAgain = (row : List Value) → AreStorable row → RowIsReadAgain row

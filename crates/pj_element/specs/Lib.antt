@@ -6,3 +6,5 @@ pub mod Runs
 pub mod Accepted
 pub mod Reading
 pub mod Laws
+pub mod GoOn
+pub mod Fitting

@@ -1,5 +1,5 @@
 -- What lines say, as a grammar: the cells of a line, the values that cells spell, the elements that lines stand for.
-use Rattle.std.specs.Prelude.{◌≡◌, ◌≢◌, ℕ, ℤ, pos, neg_ℤ, ◌+◌, ◌-◌, ◌*◌, ◌^◌, ◌<◌, ◌≤◌, ◌⊎◌, ⊤, true, List, [], ◌∷◌, ◌++◌, length, Option, Some, None, IsTrue, IsFalse}
+use Rattle.std.specs.Prelude.{◌≡◌, ◌≢◌, ℕ, ℤ, pos, neg_ℤ, ◌+◌, ◌-◌, ◌*◌, ◌^◌, ◌<◌, ◌≤◌, ◌⊎◌, ⊤, true, List, [], ◌∷◌, ◌++◌, length, Option, Some, None, IsTrue, IsFalse, codes}
 use Rattle.pj_value.specs.declared.values.Kind.{Kind}
 use Rattle.pj_value.specs.declared.values.Kind.TheVariants.{Int as IntKind, Text as TextKind}
 use Rattle.pj_value.specs.declared.values.Value.{Value}
@@ -110,8 +110,8 @@ pub data SpellsEnd : List ℕ → Option Value → Type 0 where
 
 -- the pattern, not yet in normal form, that a cell spells: `*`, `{}`, `{v|v|..}`, `[low..high]` or a value
 pub data SpellsForm : List ℕ → Form → Type 0 where
-  spells_star : SpellsForm (42 ∷ []) Wild
-  spells_empty : SpellsForm (123 ∷ 125 ∷ []) (Members [])
+  spells_star : SpellsForm (codes "*") Wild
+  spells_empty : SpellsForm (codes "{}") (Members [])
   spells_list : {cells : List ℕ} {values : List Value} → SpellsMembers cells values → SpellsForm (123 ∷ cells ++ 125 ∷ []) (Members values)
   spells_range : {low high : List ℕ} {from to : Option Value} → SpellsEnd low from → SpellsEnd high to → SpellsForm (91 ∷ low ++ 46 ∷ 46 ∷ high ++ 93 ∷ []) (Range from to)
   spells_constant : {cell : List ℕ} {value : Value} → SpellsValue cell value → SpellsForm cell (Constant value)
@@ -161,7 +161,7 @@ IsPunctLine columns line punct = (cells : List (List ℕ)) × IsTagged 112 line 
 -- the first cell is neither `t` nor `p`
 abbrev pub IsUntagged : List (List ℕ) → Type 0
 IsUntagged [] = ⊤
-IsUntagged (tag ∷ cells) = (tag ≢ 116 ∷ []) × (tag ≢ 112 ∷ [])
+IsUntagged (tag ∷ cells) = (tag ≢ codes "t") × (tag ≢ codes "p")
 
 -- the line is not skipped, and it is unclosed, has more than 128 cells, or has neither tag
 abbrev pub IsNoElement : List ℕ → Type 0

@@ -93,11 +93,11 @@ abbrev pub text_of : List ℕ → Option (List ℕ)
 text_of [] = None
 text_of (b ∷ bs) = if b == 34 then text_from Plain bs else None
 
--- whether the first byte is a quote
-abbrev pub starts_quoted : List ℕ → Bool
-starts_quoted [] = false
-starts_quoted (b ∷ bs) = b == 34
+-- whether the first byte is this one
+abbrev pub first_is : ℕ → List ℕ → Bool
+first_is byte [] = false
+first_is byte (b ∷ bs) = b == byte
 
 -- the value that a cell spells
 abbrev pub value_of : List ℕ → Option Value
-value_of cell = if starts_quoted cell then option_map Text (text_of cell) else option_map Int (int_of cell)
+value_of cell = if first_is 34 cell then option_map Text (text_of cell) else option_map Int (int_of cell)

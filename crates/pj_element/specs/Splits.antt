@@ -3,7 +3,8 @@ use Rattle.std.specs.Prelude.{◌≡◌, ◌≤◌, ◌+◌, ℕ, Bool, false, �
 use Rattle.pj_line.specs.declared.quote.Quote.{Quote}
 use Rattle.pj_line.specs.declared.quote.Quote.TheVariants.{Outside}
 use Rattle.pj_line.specs.Cells.{is_outside}
-use Rattle.pj_element.specs.Forms.{begins, ends_from, parts_from}
+use Rattle.pj_element.specs.Spelled.{first_is}
+use Rattle.pj_element.specs.Forms.{ends_from, parts_from}
 
 -- the parts behind the bar that ends a part, where there is one
 abbrev pub parts_behind : List ℕ → List (List ℕ)
@@ -17,7 +18,7 @@ IsPartLen bytes n = (n ≤ length bytes) × (parts_from Outside bytes ≡ take n
 -- two dots outside quotes stand at the front
 abbrev pub are_dots : Quote → List ℕ → Bool
 are_dots q [] = false
-are_dots q (b ∷ bs) = is_outside q && ((b == 46) && begins 46 bs)
+are_dots q (b ∷ bs) = is_outside q && ((b == 46) && first_is 46 bs)
 
 -- the first two dots outside quotes stand here
 abbrev pub AreDots : List ℕ → Option ℕ → Type 0

@@ -8,6 +8,8 @@ ghost use Rattle.pj_element.specs.declared.element.Read.TheVariants.{Tuple as Re
 ghost use Rattle.pj_element.specs.declared.element.Reject.TheVariants.{Closed};
 ghost use Rattle.pj_element.specs.Accepted.{accepted_elements, fates, ClosedBy, IsAccepted, Taken, Refused};
 ghost use Rattle.pj_element.specs.Runs.{IsLawful};
+ghost use Rattle.pj_line.specs.Fed.{PiecesGoOn};
+ghost use Rattle.pj_element.specs.GoOn.{FatesGoOn, TakenGoOn, RejectsGoOn};
 
 /// The accepted elements of a file, with the closing punctuation, are lawful.
 pub fn accepted_elements_are_lawful()
@@ -21,4 +23,13 @@ pub fn acceptance_goes_by_position()
     ensures closed { (reads : List Read) (m n : ℕ) (row : List Value) → ClosedBy reads m n row → slice_get (fates [] reads) m ≡ Some (Refused (Closed (1 + n))) }
     ensures named { (reads : List Read) (m line : ℕ) (row : List Value) → slice_get reads m ≡ Some (ReadTuple row)
         → slice_get (fates [] reads) m ≡ Some (Refused (Closed line)) → (n : ℕ) × (line ≡ 1 + n) × ClosedBy reads m n row }
+{}
+
+/// Where some bytes are none or end with a line feed, the lines of more bytes stand behind theirs, and what becomes of the
+/// lines of all begins with what becomes of theirs: so do the elements that are accepted, and the rejects.
+pub fn acceptance_goes_on()
+    ensures pieces { PiecesGoOn }
+    ensures fates { FatesGoOn }
+    ensures elements { TakenGoOn }
+    ensures rejects { RejectsGoOn }
 {}

@@ -3,7 +3,6 @@ ghost use Rattle.std.specs.Prelude.{◌≡◌, ◌≤◌, ◌++◌, ◌∷◌, �
 ghost use Rattle.std.specs.List.{flat_map};
 ghost use Rattle.pj_shape.specs.declared.columns.Column.{Column};
 ghost use Rattle.pj_value.specs.Texts.{value_spelling, IsFront};
-ghost use Rattle.pj_pattern.specs.Patterns.{is_kind};
 ghost use Rattle.pj_line.specs.Cells.{bytes_in};
 ghost use Rattle.pj_element.specs.declared.element.Judged.{Judged};
 ghost use Rattle.pj_element.specs.Elements.{items_from, items_in, pattern_in, pattern_spelling, value_in};
@@ -15,7 +14,7 @@ use crate::written::append_pattern;
 use pj_line::Cell;
 use pj_pattern::Pattern;
 use pj_shape::Column;
-use pj_value::{Kind, List, NoMemory, Value, value_text};
+use pj_value::{List, NoMemory, Value, value_text};
 use std::alloc::Global;
 
 /// What a cell of an element line says of a column, and how it is spelled.
@@ -44,7 +43,7 @@ impl Item for Value {
     fn read_item(alloc: Global, column: &Column, cell: &[u8]) -> Result<Judged<Value>, NoMemory> {
         match read_value(alloc, cell)? {
             Some(value) => {
-                if has_kind(&value, column.kind) {
+                if value.is_of(column.kind) {
                     Ok(Judged::Fits(value))
                 } else {
                     Ok(Judged::OtherKind)
@@ -57,18 +56,6 @@ impl Item for Value {
     fn write_item(&self, alloc: Global, out: &mut List<u8>) -> Result<(), NoMemory> {
         value_text(alloc, self, out)?;
         Ok(())
-    }
-}
-
-// Whether the value is of the kind.
-fn has_kind(value: &Value, kind: Kind) -> bool
-    ensures { result ≡ is_kind kind value.now }
-{
-    match (kind, value) {
-        (Kind::Int, Value::Int(_)) => true,
-        (Kind::Int, Value::Text(_)) => false,
-        (Kind::Text, Value::Int(_)) => false,
-        (Kind::Text, Value::Text(_)) => true,
     }
 }
 

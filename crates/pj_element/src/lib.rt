@@ -15,7 +15,9 @@ mod tally;
 mod tests;
 mod written;
 
-pub use acceptance::{acceptance_goes_by_position, accepted_elements_are_lawful};
+pub use acceptance::{
+    acceptance_goes_by_position, acceptance_goes_on, accepted_elements_are_lawful,
+};
 pub use element::{Read, Reject};
 pub use forms::{Spelled, read_pattern};
 pub use laws::{lines_are_read_again, lines_hold_no_feed, reading_is_exact};

@@ -1,5 +1,5 @@
 // What no clause says: that the calls succeed with ample memory, and that the definitions mean the format.
-ghost use Rattle.std.specs.Prelude.{◌≡◌, [], ◌∷◌, None, Some, pos, negsuc, codes};
+ghost use Rattle.std.specs.Prelude.{◌≡◌, ◌≤◌, [], ◌∷◌, None, Some, pos, negsuc, codes};
 ghost use Rattle.pj_value.specs.declared.values.Value.TheVariants.{Int as IntValue, Text as TextValue};
 ghost use Rattle.pj_pattern.specs.declared.pattern.Form.TheVariants.{Constant, Empty, Members, Range, Wild};
 ghost use Rattle.pj_element.specs.declared.element.Read.TheVariants.{Tuple as TupleRead, Punct as PunctRead, Bad as BadRead};
@@ -12,48 +12,21 @@ use pj_value::{Kind, List, NoMemory, Value};
 use std::alloc::Global;
 use std::test::Fail;
 
-fn columns_of(alloc: Global, kind: Kind, count: u32) -> Result<List<Column>, NoMemory> {
+// A stream with a column of each of these kinds.
+fn schema_of(alloc: Global, kinds: &[Kind]) -> Result<Schema, NoMemory> {
     let mut columns = List::new(alloc);
-    for _ in 0..count {
-        let name = List::copy_of(alloc, b"c")?;
-        columns.push(Column { name, kind })?;
+    for kind in kinds {
+        columns.push(Column {
+            name: List::new(alloc),
+            kind: *kind,
+        })?;
     }
-    Ok(columns)
-}
-
-// An int column and a text column.
-fn pair_of(alloc: Global) -> Result<Schema, NoMemory> {
-    let mut columns = columns_of(alloc, Kind::Int, 1)?;
-    columns.push(Column {
-        name: List::copy_of(alloc, b"d")?,
-        kind: Kind::Text,
-    })?;
     Ok(Schema::of(columns))
-}
-
-// What is read of a line that is not too long.
-fn read_short(alloc: Global, schema: &Schema, line: &[u8]) -> Result<Read, NoMemory> {
-    if line.len() > 65536 {
-        return Ok(Read::Bad(Reject::TooLong));
-    }
-    Ok(read_element(alloc, schema, line)?)
 }
 
 // A number below 10.
 fn digit(number: u32) -> u8 {
     b'0' + (number % 10) as u8
-}
-
-// The canonical line of what is read, or the words of the reject.
-fn shown(alloc: Global, schema: &Schema, line: &[u8]) -> Result<List<u8>, NoMemory> {
-    let mut out = List::new(alloc);
-    match read_short(alloc, schema, line)? {
-        Read::Skip => out.append(b"skip")?,
-        Read::Tuple(row) => row_text(alloc, &row, &mut out)?,
-        Read::Punct(punct) => punct_text(alloc, &punct, &mut out)?,
-        Read::Bad(why) => append_words(why, &mut out)?,
-    }
-    Ok(out)
 }
 
 fn append_words(why: Reject, out: &mut List<u8>) -> Result<(), NoMemory> {
@@ -67,17 +40,33 @@ fn append_words(why: Reject, out: &mut List<u8>) -> Result<(), NoMemory> {
     }
 }
 
+// The canonical line of what is read, or the words of the reject.
+fn append_read(alloc: Global, read: Read, out: &mut List<u8>) -> Result<(), NoMemory> {
+    match read {
+        Read::Skip => out.append(b"skip"),
+        Read::Tuple(row) => row_text(alloc, &row, out),
+        Read::Punct(punct) => punct_text(alloc, &punct, out),
+        Read::Bad(why) => append_words(why, out),
+    }
+}
+
+// Whether the line, which is not too long, is read as this says.
+fn is_read(alloc: Global, schema: &Schema, line: &[u8], want: &[u8]) -> Result<bool, NoMemory> {
+    if line.len() > 65536 {
+        return Ok(false);
+    }
+    let mut out = List::new(alloc);
+    append_read(alloc, read_element(alloc, schema, line)?, &mut out)?;
+    Ok(out.as_slice() == want)
+}
+
 // Whether each line of the table is read as what stands behind its arrow says.
-fn are_read(alloc: Global, schema: &Schema, table: &str) -> Result<bool, NoMemory> {
+fn are_read(alloc: Global, kinds: &[Kind], table: &str) -> Result<bool, NoMemory> {
+    let schema = schema_of(alloc, kinds)?;
     for row in table.split('\n') {
-        match row.split_once(" => ") {
-            Some((line, want)) => {
-                let out = shown(alloc, schema, line.as_bytes())?;
-                if out.as_slice() != want.as_bytes() {
-                    return Ok(false);
-                }
-            }
-            None => return Ok(false),
+        let (line, want) = row.split_once(" => ").unwrap_or((row, ""));
+        if !is_read(alloc, &schema, line.as_bytes(), want.as_bytes())? {
+            return Ok(false);
         }
     }
     Ok(true)
@@ -169,26 +158,35 @@ fn pair_lines() -> &'static str {
 
 #[test]
 fn odd_lines(rt: HostRuntime) -> Result<(), Fail> {
-    let alloc = rt.alloc();
-    let ints = Schema::of(columns_of(alloc, Kind::Int, 1)?);
-    assert!(rt; are_read(alloc, &ints, int_tuples())?);
-    assert!(rt; are_read(alloc, &ints, int_puncts())?);
-    let texts = Schema::of(columns_of(alloc, Kind::Text, 1)?);
-    assert!(rt; are_read(alloc, &texts, text_lines())?);
-    let pairs = pair_of(alloc)?;
-    assert!(rt; are_read(alloc, &pairs, pair_lines())?);
+    for (kinds, table) in [
+        ([Kind::Int].as_slice(), int_tuples()),
+        ([Kind::Int].as_slice(), int_puncts()),
+        ([Kind::Text].as_slice(), text_lines()),
+        ([Kind::Int, Kind::Text].as_slice(), pair_lines()),
+    ] {
+        assert!(rt; are_read(rt.alloc(), kinds, table)?);
+    }
     Ok(())
 }
 
-// Whether a line of ones is read under that many columns.
-fn reads_ones(alloc: Global, columns: u32) -> Result<bool, NoMemory> {
-    let schema = Schema::of(columns_of(alloc, Kind::Int, columns)?);
-    let mut line = List::copy_of(alloc, b"t")?;
-    for _ in 0..columns {
-        line.append(b" 1")?;
+// `t` and 128 ones.
+fn ones() -> [u8; 257] {
+    let mut line = [b'1'; 257];
+    line[0] = b't';
+    for at in 0..128 {
+        line[2 * at + 1] = b' ';
     }
-    let out = shown(alloc, &schema, line.as_slice())?;
-    Ok(out.as_slice() == line.as_slice())
+    line
+}
+
+// Whether a line of so many ones is read as itself, where there are as many columns.
+fn reads_ones(alloc: Global, count: usize) -> Result<bool, NoMemory>
+    requires { count ≤ 128 }
+{
+    let schema = schema_of(alloc, &[Kind::Int; 128][..count])?;
+    let line = ones();
+    let part = &line[..2 * count + 1];
+    is_read(alloc, &schema, part, part)
 }
 
 #[test]
@@ -199,17 +197,36 @@ fn at_most_128_cells(rt: HostRuntime) -> Result<(), Fail> {
 }
 
 #[test]
-fn values_and_patterns(rt: HostRuntime) -> Result<(), Fail> {
-    let alloc = rt.alloc();
-    let value = read_value(alloc, b"-3")?;
+fn values(rt: HostRuntime) -> Result<(), Fail> {
+    let value = read_value(rt.alloc(), b"-3")?;
     assert!(rt; matches!(value, Some(Value::Int(-3))));
-    let good = read_pattern(alloc, b"{4}")?;
-    let four = Value::Int(4);
-    assert!(rt; matches!(&good, Spelled::Good(pattern) if pattern.matches(&four)));
-    let mixed = read_pattern(alloc, b"[1..\"a\"]")?;
-    assert!(rt; matches!(mixed, Spelled::Mixed));
-    let none = read_pattern(alloc, b"{1")?;
-    assert!(rt; matches!(none, Spelled::Not));
+    Ok(())
+}
+
+// Whether the pattern matches 4; or `m` where it has values of both kinds, `n` where there is none.
+fn letter(spelled: &Spelled) -> u8 {
+    match spelled {
+        Spelled::Good(pattern) => if pattern.matches(&Value::Int(4)) {
+            b'y'
+        } else {
+            b'-'
+        },
+        Spelled::Mixed => b'm',
+        Spelled::Not => b'n',
+    }
+}
+
+#[test]
+fn patterns(rt: HostRuntime) -> Result<(), Fail> {
+    for (cell, want) in [
+        (b"{4}".as_slice(), b'y'),
+        (b"[5..]".as_slice(), b'-'),
+        (b"[1..\"a\"]".as_slice(), b'm'),
+        (b"{1".as_slice(), b'n'),
+    ] {
+        let spelled = read_pattern(rt.alloc(), cell)?;
+        assert_eq!(rt; letter(&spelled), want);
+    }
     Ok(())
 }
 
