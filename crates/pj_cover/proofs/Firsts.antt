@@ -3,25 +3,25 @@ use Rattle.std.proofs.Common.{◌≡◌, ◌<◌, ◌≤◌, ℕ, Bool, true, fa
 use Rattle.std.proofs.lemmas.Bool.{false≢true}
 use Rattle.pj_value.specs.declared.values.Value.{Value}
 use Rattle.pj_pattern.specs.Columns.{matches_row}
-use Rattle.pj_cover.specs.declared.store.Kept.{Kept}
+use Rattle.pj_cover.specs.declared.store.NumberedPunct.{NumberedPunct}
 use Rattle.pj_cover.specs.Stores.{AllAbove, AreRising, IsAbove, IsMatched, IsLeastMatch, first_match_of}
 
-all-above-push : (n : ℕ) (ks : List Kept) (k : Kept) → AllAbove n ks → n < k.number → AllAbove n (ks ++ k ∷ [])
+all-above-push : (n : ℕ) (ks : List NumberedPunct) (k : NumberedPunct) → AllAbove n ks → n < k.number → AllAbove n (ks ++ k ∷ [])
 all-above-push n [] k all lt = (lt, tt)
 all-above-push n (x ∷ ks) k all lt = (all.0, all-above-push n ks k all.1 lt)
 
 -- one more with a number above all others
-pub rising-push : (ks : List Kept) (k : Kept) → AreRising ks → IsAbove k.number ks → AreRising (ks ++ k ∷ [])
+pub rising-push : (ks : List NumberedPunct) (k : NumberedPunct) → AreRising ks → IsAbove k.number ks → AreRising (ks ++ k ∷ [])
 rising-push [] k rises above = (tt, tt)
 rising-push (x ∷ ks) k rises above = (all-above-push x.number ks k rises.0 above.0, rising-push ks k rises.1 above.1)
 
 -- what is matched among these has a number above
-matched-above : (n m : ℕ) (ks : List Kept) (row : List Value) → AllAbove n ks → IsMatched ks row m → n < m
+matched-above : (n m : ℕ) (ks : List NumberedPunct) (row : List Value) → AllAbove n ks → IsMatched ks row m → n < m
 matched-above n m [] row all is = absurd is
 matched-above n m (k ∷ ks) row all (inl here) = omega (arith, all.0, here.0)
 matched-above n m (k ∷ ks) row all (inr there) = matched-above n m ks row all.1 there
 
-pub first_least : (ks : List Kept) (row : List Value) → AreRising ks → IsLeastMatch ks row (first_match_of ks row)
+pub first_least : (ks : List NumberedPunct) (row : List Value) → AreRising ks → IsLeastMatch ks row (first_match_of ks row)
 first_least [] row rises = λ n is. absurd is
 first_least (k ∷ ks) row rises = go (matches_row k.punct row) refl (first_match_of ks row) (first_least ks row rises.1)
   where

@@ -2,39 +2,39 @@
 use Rattle.std.specs.Prelude.{◌≡◌, ◌≤◌, ◌<◌, ◌⊎◌, ℕ, ⊤, true, List, [], ◌∷◌, Option, Some, None, if◌then◌else◌}
 use Rattle.pj_value.specs.declared.values.Value.{Value}
 use Rattle.pj_pattern.specs.Columns.{matches_row}
-use Rattle.pj_cover.specs.declared.store.Kept.{Kept}
+use Rattle.pj_cover.specs.declared.store.NumberedPunct.{NumberedPunct}
 
 -- the number of columns, and the punctuations in order of their numbers
 pub record Store : Type 0 where
   pub arity : ℕ
-  pub kept : List Kept
+  pub kept : List NumberedPunct
 
 -- each of these has a number above this one
-abbrev pub AllAbove : ℕ → List Kept → Type 0
+abbrev pub AllAbove : ℕ → List NumberedPunct → Type 0
 AllAbove n [] = ⊤
 AllAbove n (k ∷ ks) = (n < k.number) × AllAbove n ks
 
 -- the numbers rise
-abbrev pub AreRising : List Kept → Type 0
+abbrev pub AreRising : List NumberedPunct → Type 0
 AreRising [] = ⊤
 AreRising (k ∷ ks) = AllAbove k.number ks × AreRising ks
 
 -- this number is above that of each of these
-abbrev pub IsAbove : ℕ → List Kept → Type 0
+abbrev pub IsAbove : ℕ → List NumberedPunct → Type 0
 IsAbove n [] = ⊤
 IsAbove n (k ∷ ks) = (k.number < n) × IsAbove n ks
 
 -- the number of the first punctuation that the row matches
-abbrev pub first_match_of : List Kept → List Value → Option ℕ
+abbrev pub first_match_of : List NumberedPunct → List Value → Option ℕ
 first_match_of [] row = None
 first_match_of (k ∷ ks) row = if matches_row k.punct row then Some k.number else first_match_of ks row
 
 -- one of these has this number and is matched by the row
-abbrev pub IsMatched : List Kept → List Value → ℕ → Type 0
+abbrev pub IsMatched : List NumberedPunct → List Value → ℕ → Type 0
 IsMatched [] row n = ⊥
 IsMatched (k ∷ ks) row n = ((k.number ≡ n) × (matches_row k.punct row ≡ true)) ⊎ IsMatched ks row n
 
 -- the least number of a punctuation that the row matches, or that there is none
-abbrev pub IsLeastMatch : List Kept → List Value → Option ℕ → Type 0
+abbrev pub IsLeastMatch : List NumberedPunct → List Value → Option ℕ → Type 0
 IsLeastMatch kept row None = (n : ℕ) → IsMatched kept row n → ⊥
 IsLeastMatch kept row (Some least) = IsMatched kept row least × ((n : ℕ) → IsMatched kept row n → least ≤ n)

@@ -1,8 +1,8 @@
-//! What punctuations have promised of a stream or an input: a store of them.
+//! A store of the punctuations of a stream or an input, and which of them a row breaks.
 #![tactic(auto)]
 
 mod store;
 #[cfg(test)]
 mod tests;
 
-pub use store::{Kept, PunctStore};
+pub use store::{NumberedPunct, PunctStore};

@@ -7,18 +7,19 @@ use pj_value::{List, NoMemory, Row};
 use std::alloc::Global;
 use std::marker::Model;
 
-/// A punctuation and its number.
+/// A punctuation and its number, as that of a line or a ticket.
 #[derive(Drop)]
-pub struct Kept {
+pub struct NumberedPunct {
     pub punct: Punct,
     pub number: u64,
 }
 
-/// Punctuations of one arity with rising numbers, as those of the lines of a file or the tickets of a join.
+/// The punctuations that have arrived (Tucker et al. 2003), all of one arity and with rising numbers, as those of the lines
+/// of a file or the tickets of a join. A tuple that matches one of them breaks its promise.
 #[derive(Drop)]
 pub struct PunctStore {
     arity: u32,
-    kept: List<Kept>,
+    kept: List<NumberedPunct>,
 }
 
 impl Model for PunctStore {
@@ -51,11 +52,12 @@ impl PunctStore {
         ensures ok { OnOk result (self.new.kept ≡ self.old.kept ++ record { punct = punct; number = number } ∷ []) }
         ensures err { OnErr result (self.new.kept ≡ self.old.kept) }
     {
-        self.kept.push(Kept { punct, number })?;
+        self.kept.push(NumberedPunct { punct, number })?;
         Ok(())
     }
 
-    /// The least number of a punctuation that the row matches; `None` exactly where there is none.
+    /// The least number of a punctuation that the row matches; `None` exactly where there is none. It asks one punctuation
+    /// after another, up to the first that matches.
     pub fn first_match(&self, row: &Row) -> Option<u64>
         ensures first { result ≡ first_match_of self.now.kept row.now }
         ensures least { IsLeastMatch self.now.kept row.now result }
@@ -65,7 +67,7 @@ impl PunctStore {
 }
 
 // The number of the first of these punctuations that the row matches.
-fn first_in(kept: &[Kept], row: &Row) -> Option<u64>
+fn first_in(kept: &[NumberedPunct], row: &Row) -> Option<u64>
     ensures { result ≡ first_match_of kept.now row.now }
 {
     for at in 0..kept.len() {

@@ -5,7 +5,6 @@ use super::*;
 use pj_pattern::{Pattern, Punct};
 use pj_value::{List, NoMemory, Row, Value};
 use std::alloc::Global;
-use std::test::Fail;
 
 // The punctuation of one column that closes a number.
 fn closing(alloc: Global, number: i64) -> Result<Punct, NoMemory>
@@ -22,13 +21,23 @@ fn row_of(alloc: Global, number: i64) -> Result<Row, NoMemory> {
     Ok(Row::of(values))
 }
 
-#[test]
-fn the_first_match_is_named(rt: HostRuntime) -> Result<(), Fail> {
-    let alloc = rt.alloc();
+// Two punctuations that close 5, with the numbers 3 and 8.
+fn closed_twice(alloc: Global) -> Result<PunctStore, NoMemory> {
     let mut store = PunctStore::new(alloc, 1)?;
     store.push(closing(alloc, 5)?, 3)?;
     store.push(closing(alloc, 5)?, 8)?;
-    assert!(rt; store.first_match(&row_of(alloc, 5)?) == Some(3));
-    assert!(rt; store.first_match(&row_of(alloc, 6)?) == None);
-    Ok(())
+    Ok(store)
+}
+
+fn first_closing(alloc: Global, number: i64) -> Result<Option<u64>, NoMemory> {
+    let store = closed_twice(alloc)?;
+    let row = row_of(alloc, number)?;
+    Ok(store.first_match(&row))
+}
+
+#[test]
+fn the_first_match_is_named(rt: HostRuntime) {
+    for (number, first) in [(5, Some(3)), (6, None)] {
+        assert!(rt; first_closing(rt.alloc(), number) == Ok(first));
+    }
 }
