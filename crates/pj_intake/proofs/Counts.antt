@@ -13,9 +13,11 @@ use Rattle.pj_pattern.specs.Columns.{matches_row}
 use Rattle.pj_pattern.specs.Elements.{rows_of, puncts_of, with_punct}
 use Rattle.pj_element.specs.Accepted.{closing_line, Fate, Passed, Taken, Refused, tuple_fate, fate_behind, fates, with_taken, taken_of, with_refused, rejects_of, tally_of}
 use Rattle.pj_element.proofs.Lawful.{fates-push, taken_of-append, length-fates}
-use Rattle.pj_cover.specs.declared.store.Kept.{Kept}
+use Rattle.pj_element.proofs.Rejects.{rejects_of-append, taken-bound, rejects-bound}
+use Rattle.pj_pattern.proofs.Elements.{rows_of-append, puncts_of-append}
+use Rattle.pj_cover.specs.declared.store.NumberedPunct.{NumberedPunct}
 use Rattle.pj_cover.specs.Stores.{IsAbove, first_match_of}
-use Rattle.pj_intake.specs.Taking.{with_kept, kept_of, IsSeen, HasRoom, with_fate, fate_by}
+use Rattle.pj_intake.specs.SeenLines.{with_kept, kept_of, IsSeen, HasRoom, with_fate, fate_by}
 
 pub first_match-kept_of : (n : ℕ) (rs : List Read) (row : List Value) → first_match_of (kept_of n rs) row ≡ closing_line n rs row
 first_match-kept_of n [] row = refl
@@ -24,7 +26,7 @@ first_match-kept_of n (Tuple other ∷ rs) row = first_match-kept_of (n + 1) rs 
 first_match-kept_of n (Punct punct ∷ rs) row = ap (λ (o : Option ℕ). cond (matches_row punct row) (Some n) o) (first_match-kept_of (n + 1) rs row)
 first_match-kept_of n (Bad why ∷ rs) row = first_match-kept_of (n + 1) rs row
 
-with_kept-append : (n : ℕ) (r : Read) (xs ys : List Kept) → with_kept n r xs ++ ys ≡ with_kept n r (xs ++ ys)
+with_kept-append : (n : ℕ) (r : Read) (xs ys : List NumberedPunct) → with_kept n r xs ++ ys ≡ with_kept n r (xs ++ ys)
 with_kept-append n Skip xs ys = refl
 with_kept-append n (Tuple row) xs ys = refl
 with_kept-append n (Punct punct) xs ys = refl
@@ -44,28 +46,6 @@ fate_by-kept_of earlier (Punct punct) = refl
 fate_by-kept_of earlier (Bad why) = refl
 
 -- ---- counts
-
-pub with_refused-append : (n : ℕ) (f : Fate) (xs ys : List (ℕ × Reject)) → with_refused n f xs ++ ys ≡ with_refused n f (xs ++ ys)
-with_refused-append n Passed xs ys = refl
-with_refused-append n (Taken e) xs ys = refl
-with_refused-append n (Refused why) xs ys = refl
-
-pub rejects_of-push : (n : ℕ) (fs : List Fate) (f : Fate) → rejects_of n (fs ++ f ∷ []) ≡ rejects_of n fs ++ with_refused (n + length fs) f []
-rejects_of-push n [] f = let e : n ≡ n + 0 = omega arith in ap (λ m. with_refused m f []) e
-rejects_of-push n (x ∷ fs) f =
-    let e : (n + 1) + length fs ≡ n + suc (length fs) = omega arith in
-    ap (with_refused n x) (rejects_of-push (n + 1) fs f ∙ ap (λ m. rejects_of (n + 1) fs ++ with_refused m f []) e)
-    ∙ sym (with_refused-append n x (rejects_of (n + 1) fs) (with_refused (n + suc (length fs)) f []))
-
-pub rows_of-append : (xs ys : List Element) → rows_of (xs ++ ys) ≡ rows_of xs ++ rows_of ys
-rows_of-append [] ys = refl
-rows_of-append (AcceptedTuple row ∷ xs) ys = ap (λ (rows : List (List Value)). row ∷ rows) (rows_of-append xs ys)
-rows_of-append (AcceptedPunct punct ∷ xs) ys = rows_of-append xs ys
-
-pub puncts_of-append : (xs ys : List Element) → puncts_of (xs ++ ys) ≡ puncts_of xs ++ puncts_of ys
-puncts_of-append [] ys = refl
-puncts_of-append (AcceptedTuple row ∷ xs) ys = puncts_of-append xs ys
-puncts_of-append (AcceptedPunct punct ∷ xs) ys = ap (with_punct (AcceptedPunct punct)) (puncts_of-append xs ys)
 
 listed_full : (n : ℕ) (xs ys : List (ℕ × Reject)) → length (take n xs) ≡ n → cond (nat_lt (length (take n xs)) n) ys (take n xs) ≡ take n xs
 listed_full n xs ys e = let no : nat_lt (length (take n xs)) n ≡ false = le-ltb _ _ (omega arith) in rw no refl
@@ -97,12 +77,12 @@ taken_more fs f = taken_of-append fs (f ∷ [])
 tally_of-push : (fs : List Fate) (f : Fate) → tally_of (fs ++ f ∷ []) ≡ with_fate (1 + length fs) f (tally_of fs)
 tally_of-push fs Passed =
     let taken : taken_of (fs ++ Passed ∷ []) ≡ taken_of fs = taken_more fs Passed ∙ append-nil (taken_of fs) in
-    let rejects : rejects_of 1 (fs ++ Passed ∷ []) ≡ rejects_of 1 fs = rejects_of-push 1 fs Passed ∙ append-nil (rejects_of 1 fs) in
+    let rejects : rejects_of 1 (fs ++ Passed ∷ []) ≡ rejects_of 1 fs = rejects_of-append 1 fs (Passed ∷ []) ∙ append-nil (rejects_of 1 fs) in
     same_tally _ _ _ _ _ _ _ _ (ap (λ (es : List Element). length (rows_of es)) taken) (ap (λ (es : List Element). length (puncts_of es)) taken) (ap length rejects) (ap (take 1000) rejects)
 tally_of-push fs (Taken (AcceptedTuple row)) =
     let e : Fate = Taken (AcceptedTuple row) in
     let taken : taken_of (fs ++ e ∷ []) ≡ taken_of fs ++ AcceptedTuple row ∷ [] = taken_more fs e in
-    let rejects : rejects_of 1 (fs ++ e ∷ []) ≡ rejects_of 1 fs = rejects_of-push 1 fs e ∙ append-nil (rejects_of 1 fs) in
+    let rejects : rejects_of 1 (fs ++ e ∷ []) ≡ rejects_of 1 fs = rejects_of-append 1 fs (e ∷ []) ∙ append-nil (rejects_of 1 fs) in
     same_tally _ _ _ _ _ _ _ _
     (ap (λ (es : List Element). length (rows_of es)) taken ∙ (ap length (rows_of-append (taken_of fs) (AcceptedTuple row ∷ [])) ∙ length-append (rows_of (taken_of fs)) (row ∷ [])))
     (ap (λ (es : List Element). length (puncts_of es)) taken ∙ ap length (puncts_of-append (taken_of fs) (AcceptedTuple row ∷ []) ∙ append-nil (puncts_of (taken_of fs))))
@@ -110,7 +90,7 @@ tally_of-push fs (Taken (AcceptedTuple row)) =
 tally_of-push fs (Taken (AcceptedPunct punct)) =
     let e : Fate = Taken (AcceptedPunct punct) in
     let taken : taken_of (fs ++ e ∷ []) ≡ taken_of fs ++ AcceptedPunct punct ∷ [] = taken_more fs e in
-    let rejects : rejects_of 1 (fs ++ e ∷ []) ≡ rejects_of 1 fs = rejects_of-push 1 fs e ∙ append-nil (rejects_of 1 fs) in
+    let rejects : rejects_of 1 (fs ++ e ∷ []) ≡ rejects_of 1 fs = rejects_of-append 1 fs (e ∷ []) ∙ append-nil (rejects_of 1 fs) in
     same_tally _ _ _ _ _ _ _ _
     (ap (λ (es : List Element). length (rows_of es)) taken ∙ ap length (rows_of-append (taken_of fs) (AcceptedPunct punct ∷ []) ∙ append-nil (rows_of (taken_of fs))))
     (ap (λ (es : List Element). length (puncts_of es)) taken ∙ (ap length (puncts_of-append (taken_of fs) (AcceptedPunct punct ∷ [])) ∙ length-append (puncts_of (taken_of fs)) (punct ∷ [])))
@@ -118,33 +98,14 @@ tally_of-push fs (Taken (AcceptedPunct punct)) =
 tally_of-push fs (Refused why) =
     let e : Fate = Refused why in
     let taken : taken_of (fs ++ e ∷ []) ≡ taken_of fs = taken_more fs e ∙ append-nil (taken_of fs) in
-    let rejects : rejects_of 1 (fs ++ e ∷ []) ≡ rejects_of 1 fs ++ (1 + length fs, why) ∷ [] = rejects_of-push 1 fs e in
+    let rejects : rejects_of 1 (fs ++ e ∷ []) ≡ rejects_of 1 fs ++ (1 + length fs, why) ∷ [] = rejects_of-append 1 fs (e ∷ []) in
     same_tally _ _ _ _ _ _ _ _ (ap (λ (es : List Element). length (rows_of es)) taken) (ap (λ (es : List Element). length (puncts_of es)) taken)
     (ap length rejects ∙ length-append (rejects_of 1 fs) ((1 + length fs, why) ∷ []))
     (ap (take 1000) rejects ∙ listed_more 1000 (rejects_of 1 fs) (1 + length fs, why))
 
 -- ---- bounds
 
-with_taken-bound : (f : Fate) (es : List Element) (n : ℕ) → length (rows_of es) + length (puncts_of es) ≤ n → length (rows_of (with_taken f es)) + length (puncts_of (with_taken f es)) ≤ suc n
-with_taken-bound Passed es n le = omega arith
-with_taken-bound (Taken (AcceptedTuple row)) es n le = omega arith
-with_taken-bound (Taken (AcceptedPunct punct)) es n le = omega arith
-with_taken-bound (Refused why) es n le = omega arith
-
-pub taken-bound : (fs : List Fate) → length (rows_of (taken_of fs)) + length (puncts_of (taken_of fs)) ≤ length fs
-taken-bound [] = omega arith
-taken-bound (f ∷ fs) = with_taken-bound f (taken_of fs) (length fs) (taken-bound fs)
-
-with_refused-bound : (n : ℕ) (f : Fate) (xs : List (ℕ × Reject)) (m : ℕ) → length xs ≤ m → length (with_refused n f xs) ≤ suc m
-with_refused-bound n Passed xs m le = omega arith
-with_refused-bound n (Taken e) xs m le = omega arith
-with_refused-bound n (Refused why) xs m le = omega arith
-
-rejects-bound : (n : ℕ) (fs : List Fate) → length (rejects_of n fs) ≤ length fs
-rejects-bound n [] = omega arith
-rejects-bound n (f ∷ fs) = with_refused-bound n f (rejects_of (n + 1) fs) (length fs) (rejects-bound (n + 1) fs)
-
-pub seen_room : (earlier : List Read) (line : ℕ) (kept : List Kept) (tally : Tally) → IsSeen earlier line kept tally → line < 2 ^ 64 - 1 → HasRoom line tally
+pub seen_room : (earlier : List Read) (line : ℕ) (kept : List NumberedPunct) (tally : Tally) → IsSeen earlier line kept tally → line < 2 ^ 64 - 1 → HasRoom line tally
 seen_room earlier line kept tally seen lt =
     let fs : List Fate = fates [] earlier in
     let all : length fs ≡ length earlier = length-fates [] earlier in
@@ -157,22 +118,22 @@ seen_room earlier line kept tally seen lt =
       rejected = omega (arith, seen.lines, ap (λ (t : Tally). t.rejected) seen.counts);
     }
 
-pub seen_more : (earlier : List Read) (r : Read) (line line' : ℕ) (kept kept' : List Kept) (tally tally' : Tally) → IsSeen earlier line kept tally
+pub seen_more : (earlier : List Read) (r : Read) (line line' : ℕ) (kept kept' : List NumberedPunct) (tally tally' : Tally) → IsSeen earlier line kept tally
     → line' ≡ line + 1 → kept' ≡ kept ++ with_kept (line + 1) r [] → tally' ≡ with_fate (line + 1) (fate_by kept r) tally
     → IsSeen (earlier ++ r ∷ []) line' kept' tally'
 seen_more earlier r line line' kept kept' tally tally' seen lines puncts counts =
     let number : line + 1 ≡ 1 + length earlier = omega (arith, seen.lines) in
-    let fate : fate_by kept r ≡ fate_behind earlier r = ap (λ (cs : List Kept). fate_by cs r) seen.puncts ∙ fate_by-kept_of earlier r in
+    let fate : fate_by kept r ≡ fate_behind earlier r = ap (λ (cs : List NumberedPunct). fate_by cs r) seen.puncts ∙ fate_by-kept_of earlier r in
     record {
       lines = omega (arith, seen.lines, lines, length-append earlier (r ∷ []));
-      puncts = puncts ∙ (ap (λ (cs : List Kept). cs ++ with_kept (line + 1) r []) seen.puncts ∙ (ap (λ m. kept_of 1 earlier ++ with_kept m r []) number ∙ sym (kept_of-push 1 earlier r)));
+      puncts = puncts ∙ (ap (λ (cs : List NumberedPunct). cs ++ with_kept (line + 1) r []) seen.puncts ∙ (ap (λ m. kept_of 1 earlier ++ with_kept m r []) number ∙ sym (kept_of-push 1 earlier r)));
       counts = counts ∙ (ap (λ (f : Fate). with_fate (line + 1) f tally) fate ∙ (ap (with_fate (line + 1) (fate_behind earlier r)) seen.counts
           ∙ (ap (λ m. with_fate m (fate_behind earlier r) (tally_of (fates [] earlier))) (number ∙ ap (λ m. 1 + m) (sym (length-fates [] earlier)))
           ∙ (sym (tally_of-push (fates [] earlier) (fate_behind earlier r)) ∙ ap tally_of (sym (fates-push earlier r))))));
     }
 
 -- the numbers of the lines are below the next one's
-with_kept-above : (n m : ℕ) (r : Read) (ks : List Kept) → n < m → IsAbove m ks → IsAbove m (with_kept n r ks)
+with_kept-above : (n m : ℕ) (r : Read) (ks : List NumberedPunct) → n < m → IsAbove m ks → IsAbove m (with_kept n r ks)
 with_kept-above n m Skip ks lt above = above
 with_kept-above n m (Tuple row) ks lt above = above
 with_kept-above n m (Punct punct) ks lt above = (lt, above)
@@ -182,5 +143,5 @@ kept_of-above : (n m : ℕ) (rs : List Read) → n + length rs ≤ m → IsAbove
 kept_of-above n m [] le = tt
 kept_of-above n m (r ∷ rs) le = with_kept-above n m r (kept_of (n + 1) rs) (omega arith) (kept_of-above (n + 1) m rs (omega arith))
 
-pub seen_above : (earlier : List Read) (line : ℕ) (kept : List Kept) (tally : Tally) → IsSeen earlier line kept tally → IsAbove (line + 1) kept
+pub seen_above : (earlier : List Read) (line : ℕ) (kept : List NumberedPunct) (tally : Tally) → IsSeen earlier line kept tally → IsAbove (line + 1) kept
 seen_above earlier line kept tally seen = rw seen.puncts (kept_of-above 1 (line + 1) earlier (omega (arith, seen.lines)))

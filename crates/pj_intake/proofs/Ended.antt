@@ -1,8 +1,9 @@
 -- Where the source has ended and nothing is held, the end comes again.
-use Rattle.std.proofs.Common.{◌≡◌, ◌<◌, ◌≤◌, ℕ, Bool, true, false, nat_lt, Bor, List, [], ◌∷◌, ◌++◌, length, Option, Some, None, Result, Ok, Err, refl, ap, sym, ◌∙◌, arith, le-ltb}
+use Rattle.std.proofs.Common.{◌≡◌, ◌<◌, ◌≤◌, ℕ, Bool, true, false, nat_lt, Bor, List, [], ◌∷◌, ◌++◌, length, Option, Some, None, Result, Ok, Err, IsErrAnd, refl, ap, sym, ◌∙◌, arith, le-ltb}
 use Rattle.std.proofs.lemmas.Bool.{false≢true}
 use Rattle.std.proofs.lemmas.List.{length-append}
 use Rattle.pj_shape.specs.declared.columns.Column.{Column}
+use Rattle.pj_io.specs.States.{SourceState}
 use Rattle.pj_line.specs.Lines.{line_of}
 use Rattle.pj_line.specs.declared.buffer.Line.{Line}
 use Rattle.pj_line.specs.declared.buffer.Line.TheVariants.{Whole, TooLong, End}
@@ -12,6 +13,8 @@ use Rattle.pj_line.specs.Buffers.{Buffered, IsPiece, fed_piece, last_piece, Give
 use Rattle.pj_element.specs.declared.element.Read.{Read}
 use Rattle.pj_element.specs.Elements.{reading_of, reading_at}
 use Rattle.pj_intake.specs.Reads.{ReadsNext}
+use Rattle.pj_intake.specs.declared.intake.IntakeStop.{IntakeStop}
+use Rattle.pj_intake.specs.declared.intake.IntakeStop.TheVariants.{NoMemory}
 
 piece-some : (bytes piece rest : List ℕ) (ended : Bool) → IsPiece bytes piece rest ended → 0 < length bytes
 piece-some _ _ _ _ (fed_piece piece rest ended none) = omega (arith, length-append piece (10 ∷ rest))
@@ -28,27 +31,27 @@ goes-on : (stopped : Option LineStop) (old new : Buffered) (bytes : List ℕ) (r
 goes-on None old new bytes result f0 f1 running goes = goes
 goes-on (Some stop) old new bytes result f0 f1 running goes = cc
 
-pub spent_ends : (old new : Buffered) (result : Result Line LineStop) (told : Bool) (l0 l1 t0 t1 : List ℕ) (f0 f1 : ℕ) → Called old new result told l0 l1 t0 t1 f0 f1
+pub spent_ends : (old new : Buffered) (result : Result Line LineStop) (before now : SourceState) → Called old new result before now
     → old.stopped ≡ None → old.ended ≡ true → old.held ≡ [] → result ≡ Ok End
-spent_ends old new result told l0 l1 t0 t1 f0 f1 called running ended none =
-    let a : Advances old called.bytes new result f0 f1 = goes-on old.stopped old new called.bytes result f0 f1 running called.goes_on in
+spent_ends old new result before now called running ended none =
+    let a : Advances old called.bytes new result before.faults now.faults = goes-on old.stopped old new called.bytes result before.faults now.faults running called.goes_on in
     let stays = a.stays_ended ended in
-    ends old new (old.held ++ called.bytes) result f0 f1 a.gives (ap (λ (xs : List ℕ). xs ++ called.bytes) none ∙ stays.0) stays.1
+    ends old new (old.held ++ called.bytes) result before.faults now.faults a.gives (ap (λ (xs : List ℕ). xs ++ called.bytes) none ∙ stays.0) stays.1
 
-pub no_line : (old new : Buffered) (result : Result Line LineStop) (line : Bor (List ℕ)) (told : Bool) (l0 l1 t0 t1 : List ℕ) (f0 f1 : ℕ) → Called old new result told l0 l1 t0 t1 f0 f1
+pub no_line : (old new : Buffered) (result : Result Line LineStop) (line : Bor (List ℕ)) (before now : SourceState) → Called old new result before now
     → result ≡ Ok (Whole line) → old.stopped ≡ None → old.ended ≡ true → old.held ≡ [] → ⊥
-no_line old new result line told l0 l1 t0 t1 f0 f1 called is running ended none =
-    let end : result ≡ Ok End = spent_ends old new result told l0 l1 t0 t1 f0 f1 called running ended none in
+no_line old new result line before now called is running ended none =
+    let end : result ≡ Ok End = spent_ends old new result before now called running ended none in
     cc
 
 -- a line that is not too long is read as its piece
 reads : (columns : List Column) (piece : List ℕ) (size : ℕ) → length piece ≤ size → size ≡ 65536 → reading_of columns (line_of piece) ≡ reading_at columns piece
 reads columns piece size le is = let short : nat_lt 65536 (length piece) ≡ false = le-ltb _ _ (omega (arith, le, is)) in rw short refl
 
-pub line_reads : (columns : List Column) (old new : Buffered) (result : Result Line LineStop) (line : Bor (List ℕ)) (read : Read) (told : Bool) (l0 l1 t0 t1 : List ℕ) (f0 f1 : ℕ) → Called old new result told l0 l1 t0 t1 f0 f1
-    → result ≡ Ok (Whole line) → old.stopped ≡ None → old.size ≡ 65536 → read ≡ reading_of columns line.now → ReadsNext columns old new (Ok (Some read)) told l0 l1 t0 t1 f0 f1
-line_reads columns old new result line read told l0 l1 t0 t1 f0 f1 called is running size reads_so =
-    let a : Advances old called.bytes new (Ok (Whole line)) f0 f1 = rw (sym is) (goes-on old.stopped old new called.bytes result f0 f1 running called.goes_on) in
+pub line_reads : (columns : List Column) (old new : Buffered) (result : Result Line LineStop) (line : Bor (List ℕ)) (read : Read) (before now : SourceState) → Called old new result before now
+    → result ≡ Ok (Whole line) → old.stopped ≡ None → old.size ≡ 65536 → read ≡ reading_of columns line.now → ReadsNext columns old new before now (Ok (Some read))
+line_reads columns old new result line read before now called is running size reads_so =
+    let a : Advances old called.bytes new (Ok (Whole line)) before.faults now.faults = rw (sym is) (goes-on old.stopped old new called.bytes result before.faults now.faults running called.goes_on) in
     let g = a.gives in
     record {
       bytes = called.bytes;
@@ -59,6 +62,29 @@ line_reads columns old new result line read told l0 l1 t0 t1 f0 f1 called is run
       same_limit = a.same_limit;
       stays_ended = a.stays_ended;
       running = g.4;
-      takes = called.takes;
+      consumes = called.consumes;
       at_end = called.at_end;
     }
+
+-- memory could not be had for a line
+line_starves : (columns : List Column) (old new : Buffered) (result : Result Line LineStop) (line : Bor (List ℕ)) (before now : SourceState) → Called old new result before now
+    → result ≡ Ok (Whole line) → old.stopped ≡ None → ReadsNext columns old new before now (Err NoMemory)
+line_starves columns old new result line before now called is running =
+    let a : Advances old called.bytes new (Ok (Whole line)) before.faults now.faults = rw (sym is) (goes-on old.stopped old new called.bytes result before.faults now.faults running called.goes_on) in
+    record {
+      bytes = called.bytes;
+      gives = (a.gives.0, a.gives.1);
+      counted = a.counted;
+      within = a.within;
+      same_size = a.same_size;
+      same_limit = a.same_limit;
+      stays_ended = a.stays_ended;
+      running = tt;
+      consumes = called.consumes;
+      at_end = called.at_end;
+    }
+
+pub read_starves : (columns : List Column) (old new : Buffered) (result : Result Line LineStop) (line : Bor (List ℕ)) (before now : SourceState) (answer : Result (Option Read) IntakeStop) → Called old new result before now
+    → result ≡ Ok (Whole line) → old.stopped ≡ None → IsErrAnd answer (λ stop. stop ≡ NoMemory) → ReadsNext columns old new before now answer
+read_starves columns old new result line before now (Ok read) called is running starved = absurd starved
+read_starves columns old new result line before now (Err stop) called is running starved = rw starved (line_starves columns old new result line before now called is running)

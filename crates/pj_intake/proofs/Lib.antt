@@ -1,5 +1,4 @@
 pub mod Counts
-pub mod GoOn
-mod Fitting
-mod Ended
-mod Turning
+pub mod Ended
+pub mod Judging
+pub mod Calls

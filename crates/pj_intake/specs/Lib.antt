@@ -1,8 +1,5 @@
 pub mod Taking
-pub mod Judging
-pub mod Fed
-pub mod Laws
+pub mod SeenLines
 pub mod Steps
-pub mod States
 pub mod Reads
-pub mod Turns
+pub mod Judged

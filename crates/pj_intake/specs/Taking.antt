@@ -1,66 +1,45 @@
--- What is kept of the lines of a stream that were read, and what one line more adds.
-use Rattle.std.specs.Prelude.{◌≡◌, ◌<◌, ℕ, ◌+◌, ◌-◌, ◌^◌, ⊤, List, [], ◌∷◌, ◌++◌, length, nat_lt, if◌then◌else◌}
-use Rattle.pj_pattern.specs.declared.element.Element.TheVariants.{Tuple as AcceptedTuple, Punct as AcceptedPunct}
-use Rattle.pj_element.specs.declared.element.Read.{Read}
-use Rattle.pj_element.specs.declared.element.Read.TheVariants.{Skip, Tuple, Punct, Bad}
-use Rattle.pj_element.specs.declared.element.Reject.{Reject}
-use Rattle.pj_element.specs.declared.tally.Tally.{Tally}
-use Rattle.pj_element.specs.Accepted.{Fate, Passed, Taken, Refused, tuple_fate, fates, tally_of}
-use Rattle.pj_cover.specs.declared.store.Kept.{Kept}
-use Rattle.pj_cover.specs.Stores.{first_match_of}
+-- What a contract sees of an intake.
+use Rattle.std.specs.Prelude.{◌≡◌, ◌<◌, ◌≤◌, ◌⊎◌, ℕ, ◌+◌, ◌^◌, true, List, [], length, Option, None}
+use Rattle.pj_shape.specs.declared.columns.Column.{Column}
+use Rattle.pj_line.specs.Buffers.{Buffered}
+use Rattle.pj_element.specs.Elements.{width}
+use Rattle.pj_element.specs.Accepted.{reads_of}
+use Rattle.pj_line.specs.Fed.{AreFed}
+use Rattle.pj_intake.specs.SeenLines.{IsSeen}
+use Rattle.pj_intake.specs.declared.seen.Seen.{Seen}
+use Rattle.pj_intake.specs.declared.intake.IntakeStop.{IntakeStop}
 
-abbrev pub with_kept : ℕ → Read → List Kept → List Kept
-with_kept n Skip kept = kept
-with_kept n (Tuple row) kept = kept
-with_kept n (Punct punct) kept = record { punct = punct; number = n } ∷ kept
-with_kept n (Bad why) kept = kept
+-- The columns of the stream, the lines that are buffered, what is kept of those that were judged, and the stop that was
+-- answered
+pub record IntakeState : Type 0 where
+  pub columns : List Column
+  pub buffer : Buffered
+  pub seen : Seen
+  pub stopped : Option IntakeStop
 
--- the punctuations of these lines with the lines' numbers, where the first line has the number n
-abbrev pub kept_of : ℕ → List Read → List Kept
-kept_of n [] = []
-kept_of n (r ∷ rs) = with_kept n r (kept_of (n + 1) rs)
+-- an intake: its source, and what it keeps beside
+pub record Taking (S : Type 0) : Type 0 where
+  pub source : S
+  pub state : IntakeState
 
--- what becomes of a line, by the punctuations before it
-abbrev pub fate_by : List Kept → Read → Fate
-fate_by kept Skip = Passed
-fate_by kept (Tuple row) = tuple_fate row (first_match_of kept row)
-fate_by kept (Punct punct) = Taken (AcceptedPunct punct)
-fate_by kept (Bad why) = Refused why
+-- what is kept is of the lines of these bytes: how many they are, their punctuations and their tally
+abbrev pub HasJudged : IntakeState → List ℕ → Type 0
+HasJudged state judged = IsSeen (reads_of state.columns judged) state.seen.line state.seen.store.kept state.seen.tally
 
--- the number of lines, the punctuations and the tally are those of these lines
-pub record IsSeen (earlier : List Read) (line : ℕ) (kept : List Kept) (tally : Tally) : Type 0 where
-  pub lines : line ≡ length earlier
-  pub puncts : kept ≡ kept_of 1 earlier
-  pub counts : tally ≡ tally_of (fates [] earlier)
+-- An intake that judged the lines of these bytes and goes on. The bytes end with a line feed, or they are all of the source;
+-- those that are held stand behind them
+pub record IsOpen (state : IntakeState) (judged : List ℕ) : Type 0 where
+  pub has_judged : HasJudged state judged
+  pub arity : state.seen.store.arity ≡ width state.columns
+  pub size : state.buffer.size ≡ 65536
+  pub running : state.buffer.stopped ≡ None
+  pub whole : AreFed judged ⊎ ((state.buffer.ended ≡ true) × (state.buffer.held ≡ []))
+  pub count : state.buffer.count ≡ length judged + length state.buffer.held
+  pub within : state.buffer.count ≤ state.buffer.limit
+  pub most : state.buffer.limit < 2 ^ 64
 
--- ---- one line more
-
--- the counts may grow by one
-pub record HasRoom (line : ℕ) (tally : Tally) : Type 0 where
-  pub lines : line < 2 ^ 64 - 1
-  pub tuples : tally.tuples < 2 ^ 64 - 1
-  pub puncts : tally.puncts < 2 ^ 64 - 1
-  pub rejected : tally.rejected < 2 ^ 64 - 1
-
--- a punctuation has so many patterns
-abbrev pub HasArity : ℕ → Read → Type 0
-HasArity arity Skip = ⊤
-HasArity arity (Tuple row) = ⊤
-HasArity arity (Punct punct) = length punct ≡ arity
-HasArity arity (Bad why) = ⊤
-
-abbrev pub with_tuple : Tally → Tally
-with_tuple tally = record tally { tuples = tally.tuples + 1 }
-
-abbrev pub with_punct : Tally → Tally
-with_punct tally = record tally { puncts = tally.puncts + 1 }
-
--- one reject more, listed where it is among the first 1,000
-abbrev pub with_reject : ℕ → Reject → Tally → Tally
-with_reject n why tally = record tally { rejected = tally.rejected + 1; listed = if nat_lt (length tally.listed) 1000 then tally.listed ++ (n, why) ∷ [] else tally.listed }
-
-abbrev pub with_fate : ℕ → Fate → Tally → Tally
-with_fate n Passed tally = tally
-with_fate n (Taken (AcceptedTuple row)) tally = with_tuple tally
-with_fate n (Taken (AcceptedPunct punct)) tally = with_punct tally
-with_fate n (Refused why) tally = with_reject n why tally
+-- the lines of some bytes were judged, whether it goes on behind them or has stopped
+pub record Stands (state : IntakeState) : Type 0 where
+  pub judged : List ℕ
+  pub has_judged : HasJudged state judged
+  pub goes_on : state.stopped ≡ None → IsOpen state judged

@@ -1,12 +1,14 @@
 // The intake of a stream.
 ghost use Rattle.std.specs.Prelude.{◌≡◌, ◌≤◌, [], ◌++◌, ℕ, List, None, Some, Ok, Err, true, false, IfOk, IfErr, IsTrue};
-ghost use Rattle.pj_io.specs.Pieces.{Takes};
+ghost use Rattle.pj_io.specs.Pieces.{Consumes};
+ghost use Rattle.pj_line.specs.Buffers.{KnowsEnd};
+ghost use Rattle.pj_element.specs.Accepted.{fates_of, tally_of};
 ghost use Rattle.pj_intake.specs.declared.intake.Step.TheVariants.{End};
-ghost use Rattle.pj_intake.specs.States.{IsOpen};
-ghost use Rattle.pj_intake.specs.Steps.{FitsStep, NextGives, stop_in};
+ghost use Rattle.pj_intake.specs.Taking.{HasJudged, IsOpen};
+ghost use Rattle.pj_intake.specs.Steps.{FitsStep, GoesOn, stop_answered};
 
 use crate::seen::{Seen, none_seen};
-use crate::turns::next_step;
+use crate::steps::next_step;
 use pj_element::{Reject, Tally};
 use pj_io::Source;
 use pj_line::LineBuf;
@@ -67,21 +69,19 @@ pub struct Intake<S> {
 }
 
 impl<S> Model for Intake<S> {
-    ghost use Rattle.std.specs.Prelude.{◌≡◌, ℕ, List, None};
-    ghost use Rattle.pj_intake.specs.declared.intake.Step.TheVariants.{End};
-    ghost use Rattle.pj_intake.specs.States.{Taking};
-    ghost use Rattle.pj_intake.specs.Steps.{Follows};
+    ghost use Rattle.pj_intake.specs.Taking.{Stands, Taking};
 
     ghost Value = { Taking S };
 
-    ghost view = { λ i. record { columns = i.schema; source = i.source; buffer = i.lines; seen = i.seen; stopped = i.stopped } };
+    ghost view = { λ i. record { source = i.source; state = record { columns = i.schema; buffer = i.lines; seen = i.seen; stopped = i.stopped } } };
 
-    ghost invariant = { λ i. i.stopped ≡ None → (judged : List ℕ) × Follows i.schema i.lines i.seen judged };
+    ghost invariant = { λ i. Stands (record { columns = i.schema; buffer = i.lines; seen = i.seen; stopped = i.stopped }) };
 }
 
 impl<S: Source> Intake<S> {
     /// An intake that has judged no line, for a stream with these columns; it takes at most `limit` bytes, at least 1. Where the
     /// source tells what was taken, that is nothing yet. On `NoMemory` the source is handed back.
+    #[tactic(auto, using(crate::proofs::Calls::starts))]
     pub fn new(
         alloc: Global,
         schema: Schema,
@@ -89,14 +89,14 @@ impl<S: Source> Intake<S> {
         limit: u64,
     ) -> Result<Intake<S>, (S, NoMemory)>
         requires limit { 1 ≤ limit }
-        requires fresh { IsTrue (S.tells source) → S.taken source ≡ [] }
-        ensures columns { IfOk result (λ intake. intake.columns ≡ schema) }
+        requires fresh { IsTrue (S.state source).told → (S.state source).taken ≡ [] }
+        ensures columns { IfOk result (λ intake. intake.state.columns ≡ schema) }
         ensures source { IfOk result (λ intake. intake.source ≡ source) }
-        ensures stopped { IfOk result (λ intake. intake.stopped ≡ None) }
-        ensures limit { IfOk result (λ intake. intake.buffer.limit ≡ limit) }
-        ensures held { IfOk result (λ intake. intake.buffer.held ≡ []) }
-        ensures ended { IfOk result (λ intake. intake.buffer.ended ≡ false) }
-        ensures judged { IfOk result (λ intake. IsOpen intake []) }
+        ensures stopped { IfOk result (λ intake. intake.state.stopped ≡ None) }
+        ensures limit { IfOk result (λ intake. intake.state.buffer.limit ≡ limit) }
+        ensures held { IfOk result (λ intake. intake.state.buffer.held ≡ []) }
+        ensures ended { IfOk result (λ intake. intake.state.buffer.ended ≡ false) }
+        ensures judged { IfOk result (λ intake. IsOpen intake.state []) }
         ensures back { IfErr result (λ back. back.0 ≡ source) }
     {
         let arity = schema.len().min(u32::MAX as usize) as u32;
@@ -120,23 +120,23 @@ impl<S: Source> Intake<S> {
 
     /// What becomes of the next line that is not skipped: the steps up to any moment are those of the lines so far. `ReadFault`
     /// comes only where the source's faults rose, and then no line feed was taken behind the lines that were judged; `ByteLimit`
-    /// exactly where `limit` bytes were taken without the end having been read and no line feed is left. `End` comes exactly
-    /// where every line was judged, and again at every later call. After a stop every call gives the same stop.
+    /// exactly where `limit` bytes were taken without the end having been read and no line feed is left; `NoMemory` leaves out
+    /// the line for which memory could not be had, and nothing before it. `End` comes exactly where every line was judged, and
+    /// again at every later call. After a stop every call gives the same stop, and what was judged stays.
     pub fn next(&mut self) -> Result<Step, IntakeStop>
-        requires at_end { self.old.buffer.ended ≡ true → IsTrue (S.tells self.old.source) → S.left self.old.source ≡ [] }
-        ensures columns { self.new.columns ≡ self.old.columns }
-        ensures limit { self.new.buffer.limit ≡ self.old.buffer.limit }
-        ensures tells { S.tells self.new.source ≡ S.tells self.old.source }
-        ensures name { S.name self.new.source ≡ S.name self.old.source }
-        ensures later { S.faults self.old.source ≤ S.faults self.new.source }
-        ensures stopped { (stop : IntakeStop) → self.old.stopped ≡ Some stop → (result ≡ Err stop) × (self.new ≡ self.old) }
-        ensures next { self.old.stopped ≡ None → (judged : List ℕ) → IsOpen self.old judged → (IsTrue (S.tells self.old.source) → S.taken self.old.source ≡ judged ++ self.old.buffer.held)
-            → NextGives self.old.columns self.new.buffer self.new.seen judged result (S.tells self.new.source) (S.left self.new.source) (S.taken self.new.source) (S.faults self.old.source) (S.faults self.new.source) }
-        ensures stops { self.old.stopped ≡ None → self.new.stopped ≡ stop_in result }
-        ensures took { IsTrue (S.tells self.old.source) → (bytes : List ℕ) × Takes (S.left self.old.source) (S.left self.new.source) (S.taken self.old.source) (S.taken self.new.source) bytes }
-        ensures at_end { self.new.buffer.ended ≡ true → IsTrue (S.tells self.new.source) → S.left self.new.source ≡ [] }
-        ensures spent { self.old.stopped ≡ None → self.old.buffer.ended ≡ true → self.old.buffer.held ≡ [] → result ≡ Ok End }
-        ensures fits { IfOk result (FitsStep self.old.columns) }
+        requires at_end { KnowsEnd self.old.state.buffer (S.state self.old.source) }
+        ensures columns { self.new.state.columns ≡ self.old.state.columns }
+        ensures limit { self.new.state.buffer.limit ≡ self.old.state.buffer.limit }
+        ensures told { (S.state self.new.source).told ≡ (S.state self.old.source).told }
+        ensures name { (S.state self.new.source).name ≡ (S.state self.old.source).name }
+        ensures later { (S.state self.old.source).faults ≤ (S.state self.new.source).faults }
+        ensures stopped { (stop : IntakeStop) → self.old.state.stopped ≡ Some stop → (result ≡ Err stop) × (self.new ≡ self.old) }
+        ensures next { self.old.state.stopped ≡ None → GoesOn self.old.state self.new.state (S.state self.old.source) (S.state self.new.source) result }
+        ensures stops { self.old.state.stopped ≡ None → self.new.state.stopped ≡ stop_answered result }
+        ensures took { IsTrue (S.state self.old.source).told → (bytes : List ℕ) × Consumes (S.state self.old.source) (S.state self.new.source) bytes }
+        ensures at_end { KnowsEnd self.new.state.buffer (S.state self.new.source) }
+        ensures spent { self.old.state.stopped ≡ None → self.old.state.buffer.ended ≡ true → self.old.state.buffer.held ≡ [] → result ≡ Ok End }
+        ensures fits { IfOk result (FitsStep self.old.state.columns) }
     {
         match self.stopped {
             Some(stop) => Err(stop),
@@ -154,9 +154,10 @@ impl<S: Source> Intake<S> {
         }
     }
 
-    /// The source, and the counts of the lines that were judged.
+    /// The source, and the counts of the lines that were judged, whether all were or an earlier call stopped.
     pub fn close(self) -> (S, Tally)
-        ensures { result ≡ (self.source, self.seen.tally) }
+        ensures parts { result ≡ (self.source, self.state.seen.tally) }
+        ensures judged { (judged : List ℕ) → HasJudged self.state judged → result.1 ≡ tally_of (fates_of self.state.columns judged) }
     {
         let Intake { source, seen, .. } = self;
         let Seen { tally, .. } = seen;
@@ -166,7 +167,7 @@ impl<S: Source> Intake<S> {
 
 // The stop that was answered.
 fn stop_of(answer: &Result<Step, IntakeStop>) -> Option<IntakeStop>
-    ensures { result ≡ stop_in answer.now }
+    ensures { result ≡ stop_answered answer.now }
 {
     match answer {
         Ok(_) => None,

@@ -2,12 +2,10 @@
 #![tactic(auto)]
 
 mod intake;
-mod laws;
 mod lines;
 mod seen;
+mod steps;
 #[cfg(test)]
 mod tests;
-mod turns;
 
 pub use intake::{Intake, IntakeStop, Step};
-pub use laws::acceptance_goes_on;

@@ -1,8 +1,9 @@
 // What is kept of the lines of a stream that were judged, and the judgement of one line more.
-ghost use Rattle.std.specs.Prelude.{◌≡◌, ◌≤◌, ◌<◌, ◌+◌, ◌^◌, ◌-◌, ◌++◌, [], IfOk, OnOk};
+ghost use Rattle.std.specs.Prelude.{◌≡◌, ◌≤◌, ◌<◌, ◌+◌, ◌^◌, ◌-◌, ◌++◌, [], IfOk, OnOk, OnErr};
 ghost use Rattle.pj_cover.specs.Stores.{IsAbove};
-ghost use Rattle.pj_intake.specs.Taking.{IsSeen, HasRoom, HasArity, with_kept, with_fate, with_reject, fate_by};
-ghost use Rattle.pj_intake.specs.Judging.{step_in};
+ghost use Rattle.pj_element.specs.Fitting.{HasArity};
+ghost use Rattle.pj_intake.specs.SeenLines.{IsSeen, HasRoom, with_kept, with_fate, with_reject, fate_by};
+ghost use Rattle.pj_intake.specs.Steps.{step_in};
 
 use crate::intake::Step;
 use pj_cover::PunctStore;
@@ -38,7 +39,8 @@ pub(crate) fn none_seen(alloc: Global, arity: u32) -> Result<Seen, NoMemory>
     })
 }
 
-// Judges one line more, which has the next number. It gives no step where the line is skipped.
+// Judges one line more, which has the next number. It gives no step where the line is skipped. On a refusal nothing of the
+// line is kept.
 pub(crate) fn judge(alloc: Global, read: Read, seen: &mut Seen) -> Result<Option<Step>, NoMemory>
     requires room { HasRoom seen.old.line seen.old.tally }
     requires rises { IsAbove (seen.old.line + 1) seen.old.store.kept }
@@ -47,6 +49,7 @@ pub(crate) fn judge(alloc: Global, read: Read, seen: &mut Seen) -> Result<Option
     ensures arity { OnOk result (seen.new.store.arity ≡ seen.old.store.arity) }
     ensures kept { OnOk result (seen.new.store.kept ≡ seen.old.store.kept ++ with_kept (seen.old.line + 1) read []) }
     ensures tally { OnOk result (seen.new.tally ≡ with_fate (seen.old.line + 1) (fate_by seen.old.store.kept read) seen.old.tally) }
+    ensures err { OnErr result (seen.new ≡ seen.old) }
     ensures step { IfOk result (λ step. step ≡ step_in (seen.old.line + 1) (fate_by seen.old.store.kept read)) }
 {
     let line = seen.line + 1;
@@ -80,7 +83,8 @@ pub(crate) fn judge(alloc: Global, read: Read, seen: &mut Seen) -> Result<Option
 // One reject more, of the line with this number.
 fn note_reject(tally: &mut Tally, line: u64, why: Reject) -> Result<(), NoMemory>
     requires { tally.old.rejected < 2 ^ 64 - 1 }
-    ensures { OnOk result (tally.new ≡ with_reject line why tally.old) }
+    ensures ok { OnOk result (tally.new ≡ with_reject line why tally.old) }
+    ensures err { OnErr result (tally.new ≡ tally.old) }
 {
     if tally.listed.len() < LISTED {
         tally.listed.push((line, why))?;

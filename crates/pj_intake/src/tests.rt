@@ -1,26 +1,24 @@
 // What no clause says: that the calls succeed with ample memory, on worked lines.
-ghost use Rattle.std.specs.Prelude.{◌≡◌, ◌≤◌, ◌<◌, [], true, IsTrue};
+ghost use Rattle.std.specs.Prelude.{IfOk};
+ghost use Rattle.pj_line.specs.Buffers.{KnowsEnd};
 
 use super::*;
 use pj_element::{Reject, Tally, punct_text, row_text};
-use pj_io::{MemSource, Source};
+use pj_io::MemSource;
 use pj_shape::{Column, Schema};
 use pj_value::{Bytes, Kind, List, NoMemory};
 use std::alloc::Global;
 use std::test::Fail;
 
-fn column(alloc: Global, kind: Kind) -> Result<Column, NoMemory> {
-    Ok(Column {
-        name: List::copy_of(alloc, b"c")?,
-        kind,
-    })
-}
-
 // An int column and a text column.
 fn pair_of(alloc: Global) -> Result<Schema, NoMemory> {
     let mut columns = List::new(alloc);
-    columns.push(column(alloc, Kind::Int)?)?;
-    columns.push(column(alloc, Kind::Text)?)?;
+    for kind in [Kind::Int, Kind::Text] {
+        columns.push(Column {
+            name: List::new(alloc),
+            kind,
+        })?;
+    }
     Ok(Schema::of(columns))
 }
 
@@ -29,97 +27,114 @@ fn digit(number: u64) -> u8 {
     b'0' + (number % 10) as u8
 }
 
-fn note_reject(line: u64, why: Reject, out: &mut Bytes) -> Result<(), NoMemory> {
-    out.push(digit(line))?;
+// The number of a line, why it is rejected, and the line that closes it.
+fn reject_of(line: u64, why: Reject) -> [u8; 3] {
     match why {
-        Reject::TooLong => out.append(b" long"),
-        Reject::Closed { line: closer } => out.append(&[b'c', digit(closer)]),
-        _ => out.append(b" bad"),
+        Reject::Closed { line: closer } => [digit(line), b'c', digit(closer)],
+        Reject::TooLong => [digit(line), b'l', b'-'],
+        _ => [digit(line), b'b', b'-'],
     }
 }
 
-// Notes what the next call gives.
-fn note_next<S: Source>(
+fn append_answer(
     alloc: Global,
-    intake: &mut Intake<S>,
+    answer: Result<Step, IntakeStop>,
     out: &mut Bytes,
-) -> Result<(), NoMemory>
-    requires { intake.old.buffer.ended ≡ true → IsTrue (S.tells intake.old.source) → S.left intake.old.source ≡ [] }
-    ensures { intake.new.buffer.ended ≡ true → IsTrue (S.tells intake.new.source) → S.left intake.new.source ≡ [] }
-{
-    match intake.next() {
-        Ok(Step::Tuple(row)) => row_text(alloc, &row, out)?,
-        Ok(Step::Punct(punct)) => punct_text(alloc, &punct, out)?,
-        Ok(Step::Rejected(line, why)) => note_reject(line, why, out)?,
-        Ok(Step::End) => out.append(b"end")?,
-        Err(IntakeStop::ReadFault) => out.append(b"fault")?,
-        Err(IntakeStop::ByteLimit) => out.append(b"limit")?,
-        Err(IntakeStop::NoMemory) => out.append(b"memory")?,
+) -> Result<(), NoMemory> {
+    match answer {
+        Ok(Step::Tuple(row)) => row_text(alloc, &row, out),
+        Ok(Step::Punct(punct)) => punct_text(alloc, &punct, out),
+        Ok(Step::Rejected(line, why)) => out.append(&reject_of(line, why)),
+        Ok(Step::End) => out.append(b"end"),
+        Err(IntakeStop::ReadFault) => out.append(b"fault"),
+        Err(IntakeStop::ByteLimit) => out.append(b"limit"),
+        Err(IntakeStop::NoMemory) => out.append(b"memory"),
     }
-    out.push(b'|')?;
-    Ok(())
 }
 
 // The counts of a tally.
-fn note_counts(tally: &Tally, out: &mut Bytes) -> Result<(), NoMemory> {
-    out.append(&[
+fn counts_of(tally: &Tally) -> [u8; 4] {
+    [
         digit(tally.tuples),
         digit(tally.puncts),
         digit(tally.rejected),
         digit(tally.listed.len() as u64),
-    ])
+    ]
 }
 
-// What that many calls give, and the counts behind them.
-fn notes(
-    alloc: Global,
-    bytes: &[u8],
+// The bytes of a file, read in pieces of at most so many, the read that fails, and how many bytes may be taken.
+#[derive(Clone, Copy)]
+struct Case {
+    bytes: &'static [u8],
     cut: usize,
-    fails: &[u64],
+    fails: &'static [u64],
     limit: u64,
-    calls: u32,
-) -> Result<Bytes, NoMemory>
-    requires cut { 0 < cut }
-    requires limit { 1 ≤ limit }
+    want: &'static [u8],
+}
+
+fn intake_of(alloc: Global, case: &Case) -> Result<Intake<MemSource>, NoMemory>
+    ensures { IfOk result (λ intake. KnowsEnd intake.state.buffer intake.source.source) }
 {
-    let source = MemSource::new(alloc, bytes, cut, fails)?;
-    let mut out = List::new(alloc);
-    match Intake::new(alloc, pair_of(alloc)?, source, limit) {
-        Ok(mut intake) => {
-            for _ in 0..calls {
-                note_next(alloc, &mut intake, &mut out)?;
-            }
-            let (_, tally) = intake.close();
-            note_counts(&tally, &mut out)?;
-            Ok(out)
-        }
+    let source = MemSource::new(alloc, case.bytes, case.cut.max(1), case.fails)?;
+    match Intake::new(alloc, pair_of(alloc)?, source, case.limit.max(1)) {
+        Ok(intake) => Ok(intake),
         Err((_, stop)) => Err(stop),
+    }
+}
+
+// Whether six calls and the counts behind them give what is wanted.
+fn gives(alloc: Global, case: &Case) -> Result<bool, NoMemory> {
+    let mut intake = intake_of(alloc, case)?;
+    let mut out = List::new(alloc);
+    for _ in 0..6 {
+        append_answer(alloc, intake.next(), &mut out)?;
+        out.push(b'|')?;
+    }
+    let (_, tally) = intake.close();
+    out.append(&counts_of(&tally))?;
+    Ok(out.as_slice() == case.want)
+}
+
+// Tuples and a punctuation, of which the third tuple is closed.
+fn lines(cut: usize) -> Case {
+    Case {
+        bytes: b"t 1 \"a\"\np 1 *\nt 1 \"b\"\nt 2 \"b\"",
+        cut,
+        fails: &[],
+        limit: 1000,
+        want: b"t 1 \"a\"|p 1 *|3c2|t 2 \"b\"|end|end|2111",
     }
 }
 
 #[test]
 fn lines_are_judged_one_by_one(rt: HostRuntime) -> Result<(), Fail> {
-    let lines = b"t 1 \"a\"\np 1 *\nt 1 \"b\"\nt 2 \"b\"";
-    for cut in [1, 7, 4096] {
-        let out = notes(rt.alloc(), lines, cut, &[], 1000, 6)?;
-        assert!(rt; out.as_slice() == b"t 1 \"a\"|p 1 *|3c2|t 2 \"b\"|end|end|2111".as_slice());
+    for case in [
+        lines(1),
+        lines(7),
+        lines(4096),
+        Case {
+            bytes: b"\n# c\nt x \"a\"\n\n",
+            cut: 5,
+            fails: &[],
+            limit: 1000,
+            want: b"3b-|end|end|end|end|end|0011",
+        },
+        Case {
+            bytes: b"t 1 \"a\"\nt 2",
+            cut: 9,
+            fails: &[],
+            limit: 10,
+            want: b"t 1 \"a\"|limit|limit|limit|limit|limit|1000",
+        },
+        Case {
+            bytes: b"t 1 \"a\"\nt 2",
+            cut: 8,
+            fails: &[1],
+            limit: 99,
+            want: b"t 1 \"a\"|fault|fault|fault|fault|fault|1000",
+        },
+    ] {
+        assert!(rt; gives(rt.alloc(), &case)?);
     }
-    Ok(())
-}
-
-#[test]
-fn skipped_lines_are_counted(rt: HostRuntime) -> Result<(), Fail> {
-    let out = notes(rt.alloc(), b"\n# c\nt x \"a\"\n\n", 5, &[], 1000, 2)?;
-    assert!(rt; out.as_slice() == b"3 bad|end|0011".as_slice());
-    Ok(())
-}
-
-#[test]
-fn stops_stay(rt: HostRuntime) -> Result<(), Fail> {
-    let alloc = rt.alloc();
-    let limited = notes(alloc, b"t 1 \"a\"\nt 2", 9, &[], 10, 3)?;
-    assert!(rt; limited.as_slice() == b"t 1 \"a\"|limit|limit|1000".as_slice());
-    let broken = notes(alloc, b"t 1 \"a\"\nt 2", 8, &[1], 99, 3)?;
-    assert!(rt; broken.as_slice() == b"t 1 \"a\"|fault|fault|1000".as_slice());
     Ok(())
 }
