@@ -1,18 +1,21 @@
 -- The rows that a plan hands up are those of its answer.
 use Rattle.std.proofs.Common.{ℕ, zero, suc, ◌+◌, ◌<◌, ◌≤◌, Bool, true, false, cond, List, [], ◌∷◌, ◌++◌, ◌≡◌, map, filter, flat_map, length, get_or, refl, sym, ap, ap₂, ◌∙◌, subst, inl, inr, eqb, arith, append_assoc, append-nil}
+use Rattle.pj_value.proofs.Bags.{weigh-append, weigh-map, weigh-filter, weigh-agree}
+use Rattle.pj_pattern.specs.Columns.{others_wild}
 use Rattle.std.proofs.lemmas.Bool.{eqb-true, eq-eqb, ne_eqb, cases_eq}
 use Rattle.std.proofs.lemmas.List.{map-append, length-map}
 use Rattle.std.proofs.lemmas.List.Elements.{filter-append}
 use Rattle.pj_shape.specs.Joining.{parts_from, join_answer}
 use Rattle.pj_laws.specs.Patterns.{Pattern, matches_row}
-use Rattle.pj_laws.specs.Bags.{weigh, AreSameBag}
+use Rattle.pj_value.specs.Bags.{weigh, SameBag}
 use Rattle.pj_laws.specs.Join.{In, Value, Part, part_of, joins, joined_row, TupleAt, ClassCol, JoinData, JoinState, Step, TupleComes, PunctComes, Take, Give, Sweep, start, step, run, inputs, AreLegalSteps, of_input, agree, product, upto_from, has, Element, Tuple, Punct, joined, rows_of, new_tuple}
-use Rattle.pj_laws.specs.Operators.{picked_cells, union_after, all_sent_from, UnionState, Sent, select_hands, project_hands, drops_wildcards, picked_patterns}
+use Rattle.pj_laws.specs.Operators.{picked_cells, union_after, all_sent_from, UnionState, Sent, select_hands, project_hands, picked_patterns}
 use Rattle.pj_laws.specs.Plan.{Union, Join, Local, Comes, Fed, Own, hands_all, IsOwn}
-use Rattle.pj_laws.proofs.Bags.{weigh-append, weigh-map, weigh-filter, weigh-agree, weigh-product}
+use Rattle.pj_laws.proofs.Bags.{weigh-product}
 use Rattle.pj_laws.proofs.Glue.{from_input}
 use Rattle.pj_laws.proofs.Operators.{AreWithin, join_steps, join-hands}
 use Rattle.pj_laws.proofs.Complete.{all-rows-given}
+use Rattle.pj_laws.proofs.Upto.{length-upto, get_or-upto}
 
 -- ---- plain operators
 
@@ -29,16 +32,16 @@ select-rows test (Tuple row ∷ es) = go (matches_row test row) (select-rows tes
 pub project-rows : (columns : List ℕ) (es : List Element) → rows_of (flat_map (project_hands columns) es) ≡ map (picked_cells columns) (rows_of es)
 project-rows columns [] = refl
 project-rows columns (Tuple row ∷ es) = ap (λ rows. picked_cells columns row ∷ rows) (project-rows columns es)
-project-rows columns (Punct ps ∷ es) = go (drops_wildcards columns 0 ps) ∙ project-rows columns es
+project-rows columns (Punct ps ∷ es) = go (others_wild columns 0 ps) ∙ project-rows columns es
   where
     go : (b : Bool) → rows_of (cond b (Punct (picked_patterns columns ps) ∷ []) [] ++ flat_map (project_hands columns) es) ≡ rows_of (flat_map (project_hands columns) es)
     go true = refl
     go false = refl
 
-pub bag-filter : {A : Type 0} (p : A → Bool) (xs ys : List A) → AreSameBag xs ys → AreSameBag (filter p xs) (filter p ys)
+pub bag-filter : {A : Type 0} (p : A → Bool) (xs ys : List A) → SameBag xs ys → SameBag (filter p xs) (filter p ys)
 bag-filter p xs ys s f = weigh-filter f p xs ∙ s (λ x. cond (p x) (f x) 0) ∙ sym (weigh-filter f p ys)
 
-pub bag-map : {A B : Type 0} (g : A → B) (xs ys : List A) → AreSameBag xs ys → AreSameBag (map g xs) (map g ys)
+pub bag-map : {A B : Type 0} (g : A → B) (xs ys : List A) → SameBag xs ys → SameBag (map g xs) (map g ys)
 bag-map g xs ys s f = weigh-map f g xs ∙ s (λ x. f (g x)) ∙ sym (weigh-map f g ys)
 
 -- ---- a union
@@ -91,7 +94,7 @@ union-weigh f n u (Comes i (Punct ps) ∷ ls) w =
     ∙ union-weigh f n (union_after n u i (Punct ps)) ls w.1 ∙ sym (weigh-closed f 0 n i ps ls)
 
 -- the lists weigh what the inputs do
-pub lists-weigh : (f : List Value → ℕ) (k : ℕ) (lists : List (List (List Value))) (ls : List Local) → ((j : ℕ) → j < length lists → AreSameBag (rows_of (from_input (k + j) ls)) (get_or lists j []))
+pub lists-weigh : (f : List Value → ℕ) (k : ℕ) (lists : List (List (List Value))) (ls : List Local) → ((j : ℕ) → j < length lists → SameBag (rows_of (from_input (k + j) ls)) (get_or lists j []))
     → inputs_weigh f k (length lists) ls ≡ weigh f (flat_map (λ l. l) lists)
 lists-weigh f k [] ls same = refl
 lists-weigh f k (l ∷ lists) ls same =
@@ -100,7 +103,7 @@ lists-weigh f k (l ∷ lists) ls same =
       arith,
       weigh-append f l (flat_map (λ l. l) lists),
       sym (ap (λ j. weigh f (rows_of (from_input j ls))) z) ∙ same 0 (omega arith) f,
-      lists-weigh f (k + 1) lists ls (λ j lt. let q : k + suc j ≡ k + 1 + j = omega arith in subst (λ (i : ℕ). AreSameBag (rows_of (from_input i ls)) (get_or lists j [])) q (same (suc j) (omega arith))),
+      lists-weigh f (k + 1) lists ls (λ j lt. let q : k + suc j ≡ k + 1 + j = omega arith in subst (λ (i : ℕ). SameBag (rows_of (from_input i ls)) (get_or lists j [])) q (same (suc j) (omega arith))),
     )
 
 -- ---- a join
@@ -130,7 +133,7 @@ product-map {A} {B} f F (xs ∷ xss) =
 
 -- products of lists that are equal as bags weigh the same
 product-same : {A : Type 0} (F : List A → ℕ) (xss yss : List (List A)) → length xss ≡ length yss
-    → ((j : ℕ) → j < length xss → AreSameBag (get_or xss j []) (get_or yss j [])) → weigh F (product xss) ≡ weigh F (product yss)
+    → ((j : ℕ) → j < length xss → SameBag (get_or xss j []) (get_or yss j [])) → weigh F (product xss) ≡ weigh F (product yss)
 product-same F [] [] l same = refl
 product-same F [] (ys ∷ yss) l same = absurd (omega arith)
 product-same F (xs ∷ xss) [] l same = absurd (omega arith)
@@ -180,15 +183,6 @@ part-rows k (x ∷ xs) = go (eqb x.input k) (λ e. eqb-true x.input k e) (part-r
     go true e ih = ap₂ (λ (j : ℕ) (ys : List Part). part j x.row ∷ ys) (e refl) ih
     go false e ih = ih
 
-pub at-upto : {A : Type 0} (g : ℕ → List A) (k n j : ℕ) → j < n → get_or (map g (upto_from k n)) j [] ≡ g (k + j)
-at-upto g k zero j lt = absurd (omega arith)
-at-upto g k (suc n) zero lt = let z : k ≡ k + 0 = omega arith in ap g z
-at-upto g k (suc n) (suc j) lt = let z : k + 1 + j ≡ k + suc j = omega arith in at-upto g (k + 1) n j (omega arith) ∙ ap g z
-
-pub length-upto : (k n : ℕ) → length (upto_from k n) ≡ n
-length-upto k zero = refl
-length-upto k (suc n) = ap suc (length-upto (k + 1) n)
-
 pub at-parts : (k : ℕ) (lists : List (List (List Value))) (j : ℕ) → j < length lists → get_or (parts_from k lists) j [] ≡ map (part (k + j)) (get_or lists j [])
 at-parts k [] j lt = absurd (omega arith)
 at-parts k (l ∷ lists) zero lt = let z : k ≡ k + 0 = omega arith in ap (λ i. map (part i) l) z
@@ -201,8 +195,8 @@ length-parts k (l ∷ lists) = ap suc (length-parts (k + 1) lists)
 pub join-rows : (spec : JoinData) (ls : List Local) (lists : List (List (List Value))) → 0 < inputs spec → length lists ≡ inputs spec
     → AreLegalSteps spec start (join_steps ls) → ((st : Step) → In (Own st) ls → IsOwn st)
     → ((x : TupleAt) → In x (run spec start (join_steps ls)).tuples → has (run spec start (join_steps ls)).given x.ticket ≡ true)
-    → ((k : ℕ) → k < inputs spec → AreSameBag (rows_of (from_input k ls)) (get_or lists k []))
-    → AreSameBag (rows_of (hands_all (Join spec start) ls)) (join_answer spec.shape.classes lists)
+    → ((k : ℕ) → k < inputs spec → SameBag (rows_of (from_input k ls)) (get_or lists k []))
+    → SameBag (rows_of (hands_all (Join spec start) ls)) (join_answer spec.shape.classes lists)
 join-rows spec ls lists lt long legal o done same f =
     ap (λ es. weigh f (rows_of es)) (join-hands spec start ls)
     ∙ all-rows-given spec lt (join_steps ls) legal done f
@@ -226,9 +220,9 @@ join-rows spec ls lists lt long legal o done same f =
     mine : ℕ → List Part
     mine k = map part_of (of_input k T)
 
-    each : (j : ℕ) → j < n → AreSameBag (get_or (map mine ks) j []) (get_or (parts_from 0 lists) j [])
+    each : (j : ℕ) → j < n → SameBag (get_or (map mine ks) j []) (get_or (parts_from 0 lists) j [])
     each j l g =
-        ap (weigh g) (at-upto mine 0 n j l)
+        ap (weigh g) (get_or-upto mine 0 n j [] l)
         ∙ ap (weigh g) (part-rows (0 + j) T)
         ∙ ap (λ rows. weigh g (map (part (0 + j)) rows)) (arrived-rows spec start ls (0 + j) o)
         ∙ ap (λ i. weigh g (map (part (0 + j)) (rows_of (from_input i ls)))) zj

@@ -1,15 +1,18 @@
 -- A punctuation of wildcards alone goes up from every place of a complete run.
 use Rattle.std.proofs.Common.{ℕ, zero, suc, ◌+◌, ◌<◌, ◌≤◌, Bool, true, false, cond, ◌&&◌, ◌||◌, not, List, [], ◌∷◌, ◌++◌, ◌≡◌, ◌⊎◌, map, filter, length, get_or, take, drop, sum, refl, sym, ap, ap₂, ◌∙◌, subst, inl, inr, eqb, arith}
+use Rattle.pj_value.proofs.Members.{In-append_left, In-append_right, In-append_cases, In-filter, In-filter_from, In-map_from, any_from}
+use Rattle.pj_pattern.specs.Columns.{others_wild}
 use Rattle.std.specs.List.{list_any}
 use Rattle.std.proofs.lemmas.Bool.{and_from, or_right, false≢true, eqb-true, eq-eqb, cases_Bool, not-true}
 use Rattle.std.proofs.lemmas.List.{replicate-append-replicate, length-map}
 use Rattle.std.proofs.lemmas.List.Sums.{sum_by-take-drop, sum_by-drop_more}
 use Rattle.pj_laws.specs.Patterns.{Pattern, wild, all_wild, matches_row, covers_punct}
-use Rattle.pj_laws.specs.Join.{In, Value, no_value, arities, must_wait, PunctAt, JoinData, JoinState, Step, TupleComes, PunctComes, Take, Give, Sweep, start, step, run, inputs, arity, is_held, kept, new_punct, Element, Tuple, Punct, widened, hands_up, outputs, IsLawful}
-use Rattle.pj_laws.specs.Operators.{picked_cells, picked_patterns, drops_wildcards, GroupSpec, group_rows, group_after, group_hands, Sent, UnionState, all_sent_from, union_after, union_hands}
+use Rattle.pj_laws.specs.Join.{In, Value, no_value, arities, must_wait, PunctAt, JoinData, JoinState, Step, TupleComes, PunctComes, Take, Give, Sweep, start, step, run, inputs, arity, is_held, kept, new_punct, Element, Tuple, Punct, widened, hands_up, outputs}
+use Rattle.pj_laws.specs.Operators.{picked_cells, picked_patterns, GroupSpec, group_rows, group_after, group_hands, Sent, UnionState, all_sent_from, union_after, union_hands}
 use Rattle.pj_laws.specs.Plan.{Union, Join, Local, Comes, Fed, Own, join_step, hands_all}
-use Rattle.pj_laws.proofs.PatternFacts.{wilds-match, wilds-cover_punct}
-use Rattle.pj_laws.proofs.Lists.{In-append_left, In-append_right, In-append_cases, In-filter, In-filter_from, In-map_from, any_from}
+use Rattle.pj_pattern.proofs.Rows.{wilds-match, wilds-cover_punct}
+use Rattle.pj_pattern.specs.Elements.{IsLawful}
+use Rattle.pj_pattern.proofs.Lawful.{none_at as clear_at}
 use Rattle.pj_laws.proofs.Glue.{from_input}
 use Rattle.pj_laws.proofs.Operators.{AllFit, join_steps, join-hands}
 use Rattle.pj_laws.proofs.UnionsAndGroups.{group_all}
@@ -28,9 +31,9 @@ pub wild-picked : (columns : List ℕ) (n : ℕ) → picked_patterns columns (al
 wild-picked [] n = refl
 wild-picked (c ∷ columns) n = ap₂ (λ (p : Pattern) (ps : List Pattern). p ∷ ps) (wild-at n c) (wild-picked columns n)
 
-pub wild-drops : (columns : List ℕ) (k n : ℕ) → drops_wildcards columns k (all_wild n) ≡ true
+pub wild-drops : (columns : List ℕ) (k n : ℕ) → others_wild columns k (all_wild n) ≡ true
 wild-drops columns k zero = refl
-wild-drops columns k (suc n) = and_from (list_any (λ c. eqb c k) columns || true) (drops_wildcards columns (k + 1) (all_wild n)) (or_right (list_any (λ c. eqb c k) columns) true refl) (wild-drops columns (k + 1) n)
+wild-drops columns k (suc n) = and_from (list_any (λ c. eqb c k) columns || true) (others_wild columns (k + 1) (all_wild n)) (or_right (list_any (λ c. eqb c k) columns) true refl) (wild-drops columns (k + 1) n)
 
 -- ---- groups
 
@@ -44,7 +47,7 @@ group-empty width spec rows (Tuple x ∷ es) long fit l (inr h) =
     last : (row : List Value) → In row (x ∷ []) → length row ≡ width
     last row (inl q) = subst (λ (z : List Value). length z ≡ width) q (fit (Tuple x) (inl refl))
     last row (inr q) = absurd q
-group-empty width spec rows (Punct ps ∷ es) long fit l (inr h) = go (drops_wildcards spec.keys 0 ps) (group-empty width spec rows es long (λ e m. fit e (inr m)) l.1 h) (group-empty width spec left es (λ row m. long row (In-filter (λ r. not (matches_row (picked_patterns spec.keys ps) (picked_cells spec.keys r))) row rows m).0) (λ e m. fit e (inr m)) l.1 h)
+group-empty width spec rows (Punct ps ∷ es) long fit l (inr h) = go (others_wild spec.keys 0 ps) (group-empty width spec rows es long (λ e m. fit e (inr m)) l.1 h) (group-empty width spec left es (λ row m. long row (In-filter (λ r. not (matches_row (picked_patterns spec.keys ps) (picked_cells spec.keys r))) row rows m).0) (λ e m. fit e (inr m)) l.1 h)
   where
     left : List (List Value)
     left = filter (λ r. not (matches_row (picked_patterns spec.keys ps) (picked_cells spec.keys r))) rows
@@ -54,9 +57,9 @@ group-empty width spec rows (Punct ps ∷ es) long fit l (inr h) = go (drops_wil
     go false f g = f
 group-empty width spec rows (Punct ps ∷ es) long fit l (inl q) =
     let p : ps ≡ all_wild width = cc q in
-    ap (λ (b : Bool). group_end spec (cond b (left ps) rows) es) (ap (drops_wildcards spec.keys 0) p ∙ wild-drops spec.keys 0 width)
+    ap (λ (b : Bool). group_end spec (cond b (left ps) rows) es) (ap (others_wild spec.keys 0) p ∙ wild-drops spec.keys 0 width)
     ∙ ap (λ (qs : List Pattern). group_end spec (left qs) es) p
-    ∙ ap (λ (xs : List (List Value)). group_end spec xs es) (none rows) ∙ quiet es (λ r m. l.0 r m) (λ e m. fit e (inr m)) p
+    ∙ ap (λ (xs : List (List Value)). group_end spec xs es) (none rows) ∙ quiet es (λ r m. clear_at ps es l.0 r m) (λ e m. fit e (inr m)) p
   where
     left : List Pattern → List (List Value)
     left qs = filter (λ r. not (matches_row (picked_patterns spec.keys qs) (picked_cells spec.keys r))) rows
@@ -71,7 +74,7 @@ group-empty width spec rows (Punct ps ∷ es) long fit l (inl q) =
     quiet : (ys : List Element) → ((r : List Value) → In (Tuple r) ys → matches_row ps r ≡ false) → AllFit width ys → ps ≡ all_wild width → group_end spec [] ys ≡ []
     quiet [] c f p = refl
     quiet (Tuple r ∷ ys) c f p = absurd (false≢true (sym (c r (inl refl)) ∙ ap (λ (qs : List Pattern). matches_row qs r) p ∙ wilds-match r width (f (Tuple r) (inl refl))))
-    quiet (Punct qs ∷ ys) c f p = go (drops_wildcards spec.keys 0 qs) (quiet ys (λ r m. c r (inr m)) (λ e m. f e (inr m)) p)
+    quiet (Punct qs ∷ ys) c f p = go (others_wild spec.keys 0 qs) (quiet ys (λ r m. c r (inr m)) (λ e m. f e (inr m)) p)
       where
         go : (b : Bool) → group_end spec [] ys ≡ [] → group_end spec (cond b [] []) ys ≡ []
         go true k = k
@@ -83,7 +86,7 @@ group-wild width spec rows (e ∷ es) (inr h) = In-append_right (Punct (all_wild
 group-wild width spec rows (Tuple r ∷ es) (inl q) = cc
 group-wild width spec rows (Punct ps ∷ es) (inl q) =
     In-append_left (Punct (all_wild (length spec.keys + length spec.aggs))) (group_hands spec rows (Punct ps)) (group_all spec (group_after spec rows (Punct ps)) es)
-    (subst (λ (b : Bool). In (Punct (all_wild (length spec.keys + length spec.aggs))) (cond b (out ps) [])) (sym (ap (drops_wildcards spec.keys 0) p ∙ wild-drops spec.keys 0 width))
+    (subst (λ (b : Bool). In (Punct (all_wild (length spec.keys + length spec.aggs))) (cond b (out ps) [])) (sym (ap (others_wild spec.keys 0) p ∙ wild-drops spec.keys 0 width))
     (In-append_right (Punct (all_wild (length spec.keys + length spec.aggs))) (map Tuple (group_rows spec (due ps))) (Punct (picked_patterns spec.keys ps ++ all_wild (length spec.aggs)) ∷ [])
     (inl (ap Punct (ap (λ (qs : List Pattern). picked_patterns spec.keys qs ++ all_wild (length spec.aggs)) p ∙ ap (λ (qs : List Pattern). qs ++ all_wild (length spec.aggs)) (wild-picked spec.keys width) ∙ replicate-append-replicate (length spec.keys) (length spec.aggs) wild)))))
   where

@@ -1,17 +1,19 @@
 -- A join that gives every tuple hands up each combination once.
 use Rattle.std.proofs.Common.{ℕ, zero, suc, ◌+◌, ◌<◌, ◌≤◌, Bool, true, false, cond, ◌&&◌, ◌||◌, not, List, [], ◌∷◌, ◌++◌, ◌≡◌, map, filter, flat_map, refl, sym, ap, ap₂, ◌∙◌, subst, inl, inr, eqb, ltb, arith}
+use Rattle.pj_value.proofs.Bags.{weigh-append, weigh-map, weigh-flat_map, weigh-filter, weigh-agree, weigh-plus, weigh-swap, weigh-split, weigh-le}
 use Rattle.std.proofs.lemmas.Bool.{or_cases, or_right, false≢true, eqb-true, eq-eqb, ne_eqb, cases_eq, lt-ltb, le-ltb}
 use Rattle.std.proofs.lemmas.List.{append-nil}
 use Rattle.std.proofs.lemmas.List.Elements.{filter-append}
 use Rattle.pj_laws.specs.Patterns.{Pattern}
-use Rattle.pj_laws.specs.Bags.{weigh, AreSameBag, AreSubBag}
+use Rattle.pj_value.specs.Bags.{weigh, SameBag, SubBag}
 use Rattle.pj_laws.specs.Join.{In, Value, goes_out, TupleAt, PunctAt, JoinData, JoinState, Step, TupleComes, PunctComes, Take, Give, Sweep, start, inputs, of_input, older, agree, has, kept, is_held, new_tuple, new_punct, step, run, IsAllowed, AreLegalSteps, product, upto_from, candidates, combinations, results, Element, Tuple, Punct, joined, widened, hands_up, outputs, rows_of, puncts_of, all_combinations}
 use Rattle.pj_laws.specs.Laws.{HandsUpAllRows, HandsUpAllPuncts, HandsUpNoPuncts}
-use Rattle.pj_laws.proofs.Lists.{In-filter, filter-agree, filter-all, map-same}
-use Rattle.pj_laws.proofs.Bags.{weigh-append, weigh-map, weigh-flat_map, weigh-filter, weigh-agree, weigh-plus, weigh-swap, weigh-product, weigh-split, AreDistinct, weigh-once, weigh-at_most, weigh-le}
+use Rattle.pj_value.proofs.Members.{In-filter, filter-agree, filter-all, map-same}
+use Rattle.pj_laws.proofs.Bags.{weigh-product, AreDistinct, weigh-once, weigh-at_most}
 use Rattle.pj_laws.proofs.Forget.{IsSound}
 use Rattle.pj_laws.proofs.Sound.{sound-start, sound-step}
 use Rattle.pj_laws.proofs.Ripe.{next-mono}
+use Rattle.pj_pattern.proofs.Elements.{rows_of-append, puncts_of-append}
 
 pub eqb-sym : (a b : ℕ) → eqb a b ≡ eqb b a
 eqb-sym a b = elim (cases_eq a b) [
@@ -209,11 +211,6 @@ results-run spec s [] i l u lt = refl
 results-run spec s (e ∷ es) i l u lt =
     results-run spec (step spec s e) es (sound-step spec s e i l.0) l.1 u (omega (arith, lt, next-mono spec s e)) ∙ results-step spec s e i u lt
 
-pub rows-append : (xs ys : List Element) → rows_of (xs ++ ys) ≡ rows_of xs ++ rows_of ys
-rows-append [] ys = refl
-rows-append (Tuple row ∷ xs) ys = ap (λ rows. row ∷ rows) (rows-append xs ys)
-rows-append (Punct ps ∷ xs) ys = rows-append xs ys
-
 rows-rows : (cs : List (List TupleAt)) → rows_of (map (λ c. Tuple (joined c)) cs) ≡ map joined cs
 rows-rows [] = refl
 rows-rows (c ∷ cs) = ap (λ rows. joined c ∷ rows) (rows-rows cs)
@@ -252,7 +249,7 @@ rows-run spec s (e ∷ es) i k l f =
         shut false = refl
     go (Take u) a ih same = ih
     go (Give u) a ih same =
-        ap (λ rows. weigh f rows + n) (rows-append (map (λ c. Tuple (joined c)) (results spec s.tuples s.tuples u)) rest)
+        ap (λ rows. weigh f rows + n) (rows_of-append (map (λ c. Tuple (joined c)) (results spec s.tuples s.tuples u)) rest)
         ∙ ap (λ rows. weigh f (rows ++ rows_of rest) + n) (rows-rows (results spec s.tuples s.tuples u))
         ∙ omega (arith, weigh-append f (map joined (results spec s.tuples s.tuples u)) (rows_of rest), ih, ap (λ cs. weigh f (map joined cs)) (same u (k.taken_below u a.0)))
       where
@@ -262,7 +259,7 @@ rows-run spec s (e ∷ es) i k l f =
         n : ℕ
         n = weigh (R (run spec (step spec s (Give u)) es)) s.given
     go (Sweep input) a ih same =
-        ap (λ rows. weigh f rows + n) (rows-append (map (λ p. Punct (widened spec p)) ready) rest)
+        ap (λ rows. weigh f rows + n) (rows_of-append (map (λ p. Punct (widened spec p)) ready) rest)
         ∙ ap (λ rows. weigh f (rows ++ rows_of rest) + n) (rows-closed spec ready) ∙ ih
       where
         rest : List Element
@@ -298,7 +295,7 @@ given-all spec s k done f =
 
 pub all-rows-given : (spec : JoinData) → 0 < inputs spec → (steps : List Step) → AreLegalSteps spec start steps
     → ((x : TupleAt) → In x (run spec start steps).tuples → has (run spec start steps).given x.ticket ≡ true)
-    → AreSameBag (rows_of (outputs spec start steps)) (map joined (all_combinations spec (run spec start steps).tuples))
+    → SameBag (rows_of (outputs spec start steps)) (map joined (all_combinations spec (run spec start steps).tuples))
 all-rows-given spec lt steps legal done f =
     (let e = rows-run spec start steps (sound-start spec) (counted-start spec lt) legal f in omega arith)
     ∙ weigh-agree (λ u. weigh f (map joined (results spec s.tuples s.tuples u))) (λ u. weigh (λ c. f (joined c)) (results spec s.tuples s.tuples u)) s.given (λ u m. weigh-map f joined (results spec s.tuples s.tuples u))
@@ -328,7 +325,7 @@ given-some spec s k f =
 
 -- at any moment the rows handed up are among the combinations of all tuples that arrived
 pub some-rows-given : (spec : JoinData) → 0 < inputs spec → (steps : List Step) → AreLegalSteps spec start steps
-    → AreSubBag (rows_of (outputs spec start steps)) (map joined (all_combinations spec (run spec start steps).tuples))
+    → SubBag (rows_of (outputs spec start steps)) (map joined (all_combinations spec (run spec start steps).tuples))
 some-rows-given spec lt steps legal f =
     let e = rows-run spec start steps (sound-start spec) (counted-start spec lt) legal f in
     let g = weigh-agree (λ u. weigh f (map joined (results spec s.tuples s.tuples u))) (λ u. weigh (λ c. f (joined c)) (results spec s.tuples s.tuples u)) s.given (λ u m. weigh-map f joined (results spec s.tuples s.tuples u)) in
@@ -339,11 +336,6 @@ some-rows-given spec lt steps legal f =
     s = run spec start steps
 
 -- ---- punctuations
-
-puncts-append : (xs ys : List Element) → puncts_of (xs ++ ys) ≡ puncts_of xs ++ puncts_of ys
-puncts-append [] ys = refl
-puncts-append (Tuple row ∷ xs) ys = puncts-append xs ys
-puncts-append (Punct ps ∷ xs) ys = ap (λ qs. ps ∷ qs) (puncts-append xs ys)
 
 puncts-rows : (cs : List (List TupleAt)) → puncts_of (map (λ c. Tuple (joined c)) cs) ≡ []
 puncts-rows [] = refl
@@ -401,7 +393,7 @@ puncts-run spec s (e ∷ es) f on =
       arith,
       puncts-run spec (step spec s e) es f on,
       puncts-step spec s e f on,
-      ap (weigh f) (puncts-append (hands_up spec s e) (outputs spec (step spec s e) es)),
+      ap (weigh f) (puncts_of-append (hands_up spec s e) (outputs spec (step spec s e) es)),
       weigh-append f (puncts_of (hands_up spec s e)) (puncts_of (outputs spec (step spec s e) es)),
     )
 
@@ -420,7 +412,7 @@ no_puncts-run : (spec : JoinData) (s : JoinState) (es : List Step) → spec.prop
 no_puncts-run spec s [] off none = refl
 no_puncts-run spec s (TupleComes input row ∷ es) off none = no_puncts-run spec (step spec s (TupleComes input row)) es off none
 no_puncts-run spec s (PunctComes input patterns ∷ es) off none =
-    puncts-append (hands_up spec s (PunctComes input patterns)) (outputs spec s' es)
+    puncts_of-append (hands_up spec s (PunctComes input patterns)) (outputs spec s' es)
     ∙ ap₂ (λ (xs ys : List (List Pattern)). xs ++ ys) (silent spec.propagates off) (no_puncts-run spec s' es off (still spec.propagates off))
   where
     p : PunctAt
@@ -438,10 +430,10 @@ no_puncts-run spec s (PunctComes input patterns ∷ es) off none =
     still true e = absurd (false≢true (sym e))
 no_puncts-run spec s (Take u ∷ es) off none = no_puncts-run spec (step spec s (Take u)) es off none
 no_puncts-run spec s (Give u ∷ es) off none =
-    puncts-append (hands_up spec s (Give u)) (outputs spec (step spec s (Give u)) es)
+    puncts_of-append (hands_up spec s (Give u)) (outputs spec (step spec s (Give u)) es)
     ∙ ap₂ (λ (xs ys : List (List Pattern)). xs ++ ys) (puncts-rows (results spec s.tuples s.tuples u)) (no_puncts-run spec (step spec s (Give u)) es off none)
 no_puncts-run spec s (Sweep input ∷ es) off none =
-    puncts-append (hands_up spec s (Sweep input)) (outputs spec (step spec s (Sweep input)) es)
+    puncts_of-append (hands_up spec s (Sweep input)) (outputs spec (step spec s (Sweep input)) es)
     ∙ ap₂ (λ (xs ys : List (List Pattern)). xs ++ ys)
     (ap (λ (ws : List PunctAt). puncts_of (map (λ p. Punct (widened spec p)) (filter (λ p. eqb p.input input && not (is_held (kept spec s input) p)) ws))) none)
     (no_puncts-run spec (step spec s (Sweep input)) es off (ap (filter (λ p. not (eqb p.input input) || is_held (kept spec s input) p)) none))

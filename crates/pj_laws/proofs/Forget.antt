@@ -4,7 +4,7 @@ use Rattle.std.specs.List.{list_all}
 use Rattle.std.proofs.lemmas.Bool.{and_parts, false≢true, eqb-true, eq-eqb, cases_Bool, cases_lt, cases_eq, ltb-true, lt-ltb}
 use Rattle.pj_laws.specs.Patterns.{Pattern, matches_row, covers}
 use Rattle.pj_laws.specs.Join.{In, TupleAt, PunctAt, ClassCol, CertEntry, JoinData, JoinState, Demand, inputs, arity, cert_of, steps_of, need_of, of_input, older, older_puncts, agree, demand, grown, need, covered, has, least_open, low, ripe, IsNew, MayCome, IsCombination, IsWalk, IsCertified, AreCertified}
-use Rattle.pj_laws.proofs.Lists.{In-filter, In-filter_from, In-map_from, In-flat_map_from, all_at, all_from, any_at}
+use Rattle.pj_value.proofs.Members.{In-filter, In-filter_from, In-map_from, In-flat_map_from, all_at, all_from, any_at}
 use Rattle.pj_laws.proofs.Matching.{agree-mono, AreInputs, asked-matches}
 
 -- ---- what is asked for

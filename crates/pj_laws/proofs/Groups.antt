@@ -1,5 +1,7 @@
 -- A group hands up each of its groups once, whole.
-use Rattle.std.proofs.Common.{ℕ, ◌+◌, ◌<◌, Bool, true, false, cond, ◌&&◌, not, List, [], ◌∷◌, ◌++◌, ◌≡◌, ◌⊎◌, map, filter, length, refl, sym, ap, ap₂, ◌∙◌, subst, inl, inr, arith, append_assoc, append-nil}
+use Rattle.std.proofs.Common.{ℕ, ◌+◌, Bool, true, false, cond, ◌&&◌, not, List, [], ◌∷◌, ◌++◌, ◌≡◌, ◌⊎◌, map, filter, length, refl, sym, ap, ap₂, ◌∙◌, subst, inl, inr, arith, append_assoc, append-nil}
+use Rattle.pj_value.proofs.Orders.{row_same_if_equal, row_equal_itself}
+use Rattle.pj_value.proofs.Bags.{member-of, weigh-append, weigh-map, weigh-agree, weigh-split}
 use Rattle.std.specs.List.{list_any}
 use Rattle.std.proofs.lemmas.Bool.{false≢true, false_from_ne_true, not-true}
 use Rattle.std.proofs.lemmas.List.Elements.{filter-append}
@@ -7,41 +9,42 @@ use Rattle.std.specs.Prelude.{pos, ◌-ℤ◌}
 use Rattle.std.specs.Int.{saturate_signed, w64}
 use Rattle.pj_value.specs.declared.values.Value.TheVariants.{Int}
 use Rattle.pj_laws.specs.Patterns.{Pattern, all_wild, matches_row}
-use Rattle.pj_laws.specs.Bags.{weigh, AreSameBag}
-use Rattle.pj_laws.specs.Join.{In, Value, value_at, Element, Tuple, Punct, rows_of, IsLawful}
-use Rattle.pj_laws.specs.Bags.{same_row}
-use Rattle.pj_laws.specs.Operators.{column_of, above_zero, below_zero, Sum, Min, Max, picked_cells, picked_patterns, drops_wildcards, Agg, Count, GroupSpec, aggregate, keys_from, group_row, group_rows, group_after}
-use Rattle.pj_laws.proofs.Lists.{In-filter, In-filter_from, any_at, none_at, filter-agree, filter-filter, filter-all, map-same}
-use Rattle.pj_laws.proofs.Bags.{weigh-append, weigh-map, weigh-agree, weigh-split}
+use Rattle.pj_value.specs.Bags.{weigh, SameBag}
+use Rattle.pj_laws.specs.Join.{In, Value, value_at, Element, Tuple, Punct, rows_of}
+use Rattle.pj_pattern.specs.Elements.{IsLawful}
+use Rattle.pj_pattern.proofs.Lawful.{none_at as clear_at}
+use Rattle.pj_laws.specs.Operators.{column_of, above_zero, below_zero, Sum, Min, Max, picked_cells, picked_patterns, Agg, Count, GroupSpec, aggregate, keys_from, group_row, group_rows, group_after}
+use Rattle.pj_value.specs.Values.{row_eq}
+use Rattle.pj_pattern.specs.Columns.{others_wild}
 use Rattle.pj_laws.proofs.UnionsAndGroups.{group_all, key-from}
 use Rattle.pj_laws.proofs.Operators.{AllFit, picked-at, picked-matches}
 use Rattle.pj_laws.proofs.Answers.{bag-filter, bag-map}
-use Rattle.pj_laws.proofs.Complete.{rows-append}
+use Rattle.pj_pattern.proofs.Elements.{rows_of-append}
 use Rattle.pj_laws.proofs.Order.{least-same, greatest-same}
-use Rattle.pj_laws.proofs.Values.{same-true, same-refl}
+use Rattle.pj_value.proofs.Members.{In-filter, In-filter_from, any_at, none_at, filter-agree, filter-filter, filter-all, map-same}
 
 -- no list of the list stands in it again
 abbrev AreApart : List (List Value) → Type 0
 AreApart [] = Unit {0}
 AreApart (x ∷ xs) = (In x xs → ⊥) × AreApart xs
 
-weigh-absent : (f : List Value → ℕ) (x : List Value) (ys : List (List Value)) → (In x ys → ⊥) → weigh f (filter (same_row x) ys) ≡ 0
+weigh-absent : (f : List Value → ℕ) (x : List Value) (ys : List (List Value)) → (In x ys → ⊥) → weigh f (filter (row_eq x) ys) ≡ 0
 weigh-absent f x [] n = refl
-weigh-absent f x (y ∷ ys) n = go (same_row x y) refl (weigh-absent f x ys (λ h. n (inr h)))
+weigh-absent f x (y ∷ ys) n = go (row_eq x y) refl (weigh-absent f x ys (λ h. n (inr h)))
   where
-    go : (b : Bool) → same_row x y ≡ b → weigh f (filter (same_row x) ys) ≡ 0 → weigh f (cond b (y ∷ filter (same_row x) ys) (filter (same_row x) ys)) ≡ 0
-    go true e ih = absurd (n (inl (sym (same-true x y e))))
+    go : (b : Bool) → row_eq x y ≡ b → weigh f (filter (row_eq x) ys) ≡ 0 → weigh f (cond b (y ∷ filter (row_eq x) ys) (filter (row_eq x) ys)) ≡ 0
+    go true e ih = absurd (n (inl (sym (row_same_if_equal x y e))))
     go false e ih = ih
 
-weigh-present : (f : List Value → ℕ) (x : List Value) (ys : List (List Value)) → AreApart ys → In x ys → weigh f (filter (same_row x) ys) ≡ f x
+weigh-present : (f : List Value → ℕ) (x : List Value) (ys : List (List Value)) → AreApart ys → In x ys → weigh f (filter (row_eq x) ys) ≡ f x
 weigh-present f x [] a h = absurd h
 weigh-present f x (y ∷ ys) a (inl q) =
-    ap (λ (b : Bool). weigh f (cond b (y ∷ filter (same_row x) ys) (filter (same_row x) ys))) (ap (same_row x) q ∙ same-refl x)
+    ap (λ (b : Bool). weigh f (cond b (y ∷ filter (row_eq x) ys) (filter (row_eq x) ys))) (ap (row_eq x) q ∙ row_equal_itself x)
     ∙ omega (arith, weigh-absent f x ys (subst (λ (z : List Value). In z ys → ⊥) q a.0), ap f q)
-weigh-present f x (y ∷ ys) a (inr h) = go (same_row x y) refl (weigh-present f x ys a.1 h)
+weigh-present f x (y ∷ ys) a (inr h) = go (row_eq x y) refl (weigh-present f x ys a.1 h)
   where
-    go : (b : Bool) → same_row x y ≡ b → weigh f (filter (same_row x) ys) ≡ f x → weigh f (cond b (y ∷ filter (same_row x) ys) (filter (same_row x) ys)) ≡ f x
-    go true e ih = absurd (a.0 (subst (λ (z : List Value). In z ys) (same-true x y e) h))
+    go : (b : Bool) → row_eq x y ≡ b → weigh f (filter (row_eq x) ys) ≡ f x → weigh f (cond b (y ∷ filter (row_eq x) ys) (filter (row_eq x) ys)) ≡ f x
+    go true e ih = absurd (a.0 (subst (λ (z : List Value). In z ys) (row_same_if_equal x y e) h))
     go false e ih = ih
 
 apart-filter : (p : List Value → Bool) (ys : List (List Value)) → AreApart ys → AreApart (filter p ys)
@@ -59,12 +62,12 @@ weigh-members f [] (y ∷ ys) a b to from = absurd (from y (inl refl))
 weigh-members f (x ∷ xs) ys a b to from =
     omega (
       arith,
-      weigh-split f (same_row x) ys,
+      weigh-split f (row_eq x) ys,
       weigh-present f x ys b (to x (inl refl)),
-      weigh-members f xs (filter (λ y. not (same_row x y)) ys) a.1 (apart-filter (λ y. not (same_row x y)) ys b)
-          (λ z h. In-filter_from (λ y. not (same_row x y)) z ys (to z (inr h)) (ap not (false_from_ne_true (same_row x z) (λ t. a.0 (subst (λ (w : List Value). In w xs) (sym (same-true x z t)) h)))))
-          (λ z h. let q = In-filter (λ y. not (same_row x y)) z ys h in elim (from z q.0) [
-            | inl e ↦ absurd (false≢true (sym (not-true (same_row x z) q.1) ∙ ap (same_row x) (sym e) ∙ same-refl x))
+      weigh-members f xs (filter (λ y. not (row_eq x y)) ys) a.1 (apart-filter (λ y. not (row_eq x y)) ys b)
+          (λ z h. In-filter_from (λ y. not (row_eq x y)) z ys (to z (inr h)) (ap not (false_from_ne_true (row_eq x z) (λ t. a.0 (subst (λ (w : List Value). In w xs) (sym (row_same_if_equal x z t)) h)))))
+          (λ z h. let q = In-filter (λ y. not (row_eq x y)) z ys h in elim (from z q.0) [
+            | inl e ↦ absurd (false≢true (sym (not-true (row_eq x z) q.1) ∙ ap (row_eq x) (sym e) ∙ row_equal_itself x))
             | inr k ↦ k
           ]),
     )
@@ -76,31 +79,31 @@ key_of spec row = picked_cells spec.keys row
 
 key-to : (seen : List (List Value)) (spec : GroupSpec) (rows : List (List Value)) (row : List Value) → In row rows → In (key_of spec row) seen ⊎ In (key_of spec row) (keys_from seen spec rows)
 key-to seen spec [] row h = absurd h
-key-to seen spec (r ∷ rows) row h = go (list_any (same_row (key_of spec r)) seen) refl h (λ k. key-to seen spec rows row k) (λ k. key-to (key_of spec r ∷ seen) spec rows row k)
+key-to seen spec (r ∷ rows) row h = go (list_any (row_eq (key_of spec r)) seen) refl h (λ k. key-to seen spec rows row k) (λ k. key-to (key_of spec r ∷ seen) spec rows row k)
   where
     Goal : List (List Value) → Type 0
     Goal ks = In (key_of spec row) seen ⊎ In (key_of spec row) ks
 
-    go : (b : Bool) → list_any (same_row (key_of spec r)) seen ≡ b → In row (r ∷ rows) → (In row rows → Goal (keys_from seen spec rows)) → (In row rows → In (key_of spec row) (key_of spec r ∷ seen) ⊎ In (key_of spec row) (keys_from (key_of spec r ∷ seen) spec rows))
+    go : (b : Bool) → list_any (row_eq (key_of spec r)) seen ≡ b → In row (r ∷ rows) → (In row rows → Goal (keys_from seen spec rows)) → (In row rows → In (key_of spec row) (key_of spec r ∷ seen) ⊎ In (key_of spec row) (keys_from (key_of spec r ∷ seen) spec rows))
         → Goal (cond b (keys_from seen spec rows) (key_of spec r ∷ keys_from (key_of spec r ∷ seen) spec rows))
-    go true e (inl q) f g = let a = any_at (same_row (key_of spec r)) seen e in inl (subst (λ (z : List Value). In z seen) (sym (same-true (key_of spec r) a.0 a.2) ∙ ap (key_of spec) q) a.1)
+    go true e (inl q) f g = let a = any_at (row_eq (key_of spec r)) seen e in inl (subst (λ (z : List Value). In z seen) (sym (row_same_if_equal (key_of spec r) a.0 a.2) ∙ ap (key_of spec) q) a.1)
     go true e (inr k) f g = f k
     go false e (inl q) f g = inr (inl (ap (key_of spec) q))
     go false e (inr k) f g = elim (g k) [ inl m ↦ elim m [ inl q ↦ inr (inl q) | inr m' ↦ inl m' ] | inr m ↦ inr (inr m) ]
 
 keys-fresh : (seen : List (List Value)) (spec : GroupSpec) (rows : List (List Value)) (key : List Value) → In key (keys_from seen spec rows) → In key seen → ⊥
 keys-fresh seen spec [] key h m = h
-keys-fresh seen spec (r ∷ rows) key h m = go (list_any (same_row (key_of spec r)) seen) refl h (λ k. keys-fresh seen spec rows key k m) (λ k. keys-fresh (key_of spec r ∷ seen) spec rows key k (inr m))
+keys-fresh seen spec (r ∷ rows) key h m = go (list_any (row_eq (key_of spec r)) seen) refl h (λ k. keys-fresh seen spec rows key k m) (λ k. keys-fresh (key_of spec r ∷ seen) spec rows key k (inr m))
   where
-    go : (b : Bool) → list_any (same_row (key_of spec r)) seen ≡ b → In key (cond b (keys_from seen spec rows) (key_of spec r ∷ keys_from (key_of spec r ∷ seen) spec rows))
+    go : (b : Bool) → list_any (row_eq (key_of spec r)) seen ≡ b → In key (cond b (keys_from seen spec rows) (key_of spec r ∷ keys_from (key_of spec r ∷ seen) spec rows))
         → (In key (keys_from seen spec rows) → ⊥) → (In key (keys_from (key_of spec r ∷ seen) spec rows) → ⊥) → ⊥
     go true e k f g = f k
-    go false e (inl q) f g = none_at (same_row (key_of spec r)) seen key e m (ap (same_row (key_of spec r)) (sym q) ∙ same-refl (key_of spec r))
+    go false e (inl q) f g = none_at (row_eq (key_of spec r)) seen key e m (ap (row_eq (key_of spec r)) (sym q) ∙ row_equal_itself (key_of spec r))
     go false e (inr k) f g = g k
 
 keys-apart : (seen : List (List Value)) (spec : GroupSpec) (rows : List (List Value)) → AreApart (keys_from seen spec rows)
 keys-apart seen spec [] = tt
-keys-apart seen spec (r ∷ rows) = go (list_any (same_row (key_of spec r)) seen) (keys-apart seen spec rows) (keys-apart (key_of spec r ∷ seen) spec rows)
+keys-apart seen spec (r ∷ rows) = go (list_any (row_eq (key_of spec r)) seen) (keys-apart seen spec rows) (keys-apart (key_of spec r ∷ seen) spec rows)
   where
     go : (b : Bool) → AreApart (keys_from seen spec rows) → AreApart (keys_from (key_of spec r ∷ seen) spec rows) → AreApart (cond b (keys_from seen spec rows) (key_of spec r ∷ keys_from (key_of spec r ∷ seen) spec rows))
     go true f g = f
@@ -115,44 +118,28 @@ length-weighs : (xs : List (List Value)) → length xs ≡ weigh (λ x. 1) xs
 length-weighs [] = refl
 length-weighs (x ∷ xs) = omega (arith, length-weighs xs)
 
-column-same : (column : ℕ) (xs ys : List (List Value)) → AreSameBag xs ys → AreSameBag (column_of column xs) (column_of column ys)
+column-same : (column : ℕ) (xs ys : List (List Value)) → SameBag xs ys → SameBag (column_of column xs) (column_of column ys)
 column-same column xs ys s = bag-map (λ row. value_at row column) xs ys s
 
-aggregate-same : (xs ys : List (List Value)) → AreSameBag xs ys → (a : Agg) → aggregate xs a ≡ aggregate ys a
+aggregate-same : (xs ys : List (List Value)) → SameBag xs ys → (a : Agg) → aggregate xs a ≡ aggregate ys a
 aggregate-same xs ys s Count = ap (λ (n : ℕ). Int (pos n)) (length-weighs xs ∙ s (λ x. 1) ∙ sym (length-weighs ys))
 aggregate-same xs ys s (Sum column) =
     ap₂ (λ (a b : ℕ). Int (saturate_signed w64 (pos a -ℤ pos b))) (column-same column xs ys s above_zero) (column-same column xs ys s below_zero)
 aggregate-same xs ys s (Min column) = least-same (column_of column xs) (column_of column ys) (column-same column xs ys s)
 aggregate-same xs ys s (Max column) = greatest-same (column_of column xs) (column_of column ys) (column-same column xs ys s)
 
-row-same : (spec : GroupSpec) (xs ys : List (List Value)) (key : List Value) → AreSameBag (filter (λ row. same_row key (key_of spec row)) xs) (filter (λ row. same_row key (key_of spec row)) ys) → group_row spec xs key ≡ group_row spec ys key
-row-same spec xs ys key s = ap (λ ns. key ++ ns) (map-same (aggregate (filter (λ row. same_row key (key_of spec row)) xs)) (aggregate (filter (λ row. same_row key (key_of spec row)) ys)) spec.aggs (λ a h. aggregate-same (filter (λ row. same_row key (key_of spec row)) xs) (filter (λ row. same_row key (key_of spec row)) ys) s a))
+row-same : (spec : GroupSpec) (xs ys : List (List Value)) (key : List Value) → SameBag (filter (λ row. row_eq key (key_of spec row)) xs) (filter (λ row. row_eq key (key_of spec row)) ys) → group_row spec xs key ≡ group_row spec ys key
+row-same spec xs ys key s = ap (λ ns. key ++ ns) (map-same (aggregate (filter (λ row. row_eq key (key_of spec row)) xs)) (aggregate (filter (λ row. row_eq key (key_of spec row)) ys)) spec.aggs (λ a h. aggregate-same (filter (λ row. row_eq key (key_of spec row)) xs) (filter (λ row. row_eq key (key_of spec row)) ys) s a))
 
-member-of : (xs ys : List (List Value)) → AreSameBag xs ys → (z : List Value) → In z xs → In z ys
-member-of xs ys s z h = found ys (omega (arith, s (λ w. cond (same_row z w) 1 0), weighs xs h))
-  where
-    weighs : (ws : List (List Value)) → In z ws → 0 < weigh (λ w. cond (same_row z w) 1 0) ws
-    weighs [] k = absurd k
-    weighs (w ∷ ws) (inl q) = let e : cond {A = ℕ} (same_row z w) 1 0 ≡ 1 = ap (λ (b : Bool). cond b 1 0) (ap (same_row z) q ∙ same-refl z) in omega (arith, e)
-    weighs (w ∷ ws) (inr k) = omega (arith, weighs ws k)
-
-    found : (ws : List (List Value)) → 0 < weigh (λ w. cond (same_row z w) 1 0) ws → In z ws
-    found [] lt = absurd (omega arith)
-    found (w ∷ ws) lt = go (same_row z w) refl lt (found ws)
-      where
-        go : (b : Bool) → same_row z w ≡ b → 0 < cond b 1 0 + weigh (λ v. cond (same_row z v) 1 0) ws → (0 < weigh (λ v. cond (same_row z v) 1 0) ws → In z ws) → In z (w ∷ ws)
-        go true e l ih = inl (sym (same-true z w e))
-        go false e l ih = inr (ih (omega arith))
-
-pub group-same : (spec : GroupSpec) (xs ys : List (List Value)) → AreSameBag xs ys → AreSameBag (group_rows spec xs) (group_rows spec ys)
+pub group-same : (spec : GroupSpec) (xs ys : List (List Value)) → SameBag xs ys → SameBag (group_rows spec xs) (group_rows spec ys)
 group-same spec xs ys s f =
     weigh-map f (group_row spec xs) (keys_from [] spec xs)
     ∙ weigh-members (λ key. f (group_row spec xs key)) (keys_from [] spec xs) (keys_from [] spec ys) (keys-apart [] spec xs) (keys-apart [] spec ys) (carry xs ys s) (carry ys xs (λ g. sym (s g)))
-    ∙ weigh-agree (λ key. f (group_row spec xs key)) (λ key. f (group_row spec ys key)) (keys_from [] spec ys) (λ key h. ap f (row-same spec xs ys key (bag-filter (λ row. same_row key (key_of spec row)) xs ys s)))
+    ∙ weigh-agree (λ key. f (group_row spec xs key)) (λ key. f (group_row spec ys key)) (keys_from [] spec ys) (λ key h. ap f (row-same spec xs ys key (bag-filter (λ row. row_eq key (key_of spec row)) xs ys s)))
     ∙ sym (weigh-map f (group_row spec ys) (keys_from [] spec ys))
   where
-    carry : (us vs : List (List Value)) → AreSameBag us vs → (z : List Value) → In z (keys_from [] spec us) → In z (keys_from [] spec vs)
-    carry us vs e z h = let r = key-from [] spec us z h in subst (λ (k : List Value). In k (keys_from [] spec vs)) r.2 (key-in spec vs r.0 (member-of us vs e r.0 r.1))
+    carry : (us vs : List (List Value)) → SameBag us vs → (z : List Value) → In z (keys_from [] spec us) → In z (keys_from [] spec vs)
+    carry us vs e z h = let r = key-from [] spec us z h in subst (λ (k : List Value). In k (keys_from [] spec vs)) r.2 (key-in spec vs r.0 (member-of row_eq row_same_if_equal row_equal_itself us vs e r.0 r.1))
 
 -- ---- a group's rows, part by part
 
@@ -189,15 +176,15 @@ group-split spec test xs f =
             subst (λ (k : List Value). In k (filter p ks)) r.2 (In-filter_from p (key_of spec r.0) ks (key-in spec xs r.0 q.0) q.1)
 
         -- the rows of a key that passes all pass
-        whole : (key : List Value) → In key (keys_from [] spec mine) → AreSameBag (filter (λ row. same_row key (key_of spec row)) xs) (filter (λ row. same_row key (key_of spec row)) mine)
+        whole : (key : List Value) → In key (keys_from [] spec mine) → SameBag (filter (λ row. row_eq key (key_of spec row)) xs) (filter (λ row. row_eq key (key_of spec row)) mine)
         whole key h g =
             let r = key-from [] spec mine key h in
             let t : p key ≡ true = ap p (sym r.2) ∙ (In-filter (λ row. p (key_of spec row)) r.0 xs r.1).1 in
-            ap (weigh g) (sym (filter-filter (λ row. p (key_of spec row)) (λ row. same_row key (key_of spec row)) xs
-            ∙ filter-agree (λ row. p (key_of spec row) && same_row key (key_of spec row)) (λ row. same_row key (key_of spec row)) xs (λ row m. both key row t)))
+            ap (weigh g) (sym (filter-filter (λ row. p (key_of spec row)) (λ row. row_eq key (key_of spec row)) xs
+            ∙ filter-agree (λ row. p (key_of spec row) && row_eq key (key_of spec row)) (λ row. row_eq key (key_of spec row)) xs (λ row m. both key row t)))
           where
-            both : (key row : List Value) → p key ≡ true → (p (key_of spec row) && same_row key (key_of spec row)) ≡ same_row key (key_of spec row)
-            both key row t = go (p (key_of spec row)) (same_row key (key_of spec row)) (λ e. ap p (sym (same-true key (key_of spec row) e)) ∙ t)
+            both : (key row : List Value) → p key ≡ true → (p (key_of spec row) && row_eq key (key_of spec row)) ≡ row_eq key (key_of spec row)
+            both key row t = go (p (key_of spec row)) (row_eq key (key_of spec row)) (λ e. ap p (sym (row_same_if_equal key (key_of spec row) e)) ∙ t)
               where
                 go : (a b : Bool) → (b ≡ true → a ≡ true) → (a && b) ≡ b
                 go true b f = refl
@@ -230,7 +217,7 @@ group-once width spec rows (Tuple x ∷ es) fit l done f =
     group-once width spec (rows ++ x ∷ []) es (λ e h. fit e (inr h)) l done f
     ∙ ap (λ (xs : List (List Value)). weigh f (group_rows spec xs)) (append_assoc rows (x ∷ []) (rows_of es))
 group-once width spec rows (Punct ps ∷ es) fit l done f =
-    go (drops_wildcards spec.keys 0 ps) refl done (λ d. group-once width spec rows es (λ e h. fit e (inr h)) l.1 d f) (λ d. group-once width spec left es (λ e h. fit e (inr h)) l.1 d f)
+    go (others_wild spec.keys 0 ps) refl done (λ d. group-once width spec rows es (λ e h. fit e (inr h)) l.1 d f) (λ d. group-once width spec left es (λ e h. fit e (inr h)) l.1 d f)
   where
     p : List Value → Bool
     p row = matches_row (picked_patterns spec.keys ps) (key_of spec row)
@@ -250,16 +237,16 @@ group-once width spec rows (Punct ps ∷ es) fit l done f =
         wilds : List Pattern
         wilds = all_wild (length spec.aggs)
 
-    apart : drops_wildcards spec.keys 0 ps ≡ true → (row : List Value) → In row R → p row ≡ false
-    apart d row h = false_from_ne_true (p row) (λ t. false≢true (sym (l.0 row (row-in row es h)) ∙ picked-matches spec.keys 0 ps row (fit (Punct ps) (inl refl) ∙ sym (fit (Tuple row) (inr (row-in row es h)))) d (λ j k. let z : 0 + j ≡ j = omega arith in picked-at spec.keys ps row j t (subst (λ (c : ℕ). In c spec.keys) z k))))
+    apart : others_wild spec.keys 0 ps ≡ true → (row : List Value) → In row R → p row ≡ false
+    apart d row h = false_from_ne_true (p row) (λ t. false≢true (sym (clear_at ps es l.0 row (row-in row es h)) ∙ picked-matches spec.keys 0 ps row (fit (Punct ps) (inl refl) ∙ sym (fit (Tuple row) (inr (row-in row es h)))) d (λ j k. let z : 0 + j ≡ j = omega arith in picked-at spec.keys ps row j t (subst (λ (c : ℕ). In c spec.keys) z k))))
 
-    go : (b : Bool) → drops_wildcards spec.keys 0 ps ≡ b → group_end spec (cond b left rows) es ≡ []
+    go : (b : Bool) → others_wild spec.keys 0 ps ≡ b → group_end spec (cond b left rows) es ≡ []
         → (group_end spec rows es ≡ [] → weigh f (rows_of (group_all spec rows es)) ≡ weigh f (group_rows spec (rows ++ R)))
         → (group_end spec left es ≡ [] → weigh f (rows_of (group_all spec left es)) ≡ weigh f (group_rows spec (left ++ R)))
         → weigh f (rows_of (cond b (map Tuple (group_rows spec due) ++ shut) [] ++ group_all spec (cond b left rows) es)) ≡ weigh f (group_rows spec (rows ++ R))
     go false e d g h = g d
     go true e d g h =
-        ap (weigh f) (rows-append (map Tuple (group_rows spec due) ++ shut) (group_all spec left es) ∙ ap (λ xs. xs ++ rows_of (group_all spec left es)) (rows-append (map Tuple (group_rows spec due)) shut ∙ ap (λ xs. xs ++ []) (rows-map (group_rows spec due)) ∙ append-nil (group_rows spec due)))
+        ap (weigh f) (rows_of-append (map Tuple (group_rows spec due) ++ shut) (group_all spec left es) ∙ ap (λ xs. xs ++ rows_of (group_all spec left es)) (rows_of-append (map Tuple (group_rows spec due)) shut ∙ ap (λ xs. xs ++ []) (rows-map (group_rows spec due)) ∙ append-nil (group_rows spec due)))
         ∙ weigh-append f (group_rows spec due) (rows_of (group_all spec left es))
         ∙ ap₂ (λ (a b : ℕ). a + b) (ap (λ xs. weigh f (group_rows spec xs)) (sym first)) (h d ∙ ap (λ xs. weigh f (group_rows spec xs)) (sym second))
         ∙ sym (group-split spec (matches_row (picked_patterns spec.keys ps)) (rows ++ R) f)

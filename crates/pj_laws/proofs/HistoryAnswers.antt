@@ -1,23 +1,25 @@
 -- What legal histories hand out.
 use Rattle.std.proofs.Common.{ℕ, zero, suc, ◌+◌, ◌<◌, max, Bool, true, false, cond, List, [], ◌∷◌, ◌++◌, ◌≡◌, ◌⊎◌, Option, length, get_or, refl, sym, ap, ◌∙◌, subst, inl, inr, eqb, arith, append_assoc, append-nil}
+use Rattle.pj_laws.proofs.Histories.{legal-append, reached-nodes, nodes-append, reached-append, outputs-append, arrivals-append}
+use Rattle.pj_value.proofs.Members.{In-append_left, In-append_right}
 use Rattle.std.proofs.lemmas.Bool.{or_cases, eqb-true, eq-eqb, false≢true}
 use Rattle.pj_value.specs.declared.values.Value.{Value}
 use Rattle.pj_shape.specs.declared.columns.Column.{Column}
 use Rattle.pj_laws.specs.Patterns.{all_wild}
-use Rattle.pj_laws.specs.Bags.{weigh}
-use Rattle.pj_laws.specs.Join.{In, Element, Tuple, Punct, AllGiven, IsLawful, IsSettled, has, rows_of}
+use Rattle.pj_value.specs.Bags.{weigh}
+use Rattle.pj_laws.specs.Join.{In, Element, Tuple, Punct, AllGiven, IsSettled, has, rows_of}
 use Rattle.pj_laws.specs.Plan.{Operator, Stream, Select, Project, Union, Join, Group, Node, Local, Comes, Fed, Own, after, after_all, plan_run, fed_to, answers, HasGiven, IsClosedBy, IsDone, ArePlanned, operator_at}
 use Rattle.pj_laws.specs.History.{reached_of, Entry, Event, Arrive, Taken, Given, Swept, Drain, Halt, Look, Stopped, Idle, Out, Stop, is_stream, streams_from, streams_of, stream_node, root_of, state_in, nodes_by, gained, Reached, begun, closed_after, undrained_after, halted_after, stop_after, next, reached_from, nodes_from, steps_from, Closes, IsMarked, IsEntryAllowed, AreEntriesLegal, IsLegal}
 use Rattle.pj_laws.specs.Outcomes.{Arrival, arrivals_by, arrivals_at, stored_at, peak_of, outputs_of, drained_by, drained_from, element_at, elements_of, place_in, list_at, answers_of, lists_of}
 use Rattle.pj_laws.specs.OneThread.{schema_of}
 use Rattle.pj_laws.specs.HistoryLaws.{HandsOutLawfully, IsNoGroup, HasNoGroup, GivenIsAnswer, Propagates, AllPropagate, CompleteIsAnswer, AddsEntry, AreMadeBy, DrainsHandOutAll, GrowsLegally, FrontsAreLegal, TraceAddsNotes}
-use Rattle.pj_laws.proofs.Lists.{In-append_left, In-append_right}
+use Rattle.pj_pattern.specs.Elements.{IsLawful}
 use Rattle.pj_laws.proofs.Whole.{plan-lawful}
-use Rattle.pj_laws.proofs.Answers.{at-upto}
 use Rattle.pj_laws.proofs.WholeAnswers.{rows-are-answers}
 use Rattle.pj_laws.proofs.Settled.{complete-answers}
-use Rattle.pj_laws.proofs.Steps.{bag-counted, legal-steps, nodes-run, reached-nodes, outputs-handed, streams-same, all-rise, rising-place, member-place, stream_node-same, fed-elements, answers-agree}
+use Rattle.pj_laws.proofs.Steps.{legal-steps, nodes-run, outputs-handed, streams-same, all-rise, rising-place, member-place, stream_node-same, fed-elements, answers-agree}
 use Rattle.pj_laws.proofs.Nodes.{operator-from, schema-all, no_group-all, drain-silent}
+use Rattle.pj_laws.proofs.Upto.{get_or-upto}
 
 pub root-there : (plan : List Node) → 0 < length plan → root_of plan < length plan
 root-there [] lt = absurd (omega arith)
@@ -48,7 +50,7 @@ answers-are plan h l = answers-agree f g 0 [] plan refl same
         ap f (sym p.2)
         ∙ ap rows_of (fed-elements (begun plan) h p.0 p.1 l)
         ∙ ap (λ s. rows_of (elements_of s h)) (sym z)
-        ∙ sym (at-upto (λ s. rows_of (elements_of s h)) 0 (length S) p.0 p.1)
+        ∙ sym (get_or-upto (λ s. rows_of (elements_of s h)) 0 (length S) p.0 [] p.1)
         ∙ ap (λ n. get_or (lists_of plan h) n []) (sym z)
         ∙ sym (ap (list_at (lists_of plan h)) (rising-place 0 0 S (length plan) p.0 (all-rise plan) p.1))
         ∙ ap g p.2
@@ -65,7 +67,7 @@ has-given (Group spec rows) g a = absurd g
 
 pub given-is-answer : (plan : List Node) → ArePlanned [] plan → 0 < length plan → HasNoGroup plan → GivenIsAnswer plan
 given-is-answer plan planned lt groups trace h l given =
-    bag-counted _ _ (λ f.
+    (λ f.
     ap (λ es. weigh f (rows_of es)) (outputs-handed trace plan h)
     ∙ rows-are-answers plan planned (steps_from plan h) (legal-steps (begun plan) h l) all (root_of plan) (root-there plan lt) f
     ∙ ap (λ evs. weigh f (get_or evs (root_of plan) [])) (answers-are plan h l))
@@ -205,7 +207,7 @@ closings plan h l closed n k e =
 
 pub complete-is-answer : (plan : List Node) → ArePlanned [] plan → 0 < length plan → AllPropagate plan → CompleteIsAnswer plan
 complete-is-answer plan planned lt on trace h l complete =
-    bag-counted _ _ (λ f.
+    (λ f.
     ap (λ es. weigh f (rows_of es)) (outputs-handed trace plan h)
     ∙ complete-answers plan planned (steps_from plan h) (legal-steps (begun plan) h l) all (root_of plan) (root-there plan lt) f
     ∙ ap (λ evs. weigh f (get_or evs (root_of plan) [])) (answers-are plan h l))
@@ -220,26 +222,6 @@ complete-is-answer plan planned lt on trace h l complete =
 
 -- ---- one more entry
 
-reached-more : (trace : Bool) (r : Reached) (h : List Entry) (entry : Entry) → reached_from trace r (h ++ entry ∷ []) ≡ next trace (reached_from trace r h) entry
-reached-more trace r [] entry = refl
-reached-more trace r (e ∷ h) entry = reached-more trace (next trace r e) h entry
-
-nodes-more : (nodes : List Node) (h : List Entry) (entry : Entry) → nodes_from nodes (h ++ entry ∷ []) ≡ nodes_by (nodes_from nodes h) entry.event
-nodes-more nodes [] entry = refl
-nodes-more nodes (e ∷ h) entry = nodes-more (nodes_by nodes e.event) h entry
-
-outputs-more : (trace : Bool) (nodes : List Node) (h : List Entry) (entry : Entry) → outputs_of trace nodes (h ++ entry ∷ []) ≡ outputs_of trace nodes h ++ gained trace (nodes_from nodes h) entry.event
-outputs-more trace nodes [] entry = append-nil (gained trace nodes entry.event)
-outputs-more trace nodes (e ∷ h) entry =
-    ap (λ (outs : List Out). gained trace nodes e.event ++ outs) (outputs-more trace (nodes_by nodes e.event) h entry)
-    ∙ sym (append_assoc (gained trace nodes e.event) (outputs_of trace (nodes_by nodes e.event) h) (gained trace (nodes_from (nodes_by nodes e.event) h) entry.event))
-
-arrivals-more : (nodes : List Node) (h : List Entry) (entry : Entry) (n : ℕ) → arrivals_at nodes (h ++ entry ∷ []) n ≡ arrivals_at nodes h n ++ arrivals_by (nodes_from nodes h) entry.event n
-arrivals-more nodes [] entry n = append-nil (arrivals_by nodes entry.event n)
-arrivals-more nodes (e ∷ h) entry n =
-    ap (λ (xs : List Arrival). arrivals_by nodes e.event n ++ xs) (arrivals-more (nodes_by nodes e.event) h entry n)
-    ∙ sym (append_assoc (arrivals_by nodes e.event n) (arrivals_at (nodes_by nodes e.event) h n) (arrivals_by (nodes_from (nodes_by nodes e.event) h) entry.event n))
-
 peak-more : (nodes : List Node) (h : List Entry) (entry : Entry) (n : ℕ) → peak_of nodes (h ++ entry ∷ []) n ≡ max (peak_of nodes h n) (stored_at (nodes_by (nodes_from nodes h) entry.event) n)
 peak-more nodes [] entry n = refl
 peak-more nodes (e ∷ h) entry n =
@@ -251,10 +233,10 @@ peak-more nodes (e ∷ h) entry n =
 
 pub adds-entry : (plan : List Node) (h : List Entry) (entry : Entry) → AddsEntry plan h entry
 adds-entry plan h entry = record {
-  reached = λ trace. reached-more trace (begun plan) h entry;
-  nodes = nodes-more plan h entry;
-  outputs = λ trace. outputs-more trace plan h entry;
-  arrivals = arrivals-more plan h entry;
+  reached = λ trace. reached-append trace (begun plan) h (entry ∷ []);
+  nodes = nodes-append plan h (entry ∷ []);
+  outputs = λ trace. outputs-append trace plan h (entry ∷ []) ∙ ap (λ (outs : List Out). outputs_of trace plan h ++ outs) (append-nil (gained trace (nodes_from plan h) entry.event));
+  arrivals = λ n. arrivals-append plan h (entry ∷ []) n ∙ ap (λ (xs : List Arrival). arrivals_at plan h n ++ xs) (append-nil (arrivals_by (nodes_from plan h) entry.event n));
   peak = peak-more plan h entry;
 }
 
@@ -292,16 +274,12 @@ drains-hand-out-all plan trace h seat m = drained-all trace (begun plan) h seat 
 
 -- ---- legal histories
 
-legal-more : (r : Reached) (h : List Entry) (entry : Entry) → AreEntriesLegal r h → IsEntryAllowed (reached_from false r h) entry → AreEntriesLegal r (h ++ entry ∷ [])
-legal-more r [] entry l a = (a, tt)
-legal-more r (e ∷ h) entry l a = (l.0, legal-more (next false r e) h entry l.1 a)
-
 legal-less : (r : Reached) (h : List Entry) (entry : Entry) → AreEntriesLegal r (h ++ entry ∷ []) → AreEntriesLegal r h × IsEntryAllowed (reached_from false r h) entry
 legal-less r [] entry l = (tt, l.0)
 legal-less r (e ∷ h) entry l = let k = legal-less (next false r e) h entry l.1 in ((l.0, k.0), k.1)
 
 pub grows-legally : (plan : List Node) → GrowsLegally plan
-grows-legally plan h entry = (legal-less (begun plan) h entry, λ both. legal-more (begun plan) h entry both.0 both.1)
+grows-legally plan h entry = (legal-less (begun plan) h entry, λ both. legal-append (begun plan) h (entry ∷ []) both.0 (both.1, tt))
 
 front-legal : (r : Reached) (front back : List Entry) → AreEntriesLegal r (front ++ back) → AreEntriesLegal r front
 front-legal r [] back l = tt

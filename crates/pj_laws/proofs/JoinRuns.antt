@@ -12,7 +12,7 @@ use Rattle.pj_laws.proofs.Whole.{IsGood, AreLocalsAllowed, AreGood, locals-allow
 use Rattle.pj_laws.proofs.Steps.{legal-steps}
 use Rattle.pj_laws.proofs.Follow.{AreBehind, planned-behind, behind-moved, steps-append, brought-steps, own-steps, follows-behind}
 use Rattle.pj_laws.proofs.Sound.{run-append}
-use Rattle.pj_laws.proofs.Lists.{in-place, map-at}
+use Rattle.pj_value.proofs.Members.{in-place, map-at}
 
 -- ---- the steps of a node
 

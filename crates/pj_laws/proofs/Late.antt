@@ -6,7 +6,7 @@ use Rattle.pj_laws.specs.Patterns.{Pattern, all_wild, matches_row, covers}
 use Rattle.pj_laws.specs.Join.{In, need_of, AllGiven, TupleAt, PunctAt, ClassCol, CertEntry, JoinData, JoinState, Demand, Sweep, start, inputs, arity, cert_of, older, older_puncts, instance_from, demand, grown, need, covered, low, ripe, kept, is_held, step, run, IsSettled, IsWalk, AreCertified}
 use Rattle.pj_laws.specs.Laws.{Settles, sweeps_from}
 use Rattle.pj_laws.proofs.PatternFacts.{wilds-cover}
-use Rattle.pj_laws.proofs.Lists.{In-filter, In-filter_from, In-flat_map, all_from, any_from, none_from}
+use Rattle.pj_value.proofs.Members.{In-filter, In-filter_from, In-flat_map, all_from, any_from, none_from}
 use Rattle.pj_laws.proofs.Forget.{least_open-from, IsSound, stored-in}
 use Rattle.pj_laws.proofs.Sound.{sound-start, sound-run, sound-step, run-append}
 

@@ -1,45 +1,16 @@
 -- What a join hands up is lawful.
 use Rattle.std.proofs.Common.{ℕ, ◌+◌, ◌<◌, Bool, true, false, cond, ◌&&◌, not, List, [], ◌∷◌, ◌++◌, ◌≡◌, ◌⊎◌, map, filter, length, take, drop, sum, get_or, refl, sym, ap, ◌∙◌, subst, inl, inr, eqb, arith, add-one}
+use Rattle.pj_value.proofs.Members.{In-append_left, In-append_right, In-append_cases, In-filter, In-filter_from, In-map, In-flat_map, all_at, none_from, none_at}
 use Rattle.std.proofs.lemmas.Bool.{and_parts, and_from, false≢true, eqb-true, eq-eqb, not-true, false_from_ne_true}
 use Rattle.pj_laws.specs.Patterns.{Pattern, all_wild, matches_row}
-use Rattle.pj_laws.specs.Join.{In, Value, arities, goes_out, TupleAt, PunctAt, JoinData, JoinState, Step, TupleComes, PunctComes, Take, Give, Sweep, start, inputs, arity, agree, has, ripe, kept, is_held, new_tuple, new_punct, step, IsAllowed, AreLegalSteps, IsCombination, product, upto_from, candidates, combinations, results, Element, Tuple, Punct, joined, widened, hands_up, outputs, IsLawful}
+use Rattle.pj_laws.specs.Join.{In, Value, arities, goes_out, TupleAt, PunctAt, JoinData, JoinState, Step, TupleComes, PunctComes, Take, Give, Sweep, start, inputs, arity, agree, has, ripe, kept, is_held, new_tuple, new_punct, step, IsAllowed, AreLegalSteps, IsCombination, product, upto_from, candidates, combinations, results, Tuple, Punct, joined, widened, hands_up, outputs}
 use Rattle.pj_laws.specs.Laws.{HandsUpLawfully}
-use Rattle.pj_laws.proofs.Lists.{In-append_left, In-append_right, In-append_cases, In-filter, In-filter_from, In-map, In-flat_map, all_at, none_from, none_at}
+use Rattle.pj_pattern.specs.Elements.{IsLawful, NoneMatches}
+use Rattle.pj_pattern.proofs.Lawful.{lawful_append, no_punct, no_row, rows_lawful, puncts_lawful, none_from as none_matches}
 use Rattle.pj_laws.proofs.Forget.{IsSound}
 use Rattle.pj_laws.proofs.Sound.{sound-start, sound-step}
 use Rattle.pj_laws.proofs.Results.{IsPicked, picked, candidates-own, is-combination, all-kept}
 use Rattle.pj_laws.proofs.Widen.{HaveLengths, lengths-from, widen-matches}
-
--- ---- lists of elements
-
--- no row of the list matches_row
-abbrev pub AreClear : List Pattern → List Element → Type 0
-AreClear patterns es = (row : List Value) → In (Tuple row) es → matches_row patterns row ≡ false
-
-pub IsLawful-append : (xs ys : List Element) → IsLawful xs → IsLawful ys → ((patterns : List Pattern) → In (Punct patterns) xs → AreClear patterns ys) → IsLawful (xs ++ ys)
-IsLawful-append [] ys l m f = m
-IsLawful-append (Tuple row ∷ xs) ys l m f = IsLawful-append xs ys l m (λ ps h. f ps (inr h))
-IsLawful-append (Punct ps ∷ xs) ys l m f =
-    (λ row h. elim (In-append_cases (Tuple row) xs ys h) [ inl k ↦ l.0 row k | inr k ↦ f ps (inl refl) row k ], IsLawful-append xs ys l.1 m (λ qs h. f qs (inr h)))
-
--- rows alone are lawful, and so are punctuations alone
-pub rows-lawful : {A : Type 0} (f : A → List Value) (xs : List A) → IsLawful (map (λ x. Tuple (f x)) xs)
-rows-lawful f [] = tt
-rows-lawful f (x ∷ xs) = rows-lawful f xs
-
-pub no-closed : {A : Type 0} (f : A → List Value) (xs : List A) (ps : List Pattern) → In (Punct ps) (map (λ x. Tuple (f x)) xs) → ⊥
-no-closed f [] ps h = h
-no-closed f (x ∷ xs) ps (inl q) = cc
-no-closed f (x ∷ xs) ps (inr h) = no-closed f xs ps h
-
-pub no-row : {A : Type 0} (f : A → List Pattern) (xs : List A) (row : List Value) → In (Tuple row) (map (λ x. Punct (f x)) xs) → ⊥
-no-row f [] row h = h
-no-row f (x ∷ xs) row (inl q) = cc
-no-row f (x ∷ xs) row (inr h) = no-row f xs row h
-
-pub closed-lawful : {A : Type 0} (f : A → List Pattern) (xs : List A) → IsLawful (map (λ x. Punct (f x)) xs)
-closed-lawful f [] = tt
-closed-lawful f (x ∷ xs) = (λ row h. absurd (no-row f xs row h), closed-lawful f xs)
 
 -- ---- results
 
@@ -123,7 +94,7 @@ held-on spec s (Sweep input) a p hp o = (
 )
 
 -- the rows of one step
-step-clear : (spec : JoinData) (s : JoinState) (e : Step) → IsSound spec s → IsAllowed spec s e → (p : PunctAt) → In p s.puncts → is_held s.stored p ≡ false → AreClear (widened spec p) (hands_up spec s e)
+step-clear : (spec : JoinData) (s : JoinState) (e : Step) → IsSound spec s → IsAllowed spec s e → (p : PunctAt) → In p s.puncts → is_held s.stored p ≡ false → (r : List Value) → In (Tuple r) (hands_up spec s e) → matches_row (widened spec p) r ≡ false
 step-clear spec s (TupleComes input row) i a p hp o r h = absurd h
 step-clear spec s (PunctComes input patterns) i a p hp o r h = absurd (go (goes_out spec s (new_punct s input patterns)) h)
   where
@@ -136,9 +107,9 @@ step-clear spec s (Give u) i a p hp o r h =
     let c = In-map (λ c. Tuple (joined c)) (Tuple r) (results spec s.tuples s.tuples u) h in
     subst (λ (row : List Value). matches_row (widened spec p) row ≡ false) (let q : joined c.0 ≡ r = cc c.2 in q) (result-clear spec s i p hp o u a.1 c.0 c.1)
 step-clear spec s (Sweep input) i a p hp o r h =
-    absurd (no-row (widened spec) (filter (λ (q : PunctAt). eqb q.input input && not (is_held (kept spec s input) q)) s.waiting) r h)
+    absurd (no_row (widened spec) (filter (λ (q : PunctAt). eqb q.input input && not (is_held (kept spec s input) q)) s.waiting) r h)
 
-pub run-clear : (spec : JoinData) (s : JoinState) (es : List Step) → IsSound spec s → AreLegalSteps spec s es → (p : PunctAt) → In p s.puncts → is_held s.stored p ≡ false → AreClear (widened spec p) (outputs spec s es)
+pub run-clear : (spec : JoinData) (s : JoinState) (es : List Step) → IsSound spec s → AreLegalSteps spec s es → (p : PunctAt) → In p s.puncts → is_held s.stored p ≡ false → (r : List Value) → In (Tuple r) (outputs spec s es) → matches_row (widened spec p) r ≡ false
 run-clear spec s [] i l p hp o r h = absurd h
 run-clear spec s (e ∷ es) i l p hp o r h =
     let on = held-on spec s e l.0 p hp o in
@@ -161,7 +132,7 @@ handed-clear spec s (PunctComes input patterns) i ps h = go (goes_out spec s p) 
     go true e (inl q) = (p, cc q, In-append_right p s.puncts (p ∷ []) (inl refl), not-true (is_held s.stored p) (and_parts spec.propagates (not (is_held s.stored p)) e).1)
     go true e (inr k) = absurd k
 handed-clear spec s (Take u) i ps h = absurd h
-handed-clear spec s (Give u) i ps h = absurd (no-closed joined (results spec s.tuples s.tuples u) ps h)
+handed-clear spec s (Give u) i ps h = absurd (no_punct joined (results spec s.tuples s.tuples u) ps h)
 handed-clear spec s (Sweep input) i ps h =
     let r = In-map (λ q. Punct (widened spec q)) (Punct ps) (filter (λ (q : PunctAt). eqb q.input input && not (is_held (kept spec s input) q)) s.waiting) h in
     let f = In-filter (λ (q : PunctAt). eqb q.input input && not (is_held (kept spec s input) q)) r.0 s.waiting r.1 in
@@ -173,19 +144,19 @@ step-lawful spec s (PunctComes input patterns) = go (goes_out spec s (new_punct 
   where
     go : (b : Bool) → IsLawful (cond b (Punct (widened spec (new_punct s input patterns)) ∷ []) [])
     go false = tt
-    go true = (λ r h. absurd h, tt)
+    go true = (tt, tt)
 step-lawful spec s (Take u) = tt
-step-lawful spec s (Give u) = rows-lawful joined (results spec s.tuples s.tuples u)
-step-lawful spec s (Sweep input) = closed-lawful (widened spec) (filter (λ (q : PunctAt). eqb q.input input && not (is_held (kept spec s input) q)) s.waiting)
+step-lawful spec s (Give u) = rows_lawful joined (results spec s.tuples s.tuples u)
+step-lawful spec s (Sweep input) = puncts_lawful (widened spec) (filter (λ (q : PunctAt). eqb q.input input && not (is_held (kept spec s input) q)) s.waiting)
 
 pub run-lawful : (spec : JoinData) (s : JoinState) (es : List Step) → IsSound spec s → AreLegalSteps spec s es → IsLawful (outputs spec s es)
 run-lawful spec s [] i l = tt
 run-lawful spec s (e ∷ es) i l =
-    IsLawful-append (hands_up spec s e) (outputs spec (step spec s e) es) (step-lawful spec s e)
+    lawful_append (hands_up spec s e) (outputs spec (step spec s e) es) (step-lawful spec s e)
     (run-lawful spec (step spec s e) es (sound-step spec s e i l.0) l.1)
     (λ ps h. let p = handed-clear spec s e i ps h in
-    subst (λ (qs : List Pattern). AreClear qs (outputs spec (step spec s e) es)) p.1
-    (run-clear spec (step spec s e) es (sound-step spec s e i l.0) l.1 p.0 p.2 p.3))
+    subst (λ (qs : List Pattern). NoneMatches qs (outputs spec (step spec s e) es)) p.1
+    (none_matches (widened spec p.0) (outputs spec (step spec s e) es) (run-clear spec (step spec s e) es (sound-step spec s e i l.0) l.1 p.0 p.2 p.3)))
 
 pub hands_up-lawfully : (spec : JoinData) → HandsUpLawfully spec
 hands_up-lawfully spec steps legal = run-lawful spec start steps (sound-start spec) legal

@@ -1,5 +1,4 @@
-pub mod Lists
-pub mod Values
+pub mod Upto
 pub mod PatternFacts
 pub mod Matching
 pub mod Forget
@@ -23,6 +22,7 @@ pub mod Groups
 pub mod WholeAnswers
 pub mod Closing
 pub mod Settled
+pub mod Histories
 pub mod Steps
 pub mod Nodes
 pub mod HistoryAnswers
@@ -41,4 +41,7 @@ pub mod LastTurn
 pub mod SweptRun
 pub mod SmallSteps
 pub mod SmallKept
+pub mod Limits
+pub mod Drains
+pub mod Tickets
 pub mod Example

@@ -1,14 +1,12 @@
 -- Rows that join, and the instances that they ask for.
 use Rattle.std.proofs.Common.{ℕ, suc, ◌+◌, Bool, true, false, cond, ◌&&◌, List, [], ◌∷◌, ◌≡◌, Option, Some, None, map, length, get_or, refl, sym, ap, ◌∙◌, subst, inl, inr, eqb, arith}
-use Rattle.std.specs.List.{list_all}
 use Rattle.std.proofs.lemmas.Bool.{and_parts, eqb-true, eq-eqb}
 use Rattle.pj_value.specs.declared.values.Value.{Value}
-use Rattle.pj_value.specs.Values.{value_eq}
 use Rattle.pj_shape.specs.Joining.{Part, values_in, values, all_equal, has_column, no_value, class_of, class_from}
 use Rattle.pj_laws.specs.Patterns.{Pattern, matches_row, covers, MatchesInstance}
 use Rattle.pj_laws.specs.Join.{In, TupleAt, ClassCol, part_of, agree, class_at, class_with, constant, instance_from, AreBound}
-use Rattle.pj_laws.proofs.Lists.{In-flat_map, In-flat_map_from, In-map, In-map_from, all_at, all_from, any_at}
-use Rattle.pj_laws.proofs.Values.{value_eq-true, eq-value_eq}
+use Rattle.pj_value.proofs.Members.{In-flat_map, In-flat_map_from, In-map, In-map_from, all_at, all_from, any_at}
+use Rattle.pj_shape.proofs.Joining.{all_equal-at, all_equal-from}
 use Rattle.pj_laws.proofs.PatternFacts.{covers-matches}
 
 -- ---- rows that join
@@ -36,12 +34,6 @@ pub values-mono : (few many : List TupleAt) (cls : List ClassCol) → ((x : Tupl
 values-mono few many cls sub =
     values-of (map part_of few) (map part_of many) cls (λ p h. let r = In-map part_of p few h in
     subst (λ (z : Part). In z (map part_of many)) r.2 (In-map_from part_of r.0 many (sub r.0 r.1)))
-
-all_equal-at : (vs : List Value) (v w : Value) → all_equal vs ≡ true → In v vs → In w vs → v ≡ w
-all_equal-at vs v w t hv hw = value_eq-true v w (all_at (value_eq v) vs w (all_at (λ u. list_all (value_eq u) vs) vs v t hv) hw)
-
-all_equal-from : (vs : List Value) → ((v w : Value) → In v vs → In w vs → v ≡ w) → all_equal vs ≡ true
-all_equal-from vs f = all_from (λ u. list_all (value_eq u) vs) vs (λ v hv. all_from (value_eq v) vs (λ w hw. eq-value_eq v w (f v w hv hw)))
 
 -- values of one class agree in tuples that join
 pub agree-at : (classes : List (List ClassCol)) (xs : List TupleAt) (cls : List ClassCol) (v w : Value) → agree classes xs ≡ true → In cls classes → In v (values (map part_of xs) cls) → In w (values (map part_of xs) cls) → v ≡ w

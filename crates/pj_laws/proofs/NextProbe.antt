@@ -1,6 +1,6 @@
 -- Probes one by one.
-use Rattle.std.proofs.Common.{ℕ, zero, suc, ◌+◌, ◌<◌, ◌≤◌, ◌≢◌, Bool, true, false, cond, ◌||◌, not, List, [], ◌∷◌, ◌++◌, ◌≡◌, Some, None, map, length, get_or, refl, sym, ap, ap₂, ◌∙◌, subst, eqb, arith, append-nil, append_assoc}
-use Rattle.std.proofs.lemmas.Bool.{eq-eqb, ne_eqb, false≢true}
+use Rattle.std.proofs.Common.{ℕ, zero, suc, ◌+◌, ◌<◌, ◌≤◌, Bool, true, false, cond, ◌||◌, not, List, [], ◌∷◌, ◌++◌, ◌≡◌, Some, None, map, length, get_or, refl, sym, ap, ap₂, ◌∙◌, subst, eqb, arith, append-nil, append_assoc}
+use Rattle.std.proofs.lemmas.Bool.{eq-eqb, false≢true}
 use Rattle.std.proofs.lemmas.List.{length_push, get_or_at}
 use Rattle.std.proofs.lemmas.List.Sums.{sum_by-cons}
 use Rattle.pj_laws.specs.Join.{In, Element, Step, Take, Give, TupleAt, JoinData, JoinState, TupleComes, PunctComes, Sweep, has, step, run}
@@ -13,7 +13,7 @@ use Rattle.pj_laws.proofs.Bags.{AreDistinct}
 use Rattle.pj_laws.proofs.Stand.{lacking-cons}
 use Rattle.pj_laws.proofs.Glue.{length-moved}
 use Rattle.pj_laws.proofs.Nodes.{AreEmpty, empty-none, empty-push, brought-none}
-use Rattle.pj_laws.proofs.Probes.{AllOperators, all-at, steady-tuple, lacking-distinct}
+use Rattle.pj_laws.proofs.Probes.{AllOperators, all-at, steady-tuple, lacking-distinct, own-other}
 
 -- ---- tickets are told apart at any moment
 
@@ -94,9 +94,6 @@ act-place e done (node ∷ nodes) (suc n) a lt none =
     silent : handed_at e done node ≡ []
     silent = ap (hands_all node.operator) (ap₂ (λ (xs ys : List Local). xs ++ ys) (none (length done) (omega arith) (omega arith)) (brought-none 0 node.inputs done a))
 
-own-other : (j : ℕ) (s : Step) (n : ℕ) → j ≢ n → own (Act j s) n ≡ []
-own-other j s n ne = ap (λ (b : Bool). cond b (Own s ∷ []) []) (ne_eqb j n ne)
-
 pub act-before : (nodes : List Node) (j n : ℕ) (s : Step) → n < j → n < length nodes → operator_at (moved (Act j s) [] nodes) n ≡ operator_at nodes n
 act-before nodes j n s lt l =
     act-place (Act j s) [] nodes n empty-none l (λ k le q. own-other j s k (λ z. omega (arith, z, q, lt)))
@@ -118,7 +115,7 @@ probed-before nodes j u n lt l =
     act-before (moved (Act j (Take u)) [] nodes) j n (Give u) lt (omega (arith, l, length-moved (Act j (Take u)) [] nodes))
     ∙ act-before nodes j n (Take u) lt l)
 
-without-all : (ns : List ℕ) (u : ℕ) → has ns u ≡ false → without ns u ≡ ns
+pub without-all : (ns : List ℕ) (u : ℕ) → has ns u ≡ false → without ns u ≡ ns
 without-all [] u h = refl
 without-all (n ∷ ns) u h = go (eqb n u) h (without-all ns u)
   where

@@ -3,7 +3,7 @@ use Rattle.std.proofs.Common.{ℕ, zero, suc, ◌+◌, ◌<◌, ◌≤◌, Bool,
 use Rattle.std.proofs.lemmas.List.{length_push}
 use Rattle.pj_laws.specs.Join.{Element}
 use Rattle.pj_laws.specs.Plan.{Operator, Stream, Select, Project, Union, Join, Group, Node, Local, Comes, Fed, Own, PlanStep, Pass, after, after_all, hands_all, own, brought_from, locals, handed_at, batches, moved, operator_at}
-use Rattle.pj_laws.specs.History.{Entry, Drain, root_of, step_of, nodes_by, out_of, gained, nodes_from, data_in}
+use Rattle.pj_laws.specs.History.{Entry, Stop, Stopped, Drain, root_of, step_of, nodes_by, out_of, gained, nodes_from, data_in}
 use Rattle.pj_laws.specs.OneThread.{schema_of}
 use Rattle.pj_laws.specs.HistoryLaws.{IsNoGroup}
 use Rattle.pj_laws.proofs.Glue.{length-moved, after-append}
@@ -118,3 +118,6 @@ drain-still nodes = (quiet Pass [] nodes empty-none (λ n le lt. refl)).0
 pub drain-silent : (trace : Bool) (nodes : List Node) → gained trace nodes Drain ≡ []
 drain-silent true nodes = ap (λ (es : List Element). map out_of es) ((quiet Pass [] nodes empty-none (λ n le lt. refl)).1 (root_of nodes))
 drain-silent false nodes = ap (λ (es : List Element). map out_of es) ((quiet Pass [] nodes empty-none (λ n le lt. refl)).1 (root_of nodes))
+
+pub stopped-silent : (nodes : List Node) (stop : Stop) → gained false nodes (Stopped stop) ≡ []
+stopped-silent nodes stop = ap (λ (es : List Element). map out_of es) ((quiet Pass [] nodes empty-none (λ n le lt. refl)).1 (root_of nodes))

@@ -1,33 +1,28 @@
 -- The history of a run on one thread is legal, and its rows are the answer.
 use Rattle.std.proofs.Common.{◌&&◌, length-append, ℕ, zero, suc, ◌+◌, ◌<◌, Bool, true, false, cond, List, [], ◌∷◌, ◌++◌, ◌≡◌, ◌⊎◌, map, length, get_or, refl, sym, ap, ap₂, ◌∙◌, subst, inl, inr, eqb, arith, append_assoc, append-nil}
+use Rattle.pj_laws.proofs.Histories.{reached-nodes, nodes-append, reached-append, legal-append}
+use Rattle.pj_value.proofs.Members.{In-append_cases, In-map}
 use Rattle.std.proofs.lemmas.List.{length_push, get_or_at}
 use Rattle.std.proofs.lemmas.Bool.{and_parts, or_cases, or_left, or_right, eqb-true, eq-eqb, cases_Bool}
 use Rattle.pj_shape.specs.declared.columns.Column.{Column}
 use Rattle.pj_laws.specs.Patterns.{all_wild}
 use Rattle.pj_laws.specs.Join.{In, JoinData, inputs, upto_from, Step, Take, Give, Sweep, Element, Punct, has}
-use Rattle.pj_laws.specs.Plan.{Operator, Stream, Select, Project, Union, Join, Group, Node, Local, Comes, Fed, Own, PlanStep, Feed, Act, after, after_all, own, brought_from, locals, handed_at, moved, nowhere, operator_at, MayArrive, MayAct, IsClearOf, FitsSchema, IsStepAllowed}
+use Rattle.pj_laws.specs.Plan.{Operator, Stream, Select, Project, Union, Join, Group, Node, Local, Comes, Fed, Own, PlanStep, Feed, Act, after, after_all, own, brought_from, locals, handed_at, moved, nowhere, operator_at, MayArrive, MayAct, IsClearOf, IsStepAllowed}
 use Rattle.pj_laws.specs.History.{Entry, Event, Arrive, Taken, Given, Swept, Drain, Halt, Look, Stopped, Idle, is_stream, streams_from, streams_of, stream_node, step_of, nodes_by, data_in, Reached, begun, closed_after, stop_after, next, reached_from, nodes_from, Closes, IsOn, IsEventAllowed, IsEntryAllowed, AreEntriesLegal, IsLegal}
 use Rattle.pj_laws.specs.Outcomes.{element_at, elements_of}
 use Rattle.pj_laws.specs.OneThread.{Place, places_in, places_from, sweeps_at, is_punct, Turn, plain, arrival_of, probes, follow_up, turn_entries, turns_entries}
 use Rattle.pj_laws.specs.HistoryLaws.{Certified, schema_at}
 use Rattle.pj_laws.proofs.Glue.{length-moved, after-append}
-use Rattle.pj_laws.proofs.Steps.{reached-nodes, streams-same, all-rise, rising-apart, stream-there, stream_node-same}
-use Rattle.pj_laws.proofs.Lists.{In-append_cases, In-map}
+use Rattle.pj_laws.proofs.Steps.{streams-same, all-rise, rising-apart, stream-there, stream_node-same}
+use Rattle.pj_shape.specs.Columns.{kinds_of}
+use Rattle.pj_pattern.specs.Fitting.{FitsKinds}
 use Rattle.pj_laws.proofs.Nodes.{drain-still, operator-from, data-all}
 use Rattle.pj_laws.proofs.Rounds.{mine}
-use Rattle.pj_laws.proofs.Probes.{all-at, Steady, Rested, AllOperators, all-steady, steady-brought, stream-moved, IsQuietEvent, AreActsLegal, acts-append, nodes-append, probes-all}
+use Rattle.pj_laws.proofs.Probes.{all-at, Steady, Rested, AllOperators, all-steady, steady-brought, stream-moved, IsQuietEvent, AreActsLegal, acts-append, probes-all, length-from}
 
 -- ---- histories, one behind the other
 
-pub legal-append : (r : Reached) (xs ys : List Entry) → AreEntriesLegal r xs → AreEntriesLegal (reached_from false r xs) ys → AreEntriesLegal r (xs ++ ys)
-legal-append r [] ys a b = b
-legal-append r (x ∷ xs) ys a b = (a.0, legal-append (next false r x) xs ys a.1 b)
-
-pub reached-append : (r : Reached) (xs ys : List Entry) → reached_from false r (xs ++ ys) ≡ reached_from false (reached_from false r xs) ys
-reached-append r [] ys = refl
-reached-append r (x ∷ xs) ys = reached-append (next false r x) xs ys
-
-elements-append : (s : ℕ) (xs ys : List Entry) → elements_of s (xs ++ ys) ≡ elements_of s xs ++ elements_of s ys
+pub elements-append : (s : ℕ) (xs ys : List Entry) → elements_of s (xs ++ ys) ≡ elements_of s xs ++ elements_of s ys
 elements-append s [] ys = refl
 elements-append s (x ∷ xs) ys =
     ap (λ (es : List Element). element_at s x.event ++ es) (elements-append s xs ys) ∙ sym (append_assoc (element_at s x.event) (elements_of s xs) (elements_of s ys))
@@ -104,10 +99,6 @@ stream-acts nodes (e ∷ es) n schema sent lt a q =
 streams-acts : (nodes : List Node) (es : List Entry) → streams_of (nodes_from nodes es) ≡ streams_of nodes
 streams-acts nodes [] = refl
 streams-acts nodes (e ∷ es) = streams-acts (nodes_by nodes e.event) es ∙ streams-same nodes e.event
-
-length-acts : (nodes : List Node) (es : List Entry) → length (nodes_from nodes es) ≡ length nodes
-length-acts nodes [] = refl
-length-acts nodes (e ∷ es) = length-acts (nodes_by nodes e.event) es ∙ length-moved (step_of nodes e.event) [] nodes
 
 -- ---- an arrival
 
@@ -195,7 +186,7 @@ pub places-on : (nodes : List Node) (h : List Entry) (places : List Place) → A
 places-on nodes h places f p m =
     let a = f p m in
     let o = operator-from nodes h p.join a.0 in
-    (omega (arith, a.0, length-acts nodes h), subst (λ (spec : JoinData). p.input < inputs spec) (sym (ap data_in o.1 ∙ data-all (operator_at nodes p.join) o.0)) a.1)
+    (omega (arith, a.0, length-from nodes h), subst (λ (spec : JoinData). p.input < inputs spec) (sym (ap data_in o.1 ∙ data-all (operator_at nodes p.join) o.0)) a.1)
 
 may-sweep : (m : Operator) (i : ℕ) → i < inputs (data_in m) → Certified m → MayAct m (Sweep i)
 may-sweep (Stream schema sent) i lt c = absurd (omega arith)
@@ -285,7 +276,7 @@ follow-rest sweeps nodes e a sure = drained (probes nodes ++ swept-of (sweeps &&
 abbrev pub FitsFrom : List Column → List Element → List Turn → Type 0
 FitsFrom schema sent [] = Unit {0}
 FitsFrom schema sent (t ∷ ts) =
-    IsClearOf sent t.element × FitsSchema schema t.element
+    IsClearOf sent t.element × FitsKinds (kinds_of schema) t.element
     × ((t.closing ≡ 0) ⊎ ((t.closing ≡ 1) × (t.element ≡ Punct (all_wild (length schema))) × (ts ≡ [])))
     × FitsFrom schema (sent ++ t.element ∷ []) ts
 
@@ -343,7 +334,7 @@ stream-node-there plan s lt =
 -- ---- one turn
 
 module _ (sweeps : Bool) (plan : List Node) (r : Reached) (sent : ℕ → List Element) (t : Turn) (i : IsReady sweeps plan r sent) (lt : t.stream < length (streams_of plan))
-    (clear : IsClearOf (sent t.stream) t.element) (fit : FitsSchema (schema_at plan t.stream) t.element)
+    (clear : IsClearOf (sent t.stream) t.element) (fit : FitsKinds (kinds_of (schema_at plan t.stream)) t.element)
     (mark : (t.closing ≡ 0) ⊎ ((t.closing ≡ 1) × (t.element ≡ Punct (all_wild (length (schema_at plan t.stream))))))
     (open' : has r.closed t.stream ≡ false) where
   node-same : (s : ℕ) → stream_node r.nodes s ≡ stream_node plan s
@@ -410,7 +401,7 @@ module _ (sweeps : Bool) (plan : List Node) (r : Reached) (sent : ℕ → List E
       rested = subst (AllOperators Rested) (sym (reached-nodes false r' acts)) (follow-rest sweeps (nodes_by r.nodes (Arrive t.stream t.element)) t.element steady sure).1;
       certified = λ on. subst (AllOperators Certified) (sym (reached-nodes false r' acts)) (certified-from r'.nodes acts (sure on));
       streams = ap streams_of (reached-nodes false r' acts) ∙ streams-acts r'.nodes acts ∙ streams-same r.nodes (Arrive t.stream t.element) ∙ i.streams;
-      long = ap length (reached-nodes false r' acts) ∙ length-acts r'.nodes acts ∙ length-moved (step_of r.nodes (Arrive t.stream t.element)) [] r.nodes ∙ i.long;
+      long = ap length (reached-nodes false r' acts) ∙ length-from r'.nodes acts ∙ length-moved (step_of r.nodes (Arrive t.stream t.element)) [] r.nodes ∙ i.long;
       holds = λ s l. ap (λ (nodes : List Node). operator_at nodes (stream_node plan s)) (reached-nodes false r' acts) ∙ holds-on s l;
     };
     closed = still.closed;
@@ -515,7 +506,7 @@ turns-step sweeps plan t ts r sent i below fits shut go-on = record {
     ih = go-on turn.ready (λ u h. below u (inr h)) (λ s l. other s l (eqb t.stream s) refl (fits s l)) shut'
 
     end : reached_from false r (here ++ rest) ≡ reached_from false r' (turns_entries sweeps r'.nodes ts)
-    end = reached-append r here rest ∙ ap (λ (nodes : List Node). reached_from false r' (turns_entries sweeps nodes ts)) (sym same)
+    end = reached-append false r here rest ∙ ap (λ (nodes : List Node). reached_from false r' (turns_entries sweeps nodes ts)) (sym same)
 
     joined : (b : Bool) (s : ℕ) → cond b (t.element ∷ []) [] ++ map (λ u. u.element) (mine s ts) ≡ map (λ u. u.element) (cond b (t ∷ mine s ts) (mine s ts))
     joined true s = refl

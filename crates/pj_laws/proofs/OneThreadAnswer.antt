@@ -1,23 +1,30 @@
 -- A run on one thread over accepted elements.
 use Rattle.std.proofs.Common.{Bool, ℕ, zero, suc, ◌+◌, ◌-◌, ◌<◌, true, false, List, [], ◌∷◌, ◌++◌, ◌≡◌, map, length, get_or, refl, sym, ap, ap₂, ◌∙◌, subst, inl, inr, eqb, arith, append_assoc, append-nil}
+use Rattle.pj_value.proofs.Members.{In-append_right, In-filter}
+use Rattle.pj_shape.specs.Columns.{kinds_of}
+use Rattle.pj_pattern.specs.Fitting.{FitsKinds, punct_fits}
 use Rattle.std.proofs.lemmas.Bool.{false≢true}
 use Rattle.pj_value.specs.declared.values.Value.{Value}
 use Rattle.pj_shape.specs.declared.columns.Column.{Column}
 use Rattle.pj_laws.specs.Patterns.{Pattern, all_wild, matches_row}
-use Rattle.pj_laws.specs.Bags.{SameBag}
-use Rattle.pj_laws.specs.Join.{In, Element, Tuple, Punct, IsLawful, JoinState, AllGiven, start, rows_of, upto_from}
-use Rattle.pj_laws.specs.Plan.{Operator, Stream, Select, Project, Union, Join, Group, Node, operator_at, IsClearOf, FitsSchema, punct_fits, IsWellMade, node_width, ArePlanned}
+use Rattle.pj_value.specs.Bags.{SameBag}
+use Rattle.pj_laws.specs.Join.{In, Element, Tuple, Punct, JoinState, AllGiven, start, rows_of, upto_from}
+use Rattle.pj_laws.specs.Plan.{Operator, Stream, Select, Project, Union, Join, Group, Node, operator_at, IsClearOf, IsWellMade, node_width, ArePlanned}
 use Rattle.pj_laws.specs.History.{Entry, is_stream, streams_of, stream_node, state_in, begun, reached_of, nodes_from}
 use Rattle.pj_laws.specs.Outcomes.{elements_of, outputs_of, rows_out, answer_of, lists_of}
 use Rattle.pj_laws.specs.OneThread.{Turn, heads, tails, rounds, longest, turn_entries, turns_of, in_rounds, turns_entries, schema_of, all_turns, one_thread_of}
 use Rattle.pj_laws.specs.HistoryLaws.{AllAreCertified, Certified, HasNoGroup, schema_at, AreAcceptedLists, IsWholeRun, OneThreadIsAnswer, StreamsHold, TurnsGoOn, RoundsGoOn}
-use Rattle.pj_laws.proofs.Lists.{In-append_right, In-filter}
-use Rattle.pj_laws.proofs.Complete.{rows-append}
-use Rattle.pj_laws.proofs.Steps.{reached-nodes}
+use Rattle.pj_pattern.specs.Elements.{IsLawful}
+use Rattle.pj_pattern.proofs.Lawful.{none_at}
+use Rattle.pj_pattern.proofs.Fitting.{wild_fits}
+use Rattle.pj_shape.proofs.KindsOf.{kinds_length}
+use Rattle.pj_pattern.proofs.Elements.{rows_of-append}
+use Rattle.pj_laws.proofs.Histories.{reached-nodes, nodes-append}
 use Rattle.pj_laws.proofs.Rounds.{mine, mine-in_rounds, in_rounds-below, all-tagged, length-all, all-at}
-use Rattle.pj_laws.proofs.Probes.{all-from, IsSteady, Rested, AllOperators, all-at as operators-at, length-from, nodes-append}
+use Rattle.pj_laws.proofs.Probes.{all-from, IsSteady, Rested, AllOperators, all-at as operators-at, length-from}
 use Rattle.pj_laws.proofs.OneRun.{AllProbed, FitsFrom, IsReady, IsRun, turns-run, stream-node-there, streams-hold-from}
 use Rattle.pj_laws.proofs.HistoryAnswers.{given-is-answer}
+use Rattle.pj_laws.proofs.Upto.{map-upto}
 
 -- ---- accepted elements fit
 
@@ -29,14 +36,14 @@ clear-of sent es (Tuple row) l = go sent l
     go [] l patterns h = absurd h
     go (Tuple r ∷ sent) l patterns (inl q) = cc
     go (Tuple r ∷ sent) l patterns (inr h) = go sent l patterns h
-    go (Punct ps ∷ sent) l patterns (inl q) = let same : ps ≡ patterns = cc q in ap (λ (qs : List Pattern). matches_row qs row) (sym same) ∙ l.0 row (In-append_right (Tuple row) sent (Tuple row ∷ es) (inl refl))
+    go (Punct ps ∷ sent) l patterns (inl q) = let same : ps ≡ patterns = cc q in ap (λ (qs : List Pattern). matches_row qs row) (sym same) ∙ none_at ps (sent ++ Tuple row ∷ es) l.0 row (In-append_right (Tuple row) sent (Tuple row ∷ es) (inl refl))
     go (Punct ps ∷ sent) l patterns (inr h) = go sent l.1 patterns h
 
-wilds-fit : (schema : List Column) → punct_fits schema (all_wild (length schema)) ≡ true
-wilds-fit [] = refl
-wilds-fit (c ∷ schema) = wilds-fit schema
+-- a punctuation of wildcards alone fits
+pub wilds-fit : (schema : List Column) → punct_fits (kinds_of schema) (all_wild (length schema)) ≡ true
+wilds-fit schema = subst (λ (n : ℕ). punct_fits (kinds_of schema) (all_wild n) ≡ true) (kinds_length schema) (wild_fits (kinds_of schema))
 
-turns-fit : (s : ℕ) (schema : List Column) (sent es : List Element) → IsLawful (sent ++ es) → ((e : Element) → In e es → FitsSchema schema e) → FitsFrom schema sent (turns_of s schema es)
+turns-fit : (s : ℕ) (schema : List Column) (sent es : List Element) → IsLawful (sent ++ es) → ((e : Element) → In e es → FitsKinds (kinds_of schema) e) → FitsFrom schema sent (turns_of s schema es)
 turns-fit s schema sent [] l f = (tt, wilds-fit schema, inr (refl, refl, refl), tt)
 turns-fit s schema sent (e ∷ es) l f = (
   clear-of sent es e l,
@@ -170,14 +177,10 @@ rows-upto [] = refl
 rows-upto (es ∷ lists) =
     ap (λ (xs : List (List (List Value))). rows_of es ∷ xs) (upto-shift (λ s. rows_of (get_or (es ∷ lists) s [])) 0 (length lists) ∙ rows-upto lists)
 
-map-upto : {A : Type 0} (f g : ℕ → A) (k n : ℕ) → ((s : ℕ) → s < k + n → f s ≡ g s) → map f (upto_from k n) ≡ map g (upto_from k n)
-map-upto f g k zero e = refl
-map-upto {A} f g k (suc n) e = ap₂ (λ (x : A) (xs : List A). x ∷ xs) (e k (omega arith)) (map-upto f g (k + 1) n (λ s lt. e s (omega arith)))
-
 pub lists-are : (sweeps : Bool) (plan : List Node) (planned : ArePlanned [] plan) (sure : sweeps ≡ true → AllAreCertified plan) (lists : List (List Element)) → AreAcceptedLists plan lists → lists_of plan (one_thread_of sweeps plan lists) ≡ map rows_of lists
 lists-are sweeps plan planned sure lists accepted =
     map-upto (λ s. rows_of (elements_of s (one_thread_of sweeps plan lists))) (λ s. rows_of (get_or lists s [])) 0 (length (streams_of plan))
-    (λ s lt. ap rows_of ((whole-run sweeps plan planned sure lists accepted).elements s (omega arith)) ∙ rows-append (get_or lists s []) (Punct (all_wild (length (schema_at plan s))) ∷ []) ∙ append-nil (rows_of (get_or lists s [])))
+    (λ s lt. ap rows_of ((whole-run sweeps plan planned sure lists accepted).elements s (omega arith)) ∙ rows_of-append (get_or lists s []) (Punct (all_wild (length (schema_at plan s))) ∷ []) ∙ append-nil (rows_of (get_or lists s [])))
     ∙ ap (λ (n : ℕ). map (λ s. rows_of (get_or lists s [])) (upto_from 0 n)) (sym accepted.0)
     ∙ rows-upto lists
 

@@ -1,27 +1,27 @@
 -- What each operator hands up matches_value, and is lawful where what comes from its inputs is.
 use Rattle.std.proofs.Common.{ℕ, suc, ◌+◌, ◌<◌, Bool, true, false, cond, ◌&&◌, ◌||◌, not, List, [], ◌∷◌, ◌++◌, ◌≡◌, ◌⊎◌, map, filter, flat_map, length, get_or, take, drop, sum, refl, sym, ap, ap₂, ◌∙◌, subst, inl, inr, eqb, arith, append_assoc, length-append}
+use Rattle.pj_pattern.proofs.Lawful.{none_at as clear_at, none_from as clear_from, lawful_tail, lawful_append}
+use Rattle.pj_value.proofs.Members.{In-append_cases, In-filter, In-map, In-flat_map, any_at}
+use Rattle.pj_pattern.specs.Columns.{others_wild}
 use Rattle.std.specs.List.{list_any}
 use Rattle.std.proofs.lemmas.Bool.{and_parts, and_from, or_cases, false≢true, eqb-true, eq-eqb, false_from_ne_true}
 use Rattle.std.proofs.lemmas.List.Sums.{sum_by-take-drop, sum_by-drop_more}
 use Rattle.pj_laws.specs.Patterns.{Pattern, wild, all_wild, is_wild, matches_value, matches_row}
-use Rattle.pj_laws.specs.Join.{In, Value, no_value, arities, goes_out, TupleAt, PunctAt, JoinData, JoinState, Step, TupleComes, PunctComes, Take, Give, Sweep, start, step, run, inputs, arity, agree, is_held, kept, new_punct, IsAllowed, AreLegalSteps, IsCombination, product, upto_from, candidates, combinations, results, Element, Tuple, Punct, joined, widened, hands_up, outputs, IsLawful}
-use Rattle.pj_laws.specs.Operators.{picked_cells, picked_patterns, drops_wildcards, select_hands, project_hands}
+use Rattle.pj_laws.specs.Join.{In, Value, no_value, arities, goes_out, TupleAt, PunctAt, JoinData, JoinState, Step, TupleComes, PunctComes, Take, Give, Sweep, start, step, run, inputs, arity, agree, is_held, kept, new_punct, IsAllowed, AreLegalSteps, IsCombination, product, upto_from, candidates, combinations, results, Element, Tuple, Punct, joined, widened, hands_up, outputs}
+use Rattle.pj_laws.specs.Operators.{picked_cells, picked_patterns, select_hands, project_hands}
 use Rattle.pj_laws.specs.Plan.{Join, Local, Comes, Fed, Own, join_step, join_local, after_all, hands_all, IsOwn, Fits}
-use Rattle.pj_laws.proofs.Lists.{In-append_cases, In-filter, In-map, In-flat_map, any_at}
-use Rattle.pj_laws.proofs.PatternFacts.{wild-matches, wilds-length}
+use Rattle.pj_pattern.specs.Elements.{IsLawful}
+use Rattle.pj_pattern.proofs.Covering.{wild_matches}
+use Rattle.pj_pattern.proofs.Rows.{wilds-length}
 use Rattle.pj_laws.proofs.Forget.{IsSound}
 use Rattle.pj_laws.proofs.Sound.{sound-start, sound-step, run-append}
 use Rattle.pj_laws.proofs.Results.{IsPicked, picked, candidates-own, is-combination}
 use Rattle.pj_laws.proofs.Widen.{lengths-from, joined-length}
-use Rattle.pj_laws.proofs.Lawful.{AreClear, IsLawful-append, run-lawful}
+use Rattle.pj_laws.proofs.Lawful.{run-lawful}
 use Rattle.pj_laws.proofs.Glue.{from_input}
 
 abbrev pub AllFit : ℕ → List Element → Type 0
 AllFit width es = (e : Element) → In e es → Fits width e
-
-pub lawful-tail : (x : Element) (xs : List Element) → IsLawful (x ∷ xs) → IsLawful xs
-lawful-tail (Tuple row) xs l = l
-lawful-tail (Punct patterns) xs l = l.1
 
 -- ---- operators that take each element by itself
 
@@ -34,13 +34,13 @@ pub flat-lawful : (width : ℕ) (f : Element → List Element)
     → (es : List Element) → AllFit width es → IsLawful es → IsLawful (flat_map f es)
 flat-lawful width f each no-p no-r back [] fit l = tt
 flat-lawful width f each no-p no-r back (Tuple row ∷ es) fit l =
-    IsLawful-append (f (Tuple row)) (flat_map f es) (each (Tuple row)) (flat-lawful width f each no-p no-r back es (λ e h. fit e (inr h)) l) (λ ps h. absurd (no-p row ps h))
+    lawful_append (f (Tuple row)) (flat_map f es) (each (Tuple row)) (flat-lawful width f each no-p no-r back es (λ e h. fit e (inr h)) l) (λ ps h. absurd (no-p row ps h))
 flat-lawful width f each no-p no-r back (Punct ps ∷ es) fit l =
-    IsLawful-append (f (Punct ps)) (flat_map f es) (each (Punct ps)) (flat-lawful width f each no-p no-r back es (λ e h. fit e (inr h)) l.1) (λ qs h row' k.
-    let r = In-flat_map f (Tuple row') es k in go qs h row' r.0 r.1 r.2)
+    lawful_append (f (Punct ps)) (flat_map f es) (each (Punct ps)) (flat-lawful width f each no-p no-r back es (λ e h. fit e (inr h)) l.1) (λ qs h. clear_from qs (flat_map f es) (λ row' k.
+    let r = In-flat_map f (Tuple row') es k in go qs h row' r.0 r.1 r.2))
   where
     go : (qs : List Pattern) → In (Punct qs) (f (Punct ps)) → (row' : List Value) (e : Element) → In e es → In (Tuple row') (f e) → matches_row qs row' ≡ false
-    go qs h row' (Tuple row) m k = back ps qs row row' (fit (Punct ps) (inl refl)) (fit (Tuple row) (inr m)) h k (l.0 row m)
+    go qs h row' (Tuple row) m k = back ps qs row row' (fit (Punct ps) (inl refl)) (fit (Tuple row) (inr m)) h k (clear_at ps es l.0 row m)
     go qs h row' (Punct other) m k = absurd (no-r other row' k)
 
 pub select-lawful : (width : ℕ) (test : List Pattern) (es : List Element) → AllFit width es → IsLawful es → IsLawful (flat_map (select_hands test) es)
@@ -52,7 +52,7 @@ select-lawful width test = flat-lawful width (select_hands test) each no-p no-r 
         go : (b : Bool) → IsLawful (cond b (Tuple row ∷ []) [])
         go true = tt
         go false = tt
-    each (Punct ps) = (λ row h. absurd h, tt)
+    each (Punct ps) = (tt, tt)
 
     same : (row row' : List Value) (b : Bool) → In (Tuple row') (cond b (Tuple row ∷ []) []) → row ≡ row'
     same row row' true (inl q) = cc q
@@ -85,7 +85,7 @@ picked-at (d ∷ columns) ps row c t (inl q) = subst (λ (n : ℕ). matches_valu
 picked-at (d ∷ columns) ps row c t (inr h) = picked-at columns ps row c (and_parts (matches_value (get_or ps d wild) (get_or row d no_value)) (matches_row (picked_patterns columns ps) (picked_cells columns row)) t).1 h
 
 -- a row whose kept part matches_row the kept part of a punctuation with wildcards elsewhere matches_row it
-pub picked-matches : (columns : List ℕ) (k : ℕ) (ps : List Pattern) (row : List Value) → length ps ≡ length row → drops_wildcards columns k ps ≡ true
+pub picked-matches : (columns : List ℕ) (k : ℕ) (ps : List Pattern) (row : List Value) → length ps ≡ length row → others_wild columns k ps ≡ true
     → ((j : ℕ) → In (k + j) columns → matches_value (get_or ps j wild) (get_or row j no_value) ≡ true) → matches_row ps row ≡ true
 picked-matches columns k [] [] l d f = refl
 picked-matches columns k [] (v ∷ row) l d f = absurd (omega arith)
@@ -95,22 +95,22 @@ picked-matches columns k (p ∷ ps) (v ∷ row) l d f =
     (elim (or_cases (list_any (λ c. eqb c k) columns) (is_wild p) both.0) [
       | inl t ↦ let r = any_at (λ c. eqb c k) columns t in
           let q : r.0 ≡ k + 0 = omega (arith, eqb-true r.0 k r.2) in f 0 (subst (λ (c : ℕ). In c columns) q r.1)
-      | inr t ↦ wild-matches p v t
+      | inr t ↦ wild_matches p v t
     ])
     (picked-matches columns (k + 1) ps row (omega arith) both.1 (λ j h. let q : k + 1 + j ≡ k + suc j = omega arith in f (suc j) (subst (λ (c : ℕ). In c columns) q h)))
   where
-    both : ((list_any (λ c. eqb c k) columns || is_wild p) ≡ true) × (drops_wildcards columns (k + 1) ps ≡ true)
-    both = and_parts (list_any (λ c. eqb c k) columns || is_wild p) (drops_wildcards columns (k + 1) ps) d
+    both : ((list_any (λ c. eqb c k) columns || is_wild p) ≡ true) × (others_wild columns (k + 1) ps ≡ true)
+    both = and_parts (list_any (λ c. eqb c k) columns || is_wild p) (others_wild columns (k + 1) ps) d
 
 pub project-lawful : (width : ℕ) (columns : List ℕ) (es : List Element) → AllFit width es → IsLawful es → IsLawful (flat_map (project_hands columns) es)
 project-lawful width columns = flat-lawful width (project_hands columns) each no-p no-r back
   where
     each : (e : Element) → IsLawful (project_hands columns e)
     each (Tuple row) = tt
-    each (Punct ps) = go (drops_wildcards columns 0 ps)
+    each (Punct ps) = go (others_wild columns 0 ps)
       where
         go : (b : Bool) → IsLawful (cond b (Punct (picked_patterns columns ps) ∷ []) [])
-        go true = (λ row h. absurd h, tt)
+        go true = (tt, tt)
         go false = tt
 
     no-p : (row : List Value) (ps : List Pattern) → In (Punct ps) (project_hands columns (Tuple row)) → ⊥
@@ -118,7 +118,7 @@ project-lawful width columns = flat-lawful width (project_hands columns) each no
     no-p row ps (inr k) = k
 
     no-r : (ps : List Pattern) (row : List Value) → In (Tuple row) (project_hands columns (Punct ps)) → ⊥
-    no-r ps row h = go (drops_wildcards columns 0 ps) h
+    no-r ps row h = go (others_wild columns 0 ps) h
       where
         go : (b : Bool) → In (Tuple row) (cond b (Punct (picked_patterns columns ps) ∷ []) []) → ⊥
         go true (inl q) = cc
@@ -127,9 +127,9 @@ project-lawful width columns = flat-lawful width (project_hands columns) each no
 
     back : (ps qs : List Pattern) (row row' : List Value) → length ps ≡ width → length row ≡ width → In (Punct qs) (project_hands columns (Punct ps)) → In (Tuple row') (project_hands columns (Tuple row)) → matches_row ps row ≡ false → matches_row qs row' ≡ false
     back ps qs row row' a b h (inr k) m = absurd k
-    back ps qs row row' a b h (inl r) m = go (drops_wildcards columns 0 ps) refl h
+    back ps qs row row' a b h (inl r) m = go (others_wild columns 0 ps) refl h
       where
-        go : (t : Bool) → drops_wildcards columns 0 ps ≡ t → In (Punct qs) (cond t (Punct (picked_patterns columns ps) ∷ []) []) → matches_row qs row' ≡ false
+        go : (t : Bool) → others_wild columns 0 ps ≡ t → In (Punct qs) (cond t (Punct (picked_patterns columns ps) ∷ []) []) → matches_row qs row' ≡ false
         go false e k = absurd k
         go true e (inr k) = absurd k
         go true e (inl q) =
@@ -243,7 +243,7 @@ AreOwnAllowed spec s (Own st ∷ ls) = IsOwn st × IsAllowed spec s st × AreOwn
 
 -- what came from this input before is clear of what comes now, which is lawful and matches_value
 pub record IsFlow (spec : JoinData) (s : JoinState) (ls : List Local) (k : ℕ) : Type 0 where
-  pub clear : (p : PunctAt) → In p s.puncts → p.input ≡ k → AreClear p.patterns (from_input k ls)
+  pub clear : (p : PunctAt) → In p s.puncts → p.input ≡ k → (row : List Value) → In (Tuple row) (from_input k ls) → matches_row p.patterns row ≡ false
   pub lawful : IsLawful (from_input k ls)
   pub fit : AllFit (arity spec k) (from_input k ls)
 
@@ -256,7 +256,7 @@ module _ (spec : JoinData) (s : JoinState) (i : ℕ) (e : Element) (ls : List Lo
   flow-tail k f = go (eqb i k) f.lawful
     where
       go : (b : Bool) → IsLawful (cond b (e ∷ from_input k ls) (from_input k ls)) → IsLawful (from_input k ls) × ((x : Element) → In x (from_input k ls) → In x (cond b (e ∷ from_input k ls) (from_input k ls)))
-      go true l = (lawful-tail e (from_input k ls) l, λ x h. inr h)
+      go true l = (lawful_tail e (from_input k ls) l, λ x h. inr h)
       go false l = (l, λ x h. h)
 
   -- its own input's
@@ -305,7 +305,7 @@ join-legal spec s (Comes i (Punct ps) ∷ ls) w o f = (
 
     new : (p : PunctAt) → In p (new_punct s i ps ∷ []) → (k : ℕ) → p.input ≡ k → (r : List Value) → In (Tuple r) (from_input k ls) → matches_row p.patterns r ≡ false
     new p (inl q) k e r h =
-        subst (λ (z : PunctAt). matches_row z.patterns r ≡ false) q (here.0.0 r (subst (λ (n : ℕ). In (Tuple r) (from_input n ls)) (sym e ∙ ap (λ (z : PunctAt). z.input) (sym q)) h))
+        subst (λ (z : PunctAt). matches_row z.patterns r ≡ false) q (clear_at ps (from_input i ls) here.0.0 r (subst (λ (n : ℕ). In (Tuple r) (from_input n ls)) (sym e ∙ ap (λ (z : PunctAt). z.input) (sym q)) h))
     new p (inr q) k e r h = absurd q
 
 pub join-lawful : (spec : JoinData) (ls : List Local) → AreWithin (inputs spec) ls → AreOwnAllowed spec start ls

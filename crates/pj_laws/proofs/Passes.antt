@@ -1,5 +1,6 @@
 -- Sweeps of all inputs of one join among nodes at rest.
 use Rattle.std.proofs.Common.{ℕ, zero, suc, ◌+◌, ◌<◌, ◌≤◌, ◌⊎◌, Bool, true, cond, not, List, [], ◌∷◌, ◌++◌, ◌≡◌, map, filter, length, refl, sym, ap, ◌∙◌, subst, inl, inr, arith}
+use Rattle.pj_laws.proofs.Histories.{nodes-append}
 use Rattle.std.proofs.lemmas.Bool.{cases_lt}
 use Rattle.pj_laws.specs.Join.{In, TupleAt, JoinData, JoinState, Take, Give, Sweep, has, step, run, upto_from}
 use Rattle.pj_laws.specs.Kept.{lacking}
@@ -9,7 +10,7 @@ use Rattle.pj_laws.specs.History.{Entry, Swept, state_in, nodes_by, nodes_from}
 use Rattle.pj_laws.specs.OneThread.{Place, plain, probes_at, pending_at, probes_from, probes, sweeps_at}
 use Rattle.pj_laws.proofs.Glue.{length-moved}
 use Rattle.pj_laws.proofs.NextProbe.{act-before, act-here}
-use Rattle.pj_laws.proofs.Probes.{Rested, AllOperators, all-at, nodes-append, length-from}
+use Rattle.pj_laws.proofs.Probes.{Rested, AllOperators, all-at, length-from}
 use Rattle.pj_laws.proofs.OneRun.{probed-swept}
 
 -- ---- probes spare the nodes before them

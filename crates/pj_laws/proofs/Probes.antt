@@ -9,10 +9,11 @@ use Rattle.pj_laws.specs.Kept.{lacking}
 use Rattle.pj_laws.specs.Plan.{Operator, Stream, Select, Project, Union, Join, Group, Node, Local, Comes, Fed, Own, PlanStep, Act, after, after_all, own, brought_from, locals, handed_at, batches, moved, operator_at, nowhere, IsOwn, MayAct, IsStepAllowed}
 use Rattle.pj_laws.specs.History.{Entry, Event, Taken, Given, Swept, Drain, state_in, step_of, nodes_by, nodes_from}
 use Rattle.pj_laws.specs.OneThread.{probes_at, probes_from, probes}
-use Rattle.pj_laws.proofs.Lists.{In-append_cases, In-filter, In-filter_from, In-map, In-map_from}
+use Rattle.pj_value.proofs.Members.{In-append_cases, In-filter, In-filter_from, In-map, In-map_from}
 use Rattle.pj_laws.proofs.Bags.{AreDistinct}
 use Rattle.pj_laws.proofs.Glue.{moved-append, length-batches, length-moved, after-append}
 use Rattle.pj_laws.proofs.Nodes.{AreEmpty, empty-none, brought-none, quiet}
+use Rattle.pj_laws.proofs.Histories.{nodes-append}
 
 -- ---- joins between probes
 
@@ -61,7 +62,7 @@ all-from P (node ∷ nodes) f = (f 0 (omega arith), all-from P nodes (λ n lt. f
 
 -- ---- what comes from below
 
-has-in : (ns : List ℕ) (n : ℕ) → has ns n ≡ true → In n ns
+pub has-in : (ns : List ℕ) (n : ℕ) → has ns n ≡ true → In n ns
 has-in [] n t = absurd (false≢true t)
 has-in (m ∷ ns) n t = elim (or_cases (eqb m n) (has ns n) t) [ inl e ↦ inl (eqb-true m n e) | inr h ↦ inr (has-in ns n h) ]
 
@@ -170,7 +171,7 @@ stream-moved e done (node ∷ nodes) (suc n) schema sent lt q =
 
 -- ---- one act of a join
 
-own-other : (j : ℕ) (s : Step) (n : ℕ) → j ≢ n → own (Act j s) n ≡ []
+pub own-other : (j : ℕ) (s : Step) (n : ℕ) → j ≢ n → own (Act j s) n ≡ []
 own-other j s n ne = ap (λ (b : Bool). cond b (Own s ∷ []) []) (ne_eqb j n ne)
 
 -- the node moves, the nodes before it stay, and those behind it only receive
@@ -239,10 +240,6 @@ AreActsLegal nodes (entry ∷ es) = IsQuietEvent entry.event × (entry.closing �
 pub acts-append : (nodes : List Node) (xs ys : List Entry) → AreActsLegal nodes xs → AreActsLegal (nodes_from nodes xs) ys → AreActsLegal nodes (xs ++ ys)
 acts-append nodes [] ys a b = b
 acts-append nodes (x ∷ xs) ys a b = (a.0, a.1, a.2, acts-append (nodes_by nodes x.event) xs ys a.3 b)
-
-pub nodes-append : (nodes : List Node) (xs ys : List Entry) → nodes_from nodes (xs ++ ys) ≡ nodes_from (nodes_from nodes xs) ys
-nodes-append nodes [] ys = refl
-nodes-append nodes (x ∷ xs) ys = nodes-append (nodes_by nodes x.event) xs ys
 
 middle : (front : List Node) (node : Node) (back : List Node) → operator_at (front ++ node ∷ back) (length front) ≡ node.operator
 middle front node back = ap (λ (n : Node). n.operator) (get_or_at front node back nowhere (length front) refl)

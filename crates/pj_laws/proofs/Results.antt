@@ -5,7 +5,7 @@ use Rattle.std.proofs.lemmas.Bool.{false≢true, eqb-true, eq-eqb, cases_Bool, c
 use Rattle.std.proofs.lemmas.List.Elements.{filter-append}
 use Rattle.pj_laws.specs.Join.{In, TupleAt, JoinData, JoinState, start, inputs, of_input, older, agree, has, run, IsCombination, product, upto_from, candidates, combinations, results}
 use Rattle.pj_laws.specs.Laws.{StoredSuffice}
-use Rattle.pj_laws.proofs.Lists.{In-filter, In-map, In-flat_map, all_from, filter-agree, filter-filter, map-same}
+use Rattle.pj_value.proofs.Members.{In-filter, In-map, In-flat_map, all_from, filter-agree, filter-filter, map-same}
 use Rattle.pj_laws.proofs.Forget.{least_open-below, IsSound}
 use Rattle.pj_laws.proofs.Sound.{sound-start, sound-run}
 

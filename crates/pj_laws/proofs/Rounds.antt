@@ -7,7 +7,7 @@ use Rattle.pj_laws.specs.Patterns.{all_wild}
 use Rattle.pj_laws.specs.Join.{In, Element, Punct}
 use Rattle.pj_laws.specs.Plan.{Node, operator_at}
 use Rattle.pj_laws.specs.OneThread.{Turn, turns_of, heads, tails, rounds, longest, in_rounds, schema_of, all_turns}
-use Rattle.pj_laws.proofs.Lists.{In-append_cases, In-map}
+use Rattle.pj_value.proofs.Members.{In-append_cases, In-map}
 
 -- the turns of one stream
 abbrev pub mine : ℕ → List Turn → List Turn

@@ -1,5 +1,6 @@
 -- The run on one thread with sweeps ends complete.
 use Rattle.std.proofs.Common.{ℕ, ◌+◌, ◌<◌, Bool, true, false, cond, List, [], ◌∷◌, ◌++◌, ◌≡◌, map, length, get_or, refl, sym, ap, ◌∙◌, subst, inl, inr, eqb, arith, append_assoc, append-nil, length-append}
+use Rattle.pj_laws.proofs.Histories.{reached-nodes, nodes-append, legal-append, reached-append}
 use Rattle.std.proofs.lemmas.Bool.{cases_eq}
 use Rattle.std.proofs.lemmas.List.{length-map, length_push, get_or_at}
 use Rattle.pj_laws.specs.Patterns.{all_wild}
@@ -9,7 +10,7 @@ use Rattle.pj_laws.specs.Plan.{Operator, Stream, Select, Project, Union, Join, G
 use Rattle.pj_laws.specs.History.{Entry, Swept, Reached, is_stream, state_in, step_of, nodes_by, begun, reached_of, nodes_from, steps_from, IsOn, IsLegal}
 use Rattle.pj_laws.specs.OneThread.{Place, plain, probes, sweeps_at, places_in, places_from, schema_of}
 use Rattle.pj_laws.specs.HistoryLaws.{Propagates, AllPropagate, Certified, AllAreCertified}
-use Rattle.pj_laws.proofs.Lists.{In-append_left, in-place, map-at}
+use Rattle.pj_value.proofs.Members.{In-append_left, in-place, map-at}
 use Rattle.pj_laws.proofs.Sound.{sound-start, sound-run}
 use Rattle.pj_laws.proofs.Late.{settled-from}
 use Rattle.pj_laws.proofs.Glue.{from_input, locals_all, from-is, operator-is}
@@ -17,11 +18,11 @@ use Rattle.pj_laws.proofs.Operators.{join_steps, join-after}
 use Rattle.pj_laws.proofs.Whole.{AreGood, node-good, front-good}
 use Rattle.pj_laws.proofs.Closing.{HasWild, came-in}
 use Rattle.pj_laws.proofs.Settled.{AreWild, node-wild, front-wild}
-use Rattle.pj_laws.proofs.Steps.{legal-steps, nodes-run, reached-nodes}
+use Rattle.pj_laws.proofs.Steps.{legal-steps, nodes-run}
 use Rattle.pj_laws.proofs.Nodes.{operator-from}
 use Rattle.pj_laws.proofs.HistoryAnswers.{closed-by, is-done, propagates-all}
-use Rattle.pj_laws.proofs.Probes.{Rested, AllOperators, AreActsLegal, all-at, all-from, nodes-append, length-from}
-use Rattle.pj_laws.proofs.OneRun.{legal-append, reached-append, acts-still, IsStill, sweeps-rest, all-places, places-on, certified-from}
+use Rattle.pj_laws.proofs.Probes.{Rested, AllOperators, AreActsLegal, all-at, all-from, length-from}
+use Rattle.pj_laws.proofs.OneRun.{acts-still, IsStill, sweeps-rest, all-places, places-on, certified-from}
 use Rattle.pj_laws.proofs.OneThreadAnswer.{rested-given}
 use Rattle.pj_laws.proofs.JoinRuns.{node-runs}
 use Rattle.pj_laws.proofs.Passes.{place_of, sweeps-over}
@@ -69,7 +70,7 @@ pub record IsLate (plan : List Node) (h : List Entry) : Type 0 where
 late-on : (plan : List Node) (h es : List Entry) → IsLate plan h → AreActsLegal (nodes_from plan h) es → AllOperators Rested (nodes_from (nodes_from plan h) es) → IsLate plan (h ++ es)
 late-on plan h es i a r = record {
   legal = legal-append (begun plan) h es i.legal still.legal;
-  on = ap (λ (q : Reached). q.stop) (reached-append (begun plan) h es) ∙ still.on;
+  on = ap (λ (q : Reached). q.stop) (reached-append false (begun plan) h es) ∙ still.on;
   rested = subst (AllOperators Rested) (sym (nodes-append plan h es)) r;
   closed = λ n lt t. subst (λ (xs : List Element). In (Punct (all_wild (length (schema_of (operator_at plan n))))) xs) (sym (ap (fed_to n) (steps-both plan h es) ∙ fed-both n (steps_from plan h) (steps_from (nodes_from plan h) es)))
       (In-append_left (Punct (all_wild (length (schema_of (operator_at plan n))))) (fed_to n (steps_from plan h)) (fed_to n (steps_from (nodes_from plan h) es)) (i.closed n lt t));

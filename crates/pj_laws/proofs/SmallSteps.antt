@@ -16,11 +16,11 @@ use Rattle.pj_laws.specs.HistoryLaws.{joined_plan, JoinOfStreams, StreamAlone, S
 use Rattle.pj_laws.proofs.Complete.{eqb-sym}
 use Rattle.pj_laws.proofs.Bags.{AreDistinct}
 use Rattle.pj_laws.proofs.Glue.{batches-append, batches-keep, moved-append, length-batches, length-moved}
-use Rattle.pj_laws.proofs.Answers.{at-upto, length-upto}
 use Rattle.pj_laws.proofs.Steps.{all-rise, rising-place, kind-all}
 use Rattle.pj_laws.proofs.Nodes.{empty-none, quiet}
 use Rattle.pj_laws.proofs.Probes.{length-from}
-use Rattle.pj_laws.proofs.Lists.{map-same}
+use Rattle.pj_value.proofs.Members.{map-same}
+use Rattle.pj_laws.proofs.Upto.{length-upto, get_or-upto}
 
 -- ---- streams in front
 
@@ -412,7 +412,7 @@ join-answer streams join j lists =
         let q = numbers count join.inputs plan f in
         let there : m < length (streams_of plan) = omega (arith, lt, ap length q, length-upto 0 count) in
         let at : get_or (streams_of plan) m 0 ≡ m = ap (λ (ns : List ℕ). get_or ns m 0) q ∙ number-at 0 count m 0 lt ∙ z in
-        at-upto g 0 count m lt
+        get_or-upto g 0 count m [] lt
         ∙ ap g (z ∙ sym at)
         ∙ ap (list_at lists) (rising-place 0 0 (streams_of plan) 0 m (all-rise plan) there)
         ∙ ap (λ (k : ℕ). get_or lists k []) z

@@ -5,7 +5,7 @@ use Rattle.std.proofs.lemmas.List.Elements.{filter-append}
 use Rattle.pj_laws.specs.Patterns.{matches_row}
 use Rattle.pj_laws.specs.Join.{In, TupleAt, PunctAt, JoinData, JoinState, Step, TupleComes, PunctComes, Take, Give, Sweep, start, inputs, arity, has, low, ripe, kept, is_held, must_wait, new_tuple, new_punct, step, run, IsAllowed, AreLegalSteps, MayCome, AreCertified}
 use Rattle.pj_laws.specs.Laws.{NeverNeeded}
-use Rattle.pj_laws.proofs.Lists.{In-append_left, In-append_right, In-append_cases, In-filter, In-filter_from, filter-agree, filter-filter}
+use Rattle.pj_value.proofs.Members.{In-append_left, In-append_right, In-append_cases, In-filter, In-filter_from, filter-agree, filter-filter}
 use Rattle.pj_laws.proofs.Forget.{least_open-le, least_open-below, least_open-from, Reached, WasForgotten, IsSound, ripe-low, stored-in, ripe-forgotten}
 
 -- what has arrived or may come after a step had arrived or might come before it
@@ -185,6 +185,10 @@ sound-run spec s (e ∷ es) i l = sound-run spec (step spec s e) es (sound-step 
 pub run-append : (spec : JoinData) (s : JoinState) (xs ys : List Step) → run spec s (xs ++ ys) ≡ run spec (run spec s xs) ys
 run-append spec s [] ys = refl
 run-append spec s (x ∷ xs) ys = run-append spec (step spec s x) xs ys
+
+pub legal-more : (spec : JoinData) (s : JoinState) (steps : List Step) (e : Step) → AreLegalSteps spec s steps → IsAllowed spec (run spec s steps) e → AreLegalSteps spec s (steps ++ e ∷ [])
+legal-more spec s [] e l a = (a, tt)
+legal-more spec s (d ∷ steps) e l a = (l.0, legal-more spec (step spec s d) steps e l.1 a)
 
 pub reached-all : (spec : JoinData) (s : JoinState) (es : List Step) → AreLegalSteps spec s es → (y : TupleAt) → Reached spec (run spec s es) y → Reached spec s y
 reached-all spec s [] l y h = h

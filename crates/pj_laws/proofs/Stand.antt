@@ -10,7 +10,7 @@ use Rattle.pj_laws.specs.Laws.{StepsStand}
 use Rattle.pj_laws.proofs.Sound.{sound-start, run-append}
 use Rattle.pj_laws.proofs.Complete.{IsCounted, counted-start, counted-run, eqb-sym}
 
-least-lacking : (given : List ℕ) (next : ℕ) (xs : List TupleAt) → least next (lacking given xs) ≡ least_open given next xs
+pub least-lacking : (given : List ℕ) (next : ℕ) (xs : List TupleAt) → least next (lacking given xs) ≡ least_open given next xs
 least-lacking given next [] = refl
 least-lacking given next (x ∷ xs) = go (has given x.ticket) (least-lacking given next xs)
   where

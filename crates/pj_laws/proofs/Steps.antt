@@ -4,25 +4,11 @@ use Rattle.std.specs.Prelude.{pred}
 use Rattle.std.proofs.lemmas.Bool.{eq-eqb, ne_eqb, cases_eq, cases_lt, false≢true}
 use Rattle.pj_value.specs.declared.values.Value.{Value}
 use Rattle.std.proofs.lemmas.List.{length_push}
-use Rattle.pj_laws.specs.Bags.{same_row, times, weigh, AreSameBag, SameBag, AreSubBag, SubBag}
 use Rattle.pj_laws.specs.Join.{In, Element, Tuple, Punct, TupleAt, removed}
 use Rattle.pj_laws.specs.Plan.{Operator, Stream, Select, Project, Union, Join, Group, Node, Local, Comes, Fed, Own, PlanStep, after, after_all, locals, handed_at, moved, plan_run, handed, fed_to, inputs_of, operator_answer, answers_from, IsStepAllowed, AreStepsLegal}
-use Rattle.pj_laws.specs.History.{Entry, Event, Arrive, Taken, Given, Swept, Drain, Halt, Look, Stopped, Idle, Out, RowOut, PunctOut, Purged, is_stream, streams_from, streams_of, stream_node, root_of, join_at, data_at, step_of, nodes_by, out_of, notes_of, root_hands, gained, Reached, next, reached_from, nodes_from, steps_from, IsEventAllowed, AreEntriesLegal}
+use Rattle.pj_laws.specs.History.{Entry, Event, Arrive, Taken, Given, Swept, Drain, Halt, Look, Stopped, Idle, Out, RowOut, PunctOut, Purged, is_stream, streams_from, streams_of, stream_node, root_of, join_at, data_at, step_of, nodes_by, out_of, notes_of, root_hands, gained, Reached, next, nodes_from, steps_from, IsEventAllowed, AreEntriesLegal}
 use Rattle.pj_laws.specs.Outcomes.{elements_out, outputs_of, element_at, elements_of, place_in}
 use Rattle.pj_laws.proofs.Glue.{length-moved}
-
--- ---- bags by counting
-
-times-weighs : (row : List Value) (rows : List (List Value)) → times row rows ≡ weigh (λ r. cond (same_row row r) 1 0) rows
-times-weighs row [] = refl
-times-weighs row (r ∷ rows) = ap (λ (n : ℕ). cond (same_row row r) 1 0 + n) (times-weighs row rows)
-
--- lists of equal weight have each row equally often
-pub bag-counted : (xs ys : List (List Value)) → AreSameBag xs ys → SameBag xs ys
-bag-counted xs ys same row = times-weighs row xs ∙ same (λ r. cond (same_row row r) 1 0) ∙ sym (times-weighs row ys)
-
-pub sub_bag-counted : (xs ys : List (List Value)) → AreSubBag xs ys → SubBag xs ys
-sub_bag-counted xs ys sub row = omega (arith, times-weighs row xs, sub (λ r. cond (same_row row r) 1 0), times-weighs row ys)
 
 -- ---- legal histories make legal steps
 
@@ -44,10 +30,6 @@ legal-steps r (entry ∷ h) l = (step-allowed r entry.event l.0.0, legal-steps (
 pub nodes-run : (nodes : List Node) (h : List Entry) → nodes_from nodes h ≡ plan_run nodes (steps_from nodes h)
 nodes-run nodes [] = refl
 nodes-run nodes (entry ∷ h) = nodes-run (nodes_by nodes entry.event) h
-
-pub reached-nodes : (trace : Bool) (r : Reached) (h : List Entry) → (reached_from trace r h).nodes ≡ nodes_from r.nodes h
-reached-nodes trace r [] = refl
-reached-nodes trace r (entry ∷ h) = reached-nodes trace (next trace r entry) h
 
 -- ---- what is handed out is what the root hands up
 

@@ -3,17 +3,17 @@ use Rattle.std.proofs.Common.{cond, map, get_or, inl, ℕ, ◌+◌, ◌<◌, Boo
 use Rattle.std.proofs.lemmas.Bool.{false≢true}
 use Rattle.pj_laws.specs.Join.{In, Tuple, Punct, Element, has}
 use Rattle.pj_value.specs.declared.values.Value.{Value}
-use Rattle.pj_laws.specs.Bags.{SameBag}
+use Rattle.pj_value.specs.Bags.{SameBag}
 use Rattle.pj_laws.specs.Outcomes.{rows_out, outputs_of, answer_of}
 use Rattle.pj_laws.specs.Plan.{IsWellMade, Operator, Stream, Select, Project, Union, Join, Group, Node, Local, Comes, Fed, Own, PlanStep, after, after_all, moved, locals, handed_at, operator_at, ArePlanned}
 use Rattle.pj_laws.specs.History.{is_stream, streams_from, Entry, Event, Arrive, Taken, Given, Swept, Drain, Halt, Look, Stopped, Idle, Stop, Reached, begun, next, stop_after, reached_of, reached_from, nodes_from, nodes_by, step_of, streams_of, IsOn, AreEntriesLegal, IsLegal, IsComplete}
 use Rattle.pj_laws.specs.OneThread.{Place, Turn, is_punct, plain, arrival_of, probes, sweeps_at, places_in, places_from, follow_up, turn_entries, turns_entries, one_thread_of}
 use Rattle.pj_laws.specs.HistoryLaws.{OneThreadIsAnswer, AllAreCertified, AllPropagate, AreAcceptedLists, IsWholeRun, Certified}
-use Rattle.pj_laws.proofs.Steps.{reached-nodes}
+use Rattle.pj_laws.proofs.Histories.{reached-nodes, nodes-append, reached-append}
 use Rattle.pj_laws.proofs.Nodes.{drain-still}
 use Rattle.pj_laws.proofs.HistoryAnswers.{closings, complete-is-answer}
-use Rattle.pj_laws.proofs.Probes.{Rested, AllOperators, AreActsLegal, all-from, acts-append, nodes-append, length-from}
-use Rattle.pj_laws.proofs.OneRun.{AllProbed, IsStill, acts-still, reached-append, sweeps-rest, all-places, certified-from}
+use Rattle.pj_laws.proofs.Probes.{Rested, AllOperators, AreActsLegal, all-from, acts-append, length-from}
+use Rattle.pj_laws.proofs.OneRun.{AllProbed, IsStill, acts-still, sweeps-rest, all-places, certified-from}
 use Rattle.pj_laws.proofs.OneThreadAnswer.{all-probed, swept-whole, lists-are}
 use Rattle.pj_laws.proofs.LastTurn.{last-turn}
 use Rattle.pj_laws.proofs.SettledRun.{NoneWaits, AllRest, IsLate, settles-all}
@@ -150,7 +150,7 @@ module _ (plan : List Node) (planned : ArePlanned [] plan) (some : 0 < length pl
 
   on : IsOn (reached_of false plan end.front)
   unfolding N
-  on = on-before (reached_of false plan end.front) (final N) (subst IsOn (ap (reached_from false (begun plan)) end.same ∙ reached-append (begun plan) end.front (final N)) whole.on)
+  on = on-before (reached_of false plan end.front) (final N) (subst IsOn (ap (reached_from false (begun plan)) end.same ∙ reached-append false (begun plan) end.front (final N)) whole.on)
 
   swept : AreActsLegal N acts × AllOperators Rested (nodes_from N acts)
   unfolding N acts
@@ -163,7 +163,7 @@ module _ (plan : List Node) (planned : ArePlanned [] plan) (some : 0 < length pl
 
   closed : (s : ℕ) → s < length (streams_of plan) → has (reached_of false plan end.front).closed s ≡ true
   unfolding N
-  closed s l = subst (λ (ns : List ℕ). has ns s ≡ true) (ap (λ (r : Reached). r.closed) (ap (reached_from false (begun plan)) end.same ∙ reached-append (begun plan) end.front (final N)) ∙ still.closed) (whole.closed s l)
+  closed s l = subst (λ (ns : List ℕ). has ns s ≡ true) (ap (λ (r : Reached). r.closed) (ap (reached_from false (begun plan)) end.same ∙ reached-append false (begun plan) end.front (final N)) ∙ still.closed) (whole.closed s l)
 
   late : IsLate plan end.front
   unfolding N

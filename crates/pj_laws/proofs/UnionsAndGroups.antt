@@ -1,19 +1,21 @@
 -- Unions and groups hand up lawfully.
 use Rattle.std.proofs.Common.{ℕ, zero, suc, ◌+◌, ◌<◌, ◌≤◌, Bool, true, false, cond, ◌&&◌, ◌||◌, not, List, [], ◌∷◌, ◌++◌, ◌≡◌, ◌⊎◌, map, filter, length, get_or, refl, sym, ap, ap₂, ◌∙◌, subst, inl, inr, eqb, arith}
+use Rattle.pj_pattern.proofs.Lawful.{none_at as clear_at, none_from as clear_from, lawful_append, no_punct, no_row, rows_lawful, puncts_lawful, lawful_tail}
+use Rattle.pj_value.proofs.Members.{In-append_left, In-append_right, In-append_cases, In-filter, In-map, any_at}
 use Rattle.std.specs.List.{list_any}
 use Rattle.std.proofs.lemmas.Bool.{and_parts, or_cases, false≢true, eqb-true, eq-eqb, cases_eq, false_from_ne_true, not-true}
 use Rattle.std.proofs.lemmas.List.{length-map}
 use Rattle.pj_pattern.proofs.Covering.{row_covered}
 use Rattle.pj_laws.specs.Patterns.{Pattern, wild, all_wild, matches_row, covers_punct}
-use Rattle.pj_laws.specs.Join.{In, Value, no_value, Element, Tuple, Punct, IsLawful}
-use Rattle.pj_laws.specs.Bags.{same_row}
-use Rattle.pj_laws.specs.Operators.{picked_cells, picked_patterns, drops_wildcards, aggregate, keys_from, group_row, group_rows, GroupSpec, Sent, UnionState, all_sent_from, union_after, union_hands, group_after, group_hands}
+use Rattle.pj_laws.specs.Join.{In, Value, no_value, Element, Tuple, Punct}
+use Rattle.pj_pattern.specs.Elements.{IsLawful}
+use Rattle.pj_laws.specs.Operators.{picked_cells, picked_patterns, aggregate, keys_from, group_row, group_rows, GroupSpec, Sent, UnionState, all_sent_from, union_after, union_hands, group_after, group_hands}
 use Rattle.pj_laws.specs.Plan.{Union, Group, Local, Comes, Fed, Own, hands_all}
-use Rattle.pj_laws.proofs.Lists.{In-append_left, In-append_right, In-append_cases, In-filter, In-map, any_at}
-use Rattle.pj_laws.proofs.PatternFacts.{matches-append}
-use Rattle.pj_laws.proofs.Lawful.{AreClear, IsLawful-append, no-closed, no-row, rows-lawful, closed-lawful}
+use Rattle.pj_value.specs.Values.{row_eq}
+use Rattle.pj_pattern.proofs.Rows.{matches-append}
+use Rattle.pj_pattern.specs.Columns.{others_wild}
 use Rattle.pj_laws.proofs.Glue.{from_input}
-use Rattle.pj_laws.proofs.Operators.{AllFit, lawful-tail, picked-at, picked-matches, AreWithin}
+use Rattle.pj_laws.proofs.Operators.{AllFit, picked-at, picked-matches, AreWithin}
 
 -- ---- a union
 
@@ -48,7 +50,7 @@ lawful-rest : (k i : ℕ) (e : Element) (ls : List Local) → IsLawful (from_inp
 lawful-rest k i e ls l = go (eqb i k) l
   where
     go : (b : Bool) → IsLawful (cond b (e ∷ from_input k ls) (from_input k ls)) → IsLawful (from_input k ls)
-    go true m = lawful-tail e (from_input k ls) m
+    go true m = lawful_tail e (from_input k ls) m
     go false m = m
 
 -- a row of a union comes from an input
@@ -59,22 +61,22 @@ union-rows n u (Own s ∷ ls) w row h = union-rows n u ls w row h
 union-rows n u (Comes i (Tuple r) ∷ ls) w row (inl q) = (i, w.0, subst (λ (es : List Element). In (Tuple row) es) (sym (from-first i (Tuple r) ls)) (inl q))
 union-rows n u (Comes i (Tuple r) ∷ ls) w row (inr h) = let g = union-rows n u ls w.1 row h in (g.0, g.1, from-tail g.0 i (Tuple r) ls (Tuple row) g.2)
 union-rows n u (Comes i (Punct ps) ∷ ls) w row h = elim (In-append_cases (Tuple row) (union_hands n u i (Punct ps)) (hands_all (Union n (union_after n u i (Punct ps))) ls) h) [
-  | inl k ↦ absurd (no-row (λ (p : Sent). p.patterns) (filter (all_sent_from 0 n (u.came ++ record { input = i; patterns = ps } ∷ [])) (u.waiting ++ record { input = i; patterns = ps } ∷ [])) row k)
+  | inl k ↦ absurd (no_row (λ (p : Sent). p.patterns) (filter (all_sent_from 0 n (u.came ++ record { input = i; patterns = ps } ∷ [])) (u.waiting ++ record { input = i; patterns = ps } ∷ [])) row k)
   | inr k ↦ let g = union-rows n (union_after n u i (Punct ps)) ls w.1 row k in (g.0, g.1, from-tail g.0 i (Punct ps) ls (Tuple row) g.2)
 ]
 
 pub union-lawful : (n : ℕ) (u : UnionState) (ls : List Local) → AreWithin n ls → ((k : ℕ) → k < n → IsLawful (from_input k ls))
-    → ((q : Sent) → In q u.came → AreClear q.patterns (from_input q.input ls)) → ((q : Sent) → In q u.waiting → In q u.came) → IsLawful (hands_all (Union n u) ls)
+    → ((q : Sent) → In q u.came → (row : List Value) → In (Tuple row) (from_input q.input ls) → matches_row q.patterns row ≡ false) → ((q : Sent) → In q u.waiting → In q u.came) → IsLawful (hands_all (Union n u) ls)
 union-lawful n u [] w l clear wait = tt
 union-lawful n u (Fed e ∷ ls) w l clear wait = union-lawful n u ls w l clear wait
 union-lawful n u (Own s ∷ ls) w l clear wait = union-lawful n u ls w l clear wait
 union-lawful n u (Comes i (Tuple row) ∷ ls) w l clear wait =
     union-lawful n u ls w.1 (λ k lt. lawful-rest k i (Tuple row) ls (l k lt)) (λ q h r m. clear q h r (from-tail q.input i (Tuple row) ls (Tuple r) m)) wait
 union-lawful n u (Comes i (Punct ps) ∷ ls) w l clear wait =
-    IsLawful-append (union_hands n u i (Punct ps)) (hands_all (Union n (union_after n u i (Punct ps))) ls)
-    (closed-lawful (λ (p : Sent). p.patterns) (filter (all_sent_from 0 n came) (u.waiting ++ new ∷ [])))
+    lawful_append (union_hands n u i (Punct ps)) (hands_all (Union n (union_after n u i (Punct ps))) ls)
+    (puncts_lawful (λ (p : Sent). p.patterns) (filter (all_sent_from 0 n came) (u.waiting ++ new ∷ [])))
     (union-lawful n (union_after n u i (Punct ps)) ls w.1 (λ k lt. lawful-rest k i (Punct ps) ls (l k lt)) clear' wait')
-    cross
+    (λ qs h. clear_from qs (hands_all (Union n (union_after n u i (Punct ps))) ls) (cross qs h))
   where
     new : Sent
     new = record { input = i; patterns = ps }
@@ -85,11 +87,11 @@ union-lawful n u (Comes i (Punct ps) ∷ ls) w l clear wait =
     mine : IsLawful (Punct ps ∷ from_input i ls)
     mine = subst IsLawful (from-first i (Punct ps) ls) (l i w.0)
 
-    clear-new : (q : Sent) → In q (new ∷ []) → AreClear q.patterns (from_input q.input ls)
-    clear-new q (inl e) = subst (λ (z : Sent). AreClear z.patterns (from_input z.input ls)) e mine.0
+    clear-new : (q : Sent) → In q (new ∷ []) → (row : List Value) → In (Tuple row) (from_input q.input ls) → matches_row q.patterns row ≡ false
+    clear-new q (inl e) = subst (λ (z : Sent). (row : List Value) → In (Tuple row) (from_input z.input ls) → matches_row z.patterns row ≡ false) e (clear_at ps (from_input i ls) mine.0)
     clear-new q (inr e) = absurd e
 
-    clear' : (q : Sent) → In q came → AreClear q.patterns (from_input q.input ls)
+    clear' : (q : Sent) → In q came → (row : List Value) → In (Tuple row) (from_input q.input ls) → matches_row q.patterns row ≡ false
     clear' q h = elim (In-append_cases q u.came (new ∷ []) h) [
       | inl k ↦ λ r m. clear q k r (from-tail q.input i (Punct ps) ls (Tuple r) m)
       | inr k ↦ clear-new q k
@@ -104,7 +106,7 @@ union-lawful n u (Comes i (Punct ps) ∷ ls) w l clear wait =
     wait' : (q : Sent) → In q (union_after n u i (Punct ps)).waiting → In q came
     wait' q h = sent q (In-filter (λ p. not (all_sent_from 0 n came p)) q (u.waiting ++ new ∷ []) h).0
 
-    cross : (qs : List Pattern) → In (Punct qs) (union_hands n u i (Punct ps)) → AreClear qs (hands_all (Union n (union_after n u i (Punct ps))) ls)
+    cross : (qs : List Pattern) → In (Punct qs) (union_hands n u i (Punct ps)) → (row : List Value) → In (Tuple row) (hands_all (Union n (union_after n u i (Punct ps))) ls) → matches_row qs row ≡ false
     cross qs h row k =
         let r = In-map (λ (p : Sent). Punct p.patterns) (Punct qs) (filter (all_sent_from 0 n came) (u.waiting ++ new ∷ [])) h in
         let f = In-filter (all_sent_from 0 n came) r.0 (u.waiting ++ new ∷ []) r.1 in
@@ -134,7 +136,7 @@ group-hands spec rows (Comes i e ∷ ls) w =
 
 pub key-from : (seen : List (List Value)) (spec : GroupSpec) (rows : List (List Value)) (key : List Value) → In key (keys_from seen spec rows) → (row : List Value) × In row rows × (picked_cells spec.keys row ≡ key)
 key-from seen spec [] key h = absurd h
-key-from seen spec (row ∷ rows) key h = go (list_any (same_row (picked_cells spec.keys row)) seen) h (key-from seen spec rows key) (key-from (picked_cells spec.keys row ∷ seen) spec rows key)
+key-from seen spec (row ∷ rows) key h = go (list_any (row_eq (picked_cells spec.keys row)) seen) h (key-from seen spec rows key) (key-from (picked_cells spec.keys row ∷ seen) spec rows key)
   where
     Found : List (List Value) → Type 0
     Found xs = (x : List Value) × In x xs × (picked_cells spec.keys x ≡ key)
@@ -162,7 +164,7 @@ group-source spec rows (Tuple x ∷ es) out h =
     one : (z : List Value) → In z (x ∷ []) → x ≡ z
     one z (inl q) = q
     one z (inr q) = absurd q
-group-source spec rows (Punct ps ∷ es) out h = go (drops_wildcards spec.keys 0 ps) h (group-source spec rows es out) (group-source spec (filter (λ row. not (matches_row (picked_patterns spec.keys ps) (picked_cells spec.keys row))) rows) es out)
+group-source spec rows (Punct ps ∷ es) out h = go (others_wild spec.keys 0 ps) h (group-source spec rows es out) (group-source spec (filter (λ row. not (matches_row (picked_patterns spec.keys ps) (picked_cells spec.keys row))) rows) es out)
   where
     p : List Value → Bool
     p row = matches_row (picked_patterns spec.keys ps) (picked_cells spec.keys row)
@@ -182,7 +184,7 @@ group-source spec rows (Punct ps ∷ es) out h = go (drops_wildcards spec.keys 0
           let b = In-map (group_row spec due) a.0 (keys_from [] spec due) a.1 in
           let c = key-from [] spec due b.0 b.1 in
           let q : a.0 ≡ out = cc a.2 in
-          (c.0, inl (In-filter p c.0 rows c.1).0, (map (aggregate (filter (λ row. same_row b.0 (picked_cells spec.keys row)) due)) spec.aggs, ap (λ (xs : List Value). xs ++ map (aggregate (filter (λ row. same_row b.0 (picked_cells spec.keys row)) due)) spec.aggs) c.2 ∙ b.2 ∙ q))
+          (c.0, inl (In-filter p c.0 rows c.1).0, (map (aggregate (filter (λ row. row_eq b.0 (picked_cells spec.keys row)) due)) spec.aggs, ap (λ (xs : List Value). xs ++ map (aggregate (filter (λ row. row_eq b.0 (picked_cells spec.keys row)) due)) spec.aggs) c.2 ∙ b.2 ∙ q))
       | inr m ↦ elim m [ inl q ↦ cc q | inr q ↦ absurd q ]
     ]
 
@@ -203,7 +205,7 @@ group-lawful width spec rows (Tuple x ∷ es) long fit l =
     last row (inl q) = subst (λ (z : List Value). length z ≡ width) q (fit (Tuple x) (inl refl))
     last row (inr q) = absurd q
 group-lawful width spec rows (Punct ps ∷ es) long fit l =
-    go (drops_wildcards spec.keys 0 ps) refl (group-lawful width spec rows es long (λ e h. fit e (inr h)) l.1) (group-lawful width spec (filter (λ row. not (p row)) rows) es (λ row h. long row (In-filter (λ r. not (p r)) row rows h).0) (λ e h. fit e (inr h)) l.1)
+    go (others_wild spec.keys 0 ps) refl (group-lawful width spec rows es long (λ e h. fit e (inr h)) l.1) (group-lawful width spec (filter (λ row. not (p row)) rows) es (λ row h. long row (In-filter (λ r. not (p r)) row rows h).0) (λ e h. fit e (inr h)) l.1)
   where
     p : List Value → Bool
     p row = matches_row (picked_patterns spec.keys ps) (picked_cells spec.keys row)
@@ -221,16 +223,16 @@ group-lawful width spec rows (Punct ps ∷ es) long fit l =
     left = filter (λ row. not (p row)) rows
 
     out-lawful : IsLawful out
-    out-lawful = IsLawful-append (map Tuple (group_rows spec due)) (Punct (picked_patterns spec.keys ps ++ wilds) ∷ []) (rows-lawful (λ r. r) (group_rows spec due)) (λ row h. absurd h, tt) (λ qs h. absurd (no-closed (λ r. r) (group_rows spec due) qs h))
+    out-lawful = lawful_append (map Tuple (group_rows spec due)) (Punct (picked_patterns spec.keys ps ++ wilds) ∷ []) (rows_lawful (λ r. r) (group_rows spec due)) (tt, tt) (λ qs h. absurd (no_punct (λ r. r) (group_rows spec due) qs h))
 
     -- a row that is held or comes with this key does not match
-    apart : drops_wildcards spec.keys 0 ps ≡ true → (row : List Value) → In row left ⊎ In (Tuple row) es → p row ≡ false
+    apart : others_wild spec.keys 0 ps ≡ true → (row : List Value) → In row left ⊎ In (Tuple row) es → p row ≡ false
     apart d row (inl h) = not-true (p row) (In-filter (λ r. not (p r)) row rows h).1
-    apart d row (inr h) = false_from_ne_true (p row) (λ t. false≢true (sym (l.0 row h) ∙ picked-matches spec.keys 0 ps row (fit (Punct ps) (inl refl) ∙ sym (fit (Tuple row) (inr h))) d (λ j k. let z : 0 + j ≡ j = omega arith in picked-at spec.keys ps row j t (subst (λ (c : ℕ). In c spec.keys) z k))))
+    apart d row (inr h) = false_from_ne_true (p row) (λ t. false≢true (sym (clear_at ps es l.0 row h) ∙ picked-matches spec.keys 0 ps row (fit (Punct ps) (inl refl) ∙ sym (fit (Tuple row) (inr h))) d (λ j k. let z : 0 + j ≡ j = omega arith in picked-at spec.keys ps row j t (subst (λ (c : ℕ). In c spec.keys) z k))))
 
-    cross : drops_wildcards spec.keys 0 ps ≡ true → (qs : List Pattern) → In (Punct qs) out → AreClear qs (group_all spec left es)
+    cross : others_wild spec.keys 0 ps ≡ true → (qs : List Pattern) → In (Punct qs) out → (row : List Value) → In (Tuple row) (group_all spec left es) → matches_row qs row ≡ false
     cross d qs h row k = elim (In-append_cases (Punct qs) (map Tuple (group_rows spec due)) (Punct (picked_patterns spec.keys ps ++ wilds) ∷ []) h) [
-      | inl m ↦ absurd (no-closed (λ r. r) (group_rows spec due) qs m)
+      | inl m ↦ absurd (no_punct (λ r. r) (group_rows spec due) qs m)
       | inr m ↦ elim m [
         | inl q ↦ let r = group-source spec left es row k in
             let same : (picked_patterns spec.keys ps ++ wilds) ≡ qs = cc q in
@@ -241,6 +243,6 @@ group-lawful width spec rows (Punct ps ∷ es) long fit l =
       ]
     ]
 
-    go : (b : Bool) → drops_wildcards spec.keys 0 ps ≡ b → IsLawful (group_all spec rows es) → IsLawful (group_all spec left es) → IsLawful (cond b out [] ++ group_all spec (cond b left rows) es)
+    go : (b : Bool) → others_wild spec.keys 0 ps ≡ b → IsLawful (group_all spec rows es) → IsLawful (group_all spec left es) → IsLawful (cond b out [] ++ group_all spec (cond b left rows) es)
     go false e f g = f
-    go true e f g = IsLawful-append out (group_all spec left es) out-lawful g (cross e)
+    go true e f g = lawful_append out (group_all spec left es) out-lawful g (λ qs h. clear_from qs (group_all spec left es) (cross e qs h))

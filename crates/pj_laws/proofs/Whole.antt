@@ -1,16 +1,22 @@
 -- No place of a plan hands up a row that matches_row a punctuation that it handed up before.
-use Rattle.std.proofs.Common.{ℕ, suc, ◌+◌, ◌<◌, ◌≤◌, Bool, true, false, cond, not, List, [], ◌∷◌, ◌++◌, ◌≡◌, map, filter, flat_map, length, get_or, sum, refl, sym, ap, ap₂, ◌∙◌, subst, inl, inr, eqb, arith, append_assoc, append-nil, length-append}
-use Rattle.std.proofs.lemmas.Bool.{and_parts, false≢true, eqb-true, eq-eqb, cases_eq}
+use Rattle.std.proofs.Common.{ℕ, ◌+◌, ◌<◌, ◌≤◌, Bool, true, false, cond, not, List, [], ◌∷◌, ◌++◌, ◌≡◌, map, filter, flat_map, length, get_or, sum, refl, sym, ap, ap₂, ◌∙◌, subst, inl, inr, eqb, arith, append_assoc, append-nil, length-append}
+use Rattle.pj_pattern.proofs.Fitting.{row_length, punct_length}
+use Rattle.pj_shape.proofs.KindsOf.{kinds_length}
+use Rattle.pj_pattern.proofs.Lawful.{lawful_append}
+use Rattle.pj_value.proofs.Members.{In-append_cases, In-filter, In-map, In-flat_map, in-place, map-at}
+use Rattle.pj_shape.specs.Columns.{kinds_of}
+use Rattle.pj_pattern.specs.Fitting.{FitsKinds}
+use Rattle.std.proofs.lemmas.Bool.{eqb-true, eq-eqb, cases_eq}
 use Rattle.std.proofs.lemmas.List.{length-map, length_push, get_or_append_left, get_or_at}
 use Rattle.pj_shape.specs.declared.columns.Column.{Column}
-use Rattle.pj_laws.specs.Patterns.{Pattern, wild, all_wild, matches_row, is_kind, is_of_kind}
-use Rattle.pj_laws.specs.Join.{In, Value, no_value, arities, JoinData, JoinState, Step, start, step, IsAllowed, Element, Tuple, Punct, IsLawful}
-use Rattle.pj_laws.specs.Bags.{same_row}
-use Rattle.pj_laws.specs.Operators.{picked_cells, picked_patterns, drops_wildcards, GroupSpec, Sent, UnionState, keys_from, group_row, group_rows, aggregate, union_after, union_hands, all_sent_from, group_after, group_hands, select_hands, project_hands}
-use Rattle.pj_laws.specs.Plan.{Operator, Stream, Select, Project, Union, Join, Group, Node, Local, Comes, Fed, Own, join_step, after, after_all, hands_all, PlanStep, Feed, Act, Pass, own, brought_from, locals, handed_at, batches, moved, handed, IsOwn, Fits, FitsSchema, row_fits, punct_fits, IsClearOf, MayArrive, MayAct, nowhere, IsStepAllowed, AreStepsLegal, operator_width, IsWellMade, node_width, ArePlanned, PlanIsLawful}
-use Rattle.pj_laws.proofs.Lists.{In-append_cases, In-filter, In-map, In-flat_map, in-place, map-at}
-use Rattle.pj_laws.proofs.PatternFacts.{wilds-length}
-use Rattle.pj_laws.proofs.Lawful.{IsLawful-append}
+use Rattle.pj_laws.specs.Patterns.{Pattern, wild, all_wild, matches_row}
+use Rattle.pj_laws.specs.Join.{In, Value, no_value, arities, JoinData, JoinState, Step, start, step, IsAllowed, Element, Tuple, Punct}
+use Rattle.pj_pattern.specs.Elements.{IsLawful}
+use Rattle.pj_laws.specs.Operators.{picked_cells, picked_patterns, GroupSpec, Sent, UnionState, keys_from, group_row, group_rows, aggregate, union_after, union_hands, all_sent_from, group_after, group_hands, select_hands, project_hands}
+use Rattle.pj_laws.specs.Plan.{Operator, Stream, Select, Project, Union, Join, Group, Node, Local, Comes, Fed, Own, join_step, after, after_all, hands_all, PlanStep, Feed, Act, Pass, own, brought_from, locals, handed_at, batches, moved, handed, IsOwn, Fits, IsClearOf, MayArrive, MayAct, nowhere, IsStepAllowed, AreStepsLegal, operator_width, IsWellMade, node_width, ArePlanned, PlanIsLawful}
+use Rattle.pj_value.specs.Values.{row_eq}
+use Rattle.pj_pattern.proofs.Rows.{wilds-length}
+use Rattle.pj_pattern.specs.Columns.{others_wild}
 use Rattle.pj_laws.proofs.Glue.{from_input, locals_all, handed-is, handed-front, from-is, moved-append, length-batches, locals-inputs}
 use Rattle.pj_laws.proofs.Operators.{AllFit, AreWithin, AreOwnAllowed, select-lawful, project-lawful, join-lawful}
 use Rattle.pj_laws.proofs.UnionsAndGroups.{union-lawful, group_all, group-hands, group-lawful, key-from, from-first, from-tail}
@@ -18,7 +24,7 @@ use Rattle.pj_laws.proofs.UnionsAndGroups.{union-lawful, group_all, group-hands,
 -- ---- what a operator may do by itself
 
 abbrev pub IsLocalAllowed : Operator → Local → Type 0
-IsLocalAllowed (Stream schema sent) (Fed e) = IsClearOf sent e × FitsSchema schema e
+IsLocalAllowed (Stream schema sent) (Fed e) = IsClearOf sent e × FitsKinds (kinds_of schema) e
 IsLocalAllowed (Stream schema sent) (Comes k e) = Unit {0}
 IsLocalAllowed (Stream schema sent) (Own s) = Unit {0}
 IsLocalAllowed (Select test) l = Unit {0}
@@ -145,32 +151,12 @@ IsGood width es = IsLawful es × AllFit width es
 
 -- what is clear of lawful elements is lawful behind them
 clear-lawful : (sent : List Element) (e : Element) → IsLawful sent → IsClearOf sent e → IsLawful (sent ++ e ∷ [])
-clear-lawful sent (Tuple row) l c = IsLawful-append sent (Tuple row ∷ []) l tt (λ ps h r k. clear ps h r k)
-  where
-    clear : (ps : List Pattern) → In (Punct ps) sent → (r : List Value) → In (Tuple r) (Tuple row ∷ []) → matches_row ps r ≡ false
-    clear ps h r (inl q) = let same : row ≡ r = cc q in ap (matches_row ps) (sym same) ∙ c ps h
-    clear ps h r (inr k) = absurd k
-clear-lawful sent (Punct patterns) l c = IsLawful-append sent (Punct patterns ∷ []) l ((λ row h. absurd h), tt) (λ ps h r k. absurd (no-tuple r k))
-  where
-    no-tuple : (r : List Value) → In (Tuple r) (Punct patterns ∷ []) → ⊥
-    no-tuple r (inl q) = cc
-    no-tuple r (inr k) = k
+clear-lawful sent (Tuple row) l c = lawful_append sent (Tuple row ∷ []) l tt (λ ps h. (c ps h, tt))
+clear-lawful sent (Punct patterns) l c = lawful_append sent (Punct patterns ∷ []) l (tt, tt) (λ ps h. tt)
 
-row-length : (schema : List Column) (row : List Value) → row_fits schema row ≡ true → length row ≡ length schema
-row-length [] [] t = refl
-row-length [] (v ∷ row) t = absurd (false≢true t)
-row-length (c ∷ schema) [] t = absurd (false≢true t)
-row-length (c ∷ schema) (v ∷ row) t = ap suc (row-length schema row (and_parts (is_kind c.kind v) (row_fits schema row) t).1)
-
-punct-length : (schema : List Column) (ps : List Pattern) → punct_fits schema ps ≡ true → length ps ≡ length schema
-punct-length [] [] t = refl
-punct-length [] (p ∷ ps) t = absurd (false≢true t)
-punct-length (c ∷ schema) [] t = absurd (false≢true t)
-punct-length (c ∷ schema) (p ∷ ps) t = ap suc (punct-length schema ps (and_parts (is_of_kind c.kind p) (punct_fits schema ps) t).1)
-
-pub fits-length : (schema : List Column) (e : Element) → FitsSchema schema e → Fits (length schema) e
-fits-length schema (Tuple row) f = row-length schema row f
-fits-length schema (Punct ps) f = punct-length schema ps f
+pub fits-length : (schema : List Column) (e : Element) → FitsKinds (kinds_of schema) e → Fits (length schema) e
+fits-length schema (Tuple row) f = row_length (kinds_of schema) row f ∙ kinds_length schema
+fits-length schema (Punct ps) f = punct_length (kinds_of schema) ps f ∙ kinds_length schema
 
 stream-good : (schema : List Column) (sent : List Element) (ls : List Local) → IsLawful sent → AreLocalsAllowed (Stream schema sent) ls → IsLawful (sent ++ hands_all (Stream schema sent) ls) × AllFit (length schema) (hands_all (Stream schema sent) ls)
 stream-good schema sent [] l a = (subst IsLawful (sym (append-nil sent)) l, λ e h. absurd h)
@@ -211,7 +197,7 @@ select-fit width test (Punct ps) x f (inr k) = absurd k
 project-fit : (columns : List ℕ) (e x : Element) → In x (project_hands columns e) → Fits (length columns) x
 project-fit columns (Tuple row) x (inl q) = subst (Fits (length columns)) q (length-map columns (λ c. get_or row c no_value))
 project-fit columns (Tuple row) x (inr k) = absurd k
-project-fit columns (Punct ps) x h = go (drops_wildcards columns 0 ps) h
+project-fit columns (Punct ps) x h = go (others_wild columns 0 ps) h
   where
     go : (b : Bool) → In x (cond b (Punct (picked_patterns columns ps) ∷ []) []) → Fits (length columns) x
     go true (inl q) = subst (Fits (length columns)) q (length-map columns (λ c. get_or ps c wild))
@@ -259,7 +245,7 @@ group-fit spec rows (e ∷ es) x h = elim (In-append_cases x (group_hands spec r
 
     one : (e : Element) → In x (group_hands spec rows e) → Fits W x
     one (Tuple row) k = absurd k
-    one (Punct ps) k = go (drops_wildcards spec.keys 0 ps) k
+    one (Punct ps) k = go (others_wild spec.keys 0 ps) k
       where
         due : List (List Value)
         due = filter (λ row. matches_row (picked_patterns spec.keys ps) (picked_cells spec.keys row)) rows
@@ -274,8 +260,8 @@ group-fit spec rows (e ∷ es) x h = elim (In-append_cases x (group_hands spec r
               let b = In-map (group_row spec due) a.0 (keys_from [] spec due) a.1 in
               let c = key-from [] spec due b.0 b.1 in
               let f : ℕ → Value = λ i. get_or c.0 i no_value in
-              subst (Fits W) a.2 (ap length (sym b.2) ∙ length-append b.0 (map (aggregate (filter (λ row. same_row b.0 (picked_cells spec.keys row)) due)) spec.aggs)
-              ∙ ap₂ (λ (p q : ℕ). p + q) (ap length (sym c.2) ∙ length-map spec.keys f) (length-map spec.aggs (aggregate (filter (λ row. same_row b.0 (picked_cells spec.keys row)) due))))
+              subst (Fits W) a.2 (ap length (sym b.2) ∙ length-append b.0 (map (aggregate (filter (λ row. row_eq b.0 (picked_cells spec.keys row)) due)) spec.aggs)
+              ∙ ap₂ (λ (p q : ℕ). p + q) (ap length (sym c.2) ∙ length-map spec.keys f) (length-map spec.aggs (aggregate (filter (λ row. row_eq b.0 (picked_cells spec.keys row)) due))))
           | inr j ↦ elim j [
             | inl q ↦ subst (Fits W) q (length-append (picked_patterns spec.keys ps) (all_wild (length spec.aggs)) ∙ ap₂ (λ (p r : ℕ). p + r) (length-map spec.keys (λ c. get_or ps c wild)) (wilds-length (length spec.aggs)))
             | inr q ↦ absurd q

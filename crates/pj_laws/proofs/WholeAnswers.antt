@@ -6,7 +6,7 @@ use Rattle.std.proofs.lemmas.Bool.{eq-eqb}
 use Rattle.pj_shape.specs.declared.columns.Column.{Column}
 use Rattle.pj_shape.specs.Joining.{join_answer}
 use Rattle.pj_laws.specs.Patterns.{matches_row}
-use Rattle.pj_laws.specs.Bags.{weigh, AreSameBag}
+use Rattle.pj_value.specs.Bags.{weigh, SameBag}
 use Rattle.pj_laws.specs.Join.{In, Value, JoinData, JoinState, Step, start, step, arity, AreLegalSteps, Element, rows_of}
 use Rattle.pj_laws.specs.Operators.{picked_cells, GroupSpec, group_rows, group_after}
 use Rattle.pj_laws.specs.Plan.{Operator, Stream, Select, Project, Union, Join, Group, Node, Local, Comes, Fed, Own, join_step, after_all, hands_all, IsOwn, PlanStep, Feed, Act, Pass, own, brought_from, locals, batches, moved, plan_run, handed, inputs_of, operator_answer, answers_from, fed_to, HasGiven, RowsAreAnswers, IsWellMade, node_width, ArePlanned, AreStepsLegal, nowhere}
@@ -16,7 +16,7 @@ use Rattle.pj_laws.proofs.Whole.{IsGood, AreLocalsAllowed, AreGood, locals-allow
 use Rattle.pj_laws.proofs.UnionsAndGroups.{group-hands}
 use Rattle.pj_laws.proofs.Groups.{group_end, group-once, group-same}
 use Rattle.pj_laws.proofs.Answers.{inputs_weigh, select-rows, project-rows, bag-filter, bag-map, union-weigh, lists-weigh, join-rows}
-use Rattle.pj_laws.proofs.Lists.{in-place, map-at}
+use Rattle.pj_value.proofs.Members.{in-place, map-at}
 
 abbrev pub fed_in : List Local → List Element
 fed_in [] = []
@@ -55,8 +55,8 @@ group-after spec rows (Comes i e ∷ ls) w =
 
 pub operator-rows : (m : Operator) (ws : List ℕ) (ls : List Local) (lists : List (List (List Value))) → IsWellMade m ws → AreWithin (length ws) ls → AreLocalsAllowed m ls
     → ((k : ℕ) → k < length ws → IsGood (get_or ws k 0) (from_input k ls)) → HasGiven (after_all m ls) → length lists ≡ length ws
-    → ((k : ℕ) → k < length ws → AreSameBag (rows_of (from_input k ls)) (get_or lists k []))
-    → AreSameBag (rows_of (hands_all m ls)) (operator_answer m (rows_of (fed_in ls)) lists)
+    → ((k : ℕ) → k < length ws → SameBag (rows_of (from_input k ls)) (get_or lists k []))
+    → SameBag (rows_of (hands_all m ls)) (operator_answer m (rows_of (fed_in ls)) lists)
 operator-rows (Stream schema sent) ws ls lists made w a f done long same g = ap (λ es. weigh g (rows_of es)) (stream-hands schema sent ls)
 operator-rows (Select test) ws ls lists made w a f done long same g =
     ap (λ es. weigh g (rows_of es)) (select-hands test ls (subst (λ n. AreWithin n ls) made.0 w)) ∙ ap (weigh g) (select-rows test (from_input 0 ls))
@@ -68,12 +68,12 @@ operator-rows (Project columns) ws ls lists made w a f done long same g =
     ∙ ap (λ l. weigh g (map (picked_cells columns) l)) (sym (one-list lists (long ∙ made.0)))
 operator-rows (Union n u) ws ls lists made w a f done long same g =
     union-weigh g n u ls (subst (λ n'. AreWithin n' ls) made.0 w)
-    ∙ subst (λ (n' : ℕ). inputs_weight n' ≡ weigh g (flat_map (λ l. l) lists)) (long ∙ made.0) (lists-weigh g 0 lists ls (λ j lt. let z : j ≡ 0 + j = omega arith in subst (λ (i : ℕ). AreSameBag (rows_of (from_input i ls)) (get_or lists j [])) z (same j (omega (arith, lt, long)))))
+    ∙ subst (λ (n' : ℕ). inputs_weight n' ≡ weigh g (flat_map (λ l. l) lists)) (long ∙ made.0) (lists-weigh g 0 lists ls (λ j lt. let z : j ≡ 0 + j = omega arith in subst (λ (i : ℕ). SameBag (rows_of (from_input i ls)) (get_or lists j [])) z (same j (omega (arith, lt, long)))))
   where
     inputs_weight : ℕ → ℕ
     inputs_weight n' = inputs_weigh g 0 n' ls
 operator-rows (Join spec s) ws ls lists made w a f done long same h =
-    subst (λ (z : JoinState). AreSameBag (rows_of (hands_all (Join spec z) ls)) (join_answer spec.shape.classes lists)) (sym made.2)
+    subst (λ (z : JoinState). SameBag (rows_of (hands_all (Join spec z) ls)) (join_answer spec.shape.classes lists)) (sym made.2)
     (join-rows spec ls lists made.1 (long ∙ ap length made.0) legal (own-of spec start ls mine)
     (subst HasGiven (join-after spec start ls) (subst (λ (z : JoinState). HasGiven (after_all (Join spec z) ls)) made.2 done))
     (λ k lt. same k (subst (λ (xs : List ℕ). k < length xs) (sym made.0) lt))) h
@@ -142,18 +142,14 @@ fed-is front node (e ∷ es) =
 
 -- ---- the answers, place after place
 
-answers-append : (streams : ℕ → List (List Value)) (done : List (List (List Value))) (front back : List Node) → answers_from streams done (front ++ back) ≡ answers_from streams (answers_from streams done front) back
-answers-append streams done [] back = refl
-answers-append streams done (node ∷ front) back = answers-append streams (done ++ operator_answer node.operator (streams (length done)) (inputs_of node done) ∷ []) front back
-
 -- each of these nodes hands up its answer
 abbrev pub AreAnswers : List Node → List (List (List Value)) → List PlanStep → Type 0
-AreAnswers front evs es = (n : ℕ) → n < length front → AreSameBag (rows_of (handed n front es)) (get_or evs n [])
+AreAnswers front evs es = (n : ℕ) → n < length front → SameBag (rows_of (handed n front es)) (get_or evs n [])
 
 pub node-rows : (front : List Node) (ws : List ℕ) (evs : List (List (List Value))) (node : Node) (back : List Node) (es : List PlanStep) → length ws ≡ length front → length evs ≡ length front
     → ((m : ℕ) → In m node.inputs → m < length ws) → IsWellMade node.operator (map (λ m. get_or ws m 0) node.inputs) → AreStepsLegal (front ++ node ∷ back) es
     → HasGiven (get_or (plan_run (front ++ node ∷ back) es) (length front) nowhere).operator → AreGood front ws es → AreAnswers front evs es
-    → AreSameBag (rows_of (handed (length front) (front ++ node ∷ back) es)) (operator_answer node.operator (rows_of (fed_to (length evs) es)) (inputs_of node evs))
+    → SameBag (rows_of (handed (length front) (front ++ node ∷ back) es)) (operator_answer node.operator (rows_of (fed_to (length evs) es)) (inputs_of node evs))
 node-rows front ws evs node back es long longe before made legal given good same g =
     ap (λ xs. weigh g (rows_of xs)) (handed-is front node back es)
     ∙ operator-rows node.operator (map (λ m. get_or ws m 0) node.inputs) L (inputs_of node evs) made
@@ -176,9 +172,9 @@ node-rows front ws evs node back es long longe before made legal given good same
         (subst (λ (w : ℕ). IsGood w (handed (get_or node.inputs k 0) front es)) (sym (map-at ws 0 node.inputs k lt')) (good (get_or node.inputs k 0) (let b = before (get_or node.inputs k 0) (in-place node.inputs 0 k lt') in omega (arith, b, long))))
 
 pub front-rows : (front : List Node) (evs : List (List (List Value))) (ev : List (List Value)) (node : Node) (back : List Node) (es : List PlanStep) → length evs ≡ length front → AreAnswers front evs es
-    → AreSameBag (rows_of (handed (length front) (front ++ node ∷ back) es)) ev → AreAnswers (front ++ node ∷ []) (evs ++ ev ∷ []) es
+    → SameBag (rows_of (handed (length front) (front ++ node ∷ back) es)) ev → AreAnswers (front ++ node ∷ []) (evs ++ ev ∷ []) es
 front-rows front evs ev node back es long same here n lt = elim (cases_eq n (length front)) [
-  | inl q ↦ subst (λ (k : ℕ). AreSameBag (rows_of (handed k (front ++ node ∷ []) es)) (get_or (evs ++ ev ∷ []) k [])) (sym q)
+  | inl q ↦ subst (λ (k : ℕ). SameBag (rows_of (handed k (front ++ node ∷ []) es)) (get_or (evs ++ ev ∷ []) k [])) (sym q)
       (λ g. ap (λ xs. weigh g (rows_of xs)) (handed-is front node [] es ∙ sym (handed-is front node back es)) ∙ here g ∙ ap (weigh g) (sym (get_or_at evs ev [] [] (length front) long)))
   | inr ne ↦ let lt' : n < length front = omega (arith, ne, lt, length_push front node) in
       λ g. ap (λ xs. weigh g (rows_of xs)) (handed-front front (node ∷ []) es n lt') ∙ same n lt' g ∙ ap (weigh g) (sym (get_or_append_left evs (ev ∷ []) [] n (omega (arith, lt', long))))

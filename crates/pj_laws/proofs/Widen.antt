@@ -4,7 +4,7 @@ use Rattle.std.proofs.lemmas.List.{replicate-append-replicate, length-append}
 use Rattle.std.proofs.lemmas.List.Sums.{sum_by-cons}
 use Rattle.pj_laws.specs.Patterns.{Pattern, wild, all_wild, matches_row}
 use Rattle.pj_laws.specs.Join.{In, TupleAt, joined}
-use Rattle.pj_laws.proofs.PatternFacts.{matches-append, wilds-match, wilds-length}
+use Rattle.pj_pattern.proofs.Rows.{matches-append, wilds-match, wilds-length}
 use Rattle.pj_laws.proofs.Results.{AreInOrder, order-within}
 
 and_true : (b : Bool) → (b && true) ≡ b

@@ -1,16 +1,19 @@
 -- What holds of every legal history of a plan.
 use Rattle.std.specs.Prelude.{◌==◌, if◌then◌else◌, ℕ, ◌<◌, ◌≡◌, Bool, true, false, List, [], ◌∷◌, ◌++◌, map, length, max, replicate, slice_index_or, ◌↔◌, Some, None}
+use Rattle.pj_shape.specs.Columns.{kinds_of}
+use Rattle.pj_pattern.specs.Fitting.{FitsKinds}
+use Rattle.pj_pattern.specs.Elements.{IsLawful}
 use Rattle.pj_shape.specs.Joining.{join_answer}
 use Rattle.pj_shape.specs.declared.plans.SmallStream.{SmallStream}
 use Rattle.pj_shape.specs.declared.plans.SmallJoin.{SmallJoin}
 use Rattle.pj_laws.specs.CoreKept.{NothingKept, JoinKept, core_kept, nodes_of, IsJoinOf}
 use Rattle.pj_laws.specs.Kept.{kept_of}
-use Rattle.pj_laws.specs.Bags.{SameBag, SubBag}
+use Rattle.pj_value.specs.Bags.{SameBag, SubBag}
 use Rattle.pj_value.specs.declared.values.Value.{Value}
 use Rattle.pj_shape.specs.declared.columns.Column.{Column}
 use Rattle.pj_laws.specs.Patterns.{all_wild}
-use Rattle.pj_laws.specs.Join.{AreCertified, AreLegalSteps, start, In, Take, Give, JoinData, JoinState, Element, run, outputs, Punct, AllGiven, IsLawful, has, rows_of}
-use Rattle.pj_laws.specs.Plan.{Operator, Stream, Join, Group, Node, FitsSchema, join_step, batches, operator_at}
+use Rattle.pj_laws.specs.Join.{AreCertified, AreLegalSteps, start, In, Take, Give, JoinData, JoinState, Element, run, outputs, Punct, AllGiven, has, rows_of}
+use Rattle.pj_laws.specs.Plan.{Operator, Stream, Join, Group, Node, join_step, batches, operator_at}
 use Rattle.pj_laws.specs.History.{Entry, Event, Arrive, Taken, Given, root_of, root_hands, pending_in, streams_of, stream_node, IsOn, join_at, step_of, nodes_by, gained, next, reached_of, nodes_from, IsEntryAllowed, IsLegal, IsComplete}
 use Rattle.pj_laws.specs.Outcomes.{place_in, goes_beyond, arrivals_by, join_steps_by, join_steps_of, arrivals_at, stored_at, peak_of, elements_out, rows_out, outputs_of, elements_of, drained_of, answer_of, lists_of}
 use Rattle.pj_laws.specs.OneThread.{Turn, heads, tails, in_rounds, turns_entries, Pending, plain, probes, next_probe, schema_of, one_thread_of}
@@ -74,7 +77,7 @@ DrainsHandOutAll plan =
 
 -- the elements fit the columns, and no tuple matches a punctuation before it
 abbrev pub AreAccepted : List Column → List Element → Type 0
-AreAccepted schema es = ((e : Element) → In e es → FitsSchema schema e) × IsLawful es
+AreAccepted schema es = ((e : Element) → In e es → FitsKinds (kinds_of schema) e) × IsLawful es
 
 -- the columns of a stream of the plan
 abbrev pub schema_at : List Node → ℕ → List Column

@@ -1,11 +1,12 @@
 -- One join of any number of inputs: what has arrived, what is stored, what may be forgotten and what is handed up.
 use Rattle.std.specs.Prelude.{ℕ, zero, suc, ◌+◌, ◌<◌, ◌≤◌, ◌≡◌, ◌≢◌, Bool, true, false, not, ◌==◌, nat_lt, ◌&&◌, ◌||◌, if◌then◌else◌, List, [], ◌∷◌, ◌++◌, map, length, take, drop, slice_index, slice_index_or, Option, Some, None, filter, flat_map, sum, min}
+pub use Rattle.pj_value.specs.Lists.{In}
 use Rattle.std.specs.List.{list_all, list_any}
 pub use Rattle.pj_value.specs.declared.values.Value.{Value}
 pub use Rattle.pj_shape.specs.declared.joins.ClassCol.{ClassCol}
 pub use Rattle.pj_shape.specs.declared.joins.CertStep.{CertStep}
 pub use Rattle.pj_shape.specs.declared.joins.JoinSpec.{JoinSpec}
-pub use Rattle.pj_shape.specs.Lists.{In, product}
+pub use Rattle.pj_shape.specs.Lists.{product}
 pub use Rattle.pj_shape.specs.Joining.{Part, value_at, no_value, values, joins, joined_row, class_of}
 use Rattle.pj_shape.specs.Sound.{arities_of}
 pub use Rattle.pj_pattern.specs.declared.element.Element.{Element}
@@ -331,12 +332,6 @@ hands_up spec s (Sweep input) =
 abbrev pub outputs : JoinData → JoinState → List Step → List Element
 outputs spec s [] = []
 outputs spec s (e ∷ es) = hands_up spec s e ++ outputs spec (step spec s e) es
-
--- no tuple matches a punctuation before it
-abbrev pub IsLawful : List Element → Type 0
-IsLawful [] = Unit {0}
-IsLawful (Tuple row ∷ es) = IsLawful es
-IsLawful (Punct patterns ∷ es) = ((row : List Value) → In (Tuple row) es → matches_row patterns row ≡ false) × IsLawful es
 
 -- ---- the whole
 

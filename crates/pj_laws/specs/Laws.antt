@@ -1,10 +1,11 @@
 -- What holds of every legal list of steps of a join.
 use Rattle.std.specs.Prelude.{ℕ, zero, suc, ◌+◌, ◌<◌, ◌≡◌, true, false, List, [], ◌∷◌, ◌++◌, map}
+use Rattle.pj_pattern.specs.Elements.{IsLawful}
 use Rattle.std.specs.List.{list_all}
 use Rattle.pj_laws.specs.Kept.{Kept, kept_step, JoinStands}
-use Rattle.pj_laws.specs.Bags.{AreSameBag}
+use Rattle.pj_value.specs.Bags.{SameBag}
 use Rattle.pj_laws.specs.Patterns.{all_wild}
-use Rattle.pj_laws.specs.Join.{In, PunctAt, arity, JoinData, TupleAt, Step, TupleComes, PunctComes, Take, Give, Sweep, start, step, run, AreLegalSteps, IsAllowed, IsCombination, inputs, kept, low, ripe, has, results, outputs, IsLawful, AllGiven, IsSettled, rows_of, puncts_of, joined, widened, all_combinations, covered, need_of, older, older_puncts}
+use Rattle.pj_laws.specs.Join.{In, PunctAt, arity, JoinData, TupleAt, Step, TupleComes, PunctComes, Take, Give, Sweep, start, step, run, AreLegalSteps, IsAllowed, IsCombination, inputs, kept, low, ripe, has, results, outputs, AllGiven, IsSettled, rows_of, puncts_of, joined, widened, all_combinations, covered, need_of, older, older_puncts}
 
 -- A row that a sweep removes stands in no combination that joins and has a ticket from the low-water ticket on,
 -- whatever legal steps follow
@@ -45,13 +46,13 @@ HandsUpLawfully spec = (steps : List Step) → AreLegalSteps spec start steps �
 abbrev pub HandsUpAllRows : JoinData → Type 0
 HandsUpAllRows spec =
     0 < inputs spec → (steps : List Step) → AreLegalSteps spec start steps → AllGiven (run spec start steps)
-    → AreSameBag (rows_of (outputs spec start steps)) (map joined (all_combinations spec (run spec start steps).tuples))
+    → SameBag (rows_of (outputs spec start steps)) (map joined (all_combinations spec (run spec start steps).tuples))
 
 -- A join that hands up punctuations hands up each of them once, widened, as a bag, once none waits
 abbrev pub HandsUpAllPuncts : JoinData → Type 0
 HandsUpAllPuncts spec =
     spec.propagates ≡ true → (steps : List Step) → AreLegalSteps spec start steps → (run spec start steps).waiting ≡ []
-    → AreSameBag (puncts_of (outputs spec start steps)) (map (widened spec) (run spec start steps).puncts)
+    → SameBag (puncts_of (outputs spec start steps)) (map (widened spec) (run spec start steps).puncts)
 
 -- A join that hands up no punctuations hands up none
 abbrev pub HandsUpNoPuncts : JoinData → Type 0

@@ -1,5 +1,4 @@
 pub mod Patterns
-pub mod Bags
 pub mod Join
 pub mod Kept
 pub mod Laws
@@ -7,6 +6,7 @@ pub mod Operators
 pub mod Plan
 pub mod History
 pub mod Outcomes
+pub mod Limits
 pub mod OneThread
 pub mod CoreKept
 pub mod HistoryLaws

@@ -5,15 +5,16 @@ use Rattle.std.specs.Int.{saturate_signed, w64}
 use Rattle.std.specs.Ordering.{is_gt}
 use Rattle.pj_value.specs.declared.values.Value.{Value}
 use Rattle.pj_value.specs.declared.values.Value.TheVariants.{Int, Text}
-use Rattle.pj_value.specs.Values.{value_cmp}
+use Rattle.pj_value.specs.Values.{value_cmp, row_eq}
 pub use Rattle.pj_shape.specs.declared.groups.Agg.{Agg}
 pub use Rattle.pj_shape.specs.declared.groups.Agg.TheVariants.{Count, Sum, Min, Max}
 pub use Rattle.pj_shape.specs.declared.groups.GroupSpec.{GroupSpec}
 use Rattle.pj_shape.specs.Joining.{value_at, no_value}
 use Rattle.pj_pattern.specs.declared.element.Element.{Element}
 use Rattle.pj_pattern.specs.declared.element.Element.TheVariants.{Tuple, Punct}
-use Rattle.pj_laws.specs.Bags.{same_row, weigh}
-use Rattle.pj_laws.specs.Patterns.{Pattern, wild, all_wild, is_wild, matches_row, covers_punct}
+use Rattle.pj_value.specs.Bags.{weigh}
+use Rattle.pj_pattern.specs.Columns.{others_wild}
+use Rattle.pj_laws.specs.Patterns.{Pattern, wild, all_wild, matches_row, covers_punct}
 
 -- ---- columns that are kept
 
@@ -22,11 +23,6 @@ picked_cells columns row = map (value_at row) columns
 
 abbrev pub picked_patterns : List ℕ → List Pattern → List Pattern
 picked_patterns columns patterns = map (λ c. slice_index_or patterns c wild) columns
-
--- each column that is not kept, from this one on, is a wildcard
-abbrev pub drops_wildcards : List ℕ → ℕ → List Pattern → Bool
-drops_wildcards columns column [] = true
-drops_wildcards columns column (p ∷ ps) = (list_any (λ c. c == column) columns || is_wild p) && drops_wildcards columns (column + 1) ps
 
 -- ---- selects and projects
 
@@ -38,7 +34,7 @@ select_hands test (Punct patterns) = Punct patterns ∷ []
 -- the kept columns, of a punctuation where it is a wildcard in every other
 abbrev pub project_hands : List ℕ → Element → List Element
 project_hands columns (Tuple row) = Tuple (picked_cells columns row) ∷ []
-project_hands columns (Punct patterns) = if drops_wildcards columns 0 patterns then (Punct (picked_patterns columns patterns) ∷ []) else []
+project_hands columns (Punct patterns) = if others_wild columns 0 patterns then (Punct (picked_patterns columns patterns) ∷ []) else []
 
 -- ---- unions
 
@@ -125,13 +121,13 @@ aggregate rows (Max column) = greatest_of (column_of column rows)
 abbrev pub keys_from : List (List Value) → GroupSpec → List (List Value) → List (List Value)
 keys_from seen spec [] = []
 keys_from seen spec (row ∷ rows) =
-    if list_any (same_row (picked_cells spec.keys row)) seen
+    if list_any (row_eq (picked_cells spec.keys row)) seen
     then keys_from seen spec rows
     else (picked_cells spec.keys row ∷ keys_from (picked_cells spec.keys row ∷ seen) spec rows)
 
 -- a key, and the aggregates of its rows
 abbrev pub group_row : GroupSpec → List (List Value) → List Value → List Value
-group_row spec rows key = key ++ map (aggregate (filter (λ row. same_row key (picked_cells spec.keys row)) rows)) spec.aggs
+group_row spec rows key = key ++ map (aggregate (filter (λ row. row_eq key (picked_cells spec.keys row)) rows)) spec.aggs
 
 -- one row for each distinct key
 abbrev pub group_rows : GroupSpec → List (List Value) → List (List Value)
@@ -141,7 +137,7 @@ group_rows spec rows = map (group_row spec rows) (keys_from [] spec rows)
 abbrev pub group_after : GroupSpec → List (List Value) → Element → List (List Value)
 group_after spec rows (Tuple row) = rows ++ row ∷ []
 group_after spec rows (Punct patterns) =
-    if drops_wildcards spec.keys 0 patterns
+    if others_wild spec.keys 0 patterns
     then filter (λ row. not (matches_row (picked_patterns spec.keys patterns) (picked_cells spec.keys row))) rows
     else rows
 
@@ -149,7 +145,7 @@ group_after spec rows (Punct patterns) =
 abbrev pub group_hands : GroupSpec → List (List Value) → Element → List Element
 group_hands spec rows (Tuple row) = []
 group_hands spec rows (Punct patterns) =
-    if drops_wildcards spec.keys 0 patterns
+    if others_wild spec.keys 0 patterns
     then (map Tuple (group_rows spec (filter (λ row. matches_row (picked_patterns spec.keys patterns) (picked_cells spec.keys row)) rows))
     ++ Punct (picked_patterns spec.keys patterns ++ all_wild (length spec.aggs)) ∷ [])
     else []

@@ -1,9 +1,9 @@
 -- What a history has brought to each node, what stands there, and what it handed out.
-use Rattle.std.specs.Prelude.{ℕ, zero, suc, ◌+◌, ◌≡◌, Bool, true, false, ◌==◌, ◌&&◌, if◌then◌else◌, List, [], ◌∷◌, ◌++◌, map, length, slice_index_or, flat_map, max, Option, Some, None}
+use Rattle.std.specs.Prelude.{ℕ, zero, suc, ◌+◌, Bool, true, false, ◌==◌, ◌&&◌, if◌then◌else◌, List, [], ◌∷◌, ◌++◌, map, length, slice_index_or, flat_map, max, Option, Some, None}
 use Rattle.pj_value.specs.declared.values.Value.{Value}
 use Rattle.pj_pattern.specs.declared.element.Element.{Element}
 use Rattle.pj_pattern.specs.declared.element.Element.TheVariants.{Tuple, Punct}
-use Rattle.pj_laws.specs.Join.{Step, Take, Give, Sweep, TupleAt, low, ripe, results, joined, of_input, rows_of, upto_from}
+use Rattle.pj_laws.specs.Join.{Step, Take, Give, Sweep, low, results, joined, rows_of, upto_from}
 use Rattle.pj_laws.specs.Plan.{Operator, Join, Group, Node, Comes, join_step, batches, after, hands, nowhere, answers_from}
 use Rattle.pj_laws.specs.History.{Entry, Event, Arrive, Taken, Given, Swept, Drain, Out, RowOut, PunctOut, Purged, streams_of, stream_node, root_of, join_at, data_at, step_of, nodes_by, gained, Reached, begun, next, nodes_from}
 
@@ -69,14 +69,6 @@ low_of plan history join = low (join_at (nodes_from plan history) join)
 abbrev pub results_of : List Node → List Entry → ℕ → ℕ → List (List Value)
 results_of plan history join ticket =
     let s = join_at (nodes_from plan history) join in map joined (results (data_at plan join) s.tuples s.tuples ticket)
-
--- the stored tuples of an input of a join
-abbrev pub stored_of : List Node → List Entry → ℕ → ℕ → List TupleAt
-stored_of plan history join input = of_input input (join_at (nodes_from plan history) join).stored
-
--- the tuple may be removed from a join
-abbrev pub IsRipe : List Node → List Entry → ℕ → TupleAt → Type 0
-IsRipe plan history join x = ripe (data_at plan join) (join_at (nodes_from plan history) join) x ≡ true
 
 -- the number of tuples stored at a join
 abbrev pub stored_at : List Node → ℕ → ℕ

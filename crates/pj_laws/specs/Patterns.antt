@@ -2,7 +2,7 @@
 use Rattle.std.specs.Prelude.{Bool, true, false, ◌&&◌, List, [], ◌∷◌, Option, Some, None, ◌≡◌}
 use Rattle.pj_value.specs.declared.values.Value.{Value}
 use Rattle.pj_pattern.specs.declared.pattern.Form.TheVariants.{Wild}
-pub use Rattle.pj_pattern.specs.Patterns.{Pattern, matches_value, is_wild, covers_pattern, is_of_kind, is_kind}
+pub use Rattle.pj_pattern.specs.Patterns.{Pattern, matches_value, is_wild, covers_pattern}
 pub use Rattle.pj_pattern.specs.Columns.{matches_row, covers_punct, all_wild}
 
 -- the pattern that matches all

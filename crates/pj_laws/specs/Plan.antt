@@ -1,13 +1,16 @@
 -- A plan of operators, the steps of a run, and what each node hands up.
-use Rattle.std.specs.Prelude.{ℕ, ◌+◌, ◌<◌, ◌≡◌, Bool, true, false, ◌==◌, ◌&&◌, if◌then◌else◌, List, [], ◌∷◌, ◌++◌, map, length, slice_index, slice_index_or, filter, flat_map, sum}
+use Rattle.std.specs.Prelude.{ℕ, ◌+◌, ◌<◌, ◌≡◌, true, false, ◌==◌, if◌then◌else◌, List, [], ◌∷◌, ◌++◌, map, length, slice_index, slice_index_or, filter, flat_map, sum}
+use Rattle.pj_pattern.specs.Elements.{IsLawful}
 use Rattle.pj_value.specs.declared.values.Value.{Value}
 use Rattle.pj_shape.specs.declared.columns.Column.{Column}
 use Rattle.pj_shape.specs.Joining.{join_answer}
 use Rattle.pj_pattern.specs.declared.element.Element.{Element}
 use Rattle.pj_pattern.specs.declared.element.Element.TheVariants.{Tuple, Punct}
-use Rattle.pj_laws.specs.Bags.{AreSameBag}
-use Rattle.pj_laws.specs.Patterns.{Pattern, all_wild, matches_row, is_kind, is_of_kind}
-use Rattle.pj_laws.specs.Join.{In, JoinData, JoinState, Step, TupleComes, PunctComes, Take, Give, Sweep, start, run, outputs, IsAllowed, AllGiven, IsSettled, arities, inputs, rows_of, IsLawful}
+use Rattle.pj_value.specs.Bags.{SameBag}
+use Rattle.pj_pattern.specs.Fitting.{FitsKinds}
+use Rattle.pj_shape.specs.Columns.{kinds_of}
+use Rattle.pj_laws.specs.Patterns.{Pattern, all_wild, matches_row}
+use Rattle.pj_laws.specs.Join.{In, JoinData, JoinState, Step, TupleComes, PunctComes, Take, Give, Sweep, start, run, outputs, IsAllowed, AllGiven, IsSettled, arities, inputs, rows_of}
 use Rattle.pj_laws.specs.Operators.{GroupSpec, UnionState, picked_cells, select_hands, project_hands, union_after, union_hands, group_after, group_hands, group_rows}
 
 -- ---- what a node is, with what it holds
@@ -128,23 +131,6 @@ abbrev pub Fits : ℕ → Element → Type 0
 Fits width (Tuple row) = length row ≡ width
 Fits width (Punct patterns) = length patterns ≡ width
 
--- the value or the pattern in each column is of the column's kind
-abbrev pub row_fits : List Column → List Value → Bool
-row_fits [] [] = true
-row_fits [] (v ∷ vs) = false
-row_fits (c ∷ cs) [] = false
-row_fits (c ∷ cs) (v ∷ vs) = is_kind c.kind v && row_fits cs vs
-
-abbrev pub punct_fits : List Column → List Pattern → Bool
-punct_fits [] [] = true
-punct_fits [] (p ∷ ps) = false
-punct_fits (c ∷ cs) [] = false
-punct_fits (c ∷ cs) (p ∷ ps) = is_of_kind c.kind p && punct_fits cs ps
-
-abbrev pub FitsSchema : List Column → Element → Type 0
-FitsSchema schema (Tuple row) = row_fits schema row ≡ true
-FitsSchema schema (Punct patterns) = punct_fits schema patterns ≡ true
-
 -- a tuple matches no punctuation among these elements
 abbrev pub IsClearOf : List Element → Element → Type 0
 IsClearOf sent (Tuple row) = (patterns : List Pattern) → In (Punct patterns) sent → matches_row patterns row ≡ false
@@ -160,7 +146,7 @@ IsOwn (Sweep input) = Unit {0}
 
 -- the operator is a stream, the element fits it, and a tuple matches no punctuation that was fed to it
 abbrev pub MayArrive : Operator → Element → Type 0
-MayArrive (Stream schema sent) e = IsClearOf sent e × FitsSchema schema e
+MayArrive (Stream schema sent) e = IsClearOf sent e × FitsKinds (kinds_of schema) e
 MayArrive (Select test) e = ⊥
 MayArrive (Project columns) e = ⊥
 MayArrive (Union n u) e = ⊥
@@ -272,7 +258,7 @@ HasGiven (Group spec rows) = rows ≡ []
 abbrev pub RowsAreAnswers : List Node → Type 0
 RowsAreAnswers nodes =
     (es : List PlanStep) → AreStepsLegal nodes es → ((n : ℕ) → n < length nodes → HasGiven (operator_at (plan_run nodes es) n))
-    → (n : ℕ) → n < length nodes → AreSameBag (rows_of (handed n nodes es)) (slice_index_or (answers nodes es) n [])
+    → (n : ℕ) → n < length nodes → SameBag (rows_of (handed n nodes es)) (slice_index_or (answers nodes es) n [])
 
 -- a stream was closed by these
 abbrev pub IsClosedBy : Operator → List Element → Type 0
@@ -301,4 +287,4 @@ IsCompleteRun nodes es =
 abbrev pub CompleteAnswers : List Node → Type 0
 CompleteAnswers nodes =
     (es : List PlanStep) → AreStepsLegal nodes es → IsCompleteRun nodes es → (n : ℕ) → n < length nodes
-    → AreSameBag (rows_of (handed n nodes es)) (slice_index_or (answers nodes es) n [])
+    → SameBag (rows_of (handed n nodes es)) (slice_index_or (answers nodes es) n [])

@@ -14,4 +14,4 @@ pub use history_laws::{
 pub use join_laws::{
     completeness, forgetting_is_safe, lawfulness, ripeness, settling, standing, without_sweeps,
 };
-pub use plan_laws::{complete_answers, plan_answers, plan_lawfulness, same_bags};
+pub use plan_laws::{complete_answers, plan_answers, plan_lawfulness};
