@@ -1,28 +1,15 @@
 -- When a tuple may be added to tuples that join.
 use Rattle.std.proofs.Common.{ℕ, Bool, true, false, cond, ◌&&◌, ◌||◌, not, List, [], ◌∷◌, ◌++◌, ◌≡◌, ◌⊎◌, map, get_or, refl, sym, ap, ◌∙◌, subst, inl, inr, eqb}
 use Rattle.std.specs.List.{list_all}
-use Rattle.std.proofs.lemmas.Bool.{and_parts, and_from, eqb-true, eq-eqb, false≢true}
-use Rattle.std.proofs.lemmas.Bool.Decides.{Decides-int_eq}
-use Rattle.std.proofs.lemmas.Slice.Eq.{bytes_eq-Decides}
-use Rattle.pj_value.specs.declared.values.Value.TheVariants.{Int, Text}
+use Rattle.std.proofs.lemmas.Bool.{and_parts, and_from, eqb-true, eq-eqb}
 use Rattle.pj_value.specs.Values.{value_eq}
 use Rattle.pj_shape.specs.Joining.{values_in, all_equal}
 use Rattle.pj_laws.specs.Join.{In, TupleAt, ClassCol, Value, Part, no_value, values, part_of, agree}
 use Rattle.pj_join.specs.Walks.{has_there, all_have, suits_class, suits}
-use Rattle.pj_join.proofs.Members.{In-append_left, In-append_right, In-append_cases, In-map, In-map_from, In-flat_map, In-flat_map_from, all_at, all_from}
-
-value_eq-true : (v w : Value) → value_eq v w ≡ true → v ≡ w
-value_eq-true (Int m) (Int n) t = ap Int ((Decides-int_eq m n).0 t)
-value_eq-true (Int m) (Text y) t = absurd (false≢true t)
-value_eq-true (Text x) (Int n) t = absurd (false≢true t)
-value_eq-true (Text x) (Text y) t = ap Text ((bytes_eq-Decides x y).0 t)
-
-value_eq-refl : (v : Value) → value_eq v v ≡ true
-value_eq-refl (Int m) = (Decides-int_eq m m).1 refl
-value_eq-refl (Text x) = (bytes_eq-Decides x x).1 refl
-
-eq-value_eq : (v w : Value) → v ≡ w → value_eq v w ≡ true
-eq-value_eq v w e = ap (value_eq v) (sym e) ∙ value_eq-refl v
+use Rattle.pj_shape.proofs.Joining.{all_equal-from}
+use Rattle.pj_value.proofs.Orders.{same_if_equal, equal_if_same}
+use Rattle.pj_value.proofs.Members.{In-append_left, In-append_right, In-append_cases, In-map, In-flat_map, all_at, all_from}
+use Rattle.pj_laws.proofs.Matching.{value-in, agree-at, agree-mono}
 
 -- ---- the values of tuples in a class
 
@@ -59,34 +46,6 @@ source-of xs class v h =
       value = ap (λ (q : Part). get_or q.row c.0.column no_value) x.2 ∙ k.1;
     }
 
-pub value-in : (xs : List TupleAt) (class : List ClassCol) (x : TupleAt) (at : ClassCol) → In x xs → In at class → x.input ≡ at.input → In (get_or x.row at.column no_value) (values (map part_of xs) class)
-value-in xs class x at hx ha e =
-    In-flat_map_from (values_in (map part_of xs)) (get_or x.row at.column no_value) at class ha
-    (In-flat_map_from (λ p. cond (eqb p.input at.input) (get_or p.row at.column no_value ∷ []) []) (get_or x.row at.column no_value) (part_of x) (map part_of xs) (In-map_from part_of x xs hx)
-    (subst (λ b. In (get_or x.row at.column no_value) (cond b (get_or x.row at.column no_value ∷ []) [])) (sym (eq-eqb x.input at.input e)) (inl refl)))
-
-all_equal-at : (vs : List Value) (v w : Value) → all_equal vs ≡ true → In v vs → In w vs → v ≡ w
-all_equal-at vs v w t hv hw = value_eq-true v w (all_at (value_eq v) vs w (all_at (λ u. list_all (value_eq u) vs) vs v t hv) hw)
-
-all_equal-from : (vs : List Value) → ((v w : Value) → In v vs → In w vs → v ≡ w) → all_equal vs ≡ true
-all_equal-from vs f = all_from (λ u. list_all (value_eq u) vs) vs (λ v hv. all_from (value_eq v) vs (λ w hw. eq-value_eq v w (f v w hv hw)))
-
--- tuples that join have one value in a class
-agree-at : (classes : List (List ClassCol)) (xs : List TupleAt) (class : List ClassCol) (v w : Value) → agree classes xs ≡ true → In class classes → In v (values (map part_of xs) class) → In w (values (map part_of xs) class) → v ≡ w
-agree-at classes xs class v w t h hv hw = all_equal-at (values (map part_of xs) class) v w (all_at (λ k. all_equal (values (map part_of xs) k)) classes class t h) hv hw
-
--- fewer of tuples that join do
-pub agree-mono : (classes : List (List ClassCol)) (few many : List TupleAt) → ((x : TupleAt) → In x few → In x many) → agree classes many ≡ true → agree classes few ≡ true
-agree-mono classes few many sub t =
-    all_from (λ k. all_equal (values (map part_of few) k)) classes (λ class h.
-    all_equal-from (values (map part_of few) class) (λ v w hv hw.
-    agree-at classes many class v w t h (more class v hv) (more class w hw)))
-  where
-    more : (class : List ClassCol) (v : Value) → In v (values (map part_of few) class) → In v (values (map part_of many) class)
-    more class v hv =
-        let s = source-of few class v hv in
-        subst (λ (u : Value). In u (values (map part_of many) class)) s.value (value-in many class s.tuple s.at (sub s.tuple s.of_tuples) s.of_class s.same_input)
-
 pub agree-front : (classes : List (List ClassCol)) (xs ys : List TupleAt) → agree classes (xs ++ ys) ≡ true → agree classes xs ≡ true
 agree-front classes xs ys t = agree-mono classes xs (xs ++ ys) (λ x h. In-append_left x xs ys h) t
 
@@ -101,10 +60,10 @@ has_there-from v at x f = go (eqb x.input at.input) refl
   where
     go : (b : Bool) → eqb x.input at.input ≡ b → (not b || value_eq v (get_or x.row at.column no_value)) ≡ true
     go false e = refl
-    go true e = eq-value_eq v (get_or x.row at.column no_value) (f (eqb-true x.input at.input e))
+    go true e = equal_if_same v (get_or x.row at.column no_value) (f (eqb-true x.input at.input e))
 
 has_there-at : (v : Value) (at : ClassCol) (x : TupleAt) → has_there v at x ≡ true → x.input ≡ at.input → v ≡ get_or x.row at.column no_value
-has_there-at v at x t e = value_eq-true v (get_or x.row at.column no_value) (subst (λ b. (not b || value_eq v (get_or x.row at.column no_value)) ≡ true) (eq-eqb x.input at.input e) t)
+has_there-at v at x t e = same_if_equal v (get_or x.row at.column no_value) (subst (λ b. (not b || value_eq v (get_or x.row at.column no_value)) ≡ true) (eq-eqb x.input at.input e) t)
 
 all_have-at : (class : List ClassCol) (xs : List TupleAt) (more : TupleAt) (v : Value) (at : ClassCol) (x : TupleAt) → all_have class xs more v ≡ true → In at class → In x (xs ++ more ∷ []) → x.input ≡ at.input → v ≡ get_or x.row at.column no_value
 all_have-at class xs more v at x t h hx e =

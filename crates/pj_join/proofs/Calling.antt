@@ -13,8 +13,10 @@ use Rattle.pj_laws.specs.Kept.{least, without}
 use Rattle.pj_join.specs.Joins.{Found, TakesLeast, unswept, after, found_of}
 use Rattle.pj_join.specs.Walks.{choices}
 use Rattle.pj_join.specs.Insides.{tickets, seen, Rise, IsOrdered}
-use Rattle.pj_join.proofs.Orders.{ordered-tuple, ordered-take, seen-tuple, rise-front, rise-to, rise-length, rise-has, without-none, least-first, pending-first, seen-take, taken-first, IsTakenFirst}
-use Rattle.pj_join.proofs.Finding.{choices-results, length-upto}
+use Rattle.pj_join.proofs.Orders.{ordered-tuple, ordered-take, seen-tuple, rise-front, rise-to, rise-length, rise-has, least-first, pending-first, seen-take, taken-first, IsTakenFirst}
+use Rattle.pj_join.proofs.Finding.{choices-results}
+use Rattle.pj_laws.proofs.Upto.{length-upto}
+use Rattle.pj_laws.proofs.NextProbe.{without-all}
 
 -- ---- the low-water ticket
 
@@ -58,7 +60,7 @@ low-next [] log next done few e = ap (least next) (sym (none-pending log done e)
 forget-place : (from : ℕ) (ts : List ℕ) (end i u : ℕ) → Rise from ts end → i < length ts → get_or ts i 0 ≡ u → take i ts ++ drop (suc i) ts ≡ without ts u
 forget-place from [] end i u r lt e = absurd (omega (arith, lt))
 forget-place from (t ∷ ts) end zero u r lt e =
-    sym (without-none ts u (rise-has (t + 1) ts end u r.1 (omega (arith, e)))) ∙ ap (λ b. cond (not b) (t ∷ without ts u) (without ts u)) (sym (eq-eqb t u e))
+    sym (without-all ts u (rise-has (t + 1) ts end u r.1 (omega (arith, e)))) ∙ ap (λ b. cond (not b) (t ∷ without ts u) (without ts u)) (sym (eq-eqb t u e))
 forget-place from (t ∷ ts) end (suc i) u r lt e =
     ap (λ us. t ∷ us) (forget-place (t + 1) ts end i u r.1 (omega (arith, lt)) e)
     ∙ ap (λ b. cond (not b) (t ∷ without ts u) (without ts u)) (sym (false_from_ne_true (eqb t u) (λ k. omega (arith, eqb-true t u k, e, above (t + 1) ts end i r.1 (omega (arith, lt))))))
@@ -89,7 +91,7 @@ forget-none ts u e = go (ltb (position_or_len (λ t. eqb t u) ts) (length ts)) r
 
     go : (b : Bool) → ltb (position_or_len (λ t. eqb t u) ts) (length ts) ≡ b → None ≡ cond b (Some (position_or_len (λ t. eqb t u) ts)) None → ts ≡ without ts u
     go true k p = absurd (clash (position_or_len (λ t. eqb t u) ts) p)
-    go false k p = sym (without-none ts u (has-none ts u (λ i lt. fails_before_first (λ t. eqb t u) ts i 0 (omega (arith, lt, ltb-false (position_or_len (λ t. eqb t u) ts) (length ts) k)))))
+    go false k p = sym (without-all ts u (has-none ts u (λ i lt. fails_before_first (λ t. eqb t u) ts i 0 (omega (arith, lt, ltb-false (position_or_len (λ t. eqb t u) ts) (length ts) k)))))
 
 -- ---- calls
 

@@ -130,8 +130,3 @@ pub rows-all : (classes : List (List ClassCol)) (xs : List TupleAt) (all lists :
     → rows ≡ before ++ map joined (completed_each classes xs lists (take i ys)) → rows ≡ before ++ map joined (completed classes xs all)
 rows-all classes xs all lists ys i before rows le e r =
     r ∙ ap (λ (cs : List (List TupleAt)). before ++ map joined cs) (ap (completed_each classes xs lists) (take_all i ys le) ∙ sym (completed-cons classes xs ys lists) ∙ ap (completed classes xs) (sym e))
-
--- nothing is left to add
-pub rows-end : (classes : List (List ClassCol)) (xs : List TupleAt) (lists : List (List TupleAt)) (before : List (List Value)) → agree classes xs ≡ true → lists ≡ []
-    → before ++ joined xs ∷ [] ≡ before ++ map joined (completed classes xs lists)
-rows-end classes xs lists before t e = ap (λ (cs : List (List TupleAt)). before ++ map joined cs) (sym (ap (completed classes xs) e ∙ completed-nil classes xs t))

@@ -1,5 +1,5 @@
 -- The choices of a tuple give all its results.
-use Rattle.std.proofs.Common.{ℕ, zero, suc, ◌+◌, ◌<◌, ◌≤◌, Bool, true, false, cond, ◌&&◌, ◌||◌, List, [], ◌∷◌, ◌++◌, ◌≡◌, map, filter, flat_map, length, get_or, refl, sym, ap, ap₂, ◌∙◌, subst, inl, inr, eqb, ltb, arith, append-nil}
+use Rattle.std.proofs.Common.{ℕ, zero, suc, ◌+◌, ◌<◌, ◌≤◌, Bool, true, false, cond, ◌&&◌, ◌||◌, List, [], ◌∷◌, ◌≡◌, map, filter, flat_map, length, get_or, refl, sym, ap, ◌∙◌, subst, inl, inr, eqb, ltb, arith, append-nil}
 use Rattle.std.specs.List.{list_all}
 use Rattle.std.proofs.lemmas.Bool.{eqb-true, eq-eqb, false≢true, or_right}
 use Rattle.std.proofs.lemmas.List.{length-map}
@@ -8,29 +8,14 @@ use Rattle.pj_laws.specs.Join.{In, TupleAt, ClassCol, agree, product, joined, of
 use Rattle.pj_join.specs.Joins.{unswept}
 use Rattle.pj_join.specs.Walks.{suits, choice, choices}
 use Rattle.pj_join.specs.Insides.{IsOrdered}
-use Rattle.pj_join.proofs.Members.{In-flat_map, In-map, all_from, filter-agree, filter-filter}
-use Rattle.pj_join.proofs.Agreeing.{agree-mono, pair-suits}
+use Rattle.pj_value.proofs.Members.{In-flat_map, In-map, all_from, filter-agree, filter-filter}
+use Rattle.pj_join.proofs.Agreeing.{pair-suits}
 use Rattle.pj_join.proofs.Combining.{product-filter}
 use Rattle.pj_join.proofs.Orders.{only-of}
+use Rattle.pj_laws.proofs.Upto.{length-upto, get_or-upto, map-upto}
+use Rattle.pj_laws.proofs.Matching.{agree-mono}
 
 -- ---- numbers from one on
-
-pub length-upto : (base n : ℕ) → length (upto_from base n) ≡ n
-length-upto base zero = refl
-length-upto base (suc n) = ap suc (length-upto (base + 1) n)
-
-pub upto-push : (base n : ℕ) → upto_from base (suc n) ≡ upto_from base n ++ (base + n) ∷ []
-upto-push base zero = ap (λ k. k ∷ []) (omega arith)
-upto-push base (suc n) = ap (λ ks. base ∷ ks) (upto-push (base + 1) n ∙ ap (λ k. upto_from (base + 1) n ++ k ∷ []) (omega arith))
-
-pub get_or-upto : {A : Type 0} (f : ℕ → A) (base n k : ℕ) (d : A) → k < n → get_or (map f (upto_from base n)) k d ≡ f (base + k)
-get_or-upto f base zero k d lt = absurd (omega (arith, lt))
-get_or-upto f base (suc n) zero d lt = ap f (omega arith)
-get_or-upto f base (suc n) (suc k) d lt = get_or-upto f (base + 1) n k d (omega (arith, lt)) ∙ ap f (omega arith)
-
-map-upto : {A : Type 0} (f g : ℕ → A) (base n : ℕ) → ((k : ℕ) → k < base + n → f k ≡ g k) → map f (upto_from base n) ≡ map g (upto_from base n)
-map-upto f g base zero e = refl
-map-upto {A} f g base (suc n) e = ap₂ (λ (x : A) (xs : List A). x ∷ xs) (e base (omega arith)) (map-upto f g (base + 1) n (λ k lt. e k (omega (arith, lt))))
 
 map-map_upto : {A B : Type 0} (g : A → B) (f : ℕ → A) (base n : ℕ) → map g (map f (upto_from base n)) ≡ map (λ k. g (f k)) (upto_from base n)
 map-map_upto g f base zero = refl

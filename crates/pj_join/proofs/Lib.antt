@@ -1,4 +1,3 @@
-pub mod Members
 pub mod Agreeing
 pub mod Combining
 pub mod Orders

@@ -1,6 +1,6 @@
 -- Tickets that rise, and what each call makes of the inside of a join.
 use Rattle.std.proofs.Common.{ℕ, zero, suc, ◌+◌, ◌<◌, ◌≤◌, ◌^◌, Bool, true, false, cond, ◌||◌, not, List, [], ◌∷◌, ◌++◌, ◌≡◌, map, filter, drop, length, get_or, set, refl, sym, ap, ap₂, ◌∙◌, subst, inl, inr, eqb, arith, append_assoc, append-nil}
-use Rattle.std.proofs.lemmas.Bool.{eqb-true, eq-eqb, false≢true, false_from_ne_true, or_right}
+use Rattle.std.proofs.lemmas.Bool.{eqb-true, eq-eqb, false_from_ne_true, or_right}
 use Rattle.std.proofs.lemmas.List.{map-append, length-append, drop_more}
 use Rattle.std.proofs.lemmas.List.Elements.{filter-append}
 use Rattle.pj_shape.specs.declared.joins.JoinSpec.{JoinSpec}
@@ -9,7 +9,8 @@ use Rattle.pj_laws.specs.Join.{In, Value, TupleAt, PunctAt, TupleComes, Take, Gi
 use Rattle.pj_laws.specs.Kept.{least, without}
 use Rattle.pj_join.specs.Joins.{JoinView, after}
 use Rattle.pj_join.specs.Insides.{tickets, seen, Rise, IsOrdered}
-use Rattle.pj_join.proofs.Members.{In-append_cases}
+use Rattle.pj_value.proofs.Members.{In-append_cases}
+use Rattle.pj_laws.proofs.NextProbe.{without-all}
 
 -- ---- numbers that rise
 
@@ -67,16 +68,8 @@ pub rise-has : (from : ℕ) (ts : List ℕ) (end u : ℕ) → Rise from ts end �
 rise-has from [] end u r lt = refl
 rise-has from (t ∷ ts) end u r lt = ap (λ b. b || has ts u) (eqb-apart t u (omega (arith, lt, r.0))) ∙ rise-has (t + 1) ts end u r.1 (omega (arith, lt, r.0))
 
-pub without-none : (ts : List ℕ) (u : ℕ) → has ts u ≡ false → without ts u ≡ ts
-without-none [] u f = refl
-without-none (t ∷ ts) u f = go (eqb t u) f (without-none ts u)
-  where
-    go : (b : Bool) → (b || has ts u) ≡ false → (has ts u ≡ false → without ts u ≡ ts) → cond (not b) (t ∷ without ts u) (without ts u) ≡ t ∷ ts
-    go true k ih = absurd (false≢true (sym k))
-    go false k ih = ap (λ us. t ∷ us) (ih k)
-
 without-first : (t : ℕ) (ts : List ℕ) → has ts t ≡ false → without (t ∷ ts) t ≡ ts
-without-first t ts f = ap (λ b. cond (not b) (t ∷ without ts t) (without ts t)) (eq-eqb t t refl) ∙ without-none ts t f
+without-first t ts f = ap (λ b. cond (not b) (t ∷ without ts t) (without ts t)) (eq-eqb t t refl) ∙ without-all ts t f
 
 rise-without : (from : ℕ) (ts : List ℕ) (end u : ℕ) → Rise from ts end → Rise from (without ts u) end
 rise-without from [] end u r = r
@@ -91,7 +84,7 @@ has-here [] us u = ap (λ b. b || has us u) (eq-eqb u u refl)
 has-here (t ∷ ts) us u = or_right (eqb t u) (has (ts ++ u ∷ us) u) (has-here ts us u)
 
 opened-without : (taken pending : List ℕ) (u : ℕ) → has pending u ≡ false → without (taken ++ pending) u ≡ without taken u ++ pending
-opened-without taken pending u f = filter-append (λ t. not (eqb t u)) taken pending ∙ ap (λ ts. without taken u ++ ts) (without-none pending u f)
+opened-without taken pending u f = filter-append (λ t. not (eqb t u)) taken pending ∙ ap (λ ts. without taken u ++ ts) (without-all pending u f)
 
 -- ---- tickets of the log
 

@@ -1,41 +1,20 @@
 -- What a join keeps follows its legal steps.
-use Rattle.std.proofs.Common.{ℕ, ◌<◌, min, Bool, true, false, cond, ◌||◌, not, List, [], ◌∷◌, ◌++◌, ◌≡◌, map, filter, length, Option, Some, None, refl, sym, ap, ◌∙◌, subst, inl, inr, eqb}
-use Rattle.std.proofs.lemmas.Bool.{eqb-true, eq-eqb, false≢true, or_left}
-use Rattle.pj_laws.specs.Join.{In, Value, TupleAt, JoinData, JoinState, Step, TupleComes, PunctComes, Take, Give, start, step, run, has, low, least_open, inputs, arity, joined, results, AreLegalSteps, IsAllowed, IsNew}
-use Rattle.pj_laws.specs.Kept.{Kept, kept_low, least, lacking}
+use Rattle.std.proofs.Common.{ℕ, ◌<◌, Bool, true, false, cond, ◌||◌, not, List, [], ◌∷◌, ◌++◌, ◌≡◌, map, filter, length, Option, Some, None, refl, sym, ap, ◌∙◌, subst, inl, inr, eqb}
+use Rattle.std.proofs.lemmas.Bool.{eq-eqb, false≢true, or_left}
+use Rattle.pj_laws.specs.Join.{In, Value, TupleAt, Step, TupleComes, PunctComes, Take, Give, start, run, has, low, inputs, arity, joined, results, IsAllowed, IsNew}
+use Rattle.pj_laws.specs.Kept.{Kept, kept_low, lacking}
 use Rattle.pj_laws.specs.Laws.{StepsStand, IsNeverSwept, AllIsStored}
 use Rattle.pj_join.specs.Joins.{JoinView, Takes, StandsFor, StandsTaken, IsTaken, Found, after}
 use Rattle.pj_laws.specs.Patterns.{Pattern}
-use Rattle.pj_join.proofs.Members.{any_at}
-
-pub legal-more : (spec : JoinData) (s : JoinState) (steps : List Step) (e : Step) → AreLegalSteps spec s steps → IsAllowed spec (run spec s steps) e → AreLegalSteps spec s (steps ++ e ∷ [])
-legal-more spec s [] e l a = (a, tt)
-legal-more spec s (d ∷ steps) e l a = (l.0, legal-more spec (step spec s d) steps e l.1 a)
+use Rattle.pj_laws.proofs.Tickets.{lacking-come}
+use Rattle.pj_laws.proofs.Stand.{least-lacking}
+use Rattle.pj_laws.proofs.Sound.{legal-more}
 
 -- an allowed step leads on
 stands-more : (join : JoinView) (e : Step) (steps : List Step) → StepsStand join.spec → StandsFor join steps → IsAllowed join.spec (run join.spec start steps) e → StandsFor (after join e) (steps ++ e ∷ [])
 stands-more join e steps law st a = (legal-more join.spec start steps e st.0 a, law steps e join.kept st.0 a st.1)
 
 -- ---- which steps are allowed
-
-has-in : (ns : List ℕ) (u : ℕ) → has ns u ≡ true → In u ns
-has-in ns u t = let m = any_at (λ m. eqb m u) ns t in subst (λ (n : ℕ). In n ns) (eqb-true m.0 u m.2) m.1
-
--- a ticket that is lacking is a tuple's and not among these
-lacking-has : (ns : List ℕ) (xs : List TupleAt) (u : ℕ) → has (lacking ns xs) u ≡ true → ((x : TupleAt) × In x xs × (x.ticket ≡ u)) × (has ns u ≡ false)
-lacking-has ns [] u t = absurd (false≢true t)
-lacking-has ns (x ∷ xs) u t = go (has ns x.ticket) refl t (lacking-has ns xs u)
-  where
-    later : ((y : TupleAt) × In y xs × (y.ticket ≡ u)) × (has ns u ≡ false) → ((y : TupleAt) × In y (x ∷ xs) × (y.ticket ≡ u)) × (has ns u ≡ false)
-    later f = ((f.0.0, inr f.0.1, f.0.2), f.1)
-
-    here : (b : Bool) → eqb x.ticket u ≡ b → has ns x.ticket ≡ false → (b || has (lacking ns xs) u) ≡ true → (has (lacking ns xs) u ≡ true → ((y : TupleAt) × In y xs × (y.ticket ≡ u)) × (has ns u ≡ false)) → ((y : TupleAt) × In y (x ∷ xs) × (y.ticket ≡ u)) × (has ns u ≡ false)
-    here true e f k ih = ((x, inl refl, eqb-true x.ticket u e), subst (λ (n : ℕ). has ns n ≡ false) (eqb-true x.ticket u e) f)
-    here false e f k ih = later (ih k)
-
-    go : (b : Bool) → has ns x.ticket ≡ b → has (map (λ y. y.ticket) (cond (not b) (x ∷ filter (λ y. not (has ns y.ticket)) xs) (filter (λ y. not (has ns y.ticket)) xs))) u ≡ true → (has (lacking ns xs) u ≡ true → ((y : TupleAt) × In y xs × (y.ticket ≡ u)) × (has ns u ≡ false)) → ((y : TupleAt) × In y (x ∷ xs) × (y.ticket ≡ u)) × (has ns u ≡ false)
-    go true e k ih = later (ih k)
-    go false e k ih = here (eqb x.ticket u) refl e k ih
 
 -- a tuple's ticket that is not lacking is among these
 has-lacking : (ns : List ℕ) (xs : List TupleAt) (x : TupleAt) → In x xs → has (lacking ns xs) x.ticket ≡ false → has ns x.ticket ≡ true
@@ -55,7 +34,7 @@ has-lacking ns (y ∷ xs) x h f = go (has ns y.ticket) refl h f (has-lacking ns 
 -- ---- the steps of a join
 
 allowed-take : (join : JoinView) (u : ℕ) (steps : List Step) → StandsFor join steps → has join.kept.pending u ≡ true → IsAllowed join.spec (run join.spec start steps) (Take u)
-allowed-take join u steps st t = lacking-has (run join.spec start steps).taken (run join.spec start steps).tuples u (subst (λ (k : Kept). has k.pending u ≡ true) st.1 t)
+allowed-take join u steps st t = lacking-come (run join.spec start steps).taken (run join.spec start steps).tuples u (subst (λ (k : Kept). has k.pending u ≡ true) st.1 t)
 
 allowed-give : (join : JoinView) (u : ℕ) (steps : List Step) → StandsFor join steps → IsTaken join.kept u → IsAllowed join.spec (run join.spec start steps) (Give u)
 allowed-give join u steps st t = (
@@ -64,7 +43,7 @@ allowed-give join u steps st t = (
 )
   where
     come : ((x : TupleAt) × In x (run join.spec start steps).tuples × (x.ticket ≡ u)) × (has (run join.spec start steps).given u ≡ false)
-    come = lacking-has (run join.spec start steps).given (run join.spec start steps).tuples u (subst (λ (k : Kept). has k.opened u ≡ true) st.1 t.0)
+    come = lacking-come (run join.spec start steps).given (run join.spec start steps).tuples u (subst (λ (k : Kept). has k.opened u ≡ true) st.1 t.0)
 
 -- a tuple that fits and is new leads on
 pub stands-tuple : (join new : JoinView) (input : ℕ) (row : List Value) → StepsStand join.spec → input < inputs join.spec → length row ≡ arity join.spec input → new ≡ after join (TupleComes input row)
@@ -100,14 +79,6 @@ stands-taken join new (Some found) law never stored none lt t steps st =
     same = ap (λ (k : Kept). k.stored) st.1 ∙ stored steps (never none lt steps st.0)
 
 -- ---- the low-water ticket
-
-least-lacking : (given : List ℕ) (next : ℕ) (xs : List TupleAt) → least next (lacking given xs) ≡ least_open given next xs
-least-lacking given next [] = refl
-least-lacking given next (x ∷ xs) = go (has given x.ticket) (least-lacking given next xs)
-  where
-    go : (b : Bool) → least next (lacking given xs) ≡ least_open given next xs → least next (map (λ z. z.ticket) (cond (not b) (x ∷ filter (λ z. not (has given z.ticket)) xs) (filter (λ z. not (has given z.ticket)) xs))) ≡ cond b (least_open given next xs) (min x.ticket (least_open given next xs))
-    go true e = e
-    go false e = ap (min x.ticket) e
 
 -- the least ticket that is open is the low-water ticket
 pub low-stands : (join : JoinView) (n : ℕ) → n ≡ kept_low join.kept → (steps : List Step) → StandsFor join steps → n ≡ low (run join.spec start steps)

@@ -2,7 +2,7 @@
 use Rattle.std.proofs.Common.{◌≡◌, List, [], ◌∷◌, refl, sym, ap, inl, inr, arith, subst}
 use Rattle.pj_value.specs.declared.values.Kind.TheVariants.{Int}
 use Rattle.pj_shape.specs.declared.joins.ClassCol.{ClassCol}
-use Rattle.pj_shape.specs.Lists.{In}
+use Rattle.pj_value.specs.Lists.{In}
 use Rattle.pj_shape.specs.Sound.{IsSoundSpec, IsSoundClass, IsOfKind}
 use Rattle.pj_join.specs.Triples.{number, pair, at, triple}
 

@@ -5,7 +5,7 @@ use Rattle.pj_laws.specs.Join.{TupleAt, ClassCol, agree, product, upto_from}
 use Rattle.pj_join.specs.Walks.{completed}
 use Rattle.pj_join.proofs.Agreeing.{agree-none}
 use Rattle.pj_join.proofs.Combining.{completed-all}
-use Rattle.pj_join.proofs.Finding.{upto-push}
+use Rattle.pj_laws.proofs.Upto.{upto-push}
 
 -- a walk that begins with nothing may begin, and finds all combinations that join
 pub whole_walk : (classes : List (List ClassCol)) (lists : List (List TupleAt)) → (completed classes [] lists ≡ filter (agree classes) (product lists)) × (agree classes [] ≡ true)

@@ -2,7 +2,8 @@
 use Rattle.std.specs.Prelude.{ℕ, Bool, not, ◌==◌, nat_lt, ◌&&◌, ◌||◌, if◌then◌else◌, List, [], ◌∷◌, ◌++◌, map, filter, slice_index_or, length}
 use Rattle.std.specs.List.{list_all}
 use Rattle.pj_value.specs.Values.{value_eq}
-use Rattle.pj_laws.specs.Join.{ClassCol, TupleAt, Value, agree, product, upto_from, value_at}
+use Rattle.pj_join.specs.declared.found.Found.{Found}
+use Rattle.pj_laws.specs.Join.{ClassCol, TupleAt, Value, agree, joined, product, upto_from, value_at}
 
 -- the tuple has this value in the column, where that is a column of its input
 abbrev pub has_there : Value → ClassCol → TupleAt → Bool
@@ -32,3 +33,7 @@ choice classes own sides input =
 -- the choice of each input
 abbrev pub choices : List (List ClassCol) → TupleAt → List (List TupleAt) → List (List TupleAt)
 choices classes own sides = map (choice classes own sides) (upto_from 0 (length sides))
+
+-- what the work of a ticket finds over the choice of each input: the ways to take one of each that join, as rows
+abbrev pub found_in : ℕ → ℕ → List (List ClassCol) → List (List TupleAt) → Found
+found_in join ticket classes lists = record { join = join; ticket = ticket; rows = map joined (filter (agree classes) (product lists)) }

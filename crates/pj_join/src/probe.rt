@@ -1,8 +1,7 @@
 // A tuple on its way through the work of a join.
-ghost use Rattle.std.specs.Prelude.{◌≡◌, IfOk, map, filter};
+ghost use Rattle.std.specs.Prelude.{◌≡◌, IfOk};
 ghost use Rattle.std.specs.Arc.{arc_value};
-ghost use Rattle.pj_laws.specs.Join.{joined, agree, product};
-ghost use Rattle.pj_join.specs.Walks.{choices};
+ghost use Rattle.pj_join.specs.Walks.{choices, found_in};
 
 use crate::Found;
 use crate::arrivals::Arrived;
@@ -23,14 +22,13 @@ pub struct Probe {
 }
 
 impl Model for Probe {
-    ghost use Rattle.std.specs.Prelude.{map, filter};
     ghost use Rattle.std.specs.Arc.{arc_value};
     ghost use Rattle.pj_join.specs.declared.found.Found.{Found};
-    ghost use Rattle.pj_laws.specs.Join.{joined, agree, product};
+    ghost use Rattle.pj_join.specs.Walks.{found_in};
 
     ghost Value = { Found };
 
-    ghost view = { λ p. record { join = p.join; ticket = p.ticket; rows = map joined (filter (agree (arc_value p.spec).classes) (product p.sides)) } };
+    ghost view = { λ p. found_in p.join p.ticket (arc_value p.spec).classes p.sides };
 }
 
 impl Probe {
@@ -42,7 +40,7 @@ impl Probe {
         own: &Arrived,
         sides: &[List<Arrived>],
     ) -> Result<Probe, NoMemory>
-        ensures { IfOk result (λ probe. probe ≡ record { join = join; ticket = own.now.ticket; rows = map joined (filter (agree (arc_value spec.now).classes) (product (choices (arc_value spec.now).classes own.now sides.now))) }) }
+        ensures { let classes = (arc_value spec.now).classes in IfOk result (λ probe. probe ≡ found_in join own.now.ticket classes (choices classes own.now sides.now)) }
     {
         let spec = share_spec(spec)?;
         let sides = choices(alloc, spec.classes.as_slice(), own, sides)?;

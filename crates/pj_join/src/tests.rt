@@ -159,16 +159,23 @@ fn append_numbers(row: &Row, all: &mut Vec<i64>) -> Result<(), NoMemory> {
     Ok(())
 }
 
+// The same of some rows of all inputs, and of more behind a punctuation.
+fn found_in_both(alloc: Global, join: &mut Join) -> Result<Vec<i64>, JoinStop>
+    requires { join.old.spec ≡ unswept triple }
+{
+    let before = [(0, 1, 10), (2, 7, 5), (2, 8, 5), (0, 1, 11), (1, 1, 5)];
+    put_all(alloc, join, &before)?;
+    say(alloc, join, 0, 2)?;
+    put_all(alloc, join, &[(0, 1, 12), (1, 2, 5)])?;
+    Ok(found_in_all(alloc, join)?)
+}
+
 // The tickets of 4 and 6 find the older rows of the other inputs, in the order of their tickets.
 #[test]
 fn results_come_in_order_of_tickets(rt: HostRuntime) -> Result<(), Fail> {
     let alloc = rt.alloc();
     let mut join = join_of(alloc, 100)?;
-    let before = [(0, 1, 10), (2, 7, 5), (2, 8, 5), (0, 1, 11), (1, 1, 5)];
-    put_all(alloc, &mut join, &before)?;
-    say(alloc, &mut join, 0, 2)?;
-    put_all(alloc, &mut join, &[(0, 1, 12), (1, 2, 5)])?;
-    let found = found_in_all(alloc, &mut join)?;
+    let found = found_in_both(alloc, &mut join)?;
     let want = [
         1000, 1001, 1002, 1003, 1004, 1, 10, 1, 5, 7, 5, 1, 10, 1, 5, 8, 5, 1, 11, 1, 5, 7, 5, 1,
         11, 1, 5, 8, 5, 1006, 1, 12, 1, 5, 7, 5, 1, 12, 1, 5, 8, 5, 1007,
@@ -181,8 +188,9 @@ fn results_come_in_order_of_tickets(rt: HostRuntime) -> Result<(), Fail> {
 fn no_more_than_the_limit_come(rt: HostRuntime) -> Result<(), Fail> {
     let alloc = rt.alloc();
     let mut join = join_of(alloc, 1)?;
-    assert_eq!(rt; say(alloc, &mut join, 1, 1)?, 0);
-    assert_eq!(rt; put(alloc, &mut join, 2, 1, 1), Err(JoinStop::Limit));
+    let first = say(alloc, &mut join, 1, 1);
+    let second = put(alloc, &mut join, 2, 1, 1);
+    assert_eq!(rt; (first, second), (Ok(0), Err(JoinStop::Limit)));
     Ok(())
 }
 
@@ -209,12 +217,19 @@ fn matches(alloc: Global, join: &mut Join, count: i64) -> Result<usize, JoinStop
     Ok(rows)
 }
 
+// The same behind one tuple of the third side.
+fn matches_in_all(alloc: Global, join: &mut Join) -> Result<usize, JoinStop>
+    requires { join.old.spec ≡ unswept triple }
+{
+    put(alloc, join, 2, 0, 0)?;
+    next_count(alloc, join)?;
+    matches(alloc, join, 2000)
+}
+
 #[test]
 fn long_runs_are_fast(rt: HostRuntime) -> Result<(), Fail> {
     let alloc = rt.alloc();
     let mut join = join_of(alloc, 1_000_000)?;
-    put(alloc, &mut join, 2, 0, 0)?;
-    next_count(alloc, &mut join)?;
-    assert_eq!(rt; matches(alloc, &mut join, 2000)?, 2000);
+    assert_eq!(rt; matches_in_all(alloc, &mut join)?, 2000);
     Ok(())
 }
