@@ -13,6 +13,7 @@ use Rattle.pj_laws.specs.declared.events.Stop.{Stop}
 use Rattle.pj_laws.specs.Plan.{Stream, Node, IsStepAllowed}
 use Rattle.pj_laws.specs.History.{Reached, begun, next, nodes_by, nodes_from, reached_of, gained, out_of, closed_after, undrained_after, halted_after, stop_after, step_of, pending_in, IsOn, IsLegal, IsEventAllowed, AreEntriesLegal}
 use Rattle.pj_laws.specs.Outcomes.{arrivals_at, arrivals_by, peak_of, stored_at, goes_beyond}
+use Rattle.pj_laws.specs.Limits.{StaysWithin}
 use Rattle.pj_laws.specs.OneThread.{plain, next_probe, probes}
 use Rattle.pj_laws.specs.CoreKept.{NothingKept, core_kept, kept_in, nodes_of}
 use Rattle.pj_laws.specs.HistoryLaws.{AddsEntry, GrowsLegally}
@@ -160,6 +161,11 @@ module _ (sa : SmallStream) (l : ℕ) (c : List ℕ) (u : List Out) (history : L
 
   pub none-probed : probes (nodes_from (nodes_one sa) history) ≡ []
   none-probed = ap probes f.is
+
+  pub probes-stay-within : StaysWithin l (nodes_one sa) history (probes (nodes_from (nodes_one sa) history) ++ plain Drain ∷ [])
+  probes-stay-within =
+      subst (λ (es : List Entry). StaysWithin l (nodes_one sa) history (es ++ plain Drain ∷ [])) (sym none-probed)
+      (ap (first_beyond l (λ n. length (arrivals_at (nodes_one sa) history n)) Drain) f.is, tt)
 
   pub none-pending : pending_in (nodes_from (nodes_one sa) history) ≡ 0
   none-pending = ap pending_in f.is

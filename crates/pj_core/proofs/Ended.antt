@@ -1,9 +1,10 @@
 -- How many streams are closed.
-use Rattle.std.proofs.Common.{ℕ, zero, suc, ◌+◌, Bool, true, false, cond, ◌||◌, List, [], ◌∷◌, ◌++◌, ◌≡◌, filter, length, reverse, eqb, refl, sym, ap, ◌∙◌, arith, length-append}
+use Rattle.std.proofs.Common.{ℕ, suc, ◌+◌, Bool, true, false, cond, ◌||◌, List, [], ◌∷◌, ◌++◌, ◌≡◌, filter, length, reverse, eqb, refl, sym, ap, ◌∙◌, arith, length-append}
 use Rattle.std.proofs.lemmas.List.{reverse-append}
 use Rattle.std.proofs.lemmas.List.Elements.{filter-append}
 use Rattle.pj_laws.specs.Join.{has, upto_from}
 use Rattle.pj_core.specs.Calls.{ended_of}
+use Rattle.pj_laws.proofs.Upto.{upto-push}
 
 has-append : (xs ys : List ℕ) (n : ℕ) → has (xs ++ ys) n ≡ (has xs n || has ys n)
 has-append [] ys n = refl
@@ -32,17 +33,11 @@ filter-same p q (x ∷ xs) f = ap (λ (b : Bool). cond b (x ∷ filter p xs) (fi
 pub ended-reversed : (n : ℕ) (closed : List ℕ) → ended_of n closed ≡ ended_of n (reverse closed)
 ended-reversed n closed = ap length (filter-same (has closed) (has (reverse closed)) (upto_from 0 n) (λ m. sym (has-reverse closed m)))
 
-upto-more : (k n : ℕ) → upto_from k (suc n) ≡ upto_from k n ++ (k + n) ∷ []
-upto-more k zero = let e : k ≡ k + 0 = omega arith in ap (λ (m : ℕ). m ∷ []) e
-upto-more k (suc n) =
-    let e : k + 1 + n ≡ k + suc n = omega arith in
-    ap (λ (ms : List ℕ). k ∷ ms) (upto-more (k + 1) n ∙ ap (λ (m : ℕ). upto_from (k + 1) n ++ m ∷ []) e)
-
 one-more : (n : ℕ) (closed : List ℕ) → ended_of (n + 1) closed ≡ ended_of n closed + length (filter (has closed) (n ∷ []))
 one-more n closed =
     let z : 0 + n ≡ n = omega arith in
     ap (λ (m : ℕ). ended_of m closed) (let e : n + 1 ≡ suc n = omega arith in e)
-    ∙ ap (λ (ms : List ℕ). length (filter (has closed) ms)) (upto-more 0 n ∙ ap (λ (m : ℕ). upto_from 0 n ++ m ∷ []) z)
+    ∙ ap (λ (ms : List ℕ). length (filter (has closed) ms)) (upto-push 0 n ∙ ap (λ (m : ℕ). upto_from 0 n ++ m ∷ []) z)
     ∙ ap length (filter-append (has closed) (upto_from 0 n) (n ∷ []))
     ∙ length-append (filter (has closed) (upto_from 0 n)) (filter (has closed) (n ∷ []))
 

@@ -17,17 +17,20 @@ use Rattle.pj_laws.specs.Laws.{StepsStand}
 use Rattle.pj_laws.specs.Plan.{Stream, Node, join_step, IsStepAllowed, MayArrive}
 use Rattle.pj_laws.specs.History.{reached_of, nodes_by, nodes_from, gained, closed_after, step_of, pending_in, join_at, IsOn, IsEntryAllowed, IsEventAllowed}
 use Rattle.pj_laws.specs.Outcomes.{arrivals_at, stored_at, goes_beyond, results_of}
+use Rattle.pj_laws.specs.Limits.{StaysWithin}
 use Rattle.pj_laws.specs.OneThread.{plain, first_of, next_probe, probes, probes_at}
 use Rattle.pj_laws.specs.HistoryLaws.{AddsEntry, GrowsLegally}
 use Rattle.pj_join.specs.Joins.{unswept}
 use Rattle.pj_join.specs.Joins.{IsTaken}
 use Rattle.pj_core.specs.Calls.{opened_in, stored_in, waiting_in}
-use Rattle.pj_core.proofs.Tickets.{AreAscending, first-least, first-split, probes-two, has-In, lacking-come, lacking-none, next-two, pending-ascends}
+use Rattle.pj_laws.proofs.Sound.{run-append}
+use Rattle.pj_laws.proofs.Probes.{has-in}
+use Rattle.pj_laws.proofs.Tickets.{AreAscending, first-least, first-split, lacking-come, lacking-none, pending-ascends}
 use Rattle.pj_core.specs.Cores.{JoinPart, StandsFor, MayFollow}
 use Rattle.pj_core.specs.Parts.{input_named, step_for}
-use Rattle.pj_core.proofs.Form.{HasForm, IsWide, named, zeroth, oneth, two, nodes-taken, run-push, may-come, zeroth-lt, oneth-lt}
+use Rattle.pj_core.proofs.Form.{HasForm, IsWide, named, zeroth, oneth, two, nodes-taken, may-come, zeroth-lt, oneth-lt}
 use Rattle.pj_core.proofs.Entering.{part_after, core_two, nodes_two, form-of, part-is, peak-is, count-is, entered, stored-peak}
-use Rattle.pj_core.proofs.Moves.{move-first, move-second, move-taken, move-given, move-idle, move-drain, move-look, gains-first, gains-second, gains-taken, gains-given, gains-idle, gains-look, beyond-first, beyond-second, first_beyond}
+use Rattle.pj_core.proofs.Moves.{move-first, move-second, move-taken, move-given, move-idle, move-drain, move-look, gains-first, gains-second, gains-taken, gains-given, gains-idle, gains-look, beyond-first, beyond-second, first_beyond, next-two, probes-two, probes-within}
 
 -- the input that names each stream
 pub input-first : (ins : List ℕ) (order : Bool) → ins ≡ named order → input_named ins 0 ≡ zeroth order
@@ -71,7 +74,7 @@ module _ (sa sb : SmallStream) (j : SmallJoin) (order : Bool) (q : j.inputs ≡ 
   kept-after : (st : Step) → IsAllowed (unswept j.spec) now st → kept_step (unswept j.spec) part.kept st ≡ kept_of (step (unswept j.spec) now st)
   kept-after st allowed =
       stand f.steps st part.kept f.legal allowed (part-is sa sb j order q w l part c u history S f)
-      ∙ ap kept_of (run-push (unswept j.spec) start f.steps st)
+      ∙ ap kept_of (run-append (unswept j.spec) start f.steps (st ∷ []))
 
   outs-are : (event : Event) (outs : List Out) → gained false nodes event ≡ outs → u ++ outs ≡ (reached_of false (nodes_two sa sb j) history).undrained ++ gained false (reached_of false (nodes_two sa sb j) history).nodes event
   outs-are event outs g =
@@ -227,7 +230,7 @@ module _ (sa sb : SmallStream) (j : SmallJoin) (order : Bool) (q : j.inputs ≡ 
       → next_probe (nodes_from (nodes_two sa sb j) history) ≡ Some (record { join = 2; ticket = t })
   next-taken t p least =
       next-is ∙ first-least 2 part.kept.pending t
-      (subst (λ (k : Kept). AreAscending k.pending) (sym part-now) (pending-ascends (unswept j.spec) f.steps)) (has-In part.kept.pending t p) least
+      (subst (λ (k : Kept). AreAscending k.pending) (sym part-now) (pending-ascends (unswept j.spec) f.steps)) (has-in part.kept.pending t p) least
 
   results-are : (t : ℕ) → results_of (nodes_two sa sb j) history 2 t ≡ map joined (results (unswept j.spec) now.tuples now.tuples t)
   results-are t = ap (λ (ns : List Node). map joined (results (unswept j.spec) (join_at ns 2).tuples (join_at ns 2).tuples t)) f.is
@@ -244,7 +247,12 @@ module _ (sa sb : SmallStream) (j : SmallJoin) (order : Bool) (q : j.inputs ≡ 
 
   pub first-of-pending : (t : ℕ) → has part.kept.pending t ≡ true → ((v : ℕ) → In v part.kept.pending → t ≤ v) → part.kept.pending ≡ t ∷ without part.kept.pending t
   first-of-pending t p least =
-      first-split part.kept.pending t (subst (λ (k : Kept). AreAscending k.pending) (sym part-now) (pending-ascends (unswept j.spec) f.steps)) (has-In part.kept.pending t p) least
+      first-split part.kept.pending t (subst (λ (k : Kept). AreAscending k.pending) (sym part-now) (pending-ascends (unswept j.spec) f.steps)) (has-in part.kept.pending t p) least
 
   pub all-probes : probes (nodes_from (nodes_two sa sb j) history) ≡ probes_at 2 part.kept.pending
   all-probes = ap probes f.is ∙ probes-two sa.schema sb.schema order (unswept j.spec) f.x f.y now ∙ ap (λ (k : Kept). probes_at 2 k.pending) (sym part-now)
+
+  pub probes-stay-within : StaysWithin l (nodes_two sa sb j) history (probes (nodes_from (nodes_two sa sb j) history) ++ plain Drain ∷ [])
+  probes-stay-within =
+      subst (λ (es : List Entry). StaysWithin l (nodes_two sa sb j) history (es ++ plain Drain ∷ [])) (sym all-probes)
+      (probes-within sa.schema sb.schema (unswept j.spec) order f.x f.y l (nodes_two sa sb j) part.kept.pending history now f.is)

@@ -1,58 +1,22 @@
 -- A plan of two streams and a join at any moment of a legal history.
 use Rattle.std.proofs.Common.{ℕ, zero, suc, ◌<◌, Bool, true, false, List, [], ◌∷◌, ◌++◌, ◌≡◌, ◌≢◌, ◌⊎◌, length, refl, sym, ap, ◌∙◌, subst, inl, inr, arith}
-use Rattle.std.proofs.lemmas.Bool.{and_parts, false≢true}
-use Rattle.pj_value.specs.declared.values.Value.{Value}
 use Rattle.pj_shape.specs.declared.columns.Column.{Column}
-use Rattle.pj_shape.specs.Lists.{In}
+use Rattle.pj_value.specs.Lists.{In}
 use Rattle.pj_pattern.specs.declared.element.Element.{Element}
 use Rattle.pj_pattern.specs.declared.element.Element.TheVariants.{Tuple, Punct}
 use Rattle.pj_laws.specs.declared.events.Entry.{Entry}
 use Rattle.pj_laws.specs.declared.events.Event.{Event}
 use Rattle.pj_laws.specs.declared.events.Event.TheVariants.{Arrive, Take as Taken, Give as Given, Sweep as Swept, Drain, Halt, Look, Stopped, Idle}
-use Rattle.pj_laws.specs.Patterns.{Pattern}
 use Rattle.pj_laws.specs.Join.{PunctAt, JoinData, JoinState, Step, Take, Give, Sweep, start, step, run, arity, inputs, IsAllowed, AreLegalSteps, new_punct}
-use Rattle.pj_laws.specs.Plan.{Stream, Join, Node, join_step, row_fits, punct_fits, MayArrive, IsStepAllowed, Pass, moved}
+use Rattle.pj_value.proofs.Members.{In-append_left, In-append_right, In-append_cases}
+use Rattle.pj_laws.proofs.Sound.{run-append, legal-more}
+use Rattle.pj_laws.proofs.Whole.{fits-length}
+use Rattle.pj_laws.specs.Plan.{Stream, Join, Node, join_step, MayArrive, IsStepAllowed, Pass, moved}
 use Rattle.pj_laws.specs.History.{Reached, next, nodes_by, nodes_from, step_of, IsEventAllowed, AreEntriesLegal}
-
--- ---- lists
-
-pub In-left : {A : Type 0} (x : A) (xs ys : List A) → In x xs → In x (xs ++ ys)
-In-left x [] ys h = absurd h
-In-left x (y ∷ xs) ys (inl e) = inl e
-In-left x (y ∷ xs) ys (inr h) = inr (In-left x xs ys h)
-
-pub In-right : {A : Type 0} (x : A) (xs ys : List A) → In x ys → In x (xs ++ ys)
-In-right x [] ys h = h
-In-right x (y ∷ xs) ys h = inr (In-right x xs ys h)
-
-pub In-cases : {A : Type 0} (x : A) (xs ys : List A) → In x (xs ++ ys) → In x xs ⊎ In x ys
-In-cases x [] ys h = inr h
-In-cases x (y ∷ xs) ys (inl e) = inl (inl e)
-In-cases x (y ∷ xs) ys (inr h) = elim (In-cases x xs ys h) [ inl k ↦ inl (inr k) | inr k ↦ inr k ]
 
 -- ---- steps of a join
 
-pub run-push : (d : JoinData) (s : JoinState) (es : List Step) (e : Step) → run d s (es ++ e ∷ []) ≡ step d (run d s es) e
-run-push d s [] e = refl
-run-push d s (f ∷ es) e = run-push d (step d s f) es e
-
-pub legal-push : (d : JoinData) (s : JoinState) (es : List Step) (e : Step) → AreLegalSteps d s es → IsAllowed d (run d s es) e → AreLegalSteps d s (es ++ e ∷ [])
-legal-push d s [] e l a = (a, tt)
-legal-push d s (f ∷ es) e l a = (l.0, legal-push d (step d s f) es e l.1 a)
-
--- ---- elements that fit
-
-pub row-length : (schema : List Column) (row : List Value) → row_fits schema row ≡ true → length row ≡ length schema
-row-length [] [] f = refl
-row-length [] (v ∷ vs) f = absurd (false≢true f)
-row-length (c ∷ cs) [] f = absurd (false≢true f)
-row-length (c ∷ cs) (v ∷ vs) f = let r = row-length cs vs (and_parts _ (row_fits cs vs) f).1 in omega (arith, r)
-
-pub punct-length : (schema : List Column) (patterns : List Pattern) → punct_fits schema patterns ≡ true → length patterns ≡ length schema
-punct-length [] [] f = refl
-punct-length [] (p ∷ ps) f = absurd (false≢true f)
-punct-length (c ∷ cs) [] f = absurd (false≢true f)
-punct-length (c ∷ cs) (p ∷ ps) f = let r = punct-length cs ps (and_parts _ (punct_fits cs ps) f).1 in omega (arith, r)
+-- ---- what a join has heard
 
 -- what the join has heard of an input was sent by the stream
 abbrev pub HasHeard : JoinState → ℕ → List Element → Type 0
@@ -60,21 +24,21 @@ HasHeard s i sent = (p : PunctAt) → In p s.puncts → p.input ≡ i → In (Pu
 
 pub may-come : (d : JoinData) (s : JoinState) (i : ℕ) (schema : List Column) (sent : List Element) (e : Element)
     → i < inputs d → arity d i ≡ length schema → HasHeard s i sent → MayArrive (Stream schema sent) e → IsAllowed d s (join_step i e)
-may-come d s i schema sent (Tuple row) lt w h m = (lt, row-length schema row m.1 ∙ sym w, λ p hp pi. m.0 p.patterns (h p hp pi))
-may-come d s i schema sent (Punct patterns) lt w h m = (lt, punct-length schema patterns m.1 ∙ sym w)
+may-come d s i schema sent (Tuple row) lt w h m = (lt, fits-length schema (Tuple row) m.1 ∙ sym w, λ p hp pi. m.0 p.patterns (h p hp pi))
+may-come d s i schema sent (Punct patterns) lt w h m = (lt, fits-length schema (Punct patterns) m.1 ∙ sym w)
 
 pub heard-own : (d : JoinData) (s : JoinState) (i : ℕ) (sent : List Element) (e : Element) → HasHeard s i sent → HasHeard (step d s (join_step i e)) i (sent ++ e ∷ [])
-heard-own d s i sent (Tuple row) h p hp pi = In-left (Punct p.patterns) sent (Tuple row ∷ []) (h p hp pi)
-heard-own d s i sent (Punct patterns) h p hp pi = go (In-cases p s.puncts (new_punct s i patterns ∷ []) hp)
+heard-own d s i sent (Tuple row) h p hp pi = In-append_left (Punct p.patterns) sent (Tuple row ∷ []) (h p hp pi)
+heard-own d s i sent (Punct patterns) h p hp pi = go (In-append_cases p s.puncts (new_punct s i patterns ∷ []) hp)
   where
     go : In p s.puncts ⊎ In p (new_punct s i patterns ∷ []) → In (Punct p.patterns) (sent ++ Punct patterns ∷ [])
-    go (inl k) = In-left (Punct p.patterns) sent (Punct patterns ∷ []) (h p k pi)
-    go (inr (inl k)) = In-right (Punct p.patterns) sent (Punct patterns ∷ []) (inl (ap (λ (z : PunctAt). Punct z.patterns) k))
+    go (inl k) = In-append_left (Punct p.patterns) sent (Punct patterns ∷ []) (h p k pi)
+    go (inr (inl k)) = In-append_right (Punct p.patterns) sent (Punct patterns ∷ []) (inl (ap (λ (z : PunctAt). Punct z.patterns) k))
     go (inr (inr k)) = absurd k
 
 pub heard-other : (d : JoinData) (s : JoinState) (i j : ℕ) (sent : List Element) (e : Element) → i ≢ j → HasHeard s j sent → HasHeard (step d s (join_step i e)) j sent
 heard-other d s i j sent (Tuple row) n h p hp pi = h p hp pi
-heard-other d s i j sent (Punct patterns) n h p hp pi = go (In-cases p s.puncts (new_punct s i patterns ∷ []) hp)
+heard-other d s i j sent (Punct patterns) n h p hp pi = go (In-append_cases p s.puncts (new_punct s i patterns ∷ []) hp)
   where
     go : In p s.puncts ⊎ In p (new_punct s i patterns ∷ []) → In (Punct p.patterns) sent
     go (inl k) = h p k pi
@@ -171,10 +135,10 @@ module _ (a b : List Column) (order : Bool) (d : JoinData) (w : IsWide a b order
         x = f.x ++ e ∷ [];
         y = f.y;
         steps = f.steps ++ st ∷ [];
-        is = ap (λ (ns : List Node). nodes_by ns (Arrive 0 e)) f.is ∙ nodes-first a b order d f.x f.y s e ∙ ap (two a b order d (f.x ++ e ∷ []) f.y) (sym (run-push d start f.steps st));
-        legal = legal-push d start f.steps st f.legal (may-come d s (zeroth order) a f.x e lt w.first f.heard_first m);
-        heard_first = subst (λ (z : JoinState). HasHeard z (zeroth order) (f.x ++ e ∷ [])) (sym (run-push d start f.steps st)) (heard-own d s (zeroth order) f.x e f.heard_first);
-        heard_second = subst (λ (z : JoinState). HasHeard z (oneth order) f.y) (sym (run-push d start f.steps st)) (heard-other d s (zeroth order) (oneth order) f.y e (apart order) f.heard_second);
+        is = ap (λ (ns : List Node). nodes_by ns (Arrive 0 e)) f.is ∙ nodes-first a b order d f.x f.y s e ∙ ap (two a b order d (f.x ++ e ∷ []) f.y) (sym (run-append d start f.steps (st ∷ [])));
+        legal = legal-more d start f.steps st f.legal (may-come d s (zeroth order) a f.x e lt w.first f.heard_first m);
+        heard_first = subst (λ (z : JoinState). HasHeard z (zeroth order) (f.x ++ e ∷ [])) (sym (run-append d start f.steps (st ∷ []))) (heard-own d s (zeroth order) f.x e f.heard_first);
+        heard_second = subst (λ (z : JoinState). HasHeard z (oneth order) f.y) (sym (run-append d start f.steps (st ∷ []))) (heard-other d s (zeroth order) (oneth order) f.y e (apart order) f.heard_second);
       }
 
   pub form-second : (nodes : List Node) (e : Element) → (f : HasForm a b order d nodes) → MayArrive (Stream b f.y) e → HasForm a b order d (nodes_by nodes (Arrive 1 e))
@@ -186,10 +150,10 @@ module _ (a b : List Column) (order : Bool) (d : JoinData) (w : IsWide a b order
         x = f.x;
         y = f.y ++ e ∷ [];
         steps = f.steps ++ st ∷ [];
-        is = ap (λ (ns : List Node). nodes_by ns (Arrive 1 e)) f.is ∙ nodes-second a b order d f.x f.y s e ∙ ap (two a b order d f.x (f.y ++ e ∷ [])) (sym (run-push d start f.steps st));
-        legal = legal-push d start f.steps st f.legal (may-come d s (oneth order) b f.y e lt w.second f.heard_second m);
-        heard_first = subst (λ (z : JoinState). HasHeard z (zeroth order) f.x) (sym (run-push d start f.steps st)) (heard-other d s (oneth order) (zeroth order) f.x e (λ q. apart order (sym q)) f.heard_first);
-        heard_second = subst (λ (z : JoinState). HasHeard z (oneth order) (f.y ++ e ∷ [])) (sym (run-push d start f.steps st)) (heard-own d s (oneth order) f.y e f.heard_second);
+        is = ap (λ (ns : List Node). nodes_by ns (Arrive 1 e)) f.is ∙ nodes-second a b order d f.x f.y s e ∙ ap (two a b order d f.x (f.y ++ e ∷ [])) (sym (run-append d start f.steps (st ∷ [])));
+        legal = legal-more d start f.steps st f.legal (may-come d s (oneth order) b f.y e lt w.second f.heard_second m);
+        heard_first = subst (λ (z : JoinState). HasHeard z (zeroth order) f.x) (sym (run-append d start f.steps (st ∷ []))) (heard-other d s (oneth order) (zeroth order) f.x e (λ q. apart order (sym q)) f.heard_first);
+        heard_second = subst (λ (z : JoinState). HasHeard z (oneth order) (f.y ++ e ∷ [])) (sym (run-append d start f.steps (st ∷ []))) (heard-own d s (oneth order) f.y e f.heard_second);
       }
 
   form-quiet : (nodes : List Node) (event : Event) (st : Step) → (f : HasForm a b order d nodes)
@@ -197,13 +161,13 @@ module _ (a b : List Column) (order : Bool) (d : JoinData) (w : IsWide a b order
       → IsAllowed d (run d start f.steps) st → (step d (run d start f.steps) st).puncts ≡ (run d start f.steps).puncts
       → HasForm a b order d (nodes_by nodes event)
   form-quiet nodes event st f q l p =
-      let same : (run d start (f.steps ++ st ∷ [])).puncts ≡ (run d start f.steps).puncts = ap (λ (z : JoinState). z.puncts) (run-push d start f.steps st) ∙ p in
+      let same : (run d start (f.steps ++ st ∷ [])).puncts ≡ (run d start f.steps).puncts = ap (λ (z : JoinState). z.puncts) (run-append d start f.steps (st ∷ [])) ∙ p in
       record {
         x = f.x;
         y = f.y;
         steps = f.steps ++ st ∷ [];
-        is = ap (λ (ns : List Node). nodes_by ns event) f.is ∙ q ∙ ap (two a b order d f.x f.y) (sym (run-push d start f.steps st));
-        legal = legal-push d start f.steps st f.legal l;
+        is = ap (λ (ns : List Node). nodes_by ns event) f.is ∙ q ∙ ap (two a b order d f.x f.y) (sym (run-append d start f.steps (st ∷ [])));
+        legal = legal-more d start f.steps st f.legal l;
         heard_first = λ z hz. f.heard_first z (subst (λ (ps : List PunctAt). In z ps) same hz);
         heard_second = λ z hz. f.heard_second z (subst (λ (ps : List PunctAt). In z ps) same hz);
       }

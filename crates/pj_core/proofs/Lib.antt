@@ -1,7 +1,6 @@
 pub mod Form
 pub mod Entering
 pub mod Moves
-pub mod Tickets
 pub mod Entries
 pub mod Alone
 pub mod Shapes

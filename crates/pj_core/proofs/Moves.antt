@@ -1,8 +1,9 @@
 -- What each event does to two streams and a join.
-use Rattle.std.proofs.Common.{ℕ, ◌+◌, Bool, true, false, cond, List, [], ◌∷◌, ◌++◌, ◌≡◌, map, length, get_or, eqb, Option, Some, None, refl, ap, ◌∙◌, arith}
+use Rattle.std.proofs.Common.{ℕ, ◌+◌, Bool, true, false, cond, List, [], ◌∷◌, ◌++◌, ◌≡◌, map, length, get_or, eqb, Option, Some, None, refl, ap, ◌∙◌, arith, append-nil}
 use Rattle.pj_shape.specs.declared.columns.Column.{Column}
 use Rattle.pj_pattern.specs.declared.element.Element.{Element}
 use Rattle.pj_pattern.specs.declared.element.Element.TheVariants.{Tuple, Punct}
+use Rattle.pj_laws.specs.declared.events.Entry.{Entry}
 use Rattle.pj_laws.specs.declared.events.Event.{Event}
 use Rattle.pj_laws.specs.declared.events.Event.TheVariants.{Arrive, Take as Taken, Give as Given, Drain, Look, Stopped, Idle}
 use Rattle.pj_laws.specs.declared.events.Stop.{Stop}
@@ -10,8 +11,12 @@ use Rattle.pj_laws.specs.declared.events.Out.{Out}
 use Rattle.pj_laws.specs.declared.events.Out.TheVariants.{Tuple as RowOut}
 use Rattle.pj_laws.specs.Join.{TupleAt, JoinData, JoinState, Take, Give, joined, results, step}
 use Rattle.pj_laws.specs.Plan.{Node, join_step, batches}
-use Rattle.pj_laws.specs.History.{gained, out_of, step_of}
-use Rattle.pj_laws.specs.Outcomes.{Beyond, Below, Level, beyond_of, climb, origin_of, way_up}
+use Rattle.pj_laws.specs.History.{gained, nodes_by, nodes_from, out_of, step_of}
+use Rattle.pj_laws.specs.Limits.{StaysWithin}
+use Rattle.pj_laws.specs.Kept.{lacking}
+use Rattle.pj_laws.specs.OneThread.{first_of, next_probe, plain, probes, probes_at}
+use Rattle.pj_laws.proofs.Histories.{nodes-append}
+use Rattle.pj_laws.specs.Outcomes.{arrivals_at, Beyond, Below, Level, beyond_of, climb, origin_of, way_up}
 use Rattle.pj_core.proofs.Form.{zeroth, oneth, two, nodes-first, nodes-second, nodes-taken, nodes-given, nodes-pass}
 use Rattle.pj_core.proofs.Entering.{Move}
 
@@ -114,3 +119,46 @@ pub beyond-second : (a b : List Column) (d : JoinData) (order : Bool) (x y : Lis
     → first_beyond limit reached (Arrive 1 e) (two a b order d x y s) ≡ cond (eqb (reached 2) limit) (Some 2) None
 beyond-second a b d false x y s e limit reached = pick (eqb (reached 2) limit) _
 beyond-second a b d true x y s e limit reached = pick (eqb (reached 2) limit) _
+
+-- nothing goes up from the join
+pub beyond-taken : (a b : List Column) (d : JoinData) (order : Bool) (x y : List Element) (s : JoinState) (u limit : ℕ) (reached : ℕ → ℕ) → first_beyond limit reached (Taken 2 u) (two a b order d x y s) ≡ None
+beyond-taken a b d false x y s u limit reached = refl
+beyond-taken a b d true x y s u limit reached = refl
+
+pub beyond-given : (a b : List Column) (d : JoinData) (order : Bool) (x y : List Element) (s : JoinState) (u limit : ℕ) (reached : ℕ → ℕ) → first_beyond limit reached (Given 2 u) (two a b order d x y s) ≡ None
+beyond-given a b d false x y s u limit reached = refl
+beyond-given a b d true x y s u limit reached = refl
+
+pub beyond-drain : (a b : List Column) (d : JoinData) (order : Bool) (x y : List Element) (s : JoinState) (limit : ℕ) (reached : ℕ → ℕ) → first_beyond limit reached Drain (two a b order d x y s) ≡ None
+beyond-drain a b d false x y s limit reached = refl
+beyond-drain a b d true x y s limit reached = refl
+
+-- probes at the join and a drain bring nothing beyond the limit
+pub probes-within : (a b : List Column) (d : JoinData) (order : Bool) (x y : List Element) (limit : ℕ) (plan : List Node) (us : List ℕ) (history : List Entry) (s : JoinState)
+    → nodes_from plan history ≡ two a b order d x y s → StaysWithin limit plan history (probes_at 2 us ++ plain Drain ∷ [])
+probes-within a b d order x y limit plan [] history s e =
+    let reached : ℕ → ℕ = λ n. length (arrivals_at plan history n) in
+    (ap (first_beyond limit reached Drain) e ∙ beyond-drain a b d order x y s limit reached, tt)
+probes-within a b d order x y limit plan (u ∷ us) history s e =
+    let h : List Entry = history ++ plain (Taken 2 u) ∷ [] in
+    let t = step d s (Take u) in
+    let taken : nodes_from plan h ≡ two a b order d x y t =
+    nodes-append plan history (plain (Taken 2 u) ∷ []) ∙ ap (λ (ns : List Node). nodes_by ns (Taken 2 u)) e ∙ nodes-taken a b order d x y s u in
+    let given : nodes_from plan (h ++ plain (Given 2 u) ∷ []) ≡ two a b order d x y (step d t (Give u)) =
+    nodes-append plan h (plain (Given 2 u) ∷ []) ∙ ap (λ (ns : List Node). nodes_by ns (Given 2 u)) taken ∙ nodes-given a b order d x y t u in (
+      ap (first_beyond limit (λ n. length (arrivals_at plan history n)) (Taken 2 u)) e ∙ beyond-taken a b d order x y s u limit (λ n. length (arrivals_at plan history n)),
+      (
+        ap (first_beyond limit (λ n. length (arrivals_at plan h n)) (Given 2 u)) taken ∙ beyond-given a b d order x y t u limit (λ n. length (arrivals_at plan h n)),
+        probes-within a b d order x y limit plan us (h ++ plain (Given 2 u) ∷ []) (step d t (Give u)) given,
+      ),
+    )
+
+-- ---- probes
+
+pub next-two : (a b : List Column) (order : Bool) (d : JoinData) (x y : List Element) (s : JoinState) → next_probe (two a b order d x y s) ≡ first_of 2 (lacking s.taken s.tuples) None
+next-two a b false d x y s = refl
+next-two a b true d x y s = refl
+
+pub probes-two : (a b : List Column) (order : Bool) (d : JoinData) (x y : List Element) (s : JoinState) → probes (two a b order d x y s) ≡ probes_at 2 (lacking s.taken s.tuples)
+probes-two a b false d x y s = append-nil (probes_at 2 (lacking s.taken s.tuples))
+probes-two a b true d x y s = append-nil (probes_at 2 (lacking s.taken s.tuples))

@@ -10,6 +10,7 @@ use Rattle.pj_laws.specs.Join.{JoinData, Step, Take, Give, In, has, joined, resu
 use Rattle.std.proofs.lemmas.Bool.{false≢true}
 use Rattle.pj_laws.specs.Kept.{kept_of, kept_step, without}
 use Rattle.pj_laws.specs.Outcomes.{results_of}
+use Rattle.pj_laws.specs.Limits.{StaysWithin}
 use Rattle.pj_laws.specs.OneThread.{first_of, next_probe, plain, probes, probes_at}
 use Rattle.pj_join.specs.declared.found.Found.{Found}
 use Rattle.pj_join.specs.Joins.{IsTaken, after, unswept}
@@ -18,6 +19,7 @@ use Rattle.pj_core.specs.Known.{AreKnown}
 use Rattle.pj_core.specs.Cores.{StandsFor, nodes_in, nodes_after}
 use Rattle.pj_core.specs.Calls.{FindsNone, HasGiven, IsOpen, TakesNext, Takes}
 use Rattle.pj_core.specs.Parts.{IsMadeOf, TakesAny, TakesOf, core_of, given, part_in, pending_kept}
+use Rattle.pj_core.specs.Turns.{finish_behind}
 use Rattle.pj_core.proofs.Form.{IsWide, named}
 use Rattle.pj_core.proofs.Entering.{core_two, nodes_two}
 use Rattle.pj_core.proofs.Entries as two
@@ -64,6 +66,7 @@ module _ (k : AreKnown) (history : List Entry) (l : ℕ) (c : List ℕ) (u : Lis
         → j.join.kept.pending ≡ t ∷ without j.join.kept.pending t
     pub stays : (t : ℕ) → results_of (nodes_in (core_of streams l (Some j) c u None)) (history ++ plain (Taken 2 t) ∷ []) 2 t ≡ results_of (nodes_in (core_of streams l (Some j) c u None)) history 2 t
     pub all : probes (nodes_after (core_of streams l (Some j) c u None) history) ≡ probes_at 2 j.join.kept.pending
+    pub within : StaysWithin l (nodes_in (core_of streams l (Some j) c u None)) history (finish_behind (core_of streams l (Some j) c u None) history)
     pub steps : (steps : List Step) × AreLegalSteps j.join.spec start steps × (j.join.kept ≡ kept_of (run j.join.spec start steps))
         × ((t : ℕ) → results_of (nodes_in (core_of streams l (Some j) c u None)) history 2 t ≡ map joined (results j.join.spec (run j.join.spec start steps).tuples (run j.join.spec start steps).tuples t))
 
@@ -88,6 +91,7 @@ module _ (k : AreKnown) (history : List Entry) (l : ℕ) (c : List ℕ) (u : Lis
         first = λ t h least. two.first-of-pending sa sb (small j) order q w l (part j) c u history S adds grows same s t h least;
         stays = λ t. two.results-stay sa sb (small j) order q w l (part j) c u history S adds grows same s t;
         all = two.all-probes sa sb (small j) order q w l (part j) c u history S adds grows same s;
+        within = two.probes-stay-within sa sb (small j) order q w l (part j) c u history S adds grows same s;
         steps = subst (λ (d : JoinData). (steps : List Step) × AreLegalSteps d start steps × (j.join.kept ≡ kept_of (run d start steps))
             × ((t : ℕ) → results_of (nodes_two sa sb (small j)) history 2 t ≡ map joined (results d (run d start steps).tuples (run d start steps).tuples t)))
             (sym un) st;
@@ -121,9 +125,6 @@ finds-none k streams l (Some j) c u made p = record {
   stays = refl;
   notes = record { plan = refl; limit = refl; stands = λ history S. (probes-of k history l c u streams j made S).idle p };
 }
-
-streams-two : (streams : List SmallStream) (j : Joined) (l : ℕ) → IsMadeOf streams l (Some j) → length streams ≡ 2
-streams-two streams j l made = made.0.0
 
 pub takes-next : (k : AreKnown) (streams : List SmallStream) (l : ℕ) (j : Joined) (new : Option Joined) (c : List ℕ) (u : List Out) (found : Found) → IsMadeOf streams l (Some j)
     → TakesOf j new found → TakesNext (core_of streams l (Some j) c u None) (core_of streams l new c u None) found

@@ -2,10 +2,11 @@
 use Rattle.std.proofs.Common.{ℕ, zero, suc, pos, true, length, ◌<◌, ◌≡◌, List, [], ◌∷◌, Option, Some, None, refl, sym, ap, inl, inr, arith, subst}
 use Rattle.pj_value.specs.declared.values.Kind.TheVariants.{Int as IntKind}
 use Rattle.pj_value.specs.declared.values.Value.TheVariants.{Int}
-use Rattle.pj_laws.specs.Plan.{row_fits}
+use Rattle.pj_shape.specs.Columns.{kinds_of}
+use Rattle.pj_pattern.specs.Fitting.{row_fits}
 use Rattle.pj_shape.specs.declared.joins.ClassCol.{ClassCol}
 use Rattle.pj_shape.specs.declared.plans.SmallPlan.{SmallPlan}
-use Rattle.pj_shape.specs.Lists.{In}
+use Rattle.pj_value.specs.Lists.{In}
 use Rattle.pj_shape.specs.Sound.{IsSoundSpec, IsSoundClass, IsOfKind}
 use Rattle.pj_laws.specs.declared.events.Stop.{Stop}
 use Rattle.pj_laws.specs.OneThread.{Turn}
@@ -67,14 +68,14 @@ refused-plan (Some s) old new turn stop r = ap (λ (c : CoreState). c.plan) r.st
 pub refused_plan : (old new : CoreState) (turn : Turn) (stop : Stop) → IsTurnRefused old.stop old new turn stop → new.plan ≡ old.plan
 refused_plan old new turn stop r = refused-plan old.stop old new turn stop r
 
-fits-at : (s : ℕ) → s < 2 → row_fits (columns_of sample.streams s) (Int (pos 0) ∷ []) ≡ true
+fits-at : (s : ℕ) → s < 2 → row_fits (kinds_of (columns_of sample.streams s)) (Int (pos 0) ∷ []) ≡ true
 fits-at zero lt = refl
 fits-at (suc zero) lt = refl
 fits-at (suc (suc n)) lt = absurd (omega arith)
 
 -- the row of the tests fits both streams
-pub fits_sample : (p : SmallPlan) (s : ℕ) → p ≡ sample → s < 2 → row_fits (columns_of p.streams s) (Int (pos 0) ∷ []) ≡ true
-fits_sample p s e lt = subst (λ (z : SmallPlan). row_fits (columns_of z.streams s) (Int (pos 0) ∷ []) ≡ true) (sym e) (fits-at s lt)
+pub fits_sample : (p : SmallPlan) (s : ℕ) → p ≡ sample → s < 2 → row_fits (kinds_of (columns_of p.streams s)) (Int (pos 0) ∷ []) ≡ true
+fits_sample p s e lt = subst (λ (z : SmallPlan). row_fits (kinds_of (columns_of z.streams s)) (Int (pos 0) ∷ []) ≡ true) (sym e) (fits-at s lt)
 
 pub there_sample : (p : SmallPlan) (s : ℕ) → p ≡ sample → s < 2 → s < length p.streams
 there_sample p s e lt = subst (λ (z : SmallPlan). s < length z.streams) (sym e) lt
@@ -84,8 +85,8 @@ there_sample p s e lt = subst (λ (z : SmallPlan). s < length z.streams) (sym e)
 pub lone_small : IsSmallPlan lone
 lone_small = refl
 
-pub fits_lone : (p : SmallPlan) → p ≡ lone → row_fits (columns_of p.streams 0) (Int (pos 7) ∷ []) ≡ true
-fits_lone p e = subst (λ (z : SmallPlan). row_fits (columns_of z.streams 0) (Int (pos 7) ∷ []) ≡ true) (sym e) refl
+pub fits_lone : (p : SmallPlan) → p ≡ lone → row_fits (kinds_of (columns_of p.streams 0)) (Int (pos 7) ∷ []) ≡ true
+fits_lone p e = subst (λ (z : SmallPlan). row_fits (kinds_of (columns_of z.streams 0)) (Int (pos 7) ∷ []) ≡ true) (sym e) refl
 
 pub there_lone : (p : SmallPlan) → p ≡ lone → 0 < length p.streams
 there_lone p e = subst (λ (z : SmallPlan). 0 < length z.streams) (sym e) (omega arith)

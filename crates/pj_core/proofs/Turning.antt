@@ -1,51 +1,56 @@
 -- Probes one after the other, and whole turns.
-use Rattle.std.proofs.Common.{ℕ, zero, suc, ◌+◌, false, List, [], ◌∷◌, ◌++◌, ◌≡◌, map, get_or, length, Option, Some, None, refl, sym, ap, ap₂, ◌∙◌, subst, append_assoc, arith}
+use Rattle.std.proofs.Common.{ℕ, false, List, [], ◌∷◌, ◌++◌, ◌≡◌, length, Option, Some, None, sym, ap, ap₂, ◌∙◌, subst, append_assoc, arith}
 use Rattle.std.proofs.lemmas.List.{append-nil}
 use Rattle.pj_shape.specs.declared.plans.SmallPlan.{SmallPlan}
 use Rattle.pj_shape.specs.declared.plans.SmallStream.{SmallStream}
 use Rattle.pj_laws.specs.declared.events.Entry.{Entry}
-use Rattle.pj_laws.specs.declared.events.Event.{Event}
-use Rattle.pj_laws.specs.declared.events.Event.TheVariants.{Arrive, Take as Taken, Give as Given, Sweep as Swept, Drain, Halt, Look, Stopped, Idle}
+use Rattle.pj_laws.specs.declared.events.Event.TheVariants.{Arrive, Take as Taken, Give as Given, Drain, Stopped}
 use Rattle.pj_laws.specs.declared.events.Out.{Out}
 use Rattle.pj_laws.specs.declared.events.Stop.{Stop}
-use Rattle.pj_laws.specs.declared.events.Stop.TheVariants.{NoMemory}
-use Rattle.pj_pattern.specs.declared.element.Element.{Element}
-use Rattle.pj_laws.specs.Plan.{Comes, Local, Node, Pass, batches, brought_from, handed_at, hands_all}
-use Rattle.pj_laws.specs.History.{Reached, next, reached_from, reached_of, begun, nodes_by, nodes_from, gained, out_of, root_of, undrained_after}
-use Rattle.pj_laws.specs.Outcomes.{outputs_of}
+use Rattle.pj_laws.specs.declared.events.Stop.TheVariants.{Limit, NoMemory}
+use Rattle.pj_laws.specs.Plan.{Node}
+use Rattle.pj_laws.specs.History.{Reached, reached_of, begun, nodes_from}
+use Rattle.pj_laws.specs.Limits.{StaysWithin, StopsAt}
+use Rattle.pj_laws.specs.Outcomes.{goes_beyond, outputs_of}
+use Rattle.pj_laws.proofs.Limits.{within-front}
+use Rattle.pj_laws.proofs.Drains.{AreNoDrains, front-no-drains, kept-outs, probes-append, probes-no-drains, push-no-drains}
+use Rattle.pj_laws.proofs.Nodes.{drain-silent, stopped-silent}
+use Rattle.pj_laws.proofs.Histories.{nodes-append, outputs-append, reached-append, reached-nodes}
 use Rattle.pj_laws.specs.OneThread.{Turn, arrival_of, plain, probes, probes_at}
 use Rattle.pj_laws.specs.CoreKept.{nodes_of}
 use Rattle.pj_join.specs.declared.found.Found.{Found}
 use Rattle.pj_core.specs.declared.joined.Joined.{Joined}
 use Rattle.pj_core.specs.Known.{AreKnown}
 use Rattle.pj_core.specs.Cores.{CoreState, Notes, StandsFor, nodes_after, nodes_in, pending_list}
-use Rattle.pj_core.specs.Calls.{FindsNone, HasArrived, HasGiven, IsCause, IsRefused, IsTurnRefused, StopsInTurn, StopsNow, TakesNext, TakesTurn, turn_behind}
+use Rattle.pj_core.specs.Calls.{FindsNone, HasArrived, HasGiven, IsCause, IsRefused, IsTurnRefused, StopsInTurn, StopsNow, TakesNext, MakesTurn, turn_behind}
 use Rattle.pj_core.specs.Parts.{IsMadeOf, core_of}
 use Rattle.pj_core.specs.Turns.{Finishes, StopsFinishing, finish_behind, ListsProbes, ProbesAll, ProbesOne, SoFar, StopsProbing}
 use Rattle.pj_core.proofs.Alone as alone
 use Rattle.pj_core.proofs.Alone.{nodes_one}
 use Rattle.pj_core.proofs.Probing.{probes-of}
 
--- ---- lists of probes
-
-probes-more : (ts us : List ℕ) → probes_at 2 (ts ++ us) ≡ probes_at 2 ts ++ probes_at 2 us
-probes-more [] us = refl
-probes-more (t ∷ ts) us = ap (λ (es : List Entry). plain (Taken 2 t) ∷ plain (Given 2 t) ∷ es) (probes-more ts us)
-
 behind : (xs ys zs : List Entry) → (xs ++ ys) ++ zs ≡ xs ++ (ys ++ zs)
 behind xs ys zs = append_assoc xs ys zs
 
 -- ---- what is listed
 
+-- the probes that a core lists, while nothing stopped
+record Listed (core : CoreState) (history : List Entry) : Type 0 where
+  all : probes (nodes_after core history) ≡ probes_at 2 (pending_list core.joined)
+  within : StaysWithin core.limit (nodes_in core) history (finish_behind core history)
+
 listed : (k : AreKnown) (streams : List SmallStream) (l : ℕ) (joined : Option Joined) (c : List ℕ) (u : List Out) → IsMadeOf streams l joined → (history : List Entry)
-    → StandsFor (core_of streams l joined c u None) history → probes (nodes_after (core_of streams l joined c u None) history) ≡ probes_at 2 (pending_list (core_of streams l joined c u None).joined)
+    → StandsFor (core_of streams l joined c u None) history → Listed (core_of streams l joined c u None) history
 listed k [] l None c u made history S = absurd (let z = made.0 in omega (arith, z))
-listed k (sa ∷ []) l None c u made history S = alone.none-probed sa l c u history S (k.adds (nodes_one sa) history) (k.grows (nodes_one sa)) ((k.trace (nodes_one sa) history).nodes false)
+listed k (sa ∷ []) l None c u made history S = record {
+  all = alone.none-probed sa l c u history S (k.adds (nodes_one sa) history) (k.grows (nodes_one sa)) ((k.trace (nodes_one sa) history).nodes false);
+  within = alone.probes-stay-within sa l c u history S (k.adds (nodes_one sa) history) (k.grows (nodes_one sa)) ((k.trace (nodes_one sa) history).nodes false);
+}
 listed k (sa ∷ sb ∷ rest) l None c u made history S = absurd (let z = made.0 in omega (arith, z))
-listed k streams l (Some j) c u made history S = (probes-of k history l c u streams j made S).all
+listed k streams l (Some j) c u made history S = let p = probes-of k history l c u streams j made S in record { all = p.all; within = p.within }
 
 listed-on : (k : AreKnown) (streams : List SmallStream) (l : ℕ) (joined : Option Joined) (c : List ℕ) (u : List Out) (t : Option Stop) → IsMadeOf streams l joined → t ≡ None → (history : List Entry)
-    → StandsFor (core_of streams l joined c u t) history → probes (nodes_after (core_of streams l joined c u t) history) ≡ probes_at 2 (pending_list (core_of streams l joined c u t).joined)
+    → StandsFor (core_of streams l joined c u t) history → Listed (core_of streams l joined c u t) history
 listed-on k streams l joined c u None made e history S = listed k streams l joined c u made history S
 listed-on k streams l joined c u (Some s) made e history S = cc
 
@@ -53,7 +58,8 @@ pub lists-probes : (k : AreKnown) (streams : List SmallStream) (l : ℕ) (joined
     → core_of streams l joined c u t ≡ core → IsMadeOf streams l joined → ListsProbes core
 lists-probes k streams l joined c u t core v made =
     subst ListsProbes v (record {
-      all = λ e history S. listed-on k streams l joined c u t made e history S;
+      all = λ e history S. (listed-on k streams l joined c u t made e history S).all;
+      within = λ e history S. (listed-on k streams l joined c u t made e history S).within;
     })
 
 -- ---- one probe
@@ -81,23 +87,6 @@ refused-now : (t : Option Stop) (old new : CoreState) (stop : Stop) (cause : Typ
 refused-now None old new stop cause e r = r
 refused-now (Some s) old new stop cause e r = cc
 
--- memory was wanting before the probe was taken
-pub stops-before : (old new : CoreState) (stop : Stop) → old.stop ≡ None → IsRefused old.stop old new stop (stop ≡ NoMemory) → StopsProbing old new stop
-stops-before old new stop e r =
-    let s = refused-now old.stop old new stop (stop ≡ NoMemory) e r in
-    record {
-      plan = s.0.notes.plan;
-      limit = s.0.notes.limit;
-      stopped = s.0.stopped;
-      memory = s.1;
-      stops = λ history S. record {
-        front = [];
-        back = probes_at 2 (pending_list old.joined);
-        parts = refl;
-        stands = subst (λ (h : List Entry). StandsFor new (h ++ plain (Stopped stop) ∷ [])) (sym (append-nil history)) (s.0.notes.stands history S);
-      };
-    }
-
 -- memory was wanting before it was given
 pub stops-between : (old mid new : CoreState) (probe : Found) (stop : Stop) → TakesNext old mid probe → StopsNow mid new stop → stop ≡ NoMemory → StopsProbing old new stop
 stops-between old mid new probe stop t s m = record {
@@ -114,18 +103,7 @@ stops-between old mid new probe stop t s m = record {
   };
 }
 
-pub given-now : (old new : CoreState) (stop : Stop) → old.stop ≡ None → IsRefused old.stop old new stop (stop ≡ NoMemory) → StopsNow old new stop × (stop ≡ NoMemory)
-given-now old new stop e r = refused-now old.stop old new stop (stop ≡ NoMemory) e r
-
 -- ---- all probes
-
-pub so-far-none : (core : CoreState) → core.stop ≡ None → SoFar core core
-so-far-none core e = record {
-  plan = refl;
-  limit = refl;
-  on = e;
-  goes = λ history S. record { tickets = []; parts = refl; stands = subst (StandsFor core) (sym (append-nil history)) S };
-}
 
 pub so-far-more : (old now new : CoreState) → SoFar old now → ProbesOne now new → SoFar old new
 so-far-more old now new f p = record {
@@ -138,7 +116,7 @@ so-far-more old now new f p = record {
       record {
         tickets = g.tickets ++ q.ticket ∷ [];
         parts = g.parts ∙ ap (λ (ts : List ℕ). g.tickets ++ ts) q.first ∙ sym (append_assoc g.tickets (q.ticket ∷ []) (pending_list new.joined));
-        stands = subst (StandsFor new) (behind history (probes_at 2 g.tickets) (probes_at 2 (q.ticket ∷ [])) ∙ ap (λ (es : List Entry). history ++ es) (sym (probes-more g.tickets (q.ticket ∷ [])))) q.stands;
+        stands = subst (StandsFor new) (behind history (probes_at 2 g.tickets) (probes_at 2 (q.ticket ∷ [])) ∙ ap (λ (es : List Entry). history ++ es) (sym (probes-append 2 g.tickets (q.ticket ∷ [])))) q.stands;
       };
 }
 
@@ -166,94 +144,12 @@ stops-later old now new stop f s = record {
       record {
         front = probes_at 2 g.tickets ++ a.front;
         back = a.back;
-        parts = ap (probes_at 2) g.parts ∙ probes-more g.tickets (pending_list now.joined) ∙ ap (λ (es : List Entry). probes_at 2 g.tickets ++ es) a.parts ∙ sym (behind (probes_at 2 g.tickets) a.front a.back);
+        parts = ap (probes_at 2) g.parts ∙ probes-append 2 g.tickets (pending_list now.joined) ∙ ap (λ (es : List Entry). probes_at 2 g.tickets ++ es) a.parts ∙ sym (behind (probes_at 2 g.tickets) a.front a.back);
         stands = subst (λ (es : List Entry). StandsFor new (es ++ plain (Stopped stop) ∷ [])) (behind history (probes_at 2 g.tickets) a.front) a.stands;
       };
 }
 
 -- ---- what is handed out on the way
-
-get-empty : (done : List (List Element)) → ((m : ℕ) → get_or done m [] ≡ []) → (m : ℕ) → get_or (done ++ [] ∷ []) m [] ≡ []
-get-empty [] f zero = refl
-get-empty [] f (suc m) = refl
-get-empty (x ∷ done) f zero = f 0
-get-empty (x ∷ done) f (suc m) = get-empty done (λ n. f (suc n)) m
-
-brought-none : (k : ℕ) (ms : List ℕ) (done : List (List Element)) → ((m : ℕ) → get_or done m [] ≡ []) → brought_from k ms done ≡ []
-brought-none k [] done f = refl
-brought-none k (m ∷ ms) done f = ap₂ (λ (xs ys : List Local). xs ++ ys) (ap (map (Comes k)) (f m)) (brought-none (k + 1) ms done f)
-
-pass-none : (done : List (List Element)) (nodes : List Node) → ((m : ℕ) → get_or done m [] ≡ []) → (m : ℕ) → get_or (batches Pass done nodes) m [] ≡ []
-pass-none done [] f m = f m
-pass-none done (node ∷ nodes) f m =
-    let here : handed_at Pass done node ≡ [] = ap (hands_all node.operator) (brought-none 0 node.inputs done f) in
-    subst (λ (es : List Element). get_or (batches Pass (done ++ es ∷ []) nodes) m [] ≡ []) (sym here) (pass-none (done ++ [] ∷ []) nodes (get-empty done f) m)
-
-nothing-empty : (m : ℕ) → get_or {A = List Element} [] m [] ≡ []
-nothing-empty zero = refl
-nothing-empty (suc m) = refl
-
-drain-quiet : (nodes : List Node) → gained false nodes Drain ≡ []
-drain-quiet nodes = ap (map out_of) (pass-none [] nodes nothing-empty (root_of nodes))
-
-stopped-quiet : (nodes : List Node) (s : Stop) → gained false nodes (Stopped s) ≡ []
-stopped-quiet nodes s = ap (map out_of) (pass-none [] nodes nothing-empty (root_of nodes))
-
-abbrev IsNoDrain : Event → Type 0
-IsNoDrain Drain = ⊥
-IsNoDrain _ = Unit {0}
-
-abbrev AreNoDrains : List Entry → Type 0
-AreNoDrains [] = Unit {0}
-AreNoDrains (entry ∷ entries) = IsNoDrain entry.event × AreNoDrains entries
-
-probes-no-drains : (ts : List ℕ) → AreNoDrains (probes_at 2 ts)
-probes-no-drains [] = tt
-probes-no-drains (t ∷ ts) = (tt, (tt, probes-no-drains ts))
-
-front-no-drains : (front back : List Entry) → AreNoDrains (front ++ back) → AreNoDrains front
-front-no-drains [] back n = tt
-front-no-drains (entry ∷ front) back n = (n.0, front-no-drains front back n.1)
-
-push-no-drains : (front : List Entry) (entry : Entry) → AreNoDrains front → IsNoDrain entry.event → AreNoDrains (front ++ entry ∷ [])
-push-no-drains [] entry n e = (e, tt)
-push-no-drains (f ∷ front) entry n e = (n.0, push-no-drains front entry n.1 e)
-
-one-kept : (r : Reached) (event : Event) → IsNoDrain event → undrained_after false r event ≡ r.undrained ++ gained false r.nodes event
-one-kept r (Arrive s e) n = refl
-one-kept r (Taken j t) n = refl
-one-kept r (Given j t) n = refl
-one-kept r (Swept j i) n = refl
-one-kept r Drain n = absurd n
-one-kept r Halt n = refl
-one-kept r (Look k) n = refl
-one-kept r (Stopped s) n = refl
-one-kept r Idle n = refl
-
-kept-outs : (r : Reached) (es : List Entry) → AreNoDrains es → (reached_from false r es).undrained ≡ r.undrained ++ outputs_of false r.nodes es
-kept-outs r [] n = sym (append-nil r.undrained)
-kept-outs r (e ∷ es) n =
-    kept-outs (next false r e) es n.1
-    ∙ ap (λ (outs : List Out). outs ++ outputs_of false (nodes_by r.nodes e.event) es) (one-kept r e.event n.0)
-    ∙ append_assoc r.undrained (gained false r.nodes e.event) (outputs_of false (nodes_by r.nodes e.event) es)
-
-reached-append : (r : Reached) (h es : List Entry) → reached_from false r (h ++ es) ≡ reached_from false (reached_from false r h) es
-reached-append r [] es = refl
-reached-append r (e ∷ h) es = reached-append (next false r e) h es
-
-reached-nodes : (r : Reached) (h : List Entry) → (reached_from false r h).nodes ≡ nodes_from r.nodes h
-reached-nodes r [] = refl
-reached-nodes r (e ∷ h) = reached-nodes (next false r e) h
-
-nodes-append : (nodes : List Node) (h es : List Entry) → nodes_from nodes (h ++ es) ≡ nodes_from (nodes_from nodes h) es
-nodes-append nodes [] es = refl
-nodes-append nodes (e ∷ h) es = nodes-append (nodes_by nodes e.event) h es
-
-outputs-append : (nodes : List Node) (h es : List Entry) → outputs_of false nodes (h ++ es) ≡ outputs_of false nodes h ++ outputs_of false (nodes_from nodes h) es
-outputs-append nodes [] es = refl
-outputs-append nodes (e ∷ h) es =
-    ap (λ (outs : List Out). gained false nodes e.event ++ outs) (outputs-append (nodes_by nodes e.event) h es)
-    ∙ sym (append_assoc (gained false nodes e.event) (outputs_of false (nodes_by nodes e.event) h) (outputs_of false (nodes_from (nodes_by nodes e.event) h) es))
 
 -- the outputs behind entries without drains
 grown : (a b : CoreState) (h es : List Entry) → b.plan ≡ a.plan → StandsFor a h → StandsFor b (h ++ es) → AreNoDrains es
@@ -261,9 +157,9 @@ grown : (a b : CoreState) (h es : List Entry) → b.plan ≡ a.plan → StandsFo
 grown a b h es p S T n =
     T.stands.1
     ∙ ap (λ (plan : SmallPlan). (reached_of false (nodes_of plan) (h ++ es)).undrained) p
-    ∙ ap (λ (r : Reached). r.undrained) (reached-append (begun (nodes_in a)) h es)
-    ∙ kept-outs (reached_of false (nodes_in a) h) es n
-    ∙ ap₂ (λ (outs : List Out) (nodes : List Node). outs ++ outputs_of false nodes es) (sym S.stands.1) (reached-nodes (begun (nodes_in a)) h)
+    ∙ ap (λ (r : Reached). r.undrained) (reached-append false (begun (nodes_in a)) h es)
+    ∙ kept-outs false (reached_of false (nodes_in a) h) es n
+    ∙ ap₂ (λ (outs : List Out) (nodes : List Node). outs ++ outputs_of false nodes es) (sym S.stands.1) (reached-nodes false (begun (nodes_in a)) h)
 
 -- ---- the end of a turn
 
@@ -274,17 +170,18 @@ finishes old mid new outs ls on p o e n = record {
   limit = n.limit ∙ p.limit;
   on = ap (λ (c : CoreState). c.stop) e ∙ p.on;
   undrained = ap (λ (c : CoreState). c.undrained) e;
+  within = ls.within on;
   stands = λ history S.
       subst (StandsFor new)
       (behind history (probes_at 2 (pending_list old.joined)) (plain Drain ∷ []) ∙ ap (λ (es : List Entry). history ++ (es ++ plain Drain ∷ [])) (sym (ls.all on history S)))
       (n.stands (history ++ probes_at 2 (pending_list old.joined)) (p.stands history S));
   hands = λ history S.
       let ps = probes_at 2 (pending_list old.joined) in
-      o ∙ grown old mid history ps p.plan S (p.stands history S) (probes-no-drains (pending_list old.joined))
+      o ∙ grown old mid history ps p.plan S (p.stands history S) (probes-no-drains 2 (pending_list old.joined))
       ∙ ap (λ (outs : List Out). old.undrained ++ outs)
       (sym (append-nil (outputs_of false (nodes_after old history) ps))
-      ∙ ap (λ (outs : List Out). outputs_of false (nodes_after old history) ps ++ outs) (sym (ap (λ (outs : List Out). outs ++ []) (drain-quiet (nodes_from (nodes_after old history) ps))))
-      ∙ sym (outputs-append (nodes_after old history) ps (plain Drain ∷ []))
+      ∙ ap (λ (outs : List Out). outputs_of false (nodes_after old history) ps ++ outs) (sym (ap (λ (outs : List Out). outs ++ []) (drain-silent false (nodes_from (nodes_after old history) ps))))
+      ∙ sym (outputs-append false (nodes_after old history) ps (plain Drain ∷ []))
       ∙ ap (λ (es : List Entry). outputs_of false (nodes_after old history) (es ++ plain Drain ∷ [])) (sym (ls.all on history S)));
 }
 
@@ -297,18 +194,21 @@ stops-finishing old new stop ls on s = record {
   stops = λ history S.
       let a = s.stops history S in
       let nodes = nodes_after old history in
-      let quiet = front-no-drains a.front a.back (subst AreNoDrains a.parts (probes-no-drains (pending_list old.joined))) in
+      let parts : finish_behind old history ≡ a.front ++ (a.back ++ plain Drain ∷ []) =
+      ap (λ (es : List Entry). es ++ plain Drain ∷ []) (ls.all on history S ∙ a.parts) ∙ behind a.front a.back (plain Drain ∷ []) in
+      let quiet = front-no-drains a.front a.back (subst AreNoDrains a.parts (probes-no-drains 2 (pending_list old.joined))) in
       record {
         front = a.front;
         back = a.back ++ plain Drain ∷ [];
-        parts = ap (λ (es : List Entry). es ++ plain Drain ∷ []) (ls.all on history S ∙ a.parts) ∙ behind a.front a.back (plain Drain ∷ []);
+        parts = parts;
+        within = within-front old.limit (nodes_in old) history a.front (a.back ++ plain Drain ∷ []) (subst (StaysWithin old.limit (nodes_in old) history) parts (ls.within on history S));
         stands = a.stands;
         undrained =
             grown old new history (a.front ++ plain (Stopped stop) ∷ []) s.plan S (subst (StandsFor new) (behind history a.front (plain (Stopped stop) ∷ [])) a.stands)
             (push-no-drains a.front (plain (Stopped stop)) quiet tt)
             ∙ ap (λ (outs : List Out). old.undrained ++ outs)
-            (outputs-append nodes a.front (plain (Stopped stop) ∷ [])
-            ∙ ap (λ (outs : List Out). outputs_of false nodes a.front ++ (outs ++ [])) (stopped-quiet (nodes_from nodes a.front) stop)
+            (outputs-append false nodes a.front (plain (Stopped stop) ∷ [])
+            ∙ ap (λ (outs : List Out). outputs_of false nodes a.front ++ (outs ++ [])) (stopped-silent (nodes_from nodes a.front) stop)
             ∙ append-nil (outputs_of false nodes a.front));
       };
 }
@@ -325,6 +225,15 @@ nodes-behind : (old a : CoreState) (history : List Entry) (turn : Turn) → a.pl
 nodes-behind old a history turn p =
     ap (λ (plan : SmallPlan). nodes_from (nodes_of plan) (history ++ arrival_of turn ∷ [])) p ∙ nodes-append (nodes_in old) history (arrival_of turn ∷ [])
 
+-- an arrival and more entries stay within the limit
+both-within : (old a : CoreState) (history es : List Entry) (turn : Turn) → HasArrived old a (arrival_of turn) → StandsFor old history
+    → StaysWithin a.limit (nodes_in a) (history ++ arrival_of turn ∷ []) es → StaysWithin old.limit (nodes_in old) history (arrival_of turn ∷ es)
+both-within old a history es turn h S w = (
+  h.within history S,
+  subst (λ (n : ℕ). StaysWithin n (nodes_in old) (history ++ arrival_of turn ∷ []) es) h.notes.limit
+      (subst (λ (plan : SmallPlan). StaysWithin a.limit (nodes_of plan) (history ++ arrival_of turn ∷ []) es) h.notes.plan w),
+)
+
 -- what an arrival and more entries hand out
 both-outs : (old a : CoreState) (history es : List Entry) (turn : Turn) → a.plan ≡ old.plan → StandsFor old history → StandsFor a (history ++ arrival_of turn ∷ [])
     → a.undrained ++ outputs_of false (nodes_after a (history ++ arrival_of turn ∷ [])) es ≡ old.undrained ++ outputs_of false (nodes_after old history) (arrival_of turn ∷ es)
@@ -332,15 +241,17 @@ both-outs old a history es turn p S A =
     ap₂ (λ (outs : List Out) (ns : List Node). outs ++ outputs_of false ns es)
     (grown old a history (arrival_of turn ∷ []) p S A (tt, tt)) (nodes-behind old a history turn p)
     ∙ append_assoc old.undrained (outputs_of false (nodes_after old history) (arrival_of turn ∷ [])) (outputs_of false (nodes_from (nodes_after old history) (arrival_of turn ∷ [])) es)
-    ∙ ap (λ (outs : List Out). old.undrained ++ outs) (sym (outputs-append (nodes_after old history) (arrival_of turn ∷ []) es))
+    ∙ ap (λ (outs : List Out). old.undrained ++ outs) (sym (outputs-append false (nodes_after old history) (arrival_of turn ∷ []) es))
 
-pub takes-turn : (old a new : CoreState) (turn : Turn) (outs : List Out) → HasArrived old a (arrival_of turn) → Finishes a new outs → TakesTurn old new turn outs
-takes-turn old a new turn outs h f = record {
+pub makes-turn : (old a new : CoreState) (turn : Turn) (outs : List Out) → HasArrived old a (arrival_of turn) → Finishes a new outs → MakesTurn old new turn outs
+makes-turn old a new turn outs h f = record {
   on = (h.on.0, f.on);
   plan = f.plan ∙ h.notes.plan;
   limit = f.limit ∙ h.notes.limit;
   undrained = f.undrained;
-  within = h.within;
+  within = λ history S m.
+      subst (StaysWithin old.limit (nodes_in old) history) (sym (turn-is old a history turn h.notes.plan))
+      (both-within old a history (finish_behind a (history ++ arrival_of turn ∷ [])) turn h S (f.within (history ++ arrival_of turn ∷ []) (h.notes.stands history S m)));
   stands = λ history S m.
       let A = h.notes.stands history S m in
       subst (StandsFor new)
@@ -366,6 +277,8 @@ stops-in-turn old a new turn stop h f = record {
         front = arrival_of turn ∷ s.front;
         back = s.back;
         parts = turn-is old a history turn h.notes.plan ∙ ap (λ (es : List Entry). arrival_of turn ∷ es) s.parts;
+        within = both-within old a history s.front turn h S s.within;
+        stops = subst (StopsAt old.limit (nodes_in old) (history ++ arrival_of turn ∷ s.front) s.back) (sym f.memory) tt;
         stands = subst (λ (es : List Entry). StandsFor new (es ++ plain (Stopped stop) ∷ [])) (behind history (arrival_of turn ∷ []) s.front) s.stands;
         undrained = s.undrained ∙ both-outs old a history s.front turn h.notes.plan S A;
       };
@@ -374,18 +287,8 @@ stops-in-turn old a new turn stop h f = record {
 pub turn-stopped : (old a new : CoreState) (turn : Turn) (stop : Stop) → HasArrived old a (arrival_of turn) → StopsFinishing a new stop → IsTurnRefused old.stop old new turn stop
 turn-stopped old a new turn stop h f = subst (λ (t : Option Stop). IsTurnRefused t old new turn stop) (sym h.on.0) (stops-in-turn old a new turn stop h f)
 
-pub turn-refused : (t : Option Stop) (old new : CoreState) (turn : Turn) (stop : Stop) → IsRefused t old new stop (IsCause old (Arrive turn.stream turn.element) stop) → IsTurnRefused t old new turn stop
-turn-refused None old new turn stop r = record {
-  plan = r.0.notes.plan;
-  limit = r.0.notes.limit;
-  stopped = r.0.stopped;
-  cause = r.1;
-  takes = λ history S m. record {
-    front = [];
-    back = turn_behind old history turn;
-    parts = refl;
-    stands = subst (λ (es : List Entry). StandsFor new (es ++ plain (Stopped stop) ∷ [])) (sym (append-nil history)) (r.0.notes.stands history S);
-    undrained = r.0.undrained ∙ sym (append-nil old.undrained);
-  };
-}
-turn-refused (Some s) old new turn stop r = r
+-- a limit stops the arrival
+stops-first : (old : CoreState) (history : List Entry) (turn : Turn) (stop : Stop) → IsCause old (Arrive turn.stream turn.element) stop → StandsFor old history
+    → StopsAt old.limit (nodes_in old) (history ++ []) (turn_behind old history turn) stop
+stops-first old history turn (Limit node) c S = ap (λ (h : List Entry). goes_beyond old.limit (nodes_in old) h (Arrive turn.stream turn.element)) (append-nil history) ∙ c history S
+stops-first old history turn NoMemory c S = tt

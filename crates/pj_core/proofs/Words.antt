@@ -6,7 +6,8 @@ use Rattle.pj_pattern.specs.declared.element.Element.{Element}
 use Rattle.pj_pattern.specs.declared.element.Element.TheVariants.{Punct}
 use Rattle.pj_laws.specs.Patterns.{all_wild}
 use Rattle.pj_laws.specs.CoreKept.{columns_of}
-use Rattle.pj_core.proofs.Fitting.{fits-any, wild-fits}
+use Rattle.pj_laws.proofs.OneThreadAnswer.{wilds-fit}
+use Rattle.pj_core.proofs.Fitting.{fits-any}
 use Rattle.pj_laws.specs.declared.events.Event.TheVariants.{Arrive, Drain}
 use Rattle.pj_laws.specs.declared.events.Look.{Look as TheLook}
 use Rattle.pj_laws.specs.declared.events.Out.{Out}
@@ -71,7 +72,7 @@ module _ (k : AreKnown) (streams : List SmallStream) (l : ℕ) (joined : Option 
   pub closing-fits : (ss : List SmallStream) → ss ≡ streams → (stream : ℕ) → stream < length streams → FitsAny joined stream (wilds ss stream)
   closing-fits ss e stream lt =
       subst (λ (z : List SmallStream). FitsAny joined stream (wilds z stream)) (sym e)
-      (fits-any streams l joined made stream lt (wilds streams stream) (wild-fits (columns_of streams stream)))
+      (fits-any streams l joined made stream lt (wilds streams stream) (wilds-fit (columns_of streams stream)))
 
   pub closing-cause : t ≡ None → (stream : ℕ) → stream < length streams → (stop : Stop) → IsStopOf joined stop → IsCause old (Arrive stream (wilds old.plan.streams stream)) stop
   closing-cause n stream lt stop s =

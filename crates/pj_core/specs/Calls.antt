@@ -17,6 +17,7 @@ use Rattle.pj_laws.specs.Kept.{lacking}
 use Rattle.pj_laws.specs.Plan.{Node}
 use Rattle.pj_laws.specs.History.{pending_in, reached_of, state_in}
 use Rattle.pj_laws.specs.Outcomes.{goes_beyond, outputs_of, peak_of, results_of}
+use Rattle.pj_laws.specs.Limits.{StaysWithin, StopsAt}
 use Rattle.pj_laws.specs.OneThread.{Turn, arrival_of, next_probe, plain, turn_entries}
 use Rattle.pj_join.specs.declared.found.Found.{Found}
 use Rattle.pj_join.specs.Joins.{IsTaken}
@@ -35,8 +36,8 @@ pub record IsFresh (core : CoreState) (plan : SmallPlan) (limit : ℕ) : Type 0 
 -- ---- stops
 
 -- the event brings no element beyond the limit
-abbrev pub StaysWithin : CoreState → Event → Type 0
-StaysWithin core event = (history : List Entry) → StandsFor core history → goes_beyond core.limit (nodes_in core) history event ≡ None
+abbrev pub HasRoomFor : CoreState → Event → Type 0
+HasRoomFor core event = (history : List Entry) → StandsFor core history → goes_beyond core.limit (nodes_in core) history event ≡ None
 
 -- a limit stops the event that brings one element beyond it, at that node; memory may be wanting at any time
 abbrev pub IsCause : CoreState → Event → Stop → Type 0
@@ -67,7 +68,7 @@ IsRefused (Some before) old new stop cause = StaysStopped old new before stop
 pub record HasArrived (old new : CoreState) (entry : Entry) : Type 0 where
   pub on : (old.stop ≡ None) × (new.stop ≡ None)
   pub notes : NotesAllowed old new entry
-  pub within : StaysWithin old entry.event
+  pub within : HasRoomFor old entry.event
 
 -- ---- probes
 
@@ -181,23 +182,30 @@ closing_of core stream = record { stream = stream; element = Punct (all_wild (le
 abbrev pub turn_behind : CoreState → List Entry → Turn → List Entry
 turn_behind core history turn = turn_entries false (nodes_after core history) turn
 
--- the whole turn was taken, and all that was not drained is handed out with what the turn gained
-pub record TakesTurn (old new : CoreState) (turn : Turn) (outs : List Out) : Type 0 where
+-- none of the turn's entries brings an element beyond the limit
+abbrev pub TurnStaysWithin : CoreState → List Entry → Turn → Type 0
+TurnStaysWithin core history turn = StaysWithin core.limit (nodes_in core) history (turn_behind core history turn)
+
+-- the whole turn was made within the limit, and all that was not drained is handed out with what the turn gained
+pub record MakesTurn (old new : CoreState) (turn : Turn) (outs : List Out) : Type 0 where
   pub on : (old.stop ≡ None) × (new.stop ≡ None)
   pub plan : new.plan ≡ old.plan
   pub limit : new.limit ≡ old.limit
   pub undrained : new.undrained ≡ []
-  pub within : StaysWithin old (Arrive turn.stream turn.element)
+  pub within : (history : List Entry) → StandsFor old history → MayFollow old history (arrival_of turn) → TurnStaysWithin old history turn
   pub stands : (history : List Entry) → StandsFor old history → MayFollow old history (arrival_of turn)
       → StandsFor new (history ++ turn_behind old history turn)
   pub hands : (history : List Entry) → StandsFor old history → MayFollow old history (arrival_of turn)
       → outs ≡ old.undrained ++ outputs_of false (nodes_after old history) (turn_behind old history turn)
 
--- a front of the turn was taken before the core stopped, and what it gained is not drained
-pub record TakesFront (old new : CoreState) (history : List Entry) (turn : Turn) (stop : Stop) : Type 0 where
+-- a front of the turn was made within the limit before the core stopped, and what it gained is not drained;
+-- where a limit stopped it, the first entry behind the front goes beyond
+pub record MakesFront (old new : CoreState) (history : List Entry) (turn : Turn) (stop : Stop) : Type 0 where
   pub front : List Entry
   pub back : List Entry
   pub parts : turn_behind old history turn ≡ front ++ back
+  pub within : StaysWithin old.limit (nodes_in old) history front
+  pub stops : StopsAt old.limit (nodes_in old) (history ++ front) back stop
   pub stands : StandsFor new (history ++ front ++ plain (Stopped stop) ∷ [])
   pub undrained : new.undrained ≡ old.undrained ++ outputs_of false (nodes_after old history) front
 
@@ -206,7 +214,7 @@ pub record StopsInTurn (old new : CoreState) (turn : Turn) (stop : Stop) : Type 
   pub limit : new.limit ≡ old.limit
   pub stopped : new.stop ≡ Some stop
   pub cause : IsCause old (Arrive turn.stream turn.element) stop
-  pub takes : (history : List Entry) → StandsFor old history → MayFollow old history (arrival_of turn) → TakesFront old new history turn stop
+  pub takes : (history : List Entry) → StandsFor old history → MayFollow old history (arrival_of turn) → MakesFront old new history turn stop
 
 -- the answer is the stop that was answered before; where there was none the core stops in the turn
 abbrev pub IsTurnRefused : Option Stop → CoreState → CoreState → Turn → Stop → Type 0

@@ -6,12 +6,18 @@ use Rattle.pj_laws.specs.declared.events.Stop.{Stop}
 use Rattle.pj_laws.specs.declared.events.Stop.TheVariants.{NoMemory}
 use Rattle.pj_laws.specs.declared.events.Out.{Out}
 use Rattle.pj_laws.specs.Outcomes.{outputs_of}
+use Rattle.pj_laws.specs.Limits.{StaysWithin}
 use Rattle.pj_laws.specs.OneThread.{plain, probes, probes_at}
-use Rattle.pj_core.specs.Cores.{CoreState, StandsFor, nodes_after, pending_list}
+use Rattle.pj_core.specs.Cores.{CoreState, StandsFor, nodes_after, nodes_in, pending_list}
 
--- the probes of the pending tickets are all that the history asks for
+-- all probes that the history asks for, and a drain
+abbrev pub finish_behind : CoreState → List Entry → List Entry
+finish_behind core history = probes (nodes_after core history) ++ plain Drain ∷ []
+
+-- the probes of the pending tickets are all that the history asks for, and bring nothing beyond the limit
 pub record ListsProbes (core : CoreState) : Type 0 where
   pub all : core.stop ≡ None → (history : List Entry) → StandsFor core history → probes (nodes_after core history) ≡ probes_at 2 (pending_list core.joined)
+  pub within : core.stop ≡ None → (history : List Entry) → StandsFor core history → StaysWithin core.limit (nodes_in core) history (finish_behind core history)
 
 -- the first pending ticket was taken and given
 pub record ProbesFirst (old new : CoreState) (history : List Entry) : Type 0 where
@@ -51,7 +57,7 @@ pub record SoFar (old now : CoreState) : Type 0 where
   pub goes : (history : List Entry) → StandsFor old history → GoesTo old now history
 
 -- memory was wanting among the probes
-pub record StopsAt (old new : CoreState) (history : List Entry) (stop : Stop) : Type 0 where
+pub record StopsAmong (old new : CoreState) (history : List Entry) (stop : Stop) : Type 0 where
   pub front : List Entry
   pub back : List Entry
   pub parts : probes_at 2 (pending_list old.joined) ≡ front ++ back
@@ -62,11 +68,7 @@ pub record StopsProbing (old new : CoreState) (stop : Stop) : Type 0 where
   pub limit : new.limit ≡ old.limit
   pub stopped : new.stop ≡ Some stop
   pub memory : stop ≡ NoMemory
-  pub stops : (history : List Entry) → StandsFor old history → StopsAt old new history stop
-
--- all probes that the history asks for, and a drain
-abbrev pub finish_behind : CoreState → List Entry → List Entry
-finish_behind core history = probes (nodes_after core history) ++ plain Drain ∷ []
+  pub stops : (history : List Entry) → StandsFor old history → StopsAmong old new history stop
 
 -- every pending ticket was taken and given, and all is handed out
 pub record Finishes (old new : CoreState) (outs : List Out) : Type 0 where
@@ -74,6 +76,7 @@ pub record Finishes (old new : CoreState) (outs : List Out) : Type 0 where
   pub limit : new.limit ≡ old.limit
   pub on : new.stop ≡ None
   pub undrained : new.undrained ≡ []
+  pub within : (history : List Entry) → StandsFor old history → StaysWithin old.limit (nodes_in old) history (finish_behind old history)
   pub stands : (history : List Entry) → StandsFor old history → StandsFor new (history ++ finish_behind old history)
   pub hands : (history : List Entry) → StandsFor old history → outs ≡ old.undrained ++ outputs_of false (nodes_after old history) (finish_behind old history)
 
@@ -82,6 +85,7 @@ pub record FinishesFront (old new : CoreState) (history : List Entry) (stop : St
   pub front : List Entry
   pub back : List Entry
   pub parts : finish_behind old history ≡ front ++ back
+  pub within : StaysWithin old.limit (nodes_in old) history front
   pub stands : StandsFor new (history ++ front ++ plain (Stopped stop) ∷ [])
   pub undrained : new.undrained ≡ old.undrained ++ outputs_of false (nodes_after old history) front
 

@@ -4,7 +4,8 @@ ghost use Rattle.pj_pattern.specs.declared.element.Element.TheVariants.{Punct as
 ghost use Rattle.pj_laws.specs.declared.events.Event.TheVariants.{Arrive as Arrives, Drain as Drains};
 ghost use Rattle.pj_laws.specs.Patterns.{all_wild};
 ghost use Rattle.pj_laws.specs.Join.{has};
-ghost use Rattle.pj_laws.specs.Plan.{FitsSchema};
+ghost use Rattle.pj_pattern.specs.Fitting.{FitsKinds};
+ghost use Rattle.pj_shape.specs.Columns.{kinds_of};
 ghost use Rattle.pj_laws.specs.OneThread.{arrival_of, plain};
 ghost use Rattle.pj_laws.specs.CoreKept.{IsSmallPlan, columns_of};
 ghost use Rattle.pj_core.specs.Cores.{Notes};
@@ -81,7 +82,7 @@ impl Core {
     /// where memory could not be had. After a stop the core answers the same stop and changes nothing.
     pub fn arrive(&mut self, stream: u32, element: Element) -> Result<(), Stop>
         requires there { stream < length self.old.plan.streams }
-        requires fits { FitsSchema (columns_of self.old.plan.streams stream) element }
+        requires fits { FitsKinds (kinds_of (columns_of self.old.plan.streams stream)) element }
         ensures ok { OnOk result (HasArrived self.old self.new (arrival_of (arriving_of stream element))) }
         ensures err { IfErr result (λ stop. IsRefused self.old.stop self.old self.new stop (IsCause self.old (Arrives stream element) stop)) }
     {

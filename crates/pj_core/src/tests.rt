@@ -97,18 +97,33 @@ fn bring(alloc: Global, core: &mut Core, stream: u32, row: Row) -> Result<List<O
     core.turn(alloc, stream, Element::Tuple(row))
 }
 
+// How many outputs a turn gave; where a limit stopped it, less than 0 by the number of the node.
+fn count_of(given: Result<List<Out>, Stop>) -> i64 {
+    match given {
+        Ok(outs) => outs.len() as i64,
+        Err(Stop::Limit { node }) => -i64::from(node),
+        Err(Stop::NoMemory) => -100,
+    }
+}
+
+// The counts of five turns, by the two streams in turn.
+fn counts_of(alloc: Global, core: &mut Core) -> Result<Vec<i64>, NoMemory>
+    requires { core.old.plan ≡ sample }
+{
+    let mut counts = Vec::new(alloc);
+    for turn in 0..5 {
+        let row = row(alloc, 0)?;
+        let given = bring(alloc, core, turn % 2, row);
+        counts.push(count_of(given))?;
+    }
+    Ok(counts)
+}
+
 #[test]
 fn the_limit_stops_the_fourth_arrival(rt: HostRuntime) -> Result<(), Fail> {
     let alloc = rt.alloc();
     let mut core = core_of(alloc, 3)?;
-    let mut counts = Vec::new(alloc);
-    for turn in 0..5 {
-        match bring(alloc, &mut core, turn % 2, row(alloc, 0)?) {
-            Ok(outs) => counts.push(outs.len() as i64)?,
-            Err(Stop::Limit { node }) => counts.push(-i64::from(node))?,
-            Err(Stop::NoMemory) => counts.push(-100)?,
-        }
-    }
+    let counts = counts_of(alloc, &mut core)?;
     assert_eq!(rt; counts.as_slice(), [0, 1, 1, -2, -2].as_slice());
     assert_eq!(rt; core.look().stop, Some(Stop::Limit { node: 2 }));
     Ok(())
@@ -128,22 +143,6 @@ fn lone_core(alloc: Global) -> Result<Core, NoMemory>
     Core::new(alloc, plan, 1)
 }
 
-#[tactic(auto, using(crate::proofs::Samples::fits_lone, crate::proofs::Samples::there_lone))]
-fn hand_in(core: &mut Core, row: Row) -> Result<(), Stop>
-    requires plan { core.old.plan ≡ lone }
-    requires row { row ≡ Value.Int (pos 7) ∷ [] }
-    ensures { OnOk result (core.new.plan ≡ lone) }
-{
-    core.arrive(0, Element::Tuple(row))
-}
-
-#[tactic(auto, using(crate::proofs::Samples::there_lone))]
-fn close(alloc: Global, core: &mut Core) -> Result<List<Out>, Stop>
-    requires { core.old.plan ≡ lone }
-{
-    core.closing_turn(alloc, 0)
-}
-
 // The number of a row, and -1 for a punctuation.
 fn number_of(out: &Out) -> i64 {
     match out {
@@ -157,23 +156,45 @@ fn number_of(out: &Out) -> i64 {
     }
 }
 
-fn numbers_of(alloc: Global, outs: &List<Out>) -> Result<Vec<i64>, NoMemory> {
-    let mut all = Vec::new(alloc);
-    for out in outs.as_slice() {
-        all.push(number_of(out))?;
+fn first_of(outs: &List<Out>) -> i64 {
+    match outs.as_slice().first() {
+        Some(out) => number_of(out),
+        None => -5,
     }
-    Ok(all)
+}
+
+// What is handed out first where a number arrives.
+#[tactic(auto, using(crate::proofs::Samples::fits_lone, crate::proofs::Samples::there_lone))]
+fn first_handed(core: &mut Core, row: Row) -> i64
+    requires plan { core.old.plan ≡ lone }
+    requires row { row ≡ Value.Int (pos 7) ∷ [] }
+    ensures { core.new.plan ≡ lone }
+{
+    match core.arrive(0, Element::Tuple(row)) {
+        Ok(()) => first_of(&core.drain()),
+        Err(_) => -6,
+    }
+}
+
+// What is handed out first where the stream is closed.
+#[tactic(auto, using(crate::proofs::Samples::there_lone))]
+fn first_closed(alloc: Global, core: &mut Core) -> i64
+    requires { core.old.plan ≡ lone }
+{
+    match core.closing_turn(alloc, 0) {
+        Ok(outs) => first_of(&outs),
+        Err(_) => -6,
+    }
 }
 
 #[test]
 fn a_lone_stream_hands_out_its_elements(rt: HostRuntime) -> Result<(), Fail> {
     let alloc = rt.alloc();
+    let row = row(alloc, 7)?;
     let mut core = lone_core(alloc)?;
-    hand_in(&mut core, row(alloc, 7)?)?;
-    let outs = core.drain();
-    assert_eq!(rt; numbers_of(alloc, &outs)?.as_slice(), [7].as_slice());
-    let outs = close(alloc, &mut core)?;
-    assert_eq!(rt; numbers_of(alloc, &outs)?.as_slice(), [-1].as_slice());
+    let handed = first_handed(&mut core, row);
+    let closed = first_closed(alloc, &mut core);
+    assert_eq!(rt; [handed, closed], [7, -1]);
     assert_eq!(rt; core.look().ended, 1);
     Ok(())
 }

@@ -1,8 +1,9 @@
 // Whole turns of a run on one thread.
 ghost use Rattle.std.specs.Prelude.{◌≡◌, ◌<◌, None, length, IfErr, IfOk, OnOk};
-ghost use Rattle.pj_laws.specs.Plan.{FitsSchema};
+ghost use Rattle.pj_pattern.specs.Fitting.{FitsKinds};
+ghost use Rattle.pj_shape.specs.Columns.{kinds_of};
 ghost use Rattle.pj_laws.specs.CoreKept.{columns_of};
-ghost use Rattle.pj_core.specs.Calls.{HasGiven, IsOpen, IsTurnRefused, StopsNow, TakesTurn, arriving_of, closing_of};
+ghost use Rattle.pj_core.specs.Calls.{HasGiven, IsOpen, IsTurnRefused, StopsNow, MakesTurn, arriving_of, closing_of};
 ghost use Rattle.pj_core.specs.Turns.{Finishes, MayProbe, ProbesAll, StopsFinishing, StopsProbing};
 
 use crate::Core;
@@ -19,8 +20,8 @@ impl Core {
     /// The stops are those of an arrival. Where the core stops in the turn, what it gained before stays to be drained.
     pub fn turn(&mut self, alloc: Global, stream: u32, element: Element) -> Result<List<Out>, Stop>
         requires there { stream < length self.old.plan.streams }
-        requires fits { FitsSchema (columns_of self.old.plan.streams stream) element }
-        ensures ok { IfOk result (λ outs. TakesTurn self.old self.new (arriving_of stream element) outs) }
+        requires fits { FitsKinds (kinds_of (columns_of self.old.plan.streams stream)) element }
+        ensures ok { IfOk result (λ outs. MakesTurn self.old self.new (arriving_of stream element) outs) }
         ensures err { IfErr result (λ stop. IsTurnRefused self.old.stop self.old self.new (arriving_of stream element) stop) }
     {
         match self.arrive(stream, element) {
@@ -35,7 +36,7 @@ impl Core {
     /// The turn that closes a stream, in the same way.
     pub fn closing_turn(&mut self, alloc: Global, stream: u32) -> Result<List<Out>, Stop>
         requires there { stream < length self.old.plan.streams }
-        ensures ok { IfOk result (λ outs. TakesTurn self.old self.new (closing_of self.old stream) outs) }
+        ensures ok { IfOk result (λ outs. MakesTurn self.old self.new (closing_of self.old stream) outs) }
         ensures err { IfErr result (λ stop. IsTurnRefused self.old.stop self.old self.new (closing_of self.old stream) stop) }
     {
         match self.close_stream(stream) {
