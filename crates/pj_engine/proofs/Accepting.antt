@@ -1,10 +1,9 @@
--- The accepted elements of the streams of a plan, and their turns.
+-- The accepted elements of the streams of a plan.
 use Rattle.std.proofs.Common.{◌≡◌, ℕ, zero, suc, ◌+◌, ◌<◌, List, [], ◌∷◌, ◌++◌, length, map, get_or, Option, Some, None, refl, ap, sym, ◌∙◌, subst, arith, zero-add}
 use Rattle.pj_shape.specs.declared.columns.Column.{Column}
 use Rattle.pj_shape.specs.declared.plans.SmallPlan.{SmallPlan}
 use Rattle.pj_shape.specs.declared.plans.SmallStream.{SmallStream}
 use Rattle.pj_shape.specs.declared.plans.SmallJoin.{SmallJoin}
-use Rattle.pj_element.specs.Accepted.{taken_of, fates_of}
 use Rattle.pj_laws.specs.Plan.{Node, operator_at}
 use Rattle.pj_laws.specs.History.{streams_from, streams_of}
 use Rattle.pj_laws.specs.OneThread.{schema_of}
@@ -44,7 +43,7 @@ schema-is plan k d lt =
 
 -- ---- their accepted elements
 
-pub count-accepted : (streams : List SmallStream) (files : List (List ℕ)) → length (accepted_of streams files) ≡ length streams
+count-accepted : (streams : List SmallStream) (files : List (List ℕ)) → length (accepted_of streams files) ≡ length streams
 count-accepted [] files = refl
 count-accepted (s ∷ streams) [] = ap suc (count-accepted streams [])
 count-accepted (s ∷ streams) (bytes ∷ files) = ap suc (count-accepted streams files)
@@ -52,7 +51,7 @@ count-accepted (s ∷ streams) (bytes ∷ files) = ap suc (count-accepted stream
 none-accepted : (ks : List Column) → AreAccepted ks []
 none-accepted ks = (λ e h. absurd h, tt)
 
-pub accepted-from : (k : ℕ) (streams : List SmallStream) (files : List (List ℕ)) → k < length streams → AreAccepted (columns_of streams k) (get_or (accepted_of streams files) k [])
+accepted-from : (k : ℕ) (streams : List SmallStream) (files : List (List ℕ)) → k < length streams → AreAccepted (columns_of streams k) (get_or (accepted_of streams files) k [])
 accepted-from k [] files lt = absurd (omega arith)
 accepted-from zero (s ∷ streams) [] lt = none-accepted s.schema
 accepted-from zero (s ∷ streams) (bytes ∷ files) lt = accepted_file s.schema bytes
@@ -66,15 +65,3 @@ accepted_lists plan files = (
   λ k lt. let there : k < length plan.streams = omega (arith, lt, count-streams plan) in
       subst (λ (ks : List Column). AreAccepted ks (get_or (accepted_of plan.streams files) k [])) (sym (schema-is plan k (length (nodes_of plan)) there)) (accepted-from k plan.streams files there),
 )
-
-pub accepted-at : (k : ℕ) (streams : List SmallStream) (files : List (List ℕ)) (s : SmallStream) (bytes : List ℕ) → k < length streams → k < length files
-    → get_or (accepted_of streams files) k [] ≡ taken_of (fates_of (get_or streams k s).schema (get_or files k bytes))
-accepted-at k [] files s bytes lt lt' = absurd (omega arith)
-accepted-at k (x ∷ streams) [] s bytes lt lt' = absurd (omega arith)
-accepted-at zero (x ∷ streams) (f ∷ files) s bytes lt lt' = refl
-accepted-at (suc k) (x ∷ streams) (f ∷ files) s bytes lt lt' = accepted-at k streams files s bytes (omega arith) (omega arith)
-
-pub columns-at : (k : ℕ) (streams : List SmallStream) (s : SmallStream) → k < length streams → columns_of streams k ≡ (get_or streams k s).schema
-columns-at k [] s lt = absurd (omega arith)
-columns-at zero (x ∷ streams) s lt = refl
-columns-at (suc k) (x ∷ streams) s lt = columns-at k streams s (omega arith)

@@ -1,11 +1,11 @@
 -- Lists of feeds: what one of them shows of all, and what a turn of one leaves.
 use Rattle.std.proofs.Common.{◌≡◌, ℕ, zero, suc, ◌+◌, ◌<◌, Bool, true, false, List, [], ◌∷◌, ◌++◌, map, length, drop, get_or, set, refl, ap, ap₂, sym, ◌∙◌, subst, arith, Some, inl, inr, IsTrue, zero-add}
 use Rattle.std.specs.List.{slice_get}
+use Rattle.pj_value.specs.Lists.{In}
 use Rattle.pj_shape.specs.declared.columns.Column.{Column}
 use Rattle.pj_shape.specs.declared.plans.SmallStream.{SmallStream}
 use Rattle.pj_element.specs.declared.tally.Tally.{Tally}
 use Rattle.pj_element.specs.Accepted.{taken_of, fates_of, tally_of}
-use Rattle.pj_laws.specs.Join.{In}
 use Rattle.pj_laws.specs.CoreKept.{columns_of}
 use Rattle.pj_laws.specs.OneThread.{Turn}
 use Rattle.pj_laws.proofs.Rounds.{AreTagged}
@@ -21,7 +21,7 @@ use Rattle.pj_engine.proofs.FeedFacts.{nothing_left_of, whole_tally}
 pub record IsOneOf (streams : List SmallStream) (number : ℕ) (place : ℕ) (feed : FeedState) : Type 0 where
   pub there : place < length streams
   pub is_number : feed.stream ≡ number
-  pub schema : feed.columns ≡ columns_of streams place
+  pub schema : feed.intake.columns ≡ columns_of streams place
   pub fed : IsFed feed
 
 pub one_of : (k : ℕ) (streams : List SmallStream) (feeds : List FeedState) (place : ℕ) (feed : FeedState) → AreFeeds k streams feeds → slice_get feeds place ≡ Some feed → IsOneOf streams (k + place) place feed
@@ -37,17 +37,17 @@ one_of k (s ∷ ss) (f ∷ fs) (suc place) feed all is =
     let e : k + 1 + place ≡ k + suc place = omega arith in
     record { there = omega (arith, r.there); is_number = r.is_number ∙ e; schema = r.schema; fed = r.fed }
 
-pub told_at : (feeds : List FeedState) (place : ℕ) (feed : FeedState) → AllTold feeds → slice_get feeds place ≡ Some feed → IsTrue feed.told
+pub told_at : (feeds : List FeedState) (place : ℕ) (feed : FeedState) → AllTold feeds → slice_get feeds place ≡ Some feed → IsTrue feed.source.told
 told_at [] place feed all is = absurd (cc)
-told_at (f ∷ fs) zero feed all is = let same : f ≡ feed = cc is in subst (λ (g : FeedState). IsTrue g.told) same all.0
+told_at (f ∷ fs) zero feed all is = let same : f ≡ feed = cc is in subst (λ (g : FeedState). IsTrue g.source.told) same all.0
 told_at (f ∷ fs) (suc place) feed all is = told_at fs place feed all.1 is
 
-pub told_in : (feeds : List FeedState) (feed : FeedState) → AllTold feeds → In feed feeds → IsTrue feed.told
+told_in : (feeds : List FeedState) (feed : FeedState) → AllTold feeds → In feed feeds → IsTrue feed.source.told
 told_in [] feed all h = absurd h
-told_in (f ∷ fs) feed all (inl same) = subst (λ (g : FeedState). IsTrue g.told) same all.0
+told_in (f ∷ fs) feed all (inl same) = subst (λ (g : FeedState). IsTrue g.source.told) same all.0
 told_in (f ∷ fs) feed all (inr h) = told_in fs feed all.1 h
 
-pub fed_in : (k : ℕ) (streams : List SmallStream) (feeds : List FeedState) (feed : FeedState) → AreFeeds k streams feeds → In feed feeds → IsFed feed
+fed_in : (k : ℕ) (streams : List SmallStream) (feeds : List FeedState) (feed : FeedState) → AreFeeds k streams feeds → In feed feeds → IsFed feed
 fed_in k [] [] feed all h = absurd h
 fed_in k [] (f ∷ fs) feed all h = absurd all
 fed_in k (s ∷ ss) [] feed all h = absurd all
@@ -64,17 +64,16 @@ feeds_long k (s ∷ ss) (f ∷ fs) all = ap suc (feeds_long (k + 1) ss fs all.3)
 pub closed_done : (streams : List SmallStream) (k : ℕ) (some : List SmallStream) (feeds : List FeedState) → AreFeeds k some feeds → AllTold feeds → (f : FeedState) → In f feeds → f.is_open ≡ false → feed_left streams f ≡ []
 closed_done streams k some feeds all told f h closed =
     let fed = fed_in k some feeds f all h in
-    let end = fed.closed closed in
-    rw (nothing_left_of f fed end.0 end.1 (told_in feeds f told h)) (rw closed refl)
+    rw (nothing_left_of f fed (fed.closed closed) (told_in feeds f told h)) (rw closed refl)
 
 -- ---- a turn of one of them
 
-same_self : (feeds : List FeedState) → AreSameFeeds feeds feeds
-same_self [] = tt
-same_self (f ∷ fs) = (record { stream = refl; columns = refl; told = refl; name = refl; faults = omega arith; bytes = λ t. refl }, same_self fs)
+same_one : (feed : FeedState) → IsSameFeed feed feed
+same_one feed = record { stream = refl; columns = refl; told = refl; name = refl; faults = omega arith; bytes = λ t. refl }
 
 pub all_same : (feeds : List FeedState) → AreSameFeeds feeds feeds
-all_same feeds = same_self feeds
+all_same [] = tt
+all_same (f ∷ fs) = (same_one f, all_same fs)
 
 pub same_then : (f g h : FeedState) → IsSameFeed f g → IsSameFeed g h → IsSameFeed f h
 same_then f g h a b = record {
@@ -97,8 +96,8 @@ all_same_then (f ∷ fs) (g ∷ gs) (h ∷ hs) a b = (same_then f g h a.0 b.0, a
 -- the feed at a place is put in place of another one of the same stream
 pub same_set : (feeds : List FeedState) (place : ℕ) (feed feed' : FeedState) → slice_get feeds place ≡ Some feed → IsSameFeed feed feed' → AreSameFeeds feeds (set feeds place feed')
 same_set [] place feed feed' is same = absurd (cc)
-same_set (f ∷ fs) zero feed feed' is same = let e : feed ≡ f = cc is in (subst (λ (g : FeedState). IsSameFeed g feed') e same, same_self fs)
-same_set (f ∷ fs) (suc place) feed feed' is same = (record { stream = refl; columns = refl; told = refl; name = refl; faults = omega arith; bytes = λ t. refl }, same_set fs place feed feed' is same)
+same_set (f ∷ fs) zero feed feed' is same = let e : feed ≡ f = cc is in (subst (λ (g : FeedState). IsSameFeed g feed') e same, all_same fs)
+same_set (f ∷ fs) (suc place) feed feed' is same = (same_one f, same_set fs place feed feed' is same)
 
 pub feeds_set : (k : ℕ) (streams : List SmallStream) (feeds : List FeedState) (place : ℕ) (feed feed' : FeedState) → AreFeeds k streams feeds → slice_get feeds place ≡ Some feed → IsSameFeed feed feed' → IsFed feed'
     → AreFeeds k streams (set feeds place feed')
@@ -107,7 +106,7 @@ feeds_set k [] (f ∷ fs) place feed feed' all is same fed = absurd all
 feeds_set k (s ∷ ss) [] place feed feed' all is same fed = absurd all
 feeds_set k (s ∷ ss) (f ∷ fs) zero feed feed' all is same fed =
     let e : feed ≡ f = cc is in
-    (same.stream ∙ (ap (λ (g : FeedState). g.stream) e ∙ all.0), same.columns ∙ (ap (λ (g : FeedState). g.columns) e ∙ all.1), fed, all.3)
+    (same.stream ∙ (ap (λ (g : FeedState). g.stream) e ∙ all.0), same.columns ∙ (ap (λ (g : FeedState). g.intake.columns) e ∙ all.1), fed, all.3)
 feeds_set k (s ∷ ss) (f ∷ fs) (suc place) feed feed' all is same fed = (all.0, all.1, all.2, feeds_set (k + 1) ss fs place feed feed' all.3 is same fed)
 
 pub works_set : (feeds : List FeedState) (place : ℕ) (feed feed' : FeedState) → slice_get feeds place ≡ Some feed → work_of feed' < work_of feed → work_in (set feeds place feed') < work_in feeds
@@ -150,9 +149,8 @@ all_tallied k [] [] all closed told = refl
 all_tallied k [] (f ∷ fs) all closed told = absurd all
 all_tallied k (s ∷ ss) [] all closed told = absurd all
 all_tallied k (s ∷ ss) (f ∷ fs) all closed told =
-    let end = all.2.closed closed.0 in
     ap₂ (λ (t : Tally) (ts : List Tally). t ∷ ts)
-    (whole_tally f all.2 end.0 end.1 told.0 ∙ ap (λ (ks : List Column). tally_of (fates_of ks (bytes_of f))) all.1)
+    (whole_tally f all.2 (all.2.closed closed.0) told.0 ∙ ap (λ (ks : List Column). tally_of (fates_of ks (bytes_of f))) all.1)
     (all_tallied (k + 1) ss fs all.3 closed.1 told.1)
 
 -- ---- the beginning

@@ -1,22 +1,20 @@
 -- What has arrived at a stream behind some turns of the run on one thread.
-use Rattle.std.proofs.Common.{◌≡◌, ◌⊎◌, ℕ, zero, suc, ◌+◌, ◌<◌, Bool, true, false, cond, List, [], ◌∷◌, ◌++◌, map, length, take, drop, get_or, eqb, refl, ap, ap₂, sym, ◌∙◌, subst, append_assoc, append-nil, arith, inl, inr}
-use Rattle.std.proofs.lemmas.List.{append_cancel_right, length-append, take-append-drop, get_or_append_left}
+use Rattle.std.proofs.Common.{◌≡◌, ◌⊎◌, ℕ, zero, suc, ◌+◌, ◌-◌, ◌<◌, ◌≤◌, Bool, true, false, cond, List, [], ◌∷◌, ◌++◌, map, length, take, drop, get_or, eqb, refl, ap, ap₂, sym, ◌∙◌, subst, append_assoc, append-nil, arith, inl, inr}
+use Rattle.std.proofs.lemmas.Bool.{cases_lt}
+use Rattle.std.proofs.lemmas.List.{append_cancel_right, length-append, take-append-drop, get_or_append_left, get_or-append_right}
 use Rattle.std.proofs.lemmas.List.Elements.{filter-append}
 use Rattle.pj_pattern.specs.declared.element.Element.{Element}
 use Rattle.pj_laws.specs.declared.events.Entry.{Entry}
 use Rattle.pj_laws.specs.declared.events.Event.TheVariants.{Drain}
 use Rattle.pj_laws.specs.Plan.{Node}
 use Rattle.pj_laws.specs.History.{nodes_from}
-use Rattle.pj_laws.specs.Outcomes.{element_at, elements_of}
+use Rattle.pj_laws.specs.Outcomes.{elements_of}
 use Rattle.pj_laws.specs.OneThread.{Turn, heads, tails, in_rounds, arrival_of, probes_at, probes_from, probes, pending_at, follow_up, turn_entries, turns_entries, plain}
 use Rattle.pj_laws.proofs.Rounds.{mine, AreTagged, tails-tagged, length-tails, none-below, mine-heads, mine-in_rounds}
 use Rattle.pj_engine.specs.Feeds.{round_left}
+use Rattle.pj_laws.proofs.OneRun.{elements-append}
 
 -- ---- what turns bring to a stream
-
-elements-append : (s : ℕ) (xs ys : List Entry) → elements_of s (xs ++ ys) ≡ elements_of s xs ++ elements_of s ys
-elements-append s [] ys = refl
-elements-append s (x ∷ xs) ys = ap (λ (es : List Element). element_at s x.event ++ es) (elements-append s xs ys) ∙ sym (append_assoc (element_at s x.event) (elements_of s xs) (elements_of s ys))
 
 none-at : (s join : ℕ) (us : List ℕ) → elements_of s (probes_at join us) ≡ []
 none-at s join [] = refl
@@ -65,35 +63,25 @@ tagged-append : (k : ℕ) (xs ys : List (List Turn)) → AreTagged k xs → AreT
 tagged-append k [] ys a b = let e : k + 0 ≡ k = omega arith in subst (λ (n : ℕ). AreTagged n ys) e b
 tagged-append k (x ∷ xs) ys a b = let e : k + suc (length xs) ≡ k + 1 + length xs = omega arith in (a.0, tagged-append (k + 1) xs ys a.1 (subst (λ (n : ℕ). AreTagged n ys) e b))
 
-at-end : (k : ℕ) (xs ys : List (List Turn)) → get_or (xs ++ ys) (length xs + k) [] ≡ get_or ys k []
-at-end k [] ys = let e : 0 + k ≡ k = omega arith in ap (λ (n : ℕ). get_or ys n []) e
-at-end k (x ∷ xs) ys = let e : suc (length xs) + k ≡ suc (length xs + k) = omega arith in ap (λ (n : ℕ). get_or (x ∷ (xs ++ ys)) n []) e ∙ at-end k xs ys
-
 -- the turns of a stream among those left in rounds are the ones left of it
-pub mine-left : (had others : List (List Turn)) (s : ℕ) → AreTagged 0 had → AreTagged (length had) others → s < length had + length others
+mine-left : (had others : List (List Turn)) (s : ℕ) → AreTagged 0 had → AreTagged (length had) others → s < length had + length others
     → mine s (round_left had others) ≡ get_or (had ++ others) s []
 mine-left had others s a b lt =
     let here : length had ≡ 0 + length had = omega arith in
     let rest : mine s (in_rounds (had ++ tails others)) ≡ get_or (had ++ tails others) s [] =
     mine-in_rounds s (had ++ tails others) (tagged-append 0 had (tails others) a (subst (λ (n : ℕ). AreTagged n (tails others)) here (tails-tagged (length had) others b))) (omega (arith, lt, length-append had (tails others), length-tails others)) in
     filter-append (λ t. eqb t.stream s) (heads others) (in_rounds (had ++ tails others))
-    ∙ (ap (λ (ts : List Turn). mine s (heads others) ++ ts) rest ∙ go (lt_or s (length had)))
+    ∙ (ap (λ (ts : List Turn). mine s (heads others) ++ ts) rest ∙ go (cases_lt s (length had)))
   where
-    lt_or : (x y : ℕ) → (x < y) ⊎ ((i : ℕ) × (x ≡ y + i))
-    lt_or zero zero = inr (0, refl)
-    lt_or zero (suc y) = inl (omega arith)
-    lt_or (suc x) zero = inr (suc x, omega arith)
-    lt_or (suc x) (suc y) = elim (lt_or x y) [ inl h ↦ inl (omega (arith, h)) | inr h ↦ inr (h.0, omega (arith, h.1)) ]
-
-    go : (s < length had) ⊎ ((i : ℕ) × (s ≡ length had + i)) → mine s (heads others) ++ get_or (had ++ tails others) s [] ≡ get_or (had ++ others) s []
+    go : (s < length had) ⊎ (length had ≤ s) → mine s (heads others) ++ get_or (had ++ tails others) s [] ≡ get_or (had ++ others) s []
     go (inl below) =
         ap₂ (λ (xs ys : List Turn). xs ++ ys) (none-below (length had) s others b below) (get_or_append_left had (tails others) [] s below)
         ∙ sym (get_or_append_left had others [] s below)
     go (inr above) =
-        let i : ℕ = above.0 in
-        ap₂ (λ (xs ys : List Turn). xs ++ ys) (ap (λ (n : ℕ). mine n (heads others)) above.1) (ap (λ (n : ℕ). get_or (had ++ tails others) n []) above.1 ∙ at-end i had (tails others))
-        ∙ (mine-heads (length had) i others b (omega (arith, lt, above.1))
-        ∙ (sym (at-end i had others) ∙ ap (λ (n : ℕ). get_or (had ++ others) n []) (sym above.1)))
+        let i : ℕ = s - length had in
+        let at : s ≡ length had + i = omega (arith, above) in
+        ap₂ (λ (xs ys : List Turn). xs ++ ys) (ap (λ (n : ℕ). mine n (heads others)) at) (get_or-append_right had (tails others) (length had) s [] refl above)
+        ∙ (mine-heads (length had) i others b (omega (arith, lt, at)) ∙ sym (get_or-append_right had others (length had) s [] refl above))
 
 -- what turns bring to a stream, of which these are left
 pub brought-left : (had others : List (List Turn)) (s : ℕ) → AreTagged 0 had → AreTagged (length had) others → s < length had + length others

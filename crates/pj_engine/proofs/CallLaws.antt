@@ -1,32 +1,47 @@
 -- The words of a call, and what a run over the files that they name leaves of the call.
-use Rattle.std.proofs.Common.{◌≡◌, ◌≢◌, ◌≤◌, ◌<◌, ◌+◌, ◌-◌, ℕ, zero, suc, Bool, true, inl, inr, List, [], ◌∷◌, map, length, take, drop, Some, IsTrue, refl, ap, sym, ◌∙◌, subst, arith}
-use Rattle.std.specs.Prelude.{slice_index_or}
+use Rattle.std.proofs.Common.{◌≡◌, ◌≢◌, ◌≤◌, ◌<◌, ◌+◌, ◌-◌, ◌⊎◌, ℕ, zero, suc, Bool, true, false, inl, inr, List, [], ◌∷◌, map, length, take, drop, Result, Err, Some, IsTrue, refl, ap, ap₂, sym, ◌∙◌, subst, arith}
+use Rattle.std.specs.Prelude.{slice_index_or, ◌^◌}
 use Rattle.std.specs.String.{string_bytes}
 use Rattle.std.specs.declared.string.String.{String}
 use Rattle.std.specs.declared.alloc.Global.{Global}
 use Rattle.std.proofs.lemmas.Bool.{false≢true}
 use Rattle.std.proofs.lemmas.List.{take_all, length-map}
-use Rattle.pj_io.specs.Folders.{SameElsewhere}
+use Rattle.pj_value.specs.Lists.{In}
+use Rattle.pj_value.proofs.Members.{in-place}
+use Rattle.pj_io.specs.Causes.{Rose}
+use Rattle.pj_io.specs.Folders.{SameElsewhere, NoneFalls}
+use Rattle.pj_io.specs.States.{FolderState, SinkState}
 use Rattle.pj_shape.specs.declared.plans.SmallPlan.{SmallPlan}
 use Rattle.pj_shape.specs.declared.plans.SmallStream.{SmallStream}
-use Rattle.pj_engine.specs.declared.status.Status.{Status}
 use Rattle.pj_engine.specs.declared.status.Status.TheVariants.{Done, NotBuilt, ReadFault, WriteFault, NoMemory, Limit}
+use Rattle.pj_engine.specs.declared.status.LimitOf.TheVariants.{Node, File}
+use Rattle.pj_engine.specs.declared.stops.FilesStop.{FilesStop}
+use Rattle.pj_engine.specs.declared.stops.FilesStop.TheVariants.{Opening, Run}
+use Rattle.pj_engine.specs.declared.stops.OpeningStop.{OpeningStop}
+use Rattle.pj_engine.specs.declared.stops.OpeningStop.TheVariants.{Fault, NoMemory as OpeningMemory}
+use Rattle.pj_engine.specs.declared.stops.PlanStop.{PlanStop}
+use Rattle.pj_engine.specs.declared.stops.PlanStop.TheVariants.{NotBuilt as NoPlan, ReadFault as PlanFault, NoMemory as PlanMemory}
+use Rattle.pj_engine.specs.declared.stops.RunStop.TheVariants.{ReadFault as RunFault, TooLarge, Limit as RunLimit, WriteFailed, NoMemory as RunMemory}
+use Rattle.pj_engine.specs.Commands.{command_of, is_run, operands, operand, behind_first, plan_bytes, stream_files, files_named, AreTold, IsTold, HasToldPlan}
+use Rattle.pj_engine.specs.Ends.{AreDistinct, IsNoneOf, EndsBefore, EndsAtLimit, ArrivedOf}
+use Rattle.pj_engine.specs.Opened.{OpensFirst, OpensAtMost}
 use Rattle.pj_engine.specs.Plans.{plan_of}
 use Rattle.pj_engine.specs.Report.{status_line}
-use Rattle.pj_engine.specs.Runs.{run_lines}
-use Rattle.pj_engine.specs.Top.{is_run, operands, operand, are_told, behind_first, plan_contents, file_contents, IsBuilt, HasPlanFor, IsNoneOf, FaultLeaves, RunEnds, StoppedRun, stop_name}
-use Rattle.pj_engine.specs.Written.{Delivered, StopLeaves}
-use Rattle.pj_engine.proofs.FilesLaws.{rest_told}
-use Rattle.pj_engine.proofs.RunLaws.{stopped}
+use Rattle.pj_engine.specs.RunEnds.{FilesEnd, FilesCause, FilesOpened, IsFaultOf}
+use Rattle.pj_engine.specs.Runs.{run_lines, GoesBeyond}
+use Rattle.pj_engine.specs.Stops.{files_status, plan_status, IsOfFew}
+use Rattle.pj_engine.specs.Top.{AreReadToEnd, BeyondLimit, EarlyEnd, FaultLeaves, HasFault, IsBuilt, IsTooLarge, OpensInOrder, StopLeaves, stop_name, limit_name}
+use Rattle.pj_engine.specs.Written.{Delivered, Leaves, files_cut, flat, FrontOf}
+use Rattle.pj_engine.proofs.RunLaws.{same_after, earlier_rose}
 
 -- ---- the words
 
--- the names of the files
-abbrev pub file_names : List (String Global) → List (List ℕ)
-file_names words = map string_bytes (take (length words - 2) (drop 2 words))
+-- the names of the streams' files, as the call takes them from the words
+abbrev pub names_in : List (String Global) → List (List ℕ)
+names_in words = map string_bytes (take (length words - 2) (drop 2 words))
 
--- the operands are the plan's name and the files'
-pub operands_are : (words : List (String Global)) → is_run words ≡ true → operands words ≡ operand (operands words) 1 ∷ file_names words
+-- the operands are the plan's name and these
+pub operands_are : (words : List (String Global)) → is_run words ≡ true → operands words ≡ operand (operands words) 1 ∷ names_in words
 operands_are [] run = absurd (false≢true run)
 operands_are (x ∷ []) run = absurd (false≢true run)
 operands_are (x ∷ y ∷ []) run = absurd (false≢true run)
@@ -34,78 +49,328 @@ operands_are (x ∷ y ∷ z ∷ ws) run =
     let all : take (length (x ∷ y ∷ z ∷ ws) - 2) (z ∷ ws) ≡ z ∷ ws = take_all (length (x ∷ y ∷ z ∷ ws) - 2) (z ∷ ws) (omega arith) in
     ap (λ (rest : List (String Global)). string_bytes y ∷ map string_bytes rest) (sym all)
 
--- what is told of all operands is told of the files
-pub told_files : (tells tells' : List ℕ → Bool) (words : List (String Global)) → is_run words ≡ true → tells' ≡ tells → IsTrue (are_told tells (operands words)) → IsTrue (are_told tells' (file_names words))
-told_files tells tells' words run same told =
-    subst (λ (t : List ℕ → Bool). IsTrue (are_told t (file_names words))) (sym same)
-    (rest_told tells words (file_names words) (operand (operands words) 1) (operands_are words run) told)
+pub names_are : (words : List (String Global)) → is_run words ≡ true → behind_first (operands words) ≡ names_in words
+names_are words run = ap behind_first (operands_are words run)
 
--- the files' contents are those of the operands
-pub files_same : (contents contents' : List ℕ → List ℕ) (words : List (String Global)) → is_run words ≡ true → contents' ≡ contents → map contents' (file_names words) ≡ file_contents contents (operands words)
-files_same contents contents' words run same =
-    ap (λ (c : List ℕ → List ℕ). map c (file_names words)) same ∙ sym (ap (λ (ns : List (List ℕ)). file_contents contents ns) (operands_are words run))
+pub names_counted : (words : List (String Global)) (streams : List SmallStream) → is_run words ≡ true → length words ≡ 2 + length streams → length (names_in words) ≡ length streams
+names_counted [] streams run count = absurd (false≢true run)
+names_counted (x ∷ []) streams run count = absurd (false≢true run)
+names_counted (x ∷ y ∷ []) streams run count = absurd (false≢true run)
+names_counted (x ∷ y ∷ z ∷ ws) streams run count =
+    let all : take (length (x ∷ y ∷ z ∷ ws) - 2) (z ∷ ws) ≡ z ∷ ws = take_all (length (x ∷ y ∷ z ∷ ws) - 2) (z ∷ ws) (omega arith) in
+    let counted : length (z ∷ ws) ≡ length streams = omega (arith, count) in
+    length-map (take (length (x ∷ y ∷ z ∷ ws) - 2) (z ∷ ws)) string_bytes ∙ (ap length all ∙ counted)
 
--- there is an operand behind the first for each stream
-pub streams_counted : (words : List (String Global)) (streams : List SmallStream) → is_run words ≡ true → length words ≡ 2 + length streams → length streams ≡ length (behind_first (operands words))
-streams_counted [] streams run count = absurd (false≢true run)
-streams_counted (x ∷ []) streams run count = absurd (false≢true run)
-streams_counted (x ∷ y ∷ []) streams run count = absurd (false≢true run)
-streams_counted (x ∷ y ∷ z ∷ ws) streams run count =
-    let counted : length streams ≡ length (z ∷ ws) = omega (arith, count) in
-    counted ∙ sym (length-map (z ∷ ws) string_bytes)
+-- ---- the folder once the plan was read
 
-pub files_counted : (contents contents' : List ℕ → List ℕ) (words : List (String Global)) (streams : List SmallStream) → is_run words ≡ true → contents' ≡ contents → length words ≡ 2 + length streams
-    → length (map contents' (file_names words)) ≡ length streams
-files_counted contents contents' words streams run same count =
-    ap (λ (fs : List (List ℕ)). length fs) (files_same contents contents' words run same)
-    ∙ (length-map (behind_first (operands words)) contents ∙ sym (streams_counted words streams run count))
+told_named : (names : List (List ℕ)) (old mid : FolderState) → mid.told ≡ old.told → AreTold names old → AreTold names mid
+told_named [] old mid same told = tt
+told_named (n ∷ ns) old mid same told = (subst (λ (t : List ℕ → Bool). IsTrue (t n)) (sym same) told.0, told_named ns old mid same told.1)
 
--- ---- what there is to run
+module _ (words : List (String Global)) (old mid : FolderState) (run : is_run words ≡ true) (told : mid.told ≡ old.told) (contents : mid.contents ≡ old.contents) where
+  pub files_told : IsTold (command_of words old) → AreTold (names_in words) mid
+  files_told all = told_named (names_in words) old mid told (subst (λ (ns : List (List ℕ)). AreTold ns old) (names_are words run) all.files)
 
-pub has_plan : (plan : SmallPlan) (contents : List ℕ → List ℕ) (words : List (String Global)) → is_run words ≡ true → length words ≡ 2 + length plan.streams
-    → (plan_of (plan_contents contents (operands words)) ≡ Some plan) × (length (plan_contents contents (operands words)) ≤ 1048576) → HasPlanFor (plan_contents contents (operands words)) (operands words)
-has_plan plan contents words run count read = (read.1, (plan, read.0, streams_counted words plan.streams run count))
+  pub files_same : files_named (names_in words) mid ≡ stream_files (command_of words old)
+  files_same = ap₂ (λ (f : List ℕ → List ℕ) (ns : List (List ℕ)). map f ns) contents (sym (names_are words run))
 
-pub is_built : (plan : SmallPlan) (contents : List ℕ → List ℕ) (words : List (String Global)) → is_run words ≡ true → length words ≡ 2 + length plan.streams
-    → (plan_of (plan_contents contents (operands words)) ≡ Some plan) × (length (plan_contents contents (operands words)) ≤ 1048576)
-    → IsBuilt (plan_contents contents (operands words)) (file_contents contents (operands words))
-is_built plan contents words run count read = (read.1, (plan, read.0, streams_counted words plan.streams run count ∙ sym (length-map (behind_first (operands words)) contents)))
+  -- there is a file for each stream
+  pub files_counted : (streams : List SmallStream) → length words ≡ 2 + length streams → length (stream_files (command_of words old)) ≡ length streams
+  files_counted streams count =
+      length-map (behind_first (operands words)) old.contents ∙ (ap length (names_are words run) ∙ names_counted words streams run count)
 
--- ---- a run that stopped
+  read_named : (names : List (List ℕ)) (new : FolderState) → AreReadToEnd names mid new → AreReadToEnd names old new
+  read_named [] new read = tt
+  read_named (n ∷ ns) new read = (
+    λ t. read.0 (subst (λ (f : List ℕ → Bool). IsTrue (f n)) (sym told) t) ∙ ap (λ (f : List ℕ → List ℕ). length (f n)) contents,
+    read_named ns new read.1,
+  )
 
-none_at : (first : List ℕ) (names : List (List ℕ)) (k : ℕ) → IsNoneOf first names → k < length names → slice_index_or names k [] ≢ first
-none_at first [] k none within = absurd (omega (arith, within))
-none_at first (name ∷ names) zero none within = λ e. none.0 (sym e)
-none_at first (name ∷ names) (suc k) none within = none_at first names k none.1 (omega (arith, within))
+  -- all files were read to their ends
+  pub all_read : (new : FolderState) → (HasToldPlan (command_of words old) → new.last (operand (operands words) 1) ≡ length (plan_bytes (command_of words old))) → AreReadToEnd (names_in words) mid new → AreReadToEnd (operands words) old new
+  all_read new first rest = subst (λ (ns : List (List ℕ)). AreReadToEnd ns old new) (sym (operands_are words run)) (first, read_named (names_in words) new rest)
 
--- the operand of the fault is a stream's
-abbrev pub IsStreamFault : Status → List (List ℕ) → Type 0
-IsStreamFault status names = (n : ℕ) → status ≡ ReadFault n → (k : ℕ) × (n ≡ 2 + k) × (k < length names)
+  pub built : (plan : SmallPlan) → length words ≡ 2 + length plan.streams
+      → (HasToldPlan (command_of words old) → (plan_of (plan_bytes (command_of words old)) ≡ Some plan) × (length (plan_bytes (command_of words old)) ≤ 1048576)) → IsBuilt (command_of words old)
+  built plan count read = record {
+    form = run;
+    plan = λ t. let r = read t in (r.1, (plan, r.0, sym (ap length (names_are words run) ∙ names_counted words plan.streams run count)));
+  }
 
-fault_leaves : (plan : SmallPlan) (files : List (List ℕ)) (first : List ℕ) (names : List (List ℕ)) (last last_mid last_after : List ℕ → ℕ) (n k : ℕ) (before mid : List ℕ) → n ≡ 2 + k → k < length names
-    → SameElsewhere first last last_mid → FaultLeaves plan files (first ∷ names) last_mid last_after n before mid → FaultLeaves plan files (first ∷ names) last last_after n before mid
-fault_leaves plan files first names last last_mid last_after n k before mid is within others (inl closed) =
-    let at : n ≡ suc (suc k) = omega (arith, is) in
-    inl (closed.0, λ distinct. closed.1 distinct ∙ others (operand (first ∷ names) n) (subst (λ (m : ℕ). operand (first ∷ names) m ≢ first) (sym at) (none_at first names k distinct.0 within)))
-fault_leaves plan files first names last last_mid last_after n k before mid is within others (inr ends) = inr ends
+-- ---- operands by their numbers
 
--- what a stop leaves of the run it leaves of the call, which closed the plan's file before
-pub call_ends : (status : Status) (plan : SmallPlan) (files : List (List ℕ)) (first : List ℕ) (names : List (List ℕ)) (last last_mid last_after : List ℕ → ℕ) (before mid : List ℕ) → IsStreamFault status names
-    → SameElsewhere first last last_mid → RunEnds status plan files (first ∷ names) last_mid last_after before mid → RunEnds status plan files (first ∷ names) last last_after before mid
-call_ends Done plan files first names last last_mid last_after before mid fault others ends = tt
-call_ends NotBuilt plan files first names last last_mid last_after before mid fault others ends = tt
-call_ends (ReadFault n) plan files first names last last_mid last_after before mid fault others ends =
-    let at = fault n refl in fault_leaves plan files first names last last_mid last_after n at.0 before mid at.1 at.2 others ends
-call_ends WriteFault plan files first names last last_mid last_after before mid fault others ends = tt
-call_ends NoMemory plan files first names last last_mid last_after before mid fault others ends = tt
-call_ends (Limit what) plan files first names last last_mid last_after before mid fault others ends = ends
+operand_at : (first : List ℕ) (names : List (List ℕ)) (stream : ℕ) → operand (first ∷ names) (2 + stream) ≡ slice_index_or names stream []
+operand_at first names stream = let e : 2 + stream ≡ suc (suc stream) = omega arith in ap (λ (m : ℕ). slice_index_or ([] ∷ first ∷ names) m []) e
 
-pub call_stopped : (status : Status) (plan : SmallPlan) (plan_bytes name : List ℕ) (ready files : List (List ℕ)) (first : List ℕ) (names all : List (List ℕ)) (last last_mid last_after : List ℕ → ℕ)
-    (before mid after : List ℕ) (faults faults_mid faults' : ℕ) → plan_of plan_bytes ≡ Some plan → ready ≡ files → all ≡ first ∷ names → IsStreamFault status names → SameElsewhere first last last_mid
-    → name ≡ stop_name plan status → StopLeaves status (run_lines plan ready) before mid → RunEnds status plan ready (first ∷ names) last_mid last_after before mid → faults ≤ faults_mid
-    → Delivered (status_line name status) mid after faults_mid faults' → StoppedRun status plan_bytes files all last last_after before after faults faults'
-call_stopped status plan plan_bytes name ready files first names all last last_mid last_after before mid after faults faults_mid faults' read same is fault others named stop ends le line =
-    subst (λ (fs : List (List ℕ)). StoppedRun status plan_bytes fs all last last_after before after faults faults') same
-    (subst (λ (ns : List (List ℕ)). StoppedRun status plan_bytes ready ns last last_after before after faults faults') (sym is)
-    (stopped status plan plan_bytes name ready (first ∷ names) last last_after before mid after faults faults_mid faults' read named stop
-    (call_ends status plan ready first names last last_mid last_after before mid fault others ends) le line))
+none_at : (first : List ℕ) (names : List (List ℕ)) (i : ℕ) → IsNoneOf first names → i < length names → slice_index_or names i [] ≢ first
+none_at first [] i none lt = absurd (omega (arith, lt))
+none_at first (n ∷ ns) zero none lt = λ e. none.0 (sym e)
+none_at first (n ∷ ns) (suc i) none lt = none_at first ns i none.1 (omega (arith, lt))
+
+-- ---- what is opened
+
+name_in : (name : List ℕ) (first : List ℕ) (names : List (List ℕ)) (count : ℕ) → (In name (take 1 (first ∷ [])) ⊎ In name (take count names)) → In name (take (suc count) (first ∷ names))
+name_in name first names count (inl (inl is)) = inl is
+name_in name first names count (inl (inr none)) = absurd none
+name_in name first names count (inr more) = inr more
+
+-- the first operand, and then some of the others
+opens_on : (first : List ℕ) (names : List (List ℕ)) (count : ℕ) (old mid new : FolderState) → OpensFirst 1 (first ∷ names) old mid → OpensFirst count names mid new → OpensFirst (suc count) (first ∷ names) old new
+opens_on first names count old mid new one more name = (
+  λ t. elim ((more name).0 t) [
+    | inl before ↦ elim ((one name).0 before) [ inl was ↦ inl was | inr is ↦ inr (elim is [ inl e ↦ inl e | inr none ↦ absurd none ]) ]
+    | inr among ↦ inr (inr among)
+  ],
+  λ t. elim t [
+    | inl was ↦ (more name).1 (inl ((one name).1 (inl was)))
+    | inr is ↦ elim is [ inl e ↦ (more name).1 (inl ((one name).1 (inr (inl e)))) | inr among ↦ (more name).1 (inr among) ]
+  ],
+)
+
+module _ (words : List (String Global)) (old mid new : FolderState) (run : is_run words ≡ true) (one : OpensFirst 1 (operands words) old mid) where
+  first_opened : OpensFirst 1 (operand (operands words) 1 ∷ names_in words) old mid
+  first_opened = subst (λ (ns : List (List ℕ)). OpensFirst 1 ns old mid) (operands_are words run) one
+
+  then_opened : (count : ℕ) → OpensFirst count (names_in words) mid new → OpensFirst (suc count) (operands words) old new
+  then_opened count more =
+      subst (λ (ns : List (List ℕ)). OpensFirst (suc count) ns old new) (sym (operands_are words run)) (opens_on (operand (operands words) 1) (names_in words) count old mid new first_opened more)
+
+  all_counted : suc (length (names_in words)) ≡ length (operands words)
+  all_counted = sym (ap length (operands_are words run))
+
+  pub opened_done : OpensFirst (length (names_in words)) (names_in words) mid new → OpensInOrder Done (command_of words old) new
+  opened_done more = (suc (length (names_in words)), then_opened (length (names_in words)) more, all_counted)
+
+  pub opened_stop : (stop : FilesStop) → FilesOpened (Err stop) (names_in words) mid new → OpensInOrder (files_status stop) (command_of words old) new
+  opened_stop (Opening (Fault stream)) opened = (suc stream, then_opened stream opened, let e : suc stream + 1 ≡ 2 + stream = omega arith in inl e)
+  opened_stop (Opening OpeningMemory) opened =
+      (suc opened.0, then_opened opened.0 opened.2, let le = opened.1 in let all = all_counted in omega (arith, le, all))
+  opened_stop (Run (RunFault stream)) opened = (suc (length (names_in words)), then_opened (length (names_in words)) opened, inr (inr all_counted))
+  opened_stop (Run (TooLarge stream)) opened = (suc (length (names_in words)), then_opened (length (names_in words)) opened, all_counted)
+  opened_stop (Run (RunLimit node)) opened = (suc (length (names_in words)), then_opened (length (names_in words)) opened, all_counted)
+  opened_stop (Run WriteFailed) opened = (suc (length (names_in words)), then_opened (length (names_in words)) opened, all_counted)
+  opened_stop (Run RunMemory) opened = (suc (length (names_in words)), then_opened (length (names_in words)) opened, omega (arith, all_counted))
+
+none_opened : (names : List (List ℕ)) (folder : FolderState) → OpensFirst 0 names folder folder
+none_opened names folder name = (λ t. inl t, λ t. elim t [ inl was ↦ was | inr none ↦ absurd none ])
+
+opened_as : (count : ℕ) (words : List (String Global)) (old new : FolderState) (stop : PlanStop) → OpensFirst count (operands words) old new → count ≤ 1 → is_run words ≡ true → 1 ≤ length (operands words)
+    → OpensInOrder (plan_status stop) (command_of words old) new
+opened_as count words old new NoPlan opened most run some = (count, opened, (most, λ not. absurd (false≢true (sym not ∙ run))))
+opened_as zero words old new PlanFault opened most run some = (0, opened, inl refl)
+opened_as (suc count) words old new PlanFault opened most run some = let one : suc count ≡ 1 = omega (arith, most) in (suc count, opened, inr (inl (refl, one)))
+opened_as count words old new PlanMemory opened most run some = (count, opened, omega (arith, most, some))
+
+some_operands : (words : List (String Global)) → is_run words ≡ true → 1 ≤ length (operands words)
+some_operands words run = let e = ap length (operands_are words run) in omega (arith, e)
+
+-- a call whose plan was not had
+pub opened_early : (stop : PlanStop) (words : List (String Global)) (old new : FolderState) → OpensAtMost 1 (operands words) old new → (is_run words ≡ false → (stop ≡ NoPlan) × (new ≡ old)) → OpensInOrder (plan_status stop) (command_of words old) new
+opened_early stop words old new opened none = go (is_run words) refl
+  where
+    go : (b : Bool) → is_run words ≡ b → OpensInOrder (plan_status stop) (command_of words old) new
+    go true run = opened_as opened.0 words old new stop opened.2 opened.1 run (some_operands words run)
+    go false not =
+        let n = none not in
+        subst (λ (s : PlanStop). OpensInOrder (plan_status s) (command_of words old) new) (sym n.0)
+        (subst (λ (f : FolderState). OpensInOrder (plan_status NoPlan) (command_of words old) f) (sym n.1) (0, none_opened (operands words) old, (omega arith, λ _. refl)))
+
+-- ---- what a stop leaves
+
+module _ (words : List (String Global)) (old mid new : FolderState) (run : is_run words ≡ true) (told : mid.told ≡ old.told) (contents : mid.contents ≡ old.contents) (others : SameElsewhere (operand (operands words) 1) old.last mid.last) where
+  at_operand : (stream : ℕ) → operand (operands words) (2 + stream) ≡ slice_index_or (names_in words) stream []
+  at_operand stream = ap (λ (ns : List (List ℕ)). operand ns (2 + stream)) (operands_are words run) ∙ operand_at (operand (operands words) 1) (names_in words) stream
+
+  distinct_names : AreDistinct (operands words) → AreDistinct (operand (operands words) 1 ∷ names_in words)
+  distinct_names d = subst AreDistinct (operands_are words run) d
+
+  files_are : files_named (names_in words) mid ≡ stream_files (command_of words old)
+  files_are = files_same words old mid run told contents
+
+  -- a file that was not opened
+  not_opened : (plan : SmallPlan) (stream : ℕ) (before lines : List ℕ) → stream < length (names_in words) → FilesEnd (Opening (Fault stream)) plan (names_in words) mid new before lines
+      → FaultLeaves plan (command_of words old) new (2 + stream) before lines
+  not_opened plan stream before lines there ends = inl (
+    ends.0,
+    λ d.
+        let all = distinct_names d in
+        let at = at_operand stream in
+        ap new.last at ∙ (ends.1 all.1 ∙ (others (slice_index_or (names_in words) stream []) (none_at (operand (operands words) 1) (names_in words) stream all.0 there) ∙ ap old.last (sym at))),
+  )
+
+  -- a read that failed
+  not_read : (plan : SmallPlan) (stream : ℕ) (before lines : List ℕ) → FilesEnd (Run (RunFault stream)) plan (names_in words) mid new before lines → FaultLeaves plan (command_of words old) new (2 + stream) before lines
+  not_read plan stream before lines ends = go (files_named (names_in words) mid) files_are ends
+    where
+      go : (files : List (List ℕ)) → files ≡ stream_files (command_of words old)
+          → (ends : EndsBefore plan files stream before lines) × (AreDistinct (names_in words) → ArrivedOf plan files stream (new.last (slice_index_or (names_in words) stream [])) ends.front)
+          → FaultLeaves plan (command_of words old) new (2 + stream) before lines
+      go files same e =
+          subst (λ (fs : List (List ℕ)). ((lines ≡ before) × (AreDistinct (operands words) → new.last (operand (operands words) (2 + stream)) ≡ old.last (operand (operands words) (2 + stream))))
+          ⊎ ((s : ℕ) × (2 + stream ≡ 2 + s) × (ends : EndsBefore plan fs s before lines) × (AreDistinct (operands words) → ArrivedOf plan fs s (new.last (operand (operands words) (2 + stream))) ends.front))) same
+          (inr (stream, refl, e.0, λ d. subst (λ (n : List ℕ). ArrivedOf plan files stream (new.last n) e.0.front) (sym (at_operand stream)) (e.1 (distinct_names d).1)))
+
+  -- the run stopped, and then the line of its status was written
+  pub stopped : (stop : FilesStop) (plan : SmallPlan) (name : List ℕ) (first now after : SinkState) → IsTrue after.told → plan_of (plan_bytes (command_of words old)) ≡ Some plan → name ≡ stop_name plan (files_status stop)
+      → FilesCause stop plan (names_in words) mid new first now → Leaves (files_cut stop) (run_lines plan (files_named (names_in words) mid)) first.written now.written
+      → FilesEnd stop plan (names_in words) mid new first.written now.written → first.faults ≤ now.faults → Delivered (status_line name (files_status stop)) now after
+      → StopLeaves (files_status stop) (command_of words old) new first after
+  stopped (Opening (Fault stream)) plan name first now after t read named cause left ends le line =
+      inr (
+        plan,
+        now.written,
+        read,
+        not_opened plan stream first.written now.written cause.there ends,
+        earlier_rose (status_line [] (ReadFault (2 + stream))) first now after le (subst (λ (x : List ℕ). Delivered (status_line x (ReadFault (2 + stream))) now after) named line),
+      )
+  stopped (Opening OpeningMemory) plan name first now after t read named cause left ends le line = (
+    now.written,
+    inr (plan, read, subst (λ (fs : List (List ℕ)). Leaves (files_cut (Opening OpeningMemory)) (run_lines plan fs) first.written now.written) files_are left),
+    earlier_rose (status_line [] NoMemory) first now after le line,
+  )
+  stopped (Run (RunFault stream)) plan name first now after t read named cause left ends le line =
+      inr (
+        plan,
+        now.written,
+        read,
+        not_read plan stream first.written now.written ends,
+        earlier_rose (status_line [] (ReadFault (2 + stream))) first now after le (subst (λ (x : List ℕ). Delivered (status_line x (ReadFault (2 + stream))) now after) named line),
+      )
+  stopped (Run (TooLarge stream)) plan name first now after t read named cause left ends le line = (
+    plan,
+    now.written,
+    read,
+    subst (λ (fs : List (List ℕ)). EndsBefore plan fs stream first.written now.written) files_are ends,
+    earlier_rose (status_line (limit_name plan (File stream)) (Limit (File stream))) first now after le (subst (λ (x : List ℕ). Delivered (status_line x (Limit (File stream))) now after) named line),
+  )
+  stopped (Run (RunLimit node)) plan name first now after t read named cause left ends le line = (
+    plan,
+    now.written,
+    read,
+    subst (λ (fs : List (List ℕ)). EndsAtLimit plan fs node first.written now.written) files_are ends,
+    earlier_rose (status_line (limit_name plan (Node node)) (Limit (Node node))) first now after le (subst (λ (x : List ℕ). Delivered (status_line x (Limit (Node node))) now after) named line),
+  )
+  stopped (Run WriteFailed) plan name first now after t read named cause left ends le line = (
+    plan,
+    read,
+    subst (λ (bytes : List ℕ). FrontOf (flat (run_lines plan (stream_files (command_of words old)))) first.written bytes) (sym (same_after now after t line))
+        (subst (λ (fs : List (List ℕ)). FrontOf (flat (run_lines plan fs)) first.written now.written) files_are left),
+  )
+  stopped (Run RunMemory) plan name first now after t read named cause left ends le line = (
+    now.written,
+    inr (plan, read, subst (λ (fs : List (List ℕ)). Leaves (files_cut (Run RunMemory)) (run_lines plan fs) first.written now.written) files_are left),
+    earlier_rose (status_line [] NoMemory) first now after le line,
+  )
+
+  -- ---- a file that could not be opened
+
+  was_opened : (stream : ℕ) → stream < length (names_in words) → OpensFirst (length (names_in words)) (names_in words) mid new → IsTrue (new.opened (operand (operands words) (2 + stream)))
+  was_opened stream there opened =
+      subst (λ (n : List ℕ). IsTrue (new.opened n)) (sym (at_operand stream))
+      ((opened (slice_index_or (names_in words) stream [])).1 (inr (subst (In (slice_index_or (names_in words) stream [])) (sym (take_all (length (names_in words)) (names_in words) (omega arith))) (in-place (names_in words) [] stream there))))
+
+  pub early : (stop : FilesStop) (plan : SmallPlan) (name : List ℕ) (first now after : SinkState) → name ≡ stop_name plan (files_status stop) → FilesCause stop plan (names_in words) mid new first now → FilesOpened (Err stop) (names_in words) mid new
+      → ((opening : OpeningStop) → stop ≡ Opening opening → now ≡ first) → Delivered (status_line name (files_status stop)) now after → EarlyEnd (files_status stop) (command_of words old) new first after
+  early (Opening (Fault stream)) plan name first now after named cause opened same line = λ _.
+      subst (λ (s : SinkState). Delivered (status_line [] (ReadFault (2 + stream))) s after) (same (Fault stream) refl)
+      (subst (λ (x : List ℕ). Delivered (status_line x (ReadFault (2 + stream))) now after) named line)
+  early (Opening OpeningMemory) plan name first now after named cause opened same line = tt
+  early (Run (RunFault stream)) plan name first now after named cause opened same line = λ why. elim why [
+    | inl one ↦ absurd (omega (arith, one))
+    | inr shut ↦ absurd (false≢true (sym shut ∙ was_opened stream cause.there opened))
+  ]
+  early (Run (TooLarge stream)) plan name first now after named cause opened same line = tt
+  early (Run (RunLimit node)) plan name first now after named cause opened same line = tt
+  early (Run WriteFailed) plan name first now after named cause opened same line = tt
+  early (Run RunMemory) plan name first now after named cause opened same line = tt
+
+  -- ---- causes
+
+  module _ (faults : NoneFalls old.faults mid.faults) where
+    fault_at : (stream : ℕ) → IsBuilt (command_of words old) → IsFaultOf stream (names_in words) mid new → HasFault (command_of words old) new (2 + stream)
+    fault_at stream is f = record {
+      first = omega arith;
+      last = let all = ap length (operands_are words run) in let there = f.there in omega (arith, all, there);
+      rose = subst (λ (n : List ℕ). Rose (old.faults n) (new.faults n)) (sym (at_operand stream))
+          (let r = f.rose in let le = faults (slice_index_or (names_in words) stream []) in omega (arith, r, le));
+      later = λ _. is;
+    }
+
+    pub faulted : (stop : FilesStop) (plan : SmallPlan) (first now : SinkState) (n : ℕ) → IsBuilt (command_of words old) → FilesCause stop plan (names_in words) mid new first now → files_status stop ≡ ReadFault n → HasFault (command_of words old) new n
+    faulted (Opening (Fault stream)) plan first now n is cause e = let same : 2 + stream ≡ n = cc e in subst (HasFault (command_of words old) new) same (fault_at stream is cause)
+    faulted (Opening OpeningMemory) plan first now n is cause e = absurd (cc)
+    faulted (Run (RunFault stream)) plan first now n is cause e = let same : 2 + stream ≡ n = cc e in subst (HasFault (command_of words old) new) same (fault_at stream is cause)
+    faulted (Run (TooLarge stream)) plan first now n is cause e = absurd (cc)
+    faulted (Run (RunLimit node)) plan first now n is cause e = absurd (cc)
+    faulted (Run WriteFailed) plan first now n is cause e = absurd (cc)
+    faulted (Run RunMemory) plan first now n is cause e = absurd (cc)
+
+  pub write_failed : (stop : FilesStop) (plan : SmallPlan) (first now after : SinkState) → FilesCause stop plan (names_in words) mid new first now → now.faults ≤ after.faults → files_status stop ≡ WriteFault → Rose first.faults after.faults
+  write_failed (Opening (Fault stream)) plan first now after cause le e = absurd (cc)
+  write_failed (Opening OpeningMemory) plan first now after cause le e = absurd (cc)
+  write_failed (Run (RunFault stream)) plan first now after cause le e = absurd (cc)
+  write_failed (Run (TooLarge stream)) plan first now after cause le e = absurd (cc)
+  write_failed (Run (RunLimit node)) plan first now after cause le e = absurd (cc)
+  write_failed (Run WriteFailed) plan first now after cause le e = omega (arith, cause, le)
+  write_failed (Run RunMemory) plan first now after cause le e = absurd (cc)
+
+  pub beyond : (stop : FilesStop) (plan : SmallPlan) (first now : SinkState) (node : ℕ) → IsBuilt (command_of words old) → (HasToldPlan (command_of words old) → plan_of (plan_bytes (command_of words old)) ≡ Some plan) → FilesCause stop plan (names_in words) mid new first now
+      → files_status stop ≡ Limit (Node node) → BeyondLimit (command_of words old) node
+  beyond (Opening (Fault stream)) plan first now node is_built read cause e = absurd (cc)
+  beyond (Opening OpeningMemory) plan first now node is_built read cause e = absurd (cc)
+  beyond (Run (RunFault stream)) plan first now node is_built read cause e = absurd (cc)
+  beyond (Run (TooLarge stream)) plan first now node is_built read cause e = absurd (let what : File stream ≡ Node node = cc e in cc)
+  beyond (Run (RunLimit n)) plan first now node is_built read cause e =
+      let what : Node n ≡ Node node = cc e in
+      let same : n ≡ node = cc what in
+      record {
+        built = is_built;
+        beyond = λ all. (
+          plan,
+          read all.plan,
+          subst (GoesBeyond plan (stream_files (command_of words old))) same
+              (subst (λ (fs : List (List ℕ)). GoesBeyond plan fs n) files_are (cause (files_told words old mid run told contents all))),
+        );
+      }
+  beyond (Run WriteFailed) plan first now node is_built read cause e = absurd (cc)
+  beyond (Run RunMemory) plan first now node is_built read cause e = absurd (cc)
+
+  pub too_large : (stop : FilesStop) (plan : SmallPlan) (first now : SinkState) (stream : ℕ) → IsBuilt (command_of words old) → FilesCause stop plan (names_in words) mid new first now → files_status stop ≡ Limit (File stream) → IsTooLarge (command_of words old) stream
+  too_large (Opening (Fault s)) plan first now stream is_built cause e = absurd (cc)
+  too_large (Opening OpeningMemory) plan first now stream is_built cause e = absurd (cc)
+  too_large (Run (RunFault s)) plan first now stream is_built cause e = absurd (cc)
+  too_large (Run (TooLarge s)) plan first now stream is_built cause e =
+      let what : File s ≡ File stream = cc e in
+      let same : s ≡ stream = cc what in
+      subst (IsTooLarge (command_of words old)) same
+      (record {
+        built = is_built;
+        there = let all = ap length (names_are words run) in let there = cause.there in omega (arith, all, there);
+        bytes = λ t.
+            let at = at_operand s in
+            let told_mid : IsTrue (mid.told (slice_index_or (names_in words) s [])) = subst (λ (f : List ℕ → Bool). IsTrue (f (slice_index_or (names_in words) s []))) (sym told) (subst (λ (n : List ℕ). IsTrue (old.told n)) at t) in
+            let most = cause.bytes told_mid in
+            subst (λ (n : List ℕ). 2 ^ 40 ≤ length (old.contents n)) (sym at) (subst (λ (f : List ℕ → List ℕ). 2 ^ 40 ≤ length (f (slice_index_or (names_in words) s []))) contents most);
+      })
+  too_large (Run (RunLimit node)) plan first now stream is_built cause e = absurd (let what : Node node ≡ File stream = cc e in cc)
+  too_large (Run WriteFailed) plan first now stream is_built cause e = absurd (cc)
+  too_large (Run RunMemory) plan first now stream is_built cause e = absurd (cc)
+
+-- few streams have small numbers
+pub of_few : (stop : FilesStop) (plan : SmallPlan) (names : List (List ℕ)) (before after : FolderState) (first now : SinkState) → length names ≤ 128 → FilesCause stop plan names before after first now → IsOfFew stop
+of_few (Opening (Fault stream)) plan names before after first now few cause = let there = cause.there in omega (arith, few, there)
+of_few (Opening OpeningMemory) plan names before after first now few cause = tt
+of_few (Run (RunFault stream)) plan names before after first now few cause = let there = cause.there in omega (arith, few, there)
+of_few (Run (TooLarge stream)) plan names before after first now few cause = tt
+of_few (Run (RunLimit node)) plan names before after first now few cause = tt
+of_few (Run WriteFailed) plan names before after first now few cause = tt
+of_few (Run RunMemory) plan names before after first now few cause = tt
+
+pub stop_is : (stop : PlanStop) → ◌≡◌ {A = Result SmallPlan PlanStop} (Err stop) (Err NoPlan) → stop ≡ NoPlan
+stop_is stop e = cc e
+
+-- only a plan that is none is answered so
+pub no_plan : (stop : PlanStop) → plan_status stop ≡ NotBuilt → stop ≡ NoPlan
+no_plan NoPlan e = refl
+no_plan PlanFault e = absurd (cc)
+no_plan PlanMemory e = absurd (cc)

@@ -6,10 +6,10 @@ use Rattle.pj_element.specs.Runs.{rows_of, puncts_of, element_lines}
 use Rattle.pj_laws.specs.declared.events.Out.{Out}
 use Rattle.pj_laws.specs.Outcomes.{elements_out}
 use Rattle.pj_laws.proofs.Steps.{elements-append}
-use Rattle.pj_engine.specs.declared.outs.Counts.{Counts}
+use Rattle.pj_engine.specs.declared.results.Counts.{Counts}
 use Rattle.pj_engine.specs.Report.{counted_to}
-use Rattle.pj_engine.specs.Outs.{out_lines, counts_of}
-use Rattle.pj_intake.proofs.Counts.{rows_of-append, puncts_of-append}
+use Rattle.pj_engine.specs.Results.{out_lines, counts_of}
+use Rattle.pj_pattern.proofs.Elements.{rows_of-append, puncts_of-append}
 
 counted_sum : (a b : ℕ) → min (counted_to a + b) (2 ^ 64 - 1) ≡ counted_to (a + b)
 counted_sum a b = omega arith

@@ -2,22 +2,15 @@
 use Rattle.std.proofs.Common.{◌≡◌, ◌⊎◌, ℕ, ◌+◌, true, List, [], ◌∷◌, ◌++◌, length, take, drop, refl, ap, ap₂, sym, ◌∙◌, append_assoc, append-nil, arith, inl, inr, IsTrue}
 use Rattle.std.proofs.lemmas.Bool.Decides.{eqb_tells}
 use Rattle.std.proofs.Math.Seq.{drop-append_seam, take-append_seam}
-use Rattle.pj_shape.specs.declared.columns.Column.{Column}
-use Rattle.pj_value.specs.declared.values.Value.{Value}
-use Rattle.pj_pattern.specs.Patterns.{Pattern}
 use Rattle.pj_pattern.specs.declared.element.Element.{Element}
 use Rattle.pj_pattern.specs.declared.element.Element.TheVariants.{Tuple, Punct}
 use Rattle.pj_pattern.specs.Elements.{rows_of, puncts_of}
+use Rattle.pj_line.specs.Fed.{AreFed}
 use Rattle.pj_line.specs.Lines.{HasNo}
-use Rattle.pj_line.specs.Buffers.{Buffered}
 use Rattle.pj_element.specs.declared.tally.Tally.{Tally}
 use Rattle.pj_element.specs.Accepted.{taken_of, fates_of, tally_of}
-use Rattle.pj_element.specs.Laws.{FitRow, FitPunct}
-use Rattle.pj_intake.specs.declared.seen.Seen.{Seen}
-use Rattle.pj_intake.specs.Fed.{AreFed}
-use Rattle.pj_intake.specs.Steps.{Follows}
-use Rattle.pj_intake.proofs.GoOn.{taken_go_on}
-use Rattle.pj_laws.specs.Plan.{row_fits, punct_fits}
+use Rattle.pj_element.proofs.GoOn.{taken_go_on}
+use Rattle.pj_intake.specs.Taking.{IntakeState, HasJudged}
 use Rattle.pj_engine.specs.Feeds.{FeedState, bytes_of, all_accepted, count_of, IsFed, fed_part, onto_fed}
 
 -- ---- lists
@@ -30,7 +23,7 @@ next_left xs front zs e n m is first second =
     ∙ (drop-append_seam front (e ∷ zs)
     ∙ ap (λ (ys : List Element). e ∷ ys) (sym (ap₂ (λ (k : ℕ) (ys : List Element). drop k ys) second is ∙ drop-append_seam (front ++ e ∷ []) zs)))
 
-pub none_left_of : (xs front : List Element) (n : ℕ) → xs ≡ front → n ≡ length front → drop n xs ≡ []
+none_left_of : (xs front : List Element) (n : ℕ) → xs ≡ front → n ≡ length front → drop n xs ≡ []
 none_left_of xs front n is first = ap₂ (λ (k : ℕ) (ys : List Element). drop k ys) first (is ∙ sym (append-nil front)) ∙ drop-append_seam front []
 
 pub those_so_far : (xs front zs : List Element) (n : ℕ) → xs ≡ front ++ zs → n ≡ length front → take n xs ≡ front
@@ -44,43 +37,47 @@ both_counts (Tuple row ∷ es) = let r = both_counts es in omega (arith, r)
 both_counts (Punct punct ∷ es) = let r = both_counts es in omega (arith, r)
 
 -- as many elements were accepted as the tally counts
-pub counted : (columns : List Column) (buffer : Buffered) (seen : Seen) (judged : List ℕ) → Follows columns buffer seen judged → seen.tally.tuples + seen.tally.puncts ≡ length (taken_of (fates_of columns judged))
-counted columns buffer seen judged f =
-    ap (λ (t : Tally). t.tuples + t.puncts) f.seen_so.counts ∙ both_counts (taken_of (fates_of columns judged))
+pub counted : (intake : IntakeState) (judged : List ℕ) → HasJudged intake judged → intake.seen.tally.tuples + intake.seen.tally.puncts ≡ length (taken_of (fates_of intake.columns judged))
+counted intake judged seen = ap (λ (t : Tally). t.tuples + t.puncts) seen.counts ∙ both_counts (taken_of (fates_of intake.columns judged))
 
 -- ---- a feed that tells its bytes
 
 -- what is accepted of the lines that were judged comes first among all that is accepted
-pub begins_with : (feed : FeedState) (fed : IsFed feed) → IsTrue feed.told → (others : List Element) × (all_accepted feed ≡ taken_of (fates_of feed.columns fed.judged) ++ others)
+pub begins_with : (feed : FeedState) (fed : IsFed feed) → IsTrue feed.source.told → (others : List Element) × (all_accepted feed ≡ taken_of (fates_of feed.intake.columns fed.judged) ++ others)
 begins_with feed fed told = go fed.follows.whole
   where
-    bytes : bytes_of feed ≡ fed.judged ++ (feed.buffer.held ++ feed.left)
-    bytes = ap (λ (xs : List ℕ). xs ++ feed.left) (fed.bytes told) ∙ append_assoc fed.judged feed.buffer.held feed.left
+    bytes : bytes_of feed ≡ fed.judged ++ (feed.intake.buffer.held ++ feed.source.left)
+    bytes = ap (λ (xs : List ℕ). xs ++ feed.source.left) (fed.bytes told) ∙ append_assoc fed.judged feed.intake.buffer.held feed.source.left
 
-    go : AreFed fed.judged ⊎ ((feed.buffer.ended ≡ true) × (feed.buffer.held ≡ [])) → (others : List Element) × (all_accepted feed ≡ taken_of (fates_of feed.columns fed.judged) ++ others)
+    go : AreFed fed.judged ⊎ ((feed.intake.buffer.ended ≡ true) × (feed.intake.buffer.held ≡ []))
+        → (others : List Element) × (all_accepted feed ≡ taken_of (fates_of feed.intake.columns fed.judged) ++ others)
     go (inl whole) =
-        let r = taken_go_on feed.columns fed.judged (feed.buffer.held ++ feed.left) whole in
-        (r.0, ap (λ (xs : List ℕ). taken_of (fates_of feed.columns xs)) bytes ∙ r.1)
+        let r = taken_go_on feed.intake.columns fed.judged (feed.intake.buffer.held ++ feed.source.left) whole in
+        (r.0, ap (λ (xs : List ℕ). taken_of (fates_of feed.intake.columns xs)) bytes ∙ r.1)
     go (inr end) =
-        let none : feed.buffer.held ++ feed.left ≡ [] = ap₂ (λ (xs ys : List ℕ). xs ++ ys) end.1 (fed.at_end end.0 told) in
+        let none : feed.intake.buffer.held ++ feed.source.left ≡ [] = ap₂ (λ (xs ys : List ℕ). xs ++ ys) end.1 (fed.at_end end.0 told) in
         let all : bytes_of feed ≡ fed.judged = bytes ∙ (ap (λ (xs : List ℕ). fed.judged ++ xs) none ∙ append-nil fed.judged) in
-        ([], ap (λ (xs : List ℕ). taken_of (fates_of feed.columns xs)) all ∙ sym (append-nil (taken_of (fates_of feed.columns fed.judged))))
+        ([], ap (λ (xs : List ℕ). taken_of (fates_of feed.intake.columns xs)) all ∙ sym (append-nil (taken_of (fates_of feed.intake.columns fed.judged))))
 
--- once the end was read and nothing is held, all was judged
-pub all_judged : (feed : FeedState) (fed : IsFed feed) → feed.buffer.ended ≡ true → feed.buffer.held ≡ [] → IsTrue feed.told → bytes_of feed ≡ fed.judged
-all_judged feed fed ended none told =
-    ap₂ (λ (xs ys : List ℕ). xs ++ ys) (fed.bytes told ∙ ap (λ (xs : List ℕ). fed.judged ++ xs) none) (fed.at_end ended told)
+-- the end was read and nothing is held
+abbrev pub IsAtEnd : FeedState → Type 0
+IsAtEnd feed = (feed.intake.buffer.ended ≡ true) × (feed.intake.buffer.held ≡ [])
+
+-- then all was judged
+all_judged : (feed : FeedState) (fed : IsFed feed) → IsAtEnd feed → IsTrue feed.source.told → bytes_of feed ≡ fed.judged
+all_judged feed fed end told =
+    ap₂ (λ (xs ys : List ℕ). xs ++ ys) (fed.bytes told ∙ ap (λ (xs : List ℕ). fed.judged ++ xs) end.1) (fed.at_end end.0 told)
     ∙ (append-nil (fed.judged ++ []) ∙ append-nil fed.judged)
 
--- then nothing is left, and the tally is that of the file
-pub nothing_left_of : (feed : FeedState) (fed : IsFed feed) → feed.buffer.ended ≡ true → feed.buffer.held ≡ [] → IsTrue feed.told → drop (count_of feed) (all_accepted feed) ≡ []
-nothing_left_of feed fed ended none told =
-    none_left_of (all_accepted feed) (taken_of (fates_of feed.columns fed.judged)) (count_of feed)
-    (ap (λ (xs : List ℕ). taken_of (fates_of feed.columns xs)) (all_judged feed fed ended none told)) (counted feed.columns feed.buffer feed.seen fed.judged fed.follows)
+-- and nothing is left, and the tally is that of the file
+pub nothing_left_of : (feed : FeedState) (fed : IsFed feed) → IsAtEnd feed → IsTrue feed.source.told → drop (count_of feed) (all_accepted feed) ≡ []
+nothing_left_of feed fed end told =
+    none_left_of (all_accepted feed) (taken_of (fates_of feed.intake.columns fed.judged)) (count_of feed)
+    (ap (λ (xs : List ℕ). taken_of (fates_of feed.intake.columns xs)) (all_judged feed fed end told)) (counted feed.intake fed.judged fed.follows.has_judged)
 
-pub whole_tally : (feed : FeedState) (fed : IsFed feed) → feed.buffer.ended ≡ true → feed.buffer.held ≡ [] → IsTrue feed.told → feed.seen.tally ≡ tally_of (fates_of feed.columns (bytes_of feed))
-whole_tally feed fed ended none told =
-    fed.follows.seen_so.counts ∙ ap (λ (xs : List ℕ). tally_of (fates_of feed.columns xs)) (sym (all_judged feed fed ended none told))
+pub whole_tally : (feed : FeedState) (fed : IsFed feed) → IsAtEnd feed → IsTrue feed.source.told → feed.intake.seen.tally ≡ tally_of (fates_of feed.intake.columns (bytes_of feed))
+whole_tally feed fed end told =
+    fed.follows.has_judged.counts ∙ ap (λ (xs : List ℕ). tally_of (fates_of feed.intake.columns xs)) (sym (all_judged feed fed end told))
 
 -- ---- the bytes up to the last line feed
 
@@ -101,17 +98,3 @@ fed_is judged rest (inl none) free = ap (λ (xs : List ℕ). fed_part (xs ++ res
 fed_is judged rest (inr fed) free =
     ap (λ (xs : List ℕ). fed_part (xs ++ rest)) fed.1
     ∙ (ap fed_part (append_assoc fed.0 (10 ∷ []) rest) ∙ (fed_front fed.0 rest free ∙ sym fed.1))
-
--- ---- what is accepted fits the columns
-
-pub row_fit : (columns : List Column) (row : List Value) → FitRow columns row → row_fits columns row ≡ true
-row_fit [] [] f = refl
-row_fit [] (v ∷ vs) f = absurd f
-row_fit (c ∷ cs) [] f = absurd f
-row_fit (c ∷ cs) (v ∷ vs) f = rw f.0 (row_fit cs vs f.1)
-
-pub punct_fit : (columns : List Column) (punct : List Pattern) → FitPunct columns punct → punct_fits columns punct ≡ true
-punct_fit [] [] f = refl
-punct_fit [] (p ∷ ps) f = absurd f
-punct_fit (c ∷ cs) [] f = absurd f
-punct_fit (c ∷ cs) (p ∷ ps) f = rw f.0 (punct_fit cs ps f.1)

@@ -1,24 +1,25 @@
 -- Turns of streams, one by one.
-use Rattle.std.proofs.Common.{◌≡◌, ◌⊎◌, ℕ, zero, suc, ◌+◌, ◌-◌, ◌<◌, ◌≤◌, false, List, [], ◌∷◌, ◌++◌, map, length, take, drop, get_or, set, subst, refl, ap, ap₂, sym, ◌∙◌, append_assoc, append-nil, arith, Some, inl, inr}
+use Rattle.std.proofs.Common.{◌≡◌, ℕ, zero, suc, ◌+◌, ◌-◌, ◌<◌, ◌≤◌, false, List, [], ◌∷◌, ◌++◌, map, length, take, drop, get_or, set, subst, refl, ap, ap₂, sym, ◌∙◌, append_assoc, append-nil, arith, Some, inl, inr}
 use Rattle.std.specs.List.{slice_get}
-use Rattle.std.proofs.lemmas.List.{take_more, take_more_set, drop-set-lt, drop_more, map-append, drop_all, take_all, take-append-drop}
+use Rattle.std.proofs.lemmas.Bool.{cases_lt}
+use Rattle.std.proofs.lemmas.List.{take_more, take_more_set, drop-set-lt, drop_more, map-append, drop_all, take_all, take-append-drop, length-drop}
 use Rattle.std.proofs.lemmas.Option.{slice_get_within, get_or_from_slice_get}
+use Rattle.pj_value.specs.Lists.{In}
+use Rattle.pj_value.proofs.Members.{In-append_left, In-append_right}
 use Rattle.pj_shape.specs.declared.plans.SmallStream.{SmallStream}
-use Rattle.pj_laws.specs.Join.{In}
 use Rattle.pj_laws.specs.OneThread.{Turn, heads, tails, rounds, longest, in_rounds}
-use Rattle.pj_laws.proofs.Lists.{In-append_left, In-append_right}
 use Rattle.pj_laws.proofs.OneThreadAnswer.{rounds-go-on}
 use Rattle.pj_engine.specs.Feeds.{FeedState, feed_left, round_left, feeds_left, AllClosed, IsFirstOpen, HasTurn}
 
 -- ---- rounds
 
-pub skips : (had others : List (List Turn)) → round_left had ([] ∷ others) ≡ round_left (had ++ [] ∷ []) others
+skips : (had others : List (List Turn)) → round_left had ([] ∷ others) ≡ round_left (had ++ [] ∷ []) others
 skips had others = ap (λ (ls : List (List Turn)). heads others ++ in_rounds ls) (sym (append_assoc had ([] ∷ []) (tails others)))
 
-pub gives : (had others : List (List Turn)) (t : Turn) (ts : List Turn) → round_left had ((t ∷ ts) ∷ others) ≡ t ∷ round_left (had ++ ts ∷ []) others
+gives : (had others : List (List Turn)) (t : Turn) (ts : List Turn) → round_left had ((t ∷ ts) ∷ others) ≡ t ∷ round_left (had ++ ts ∷ []) others
 gives had others t ts = ap (λ (ls : List (List Turn)). t ∷ (heads others ++ in_rounds ls)) (sym (append_assoc had (ts ∷ []) (tails others)))
 
-pub wraps : (lists : List (List Turn)) → round_left lists [] ≡ round_left [] lists
+wraps : (lists : List (List Turn)) → round_left lists [] ≡ round_left [] lists
 wraps lists = ap in_rounds (append-nil lists) ∙ rounds-go-on lists
 
 -- all of these lists are empty
@@ -87,17 +88,11 @@ module _ (streams : List SmallStream) where
   get_behind (f ∷ fs) zero = refl
   get_behind (f ∷ fs) (suc at) = get_behind fs at
 
-  drop-length : (fs : List FeedState) (at : ℕ) → at ≤ length fs → length (drop at fs) ≡ length fs - at
-  drop-length [] zero le = refl
-  drop-length [] (suc at) le = absurd (omega (arith, le))
-  drop-length (f ∷ fs) zero le = omega arith
-  drop-length (f ∷ fs) (suc at) le = let r = drop-length fs at (omega (arith, le)) in omega (arith, r, le)
-
   -- several of which nothing is left are passed over
   all_passed : (n at : ℕ) (feeds : List FeedState) → at + n ≤ length feeds → AreDone (take n (drop at feeds)) → feeds_left streams feeds at ≡ feeds_left streams feeds (at + n)
   all_passed zero at feeds le done = let e : at ≡ at + 0 = omega arith in ap (feeds_left streams feeds) e
   all_passed (suc n) at feeds le done =
-      let long : length (drop at feeds) ≡ length feeds - at = drop-length feeds at (omega (arith, le)) in
+      let long : length (drop at feeds) ≡ length feeds - at = length-drop at feeds in
       let f = first_of (drop at feeds) 1 (omega arith) (omega (arith, long, le)) in
       let is : slice_get feeds at ≡ Some f.0 = sym (get_behind feeds at) ∙ f.1 in
       let p = at_place feeds at f.0 is in
@@ -114,21 +109,16 @@ module _ (streams : List SmallStream) where
 
   -- none of this round is left
   rest_had : (feeds : List FeedState) (at : ℕ) → ClosedAreDone feeds → AllClosed (drop at feeds) → feeds_left streams feeds at ≡ feeds_left streams feeds 0
-  rest_had feeds at done closed = elim (le_or (length feeds) at) [
-    | inl le ↦ all_had feeds at le
-    | inr lt ↦
+  rest_had feeds at done closed = elim (cases_lt at (length feeds)) [
+    | inr le ↦ all_had feeds at le
+    | inl lt ↦
         let n : ℕ = length feeds - at in
-        let long : length (drop at feeds) ≡ n = drop-length feeds at (omega (arith, lt)) in
+        let long : length (drop at feeds) ≡ n = length-drop at feeds in
         let rest : AreDone (drop at feeds) = all_done feeds (drop at feeds) done (λ f h. subst (In f) (take-append-drop at feeds) (In-append_right f (take at feeds) (drop at feeds) h)) closed in
         let e : at + n ≡ length feeds = omega (arith, lt) in
         all_passed n at feeds (omega (arith, e)) (subst AreDone (sym (take_all n (drop at feeds) (omega (arith, long)))) rest)
         ∙ all_had feeds (at + n) (omega (arith, e))
   ]
-    where
-      le_or : (a b : ℕ) → (a ≤ b) ⊎ (b < a)
-      le_or zero b = inl (omega arith)
-      le_or (suc a) zero = inr (omega arith)
-      le_or (suc a) (suc b) = elim (le_or a b) [ inl h ↦ inl (omega (arith, h)) | inr h ↦ inr (omega (arith, h)) ]
 
   -- the first open stream of this round has the turn
   first_has : (feeds : List FeedState) (at place : ℕ) → ClosedAreDone feeds → IsFirstOpen feeds at (Some place) → feeds_left streams feeds at ≡ feeds_left streams feeds place

@@ -3,16 +3,16 @@ pub mod Accepting
 pub mod AllFeeds
 pub mod Arrivals
 pub mod CallLaws
-pub mod Calling
 pub mod Closing
 pub mod Counting
 pub mod Ending
 pub mod FeedFacts
 pub mod Feeding
 pub mod FilesLaws
+pub mod FilesRun
 pub mod FrontLaws
 pub mod Fronts
-pub mod Lines
+pub mod LinesWritten
 pub mod NameLaws
 pub mod Opening
 pub mod Opens
@@ -27,3 +27,5 @@ pub mod StopLaws
 pub mod Tallies
 pub mod TurnLaws
 pub mod Turned
+pub mod Carried
+pub mod RunClosing

@@ -1,290 +1,334 @@
 -- Files that were opened as those of the streams of a run, and what they leave once they are closed.
-use Rattle.std.proofs.Common.{◌≡◌, ◌≢◌, ◌≤◌, ◌<◌, ◌+◌, ◌^◌, ℕ, zero, suc, Bool, true, false, inl, inr, List, [], ◌∷◌, ◌++◌, map, length, get_or, Some, None, IsTrue, refl, ap, ap₂, sym, ◌∙◌, subst, append-nil, arith}
+use Rattle.std.proofs.Common.{◌≡◌, ◌≢◌, ◌≤◌, ◌<◌, ◌+◌, ◌⊎◌, ℕ, zero, suc, Bool, inl, inr, List, [], ◌∷◌, ◌++◌, map, take, length, get_or, Some, IsTrue, refl, ap, ap₂, sym, ◌∙◌, subst, append-nil, arith}
 use Rattle.std.specs.Prelude.{⊤, slice_index_or}
 use Rattle.std.specs.List.{slice_get}
 use Rattle.std.specs.String.{string_bytes}
 use Rattle.std.specs.declared.string.String.{String}
 use Rattle.std.specs.declared.alloc.Global.{Global}
-use Rattle.std.proofs.lemmas.List.{length-append}
-use Rattle.std.proofs.lemmas.Bool.{and_parts, false≢true}
+use Rattle.std.proofs.lemmas.List.{length-append, take_more}
+use Rattle.pj_value.specs.Lists.{In}
+use Rattle.pj_value.proofs.Members.{In-append_left, In-append_right, In-append_cases}
 use Rattle.pj_io.specs.Causes.{Rose, counted}
-use Rattle.pj_io.specs.Folders.{IsFresh}
+use Rattle.pj_io.specs.Folders.{IsFresh, KeepsNames, SameElsewhere, SameEverywhere}
+use Rattle.pj_io.specs.States.{FolderState}
 use Rattle.pj_shape.specs.declared.plans.SmallStream.{SmallStream}
-use Rattle.pj_intake.specs.States.{Taking, IsOpen}
-use Rattle.pj_engine.specs.Feeds.{FeedState, state_of, bytes_of, files_of, AreFeeds, AreNew, AreSameFeeds, AllTold, AreAllTaken}
-use Rattle.pj_engine.specs.Opened.{IsFeedOf, AreFeedsOf, AreOpened, AgreeOn, NoneNamed, IsLast, AreCounted, HasLasts}
-use Rattle.pj_engine.specs.Top.{are_told, AreReadToEnd, IsNoneOf, AreDistinct}
-use Rattle.pj_engine.proofs.FeedFacts.{counted as counted_of}
+use Rattle.pj_engine.specs.Commands.{AreTold, files_named}
+use Rattle.pj_engine.specs.Ends.{AreDistinct, IsNoneOf}
+use Rattle.pj_engine.specs.Feeds.{FeedState, bytes_of, files_of, AreFeeds, AreNew, AreSameFeeds, AllTold, AreAllTaken}
+use Rattle.pj_engine.specs.Opened.{IsFeedOf, AreFeedsOf, AreOpened, AgreeOn, NoneNamed, IsLast, AreCounted, HasLasts, OpensFirst, OpensAtMost}
+use Rattle.pj_engine.proofs.FilesLaws.{same_or_other}
 
--- ---- a file that is opened
+-- ---- the names under which files are opened
 
-new_feed : {S : Type 0} (tells : S → Bool) (taken left : S → List ℕ) (faults : S → ℕ) (name_of : S → List ℕ) (stream : ℕ) (of : SmallStream) (name : List ℕ) (folder_tells : List ℕ → Bool) (contents : List ℕ → List ℕ) (intake : Taking S)
-    → intake.columns ≡ of.schema → intake.stopped ≡ None → intake.buffer.limit ≡ 2 ^ 40 → intake.buffer.held ≡ [] → intake.buffer.ended ≡ false → IsOpen intake [] → faults intake.source ≡ 0 → name_of intake.source ≡ name
-    → (IsTrue (tells intake.source) → taken intake.source ≡ []) → (IsTrue (folder_tells name) → IsFresh (tells intake.source) (taken intake.source) (left intake.source) (contents name))
-    → IsFeedOf stream of name folder_tells contents (state_of tells taken left faults name_of stream true intake)
-new_feed tells taken left faults name_of stream of name folder_tells contents intake columns stopped limit held ended follows faultless named untaken fresh = record {
-  number = refl;
-  columns = columns;
-  still = refl;
-  fed = record {
-    judged = [];
-    goes_on = stopped;
-    follows = follows;
-    limit = limit;
-    bytes = λ told. untaken told ∙ sym held;
-    at_end = λ end told. absurd (false≢true (sym ended ∙ end));
-    closed = λ no. absurd (false≢true (sym no));
-  };
-  none = counted_of intake.columns intake.buffer intake.seen [] follows;
-  named = named;
-  faultless = faultless;
-  told = λ t. (fresh t).tells;
-  taken = λ t. (fresh t).taken;
-  left = λ t. (fresh t).left;
-}
+pub opens_one : (first : List ℕ) (names : List (List ℕ)) (old new : FolderState) → IsTrue (new.opened first) → KeepsNames old.opened new.opened → SameElsewhere first old.opened new.opened → OpensFirst 1 (first ∷ names) old new
+opens_one first names old new opened keeps others name = (λ t. go (same_or_other name first) t, λ h. back h)
+  where
+    go : (name ≡ first) ⊎ (name ≢ first) → IsTrue (new.opened name) → IsTrue (old.opened name) ⊎ In name (take 1 (first ∷ names))
+    go (inl is) t = inr (inl (sym is))
+    go (inr other) t = inl (subst IsTrue (others name other) t)
 
--- the feed of an intake over a file that was just opened
-pub feed_is : {S : Type 0} (tells : S → Bool) (taken left : S → List ℕ) (faults : S → ℕ) (name_of : S → List ℕ) (stream : ℕ) (of : SmallStream) (name : List ℕ) (folder_tells : List ℕ → Bool) (contents : List ℕ → List ℕ) (intake : Taking S)
-    (source : S) (feed : FeedState) → feed ≡ state_of tells taken left faults name_of stream true intake → intake.source ≡ source → intake.columns ≡ of.schema → intake.stopped ≡ None → intake.buffer.limit ≡ 2 ^ 40
-    → intake.buffer.held ≡ [] → intake.buffer.ended ≡ false → IsOpen intake [] → faults source ≡ 0 → name_of source ≡ name → (IsTrue (tells source) → taken source ≡ [])
-    → (IsTrue (folder_tells name) → IsFresh (tells source) (taken source) (left source) (contents name)) → IsFeedOf stream of name folder_tells contents feed
-feed_is tells taken left faults name_of stream of name folder_tells contents intake source feed new is columns stopped limit held ended follows faultless named untaken fresh =
-    subst (λ (f : FeedState). IsFeedOf stream of name folder_tells contents f) (sym new)
-    (new_feed tells taken left faults name_of stream of name folder_tells contents intake columns stopped limit held ended follows (ap faults is ∙ faultless) (ap name_of is ∙ named)
-    (subst (λ s. IsTrue (tells s) → taken s ≡ []) (sym is) untaken) (subst (λ s. IsTrue (folder_tells name) → IsFresh (tells s) (taken s) (left s) (contents name)) (sym is) fresh))
+    back : IsTrue (old.opened name) ⊎ In name (take 1 (first ∷ names)) → IsTrue (new.opened name)
+    back (inl t) = keeps name t
+    back (inr (inl is)) = subst (λ (n : List ℕ). IsTrue (new.opened n)) is opened
+    back (inr (inr h)) = absurd h
+
+-- no file was opened meanwhile
+pub opens_still : (count : ℕ) (names : List (List ℕ)) (old mid new : FolderState) → OpensFirst count names old mid → SameEverywhere mid.opened new.opened → OpensFirst count names old new
+opens_still count names old mid new first same name = (λ t. (first name).0 (subst IsTrue (same name) t), λ h. subst IsTrue (sym (same name)) ((first name).1 h))
+
+pub opens_most_still : (most : ℕ) (names : List (List ℕ)) (old mid new : FolderState) → OpensAtMost most names old mid → SameEverywhere mid.opened new.opened → OpensAtMost most names old new
+opens_most_still most names old mid new some same = (some.0, some.1, opens_still some.0 names old mid new some.2 same)
+
+-- no name is lost
+pub opens_keep : (count : ℕ) (names : List (List ℕ)) (old new : FolderState) → OpensFirst count names old new → KeepsNames old.opened new.opened
+opens_keep count names old new opens name t = (opens name).1 (inl t)
+
+pub opens_own : (name : List ℕ) (names : List (List ℕ)) (old new : FolderState) → OpensFirst 1 (name ∷ names) old new → IsTrue (new.opened name)
+opens_own name names old new opens = (opens name).1 (inr (inl refl))
+
+-- a file that was opened under this name and then closed
+pub opens_closes : (name : List ℕ) (old mid new : FolderState) → IsTrue (mid.opened name) → KeepsNames old.opened mid.opened → SameElsewhere name old.opened mid.opened → SameEverywhere mid.opened new.opened → OpensFirst 1 (name ∷ []) old new
+opens_closes name old mid new opened keeps others same = opens_still 1 (name ∷ []) old mid new (opens_one name [] old mid opened keeps others) same
+
+pub opens_most_one : (names : List (List ℕ)) (old new : FolderState) → OpensFirst 1 names old new → OpensAtMost 1 names old new
+opens_most_one names old new opens = (1, omega arith, opens)
+
+-- the files of some first names, and then that of the next
+pub opens_then : (i : ℕ) (names : List (List ℕ)) (name : List ℕ) (old mid new : FolderState) → OpensFirst i names old mid → OpensFirst 1 (name ∷ []) mid new → i < length names → name ≡ slice_index_or names i [] → OpensFirst (i + 1) names old new
+opens_then i names name old mid new first then low is other = (λ t. from ((then other).0 t), λ h. back h)
+  where
+    more : take (i + 1) names ≡ take i names ++ name ∷ []
+    more = take_more names i [] low ∙ ap (λ (n : List ℕ). take i names ++ n ∷ []) (sym is)
+
+    in_more : In other (take i names ++ name ∷ []) → IsTrue (old.opened other) ⊎ In other (take (i + 1) names)
+    in_more h = inr (subst (In other) (sym more) h)
+
+    earlier : IsTrue (old.opened other) ⊎ In other (take i names) → IsTrue (old.opened other) ⊎ In other (take (i + 1) names)
+    earlier (inl t) = inl t
+    earlier (inr h) = in_more (In-append_left other (take i names) (name ∷ []) h)
+
+    from : IsTrue (mid.opened other) ⊎ In other (name ∷ []) → IsTrue (old.opened other) ⊎ In other (take (i + 1) names)
+    from (inl t) = earlier ((first other).0 t)
+    from (inr h) = in_more (In-append_right other (take i names) (name ∷ []) h)
+
+    either : In other (take i names) ⊎ In other (name ∷ []) → IsTrue (new.opened other)
+    either (inl h) = (then other).1 (inl ((first other).1 (inr h)))
+    either (inr h) = (then other).1 (inr h)
+
+    back : IsTrue (old.opened other) ⊎ In other (take (i + 1) names) → IsTrue (new.opened other)
+    back (inl t) = (then other).1 (inl ((first other).1 (inl t)))
+    back (inr h) = either (In-append_cases other (take i names) (name ∷ []) (subst (In other) more h))
+
+-- the files of some first names, and then no other one
+pub opens_no_more : (i : ℕ) (names others : List (List ℕ)) (old mid new : FolderState) → OpensFirst i names old mid → OpensFirst 0 others mid new → OpensFirst i names old new
+opens_no_more i names others old mid new first then name = (λ t. from ((then name).0 t), λ h. (then name).1 (inl ((first name).1 h)))
+  where
+    from : IsTrue (mid.opened name) ⊎ In name [] → IsTrue (old.opened name) ⊎ In name (take i names)
+    from (inl t) = (first name).0 t
+    from (inr h) = absurd h
+
+-- the files of some first names, and perhaps that of the next
+pub opens_most_then : (most i : ℕ) (names : List (List ℕ)) (name : List ℕ) (old mid new : FolderState) → OpensFirst i names old mid → OpensAtMost 1 (name ∷ []) mid new → i < most → i < length names → name ≡ slice_index_or names i []
+    → OpensAtMost most names old new
+opens_most_then most i names name old mid new first then few low is = go then.0 then.1 then.2
+  where
+    go : (count : ℕ) → count ≤ 1 → OpensFirst count (name ∷ []) mid new → OpensAtMost most names old new
+    go zero le opens = (i, omega (arith, few), opens_no_more i names (name ∷ []) old mid new first opens)
+    go (suc zero) le opens = (i + 1, omega (arith, few), opens_then i names name old mid new first opens low is)
+    go (suc (suc n)) le opens = absurd (omega (arith, le))
+
+-- whatever other names there are behind the first
+pub opens_most_of : (name : List ℕ) (names all : List (List ℕ)) (old new : FolderState) → all ≡ name ∷ names → OpensAtMost 1 (name ∷ []) old new → OpensAtMost 1 all old new
+opens_most_of name names all old new is some = subst (λ (ns : List (List ℕ)). OpensAtMost 1 ns old new) (sym is) (go some.0 some.1 some.2)
+  where
+    go : (count : ℕ) → count ≤ 1 → OpensFirst count (name ∷ []) old new → OpensAtMost 1 (name ∷ names) old new
+    go zero le opens = (0, le, opens)
+    go (suc zero) le opens = (1, le, opens)
+    go (suc (suc n)) le opens = absurd (omega (arith, le))
 
 -- ---- files that are opened one after the other
 
-one_more : (k i : ℕ) (streams : List SmallStream) (words : List (String Global)) (tells : List ℕ → Bool) (contents : List ℕ → List ℕ) (feeds : List FeedState) (s : SmallStream) (word : String Global) (feed : FeedState)
-    → AreFeedsOf k streams (map string_bytes words) tells contents feeds → length feeds ≡ i → i < length streams → i < length words → s ≡ get_or streams i s → word ≡ get_or words i word
-    → IsFeedOf (k + i) s (string_bytes word) tells contents feed → AreFeedsOf k streams (map string_bytes words) tells contents (feeds ++ feed ∷ [])
-one_more k i [] words tells contents feeds s word feed all count low few here named of = absurd (omega (arith, low))
-one_more k i (t ∷ ts) [] tells contents feeds s word feed all count low few here named of = absurd (omega (arith, few))
-one_more k zero (t ∷ ts) (w ∷ ws) tells contents [] s word feed all count low few here named of =
+one_more : (k i : ℕ) (streams : List SmallStream) (words : List (String Global)) (folder : FolderState) (feeds : List FeedState) (s : SmallStream) (word : String Global) (feed : FeedState)
+    → AreFeedsOf k streams (map string_bytes words) folder feeds → length feeds ≡ i → i < length streams → i < length words → s ≡ get_or streams i s → word ≡ get_or words i word
+    → IsFeedOf (k + i) s (string_bytes word) folder feed → AreFeedsOf k streams (map string_bytes words) folder (feeds ++ feed ∷ [])
+one_more k i [] words folder feeds s word feed all count low few here named of = absurd (omega (arith, low))
+one_more k i (t ∷ ts) [] folder feeds s word feed all count low few here named of = absurd (omega (arith, few))
+one_more k zero (t ∷ ts) (w ∷ ws) folder [] s word feed all count low few here named of =
     let first : k + 0 ≡ k = omega arith in (
-      subst (λ (n : ℕ). IsFeedOf n t (string_bytes w) tells contents feed) first (subst (λ (x : SmallStream). IsFeedOf (k + 0) x (string_bytes w) tells contents feed) here
-          (subst (λ (x : String Global). IsFeedOf (k + 0) s (string_bytes x) tells contents feed) named of)),
+      subst (λ (n : ℕ). IsFeedOf n t (string_bytes w) folder feed) first (subst (λ (x : SmallStream). IsFeedOf (k + 0) x (string_bytes w) folder feed) here
+          (subst (λ (x : String Global). IsFeedOf (k + 0) s (string_bytes x) folder feed) named of)),
       tt,
     )
-one_more k zero (t ∷ ts) (w ∷ ws) tells contents (f ∷ fs) s word feed all count low few here named of = absurd (omega (arith, count))
-one_more k (suc i) (t ∷ ts) (w ∷ ws) tells contents [] s word feed all count low few here named of = absurd (omega (arith, count))
-one_more k (suc i) (t ∷ ts) (w ∷ ws) tells contents (f ∷ fs) s word feed all count low few here named of =
+one_more k zero (t ∷ ts) (w ∷ ws) folder (f ∷ fs) s word feed all count low few here named of = absurd (omega (arith, count))
+one_more k (suc i) (t ∷ ts) (w ∷ ws) folder [] s word feed all count low few here named of = absurd (omega (arith, count))
+one_more k (suc i) (t ∷ ts) (w ∷ ws) folder (f ∷ fs) s word feed all count low few here named of =
     let next : k + suc i ≡ k + 1 + i = omega arith in (
       all.0,
-      one_more (k + 1) i ts ws tells contents fs s word feed all.1 (omega (arith, count)) (omega (arith, low)) (omega (arith, few)) here named
-          (subst (λ (n : ℕ). IsFeedOf n s (string_bytes word) tells contents feed) next of),
+      one_more (k + 1) i ts ws folder fs s word feed all.1 (omega (arith, count)) (omega (arith, low)) (omega (arith, few)) here named
+          (subst (λ (n : ℕ). IsFeedOf n s (string_bytes word) folder feed) next of),
     )
 
+-- what a folder tells of a file that is opened is what it told before
+feed_before : (i : ℕ) (s : SmallStream) (name : List ℕ) (old mid : FolderState) (feed : FeedState) → mid.told ≡ old.told → mid.contents ≡ old.contents → IsFeedOf i s name mid feed → IsFeedOf i s name old feed
+feed_before i s name old mid feed told contents of = record {
+  number = of.number;
+  columns = of.columns;
+  still = of.still;
+  fed = of.fed;
+  none = of.none;
+  opened = of.opened;
+  told = λ t.
+      subst (λ (c : List ℕ → List ℕ). IsFresh (c name) feed.source) contents (of.told (subst (λ (b : List ℕ → Bool). IsTrue (b name)) (sym told) t));
+}
+
 -- the file of one more name was opened, by a folder that tells the same as before
-pub feeds_more : (i : ℕ) (streams : List SmallStream) (words : List (String Global)) (tells mid_tells : List ℕ → Bool) (contents mid_contents : List ℕ → List ℕ) (feeds news : List FeedState) (s : SmallStream) (word : String Global)
-    (name : List ℕ) (feed : FeedState) → AreFeedsOf 0 streams (map string_bytes words) tells contents feeds → length feeds ≡ i → i < length streams → length words ≡ length streams → s ≡ get_or streams i s → word ≡ get_or words i word
-    → name ≡ string_bytes word → mid_tells ≡ tells → mid_contents ≡ contents → IsFeedOf i s name mid_tells mid_contents feed → news ≡ feeds ++ feed ∷ [] → AreFeedsOf 0 streams (map string_bytes words) tells contents news
-feeds_more i streams words tells mid_tells contents mid_contents feeds news s word name feed all count low each here named is same_tells same_contents of new =
+pub feeds_more : (i : ℕ) (streams : List SmallStream) (words : List (String Global)) (old mid : FolderState) (feeds news : List FeedState) (s : SmallStream) (word : String Global) (name : List ℕ) (feed : FeedState)
+    → AreFeedsOf 0 streams (map string_bytes words) old feeds → length feeds ≡ i → i < length streams → length words ≡ length streams → s ≡ get_or streams i s → word ≡ get_or words i word → name ≡ string_bytes word
+    → mid.told ≡ old.told → mid.contents ≡ old.contents → IsFeedOf i s name mid feed → news ≡ feeds ++ feed ∷ [] → AreFeedsOf 0 streams (map string_bytes words) old news
+feeds_more i streams words old mid feeds news s word name feed all count low each here named is told contents of new =
     let number : i ≡ 0 + i = omega arith in
-    subst (λ (fs : List FeedState). AreFeedsOf 0 streams (map string_bytes words) tells contents fs) (sym new) (one_more 0 i streams words tells contents feeds s word feed all count low (omega (arith, low, each)) here named
-    (subst (λ (n : ℕ). IsFeedOf n s (string_bytes word) tells contents feed) number (subst (λ (n : List ℕ). IsFeedOf i s n tells contents feed) is (subst (λ (t : List ℕ → Bool). IsFeedOf i s name t contents feed) same_tells
-    (subst (λ (c : List ℕ → List ℕ). IsFeedOf i s name mid_tells c feed) same_contents of)))))
+    subst (λ (fs : List FeedState). AreFeedsOf 0 streams (map string_bytes words) old fs) (sym new)
+    (one_more 0 i streams words old feeds s word feed all count low (omega (arith, low, each)) here named
+    (subst (λ (n : ℕ). IsFeedOf n s (string_bytes word) old feed) number
+    (subst (λ (n : List ℕ). IsFeedOf i s n old feed) is (feed_before i s name old mid feed told contents of))))
 
 pub count_more : (i : ℕ) (feeds news : List FeedState) (feed : FeedState) → length feeds ≡ i → news ≡ feeds ++ feed ∷ [] → length news ≡ i + 1
 count_more i feeds news feed count new = let long = ap length new ∙ length-append feeds (feed ∷ []) in omega (arith, long, count)
 
-opened_last : (opened : List ℕ → Bool) (feeds : List FeedState) (feed : FeedState) → AreOpened opened feeds → IsTrue (opened feed.name) → AreOpened opened (feeds ++ feed ∷ [])
+opened_last : (opened : List ℕ → Bool) (feeds : List FeedState) (feed : FeedState) → AreOpened opened feeds → IsTrue (opened feed.source.name) → AreOpened opened (feeds ++ feed ∷ [])
 opened_last opened [] feed all last = (last, tt)
 opened_last opened (f ∷ fs) feed all last = (all.0, opened_last opened fs feed all.1 last)
 
-pub opened_more : (opened : List ℕ → Bool) (feeds news : List FeedState) (feed : FeedState) → AreOpened opened feeds → IsTrue (opened feed.name) → news ≡ feeds ++ feed ∷ [] → AreOpened opened news
+pub opened_more : (opened : List ℕ → Bool) (feeds news : List FeedState) (feed : FeedState) → AreOpened opened feeds → IsTrue (opened feed.source.name) → news ≡ feeds ++ feed ∷ [] → AreOpened opened news
 opened_more opened feeds news feed all last new = subst (AreOpened opened) (sym new) (opened_last opened feeds feed all last)
+
+-- the name of a word that stands at a place
+pub word_at : (words : List (String Global)) (i : ℕ) (word : String Global) → i < length words → word ≡ get_or words i word → string_bytes word ≡ slice_index_or (map string_bytes words) i []
+word_at [] i word low is = absurd (omega (arith, low))
+word_at (w ∷ ws) zero word low is = ap string_bytes is
+word_at (w ∷ ws) (suc i) word low is = word_at ws i word (omega (arith, low)) is
 
 -- ---- feeds that were just opened
 
-pub feeds_of : (k : ℕ) (streams : List SmallStream) (names : List (List ℕ)) (tells : List ℕ → Bool) (contents : List ℕ → List ℕ) (feeds : List FeedState) → AreFeedsOf k streams names tells contents feeds
-    → length feeds ≡ length streams → AreFeeds k streams feeds
-feeds_of k [] names tells contents [] all each = tt
-feeds_of k [] names tells contents (f ∷ fs) all each = absurd all
-feeds_of k (s ∷ ss) names tells contents [] all each = absurd (omega (arith, each))
-feeds_of k (s ∷ ss) [] tells contents (f ∷ fs) all each = absurd all
-feeds_of k (s ∷ ss) (n ∷ ns) tells contents (f ∷ fs) all each = (all.0.number, all.0.columns, all.0.fed, feeds_of (k + 1) ss ns tells contents fs all.1 (omega (arith, each)))
+pub feeds_of : (k : ℕ) (streams : List SmallStream) (names : List (List ℕ)) (folder : FolderState) (feeds : List FeedState) → AreFeedsOf k streams names folder feeds → length feeds ≡ length streams → AreFeeds k streams feeds
+feeds_of k [] names folder [] all each = tt
+feeds_of k [] names folder (f ∷ fs) all each = absurd all
+feeds_of k (s ∷ ss) names folder [] all each = absurd (omega (arith, each))
+feeds_of k (s ∷ ss) [] folder (f ∷ fs) all each = absurd all
+feeds_of k (s ∷ ss) (n ∷ ns) folder (f ∷ fs) all each = (all.0.number, all.0.columns, all.0.fed, feeds_of (k + 1) ss ns folder fs all.1 (omega (arith, each)))
 
-pub new_of : (k : ℕ) (streams : List SmallStream) (names : List (List ℕ)) (tells : List ℕ → Bool) (contents : List ℕ → List ℕ) (feeds : List FeedState) → AreFeedsOf k streams names tells contents feeds → AreNew feeds
-new_of k streams names tells contents [] all = tt
-new_of k [] names tells contents (f ∷ fs) all = absurd all
-new_of k (s ∷ ss) [] tells contents (f ∷ fs) all = absurd all
-new_of k (s ∷ ss) (n ∷ ns) tells contents (f ∷ fs) all = (all.0.still, all.0.none, new_of (k + 1) ss ns tells contents fs all.1)
+pub new_of : (k : ℕ) (streams : List SmallStream) (names : List (List ℕ)) (folder : FolderState) (feeds : List FeedState) → AreFeedsOf k streams names folder feeds → AreNew feeds
+new_of k streams names folder [] all = tt
+new_of k [] names folder (f ∷ fs) all = absurd all
+new_of k (s ∷ ss) [] folder (f ∷ fs) all = absurd all
+new_of k (s ∷ ss) (n ∷ ns) folder (f ∷ fs) all = (all.0.still, all.0.none, new_of (k + 1) ss ns folder fs all.1)
 
-pub told_of : (k : ℕ) (streams : List SmallStream) (names : List (List ℕ)) (tells : List ℕ → Bool) (contents : List ℕ → List ℕ) (feeds : List FeedState) → AreFeedsOf k streams names tells contents feeds
-    → IsTrue (are_told tells names) → AllTold feeds
-told_of k streams names tells contents [] all told = tt
-told_of k [] names tells contents (f ∷ fs) all told = absurd all
-told_of k (s ∷ ss) [] tells contents (f ∷ fs) all told = absurd all
-told_of k (s ∷ ss) (n ∷ ns) tells contents (f ∷ fs) all told = let t = and_parts _ _ told in (all.0.told t.0, told_of (k + 1) ss ns tells contents fs all.1 t.1)
+pub told_of : (k : ℕ) (streams : List SmallStream) (names : List (List ℕ)) (folder : FolderState) (feeds : List FeedState) → AreFeedsOf k streams names folder feeds → AreTold names folder → AllTold feeds
+told_of k streams names folder [] all told = tt
+told_of k [] names folder (f ∷ fs) all told = absurd all
+told_of k (s ∷ ss) [] folder (f ∷ fs) all told = absurd all
+told_of k (s ∷ ss) (n ∷ ns) folder (f ∷ fs) all told = ((all.0.told told.0).tells, told_of (k + 1) ss ns folder fs all.1 told.1)
 
 -- all bytes of the file that was opened under a name are its contents
-bytes_are : (k : ℕ) (s : SmallStream) (name : List ℕ) (tells : List ℕ → Bool) (contents : List ℕ → List ℕ) (feed : FeedState) → IsFeedOf k s name tells contents feed → IsTrue (tells name) → bytes_of feed ≡ contents name
-bytes_are k s name tells contents feed of told = ap₂ (λ (xs ys : List ℕ). xs ++ ys) (of.taken told) (of.left told)
+bytes_are : (k : ℕ) (s : SmallStream) (name : List ℕ) (folder : FolderState) (feed : FeedState) → IsFeedOf k s name folder feed → IsTrue (folder.told name) → bytes_of feed ≡ folder.contents name
+bytes_are k s name folder feed of told = let fresh = of.told told in ap₂ (λ (xs ys : List ℕ). xs ++ ys) fresh.taken fresh.left
 
-pub files_are : (k : ℕ) (streams : List SmallStream) (names : List (List ℕ)) (tells : List ℕ → Bool) (contents : List ℕ → List ℕ) (feeds : List FeedState) → AreFeedsOf k streams names tells contents feeds
-    → length feeds ≡ length names → IsTrue (are_told tells names) → files_of feeds ≡ map contents names
-files_are k streams [] tells contents [] all each told = refl
-files_are k streams (n ∷ ns) tells contents [] all each told = absurd (omega (arith, each))
-files_are k [] names tells contents (f ∷ fs) all each told = absurd all
-files_are k (s ∷ ss) [] tells contents (f ∷ fs) all each told = absurd all
-files_are k (s ∷ ss) (n ∷ ns) tells contents (f ∷ fs) all each told =
-    let t = and_parts _ _ told in
-    ap₂ (λ (xs : List ℕ) (ys : List (List ℕ)). xs ∷ ys) (bytes_are k s n tells contents f all.0 t.0) (files_are (k + 1) ss ns tells contents fs all.1 (omega (arith, each)) t.1)
+pub files_are : (k : ℕ) (streams : List SmallStream) (names : List (List ℕ)) (folder : FolderState) (feeds : List FeedState) → AreFeedsOf k streams names folder feeds → length feeds ≡ length names → AreTold names folder
+    → files_of feeds ≡ files_named names folder
+files_are k streams [] folder [] all each told = refl
+files_are k streams (n ∷ ns) folder [] all each told = absurd (omega (arith, each))
+files_are k [] names folder (f ∷ fs) all each told = absurd all
+files_are k (s ∷ ss) [] folder (f ∷ fs) all each told = absurd all
+files_are k (s ∷ ss) (n ∷ ns) folder (f ∷ fs) all each told =
+    ap₂ (λ (xs : List ℕ) (ys : List (List ℕ)). xs ∷ ys) (bytes_are k s n folder f all.0 told.0) (files_are (k + 1) ss ns folder fs all.1 (omega (arith, each)) told.1)
 
-pub name_at : (k : ℕ) (streams : List SmallStream) (names : List (List ℕ)) (tells : List ℕ → Bool) (contents : List ℕ → List ℕ) (feeds : List FeedState) (i : ℕ) (feed : FeedState)
-    → AreFeedsOf k streams names tells contents feeds → slice_get feeds i ≡ Some feed → (i < length names) × (feed.name ≡ slice_index_or names i [])
-name_at k streams names tells contents [] i feed all is = absurd (cc)
-name_at k [] names tells contents (f ∷ fs) i feed all is = absurd all
-name_at k (s ∷ ss) [] tells contents (f ∷ fs) i feed all is = absurd all
-name_at k (s ∷ ss) (n ∷ ns) tells contents (f ∷ fs) zero feed all is =
-    let same : feed ≡ f = cc is in
-    (omega arith, ap (λ (g : FeedState). g.name) same ∙ all.0.named)
-name_at k (s ∷ ss) (n ∷ ns) tells contents (f ∷ fs) (suc i) feed all is = let r = name_at (k + 1) ss ns tells contents fs i feed all.1 is in (let low = r.0 in omega (arith, low), r.1)
+-- the name of the feed at a place, and its bytes where they are told
+pub record IsNamed (names : List (List ℕ)) (i : ℕ) (folder : FolderState) (feed : FeedState) : Type 0 where
+  pub there : i < length names
+  pub named : feed.source.name ≡ slice_index_or names i []
+  pub told : IsTrue (folder.told (slice_index_or names i [])) → IsTrue feed.source.told
+  pub bytes : IsTrue (folder.told (slice_index_or names i [])) → bytes_of feed ≡ folder.contents (slice_index_or names i [])
+
+pub named_of : (k : ℕ) (streams : List SmallStream) (names : List (List ℕ)) (folder : FolderState) (feeds : List FeedState) (i : ℕ) (feed : FeedState) → AreFeedsOf k streams names folder feeds → slice_get feeds i ≡ Some feed
+    → IsNamed names i folder feed
+named_of k streams names folder [] i feed all is = absurd (cc)
+named_of k [] names folder (f ∷ fs) i feed all is = absurd all
+named_of k (s ∷ ss) [] folder (f ∷ fs) i feed all is = absurd all
+named_of k (s ∷ ss) (n ∷ ns) folder (f ∷ fs) zero feed all is =
+    let same : f ≡ feed = cc is in
+    subst (IsNamed (n ∷ ns) 0 folder) same (record { there = omega arith; named = all.0.opened.named; told = λ t. (all.0.told t).tells; bytes = λ t. bytes_are k s n folder f all.0 t })
+named_of k (s ∷ ss) (n ∷ ns) folder (f ∷ fs) (suc i) feed all is =
+    let r = named_of (k + 1) ss ns folder fs i feed all.1 is in
+    let low = r.there in record { there = omega (arith, low); named = r.named; told = r.told; bytes = r.bytes }
 
 -- ---- feeds of these names
 
 -- the files of these feeds were opened under the first of these names
-abbrev AreNamed : List FeedState → List (List ℕ) → Type 0
+abbrev pub AreNamed : List FeedState → List (List ℕ) → Type 0
 AreNamed [] names = ⊤
 AreNamed (feed ∷ feeds) [] = ⊥
-AreNamed (feed ∷ feeds) (name ∷ names) = (feed.name ≡ name) × AreNamed feeds names
+AreNamed (feed ∷ feeds) (name ∷ names) = (feed.source.name ≡ name) × AreNamed feeds names
 
-named_still : (k : ℕ) (streams : List SmallStream) (names : List (List ℕ)) (tells : List ℕ → Bool) (contents : List ℕ → List ℕ) (olds news : List FeedState) → AreFeedsOf k streams names tells contents olds
-    → AreSameFeeds olds news → AreNamed news names
-named_still k streams names tells contents [] [] all same = tt
-named_still k streams names tells contents [] (g ∷ gs) all same = absurd same
-named_still k streams names tells contents (f ∷ fs) [] all same = absurd same
-named_still k [] names tells contents (f ∷ fs) (g ∷ gs) all same = absurd all
-named_still k (s ∷ ss) [] tells contents (f ∷ fs) (g ∷ gs) all same = absurd all
-named_still k (s ∷ ss) (n ∷ ns) tells contents (f ∷ fs) (g ∷ gs) all same = (same.0.name ∙ all.0.named, named_still (k + 1) ss ns tells contents fs gs all.1 same.1)
+pub named_still : (k : ℕ) (streams : List SmallStream) (names : List (List ℕ)) (folder : FolderState) (olds news : List FeedState) → AreFeedsOf k streams names folder olds → AreSameFeeds olds news → AreNamed news names
+named_still k streams names folder [] [] all same = tt
+named_still k streams names folder [] (g ∷ gs) all same = absurd same
+named_still k streams names folder (f ∷ fs) [] all same = absurd same
+named_still k [] names folder (f ∷ fs) (g ∷ gs) all same = absurd all
+named_still k (s ∷ ss) [] folder (f ∷ fs) (g ∷ gs) all same = absurd all
+named_still k (s ∷ ss) (n ∷ ns) folder (f ∷ fs) (g ∷ gs) all same = (same.0.name ∙ all.0.opened.named, named_still (k + 1) ss ns folder fs gs all.1 same.1)
 
-named_at : (feeds : List FeedState) (names : List (List ℕ)) (i : ℕ) (feed : FeedState) → AreNamed feeds names → slice_get feeds i ≡ Some feed → (i < length names) × (feed.name ≡ slice_index_or names i [])
+named_at : (feeds : List FeedState) (names : List (List ℕ)) (i : ℕ) (feed : FeedState) → AreNamed feeds names → slice_get feeds i ≡ Some feed → (i < length names) × (feed.source.name ≡ slice_index_or names i [])
 named_at [] names i feed all is = absurd (cc)
 named_at (f ∷ fs) [] i feed all is = absurd all
-named_at (f ∷ fs) (n ∷ ns) zero feed all is = let same : feed ≡ f = cc is in (omega arith, ap (λ (g : FeedState). g.name) same ∙ all.0)
+named_at (f ∷ fs) (n ∷ ns) zero feed all is = let same : feed ≡ f = cc is in (omega arith, ap (λ (g : FeedState). g.source.name) same ∙ all.0)
 named_at (f ∷ fs) (n ∷ ns) (suc i) feed all is = let r = named_at fs ns i feed all.1 is in (let low = r.0 in omega (arith, low), r.1)
 
 -- one of these has the name
-some_named : (name : List ℕ) (feeds : List FeedState) (i : ℕ) (feed : FeedState) → slice_get feeds i ≡ Some feed → feed.name ≡ name → NoneNamed name feeds → ⊥
+some_named : (name : List ℕ) (feeds : List FeedState) (i : ℕ) (feed : FeedState) → slice_get feeds i ≡ Some feed → feed.source.name ≡ name → NoneNamed name feeds → ⊥
 some_named name [] i feed is named none = absurd (cc)
-some_named name (f ∷ fs) zero feed is named none = let same : f ≡ feed = cc is in none.0 (ap (λ (g : FeedState). g.name) same ∙ named)
+some_named name (f ∷ fs) zero feed is named none = let same : f ≡ feed = cc is in none.0 (ap (λ (g : FeedState). g.source.name) same ∙ named)
 some_named name (f ∷ fs) (suc i) feed is named none = some_named name fs i feed is named none.1
 
-other_at : (name : List ℕ) (names : List (List ℕ)) (i : ℕ) → IsNoneOf name names → i < length names → name ≢ slice_index_or names i []
+pub other_at : (name : List ℕ) (names : List (List ℕ)) (i : ℕ) → IsNoneOf name names → i < length names → name ≢ slice_index_or names i []
 other_at name [] i none low = absurd (omega (arith, low))
 other_at name (n ∷ ns) zero none low = none.0
 other_at name (n ∷ ns) (suc i) none low = other_at name ns i none.1 (omega (arith, low))
 
-agree_none : (name : List ℕ) (taken : ℕ) (feeds : List FeedState) (names : List (List ℕ)) → AreNamed feeds names → IsNoneOf name names → AgreeOn name taken feeds
-agree_none name taken [] names named none = tt
-agree_none name taken (f ∷ fs) [] named none = absurd named
-agree_none name taken (f ∷ fs) (n ∷ ns) named none = (λ e. absurd (none.0 (sym e ∙ named.0)), agree_none name taken fs ns named.1 none.1)
+agree_others : (name : List ℕ) (taken : ℕ) (feeds : List FeedState) (names : List (List ℕ)) → AreNamed feeds names → IsNoneOf name names → AgreeOn name taken feeds
+agree_others name taken [] names named none = tt
+agree_others name taken (f ∷ fs) [] named none = absurd named
+agree_others name taken (f ∷ fs) (n ∷ ns) named none = (λ e. absurd (none.0 (sym e ∙ named.0)), agree_others name taken fs ns named.1 none.1)
 
 -- where no name stands twice, only one file has the name at a place
 agree_at : (feeds : List FeedState) (names : List (List ℕ)) (i : ℕ) (feed : FeedState) → AreNamed feeds names → AreDistinct names → AllTold feeds → slice_get feeds i ≡ Some feed
-    → AgreeOn (slice_index_or names i []) (length feed.taken) feeds
+    → AgreeOn (slice_index_or names i []) (length feed.source.taken) feeds
 agree_at [] names i feed named distinct told is = absurd (cc)
 agree_at (f ∷ fs) [] i feed named distinct told is = absurd named
 agree_at (f ∷ fs) (n ∷ ns) zero feed named distinct told is =
     let same : f ≡ feed = cc is in
-    (λ e. (told.0, ap (λ (g : FeedState). length g.taken) same), agree_none n (length feed.taken) fs ns named.1 distinct.0)
+    (λ e. (told.0, ap (λ (g : FeedState). length g.source.taken) same), agree_others n (length feed.source.taken) fs ns named.1 distinct.0)
 agree_at (f ∷ fs) (n ∷ ns) (suc i) feed named distinct told is =
     let low = (named_at fs ns i feed named.1 is).0 in
     (λ e. absurd (other_at n ns i distinct.0 low (sym named.0 ∙ e)), agree_at fs ns i feed named.1 distinct.1 told.1 is)
 
--- so many bytes were taken from the file of this operand that was closed last
-pub last_at_fault : (k : ℕ) (streams : List SmallStream) (plan_name : List ℕ) (names : List (List ℕ)) (tells : List ℕ → Bool) (contents : List ℕ → List ℕ) (olds news : List FeedState) (i : ℕ) (feed : FeedState)
-    (before now : List ℕ → ℕ) → AreFeedsOf k streams names tells contents olds → AreSameFeeds olds news → AllTold news → AreDistinct (plan_name ∷ names) → slice_get news i ≡ Some feed → HasLasts news before now
-    → now (slice_index_or names i []) ≡ length feed.taken
-last_at_fault k streams plan_name names tells contents olds news i feed before now all same told distinct is lasts =
-    go (lasts name (length feed.taken) (agree_at news names i feed named distinct.1 told is))
+-- so many bytes were taken from the file of this name that was closed last
+pub last_at_fault : (k : ℕ) (streams : List SmallStream) (names : List (List ℕ)) (folder : FolderState) (olds news : List FeedState) (i : ℕ) (feed : FeedState) (before now : List ℕ → ℕ) → AreFeedsOf k streams names folder olds
+    → AreSameFeeds olds news → AllTold news → AreDistinct names → slice_get news i ≡ Some feed → HasLasts news before now → now (slice_index_or names i []) ≡ length feed.source.taken
+last_at_fault k streams names folder olds news i feed before now all same told distinct is lasts = go (lasts name (length feed.source.taken) (agree_at news names i feed named distinct told is))
   where
     name : List ℕ
     name = slice_index_or names i []
 
     named : AreNamed news names
-    named = named_still k streams names tells contents olds news all same
+    named = named_still k streams names folder olds news all same
 
-    go : IsLast name (length feed.taken) news (before name) (now name) → now name ≡ length feed.taken
+    go : IsLast name (length feed.source.taken) news (before name) (now name) → now name ≡ length feed.source.taken
     go (inl last) = last
     go (inr other) = absurd (some_named name news i feed is (named_at news names i feed named is).1 other.1)
 
 -- ---- feeds that were read to their ends
 
--- from each of these files all bytes were taken
-abbrev AreRead : (List ℕ → List ℕ) → List FeedState → Type 0
-AreRead contents [] = ⊤
-AreRead contents (feed ∷ feeds) = (IsTrue feed.told × (feed.taken ≡ contents feed.name)) × AreRead contents feeds
-
-read_whole : (k : ℕ) (streams : List SmallStream) (names : List (List ℕ)) (tells : List ℕ → Bool) (contents : List ℕ → List ℕ) (olds news : List FeedState) → AreFeedsOf k streams names tells contents olds
-    → IsTrue (are_told tells names) → AreSameFeeds olds news → AreAllTaken news → AreRead contents news
-read_whole k streams names tells contents [] [] all told same taken = tt
-read_whole k streams names tells contents [] (g ∷ gs) all told same taken = absurd same
-read_whole k streams names tells contents (f ∷ fs) [] all told same taken = absurd same
-read_whole k [] names tells contents (f ∷ fs) (g ∷ gs) all told same taken = absurd all
-read_whole k (s ∷ ss) [] tells contents (f ∷ fs) (g ∷ gs) all told same taken = absurd all
-read_whole k (s ∷ ss) (n ∷ ns) tells contents (f ∷ fs) (g ∷ gs) all told same taken =
-    let t = and_parts _ _ told in
-    let old_told = all.0.told t.0 in
-    let new_told = subst IsTrue (sym same.0.told) old_told in
-    let bytes : bytes_of g ≡ contents n = same.0.bytes old_told ∙ bytes_are k s n tells contents f all.0 t.0 in
-    let none : bytes_of g ≡ g.taken = ap (λ (xs : List ℕ). g.taken ++ xs) (taken.0 new_told) ∙ append-nil g.taken in
-    let name : g.name ≡ n = same.0.name ∙ all.0.named in
-    ((new_told, sym none ∙ (bytes ∙ ap contents (sym name))), read_whole (k + 1) ss ns tells contents fs gs all.1 t.1 same.1 taken.1)
-
-agree_read : (contents : List ℕ → List ℕ) (name : List ℕ) (feeds : List FeedState) → AreRead contents feeds → AgreeOn name (length (contents name)) feeds
-agree_read contents name [] read = tt
-agree_read contents name (f ∷ fs) read = (λ e. (read.0.0, ap length (read.0.1 ∙ ap contents e)), agree_read contents name fs read.1)
-
--- what holds of each name once these files are closed
-pub last_read : (k : ℕ) (streams : List SmallStream) (names : List (List ℕ)) (tells : List ℕ → Bool) (contents : List ℕ → List ℕ) (olds news : List FeedState) (before now : List ℕ → ℕ) (name : List ℕ)
-    → AreFeedsOf k streams names tells contents olds → IsTrue (are_told tells names) → AreSameFeeds olds news → AreAllTaken news → HasLasts news before now
-    → IsLast name (length (contents name)) news (before name) (now name)
-last_read k streams names tells contents olds news before now name all told same taken lasts =
-    lasts name (length (contents name)) (agree_read contents name news (read_whole k streams names tells contents olds news all told same taken))
-
-each_read : (contents : List ℕ → List ℕ) (before now : List ℕ → ℕ) (news feeds : List FeedState) (names : List (List ℕ)) → ((name : List ℕ) → IsLast name (length (contents name)) news (before name) (now name))
-    → ((name : List ℕ) → NoneNamed name news → NoneNamed name feeds) → AreNamed feeds names → length feeds ≡ length names → AreReadToEnd now contents names
-each_read contents before now news feeds [] lasts none named each = tt
-each_read contents before now news [] (n ∷ ns) lasts none named each = absurd (omega (arith, each))
-each_read contents before now news (f ∷ fs) (n ∷ ns) lasts none named each =
-    (go (lasts n), each_read contents before now news fs ns lasts (λ name h. (none name h).1) named.1 (omega (arith, each)))
+-- where a name is told, all bytes were taken from each file of it
+agree_read : (k : ℕ) (streams : List SmallStream) (names : List (List ℕ)) (folder : FolderState) (olds news : List FeedState) (name : List ℕ) → AreFeedsOf k streams names folder olds → AreSameFeeds olds news → AreAllTaken news
+    → IsTrue (folder.told name) → AgreeOn name (length (folder.contents name)) news
+agree_read k streams names folder [] [] name all same taken told = tt
+agree_read k streams names folder [] (g ∷ gs) name all same taken told = absurd same
+agree_read k streams names folder (f ∷ fs) [] name all same taken told = absurd same
+agree_read k [] names folder (f ∷ fs) (g ∷ gs) name all same taken told = absurd all
+agree_read k (s ∷ ss) [] folder (f ∷ fs) (g ∷ gs) name all same taken told = absurd all
+agree_read k (s ∷ ss) (n ∷ ns) folder (f ∷ fs) (g ∷ gs) name all same taken told = (λ e. own e, agree_read (k + 1) ss ns folder fs gs name all.1 same.1 taken.1 told)
   where
-    go : IsLast n (length (contents n)) news (before n) (now n) → now n ≡ length (contents n)
-    go (inl last) = last
-    go (inr other) = absurd ((none n other.1).0 named.0)
+    own : g.source.name ≡ name → IsTrue g.source.told × (length g.source.taken ≡ length (folder.contents name))
+    own e =
+        let is : n ≡ name = sym (same.0.name ∙ all.0.opened.named) ∙ e in
+        let here : IsTrue (folder.told n) = subst (λ (m : List ℕ). IsTrue (folder.told m)) (sym is) told in
+        let old_told : IsTrue f.source.told = (all.0.told here).tells in
+        let new_told : IsTrue g.source.told = subst IsTrue (sym same.0.told) old_told in
+        let bytes : bytes_of g ≡ folder.contents n = same.0.bytes old_told ∙ bytes_are k s n folder f all.0 here in
+        let none : bytes_of g ≡ g.source.taken = ap (λ (xs : List ℕ). g.source.taken ++ xs) (taken.0 new_told) ∙ append-nil g.source.taken in
+        (new_told, ap length (sym none ∙ (bytes ∙ ap folder.contents is)))
 
-same_length : (olds news : List FeedState) → AreSameFeeds olds news → length news ≡ length olds
-same_length [] [] same = refl
-same_length [] (g ∷ gs) same = absurd same
-same_length (f ∷ fs) [] same = absurd same
-same_length (f ∷ fs) (g ∷ gs) same = ap suc (same_length fs gs same.1)
-
--- the file of each name was read to its end
-pub read_to_end_of : (k : ℕ) (streams : List SmallStream) (names : List (List ℕ)) (tells : List ℕ → Bool) (contents : List ℕ → List ℕ) (olds news : List FeedState) (before now : List ℕ → ℕ)
-    → AreFeedsOf k streams names tells contents olds → length olds ≡ length names → IsTrue (are_told tells names) → AreSameFeeds olds news → AreAllTaken news → HasLasts news before now → AreReadToEnd now contents names
-read_to_end_of k streams names tells contents olds news before now all each told same taken lasts =
-    each_read contents before now news news names (λ name. last_read k streams names tells contents olds news before now name all told same taken lasts) (λ name none. none)
-    (named_still k streams names tells contents olds news all same) (same_length olds news same ∙ each)
+-- what holds of each name that is told once these files are closed
+pub last_read : (k : ℕ) (streams : List SmallStream) (names : List (List ℕ)) (folder : FolderState) (olds news : List FeedState) (before now : List ℕ → ℕ) (name : List ℕ) → AreFeedsOf k streams names folder olds → AreSameFeeds olds news
+    → AreAllTaken news → HasLasts news before now → IsTrue (folder.told name) → IsLast name (length (folder.contents name)) news (before name) (now name)
+last_read k streams names folder olds news before now name all same taken lasts told = lasts name (length (folder.contents name)) (agree_read k streams names folder olds news name all same taken told)
 
 -- a name whose file was read to its end before stays one
-pub keeps_of : (k : ℕ) (streams : List SmallStream) (names : List (List ℕ)) (tells : List ℕ → Bool) (contents : List ℕ → List ℕ) (olds news : List FeedState) (before now : List ℕ → ℕ) (name : List ℕ)
-    → AreFeedsOf k streams names tells contents olds → IsTrue (are_told tells names) → AreSameFeeds olds news → AreAllTaken news → HasLasts news before now
-    → before name ≡ length (contents name) → now name ≡ length (contents name)
-keeps_of k streams names tells contents olds news before now name all told same taken lasts had = go (last_read k streams names tells contents olds news before now name all told same taken lasts)
+pub keeps_of : (k : ℕ) (streams : List SmallStream) (names : List (List ℕ)) (folder : FolderState) (olds news : List FeedState) (before now : List ℕ → ℕ) (name : List ℕ) → AreFeedsOf k streams names folder olds → AreSameFeeds olds news
+    → AreAllTaken news → HasLasts news before now → IsTrue (folder.told name) → before name ≡ length (folder.contents name) → now name ≡ length (folder.contents name)
+keeps_of k streams names folder olds news before now name all same taken lasts told had = go (last_read k streams names folder olds news before now name all same taken lasts told)
   where
-    go : IsLast name (length (contents name)) news (before name) (now name) → now name ≡ length (contents name)
+    go : IsLast name (length (folder.contents name)) news (before name) (now name) → now name ≡ length (folder.contents name)
     go (inl last) = last
     go (inr other) = other.0 ∙ had
 
 -- ---- faults
 
 -- where a file had a fault, the faults of its name rose
-pub rose_at : (before now : List ℕ → ℕ) (feeds : List FeedState) (i : ℕ) (feed : FeedState) → AreCounted before now feeds → slice_get feeds i ≡ Some feed → 1 ≤ feed.faults → Rose (before feed.name) (now feed.name)
+pub rose_at : (before now : List ℕ → ℕ) (feeds : List FeedState) (i : ℕ) (feed : FeedState) → AreCounted before now feeds → slice_get feeds i ≡ Some feed → 1 ≤ feed.source.faults → Rose (before feed.source.name) (now feed.source.name)
 rose_at before now [] i feed counts is some = absurd (cc)
 rose_at before now (f ∷ fs) zero feed counts is some =
     let same : f ≡ feed = cc is in
-    let more : counted (before feed.name) feed.faults ≤ now feed.name = subst (λ (g : FeedState). counted (before g.name) g.faults ≤ now g.name) same counts.0 in
+    let more : counted (before feed.source.name) feed.source.faults ≤ now feed.source.name = subst (λ (g : FeedState). counted (before g.source.name) g.source.faults ≤ now g.source.name) same counts.0 in
     omega (arith, more, some)
 rose_at before now (f ∷ fs) (suc i) feed counts is some = rose_at before now fs i feed counts.1 is some

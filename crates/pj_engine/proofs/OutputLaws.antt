@@ -1,46 +1,40 @@
 -- What holds of the outputs of a small plan's run on one thread.
-use Rattle.std.proofs.Common.{◌≡◌, ◌==◌, ℕ, zero, suc, false, List, [], ◌∷◌, ◌++◌, length, map, Option, Some, None, refl, ap, sym, ◌∙◌, subst, arith}
+use Rattle.std.proofs.Common.{◌≡◌, ◌==◌, ℕ, zero, suc, false, List, [], ◌∷◌, ◌++◌, length, Option, Some, None, refl, ap, ◌∙◌, arith}
 use Rattle.std.proofs.lemmas.Bool.{ne_eqb}
 use Rattle.pj_value.specs.Bags.{weigh}
-use Rattle.pj_value.specs.declared.values.Value.{Value}
 use Rattle.pj_shape.specs.declared.columns.Column.{Column}
 use Rattle.pj_shape.specs.declared.plans.SmallPlan.{SmallPlan}
 use Rattle.pj_shape.specs.declared.plans.SmallStream.{SmallStream}
 use Rattle.pj_shape.specs.declared.plans.SmallJoin.{SmallJoin}
 use Rattle.pj_pattern.specs.declared.element.Element.{Element}
 use Rattle.pj_pattern.specs.declared.element.Element.TheVariants.{Tuple, Punct}
-use Rattle.pj_element.specs.Runs.{IsLawful, rows_of, puncts_of, closing}
+use Rattle.pj_pattern.specs.Elements.{IsLawful, puncts_of}
+use Rattle.pj_element.specs.Runs.{closing}
 use Rattle.pj_element.specs.Accepted.{taken_of, fates_of}
-use Rattle.pj_laws.specs.Bags.{SameBag}
-use Rattle.pj_laws.specs.Join.{rows_of as rows_in}
 use Rattle.pj_laws.specs.Plan.{Node, Stream}
 use Rattle.pj_laws.specs.declared.events.Entry.{Entry}
 use Rattle.pj_laws.specs.declared.events.Event.{Event}
 use Rattle.pj_laws.specs.declared.events.Event.TheVariants.{Arrive, Take as Taken, Give as Given, Sweep as Swept, Drain, Halt, Look, Stopped, Idle}
 use Rattle.pj_laws.specs.History.{gained, nodes_by}
 use Rattle.pj_laws.specs.Outcomes.{elements_out, element_at}
-use Rattle.pj_laws.specs.Outcomes.{outputs_of as handed_out, answer_of as plan_answer, elements_of as arrived_at}
+use Rattle.pj_laws.specs.Outcomes.{outputs_of as handed_out, elements_of as arrived_at}
 use Rattle.pj_laws.specs.CoreKept.{nodes_of, IsPlanOf, IsSmallPlan}
 use Rattle.pj_laws.specs.HistoryLaws.{IsWholeRun}
 use Rattle.pj_laws.proofs.HistoryAnswers.{hands_out-lawfully}
 use Rattle.pj_laws.proofs.OneThreadAnswer.{unswept-whole, unswept-answer}
 use Rattle.pj_laws.proofs.Small.{small-planned, small-nodes, small-no_group}
-use Rattle.pj_engine.specs.Runs.{accepted_of, history_of, outputs_of, answer_of, IsAnswer, ArePunctuations}
-use Rattle.pj_engine.proofs.AcceptedLaws.{accepted_lists, lawful_list, rows_same, lists_same}
+use Rattle.pj_engine.specs.Runs.{accepted_of, history_of, outputs_of, IsAnswer, ArePunctuations}
+use Rattle.pj_engine.proofs.Accepting.{accepted_lists}
 
 -- the history is legal and whole
-pub whole_run : (plan : SmallPlan) (files : List (List ℕ)) → IsSmallPlan plan → length files ≡ length plan.streams → IsWholeRun false (nodes_of plan) (accepted_of plan.streams files)
-whole_run plan files p l = unswept-whole (nodes_of plan) (small-planned plan p) (accepted_of plan.streams files) (accepted_lists plan files p l)
+pub whole_run : (plan : SmallPlan) (files : List (List ℕ)) → IsSmallPlan plan → IsWholeRun false (nodes_of plan) (accepted_of plan.streams files)
+whole_run plan files p = unswept-whole (nodes_of plan) (small-planned plan p) (accepted_of plan.streams files) (accepted_lists plan files)
 
 pub outputs_lawful : (plan : SmallPlan) (files : List (List ℕ)) → IsSmallPlan plan → length files ≡ length plan.streams → IsLawful (outputs_of plan files)
-outputs_lawful plan files p l =
-    lawful_list (outputs_of plan files) (hands_out-lawfully (nodes_of plan) (small-planned plan p) (small-nodes plan p) false (history_of plan files) (whole_run plan files p l).legal)
+outputs_lawful plan files p l = hands_out-lawfully (nodes_of plan) (small-planned plan p) (small-nodes plan p) false (history_of plan files) (whole_run plan files p).legal
 
 pub outputs_answer : (plan : SmallPlan) (files : List (List ℕ)) → IsSmallPlan plan → length files ≡ length plan.streams → (report : List (List ℕ)) → IsAnswer plan files (outputs_of plan files) report
-outputs_answer plan files p l report =
-    subst (λ (rows : List (List Value)). SameBag rows (answer_of plan (map rows_of (accepted_of plan.streams files)))) (sym (rows_same (outputs_of plan files)))
-    (subst (λ (lists : List (List (List Value))). SameBag (rows_in (outputs_of plan files)) (plan_answer (nodes_of plan) lists)) (sym (lists_same (accepted_of plan.streams files)))
-    (unswept-answer (nodes_of plan) (small-planned plan p) (small-nodes plan p) (small-no_group plan) (accepted_of plan.streams files) (accepted_lists plan files p l) false))
+outputs_answer plan files p l report = unswept-answer (nodes_of plan) (small-planned plan p) (small-nodes plan p) (small-no_group plan) (accepted_of plan.streams files) (accepted_lists plan files) false
 
 -- ---- a plan of one stream
 
@@ -80,7 +74,7 @@ alone_outputs : (s : SmallStream) (bytes : List ℕ)
     → outputs_of (record { streams = s ∷ []; join = None }) (bytes ∷ []) ≡ taken_of (fates_of s.schema bytes) ++ Punct (closing s.schema) ∷ []
 alone_outputs s bytes =
     alone_hands s.schema (history_of (record { streams = s ∷ []; join = None }) (bytes ∷ [])) []
-    ∙ (whole_run (record { streams = s ∷ []; join = None }) (bytes ∷ []) refl refl).elements 0 (omega arith)
+    ∙ (whole_run (record { streams = s ∷ []; join = None }) (bytes ∷ []) refl).elements 0 (omega arith)
 
 puncts_by : (streams : List SmallStream) (join : Option SmallJoin) (files : List (List ℕ)) → IsPlanOf streams join → length files ≡ length streams → (report : List (List ℕ))
     → ArePunctuations (record { streams = streams; join = join }) files (outputs_of (record { streams = streams; join = join }) files) report

@@ -1,6 +1,6 @@
 -- What holds of a plan that is read: it is small, and its names are plain.
 use Rattle.std.proofs.Common.{◌≡◌, ◌≢◌, ℕ, ◌+◌, ◌≤◌, ◌<◌, Bool, true, false, ◌&&◌, cond, List, [], ◌∷◌, Option, Some, None, length, slice_get, refl, ap, sym, ◌∙◌, subst, inl, inr, IfSome, arith, map}
-use Rattle.std.proofs.lemmas.Bool.{false≢true, and_parts, and_from, or_left, or_right, not-true, leb-true, eq-eqb}
+use Rattle.std.proofs.lemmas.Bool.{false≢true, and_parts, and_from, not-true, leb-true, eq-eqb}
 use Rattle.std.specs.List.{list_all, list_any}
 use Rattle.std.specs.Prelude.{◌==◌, nat_le}
 use Rattle.pj_value.specs.declared.values.Kind.{Kind}
@@ -10,7 +10,7 @@ use Rattle.pj_shape.specs.declared.columns.Column.{Column}
 use Rattle.pj_shape.specs.declared.joins.ClassCol.{ClassCol}
 use Rattle.pj_shape.specs.declared.plans.SmallPlan.{SmallPlan}
 use Rattle.pj_shape.specs.declared.plans.SmallStream.{SmallStream}
-use Rattle.pj_shape.specs.Lists.{In}
+use Rattle.pj_value.specs.Lists.{In}
 use Rattle.pj_shape.specs.Joining.{has_column}
 use Rattle.pj_shape.specs.Sound.{IsOfKind, IsSoundClass, AreApart, IsSoundSpec}
 use Rattle.pj_laws.specs.CoreKept.{IsSmallPlan, columns_of}
@@ -18,9 +18,10 @@ use Rattle.pj_laws.specs.Join.{AreDistinct}
 use Rattle.pj_engine.specs.declared.plan.Statement.{Statement}
 use Rattle.pj_engine.specs.declared.plan.ClassLine.{ClassLine}
 use Rattle.pj_engine.specs.declared.plan.JoinLine.{JoinLine}
-use Rattle.pj_engine.specs.Statements.{all_of, is_name, is_column_name}
+use Rattle.pj_engine.specs.Statements.{all_of, is_name, is_column_name, is_name_byte}
 use Rattle.pj_engine.specs.PlanForms.{HasPlainNames, is_plain, place_of, kind_eq, same_kind, pair_of, paired, class_between, or_else, class_in, is_apart, are_apart, are_classes}
 use Rattle.pj_engine.specs.Plans.{plan_in, plan_with, stream_plan, is_stream_plan, join_plan, is_join_plan, joined, joined_by, inputs_are, are_schemas, is_schema, are_names, is_plan, with_schemes, streams_in, joins_in}
+use Rattle.pj_value.proofs.Members.{any_from, all_at}
 
 -- ---- how many columns
 
@@ -100,26 +101,16 @@ all_hold : {A : Type 0} {B : Type 0} (f : A → Option B) (P : B → Type 0) →
 all_hold f P each [] ys e y there = let same : ys ≡ [] = cc in absurd (subst (λ (zs : List _). In y zs) same there)
 all_hold f P each (x ∷ xs) ys e y there = both_hold P (f x) (all_of f xs) ys (each x) (all_hold f P each xs) e y there
 
-any_in : {A : Type 0} (p : A → Bool) (xs : List A) (x : A) → In x xs → p x ≡ true → list_any p xs ≡ true
-any_in p [] x there e = absurd there
-any_in p (y ∷ ys) x (inl is) e = or_left (p y) (list_any p ys) (ap p is ∙ e)
-any_in p (y ∷ ys) x (inr more) e = or_right (p y) (list_any p ys) (any_in p ys x more e)
-
-all_in : {A : Type 0} (p : A → Bool) (xs : List A) (x : A) → list_all p xs ≡ true → In x xs → p x ≡ true
-all_in p [] x e there = absurd there
-all_in p (y ∷ ys) x e (inl is) = ap p (sym is) ∙ (and_parts (p y) (list_all p ys) e).0
-all_in p (y ∷ ys) x e (inr more) = all_in p ys x (and_parts (p y) (list_all p ys) e).1 more
-
 is_there : (class : List ClassCol) (at : ClassCol) → In at class → has_column class at ≡ true
-is_there class at there = any_in (λ (c : ClassCol). (c.input == at.input) && (c.column == at.column)) class at there (and_from (at.input == at.input) (at.column == at.column) (eq-eqb at.input at.input refl) (eq-eqb at.column at.column refl))
+is_there class at there = any_from (λ (c : ClassCol). (c.input == at.input) && (c.column == at.column)) class at there (and_from (at.input == at.input) (at.column == at.column) (eq-eqb at.input at.input refl) (eq-eqb at.column at.column refl))
 
 pair_apart : (class other : List ClassCol) → is_apart class other ≡ true → (at : ClassCol) → In at class → ¬ In at other
-pair_apart class other e at here there = false≢true (sym (not-true (list_any (has_column other) class) e) ∙ any_in (has_column other) class at here (is_there other at there))
+pair_apart class other e at here there = false≢true (sym (not-true (list_any (has_column other) class) e) ∙ any_from (has_column other) class at here (is_there other at there))
 
 apart : (classes : List (List ClassCol)) → are_apart classes ≡ true → AreApart classes
 apart [] e = tt
 apart (class ∷ classes) e = (
-  (λ other there. pair_apart class other (all_in (is_apart class) classes other (and_parts (list_all (is_apart class) classes) (are_apart classes) e).0 there)),
+  (λ other there. pair_apart class other (all_at (is_apart class) classes other (and_parts (list_all (is_apart class) classes) (are_apart classes) e).0 there)),
   apart classes (and_parts (list_all (is_apart class) classes) (are_apart classes) e).1,
 )
 
@@ -136,7 +127,9 @@ spec_sound left right lines classes few said e = record {
 -- ---- names
 
 plain_column : (name : List ℕ) → is_column_name name ≡ true → is_plain name ≡ true
-plain_column name e = (and_parts _ _ (and_parts _ _ (and_parts _ _ e).1).1).0
+plain_column name e =
+    let short = and_parts (nat_le (length name) 32) _ (and_parts _ _ e).1 in
+    and_from (nat_le (length name) 32) (list_all is_name_byte name) short.0 (and_parts _ _ short.1).0
 
 plain : (name : List ℕ) → is_name name ≡ true → is_plain name ≡ true
 plain name e = plain_column name (and_parts _ _ e).0

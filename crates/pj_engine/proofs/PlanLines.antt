@@ -1,5 +1,5 @@
 -- The statements of a plan.
-use Rattle.std.proofs.Common.{◌≡◌, ℕ, suc, ◌+◌, ◌-◌, ◌^◌, ◌≤◌, ◌<◌, ◌==◌, Bool, true, false, cond, if◌then◌else◌, List, [], ◌∷◌, ◌++◌, Option, Some, None, Ok, Err, length, take, drop, get_or, refl, ap, sym, ◌∙◌, append_assoc, arith}
+use Rattle.std.proofs.Common.{◌≡◌, ℕ, ◌+◌, ◌-◌, ◌^◌, ◌≤◌, ◌<◌, ◌==◌, Bool, true, false, cond, if◌then◌else◌, List, [], ◌∷◌, ◌++◌, Option, Some, None, Ok, Err, length, take, drop, get_or, refl, ap, sym, ◌∙◌, append_assoc, arith}
 use Rattle.std.specs.Prelude.{slice_index}
 use Rattle.std.proofs.lemmas.Bool.Decides.{nat_tests}
 use Rattle.std.proofs.lemmas.List.{at_drop_more, at_drop_all, length-take}
@@ -11,6 +11,7 @@ use Rattle.pj_line.specs.Lines.{pieces, line_of}
 use Rattle.pj_line.specs.Cells.{AreCut, bytes_in, cells_of}
 use Rattle.pj_engine.specs.declared.plan.Statement.{Statement}
 use Rattle.pj_engine.specs.Statements.{all_of, statements_of, is_passed, is_short, line_stated, statement_in, statement_of}
+use Rattle.pj_line.proofs.CutCells.{bytes_count}
 
 one_more : {A : Type 0} (done : List A) (x : A) (o : Option (List A)) → with_front done (with_first x o) ≡ with_front (done ++ x ∷ []) o
 one_more done x None = refl
@@ -52,10 +53,6 @@ cells_more cells i cell done copy before lt is same =
 pub cells_end : (cells : List Cell) (i : ℕ) (done : List (List ℕ)) → done ++ bytes_in (drop i cells) ≡ bytes_in cells → length cells ≤ i → done ≡ bytes_in cells
 cells_end cells i done before le = sym (append_none done) ∙ (ap (λ (cs : List (List ℕ)). done ++ cs) (sym (at_drop_all bytes_in cells i le)) ∙ before)
 
-length-bytes_in : (cells : List Cell) → length (bytes_in cells) ≡ length cells
-length-bytes_in [] = refl
-length-bytes_in (c ∷ cs) = ap suc (length-bytes_in cs)
-
 short_line : (b : Bool) (piece : List ℕ) → length (if b then take (length piece - 1) piece else piece) ≤ length piece
 short_line true piece = omega (arith, length-take (length piece - 1) piece)
 short_line false piece = omega arith
@@ -77,7 +74,7 @@ many_cells cells many = grind (arith, nat_tests)
 pub line_cut : (piece line : List ℕ) (cells : List Cell) → is_short piece ≡ true → line ≡ line_of piece → AreCut line (Ok cells) → line_stated piece ≡ statement_of (bytes_in cells)
 line_cut piece line cells e is cut =
     short_stated piece e ∙ (ap (λ (l : List ℕ). statement_in (cells_of l)) (sym is)
-    ∙ (ap statement_in cut.0 ∙ few_cells (bytes_in cells) (omega (arith, cut.1, length-bytes_in cells))))
+    ∙ (ap statement_in cut.0 ∙ few_cells (bytes_in cells) (omega (arith, cut.1, bytes_count cells))))
 
 -- and one that is not
 pub line_uncut : (piece line : List ℕ) (fault : CellFault) → is_short piece ≡ true → line ≡ line_of piece → AreCut line (Err fault) → line_stated piece ≡ None

@@ -1,72 +1,66 @@
 -- What a run leaves written.
-use Rattle.std.proofs.Common.{◌≡◌, ◌≤◌, ◌≢◌, ℕ, Bool, true, not, ◌==◌, inl, inr, List, [], ◌∷◌, ◌++◌, map, length, Option, None, Some, Ok, refl, ap, sym, ◌∙◌, subst, append-nil, arith}
-use Rattle.std.specs.Prelude.{codes}
+use Rattle.std.proofs.Common.{◌≡◌, ◌≤◌, ◌≢◌, ℕ, Bool, true, not, ◌==◌, inl, inr, List, [], ◌∷◌, ◌++◌, map, length, Option, None, Some, IsTrue, refl, ap, sym, ◌∙◌, subst, append-nil, arith}
+use Rattle.std.specs.Prelude.{codes, nat_le}
 use Rattle.std.specs.List.{list_all}
 use Rattle.std.specs.Fmt.{decimal}
 use Rattle.std.proofs.lemmas.Bool.{false≢true, and_parts}
 use Rattle.std.proofs.lemmas.Bool.Decides.{nat_tests, eqb_tells}
+use Rattle.pj_io.specs.States.{SinkState}
 use Rattle.pj_shape.specs.declared.plans.SmallPlan.{SmallPlan}
 use Rattle.pj_shape.specs.declared.plans.SmallStream.{SmallStream}
 use Rattle.pj_shape.specs.declared.plans.SmallJoin.{SmallJoin}
 use Rattle.pj_pattern.specs.declared.element.Element.{Element}
+use Rattle.pj_pattern.specs.Elements.{rows_of, puncts_of}
 use Rattle.pj_element.specs.declared.element.Reject.{Reject}
 use Rattle.pj_element.specs.declared.element.Reject.TheVariants.{TooLong, NotElement, Arity, BadCell, WrongKind, Closed}
 use Rattle.pj_element.specs.declared.tally.Tally.{Tally}
 use Rattle.pj_line.specs.Lines.{HasNo}
-use Rattle.pj_element.specs.Runs.{rows_of, puncts_of}
+use Rattle.pj_element.specs.Runs.{element_lines}
 use Rattle.pj_element.specs.Accepted.{fates_of, tally_of}
-use Rattle.pj_element.proofs.Feeds.{both_have_no, decimal_no_feed}
+use Rattle.pj_line.proofs.Feeds.{has_no_both}
+use Rattle.pj_element.proofs.Feeds.{decimal_no_feed}
 use Rattle.pj_laws.specs.CoreKept.{nodes_of}
 use Rattle.pj_laws.specs.Outcomes.{peak_of}
-use Rattle.pj_engine.specs.declared.status.Status.{Status}
-use Rattle.pj_engine.specs.declared.status.Status.TheVariants.{Done, NotBuilt, ReadFault, WriteFault, NoMemory, Limit}
+use Rattle.pj_engine.specs.Commands.{Command, plan_bytes, stream_files}
 use Rattle.pj_engine.specs.Statements.{is_name_byte}
 use Rattle.pj_engine.specs.PlanForms.{HasPlainNames, is_plain, are_plain, is_plain_join}
 use Rattle.pj_engine.specs.Plans.{plan_of}
-use Rattle.pj_engine.specs.Report.{stream_line, stream_lines, reject_line, reject_words, results_line, peak_line, counted_to, status_line}
+use Rattle.pj_engine.specs.Report.{stream_line, stream_lines, reject_line, reject_words, results_line, peak_line, counted_to}
 use Rattle.pj_engine.specs.Runs.{outputs_of, history_of, report_of, run_lines, streams_report, peaks_report}
-use Rattle.pj_engine.specs.Top.{Ran, StoppedRun, RunEnds, stop_name, limit_name}
-use Rattle.pj_engine.specs.Written.{flat, FrontOf, Delivered, StopLeaves, Writes}
+use Rattle.pj_engine.specs.Written.{flat, Delivered, holding}
 use Rattle.pj_engine.proofs.Fronts.{IsNoteLine, AreNotes, notes-append}
 
 -- ---- a run that is done
 
 -- all lines were written, and this holds of the outputs
-pub ran : (Holds : SmallPlan → List (List ℕ) → List Element → List (List ℕ) → Type 0) (plan : SmallPlan) (plan_bytes : List ℕ) (ready files : List (List ℕ)) (before after : List ℕ)
-    → plan_of plan_bytes ≡ Some plan → ready ≡ files → Writes (run_lines plan ready) before after (Ok tt) → Holds plan ready (outputs_of plan ready) (report_of plan ready (outputs_of plan ready)) → Ran Holds plan_bytes files before after
-ran Holds plan plan_bytes ready files before after read same written holds =
-    subst (λ (fs : List (List ℕ)). Ran Holds plan_bytes fs before after) same
+pub ran : (Holds : SmallPlan → List (List ℕ) → List Element → List (List ℕ) → Type 0) (plan : SmallPlan) (command : Command) (ready : List (List ℕ)) (old new : SinkState)
+    → plan_of (plan_bytes command) ≡ Some plan → ready ≡ stream_files command → new.written ≡ old.written ++ flat (run_lines plan ready) → Holds plan ready (outputs_of plan ready) (report_of plan ready (outputs_of plan ready))
+    → (plan : SmallPlan) × (outputs : List Element) × (report : List (List ℕ)) × (plan_of (plan_bytes command) ≡ Some plan)
+    × (outputs ≡ outputs_of plan (stream_files command)) × (new.written ≡ old.written ++ flat (element_lines outputs ++ report)) × Holds plan (stream_files command) outputs report
+ran Holds plan command ready old new read same written holds =
+    subst (λ (fs : List (List ℕ)). (plan : SmallPlan) × (outputs : List Element) × (report : List (List ℕ)) × (plan_of (plan_bytes command) ≡ Some plan)
+    × (outputs ≡ outputs_of plan fs) × (new.written ≡ old.written ++ flat (element_lines outputs ++ report)) × Holds plan fs outputs report) same
     (plan, outputs_of plan ready, report_of plan ready (outputs_of plan ready), read, refl, written, holds)
 
--- ---- a run that stopped
+-- ---- what was delivered
 
 pub nothing_left : (front others : List ℕ) → front ++ others ≡ [] → front ≡ []
 nothing_left [] others e = refl
 nothing_left (f ∷ front) others e = absurd (cc)
 
 -- nothing more was written
-pub same_after : (before after : List ℕ) (faults faults' : ℕ) → Delivered [] before after faults faults' → after ≡ before
-same_after before after faults faults' (inl e) = e ∙ append-nil before
-same_after before after faults faults' (inr cut) = cut.1.written ∙ (ap (λ (xs : List ℕ). before ++ xs) (nothing_left cut.1.front cut.1.others cut.1.all) ∙ append-nil before)
+pub same_after : (old new : SinkState) → IsTrue new.told → Delivered [] old new → new.written ≡ old.written
+same_after old new told delivered = elim (delivered told) [
+  | inl e ↦ e ∙ append-nil old.written
+  | inr cut ↦ cut.1.written ∙ (ap (λ (xs : List ℕ). old.written ++ xs) (nothing_left cut.1.front cut.1.others cut.1.all) ∙ append-nil old.written)
+]
 
-earlier_rose : (line before after : List ℕ) (faults mid faults' : ℕ) → faults ≤ mid → Delivered line before after mid faults' → Delivered line before after faults faults'
-earlier_rose line before after faults mid faults' le (inl e) = inl e
-earlier_rose line before after faults mid faults' le (inr cut) = inr (omega (arith, cut.0), cut.1)
-
--- the run stopped, and then the line of its status was written
-pub stopped : (status : Status) (plan : SmallPlan) (plan_bytes name : List ℕ) (files names : List (List ℕ)) (last_before last_after : List ℕ → ℕ) (before mid after : List ℕ) (faults faults_mid faults' : ℕ) → plan_of plan_bytes ≡ Some plan
-    → name ≡ stop_name plan status → StopLeaves status (run_lines plan files) before mid → RunEnds status plan files names last_before last_after before mid → faults ≤ faults_mid
-    → Delivered (status_line name status) mid after faults_mid faults' → StoppedRun status plan_bytes files names last_before last_after before after faults faults'
-stopped Done plan plan_bytes name files names last_before last_after before mid after faults faults_mid faults' read named stop ends le line = absurd stop
-stopped NotBuilt plan plan_bytes name files names last_before last_after before mid after faults faults_mid faults' read named stop ends le line = absurd stop
-stopped (ReadFault n) plan plan_bytes name files names last_before last_after before mid after faults faults_mid faults' read named stop ends le line =
-    inr (plan, mid, read, ends, earlier_rose (status_line [] (ReadFault n)) mid after faults faults_mid faults' le (subst (λ (x : List ℕ). Delivered (status_line x (ReadFault n)) mid after faults_mid faults') named line))
-stopped WriteFault plan plan_bytes name files names last_before last_after before mid after faults faults_mid faults' read named stop ends le line =
-    (plan, read, subst (λ (now : List ℕ). FrontOf (flat (run_lines plan files)) before now) (sym (same_after mid after faults_mid faults' line)) stop)
-stopped NoMemory plan plan_bytes name files names last_before last_after before mid after faults faults_mid faults' read named stop ends le line =
-    (mid, inr (plan, read, stop), earlier_rose (status_line [] NoMemory) mid after faults faults_mid faults' le line)
-stopped (Limit what) plan plan_bytes name files names last_before last_after before mid after faults faults_mid faults' read named stop ends le line =
-    (plan, mid, read, ends, earlier_rose (status_line (limit_name plan what) (Limit what)) mid after faults faults_mid faults' le (subst (λ (x : List ℕ). Delivered (status_line x (Limit what)) mid after faults_mid faults') named line))
+-- the faults rose since before
+pub earlier_rose : (line : List ℕ) (first old new : SinkState) → first.faults ≤ old.faults → Delivered line old new → Delivered line (holding first old.written) new
+earlier_rose line first old new le delivered told = elim (delivered told) [
+  | inl e ↦ inl e
+  | inr cut ↦ let rose = cut.0 in inr (omega (arith, rose, le), cut.1)
+]
 
 -- ---- notes
 
@@ -81,18 +75,24 @@ no_feeds (x ∷ xs) e =
 
 -- a name of small letters, digits and `_`
 pub name_no_feed : (xs : List ℕ) → is_plain xs ≡ true → HasNo 10 xs
-name_no_feed [] e = tt
-name_no_feed (x ∷ xs) e = let p = and_parts (is_name_byte x) (is_plain xs) e in (name_byte x p.0, name_no_feed xs p.1)
+name_no_feed xs e = go xs (and_parts (nat_le (length xs) 32) (list_all is_name_byte xs) e).1
   where
     name_byte : (x : ℕ) → is_name_byte x ≡ true → x ≢ 10
     name_byte x e = grind (arith, nat_tests)
+
+    go : (xs : List ℕ) → list_all is_name_byte xs ≡ true → HasNo 10 xs
+    go [] e = tt
+    go (x ∷ xs) e = let p = and_parts (is_name_byte x) (list_all is_name_byte xs) e in (name_byte x p.0, go xs p.1)
+
+pub name_short : (xs : List ℕ) → is_plain xs ≡ true → length xs ≤ 32
+name_short xs e = let p = (and_parts (nat_le (length xs) 32) (list_all is_name_byte xs) e).0 in grind (arith, nat_tests)
 
 -- no byte is a line feed
 record NoFeed (xs : List ℕ) : Type 0 where
   it : HasNo 10 xs
 
 and_then : {xs ys : List ℕ} → NoFeed xs → NoFeed ys → NoFeed (xs ++ ys)
-and_then {xs} {ys} x y = record { it = both_have_no xs ys x.it y.it }
+and_then {xs} {ys} x y = record { it = has_no_both 10 xs ys x.it y.it }
 
 literal : (xs : List ℕ) → no_feed_test xs ≡ true → NoFeed xs
 literal xs e = record { it = no_feeds xs e }

@@ -1,5 +1,5 @@
 -- A run on one thread, turn by turn.
-use Rattle.std.proofs.Common.{◌≡◌, ℕ, ◌+◌, ◌<◌, false, List, [], ◌∷◌, ◌++◌, length, map, get_or, Some, None, Result, Ok, Err, IsErrAnd, refl, ap, ap₂, sym, ◌∙◌, append_assoc, append-nil, subst, arith, zero-add, Bool, true, take, drop}
+use Rattle.std.proofs.Common.{◌≡◌, ℕ, ◌+◌, ◌<◌, false, List, [], ◌∷◌, ◌++◌, length, map, get_or, Some, None, refl, ap, ap₂, sym, ◌∙◌, append_assoc, append-nil, subst, arith, zero-add, Bool, true, take, drop, IsTrue}
 use Rattle.std.specs.List.{slice_get}
 use Rattle.std.specs.Option.{option_map}
 use Rattle.std.proofs.lemmas.List.{length-map, length-append, map-append, take-append-drop, same_lists, get_or_default}
@@ -14,39 +14,42 @@ use Rattle.pj_element.specs.declared.tally.Tally.{Tally}
 use Rattle.pj_laws.specs.declared.events.Entry.{Entry}
 use Rattle.pj_laws.specs.declared.events.Event.TheVariants.{Arrive}
 use Rattle.pj_laws.specs.declared.events.Out.{Out}
-use Rattle.pj_laws.specs.declared.events.Stop.TheVariants.{Limit as CoreLimit}
-use Rattle.pj_laws.specs.Patterns.{all_wild}
-use Rattle.pj_laws.specs.Plan.{Node, FitsSchema, operator_at}
+use Rattle.pj_pattern.specs.Columns.{all_wild}
+use Rattle.pj_pattern.specs.Fitting.{FitsKinds}
+use Rattle.pj_shape.specs.Columns.{kinds_of}
+use Rattle.pj_laws.specs.Plan.{Node, operator_at}
 use Rattle.pj_laws.specs.History.{nodes_from, reached_of, streams_of, IsLegal, IsEntryAllowed}
-use Rattle.pj_laws.specs.Outcomes.{elements_out, goes_beyond, peak_of}
+use Rattle.pj_laws.specs.Limits.{StaysWithin, BeginsBeyond, ReachesLimit}
+use Rattle.pj_laws.specs.Outcomes.{elements_out, peak_of}
 use Rattle.pj_laws.specs.Outcomes.{outputs_of as handed_out, elements_of as arrived_at}
 use Rattle.pj_laws.specs.OneThread.{Turn, follow_up, turns_of, in_rounds, arrival_of, turn_entries, turns_entries, all_turns, schema_of}
 use Rattle.pj_laws.specs.CoreKept.{nodes_of, columns_of, IsSmallPlan}
 use Rattle.pj_laws.proofs.Rounds.{AreTagged, length-all, all-at}
-use Rattle.pj_laws.proofs.Probes.{nodes-append}
 use Rattle.pj_laws.proofs.Steps.{elements-append}
 use Rattle.pj_laws.proofs.Small.{small-planned}
 use Rattle.pj_laws.proofs.HistoryAnswers.{grows-legally, fronts-are-legal}
 use Rattle.pj_laws.proofs.OneThreadAnswer.{unswept-whole, rounds-go-on}
 use Rattle.pj_core.specs.Cores.{CoreState, StandsFor, MayFollow}
-use Rattle.pj_core.specs.Calls.{IsFresh, IsCause, IsPeak, turn_behind}
-use Rattle.pj_engine.specs.declared.feeds.Next.{Next}
-use Rattle.pj_engine.specs.declared.feeds.Next.TheVariants.{Bring, Close}
-use Rattle.pj_engine.specs.declared.outs.Counts.{Counts}
-use Rattle.pj_engine.specs.declared.status.Status.{Status}
-use Rattle.pj_engine.specs.declared.status.Status.TheVariants.{NoMemory}
+use Rattle.pj_core.specs.Calls.{IsFresh, IsPeak, turn_behind}
+use Rattle.pj_engine.specs.declared.feeds.Arrival.{Arrival}
+use Rattle.pj_engine.specs.declared.feeds.Arrival.TheVariants.{Brought, Closing}
+use Rattle.pj_engine.specs.declared.results.Counts.{Counts}
 use Rattle.pj_intake.specs.declared.intake.IntakeStop.{IntakeStop}
 use Rattle.pj_intake.specs.declared.intake.IntakeStop.TheVariants.{ReadFault as IntakeFault, ByteLimit, NoMemory as OutOfMemory}
-use Rattle.pj_engine.specs.Feeds.{FeedState, feed_left, feeds_left, brought, closes, turn_in, tallies_of, all_accepted, count_of, files_of, AreFeeds, AreNew, AreSameFeeds, AllTold, BringsIn, FeedStops, StopsIn, status_of_feed}
+use Rattle.pj_engine.specs.Feeds.{FeedState, feed_left, feeds_left, brought, closes, turn_in, tallies_of, all_accepted, count_of, files_of, AreFeeds, AreNew, AreSameFeeds, AllTold, BringsIn, FeedStops, StopsIn}
 use Rattle.pj_engine.specs.Outcome.{IsOutcome}
-use Rattle.pj_engine.specs.Outs.{out_lines, counts_of}
+use Rattle.pj_engine.specs.Results.{out_lines, counts_of}
 use Rattle.pj_engine.specs.Runs.{accepted_of, history_of, GoesBeyond, most_arrivals}
-use Rattle.pj_engine.specs.Turning.{IsTurnOf, turn_outs, TurnDone, TurnsEnd}
-use Rattle.pj_engine.specs.Top.{EndsBefore}
-use Rattle.pj_engine.specs.Written.{Writes, done_of}
-use Rattle.pj_engine.proofs.Lines.{stopped_none, stopped_then}
+use Rattle.pj_laws.proofs.Limits.{within-append}
+use Rattle.pj_laws.proofs.Histories.{outputs-append, nodes-append}
+use Rattle.pj_engine.specs.Turning.{IsTurnOf, turn_outs, TurnDone, TurnsEnd, EndsTurn}
+use Rattle.pj_engine.specs.Ends.{EndsBefore, EndsAtLimit}
+use Rattle.pj_engine.specs.Stops.{stop_at}
+use Rattle.pj_engine.specs.declared.stops.FeedStop.{FeedStop}
+use Rattle.pj_io.specs.States.{SinkState}
+use Rattle.pj_engine.specs.Written.{flat, Cut, Leaves}
+use Rattle.pj_engine.proofs.LinesWritten.{stop_among, written_then}
 use Rattle.pj_engine.proofs.Counting.{out_lines-append}
-use Rattle.pj_engine.proofs.TurnLaws.{outputs-append}
 use Rattle.pj_engine.proofs.Accepting.{count-streams, schema-is, accepted_lists}
 use Rattle.pj_engine.proofs.AllFeeds.{all_same, all_same_then, told_at, told_still, files_still, IsOneOf, one_of, feeds_long, first_left, left_tagged, tagged_parts, accepted_of_feed}
 use Rattle.pj_engine.proofs.Arrivals.{elements-turns, brought-left, arrived-is}
@@ -92,6 +95,7 @@ pub record Ran (plan : SmallPlan) (files : List (List ℕ)) (history : List Entr
   pub stands : StandsFor core history
   pub all : history ++ turns_entries false (nodes_from (nodes_of plan) history) left ≡ history_of plan files
   pub counted : counts ≡ counts_of (elements_out (handed_out false (nodes_of plan) history))
+  pub within : StaysWithin most_arrivals (nodes_of plan) [] history
 
 first-turns : (plan : SmallPlan) (feeds : List FeedState) (at : ℕ) → at ≡ 0 → AreFeeds 0 plan.streams feeds → AreNew feeds
     → feeds_left plan.streams feeds at ≡ in_rounds (all_turns (nodes_of plan) 0 (streams_of (nodes_of plan)) (accepted_of plan.streams (files_of feeds)))
@@ -108,7 +112,24 @@ begins plan feeds at core counts f new first fresh none = record {
   stands = fresh.stands;
   all = ap (turns_entries false (nodes_of plan)) (first-turns plan feeds at first f new);
   counted = none;
+  within = tt;
 }
+
+-- where the limit is reached
+reached : (limit : ℕ) (nodes : List Node) (whole done front back rest : List Entry) (node : ℕ) → whole ≡ done ++ ((front ++ back) ++ rest) → StaysWithin limit nodes [] done → StaysWithin limit nodes done front
+    → BeginsBeyond limit nodes (done ++ front) back node → (r : ReachesLimit limit nodes whole node) × (r.front ≡ done ++ front)
+reached limit nodes whole done front [] rest node e d w b = absurd b
+reached limit nodes whole done front (entry ∷ back) rest node e d w b = (
+  record {
+    front = done ++ front;
+    next = entry;
+    back = back ++ rest;
+    parts = e ∙ (ap (λ (es : List Entry). done ++ es) (append_assoc front (entry ∷ back) rest) ∙ sym (append_assoc done front (entry ∷ (back ++ rest))));
+    within = within-append limit nodes [] done front d w;
+    beyond = b;
+  },
+  refl,
+)
 
 module _ (plan : SmallPlan) (files : List (List ℕ)) (small : IsSmallPlan plan) (history : List Entry) (core : CoreState) (t : Turn) (left : List Turn) (counts : Counts) (ran : Ran plan files history core (t ∷ left) counts) where
   abbrev nodes : List Node
@@ -143,7 +164,7 @@ module _ (plan : SmallPlan) (files : List (List ℕ)) (small : IsSmallPlan plan)
   -- what the history and the turn hand out
   outs-are : handed_out false (nodes_of plan) (history ++ turn_behind core history t) ≡ handed_out false (nodes_of plan) history ++ turn_outs core history t
   outs-are =
-      outputs-append (nodes_of plan) history (turn_behind core history t)
+      outputs-append false (nodes_of plan) history (turn_behind core history t)
       ∙ ap (λ (p : SmallPlan). handed_out false (nodes_of plan) history ++ handed_out false (nodes_from (nodes_of p) history) (turn_behind core history t)) (sym ran.of_plan)
 
   pub turn_lines : out_lines (handed_out false (nodes_of plan) history) ++ out_lines (turn_outs core history t) ≡ out_lines (handed_out false (nodes_of plan) (history ++ turn_behind core history t))
@@ -157,69 +178,76 @@ module _ (plan : SmallPlan) (files : List (List ℕ)) (small : IsSmallPlan plan)
       ap (λ (ls : List (List ℕ)). ls ++ later) turn_lines
       ∙ (ap (λ (ns : List Node). out_lines (handed_out false (nodes_of plan) (history ++ turn_behind core history t)) ++ out_lines (handed_out false ns (turns_entries false (nodes_from nodes here) left))) (sym nodes-are)
       ∙ (sym (out_lines-append (handed_out false (nodes_of plan) (history ++ turn_behind core history t)) (handed_out false (nodes_from (nodes_of plan) (history ++ turn_behind core history t)) (turns_entries false (nodes_from nodes here) left)))
-      ∙ ap out_lines (sym (outputs-append (nodes_of plan) (history ++ turn_behind core history t) (turns_entries false (nodes_from nodes here) left)) ∙ ap (handed_out false (nodes_of plan)) parts)))
+      ∙ ap out_lines (sym (outputs-append false (nodes_of plan) (history ++ turn_behind core history t) (turns_entries false (nodes_from nodes here) left)) ∙ ap (handed_out false (nodes_of plan)) parts)))
 
   -- a turn that stopped
-  pub turn_stopped : (result : Result (Unit {0}) Status) (status : Status) (before mid after : List ℕ) → Writes (out_lines (handed_out false (nodes_of plan) history)) before mid (Ok tt)
-      → Writes (out_lines (turn_outs core history t)) mid after (Err status) → IsErrAnd result (λ x. x ≡ status)
-      → Writes (out_lines (handed_out false (nodes_of plan) (history_of plan files))) before after result
-  turn_stopped result status before mid after first stop h =
-      stopped_then result status (out_lines (handed_out false (nodes_of plan) history)) (out_lines (turn_outs core history t)) (out_lines (handed_out false (nodes_of plan) (history_of plan files))) before mid after first stop later rest_lines h
+  pub turn_stopped : (cut : Cut) (before mid after : List ℕ) → mid ≡ before ++ flat (out_lines (handed_out false (nodes_of plan) history))
+      → Leaves cut (out_lines (turn_outs core history t)) mid after → Leaves cut (out_lines (handed_out false (nodes_of plan) (history_of plan files))) before after
+  turn_stopped cut before mid after first stop =
+      stop_among cut (out_lines (handed_out false (nodes_of plan) history)) (out_lines (turn_outs core history t)) later (out_lines (handed_out false (nodes_of plan) (history_of plan files))) before mid after first stop rest_lines
 
   -- a turn that was made
   pub turn_made : (core' : CoreState) (counts' : Counts) → TurnDone core core' t counts counts' → Ran plan files (history ++ turn_behind core history t) core' left counts'
   turn_made core' counts' done = record {
-    of_plan = done.takes.plan ∙ ran.of_plan;
-    limit = done.takes.limit ∙ ran.limit;
-    on = done.takes.on.1;
-    drained = done.takes.undrained;
-    stands = done.takes.stands history ran.stands may_follow;
+    of_plan = done.makes.plan ∙ ran.of_plan;
+    limit = done.makes.limit ∙ ran.limit;
+    on = done.makes.on.1;
+    drained = done.makes.undrained;
+    stands = done.makes.stands history ran.stands may_follow;
     all = ap (λ (ns : List Node). (history ++ turn_behind core history t) ++ turns_entries false ns left) nodes-are ∙ parts;
     counted = done.counted (elements_out (handed_out false (nodes_of plan) history)) ran.counted
-        ∙ ap counts_of (ap (λ (es : List Out). elements_out (handed_out false (nodes_of plan) history) ++ elements_out es) (done.takes.hands history ran.stands may_follow ∙ ap (λ (xs : List Out). xs ++ turn_outs core history t) ran.drained)
+        ∙ ap counts_of (ap (λ (es : List Out). elements_out (handed_out false (nodes_of plan) history) ++ elements_out es) (done.makes.hands history ran.stands may_follow ∙ ap (λ (xs : List Out). xs ++ turn_outs core history t) ran.drained)
         ∙ (sym (elements-append (handed_out false (nodes_of plan) history) (turn_outs core history t)) ∙ ap elements_out (sym outs-are)));
+    within = within-append most_arrivals (nodes_of plan) [] history (turn_behind core history t) ran.within
+        (subst (λ (n : ℕ). StaysWithin n (nodes_of plan) history (turn_behind core history t)) ran.limit
+        (subst (λ (p : SmallPlan). StaysWithin core.limit (nodes_of p) history (turn_behind core history t)) ran.of_plan (done.makes.within history ran.stands may_follow)));
   }
 
   -- a turn that brought one element beyond the limit
-  pub goes_beyond_here : (node : ℕ) → IsCause core (Arrive t.stream t.element) (CoreLimit node) → GoesBeyond plan files node
-  goes_beyond_here node cause = record {
-    front = history;
-    next = arrival_of t;
-    back = rest;
-    run = sym ran.all;
-    beyond = ap₂ (λ (n : ℕ) (p : SmallPlan). goes_beyond n (nodes_of p) history (Arrive t.stream t.element)) (sym ran.limit) (sym ran.of_plan) ∙ cause history ran.stands;
-  }
+  limit_reached : (node : ℕ) (old new : SinkState) (ends : EndsTurn core history t node old new) → (r : ReachesLimit most_arrivals (nodes_of plan) (history_of plan files) node) × (r.front ≡ history ++ ends.front)
+  limit_reached node old new ends =
+      reached most_arrivals (nodes_of plan) (history_of plan files) history ends.front ends.back (turns_entries false (nodes_from nodes here) left) node
+      (sym (ap (λ (es : List Entry). history ++ (es ++ turns_entries false (nodes_from nodes here) left)) (sym ends.parts ∙ here-is) ∙ ran.all))
+      ran.within
+      (subst (λ (n : ℕ). StaysWithin n (nodes_of plan) history ends.front) ran.limit (subst (λ (p : SmallPlan). StaysWithin core.limit (nodes_of p) history ends.front) ran.of_plan ends.within))
+      (subst (λ (n : ℕ). BeginsBeyond n (nodes_of plan) (history ++ ends.front) ends.back node) ran.limit (subst (λ (p : SmallPlan). BeginsBeyond core.limit (nodes_of p) (history ++ ends.front) ends.back node) ran.of_plan ends.beyond))
+
+  pub goes_beyond_here : (node : ℕ) (old new : SinkState) → EndsTurn core history t node old new → GoesBeyond plan files node
+  goes_beyond_here node old new ends = (limit_reached node old new ends).0
+
+  -- exactly the lines of what came before it were written
+  pub ends_at_limit : (node : ℕ) (before : List ℕ) (old new : SinkState) → old.written ≡ before ++ flat (out_lines (handed_out false (nodes_of plan) history)) → IsTrue new.told → EndsTurn core history t node old new
+      → EndsAtLimit plan files node before new.written
+  ends_at_limit node before old new first told ends =
+      let r = limit_reached node old new ends in
+      let had : List Out = handed_out false (nodes_of plan) history in
+      let gained : List Out = handed_out false (nodes_from (nodes_of core.plan) history) ends.front in
+      record {
+        reaches = r.0;
+        written = written_then (out_lines had) (out_lines gained) before old.written new.written first (ends.written told)
+            ∙ (ap (λ (ls : List (List ℕ)). before ++ flat ls)
+            (sym (out_lines-append had gained) ∙ ap out_lines (ap (λ (p : SmallPlan). had ++ handed_out false (nodes_from (nodes_of p) history) ends.front) ran.of_plan ∙ sym (outputs-append false (nodes_of plan) history ends.front)))
+            ∙ ap (λ (h : List Entry). before ++ flat (out_lines (handed_out false (nodes_of plan) h))) (sym r.1));
+      }
 
 -- nothing is left
 pub all_ran : (plan : SmallPlan) (files : List (List ℕ)) (history : List Entry) (core : CoreState) (left : List Turn) (counts : Counts) → Ran plan files history core left counts → left ≡ [] → history ≡ history_of plan files
 all_ran plan files history core left counts ran none =
     sym (append-nil history) ∙ (ap (λ (ts : List Turn). history ++ turns_entries false (nodes_from (nodes_of plan) history) ts) (sym none) ∙ ran.all)
 
--- nothing was written, for want of memory
-pub none_written : (result : Result (Unit {0}) Status) (lines : List (List ℕ)) (before : List ℕ) → IsErrAnd result (λ x. x ≡ NoMemory) → Writes lines before before result
-none_written result lines before h = stopped_none result [] lines lines before before (sym (append-nil before)) refl h
-
-pub done_err : {T : Type 0} (result : Result T Status) (status : Status) → IsErrAnd result (λ x. x ≡ status) → IsErrAnd (done_of result) (λ x. x ≡ status)
-done_err (Ok x) status h = absurd h
-done_err (Err e) status h = h
-
-pub err_same : {T : Type 0} (result : Result T Status) (status s : Status) → IsErrAnd result (λ x. x ≡ status) → result ≡ Err s → status ≡ s
-err_same (Ok x) status s h e = absurd h
-err_same (Err x) status s h e = let same : x ≡ s = cc e in sym h ∙ same
-
 -- what a turn brings is of one of these streams and fits its columns
-pub turn_of_feeds : (streams : List SmallStream) (feeds : List FeedState) (next : Next) → AreFeeds 0 streams feeds → BringsIn feeds (Some next) → IsTurnOf streams (turn_in streams next)
-turn_of_feeds streams feeds (Bring stream element) f b =
+pub turn_of_feeds : (streams : List SmallStream) (feeds : List FeedState) (next : Arrival) → AreFeeds 0 streams feeds → BringsIn feeds (Some next) → IsTurnOf streams (turn_in streams next)
+turn_of_feeds streams feeds (Brought stream element) f b =
     let o = one_of 0 streams feeds b.0 b.1 f b.2 in
     let number : stream ≡ b.0 = b.3.0 ∙ (o.is_number ∙ zero-add b.0) in
-    (omega (arith, number, o.there), λ z. subst (λ (ks : List Column). FitsSchema ks element) (o.schema ∙ ap (columns_of streams) (sym number)) b.3.1)
-turn_of_feeds streams feeds (Close stream) f b =
+    (omega (arith, number, o.there), λ z. subst (λ (ks : List Column). FitsKinds (kinds_of ks) element) (o.schema ∙ ap (columns_of streams) (sym number)) b.3.1)
+turn_of_feeds streams feeds (Closing stream) f b =
     let o = one_of 0 streams feeds b.0 b.1 f b.2 in
     let number : stream ≡ b.0 = b.3 ∙ (o.is_number ∙ zero-add b.0) in
     (omega (arith, number, o.there), λ z. absurd (omega (arith, z)))
 
 -- the next turn is the first of those that are left
-pub ran_next : (plan : SmallPlan) (files : List (List ℕ)) (history : List Entry) (core : CoreState) (counts : Counts) (next : Next) (old new : List Turn) → Ran plan files history core old counts
+pub ran_next : (plan : SmallPlan) (files : List (List ℕ)) (history : List Entry) (core : CoreState) (counts : Counts) (next : Arrival) (old new : List Turn) → Ran plan files history core old counts
     → old ≡ turn_in plan.streams next ∷ new → Ran plan files history core (turn_in core.plan.streams next ∷ new) counts
 ran_next plan files history core counts next old new ran gives =
     subst (λ (ts : List Turn). Ran plan files history core ts counts)
@@ -239,7 +267,7 @@ outcome_of plan files history core left counts tallies peak ran none each stored
 
 -- the lines of the outputs are written up to a turn of this stream
 pub ends_before : (plan : SmallPlan) (files : List (List ℕ)) (history : List Entry) (core : CoreState) (left : List Turn) (counts : Counts) (t : Turn) (rest : List Turn) (stream : ℕ) (before lines : List ℕ) → Ran plan files history core left counts
-    → left ≡ t ∷ rest → t.stream ≡ stream → Writes (out_lines (handed_out false (nodes_of plan) history)) before lines (Ok tt) → EndsBefore plan files stream before lines
+    → left ≡ t ∷ rest → t.stream ≡ stream → lines ≡ before ++ flat (out_lines (handed_out false (nodes_of plan) history)) → EndsBefore plan files stream before lines
 ends_before plan files history core left counts t rest stream before lines ran is mine written =
     let nodes : List Node = nodes_from (nodes_of plan) history in
     record {
@@ -331,7 +359,7 @@ going_begins plan feeds at core counts f new first fresh none = record {
 }
 
 -- the next turn, with what a call of the feeds gives
-module _ (plan : SmallPlan) (start feeds feeds' : List FeedState) (at at' : ℕ) (history : List Entry) (core : CoreState) (counts : Counts) (next : Next) (going : IsGoing plan start feeds at history core counts)
+module _ (plan : SmallPlan) (start feeds feeds' : List FeedState) (at at' : ℕ) (history : List Entry) (core : CoreState) (counts : Counts) (next : Arrival) (going : IsGoing plan start feeds at history core counts)
     (gives : AllTold feeds → (streams : List SmallStream) → AreFeeds 0 streams feeds → feeds_left streams feeds at ≡ turn_in streams next ∷ feeds_left streams feeds' at') where
   pub going_of : BringsIn feeds (Some next) → IsTurnOf core.plan.streams (turn_in core.plan.streams next)
   going_of brings = subst (λ (p : SmallPlan). IsTurnOf p.streams (turn_in p.streams next)) (sym going.of_plan) (turn_of_feeds plan.streams feeds next going.fed brings)
@@ -344,18 +372,17 @@ module _ (plan : SmallPlan) (start feeds feeds' : List FeedState) (at at' : ℕ)
   going_more small f' same' core' counts' done = record {
     fed = f';
     same = all_same_then start feeds feeds' going.same same';
-    of_plan = done.takes.plan ∙ going.of_plan;
-    on = done.takes.on.1;
-    drained = done.takes.undrained;
+    of_plan = done.makes.plan ∙ going.of_plan;
+    on = done.makes.on.1;
+    drained = done.makes.undrained;
     ran = λ told. turn_made plan (files_of start) small history core (turn_in core.plan.streams next) (feeds_left plan.streams feeds' at') counts (going_next told) core' counts' done;
   }
 
 -- a stream's turn could not be made
-pub going_stops : (plan : SmallPlan) (small : IsSmallPlan plan) (start feeds feeds' : List FeedState) (at : ℕ) (history : List Entry) (core : CoreState) (counts : Counts) (status : Status) (before lines : List ℕ) → IsGoing plan start feeds at history core counts
-    → AreSameFeeds feeds feeds' → StopsIn feeds feeds' at status → AllTold start → Writes (out_lines (handed_out false (nodes_of plan) history)) before lines (Ok tt) → TurnsEnd status plan (files_of start) feeds' before lines
+pub going_stops : (plan : SmallPlan) (small : IsSmallPlan plan) (start feeds feeds' : List FeedState) (at : ℕ) (history : List Entry) (core : CoreState) (counts : Counts) (stop : FeedStop) (before lines : List ℕ) → IsGoing plan start feeds at history core counts
+    → AreSameFeeds feeds feeds' → StopsIn feeds feeds' at stop → AllTold start → lines ≡ before ++ flat (out_lines (handed_out false (nodes_of plan) history)) → TurnsEnd (stop_at stop.stream stop.why) plan (files_of start) feeds' before lines
 unfolding ends_before
-going_stops plan small start feeds feeds' at history core counts status before lines going same stop told written =
-    subst (λ (s : Status). TurnsEnd s plan (files_of start) feeds' before lines) (sym stop.status_is) (go stop.why stop.stops)
+going_stops plan small start feeds feeds' at history core counts stop before lines going same s told written = go stop.why s.stops
   where
     told' : AllTold feeds
     told' = told_still start feeds going.same told
@@ -363,15 +390,13 @@ going_stops plan small start feeds feeds' at history core counts status before l
     ran : Ran plan (files_of start) history core (feeds_left plan.streams feeds at) counts
     ran = going.ran told
 
-    ends : EndsBefore plan (files_of start) stop.place before lines
-    ends = let n = stop.next told' plan.streams going.fed in ends_before plan (files_of start) history core (feeds_left plan.streams feeds at) counts n.0 n.1 stop.place before lines ran n.2 n.3 written
+    ends : EndsBefore plan (files_of start) stop.stream before lines
+    ends = let n = s.next told' plan.streams going.fed in ends_before plan (files_of start) history core (feeds_left plan.streams feeds at) counts n.0 n.1 stop.stream before lines ran n.2 n.3 written
 
-    arrived : arrived_at stop.place history ≡ take (count_of stop.old) (all_accepted stop.old)
-    arrived = arrived_so_far plan small (files_of start) history core feeds at counts stop.place stop.old ran going.fed (files_still start feeds going.same told) stop.before stop.still
+    arrived : arrived_at stop.stream history ≡ take (count_of s.old) (all_accepted s.old)
+    arrived = arrived_so_far plan small (files_of start) history core feeds at counts stop.stream s.old ran going.fed (files_still start feeds going.same told) s.before s.still
 
-    go : (why : IntakeStop) → FeedStops stop.old stop.new why → TurnsEnd (status_of_feed stop.place why) plan (files_of start) feeds' before lines
-    go IntakeFault f =
-        let e : stop.place + 2 ≡ 2 + stop.place = omega arith in
-        (stop.place, stop.new, e, stop.now, ends, arrived ∙ sym (f.1 (told_at feeds stop.place stop.old told' stop.before)))
+    go : (why : IntakeStop) → FeedStops s.old s.new why → TurnsEnd (stop_at stop.stream why) plan (files_of start) feeds' before lines
+    go IntakeFault f = (s.new, s.now, ends, arrived ∙ sym (f.1 (told_at feeds stop.stream s.old told' s.before)))
     go ByteLimit f = ends
     go OutOfMemory f = tt

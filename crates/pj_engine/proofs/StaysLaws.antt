@@ -1,50 +1,67 @@
 -- What was written spells outputs that stay right.
-use Rattle.std.proofs.Common.{◌≡◌, ℕ, zero, suc, true, ◌⊎◌, inl, inr, List, [], ◌∷◌, ◌++◌, length, Option, None, Some, Ok, refl, ap, sym, ◌∙◌, subst, append_assoc, append-nil}
+use Rattle.std.proofs.Common.{◌≡◌, ◌≤◌, ◌+◌, ℕ, zero, suc, true, ◌⊎◌, inl, inr, List, [], ◌∷◌, ◌++◌, length, Option, None, Some, IsTrue, refl, ap, sym, ◌∙◌, subst, append_assoc, append-nil, arith}
 use Rattle.std.specs.Prelude.{codes}
 use Rattle.std.specs.Fmt.{decimal}
+use Rattle.std.proofs.lemmas.Bool.{and_parts}
+use Rattle.pj_io.specs.States.{SinkState}
 use Rattle.pj_shape.specs.declared.plans.SmallPlan.{SmallPlan}
 use Rattle.pj_shape.specs.declared.plans.SmallStream.{SmallStream}
 use Rattle.pj_shape.specs.declared.plans.SmallJoin.{SmallJoin}
-use Rattle.std.proofs.lemmas.Bool.{and_parts}
 use Rattle.pj_pattern.specs.declared.element.Element.{Element}
+use Rattle.pj_pattern.specs.Elements.{IsLawful}
 use Rattle.pj_line.specs.Lines.{HasNo}
-use Rattle.pj_element.specs.Runs.{IsLawful, element_lines}
-use Rattle.pj_element.proofs.Feeds.{both_have_no, decimal_no_feed}
+use Rattle.pj_element.specs.Runs.{element_lines}
+use Rattle.pj_line.proofs.Feeds.{has_no_both}
+use Rattle.pj_element.proofs.Feeds.{decimal_no_feed}
 use Rattle.pj_laws.specs.CoreKept.{IsSmallPlan}
 use Rattle.pj_engine.specs.declared.status.Status.{Status}
 use Rattle.pj_engine.specs.declared.status.LimitOf.{LimitOf}
 use Rattle.pj_engine.specs.declared.status.LimitOf.TheVariants.{Node, File}
 use Rattle.pj_engine.specs.declared.status.Status.TheVariants.{Done, NotBuilt, ReadFault, WriteFault, NoMemory, Limit}
-use Rattle.pj_engine.specs.Files.{IsFilesStop}
+use Rattle.pj_engine.specs.declared.stops.FilesStop.{FilesStop}
+use Rattle.pj_engine.specs.declared.stops.FilesStop.TheVariants.{Opening, Run}
+use Rattle.pj_engine.specs.declared.stops.OpeningStop.TheVariants.{Fault, NoMemory as OpeningMemory}
+use Rattle.pj_engine.specs.declared.stops.PlanStop.{PlanStop}
+use Rattle.pj_engine.specs.declared.stops.PlanStop.TheVariants.{NotBuilt as NoPlan, ReadFault as PlanFault, NoMemory as PlanMemory}
+use Rattle.pj_engine.specs.declared.stops.RunStop.TheVariants.{ReadFault as RunFault, TooLarge, Limit as RunLimit, WriteFailed, NoMemory as RunMemory}
+use Rattle.pj_engine.specs.Commands.{Command, plan_bytes, stream_files}
 use Rattle.pj_engine.specs.PlanForms.{HasPlainNames, is_plain, are_plain, is_plain_join}
 use Rattle.pj_engine.specs.Plans.{plan_of}
 use Rattle.pj_engine.specs.Report.{status_line}
 use Rattle.pj_engine.specs.Runs.{outputs_of, report_of, run_lines}
-use Rattle.pj_engine.specs.Top.{StaysRight, NeverRetracted, join_name, stream_name, limit_name, stop_name}
-use Rattle.pj_engine.specs.Written.{flat, WholeLines, Delivered, StopLeaves, Writes}
-use Rattle.pj_engine.proofs.AcceptedLaws.{lawful_front}
+use Rattle.pj_engine.specs.Stops.{files_status, plan_status}
+use Rattle.pj_engine.specs.Top.{StaysRight, join_name, stream_name, limit_name, stop_name}
+use Rattle.pj_engine.specs.Written.{flat, WholeLines, Delivered, Leaves, Spells, files_cut}
 use Rattle.pj_engine.proofs.FrontLaws.{stays}
 use Rattle.pj_engine.proofs.Fronts.{IsNoteLine, AreNotes, notes-append, notes_spell, FrontSpells, front_spells, FirstLines, first_lines}
-use Rattle.pj_engine.proofs.Lines.{flat-append}
+use Rattle.pj_engine.proofs.LinesWritten.{flat-append}
 use Rattle.pj_engine.proofs.OutputLaws.{outputs_lawful}
-use Rattle.pj_engine.proofs.RunLaws.{no_feeds, name_no_feed, report_notes, same_after}
+use Rattle.pj_engine.proofs.RunLaws.{no_feeds, name_no_feed, name_short, report_notes, same_after}
+use Rattle.pj_pattern.proofs.Lawful.{lawful_front}
 
 -- the plan's bytes spell a plan, and there is a file for each of its streams
-pub record IsReady (plan : SmallPlan) (plan_bytes : List ℕ) (files : List (List ℕ)) : Type 0 where
-  pub read : plan_of plan_bytes ≡ Some plan
+pub record IsReady (plan : SmallPlan) (command : Command) : Type 0 where
+  pub read : plan_of (plan_bytes command) ≡ Some plan
   pub small : IsSmallPlan plan
   pub names : HasPlainNames plan
-  pub count : length files ≡ length plan.streams
+  pub count : length (stream_files command) ≡ length plan.streams
 
-or_stays : (plan : SmallPlan) (plan_bytes : List ℕ) (files : List (List ℕ)) (first : List Element) → plan_of plan_bytes ≡ Some plan → (first ≡ []) ⊎ StaysRight plan files first
-    → (first ≡ []) ⊎ ((p : SmallPlan) × (plan_of plan_bytes ≡ Some p) × StaysRight p files first)
-or_stays plan plan_bytes files first read (inl none) = inl none
-or_stays plan plan_bytes files first read (inr stay) = inr (plan, read, stay)
+-- what was written behind these bytes spells outputs that stay right
+abbrev pub NoneRetracted : Command → List ℕ → List ℕ → Type 0
+NoneRetracted command before after =
+    (bytes : List ℕ) × (after ≡ before ++ bytes) × (outputs : List Element) × Spells bytes outputs
+    × IsLawful outputs × ((outputs ≡ []) ⊎ ((plan : SmallPlan) × (plan_of (plan_bytes command) ≡ Some plan) × StaysRight plan (stream_files command) outputs))
+
+or_stays : (plan : SmallPlan) (command : Command) (first : List Element) → plan_of (plan_bytes command) ≡ Some plan → (first ≡ []) ⊎ StaysRight plan (stream_files command) first
+    → (first ≡ []) ⊎ ((p : SmallPlan) × (plan_of (plan_bytes command) ≡ Some p) × StaysRight p (stream_files command) first)
+or_stays plan command first read (inl none) = inl none
+or_stays plan command first read (inr stay) = inr (plan, read, stay)
 
 -- a front of the lines of first outputs, and of notes
-front_never : (plan : SmallPlan) (plan_bytes : List ℕ) (files : List (List ℕ)) (outputs more : List Element) (notes : List (List ℕ)) (front others before after : List ℕ) → IsReady plan plan_bytes files
-    → outputs ++ more ≡ outputs_of plan files → AreNotes notes → front ++ others ≡ flat (element_lines outputs ++ notes) → after ≡ before ++ front → NeverRetracted plan_bytes files before after
-front_never plan plan_bytes files outputs more notes front others before after ready all noted is written =
+front_never : (plan : SmallPlan) (command : Command) (outputs more : List Element) (notes : List (List ℕ)) (front others before after : List ℕ) → IsReady plan command
+    → outputs ++ more ≡ outputs_of plan (stream_files command) → AreNotes notes → front ++ others ≡ flat (element_lines outputs ++ notes) → after ≡ before ++ front → NoneRetracted command before after
+front_never plan command outputs more notes front others before after ready all noted is written =
+    let files : List (List ℕ) = stream_files command in
     let f : FrontSpells outputs front = front_spells outputs notes front others noted is in
     let whole : f.first ++ (f.others ++ more) ≡ outputs_of plan files = sym (append_assoc f.first f.others more) ∙ (ap (λ (xs : List Element). xs ++ more) f.all ∙ all) in (
       front,
@@ -52,12 +69,12 @@ front_never plan plan_bytes files outputs more notes front others before after r
       f.first,
       f.spells,
       lawful_front f.first (f.others ++ more) (subst IsLawful (sym whole) (outputs_lawful plan files ready.small ready.count)),
-      or_stays plan plan_bytes files f.first ready.read (stays plan files f.first (f.others ++ more) ready.small ready.count whole),
+      or_stays plan command f.first ready.read (stays plan files f.first (f.others ++ more) ready.small ready.count whole),
     )
 
 -- nothing, and a front of a note
-note_never : (plan_bytes : List ℕ) (files : List (List ℕ)) (line front others before after : List ℕ) → IsNoteLine line → front ++ others ≡ line → after ≡ before ++ front → NeverRetracted plan_bytes files before after
-note_never plan_bytes files line front others before after note is written =
+note_never : (command : Command) (line front others before after : List ℕ) → IsNoteLine line → front ++ others ≡ line → after ≡ before ++ front → NoneRetracted command before after
+note_never command line front others before after note is written =
     (front, written, [], notes_spell (line ∷ []) front others (note, tt) (is ∙ sym (append-nil line)), tt, inl refl)
 
 -- ---- the lines of the statuses
@@ -73,7 +90,7 @@ read_fault_note n = record {
   words = codes "# stopped read fault operand " ++ decimal n;
   is = refl;
   note = refl;
-  whole = both_have_no (codes "# stopped read fault operand ") (decimal n) (no_feeds (codes "# stopped read fault operand ") refl) (decimal_no_feed n);
+  whole = has_no_both 10 (codes "# stopped read fault operand ") (decimal n) (no_feeds (codes "# stopped read fault operand ") refl) (decimal_no_feed n);
 }
 
 limit_note : (what : LimitOf) (name : List ℕ) → HasNo 10 name → IsNoteLine (status_line name (Limit what))
@@ -81,13 +98,13 @@ limit_note (Node node) name none = record {
   words = codes "# stopped limit node " ++ name;
   is = refl;
   note = refl;
-  whole = both_have_no (codes "# stopped limit node ") name (no_feeds (codes "# stopped limit node ") refl) none;
+  whole = has_no_both 10 (codes "# stopped limit node ") name (no_feeds (codes "# stopped limit node ") refl) none;
 }
 limit_note (File stream) name none = record {
   words = codes "# stopped limit file " ++ name;
   is = refl;
   note = refl;
-  whole = both_have_no (codes "# stopped limit file ") name (no_feeds (codes "# stopped limit file ") refl) none;
+  whole = has_no_both 10 (codes "# stopped limit file ") name (no_feeds (codes "# stopped limit file ") refl) none;
 }
 
 join_name_no_feed : (join : Option SmallJoin) → is_plain_join join ≡ true → HasNo 10 (join_name join)
@@ -103,39 +120,58 @@ limit_name_no_feed : (plan : SmallPlan) (what : LimitOf) → HasPlainNames plan 
 limit_name_no_feed plan (Node node) plain = join_name_no_feed plan.join plain.1
 limit_name_no_feed plan (File stream) plain = stream_name_no_feed plan.streams stream plain.0
 
+-- the name of a status' line is short
+pub stop_name_short : (plan : SmallPlan) (status : Status) → HasPlainNames plan → length (stop_name plan status) ≤ 32
+stop_name_short plan Done plain = omega arith
+stop_name_short plan NotBuilt plain = omega arith
+stop_name_short plan (ReadFault n) plain = omega arith
+stop_name_short plan WriteFault plain = omega arith
+stop_name_short plan NoMemory plain = omega arith
+stop_name_short plan (Limit (Node node)) plain = go plan.join plain.1
+  where
+    go : (join : Option SmallJoin) → is_plain_join join ≡ true → length (join_name join) ≤ 32
+    go None e = omega arith
+    go (Some join) e = name_short join.name e
+stop_name_short plan (Limit (File stream)) plain = go plan.streams stream plain.0
+  where
+    go : (streams : List SmallStream) (n : ℕ) → are_plain streams ≡ true → length (stream_name streams n) ≤ 32
+    go [] n e = omega arith
+    go (s ∷ streams) zero e = name_short s.name (and_parts (is_plain s.name) (are_plain streams) e).0
+    go (s ∷ streams) (suc n) e = go streams n (and_parts (is_plain s.name) (are_plain streams) e).1
+
 -- what was delivered of a line
-pub record Part (line before after : List ℕ) : Type 0 where
-  pub front : List ℕ
-  pub others : List ℕ
-  pub all : front ++ others ≡ line
-  pub written : after ≡ before ++ front
+record Part (line before after : List ℕ) : Type 0 where
+  front : List ℕ
+  others : List ℕ
+  all : front ++ others ≡ line
+  written : after ≡ before ++ front
 
-part_of : (line before after : List ℕ) (faults faults' : ℕ) → Delivered line before after faults faults' → Part line before after
-part_of line before after faults faults' (inl e) = record { front = line; others = []; all = append-nil line; written = e }
-part_of line before after faults faults' (inr cut) = record { front = cut.1.front; others = cut.1.others; all = cut.1.all; written = cut.1.written }
+part_of : (line : List ℕ) (old new : SinkState) → IsTrue new.told → Delivered line old new → Part line old.written new.written
+part_of line old new told delivered = elim (delivered told) [
+  | inl e ↦ record { front = line; others = []; all = append-nil line; written = e }
+  | inr cut ↦ record { front = cut.1.front; others = cut.1.others; all = cut.1.all; written = cut.1.written }
+]
 
-early_note : (plan_bytes : List ℕ) (files : List (List ℕ)) (line before after : List ℕ) (faults faults' : ℕ) → IsNoteLine line → Delivered line before after faults faults' → NeverRetracted plan_bytes files before after
-early_note plan_bytes files line before after faults faults' note delivered =
-    let p : Part line before after = part_of line before after faults faults' delivered in
-    note_never plan_bytes files line p.front p.others before after note p.all p.written
+early_note : (command : Command) (line : List ℕ) (old new : SinkState) → IsTrue new.told → IsNoteLine line → Delivered line old new → NoneRetracted command old.written new.written
+early_note command line old new told note delivered =
+    let p : Part line old.written new.written = part_of line old new told delivered in
+    note_never command line p.front p.others old.written new.written note p.all p.written
 
 -- the run never began, and the line of the status was written
-pub never_early : (status : Status) (plan_bytes : List ℕ) (files : List (List ℕ)) (before after : List ℕ) (faults faults' : ℕ) → IsFilesStop status → Delivered (status_line [] status) before after faults faults' → NeverRetracted plan_bytes files before after
-never_early Done plan_bytes files before after faults faults' is delivered = absurd is
-never_early NotBuilt plan_bytes files before after faults faults' is delivered = early_note plan_bytes files (status_line [] NotBuilt) before after faults faults' not_built_note delivered
-never_early (ReadFault n) plan_bytes files before after faults faults' is delivered = early_note plan_bytes files (status_line [] (ReadFault n)) before after faults faults' (read_fault_note n) delivered
-never_early WriteFault plan_bytes files before after faults faults' is delivered = absurd is
-never_early NoMemory plan_bytes files before after faults faults' is delivered = early_note plan_bytes files (status_line [] NoMemory) before after faults faults' (no_memory_note []) delivered
-never_early (Limit what) plan_bytes files before after faults faults' is delivered = absurd is
+pub never_early : (stop : PlanStop) (command : Command) (old new : SinkState) → IsTrue new.told → Delivered (status_line [] (plan_status stop)) old new → NoneRetracted command old.written new.written
+never_early NoPlan command old new told delivered = early_note command (status_line [] NotBuilt) old new told not_built_note delivered
+never_early PlanFault command old new told delivered = early_note command (status_line [] (ReadFault 1)) old new told (read_fault_note 1) delivered
+never_early PlanMemory command old new told delivered = early_note command (status_line [] NoMemory) old new told (no_memory_note []) delivered
 
 -- whole first lines of the run, and then a front of the line of the status
-whole_never : (plan : SmallPlan) (plan_bytes : List ℕ) (files : List (List ℕ)) (before mid after line : List ℕ) (faults faults' : ℕ) → IsReady plan plan_bytes files → IsNoteLine line
-    → WholeLines (run_lines plan files) before mid → Delivered line mid after faults faults' → NeverRetracted plan_bytes files before after
-whole_never plan plan_bytes files before mid after line faults faults' ready note w delivered =
+whole_never : (plan : SmallPlan) (command : Command) (line before : List ℕ) (mid new : SinkState) → IsTrue new.told → IsReady plan command → IsNoteLine line
+    → WholeLines (run_lines plan (stream_files command)) before mid.written → Delivered line mid new → NoneRetracted command before new.written
+whole_never plan command line before mid new told ready note w delivered =
+    let files : List (List ℕ) = stream_files command in
     let outputs : List Element = outputs_of plan files in
-    let p : Part line mid after = part_of line mid after faults faults' delivered in
+    let p : Part line mid.written new.written = part_of line mid new told delivered in
     let f : FirstLines outputs (report_of plan files outputs) w.first = first_lines outputs (report_of plan files outputs) w.first w.others (report_notes plan files outputs ready.names) w.all in
-    front_never plan plan_bytes files f.first f.others (f.noted ++ line ∷ []) (flat w.first ++ p.front) p.others before after ready f.all (notes-append f.noted (line ∷ []) f.notes_so (note, tt))
+    front_never plan command f.first f.others (f.noted ++ line ∷ []) (flat w.first ++ p.front) p.others before new.written ready f.all (notes-append f.noted (line ∷ []) f.notes_so (note, tt))
     (append_assoc (flat w.first) p.front p.others
     ∙ (ap (λ (xs : List ℕ). flat w.first ++ xs) (p.all ∙ sym (append-nil line))
     ∙ (sym (flat-append w.first (line ∷ []))
@@ -143,36 +179,30 @@ whole_never plan plan_bytes files before mid after line faults faults' ready not
     (p.written ∙ (ap (λ (xs : List ℕ). xs ++ p.front) w.written ∙ append_assoc before (flat w.first) p.front))
 
 -- the run is done
-pub never_done : (plan : SmallPlan) (plan_bytes : List ℕ) (files : List (List ℕ)) (before after : List ℕ) → IsReady plan plan_bytes files → Writes (run_lines plan files) before after (Ok tt) → NeverRetracted plan_bytes files before after
-never_done plan plan_bytes files before after ready written =
+pub never_done : (plan : SmallPlan) (command : Command) (before after : List ℕ) → IsReady plan command → after ≡ before ++ flat (run_lines plan (stream_files command)) → NoneRetracted command before after
+never_done plan command before after ready written =
+    let files : List (List ℕ) = stream_files command in
     let outputs : List Element = outputs_of plan files in
-    front_never plan plan_bytes files outputs [] (report_of plan files outputs) (flat (run_lines plan files)) [] before after ready (append-nil outputs) (report_notes plan files outputs ready.names) (append-nil (flat (run_lines plan files))) written
+    front_never plan command outputs [] (report_of plan files outputs) (flat (run_lines plan files)) [] before after ready (append-nil outputs) (report_notes plan files outputs ready.names) (append-nil (flat (run_lines plan files))) written
 
 -- the run stopped, and then the line of its status was written
-pub never_stopped : (status : Status) (plan : SmallPlan) (plan_bytes name : List ℕ) (files : List (List ℕ)) (before mid after : List ℕ) (faults faults' : ℕ) → IsReady plan plan_bytes files
-    → name ≡ stop_name plan status → StopLeaves status (run_lines plan files) before mid → Delivered (status_line name status) mid after faults faults' → NeverRetracted plan_bytes files before after
-never_stopped Done plan plan_bytes name files before mid after faults faults' ready named stop delivered = absurd stop
-never_stopped NotBuilt plan plan_bytes name files before mid after faults faults' ready named stop delivered = absurd stop
-never_stopped (ReadFault n) plan plan_bytes name files before mid after faults faults' ready named stop delivered =
-    whole_never plan plan_bytes files before mid after (status_line [] (ReadFault n)) faults faults' ready (read_fault_note n) stop (subst (λ (x : List ℕ). Delivered (status_line x (ReadFault n)) mid after faults faults') named delivered)
-never_stopped WriteFault plan plan_bytes name files before mid after faults faults' ready named stop delivered =
+pub never_stopped : (stop : FilesStop) (plan : SmallPlan) (command : Command) (name before : List ℕ) (mid new : SinkState) → IsTrue new.told → IsReady plan command
+    → name ≡ stop_name plan (files_status stop) → Leaves (files_cut stop) (run_lines plan (stream_files command)) before mid.written → Delivered (status_line name (files_status stop)) mid new → NoneRetracted command before new.written
+never_stopped (Opening (Fault stream)) plan command name before mid new told ready named left delivered =
+    whole_never plan command (status_line [] (ReadFault (2 + stream))) before mid new told ready (read_fault_note (2 + stream)) left (subst (λ (x : List ℕ). Delivered (status_line x (ReadFault (2 + stream))) mid new) named delivered)
+never_stopped (Opening OpeningMemory) plan command name before mid new told ready named left delivered = whole_never plan command (status_line name NoMemory) before mid new told ready (no_memory_note name) left delivered
+never_stopped (Run (RunFault stream)) plan command name before mid new told ready named left delivered =
+    whole_never plan command (status_line [] (ReadFault (2 + stream))) before mid new told ready (read_fault_note (2 + stream)) left (subst (λ (x : List ℕ). Delivered (status_line x (ReadFault (2 + stream))) mid new) named delivered)
+never_stopped (Run (TooLarge stream)) plan command name before mid new told ready named left delivered =
+    let what : LimitOf = File stream in
+    whole_never plan command (status_line (limit_name plan what) (Limit what)) before mid new told ready (limit_note what (limit_name plan what) (limit_name_no_feed plan what ready.names)) left
+    (subst (λ (x : List ℕ). Delivered (status_line x (Limit what)) mid new) named delivered)
+never_stopped (Run (RunLimit node)) plan command name before mid new told ready named left delivered =
+    let what : LimitOf = Node node in
+    whole_never plan command (status_line (limit_name plan what) (Limit what)) before mid new told ready (limit_note what (limit_name plan what) (limit_name_no_feed plan what ready.names)) left
+    (subst (λ (x : List ℕ). Delivered (status_line x (Limit what)) mid new) named delivered)
+never_stopped (Run WriteFailed) plan command name before mid new told ready named left delivered =
+    let files : List (List ℕ) = stream_files command in
     let outputs : List Element = outputs_of plan files in
-    front_never plan plan_bytes files outputs [] (report_of plan files outputs) stop.front stop.others before after ready (append-nil outputs) (report_notes plan files outputs ready.names) stop.all (same_after mid after faults faults' delivered ∙ stop.written)
-never_stopped NoMemory plan plan_bytes name files before mid after faults faults' ready named stop delivered =
-    whole_never plan plan_bytes files before mid after (status_line name NoMemory) faults faults' ready (no_memory_note name) stop delivered
-never_stopped (Limit what) plan plan_bytes name files before mid after faults faults' ready named stop delivered =
-    whole_never plan plan_bytes files before mid after (status_line (limit_name plan what) (Limit what)) faults faults' ready (limit_note what (limit_name plan what) (limit_name_no_feed plan what ready.names)) stop
-    (subst (λ (x : List ℕ). Delivered (status_line x (Limit what)) mid after faults faults') named delivered)
-
--- ---- the call
-
--- the same over the files of the call
-pub done_of_call : (plan : SmallPlan) (plan_bytes : List ℕ) (ready files : List (List ℕ)) (before after : List ℕ) → IsReady plan plan_bytes ready → ready ≡ files → Writes (run_lines plan ready) before after (Ok tt)
-    → NeverRetracted plan_bytes files before after
-done_of_call plan plan_bytes ready files before after is same written =
-    subst (λ (fs : List (List ℕ)). NeverRetracted plan_bytes fs before after) same (never_done plan plan_bytes ready before after is written)
-
-pub stop_of_call : (status : Status) (plan : SmallPlan) (plan_bytes name : List ℕ) (ready files : List (List ℕ)) (before mid after : List ℕ) (faults faults' : ℕ) → IsReady plan plan_bytes ready → ready ≡ files
-    → name ≡ stop_name plan status → StopLeaves status (run_lines plan ready) before mid → Delivered (status_line name status) mid after faults faults' → NeverRetracted plan_bytes files before after
-stop_of_call status plan plan_bytes name ready files before mid after faults faults' is same named stop delivered =
-    subst (λ (fs : List (List ℕ)). NeverRetracted plan_bytes fs before after) same (never_stopped status plan plan_bytes name ready before mid after faults faults' is named stop delivered)
+    front_never plan command outputs [] (report_of plan files outputs) left.front left.others before new.written ready (append-nil outputs) (report_notes plan files outputs ready.names) left.all (same_after mid new told delivered ∙ left.written)
+never_stopped (Run RunMemory) plan command name before mid new told ready named left delivered = whole_never plan command (status_line name NoMemory) before mid new told ready (no_memory_note name) left delivered

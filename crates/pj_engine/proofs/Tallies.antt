@@ -1,5 +1,5 @@
 -- The lines of the streams of a report, one stream after the other.
-use Rattle.std.proofs.Common.{◌≡◌, ℕ, zero, suc, ◌+◌, ◌<◌, List, [], ◌∷◌, ◌++◌, length, take, drop, get_or, refl, ap, sym, ◌∙◌, append_assoc, append-nil, arith, subst, Option, Some, None}
+use Rattle.std.proofs.Common.{◌≡◌, ℕ, zero, suc, ◌+◌, ◌<◌, List, [], ◌∷◌, ◌++◌, length, take, drop, get_or, refl, ap, sym, ◌∙◌, append_assoc, append-nil, arith, Option, Some, None}
 use Rattle.pj_shape.specs.declared.plans.SmallPlan.{SmallPlan}
 use Rattle.pj_shape.specs.declared.plans.SmallStream.{SmallStream}
 use Rattle.pj_shape.specs.declared.plans.SmallJoin.{SmallJoin}
@@ -7,11 +7,7 @@ use Rattle.pj_element.specs.declared.tally.Tally.{Tally}
 use Rattle.pj_element.specs.Accepted.{tally_of, fates_of}
 use Rattle.pj_laws.specs.CoreKept.{nodes_of}
 use Rattle.pj_laws.specs.Outcomes.{peak_of}
-use Rattle.pj_engine.specs.declared.outs.Counts.{Counts}
-use Rattle.pj_engine.specs.declared.status.LimitOf.{LimitOf}
-use Rattle.pj_engine.specs.declared.status.Status.{Status}
-use Rattle.pj_engine.specs.declared.status.Status.TheVariants.{Done, NotBuilt, ReadFault, WriteFault, NoMemory, Limit}
-use Rattle.pj_engine.specs.Files.{IsSinkStop, IsWriteStop}
+use Rattle.pj_engine.specs.declared.results.Counts.{Counts}
 use Rattle.pj_engine.specs.Feeds.{tallies_of}
 use Rattle.pj_engine.specs.Outcome.{tally_lines, report_lines, IsOutcome}
 use Rattle.pj_engine.specs.Report.{stream_lines, results_text, results_line}
@@ -45,11 +41,6 @@ streams-lines [] files = refl
 streams-lines (s ∷ streams) [] = refl
 streams-lines (s ∷ streams) (f ∷ files) = ap (λ (ls : List (List ℕ)). stream_lines s.name (tally_of (fates_of s.schema f)) ++ ls) (streams-lines streams files)
 
-pub tallies_long : (streams : List SmallStream) (files : List (List ℕ)) → length files ≡ length streams → length (tallies_of streams files) ≡ length streams
-tallies_long [] files e = refl
-tallies_long (s ∷ streams) [] e = absurd (omega arith)
-tallies_long (s ∷ streams) (f ∷ files) e = ap suc (tallies_long streams files (omega arith))
-
 same_peak : (join : Option SmallJoin) (p q : ℕ) → ((j : SmallJoin) → join ≡ Some j → p ≡ q) → peaks_report join p ≡ peaks_report join q
 same_peak None p q same = refl
 same_peak (Some j) p q same = ap (λ (n : ℕ). peaks_report (Some j) n) (same j refl)
@@ -60,21 +51,3 @@ report_is plan files tallies counts peak o =
     ap (λ (ls : List (List ℕ)). ls ++ results_text counts.rows counts.puncts ∷ [] ++ peaks_report plan.join peak) (ap (tally_lines plan.streams) o.each ∙ streams-lines plan.streams files)
     ∙ (ap (λ (c : Counts). streams_report plan.streams files ++ results_text c.rows c.puncts ∷ [] ++ peaks_report plan.join peak) o.results
     ∙ ap (λ (ls : List (List ℕ)). streams_report plan.streams files ++ results_line (outputs_of plan files) ∷ [] ++ ls) (same_peak plan.join peak (peak_of (nodes_of plan) (history_of plan files) (length plan.streams)) o.stored))
-
-pub outcome_long : (plan : SmallPlan) (files : List (List ℕ)) (tallies slice : List Tally) (counts : Counts) (peak : ℕ) → IsOutcome plan files tallies counts peak → length files ≡ length plan.streams → slice ≡ tallies → length slice ≡ length plan.streams
-outcome_long plan files tallies slice counts peak o same is = ap length is ∙ (ap length o.each ∙ tallies_long plan.streams files same)
-
-pub sink_stop : (status : Status) → IsSinkStop status → status ≡ WriteFault
-sink_stop Done h = absurd h
-sink_stop NotBuilt h = absurd h
-sink_stop (ReadFault operand) h = absurd h
-sink_stop WriteFault h = refl
-sink_stop NoMemory h = absurd h
-sink_stop (Limit what) h = absurd h
-
--- writes and flushes never meet a limit
-pub no_write_limit : {P : Type 0} (status s : Status) (what : LimitOf) → IsWriteStop status → status ≡ s → s ≡ Limit what → P
-no_write_limit status s what h e f = absurd (subst IsWriteStop (e ∙ f) h)
-
-pub no_sink_limit : {P : Type 0} (status s : Status) (what : LimitOf) → IsSinkStop status → status ≡ s → s ≡ Limit what → P
-no_sink_limit status s what h e f = absurd (subst IsSinkStop (e ∙ f) h)

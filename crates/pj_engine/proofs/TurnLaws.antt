@@ -1,39 +1,40 @@
 -- Turns of a core.
-use Rattle.std.proofs.Common.{◌≡◌, ℕ, false, List, [], ◌∷◌, ◌++◌, Option, Some, None, Result, Ok, Err, refl, ap, sym, ◌∙◌, append_assoc, append-nil, subst, IsErrAnd}
+use Rattle.std.proofs.Common.{◌≡◌, ℕ, false, List, [], ◌++◌, Option, Some, None, IsTrue, ap, sym, ◌∙◌, append-nil, subst}
+use Rattle.pj_io.specs.States.{SinkState}
 use Rattle.pj_laws.specs.declared.events.Entry.{Entry}
 use Rattle.pj_laws.specs.declared.events.Out.{Out}
 use Rattle.pj_laws.specs.declared.events.Stop.{Stop}
 use Rattle.pj_laws.specs.declared.events.Stop.TheVariants.{Limit, NoMemory}
 use Rattle.pj_laws.specs.Plan.{Node}
-use Rattle.pj_laws.specs.History.{nodes_by, nodes_from, gained}
+use Rattle.pj_laws.specs.History.{nodes_from}
 use Rattle.pj_laws.specs.Outcomes.{outputs_of}
 use Rattle.pj_laws.specs.CoreKept.{nodes_of}
 use Rattle.pj_laws.specs.OneThread.{Turn, arrival_of}
+use Rattle.pj_laws.proofs.Histories.{outputs-append}
 use Rattle.pj_core.specs.Cores.{CoreState, StandsFor, MayFollow}
 use Rattle.pj_core.specs.Calls.{IsTurnRefused, StopsInTurn}
-use Rattle.pj_engine.specs.declared.status.Status.{Status}
-use Rattle.pj_engine.specs.Outs.{out_lines}
-use Rattle.pj_engine.specs.Turning.{StopsBehind, HandsFront, Turned, turn_outs, status_for}
-use Rattle.pj_engine.specs.Written.{Writes, StopLeaves}
-use Rattle.pj_engine.proofs.Lines.{stopped_first}
+use Rattle.pj_engine.specs.declared.stops.WriteStop.{WriteStop}
+use Rattle.pj_engine.specs.declared.stops.WriteStop.TheVariants.{Failed, NoMemory as WriteMemory}
+use Rattle.pj_engine.specs.Results.{out_lines}
+use Rattle.pj_engine.specs.Stops.{of_core, of_write}
+use Rattle.pj_engine.specs.Turning.{StopsBehind, Turned, TurnStops, turn_outs}
+use Rattle.pj_engine.specs.Written.{flat, Cut, Leaves, write_cut, turn_cut}
+use Rattle.pj_engine.proofs.Carried.{write_cut_same}
 use Rattle.pj_engine.proofs.Counting.{out_lines-append}
-
-pub outputs-append : (nodes : List Node) (xs ys : List Entry) → outputs_of false nodes (xs ++ ys) ≡ outputs_of false nodes xs ++ outputs_of false (nodes_from nodes xs) ys
-outputs-append nodes [] ys = refl
-outputs-append nodes (x ∷ xs) ys =
-    ap (λ (outs : List Out). gained false nodes x.event ++ outs) (outputs-append (nodes_by nodes x.event) xs ys)
-    ∙ sym (append_assoc (gained false nodes x.event) (outputs_of false (nodes_by nodes x.event) xs) (outputs_of false (nodes_from (nodes_by nodes x.event) xs) ys))
+use Rattle.pj_engine.proofs.LinesWritten.{first_written, stop_first}
 
 stops_now : (old mid : CoreState) (turn : Turn) (stop : Stop) (outs : List Out) → old.undrained ≡ [] → StopsInTurn old mid turn stop → outs ≡ mid.undrained → StopsBehind old turn outs stop
 stops_now old mid turn stop outs drained s handed = record {
   cause = s.cause;
   hands = λ history stands may.
       let f = s.takes history stands may in
-      let nodes : List Node = nodes_from (nodes_of old.plan) history in
       record {
-        others = outputs_of false (nodes_from nodes f.front) f.back;
-        all = ap (λ (xs : List Out). xs ++ outputs_of false (nodes_from nodes f.front) f.back) (handed ∙ (f.undrained ∙ ap (λ (xs : List Out). xs ++ outputs_of false nodes f.front) drained))
-            ∙ (sym (outputs-append nodes f.front f.back) ∙ ap (outputs_of false nodes) (sym f.parts));
+        front = f.front;
+        back = f.back;
+        parts = f.parts;
+        within = f.within;
+        stops = f.stops;
+        outs_are = handed ∙ (f.undrained ∙ ap (λ (xs : List Out). xs ++ outputs_of false (nodes_from (nodes_of old.plan) history) f.front) drained);
       };
 }
 
@@ -43,31 +44,52 @@ stops_behind None old mid turn stop outs on drained refused handed = stops_now o
 stops_behind (Some s) old mid turn stop outs on drained refused handed = absurd (cc)
 
 -- what is handed out is a front of the turn's
-turned_front : (old new : CoreState) (turn : Turn) (outs : List Out) (stop : Option Stop) (history : List Entry) → old.undrained ≡ [] → Turned old new turn outs stop → StandsFor old history → MayFollow old history (arrival_of turn) → HandsFront old history turn outs
-turned_front old new turn outs None history drained turned stands may = record {
-  others = [];
-  all = append-nil outs ∙ (turned.hands history stands may ∙ ap (λ (xs : List Out). xs ++ turn_outs old history turn) drained);
-}
-turned_front old new turn outs (Some stop) history drained turned stands may = turned.hands history stands may
-
-front_lines : (old : CoreState) (turn : Turn) (outs slice : List Out) (history : List Entry) (f : HandsFront old history turn outs) → slice ≡ outs → out_lines slice ++ out_lines f.others ≡ out_lines (turn_outs old history turn)
-front_lines old turn outs slice history f is =
-    ap (λ (xs : List Out). out_lines xs ++ out_lines f.others) is ∙ (sym (out_lines-append outs f.others) ∙ ap out_lines f.all)
+outs_front : (old new : CoreState) (turn : Turn) (outs : List Out) (stop : Option Stop) (history : List Entry) → old.undrained ≡ [] → Turned old new turn outs stop → StandsFor old history → MayFollow old history (arrival_of turn)
+    → (others : List Out) × (outs ++ others ≡ turn_outs old history turn)
+outs_front old new turn outs None history drained turned stands may =
+    ([], append-nil outs ∙ (turned.hands history stands may ∙ ap (λ (xs : List Out). xs ++ turn_outs old history turn) drained))
+outs_front old new turn outs (Some stop) history drained turned stands may =
+    let f = turned.hands history stands may in
+    let nodes : List Node = nodes_from (nodes_of old.plan) history in
+    let others : List Out = outputs_of false (nodes_from nodes f.front) f.back in
+    (others, ap (λ (xs : List Out). xs ++ others) f.outs_are ∙ (sym (outputs-append false nodes f.front f.back) ∙ ap (outputs_of false nodes) (sym f.parts)))
 
 module _ (old new : CoreState) (turn : Turn) (outs slice : List Out) (stop : Option Stop) (history : List Entry) (drained : old.undrained ≡ []) (turned : Turned old new turn outs stop) (is : slice ≡ outs) (stands : StandsFor old history) (may : MayFollow old history (arrival_of turn)) where
+  lines_front : (others : List Out) × (out_lines slice ++ out_lines others ≡ out_lines (turn_outs old history turn))
+  lines_front =
+      let f = outs_front old new turn outs stop history drained turned stands may in
+      (f.0, ap (λ (xs : List Out). out_lines xs ++ out_lines f.0) is ∙ (sym (out_lines-append outs f.0) ∙ ap out_lines f.1))
+
   -- a stop while the lines are written
-  pub write_stopped : (result : Result (Unit {0}) Status) (status : Status) (before after : List ℕ) → Writes (out_lines slice) before after (Err status) → IsErrAnd result (λ x. x ≡ status) → Writes (out_lines (turn_outs old history turn)) before after result
-  write_stopped result status before after written h =
-      let f = turned_front old new turn outs stop history drained turned stands may in
-      stopped_first result status (out_lines slice) (out_lines f.others) (out_lines (turn_outs old history turn)) before after written (front_lines old turn outs slice history f is) h
+  pub write_stopped : (why : WriteStop) (before after : List ℕ) → Leaves (write_cut why) (out_lines slice) before after → Leaves (turn_cut (of_write why)) (out_lines (turn_outs old history turn)) before after
+  write_stopped why before after written =
+      subst (λ (cut : Cut). Leaves cut (out_lines (turn_outs old history turn)) before after) (sym (write_cut_same why))
+      (stop_first (write_cut why) (out_lines slice) (out_lines lines_front.0) (out_lines (turn_outs old history turn)) before after written lines_front.1)
 
   -- the core stopped, and what it had handed out was written
-  pub core_stopped : (why : Stop) (status : Status) (before after : List ℕ) → status ≡ status_for why → Writes (out_lines slice) before after (Ok tt) → StopLeaves status (out_lines (turn_outs old history turn)) before after
-  core_stopped (Limit node) status before after e written =
-      let f = turned_front old new turn outs stop history drained turned stands may in
-      subst (λ (s : Status). StopLeaves s (out_lines (turn_outs old history turn)) before after) (sym e)
-      (record { first = out_lines slice; others = out_lines f.others; all = front_lines old turn outs slice history f is; written = written })
-  core_stopped NoMemory status before after e written =
-      let f = turned_front old new turn outs stop history drained turned stands may in
-      subst (λ (s : Status). StopLeaves s (out_lines (turn_outs old history turn)) before after) (sym e)
-      (record { first = out_lines slice; others = out_lines f.others; all = front_lines old turn outs slice history f is; written = written })
+  pub core_stopped : (why : Stop) (before after : List ℕ) → after ≡ before ++ flat (out_lines slice) → Leaves (turn_cut (of_core why)) (out_lines (turn_outs old history turn)) before after
+  core_stopped why before after written =
+      first_written (turn_cut (of_core why)) (out_lines slice) (out_lines lines_front.0) (out_lines (turn_outs old history turn)) before after written lines_front.1
+
+-- a failed write says no more of the turn
+pub write_stops : (why : WriteStop) (core : CoreState) (history : List Entry) (turn : Turn) (old new : SinkState) → TurnStops (of_write why) core history turn old new
+write_stops Failed core history turn old new = tt
+write_stops WriteMemory core history turn old new = tt
+
+-- at a limit exactly the lines of what came before it were written
+pub core_stops : (why : Stop) (core : CoreState) (turn : Turn) (outs slice : List Out) (old new : SinkState) → StopsBehind core turn outs why → slice ≡ outs → (IsTrue new.told → new.written ≡ old.written ++ flat (out_lines slice))
+    → (history : List Entry) → StandsFor core history → MayFollow core history (arrival_of turn) → TurnStops (of_core why) core history turn old new
+core_stops (Limit node) core turn outs slice old new stops is written history stands may =
+    let f = stops.hands history stands may in
+    record {
+      front = f.front;
+      back = f.back;
+      parts = f.parts;
+      within = f.within;
+      beyond = f.stops;
+      written = λ told. written told ∙ ap (λ (os : List Out). old.written ++ flat (out_lines os)) (is ∙ f.outs_are);
+    }
+core_stops NoMemory core turn outs slice old new stops is written history stands may = tt
+
+pub turned_stops : (old new : CoreState) (turn : Turn) (outs : List Out) (given : Option Stop) (stop : Stop) → given ≡ Some stop → Turned old new turn outs given → StopsBehind old turn outs stop
+turned_stops old new turn outs given stop is turned = subst (Turned old new turn outs) is turned

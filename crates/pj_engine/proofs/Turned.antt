@@ -6,10 +6,9 @@ use Rattle.pj_shape.specs.declared.plans.SmallStream.{SmallStream}
 use Rattle.pj_pattern.specs.declared.element.Element.{Element}
 use Rattle.pj_intake.specs.declared.intake.IntakeStop.{IntakeStop}
 use Rattle.pj_laws.specs.OneThread.{Turn}
-use Rattle.pj_engine.specs.declared.feeds.Next.{Next}
-use Rattle.pj_engine.specs.declared.feeds.Next.TheVariants.{Bring, Close}
-use Rattle.pj_engine.specs.declared.status.Status.{Status}
-use Rattle.pj_engine.specs.Feeds.{FeedState, all_accepted, count_of, IsFed, FeedStops, AreFeeds, AllTold, AllClosed, HasTurn, StopsIn, status_of_feed, turn_in, feed_left, feeds_left, brought, closes}
+use Rattle.pj_engine.specs.declared.feeds.Arrival.{Arrival}
+use Rattle.pj_engine.specs.declared.feeds.Arrival.TheVariants.{Brought, Closing}
+use Rattle.pj_engine.specs.Feeds.{FeedState, all_accepted, count_of, IsFed, FeedStops, AreFeeds, AllTold, AllClosed, HasTurn, StopsIn, turn_in, feed_left, feeds_left, brought, closes}
 use Rattle.pj_engine.proofs.AllFeeds.{one_of, told_at, closed_done, get_set}
 use Rattle.pj_engine.proofs.Feeding.{turn_at, no_turn, turn_made_at, turn_begins}
 
@@ -32,8 +31,8 @@ pub turn_fed : (streams : List SmallStream) (feeds : List FeedState) (place : �
 turn_fed streams feeds place feed f here = (one_of 0 streams feeds place feed f here.is).fed
 
 -- the turn was made
-pub turn_given : (streams : List SmallStream) (feeds : List FeedState) (at place : ℕ) (feed feed' : FeedState) (next : Next) → AreFeeds 0 streams feeds → AllTold feeds → HasTurn feeds at (Some place) → IsTurnAt feeds place feed
-    → (IsTrue feed.told → feed_left streams feed ≡ turn_in streams next ∷ feed_left streams feed') → feeds_left streams feeds at ≡ turn_in streams next ∷ feeds_left streams (set feeds place feed') (place + 1)
+pub turn_given : (streams : List SmallStream) (feeds : List FeedState) (at place : ℕ) (feed feed' : FeedState) (next : Arrival) → AreFeeds 0 streams feeds → AllTold feeds → HasTurn feeds at (Some place) → IsTurnAt feeds place feed
+    → (IsTrue feed.source.told → feed_left streams feed ≡ turn_in streams next ∷ feed_left streams feed') → feeds_left streams feeds at ≡ turn_in streams next ∷ feeds_left streams (set feeds place feed') (place + 1)
 turn_given streams feeds at place feed feed' next f told has here gave =
     turn_at streams feeds at place (closed_done streams 0 streams feeds f told) has
     ∙ turn_made_at streams feeds place feed feed' (turn_in streams next) here.is (gave (told_at feeds place feed told here.is))
@@ -52,21 +51,18 @@ has_left : (streams : List SmallStream) (feed : FeedState) → feed.is_open ≡ 
 has_left streams feed still = go (drop (count_of feed) (all_accepted feed)) (ap (λ (b : Bool). brought streams feed.stream (drop (count_of feed) (all_accepted feed)) ++ closes streams feed.stream b) still)
   where
     go : (es : List Element) → feed_left streams feed ≡ brought streams feed.stream es ++ closes streams feed.stream true → HasLeft streams feed
-    go [] e = record { first = turn_in streams (Close feed.stream); rest = []; left = e; mine = refl }
-    go (x ∷ es) e = record { first = turn_in streams (Bring feed.stream x); rest = brought streams feed.stream es ++ closes streams feed.stream true; left = e; mine = refl }
+    go [] e = record { first = turn_in streams (Closing feed.stream); rest = []; left = e; mine = refl }
+    go (x ∷ es) e = record { first = turn_in streams (Brought feed.stream x); rest = brought streams feed.stream es ++ closes streams feed.stream true; left = e; mine = refl }
 
 -- the turn could not be made
-pub turn_stops : (feeds : List FeedState) (at place : ℕ) (feed feed' : FeedState) (why : IntakeStop) (status : Status) → HasTurn feeds at (Some place) → IsTurnAt feeds place feed → FeedStops feed feed' why → status ≡ status_of_feed place why
-    → StopsIn feeds (set feeds place feed') at status
-turn_stops feeds at place feed feed' why status has here stops is = record {
-  place = place;
+pub turn_stops : (feeds : List FeedState) (at place : ℕ) (feed feed' : FeedState) (why : IntakeStop) → HasTurn feeds at (Some place) → IsTurnAt feeds place feed → FeedStops feed feed' why
+    → StopsIn feeds (set feeds place feed') at (record { stream = place; why = why })
+turn_stops feeds at place feed feed' why has here stops = record {
   old = feed;
   new = feed';
-  why = why;
   before = here.is;
   now = get_set feeds place feed feed' here.is;
   stops = stops;
-  status_is = is;
   still = here.still;
   next = λ told streams f.
       let left = has_left streams feed here.still in

@@ -3,111 +3,92 @@ use Rattle.std.specs.Prelude.{◌≡◌, ℕ, ◌+◌, ◌-◌, ◌<◌, ◌≤�
 use Rattle.pj_shape.specs.declared.columns.Column.{Column}
 use Rattle.pj_shape.specs.declared.plans.SmallStream.{SmallStream}
 use Rattle.pj_io.specs.Causes.{Rose}
+use Rattle.pj_io.specs.States.{SourceState}
 use Rattle.pj_pattern.specs.declared.element.Element.{Element}
 use Rattle.pj_pattern.specs.declared.element.Element.TheVariants.{Punct}
-use Rattle.pj_line.specs.Buffers.{Buffered}
 use Rattle.pj_element.specs.declared.tally.Tally.{Tally}
 use Rattle.pj_element.specs.Accepted.{taken_of, fates_of, tally_of}
-use Rattle.pj_intake.specs.declared.seen.Seen.{Seen}
 use Rattle.pj_intake.specs.declared.intake.IntakeStop.{IntakeStop}
 use Rattle.pj_intake.specs.declared.intake.IntakeStop.TheVariants.{ReadFault, ByteLimit, NoMemory}
-use Rattle.pj_intake.specs.Steps.{Follows}
-use Rattle.pj_intake.specs.States.{Taking}
-use Rattle.pj_laws.specs.Patterns.{all_wild}
-use Rattle.pj_laws.specs.Plan.{FitsSchema}
+use Rattle.pj_intake.specs.Taking.{IntakeState, Taking, IsOpen}
+use Rattle.pj_pattern.specs.Columns.{all_wild}
+use Rattle.pj_pattern.specs.Fitting.{FitsKinds}
+use Rattle.pj_shape.specs.Columns.{kinds_of}
 use Rattle.pj_laws.specs.CoreKept.{columns_of}
 use Rattle.pj_laws.specs.OneThread.{Turn, heads, tails, in_rounds}
-use Rattle.pj_engine.specs.declared.status.Status.{Status}
-use Rattle.pj_engine.specs.declared.status.Status.TheVariants.{ReadFault as StatusFault, Limit as StatusLimit, NoMemory as OutOfMemory}
-use Rattle.pj_engine.specs.declared.status.LimitOf.TheVariants.{File}
-use Rattle.pj_engine.specs.declared.feeds.Next.{Next}
-use Rattle.pj_engine.specs.declared.feeds.Next.TheVariants.{Bring, Close}
+use Rattle.pj_engine.specs.declared.feeds.Arrival.{Arrival}
+use Rattle.pj_engine.specs.declared.feeds.Arrival.TheVariants.{Brought, Closing}
+use Rattle.pj_engine.specs.declared.stops.FeedStop.{FeedStop}
 
--- A stream that is fed: its number, whether its closing is still to come, its columns; what its source tells of itself, of the
--- bytes taken, of those left, of its faults and its name; the lines that are buffered, what is kept of those that were judged,
--- and why no further line is judged
+-- A stream that is fed: its number, whether its closing is still to come, what its source tells of itself, and its intake
 pub record FeedState : Type 0 where
   pub stream : ℕ
   pub is_open : Bool
-  pub columns : List Column
-  pub told : Bool
-  pub taken : List ℕ
-  pub left : List ℕ
-  pub faults : ℕ
-  pub name : List ℕ
-  pub buffer : Buffered
-  pub seen : Seen
-  pub stopped : Option IntakeStop
+  pub source : SourceState
+  pub intake : IntakeState
 
 -- all bytes of the stream's file
 abbrev pub bytes_of : FeedState → List ℕ
-bytes_of feed = feed.taken ++ feed.left
+bytes_of feed = feed.source.taken ++ feed.source.left
 
 -- all elements that are accepted of the file
 abbrev pub all_accepted : FeedState → List Element
-all_accepted feed = taken_of (fates_of feed.columns (bytes_of feed))
+all_accepted feed = taken_of (fates_of feed.intake.columns (bytes_of feed))
 
 -- how many of them were accepted so far
 abbrev pub count_of : FeedState → ℕ
-count_of feed = feed.seen.tally.tuples + feed.seen.tally.puncts
+count_of feed = feed.intake.seen.tally.tuples + feed.intake.seen.tally.puncts
 
 -- What was judged of the file; once the closing had its turn, that is all of it
 pub record IsFed (feed : FeedState) : Type 0 where
   pub judged : List ℕ
-  pub goes_on : feed.stopped ≡ None
-  pub follows : Follows feed.columns feed.buffer feed.seen judged
-  pub limit : feed.buffer.limit ≡ 2 ^ 40
-  pub bytes : IsTrue feed.told → feed.taken ≡ judged ++ feed.buffer.held
-  pub at_end : feed.buffer.ended ≡ true → IsTrue feed.told → feed.left ≡ []
-  pub closed : feed.is_open ≡ false → (feed.buffer.ended ≡ true) × (feed.buffer.held ≡ [])
+  pub goes_on : feed.intake.stopped ≡ None
+  pub follows : IsOpen feed.intake judged
+  pub limit : feed.intake.buffer.limit ≡ 2 ^ 40
+  pub bytes : IsTrue feed.source.told → feed.source.taken ≡ judged ++ feed.intake.buffer.held
+  pub at_end : feed.intake.buffer.ended ≡ true → IsTrue feed.source.told → feed.source.left ≡ []
+  pub closed : feed.is_open ≡ false → (feed.intake.buffer.ended ≡ true) × (feed.intake.buffer.held ≡ [])
 
 -- how many bytes may still be judged, and the closing
 abbrev pub work_of : FeedState → ℕ
-work_of feed = (feed.buffer.limit - (feed.buffer.count - length feed.buffer.held)) + (if feed.is_open then 1 else 0)
+work_of feed = (feed.intake.buffer.limit - (feed.intake.buffer.count - length feed.intake.buffer.held)) + (if feed.is_open then 1 else 0)
 
 -- a turn, or a closing, may change a feed so far: its bytes are those of before
 pub record IsSameFeed (old new : FeedState) : Type 0 where
   pub stream : new.stream ≡ old.stream
-  pub columns : new.columns ≡ old.columns
-  pub told : new.told ≡ old.told
-  pub name : new.name ≡ old.name
-  pub faults : old.faults ≤ new.faults
-  pub bytes : IsTrue old.told → bytes_of new ≡ bytes_of old
+  pub columns : new.intake.columns ≡ old.intake.columns
+  pub told : new.source.told ≡ old.source.told
+  pub name : new.source.name ≡ old.source.name
+  pub faults : old.source.faults ≤ new.source.faults
+  pub bytes : IsTrue old.source.told → bytes_of new ≡ bytes_of old
 
 -- what this is for an intake, where this is what its source tells
-abbrev pub state_of : {S : Type 0} → (S → Bool) → (S → List ℕ) → (S → List ℕ) → (S → ℕ) → (S → List ℕ) → ℕ → Bool → Taking S → FeedState
-state_of tells taken left faults name stream is_open intake = record {
+abbrev pub feed_of : {S : Type 0} → (S → SourceState) → ℕ → Bool → Taking S → FeedState
+feed_of state stream is_open taking = record {
   stream = stream;
   is_open = is_open;
-  columns = intake.columns;
-  told = tells intake.source;
-  taken = taken intake.source;
-  left = left intake.source;
-  faults = faults intake.source;
-  name = name intake.source;
-  buffer = intake.buffer;
-  seen = intake.seen;
-  stopped = intake.stopped;
+  source = state taking.source;
+  intake = taking.state;
 }
 
 -- ---- turns
 
 -- the turn that this is, where these are the streams
-abbrev pub turn_in : List SmallStream → Next → Turn
-turn_in streams (Bring stream element) = record { stream = stream; element = element; closing = 0 }
-turn_in streams (Close stream) = record { stream = stream; element = Punct (all_wild (length (columns_of streams stream))); closing = 1 }
+abbrev pub turn_in : List SmallStream → Arrival → Turn
+turn_in streams (Brought stream element) = record { stream = stream; element = element; closing = 0 }
+turn_in streams (Closing stream) = record { stream = stream; element = Punct (all_wild (length (columns_of streams stream))); closing = 1 }
 
-abbrev pub turn_of : List SmallStream → Option Next → Option Turn
+abbrev pub turn_of : List SmallStream → Option Arrival → Option Turn
 turn_of streams None = None
 turn_of streams (Some next) = Some (turn_in streams next)
 
 -- the turns of these elements of a stream, in order
 abbrev pub brought : List SmallStream → ℕ → List Element → List Turn
-brought streams stream es = map (λ e. turn_in streams (Bring stream e)) es
+brought streams stream es = map (λ e. turn_in streams (Brought stream e)) es
 
 -- its closing, where that is still to come
 abbrev pub closes : List SmallStream → ℕ → Bool → List Turn
-closes streams stream still = if still then (turn_in streams (Close stream) ∷ []) else []
+closes streams stream still = if still then (turn_in streams (Closing stream) ∷ []) else []
 
 -- what is left of a stream: the elements that are accepted behind those that were, and its closing
 abbrev pub feed_left : List SmallStream → FeedState → List Turn
@@ -144,24 +125,24 @@ fed_elements columns bytes = taken_of (fates_of columns (fed_part bytes))
 -- ---- one stream
 
 -- what a turn brings is of this stream and fits its columns
-abbrev pub BringsOf : FeedState → Next → Type 0
-BringsOf feed (Bring stream element) = (stream ≡ feed.stream) × FitsSchema feed.columns element
-BringsOf feed (Close stream) = stream ≡ feed.stream
+abbrev pub BringsOf : FeedState → Arrival → Type 0
+BringsOf feed (Brought stream element) = (stream ≡ feed.stream) × FitsKinds (kinds_of feed.intake.columns) element
+BringsOf feed (Closing stream) = stream ≡ feed.stream
 
 -- why a stream's turn was not made: a read failed, and of the file exactly the elements were accepted that the lines hold which
 -- end with a line feed in the bytes taken; or so many bytes were taken
 abbrev pub FeedStops : FeedState → FeedState → IntakeStop → Type 0
-FeedStops old new ReadFault = Rose old.faults new.faults × (IsTrue old.told → fed_elements new.columns new.taken ≡ take (count_of old) (all_accepted old))
-FeedStops old new ByteLimit = IsTrue old.told → 2 ^ 40 ≤ length (bytes_of old)
+FeedStops old new ReadFault = Rose old.source.faults new.source.faults × (IsTrue old.source.told → fed_elements new.intake.columns new.source.taken ≡ take (count_of old) (all_accepted old))
+FeedStops old new ByteLimit = IsTrue old.source.told → 2 ^ 40 ≤ length (bytes_of old)
 FeedStops old new NoMemory = ⊤
 
 -- the next element of a stream is this one, or there is none and its file was judged whole
 abbrev pub IsNextOf : FeedState → FeedState → Option Element → Type 0
 IsNextOf old new None =
-    (work_of new ≤ work_of old) × (new.buffer.ended ≡ true) × (new.buffer.held ≡ []) × (IsTrue old.told → drop (count_of old) (all_accepted old) ≡ [])
+    (work_of new ≤ work_of old) × (new.intake.buffer.ended ≡ true) × (new.intake.buffer.held ≡ []) × (IsTrue old.source.told → drop (count_of old) (all_accepted old) ≡ [])
     × (count_of new ≡ count_of old)
 IsNextOf old new (Some e) =
-    (work_of new < work_of old) × FitsSchema old.columns e × (IsTrue old.told → drop (count_of old) (all_accepted old) ≡ e ∷ drop (count_of new) (all_accepted new))
+    (work_of new < work_of old) × FitsKinds (kinds_of old.intake.columns) e × (IsTrue old.source.told → drop (count_of old) (all_accepted old) ≡ e ∷ drop (count_of new) (all_accepted new))
 
 -- ---- all streams
 
@@ -170,7 +151,7 @@ abbrev pub AreFeeds : ℕ → List SmallStream → List FeedState → Type 0
 AreFeeds k [] [] = ⊤
 AreFeeds k [] (feed ∷ feeds) = ⊥
 AreFeeds k (stream ∷ streams) [] = ⊥
-AreFeeds k (stream ∷ streams) (feed ∷ feeds) = (feed.stream ≡ k) × (feed.columns ≡ stream.schema) × IsFed feed × AreFeeds (k + 1) streams feeds
+AreFeeds k (stream ∷ streams) (feed ∷ feeds) = (feed.stream ≡ k) × (feed.intake.columns ≡ stream.schema) × IsFed feed × AreFeeds (k + 1) streams feeds
 
 -- nothing was taken yet
 abbrev pub AreNew : List FeedState → Type 0
@@ -190,7 +171,7 @@ work_in (feed ∷ feeds) = work_of feed + work_in feeds
 -- all of them tell their bytes
 abbrev pub AllTold : List FeedState → Type 0
 AllTold [] = ⊤
-AllTold (feed ∷ feeds) = IsTrue feed.told × AllTold feeds
+AllTold (feed ∷ feeds) = IsTrue feed.source.told × AllTold feeds
 
 -- the files of the streams
 abbrev pub files_of : List FeedState → List (List ℕ)
@@ -198,12 +179,12 @@ files_of feeds = map bytes_of feeds
 
 -- the counts of the streams so far
 abbrev pub tallies_in : List FeedState → List Tally
-tallies_in feeds = map (λ feed. feed.seen.tally) feeds
+tallies_in feeds = map (λ feed. feed.intake.seen.tally) feeds
 
 -- all bytes of each stream's file were taken
 abbrev pub AreAllTaken : List FeedState → Type 0
 AreAllTaken [] = ⊤
-AreAllTaken (feed ∷ feeds) = (IsTrue feed.told → feed.left ≡ []) × AreAllTaken feeds
+AreAllTaken (feed ∷ feeds) = (IsTrue feed.source.told → feed.source.left ≡ []) × AreAllTaken feeds
 
 -- the counts of each stream
 abbrev pub tallies_of : List SmallStream → List (List ℕ) → List Tally
@@ -227,30 +208,21 @@ HasTurn feeds at None = AllClosed feeds
 HasTurn feeds at (Some place) = IsFirstOpen feeds at (Some place) ⊎ (IsFirstOpen feeds at None × IsFirstOpen feeds 0 (Some place))
 
 -- what a turn brings is of one of these streams and fits its columns
-abbrev pub BringsIn : List FeedState → Option Next → Type 0
+abbrev pub BringsIn : List FeedState → Option Arrival → Type 0
 BringsIn feeds None = AllClosed feeds
 BringsIn feeds (Some next) = (place : ℕ) × (feed : FeedState) × (slice_get feeds place ≡ Some feed) × BringsOf feed next
 
--- the status of a run in which the turn of a stream could not be made
-abbrev pub status_of_feed : ℕ → IntakeStop → Status
-status_of_feed stream ReadFault = StatusFault (stream + 2)
-status_of_feed stream ByteLimit = StatusLimit (File stream)
-status_of_feed stream NoMemory = OutOfMemory
-
 -- a turn that was made leaves less to do
-abbrev pub WorksOn : List FeedState → List FeedState → Option Next → Type 0
+abbrev pub WorksOn : List FeedState → List FeedState → Option Arrival → Type 0
 WorksOn olds news None = ⊤
 WorksOn olds news (Some next) = work_in news < work_in olds
 
 -- the turn of one of these streams was the next, and could not be made
-pub record StopsIn (olds news : List FeedState) (at : ℕ) (status : Status) : Type 0 where
-  pub place : ℕ
+pub record StopsIn (olds news : List FeedState) (at : ℕ) (stop : FeedStop) : Type 0 where
   pub old : FeedState
   pub new : FeedState
-  pub why : IntakeStop
-  pub before : slice_get olds place ≡ Some old
-  pub now : slice_get news place ≡ Some new
-  pub stops : FeedStops old new why
-  pub status_is : status ≡ status_of_feed place why
+  pub before : slice_get olds stop.stream ≡ Some old
+  pub now : slice_get news stop.stream ≡ Some new
+  pub stops : FeedStops old new stop.why
   pub still : old.is_open ≡ true
-  pub next : AllTold olds → (streams : List SmallStream) → AreFeeds 0 streams olds → (turn : Turn) × (rest : List Turn) × (feeds_left streams olds at ≡ turn ∷ rest) × (turn.stream ≡ place)
+  pub next : AllTold olds → (streams : List SmallStream) → AreFeeds 0 streams olds → (turn : Turn) × (rest : List Turn) × (feeds_left streams olds at ≡ turn ∷ rest) × (turn.stream ≡ stop.stream)

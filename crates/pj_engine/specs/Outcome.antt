@@ -6,9 +6,9 @@ use Rattle.pj_shape.specs.declared.plans.SmallJoin.{SmallJoin}
 use Rattle.pj_element.specs.declared.tally.Tally.{Tally}
 use Rattle.pj_laws.specs.CoreKept.{nodes_of}
 use Rattle.pj_laws.specs.Outcomes.{peak_of}
-use Rattle.pj_engine.specs.declared.outs.Counts.{Counts}
+use Rattle.pj_engine.specs.declared.results.Counts.{Counts}
 use Rattle.pj_engine.specs.Feeds.{tallies_of}
-use Rattle.pj_engine.specs.Outs.{counts_of}
+use Rattle.pj_engine.specs.Results.{counts_of}
 use Rattle.pj_engine.specs.Report.{stream_lines, results_text}
 use Rattle.pj_engine.specs.Runs.{history_of, outputs_of, peaks_report}
 

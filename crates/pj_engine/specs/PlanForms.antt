@@ -67,9 +67,9 @@ are_classes classes = (nat_le 1 (length classes) && nat_le (length classes) 32) 
 
 -- ---- names
 
--- only small letters, digits and `_`
+-- at most 32 bytes, only small letters, digits and `_`
 abbrev pub is_plain : List ℕ → Bool
-is_plain name = list_all is_name_byte name
+is_plain name = nat_le (length name) 32 && list_all is_name_byte name
 
 abbrev pub are_plain : List SmallStream → Bool
 are_plain streams = list_all (λ stream. is_plain stream.name) streams
@@ -78,6 +78,6 @@ abbrev pub is_plain_join : Option SmallJoin → Bool
 is_plain_join None = true
 is_plain_join (Some join) = is_plain join.name
 
--- the names of the streams and of the join have only small letters, digits and `_`
+-- the names of the streams and of the join have at most 32 bytes, only small letters, digits and `_`
 abbrev pub HasPlainNames : SmallPlan → Type 0
 HasPlainNames plan = (are_plain plan.streams ≡ true) × (is_plain_join plan.join ≡ true)

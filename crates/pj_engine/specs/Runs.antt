@@ -1,7 +1,7 @@
 -- What a plan's run over files hands out, and the lines that it writes. There is one file for each stream.
 use Rattle.std.specs.Prelude.{◌≡◌, false, ℕ, ◌^◌, List, [], ◌∷◌, ◌++◌, map, length, Option, Some, None}
 use Rattle.pj_value.specs.declared.values.Value.{Value}
-use Rattle.pj_value.specs.Bags.{SameBag as SameBagOf}
+use Rattle.pj_value.specs.Bags.{SameBag}
 use Rattle.pj_shape.specs.declared.plans.SmallPlan.{SmallPlan}
 use Rattle.pj_shape.specs.declared.plans.SmallStream.{SmallStream}
 use Rattle.pj_shape.specs.declared.plans.SmallJoin.{SmallJoin}
@@ -10,9 +10,9 @@ use Rattle.pj_pattern.specs.declared.element.Element.{Element}
 use Rattle.pj_pattern.specs.declared.element.Element.TheVariants.{Punct}
 use Rattle.pj_element.specs.Runs.{rows_of, puncts_of, IsLawful, element_lines, closing}
 use Rattle.pj_element.specs.Accepted.{taken_of, fates_of, tally_of}
-use Rattle.pj_laws.specs.Bags.{SameBag}
 use Rattle.pj_laws.specs.declared.events.Entry.{Entry}
-use Rattle.pj_laws.specs.Outcomes.{elements_out, peak_of, goes_beyond}
+use Rattle.pj_laws.specs.Limits.{ReachesLimit}
+use Rattle.pj_laws.specs.Outcomes.{elements_out, peak_of}
 use Rattle.pj_laws.specs.Outcomes.{outputs_of as handed_out, answer_of as plan_answer}
 use Rattle.pj_laws.specs.OneThread.{one_thread_of}
 use Rattle.pj_laws.specs.CoreKept.{nodes_of}
@@ -79,7 +79,7 @@ IsAnswer plan files outputs report = SameBag (rows_of outputs) (answer_of plan (
 
 -- where the plan is one stream, the punctuations are those of the stream and its closing, as a bag
 abbrev pub ArePunctuations : SmallPlan → List (List ℕ) → List Element → List (List ℕ) → Type 0
-ArePunctuations plan files outputs report = plan.join ≡ None → SameBagOf (puncts_of outputs) (first_puncts (map puncts_of (elements_of plan files)))
+ArePunctuations plan files outputs report = plan.join ≡ None → SameBag (puncts_of outputs) (first_puncts (map puncts_of (elements_of plan files)))
 
 -- no row matches a punctuation before it
 abbrev pub AreLawful : SmallPlan → List (List ℕ) → List Element → List (List ℕ) → Type 0
@@ -95,10 +95,6 @@ AreTallies plan files outputs report = report ≡ report_of plan files outputs
 abbrev pub most_arrivals : ℕ
 most_arrivals = 2 ^ 40
 
--- behind a front of the run on one thread its next event brings one element beyond the limit, at this node
-pub record GoesBeyond (plan : SmallPlan) (files : List (List ℕ)) (node : ℕ) : Type 0 where
-  pub front : List Entry
-  pub next : Entry
-  pub back : List Entry
-  pub run : history_of plan files ≡ front ++ next ∷ back
-  pub beyond : goes_beyond most_arrivals (nodes_of plan) front next.event ≡ Some node
+-- a step of the run on one thread is the first that brings an element beyond the limit, and this is its node
+abbrev pub GoesBeyond : SmallPlan → List (List ℕ) → ℕ → Type 0
+GoesBeyond plan files node = ReachesLimit most_arrivals (nodes_of plan) (history_of plan files) node

@@ -1,98 +1,65 @@
--- What the top call promises. `plan_bytes` are the contents of the plan's file, `files` those of the streams' files.
-use Rattle.std.specs.Prelude.{◌≡◌, ◌≢◌, ◌<◌, ◌≤◌, ◌+◌, ◌^◌, ℕ, zero, suc, take, Bool, true, false, ◌&&◌, ◌==◌, ◌⊎◌, ⊤, not, List, [], ◌∷◌, ◌++◌, map, length, Option, None, Some, slice_index_or}
-use Rattle.std.specs.List.{list_all}
-use Rattle.std.specs.Str.{bytes_eq}
-use Rattle.std.specs.String.{string_bytes}
-use Rattle.std.specs.declared.string.String.{String}
-use Rattle.std.specs.declared.alloc.Global.{Global}
+-- What the top call promises of a command.
+use Rattle.std.specs.Prelude.{◌≡◌, ◌<◌, ◌≤◌, ◌+◌, ◌^◌, ℕ, zero, suc, true, false, ◌⊎◌, ⊤, List, [], ◌∷◌, ◌++◌, map, length, Option, Some, None, IsTrue}
+use Rattle.pj_io.specs.Causes.{Rose}
+use Rattle.pj_io.specs.States.{FolderState, SinkState}
 use Rattle.pj_shape.specs.declared.plans.SmallPlan.{SmallPlan}
 use Rattle.pj_shape.specs.declared.plans.SmallStream.{SmallStream}
 use Rattle.pj_shape.specs.declared.plans.SmallJoin.{SmallJoin}
 use Rattle.pj_pattern.specs.declared.element.Element.{Element}
-use Rattle.pj_element.specs.Runs.{rows_of, IsLawful, element_lines}
-use Rattle.pj_laws.specs.Bags.{SubBag}
+use Rattle.pj_pattern.specs.Elements.{rows_of, IsLawful}
+use Rattle.pj_element.specs.Runs.{element_lines}
+use Rattle.pj_value.specs.Bags.{SubBag}
 use Rattle.pj_laws.specs.declared.events.Entry.{Entry}
-use Rattle.pj_laws.specs.declared.events.Event.TheVariants.{Arrive}
 use Rattle.pj_laws.specs.Outcomes.{elements_out}
 use Rattle.pj_laws.specs.Outcomes.{outputs_of as handed_out, elements_of as arrived_at}
-use Rattle.pj_laws.specs.CoreKept.{nodes_of, columns_of}
+use Rattle.pj_laws.specs.CoreKept.{nodes_of}
 use Rattle.pj_laws.specs.Join.{upto_from}
 use Rattle.pj_engine.specs.declared.status.Status.{Status}
 use Rattle.pj_engine.specs.declared.status.Status.TheVariants.{Done, NotBuilt, ReadFault, WriteFault, NoMemory, Limit}
 use Rattle.pj_engine.specs.declared.status.LimitOf.{LimitOf}
 use Rattle.pj_engine.specs.declared.status.LimitOf.TheVariants.{Node, File}
+use Rattle.pj_engine.specs.Commands.{Command, IsTold, HasToldPlan, operand, file_names, plan_bytes, stream_files}
+use Rattle.pj_engine.specs.Ends.{EndsBefore, EndsAtLimit, ArrivedOf, AreDistinct}
+use Rattle.pj_engine.specs.Opened.{OpensFirst}
 use Rattle.pj_engine.specs.Plans.{plan_of}
 use Rattle.pj_engine.specs.Report.{status_line}
-use Rattle.pj_engine.specs.Feeds.{fed_elements}
 use Rattle.pj_engine.specs.Runs.{outputs_of, history_of, answer_of, run_lines, GoesBeyond}
-use Rattle.pj_engine.specs.Written.{flat, WholeLines, FrontOf, Delivered, Spells}
-
--- ---- words
-
-abbrev pub begins_dash : List ℕ → Bool
-begins_dash [] = false
-begins_dash (b ∷ bs) = b == 45
-
--- the word begins with `-`
-abbrev pub is_option : String Global → Bool
-is_option word = begins_dash (string_bytes word)
-
--- no word begins with `-`
-abbrev pub no_options : List (String Global) → Bool
-no_options [] = true
-no_options (word ∷ words) = not (is_option word) && no_options words
-
--- `run`, a plan and one or more files, none of them beginning with `-`
-abbrev pub is_run : List (String Global) → Bool
-is_run [] = false
-is_run (a ∷ []) = false
-is_run (a ∷ b ∷ []) = false
-is_run (a ∷ b ∷ c ∷ ws) = bytes_eq (string_bytes a) (114 ∷ 117 ∷ 110 ∷ []) && no_options (b ∷ c ∷ ws)
-
--- the words behind the command: the plan's name, and the files' names
-abbrev pub operands : List (String Global) → List (List ℕ)
-operands [] = []
-operands (command ∷ words) = map string_bytes words
-
--- the operand with this number, counted from 1
-abbrev pub operand : List (List ℕ) → ℕ → List ℕ
-operand names n = slice_index_or ([] ∷ names) n []
-
--- the contents of all operands are told
-abbrev pub are_told : (List ℕ → Bool) → List (List ℕ) → Bool
-are_told tells names = list_all tells names
-
--- the contents of the first operand, the plan's
-abbrev pub plan_contents : (List ℕ → List ℕ) → List (List ℕ) → List ℕ
-plan_contents contents names = contents (operand names 1)
-
-abbrev pub behind_first : List (List ℕ) → List (List ℕ)
-behind_first [] = []
-behind_first (name ∷ names) = names
-
--- the contents of the others, the streams'
-abbrev pub file_contents : (List ℕ → List ℕ) → List (List ℕ) → List (List ℕ)
-file_contents contents names = map contents (behind_first names)
+use Rattle.pj_engine.specs.Written.{flat, WholeLines, FrontOf, Delivered, Spells, holding}
 
 -- ---- a run that is done
 
--- The plan's run wrote the lines of its outputs and a report, and this holds of them
-abbrev pub Ran : (SmallPlan → List (List ℕ) → List Element → List (List ℕ) → Type 0) → List ℕ → List (List ℕ) → List ℕ → List ℕ → Type 0
-Ran Holds plan_bytes files before after =
-    (plan : SmallPlan) × (outputs : List Element) × (report : List (List ℕ)) × (plan_of plan_bytes ≡ Some plan) × (outputs ≡ outputs_of plan files)
-    × (after ≡ before ++ flat (element_lines outputs ++ report)) × Holds plan files outputs report
+-- Where the command and the sink are told: the plan's run wrote the lines of its outputs and a report, and this holds of them
+abbrev pub Ran : (SmallPlan → List (List ℕ) → List Element → List (List ℕ) → Type 0) → Command → SinkState → SinkState → Type 0
+Ran Holds command old new =
+    IsTold command → IsTrue new.told → (plan : SmallPlan) × (outputs : List Element) × (report : List (List ℕ)) × (plan_of (plan_bytes command) ≡ Some plan)
+    × (outputs ≡ outputs_of plan (stream_files command)) × (new.written ≡ old.written ++ flat (element_lines outputs ++ report)) × Holds plan (stream_files command) outputs report
 
--- of the file of each name that was closed last, all bytes were taken
-abbrev pub AreReadToEnd : (List ℕ → ℕ) → (List ℕ → List ℕ) → List (List ℕ) → Type 0
-AreReadToEnd last contents [] = Unit {0}
-AreReadToEnd last contents (name ∷ names) = (last name ≡ length (contents name)) × AreReadToEnd last contents names
+-- of the file of each name that was closed last, all bytes were taken, where they are told
+abbrev pub AreReadToEnd : List (List ℕ) → FolderState → FolderState → Type 0
+AreReadToEnd [] old new = ⊤
+AreReadToEnd (name ∷ names) old new = (IsTrue (old.told name) → new.last name ≡ length (old.contents name)) × AreReadToEnd names old new
+
+-- ---- files
+
+-- so many operands may have been opened: none or one before the plan is found good, all before the run begins
+abbrev pub MayOpen : Status → Command → ℕ → Type 0
+MayOpen Done command count = count ≡ length command.names
+MayOpen NotBuilt command count = (count ≤ 1) × (command.is_run ≡ false → count ≡ 0)
+MayOpen (ReadFault n) command count = (count + 1 ≡ n) ⊎ ((n ≡ 1) × (count ≡ 1)) ⊎ (count ≡ length command.names)
+MayOpen WriteFault command count = count ≡ length command.names
+MayOpen NoMemory command count = count ≤ length command.names
+MayOpen (Limit what) command count = count ≡ length command.names
+
+-- the operands are opened in order, the streams' files once there is something to run
+abbrev pub OpensInOrder : Status → Command → FolderState → Type 0
+OpensInOrder status command after = (count : ℕ) × OpensFirst count command.names command.folder after × MayOpen status command count
 
 -- ---- a run that stopped
 
 -- nothing was written, or whole first lines of the plan's run
-abbrev pub LinesSoFar : List ℕ → List (List ℕ) → List ℕ → List ℕ → Type 0
-LinesSoFar plan_bytes files before lines =
-    (lines ≡ before) ⊎ ((plan : SmallPlan) × (plan_of plan_bytes ≡ Some plan) × WholeLines (run_lines plan files) before lines)
+abbrev pub LinesSoFar : Command → List ℕ → List ℕ → Type 0
+LinesSoFar command before lines =
+    (lines ≡ before) ⊎ ((plan : SmallPlan) × (plan_of (plan_bytes command) ≡ Some plan) × WholeLines (run_lines plan (stream_files command)) before lines)
 
 -- the name of the plan's join
 abbrev pub join_name : Option SmallJoin → List ℕ
@@ -119,74 +86,49 @@ stop_name plan WriteFault = []
 stop_name plan NoMemory = []
 stop_name plan (Limit what) = limit_name plan what
 
--- the lines are those of the outputs of a front of the run's history, which ends before a turn of this stream
-pub record EndsBefore (plan : SmallPlan) (files : List (List ℕ)) (stream : ℕ) (before lines : List ℕ) : Type 0 where
-  pub front : List Entry
-  pub next : Entry
-  pub back : List Entry
-  pub run : front ++ next ∷ back ≡ history_of plan files
-  pub element : Element
-  pub turn : next.event ≡ Arrive stream element
-  pub written : lines ≡ before ++ flat (element_lines (elements_out (handed_out false (nodes_of plan) front)))
+-- The file of this operand, a stream's, was not opened: nothing was written. Or a read of it failed: the lines of the outputs were
+-- written up to a turn of that stream, and no line beyond those that were read whole was lost or made up
+abbrev pub FaultLeaves : SmallPlan → Command → FolderState → ℕ → List ℕ → List ℕ → Type 0
+FaultLeaves plan command after n before lines =
+    ((lines ≡ before) × (AreDistinct command.names → after.last (operand command.names n) ≡ command.folder.last (operand command.names n)))
+    ⊎ ((stream : ℕ) × (n ≡ 2 + stream) × (ends : EndsBefore plan (stream_files command) stream before lines)
+    × (AreDistinct command.names → ArrivedOf plan (stream_files command) stream (after.last (operand command.names n)) ends.front))
 
--- in this history exactly the elements arrived at the stream that are accepted of the lines that end with a line feed in so many
--- bytes of its file
-abbrev pub ArrivedOf : SmallPlan → List (List ℕ) → ℕ → ℕ → List Entry → Type 0
-ArrivedOf plan files stream taken front =
-    arrived_at stream front ≡ fed_elements (columns_of plan.streams stream) (take taken (slice_index_or files stream []))
-
--- a name is none of these
-abbrev pub IsNoneOf : List ℕ → List (List ℕ) → Type 0
-IsNoneOf name [] = ⊤
-IsNoneOf name (other ∷ others) = (name ≢ other) × IsNoneOf name others
-
--- no name stands twice
-abbrev pub AreDistinct : List (List ℕ) → Type 0
-AreDistinct [] = ⊤
-AreDistinct (name ∷ names) = IsNoneOf name names × AreDistinct names
-
--- the file of this operand was not opened: nothing was written, and the number of bytes taken from it last is as it was
-abbrev pub NotOpened : List (List ℕ) → (List ℕ → ℕ) → (List ℕ → ℕ) → ℕ → List ℕ → List ℕ → Type 0
-NotOpened names last_before last_after n before lines =
-    (lines ≡ before) × (AreDistinct names → last_after (operand names n) ≡ last_before (operand names n))
-
--- The file of this operand, a stream's, was not opened, or a read of it failed: the lines of outputs were written up to a turn of
--- that stream, and no line beyond those that were read whole was lost or made up
-abbrev pub FaultLeaves : SmallPlan → List (List ℕ) → List (List ℕ) → (List ℕ → ℕ) → (List ℕ → ℕ) → ℕ → List ℕ → List ℕ → Type 0
-FaultLeaves plan files names last_before last_after n before lines =
-    NotOpened names last_before last_after n before lines
-    ⊎ ((stream : ℕ) × (n ≡ 2 + stream) × (ends : EndsBefore plan files stream before lines)
-    × (AreDistinct names → ArrivedOf plan files stream (last_after (operand names n)) ends.front))
-
--- what a limit leaves: whole first lines of the run; where a stream's file was too large, those of the outputs up to a turn of it
+-- what a limit leaves: the lines of the outputs up to the step that goes beyond it, or up to the turn of the stream whose file is
+-- too large
 abbrev pub LimitLeaves : SmallPlan → List (List ℕ) → LimitOf → List ℕ → List ℕ → Type 0
-LimitLeaves plan files (Node node) before lines = WholeLines (run_lines plan files) before lines
+LimitLeaves plan files (Node node) before lines = EndsAtLimit plan files node before lines
 LimitLeaves plan files (File stream) before lines = EndsBefore plan files stream before lines
 
--- Where a write failed, a front of the bytes of the whole run was written. Where memory ran out, a read failed or a limit was met,
--- whole first lines of the run, and then the status' line
-abbrev pub StoppedRun : Status → List ℕ → List (List ℕ) → List (List ℕ) → (List ℕ → ℕ) → (List ℕ → ℕ) → List ℕ → List ℕ → ℕ → ℕ → Type 0
-StoppedRun Done plan_bytes files names last_before last_after before after faults_before faults_after = ⊤
-StoppedRun NotBuilt plan_bytes files names last_before last_after before after faults_before faults_after = ⊤
-StoppedRun (ReadFault n) plan_bytes files names last_before last_after before after faults_before faults_after =
-    (n ≡ 1) ⊎ ((plan : SmallPlan) × (lines : List ℕ) × (plan_of plan_bytes ≡ Some plan) × FaultLeaves plan files names last_before last_after n before lines
-    × Delivered (status_line [] (ReadFault n)) lines after faults_before faults_after)
-StoppedRun WriteFault plan_bytes files names last_before last_after before after faults_before faults_after =
-    (plan : SmallPlan) × (plan_of plan_bytes ≡ Some plan) × FrontOf (flat (run_lines plan files)) before after
-StoppedRun NoMemory plan_bytes files names last_before last_after before after faults_before faults_after =
-    (lines : List ℕ) × LinesSoFar plan_bytes files before lines × Delivered (status_line [] NoMemory) lines after faults_before faults_after
-StoppedRun (Limit what) plan_bytes files names last_before last_after before after faults_before faults_after =
-    (plan : SmallPlan) × (lines : List ℕ) × (plan_of plan_bytes ≡ Some plan) × LimitLeaves plan files what before lines
-    × Delivered (status_line (limit_name plan what) (Limit what)) lines after faults_before faults_after
+-- what was written before the status' line, where there is a status line
+abbrev pub StopLeaves : Status → Command → FolderState → SinkState → SinkState → Type 0
+StopLeaves Done command after old new = ⊤
+StopLeaves NotBuilt command after old new = ⊤
+StopLeaves (ReadFault n) command after old new =
+    (n ≡ 1) ⊎ ((plan : SmallPlan) × (lines : List ℕ) × (plan_of (plan_bytes command) ≡ Some plan) × FaultLeaves plan command after n old.written lines
+    × Delivered (status_line [] (ReadFault n)) (holding old lines) new)
+StopLeaves WriteFault command after old new =
+    (plan : SmallPlan) × (plan_of (plan_bytes command) ≡ Some plan) × FrontOf (flat (run_lines plan (stream_files command))) old.written new.written
+StopLeaves NoMemory command after old new = (lines : List ℕ) × LinesSoFar command old.written lines × Delivered (status_line [] NoMemory) (holding old lines) new
+StopLeaves (Limit what) command after old new =
+    (plan : SmallPlan) × (lines : List ℕ) × (plan_of (plan_bytes command) ≡ Some plan) × LimitLeaves plan (stream_files command) what old.written lines
+    × Delivered (status_line (limit_name plan what) (Limit what)) (holding old lines) new
 
--- a call that ends before the streams' files were opened has written its status' line and nothing else
-abbrev pub EarlyEnd : Status → List ℕ → List ℕ → ℕ → ℕ → Type 0
-EarlyEnd Done before after faults_before faults_after = ⊤
-EarlyEnd NotBuilt before after faults_before faults_after = Delivered (status_line [] NotBuilt) before after faults_before faults_after
-EarlyEnd (ReadFault n) before after faults_before faults_after = n ≡ 1 → Delivered (status_line [] (ReadFault n)) before after faults_before faults_after
-EarlyEnd WriteFault before after faults_before faults_after = ⊤
-EarlyEnd NoMemory before after faults_before faults_after = ⊤
-EarlyEnd (Limit what) before after faults_before faults_after = ⊤
+-- Where the command and the sink are told: where a write failed, a front of the bytes of the whole run was written; where memory ran
+-- out, whole first lines of the run; where a read failed or a limit was met, exactly the lines of the outputs until then. Behind
+-- such lines stands the status' line
+abbrev pub StoppedRun : Status → Command → FolderState → SinkState → SinkState → Type 0
+StoppedRun status command after old new = IsTold command → IsTrue new.told → StopLeaves status command after old new
+
+-- a call that ends before the streams' files were opened, or because one could not be, has written its status' line and nothing else
+abbrev pub EarlyEnd : Status → Command → FolderState → SinkState → SinkState → Type 0
+EarlyEnd Done command after old new = ⊤
+EarlyEnd NotBuilt command after old new = Delivered (status_line [] NotBuilt) old new
+EarlyEnd (ReadFault n) command after old new =
+    (n ≡ 1) ⊎ (after.opened (operand command.names n) ≡ false) → Delivered (status_line [] (ReadFault n)) old new
+EarlyEnd WriteFault command after old new = ⊤
+EarlyEnd NoMemory command after old new = ⊤
+EarlyEnd (Limit what) command after old new = ⊤
 
 -- ---- what was written stays right
 
@@ -201,7 +143,7 @@ gone_on (f ∷ fs) [] = f ∷ gone_on fs []
 gone_on (f ∷ fs) (m ∷ ms) = (f ++ m) ∷ gone_on fs ms
 
 abbrev pub AllLawful : List (List Element) → Type 0
-AllLawful [] = Unit {0}
+AllLawful [] = ⊤
 AllLawful (es ∷ ess) = IsLawful es × AllLawful ess
 
 -- the history is as long as it must be to hand out this many elements: with one entry less it hands out fewer
@@ -221,57 +163,51 @@ pub record StaysRight (plan : SmallPlan) (files : List (List ℕ)) (outputs : Li
   pub right : (more : List (List Element)) → AllLawful (gone_on (arrived_in (length plan.streams) front) more)
       → SubBag (rows_of outputs) (answer_of plan (map rows_of (gone_on (arrived_in (length plan.streams) front) more)))
 
--- what was written spells lawful outputs, and there are none or they stay right
-abbrev pub NeverRetracted : List ℕ → List (List ℕ) → List ℕ → List ℕ → Type 0
-NeverRetracted plan_bytes files before after =
-    (bytes : List ℕ) × (after ≡ before ++ bytes) × (outputs : List Element) × Spells bytes outputs × IsLawful outputs
-    × ((outputs ≡ []) ⊎ ((plan : SmallPlan) × (plan_of plan_bytes ≡ Some plan) × StaysRight plan files outputs))
+-- where the command and the sink are told: what was written spells lawful outputs, and there are none or they stay right
+abbrev pub NeverRetracted : Command → SinkState → SinkState → Type 0
+NeverRetracted command old new =
+    IsTold command → IsTrue new.told → (bytes : List ℕ) × (new.written ≡ old.written ++ bytes) × (outputs : List Element) × Spells bytes outputs
+    × IsLawful outputs × ((outputs ≡ []) ⊎ ((plan : SmallPlan) × (plan_of (plan_bytes command) ≡ Some plan) × StaysRight plan (stream_files command) outputs))
 
 -- ---- causes
 
--- the plan's file is short and spells a plan
-abbrev pub HasPlan : List ℕ → Type 0
-HasPlan plan_bytes = (length plan_bytes ≤ 1048576) × ((plan : SmallPlan) × (plan_of plan_bytes ≡ Some plan))
+-- the bytes are few enough and spell a plan of this many streams
+abbrev pub IsPlanOf : ℕ → List ℕ → Type 0
+IsPlanOf streams bytes = (length bytes ≤ 1048576) × ((plan : SmallPlan) × (plan_of bytes ≡ Some plan) × (length plan.streams ≡ streams))
 
--- the plan's file is short and spells a plan of this many streams
-abbrev pub HasPlanOf : ℕ → List ℕ → Type 0
-HasPlanOf streams plan_bytes = (length plan_bytes ≤ 1048576) × ((plan : SmallPlan) × (plan_of plan_bytes ≡ Some plan) × (length plan.streams ≡ streams))
+-- the bytes are too many or spell no plan, or its streams are others in number
+abbrev pub IsNoPlanOf : ℕ → List ℕ → Type 0
+IsNoPlanOf streams bytes =
+    (1048576 < length bytes) ⊎ (plan_of bytes ≡ None)
+    ⊎ ((plan : SmallPlan) × (plan_of bytes ≡ Some plan) × (streams ≡ length plan.streams → ⊥))
 
--- there is something to run: a plan of as many streams as there are files
-abbrev pub IsBuilt : List ℕ → List (List ℕ) → Type 0
-IsBuilt plan_bytes files = HasPlanOf (length files) plan_bytes
+-- there is something to run, as far as words and plan tell: the plan has a stream for each file
+pub record IsBuilt (command : Command) : Type 0 where
+  pub form : command.is_run ≡ true
+  pub plan : HasToldPlan command → IsPlanOf (length (file_names command)) (plan_bytes command)
 
--- there is nothing to run: the words, the plan's size or form, or the number of files
-abbrev pub IsUnbuilt : List (String Global) → List ℕ → List (List ℕ) → Type 0
-IsUnbuilt words plan_bytes files =
-    (is_run words ≡ false) ⊎ (1048576 < length plan_bytes) ⊎ (plan_of plan_bytes ≡ None)
-    ⊎ ((plan : SmallPlan) × (plan_of plan_bytes ≡ Some plan) × (length files ≡ length plan.streams → ⊥))
+-- there is nothing to run: the words have another form, or the plan has
+abbrev pub IsUnbuilt : Command → Type 0
+IsUnbuilt command = (command.is_run ≡ false) ⊎ (HasToldPlan command → IsNoPlanOf (length (file_names command)) (plan_bytes command))
 
--- the node of a limit
-abbrev pub BeyondLimit : List ℕ → List (List ℕ) → ℕ → Type 0
-BeyondLimit plan_bytes files node = (plan : SmallPlan) × (plan_of plan_bytes ≡ Some plan) × GoesBeyond plan files node
+-- there is something to run, and more elements come to this node than may
+pub record BeyondLimit (command : Command) (node : ℕ) : Type 0 where
+  pub built : IsBuilt command
+  pub beyond : IsTold command → (plan : SmallPlan) × (plan_of (plan_bytes command) ≡ Some plan) × GoesBeyond plan (stream_files command) node
 
--- the file of this stream gave as many bytes as may be, and had not ended
-abbrev pub IsTooLarge : List (List ℕ) → ℕ → Type 0
-IsTooLarge files stream = (stream < length files) × (2 ^ 40 ≤ length (slice_index_or files stream []))
+-- there is something to run, and such a stream; where its file is told, that gave as many bytes as may be and had not ended
+pub record IsTooLarge (command : Command) (stream : ℕ) : Type 0 where
+  pub built : IsBuilt command
+  pub there : stream < length (file_names command)
+  pub bytes : IsTrue (command.folder.told (operand command.names (2 + stream))) → 2 ^ 40 ≤ length (command.folder.contents (operand command.names (2 + stream)))
 
--- ---- the parts of the call
+-- a write failed where there was something to run
+abbrev pub WriteFails : Command → SinkState → SinkState → Type 0
+WriteFails command first now = Rose first.faults now.faults × IsBuilt command
 
--- the plan is too large or has another form, or the number of files is another
-abbrev pub IsNoPlan : ℕ → List ℕ → Type 0
-IsNoPlan files plan_bytes =
-    (1048576 < length plan_bytes) ⊎ (plan_of plan_bytes ≡ None)
-    ⊎ ((plan : SmallPlan) × (plan_of plan_bytes ≡ Some plan) × (files ≡ length plan.streams → ⊥))
-
--- the plan's file spells a plan of as many streams as there are other operands
-abbrev pub HasPlanFor : List ℕ → List (List ℕ) → Type 0
-HasPlanFor plan_bytes names = HasPlanOf (length (behind_first names)) plan_bytes
-
--- what a stop leaves of a run over the files of these names, which are the plan's and the streams'
-abbrev pub RunEnds : Status → SmallPlan → List (List ℕ) → List (List ℕ) → (List ℕ → ℕ) → (List ℕ → ℕ) → List ℕ → List ℕ → Type 0
-RunEnds Done plan files names last_before last_after before after = ⊤
-RunEnds NotBuilt plan files names last_before last_after before after = ⊤
-RunEnds (ReadFault n) plan files names last_before last_after before after = FaultLeaves plan files names last_before last_after n before after
-RunEnds WriteFault plan files names last_before last_after before after = ⊤
-RunEnds NoMemory plan files names last_before last_after before after = ⊤
-RunEnds (Limit what) plan files names last_before last_after before after = LimitLeaves plan files what before after
+-- the faults of this operand rose; a stream's file is read only where there is something to run
+pub record HasFault (command : Command) (after : FolderState) (n : ℕ) : Type 0 where
+  pub first : 1 ≤ n
+  pub last : n ≤ length command.names
+  pub rose : Rose (command.folder.faults (operand command.names n)) (after.faults (operand command.names n))
+  pub later : 1 < n → IsBuilt command

@@ -1,10 +1,17 @@
 -- What was written: whole lines, or a front of them.
-use Rattle.std.specs.Prelude.{◌≡◌, ℕ, Bool, false, not, ◌==◌, List, [], ◌∷◌, ◌++◌, map, filter, Result, Ok, Err, if◌then◌else◌, ◌⊎◌}
+use Rattle.std.specs.Prelude.{◌≡◌, ℕ, Bool, false, IsTrue, not, ◌==◌, List, [], ◌∷◌, ◌++◌, map, filter, Result, Ok, Err, if◌then◌else◌, ◌⊎◌}
 use Rattle.pj_io.specs.Causes.{Rose}
+use Rattle.pj_io.specs.States.{SinkState}
 use Rattle.pj_pattern.specs.declared.element.Element.{Element}
 use Rattle.pj_element.specs.Runs.{element_line}
-use Rattle.pj_engine.specs.declared.status.Status.{Status}
-use Rattle.pj_engine.specs.declared.status.Status.TheVariants.{Done, NotBuilt, ReadFault, WriteFault, NoMemory, Limit}
+use Rattle.pj_engine.specs.declared.stops.WriteStop.{WriteStop}
+use Rattle.pj_engine.specs.declared.stops.WriteStop.TheVariants.{Failed, NoMemory as WriteMemory}
+use Rattle.pj_engine.specs.declared.stops.TurnStop.{TurnStop}
+use Rattle.pj_engine.specs.declared.stops.TurnStop.TheVariants.{Limit as TurnLimit, WriteFailed as TurnFailed, NoMemory as TurnMemory}
+use Rattle.pj_engine.specs.declared.stops.RunStop.{RunStop}
+use Rattle.pj_engine.specs.declared.stops.RunStop.TheVariants.{ReadFault, TooLarge, Limit, WriteFailed, NoMemory}
+use Rattle.pj_engine.specs.declared.stops.FilesStop.{FilesStop}
+use Rattle.pj_engine.specs.declared.stops.FilesStop.TheVariants.{Opening, Run}
 
 -- the lines one after another
 abbrev pub flat : List (List ℕ) → List ℕ
@@ -25,29 +32,51 @@ pub record FrontOf (bytes before after : List ℕ) : Type 0 where
   pub all : front ++ others ≡ bytes
   pub written : after ≡ before ++ front
 
--- the bytes were written, or the sink failed and a front of them was
-abbrev pub Delivered : List ℕ → List ℕ → List ℕ → ℕ → ℕ → Type 0
-Delivered bytes before after faults_before faults_after =
-    (after ≡ before ++ bytes) ⊎ (Rose faults_before faults_after × FrontOf bytes before after)
+-- the sink with these bytes written
+abbrev pub holding : SinkState → List ℕ → SinkState
+holding sink bytes = record sink { written = bytes }
+
+-- where the sink tells its bytes, these were written, or the sink failed and a front of them was
+abbrev pub Delivered : List ℕ → SinkState → SinkState → Type 0
+Delivered bytes old new =
+    IsTrue new.told → (new.written ≡ old.written ++ bytes) ⊎ (Rose old.faults new.faults × FrontOf bytes old.written new.written)
 
 -- what a stop leaves of lines that were to be written
-abbrev pub StopLeaves : Status → List (List ℕ) → List ℕ → List ℕ → Type 0
-StopLeaves Done lines before after = ⊥
-StopLeaves NotBuilt lines before after = ⊥
-StopLeaves (ReadFault operand) lines before after = WholeLines lines before after
-StopLeaves WriteFault lines before after = FrontOf (flat lines) before after
-StopLeaves NoMemory lines before after = WholeLines lines before after
-StopLeaves (Limit what) lines before after = WholeLines lines before after
+pub data Cut : Type 0 where
+  -- a front of their bytes
+  anywhere : Cut
+  -- whole first lines
+  between : Cut
+
+abbrev pub Leaves : Cut → List (List ℕ) → List ℕ → List ℕ → Type 0
+Leaves anywhere lines before after = FrontOf (flat lines) before after
+Leaves between lines before after = WholeLines lines before after
+
+-- a failed write cuts anywhere, every other stop between lines
+abbrev pub write_cut : WriteStop → Cut
+write_cut Failed = anywhere
+write_cut WriteMemory = between
+
+abbrev pub turn_cut : TurnStop → Cut
+turn_cut (TurnLimit node) = between
+turn_cut TurnFailed = anywhere
+turn_cut TurnMemory = between
+
+abbrev pub run_cut : RunStop → Cut
+run_cut (ReadFault stream) = between
+run_cut (TooLarge stream) = between
+run_cut (Limit node) = between
+run_cut WriteFailed = anywhere
+run_cut NoMemory = between
+
+abbrev pub files_cut : FilesStop → Cut
+files_cut (Opening stop) = between
+files_cut (Run stop) = run_cut stop
 
 -- these lines were written, or as much of them as the stop leaves
-abbrev pub Writes : List (List ℕ) → List ℕ → List ℕ → Result (Unit {0}) Status → Type 0
-Writes lines before after (Ok u) = after ≡ before ++ flat lines
-Writes lines before after (Err status) = StopLeaves status lines before after
-
--- whether the result is that all is done, whatever it gave
-abbrev pub done_of : {T : Type 0} → Result T Status → Result (Unit {0}) Status
-done_of (Ok x) = Ok tt
-done_of (Err status) = Err status
+abbrev pub WritesBy : {T E : Type 0} → (E → Cut) → List (List ℕ) → SinkState → SinkState → Result T E → Type 0
+WritesBy cut lines old new (Ok x) = new.written ≡ old.written ++ flat lines
+WritesBy cut lines old new (Err stop) = Leaves (cut stop) lines old.written new.written
 
 -- ---- what written bytes spell
 

@@ -1,10 +1,9 @@
 // The elements of all streams, in turns, as their files are read.
 ghost use Rattle.std.specs.Prelude.{◌≡◌, ◌<◌, ◌≤◌, ℕ, List, [], ◌∷◌, length, true, false, IsTrue, IfOk, OnOk, IfErr, IfNone, None};
 ghost use Rattle.pj_shape.specs.declared.plans.SmallStream.{SmallStream};
-ghost use Rattle.pj_intake.specs.States.{IsOpen};
-ghost use Rattle.pj_engine.specs.Feeds.{state_of, turn_in, turn_of, feed_left, feeds_left, count_of, Gives, work_of, IsFed, IsSameFeed, IsNextOf, BringsOf, FeedStops, AreFeeds, AreSameFeeds, AllTold, IsFirstOpen, HasTurn, BringsIn, WorksOn, StopsIn, status_of_feed};
+ghost use Rattle.pj_engine.specs.Feeds.{feed_of, turn_in, turn_of, feed_left, feeds_left, count_of, Gives, work_of, IsFed, IsSameFeed, IsNextOf, BringsOf, FeedStops, AreFeeds, AreSameFeeds, AllTold, IsFirstOpen, HasTurn, BringsIn, WorksOn, StopsIn};
 
-use crate::{LimitOf, Status};
+use crate::stops::FeedStop;
 use pj_element::Tally;
 use pj_intake::{Intake, IntakeStop, Step};
 use pj_io::Source;
@@ -13,13 +12,12 @@ use std::marker::Model;
 
 /// What a turn brings: an element of a stream, or its closing. Streams are counted from 0.
 #[derive(Drop)]
-pub enum Next {
-    Bring { stream: u32, element: Element },
-    Close { stream: u32 },
+pub enum Arrival {
+    Brought { stream: u32, element: Element },
+    Closing { stream: u32 },
 }
 
 /// A stream that is fed from its file, and whether its closing is still to come.
-#[derive(Drop)]
 pub struct Feed<S: Source> {
     stream: u32,
     intake: Intake<S>,
@@ -27,17 +25,17 @@ pub struct Feed<S: Source> {
 }
 
 impl<S: Source> Model for Feed<S> {
-    ghost use Rattle.pj_engine.specs.Feeds.{FeedState, state_of};
+    ghost use Rattle.pj_engine.specs.Feeds.{FeedState, feed_of};
 
     ghost Value = { FeedState };
 
-    ghost view = { λ f. state_of S.tells S.taken S.left S.faults S.name f.stream f.is_open f.intake };
+    ghost view = { λ f. feed_of S.state f.stream f.is_open f.intake };
 }
 
 impl<S: Source> Feed<S> {
     /// A stream whose intake has judged no line yet.
     pub fn new(stream: u32, intake: Intake<S>) -> Feed<S>
-        ensures { result ≡ state_of S.tells S.taken S.left S.faults S.name stream true intake }
+        ensures { result ≡ feed_of S.state stream true intake }
     {
         Feed {
             stream,
@@ -55,22 +53,22 @@ impl<S: Source> Feed<S> {
 
     /// The next turn of the stream, whose closing is still to come: its next accepted element, read from its file, or its
     /// closing.
-    pub fn next(&mut self) -> Result<Next, IntakeStop>
+    pub fn next(&mut self) -> Result<Arrival, IntakeStop>
         requires fed { IsFed self.old }
         requires open { self.old.is_open ≡ true }
         ensures fed { OnOk result (IsFed self.new) }
         ensures same { IsSameFeed self.old self.new }
-        ensures left { IsTrue self.old.told → IfOk result (λ next. (streams : List SmallStream) → feed_left streams self.old ≡ turn_in streams next ∷ feed_left streams self.new) }
+        ensures left { IsTrue self.old.source.told → IfOk result (λ next. (streams : List SmallStream) → feed_left streams self.old ≡ turn_in streams next ∷ feed_left streams self.new) }
         ensures works { OnOk result (work_of self.new < work_of self.old) }
         ensures brings { IfOk result (λ next. BringsOf self.old next) }
         ensures stops { IfErr result (λ stop. FeedStops self.old self.new stop) }
     {
         let stream = self.stream;
         match next_element(&mut self.intake) {
-            Ok(Some(element)) => Ok(Next::Bring { stream, element }),
+            Ok(Some(element)) => Ok(Arrival::Brought { stream, element }),
             Ok(None) => {
                 self.is_open = false;
-                Ok(Next::Close { stream })
+                Ok(Arrival::Closing { stream })
             }
             Err(stop) => Err(stop),
         }
@@ -78,24 +76,25 @@ impl<S: Source> Feed<S> {
 
     /// Its file, and the counts of its lines.
     pub fn close(self) -> (S, Tally)
-        ensures tally { result.1 ≡ self.seen.tally }
-        ensures told { S.tells result.0 ≡ self.told }
-        ensures taken { S.taken result.0 ≡ self.taken }
-        ensures faults { S.faults result.0 ≡ self.faults }
-        ensures name { S.name result.0 ≡ self.name }
+        ensures tally { result.1 ≡ self.intake.seen.tally }
+        ensures source { S.state result.0 ≡ self.source }
     {
-        let Feed { intake, .. } = self;
+        let Feed {
+            stream: _,
+            intake,
+            is_open: _,
+        } = self;
         intake.close()
     }
 }
 
 // The next element that is accepted; `None` exactly where all lines were judged.
 fn next_element<S: Source>(intake: &mut Intake<S>) -> Result<Option<Element>, IntakeStop>
-    requires fed { IsFed (state_of S.tells S.taken S.left S.faults S.name 0 true intake.old) }
-    ensures fed { OnOk result (IsFed (state_of S.tells S.taken S.left S.faults S.name 0 true intake.new)) }
-    ensures same { IsSameFeed (state_of S.tells S.taken S.left S.faults S.name 0 true intake.old) (state_of S.tells S.taken S.left S.faults S.name 0 true intake.new) }
-    ensures next { IfOk result (λ next. IsNextOf (state_of S.tells S.taken S.left S.faults S.name 0 true intake.old) (state_of S.tells S.taken S.left S.faults S.name 0 true intake.new) next) }
-    ensures stops { IfErr result (λ stop. FeedStops (state_of S.tells S.taken S.left S.faults S.name 0 true intake.old) (state_of S.tells S.taken S.left S.faults S.name 0 true intake.new) stop) }
+    requires fed { IsFed (feed_of S.state 0 true intake.old) }
+    ensures fed { OnOk result (IsFed (feed_of S.state 0 true intake.new)) }
+    ensures same { IsSameFeed (feed_of S.state 0 true intake.old) (feed_of S.state 0 true intake.new) }
+    ensures next { IfOk result (λ next. IsNextOf (feed_of S.state 0 true intake.old) (feed_of S.state 0 true intake.new) next) }
+    ensures stops { IfErr result (λ stop. FeedStops (feed_of S.state 0 true intake.old) (feed_of S.state 0 true intake.new) stop) }
 {
     loop {
         match intake.next() {
@@ -109,7 +108,6 @@ fn next_element<S: Source>(intake: &mut Intake<S>) -> Result<Option<Element>, In
 }
 
 /// All streams, and the place of the one whose turn comes next.
-#[derive(Drop)]
 pub struct Feeds<S: Source> {
     pub feeds: Vec<Feed<S>>,
     pub at: usize,
@@ -118,7 +116,7 @@ pub struct Feeds<S: Source> {
 impl<S: Source> Feeds<S> {
     /// The next turn: in rounds each stream has one, as long as its closing is still to come. `None` exactly where no stream
     /// has. After an `Err` no further turn can be made.
-    pub fn next(&mut self) -> Result<Option<Next>, Status>
+    pub fn next(&mut self) -> Result<Option<Arrival>, FeedStop>
         requires fed { (streams : List SmallStream) × AreFeeds 0 streams self.old.feeds.items }
         requires few { length self.old.feeds.items ≤ 128 }
         ensures fed { (streams : List SmallStream) → AreFeeds 0 streams self.old.feeds.items → OnOk result (AreFeeds 0 streams self.new.feeds.items) }
@@ -128,7 +126,7 @@ impl<S: Source> Feeds<S> {
         ensures works { IfOk result (λ next. WorksOn self.old.feeds.items self.new.feeds.items next) }
         ensures brings { IfOk result (λ next. BringsIn self.old.feeds.items next) }
         ensures nothing { IfOk result (λ next. IfNone next (self.new.feeds.items ≡ self.old.feeds.items)) }
-        ensures stops { IfErr result (λ status. StopsIn self.old.feeds.items self.new.feeds.items self.old.at status) }
+        ensures stops { IfErr result (λ stop. StopsIn self.old.feeds.items self.new.feeds.items self.old.at stop) }
     {
         match self.turn_place() {
             None => Ok(None),
@@ -136,7 +134,10 @@ impl<S: Source> Feeds<S> {
                 self.at = place + 1;
                 match self.feeds[place].next() {
                     Ok(next) => Ok(Some(next)),
-                    Err(stop) => Err(status_of(place as u32, stop)),
+                    Err(why) => Err(FeedStop {
+                        stream: place as u32,
+                        why,
+                    }),
                 }
             }
         }
@@ -163,19 +164,4 @@ fn first_open<S: Source>(feeds: &[Feed<S>], from: usize) -> Option<usize>
         }
     }
     None
-}
-
-fn status_of(stream: u32, stop: IntakeStop) -> Status
-    requires { stream ≤ 128 }
-    ensures { result ≡ status_of_feed stream stop }
-{
-    match stop {
-        IntakeStop::ReadFault => Status::ReadFault {
-            operand: stream + 2,
-        },
-        IntakeStop::ByteLimit => Status::Limit {
-            what: LimitOf::File(stream),
-        },
-        IntakeStop::NoMemory => Status::NoMemory,
-    }
 }

@@ -2,17 +2,18 @@
 #![tactic(auto)]
 
 mod classes;
+mod commands;
 mod feeds;
 mod files;
-mod output;
-mod outs;
+mod lines;
 mod plan;
 mod reader;
-mod ready;
 mod report;
+mod results;
 mod run;
 mod statements;
 mod status;
+mod status_line;
 mod stops;
 mod top;
 mod turns;
@@ -20,6 +21,3 @@ mod turns;
 pub use reader::read_plan;
 pub use status::{LimitOf, Status};
 pub use top::run_words;
-
-#[cfg(test)]
-mod tests;

@@ -1,17 +1,16 @@
 // The report's lines.
-ghost use Rattle.std.specs.Prelude.{◌≡◌, ◌≤◌, ◌++◌, ◌∷◌, [], ℕ, List, map, length, IsTrue, IfErr, OnOk, Err};
+ghost use Rattle.std.specs.Prelude.{◌≡◌, ◌≤◌, ◌++◌, ◌∷◌, [], ℕ, List, map, length, IsTrue, OnOk, Err};
 ghost use Rattle.std.specs.Fmt.{decimal};
 ghost use Rattle.pj_io.specs.Causes.{Rose};
 ghost use Rattle.pj_element.specs.Runs.{fed};
-ghost use Rattle.pj_engine.specs.Files.{IsWriteStop};
 ghost use Rattle.pj_engine.specs.Report.{stream_line, stream_lines, reject_line, reject_words, results_text, peak_line};
 ghost use Rattle.pj_engine.specs.Runs.{peaks_report};
 ghost use Rattle.pj_engine.specs.Outcome.{report_lines, tally_lines};
-ghost use Rattle.pj_engine.specs.Written.{Writes};
+ghost use Rattle.pj_engine.specs.Written.{WritesBy, write_cut};
 
-use crate::Status;
-use crate::output::write_piece;
-use crate::outs::Counts;
+use crate::lines::write_piece;
+use crate::results::Counts;
+use crate::stops::WriteStop;
 use itoa::Buffer;
 use pj_element::{Reject, Tally};
 use pj_io::Sink;
@@ -27,13 +26,12 @@ pub fn write_report<K: Sink>(
     peak: u64,
     text: &mut List<u8>,
     out: &mut K,
-) -> Result<(), Status>
+) -> Result<(), WriteStop>
     requires { length tallies.now ≡ length plan.now.streams }
-    ensures tells { IsTrue (K.tells out.new) → IsTrue (K.tells out.old) }
-    ensures lines { IsTrue (K.tells out.new) → Writes (report_lines plan.now tallies.now counts peak) (K.written out.old) (K.written out.new) result }
-    ensures later { K.faults out.old ≤ K.faults out.new }
-    ensures fault { result ≡ Err Status.WriteFault → Rose (K.faults out.old) (K.faults out.new) }
-    ensures others { IfErr result IsWriteStop }
+    ensures told { IsTrue (K.state out.new).told → IsTrue (K.state out.old).told }
+    ensures lines { IsTrue (K.state out.new).told → WritesBy write_cut (report_lines plan.now tallies.now counts peak) (K.state out.old) (K.state out.new) result }
+    ensures later { (K.state out.old).faults ≤ (K.state out.new).faults }
+    ensures fault { result ≡ Err WriteStop.Failed → Rose (K.state out.old).faults (K.state out.new).faults }
 {
     write_streams(plan.streams.as_slice(), tallies, text, out)?;
     write_results(counts.rows, counts.puncts, text, out)?;
@@ -46,13 +44,12 @@ fn write_streams<K: Sink>(
     tallies: &[Tally],
     text: &mut List<u8>,
     out: &mut K,
-) -> Result<(), Status>
+) -> Result<(), WriteStop>
     requires { length tallies.now ≡ length streams.now }
-    ensures tells { IsTrue (K.tells out.new) → IsTrue (K.tells out.old) }
-    ensures lines { IsTrue (K.tells out.new) → Writes (tally_lines streams.now tallies.now) (K.written out.old) (K.written out.new) result }
-    ensures later { K.faults out.old ≤ K.faults out.new }
-    ensures fault { result ≡ Err Status.WriteFault → Rose (K.faults out.old) (K.faults out.new) }
-    ensures others { IfErr result IsWriteStop }
+    ensures told { IsTrue (K.state out.new).told → IsTrue (K.state out.old).told }
+    ensures lines { IsTrue (K.state out.new).told → WritesBy write_cut (tally_lines streams.now tallies.now) (K.state out.old) (K.state out.new) result }
+    ensures later { (K.state out.old).faults ≤ (K.state out.new).faults }
+    ensures fault { result ≡ Err WriteStop.Failed → Rose (K.state out.old).faults (K.state out.new).faults }
 {
     for i in 0..streams.len() {
         write_stream(streams[i].name.as_slice(), &tallies[i], text, out)?;
@@ -65,12 +62,11 @@ fn write_peak<K: Sink>(
     peak: u64,
     text: &mut List<u8>,
     out: &mut K,
-) -> Result<(), Status>
-    ensures tells { IsTrue (K.tells out.new) → IsTrue (K.tells out.old) }
-    ensures lines { IsTrue (K.tells out.new) → Writes (peaks_report join.now peak) (K.written out.old) (K.written out.new) result }
-    ensures later { K.faults out.old ≤ K.faults out.new }
-    ensures fault { result ≡ Err Status.WriteFault → Rose (K.faults out.old) (K.faults out.new) }
-    ensures others { IfErr result IsWriteStop }
+) -> Result<(), WriteStop>
+    ensures told { IsTrue (K.state out.new).told → IsTrue (K.state out.old).told }
+    ensures lines { IsTrue (K.state out.new).told → WritesBy write_cut (peaks_report join.now peak) (K.state out.old) (K.state out.new) result }
+    ensures later { (K.state out.old).faults ≤ (K.state out.new).faults }
+    ensures fault { result ≡ Err WriteStop.Failed → Rose (K.state out.old).faults (K.state out.new).faults }
 {
     match join {
         None => Ok(()),
@@ -83,12 +79,11 @@ fn write_peak_line<K: Sink>(
     peak: u64,
     text: &mut List<u8>,
     out: &mut K,
-) -> Result<(), Status>
-    ensures tells { IsTrue (K.tells out.new) → IsTrue (K.tells out.old) }
-    ensures lines { IsTrue (K.tells out.new) → Writes (peak_line name.now peak ∷ []) (K.written out.old) (K.written out.new) result }
-    ensures later { K.faults out.old ≤ K.faults out.new }
-    ensures fault { result ≡ Err Status.WriteFault → Rose (K.faults out.old) (K.faults out.new) }
-    ensures others { IfErr result IsWriteStop }
+) -> Result<(), WriteStop>
+    ensures told { IsTrue (K.state out.new).told → IsTrue (K.state out.old).told }
+    ensures lines { IsTrue (K.state out.new).told → WritesBy write_cut (peak_line name.now peak ∷ []) (K.state out.old) (K.state out.new) result }
+    ensures later { (K.state out.old).faults ≤ (K.state out.new).faults }
+    ensures fault { result ≡ Err WriteStop.Failed → Rose (K.state out.old).faults (K.state out.new).faults }
 {
     peak_text(name, peak, text)?;
     write_piece(out, text.as_slice())?;
@@ -108,18 +103,17 @@ fn peak_text(name: &[u8], peak: u64, text: &mut List<u8>) -> Result<(), NoMemory
 }
 
 // Writes the lines of a stream: its counts, and its first rejects.
-#[tactic(auto, using(crate::proofs::Lines::writes_none))]
+
 fn write_stream<K: Sink>(
     name: &[u8],
     tally: &Tally,
     text: &mut List<u8>,
     out: &mut K,
-) -> Result<(), Status>
-    ensures tells { IsTrue (K.tells out.new) → IsTrue (K.tells out.old) }
-    ensures lines { IsTrue (K.tells out.new) → Writes (stream_lines name.now tally.now) (K.written out.old) (K.written out.new) result }
-    ensures later { K.faults out.old ≤ K.faults out.new }
-    ensures fault { result ≡ Err Status.WriteFault → Rose (K.faults out.old) (K.faults out.new) }
-    ensures others { IfErr result IsWriteStop }
+) -> Result<(), WriteStop>
+    ensures told { IsTrue (K.state out.new).told → IsTrue (K.state out.old).told }
+    ensures lines { IsTrue (K.state out.new).told → WritesBy write_cut (stream_lines name.now tally.now) (K.state out.old) (K.state out.new) result }
+    ensures later { (K.state out.old).faults ≤ (K.state out.new).faults }
+    ensures fault { result ≡ Err WriteStop.Failed → Rose (K.state out.old).faults (K.state out.new).faults }
 {
     stream_text(name, tally, text)?;
     write_piece(out, text.as_slice())?;
@@ -132,12 +126,11 @@ fn write_rejects<K: Sink>(
     rejects: &[(u64, Reject)],
     text: &mut List<u8>,
     out: &mut K,
-) -> Result<(), Status>
-    ensures tells { IsTrue (K.tells out.new) → IsTrue (K.tells out.old) }
-    ensures lines { IsTrue (K.tells out.new) → Writes (map (reject_line name.now) rejects.now) (K.written out.old) (K.written out.new) result }
-    ensures later { K.faults out.old ≤ K.faults out.new }
-    ensures fault { result ≡ Err Status.WriteFault → Rose (K.faults out.old) (K.faults out.new) }
-    ensures others { IfErr result IsWriteStop }
+) -> Result<(), WriteStop>
+    ensures told { IsTrue (K.state out.new).told → IsTrue (K.state out.old).told }
+    ensures lines { IsTrue (K.state out.new).told → WritesBy write_cut (map (reject_line name.now) rejects.now) (K.state out.old) (K.state out.new) result }
+    ensures later { (K.state out.old).faults ≤ (K.state out.new).faults }
+    ensures fault { result ≡ Err WriteStop.Failed → Rose (K.state out.old).faults (K.state out.new).faults }
 {
     for (line, why) in rejects {
         reject_text(name, *line, *why, text)?;
@@ -152,12 +145,11 @@ fn write_results<K: Sink>(
     puncts: u64,
     text: &mut List<u8>,
     out: &mut K,
-) -> Result<(), Status>
-    ensures tells { IsTrue (K.tells out.new) → IsTrue (K.tells out.old) }
-    ensures lines { IsTrue (K.tells out.new) → Writes (results_text rows puncts ∷ []) (K.written out.old) (K.written out.new) result }
-    ensures later { K.faults out.old ≤ K.faults out.new }
-    ensures fault { result ≡ Err Status.WriteFault → Rose (K.faults out.old) (K.faults out.new) }
-    ensures others { IfErr result IsWriteStop }
+) -> Result<(), WriteStop>
+    ensures told { IsTrue (K.state out.new).told → IsTrue (K.state out.old).told }
+    ensures lines { IsTrue (K.state out.new).told → WritesBy write_cut (results_text rows puncts ∷ []) (K.state out.old) (K.state out.new) result }
+    ensures later { (K.state out.old).faults ≤ (K.state out.new).faults }
+    ensures fault { result ≡ Err WriteStop.Failed → Rose (K.state out.old).faults (K.state out.new).faults }
 {
     counts_text(rows, puncts, text)?;
     write_piece(out, text.as_slice())?;

@@ -1,30 +1,30 @@
 // The run of a plan over its files.
-ghost use Rattle.std.specs.Prelude.{◌≡◌, ◌≤◌, ◌<◌, ◌+◌, ◌∷◌, ◌^◌, ℕ, List, map, [], length, slice_get, slice_index_or, IsTrue, IfErr, IfOk, OnOk, Err, Some};
+ghost use Rattle.std.specs.Prelude.{◌≡◌, ◌≤◌, ◌<◌, ◌+◌, ◌^◌, ℕ, List, map, [], length, slice_get, IsTrue, IfErr, IfOk, OnOk, Err, Some};
 ghost use Rattle.std.specs.String.{string_bytes};
 ghost use Rattle.pj_io.specs.Causes.{Rose};
-ghost use Rattle.pj_io.specs.Folders.{NoneFalls};
+ghost use Rattle.pj_io.specs.Folders.{NoneFalls, SameEverywhere};
 ghost use Rattle.pj_shape.specs.declared.plans.SmallJoin.{SmallJoin};
 ghost use Rattle.pj_element.specs.Runs.{element_lines};
 ghost use Rattle.pj_laws.specs.CoreKept.{IsSmallPlan};
 ghost use Rattle.pj_core.specs.Calls.{IsPeak};
-ghost use Rattle.pj_engine.specs.declared.status.LimitOf.TheVariants.{Node, File};
-ghost use Rattle.pj_engine.specs.Feeds.{FeedState, AreFeeds, AreNew, AreSameFeeds, AllTold, AreAllTaken, files_of, tallies_in};
-ghost use Rattle.pj_engine.specs.Files.{IsOverStop};
-ghost use Rattle.pj_engine.specs.Opened.{AreOpened, HasLasts};
-ghost use Rattle.pj_engine.specs.Runs.{run_lines, outputs_of, GoesBeyond};
-ghost use Rattle.pj_engine.specs.Outcome.{IsOutcome};
-ghost use Rattle.pj_engine.specs.Top.{are_told, AreReadToEnd, IsTooLarge, RunEnds};
+ghost use Rattle.pj_engine.specs.Commands.{AreTold, files_named};
+ghost use Rattle.pj_engine.specs.Feeds.{AreFeeds, AreNew, AreSameFeeds, AllTold, AreAllTaken, files_of, tallies_in};
+ghost use Rattle.pj_engine.specs.Opened.{AreOpened};
+ghost use Rattle.pj_engine.specs.Outcome.{IsOutcome, report_lines};
+ghost use Rattle.pj_engine.specs.RunEnds.{AreRead, FeedsCause, FeedsEnd, FilesCause, FilesEnd, FilesOpened, TurnsCause};
+ghost use Rattle.pj_engine.specs.Runs.{run_lines, outputs_of};
+ghost use Rattle.pj_engine.specs.Top.{AreReadToEnd};
 ghost use Rattle.pj_engine.specs.Turning.{TurnsEnd};
-ghost use Rattle.pj_engine.specs.Written.{Writes, done_of};
+ghost use Rattle.pj_engine.specs.Written.{WritesBy, write_cut, run_cut, files_cut};
 
-use crate::Status;
 use crate::feeds::{Feed, Feeds};
 use crate::files::{close_feeds, open_feeds};
-use crate::output::finish;
-use crate::outs::Counts;
 use crate::report::write_report;
+use crate::results::Counts;
+use crate::stops::{FilesStop, OpeningStop, RunStop, WriteStop};
 use crate::turns::take_turn;
 use pj_core::Core;
+use pj_element::Tally;
 use pj_io::{Folder, Sink, Source};
 use pj_shape::SmallPlan;
 use pj_value::List as Items;
@@ -33,45 +33,44 @@ use std::alloc::Global;
 const MOST_ARRIVALS: u64 = 1 << 40;
 
 /// Runs the plan over the files of these names, one for each stream, which are read as the run goes on: writes the outputs of the
-/// run on one thread, and then the report, each line by a `write_all` of its own, and hands on what the sink holds back. Each
-/// file that was opened is closed.
+/// run on one thread, and then the report, each line by a `write_all` of its own, and hands on what the sink holds back. The
+/// files are opened in order, and each that was opened is closed.
 pub fn run_files<F: Folder, K: Sink>(
     alloc: Global,
     plan: &SmallPlan,
     names: &[String],
     folder: &mut F,
     out: &mut K,
-) -> Result<(), Status>
-where
-    F::File: Drop,
+) -> Result<(), FilesStop>
     requires small { IsSmallPlan plan.now }
     requires each { length names.now ≡ length plan.now.streams }
-    ensures tells { IsTrue (K.tells out.new) → IsTrue (K.tells out.old) }
-    ensures lines { IsTrue (are_told (F.tells folder.old) (map string_bytes names.now)) → IsTrue (K.tells out.new)
-        → Writes (run_lines plan.now (map (F.contents folder.old) (map string_bytes names.now))) (K.written out.old) (K.written out.new) result }
-    ensures ends { IsTrue (are_told (F.tells folder.old) (map string_bytes names.now)) → IsTrue (K.tells out.new) → (plan_name : List ℕ)
-        → IfErr result (λ status. RunEnds status plan.now (map (F.contents folder.old) (map string_bytes names.now)) (plan_name ∷ map string_bytes names.now)
-        (F.last folder.old) (F.last folder.new) (K.written out.old) (K.written out.new)) }
-    ensures last { IsTrue (are_told (F.tells folder.old) (map string_bytes names.now)) → OnOk result (AreReadToEnd (F.last folder.new) (F.contents folder.old) (map string_bytes names.now)) }
-    ensures keeps { IsTrue (are_told (F.tells folder.old) (map string_bytes names.now)) → (name : List ℕ) → F.last folder.old name ≡ length (F.contents folder.old name)
-        → OnOk result (F.last folder.new name ≡ length (F.contents folder.old name)) }
-    ensures folder_later { NoneFalls (F.faults folder.old) (F.faults folder.new) }
-    ensures read_fault { (n : ℕ) → result ≡ Err (Status.ReadFault n) → (k : ℕ) × (n ≡ 2 + k) × (k < length names.now)
-        × Rose (F.faults folder.old (slice_index_or (map string_bytes names.now) k [])) (F.faults folder.new (slice_index_or (map string_bytes names.now) k [])) }
-    ensures limit { (node : ℕ) → result ≡ Err (Status.Limit (Node node)) → IsTrue (are_told (F.tells folder.old) (map string_bytes names.now))
-        → GoesBeyond plan.now (map (F.contents folder.old) (map string_bytes names.now)) node }
-    ensures too_large { (stream : ℕ) → result ≡ Err (Status.Limit (File stream)) → IsTrue (are_told (F.tells folder.old) (map string_bytes names.now))
-        → IsTooLarge (map (F.contents folder.old) (map string_bytes names.now)) stream }
-    ensures later { K.faults out.old ≤ K.faults out.new }
-    ensures fault { result ≡ Err Status.WriteFault → Rose (K.faults out.old) (K.faults out.new) }
-    ensures others { IfErr result IsOverStop }
+    ensures told { IsTrue (K.state out.new).told → IsTrue (K.state out.old).told }
+    ensures lines { AreTold (map string_bytes names.now) (F.state folder.old) → IsTrue (K.state out.new).told
+        → WritesBy files_cut (run_lines plan.now (files_named (map string_bytes names.now) (F.state folder.old))) (K.state out.old) (K.state out.new) result }
+    ensures ends { AreTold (map string_bytes names.now) (F.state folder.old) → IsTrue (K.state out.new).told → IfErr result (λ stop.
+        FilesEnd stop plan.now (map string_bytes names.now) (F.state folder.old) (F.state folder.new) (K.state out.old).written (K.state out.new).written) }
+    ensures unopened { (stop : OpeningStop) → result ≡ Err (FilesStop.Opening stop) → out.new ≡ out.old }
+    ensures last { OnOk result (AreReadToEnd (map string_bytes names.now) (F.state folder.old) (F.state folder.new)) }
+    ensures keeps { (name : List ℕ) → IsTrue ((F.state folder.old).told name) → (F.state folder.old).last name ≡ length ((F.state folder.old).contents name)
+        → OnOk result ((F.state folder.new).last name ≡ length ((F.state folder.old).contents name)) }
+    ensures opened { FilesOpened result (map string_bytes names.now) (F.state folder.old) (F.state folder.new) }
+    ensures causes { IfErr result (λ stop. FilesCause stop plan.now (map string_bytes names.now) (F.state folder.old) (F.state folder.new) (K.state out.old) (K.state out.new)) }
+    ensures folder_later { NoneFalls (F.state folder.old).faults (F.state folder.new).faults }
+    ensures later { (K.state out.old).faults ≤ (K.state out.new).faults }
 {
-    let mut feeds = Vec::new(alloc);
+    let Ok(mut feeds) = Vec::with_capacity(alloc, plan.streams.len()) else {
+        return Err(FilesStop::Opening {
+            stop: OpeningStop::NoMemory,
+        });
+    };
     match open_feeds(alloc, folder, plan.streams.as_slice(), names, &mut feeds) {
-        Ok(()) => run_feeds(alloc, plan, feeds, folder, out),
-        Err(status) => {
+        Ok(()) => match run_feeds(alloc, plan, feeds, folder, out) {
+            Ok(()) => Ok(()),
+            Err(stop) => Err(FilesStop::Run { stop }),
+        },
+        Err(stop) => {
             let _ = close_feeds(alloc, folder, feeds);
-            Err(status)
+            Err(FilesStop::Opening { stop })
         }
     }
 }
@@ -83,44 +82,47 @@ fn run_feeds<F: Folder, K: Sink>(
     feeds: Vec<Feed<F::File>>,
     folder: &mut F,
     out: &mut K,
-) -> Result<(), Status>
-where
-    F::File: Drop,
+) -> Result<(), RunStop>
     requires small { IsSmallPlan plan.now }
     requires feeds { AreFeeds 0 plan.now.streams feeds.items }
     requires none { AreNew feeds.items }
-    requires opened { AreOpened (F.opened folder.old) feeds.items }
-    ensures tells { IsTrue (K.tells out.new) → IsTrue (K.tells out.old) }
-    ensures lines { AllTold feeds.items → IsTrue (K.tells out.new) → Writes (run_lines plan.now (files_of feeds.items)) (K.written out.old) (K.written out.new) result }
-    ensures ends { AllTold feeds.items → IsTrue (K.tells out.new) → IfErr result (λ status. (news : List FeedState) × AreSameFeeds feeds.items news
-        × TurnsEnd status plan.now (files_of feeds.items) news (K.written out.old) (K.written out.new)
-        × HasLasts news (F.last folder.old) (F.last folder.new)) }
-    ensures last { AllTold feeds.items → OnOk result ((news : List FeedState) × AreSameFeeds feeds.items news × AreAllTaken news × HasLasts news (F.last folder.old) (F.last folder.new)) }
-    ensures folder_later { NoneFalls (F.faults folder.old) (F.faults folder.new) }
-    ensures read_fault { (n : ℕ) → result ≡ Err (Status.ReadFault n) → (k : ℕ) × (feed : FeedState) × (n ≡ 2 + k) × (slice_get feeds.items k ≡ Some feed)
-        × Rose (F.faults folder.old feed.name) (F.faults folder.new feed.name) }
-    ensures limit { (node : ℕ) → result ≡ Err (Status.Limit (Node node)) → AllTold feeds.items → GoesBeyond plan.now (files_of feeds.items) node }
-    ensures too_large { (stream : ℕ) → result ≡ Err (Status.Limit (File stream)) → AllTold feeds.items → IsTooLarge (files_of feeds.items) stream }
-    ensures later { K.faults out.old ≤ K.faults out.new }
-    ensures fault { result ≡ Err Status.WriteFault → Rose (K.faults out.old) (K.faults out.new) }
-    ensures others { IfErr result IsOverStop }
+    requires opened { AreOpened (F.state folder.old).opened feeds.items }
+    ensures told { IsTrue (K.state out.new).told → IsTrue (K.state out.old).told }
+    ensures lines { AllTold feeds.items → IsTrue (K.state out.new).told → WritesBy run_cut (run_lines plan.now (files_of feeds.items)) (K.state out.old) (K.state out.new) result }
+    ensures ends { AllTold feeds.items → IsTrue (K.state out.new).told → IfErr result (λ stop.
+        FeedsEnd stop plan.now feeds.items (F.state folder.old) (F.state folder.new) (K.state out.old).written (K.state out.new).written) }
+    ensures last { OnOk result (AreRead feeds.items (F.state folder.old) (F.state folder.new)) }
+    ensures causes { IfErr result (λ stop. FeedsCause stop plan.now feeds.items (F.state folder.old) (F.state folder.new) (K.state out.old) (K.state out.new)) }
+    ensures still_opened { SameEverywhere (F.state folder.old).opened (F.state folder.new).opened }
+    ensures folder_later { NoneFalls (F.state folder.old).faults (F.state folder.new).faults }
+    ensures later { (K.state out.old).faults ≤ (K.state out.new).faults }
 {
     let mut text = Items::new(alloc);
     let mut feeds = Feeds { feeds, at: 0 };
     let ran = run_streams(alloc, plan, &mut feeds, &mut text, out);
-    let Feeds { feeds, .. } = feeds;
+    let Feeds { feeds, at: _ } = feeds;
     let closed = close_feeds(alloc, folder, feeds);
     let ran = ran?;
     let tallies = closed?;
-    write_report(
-        plan,
-        tallies.as_slice(),
-        ran.counts,
-        ran.peak,
-        &mut text,
-        out,
-    )?;
-    finish(out)?;
+    Ok(finish(plan, tallies.as_slice(), ran, &mut text, out)?)
+}
+
+// Writes the report, and hands on what the sink holds back.
+fn finish<K: Sink>(
+    plan: &SmallPlan,
+    tallies: &[Tally],
+    ran: Ran,
+    text: &mut Items<u8>,
+    out: &mut K,
+) -> Result<(), WriteStop>
+    requires { length tallies.now ≡ length plan.now.streams }
+    ensures told { IsTrue (K.state out.new).told → IsTrue (K.state out.old).told }
+    ensures lines { IsTrue (K.state out.new).told → WritesBy write_cut (report_lines plan.now tallies.now ran.counts ran.peak) (K.state out.old) (K.state out.new) result }
+    ensures later { (K.state out.old).faults ≤ (K.state out.new).faults }
+    ensures fault { result ≡ Err WriteStop.Failed → Rose (K.state out.old).faults (K.state out.new).faults }
+{
+    write_report(plan, tallies, ran.counts, ran.peak, text, out)?;
+    out.flush()?;
     Ok(())
 }
 
@@ -138,23 +140,21 @@ fn run_streams<S: Source, K: Sink>(
     feeds: &mut Feeds<S>,
     text: &mut Items<u8>,
     out: &mut K,
-) -> Result<Ran, Status>
+) -> Result<Ran, RunStop>
     requires small { IsSmallPlan plan.now }
     requires feeds { AreFeeds 0 plan.now.streams feeds.old.feeds.items }
     requires none { AreNew feeds.old.feeds.items }
     requires first { feeds.old.at ≡ 0 }
     ensures same { AreSameFeeds feeds.old.feeds.items feeds.new.feeds.items }
-    ensures tells { IsTrue (K.tells out.new) → IsTrue (K.tells out.old) }
-    ensures lines { AllTold feeds.old.feeds.items → IsTrue (K.tells out.new) → Writes (element_lines (outputs_of plan.now (files_of feeds.old.feeds.items))) (K.written out.old) (K.written out.new) (done_of result) }
-    ensures ends { AllTold feeds.old.feeds.items → IsTrue (K.tells out.new) → IfErr result (λ status. TurnsEnd status plan.now (files_of feeds.old.feeds.items) feeds.new.feeds.items (K.written out.old) (K.written out.new)) }
+    ensures told { IsTrue (K.state out.new).told → IsTrue (K.state out.old).told }
+    ensures lines { AllTold feeds.old.feeds.items → IsTrue (K.state out.new).told
+        → WritesBy run_cut (element_lines (outputs_of plan.now (files_of feeds.old.feeds.items))) (K.state out.old) (K.state out.new) result }
+    ensures ends { AllTold feeds.old.feeds.items → IsTrue (K.state out.new).told → IfErr result (λ stop.
+        TurnsEnd stop plan.now (files_of feeds.old.feeds.items) feeds.new.feeds.items (K.state out.old).written (K.state out.new).written) }
     ensures outcome { AllTold feeds.old.feeds.items → IfOk result (λ ran. IsOutcome plan.now (files_of feeds.old.feeds.items) (tallies_in feeds.new.feeds.items) ran.counts ran.peak) }
     ensures taken { OnOk result (AreAllTaken feeds.new.feeds.items) }
-    ensures read_fault { (n : ℕ) → result ≡ Err (Status.ReadFault n) → (k : ℕ) × (feed : FeedState) × (n ≡ 2 + k) × (slice_get feeds.new.feeds.items k ≡ Some feed) × (1 ≤ feed.faults) }
-    ensures limit { (node : ℕ) → result ≡ Err (Status.Limit (Node node)) → AllTold feeds.old.feeds.items → GoesBeyond plan.now (files_of feeds.old.feeds.items) node }
-    ensures too_large { (stream : ℕ) → result ≡ Err (Status.Limit (File stream)) → AllTold feeds.old.feeds.items → IsTooLarge (files_of feeds.old.feeds.items) stream }
-    ensures later { K.faults out.old ≤ K.faults out.new }
-    ensures fault { result ≡ Err Status.WriteFault → Rose (K.faults out.old) (K.faults out.new) }
-    ensures others { IfErr result IsOverStop }
+    ensures causes { IfErr result (λ stop. TurnsCause stop plan.now feeds.old.feeds.items feeds.new.feeds.items (K.state out.old) (K.state out.new)) }
+    ensures later { (K.state out.old).faults ≤ (K.state out.new).faults }
 {
     let mut core = Core::new(alloc, plan.copy(alloc)?, MOST_ARRIVALS)?;
     let mut counts = Counts { rows: 0, puncts: 0 };

@@ -1,9 +1,9 @@
 // How a run ended.
 ghost use Rattle.std.specs.Prelude.{◌≡◌};
 ghost use Rattle.pj_engine.specs.Report.{status_number};
+ghost use Rattle.pj_engine.specs.Stops.{plan_status, opening_status as status_of_opening, run_status as status_of_run, files_status, IsOfFew, IsOpeningOfFew, IsRunOfFew};
 
-use pj_io::Failed;
-use pj_value::NoMemory;
+use crate::stops::{FilesStop, OpeningStop, PlanStop, RunStop};
 
 /// How a call ended.
 #[derive(Clone, Copy, Debug, PartialEq, Eq)]
@@ -47,22 +47,59 @@ impl Status {
     }
 }
 
-impl From<NoMemory> for Status {
-    ghost use Rattle.pj_engine.specs.declared.status.Status.TheVariants.{NoMemory as OutOfMemory};
-
-    ghost from_gives = { λ _ status. status ≡ OutOfMemory };
-
-    fn from(_: NoMemory) -> Status {
-        Status::NoMemory
+impl PlanStop {
+    /// How a call ends whose plan was not had.
+    pub(crate) fn status(self) -> Status
+        ensures { result ≡ plan_status self }
+    {
+        match self {
+            PlanStop::NotBuilt => Status::NotBuilt,
+            PlanStop::ReadFault => Status::ReadFault { operand: 1 },
+            PlanStop::NoMemory => Status::NoMemory,
+        }
     }
 }
 
-impl From<Failed> for Status {
-    ghost use Rattle.pj_engine.specs.declared.status.Status.TheVariants.{WriteFault};
+impl FilesStop {
+    /// How a call ends whose run ended so. The plan is operand 1, and the streams' files follow it.
+    pub(crate) fn status(self) -> Status
+        requires { IsOfFew self }
+        ensures { result ≡ files_status self }
+    {
+        match self {
+            FilesStop::Opening { stop } => opening_status(stop),
+            FilesStop::Run { stop } => run_status(stop),
+        }
+    }
+}
 
-    ghost from_gives = { λ _ status. status ≡ WriteFault };
+fn opening_status(stop: OpeningStop) -> Status
+    requires { IsOpeningOfFew stop }
+    ensures { result ≡ status_of_opening stop }
+{
+    match stop {
+        OpeningStop::Fault { stream } => Status::ReadFault {
+            operand: 2 + stream,
+        },
+        OpeningStop::NoMemory => Status::NoMemory,
+    }
+}
 
-    fn from(_: Failed) -> Status {
-        Status::WriteFault
+fn run_status(stop: RunStop) -> Status
+    requires { IsRunOfFew stop }
+    ensures { result ≡ status_of_run stop }
+{
+    match stop {
+        RunStop::ReadFault { stream } => Status::ReadFault {
+            operand: 2 + stream,
+        },
+        RunStop::TooLarge { stream } => Status::Limit {
+            what: LimitOf::File(stream),
+        },
+        RunStop::Limit { node } => Status::Limit {
+            what: LimitOf::Node(node),
+        },
+        RunStop::WriteFailed => Status::WriteFault,
+        RunStop::NoMemory => Status::NoMemory,
     }
 }

@@ -1,46 +1,182 @@
-// The line of a status.
-ghost use Rattle.std.specs.Prelude.{◌≡◌, ◌≤◌, ◌++◌, IsTrue};
-ghost use Rattle.pj_element.specs.Runs.{fed};
-ghost use Rattle.pj_engine.specs.Files.{IsRunStop};
-ghost use Rattle.pj_engine.specs.Report.{status_line};
-ghost use Rattle.pj_engine.specs.Written.{Delivered};
+// Why a part of a run ended before its end.
+ghost use Rattle.std.specs.Prelude.{◌≡◌};
 
-use crate::{LimitOf, Status};
-use itoa::Buffer;
-use pj_io::{Failed, Sink, write_all};
+use pj_intake::IntakeStop;
+use pj_io::Failed;
+use pj_value::NoMemory;
 
-/// Writes the line of a status, takes no memory for it, and hands on what the sink holds back. Where that fails, the
-/// status stays what it was. What has a limit has this name.
-pub fn write_status<K: Sink>(name: &[u8], status: Status, out: &mut K)
-    requires { IsRunStop status }
-    ensures tells { IsTrue (K.tells out.new) → IsTrue (K.tells out.old) }
-    ensures line { IsTrue (K.tells out.new) → Delivered (status_line name.now status) (K.written out.old) (K.written out.new) (K.faults out.old) (K.faults out.new) }
-    ensures later { K.faults out.old ≤ K.faults out.new }
-{
-    let mut digits = Buffer::new();
-    let _ = match status {
-        Status::Done => Ok(()),
-        Status::NotBuilt => deliver(out, b"# refused not built", b""),
-        Status::ReadFault { operand } => {
-            let text = digits.format(operand);
-            deliver(out, b"# stopped read fault operand ", text.as_bytes())
-        }
-        Status::WriteFault => Ok(()),
-        Status::NoMemory => deliver(out, b"# stopped no memory", b""),
-        Status::Limit { what } => match what {
-            LimitOf::Node(_) => deliver(out, b"# stopped limit node ", name),
-            LimitOf::File(_) => deliver(out, b"# stopped limit file ", name),
-        },
-    };
+/// Why no plan was read that can be run.
+#[derive(Clone, Copy, Debug, PartialEq, Eq)]
+pub enum PlanStop {
+    /// The words or the plan are none that can be run, or there is another number of files.
+    NotBuilt,
+    /// The plan's file could not be opened or read.
+    ReadFault,
+    /// Memory could not be had.
+    NoMemory,
 }
 
-fn deliver<K: Sink>(out: &mut K, words: &[u8], name: &[u8]) -> Result<(), Failed>
-    ensures tells { IsTrue (K.tells out.new) → IsTrue (K.tells out.old) }
-    ensures line { IsTrue (K.tells out.new) → Delivered (fed (words.now ++ name.now)) (K.written out.old) (K.written out.new) (K.faults out.old) (K.faults out.new) }
-    ensures later { K.faults out.old ≤ K.faults out.new }
-{
-    write_all(out, words)?;
-    write_all(out, name)?;
-    write_all(out, b"\n")?;
-    out.flush()
+/// Why a line was not written.
+#[derive(Clone, Copy, Debug, PartialEq, Eq)]
+pub enum WriteStop {
+    /// The output failed.
+    Failed,
+    /// Memory could not be had.
+    NoMemory,
+}
+
+/// Why the next turn of a stream, counted from 0, was not had.
+#[derive(Clone, Copy, Debug, PartialEq, Eq)]
+pub struct FeedStop {
+    pub stream: u32,
+    pub why: IntakeStop,
+}
+
+/// Why a turn was not made to its end, or its lines were not written.
+#[derive(Clone, Copy, Debug, PartialEq, Eq)]
+pub enum TurnStop {
+    /// More elements came to this node than may.
+    Limit { node: u32 },
+    /// The output failed.
+    WriteFailed,
+    /// Memory could not be had.
+    NoMemory,
+}
+
+/// Why a run over files that were opened ended before its end.
+#[derive(Clone, Copy, Debug, PartialEq, Eq)]
+pub enum RunStop {
+    /// A read of this stream's file failed.
+    ReadFault { stream: u32 },
+    /// The file of this stream is too large.
+    TooLarge { stream: u32 },
+    /// More elements came to this node than may.
+    Limit { node: u32 },
+    /// The output failed.
+    WriteFailed,
+    /// Memory could not be had.
+    NoMemory,
+}
+
+/// Why the files of the streams were not opened.
+#[derive(Clone, Copy, Debug, PartialEq, Eq)]
+pub enum OpeningStop {
+    /// The file of this stream could not be opened.
+    Fault { stream: u32 },
+    /// Memory could not be had.
+    NoMemory,
+}
+
+/// Why a run over the files of its operands ended before its end.
+#[derive(Clone, Copy, Debug, PartialEq, Eq)]
+pub enum FilesStop {
+    /// Not all files were opened.
+    Opening { stop: OpeningStop },
+    /// All were, and the run ended.
+    Run { stop: RunStop },
+}
+
+impl From<NoMemory> for PlanStop {
+    ghost use Rattle.pj_engine.specs.declared.stops.PlanStop.TheVariants.{NoMemory as OutOfMemory};
+
+    ghost from_gives = { λ _ stop. stop ≡ OutOfMemory };
+
+    fn from(_: NoMemory) -> PlanStop {
+        PlanStop::NoMemory
+    }
+}
+
+impl From<NoMemory> for WriteStop {
+    ghost use Rattle.pj_engine.specs.declared.stops.WriteStop.TheVariants.{NoMemory as OutOfMemory};
+
+    ghost from_gives = { λ _ stop. stop ≡ OutOfMemory };
+
+    fn from(_: NoMemory) -> WriteStop {
+        WriteStop::NoMemory
+    }
+}
+
+impl From<Failed> for WriteStop {
+    ghost use Rattle.pj_engine.specs.declared.stops.WriteStop.TheVariants.{Failed as WriteFailed};
+
+    ghost from_gives = { λ _ stop. stop ≡ WriteFailed };
+
+    fn from(_: Failed) -> WriteStop {
+        WriteStop::Failed
+    }
+}
+
+impl From<WriteStop> for TurnStop {
+    ghost use Rattle.pj_engine.specs.Stops.{of_write};
+
+    ghost from_gives = { λ stop turn. turn ≡ of_write stop };
+
+    fn from(stop: WriteStop) -> TurnStop {
+        match stop {
+            WriteStop::Failed => TurnStop::WriteFailed,
+            WriteStop::NoMemory => TurnStop::NoMemory,
+        }
+    }
+}
+
+impl From<TurnStop> for RunStop {
+    ghost use Rattle.pj_engine.specs.Stops.{of_turn};
+
+    ghost from_gives = { λ stop run. run ≡ of_turn stop };
+
+    fn from(stop: TurnStop) -> RunStop {
+        match stop {
+            TurnStop::Limit { node } => RunStop::Limit { node },
+            TurnStop::WriteFailed => RunStop::WriteFailed,
+            TurnStop::NoMemory => RunStop::NoMemory,
+        }
+    }
+}
+
+impl From<FeedStop> for RunStop {
+    ghost use Rattle.pj_engine.specs.Stops.{of_feed};
+
+    ghost from_gives = { λ stop run. run ≡ of_feed stop };
+
+    fn from(stop: FeedStop) -> RunStop {
+        let FeedStop { stream, why } = stop;
+        match why {
+            IntakeStop::ReadFault => RunStop::ReadFault { stream },
+            IntakeStop::ByteLimit => RunStop::TooLarge { stream },
+            IntakeStop::NoMemory => RunStop::NoMemory,
+        }
+    }
+}
+
+impl From<WriteStop> for RunStop {
+    ghost use Rattle.pj_engine.specs.Stops.{of_write, of_turn};
+
+    ghost from_gives = { λ stop run. run ≡ of_turn (of_write stop) };
+
+    fn from(stop: WriteStop) -> RunStop {
+        match stop {
+            WriteStop::Failed => RunStop::WriteFailed,
+            WriteStop::NoMemory => RunStop::NoMemory,
+        }
+    }
+}
+
+impl From<NoMemory> for RunStop {
+    ghost use Rattle.pj_engine.specs.declared.stops.RunStop.TheVariants.{NoMemory as OutOfMemory};
+
+    ghost from_gives = { λ _ stop. stop ≡ OutOfMemory };
+
+    fn from(_: NoMemory) -> RunStop {
+        RunStop::NoMemory
+    }
+}
+
+impl From<NoMemory> for OpeningStop {
+    ghost use Rattle.pj_engine.specs.declared.stops.OpeningStop.TheVariants.{NoMemory as OutOfMemory};
+
+    ghost from_gives = { λ _ stop. stop ≡ OutOfMemory };
+
+    fn from(_: NoMemory) -> OpeningStop {
+        OpeningStop::NoMemory
+    }
 }

@@ -1,13 +1,13 @@
 // The top call.
-ghost use Rattle.std.specs.Prelude.{◌≡◌, ◌≤◌, ◌<◌, ℕ, IsTrue, true, false, length};
-ghost use Rattle.pj_io.specs.Causes.{Rose};
+ghost use Rattle.std.specs.Prelude.{◌≡◌, ℕ, true, false};
 ghost use Rattle.pj_engine.specs.declared.status.LimitOf.TheVariants.{Node, File};
+ghost use Rattle.pj_engine.specs.Commands.{command_of, operands, is_run as run_form};
 ghost use Rattle.pj_engine.specs.Runs.{IsAnswer, ArePunctuations, AreLawful, AreTallies};
-ghost use Rattle.pj_engine.specs.Top.{is_run as run_form, operands, operand, are_told, plan_contents, file_contents, Ran, AreReadToEnd, StoppedRun, EarlyEnd, NeverRetracted, IsBuilt, IsUnbuilt, HasPlanFor, BeyondLimit, IsTooLarge, join_name as name_of_join, stream_name as name_of_stream, stop_name as name_of_stop};
+ghost use Rattle.pj_engine.specs.Top.{Ran, AreReadToEnd, OpensInOrder, StoppedRun, EarlyEnd, NeverRetracted, IsBuilt, IsUnbuilt, WriteFails, BeyondLimit, IsTooLarge, HasFault, join_name as name_of_join, stream_name as name_of_stream, stop_name as stop_name_of};
 
-use crate::ready::prepare;
+use crate::commands::prepare;
 use crate::run::run_files;
-use crate::stops::write_status;
+use crate::status_line::write_status;
 use crate::{LimitOf, Status};
 use pj_io::{Folder, Sink};
 use pj_shape::{SmallJoin, SmallPlan, SmallStream};
@@ -20,63 +20,49 @@ pub fn run_words<R: AllocGlobal, F: Folder, K: Sink>(
     folder: &mut F,
     out: &mut K,
 ) -> Status
-where
-    F::File: Drop,
     // The run is done.
-    ensures answer { result ≡ Status.Done → IsTrue (are_told (F.tells folder.old) (operands words.now)) → IsTrue (K.tells out.new)
-        → Ran IsAnswer (plan_contents (F.contents folder.old) (operands words.now)) (file_contents (F.contents folder.old) (operands words.now)) (K.written out.old) (K.written out.new) }
-    ensures punctuations { result ≡ Status.Done → IsTrue (are_told (F.tells folder.old) (operands words.now)) → IsTrue (K.tells out.new)
-        → Ran ArePunctuations (plan_contents (F.contents folder.old) (operands words.now)) (file_contents (F.contents folder.old) (operands words.now)) (K.written out.old) (K.written out.new) }
-    ensures lawful { result ≡ Status.Done → IsTrue (are_told (F.tells folder.old) (operands words.now)) → IsTrue (K.tells out.new)
-        → Ran AreLawful (plan_contents (F.contents folder.old) (operands words.now)) (file_contents (F.contents folder.old) (operands words.now)) (K.written out.old) (K.written out.new) }
-    ensures tallies { result ≡ Status.Done → IsTrue (are_told (F.tells folder.old) (operands words.now)) → IsTrue (K.tells out.new)
-        → Ran AreTallies (plan_contents (F.contents folder.old) (operands words.now)) (file_contents (F.contents folder.old) (operands words.now)) (K.written out.old) (K.written out.new) }
-    ensures read_to_end { result ≡ Status.Done → IsTrue (are_told (F.tells folder.old) (operands words.now))
-        → AreReadToEnd (F.last folder.new) (F.contents folder.old) (operands words.now) }
+    ensures answer { result ≡ Status.Done → Ran IsAnswer (command_of words.now (F.state folder.old)) (K.state out.old) (K.state out.new) }
+    ensures punctuations { result ≡ Status.Done → Ran ArePunctuations (command_of words.now (F.state folder.old)) (K.state out.old) (K.state out.new) }
+    ensures lawful { result ≡ Status.Done → Ran AreLawful (command_of words.now (F.state folder.old)) (K.state out.old) (K.state out.new) }
+    ensures tallies { result ≡ Status.Done → Ran AreTallies (command_of words.now (F.state folder.old)) (K.state out.old) (K.state out.new) }
+    ensures read_to_end { result ≡ Status.Done → AreReadToEnd (operands words.now) (F.state folder.old) (F.state folder.new) }
 
     // The run has stopped, or it never began.
-    ensures stopped_run { IsTrue (are_told (F.tells folder.old) (operands words.now)) → IsTrue (K.tells out.new)
-        → StoppedRun result (plan_contents (F.contents folder.old) (operands words.now)) (file_contents (F.contents folder.old) (operands words.now)) (operands words.now) (F.last folder.old) (F.last folder.new) (K.written out.old) (K.written out.new) (K.faults out.old) (K.faults out.new) }
-    ensures never_retracted { IsTrue (are_told (F.tells folder.old) (operands words.now)) → IsTrue (K.tells out.new)
-        → NeverRetracted (plan_contents (F.contents folder.old) (operands words.now)) (file_contents (F.contents folder.old) (operands words.now)) (K.written out.old) (K.written out.new) }
-    ensures early_end { IsTrue (K.tells out.new) → EarlyEnd result (K.written out.old) (K.written out.new) (K.faults out.old) (K.faults out.new) }
+    ensures stopped_run { StoppedRun result (command_of words.now (F.state folder.old)) (F.state folder.new) (K.state out.old) (K.state out.new) }
+    ensures never_retracted { NeverRetracted (command_of words.now (F.state folder.old)) (K.state out.old) (K.state out.new) }
+    ensures early_end { EarlyEnd result (command_of words.now (F.state folder.old)) (F.state folder.new) (K.state out.old) (K.state out.new) }
+    ensures opened_in_order { OpensInOrder result (command_of words.now (F.state folder.old)) (F.state folder.new) }
 
     // When each status comes.
-    ensures cause_of_done { result ≡ Status.Done → (run_form words.now ≡ true) × (IsTrue (are_told (F.tells folder.old) (operands words.now))
-        → IsBuilt (plan_contents (F.contents folder.old) (operands words.now)) (file_contents (F.contents folder.old) (operands words.now))) }
-    ensures cause_of_not_built { result ≡ Status.NotBuilt → IsTrue (are_told (F.tells folder.old) (operands words.now))
-        → IsUnbuilt words.now (plan_contents (F.contents folder.old) (operands words.now)) (file_contents (F.contents folder.old) (operands words.now)) }
+    ensures cause_of_done { result ≡ Status.Done → IsBuilt (command_of words.now (F.state folder.old)) }
+    ensures cause_of_not_built { result ≡ Status.NotBuilt → IsUnbuilt (command_of words.now (F.state folder.old)) }
     ensures not_built_by_words { run_form words.now ≡ false → result ≡ Status.NotBuilt }
-    ensures cause_of_read_fault { (n : ℕ) → result ≡ Status.ReadFault n → (1 ≤ n) × (n ≤ length (operands words.now))
-        × Rose (F.faults folder.old (operand (operands words.now) n)) (F.faults folder.new (operand (operands words.now) n)) }
-    ensures cause_of_late_read_fault { (n : ℕ) → result ≡ Status.ReadFault n → 1 < n → IsTrue (are_told (F.tells folder.old) (operands words.now))
-        → HasPlanFor (plan_contents (F.contents folder.old) (operands words.now)) (operands words.now) }
-    ensures cause_of_write_fault { result ≡ Status.WriteFault → Rose (K.faults out.old) (K.faults out.new) × (run_form words.now ≡ true) × (IsTrue (are_told (F.tells folder.old) (operands words.now))
-        → IsBuilt (plan_contents (F.contents folder.old) (operands words.now)) (file_contents (F.contents folder.old) (operands words.now))) }
+    ensures cause_of_read_fault { (n : ℕ) → result ≡ Status.ReadFault n → HasFault (command_of words.now (F.state folder.old)) (F.state folder.new) n }
+    ensures cause_of_write_fault { result ≡ Status.WriteFault → WriteFails (command_of words.now (F.state folder.old)) (K.state out.old) (K.state out.new) }
     ensures cause_of_no_memory { result ≡ Status.NoMemory → run_form words.now ≡ true }
-    ensures cause_of_limit { (node : ℕ) → result ≡ Status.Limit (Node node) → (run_form words.now ≡ true) × (IsTrue (are_told (F.tells folder.old) (operands words.now))
-        → BeyondLimit (plan_contents (F.contents folder.old) (operands words.now)) (file_contents (F.contents folder.old) (operands words.now)) node) }
-    ensures cause_of_file_limit { (stream : ℕ) → result ≡ Status.Limit (File stream) → (run_form words.now ≡ true) × (IsTrue (are_told (F.tells folder.old) (operands words.now))
-        → HasPlanFor (plan_contents (F.contents folder.old) (operands words.now)) (operands words.now) × IsTooLarge (file_contents (F.contents folder.old) (operands words.now)) stream) }
+    ensures cause_of_limit { (node : ℕ) → result ≡ Status.Limit (Node node) → BeyondLimit (command_of words.now (F.state folder.old)) node }
+    ensures cause_of_file_limit { (stream : ℕ) → result ≡ Status.Limit (File stream) → IsTooLarge (command_of words.now (F.state folder.old)) stream }
 {
     match prepare(rt.alloc(), words, folder) {
         Ok(plan) => match run_files(rt.alloc(), &plan, &words[2..], folder, out) {
             Ok(()) => Status::Done,
-            Err(status) => {
+            Err(stop) => {
+                let status = stop.status();
                 write_status(stop_name(&plan, status), status, out);
                 status
             }
         },
-        Err(status) => {
-            write_status(b"", status, out);
-            status
+        Err(stop) => {
+            let refusal = stop.status();
+            write_status(b"", refusal, out);
+            refusal
         }
     }
 }
 
 // The name that the line of the status has, if any.
 fn stop_name(plan: &SmallPlan, status: Status) -> &[u8]
-    ensures { result.now ≡ name_of_stop plan.now status }
+    ensures { result.now ≡ stop_name_of plan.now status }
 {
     match status {
         Status::Limit { what } => match what {

@@ -2,20 +2,18 @@
 ghost use Rattle.std.specs.Prelude.{◌≡◌, ◌≤◌, ℕ, List, [], None, IsTrue, IfErr, IfOk, OnOk, Err};
 ghost use Rattle.pj_io.specs.Causes.{Rose};
 ghost use Rattle.pj_laws.specs.declared.events.Entry.{Entry};
-ghost use Rattle.pj_laws.specs.declared.events.Event.TheVariants.{Arrive};
 ghost use Rattle.pj_laws.specs.OneThread.{arrival_of};
 ghost use Rattle.pj_core.specs.Cores.{StandsFor, MayFollow};
-ghost use Rattle.pj_core.specs.Calls.{IsCause, IsTurnRefused, TakesTurn};
-ghost use Rattle.pj_engine.specs.declared.status.LimitOf.TheVariants.{Node};
+ghost use Rattle.pj_core.specs.Calls.{IsTurnRefused, MakesTurn};
 ghost use Rattle.pj_engine.specs.Feeds.{turn_in};
-ghost use Rattle.pj_engine.specs.Files.{IsTurnStop};
-ghost use Rattle.pj_engine.specs.Outs.{out_lines};
-ghost use Rattle.pj_engine.specs.Turning.{IsTurnOf, turn_outs, Turned, TurnDone, status_for};
-ghost use Rattle.pj_engine.specs.Written.{Writes};
+ghost use Rattle.pj_engine.specs.Results.{out_lines};
+ghost use Rattle.pj_engine.specs.Stops.{of_core};
+ghost use Rattle.pj_engine.specs.Turning.{IsTurnOf, turn_outs, Turned, TurnDone, TurnStops};
+ghost use Rattle.pj_engine.specs.Written.{WritesBy, turn_cut};
 
-use crate::feeds::Next;
-use crate::outs::{Counts, write_outs};
-use crate::{LimitOf, Status};
+use crate::feeds::Arrival;
+use crate::results::{Counts, write_outs};
+use crate::stops::TurnStop;
 use pj_core::Core;
 use pj_io::Sink;
 use pj_laws::{Out, Stop};
@@ -25,34 +23,33 @@ use std::alloc::Global;
 /// Makes one turn of a core that has not stopped and that was drained, writes what the turn hands out, and counts it.
 /// `text` is where lines are made.
 ///
-/// `Limit` comes where the turn brings one element beyond the limit of a node. What was handed out before the core
-/// stopped is written first.
+/// `Limit` comes where the turn brings one element beyond the limit of a node; exactly what was handed out before that is
+/// written first.
 pub fn take_turn<K: Sink>(
     alloc: Global,
     core: &mut Core,
-    next: Next,
+    next: Arrival,
     counts: &mut Counts,
     text: &mut Items<u8>,
     out: &mut K,
-) -> Result<(), Status>
+) -> Result<(), TurnStop>
     requires on { core.old.stop ≡ None }
     requires drained { core.old.undrained ≡ [] }
     requires of { IsTurnOf core.old.plan.streams (turn_in core.old.plan.streams next) }
-    ensures tells { IsTrue (K.tells out.new) → IsTrue (K.tells out.old) }
-    ensures lines { IsTrue (K.tells out.new) → (history : List Entry) → StandsFor core.old history → MayFollow core.old history (arrival_of (turn_in core.old.plan.streams next))
-        → Writes (out_lines (turn_outs core.old history (turn_in core.old.plan.streams next))) (K.written out.old) (K.written out.new) result }
+    ensures told { IsTrue (K.state out.new).told → IsTrue (K.state out.old).told }
+    ensures lines { IsTrue (K.state out.new).told → (history : List Entry) → StandsFor core.old history → MayFollow core.old history (arrival_of (turn_in core.old.plan.streams next))
+        → WritesBy turn_cut (out_lines (turn_outs core.old history (turn_in core.old.plan.streams next))) (K.state out.old) (K.state out.new) result }
     ensures done { OnOk result (TurnDone core.old core.new (turn_in core.old.plan.streams next) counts.old counts.new) }
-    ensures limit { (node : ℕ) → result ≡ Err (Status.Limit (Node node))
-        → IsCause core.old (Arrive (turn_in core.old.plan.streams next).stream (turn_in core.old.plan.streams next).element) (Stop.Limit node) }
-    ensures later { K.faults out.old ≤ K.faults out.new }
-    ensures fault { result ≡ Err Status.WriteFault → Rose (K.faults out.old) (K.faults out.new) }
-    ensures others { IfErr result IsTurnStop }
+    ensures stops { IfErr result (λ stop. (history : List Entry) → StandsFor core.old history → MayFollow core.old history (arrival_of (turn_in core.old.plan.streams next))
+        → TurnStops stop core.old history (turn_in core.old.plan.streams next) (K.state out.old) (K.state out.new)) }
+    ensures later { (K.state out.old).faults ≤ (K.state out.new).faults }
+    ensures fault { result ≡ Err TurnStop.WriteFailed → Rose (K.state out.old).faults (K.state out.new).faults }
 {
     let handed = turn_core(alloc, core, next);
     write_outs(alloc, handed.outs.as_slice(), counts, text, out)?;
     match handed.stop {
         None => Ok(()),
-        Some(stop) => Err(status_of(stop)),
+        Some(stop) => Err(turn_stop(stop)),
     }
 }
 
@@ -63,7 +60,7 @@ struct Handed {
     stop: Option<Stop>,
 }
 
-fn turn_core(alloc: Global, core: &mut Core, next: Next) -> Handed
+fn turn_core(alloc: Global, core: &mut Core, next: Arrival) -> Handed
     requires on { core.old.stop ≡ None }
     requires drained { core.old.undrained ≡ [] }
     requires of { IsTurnOf core.old.plan.streams (turn_in core.old.plan.streams next) }
@@ -78,24 +75,23 @@ fn turn_core(alloc: Global, core: &mut Core, next: Next) -> Handed
     }
 }
 
-fn enter(alloc: Global, core: &mut Core, next: Next) -> Result<Items<Out>, Stop>
+fn enter(alloc: Global, core: &mut Core, next: Arrival) -> Result<Items<Out>, Stop>
     requires { IsTurnOf core.old.plan.streams (turn_in core.old.plan.streams next) }
-    ensures ok { IfOk result (λ outs. TakesTurn core.old core.new (turn_in core.old.plan.streams next) outs) }
+    ensures ok { IfOk result (λ outs. MakesTurn core.old core.new (turn_in core.old.plan.streams next) outs) }
     ensures err { IfErr result (λ stop. IsTurnRefused core.old.stop core.old core.new (turn_in core.old.plan.streams next) stop) }
 {
     match next {
-        Next::Bring { stream, element } => core.turn(alloc, stream, element),
-        Next::Close { stream } => core.closing_turn(alloc, stream),
+        Arrival::Brought { stream, element } => core.turn(alloc, stream, element),
+        Arrival::Closing { stream } => core.closing_turn(alloc, stream),
     }
 }
 
-fn status_of(stop: Stop) -> Status
-    ensures { result ≡ status_for stop }
+// The stop of a turn in which the core stopped.
+fn turn_stop(stop: Stop) -> TurnStop
+    ensures { result ≡ of_core stop }
 {
     match stop {
-        Stop::Limit { node } => Status::Limit {
-            what: LimitOf::Node(node),
-        },
-        Stop::NoMemory => Status::NoMemory,
+        Stop::Limit { node } => TurnStop::Limit { node },
+        Stop::NoMemory => TurnStop::NoMemory,
     }
 }

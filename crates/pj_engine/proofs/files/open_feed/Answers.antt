@@ -1,12 +1,20 @@
-use Rattle.std.proofs.Common.{◌∙◌}
-use Rattle.pj_engine.proofs.Opening.{feed_is}
+use Rattle.std.proofs.Common.{[], ◌∷◌}
+use Rattle.pj_engine.proofs.Opening.{opens_one, opens_closes, opens_most_one}
 use Rattle.pj_engine.proofs.files.open_feed.Goals as goal
 
-pub returns-in-Ok-new-clause-feed : goal.returns-in-Ok-new-clause-feed
-returns-in-Ok-new-clause-feed g c =
-    let source = g.F.File.Source in
-    let made = c.in-Ok-new.ensures in
-    let fresh = c.in-Ok.ensures in
-    feed_is source.tells source.taken source.left source.faults source.name c.args.stream c.args.of.now c.args.name.now (g.F.Folder.tells c.args.folder.now) (g.F.Folder.contents c.args.folder.now)
-    c.in-Ok-new.intake c.in-Ok.file c.new-in-Ok-new.result c.new-in-Ok-new.ensures made.source (made.columns ∙ c.in_ok-schema.ensures) made.stopped made.limit made.held made.ended made.judged
-    fresh.fresh.0 fresh.fresh.1 fresh.untaken fresh.told
+pub returns-in-Ok-new-clause-opened : goal.returns-in-Ok-new-clause-opened
+returns-in-Ok-new-clause-opened g c =
+    let old = g.F.Folder.state c.args.folder.now in
+    let new = g.F.Folder.state c.open_file.new.self in
+    opens_most_one (c.args.name.now ∷ []) old new (opens_one c.args.name.now [] old new c.in-Ok.ensures.opened c.open_file.ensures.keeps c.open_file.ensures.other_opened)
+
+pub returns-in-Ok-new-clause-was_opened : goal.returns-in-Ok-new-clause-was_opened
+returns-in-Ok-new-clause-was_opened g c =
+    opens_one c.args.name.now [] (g.F.Folder.state c.args.folder.now) (g.F.Folder.state c.open_file.new.self) c.in-Ok.ensures.opened c.open_file.ensures.keeps c.open_file.ensures.other_opened
+
+pub returns-in-Err-clause-opened : goal.returns-in-Err-clause-opened
+returns-in-Err-clause-opened g c =
+    let old = g.F.Folder.state c.args.folder.now in
+    let mid = g.F.Folder.state c.open_file.new.self in
+    let new = g.F.Folder.state c.close_file.new.self in
+    opens_most_one (c.args.name.now ∷ []) old new (opens_closes c.args.name.now old mid new c.in-Ok.ensures.opened c.open_file.ensures.keeps c.open_file.ensures.other_opened c.close_file.ensures.opened)

@@ -1,16 +1,19 @@
 use Rattle.std.proofs.Common.{◌≡◌, map, length}
+use Rattle.std.specs.Prelude.{vec_capacity}
 use Rattle.std.specs.String.{string_bytes}
-use Rattle.pj_io.specs.Folders.{NoneFalls, SameNumbers}
-use Rattle.pj_engine.specs.Opened.{AreFeedsOf, AreOpened}
+use Rattle.pj_io.specs.Folders.{NoneFalls, SameEverywhere}
+use Rattle.pj_engine.specs.Opened.{AreFeedsOf, AreOpened, OpensFirst}
 use Rattle.pj_engine.proofs.files.open_feeds.Given as goal
 
 abbrev pub invariant-loop-i : goal.invariant-loop-i
 invariant-loop-i g l = record {
   count : length l.feeds.items ≡ l.i;
-  tells : g.F.Folder.tells l.folder ≡ g.F.Folder.tells l.fn.folder;
-  contents : g.F.Folder.contents l.folder ≡ g.F.Folder.contents l.fn.folder;
-  feeds : AreFeedsOf 0 l.streams (map string_bytes l.names) (g.F.Folder.tells l.fn.folder) (g.F.Folder.contents l.fn.folder) l.feeds.items;
-  opened : AreOpened (g.F.Folder.opened l.folder) l.feeds.items;
-  last : SameNumbers (g.F.Folder.last l.fn.folder) (g.F.Folder.last l.folder);
-  later : NoneFalls (g.F.Folder.faults l.fn.folder) (g.F.Folder.faults l.folder);
+  room : vec_capacity l.feeds ≡ vec_capacity l.fn.feeds;
+  told : (g.F.Folder.state l.folder).told ≡ (g.F.Folder.state l.fn.folder).told;
+  contents : (g.F.Folder.state l.folder).contents ≡ (g.F.Folder.state l.fn.folder).contents;
+  feeds : AreFeedsOf 0 l.streams (map string_bytes l.names) (g.F.Folder.state l.fn.folder) l.feeds.items;
+  opened : AreOpened (g.F.Folder.state l.folder).opened l.feeds.items;
+  opens : OpensFirst l.i (map string_bytes l.names) (g.F.Folder.state l.fn.folder) (g.F.Folder.state l.folder);
+  last : SameEverywhere (g.F.Folder.state l.fn.folder).last (g.F.Folder.state l.folder).last;
+  later : NoneFalls (g.F.Folder.state l.fn.folder).faults (g.F.Folder.state l.folder).faults;
 }

@@ -1,6 +1,6 @@
 use Rattle.std.proofs.Common.{[], ◌∷◌, ◌∙◌}
 use Rattle.pj_engine.specs.Report.{results_text}
-use Rattle.pj_engine.proofs.Lines.{one_line}
+use Rattle.pj_engine.proofs.LinesWritten.{one_line}
 use Rattle.pj_engine.proofs.report.write_results.Goals as goal
 
 pub returns-clause-lines : goal.returns-clause-lines

@@ -1,9 +1,9 @@
-use Rattle.std.proofs.Common.{◌++◌, ◌+◌, take, drop, ◌∙◌, ap, get_or, arith, Ok, subst, List, ℕ, length, ◌<◌, rules}
+use Rattle.std.proofs.Common.{◌++◌, ◌+◌, take, drop, ◌∙◌, ap, get_or, arith, subst, List, ℕ, length, ◌<◌, ◌≡◌, rules}
 use Rattle.pj_element.specs.declared.tally.Tally.{Tally}
 use Rattle.pj_engine.specs.Outcome.{tally_lines}
 use Rattle.pj_engine.specs.Report.{stream_lines}
-use Rattle.pj_engine.specs.Written.{Writes, StopLeaves}
-use Rattle.pj_engine.proofs.Lines.{stopped_then, writes_then}
+use Rattle.pj_engine.specs.Written.{flat, write_cut, Leaves}
+use Rattle.pj_engine.proofs.LinesWritten.{stopped_then, written_then}
 use Rattle.pj_engine.proofs.Tallies.{tally_more, tally_rest}
 use Rattle.pj_engine.proofs.report.write_streams.Goals as goal
 
@@ -15,14 +15,15 @@ returns-in_err-write_stream-clause-lines g c = λ told.
     let s = c.index-streams-i.result in
     let t = c.index-tallies-i.result in
     let there : i < length streams = search rules in
-    let status = c.in_err-write_stream.field-0.0 in
+    let stop = c.in_err-write_stream.field-0.0 in
+    let mid = g.K.Sink.state c.loop-i.out in
+    let new = g.K.Sink.state c.write_stream.new.out in
     let lines = stream_lines (get_or streams i s).name (get_or tallies i t) in
-    let written : StopLeaves status lines (g.K.Sink.written c.loop-i.out) (g.K.Sink.written c.write_stream.new.out) =
-    subst (λ (x : Tally). StopLeaves status (stream_lines (get_or streams i s).name x) (g.K.Sink.written c.loop-i.out) (g.K.Sink.written c.write_stream.new.out)) c.index-tallies-i.is
-    (subst (λ (n : List ℕ). StopLeaves status (stream_lines n t) (g.K.Sink.written c.loop-i.out) (g.K.Sink.written c.write_stream.new.out)) c.as_slice.ensures (c.in_err-write_stream.ensures.lines told)) in
-    stopped_then c.from_residual.result status (tally_lines (take i streams) (take i tallies)) lines (tally_lines streams tallies) (g.K.Sink.written c.args.out.now) (g.K.Sink.written c.loop-i.out) (g.K.Sink.written c.write_stream.new.out)
-    (c.loop-i.invariant.lines (c.in_err-write_stream.ensures.tells told)) written
-    (tally_lines (drop (i + 1) streams) (drop (i + 1) tallies))
+    let written : Leaves (write_cut stop) lines mid.written new.written =
+    subst (λ (x : Tally). Leaves (write_cut stop) (stream_lines (get_or streams i s).name x) mid.written new.written) c.index-tallies-i.is
+    (subst (λ (n : List ℕ). Leaves (write_cut stop) (stream_lines n t) mid.written new.written) c.as_slice.ensures (c.in_err-write_stream.ensures.lines told)) in
+    stopped_then write_cut c.from_residual.result stop (tally_lines (take i streams) (take i tallies)) lines (tally_lines (drop (i + 1) streams) (drop (i + 1) tallies)) (tally_lines streams tallies) (g.K.Sink.state c.args.out.now) mid new
+    (c.loop-i.invariant.lines (c.in_err-write_stream.ensures.told told)) written
     (ap (λ (ls : List (List ℕ)). ls ++ tally_lines (drop (i + 1) streams) (drop (i + 1) tallies)) (tally_more i streams tallies s t there c.requires) ∙ tally_rest (i + 1) streams tallies c.requires)
     c.from_residual.ensures.1
 
@@ -34,13 +35,15 @@ loop-i-preserved g c =
     let s = c.index-streams-i.result in
     let t = c.index-tallies-i.result in
     let there : i < length streams = search rules in
+    let old = g.K.Sink.state c.args.out.now in
+    let mid = g.K.Sink.state c.loop-i.out in
+    let new = g.K.Sink.state c.write_stream.new.out in
     let lines = stream_lines (get_or streams i s).name (get_or tallies i t) in
     record {
       later = omega (arith, c.in_ok-write_stream.ensures.later);
-      tells = λ told. c.loop-i.invariant.tells (c.in_ok-write_stream.ensures.tells told);
-      lines = λ told. subst (λ (ls : List (List ℕ)). Writes ls (g.K.Sink.written c.args.out.now) (g.K.Sink.written c.write_stream.new.out) (Ok tt)) (tally_more i streams tallies s t there c.requires)
-          (writes_then (Ok tt) (tally_lines (take i streams) (take i tallies)) lines (g.K.Sink.written c.args.out.now) (g.K.Sink.written c.loop-i.out) (g.K.Sink.written c.write_stream.new.out)
-          (c.loop-i.invariant.lines (c.in_ok-write_stream.ensures.tells told))
-          (subst (λ (x : Tally). Writes (stream_lines (get_or streams i s).name x) (g.K.Sink.written c.loop-i.out) (g.K.Sink.written c.write_stream.new.out) (Ok tt)) c.index-tallies-i.is
-          (subst (λ (n : List ℕ). Writes (stream_lines n t) (g.K.Sink.written c.loop-i.out) (g.K.Sink.written c.write_stream.new.out) (Ok tt)) c.as_slice.ensures (c.in_ok-write_stream.ensures.lines told))));
+      told = λ told. c.loop-i.invariant.told (c.in_ok-write_stream.ensures.told told);
+      lines = λ told. subst (λ (ls : List (List ℕ)). new.written ≡ old.written ++ flat ls) (tally_more i streams tallies s t there c.requires)
+          (written_then (tally_lines (take i streams) (take i tallies)) lines old.written mid.written new.written (c.loop-i.invariant.lines (c.in_ok-write_stream.ensures.told told))
+          (subst (λ (x : Tally). new.written ≡ mid.written ++ flat (stream_lines (get_or streams i s).name x)) c.index-tallies-i.is
+          (subst (λ (n : List ℕ). new.written ≡ mid.written ++ flat (stream_lines n t)) c.as_slice.ensures (c.in_ok-write_stream.ensures.lines told))));
     }

@@ -1,76 +1,97 @@
-use Rattle.std.proofs.Common.{[], refl, append-nil, ap, ◌∙◌, subst, Ok, Err, List, ℕ}
+use Rattle.std.proofs.Common.{◌++◌, refl, sym, ap, ◌∙◌, subst, Err, List, ℕ}
 use Rattle.pj_element.specs.Runs.{element_lines}
-use Rattle.pj_engine.specs.declared.status.Status.TheVariants.{ReadFault, Limit}
-use Rattle.pj_engine.specs.declared.status.LimitOf.TheVariants.{File}
 use Rattle.pj_engine.specs.Feeds.{files_of}
 use Rattle.pj_engine.specs.Outcome.{IsOutcome}
 use Rattle.pj_engine.specs.Runs.{outputs_of, report_of, run_lines}
-use Rattle.pj_engine.specs.Written.{Writes, StopLeaves}
+use Rattle.pj_engine.specs.Written.{flat, Cut, Leaves, between, run_cut, write_cut}
 use Rattle.pj_engine.proofs.AllFeeds.{opened_same}
-use Rattle.pj_engine.proofs.Ending.{status_is, fault_of_name, tallies_count}
-use Rattle.pj_engine.proofs.Lines.{stopped_first, stopped_then, writes_then, writes_all_cut, err_is}
-use Rattle.pj_engine.proofs.Tallies.{report_is, sink_stop}
+use Rattle.pj_engine.proofs.Carried.{err_is, if_err}
+use Rattle.pj_engine.proofs.Ending.{tallies_count}
+use Rattle.pj_engine.proofs.LinesWritten.{first_written, stop_first, stop_then, written_then}
+use Rattle.pj_engine.proofs.RunClosing.{feeds_cause, report_cut, report_ends, report_cause}
+use Rattle.pj_engine.proofs.Tallies.{report_is}
 use Rattle.pj_engine.proofs.run.run_feeds.Goals as goal
 
 pub close_feeds-closed-requires : goal.close_feeds-closed-requires
-close_feeds-closed-requires g c = record { opened = opened_same (g.F.Folder.opened c.args.folder.now) c.args.feeds.items c.run_streams-ran.new.feeds.feeds.items c.run_streams-ran.ensures.same c.requires.opened }
+close_feeds-closed-requires g c = record { opened = opened_same (g.F.Folder.state c.args.folder.now).opened c.args.feeds.items c.run_streams-ran.new.feeds.feeds.items c.run_streams-ran.ensures.same c.requires.opened }
 
 pub returns-in_err-ran-clause-lines : goal.returns-in_err-ran-clause-lines
 returns-in_err-ran-clause-lines g c = λ told t.
     let plan = c.args.plan.now in
     let files = files_of c.args.feeds.items in
-    stopped_first c.from_residual.result c.in_err-ran.field-0.0 (element_lines (outputs_of plan files)) (report_of plan files (outputs_of plan files)) (run_lines plan files) _ _ (c.in_err-ran.ensures.lines told t) refl c.from_residual.ensures.1
+    rw (err_is c.from_residual.result _ c.from_residual.ensures.1)
+    (stop_first (run_cut c.in_err-ran.field-0.0) (element_lines (outputs_of plan files)) (report_of plan files (outputs_of plan files)) (run_lines plan files) _ _ (c.in_err-ran.ensures.lines told t) refl)
 
-pub returns-in_err-ran-clause-read_fault : goal.returns-in_err-ran-clause-read_fault
-returns-in_err-ran-clause-read_fault g c = λ n is.
-    fault_of_name c.args.feeds.items c.run_streams-ran.new.feeds.feeds.items n (g.F.Folder.faults c.args.folder.now) (g.F.Folder.faults c.close_feeds-closed.new.folder) c.in_err-ran.ensures.same c.close_feeds-closed.ensures.faults
-    (c.in_err-ran.ensures.read_fault n (ap Err (status_is c.from_residual.result c.in_err-ran.field-0.0 (ReadFault n) c.from_residual.ensures.1 is)))
+pub returns-in_err-ran-clause-ends : goal.returns-in_err-ran-clause-ends
+returns-in_err-ran-clause-ends g c = λ told t.
+    if_err _ c.from_residual.result _ c.from_residual.ensures.1
+    (record { news = c.run_streams-ran.new.feeds.feeds.items; same = c.in_err-ran.ensures.same; ends = c.in_err-ran.ensures.ends told t; lasts = c.close_feeds-closed.ensures.last })
 
-pub returns-in_err-ran-clause-too_large : goal.returns-in_err-ran-clause-too_large
-returns-in_err-ran-clause-too_large g c = λ stream is told.
-    c.in_err-ran.ensures.too_large stream (ap Err (status_is c.from_residual.result c.in_err-ran.field-0.0 (Limit (File stream)) c.from_residual.ensures.1 is)) told
+pub returns-in_err-ran-clause-causes : goal.returns-in_err-ran-clause-causes
+returns-in_err-ran-clause-causes g c =
+    if_err _ c.from_residual.result _ c.from_residual.ensures.1
+    (feeds_cause c.in_err-ran.field-0.0 c.args.plan.now c.args.feeds.items c.run_streams-ran.new.feeds.feeds.items (g.F.Folder.state c.args.folder.now) (g.F.Folder.state c.close_feeds-closed.new.folder) _ _
+    c.in_err-ran.ensures.same c.close_feeds-closed.ensures.faults c.in_err-ran.ensures.causes)
 
-pub write_report-requires : goal.write_report-requires
-write_report-requires g c = tallies_count c.args.plan.now c.args.feeds.items c.run_streams-ran.new.feeds.feeds.items c.in_ok-tallies.tallies c.as_slice.result.now c.requires.feeds c.in_ok-ran.ensures.same c.in_ok-tallies.ensures.tallies c.as_slice.ensures
-
-pub returns-in_err-write_report-clause-lines : goal.returns-in_err-write_report-clause-lines
-returns-in_err-write_report-clause-lines g c = λ told t.
+pub returns-in_err-tallies-clause-lines : goal.returns-in_err-tallies-clause-lines
+returns-in_err-tallies-clause-lines g c = λ told t.
     let plan = c.args.plan.now in
     let files = files_of c.args.feeds.items in
-    let o = c.in_ok-ran.ran in
-    let status = c.in_err-write_report.field-0.0 in
-    let outcome : IsOutcome plan files c.as_slice.result.now o.counts o.peak = rw (c.as_slice.ensures, c.in_ok-tallies.ensures.tallies) (c.in_ok-ran.ensures.outcome told) in
-    let written : StopLeaves status (report_of plan files (outputs_of plan files)) (g.K.Sink.written c.run_streams-ran.new.out) (g.K.Sink.written c.write_report.new.out) =
-    subst (λ (ls : List (List ℕ)). StopLeaves status ls (g.K.Sink.written c.run_streams-ran.new.out) (g.K.Sink.written c.write_report.new.out)) (report_is plan files c.as_slice.result.now o.counts o.peak outcome)
-    (c.in_err-write_report.ensures.lines t) in
-    stopped_then c.from_residual-in_err-write_report.result status (element_lines (outputs_of plan files)) (report_of plan files (outputs_of plan files)) (run_lines plan files) (g.K.Sink.written c.args.out.now) (g.K.Sink.written c.run_streams-ran.new.out) (g.K.Sink.written c.write_report.new.out)
-    (c.in_ok-ran.ensures.lines told (c.in_err-write_report.ensures.tells t)) written
-    [] (append-nil (run_lines plan files)) c.from_residual-in_err-write_report.ensures.1
+    rw (err_is c.from_residual-in_err-tallies.result _ c.from_residual-in_err-tallies.ensures.1)
+    (first_written between (element_lines (outputs_of plan files)) (report_of plan files (outputs_of plan files)) (run_lines plan files) _ _ (c.in_ok-ran.ensures.lines told t) refl)
+
+pub returns-in_err-tallies-clause-ends : goal.returns-in_err-tallies-clause-ends
+returns-in_err-tallies-clause-ends g c = λ told t.
+    if_err _ c.from_residual-in_err-tallies.result _ c.from_residual-in_err-tallies.ensures.1
+    (record { news = c.run_streams-ran.new.feeds.feeds.items; same = c.in_ok-ran.ensures.same; ends = tt; lasts = c.close_feeds-closed.ensures.last })
+
+pub returns-in_err-tallies-clause-causes : goal.returns-in_err-tallies-clause-causes
+returns-in_err-tallies-clause-causes g c = if_err _ c.from_residual-in_err-tallies.result _ c.from_residual-in_err-tallies.ensures.1 tt
+
+pub finish-requires : goal.finish-requires
+finish-requires g c = tallies_count c.args.plan.now c.args.feeds.items c.run_streams-ran.new.feeds.feeds.items c.in_ok-tallies.tallies c.as_slice.result.now c.requires.feeds c.in_ok-ran.ensures.same c.in_ok-tallies.ensures.tallies c.as_slice.ensures
 
 pub returns-in_err-finish-clause-lines : goal.returns-in_err-finish-clause-lines
 returns-in_err-finish-clause-lines g c = λ told t.
     let plan = c.args.plan.now in
     let files = files_of c.args.feeds.items in
     let o = c.in_ok-ran.ran in
+    let why = c.in_err-finish.field-0.0 in
+    let before = (g.K.Sink.state c.args.out.now).written in
+    let mid = (g.K.Sink.state c.run_streams-ran.new.out).written in
+    let after = (g.K.Sink.state c.finish.new.out).written in
     let outcome : IsOutcome plan files c.as_slice.result.now o.counts o.peak = rw (c.as_slice.ensures, c.in_ok-tallies.ensures.tallies) (c.in_ok-ran.ensures.outcome told) in
-    let reported = c.in_err-finish.ensures.tells t in
-    let written : Writes (report_of plan files (outputs_of plan files)) (g.K.Sink.written c.run_streams-ran.new.out) (g.K.Sink.written c.write_report.new.out) (Ok tt) =
-    subst (λ (ls : List (List ℕ)). Writes ls (g.K.Sink.written c.run_streams-ran.new.out) (g.K.Sink.written c.write_report.new.out) (Ok tt)) (report_is plan files c.as_slice.result.now o.counts o.peak outcome)
-    (c.in_ok-write_report.ensures.lines reported) in
-    rw (err_is _ _ c.from_residual-in_err-finish.ensures.1 ∙ ap Err (sink_stop c.in_err-finish.field-0.0 c.in_err-finish.ensures.others))
-    (writes_all_cut (run_lines plan files) (g.K.Sink.written c.args.out.now) (g.K.Sink.written c.write_report.new.out) (g.K.Sink.written c.finish.new.out)
-    (writes_then (Ok tt) (element_lines (outputs_of plan files)) (report_of plan files (outputs_of plan files)) (g.K.Sink.written c.args.out.now) (g.K.Sink.written c.run_streams-ran.new.out) (g.K.Sink.written c.write_report.new.out) (c.in_ok-ran.ensures.lines told (c.in_ok-write_report.ensures.tells reported)) written)
-    (c.in_err-finish.ensures.same t))
+    rw (err_is c.from_residual-in_err-finish.result _ c.from_residual-in_err-finish.ensures.1)
+    (subst (λ (cut : Cut). Leaves cut (run_lines plan files) before after) (sym (report_cut why))
+    (stop_then (write_cut why) (element_lines (outputs_of plan files)) (report_of plan files (outputs_of plan files)) before mid after (c.in_ok-ran.ensures.lines told (c.in_err-finish.ensures.told t))
+    (subst (λ (ls : List (List ℕ)). Leaves (write_cut why) ls mid after) (report_is plan files c.as_slice.result.now o.counts o.peak outcome) (c.in_err-finish.ensures.lines t))))
+
+pub returns-in_err-finish-clause-ends : goal.returns-in_err-finish-clause-ends
+returns-in_err-finish-clause-ends g c = λ told t.
+    if_err _ c.from_residual-in_err-finish.result _ c.from_residual-in_err-finish.ensures.1
+    (record {
+      news = c.run_streams-ran.new.feeds.feeds.items;
+      same = c.in_ok-ran.ensures.same;
+      ends = report_ends c.in_err-finish.field-0.0 c.args.plan.now (files_of c.args.feeds.items) c.run_streams-ran.new.feeds.feeds.items _ _;
+      lasts = c.close_feeds-closed.ensures.last;
+    })
+
+pub returns-in_err-finish-clause-causes : goal.returns-in_err-finish-clause-causes
+returns-in_err-finish-clause-causes g c =
+    if_err _ c.from_residual-in_err-finish.result _ c.from_residual-in_err-finish.ensures.1
+    (report_cause c.in_err-finish.field-0.0 c.args.plan.now c.args.feeds.items _ _ (g.K.Sink.state c.args.out.now) (g.K.Sink.state c.run_streams-ran.new.out) (g.K.Sink.state c.finish.new.out) c.in_ok-ran.ensures.later
+    (λ is. c.in_err-finish.ensures.fault (ap Err is)))
 
 pub returns-clause-lines : goal.returns-clause-lines
 returns-clause-lines g c = λ told t.
     let plan = c.args.plan.now in
     let files = files_of c.args.feeds.items in
     let o = c.in_ok-ran.ran in
+    let before = (g.K.Sink.state c.args.out.now).written in
+    let mid = (g.K.Sink.state c.run_streams-ran.new.out).written in
     let outcome : IsOutcome plan files c.as_slice.result.now o.counts o.peak = rw (c.as_slice.ensures, c.in_ok-tallies.ensures.tallies) (c.in_ok-ran.ensures.outcome told) in
-    let reported = c.in_ok-finish.ensures.tells t in
-    let written : Writes (report_of plan files (outputs_of plan files)) (g.K.Sink.written c.run_streams-ran.new.out) (g.K.Sink.written c.write_report.new.out) (Ok tt) =
-    subst (λ (ls : List (List ℕ)). Writes ls (g.K.Sink.written c.run_streams-ran.new.out) (g.K.Sink.written c.write_report.new.out) (Ok tt)) (report_is plan files c.as_slice.result.now o.counts o.peak outcome)
-    (c.in_ok-write_report.ensures.lines reported) in
-    c.in_ok-finish.ensures.same t
-    ∙ writes_then (Ok tt) (element_lines (outputs_of plan files)) (report_of plan files (outputs_of plan files)) (g.K.Sink.written c.args.out.now) (g.K.Sink.written c.run_streams-ran.new.out) (g.K.Sink.written c.write_report.new.out) (c.in_ok-ran.ensures.lines told (c.in_ok-write_report.ensures.tells reported)) written
+    written_then (element_lines (outputs_of plan files)) (report_of plan files (outputs_of plan files)) before mid (g.K.Sink.state c.finish.new.out).written (c.in_ok-ran.ensures.lines told (c.in_ok-finish.ensures.told t))
+    (c.in_ok-finish.ensures.lines t ∙ ap (λ (ls : List (List ℕ)). mid ++ flat ls) (report_is plan files c.as_slice.result.now o.counts o.peak outcome))
+
+pub returns-clause-last : goal.returns-clause-last
+returns-clause-last g c = record { news = c.run_streams-ran.new.feeds.feeds.items; same = c.in_ok-ran.ensures.same; taken = c.in_ok-ran.ensures.taken; lasts = c.close_feeds-closed.ensures.last }

@@ -1,141 +1,198 @@
-use Rattle.std.proofs.Common.{◌<◌, refl, ap, sym, ◌-◌, subst, map, length, take, drop, Err, arith}
-use Rattle.std.specs.String.{string_bytes}
-use Rattle.std.proofs.lemmas.List.{length-map}
-use Rattle.pj_engine.specs.Runs.{IsAnswer, ArePunctuations, AreLawful, AreTallies, GoesBeyond, report_of, outputs_of}
-use Rattle.pj_engine.specs.Top.{operand, operands, plan_contents, file_contents, IsTooLarge}
-use Rattle.pj_engine.proofs.CallLaws.{file_names, operands_are, told_files, files_same, files_counted, has_plan, is_built, call_stopped}
+use Rattle.std.proofs.Common.{refl, ap, sym, ◌∙◌, ◌++◌, subst, Err, arith, IsTrue, List, ℕ, length}
+use Rattle.pj_engine.specs.Commands.{command_of, files_named, operand, operands}
+use Rattle.pj_engine.specs.Runs.{IsAnswer, ArePunctuations, AreLawful, AreTallies, report_of, outputs_of, run_lines}
+use Rattle.pj_engine.specs.Written.{Leaves, files_cut, flat}
+use Rattle.pj_engine.proofs.CallLaws.{names_in, files_told, files_same, files_counted, all_read, built, opened_done, opened_stop, opened_early, stopped, early, faulted, write_failed, beyond, too_large, of_few, names_counted, stop_is, no_plan}
+use Rattle.pj_engine.proofs.Ending.{few_streams}
 use Rattle.pj_engine.proofs.OutputLaws.{outputs_lawful, outputs_answer, outputs_puncts}
 use Rattle.pj_engine.proofs.RunLaws.{ran}
-use Rattle.pj_engine.proofs.StaysLaws.{never_early, done_of_call, stop_of_call}
+use Rattle.pj_engine.proofs.StaysLaws.{never_early, never_done, never_stopped, stop_name_short}
 use Rattle.pj_engine.proofs.top.run_words.Goals as goal
 
+-- ---- the run is done
+
 pub returns-in-Ok-run_files-clause-answer : goal.returns-in-Ok-run_files-clause-answer
-returns-in-Ok-run_files-clause-answer g c = λ _ told t.
+returns-in-Ok-run_files-clause-answer g c = λ _ all t.
     let e = c.in-Ok.ensures in
     let words = c.args.words.now in
-    let contents = g.F.Folder.contents c.args.folder.now in
-    let contents' = g.F.Folder.contents c.prepare.new.folder in
-    let ready = map contents' (file_names words) in
-    let plan = c.in-Ok.plan in
-    ran IsAnswer plan (plan_contents contents (operands words)) ready (file_contents contents (operands words)) _ _ (e.read told).0 (files_same contents contents' words e.form e.contents)
-    (c.in-Ok-run_files.ensures.lines (told_files (g.F.Folder.tells c.args.folder.now) (g.F.Folder.tells c.prepare.new.folder) words e.form e.tells told) t)
-    (outputs_answer plan ready e.small (files_counted contents contents' words plan.streams e.form e.contents e.count) (report_of plan ready (outputs_of plan ready)))
+    let old = g.F.Folder.state c.args.folder.now in
+    let mid = g.F.Folder.state c.prepare.new.folder in
+    let same = files_same words old mid e.form e.told e.contents in
+    let ready = files_named (names_in words) mid in
+    ran IsAnswer c.in-Ok.plan (command_of words old) ready (g.K.Sink.state c.args.out.now) (g.K.Sink.state c.run_files.new.out) (e.read all.plan).0 same (c.in-Ok-run_files.ensures.lines (files_told words old mid e.form e.told e.contents all) t)
+    (outputs_answer c.in-Ok.plan ready e.small (ap length same ∙ files_counted words old mid e.form e.told e.contents c.in-Ok.plan.streams e.count) (report_of c.in-Ok.plan ready (outputs_of c.in-Ok.plan ready)))
 
 pub returns-in-Ok-run_files-clause-punctuations : goal.returns-in-Ok-run_files-clause-punctuations
-returns-in-Ok-run_files-clause-punctuations g c = λ _ told t.
+returns-in-Ok-run_files-clause-punctuations g c = λ _ all t.
     let e = c.in-Ok.ensures in
     let words = c.args.words.now in
-    let contents = g.F.Folder.contents c.args.folder.now in
-    let contents' = g.F.Folder.contents c.prepare.new.folder in
-    let ready = map contents' (file_names words) in
-    let plan = c.in-Ok.plan in
-    ran ArePunctuations plan (plan_contents contents (operands words)) ready (file_contents contents (operands words)) _ _ (e.read told).0 (files_same contents contents' words e.form e.contents)
-    (c.in-Ok-run_files.ensures.lines (told_files (g.F.Folder.tells c.args.folder.now) (g.F.Folder.tells c.prepare.new.folder) words e.form e.tells told) t)
-    (outputs_puncts plan ready e.small (files_counted contents contents' words plan.streams e.form e.contents e.count) (report_of plan ready (outputs_of plan ready)))
+    let old = g.F.Folder.state c.args.folder.now in
+    let mid = g.F.Folder.state c.prepare.new.folder in
+    let same = files_same words old mid e.form e.told e.contents in
+    let ready = files_named (names_in words) mid in
+    ran ArePunctuations c.in-Ok.plan (command_of words old) ready (g.K.Sink.state c.args.out.now) (g.K.Sink.state c.run_files.new.out) (e.read all.plan).0 same (c.in-Ok-run_files.ensures.lines (files_told words old mid e.form e.told e.contents all) t)
+    (outputs_puncts c.in-Ok.plan ready e.small (ap length same ∙ files_counted words old mid e.form e.told e.contents c.in-Ok.plan.streams e.count) (report_of c.in-Ok.plan ready (outputs_of c.in-Ok.plan ready)))
 
 pub returns-in-Ok-run_files-clause-lawful : goal.returns-in-Ok-run_files-clause-lawful
-returns-in-Ok-run_files-clause-lawful g c = λ _ told t.
+returns-in-Ok-run_files-clause-lawful g c = λ _ all t.
     let e = c.in-Ok.ensures in
     let words = c.args.words.now in
-    let contents = g.F.Folder.contents c.args.folder.now in
-    let contents' = g.F.Folder.contents c.prepare.new.folder in
-    let ready = map contents' (file_names words) in
-    let plan = c.in-Ok.plan in
-    ran AreLawful plan (plan_contents contents (operands words)) ready (file_contents contents (operands words)) _ _ (e.read told).0 (files_same contents contents' words e.form e.contents)
-    (c.in-Ok-run_files.ensures.lines (told_files (g.F.Folder.tells c.args.folder.now) (g.F.Folder.tells c.prepare.new.folder) words e.form e.tells told) t)
-    (outputs_lawful plan ready e.small (files_counted contents contents' words plan.streams e.form e.contents e.count))
+    let old = g.F.Folder.state c.args.folder.now in
+    let mid = g.F.Folder.state c.prepare.new.folder in
+    let same = files_same words old mid e.form e.told e.contents in
+    let ready = files_named (names_in words) mid in
+    ran AreLawful c.in-Ok.plan (command_of words old) ready (g.K.Sink.state c.args.out.now) (g.K.Sink.state c.run_files.new.out) (e.read all.plan).0 same (c.in-Ok-run_files.ensures.lines (files_told words old mid e.form e.told e.contents all) t)
+    (outputs_lawful c.in-Ok.plan ready e.small (ap length same ∙ files_counted words old mid e.form e.told e.contents c.in-Ok.plan.streams e.count))
 
 pub returns-in-Ok-run_files-clause-tallies : goal.returns-in-Ok-run_files-clause-tallies
-returns-in-Ok-run_files-clause-tallies g c = λ _ told t.
+returns-in-Ok-run_files-clause-tallies g c = λ _ all t.
     let e = c.in-Ok.ensures in
     let words = c.args.words.now in
-    let contents = g.F.Folder.contents c.args.folder.now in
-    let contents' = g.F.Folder.contents c.prepare.new.folder in
-    let ready = map contents' (file_names words) in
-    ran AreTallies c.in-Ok.plan (plan_contents contents (operands words)) ready (file_contents contents (operands words)) _ _ (e.read told).0 (files_same contents contents' words e.form e.contents)
-    (c.in-Ok-run_files.ensures.lines (told_files (g.F.Folder.tells c.args.folder.now) (g.F.Folder.tells c.prepare.new.folder) words e.form e.tells told) t) refl
+    let old = g.F.Folder.state c.args.folder.now in
+    let mid = g.F.Folder.state c.prepare.new.folder in
+    ran AreTallies c.in-Ok.plan (command_of words old) (files_named (names_in words) mid) (g.K.Sink.state c.args.out.now) (g.K.Sink.state c.run_files.new.out) (e.read all.plan).0 (files_same words old mid e.form e.told e.contents)
+    (c.in-Ok-run_files.ensures.lines (files_told words old mid e.form e.told e.contents all) t) refl
+
+pub returns-in-Ok-run_files-clause-read_to_end : goal.returns-in-Ok-run_files-clause-read_to_end
+returns-in-Ok-run_files-clause-read_to_end g c = λ _.
+    let e = c.in-Ok.ensures in
+    let words = c.args.words.now in
+    let old = g.F.Folder.state c.args.folder.now in
+    let mid = g.F.Folder.state c.prepare.new.folder in
+    let first = operand (operands words) 1 in
+    all_read words old mid e.form e.told e.contents (g.F.Folder.state c.run_files.new.folder)
+    (λ t.
+    let long = ap (λ (f : List ℕ → List ℕ). length (f first)) e.contents in
+    c.in-Ok-run_files.ensures.keeps first (subst (λ f. IsTrue (f first)) (sym e.told) t) (e.last t ∙ sym long) ∙ long)
+    c.in-Ok-run_files.ensures.last
 
 pub returns-in-Ok-run_files-clause-never_retracted : goal.returns-in-Ok-run_files-clause-never_retracted
-returns-in-Ok-run_files-clause-never_retracted g c = λ told t.
+returns-in-Ok-run_files-clause-never_retracted g c = λ all t.
     let e = c.in-Ok.ensures in
     let words = c.args.words.now in
-    let contents = g.F.Folder.contents c.args.folder.now in
-    let contents' = g.F.Folder.contents c.prepare.new.folder in
-    done_of_call c.in-Ok.plan (plan_contents contents (operands words)) (map contents' (file_names words)) (file_contents contents (operands words)) _ _
-    (record { read = (e.read told).0; small = e.small; names = e.names; count = files_counted contents contents' words c.in-Ok.plan.streams e.form e.contents e.count })
-    (files_same contents contents' words e.form e.contents)
-    (c.in-Ok-run_files.ensures.lines (told_files (g.F.Folder.tells c.args.folder.now) (g.F.Folder.tells c.prepare.new.folder) words e.form e.tells told) t)
+    let old = g.F.Folder.state c.args.folder.now in
+    let mid = g.F.Folder.state c.prepare.new.folder in
+    let before = (g.K.Sink.state c.args.out.now).written in
+    never_done c.in-Ok.plan (command_of words old) before _
+    (record { read = (e.read all.plan).0; small = e.small; names = e.names; count = files_counted words old mid e.form e.told e.contents c.in-Ok.plan.streams e.count })
+    (c.in-Ok-run_files.ensures.lines (files_told words old mid e.form e.told e.contents all) t ∙ ap (λ files. before ++ flat (run_lines c.in-Ok.plan files)) (files_same words old mid e.form e.told e.contents))
+
+pub returns-in-Ok-run_files-clause-opened_in_order : goal.returns-in-Ok-run_files-clause-opened_in_order
+returns-in-Ok-run_files-clause-opened_in_order g c =
+    let e = c.in-Ok.ensures in
+    opened_done c.args.words.now (g.F.Folder.state c.args.folder.now) (g.F.Folder.state c.prepare.new.folder) (g.F.Folder.state c.run_files.new.folder) e.form e.was_opened c.in-Ok-run_files.ensures.opened
 
 pub returns-in-Ok-run_files-clause-cause_of_done : goal.returns-in-Ok-run_files-clause-cause_of_done
 returns-in-Ok-run_files-clause-cause_of_done g c = λ _.
     let e = c.in-Ok.ensures in
-    (e.form, λ told. is_built c.in-Ok.plan (g.F.Folder.contents c.args.folder.now) c.args.words.now e.form e.count (e.read told))
+    built c.args.words.now (g.F.Folder.state c.args.folder.now) (g.F.Folder.state c.prepare.new.folder) e.form e.told e.contents c.in-Ok.plan e.count e.read
+
+-- ---- the run stopped
+
+pub status-status-requires : goal.status-status-requires
+status-status-requires g c =
+    let e = c.in-Ok.ensures in
+    let few = few_streams c.in-Ok.plan e.small in
+    let counted = names_counted c.args.words.now c.in-Ok.plan.streams e.form e.count in
+    of_few c.in-Err-run_files.stop c.in-Ok.plan (names_in c.args.words.now) (g.F.Folder.state c.prepare.new.folder) (g.F.Folder.state c.run_files.new.folder) (g.K.Sink.state c.args.out.now) (g.K.Sink.state c.run_files.new.out)
+    (omega (arith, few, counted)) c.in-Err-run_files.ensures.causes
+
+pub write_status-requires : goal.write_status-requires
+write_status-requires g c = rw c.stop_name.ensures (stop_name_short c.in-Ok.plan c.status-status.result c.in-Ok.ensures.names)
 
 pub returns-in-Ok-clause-stopped_run : goal.returns-in-Ok-clause-stopped_run
-returns-in-Ok-clause-stopped_run g c = λ told t.
+returns-in-Ok-clause-stopped_run g c = λ all t.
     let e = c.in-Ok.ensures in
     let r = c.in-Err-run_files.ensures in
     let words = c.args.words.now in
-    let contents = g.F.Folder.contents c.args.folder.now in
-    let contents' = g.F.Folder.contents c.prepare.new.folder in
-    let told' = told_files (g.F.Folder.tells c.args.folder.now) (g.F.Folder.tells c.prepare.new.folder) words e.form e.tells told in
-    let t' = c.write_status.ensures.tells t in
-    let first = operand (operands words) 1 in
-    call_stopped c.in-Err-run_files.status c.in-Ok.plan (plan_contents contents (operands words)) c.stop_name.result.now (map contents' (file_names words)) (file_contents contents (operands words))
-    first (file_names words) (operands words) _ _ _ _ _ _ _ _ _ (e.read told).0 (files_same contents contents' words e.form e.contents) (operands_are words e.form)
-    (λ n is. let at = r.read_fault n (ap Err is) in (at.0, at.1, subst (λ m. at.0 < m) (sym (length-map (take (length words - 2) (drop 2 words)) string_bytes)) at.2)) e.other_last c.stop_name.ensures (r.lines told' t') (r.ends told' t' first) r.later (c.write_status.ensures.line t)
+    let old = g.F.Folder.state c.args.folder.now in
+    let mid = g.F.Folder.state c.prepare.new.folder in
+    let t' = c.write_status.ensures.told t in
+    let told = files_told words old mid e.form e.told e.contents all in
+    rw c.status-status.ensures
+    (stopped words old mid (g.F.Folder.state c.run_files.new.folder) e.form e.told e.contents e.other_last c.in-Err-run_files.stop c.in-Ok.plan c.stop_name.result.now
+    (g.K.Sink.state c.args.out.now) (g.K.Sink.state c.run_files.new.out) (g.K.Sink.state c.write_status.new.out) t (e.read all.plan).0 (rw (sym c.status-status.ensures) c.stop_name.ensures)
+    r.causes (r.lines told t') (r.ends told t') r.later (rw (sym c.status-status.ensures) c.write_status.ensures.line))
 
 pub returns-in-Ok-clause-never_retracted : goal.returns-in-Ok-clause-never_retracted
-returns-in-Ok-clause-never_retracted g c = λ told t.
+returns-in-Ok-clause-never_retracted g c = λ all t.
+    let e = c.in-Ok.ensures in
+    let r = c.in-Err-run_files.ensures in
+    let words = c.args.words.now in
+    let old = g.F.Folder.state c.args.folder.now in
+    let mid = g.F.Folder.state c.prepare.new.folder in
+    let told = files_told words old mid e.form e.told e.contents all in
+    let before = (g.K.Sink.state c.args.out.now).written in
+    never_stopped c.in-Err-run_files.stop c.in-Ok.plan (command_of words old) c.stop_name.result.now before (g.K.Sink.state c.run_files.new.out) (g.K.Sink.state c.write_status.new.out) t
+    (record { read = (e.read all.plan).0; small = e.small; names = e.names; count = files_counted words old mid e.form e.told e.contents c.in-Ok.plan.streams e.count })
+    (rw (sym c.status-status.ensures) c.stop_name.ensures)
+    (subst (λ files. Leaves (files_cut c.in-Err-run_files.stop) (run_lines c.in-Ok.plan files) before (g.K.Sink.state c.run_files.new.out).written) (files_same words old mid e.form e.told e.contents) (r.lines told (c.write_status.ensures.told t)))
+    (rw (sym c.status-status.ensures) c.write_status.ensures.line)
+
+pub returns-in-Ok-clause-early_end : goal.returns-in-Ok-clause-early_end
+returns-in-Ok-clause-early_end g c =
+    let e = c.in-Ok.ensures in
+    let r = c.in-Err-run_files.ensures in
+    rw c.status-status.ensures
+    (early c.args.words.now (g.F.Folder.state c.args.folder.now) (g.F.Folder.state c.prepare.new.folder) (g.F.Folder.state c.run_files.new.folder) e.form e.told e.contents e.other_last c.in-Err-run_files.stop c.in-Ok.plan c.stop_name.result.now
+    (g.K.Sink.state c.args.out.now) (g.K.Sink.state c.run_files.new.out) (g.K.Sink.state c.write_status.new.out) (rw (sym c.status-status.ensures) c.stop_name.ensures) r.causes r.opened
+    (λ opening is. ap g.K.Sink.state (r.unopened opening (ap Err is))) (rw (sym c.status-status.ensures) c.write_status.ensures.line))
+
+pub returns-in-Ok-clause-opened_in_order : goal.returns-in-Ok-clause-opened_in_order
+returns-in-Ok-clause-opened_in_order g c =
+    let e = c.in-Ok.ensures in
+    rw c.status-status.ensures
+    (opened_stop c.args.words.now (g.F.Folder.state c.args.folder.now) (g.F.Folder.state c.prepare.new.folder) (g.F.Folder.state c.run_files.new.folder) e.form e.was_opened c.in-Err-run_files.stop c.in-Err-run_files.ensures.opened)
+
+pub returns-in-Ok-clause-cause_of_read_fault : goal.returns-in-Ok-clause-cause_of_read_fault
+returns-in-Ok-clause-cause_of_read_fault g c = λ n is.
     let e = c.in-Ok.ensures in
     let words = c.args.words.now in
-    let contents = g.F.Folder.contents c.args.folder.now in
-    let contents' = g.F.Folder.contents c.prepare.new.folder in
-    stop_of_call c.in-Err-run_files.status c.in-Ok.plan (plan_contents contents (operands words)) c.stop_name.result.now (map contents' (file_names words)) (file_contents contents (operands words)) _ _ _ _ _
-    (record { read = (e.read told).0; small = e.small; names = e.names; count = files_counted contents contents' words c.in-Ok.plan.streams e.form e.contents e.count })
-    (files_same contents contents' words e.form e.contents) c.stop_name.ensures
-    (c.in-Err-run_files.ensures.lines (told_files (g.F.Folder.tells c.args.folder.now) (g.F.Folder.tells c.prepare.new.folder) words e.form e.tells told) (c.write_status.ensures.tells t))
-    (c.write_status.ensures.line t)
-
-pub returns-in-Ok-clause-cause_of_late_read_fault : goal.returns-in-Ok-clause-cause_of_late_read_fault
-returns-in-Ok-clause-cause_of_late_read_fault g c = λ n _ _ told.
-    let e = c.in-Ok.ensures in has_plan c.in-Ok.plan (g.F.Folder.contents c.args.folder.now) c.args.words.now e.form e.count (e.read told)
+    let old = g.F.Folder.state c.args.folder.now in
+    let mid = g.F.Folder.state c.prepare.new.folder in
+    faulted words old mid (g.F.Folder.state c.run_files.new.folder) e.form e.told e.contents e.other_last e.later c.in-Err-run_files.stop c.in-Ok.plan (g.K.Sink.state c.args.out.now) (g.K.Sink.state c.run_files.new.out) n
+    (built words old mid e.form e.told e.contents c.in-Ok.plan e.count e.read) c.in-Err-run_files.ensures.causes (sym c.status-status.ensures ∙ is)
 
 pub returns-in-Ok-clause-cause_of_write_fault : goal.returns-in-Ok-clause-cause_of_write_fault
 returns-in-Ok-clause-cause_of_write_fault g c = λ is.
-    let e = c.in-Ok.ensures in (
-      omega (arith, c.in-Err-run_files.ensures.fault (ap Err is), c.write_status.ensures.later),
-      e.form,
-      λ told. is_built c.in-Ok.plan (g.F.Folder.contents c.args.folder.now) c.args.words.now e.form e.count (e.read told),
+    let e = c.in-Ok.ensures in
+    let words = c.args.words.now in
+    let old = g.F.Folder.state c.args.folder.now in
+    let mid = g.F.Folder.state c.prepare.new.folder in (
+      write_failed words old mid (g.F.Folder.state c.run_files.new.folder) e.form e.told e.contents e.other_last c.in-Err-run_files.stop c.in-Ok.plan (g.K.Sink.state c.args.out.now) (g.K.Sink.state c.run_files.new.out) (g.K.Sink.state c.write_status.new.out)
+          c.in-Err-run_files.ensures.causes c.write_status.ensures.later (sym c.status-status.ensures ∙ is),
+      built words old mid e.form e.told e.contents c.in-Ok.plan e.count e.read,
     )
 
 pub returns-in-Ok-clause-cause_of_limit : goal.returns-in-Ok-clause-cause_of_limit
 returns-in-Ok-clause-cause_of_limit g c = λ node is.
     let e = c.in-Ok.ensures in
-    let words = c.args.words.now in (
-      e.form,
-      λ told. (
-        c.in-Ok.plan,
-        (e.read told).0,
-        subst (λ fs. GoesBeyond c.in-Ok.plan fs node) (files_same (g.F.Folder.contents c.args.folder.now) (g.F.Folder.contents c.prepare.new.folder) words e.form e.contents)
-            (c.in-Err-run_files.ensures.limit node (ap Err is) (told_files (g.F.Folder.tells c.args.folder.now) (g.F.Folder.tells c.prepare.new.folder) words e.form e.tells told)),
-      ),
-    )
+    let words = c.args.words.now in
+    let old = g.F.Folder.state c.args.folder.now in
+    let mid = g.F.Folder.state c.prepare.new.folder in
+    beyond words old mid (g.F.Folder.state c.run_files.new.folder) e.form e.told e.contents e.other_last c.in-Err-run_files.stop c.in-Ok.plan (g.K.Sink.state c.args.out.now) (g.K.Sink.state c.run_files.new.out) node
+    (built words old mid e.form e.told e.contents c.in-Ok.plan e.count e.read) (λ t. (e.read t).0) c.in-Err-run_files.ensures.causes (sym c.status-status.ensures ∙ is)
 
 pub returns-in-Ok-clause-cause_of_file_limit : goal.returns-in-Ok-clause-cause_of_file_limit
 returns-in-Ok-clause-cause_of_file_limit g c = λ stream is.
     let e = c.in-Ok.ensures in
-    let words = c.args.words.now in (
-      e.form,
-      λ told. (
-        has_plan c.in-Ok.plan (g.F.Folder.contents c.args.folder.now) words e.form e.count (e.read told),
-        subst (λ fs. IsTooLarge fs stream) (files_same (g.F.Folder.contents c.args.folder.now) (g.F.Folder.contents c.prepare.new.folder) words e.form e.contents)
-            (c.in-Err-run_files.ensures.too_large stream (ap Err is) (told_files (g.F.Folder.tells c.args.folder.now) (g.F.Folder.tells c.prepare.new.folder) words e.form e.tells told)),
-      ),
-    )
+    let words = c.args.words.now in
+    let old = g.F.Folder.state c.args.folder.now in
+    let mid = g.F.Folder.state c.prepare.new.folder in
+    too_large words old mid (g.F.Folder.state c.run_files.new.folder) e.form e.told e.contents e.other_last c.in-Err-run_files.stop c.in-Ok.plan (g.K.Sink.state c.args.out.now) (g.K.Sink.state c.run_files.new.out) stream
+    (built words old mid e.form e.told e.contents c.in-Ok.plan e.count e.read) c.in-Err-run_files.ensures.causes (sym c.status-status.ensures ∙ is)
+
+-- ---- the plan was not had
 
 pub returns-clause-never_retracted : goal.returns-clause-never_retracted
-returns-clause-never_retracted g c = λ told t. never_early c.in-Err.status (plan_contents (g.F.Folder.contents c.args.folder.now) (operands c.args.words.now)) (file_contents (g.F.Folder.contents c.args.folder.now) (operands c.args.words.now)) _ _ _ _ c.in-Err.ensures.others (c.write_status-in-Err.ensures.line t)
+returns-clause-never_retracted g c = λ all t.
+    never_early c.in-Err.stop (command_of c.args.words.now (g.F.Folder.state c.args.folder.now)) (g.K.Sink.state c.args.out.now) (g.K.Sink.state c.write_status-in-Err.new.out) t (rw (sym c.status-refusal.ensures) c.write_status-in-Err.ensures.line)
+
+pub returns-clause-opened_in_order : goal.returns-clause-opened_in_order
+returns-clause-opened_in_order g c =
+    rw c.status-refusal.ensures
+    (opened_early c.in-Err.stop c.args.words.now (g.F.Folder.state c.args.folder.now) (g.F.Folder.state c.prepare.new.folder) c.in-Err.ensures.some_opened
+    (λ not. let w = c.in-Err.ensures.words not in (stop_is c.in-Err.stop w.0, ap g.F.Folder.state w.1)))
 
 pub returns-clause-cause_of_not_built : goal.returns-clause-cause_of_not_built
-returns-clause-cause_of_not_built g c = λ is told. c.in-Err.ensures.not_built (ap Err is) told
+returns-clause-cause_of_not_built g c = λ is. c.in-Err.ensures.not_built (ap Err (no_plan c.in-Err.stop (sym c.status-refusal.ensures ∙ is)))

@@ -1,0 +1,34 @@
+-- Results that a `?` hands on, and what becomes of a stop on its way up.
+use Rattle.std.proofs.Common.{◌≡◌, Result, Ok, Err, IsErrAnd, IfErr, OnOk, refl, ap, subst, sym}
+use Rattle.pj_engine.specs.declared.stops.WriteStop.{WriteStop}
+use Rattle.pj_engine.specs.declared.stops.WriteStop.TheVariants.{Failed, NoMemory as WriteMemory}
+use Rattle.pj_engine.specs.declared.stops.TurnStop.{TurnStop}
+use Rattle.pj_engine.specs.declared.stops.TurnStop.TheVariants.{Limit as TurnLimit, WriteFailed as TurnFailed, NoMemory as TurnMemory}
+use Rattle.pj_engine.specs.Stops.{of_write, of_turn}
+use Rattle.pj_engine.specs.Written.{write_cut, turn_cut, run_cut}
+
+pub err_is : {T E : Type 0} (result : Result T E) (e : E) → IsErrAnd result (λ x. x ≡ e) → result ≡ Err e
+err_is (Ok u) e h = absurd h
+err_is (Err x) e h = ap Err h
+
+pub if_err : {T E : Type 0} (P : E → Type 0) (result : Result T E) (e : E) → IsErrAnd result (λ x. x ≡ e) → P e → IfErr result P
+if_err P (Ok x) e is p = tt
+if_err P (Err x) e is p = subst P (sym is) p
+
+pub if_err_map : {T E : Type 0} (P Q : E → Type 0) (result : Result T E) → ((e : E) → result ≡ Err e → P e → Q e) → IfErr result P → IfErr result Q
+if_err_map P Q (Ok x) f p = tt
+if_err_map P Q (Err e) f p = f e refl p
+
+pub on_ok_map : {T E : Type 0} (P Q : Type 0) (result : Result T E) → (P → Q) → OnOk result P → OnOk result Q
+on_ok_map P Q (Ok x) f p = f p
+on_ok_map P Q (Err e) f p = tt
+
+-- a stop cuts what it stops in one way, whatever it is called
+pub write_cut_same : (stop : WriteStop) → turn_cut (of_write stop) ≡ write_cut stop
+write_cut_same Failed = refl
+write_cut_same WriteMemory = refl
+
+pub turn_cut_same : (stop : TurnStop) → run_cut (of_turn stop) ≡ turn_cut stop
+turn_cut_same (TurnLimit node) = refl
+turn_cut_same TurnFailed = refl
+turn_cut_same TurnMemory = refl

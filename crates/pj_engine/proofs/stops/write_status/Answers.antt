@@ -1,8 +1,0 @@
-use Rattle.std.proofs.Common.{◌∙◌, sym}
-use Rattle.pj_engine.proofs.stops.write_status.Goals as goal
-
-pub returns-in-ReadFault-clause-line : goal.returns-in-ReadFault-clause-line
-returns-in-ReadFault-clause-line g c = λ t. rw (c.in-ReadFault.is, sym (c.as_bytes.ensures.value ∙ c.format-text.ensures.text)) (c.deliver-in-ReadFault.ensures.line t)
-
-pub returns-in-NoMemory-clause-line : goal.returns-in-NoMemory-clause-line
-returns-in-NoMemory-clause-line g c = λ t. rw c.in-NoMemory.is (c.deliver-in-NoMemory.ensures.line t)

@@ -1,0 +1,391 @@
+// What no clause says: the exact bytes of worked files, whatever the pieces of the reads, and every failure in turn.
+ghost use Rattle.std.specs.Prelude.{[], false};
+
+use pj_engine::{Status, run_words};
+use pj_io::{Failed, MemFolder, MemSink, Sink};
+use pj_line::first_piece;
+use pj_value::{List, NoMemory};
+use std::alloc::Global;
+use std::test::Fail;
+
+const PLAN: &[u8] = b"plan 1\nstream s k:int v:text\noutput s\n";
+
+// Elements, skipped lines and rejects, carriage returns, bytes that are no UTF-8, and a last line without a line feed.
+const ODD: &[u8] =
+    b"t 1 \"a\"\r\n\n \t\n# note\nx 1 \"a\"\nt 1\np 7 *\nt 7 \"\xff\\x41\"\n\tt  8\t\"\xff\\x41\"  \nt \"a\" 1\nt 9 \"a\np 7 \"b\nt * \"c\"\np \"a\" *\nt 2 \"\\r\"\r\np * \"z\"";
+
+const ODD_OUT: &[u8] =
+    b"t 1 \"a\"\np 7 *\nt 8 \"\xffA\"\nt 2 \"\\r\"\np * \"z\"\np * *\n# stream s tuples 3 punctuations 2 rejected 8\n# reject s line 5 not an element\n# reject s line 6 arity want 2 got 1\n# reject s line 8 closed by line 7\n# reject s line 10 wrong kind 1\n# reject s line 11 not an element\n# reject s line 12 not an element\n# reject s line 13 bad cell 1\n# reject s line 14 wrong kind 1\n# results 3 punctuations 3\n";
+
+// Patterns of every form, which are written in normal form.
+const PATTERNS: &[u8] = b"p [5..5] *\np [7..3] *\np {2|1|2} *\np [..] [\"\"..]\np * [..\"\"]\n";
+
+const PATTERNS_OUT: &[u8] =
+    b"p 5 *\np {} *\np {1|2} *\np * *\np * \"\"\np * *\n# stream s tuples 0 punctuations 5 rejected 0\n# results 0 punctuations 6\n";
+
+// Values at their bounds, leading zeros and escapes.
+const VALUES: &[u8] =
+    b"t 9223372036854775807 \"a\"\nt 9223372036854775808 \"a\"\nt -007 \"b\"\nt 7 \"q\\\"\\\\\\x0A\\x41\"\n";
+
+const VALUES_OUT: &[u8] =
+    b"t 9223372036854775807 \"a\"\nt -7 \"b\"\nt 7 \"q\\\"\\\\\\nA\"\np * *\n# stream s tuples 3 punctuations 0 rejected 1\n# reject s line 2 bad cell 1\n# results 3 punctuations 1\n";
+
+// A tuple behind a punctuation that it matches.
+const CLOSED: &[u8] = b"t 1 \"a\"\np 1 *\nt 1 \"b\"\nt 2 \"b\"\n";
+
+const CLOSED_OUT: &[u8] =
+    b"t 1 \"a\"\np 1 *\nt 2 \"b\"\np * *\n# stream s tuples 2 punctuations 1 rejected 1\n# reject s line 3 closed by line 2\n# results 2 punctuations 2\n";
+
+// Rejects only, and skipped lines.
+const REJECTS: &[u8] =
+    b"x 1 \"a\"\nt 1\nt * \"a\"\nt \"a\" \"b\"\nt 1 \"a\n\n# note\np {1|\"a\"} *\n";
+
+const REJECTS_OUT: &[u8] =
+    b"p * *\n# stream s tuples 0 punctuations 0 rejected 6\n# reject s line 1 not an element\n# reject s line 2 arity want 2 got 1\n# reject s line 3 bad cell 1\n# reject s line 4 wrong kind 1\n# reject s line 5 not an element\n# reject s line 8 wrong kind 1\n# results 0 punctuations 1\n";
+
+const NOTHING_OUT: &[u8] =
+    b"p * *\n# stream s tuples 0 punctuations 0 rejected 0\n# results 0 punctuations 1\n";
+
+const AUCTION: &[u8] =
+    b"plan 1\nstream items item:int seller:text\nstream bids bitem:int price:int\nscheme items + _\nscheme bids + _\njoin j items bids on item=bitem\noutput j\n";
+
+const AUCTION_OUT: &[u8] =
+    b"t 1 \"ann\" 1 50\n# stream items tuples 1 punctuations 1 rejected 0\n# stream bids tuples 1 punctuations 1 rejected 1\n# reject bids line 3 closed by line 2\n# results 1 punctuations 0\n# peak j 2\n";
+
+const STOPPED: &[u8] = b"# stopped read fault operand 2\n";
+
+// The words of a command.
+fn words_of(alloc: Global, command: &str) -> Result<Vec<String>, Fail> {
+    let mut words = Vec::new(alloc);
+    for word in command.split(' ') {
+        words.push(String::from_str(alloc, word)?)?;
+    }
+    Ok(words)
+}
+
+fn run_in<K: Sink>(
+    rt: &HostRuntime,
+    command: &str,
+    folder: &mut MemFolder,
+    out: &mut K,
+) -> Result<Status, Fail> {
+    let words = words_of(rt.alloc(), command)?;
+    Ok(run_words(rt, words.as_slice(), folder, out))
+}
+
+// How a run on a plan and a file ends, and what it writes. These reads of the file fail.
+fn run_on(
+    rt: &HostRuntime,
+    plan: &[u8],
+    file: &[u8],
+    cut: usize,
+    fails: &[u64],
+    out: &mut MemSink,
+) -> Result<Status, Fail> {
+    let alloc = rt.alloc();
+    let mut folder = MemFolder::new(alloc, &[])?;
+    folder.add(alloc, b"plan", plan, 65_536, &[])?;
+    folder.add(alloc, b"file", file, cut.max(1), fails)?;
+    run_in(rt, "run plan file", &mut folder, out)
+}
+
+// A sink that takes whole pieces, of which these fail.
+fn sink_of(alloc: Global, fails: &[u64]) -> Result<MemSink, Fail> {
+    let mut out = MemSink::new(alloc, 100_000, fails)?;
+    out.room(200_000)?;
+    Ok(out)
+}
+
+// Whether the run on a file by reads of so many bytes ends well and writes this.
+fn writes(rt: &HostRuntime, file: &[u8], cut: usize, want: &[u8]) -> Result<bool, Fail> {
+    let mut out = sink_of(rt.alloc(), &[])?;
+    let status = run_on(rt, PLAN, file, cut, &[], &mut out)?;
+    Ok(status == Status::Done && out.bytes() == want)
+}
+
+#[test]
+fn worked_files_in_any_pieces(rt: HostRuntime) -> Result<(), Fail> {
+    for cut in [1usize, 7, 4096] {
+        assert!(rt; writes(&rt, ODD, cut, ODD_OUT)?);
+        assert!(rt; writes(&rt, PATTERNS, cut, PATTERNS_OUT)?);
+        assert!(rt; writes(&rt, VALUES, cut, VALUES_OUT)?);
+        assert!(rt; writes(&rt, CLOSED, cut, CLOSED_OUT)?);
+        assert!(rt; writes(&rt, REJECTS, cut, REJECTS_OUT)?);
+        assert!(rt; writes(&rt, b"", cut, NOTHING_OUT)?);
+    }
+    Ok(())
+}
+
+// Appends a tuple of a text of so many letters.
+fn append_letters(count: usize, file: &mut List<u8>) -> Result<(), NoMemory> {
+    file.append(b"t \"")?;
+    for _ in 0..count {
+        file.push(b'a')?;
+    }
+    file.append(b"\"\n")?;
+    Ok(())
+}
+
+#[test]
+fn lines_of_the_greatest_length_and_longer(rt: HostRuntime) -> Result<(), Fail> {
+    let alloc = rt.alloc();
+    let mut file = List::new(alloc);
+    append_letters(65_532, &mut file)?;
+    let mut want = List::copy_of(alloc, file.as_slice())?;
+    append_letters(65_533, &mut file)?;
+    file.append(b"t \"z\"")?;
+    want.append(
+        b"t \"z\"\np *\n# stream s tuples 2 punctuations 0 rejected 1\n# reject s line 2 too long\n# results 2 punctuations 1\n",
+    )?;
+    let plan = b"plan 1\nstream s w:text\noutput s\n";
+    let mut out = sink_of(alloc, &[])?;
+    let status = run_on(&rt, plan, file.as_slice(), 1 << 20, &[], &mut out)?;
+    assert_eq!(rt; status, Status::Done);
+    assert!(rt; out.bytes() == want.as_slice());
+    Ok(())
+}
+
+#[test]
+fn two_streams_are_joined(rt: HostRuntime) -> Result<(), Fail> {
+    let alloc = rt.alloc();
+    let mut folder = MemFolder::new(alloc, &[])?;
+    folder.add(alloc, b"plan", AUCTION, 100, &[])?;
+    folder.add(alloc, b"items", b"t 1 \"ann\"\np 1 *\n", 7, &[])?;
+    folder.add(alloc, b"bids", b"t 1 50\np 1 *\nt 1 60\n", 1, &[])?;
+    let mut out = sink_of(alloc, &[])?;
+    let status = run_in(&rt, "run plan items bids", &mut folder, &mut out)?;
+    assert_eq!(rt; status, Status::Done);
+    assert_eq!(rt; out.bytes(), AUCTION_OUT);
+    Ok(())
+}
+
+// Whether the failure of this read of the file, by 7 bytes a read, leaves the lines that were read whole, so many bytes.
+fn leaves(rt: &HostRuntime, nth: u64, front: usize) -> Result<bool, Fail> {
+    let mut out = sink_of(rt.alloc(), &[])?;
+    let status = run_on(rt, PLAN, ODD, 7, &[nth], &mut out)?;
+    let (lines, line) = out.bytes().split_at(front.min(out.bytes().len()));
+    Ok(status == Status::ReadFault { operand: 2 } && ODD_OUT.starts_with(lines) && line == STOPPED)
+}
+
+#[test]
+fn each_read_fails_in_turn(rt: HostRuntime) -> Result<(), Fail> {
+    // The file has 18 reads of at most 7 bytes, and one that finds its end.
+    let fronts = [
+        0usize, 0, 8, 8, 8, 8, 14, 14, 14, 14, 23, 23, 23, 23, 23, 23, 23, 32, 32,
+    ];
+    let mut nth = 0u64;
+    for front in fronts {
+        assert!(rt; leaves(&rt, nth, front)?, "at {nth}");
+        nth = nth.saturating_add(1);
+    }
+    Ok(())
+}
+
+// A call that fails: an opening by its number, or a read of the file of this name.
+#[derive(Clone, Copy)]
+enum Planned {
+    Opening(u64),
+    Read(&'static str, u64),
+}
+
+// The reads of the file of this name that fail.
+fn fails_of(planned: Planned, name: &str, alloc: Global) -> Result<List<u64>, NoMemory> {
+    let mut fails = List::new(alloc);
+    if let Planned::Read(of, nth) = planned {
+        if of == name {
+            fails.push(nth)?;
+        }
+    }
+    Ok(fails)
+}
+
+// The openings that fail.
+fn opens_of(planned: Planned, alloc: Global) -> Result<List<u64>, NoMemory> {
+    let mut opens = List::new(alloc);
+    if let Planned::Opening(nth) = planned {
+        opens.push(nth)?;
+    }
+    Ok(opens)
+}
+
+// A folder with the auction's plan and two files, in which this call fails.
+fn failing(alloc: Global, planned: Planned) -> Result<MemFolder, Fail> {
+    let opens = opens_of(planned, alloc)?;
+    let plan = fails_of(planned, "plan", alloc)?;
+    let items = fails_of(planned, "items", alloc)?;
+    let bids = fails_of(planned, "bids", alloc)?;
+    let mut folder = MemFolder::new(alloc, opens.as_slice())?;
+    folder.add(alloc, b"plan", AUCTION, 65_536, plan.as_slice())?;
+    folder.add(alloc, b"items", b"t 1 \"ann\"\n", 65_536, items.as_slice())?;
+    folder.add(alloc, b"bids", b"t 1 50\np 9 *\n", 7, bids.as_slice())?;
+    Ok(folder)
+}
+
+#[test]
+fn each_file_that_fails_is_named(rt: HostRuntime) -> Result<(), Fail> {
+    let cases = [
+        (
+            Planned::Opening(0),
+            b"# stopped read fault operand 1\n".as_slice(),
+        ),
+        (Planned::Opening(1), b"# stopped read fault operand 2\n"),
+        (Planned::Opening(2), b"# stopped read fault operand 3\n"),
+        (
+            Planned::Read("plan", 0),
+            b"# stopped read fault operand 1\n",
+        ),
+        (
+            Planned::Read("items", 0),
+            b"# stopped read fault operand 2\n",
+        ),
+        (
+            Planned::Read("bids", 0),
+            b"# stopped read fault operand 3\n",
+        ),
+        (
+            Planned::Read("bids", 2),
+            b"t 1 \"ann\" 1 50\n# stopped read fault operand 3\n",
+        ),
+    ];
+    for (planned, want) in cases {
+        let mut folder = failing(rt.alloc(), planned)?;
+        let mut out = sink_of(rt.alloc(), &[])?;
+        let status = run_in(&rt, "run plan items bids", &mut folder, &mut out)?;
+        assert_eq!(rt; status.number(), 3);
+        assert_eq!(rt; out.bytes(), want);
+    }
+    Ok(())
+}
+
+// A file that is not there stops the call before anything is written but the status' line.
+#[test]
+fn a_missing_file_is_named(rt: HostRuntime) -> Result<(), Fail> {
+    let alloc = rt.alloc();
+    let mut folder = MemFolder::new(alloc, &[])?;
+    folder.add(alloc, b"plan", AUCTION, 100, &[])?;
+    folder.add(alloc, b"items", b"t 1 \"ann\"\n", 100, &[])?;
+    for (command, want) in [
+        (
+            "run plan items nosuch",
+            b"# stopped read fault operand 3\n".as_slice(),
+        ),
+        ("run plan nosuch items", b"# stopped read fault operand 2\n"),
+        (
+            "run nosuch items items",
+            b"# stopped read fault operand 1\n",
+        ),
+    ] {
+        let mut out = sink_of(alloc, &[])?;
+        let status = run_in(&rt, command, &mut folder, &mut out)?;
+        assert_eq!(rt; status.number(), 3);
+        assert_eq!(rt; out.bytes(), want);
+    }
+    Ok(())
+}
+
+#[test]
+fn each_write_fails_in_turn(rt: HostRuntime) -> Result<(), Fail> {
+    let mut rest = ODD_OUT;
+    for nth in 0u64..16 {
+        assert!(rt; !rest.is_empty());
+        let mut out = sink_of(rt.alloc(), &[nth])?;
+        let status = run_on(&rt, PLAN, ODD, 4096, &[], &mut out)?;
+        assert_eq!(rt; status, Status::WriteFault);
+        assert!(rt; ODD_OUT.starts_with(out.bytes()));
+        assert_eq!(rt; out.bytes().len().saturating_add(rest.len()), ODD_OUT.len());
+        rest = first_piece(rest).1;
+    }
+    assert!(rt; rest.is_empty());
+    Ok(())
+}
+
+// Holds all back, and can't hand it on.
+#[derive(Drop)]
+struct Stuck {
+    faults: u64,
+}
+
+impl Sink for Stuck {
+    ghost state = { λ s. record { told = false; written = []; faults = s.faults } };
+
+    fn write(&mut self, piece: &[u8]) -> Result<usize, Failed> {
+        Ok(piece.len())
+    }
+
+    fn flush(&mut self) -> Result<(), Failed> {
+        self.faults = self.faults.saturating_add(1);
+        Err(Failed)
+    }
+}
+
+#[test]
+fn what_is_held_back_is_handed_on_at_the_end(rt: HostRuntime) -> Result<(), Fail> {
+    let alloc = rt.alloc();
+    let mut folder = MemFolder::new(alloc, &[])?;
+    folder.add(alloc, b"plan", PLAN, 100, &[])?;
+    folder.add(alloc, b"file", ODD, 100, &[])?;
+    let mut out = Stuck { faults: 0 };
+    let status = run_in(&rt, "run plan file", &mut folder, &mut out)?;
+    assert_eq!(rt; status, Status::WriteFault);
+    assert_eq!(rt; out.faults, 1);
+    let status = run_in(&rt, "run", &mut folder, &mut out)?;
+    assert_eq!(rt; status, Status::NotBuilt);
+    assert_eq!(rt; out.faults, 2);
+    Ok(())
+}
+
+// Whether the words and the plan are refused.
+fn is_refused(rt: &HostRuntime, command: &str, plan: &[u8]) -> Result<bool, Fail> {
+    let alloc = rt.alloc();
+    let mut folder = MemFolder::new(alloc, &[])?;
+    folder.add(alloc, b"plan", plan, 65_536, &[])?;
+    folder.add(alloc, b"file", ODD, 65_536, &[])?;
+    let mut out = sink_of(alloc, &[])?;
+    let status = run_in(rt, command, &mut folder, &mut out)?;
+    Ok(status.number() == 9 && out.bytes() == b"# refused not built\n".as_slice())
+}
+
+// The bytes with line feeds behind them, so many bytes in all.
+fn padded(alloc: Global, bytes: &[u8], size: usize) -> Result<List<u8>, NoMemory> {
+    let mut long = List::copy_of(alloc, bytes)?;
+    for _ in bytes.len()..size {
+        long.push(b'\n')?;
+    }
+    Ok(long)
+}
+
+#[test]
+fn other_words_plans_and_sizes_are_refused(rt: HostRuntime) -> Result<(), Fail> {
+    let alloc = rt.alloc();
+    for command in [
+        "",
+        "run",
+        "run plan",
+        "walk plan file",
+        "run -plan file",
+        "run plan --file",
+        "run plan file file",
+    ] {
+        assert!(rt; is_refused(&rt, command, PLAN)?, "at {command}");
+    }
+    for plan in [
+        b"".as_slice(),
+        b"plan 2\nstream s k:int\noutput s\n",
+        b"plan 1\nstream s k:blob\noutput s\n",
+        b"plan 1\nstream s k:int k:int\noutput s\n",
+        b"plan 1\nstream on k:int\noutput on\n",
+        b"plan 1\nstream s k:int\noutput t\n",
+        b"plan 1\nstream s k:int\noutput s\noutput s\n",
+    ] {
+        assert!(rt; is_refused(&rt, "run plan file", plan)?);
+    }
+    let mut plan = padded(alloc, PLAN, 1_048_576)?;
+    let file = padded(alloc, b"", 1_048_577)?;
+    let mut out = sink_of(alloc, &[])?;
+    let status = run_on(&rt, plan.as_slice(), file.as_slice(), 65_536, &[], &mut out)?;
+    assert_eq!(rt; status, Status::Done);
+    assert_eq!(rt; out.bytes(), NOTHING_OUT);
+    plan.push(b'\n')?;
+    assert!(rt; is_refused(&rt, "run plan file", plan.as_slice())?);
+    Ok(())
+}
