@@ -1,0 +1,12 @@
+//! Turns with seats: any number of threads share one state by turns, and there is one history of what they did.
+#![tactic(auto)]
+
+mod kept;
+mod plays;
+#[cfg(test)]
+mod tests;
+mod turn;
+mod views;
+
+pub use kept::{Act, Kept};
+pub use turn::{Turn, TurnSeat};
