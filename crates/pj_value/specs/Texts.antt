@@ -1,5 +1,5 @@
 -- The canonical spelling of a value.
-use Rattle.std.specs.Prelude.{ℕ, List, [], ◌∷◌, ◌++◌, ◌≡◌, if◌then◌else◌, ◌==◌, ◌||◌, nat_lt, ◌/◌, ◌%◌, ◌+◌, length, take, codes}
+use Rattle.std.specs.Prelude.{ℕ, Bool, not, List, [], ◌∷◌, ◌++◌, ◌≡◌, if◌then◌else◌, ◌==◌, ◌||◌, nat_lt, ◌/◌, ◌%◌, ◌+◌, length, take, codes}
 use Rattle.std.specs.List.{flat_map}
 use Rattle.std.specs.Fmt.{signed_decimal}
 use Rattle.pj_value.specs.declared.values.Value.{Value}
@@ -24,6 +24,14 @@ spelled_byte b =
 abbrev pub value_spelling : Value → List ℕ
 value_spelling (Int n) = signed_decimal n
 value_spelling (Text bytes) = 34 ∷ flat_map spelled_byte bytes ++ 34 ∷ []
+
+-- the spellings of values, each behind a space
+abbrev pub values_spelling : List Value → List ℕ
+values_spelling values = flat_map (λ v. 32 ∷ value_spelling v) values
+
+-- the byte stands for itself inside quotes
+abbrev pub plain : ℕ → Bool
+plain b = not ((b == 34) || ((b == 92) || (nat_lt b 32 || (b == 127))))
 
 -- new is old with more at its end
 abbrev pub IsFront : {A : Type 0} → List A → List A → Type 0

@@ -33,7 +33,7 @@ impl TryClone for Row {
 pub fn copy_items<T: TryClone + Drop>(alloc: Global, items: &[T]) -> Result<List<T>, NoMemory>
     ensures { IfOk result (λ copy. copy ≡ items.now) }
 {
-    let mut copy = List::new(alloc);
+    let mut copy = List::with_room(alloc, items.len())?;
     for item in items {
         copy.push(item.try_clone(alloc)?)?;
     }

@@ -2,17 +2,23 @@
 #![tactic(auto)]
 
 mod copies;
+mod joined;
 mod laws;
 mod lists;
+mod pair;
+mod parts;
 mod rows;
+mod shared_text;
 mod texts;
 mod values;
 
 pub use copies::{TryClone, copy_items, copy_values};
+pub use joined::JoinedParts;
 pub use laws::{bags_count_rows, spellings_are_printable, values_are_ordered};
 pub use lists::{Bytes, List, NoMemory};
 pub use rows::Row;
-pub use texts::value_text;
+pub use shared_text::SharedText;
+pub use texts::{plain_len, value_text};
 pub use values::{Kind, Value};
 
 #[cfg(test)]

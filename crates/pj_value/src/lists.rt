@@ -48,6 +48,15 @@ impl<T> List<T> {
         }
     }
 
+    /// The empty list, with room for so many items; or `NoMemory`.
+    pub fn with_room(alloc: Global, count: usize) -> Result<List<T>, NoMemory>
+        ensures { IfOk result (λ l. l ≡ []) }
+    {
+        Ok(List {
+            items: Vec::with_capacity(alloc, count)?,
+        })
+    }
+
     /// The items of a vector, handed over.
     pub fn of(items: Vec<T>) -> List<T>
         ensures { result ≡ items.items }

@@ -1,23 +1,40 @@
 // A row: a list of values.
-ghost use Rattle.std.specs.Prelude.{◌≡◌, ◌<◌, ◌↔◌, length, slice_get, IsTrue, IfOk, Some};
+ghost use Rattle.std.specs.Prelude.{◌≡◌, ◌<◌, ◌↔◌, ◌++◌, length, slice_get, IsTrue, IfOk, IfSome, OnOk, OnErr, Some};
+ghost use Rattle.std.specs.Arc.{arc_value};
+ghost use Rattle.std.specs.Option.{option_copied};
+ghost use Rattle.pj_value.specs.Texts.{IsFront, values_spelling};
 
-use crate::{List, NoMemory, Value, copy_values};
+use crate::joined::JoinedParts;
+use crate::pair::Pair;
+use crate::parts::Part;
+use crate::{List, NoMemory, SharedText, Value};
 use std::alloc::Global;
 use std::marker::Model;
+use std::sync::Arc;
 
-/// A row of a stream or of a result.
+/// A row of a stream or of a result. A joined row holds its inputs' values, and copies none.
 #[derive(Drop)]
 pub struct Row {
-    values: List<Value>,
+    parts: Parts,
+}
+
+// Where the values of a row stand: in a part of its own, in one that others share, in two of these, or in several, in order.
+#[derive(Drop)]
+enum Parts {
+    Own(Part),
+    Shared(Arc<Part, Global>),
+    Both(Pair),
+    Joined(JoinedParts),
 }
 
 impl Model for Row {
     ghost use Rattle.std.specs.Prelude.{List};
     ghost use Rattle.pj_value.specs.declared.values.Value.{Value as AnyValue};
+    ghost use Rattle.pj_value.specs.Rows.{values_in};
 
     ghost Value = { List AnyValue };
 
-    ghost view = { λ r. r.values };
+    ghost view = { λ r. values_in r.parts };
 }
 
 impl Row {
@@ -25,21 +42,43 @@ impl Row {
     pub fn of(values: List<Value>) -> Row
         ensures { result ≡ values }
     {
-        Row { values }
+        Row {
+            parts: Parts::Own(Part::of(values)),
+        }
+    }
+
+    /// The row of these values, which are handed over with their canonical spelling, each behind a space.
+    pub fn spelled(values: List<Value>, spelling: SharedText) -> Row
+        requires { spelling ≡ values_spelling values }
+        ensures { result ≡ values }
+    {
+        Row {
+            parts: Parts::Own(Part::spelled(values, spelling)),
+        }
     }
 
     /// How many columns there are.
     pub fn len(&self) -> usize
         ensures { result ≡ length self.now }
     {
-        self.values.len()
+        match &self.parts {
+            Parts::Own(part) => part.as_slice().len(),
+            Parts::Shared(part) => part.as_slice().len(),
+            Parts::Both(pair) => pair.len(),
+            Parts::Joined(parts) => parts.len(),
+        }
     }
 
-    /// All values, in order of the columns.
-    pub fn as_slice(&self) -> &[Value]
-        ensures { result.now ≡ self.now }
+    /// The value of a column, counted from 0; `None` exactly where the column is not below the length.
+    pub fn get(&self, column: usize) -> Option<&Value>
+        ensures { option_copied result ≡ slice_get self.now column }
     {
-        self.values.as_slice()
+        match &self.parts {
+            Parts::Own(part) => part.as_slice().get(column),
+            Parts::Shared(part) => part.as_slice().get(column),
+            Parts::Both(pair) => pair.get(column),
+            Parts::Joined(parts) => parts.get(column),
+        }
     }
 
     /// The value of a column, counted from 0 and below the length.
@@ -47,36 +86,173 @@ impl Row {
         requires { column < length self.now }
         ensures { slice_get self.now column ≡ Some result.now }
     {
-        &self.values.as_slice()[column]
+        match &self.parts {
+            Parts::Own(part) => &part.as_slice()[column],
+            Parts::Shared(part) => &part.as_slice()[column],
+            Parts::Both(pair) => pair.at(column),
+            Parts::Joined(parts) => parts.at(column),
+        }
     }
 
     /// Whether both rows have the same values in the same order.
+    #[tactic(auto, using(crate::proofs::Slices::same_front))]
     pub fn same(&self, other: &Row) -> bool
         ensures { IsTrue result ↔ (self.now ≡ other.now) }
     {
-        same_values(self.values.as_slice(), other.values.as_slice())
+        if self.len() != other.len() {
+            return false;
+        }
+        for column in 0..self.len() {
+            if !self.at(column).same(other.at(column)) {
+                return false;
+            }
+        }
+        true
     }
 
-    /// An equal row of its own.
+    /// An equal row. Of a row that shares its values it is a second handle.
     pub fn copy(&self, alloc: Global) -> Result<Row, NoMemory>
         ensures { IfOk result (λ r. r ≡ self.now) }
     {
-        Ok(Row {
-            values: copy_values(alloc, self.values.as_slice())?,
-        })
+        match &self.parts {
+            Parts::Own(part) => {
+                let part = part.copy(alloc)?;
+                Ok(Row {
+                    parts: Parts::Own(part),
+                })
+            }
+            Parts::Shared(part) => {
+                let part = Arc::try_clone(part)?;
+                Ok(Row {
+                    parts: Parts::Shared(part),
+                })
+            }
+            Parts::Both(pair) => {
+                let pair = pair.share()?;
+                Ok(Row {
+                    parts: Parts::Both(pair),
+                })
+            }
+            Parts::Joined(parts) => {
+                let parts = parts.share(alloc)?;
+                Ok(Row {
+                    parts: Parts::Joined(parts),
+                })
+            }
+        }
+    }
+
+    /// The same row, which shares its values from now on, so that a copy of it is a second handle.
+    pub fn share(self, alloc: Global) -> Result<Row, NoMemory>
+        ensures { IfOk result (λ r. r ≡ self) }
+    {
+        let Row { parts } = self;
+        match parts {
+            Parts::Own(part) => {
+                let part = Arc::new(alloc, part)?;
+                Ok(Row {
+                    parts: Parts::Shared(part),
+                })
+            }
+            Parts::Shared(part) => Ok(Row {
+                parts: Parts::Shared(part),
+            }),
+            Parts::Both(pair) => Ok(Row {
+                parts: Parts::Both(pair),
+            }),
+            Parts::Joined(parts) => Ok(Row {
+                parts: Parts::Joined(parts),
+            }),
+        }
+    }
+
+    /// Appends the canonical spelling of each value behind a space. On a refusal `out` is as it was.
+    pub fn spell(&self, alloc: Global, out: &mut List<u8>) -> Result<(), NoMemory>
+        ensures ok { OnOk result (out.new ≡ out.old ++ values_spelling self.now) }
+        ensures err { OnErr result (out.new ≡ out.old) }
+    {
+        let start = out.len();
+        match self.append_spelling(alloc, out) {
+            Ok(()) => Ok(()),
+            Err(stop) => {
+                out.truncate(start);
+                Err(stop)
+            }
+        }
+    }
+
+    fn append_spelling(&self, alloc: Global, out: &mut List<u8>) -> Result<(), NoMemory>
+        ensures ok { OnOk result (out.new ≡ out.old ++ values_spelling self.now) }
+        ensures err { OnErr result (IsFront out.old out.new) }
+    {
+        match &self.parts {
+            Parts::Own(part) => part.spell(alloc, out),
+            Parts::Shared(part) => part.spell(alloc, out),
+            Parts::Both(pair) => pair.spell(alloc, out),
+            Parts::Joined(parts) => parts.spell(alloc, out),
+        }
+    }
+
+    /// The row of these parts' values.
+    pub fn joined(parts: JoinedParts) -> Row
+        ensures { result ≡ parts }
+    {
+        Row {
+            parts: Parts::Joined(parts),
+        }
+    }
+
+    /// The row of one row's values and then another's. Where both share theirs in one part each, it takes no memory.
+    pub fn pair(alloc: Global, one: &Row, other: &Row) -> Result<Row, NoMemory>
+        ensures { IfOk result (λ row. row ≡ one.now ++ other.now) }
+    {
+        match one.shared_part() {
+            None => joined_row(alloc, one, other),
+            Some(first) => match other.shared_part() {
+                None => joined_row(alloc, one, other),
+                Some(second) => {
+                    let pair = Pair::of(Arc::try_clone(first)?, Arc::try_clone(second)?)?;
+                    Ok(Row {
+                        parts: Parts::Both(pair),
+                    })
+                }
+            },
+        }
+    }
+
+    // The one part in which its values stand, where others may share it.
+    fn shared_part(&self) -> Option<&Arc<Part, Global>>
+        ensures { IfSome result (λ part. arc_value part.now ≡ self.now) }
+    {
+        match &self.parts {
+            Parts::Own(_) => None,
+            Parts::Shared(part) => Some(part),
+            Parts::Both(_) => None,
+            Parts::Joined(_) => None,
+        }
+    }
+
+    /// Puts the row's values at the end of the parts: second handles, where the row shares them.
+    pub fn join_to(&self, alloc: Global, parts: &mut JoinedParts) -> Result<(), NoMemory>
+        ensures { OnOk result (parts.new ≡ parts.old ++ self.now) }
+    {
+        match &self.parts {
+            Parts::Own(part) => {
+                let part = part.copy(alloc)?;
+                parts.push(Arc::new(alloc, part)?)
+            }
+            Parts::Shared(part) => parts.push(Arc::try_clone(part)?),
+            Parts::Both(pair) => pair.join_to(parts),
+            Parts::Joined(more) => parts.append(more),
+        }
     }
 }
 
-fn same_values(a: &[Value], b: &[Value]) -> bool
-    ensures { IsTrue result ↔ (a.now ≡ b.now) }
+fn joined_row(alloc: Global, one: &Row, other: &Row) -> Result<Row, NoMemory>
+    ensures { IfOk result (λ row. row ≡ one.now ++ other.now) }
 {
-    if a.len() != b.len() {
-        return false;
-    }
-    for i in 0..a.len() {
-        if !a[i].same(&b[i]) {
-            return false;
-        }
-    }
-    true
+    let mut parts = JoinedParts::with_room(alloc, 2)?;
+    one.join_to(alloc, &mut parts)?;
+    other.join_to(alloc, &mut parts)?;
+    Ok(Row::joined(parts))
 }

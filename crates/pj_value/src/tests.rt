@@ -4,7 +4,7 @@ use std::alloc::Global;
 use std::cmp::Ordering;
 
 fn text(alloc: Global, bytes: &[u8]) -> Result<Value, NoMemory> {
-    Ok(Value::Text(List::copy_of(alloc, bytes)?))
+    Ok(Value::Text(SharedText::copy_of(alloc, bytes)?))
 }
 
 fn two_columns(alloc: Global) -> Result<Row, NoMemory> {
@@ -56,10 +56,62 @@ fn copied(alloc: Global) -> Result<(Row, Row), NoMemory> {
     Ok((row, copy))
 }
 
+// A shared row, joined with a second handle of itself and with one of its own.
+fn joined(alloc: Global) -> Result<Row, NoMemory> {
+    let (own, shared) = copied(alloc)?;
+    let shared = shared.share(alloc)?;
+    let mut parts = JoinedParts::with_room(alloc, 3)?;
+    shared.join_to(alloc, &mut parts)?;
+    shared.copy(alloc)?.join_to(alloc, &mut parts)?;
+    own.join_to(alloc, &mut parts)?;
+    Ok(Row::joined(parts))
+}
+
 #[test]
 fn rows_are_copied(rt: HostRuntime) {
     let rows = copied(rt.alloc());
     assert!(rt; matches!(&rows, Ok((row, copy)) if copy.len() == 2 && copy.same(row)));
+}
+
+#[test]
+fn rows_are_joined(rt: HostRuntime) {
+    let row = joined(rt.alloc());
+    assert!(rt; matches!(&row, Ok(row) if row.len() == 6 && row.at(5).same(row.at(1))));
+    assert!(rt;
+        matches!(&row, Ok(row) if matches!(row.get(4), Some(Value::Int(1))) && row.get(6).is_none())
+    );
+}
+
+// A pair of two handles of a shared row, paired with a row of its own.
+fn paired(alloc: Global) -> Result<Row, NoMemory> {
+    let (own, shared) = copied(alloc)?;
+    let shared = shared.share(alloc)?;
+    let pair = Row::pair(alloc, &shared, &shared)?;
+    Row::pair(alloc, &pair, &own)
+}
+
+#[test]
+fn rows_are_paired(rt: HostRuntime) {
+    let row = paired(rt.alloc());
+    let same = joined(rt.alloc());
+    assert!(rt; matches!((&row, &same), (Ok(row), Ok(same)) if row.len() == 6 && row.same(same)));
+}
+
+#[test]
+fn rows_are_spelled(rt: HostRuntime) {
+    let mut out = List::new(rt.alloc());
+    let row = joined(rt.alloc());
+    assert!(rt; matches!(&row, Ok(row) if row.spell(rt.alloc(), &mut out).is_ok()));
+    assert!(rt; out.as_slice() == b" 1 \"ann\" 1 \"ann\" 1 \"ann\"".as_slice());
+}
+
+#[test]
+fn texts_have_parts(rt: HostRuntime) {
+    let text = SharedText::copy_of(rt.alloc(), b"ann");
+    assert!(rt; matches!(&text, Ok(text) if text.len() == 3));
+    assert!(rt;
+        matches!(&text, Ok(text) if matches!(&text.part(1, 3), Ok(part) if part.as_slice() == b"nn".as_slice()))
+    );
 }
 
 #[test]

@@ -1,7 +1,7 @@
 // The canonical spelling of a value.
-ghost use Rattle.std.specs.Prelude.{◌≡◌, ◌++◌, ◌∷◌, [], ◌<◌, OnOk, OnErr};
+ghost use Rattle.std.specs.Prelude.{◌≡◌, ◌++◌, ◌∷◌, [], ◌<◌, ◌≤◌, ℕ, length, slice_index, true, false, IfOk, OnOk, OnErr};
 ghost use Rattle.std.specs.List.{flat_map};
-ghost use Rattle.pj_value.specs.Texts.{value_spelling, spelled_byte, hex_digit, IsFront};
+ghost use Rattle.pj_value.specs.Texts.{value_spelling, values_spelling, spelled_byte, hex_digit, plain, IsFront};
 
 use crate::{List, NoMemory, Value};
 use itoa::Buffer;
@@ -45,12 +45,82 @@ fn append_quoted(text: &[u8], out: &mut List<u8>) -> Result<(), NoMemory>
     out.push(b'"')
 }
 
+// Appends the bytes escaped, each run of plain ones as one piece.
 fn append_escaped(text: &[u8], out: &mut List<u8>) -> Result<(), NoMemory>
     ensures ok { OnOk result (out.new ≡ out.old ++ flat_map spelled_byte text.now) }
     ensures err { OnErr result (IsFront out.old out.new) }
 {
-    for byte in text {
-        append_byte(*byte, out)?;
+    let mut rest = text;
+    while !rest.is_empty() {
+        rest = append_front(rest, out)?;
+    }
+    Ok(())
+}
+
+// Appends plain bytes at the front and the byte behind them, which is escaped, and gives what is left.
+#[tactic(auto, using(crate::proofs::Plain::front_all, crate::proofs::Plain::front_more))]
+fn append_front<'a>(bytes: &'a [u8], out: &mut List<u8>) -> Result<&'a [u8], NoMemory>
+    requires { 0 < length bytes.now }
+    ensures more { IfOk result (λ more. out.new ++ flat_map spelled_byte more.now ≡ out.old ++ flat_map spelled_byte bytes.now) }
+    ensures shorter { IfOk result (λ more. length more.now < length bytes.now) }
+    ensures front { IsFront out.old out.new }
+{
+    let (run, behind) = bytes.split_at(plain_len(bytes));
+    out.append(run)?;
+    match behind.split_first() {
+        None => Ok(behind),
+        Some((byte, more)) => {
+            append_byte(*byte, out)?;
+            Ok(more)
+        }
+    }
+}
+
+/// How many bytes at the front stand for themselves inside quotes.
+pub fn plain_len(bytes: &[u8]) -> usize
+    ensures within { result ≤ length bytes.now }
+    ensures run { (k : ℕ) → k < result → plain (slice_index bytes.now k) ≡ true }
+    ensures ends { result < length bytes.now → plain (slice_index bytes.now result) ≡ false }
+{
+    for (at, byte) in bytes.iter().enumerate() {
+        if !is_plain(*byte) {
+            return at;
+        }
+    }
+    bytes.len()
+}
+
+// 1 where the byte stands for itself inside quotes.
+static PLAIN: [u8; 256] = [
+    0, 0, 0, 0, 0, 0, 0, 0, 0, 0, 0, 0, 0, 0, 0, 0, 0, 0, 0, 0, 0, 0, 0, 0, 0, 0, 0, 0, 0, 0, 0, 0,
+    1, 1, 0, 1, 1, 1, 1, 1, 1, 1, 1, 1, 1, 1, 1, 1, 1, 1, 1, 1, 1, 1, 1, 1, 1, 1, 1, 1, 1, 1, 1, 1,
+    1, 1, 1, 1, 1, 1, 1, 1, 1, 1, 1, 1, 1, 1, 1, 1, 1, 1, 1, 1, 1, 1, 1, 1, 1, 1, 1, 1, 0, 1, 1, 1,
+    1, 1, 1, 1, 1, 1, 1, 1, 1, 1, 1, 1, 1, 1, 1, 1, 1, 1, 1, 1, 1, 1, 1, 1, 1, 1, 1, 1, 1, 1, 1, 0,
+    1, 1, 1, 1, 1, 1, 1, 1, 1, 1, 1, 1, 1, 1, 1, 1, 1, 1, 1, 1, 1, 1, 1, 1, 1, 1, 1, 1, 1, 1, 1, 1,
+    1, 1, 1, 1, 1, 1, 1, 1, 1, 1, 1, 1, 1, 1, 1, 1, 1, 1, 1, 1, 1, 1, 1, 1, 1, 1, 1, 1, 1, 1, 1, 1,
+    1, 1, 1, 1, 1, 1, 1, 1, 1, 1, 1, 1, 1, 1, 1, 1, 1, 1, 1, 1, 1, 1, 1, 1, 1, 1, 1, 1, 1, 1, 1, 1,
+    1, 1, 1, 1, 1, 1, 1, 1, 1, 1, 1, 1, 1, 1, 1, 1, 1, 1, 1, 1, 1, 1, 1, 1, 1, 1, 1, 1, 1, 1, 1, 1,
+];
+
+#[tactic(auto, using(crate::proofs::Plain::plain_test))]
+fn is_plain(byte: u8) -> bool
+    ensures { result ≡ plain byte }
+{
+    PLAIN[byte as usize] == 1
+}
+
+/// Appends the canonical spelling of each value behind a space. On a refusal some of it may stand.
+pub(crate) fn values_text(
+    alloc: Global,
+    values: &[Value],
+    out: &mut List<u8>,
+) -> Result<(), NoMemory>
+    ensures ok { OnOk result (out.new ≡ out.old ++ values_spelling values.now) }
+    ensures err { OnErr result (IsFront out.old out.new) }
+{
+    for value in values {
+        out.push(b' ')?;
+        value_text(alloc, value, out)?;
     }
     Ok(())
 }

@@ -2,7 +2,7 @@
 ghost use Rattle.std.specs.Prelude.{◌≡◌, ◌↔◌, IfOk, IsTrue};
 ghost use Rattle.pj_value.specs.Values.{is_kind, kind_of, value_cmp, value_eq};
 
-use crate::{Bytes, List, NoMemory};
+use crate::{NoMemory, SharedText};
 use std::alloc::Global;
 use std::cmp::Ordering;
 
@@ -13,11 +13,11 @@ pub enum Kind {
     Text,
 }
 
-/// A value of a column. A text has any bytes: no encoding is asked for.
+/// A value of a column. A text has any bytes, fewer than 2^32: no encoding is asked for.
 #[derive(Drop)]
 pub enum Value {
     Int(i64),
-    Text(Bytes),
+    Text(SharedText),
 }
 
 impl Value {
@@ -67,13 +67,13 @@ impl Value {
         }
     }
 
-    /// An equal value of its own.
-    pub fn copy(&self, alloc: Global) -> Result<Value, NoMemory>
+    /// An equal value: of a text a second handle.
+    pub fn copy(&self, _alloc: Global) -> Result<Value, NoMemory>
         ensures { IfOk result (λ v. v ≡ self.now) }
     {
         match self {
             Value::Int(a) => Ok(Value::Int(*a)),
-            Value::Text(a) => Ok(Value::Text(List::copy_of(alloc, a.as_slice())?)),
+            Value::Text(a) => Ok(Value::Text(a.share()?)),
         }
     }
 }
