@@ -1,6 +1,8 @@
 -- Punctuations and rows, column by column.
-use Rattle.std.proofs.Common.{ℕ, zero, suc, ◌≡◌, true, false, ◌&&◌, List, [], ◌∷◌, ◌++◌, length, refl, ap, sym, ◌∙◌, arith, length-append}
-use Rattle.std.proofs.lemmas.List.{length-replicate}
+use Rattle.std.proofs.Common.{ℕ, zero, suc, ◌≡◌, ◌+◌, ◌<◌, Bool, Some, drop, get_or, true, false, ◌&&◌, List, [], ◌∷◌, ◌++◌, length, refl, ap, sym, ◌∙◌, arith, length-append}
+use Rattle.std.specs.List.{slice_get}
+use Rattle.std.proofs.lemmas.Option.{get_or_from_slice_get, slice_get_within}
+use Rattle.std.proofs.lemmas.List.{drop_more, length-replicate}
 use Rattle.std.proofs.Math.Bool.{and-false, and_assoc}
 use Rattle.std.proofs.lemmas.Bool.{and_from}
 use Rattle.pj_value.specs.declared.values.Value.{Value}
@@ -70,3 +72,22 @@ back_matches (p ∷ ps) (v ∷ vs) back = ap (λ b. matches_value p v && b) (bac
 
 pub widened : (front row back : List Value) (punct : List Pattern) → matches_row (widen_of (length front) (length back) punct) (front ++ row ++ back) ≡ matches_row punct row
 widened front row back punct = back_matches (all_wild (length front) ++ punct) (front ++ row) back ∙ front_matches front punct row
+
+-- ---- a loop over the columns
+
+-- what is left to match begins with this column
+matches_from : (patterns : List Pattern) (row : List Value) (i : ℕ) (p : Pattern) (v : Value) → i < length patterns → p ≡ get_or patterns i p → slice_get row i ≡ Some v
+    → matches_row (drop i patterns) (drop i row) ≡ (matches_value p v && matches_row (drop (i + 1) patterns) (drop (i + 1) row))
+matches_from patterns row i p v lt is there =
+    ap (λ (ps : List Pattern). matches_row ps (drop i row)) (drop_more patterns i p lt)
+    ∙ (ap (λ (vs : List Value). matches_row (get_or patterns i p ∷ drop (i + 1) patterns) vs) (drop_more row i v (slice_get_within row i v there))
+    ∙ (ap (λ (q : Pattern). matches_value q (get_or row i v) && matches_row (drop (i + 1) patterns) (drop (i + 1) row)) (sym is)
+    ∙ ap (λ (w : Value). matches_value p w && matches_row (drop (i + 1) patterns) (drop (i + 1) row)) (get_or_from_slice_get row i v v there)))
+
+pub matches_on : (patterns : List Pattern) (row : List Value) (i : ℕ) (p : Pattern) (v : Value) → matches_row patterns row ≡ matches_row (drop i patterns) (drop i row) → i < length patterns → p ≡ get_or patterns i p → slice_get row i ≡ Some v → matches_value p v ≡ true
+    → matches_row patterns row ≡ matches_row (drop (i + 1) patterns) (drop (i + 1) row)
+matches_on patterns row i p v before lt is there matched = before ∙ (matches_from patterns row i p v lt is there ∙ ap (λ (b : Bool). b && matches_row (drop (i + 1) patterns) (drop (i + 1) row)) matched)
+
+pub matches_not : (patterns : List Pattern) (row : List Value) (i : ℕ) (p : Pattern) (v : Value) → matches_row patterns row ≡ matches_row (drop i patterns) (drop i row) → i < length patterns → p ≡ get_or patterns i p → slice_get row i ≡ Some v → matches_value p v ≡ false
+    → matches_row patterns row ≡ false
+matches_not patterns row i p v before lt is there differs = before ∙ (matches_from patterns row i p v lt is there ∙ ap (λ (b : Bool). b && matches_row (drop (i + 1) patterns) (drop (i + 1) row)) differs)

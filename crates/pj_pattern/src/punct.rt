@@ -4,7 +4,7 @@ ghost use Rattle.pj_pattern.specs.Columns.{all_wild, covers_punct, is_named, kee
 ghost use Rattle.pj_pattern.specs.Patterns.{is_wild};
 
 use crate::Pattern;
-use pj_value::{List, NoMemory, Row, TryClone, Value};
+use pj_value::{List, NoMemory, Row, TryClone};
 use std::alloc::Global;
 use std::marker::Model;
 
@@ -67,7 +67,7 @@ impl Punct {
     pub fn matches(&self, row: &Row) -> bool
         ensures { result ≡ matches_row self.now row.now }
     {
-        all_match(self.patterns.as_slice(), row.as_slice())
+        all_match(self.patterns.as_slice(), row)
     }
 
     /// Whether both are of one length, and it covers the other in every column.
@@ -136,14 +136,14 @@ fn append_copies(
 }
 
 #[tactic(auto, using(crate::proofs::Rows::matches_length))]
-fn all_match(patterns: &[Pattern], values: &[Value]) -> bool
-    ensures { result ≡ matches_row patterns.now values.now }
+fn all_match(patterns: &[Pattern], row: &Row) -> bool
+    ensures { result ≡ matches_row patterns.now row.now }
 {
-    if patterns.len() != values.len() {
+    if patterns.len() != row.len() {
         return false;
     }
     for i in 0..patterns.len() {
-        if !patterns[i].matches(&values[i]) {
+        if !patterns[i].matches(row.at(i)) {
             return false;
         }
     }
