@@ -1,10 +1,11 @@
 -- A loop over bytes against a recursion on them: what was passed is folded onto what the rest gives.
 use Rattle.std.proofs.Common.{◌≡◌, ℕ, ◌+◌, ◌<◌, ◌≤◌, List, [], ◌∷◌, ◌++◌, length, get_or, take, drop, refl, ap, sym, ◌∙◌}
+pub use Rattle.pj_line.specs.Folds.{folded}
 use Rattle.std.proofs.lemmas.List.{take_more, take_all, at_drop_more, at_drop_all}
 
-abbrev pub folded : {R : Type 0} → (ℕ → R → R) → List ℕ → R → R
-folded f [] r = r
-folded f (x ∷ xs) r = f x (folded f xs r)
+pub folded_both : {R : Type 0} (f : ℕ → R → R) (xs ys : List ℕ) (r : R) → folded f (xs ++ ys) r ≡ folded f xs (folded f ys r)
+folded_both f [] ys r = refl
+folded_both f (x ∷ xs) ys r = ap (f x) (folded_both f xs ys r)
 
 pub folded_push : {R : Type 0} (f : ℕ → R → R) (xs : List ℕ) (x : ℕ) (r : R) → folded f (xs ++ x ∷ []) r ≡ folded f xs (f x r)
 folded_push f [] x r = refl

@@ -1,9 +1,11 @@
+pub mod CellPlaces
 pub mod CutCells
 pub mod CutPieces
 pub mod Cuts
 pub mod FedPieces
 pub mod Feeds
 pub mod Fronts
+pub mod HeldPieces
 pub mod Opens
 pub mod PieceLaws
 pub mod Searching

@@ -1,5 +1,6 @@
 -- What a buffer of lines keeps, and what one call on it gives.
-use Rattle.std.specs.Prelude.{◌≡◌, ℕ, ◌+◌, ◌≤◌, ◌<◌, Bool, true, false, List, [], ◌∷◌, ◌++◌, length, Option, Some, None, Result, Ok, Err, IsTrue}
+use Rattle.std.specs.Prelude.{◌≡◌, ℕ, ◌+◌, ◌≤◌, ◌<◌, Bool, true, false, not, ◌||◌, nat_lt, List, [], ◌∷◌, ◌++◌, length, Option, Some, None, is_some, Result, Ok, Err, IsTrue}
+use Rattle.std.specs.List.{list_any}
 use Rattle.pj_io.specs.Causes.{Rose}
 use Rattle.pj_io.specs.Pieces.{Consumes}
 use Rattle.pj_io.specs.States.{SourceState}
@@ -7,7 +8,7 @@ use Rattle.pj_line.specs.declared.buffer.Line.{Line}
 use Rattle.pj_line.specs.declared.buffer.Line.TheVariants.{Whole, TooLong, End}
 use Rattle.pj_line.specs.declared.buffer.LineStop.{LineStop}
 use Rattle.pj_line.specs.declared.buffer.LineStop.TheVariants.{Fault, ByteLimit}
-use Rattle.pj_line.specs.Lines.{line_of, HasNo}
+use Rattle.pj_line.specs.Lines.{fed_pieces, is_skipped, line_of, HasNo}
 
 -- the longest line and the most bytes that it takes, how many bytes were taken, those that are in no piece that was given,
 -- whether the end was read, and the stop that it answered
@@ -18,6 +19,14 @@ pub record Buffered : Type 0 where
   pub held : List ℕ
   pub ended : Bool
   pub stopped : Option LineStop
+
+-- whether the piece is too long, or its line is not skipped
+abbrev pub piece_counts : ℕ → List ℕ → Bool
+piece_counts size piece = nat_lt size (length piece) || not (is_skipped (line_of piece))
+
+-- a stop was answered, the end was read, or a line that is not skipped is held up to its line feed: what comes next comes without a read
+abbrev pub line_is_held : Buffered → Bool
+line_is_held buffer = is_some buffer.stopped || (buffer.ended || list_any (piece_counts buffer.size) (fed_pieces buffer.held))
 
 -- nothing was taken
 abbrev pub fresh : ℕ → ℕ → Buffered

@@ -4,7 +4,7 @@ use Rattle.pj_value.specs.Options.{with_first}
 use Rattle.pj_line.specs.Lines.{is_blank, onto}
 use Rattle.pj_line.specs.declared.quote.Quote.{Quote}
 use Rattle.pj_line.specs.declared.quote.Quote.TheVariants.{Outside, Inside, Taken}
-use Rattle.pj_line.specs.declared.cell.Cell.{Cell}
+use Rattle.pj_line.specs.Spans.{Span}
 use Rattle.pj_line.specs.declared.cell.CellFault.{CellFault}
 use Rattle.pj_line.specs.declared.cell.CellFault.TheVariants.{Unclosed, TooMany}
 
@@ -55,16 +55,16 @@ abbrev pub open_quote : List ℕ → Option ℕ
 open_quote line = open_from 0 0 Outside line
 
 -- the cells stand at their places in the line, one behind the other, none before this place
-abbrev pub StandIn : List ℕ → ℕ → List Cell → Type 0
+abbrev pub StandIn : List ℕ → ℕ → List Span → Type 0
 StandIn line from [] = ⊤
-StandIn line from (c ∷ cs) = (from ≤ c.start) × (take (length c.bytes.now) (drop c.start line) ≡ c.bytes.now) × StandIn line (c.start + length c.bytes.now) cs
+StandIn line from (c ∷ cs) = (from ≤ c.start) × (take (length c.bytes) (drop c.start line) ≡ c.bytes) × StandIn line (c.start + length c.bytes) cs
 
-abbrev pub bytes_in : List Cell → List (List ℕ)
+abbrev pub bytes_in : List Span → List (List ℕ)
 bytes_in [] = []
-bytes_in (c ∷ cs) = c.bytes.now ∷ bytes_in cs
+bytes_in (c ∷ cs) = c.bytes ∷ bytes_in cs
 
 -- the line is cut into these cells, or it is unclosed, or else it has more than 128 cells
-abbrev pub AreCut : List ℕ → Result (List Cell) CellFault → Type 0
+abbrev pub AreCut : List ℕ → Result (List Span) CellFault → Type 0
 AreCut line (Ok cells) = (cells_of line ≡ Some (bytes_in cells)) × (length cells ≤ 128) × StandIn line 0 cells
 AreCut line (Err (Unclosed at)) = (cells_of line ≡ None) × (open_quote line ≡ Some at)
 AreCut line (Err TooMany) = (cells : List (List ℕ)) × (cells_of line ≡ Some cells) × (128 < length cells)

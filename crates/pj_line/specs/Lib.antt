@@ -2,7 +2,10 @@ pub mod Buffers
 pub mod Cells
 pub mod Cutting
 pub mod Fed
+pub mod Folds
 pub mod Held
 pub mod Lines
 pub mod PieceLaws
+pub mod Places
 pub mod Searches
+pub mod Spans

@@ -19,6 +19,16 @@ line_of piece = if slice_index piece (length piece - 1) == 13 then take (length 
 abbrev pub lines_of : List ℕ → List (List ℕ)
 lines_of bytes = map line_of (pieces bytes)
 
+-- the byte goes to the front of the first piece, if there is one
+abbrev pub onto_first : ℕ → List (List ℕ) → List (List ℕ)
+onto_first b [] = []
+onto_first b (p ∷ ps) = (b ∷ p) ∷ ps
+
+-- the pieces that end with a line feed
+abbrev pub fed_pieces : List ℕ → List (List ℕ)
+fed_pieces [] = []
+fed_pieces (b ∷ bs) = if b == 10 then [] ∷ fed_pieces bs else onto_first b (fed_pieces bs)
+
 -- a space or a tab
 abbrev pub is_blank : ℕ → Bool
 is_blank b = b == 32 || (b == 9)

@@ -2,7 +2,7 @@
 ghost use Rattle.std.specs.Prelude.{◌≡◌, ◌≤◌, ◌^◌, [], true, IfOk, IsTrue};
 ghost use Rattle.std.specs.Borrow.{sem};
 ghost use Rattle.std.specs.Io.BufRead.{Rests};
-ghost use Rattle.pj_line.specs.Buffers.{fresh, Called, KnowsEnd};
+ghost use Rattle.pj_line.specs.Buffers.{fresh, line_is_held, Called, KnowsEnd};
 
 use crate::lines::line_of_piece;
 use crate::pieces::{Found, PieceBuf};
@@ -56,6 +56,14 @@ impl LineBuf {
     {
         let pieces = PieceBuf::new(alloc, size, limit)?;
         Ok(LineBuf { pieces })
+    }
+
+    /// Whether the next line that is not skipped stands in what is buffered, up to its line feed, or the end was read or a stop
+    /// answered: then no call of `next_line` reads before such a line, the end or the stop is given.
+    pub fn holds_line(&self) -> bool
+        ensures { result ≡ line_is_held self.now }
+    {
+        self.pieces.holds_line()
     }
 
     /// The next piece, lent, with no memory taken. It reads only while no line feed stands in what is buffered. Once a read for

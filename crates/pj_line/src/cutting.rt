@@ -1,35 +1,54 @@
 // Cutting a line into its cells.
-ghost use Rattle.std.specs.Prelude.{◌≡◌, ◌≤◌, ◌<◌, ◌+◌, ◌^◌, ◌&&◌, false, length, drop, slice_index, IfSome};
+ghost use Rattle.std.specs.Prelude.{◌≡◌, ◌≤◌, ◌<◌, ◌^◌, [], false, Ok, Err, length, drop, slice_index, IfErr, IfSome, OnOk};
 ghost use Rattle.pj_line.specs.Lines.{is_blank as blank};
 ghost use Rattle.pj_line.specs.Cells.{AreCut, after as after_byte, cells_of, is_outside, open_quote as open_place};
-ghost use Rattle.pj_line.specs.Cutting.{IsCellLen, IsAhead, IsFault};
+ghost use Rattle.pj_line.specs.Cutting.{IsCellLen, IsAhead, IsFault, IsPlainLen, IsQuotedLen, ends_plain as is_end};
+ghost use Rattle.pj_line.specs.Places.{AreWithin, cells_at};
 
-use crate::cell::{Cell, CellFault, Cells};
+use crate::cell::{CellFault, Cells, Place};
 use crate::lines::is_blank;
 use crate::quote::Quote;
 use arrayvec::ArrayVec;
+use memchr::memchr2;
 
 /// Cuts a line of fewer than 2^32 bytes into its cells, which are lent from the line and stand in its order.
 ///
 /// `Unclosed` comes exactly where the line ends inside quotes; `TooMany` exactly where it does not, and has more than
 /// 128 cells.
-#[tactic(auto, using(crate::proofs::CutCells::one_more_cell, crate::proofs::CutCells::nothing_cut, crate::proofs::CutCells::no_more_cell, crate::proofs::CutCells::open_cell, crate::proofs::CutCells::too_many_cells))]
 pub fn cells(line: &[u8]) -> Result<Cells<'_>, CellFault>
     requires { length line.now < 2 ^ 32 }
     ensures { AreCut line.now result }
 {
-    let mut items = ArrayVec::new();
+    let mut cut = Cells {
+        line,
+        places: ArrayVec::new(),
+    };
+    match cut_places(line, &mut cut.places) {
+        Ok(()) => Ok(cut),
+        Err(fault) => Err(fault),
+    }
+}
+
+// Puts the places of the line's cells into the list, which is empty.
+#[tactic(auto, using(crate::proofs::CutCells::nothing_cut))]
+fn cut_places(line: &[u8], places: &mut ArrayVec<Place, 128>) -> Result<(), CellFault>
+    requires short { length line.now < 2 ^ 32 }
+    requires empty { places.old.items ≡ [] }
+    ensures within { AreWithin line.now places.new.items }
+    ensures ok { OnOk result (AreCut line.now (Ok (cells_at line.now places.new.items))) }
+    ensures err { IfErr result (λ fault. AreCut line.now (Err fault)) }
+{
     let mut from = 0;
     loop {
         match cell_ahead(line, from) {
-            CellAhead::NoCell => return Ok(Cells { items }),
+            CellAhead::NoCell => return Ok(()),
             CellAhead::OpenCell => return Err(fault_of(line)),
-            CellAhead::ClosedCell(cell) => {
-                if items.is_full() {
+            CellAhead::ClosedCell(place) => {
+                if places.is_full() {
                     return Err(fault_of(line));
                 }
-                from = cell.start as usize + cell.bytes.len();
-                items.push(cell);
+                from = place.end as usize;
+                places.push(place);
             }
         }
     }
@@ -37,8 +56,8 @@ pub fn cells(line: &[u8]) -> Result<Cells<'_>, CellFault>
 
 // The cell that comes next on a line.
 #[derive(Clone, Copy)]
-enum CellAhead<'a> {
-    ClosedCell(Cell<'a>),
+enum CellAhead {
+    ClosedCell(Place),
     // no cell is left
     NoCell,
     // a cell that is unclosed
@@ -46,7 +65,7 @@ enum CellAhead<'a> {
 }
 
 // The cell that comes next on the line from this place on.
-fn cell_ahead(line: &[u8], from: usize) -> CellAhead<'_>
+fn cell_ahead(line: &[u8], from: usize) -> CellAhead
     requires line { length line.now < 2 ^ 32 }
     requires from { from ≤ length line.now }
     ensures { IsAhead line.now from result }
@@ -59,13 +78,10 @@ fn cell_ahead(line: &[u8], from: usize) -> CellAhead<'_>
     let (_, rest) = line.split_at(start);
     match cell_len(rest) {
         None => CellAhead::OpenCell,
-        Some(len) => {
-            let (bytes, _) = rest.split_at(len);
-            CellAhead::ClosedCell(Cell {
-                bytes,
-                start: start as u32,
-            })
-        }
+        Some(len) => CellAhead::ClosedCell(Place {
+            start: start as u32,
+            end: (start + len) as u32,
+        }),
     }
 }
 
@@ -84,23 +100,66 @@ fn count_blanks(line: &[u8]) -> usize
 }
 
 // How long the cell at the front is, if its quotes are closed.
-#[tactic(auto, using(crate::proofs::Cuts::passed_more, crate::proofs::Cuts::passed_to_blank, crate::proofs::Cuts::passed_to_end, crate::proofs::Cuts::passed_unclosed))]
 fn cell_len(line: &[u8]) -> Option<usize>
     requires { blank (slice_index line.now 0) ≡ false }
     ensures cut { IsCellLen line.now result }
     ensures some { 0 < length line.now → IfSome result (λ len. 0 < len) }
 {
-    let mut quote = Quote::Outside;
-    for (at, byte) in line.iter().enumerate() {
-        if ends_cell(quote, *byte) {
-            return Some(at);
+    let mut at = 0;
+    loop {
+        let (_, rest) = line.split_at(at);
+        let stop = at + plain_len(rest);
+        if stop == line.len() || is_blank(line[stop]) {
+            return Some(stop);
         }
-        quote = after(quote, *byte);
+        let (_, quoted) = line.split_at(stop + 1);
+        match quoted_len(quoted) {
+            None => return None,
+            Some(len) => at = stop + 1 + len,
+        }
     }
-    if is_outside(quote) {
-        Some(line.len())
-    } else {
-        None
+}
+
+// How many bytes stand outside quotes before the next blank or quote, or before the end.
+#[tactic(auto, using(crate::proofs::Cuts::plain_more))]
+fn plain_len(bytes: &[u8]) -> usize
+    ensures { IsPlainLen bytes.now result }
+{
+    for (at, byte) in bytes.iter().enumerate() {
+        if ends_plain(*byte) {
+            return at;
+        }
+    }
+    bytes.len()
+}
+
+// Whether the byte is a blank or a quote.
+fn ends_plain(byte: u8) -> bool
+    ensures { result ≡ is_end byte }
+{
+    is_blank(byte) || byte == b'"'
+}
+
+// How many bytes the rest of a quoted part has, with its closing quote, if it is closed.
+fn quoted_len(bytes: &[u8]) -> Option<usize>
+    ensures { IsQuotedLen bytes.now result }
+{
+    let mut at = 0;
+    loop {
+        let (_, rest) = bytes.split_at(at);
+        match memchr2(b'"', b'\\', rest) {
+            None => return None,
+            Some(run) => {
+                let stop = at + run;
+                if bytes[stop] == b'"' {
+                    return Some(stop + 1);
+                }
+                if stop + 1 == bytes.len() {
+                    return None;
+                }
+                at = stop + 2;
+            }
+        }
     }
 }
 
@@ -133,13 +192,6 @@ fn open_quote(line: &[u8]) -> Option<usize>
     } else {
         Some(opened)
     }
-}
-
-// Whether the byte is a blank outside quotes.
-fn ends_cell(quote: Quote, byte: u8) -> bool
-    ensures { result ≡ (is_outside quote && blank byte) }
-{
-    is_outside(quote) && is_blank(byte)
 }
 
 /// Whether it is outside quotes.

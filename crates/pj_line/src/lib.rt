@@ -4,6 +4,7 @@
 mod buffer;
 mod cell;
 mod cutting;
+mod held;
 mod laws;
 mod lines;
 mod pieces;

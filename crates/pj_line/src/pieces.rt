@@ -2,6 +2,7 @@
 ghost use Rattle.std.specs.Prelude.{◌≤◌, ◌<◌, vec_len};
 
 use crate::buffer::LineStop;
+use crate::held::holds_piece;
 use crate::window::Window;
 use pj_io::Source;
 use pj_value::NoMemory;
@@ -34,7 +35,7 @@ pub(crate) enum Found {
 impl PieceBuf {
     ghost use Rattle.std.specs.Prelude.{◌≡◌, ◌≤◌, ◌<◌, ◌+◌, ◌^◌, [], false, None, IsTrue, IfOk, IfSome, length, take, drop};
     ghost use Rattle.pj_line.specs.Lines.{HasNo};
-    ghost use Rattle.pj_line.specs.Buffers.{fresh, KnowsEnd};
+    ghost use Rattle.pj_line.specs.Buffers.{fresh, line_is_held, KnowsEnd};
     ghost use Rattle.pj_line.specs.Searches.{buffered, Finds, FindsLine, IsTaken, PassesOver, ReadsOn, StandsIn};
     ghost use Rattle.pj_line.specs.Held.{held};
 
@@ -52,6 +53,13 @@ impl PieceBuf {
             ended: false,
             stopped: None,
         })
+    }
+
+    // Whether a stop was answered, the end was read, or a line that is not skipped is held up to its line feed.
+    pub(crate) fn holds_line(&self) -> bool
+        ensures { result ≡ line_is_held (buffered self.now) }
+    {
+        self.stopped.is_some() || self.ended || holds_piece(self.window.as_slice(), self.size)
     }
 
     // The next piece, or the stop that came before.

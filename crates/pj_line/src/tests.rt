@@ -1,7 +1,7 @@
 // What no clause says: that the calls succeed with ample memory, and that the definitions mean the format.
-ghost use Rattle.std.specs.Prelude.{◌≡◌, ◌≤◌, ◌^◌, [], ◌∷◌, None, Some, true, codes};
-ghost use Rattle.pj_line.specs.Buffers.{KnowsEnd};
-ghost use Rattle.pj_line.specs.Lines.{lines_of, is_skipped as skipped};
+ghost use Rattle.std.specs.Prelude.{◌≡◌, ◌≤◌, ◌^◌, [], ◌∷◌, map, None, Some, true, false, codes};
+ghost use Rattle.pj_line.specs.Buffers.{piece_counts, KnowsEnd};
+ghost use Rattle.pj_line.specs.Lines.{fed_pieces, lines_of, is_skipped as skipped};
 ghost use Rattle.pj_line.specs.Cells.{cells_of, open_quote};
 
 use super::*;
@@ -86,7 +86,9 @@ fn cells_of_a_line(rt: HostRuntime) {
     match cells(b" t\t\"a b\\\"\"1 x") {
         Ok(cut) => {
             assert!(rt; cut.len() == 3);
-            assert!(rt; matches!(cut.as_slice(), [_, _, _]));
+            assert!(rt; cut.get(3).is_none());
+            let last = cut.cell(2);
+            assert!(rt; last.bytes == b"x".as_slice() && last.start == 12);
             let cell = cut.get(1);
             assert!(rt;
                 matches!(
@@ -108,6 +110,8 @@ fn cells_of_a_line(rt: HostRuntime) {
 // The definitions, computed on a few lines.
 fn worked_lines()
     ensures lines { lines_of (codes "a\n\nb") ≡ codes "a" ∷ [] ∷ codes "b" ∷ [] }
+    ensures fed { fed_pieces (codes "a\n\nb") ≡ codes "a" ∷ [] ∷ [] }
+    ensures counts { map (piece_counts 3) (codes " #" ∷ codes "a" ∷ codes "\t" ∷ codes "#abc" ∷ []) ≡ false ∷ true ∷ false ∷ true ∷ [] }
     ensures cells { cells_of (codes " t 1") ≡ Some (codes "t" ∷ codes "1" ∷ []) }
     ensures closed { open_quote (codes "t 1") ≡ None }
     ensures open { open_quote (codes "t \" ") ≡ Some 2 }

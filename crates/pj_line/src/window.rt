@@ -42,7 +42,7 @@ impl Window {
     }
 
     // The bytes in use.
-    fn as_slice(&self) -> &[u8]
+    pub(crate) fn as_slice(&self) -> &[u8]
         ensures { result.now ≡ held self.now }
     {
         self.part(self.start, self.end)
