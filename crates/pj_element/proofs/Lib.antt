@@ -1,4 +1,5 @@
 pub mod Again
+pub mod CanonicalCells
 pub mod Columns
 pub mod Feeds
 pub mod Fitting

@@ -1,6 +1,7 @@
 -- Digits after a number that is too large.
-use Rattle.std.proofs.Common.{◌≡◌, ℕ, ◌+◌, ◌-◌, ◌*◌, ◌<◌, true, false, List, [], ◌∷◌, None, refl, arith, ap, ◌∙◌}
+use Rattle.std.proofs.Common.{◌≡◌, ℕ, zero, suc, ◌+◌, ◌-◌, ◌*◌, ◌^◌, ◌<◌, ◌≤◌, add-one, subst, true, false, List, [], ◌∷◌, None, refl, arith, ap, ◌∙◌}
 use Rattle.std.proofs.lemmas.Bool.Decides.{nat_tests}
+use Rattle.std.proofs.Math.Nat.{pow-suc}
 use Rattle.std.specs.Prelude.{option_and_then}
 use Rattle.std.proofs.Common.{length, drop, get_or}
 use Rattle.std.proofs.lemmas.List.{at_drop_more}
@@ -19,3 +20,21 @@ pub too_large : (digits : List ℕ) (i limit number : ℕ) → i < length digits
 too_large digits i limit number lt before e large =
     ap (option_and_then (at_most limit)) (before ∙ (at_drop_more (number_from number) digits i 0 lt ∙ rw e refl))
     ∙ stays_too_large limit (10 * number + (get_or digits i 0 - 48)) (drop (i + 1) digits) (omega arith)
+
+-- ---- few digits
+
+-- a number of i digits with one more
+pub one_more_digit : (i n d : ℕ) → n < 10 ^ i → d < 10 → n * 10 + d < 10 ^ (i + 1)
+one_more_digit i n d lt small = rw (add-one i, pow-suc 10 i) (omega (arith, lt, small))
+
+ten_power : (i k : ℕ) → 10 ^ i ≤ 10 ^ (i + k)
+ten_power i zero = subst (λ (n : ℕ). 10 ^ i ≤ 10 ^ n) {x = i} {y = i + zero} (omega arith) (omega arith)
+ten_power i (suc k) =
+    let next : i + suc k ≡ suc (i + k) = omega arith in
+    rw next (omega (arith, ten_power i k, pow-suc 10 (i + k)))
+
+-- a number of at most 17 digits
+pub few_fit : (i n : ℕ) → n < 10 ^ i → i < 18 → n < 10 ^ 17
+few_fit i n lt few =
+    let more : 10 ^ i ≤ 10 ^ 17 = subst (λ (k : ℕ). 10 ^ i ≤ 10 ^ k) {x = i + (17 - i)} {y = 17} (omega arith) (ten_power i (17 - i)) in
+    omega (arith, more, lt)

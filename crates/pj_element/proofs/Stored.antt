@@ -1,5 +1,7 @@
 -- Loops over values and patterns that are storable.
-use Rattle.std.proofs.Common.{◌≡◌, ℕ, zero, suc, ◌+◌, ◌<◌, ◌≤◌, List, [], ◌∷◌, length, get_or, drop, sym, subst}
+use Rattle.std.proofs.Common.{◌≡◌, ℕ, zero, suc, ◌+◌, ◌<◌, ◌≤◌, List, [], ◌∷◌, Some, length, get_or, drop, sym, subst}
+use Rattle.std.specs.List.{slice_get}
+use Rattle.std.proofs.lemmas.Option.{get_or_from_slice_get, slice_get_within}
 use Rattle.std.proofs.lemmas.List.{drop_more, at_drop_all}
 use Rattle.std.specs.List.{AllByRecursion}
 use Rattle.pj_value.specs.declared.values.Value.{Value}
@@ -17,6 +19,10 @@ StorableSoFar values i = AreStorable (drop i values) → AreStorable values
 pub storable_more : (values : List Value) (i : ℕ) (value : Value) → StorableSoFar values i → i < length values → value ≡ get_or values i value → IsStorable value → StorableSoFar values (i + 1)
 storable_more values i value before lt is stored = λ later.
     before (subst AreStorable (sym (drop_more values i value lt)) (subst IsStorable is stored, later))
+
+pub storable_at : (values : List Value) (i : ℕ) (value : Value) → StorableSoFar values i → slice_get values i ≡ Some value → IsStorable value → StorableSoFar values (i + 1)
+storable_at values i value before there stored =
+    storable_more values i value before (slice_get_within values i value there) (sym (get_or_from_slice_get values i value value there)) stored
 
 pub storable_end : (values : List Value) (i : ℕ) → StorableSoFar values i → length values ≤ i → AreStorable values
 storable_end values i before le = before (subst AreStorable (sym (at_drop_all (λ (vs : List Value). vs) values i le)) tt)

@@ -8,3 +8,4 @@ pub mod Reading
 pub mod Laws
 pub mod GoOn
 pub mod Fitting
+pub mod Canonical

@@ -1,5 +1,5 @@
 // What stands in the cells of an element line: values of a tuple, or patterns of a punctuation.
-ghost use Rattle.std.specs.Prelude.{◌≡◌, ◌≤◌, ◌++◌, ◌∷◌, ℕ, List, length, IfOk, OnOk, OnErr};
+ghost use Rattle.std.specs.Prelude.{◌≡◌, ◌≤◌, ◌+◌, ◌++◌, ◌∷◌, ℕ, List, drop, length, IfOk, OnOk, OnErr};
 ghost use Rattle.std.specs.List.{flat_map};
 ghost use Rattle.pj_shape.specs.declared.columns.Column.{Column};
 ghost use Rattle.pj_value.specs.Texts.{value_spelling, IsFront};
@@ -11,7 +11,7 @@ use crate::element::{Judged, Reject};
 use crate::forms::read_form;
 use crate::spelled::read_value;
 use crate::written::append_pattern;
-use pj_line::Cell;
+use pj_line::Cells;
 use pj_pattern::Pattern;
 use pj_shape::Column;
 use pj_value::{List, NoMemory, Value, value_text};
@@ -83,24 +83,28 @@ impl Item for Pattern {
     }
 }
 
-/// The items that the cells spell, one for each column, or the first reject that holds: `Arity` where there are not as many
-/// cells as columns, and from the left the first column whose cell spells nothing or something of another kind, counted from 1.
+/// The items that the cells spell from the first of them on, one for each column, or the first reject that holds: `Arity`
+/// where there are not as many cells as columns, and from the left the first column whose cell spells nothing or something of
+/// another kind, counted from 1.
 #[tactic(auto, using(crate::proofs::Lines::other_width, crate::proofs::Lines::fitting_width))]
 pub fn read_items<T: Item>(
     alloc: Global,
     columns: &[Column],
-    cells: &[Cell<'_>],
+    cells: &Cells<'_>,
+    first: usize,
 ) -> Result<Result<List<T>, Reject>, NoMemory>
-    requires { length cells.now ≤ 128 }
-    ensures { IfOk result (λ items. items ≡ items_in T.item_in columns.now (bytes_in cells.now)) }
+    requires few { length cells.now ≤ 128 }
+    requires first { first ≤ length cells.now }
+    ensures { IfOk result (λ items. items ≡ items_in T.item_in columns.now (bytes_in (drop first cells.now))) }
 {
-    if cells.len() != columns.len() {
+    let count = cells.len() - first;
+    if count != columns.len() {
         return Ok(Err(Reject::Arity {
             want: columns.len().min(u32::MAX as usize) as u32,
-            got: cells.len() as u32,
+            got: count as u32,
         }));
     }
-    Ok(read_each(alloc, columns, cells)?)
+    Ok(read_each(alloc, columns, cells, first)?)
 }
 
 // The items of the columns, or the fault of the first column whose cell does not fit.
@@ -108,16 +112,18 @@ pub fn read_items<T: Item>(
 fn read_each<T: Item>(
     alloc: Global,
     columns: &[Column],
-    cells: &[Cell<'_>],
+    cells: &Cells<'_>,
+    first: usize,
 ) -> Result<Result<List<T>, Reject>, NoMemory>
-    requires many { length columns.now ≤ 128 }
-    requires same { length cells.now ≡ length columns.now }
-    ensures { IfOk result (λ items. items ≡ items_from T.item_in 1 columns.now (bytes_in cells.now)) }
+    requires few { length cells.now ≤ 128 }
+    requires same { length cells.now ≡ first + length columns.now }
+    ensures { IfOk result (λ items. items ≡ items_from T.item_in 1 columns.now (bytes_in (drop first cells.now))) }
 {
-    let mut items = List::new(alloc);
+    let mut items = List::with_room(alloc, columns.len())?;
     for at in 0..columns.len() {
         let column = at as u32 + 1;
-        match T::read_item(alloc, &columns[at], cells[at].bytes)? {
+        let cell = cells.cell(first + at);
+        match T::read_item(alloc, &columns[at], cell.bytes)? {
             Judged::Fits(item) => items.push(item)?,
             Judged::OtherKind => return Ok(Err(Reject::WrongKind { column })),
             Judged::Unspelled => return Ok(Err(Reject::BadCell { column })),

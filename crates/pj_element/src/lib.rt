@@ -2,6 +2,7 @@
 #![tactic(auto)]
 
 mod acceptance;
+mod canonical;
 mod element;
 mod forms;
 mod items;

@@ -1,13 +1,14 @@
 // From a line to an element, and back.
-ghost use Rattle.std.specs.Prelude.{◌≡◌, ◌≤◌, ◌<◌, ◌^◌, ◌++◌, length, IfOk, OnOk, OnErr};
+ghost use Rattle.std.specs.Prelude.{◌≡◌, ◌≤◌, ◌<◌, ◌^◌, ◌++◌, drop, length, IfOk, OnOk, OnErr};
 ghost use Rattle.pj_line.specs.Cells.{bytes_in};
 ghost use Rattle.pj_element.specs.Elements.{reading_of, tagged, read_row as row_read, read_punct as punct_read, items_in, value_in, pattern_in, row_line, punct_line};
 ghost use Rattle.pj_element.specs.Laws.{RowIsReadAgain, PunctIsReadAgain};
 
+use crate::canonical::read_canonical;
 use crate::element::{Read, Reject};
 use crate::items::{append_items, read_items};
-use crate::storable::{see_patterns, see_values};
-use pj_line::{Cell, cells, is_skipped};
+use crate::storable::{see_patterns, see_row};
+use pj_line::{Cells, cells, is_skipped};
 use pj_pattern::Punct;
 use pj_shape::{Column, Schema};
 use pj_value::{List, NoMemory, Row};
@@ -19,57 +20,80 @@ use std::alloc::Global;
 /// kind (`WrongKind`). It never answers `TooLong` or `Closed`, which are no matter of one line alone. The line has fewer than 2^32 bytes.
 ///
 /// The law `reading_is_exact` has the grammar. `NoMemory` comes only where memory could not be had.
-#[tactic(auto, using(crate::proofs::Lines::cut_line, crate::proofs::Lines::uncut_line))]
 pub fn read_element(alloc: Global, schema: &Schema, line: &[u8]) -> Result<Read, NoMemory>
     requires { length line.now < 2 ^ 32 }
     ensures { IfOk result (λ read. read ≡ reading_of schema.now line.now) }
+{
+    match read_canonical(alloc, schema.columns(), line)? {
+        Some(row) => Ok(Read::Tuple(row)),
+        None => read_by_cells(alloc, schema.columns(), line),
+    }
+}
+
+// What the line says, by its cells.
+#[inline(never)]
+#[tactic(auto, using(crate::proofs::Lines::cut_line, crate::proofs::Lines::uncut_line))]
+fn read_by_cells(alloc: Global, columns: &[Column], line: &[u8]) -> Result<Read, NoMemory>
+    requires { length line.now < 2 ^ 32 }
+    ensures { IfOk result (λ read. read ≡ reading_of columns.now line.now) }
 {
     if is_skipped(line) {
         return Ok(Read::Skip);
     }
     match cells(line) {
-        Ok(cells) => Ok(read_tagged(alloc, schema.columns(), cells.as_slice())?),
+        Ok(cells) => Ok(read_tagged(alloc, columns, &cells)?),
         Err(_) => Ok(Read::Bad(Reject::NotElement)),
     }
 }
 
 // What these cells of a line say.
-#[tactic(auto, using(crate::proofs::Lines::tuple_tag, crate::proofs::Lines::punct_tag, crate::proofs::Lines::other_tag))]
-fn read_tagged(alloc: Global, columns: &[Column], cells: &[Cell<'_>]) -> Result<Read, NoMemory>
+#[tactic(auto, using(crate::proofs::Lines::tuple_tag, crate::proofs::Lines::punct_tag, crate::proofs::Lines::other_tag, crate::proofs::Lines::no_tag))]
+fn read_tagged(alloc: Global, columns: &[Column], cells: &Cells<'_>) -> Result<Read, NoMemory>
     requires { length cells.now ≤ 128 }
     ensures { IfOk result (λ read. read ≡ tagged columns.now (bytes_in cells.now)) }
 {
-    match cells {
-        [] => Ok(Read::Bad(Reject::NotElement)),
-        [tag, others @ ..] => {
-            if tag.bytes == b"t".as_slice() {
-                return Ok(read_tuple(alloc, columns, others)?);
-            }
-            if tag.bytes == b"p".as_slice() {
-                return Ok(read_punct(alloc, columns, others)?);
-            }
-            Ok(Read::Bad(Reject::NotElement))
-        }
+    if cells.len() == 0 {
+        return Ok(Read::Bad(Reject::NotElement));
     }
+    let tag = cells.cell(0);
+    if tag.bytes == b"t".as_slice() {
+        return Ok(read_tuple(alloc, columns, cells, 1)?);
+    }
+    if tag.bytes == b"p".as_slice() {
+        return Ok(read_punct(alloc, columns, cells, 1)?);
+    }
+    Ok(Read::Bad(Reject::NotElement))
 }
 
-// What the cells behind a `t` say.
-fn read_tuple(alloc: Global, columns: &[Column], cells: &[Cell<'_>]) -> Result<Read, NoMemory>
-    requires { length cells.now ≤ 128 }
-    ensures { IfOk result (λ read. read ≡ row_read (items_in value_in columns.now (bytes_in cells.now))) }
+// What the cells behind a `t` say, from the first of them on.
+fn read_tuple(
+    alloc: Global,
+    columns: &[Column],
+    cells: &Cells<'_>,
+    first: usize,
+) -> Result<Read, NoMemory>
+    requires few { length cells.now ≤ 128 }
+    requires first { first ≤ length cells.now }
+    ensures { IfOk result (λ read. read ≡ row_read (items_in value_in columns.now (bytes_in (drop first cells.now)))) }
 {
-    match read_items(alloc, columns, cells)? {
+    match read_items(alloc, columns, cells, first)? {
         Ok(values) => Ok(Read::Tuple(Row::of(values))),
         Err(why) => Ok(Read::Bad(why)),
     }
 }
 
-// What the cells behind a `p` say.
-fn read_punct(alloc: Global, columns: &[Column], cells: &[Cell<'_>]) -> Result<Read, NoMemory>
-    requires { length cells.now ≤ 128 }
-    ensures { IfOk result (λ read. read ≡ punct_read (items_in pattern_in columns.now (bytes_in cells.now))) }
+// What the cells behind a `p` say, from the first of them on.
+fn read_punct(
+    alloc: Global,
+    columns: &[Column],
+    cells: &Cells<'_>,
+    first: usize,
+) -> Result<Read, NoMemory>
+    requires few { length cells.now ≤ 128 }
+    requires first { first ≤ length cells.now }
+    ensures { IfOk result (λ read. read ≡ punct_read (items_in pattern_in columns.now (bytes_in (drop first cells.now)))) }
 {
-    match read_items(alloc, columns, cells)? {
+    match read_items(alloc, columns, cells, first)? {
         Ok(patterns) => Ok(Read::Punct(Punct::of(patterns))),
         Err(why) => Ok(Read::Bad(why)),
     }
@@ -85,8 +109,8 @@ pub fn row_text(alloc: Global, row: &Row, out: &mut List<u8>) -> Result<(), NoMe
 {
     let start = out.len();
     out.push(b't')?;
-    see_values(row.as_slice());
-    match append_items(alloc, row.as_slice(), out) {
+    see_row(row);
+    match row.spell(alloc, out) {
         Ok(()) => Ok(()),
         Err(stop) => {
             out.truncate(start);

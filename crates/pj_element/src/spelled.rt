@@ -1,8 +1,9 @@
 // Values that cells spell.
-ghost use Rattle.std.specs.Prelude.{◌≡◌, ◌<◌, ◌≤◌, ◌^◌, ◌-◌, ℕ, IfOk, option_and_then, IfSome};
-ghost use Rattle.pj_element.specs.Spelled.{number_of, at_most, int_of, hex_value as value_of_hex, escaped as byte_of_escape, text_from, value_of, step_of, IsSmall, LeadsToSmall};
+ghost use Rattle.std.specs.Prelude.{◌≡◌, ◌<◌, ◌≤◌, ◌^◌, ◌-◌, ℕ, length, IfOk, option_and_then, IfSome};
+ghost use Rattle.pj_element.specs.Spelled.{number_from, number_of, at_most, int_of, hex_value as value_of_hex, escaped as byte_of_escape, text_from, value_of, step_of, IsSmall, LeadsToSmall};
 
-use pj_value::{Bytes, List, NoMemory, Value};
+use memchr::memchr2;
+use pj_value::{Bytes, List, NoMemory, SharedText, Value};
 use std::alloc::Global;
 
 /// The value that the cell spells, or `None` exactly where it spells none: an int is an optional `-` and
@@ -14,7 +15,7 @@ pub fn read_value(alloc: Global, cell: &[u8]) -> Result<Option<Value>, NoMemory>
 {
     match cell {
         [b'"', parts @ ..] => match read_text(alloc, parts)? {
-            Some(text) => Ok(Some(Value::Text(text))),
+            Some(text) => Ok(Some(Value::Text(SharedText::of(alloc, text)?))),
             None => Ok(None),
         },
         _ => match read_int(cell) {
@@ -41,7 +42,6 @@ fn read_int(cell: &[u8]) -> Option<i64>
 }
 
 // The number that one or more digits spell, if it is not above the limit.
-#[tactic(auto, using(crate::proofs::Numbers::too_large))]
 fn read_number(digits: &[u8], limit: u64) -> Option<u64>
     requires { limit ≤ 2 ^ 63 }
     ensures { result ≡ option_and_then (at_most limit) (number_of digits.now) }
@@ -49,6 +49,38 @@ fn read_number(digits: &[u8], limit: u64) -> Option<u64>
     if digits.is_empty() {
         return None;
     }
+    if digits.len() > 18 {
+        return read_many(digits, limit);
+    }
+    let number = read_few(digits)?;
+    if number > limit {
+        return None;
+    }
+    Some(number)
+}
+
+// The number that at most 18 digits spell, which is below 10^18.
+fn read_few(digits: &[u8]) -> Option<u64>
+    requires { length digits.now ≤ 18 }
+    ensures { result ≡ number_from 0 digits.now }
+{
+    let mut number = 0u64;
+    for digit in digits {
+        if !digit.is_ascii_digit() {
+            return None;
+        }
+        number = number * 10 + u64::from(*digit - b'0');
+    }
+    Some(number)
+}
+
+// The number that one or more digits spell, if it is not above the limit, which is asked at each digit.
+#[tactic(auto, using(crate::proofs::Numbers::too_large))]
+fn read_many(digits: &[u8], limit: u64) -> Option<u64>
+    requires limit { limit ≤ 2 ^ 63 }
+    requires some { 0 < length digits.now }
+    ensures { result ≡ option_and_then (at_most limit) (number_of digits.now) }
+{
     let mut number = 0u64;
     for digit in digits {
         if !digit.is_ascii_digit() {
@@ -82,11 +114,30 @@ pub enum Step {
 }
 
 // The text whose parts and closing quote these are.
-#[tactic(auto, using(crate::proofs::Parts::text_goes, crate::proofs::Parts::text_grows))]
 fn read_text(alloc: Global, parts: &[u8]) -> Result<Option<Bytes>, NoMemory>
     ensures { IfOk result (λ text. text ≡ text_from Part.Plain parts.now) }
 {
-    let mut text = List::new(alloc);
+    match memchr2(b'"', b'\\', parts) {
+        None => Ok(None),
+        Some(stop) => {
+            if parts[stop] == b'\\' {
+                return Ok(read_parts(alloc, parts)?);
+            }
+            if stop + 1 == parts.len() {
+                let (plain, _) = parts.split_at(stop);
+                return Ok(Some(List::copy_of(alloc, plain)?));
+            }
+            Ok(None)
+        }
+    }
+}
+
+// The same, part by part.
+#[tactic(auto, using(crate::proofs::Parts::text_goes, crate::proofs::Parts::text_grows))]
+fn read_parts(alloc: Global, parts: &[u8]) -> Result<Option<Bytes>, NoMemory>
+    ensures { IfOk result (λ text. text ≡ text_from Part.Plain parts.now) }
+{
+    let mut text = List::with_room(alloc, parts.len())?;
     let mut part = Part::Plain;
     for (at, byte) in parts.iter().enumerate() {
         match part_step(part, *byte) {

@@ -6,7 +6,7 @@ ghost use Rattle.std.specs.Option.{option_copied};
 ghost use Rattle.pj_element.specs.Laws.{AreKeptPatterns, AreStorable, IsKeptPattern, IsStorable, IsStorableEnd};
 
 use pj_pattern::{Pattern, Shape};
-use pj_value::Value;
+use pj_value::{Row, Value};
 
 fn see_bytes(bytes: &[u8])
     ensures { AllByRecursion (λ b. b < 256) bytes.now }
@@ -23,13 +23,23 @@ fn see_value(value: &Value)
     }
 }
 
-/// The values of a row are storable.
+/// These values are storable.
 #[tactic(auto, using(crate::proofs::Stored::storable_more, crate::proofs::Stored::storable_end))]
 pub(crate) fn see_values(values: &[Value])
     ensures { AreStorable values.now }
 {
     for value in values {
         see_value(value);
+    }
+}
+
+/// The values of a row are storable.
+#[tactic(auto, using(crate::proofs::Stored::storable_at, crate::proofs::Stored::storable_end))]
+pub(crate) fn see_row(row: &Row)
+    ensures { AreStorable row.now }
+{
+    for column in 0..row.len() {
+        see_value(row.at(column));
     }
 }
 

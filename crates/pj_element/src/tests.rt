@@ -7,6 +7,7 @@ ghost use Rattle.pj_element.specs.declared.element.Reject.TheVariants.{Arity, Ba
 ghost use Rattle.pj_element.specs.Elements.{reading_of};
 
 use super::*;
+use crate::canonical::read_canonical;
 use pj_shape::{Column, Schema};
 use pj_value::{Kind, List, NoMemory, Value};
 use std::alloc::Global;
@@ -82,6 +83,13 @@ fn int_tuples() -> &'static str {
         "t -7 => t -7\n",
         "t 007 => t 7\n",
         "t -0 => t 0\n",
+        "t 0 => t 0\n",
+        "t -01 => t -1\n",
+        "t  1 => t 1\n",
+        "t 999999999999999999 => t 999999999999999999\n",
+        "t 9223372036854775799 => t 9223372036854775799\n",
+        "t 9223372036854775800 => t 9223372036854775800\n",
+        "t -999999999999999999 => t -999999999999999999\n",
         "t 9223372036854775807 => t 9223372036854775807\n",
         "t -9223372036854775808 => t -9223372036854775808\n",
         "t 000000000000000000000000000000000001 => t 1\n",
@@ -89,6 +97,8 @@ fn int_tuples() -> &'static str {
         "T 1 => no element\n",
         "t \"1 => no element\n",
         "t => w1g0\n",
+        "t 1 2 => w1g2\n",
+        "t 12a => b1\n",
         "t - => b1\n",
         "t +1 => b1\n",
         "t 9223372036854775808 => b1\n",
@@ -126,6 +136,8 @@ fn int_puncts() -> &'static str {
 fn text_lines() -> &'static str {
     concat!(
         "t \" # \" => t \" # \"\n",
+        "t \"\" => t \"\"\n",
+        "t \"\\\\\" => t \"\\\\\"\n",
         "t \"a\tb\" => t \"a\\tb\"\n",
         "t \"\\\"\\\\\\n\\r\\t\" => t \"\\\"\\\\\\n\\r\\t\"\n",
         "t \"\\x41\\x4a\\x4A\" => t \"AJJ\"\n",
@@ -141,6 +153,9 @@ fn text_lines() -> &'static str {
         "t 'a' => b1\n",
         "t\"a\" => no element\n",
         "t \"a\\\" => no element\n",
+        "t \"a => no element\n",
+        "t \"a\"\"b\" => b1\n",
+        "t 1 => k1\n",
         "p [5..3] => k1",
     )
 }
@@ -149,7 +164,10 @@ fn text_lines() -> &'static str {
 fn pair_lines() -> &'static str {
     concat!(
         "t  1\t\"x\" => t 1 \"x\"\n",
+        "t -12 \"a b\" => t -12 \"a b\"\n",
         "p {} * => p {} *\n",
+        "t 1 => w2g1\n",
+        "t 1 \"x\" 2 => w2g3\n",
         "t 1 1 => k2\n",
         "t \"x\" x => k1\n",
         "p * x => b2",
@@ -193,6 +211,55 @@ fn reads_ones(alloc: Global, count: usize) -> Result<bool, NoMemory>
 fn at_most_128_cells(rt: HostRuntime) -> Result<(), Fail> {
     assert!(rt; reads_ones(rt.alloc(), 127)?);
     assert!(rt; !reads_ones(rt.alloc(), 128)?);
+    Ok(())
+}
+
+// On both sides of what is read by places.
+#[test]
+fn about_120_columns(rt: HostRuntime) -> Result<(), Fail> {
+    assert!(rt; reads_ones(rt.alloc(), 120)?);
+    assert!(rt; reads_ones(rt.alloc(), 121)?);
+    Ok(())
+}
+
+// Whether the line of a stream with an int column and a text column is read by places.
+fn is_canonical(alloc: Global, schema: &Schema, line: &str) -> Result<bool, NoMemory> {
+    let row = read_canonical(alloc, schema.columns(), line.as_bytes())?;
+    Ok(row.is_some())
+}
+
+// Lines with an int and a text: `y` where they are their tuple's canonical line.
+fn canonical_lines() -> &'static str {
+    concat!(
+        "y t 7 \"x\"\n",
+        "y t -70 \"\"\n",
+        "y t 0 \"a # b\"\n",
+        "y t 999999999999999999 \"\\\"\\\\\\n\\x1f\"\n",
+        "y t -9223372036854775799 \"x\"\n",
+        "- t 99999999999999999999 \"x\"\n",
+        "- t -0 \"x\"\n",
+        "- t 07 \"x\"\n",
+        "- t  7 \"x\"\n",
+        "- t 7 \"x\" \n",
+        "- t 7 \"\\x41\"\n",
+        "- t 7 \"x\n",
+        "- t 7\n",
+        "- t 7 7\n",
+        "- t \"x\" 7\n",
+        "- t 7 \"x\" 7\n",
+        "- p 7 \"x\"\n",
+        "- ",
+    )
+}
+
+#[test]
+fn lines_by_places(rt: HostRuntime) -> Result<(), Fail> {
+    let schema = schema_of(rt.alloc(), &[Kind::Int, Kind::Text])?;
+    for row in canonical_lines().split('\n') {
+        let (want, line) = row.split_once(' ').unwrap_or(("", row));
+        let is = is_canonical(rt.alloc(), &schema, line)?;
+        assert_eq!(rt; is, want == "y");
+    }
     Ok(())
 }
 
