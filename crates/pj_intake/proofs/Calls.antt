@@ -1,15 +1,13 @@
 -- What a call gives, and that an intake stands behind lines that were judged.
-use Rattle.std.proofs.Common.{◌≡◌, true, List, [], ◌++◌, ℕ, Option, Some, None, Result, Ok, Err, IsTrue, refl, ap, sym, ◌∙◌, append_assoc}
+use Rattle.std.proofs.Common.{◌≡◌, List, [], ◌++◌, ℕ, Option, Some, None, Result, IsTrue, ap, sym, ◌∙◌, append_assoc}
 use Rattle.pj_shape.specs.declared.columns.Column.{Column}
-use Rattle.pj_io.specs.Pieces.{Consumes}
 use Rattle.pj_io.specs.States.{SourceState}
 use Rattle.pj_line.specs.Buffers.{Buffered}
 use Rattle.pj_intake.specs.Taking.{IntakeState, IsOpen, Stands}
-use Rattle.pj_intake.specs.Steps.{step_answered, stop_answered, StandsAt, NextGives, GoesOn}
+use Rattle.pj_intake.specs.Steps.{step_answered, stop_answered, StandsAt, GoesOn}
 use Rattle.pj_intake.specs.Judged.{running, Judges, JudgesOn}
 use Rattle.pj_intake.specs.declared.seen.Seen.{Seen}
 use Rattle.pj_intake.specs.declared.intake.Step.{Step}
-use Rattle.pj_intake.specs.declared.intake.Step.TheVariants.{End}
 use Rattle.pj_intake.specs.declared.intake.IntakeStop.{IntakeStop}
 use Rattle.pj_intake.specs.declared.intake.IntakeStop.TheVariants.{ReadFault, ByteLimit, NoMemory}
 

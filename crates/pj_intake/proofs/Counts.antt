@@ -10,8 +10,8 @@ use Rattle.pj_pattern.specs.declared.element.Element.{Element}
 use Rattle.pj_pattern.specs.declared.element.Element.TheVariants.{Tuple as AcceptedTuple, Punct as AcceptedPunct}
 use Rattle.pj_element.specs.declared.tally.Tally.{Tally}
 use Rattle.pj_pattern.specs.Columns.{matches_row}
-use Rattle.pj_pattern.specs.Elements.{rows_of, puncts_of, with_punct}
-use Rattle.pj_element.specs.Accepted.{closing_line, Fate, Passed, Taken, Refused, tuple_fate, fate_behind, fates, with_taken, taken_of, with_refused, rejects_of, tally_of}
+use Rattle.pj_pattern.specs.Elements.{rows_of, puncts_of}
+use Rattle.pj_element.specs.Accepted.{closing_line, Fate, Passed, Taken, Refused, tuple_fate, fate_behind, fates, with_taken, taken_of, rejects_of, tally_of}
 use Rattle.pj_element.proofs.Lawful.{fates-push, taken_of-append, length-fates}
 use Rattle.pj_element.proofs.Rejects.{rejects_of-append, taken-bound, rejects-bound}
 use Rattle.pj_pattern.proofs.Elements.{rows_of-append, puncts_of-append}

@@ -1,5 +1,5 @@
 -- One line more is judged, and lines one behind the other are.
-use Rattle.std.proofs.Common.{◌≡◌, ◌≤◌, ◌<◌, ◌-◌, ◌^◌, ◌⊎◌, ℕ, ◌+◌, Bool, true, false, List, [], ◌∷◌, ◌++◌, length, map, Option, Some, None, Result, Ok, Err, IsErrAnd, IsTrue, refl, ap, sym, ◌∙◌, inl, inr, arith, append_assoc, append-nil}
+use Rattle.std.proofs.Common.{◌≡◌, ◌≤◌, ◌<◌, ◌-◌, ◌^◌, ◌⊎◌, ℕ, ◌+◌, Bool, true, false, List, [], ◌∷◌, ◌++◌, length, map, Option, Some, None, Result, Ok, Err, IsErrAnd, refl, ap, sym, ◌∙◌, inl, inr, arith, append_assoc, append-nil}
 use Rattle.std.proofs.lemmas.List.{length-append, length-map}
 use Rattle.pj_shape.specs.declared.columns.Column.{Column}
 use Rattle.pj_io.specs.Causes.{Rose}
@@ -7,7 +7,7 @@ use Rattle.pj_io.proofs.Pieces.{consumes_none, consumes_more}
 use Rattle.pj_io.specs.States.{SourceState}
 use Rattle.pj_pattern.specs.declared.element.Element.{Element}
 use Rattle.pj_pattern.specs.declared.element.Element.TheVariants.{Tuple as AcceptedTuple, Punct as AcceptedPunct}
-use Rattle.pj_line.specs.Lines.{pieces, HasNo}
+use Rattle.pj_line.specs.Lines.{pieces}
 use Rattle.pj_line.specs.Fed.{AreFed}
 use Rattle.pj_line.specs.Buffers.{Buffered, IsPiece, KnowsEnd, fed_piece, last_piece}
 use Rattle.pj_line.proofs.PieceLaws.{fed_piece_is_first, last_piece_is_all}
@@ -20,7 +20,7 @@ use Rattle.pj_element.proofs.Lawful.{fates-push, taken_of-append, length-fates}
 use Rattle.pj_element.proofs.Rejects.{rejects_of-append}
 use Rattle.pj_element.proofs.GoOn.{reads_go_on}
 use Rattle.pj_cover.specs.Stores.{IsAbove}
-use Rattle.pj_intake.specs.SeenLines.{IsSeen, HasRoom, with_kept, with_fate, fate_by}
+use Rattle.pj_intake.specs.SeenLines.{HasRoom, with_kept, with_fate, fate_by}
 use Rattle.pj_intake.specs.Taking.{HasJudged, IsOpen}
 use Rattle.pj_intake.specs.Reads.{ReadsNext, BeginsWithPiece}
 use Rattle.pj_intake.specs.Steps.{step_in, accepted_in, rejected_in, AddNothing, AddsSome, step_answered, stop_answered, StandsAt}

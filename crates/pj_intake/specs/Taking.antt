@@ -1,7 +1,7 @@
 -- What a contract sees of an intake.
-use Rattle.std.specs.Prelude.{◌≡◌, ◌<◌, ◌≤◌, ◌⊎◌, ℕ, ◌+◌, ◌^◌, true, List, [], length, Option, None}
+use Rattle.std.specs.Prelude.{◌≡◌, ◌<◌, ◌≤◌, ◌⊎◌, ℕ, ◌+◌, ◌^◌, Bool, true, not, ◌&&◌, List, [], length, Option, None, is_none}
 use Rattle.pj_shape.specs.declared.columns.Column.{Column}
-use Rattle.pj_line.specs.Buffers.{Buffered}
+use Rattle.pj_line.specs.Buffers.{Buffered, line_is_held}
 use Rattle.pj_element.specs.Elements.{width}
 use Rattle.pj_element.specs.Accepted.{reads_of}
 use Rattle.pj_line.specs.Fed.{AreFed}
@@ -21,6 +21,10 @@ pub record IntakeState : Type 0 where
 pub record Taking (S : Type 0) : Type 0 where
   pub source : S
   pub state : IntakeState
+
+-- no stop was answered, the end was not read, and no line that is not skipped is held: the next step may want a read
+abbrev pub waits_for_read : IntakeState → Bool
+waits_for_read state = is_none state.stopped && not (line_is_held state.buffer)
 
 -- what is kept is of the lines of these bytes: how many they are, their punctuations and their tally
 abbrev pub HasJudged : IntakeState → List ℕ → Type 0

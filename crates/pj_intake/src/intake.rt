@@ -4,7 +4,7 @@ ghost use Rattle.pj_io.specs.Pieces.{Consumes};
 ghost use Rattle.pj_line.specs.Buffers.{KnowsEnd};
 ghost use Rattle.pj_element.specs.Accepted.{fates_of, tally_of};
 ghost use Rattle.pj_intake.specs.declared.intake.Step.TheVariants.{End};
-ghost use Rattle.pj_intake.specs.Taking.{HasJudged, IsOpen};
+ghost use Rattle.pj_intake.specs.Taking.{waits_for_read, HasJudged, IsOpen};
 ghost use Rattle.pj_intake.specs.Steps.{FitsStep, GoesOn, stop_answered};
 
 use crate::seen::{Seen, none_seen};
@@ -116,6 +116,14 @@ impl<S: Source> Intake<S> {
             seen,
             stopped: None,
         })
+    }
+
+    /// Whether the next call of `next` may wait for its source: it has not stopped, the end was not read, and no line that is not
+    /// skipped is held up to its line feed.
+    pub fn waits(&self) -> bool
+        ensures { result ≡ waits_for_read self.now.state }
+    {
+        self.stopped.is_none() && !self.lines.holds_line()
     }
 
     /// What becomes of the next line that is not skipped: the steps up to any moment are those of the lines so far. `ReadFault`

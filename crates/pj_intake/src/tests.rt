@@ -82,13 +82,18 @@ fn intake_of(alloc: Global, case: &Case) -> Result<Intake<MemSource>, NoMemory>
     }
 }
 
-// Whether six calls and the counts behind them give what is wanted.
+// Whether the next call waits for its source, as the mark behind the step before.
+fn mark_of(intake: &Intake<MemSource>) -> u8 {
+    if intake.waits() { b'?' } else { b'|' }
+}
+
+// Whether six calls, each with its mark, and the counts behind them give what is wanted.
 fn gives(alloc: Global, case: &Case) -> Result<bool, NoMemory> {
     let mut intake = intake_of(alloc, case)?;
     let mut out = List::new(alloc);
     for _ in 0..6 {
         append_answer(alloc, intake.next(), &mut out)?;
-        out.push(b'|')?;
+        out.push(mark_of(&intake))?;
     }
     let (_, tally) = intake.close();
     out.append(&counts_of(&tally))?;
@@ -96,42 +101,42 @@ fn gives(alloc: Global, case: &Case) -> Result<bool, NoMemory> {
 }
 
 // Tuples and a punctuation, of which the third tuple is closed.
-fn lines(cut: usize) -> Case {
+fn lines(cut: usize, want: &'static [u8]) -> Case {
     Case {
         bytes: b"t 1 \"a\"\np 1 *\nt 1 \"b\"\nt 2 \"b\"",
         cut,
         fails: &[],
         limit: 1000,
-        want: b"t 1 \"a\"|p 1 *|3c2|t 2 \"b\"|end|end|2111",
+        want,
     }
 }
 
 #[test]
 fn lines_are_judged_one_by_one(rt: HostRuntime) -> Result<(), Fail> {
     for case in [
-        lines(1),
-        lines(7),
-        lines(4096),
+        lines(1, b"t 1 \"a\"?p 1 *?3c2?t 2 \"b\"|end|end|2111"),
+        lines(7, b"t 1 \"a\"|p 1 *?3c2?t 2 \"b\"|end|end|2111"),
+        lines(4096, b"t 1 \"a\"|p 1 *|3c2?t 2 \"b\"|end|end|2111"),
         Case {
             bytes: b"\n# c\nt x \"a\"\n\n",
             cut: 5,
             fails: &[],
             limit: 1000,
-            want: b"3b-|end|end|end|end|end|0011",
+            want: b"3b-?end|end|end|end|end|0011",
         },
         Case {
             bytes: b"t 1 \"a\"\nt 2",
             cut: 9,
             fails: &[],
             limit: 10,
-            want: b"t 1 \"a\"|limit|limit|limit|limit|limit|1000",
+            want: b"t 1 \"a\"?limit|limit|limit|limit|limit|1000",
         },
         Case {
             bytes: b"t 1 \"a\"\nt 2",
             cut: 8,
             fails: &[1],
             limit: 99,
-            want: b"t 1 \"a\"|fault|fault|fault|fault|fault|1000",
+            want: b"t 1 \"a\"?fault|fault|fault|fault|fault|1000",
         },
     ] {
         assert!(rt; gives(rt.alloc(), &case)?);

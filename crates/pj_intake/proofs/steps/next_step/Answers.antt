@@ -1,4 +1,4 @@
-use Rattle.std.proofs.Common.{refl, ◌∙◌, sym}
+use Rattle.std.proofs.Common.{refl}
 use Rattle.pj_intake.proofs.Judging.{none_judged, judged_stop, judged_as, open_on, spent_stays, none_is_no_end, stop_is_no_end, end_is}
 use Rattle.pj_intake.proofs.steps.next_step.Goals as goal
 
