@@ -4,7 +4,7 @@ use Rattle.std.proofs.lemmas.Bool.{eq-eqb, false≢true}
 use Rattle.std.proofs.lemmas.List.{length_push, get_or_at}
 use Rattle.std.proofs.lemmas.List.Sums.{sum_by-cons}
 use Rattle.pj_laws.specs.Join.{In, Element, Step, Take, Give, TupleAt, JoinData, JoinState, TupleComes, PunctComes, Sweep, has, step, run}
-use Rattle.pj_laws.specs.Kept.{lacking, without}
+use Rattle.pj_laws.specs.KeptState.{lacking, without}
 use Rattle.pj_laws.specs.Plan.{Operator, Stream, Select, Project, Union, Join, Group, Node, Local, Comes, Fed, Own, PlanStep, Act, join_local, after, after_all, hands_all, own, locals, handed_at, moved, operator_at, nowhere, IsWellMade, node_width, ArePlanned}
 use Rattle.pj_laws.specs.History.{Entry, state_in, pending_in, step_of, nodes_by, nodes_from}
 use Rattle.pj_laws.specs.OneThread.{Pending, probes_at, pending_at, probes_from, first_of, next_from}

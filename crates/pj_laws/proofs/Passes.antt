@@ -3,7 +3,7 @@ use Rattle.std.proofs.Common.{ℕ, zero, suc, ◌+◌, ◌<◌, ◌≤◌, ◌�
 use Rattle.pj_laws.proofs.Histories.{nodes-append}
 use Rattle.std.proofs.lemmas.Bool.{cases_lt}
 use Rattle.pj_laws.specs.Join.{In, TupleAt, JoinData, JoinState, Take, Give, Sweep, has, step, run, upto_from}
-use Rattle.pj_laws.specs.Kept.{lacking}
+use Rattle.pj_laws.specs.KeptState.{lacking}
 use Rattle.pj_laws.specs.Laws.{sweeps_from}
 use Rattle.pj_laws.specs.Plan.{Operator, Stream, Select, Project, Union, Join, Group, Node, Own, Act, after, moved, operator_at}
 use Rattle.pj_laws.specs.History.{Entry, Swept, state_in, nodes_by, nodes_from}

@@ -5,7 +5,7 @@ use Rattle.std.proofs.lemmas.List.{get_or_at, length_push}
 use Rattle.pj_value.specs.declared.values.Value.{Value}
 use Rattle.pj_shape.specs.declared.columns.Column.{Column}
 use Rattle.pj_laws.specs.Join.{In, Element, Tuple, Punct, TupleAt, JoinData, JoinState, Step, Take, Give, TupleComes, AllGiven, has, new_tuple, step, HasCome, IsAllowed}
-use Rattle.pj_laws.specs.Kept.{lacking}
+use Rattle.pj_laws.specs.KeptState.{lacking}
 use Rattle.pj_laws.specs.Plan.{Operator, Stream, Select, Project, Union, Join, Group, Node, Local, Comes, Fed, Own, PlanStep, Act, after, after_all, own, brought_from, locals, handed_at, batches, moved, operator_at, nowhere, IsOwn, MayAct, IsStepAllowed}
 use Rattle.pj_laws.specs.History.{Entry, Event, Taken, Given, Swept, Drain, state_in, step_of, nodes_by, nodes_from}
 use Rattle.pj_laws.specs.OneThread.{probes_at, probes_from, probes}

@@ -5,7 +5,7 @@ use Rattle.std.proofs.lemmas.List.{length_push, map-append, get_or_append_left}
 use Rattle.pj_shape.specs.declared.plans.SmallStream.{SmallStream}
 use Rattle.pj_shape.specs.declared.plans.SmallJoin.{SmallJoin}
 use Rattle.pj_laws.specs.Join.{JoinData, JoinState, upto_from}
-use Rattle.pj_laws.specs.Kept.{kept_of}
+use Rattle.pj_laws.specs.KeptState.{kept_of}
 use Rattle.pj_laws.specs.Plan.{Operator, Stream, Select, Project, Union, Join, Group, Node, batches, nowhere, operator_at}
 use Rattle.pj_laws.specs.History.{Entry, is_stream, state_in, join_at, step_of, nodes_by, nodes_from}
 use Rattle.pj_laws.specs.Outcomes.{Arrival, arrivals_in, arrivals_at, peak_of}

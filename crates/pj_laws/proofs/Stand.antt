@@ -5,7 +5,7 @@ use Rattle.std.proofs.lemmas.Bool.{false_from_ne_true}
 use Rattle.std.proofs.lemmas.List.{map-append}
 use Rattle.std.proofs.lemmas.List.Elements.{filter-append}
 use Rattle.pj_laws.specs.Join.{need_of, TupleAt, JoinData, JoinState, Step, TupleComes, PunctComes, Take, Give, Sweep, start, inputs, older, older_puncts, covered, has, least_open, low, kept, is_held, new_tuple, step, run}
-use Rattle.pj_laws.specs.Kept.{Kept, lacking, kept_of, least, kept_low, swept, without, kept_step}
+use Rattle.pj_laws.specs.KeptState.{KeptState, lacking, kept_of, least, kept_low, swept, without, kept_step}
 use Rattle.pj_laws.specs.Laws.{StepsStand}
 use Rattle.pj_laws.proofs.Sound.{sound-start, run-append}
 use Rattle.pj_laws.proofs.Complete.{IsCounted, counted-start, counted-run, eqb-sym}
@@ -77,6 +77,6 @@ kept-step spec s (Sweep input) k =
 
 pub steps-stand : (spec : JoinData) → 0 < inputs spec → StepsStand spec
 steps-stand spec lt steps e k legal allowed st =
-    ap (λ (m : Kept). kept_step spec m e) st
+    ap (λ (m : KeptState). kept_step spec m e) st
     ∙ kept-step spec (run spec start steps) e (counted-run spec start steps (sound-start spec) (counted-start spec lt) legal)
     ∙ ap kept_of (sym (run-append spec start steps (e ∷ [])))

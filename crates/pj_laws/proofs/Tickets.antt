@@ -3,7 +3,7 @@ use Rattle.std.proofs.Common.{ℕ, ◌<◌, ◌≤◌, Bool, true, false, cond, 
 use Rattle.std.proofs.lemmas.Bool.{false≢true, eqb-true, eq-eqb, ne_eqb, or_cases}
 use Rattle.pj_value.specs.Lists.{In}
 use Rattle.pj_laws.specs.Join.{TupleAt, JoinData, JoinState, Step, TupleComes, PunctComes, Take, Give, Sweep, start, run, step, has, new_tuple}
-use Rattle.pj_laws.specs.Kept.{lacking, without}
+use Rattle.pj_laws.specs.KeptState.{lacking, without}
 use Rattle.pj_laws.specs.OneThread.{first_of}
 
 -- a ticket that is not among these is one of a tuple that came

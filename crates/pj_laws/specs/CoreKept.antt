@@ -8,7 +8,7 @@ use Rattle.std.specs.Prelude.{Some, None, false, ◌++◌, ◌<◌, slice_index_
 use Rattle.pj_shape.specs.declared.columns.Column.{Column}
 use Rattle.pj_shape.specs.Sound.{IsSoundSpec}
 use Rattle.pj_laws.specs.Join.{In, AreDistinct, start, upto_from}
-use Rattle.pj_laws.specs.Kept.{Kept, kept_of}
+use Rattle.pj_laws.specs.KeptState.{KeptState, kept_of}
 use Rattle.pj_laws.specs.Operators.{UnionState}
 use Rattle.pj_laws.specs.Plan.{Operator, Stream, Select, Project, Union, Join, Group, Node}
 use Rattle.pj_laws.specs.History.{Entry, Out, Stop, reached_of, nodes_from}
@@ -18,7 +18,7 @@ use Rattle.pj_laws.specs.Outcomes.{arrivals_at, peak_of}
 pub data KeptOperator : Type 0 where
   NothingKept : KeptOperator
   UnionKept : UnionState → KeptOperator
-  JoinKept : Kept → KeptOperator
+  JoinKept : KeptState → KeptOperator
   GroupKept : List (List Value) → KeptOperator
 
 abbrev pub kept_in : Operator → KeptOperator

@@ -10,7 +10,7 @@ pub use Rattle.pj_laws.specs.declared.events.Out.{Out}
 pub use Rattle.pj_laws.specs.declared.events.Out.TheVariants.{Tuple as RowOut, Punct as PunctOut, Purged}
 use Rattle.pj_laws.specs.Patterns.{all_wild}
 use Rattle.pj_laws.specs.Join.{JoinData, JoinState, Take, Give, Sweep, start, has, removed, IsSettled}
-use Rattle.pj_laws.specs.Kept.{lacking}
+use Rattle.pj_laws.specs.KeptState.{lacking}
 use Rattle.pj_laws.specs.Plan.{Operator, Stream, Join, Node, PlanStep, Feed, Act, Pass, batches, moved, operator_at, IsStepAllowed}
 
 -- ---- the streams and the joins of a plan

@@ -7,7 +7,7 @@ use Rattle.pj_shape.specs.Joining.{join_answer}
 use Rattle.pj_shape.specs.declared.plans.SmallStream.{SmallStream}
 use Rattle.pj_shape.specs.declared.plans.SmallJoin.{SmallJoin}
 use Rattle.pj_laws.specs.CoreKept.{NothingKept, JoinKept, core_kept, nodes_of, IsJoinOf}
-use Rattle.pj_laws.specs.Kept.{kept_of}
+use Rattle.pj_laws.specs.KeptState.{kept_of}
 use Rattle.pj_value.specs.Bags.{SameBag, SubBag}
 use Rattle.pj_value.specs.declared.values.Value.{Value}
 use Rattle.pj_shape.specs.declared.columns.Column.{Column}

@@ -2,7 +2,7 @@
 use Rattle.std.specs.Prelude.{ℕ, zero, suc, ◌+◌, ◌<◌, ◌≡◌, true, false, List, [], ◌∷◌, ◌++◌, map}
 use Rattle.pj_pattern.specs.Elements.{IsLawful}
 use Rattle.std.specs.List.{list_all}
-use Rattle.pj_laws.specs.Kept.{Kept, kept_step, JoinStands}
+use Rattle.pj_laws.specs.KeptState.{KeptState, kept_step, JoinStands}
 use Rattle.pj_value.specs.Bags.{SameBag}
 use Rattle.pj_laws.specs.Patterns.{all_wild}
 use Rattle.pj_laws.specs.Join.{In, PunctAt, arity, JoinData, TupleAt, Step, TupleComes, PunctComes, Take, Give, Sweep, start, step, run, AreLegalSteps, IsAllowed, IsCombination, inputs, kept, low, ripe, has, results, outputs, AllGiven, IsSettled, rows_of, puncts_of, joined, widened, all_combinations, covered, need_of, older, older_puncts}
@@ -82,7 +82,7 @@ IsNeverSwept spec = spec.certs ≡ [] → 1 < inputs spec → (steps : List Step
 -- A step on what is kept keeps what is to be kept after the step
 abbrev pub StepsStand : JoinData → Type 0
 StepsStand spec =
-    (steps : List Step) (e : Step) (k : Kept) → AreLegalSteps spec start steps → IsAllowed spec (run spec start steps) e
+    (steps : List Step) (e : Step) (k : KeptState) → AreLegalSteps spec start steps → IsAllowed spec (run spec start steps) e
     → JoinStands spec k steps → JoinStands spec (kept_step spec k e) (steps ++ e ∷ [])
 
 -- a sweep of each input in turn, from this one on

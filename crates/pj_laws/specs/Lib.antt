@@ -1,6 +1,6 @@
 pub mod Patterns
 pub mod Join
-pub mod Kept
+pub mod KeptState
 pub mod Laws
 pub mod Operators
 pub mod Plan

@@ -4,7 +4,7 @@ use Rattle.atomic_table.specs.Table.{Me}
 use Rattle.pj_turn.specs.declared.views.SeatView.{SeatView}
 use Rattle.pj_turn.specs.Meanings.{KeptMeaning, ActMeaning}
 use Rattle.pj_turn.specs.History.{own, HasSeen, MayAct, Ready, Did, Turned}
-use Rattle.pj_turn.specs.Rule.{now, Takes}
+use Rattle.pj_turn.specs.Rule.{now, SeatTakes}
 use Rattle.pj_turn.proofs.Lists.{own_same, own-append, own_seen}
 use Rattle.pj_turn.proofs.Steps.{same_inside}
 
@@ -30,7 +30,7 @@ module _ {T E F : Type 0} (kept : KeptMeaning T E F) where
     pub seen_so_far : HasSeen kept.number m0.0.number m0.0.seen log
     pub fixed_is : kept.fixed x ≡ fixed
 
-  pub in_turn : (m0 m1 m2 m3 : M) (t : ℕ) (x : T) (fixed : F) → m1 ≡ (now m0.0 true t false m0.0.seen, m0.1) → Takes kept m1 m2 → m2.1 ≡ (0, Some x) ∷ [] → m3 ≡ (m2.0, (0, None) ∷ []) → m0.0.fixed ≡ Some fixed
+  pub in_turn : (m0 m1 m2 m3 : M) (t : ℕ) (x : T) (fixed : F) → m1 ≡ (now m0.0 true t false m0.0.seen, m0.1) → SeatTakes kept m1 m2 → m2.1 ≡ (0, Some x) ∷ [] → m3 ≡ (m2.0, (0, None) ∷ []) → m0.0.fixed ≡ Some fixed
       → InTurn m0 m3 t x fixed
   in_turn m0 m1 m2 m3 t x fixed e1 took e2 e3 is =
       let same : took.state ≡ x = ap (top took.state) (sym (ap (λ (m : M). m.1) took.seat) ∙ e2) in

@@ -114,7 +114,7 @@ module _ {T E F : Type 0} (kept : KeptMeaning T E F) where
       pub slot : AtHome s log ⊎ IsOut s
 
   -- it is the seat's turn, and the slot is taken, with a state that stands for the whole history
-  pub record Takes (m n : Me (Option T) (SeatView F E)) : Type 0 where
+  pub record SeatTakes (m n : Me (Option T) (SeatView F E)) : Type 0 where
     pub state : T
     pub log : List E
     pub fixed : F
@@ -127,7 +127,7 @@ module _ {T E F : Type 0} (kept : KeptMeaning T E F) where
 
   -- the slot is taken exactly where the number found is the seat's ticket
   abbrev pub looked : Step (Option T) → Me (Option T) (SeatView F E) → ℕ → Me (Option T) (SeatView F E) → Type 0
-  looked st m r n = (r ≡ m.0.ticket % 2 ^ 64 → Takes m n) × (r ≢ m.0.ticket % 2 ^ 64 → n ≡ m)
+  looked st m r n = (r ≡ m.0.ticket % 2 ^ 64 → SeatTakes m n) × (r ≢ m.0.ticket % 2 ^ 64 → n ≡ m)
 
 -- the entry of an act that gave this answer, where the seat has seen the whole history
 abbrev pub entry_at : {T F E A : Type 0} → ActMeaning T E F A → SeatView F E → A → E

@@ -3,7 +3,7 @@ ghost use Rattle.std.specs.Prelude.{◌≡◌, ◌≢◌, ℕ, true, false, List
 ghost use mathlib.Core.Option.{some};
 ghost use lib.ListN.{get_elem?};
 ghost use Rattle.pj_turn.specs.History.{MayAct, Turned, Closed};
-ghost use Rattle.pj_turn.specs.Rule.{now, all_pairs, entry_at, idle_view, Takes};
+ghost use Rattle.pj_turn.specs.Rule.{now, all_pairs, entry_at, idle_view, SeatTakes};
 
 use crate::kept::{Act, Kept};
 use crate::plays::{Another, Draw, Gather, Look, Note, Noted, Order, Serve};
@@ -186,7 +186,7 @@ impl<T: Kept + Drop> Turn<T> {
         requires name { seat.old.table_id ≡ self.now.table.shared.table_id }
         requires waits { (seat.old.me.0.live ≡ true) × (seat.old.me.0.waits ≡ true) × (seat.old.me.0.turn ≡ false) }
         ensures name { seat.new.table_id ≡ seat.old.table_id }
-        ensures takes { result ≡ seat.old.me.0.ticket % 2 ^ 64 → Takes T.meaning seat.old.me seat.new.me }
+        ensures takes { result ≡ seat.old.me.0.ticket % 2 ^ 64 → SeatTakes T.meaning seat.old.me seat.new.me }
         ensures misses { result ≢ seat.old.me.0.ticket % 2 ^ 64 → seat.new.me ≡ seat.old.me }
     {
         self.table.shared.load::<Look>(seat, SERVING)
@@ -202,7 +202,7 @@ impl<T: Kept + Drop> Turn<T> {
         requires name { seat.old.table_id ≡ self.now.table.shared.table_id }
         requires waits { (seat.old.me.0.live ≡ true) × (seat.old.me.0.waits ≡ true) × (seat.old.me.0.turn ≡ false) × (ticket ≡ seat.old.me.0.ticket % 2 ^ 64) }
         ensures name { seat.new.table_id ≡ seat.old.table_id }
-        ensures takes { Takes T.meaning seat.old.me seat.new.me }
+        ensures takes { SeatTakes T.meaning seat.old.me seat.new.me }
     {
         let mut looks = 1;
         for _ in rt.forever() {

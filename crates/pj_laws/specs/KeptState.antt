@@ -5,7 +5,7 @@ use Rattle.pj_value.specs.declared.values.Value.{Value}
 use Rattle.pj_laws.specs.Join.{TupleAt, PunctAt, JoinData, JoinState, Step, TupleComes, PunctComes, Take, Give, Sweep, start, run, older, older_puncts, need_of, covered, has, is_held}
 
 -- the next ticket, the stored tuples, all punctuations, the tickets that are not taken, those that are not given, the punctuations that wait
-pub record Kept : Type 0 where
+pub record KeptState : Type 0 where
   pub next : ℕ
   pub stored : List TupleAt
   pub puncts : List PunctAt
@@ -18,7 +18,7 @@ abbrev pub lacking : List ℕ → List TupleAt → List ℕ
 lacking ns xs = map (λ x. x.ticket) (filter (λ x. not (has ns x.ticket)) xs)
 
 -- what is to be kept of a state
-abbrev pub kept_of : JoinState → Kept
+abbrev pub kept_of : JoinState → KeptState
 kept_of s = record {
   next = s.next;
   stored = s.stored;
@@ -33,21 +33,21 @@ abbrev pub least : ℕ → List ℕ → ℕ
 least next [] = next
 least next (t ∷ ts) = min t (least next ts)
 
-abbrev pub kept_low : Kept → ℕ
+abbrev pub kept_low : KeptState → ℕ
 kept_low k = least k.next k.opened
 
-abbrev pub kept_ripe : JoinData → Kept → TupleAt → Bool
+abbrev pub kept_ripe : JoinData → KeptState → TupleAt → Bool
 kept_ripe spec k x =
     nat_lt x.ticket (kept_low k) && list_all (covered (older_puncts (kept_low k) k.puncts)) (need_of spec (older (kept_low k) k.stored) x)
 
 -- what a sweep of the input leaves
-abbrev pub swept : JoinData → Kept → ℕ → List TupleAt
+abbrev pub swept : JoinData → KeptState → ℕ → List TupleAt
 swept spec k input = filter (λ x. not ((x.input == input) && kept_ripe spec k x)) k.stored
 
 abbrev pub without : List ℕ → ℕ → List ℕ
 without ts u = filter (λ t. not (t == u)) ts
 
-abbrev pub tuple_kept : Kept → ℕ → List Value → Kept
+abbrev pub tuple_kept : KeptState → ℕ → List Value → KeptState
 tuple_kept k input row = record k {
   next = k.next + 1;
   stored = k.stored ++ record { ticket = k.next; input = input; row = row } ∷ [];
@@ -55,7 +55,7 @@ tuple_kept k input row = record k {
   opened = k.opened ++ k.next ∷ [];
 }
 
-abbrev pub punct_kept : JoinData → Kept → PunctAt → Kept
+abbrev pub punct_kept : JoinData → KeptState → PunctAt → KeptState
 punct_kept spec k p = record k {
   next = k.next + 1;
   puncts = k.puncts ++ p ∷ [];
@@ -63,7 +63,7 @@ punct_kept spec k p = record k {
 }
 
 -- what is to be kept after a step
-abbrev pub kept_step : JoinData → Kept → Step → Kept
+abbrev pub kept_step : JoinData → KeptState → Step → KeptState
 kept_step spec k (TupleComes input row) = tuple_kept k input row
 kept_step spec k (PunctComes input patterns) = punct_kept spec k (record { ticket = k.next; input = input; patterns = patterns })
 kept_step spec k (Take u) = record k { pending = without k.pending u }
@@ -72,5 +72,5 @@ kept_step spec k (Sweep input) =
     record k { stored = swept spec k input; waiting = filter (λ p. not (p.input == input) || is_held (swept spec k input) p) k.waiting }
 
 -- the join keeps what it has to after these steps
-abbrev pub JoinStands : JoinData → Kept → List Step → Type 0
+abbrev pub JoinStands : JoinData → KeptState → List Step → Type 0
 JoinStands spec k steps = k ≡ kept_of (run spec start steps)
