@@ -9,7 +9,7 @@ use Rattle.std.proofs.lemmas.Option.{slice_get_within, get_or_from_slice_get}
 use Rattle.pj_shape.specs.declared.columns.Column.{Column}
 use Rattle.pj_shape.specs.declared.joins.JoinSpec.{JoinSpec}
 use Rattle.pj_laws.specs.Join.{Value, TupleAt, PunctAt, Take, TupleComes, results, agree, product, joined, has, inputs, of_input, upto_from}
-use Rattle.pj_laws.specs.Kept.{least, without}
+use Rattle.pj_laws.specs.KeptState.{least, without}
 use Rattle.pj_join.specs.Joins.{Found, TakesLeast, unswept, after, found_of}
 use Rattle.pj_join.specs.Walks.{choices}
 use Rattle.pj_join.specs.Insides.{tickets, seen, Rise, IsOrdered}

@@ -6,3 +6,9 @@ pub mod Finding
 pub mod Walking
 pub mod Calling
 pub mod Triples
+pub mod Cells
+pub mod Classes
+pub mod Decided
+pub mod Groups
+pub mod Pairs
+pub mod Wanted

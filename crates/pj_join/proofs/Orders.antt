@@ -1,16 +1,17 @@
 -- Tickets that rise, and what each call makes of the inside of a join.
-use Rattle.std.proofs.Common.{ℕ, zero, suc, ◌+◌, ◌<◌, ◌≤◌, ◌^◌, Bool, true, false, cond, ◌||◌, not, List, [], ◌∷◌, ◌++◌, ◌≡◌, map, filter, drop, length, get_or, set, refl, sym, ap, ap₂, ◌∙◌, subst, inl, inr, eqb, arith, append_assoc, append-nil}
-use Rattle.std.proofs.lemmas.Bool.{eqb-true, eq-eqb, false_from_ne_true, or_right}
+use Rattle.std.proofs.Common.{ℕ, zero, suc, ◌+◌, ◌<◌, ◌≤◌, ◌^◌, Bool, true, false, cond, ◌||◌, not, List, [], ◌∷◌, ◌++◌, ◌≡◌, map, filter, drop, length, get_or, set, refl, sym, ap, ap₂, ◌∙◌, subst, inl, inr, eqb, arith, append_assoc}
+use Rattle.std.proofs.lemmas.Bool.{eq-eqb, or_right}
 use Rattle.std.proofs.lemmas.List.{map-append, length-append, drop_more}
 use Rattle.std.proofs.lemmas.List.Elements.{filter-append}
 use Rattle.pj_shape.specs.declared.joins.JoinSpec.{JoinSpec}
 use Rattle.pj_shape.specs.Sound.{IsSoundSpec}
 use Rattle.pj_laws.specs.Join.{In, Value, TupleAt, PunctAt, TupleComes, Take, Give, of_input, upto_from, has}
-use Rattle.pj_laws.specs.Kept.{least, without}
+use Rattle.pj_laws.specs.KeptState.{least, without}
 use Rattle.pj_join.specs.Joins.{JoinView, after}
 use Rattle.pj_join.specs.Insides.{tickets, seen, Rise, IsOrdered}
 use Rattle.pj_value.proofs.Members.{In-append_cases}
 use Rattle.pj_laws.proofs.NextProbe.{without-all}
+use Rattle.pj_join.proofs.Classes.{eqb-apart, eqb-below, classes-more}
 
 -- ---- numbers that rise
 
@@ -60,9 +61,6 @@ rise-in from [] end u r h = absurd h
 rise-in from (t ∷ ts) end u r (inl e) = omega (arith, r.0, e)
 rise-in from (t ∷ ts) end u r (inr h) = omega (arith, r.0, rise-in (t + 1) ts end u r.1 h)
 
-eqb-apart : (t u : ℕ) → u < t → eqb t u ≡ false
-eqb-apart t u lt = false_from_ne_true (eqb t u) (λ e. omega (arith, eqb-true t u e, lt))
-
 -- a number below those that rise is none of them
 pub rise-has : (from : ℕ) (ts : List ℕ) (end u : ℕ) → Rise from ts end → u < from → has ts u ≡ false
 rise-has from [] end u r lt = refl
@@ -111,9 +109,6 @@ none-of from (x ∷ xs) end u r lt =
     ap (λ b. cond b (x ∷ filter (λ y. eqb y.ticket u) xs) (filter (λ y. eqb y.ticket u) xs)) (eqb-apart x.ticket u (omega (arith, lt, r.0)))
     ∙ none-of (x.ticket + 1) xs end u r.1 (omega (arith, lt, r.0))
 
-eqb-below : (t u : ℕ) → t < u → eqb t u ≡ false
-eqb-below t u lt = false_from_ne_true (eqb t u) (λ e. omega (arith, eqb-true t u e, lt))
-
 -- one tuple alone has its ticket
 pub only-of : (from : ℕ) (xs : List TupleAt) (end i : ℕ) (d : TupleAt) → Rise from (tickets xs) end → i < length xs → filter (λ y. eqb y.ticket (get_or xs i d).ticket) xs ≡ get_or xs i d ∷ []
 only-of from [] end i d r lt = absurd (omega (arith, lt))
@@ -124,31 +119,6 @@ only-of from (x ∷ xs) end (suc i) d r lt =
     ap (λ b. cond b (x ∷ filter (λ y. eqb y.ticket (get_or xs i d).ticket) xs) (filter (λ y. eqb y.ticket (get_or xs i d).ticket) xs))
     (eqb-below x.ticket (get_or xs i d).ticket (omega (arith, rise-at (x.ticket + 1) xs end i d r.1 (omega (arith, lt)))))
     ∙ only-of (x.ticket + 1) xs end i d r.1 (omega (arith, lt))
-
--- ---- the sides
-
-of-more : (k : ℕ) (log : List TupleAt) (x : TupleAt) → of_input k (log ++ x ∷ []) ≡ of_input k log ++ cond (eqb x.input k) (x ∷ []) []
-of-more k log x = filter-append (λ y. eqb y.input k) log (x ∷ [])
-
-sides-past : (base n : ℕ) (log : List TupleAt) (x : TupleAt) → x.input < base → map (λ k. of_input k log) (upto_from base n) ≡ map (λ k. of_input k (log ++ x ∷ [])) (upto_from base n)
-sides-past base zero log x lt = refl
-sides-past base (suc n) log x lt =
-    ap₂ (λ (xs : List TupleAt) (xss : List (List TupleAt)). xs ∷ xss)
-    (sym (of-more base log x ∙ ap (λ b. of_input base log ++ cond b (x ∷ []) []) (eqb-below x.input base lt) ∙ append-nil (of_input base log)))
-    (sides-past (base + 1) n log x (omega (arith, lt)))
-
--- one more tuple, put to its side
-pub sides-more : (base n i : ℕ) (log : List TupleAt) (x : TupleAt) → x.input ≡ base + i → i < n
-    → set (map (λ k. of_input k log) (upto_from base n)) i (get_or (map (λ k. of_input k log) (upto_from base n)) i [] ++ x ∷ []) ≡ map (λ k. of_input k (log ++ x ∷ [])) (upto_from base n)
-sides-more base zero i log x e lt = absurd (omega (arith, lt))
-sides-more base (suc n) zero log x e lt =
-    ap₂ (λ (xs : List TupleAt) (xss : List (List TupleAt)). xs ∷ xss)
-    (sym (of-more base log x ∙ ap (λ b. of_input base log ++ cond b (x ∷ []) []) (eq-eqb x.input base (omega (arith, e)))))
-    (sides-past (base + 1) n log x (omega (arith, e)))
-sides-more base (suc n) (suc i) log x e lt =
-    ap₂ (λ (xs : List TupleAt) (xss : List (List TupleAt)). xs ∷ xss)
-    (sym (of-more base log x ∙ ap (λ b. of_input base log ++ cond b (x ∷ []) []) (eqb-apart x.input base (omega (arith, e))) ∙ append-nil (of_input base log)))
-    (sides-more (base + 1) n i log x (omega (arith, e)) (omega (arith, lt)))
 
 -- ---- the calls
 
@@ -169,7 +139,7 @@ ordered-tuple spec limit next done log sides taken x o le ne e lt = record {
       | inr none ↦ absurd none
     ]
   ];
-  by_input = ap (λ (s : List (List TupleAt)). set s x.input (get_or s x.input [] ++ x ∷ [])) o.by_input ∙ sides-more 0 (length spec.inputs) x.input log x (omega arith) lt;
+  by_input = ap (λ (s : List (List TupleAt)). set s x.input (get_or s x.input [] ++ x ∷ [])) o.by_input ∙ classes-more (λ y. y.input) 0 (length spec.inputs) x.input log x (omega arith) lt;
 }
 
 pub seen-tuple : (node : ℕ) (spec : JoinSpec) (limit next done : ℕ) (log : List TupleAt) (puncts : List PunctAt) (taken : List ℕ) (input : ℕ) (row : List Value) → done ≤ length log

@@ -2,9 +2,9 @@
 use Rattle.std.proofs.Common.{ℕ, ◌<◌, Bool, true, false, cond, ◌||◌, not, List, [], ◌∷◌, ◌++◌, ◌≡◌, map, filter, length, Option, Some, None, refl, sym, ap, ◌∙◌, subst, inl, inr, eqb}
 use Rattle.std.proofs.lemmas.Bool.{eq-eqb, false≢true, or_left}
 use Rattle.pj_laws.specs.Join.{In, Value, TupleAt, Step, TupleComes, PunctComes, Take, Give, start, run, has, low, inputs, arity, joined, results, IsAllowed, IsNew}
-use Rattle.pj_laws.specs.Kept.{Kept, kept_low, lacking}
+use Rattle.pj_laws.specs.KeptState.{KeptState, kept_low, lacking}
 use Rattle.pj_laws.specs.Laws.{StepsStand, IsNeverSwept, AllIsStored}
-use Rattle.pj_join.specs.Joins.{JoinView, Takes, StandsFor, StandsTaken, IsTaken, Found, after}
+use Rattle.pj_join.specs.Joins.{JoinView, JoinTakes, StandsFor, StandsTaken, IsTaken, Found, after}
 use Rattle.pj_laws.specs.Patterns.{Pattern}
 use Rattle.pj_laws.proofs.Tickets.{lacking-come}
 use Rattle.pj_laws.proofs.Stand.{least-lacking}
@@ -34,23 +34,23 @@ has-lacking ns (y ∷ xs) x h f = go (has ns y.ticket) refl h f (has-lacking ns 
 -- ---- the steps of a join
 
 allowed-take : (join : JoinView) (u : ℕ) (steps : List Step) → StandsFor join steps → has join.kept.pending u ≡ true → IsAllowed join.spec (run join.spec start steps) (Take u)
-allowed-take join u steps st t = lacking-come (run join.spec start steps).taken (run join.spec start steps).tuples u (subst (λ (k : Kept). has k.pending u ≡ true) st.1 t)
+allowed-take join u steps st t = lacking-come (run join.spec start steps).taken (run join.spec start steps).tuples u (subst (λ (k : KeptState). has k.pending u ≡ true) st.1 t)
 
 allowed-give : (join : JoinView) (u : ℕ) (steps : List Step) → StandsFor join steps → IsTaken join.kept u → IsAllowed join.spec (run join.spec start steps) (Give u)
 allowed-give join u steps st t = (
-  subst (λ (n : ℕ). has (run join.spec start steps).taken n ≡ true) come.0.2 (has-lacking (run join.spec start steps).taken (run join.spec start steps).tuples come.0.0 come.0.1 (subst (λ (n : ℕ). has (lacking (run join.spec start steps).taken (run join.spec start steps).tuples) n ≡ false) (sym come.0.2) (subst (λ (k : Kept). has k.pending u ≡ false) st.1 t.1))),
+  subst (λ (n : ℕ). has (run join.spec start steps).taken n ≡ true) come.0.2 (has-lacking (run join.spec start steps).taken (run join.spec start steps).tuples come.0.0 come.0.1 (subst (λ (n : ℕ). has (lacking (run join.spec start steps).taken (run join.spec start steps).tuples) n ≡ false) (sym come.0.2) (subst (λ (k : KeptState). has k.pending u ≡ false) st.1 t.1))),
   come.1,
 )
   where
     come : ((x : TupleAt) × In x (run join.spec start steps).tuples × (x.ticket ≡ u)) × (has (run join.spec start steps).given u ≡ false)
-    come = lacking-come (run join.spec start steps).given (run join.spec start steps).tuples u (subst (λ (k : Kept). has k.opened u ≡ true) st.1 t.0)
+    come = lacking-come (run join.spec start steps).given (run join.spec start steps).tuples u (subst (λ (k : KeptState). has k.opened u ≡ true) st.1 t.0)
 
 -- a tuple that fits and is new leads on
 pub stands-tuple : (join new : JoinView) (input : ℕ) (row : List Value) → StepsStand join.spec → input < inputs join.spec → length row ≡ arity join.spec input → new ≡ after join (TupleComes input row)
     → IsNew join.kept.puncts input row → (steps : List Step) → StandsFor join steps → StandsFor new (steps ++ TupleComes input row ∷ [])
 stands-tuple join new input row law i r e fresh steps st =
     subst (λ (v : JoinView). StandsFor v (steps ++ TupleComes input row ∷ [])) (sym e)
-    (stands-more join (TupleComes input row) steps law st (i, r, subst (λ (k : Kept). IsNew k.puncts input row) st.1 fresh))
+    (stands-more join (TupleComes input row) steps law st (i, r, subst (λ (k : KeptState). IsNew k.puncts input row) st.1 fresh))
 
 -- a punctuation that fits leads on
 pub stands-punct : (join new : JoinView) (input : ℕ) (patterns : List Pattern) → StepsStand join.spec → input < inputs join.spec → length patterns ≡ arity join.spec input → new ≡ after join (PunctComes input patterns)
@@ -66,7 +66,7 @@ stands-give join new u law t e steps st =
     subst (λ (v : JoinView). StandsFor v (steps ++ Give u ∷ [])) (sym e) (stands-more join (Give u) steps law st (allowed-give join u steps st t))
 
 -- what is taken leads on, and the stored tuples give the results over all that arrived
-pub stands-taken : (join new : JoinView) (answer : Option Found) → StepsStand join.spec → IsNeverSwept join.spec → AllIsStored join.spec → join.spec.certs ≡ [] → 1 < inputs join.spec → Takes join new answer
+pub stands-taken : (join new : JoinView) (answer : Option Found) → StepsStand join.spec → IsNeverSwept join.spec → AllIsStored join.spec → join.spec.certs ≡ [] → 1 < inputs join.spec → JoinTakes join new answer
     → (steps : List Step) → StandsFor join steps → StandsTaken new steps answer
 stands-taken join new None law never stored none lt t steps st = subst (λ (v : JoinView). StandsFor v steps) (sym t.1) st
 stands-taken join new (Some found) law never stored none lt t steps st =
@@ -76,7 +76,7 @@ stands-taken join new (Some found) law never stored none lt t steps st =
     )
   where
     same : join.kept.stored ≡ (run join.spec start steps).tuples
-    same = ap (λ (k : Kept). k.stored) st.1 ∙ stored steps (never none lt steps st.0)
+    same = ap (λ (k : KeptState). k.stored) st.1 ∙ stored steps (never none lt steps st.0)
 
 -- ---- the low-water ticket
 

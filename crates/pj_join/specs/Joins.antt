@@ -3,14 +3,14 @@ use Rattle.std.specs.Prelude.{ℕ, ◌≤◌, ◌≡◌, true, false, List, [], 
 use Rattle.pj_shape.specs.declared.joins.JoinSpec.{JoinSpec}
 pub use Rattle.pj_join.specs.declared.found.Found.{Found}
 use Rattle.pj_laws.specs.Join.{In, JoinData, Step, Take, start, run, has, joined, results, AreLegalSteps}
-use Rattle.pj_laws.specs.Kept.{Kept, kept_step, JoinStands}
+use Rattle.pj_laws.specs.KeptState.{KeptState, kept_step, JoinStands}
 
 -- its number among the nodes, what it joins by, how many elements may reach it, and what it keeps of those that did
 pub record JoinView : Type 0 where
   pub node : ℕ
   pub spec : JoinData
   pub limit : ℕ
-  pub kept : Kept
+  pub kept : KeptState
 
 -- a join of this shape that is never swept and hands up rows alone
 abbrev pub unswept : JoinSpec → JoinData
@@ -21,7 +21,7 @@ abbrev pub after : JoinView → Step → JoinView
 after join e = record join { kept = kept_step join.spec join.kept e }
 
 -- the ticket is taken and not given
-abbrev pub IsTaken : Kept → ℕ → Type 0
+abbrev pub IsTaken : KeptState → ℕ → Type 0
 IsTaken k u = (has k.opened u ≡ true) × (has k.pending u ≡ false)
 
 -- what the work of a ticket finds: its results over the stored tuples, each joined to a row
@@ -37,9 +37,9 @@ pub record TakesLeast (old new : JoinView) (found : Found) : Type 0 where
   pub taken : IsTaken new.kept found.ticket
 
 -- nothing where no ticket is pending; else the least is taken
-abbrev pub Takes : JoinView → JoinView → Option Found → Type 0
-Takes old new None = (old.kept.pending ≡ []) × (new ≡ old)
-Takes old new (Some found) = TakesLeast old new found
+abbrev pub JoinTakes : JoinView → JoinView → Option Found → Type 0
+JoinTakes old new None = (old.kept.pending ≡ []) × (new ≡ old)
+JoinTakes old new (Some found) = TakesLeast old new found
 
 -- the steps are legal, and the join keeps what it has to after them
 abbrev pub StandsFor : JoinView → List Step → Type 0

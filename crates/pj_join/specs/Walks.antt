@@ -1,9 +1,9 @@
 -- How combinations that join are found one tuple after the other.
-use Rattle.std.specs.Prelude.{ℕ, Bool, not, ◌==◌, nat_lt, ◌&&◌, ◌||◌, if◌then◌else◌, List, [], ◌∷◌, ◌++◌, map, filter, slice_index_or, length}
+use Rattle.std.specs.Prelude.{◌≡◌, true, ℕ, Bool, not, ◌==◌, nat_lt, ◌&&◌, ◌||◌, if◌then◌else◌, List, [], ◌∷◌, ◌++◌, map, filter, slice_index_or, length}
 use Rattle.std.specs.List.{list_all}
 use Rattle.pj_value.specs.Values.{value_eq}
 use Rattle.pj_join.specs.declared.found.Found.{Found}
-use Rattle.pj_laws.specs.Join.{ClassCol, TupleAt, Value, agree, joined, product, upto_from, value_at}
+use Rattle.pj_laws.specs.Join.{ClassCol, In, TupleAt, Value, agree, joined, product, upto_from, value_at}
 
 -- the tuple has this value in the column, where that is a column of its input
 abbrev pub has_there : Value → ClassCol → TupleAt → Bool
@@ -25,14 +25,30 @@ suits classes xs more = list_all (suits_class xs more) classes
 abbrev pub completed : List (List ClassCol) → List TupleAt → List (List TupleAt) → List (List TupleAt)
 completed classes xs lists = filter (agree classes) (map (λ c. xs ++ c) (product lists))
 
+-- whether a tuple is older than this one and joins with it
+abbrev pub older_joins : List (List ClassCol) → TupleAt → TupleAt → Bool
+older_joins classes own y = nat_lt y.ticket own.ticket && suits classes (own ∷ []) y
+
 -- of an input's tuples those that are older than this one and join with it; of its own input itself alone
 abbrev pub choice : List (List ClassCol) → TupleAt → List (List TupleAt) → ℕ → List TupleAt
 choice classes own sides input =
-    if input == own.input then (own ∷ []) else filter (λ y. nat_lt y.ticket own.ticket && suits classes (own ∷ []) y) (slice_index_or sides input [])
+    if input == own.input then (own ∷ []) else filter (older_joins classes own) (slice_index_or sides input [])
 
 -- the choice of each input
 abbrev pub choices : List (List ClassCol) → TupleAt → List (List TupleAt) → List (List TupleAt)
 choices classes own sides = map (choice classes own sides) (upto_from 0 (length sides))
+
+-- every combination of these joins
+abbrev pub AllJoin : List (List ClassCol) → List (List TupleAt) → Type 0
+AllJoin classes lists = (c : List TupleAt) → In c (product lists) → agree classes c ≡ true
+
+-- the row of two tuples
+abbrev pub pair : TupleAt → TupleAt → List Value
+pair x y = joined (x ∷ y ∷ [])
+
+-- the rows of a tuple with each of these
+abbrev pub pairs : List TupleAt → TupleAt → List (List Value)
+pairs ys x = map (pair x) ys
 
 -- what the work of a ticket finds over the choice of each input: the ways to take one of each that join, as rows
 abbrev pub found_in : ℕ → ℕ → List (List ClassCol) → List (List TupleAt) → Found

@@ -5,23 +5,21 @@ use pj_pattern::Punct;
 use pj_value::{NoMemory, Row};
 use std::alloc::Global;
 use std::marker::Model;
-use std::sync::Arc;
 
-/// A tuple that has come, with its ticket and its input. Its row is shared, so that a probe copies none.
+/// A tuple that has come, with its ticket and its input. Its row shares its values, so that a probe copies none.
 #[derive(Drop)]
 pub struct Arrived {
     ticket: u64,
     input: u32,
-    row: Arc<Row, Global>,
+    row: Row,
 }
 
 impl Model for Arrived {
-    ghost use Rattle.std.specs.Arc.{arc_value};
     ghost use Rattle.pj_laws.specs.Join.{TupleAt};
 
     ghost Value = { TupleAt };
 
-    ghost view = { λ a. record { ticket = a.ticket; input = a.input; row = arc_value a.row } };
+    ghost view = { λ a. record { ticket = a.ticket; input = a.input; row = a.row } };
 }
 
 /// A punctuation that has come, with its ticket and its input.
@@ -45,15 +43,15 @@ impl Arrived {
     pub fn new(alloc: Global, ticket: u64, input: u32, row: Row) -> Result<Arrived, NoMemory>
         ensures { IfOk result (λ a. a ≡ record { ticket = ticket; input = input; row = row }) }
     {
-        let row = Arc::new(alloc, row)?;
+        let row = row.share(alloc)?;
         Ok(Arrived { ticket, input, row })
     }
 
-    /// A second handle of the same tuple; its row is not copied.
-    pub fn share(&self) -> Result<Arrived, NoMemory>
+    /// A second handle of the same tuple; its values are not copied.
+    pub fn share(&self, alloc: Global) -> Result<Arrived, NoMemory>
         ensures { IfOk result (λ a. a ≡ self.now) }
     {
-        let row = Arc::try_clone(&self.row)?;
+        let row = self.row.copy(alloc)?;
         Ok(Arrived {
             ticket: self.ticket,
             input: self.input,

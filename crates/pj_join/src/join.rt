@@ -2,12 +2,14 @@
 ghost use Rattle.std.specs.Prelude.{◌≡◌, ◌<◌, ◌≤◌, ◌+◌, ◌^◌, ◌↔◌, List, [], ◌∷◌, ◌++◌, length, OnOk, OnErr, IfOk, IsErrOf, IsTrue, Err, map, ◌==◌};
 ghost use Rattle.pj_shape.specs.Sound.{IsSoundSpec};
 ghost use Rattle.pj_laws.specs.Join.{Step, TupleComes, PunctComes, Take, Give, IsNew, start, run, low, inputs, arity, of_input, upto_from};
-ghost use Rattle.pj_laws.specs.Kept.{kept_of, kept_low, without};
+ghost use Rattle.pj_laws.specs.KeptState.{kept_of, kept_low, without};
 ghost use Rattle.std.specs.List.{position};
 ghost use Rattle.pj_join.specs.Insides.{Rise};
-ghost use Rattle.pj_join.specs.Joins.{IsTaken, StandsFor, StandsTaken, Takes, after, unswept};
+ghost use Rattle.pj_join.specs.Joins.{IsTaken, StandsFor, JoinTakes, StandsTaken, after, unswept};
 
 use crate::arrivals::{Arrived, Heard};
+use crate::prints::key_column;
+use crate::side::Side;
 use crate::{JoinStop, Probe};
 use pj_laws::{standing, without_sweeps};
 use pj_pattern::Punct;
@@ -27,7 +29,7 @@ pub struct Join {
     limit: u64,
     next: u64,
     log: List<Arrived>,
-    sides: Vec<List<Arrived>>,
+    sides: Vec<Side>,
     puncts: List<Heard>,
     done: usize,
     taken: Vec<u64>,
@@ -52,7 +54,7 @@ impl Join {
         requires limit { (1 ≤ limit) × (limit ≤ 2 ^ 40) }
         ensures { IfOk result (λ join. join ≡ record { node = node; spec = unswept spec; limit = limit; kept = kept_of start }) }
     {
-        let sides = empty_sides(alloc, spec.inputs.len())?;
+        let sides = empty_sides(alloc, &spec)?;
         Ok(Join {
             alloc,
             node,
@@ -84,7 +86,12 @@ impl Join {
         }
         let ticket = self.next;
         let arrived = Arrived::new(self.alloc, ticket, input, row)?;
-        store(&mut self.log, &mut self.sides[input as usize], arrived)?;
+        store(
+            self.alloc,
+            &mut self.log,
+            &mut self.sides[input as usize],
+            arrived,
+        )?;
         self.next = ticket + 1;
         Ok(ticket)
     }
@@ -120,7 +127,7 @@ impl Join {
 
     /// Takes the least ticket that is pending; `None` exactly where none is. On a refusal the join is as before.
     pub fn take(&mut self) -> Result<Option<Probe>, NoMemory>
-        ensures takes { IfOk result (λ answer. Takes self.old self.new answer) }
+        ensures takes { IfOk result (λ answer. JoinTakes self.old self.new answer) }
         ensures stands { IfOk result (λ answer. (steps : List Step) → StandsFor self.old steps → StandsTaken self.new steps answer) }
         ensures refused { OnErr result (self.new ≡ self.old) }
     {
@@ -196,32 +203,35 @@ fn is_full(next: u64, limit: u64) -> bool
     next == limit
 }
 
-/// So many empty lists.
-fn empty_sides(alloc: Global, count: usize) -> Result<Vec<List<Arrived>>, NoMemory>
-    ensures { IfOk result (λ sides. sides.items ≡ map (λ k. of_input k []) (upto_from 0 count)) }
+/// A side with no tuple for each input, whose key is the first column that a class has of it.
+fn empty_sides(alloc: Global, spec: &JoinSpec) -> Result<Vec<Side>, NoMemory>
+    ensures { IfOk result (λ sides. sides.items ≡ map (λ k. of_input k []) (upto_from 0 (length spec.now.inputs))) }
 {
     let mut sides = Vec::new(alloc);
-    for input in 0..count {
-        sides.push(List::new(alloc))?;
+    for input in 0..spec.inputs.len() {
+        let key = key_column(spec.classes.as_slice(), input);
+        let number = input.min(u32::MAX as usize) as u32;
+        sides.push(Side::new(alloc, number, key)?)?;
     }
     Ok(sides)
 }
 
 /// Puts a tuple at the end of the log and of its side, or of neither.
 fn store(
+    alloc: Global,
     log: &mut List<Arrived>,
-    side: &mut List<Arrived>,
+    side: &mut Side,
     arrived: Arrived,
 ) -> Result<(), NoMemory>
     ensures ok { OnOk result ((log.new ≡ log.old ++ arrived ∷ []) × (side.new ≡ side.old ++ arrived ∷ [])) }
     ensures err { OnErr result ((log.new ≡ log.old) × (side.new ≡ side.old)) }
 {
-    let count = side.len();
-    side.push(arrived.share()?)?;
-    match log.push(arrived) {
+    let count = log.len();
+    log.push(arrived.share(alloc)?)?;
+    match side.push(alloc, arrived) {
         Ok(()) => Ok(()),
         Err(stop) => {
-            side.truncate(count);
+            log.truncate(count);
             Err(stop)
         }
     }

@@ -4,7 +4,9 @@
 mod arrivals;
 mod found;
 mod join;
+mod prints;
 mod probe;
+mod side;
 mod walk;
 
 pub use found::{Found, JoinStop};

@@ -5,7 +5,8 @@ ghost use Rattle.pj_join.specs.Walks.{choices, found_in};
 
 use crate::Found;
 use crate::arrivals::Arrived;
-use crate::walk::{choices, complete};
+use crate::side::Side;
+use crate::walk::{choices, choices_join, found_rows};
 use pj_shape::JoinSpec;
 use pj_value::{List, NoMemory};
 use std::alloc::Global;
@@ -19,16 +20,20 @@ pub struct Probe {
     ticket: u64,
     spec: Arc<JoinSpec, Global>,
     sides: List<List<Arrived>>,
+    all_join: bool,
 }
 
 impl Model for Probe {
+    ghost use Rattle.std.specs.Prelude.{IsTrue};
     ghost use Rattle.std.specs.Arc.{arc_value};
     ghost use Rattle.pj_join.specs.declared.found.Found.{Found};
-    ghost use Rattle.pj_join.specs.Walks.{found_in};
+    ghost use Rattle.pj_join.specs.Walks.{AllJoin, found_in};
 
     ghost Value = { Found };
 
     ghost view = { λ p. found_in p.join p.ticket (arc_value p.spec).classes p.sides };
+
+    ghost invariant = { λ p. IsTrue p.all_join → AllJoin (arc_value p.spec).classes p.sides };
 }
 
 impl Probe {
@@ -38,17 +43,19 @@ impl Probe {
         join: u32,
         spec: &Arc<JoinSpec, Global>,
         own: &Arrived,
-        sides: &[List<Arrived>],
+        sides: &[Side],
     ) -> Result<Probe, NoMemory>
         ensures { let classes = (arc_value spec.now).classes in IfOk result (λ probe. probe ≡ found_in join own.now.ticket classes (choices classes own.now sides.now)) }
     {
         let spec = share_spec(spec)?;
+        let all_join = choices_join(spec.classes.as_slice(), own, sides);
         let sides = choices(alloc, spec.classes.as_slice(), own, sides)?;
         Ok(Probe {
             join,
             ticket: own.ticket(),
             spec,
             sides,
+            all_join,
         })
     }
 
@@ -68,18 +75,14 @@ impl Probe {
 
     /// Finds its results: each combination with one older tuple of each other input in which all classes agree, joined
     /// to a row, in the order of their tickets.
-    #[tactic(auto, using(crate::proofs::Walking::whole_walk))]
     pub fn work(&self, alloc: Global) -> Result<Found, NoMemory>
         ensures { IfOk result (λ found. found ≡ self.now) }
     {
-        let mut parts = List::new(alloc);
-        let mut rows = List::new(alloc);
-        complete(
+        let rows = found_rows(
             alloc,
             self.spec.classes.as_slice(),
-            &mut parts,
             self.sides.as_slice(),
-            &mut rows,
+            self.all_join,
         )?;
         Ok(Found {
             join: self.join,

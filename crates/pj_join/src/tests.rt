@@ -150,8 +150,8 @@ fn append_found(found: &Found, all: &mut Vec<i64>) -> Result<(), NoMemory> {
 }
 
 fn append_numbers(row: &Row, all: &mut Vec<i64>) -> Result<(), NoMemory> {
-    for value in row.as_slice() {
-        match value {
+    for column in 0..row.len() {
+        match row.at(column) {
             Value::Int(n) => all.push(*n)?,
             Value::Text(_) => {}
         }

@@ -1,22 +1,24 @@
 // Combinations of tuples that join, found one tuple after the other.
-ghost use Rattle.std.specs.Prelude.{◌≡◌, ◌++◌, ◌||◌, true, not, map, ◌==◌, length, OnOk, IfOk, nat_lt, ◌<◌, filter, ◌&&◌, ◌∷◌, []};
+ghost use Rattle.std.specs.Prelude.{◌≡◌, ◌++◌, ◌||◌, true, not, map, ◌==◌, length, OnOk, IfOk, IfSome, nat_lt, ◌<◌, filter, flat_map, ◌&&◌, ◌∷◌, [], IsTrue};
 ghost use Rattle.std.specs.List.{list_all};
 ghost use Rattle.pj_value.specs.declared.values.Value.{Value};
 ghost use Rattle.pj_value.specs.Values.{value_eq};
-ghost use Rattle.pj_laws.specs.Join.{agree, joined, value_at};
-ghost use Rattle.pj_join.specs.Walks.{all_have, choices, completed, choice, has_there, suits, suits_class};
+ghost use Rattle.pj_laws.specs.Join.{agree, joined, product, value_at};
+ghost use Rattle.pj_join.specs.Decided.{ClassDecides, ColumnsDecide};
+ghost use Rattle.pj_join.specs.Walks.{AllJoin, all_have, choices, completed, choice, has_there, older_joins, pair, pairs, suits, suits_class};
 
 use crate::arrivals::Arrived;
+use crate::prints::wanted;
+use crate::side::Side;
 use pj_shape::ClassCol;
-use pj_value::{List, NoMemory, Row, Value};
+use pj_value::{JoinedParts, List, NoMemory, Row, Value};
 use std::alloc::Global;
+use std::slice::from_ref;
 
 /// Whether both rows have one value in these columns. A column that is not there has the empty text.
 fn same_cell(a: &Row, i: u32, b: &Row, j: u32) -> bool
     ensures { result ≡ value_eq (value_at a.now i) (value_at b.now j) }
 {
-    let a = a.as_slice();
-    let b = b.as_slice();
     match a.get(i as usize) {
         None => match b.get(j as usize) {
             None => true,
@@ -72,23 +74,73 @@ pub fn suits(classes: &[List<ClassCol>], others: &[Arrived], more: &Arrived) -> 
         .all(|class| suits_class(others, more, class.as_slice()))
 }
 
-fn append_values(alloc: Global, row: &[Value], values: &mut List<Value>) -> Result<(), NoMemory>
-    ensures { OnOk result (values.new ≡ values.old ++ row.now) }
+// The row of these tuples, which shares their values.
+fn joined_row(alloc: Global, parts: &[Arrived]) -> Result<Row, NoMemory>
+    ensures { IfOk result (λ row. row ≡ joined parts.now) }
 {
-    for value in row {
-        values.push(value.copy(alloc)?)?;
+    let mut values = JoinedParts::with_room(alloc, parts.len())?;
+    for part in parts {
+        part.row().join_to(alloc, &mut values)?;
+    }
+    Ok(Row::joined(values))
+}
+
+fn append_pairs(
+    alloc: Global,
+    one: &Arrived,
+    others: &[Arrived],
+    rows: &mut List<Row>,
+) -> Result<(), NoMemory>
+    ensures { OnOk result (rows.new ≡ rows.old ++ pairs others.now one.now) }
+{
+    for other in others {
+        rows.push(Row::pair(alloc, one.row(), other.row())?)?;
     }
     Ok(())
 }
 
-fn joined_row(alloc: Global, parts: &[Arrived]) -> Result<Row, NoMemory>
-    ensures { IfOk result (λ row. row ≡ joined parts.now) }
+// The rows of each of the first tuples with each of the others.
+fn pair_rows(alloc: Global, ones: &[Arrived], others: &[Arrived]) -> Result<List<Row>, NoMemory>
+    ensures { IfOk result (λ rows. rows ≡ flat_map (pairs others.now) ones.now) }
 {
-    let mut values = List::new(alloc);
-    for part in parts {
-        append_values(alloc, part.row().as_slice(), &mut values)?;
+    let mut rows = List::with_room(alloc, ones.len().saturating_mul(others.len()))?;
+    for one in ones {
+        append_pairs(alloc, one, others, &mut rows)?;
     }
-    Ok(Row::of(values))
+    Ok(rows)
+}
+
+// The rows of the ways to take one tuple of each list that join.
+#[tactic(auto, using(crate::proofs::Walking::whole_walk))]
+fn completed_rows(
+    alloc: Global,
+    classes: &[List<ClassCol>],
+    lists: &[List<Arrived>],
+) -> Result<List<Row>, NoMemory>
+    ensures { IfOk result (λ rows. rows ≡ map joined (filter (agree classes.now) (product lists.now))) }
+{
+    let mut parts = List::new(alloc);
+    let mut rows = List::new(alloc);
+    complete(alloc, classes, &mut parts, lists, &mut rows)?;
+    Ok(rows)
+}
+
+/// The rows of the ways to take one tuple of each list that join. Where it is known that all do, nothing is compared for
+/// two lists.
+pub fn found_rows(
+    alloc: Global,
+    classes: &[List<ClassCol>],
+    lists: &[List<Arrived>],
+    all_join: bool,
+) -> Result<List<Row>, NoMemory>
+    requires { IsTrue all_join → AllJoin classes.now lists.now }
+    ensures { IfOk result (λ rows. rows ≡ map joined (filter (agree classes.now) (product lists.now))) }
+{
+    if all_join && lists.len() == 2 {
+        let rows = pair_rows(alloc, lists[0].as_slice(), lists[1].as_slice())?;
+        return Ok(rows);
+    }
+    completed_rows(alloc, classes, lists)
 }
 
 /// Appends the row of each way to complete the parts, which join, by one tuple of each list. The parts are as before
@@ -137,25 +189,121 @@ fn complete_with(
         return Ok(());
     }
     let count = parts.len();
-    parts.push(next.share()?)?;
+    parts.push(next.share(alloc)?)?;
     complete(alloc, classes, parts, lists, rows)?;
     parts.truncate(count);
     Ok(())
 }
 
+// The tuples among which all are that are older than this one and join with it.
+#[tactic(auto, using(crate::proofs::Wanted::candidates_hold))]
+fn candidates<'a>(
+    classes: &[List<ClassCol>],
+    own: &Arrived,
+    side: &'a Side,
+    input: usize,
+) -> &'a [Arrived]
+    ensures { filter (older_joins classes.now own.now) result.now ≡ filter (older_joins classes.now own.now) side.now }
+{
+    match wanted(classes, own, input) {
+        None => side.as_slice(),
+        Some(wanted) => match side.group(input, wanted) {
+            None => side.as_slice(),
+            Some(found) => found,
+        },
+    }
+}
+
+// The columns that decide whether two tuples join.
+#[derive(Clone, Copy)]
+struct EqualColumns {
+    mine: u32,
+    theirs: u32,
+}
+
+// The columns of a class that has one column of each of two inputs.
+fn columns_of(class: &[ClassCol], own: usize, input: usize) -> Option<EqualColumns>
+    ensures { IfSome result (λ columns. ClassDecides class.now own input columns.mine columns.theirs) }
+{
+    if own == input {
+        return None;
+    }
+    match class {
+        [a, b] => {
+            if a.input as usize == own {
+                if b.input as usize == input {
+                    return Some(EqualColumns {
+                        mine: a.column,
+                        theirs: b.column,
+                    });
+                }
+                return None;
+            }
+            if b.input as usize == own {
+                if a.input as usize == input {
+                    return Some(EqualColumns {
+                        mine: b.column,
+                        theirs: a.column,
+                    });
+                }
+            }
+            None
+        }
+        _ => None,
+    }
+}
+
+// The columns that decide whether tuples of an input join with this one, where two do.
+#[tactic(auto, using(crate::proofs::Decided::one_class))]
+fn equal_columns(classes: &[List<ClassCol>], own: &Arrived, input: usize) -> Option<EqualColumns>
+    ensures { IfSome result (λ columns. ColumnsDecide classes.now own.now input columns.mine columns.theirs) }
+{
+    match classes {
+        [class] => columns_of(class.as_slice(), own.input() as usize, input),
+        _ => None,
+    }
+}
+
+// Whether the tuple joins with this one.
+fn joins_with(
+    classes: &[List<ClassCol>],
+    own: &Arrived,
+    input: usize,
+    columns: Option<EqualColumns>,
+    other: &Arrived,
+) -> bool
+    requires { IfSome columns (λ columns. ColumnsDecide classes.now own.now input columns.mine columns.theirs) }
+    ensures { result ≡ suits classes.now (own.now ∷ []) other.now }
+{
+    match columns {
+        None => suits(classes, from_ref(own), other),
+        Some(columns) => {
+            if other.input() as usize == input {
+                same_cell(other.row(), columns.theirs, own.row(), columns.mine)
+            } else {
+                suits(classes, from_ref(own), other)
+            }
+        }
+    }
+}
+
+// Room for so many candidates is made at once.
+const FEW: usize = 64;
+
 fn older_that_suit(
     alloc: Global,
     classes: &[List<ClassCol>],
-    own: &[Arrived],
-    ticket: u64,
+    own: &Arrived,
+    input: usize,
     side: &[Arrived],
 ) -> Result<List<Arrived>, NoMemory>
-    ensures { IfOk result (λ found. found ≡ filter (λ y. nat_lt y.ticket ticket && suits classes.now own.now y) side.now) }
+    ensures { IfOk result (λ found. found ≡ filter (older_joins classes.now own.now) side.now) }
 {
-    let mut found = List::new(alloc);
+    let columns = equal_columns(classes, own, input);
+    let mut found = List::with_room(alloc, side.len().min(FEW))?;
     for other in side {
-        if other.ticket() < ticket && suits(classes, own, other) {
-            found.push(other.share()?)?;
+        if other.ticket() < own.ticket() && joins_with(classes, own, input, columns, other) {
+            found.push(other.share(alloc)?)?;
         }
     }
     Ok(found)
@@ -164,8 +312,8 @@ fn older_that_suit(
 fn alone(alloc: Global, own: &Arrived) -> Result<List<Arrived>, NoMemory>
     ensures { IfOk result (λ list. list ≡ own.now ∷ []) }
 {
-    let mut list = List::new(alloc);
-    list.push(own.share()?)?;
+    let mut list = List::with_room(alloc, 1)?;
+    list.push(own.share(alloc)?)?;
     Ok(list)
 }
 
@@ -173,23 +321,19 @@ fn choice(
     alloc: Global,
     classes: &[List<ClassCol>],
     own: &Arrived,
-    sides: &[List<Arrived>],
+    sides: &[Side],
     input: usize,
 ) -> Result<List<Arrived>, NoMemory>
     requires { input < length sides.now }
     ensures { IfOk result (λ found. found ≡ choice classes.now own.now sides.now input) }
 {
-    let list = alone(alloc, own)?;
     if input == own.input() as usize {
+        let list = alone(alloc, own)?;
         return Ok(list);
     }
-    older_that_suit(
-        alloc,
-        classes,
-        list.as_slice(),
-        own.ticket(),
-        sides[input].as_slice(),
-    )
+    let among = candidates(classes, own, &sides[input], input);
+    let found = older_that_suit(alloc, classes, own, input, among)?;
+    Ok(found)
 }
 
 /// For each input the tuples that may stand in a combination with this one: of its own input itself alone, of each
@@ -198,7 +342,7 @@ pub fn choices(
     alloc: Global,
     classes: &[List<ClassCol>],
     own: &Arrived,
-    sides: &[List<Arrived>],
+    sides: &[Side],
 ) -> Result<List<List<Arrived>>, NoMemory>
     ensures { IfOk result (λ found. found ≡ choices classes.now own.now sides.now) }
 {
@@ -207,4 +351,12 @@ pub fn choices(
         found.push(choice(alloc, classes, own, sides, input)?)?;
     }
     Ok(found)
+}
+
+/// Whether it is known that the choices of this tuple all join: those of two inputs, each of which was compared with it.
+#[tactic(auto, using(crate::proofs::Pairs::two_choices))]
+pub fn choices_join(classes: &[List<ClassCol>], own: &Arrived, sides: &[Side]) -> bool
+    ensures { IsTrue result → AllJoin classes.now (choices classes.now own.now sides.now) }
+{
+    own.input() < 2 && sides.len() == 2 && suits(classes, &[], own)
 }

@@ -4,4 +4,4 @@ use Rattle.pj_join.proofs.join.Join.new.Goals as goal
 pub invariant_of-result : goal.invariant_of-result
 invariant_of-result c =
     rw (c.new-2.ensures, c.new-4.ensures.items, c.in_ok-new.ensures.ok)
-    (ordered-start c.args.spec c.args.limit c.in_ok-sides.sides.items c.requires.sound c.requires.limit.1 (rw (← c.len.ensures) c.in_ok-sides.ensures))
+    (ordered-start c.args.spec c.args.limit c.in_ok-sides.sides.items c.requires.sound c.requires.limit.1 c.in_ok-sides.ensures)

@@ -1,0 +1,52 @@
+-- Joins in which two columns decide.
+use Rattle.std.proofs.Common.{◌≡◌, ℕ, Bool, true, false, not, ◌==◌, ◌&&◌, ◌||◌, ◌<◌, ◌≤◌, List, [], ◌∷◌, length, get_or, refl, sym, ◌∙◌, arith}
+use Rattle.std.proofs.lemmas.Bool.{eq-eqb, eqb-true, false_from_ne_true}
+use Rattle.pj_value.specs.Values.{value_eq}
+use Rattle.pj_value.proofs.Orders.{equal_itself}
+use Rattle.pj_laws.specs.Join.{ClassCol, TupleAt, value_at}
+use Rattle.pj_join.specs.Walks.{all_have, suits_class}
+use Rattle.pj_join.specs.Decided.{ClassDecides, ColumnsDecide}
+
+both_first : (p q r s t rest u v w : Bool) → p ≡ false → q ≡ true → r ≡ true → s ≡ false → t ≡ true
+    → ((not p || rest) && ((not q || (((not p || u) && ((not r || v) && true)) && (((not q || t) && ((not s || w) && true)) && true))) && true)) ≡ v
+both_first p q r s t rest u v w ep eq er es et = rw (ep, eq, er, es, et) (last v)
+  where
+    last : (b : Bool) → (((b && true) && true) && true) ≡ b
+    last true = refl
+    last false = refl
+
+both_second : (p q r s t rest u v w : Bool) → p ≡ true → q ≡ false → r ≡ false → s ≡ true → t ≡ true
+    → ((not p || (((not p || t) && ((not r || u) && true)) && (((not q || w) && ((not s || v) && true)) && true))) && ((not q || rest) && true)) ≡ v
+both_second p q r s t rest u v w ep eq er es et = rw (ep, eq, er, es, et) (last v)
+  where
+    last : (b : Bool) → (((b && true) && true) && true) ≡ b
+    last true = refl
+    last false = refl
+
+apart : (m n : ℕ) → (m ≡ n → ⊥) → (m == n) ≡ false
+apart m n differ = false_from_ne_true (m == n) (λ e. differ (eqb-true m n e))
+
+pub first_decides : (a b : ClassCol) (own input : ℕ) → a.input ≡ own → b.input ≡ input → (own ≡ input → ⊥) → ClassDecides (a ∷ b ∷ []) own input a.column b.column
+first_decides a b own input ea eb differ = λ x y ex ey.
+    let v = value_at y.row b.column in
+    both_first (y.input == a.input) (y.input == b.input) (x.input == a.input) (x.input == b.input) (value_eq v v) (all_have (a ∷ b ∷ []) (x ∷ []) y (value_at y.row a.column)) (value_eq v (value_at y.row a.column)) (value_eq v (value_at x.row a.column)) (value_eq v (value_at x.row b.column))
+    (apart y.input a.input (λ e. differ (sym ea ∙ (sym e ∙ ey)))) (eq-eqb y.input b.input (ey ∙ sym eb)) (eq-eqb x.input a.input (ex ∙ sym ea)) (apart x.input b.input (λ e. differ (sym ex ∙ (e ∙ eb)))) (equal_itself v)
+
+pub second_decides : (a b : ClassCol) (own input : ℕ) → b.input ≡ own → a.input ≡ input → (own ≡ input → ⊥) → ClassDecides (a ∷ b ∷ []) own input b.column a.column
+second_decides a b own input eb ea differ = λ x y ex ey.
+    let v = value_at y.row a.column in
+    both_second (y.input == a.input) (y.input == b.input) (x.input == a.input) (x.input == b.input) (value_eq v v) (all_have (a ∷ b ∷ []) (x ∷ []) y (value_at y.row b.column)) (value_eq v (value_at x.row a.column)) (value_eq v (value_at x.row b.column)) (value_eq v (value_at y.row b.column))
+    (eq-eqb y.input a.input (ey ∙ sym ea)) (apart y.input b.input (λ e. differ (sym eb ∙ (sym e ∙ ey)))) (apart x.input a.input (λ e. differ (sym ex ∙ (e ∙ ea)))) (eq-eqb x.input b.input (ex ∙ sym eb)) (equal_itself v)
+
+and-true : (b : Bool) → (b && true) ≡ b
+and-true true = refl
+and-true false = refl
+
+pub one_class : (class : List ClassCol) (x : TupleAt) (input mine theirs : ℕ) → ClassDecides class x.input input mine theirs → ColumnsDecide (class ∷ []) x input mine theirs
+one_class class x input mine theirs decides = λ y of. and-true (suits_class (x ∷ []) y class) ∙ decides x y refl of
+
+pub two_columns : (class : List ClassCol) (d e : ClassCol) → 2 ≤ length class → length class < 3 → class ≡ get_or class 0 d ∷ get_or class 1 e ∷ []
+two_columns [] d e least below = absurd (omega (arith, least))
+two_columns (a ∷ []) d e least below = absurd (omega (arith, least))
+two_columns (a ∷ b ∷ []) d e least below = refl
+two_columns (a ∷ b ∷ c ∷ cs) d e least below = absurd (omega (arith, below))
