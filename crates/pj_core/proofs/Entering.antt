@@ -10,7 +10,7 @@ use Rattle.pj_laws.specs.declared.events.Event.{Event}
 use Rattle.pj_laws.specs.declared.events.Out.{Out}
 use Rattle.pj_laws.specs.declared.events.Stop.{Stop}
 use Rattle.pj_laws.specs.Join.{JoinData, JoinState, Step, start, run}
-use Rattle.pj_laws.specs.Kept.{Kept, kept_of, kept_step}
+use Rattle.pj_laws.specs.KeptState.{KeptState, kept_of, kept_step}
 use Rattle.pj_laws.specs.Plan.{Join, Node}
 use Rattle.pj_laws.specs.History.{Reached, begun, next, nodes_by, nodes_from, reached_of, closed_after, undrained_after, halted_after, stop_after, IsLegal}
 use Rattle.pj_laws.specs.Outcomes.{arrivals_at, arrivals_by, peak_of, stored_at}
@@ -26,7 +26,7 @@ pub stored-peak : (nodes : List Node) (history : List Entry) (n : ℕ) → store
 stored-peak nodes [] n = omega arith
 stored-peak nodes (entry ∷ history) n = let r = stored-peak (nodes_by nodes entry.event) history n in omega (arith, r)
 
-abbrev third : List KeptOperator → Kept → Kept
+abbrev third : List KeptOperator → KeptState → KeptState
 third (a ∷ b ∷ JoinKept k ∷ rest) other = k
 third _ other = other
 
@@ -145,12 +145,12 @@ module _ (sa sb : SmallStream) (j : SmallJoin) (order : Bool) (q : j.inputs ≡ 
         let c1 : 0 ≡ length (arrivals_at (nodes_two sa sb j) (history ++ entry ∷ []) 1) =
         (let b = brought 1 in let o = ap (λ k. second_of k.counts) K in let z = ap length move.second in omega (arith, b, o, z)) in
         let c2 : part'.kept.next ≡ length (arrivals_at (nodes_two sa sb j) (history ++ entry ∷ []) 2) =
-        (let b = brought 2 in let o = ap (λ k. third_of k.counts) K in let z = move.third in let k' = ap (λ (k : Kept). k.next) pk in let k = ap (λ (k : Kept). k.next) (part-is l part c u history S f) in omega (arith, b, o, z, k', k)) in
+        (let b = brought 2 in let o = ap (λ k. third_of k.counts) K in let z = move.third in let k' = ap (λ (k : KeptState). k.next) pk in let k = ap (λ (k : KeptState). k.next) (part-is l part c u history S f) in omega (arith, b, o, z, k', k)) in
         let p0 : 0 ≡ peak_of (nodes_two sa sb j) (history ++ entry ∷ []) 0 = (let b = peaked 0 in let o = ap (λ k. first_of_these k.peaks) K in omega (arith, b, o)) in
         let p1 : 0 ≡ peak_of (nodes_two sa sb j) (history ++ entry ∷ []) 1 = (let b = peaked 1 in let o = ap (λ k. second_of k.peaks) K in omega (arith, b, o)) in
         let p2 : part'.peak ≡ peak_of (nodes_two sa sb j) (history ++ entry ∷ []) 2 = (let b = peaked 2 in let o = ap (λ k. third_of k.peaks) K in omega (arith, b, o, pp)) in
         let n : map (λ (node : Node). kept_in node.operator) (nodes_from (nodes_two sa sb j) (history ++ entry ∷ [])) ≡ NothingKept ∷ NothingKept ∷ JoinKept part'.kept ∷ [] =
-        ap (map (λ (node : Node). kept_in node.operator)) (adds.nodes ∙ moved-to) ∙ ap (λ (k : Kept). NothingKept ∷ NothingKept ∷ JoinKept k ∷ []) (sym pk) in
+        ap (map (λ (node : Node). kept_in node.operator)) (adds.nodes ∙ moved-to) ∙ ap (λ (k : KeptState). NothingKept ∷ NothingKept ∷ JoinKept k ∷ []) (sym pk) in
         let closed : c' ≡ (reached_of false (nodes_two sa sb j) (history ++ entry ∷ [])).closed =
         hc ∙ ap (λ (z : Reached). closed_after z.closed entry.closing entry.event) (sym old) ∙ sym (ap (λ (z : Reached). z.closed) r) in
         let undrained : u' ≡ (reached_of false (nodes_two sa sb j) (history ++ entry ∷ [])).undrained = hu ∙ sym (ap (λ (z : Reached). z.undrained) r) in

@@ -12,7 +12,7 @@ use Rattle.pj_laws.specs.declared.events.Out.{Out}
 use Rattle.pj_laws.specs.declared.events.Out.TheVariants.{Tuple as RowOut}
 use Rattle.pj_shape.specs.declared.joins.JoinSpec.{JoinSpec}
 use Rattle.pj_laws.specs.Join.{JoinState, PunctAt, Step, TupleComes, PunctComes, Take, Give, Sweep, start, run, step, inputs, is_held, kept, has, In, IsAllowed, AreLegalSteps, joined, results}
-use Rattle.pj_laws.specs.Kept.{Kept, kept_of, kept_step, without}
+use Rattle.pj_laws.specs.KeptState.{KeptState, kept_of, kept_step, without}
 use Rattle.pj_laws.specs.Laws.{StepsStand}
 use Rattle.pj_laws.specs.Plan.{Stream, Node, join_step, IsStepAllowed, MayArrive}
 use Rattle.pj_laws.specs.History.{reached_of, nodes_by, nodes_from, gained, closed_after, step_of, pending_in, join_at, IsOn, IsEntryAllowed, IsEventAllowed}
@@ -102,7 +102,7 @@ module _ (sa sb : SmallStream) (j : SmallJoin) (order : Bool) (q : j.inputs ≡ 
       let k = kept-after st allowed ∙ ap (λ (z : Step). kept_of (step (unswept j.spec) now z)) at in
       entered sa sb j order q w l part c u history S f (record { event = Arrive 0 e; seat = 0; closing = closing }) (f.x ++ e ∷ []) f.y (step (unswept j.spec) now (join_step (zeroth order) e))
       (move-first sa.schema sb.schema (unswept j.spec) order f.x f.y now e) (adds _)
-      (part_after (unswept j.spec) part st) k (ap (λ (z : Kept). max part.peak (length z.stored)) k) grows m
+      (part_after (unswept j.spec) part st) k (ap (λ (z : KeptState). max part.peak (length z.stored)) k) grows m
       (closed_after c closing (Arrive 0 e)) u None refl
       (sym (append-nil u) ∙ outs-are (Arrive 0 e) [] (gains-first sa.schema sb.schema (unswept j.spec) order f.x f.y now e refl)) refl refl
 
@@ -117,7 +117,7 @@ module _ (sa sb : SmallStream) (j : SmallJoin) (order : Bool) (q : j.inputs ≡ 
       let k = kept-after st allowed ∙ ap (λ (z : Step). kept_of (step (unswept j.spec) now z)) at in
       entered sa sb j order q w l part c u history S f (record { event = Arrive 1 e; seat = 0; closing = closing }) f.x (f.y ++ e ∷ []) (step (unswept j.spec) now (join_step (oneth order) e))
       (move-second sa.schema sb.schema (unswept j.spec) order f.x f.y now e) (adds _)
-      (part_after (unswept j.spec) part st) k (ap (λ (z : Kept). max part.peak (length z.stored)) k) grows m
+      (part_after (unswept j.spec) part st) k (ap (λ (z : KeptState). max part.peak (length z.stored)) k) grows m
       (closed_after c closing (Arrive 1 e)) u None refl
       (sym (append-nil u) ∙ outs-are (Arrive 1 e) [] (gains-second sa.schema sb.schema (unswept j.spec) order f.x f.y now e refl)) refl refl
 
@@ -153,7 +153,7 @@ module _ (sa sb : SmallStream) (j : SmallJoin) (order : Bool) (q : j.inputs ≡ 
   pub takes : (t : ℕ) → has part.kept.pending t ≡ true
       → StandsFor (core_two sa sb j l (record part { kept = kept_step (unswept j.spec) part.kept (Take t) }) c u None) (history ++ plain (Taken 2 t) ∷ [])
   takes t p =
-      let come = lacking-come now.taken now.tuples t (subst (λ (k : Kept). has k.pending t ≡ true) part-now p) in
+      let come = lacking-come now.taken now.tuples t (subst (λ (k : KeptState). has k.pending t ≡ true) part-now p) in
       let allowed : IsAllowed (unswept j.spec) now (Take t) = come in
       let k = kept-after (Take t) allowed in
       entered sa sb j order q w l part c u history S f (plain (Taken 2 t)) f.x f.y (step (unswept j.spec) now (Take t))
@@ -167,8 +167,8 @@ module _ (sa sb : SmallStream) (j : SmallJoin) (order : Bool) (q : j.inputs ≡ 
   pub gives : (t : ℕ) (rows : List (List Value)) → IsTaken part.kept t → rows ≡ results_of (nodes_two sa sb j) history 2 t
       → StandsFor (core_two sa sb j l (record part { kept = kept_step (unswept j.spec) part.kept (Give t) }) c (u ++ map RowOut rows) None) (history ++ plain (Given 2 t) ∷ [])
   gives t rows p r =
-      let o : has (kept_of now).opened t ≡ true = subst (λ (k : Kept). has k.opened t ≡ true) part-now p.0 in
-      let n : has (kept_of now).pending t ≡ false = subst (λ (k : Kept). has k.pending t ≡ false) part-now p.1 in
+      let o : has (kept_of now).opened t ≡ true = subst (λ (k : KeptState). has k.opened t ≡ true) part-now p.0 in
+      let n : has (kept_of now).pending t ≡ false = subst (λ (k : KeptState). has k.pending t ≡ false) part-now p.1 in
       let come = lacking-come now.given now.tuples t o in
       let allowed : IsAllowed (unswept j.spec) now (Give t) = (lacking-none now.taken now.tuples t come.0 n, come.1) in
       let k = kept-after (Give t) allowed in
@@ -184,7 +184,7 @@ module _ (sa sb : SmallStream) (j : SmallJoin) (order : Bool) (q : j.inputs ≡ 
   pub idles : part.kept.pending ≡ [] → StandsFor (core_two sa sb j l part c u None) (history ++ plain Idle ∷ [])
   idles p =
       let none : pending_in (reached_of false (nodes_two sa sb j) history).nodes ≡ 0 =
-      ap pending_in nodes-are ∙ (let z = ap (λ (k : Kept). length k.pending) (sym part-now) ∙ ap length p in omega (arith, z)) in
+      ap pending_in nodes-are ∙ (let z = ap (λ (k : KeptState). length k.pending) (sym part-now) ∙ ap length p in omega (arith, z)) in
       entered sa sb j order q w l part c u history S f (plain Idle) f.x f.y now
       (move-idle sa.schema sb.schema (unswept j.spec) order f.x f.y now) (adds _)
       part part-now (peak-stays now refl) grows
@@ -201,13 +201,13 @@ module _ (sa sb : SmallStream) (j : SmallJoin) (order : Bool) (q : j.inputs ≡ 
       c [] None refl refl refl refl
 
   pub pending-told : pending_in (nodes_from (nodes_two sa sb j) history) ≡ length part.kept.pending
-  pending-told = ap pending_in f.is ∙ (let z = ap (λ (k : Kept). length k.pending) (sym part-now) in omega (arith, z))
+  pending-told = ap pending_in f.is ∙ (let z = ap (λ (k : KeptState). length k.pending) (sym part-now) in omega (arith, z))
 
   pub opened-told : opened_in (nodes_from (nodes_two sa sb j) history) ≡ length part.kept.opened
-  opened-told = ap opened_in f.is ∙ (let z = ap (λ (k : Kept). length k.opened) (sym part-now) in omega (arith, z))
+  opened-told = ap opened_in f.is ∙ (let z = ap (λ (k : KeptState). length k.opened) (sym part-now) in omega (arith, z))
 
   pub stored-told : stored_in (nodes_from (nodes_two sa sb j) history) ≡ length part.kept.stored
-  stored-told = ap stored_in f.is ∙ (let z = ap (λ (k : Kept). length k.stored) (sym part-now) in omega (arith, z))
+  stored-told = ap stored_in f.is ∙ (let z = ap (λ (k : KeptState). length k.stored) (sym part-now) in omega (arith, z))
 
   pub waiting-told : waiting_in (nodes_from (nodes_two sa sb j) history) ≡ 0
   waiting-told = ap waiting_in f.is ∙ (let z = ap length (none-waits j.spec start f.steps refl) in omega (arith, z))
@@ -224,13 +224,13 @@ module _ (sa sb : SmallStream) (j : SmallJoin) (order : Bool) (q : j.inputs ≡ 
   -- ---- the next probe
 
   pub next-is : next_probe (nodes_from (nodes_two sa sb j) history) ≡ first_of 2 part.kept.pending None
-  next-is = ap next_probe f.is ∙ next-two sa.schema sb.schema order (unswept j.spec) f.x f.y now ∙ ap (λ (k : Kept). first_of 2 k.pending None) (sym part-now)
+  next-is = ap next_probe f.is ∙ next-two sa.schema sb.schema order (unswept j.spec) f.x f.y now ∙ ap (λ (k : KeptState). first_of 2 k.pending None) (sym part-now)
 
   pub next-taken : (t : ℕ) → has part.kept.pending t ≡ true → ((v : ℕ) → In v part.kept.pending → t ≤ v)
       → next_probe (nodes_from (nodes_two sa sb j) history) ≡ Some (record { join = 2; ticket = t })
   next-taken t p least =
       next-is ∙ first-least 2 part.kept.pending t
-      (subst (λ (k : Kept). AreAscending k.pending) (sym part-now) (pending-ascends (unswept j.spec) f.steps)) (has-in part.kept.pending t p) least
+      (subst (λ (k : KeptState). AreAscending k.pending) (sym part-now) (pending-ascends (unswept j.spec) f.steps)) (has-in part.kept.pending t p) least
 
   results-are : (t : ℕ) → results_of (nodes_two sa sb j) history 2 t ≡ map joined (results (unswept j.spec) now.tuples now.tuples t)
   results-are t = ap (λ (ns : List Node). map joined (results (unswept j.spec) (join_at ns 2).tuples (join_at ns 2).tuples t)) f.is
@@ -247,10 +247,10 @@ module _ (sa sb : SmallStream) (j : SmallJoin) (order : Bool) (q : j.inputs ≡ 
 
   pub first-of-pending : (t : ℕ) → has part.kept.pending t ≡ true → ((v : ℕ) → In v part.kept.pending → t ≤ v) → part.kept.pending ≡ t ∷ without part.kept.pending t
   first-of-pending t p least =
-      first-split part.kept.pending t (subst (λ (k : Kept). AreAscending k.pending) (sym part-now) (pending-ascends (unswept j.spec) f.steps)) (has-in part.kept.pending t p) least
+      first-split part.kept.pending t (subst (λ (k : KeptState). AreAscending k.pending) (sym part-now) (pending-ascends (unswept j.spec) f.steps)) (has-in part.kept.pending t p) least
 
   pub all-probes : probes (nodes_from (nodes_two sa sb j) history) ≡ probes_at 2 part.kept.pending
-  all-probes = ap probes f.is ∙ probes-two sa.schema sb.schema order (unswept j.spec) f.x f.y now ∙ ap (λ (k : Kept). probes_at 2 k.pending) (sym part-now)
+  all-probes = ap probes f.is ∙ probes-two sa.schema sb.schema order (unswept j.spec) f.x f.y now ∙ ap (λ (k : KeptState). probes_at 2 k.pending) (sym part-now)
 
   pub probes-stay-within : StaysWithin l (nodes_two sa sb j) history (probes (nodes_from (nodes_two sa sb j) history) ++ plain Drain ∷ [])
   probes-stay-within =

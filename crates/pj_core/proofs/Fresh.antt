@@ -4,7 +4,7 @@ use Rattle.pj_shape.specs.declared.plans.SmallPlan.{SmallPlan}
 use Rattle.pj_shape.specs.declared.plans.SmallJoin.{SmallJoin}
 use Rattle.pj_laws.specs.declared.events.Out.{Out}
 use Rattle.pj_laws.specs.Join.{start}
-use Rattle.pj_laws.specs.Kept.{kept_of}
+use Rattle.pj_laws.specs.KeptState.{kept_of}
 use Rattle.pj_laws.specs.CoreKept.{IsSmallPlan}
 use Rattle.pj_core.specs.declared.joined.Joined.{Joined}
 use Rattle.pj_core.specs.Cores.{CoreState}

@@ -13,7 +13,7 @@ use Rattle.pj_laws.specs.Join.{TupleAt, JoinData, JoinState, Take, Give, joined,
 use Rattle.pj_laws.specs.Plan.{Node, join_step, batches}
 use Rattle.pj_laws.specs.History.{gained, nodes_by, nodes_from, out_of, step_of}
 use Rattle.pj_laws.specs.Limits.{StaysWithin}
-use Rattle.pj_laws.specs.Kept.{lacking}
+use Rattle.pj_laws.specs.KeptState.{lacking}
 use Rattle.pj_laws.specs.OneThread.{first_of, next_probe, plain, probes, probes_at}
 use Rattle.pj_laws.proofs.Histories.{nodes-append}
 use Rattle.pj_laws.specs.Outcomes.{arrivals_at, Beyond, Below, Level, beyond_of, climb, origin_of, way_up}

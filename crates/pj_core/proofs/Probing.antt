@@ -8,7 +8,7 @@ use Rattle.pj_laws.specs.declared.events.Out.{Out}
 use Rattle.pj_laws.specs.declared.events.Out.TheVariants.{Tuple as RowOut}
 use Rattle.pj_laws.specs.Join.{JoinData, Step, Take, Give, In, has, joined, results, run, start, AreLegalSteps}
 use Rattle.std.proofs.lemmas.Bool.{false≢true}
-use Rattle.pj_laws.specs.Kept.{kept_of, kept_step, without}
+use Rattle.pj_laws.specs.KeptState.{kept_of, kept_step, without}
 use Rattle.pj_laws.specs.Outcomes.{results_of}
 use Rattle.pj_laws.specs.Limits.{StaysWithin}
 use Rattle.pj_laws.specs.OneThread.{first_of, next_probe, plain, probes, probes_at}
@@ -17,7 +17,7 @@ use Rattle.pj_join.specs.Joins.{IsTaken, after, unswept}
 use Rattle.pj_core.specs.declared.joined.Joined.{Joined}
 use Rattle.pj_core.specs.Known.{AreKnown}
 use Rattle.pj_core.specs.Cores.{StandsFor, nodes_in, nodes_after}
-use Rattle.pj_core.specs.Calls.{FindsNone, HasGiven, IsOpen, TakesNext, Takes}
+use Rattle.pj_core.specs.Calls.{FindsNone, HasGiven, IsOpen, TakesNext, CoreTakes}
 use Rattle.pj_core.specs.Parts.{IsMadeOf, TakesAny, TakesOf, core_of, given, part_in, pending_kept}
 use Rattle.pj_core.specs.Turns.{finish_behind}
 use Rattle.pj_core.proofs.Form.{IsWide, named}
@@ -156,7 +156,7 @@ takes-next k streams l j new c u found made t =
     })
 
 pub takes : (k : AreKnown) (streams : List SmallStream) (l : ℕ) (joined new : Option Joined) (c : List ℕ) (u : List Out) (answer : Option Found) → IsMadeOf streams l joined
-    → TakesAny joined new answer → Takes (core_of streams l joined c u None) (core_of streams l new c u None) answer
+    → TakesAny joined new answer → CoreTakes (core_of streams l joined c u None) (core_of streams l new c u None) answer
 takes k streams l joined new c u None made t =
     subst (λ (o : Option Joined). FindsNone (core_of streams l joined c u None) (core_of streams l o c u None)) (sym t.0) (finds-none k streams l joined c u made t.1)
 takes k streams l None new c u (Some found) made t = absurd t

@@ -11,7 +11,7 @@ use Rattle.pj_laws.specs.declared.events.Look.{Look as TheLook}
 use Rattle.pj_laws.specs.declared.events.Out.{Out}
 use Rattle.pj_laws.specs.declared.events.Stop.{Stop}
 use Rattle.pj_laws.specs.Join.{start}
-use Rattle.pj_laws.specs.Kept.{kept_of}
+use Rattle.pj_laws.specs.KeptState.{kept_of}
 use Rattle.pj_laws.specs.Plan.{Node}
 use Rattle.pj_laws.specs.History.{Reached, reached_of, next, nodes_from, gained, pending_in, undrained_after, halted_after, stop_after, IsEntryAllowed, IsLegal}
 use Rattle.pj_laws.specs.Outcomes.{peak_of}

@@ -18,7 +18,7 @@ use Rattle.pj_join.specs.declared.found.Found.{Found}
 use Rattle.pj_core.specs.declared.joined.Joined.{Joined}
 use Rattle.pj_core.specs.Known.{AreKnown}
 use Rattle.pj_core.specs.Cores.{CoreState, Notes}
-use Rattle.pj_core.specs.Calls.{closing_of, HasArrived, HasGiven, IsCause, IsJoinNode, IsLookAt, IsOpen, IsPeak, IsRefused, StopsNow, Takes}
+use Rattle.pj_core.specs.Calls.{closing_of, HasArrived, HasGiven, IsCause, IsJoinNode, IsLookAt, IsOpen, IsPeak, IsRefused, StopsNow, CoreTakes}
 use Rattle.pj_core.specs.Parts.{FitsAny, HasRoom, IsMadeOf, IsStopOf, IsTakenOf, TakesAny, any_entered, core_of, given, join_in, outs_after, part_in, peak_kept}
 use Rattle.pj_core.proofs.Arriving.{arrival, has-arrived, is-cause}
 use Rattle.pj_core.proofs.Probing.{has-given, takes}
@@ -88,10 +88,10 @@ module _ (k : AreKnown) (streams : List SmallStream) (l : ℕ) (joined : Option 
       (ap reverse p ∙ reverse-append closed (stream ∷ []) ∙ ap (λ (z : List ℕ). stream ∷ z) (sym r))
       (q ∙ ap (λ (z : List SmallStream). outs_after (join_in joined) u (wilds z stream)) e) room)
 
-  pub took : t ≡ None → (joined' : Option Joined) (answer : Option Found) → TakesAny joined joined' answer → Takes old (core_of streams l joined' c u t) answer
+  pub took : t ≡ None → (joined' : Option Joined) (answer : Option Found) → TakesAny joined joined' answer → CoreTakes old (core_of streams l joined' c u t) answer
   took n joined' answer a =
-      subst (λ (o : CoreState). Takes o (core_of streams l joined' c u t) answer) (ap (core_of streams l joined c u) (sym n) ∙ v)
-      (subst (λ (w : CoreState). Takes (core_of streams l joined c u None) w answer) (ap (core_of streams l joined' c u) (sym n))
+      subst (λ (o : CoreState). CoreTakes o (core_of streams l joined' c u t) answer) (ap (core_of streams l joined c u) (sym n) ∙ v)
+      (subst (λ (w : CoreState). CoreTakes (core_of streams l joined c u None) w answer) (ap (core_of streams l joined' c u) (sym n))
       (takes k streams l joined joined' c u answer made a))
 
   opened : (probe : Found) (joined0 : Option Joined) → IsOpen (core_of streams l joined0 c u None) probe → IsTakenOf joined0 probe.ticket

@@ -13,7 +13,7 @@ use Rattle.pj_laws.specs.declared.events.Out.{Out}
 use Rattle.pj_laws.specs.declared.events.Stop.{Stop}
 use Rattle.pj_laws.specs.declared.events.Stop.TheVariants.{Limit, NoMemory}
 use Rattle.pj_laws.specs.Join.{has, upto_from}
-use Rattle.pj_laws.specs.Kept.{lacking}
+use Rattle.pj_laws.specs.KeptState.{lacking}
 use Rattle.pj_laws.specs.Plan.{Node}
 use Rattle.pj_laws.specs.History.{pending_in, reached_of, state_in}
 use Rattle.pj_laws.specs.Outcomes.{goes_beyond, outputs_of, peak_of, results_of}
@@ -108,9 +108,9 @@ pub record TakesNext (old new : CoreState) (probe : Found) : Type 0 where
   pub first : (history : List Entry) → StandsFor old history → pending_list old.joined ≡ probe.ticket ∷ pending_list new.joined
 
 -- none where nothing is pending, else the next
-abbrev pub Takes : CoreState → CoreState → Option Found → Type 0
-Takes old new None = FindsNone old new
-Takes old new (Some probe) = TakesNext old new probe
+abbrev pub CoreTakes : CoreState → CoreState → Option Found → Type 0
+CoreTakes old new None = FindsNone old new
+CoreTakes old new (Some probe) = TakesNext old new probe
 
 -- the rows are handed out, and where they are the results of the ticket, the ticket is given
 pub record HasGiven (old new : CoreState) (probe found : Found) : Type 0 where

@@ -1,7 +1,7 @@
 -- What contracts see of a core, and the histories that it stands for.
 use Rattle.std.specs.Prelude.{ℕ, ◌≡◌, false, List, [], ◌∷◌, ◌++◌, Option, Some, None}
 use Rattle.pj_shape.specs.declared.plans.SmallPlan.{SmallPlan}
-use Rattle.pj_laws.specs.Kept.{Kept}
+use Rattle.pj_laws.specs.KeptState.{KeptState}
 use Rattle.pj_laws.specs.Plan.{Node}
 use Rattle.pj_laws.specs.declared.events.Entry.{Entry}
 use Rattle.pj_laws.specs.declared.events.Out.{Out}
@@ -11,7 +11,7 @@ use Rattle.pj_laws.specs.CoreKept.{KeptOperator, NothingKept, JoinKept, CoreKept
 
 -- what is kept of the join, and the greatest number of tuples stored there
 pub record JoinPart : Type 0 where
-  pub kept : Kept
+  pub kept : KeptState
   pub peak : ℕ
 
 -- the plan, how many elements may reach its join, what is kept of the join where the plan has one, the streams that are

@@ -8,7 +8,7 @@ use Rattle.pj_laws.specs.declared.events.Stop.{Stop}
 use Rattle.pj_laws.specs.declared.events.Stop.TheVariants.{Limit, NoMemory}
 use Rattle.pj_laws.specs.Join.{Give, In, Step, Take, arity, has, inputs, joined, results, run, start}
 use Rattle.pj_shape.specs.Sound.{IsSoundSpec}
-use Rattle.pj_laws.specs.Kept.{kept_of}
+use Rattle.pj_laws.specs.KeptState.{kept_of}
 use Rattle.pj_laws.specs.Plan.{Fits, join_step}
 use Rattle.pj_laws.specs.History.{out_of}
 use Rattle.pj_laws.specs.Outcomes.{place_in}

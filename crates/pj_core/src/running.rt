@@ -9,7 +9,7 @@ ghost use Rattle.pj_shape.specs.Columns.{kinds_of};
 ghost use Rattle.pj_laws.specs.OneThread.{arrival_of, plain};
 ghost use Rattle.pj_laws.specs.CoreKept.{IsSmallPlan, columns_of};
 ghost use Rattle.pj_core.specs.Cores.{Notes};
-ghost use Rattle.pj_core.specs.Calls.{arriving_of, closing_of, ended_of, HasArrived, HasGiven, IsCause, IsFresh, IsJoinNode, IsLookAt, IsOpen, IsPeak, IsRefused, StopsNow, Takes};
+ghost use Rattle.pj_core.specs.Calls.{arriving_of, closing_of, ended_of, HasArrived, HasGiven, IsCause, IsFresh, IsJoinNode, IsLookAt, IsOpen, IsPeak, IsRefused, StopsNow, CoreTakes};
 ghost use Rattle.pj_core.specs.Turns.{ListsProbes};
 ghost use Rattle.pj_core.specs.Parts.{FitsAny, HasRoom, IsFull, any_entered, join_in, join_stop, outs_after};
 
@@ -140,7 +140,7 @@ impl Core {
     /// `NoMemory` comes where memory could not be had, any other stop only where it was answered before.
     pub fn take(&mut self) -> Result<Option<Probe>, Stop>
         ensures on { OnOk result (self.old.stop ≡ None) }
-        ensures ok { IfOk result (λ answer. Takes self.old self.new answer) }
+        ensures ok { IfOk result (λ answer. CoreTakes self.old self.new answer) }
         ensures err { IfErr result (λ stop. IsRefused self.old.stop self.old self.new stop (stop ≡ Stop.NoMemory)) }
     {
         known();
@@ -169,7 +169,7 @@ impl Core {
         known();
         match self.stop {
             Some(stop) => Err(stop),
-            None => match hand_out_rows(&mut self.undrained, found.rows) {
+            None => match hand_out_rows(self.alloc, &mut self.undrained, found.rows) {
                 Ok(()) => {
                     give_to(&mut self.joined, probe);
                     Ok(())

@@ -146,7 +146,7 @@ fn lone_core(alloc: Global) -> Result<Core, NoMemory>
 // The number of a row, and -1 for a punctuation.
 fn number_of(out: &Out) -> i64 {
     match out {
-        Out::Tuple(row) => match row.as_slice().first() {
+        Out::Tuple(row) => match row.get(0) {
             Some(Value::Int(n)) => *n,
             Some(Value::Text(_)) => -2,
             None => -3,
