@@ -138,28 +138,35 @@ module _ (words : List (String Global)) (old mid new : FolderState) (run : is_ru
   all_counted : suc (length (names_in words)) ≡ length (operands words)
   all_counted = sym (ap length (operands_are words run))
 
-  pub opened_done : OpensFirst (length (names_in words)) (names_in words) mid new → OpensInOrder Done (command_of words old) new
-  opened_done more = (suc (length (names_in words)), then_opened (length (names_in words)) more, all_counted)
+  module _ (is_built : IsBuilt (command_of words old)) where
+    pub opened_done : OpensFirst (length (names_in words)) (names_in words) mid new → OpensInOrder Done (command_of words old) new
+    opened_done more = (suc (length (names_in words)), then_opened (length (names_in words)) more, all_counted, λ _. is_built)
 
-  pub opened_stop : (stop : FilesStop) → FilesOpened (Err stop) (names_in words) mid new → OpensInOrder (files_status stop) (command_of words old) new
-  opened_stop (Opening (Fault stream)) opened = (suc stream, then_opened stream opened, let e : suc stream + 1 ≡ 2 + stream = omega arith in inl e)
-  opened_stop (Opening OpeningMemory) opened =
-      (suc opened.0, then_opened opened.0 opened.2, let le = opened.1 in let all = all_counted in omega (arith, le, all))
-  opened_stop (Run (RunFault stream)) opened = (suc (length (names_in words)), then_opened (length (names_in words)) opened, inr (inr all_counted))
-  opened_stop (Run (TooLarge stream)) opened = (suc (length (names_in words)), then_opened (length (names_in words)) opened, all_counted)
-  opened_stop (Run (RunLimit node)) opened = (suc (length (names_in words)), then_opened (length (names_in words)) opened, all_counted)
-  opened_stop (Run WriteFailed) opened = (suc (length (names_in words)), then_opened (length (names_in words)) opened, all_counted)
-  opened_stop (Run RunMemory) opened = (suc (length (names_in words)), then_opened (length (names_in words)) opened, omega (arith, all_counted))
+    pub opened_stop : (stop : FilesStop) → FilesOpened (Err stop) (names_in words) mid new → OpensInOrder (files_status stop) (command_of words old) new
+    opened_stop (Opening (Fault stream)) opened = (suc stream, then_opened stream opened, (let e : suc stream + 1 ≡ 2 + stream = omega arith in inl e), λ _. is_built)
+    opened_stop (Opening OpeningMemory) opened =
+        (suc opened.0, then_opened opened.0 opened.2, (let le = opened.1 in let all = all_counted in omega (arith, le, all)), λ _. is_built)
+    opened_stop (Run (RunFault stream)) opened = (suc (length (names_in words)), then_opened (length (names_in words)) opened, inr (inr all_counted), λ _. is_built)
+    opened_stop (Run (TooLarge stream)) opened = (suc (length (names_in words)), then_opened (length (names_in words)) opened, all_counted, λ _. is_built)
+    opened_stop (Run (RunLimit node)) opened = (suc (length (names_in words)), then_opened (length (names_in words)) opened, all_counted, λ _. is_built)
+    opened_stop (Run WriteFailed) opened = (suc (length (names_in words)), then_opened (length (names_in words)) opened, all_counted, λ _. is_built)
+    opened_stop (Run RunMemory) opened = (suc (length (names_in words)), then_opened (length (names_in words)) opened, omega (arith, all_counted), λ _. is_built)
 
 none_opened : (names : List (List ℕ)) (folder : FolderState) → OpensFirst 0 names folder folder
 none_opened names folder name = (λ t. inl t, λ t. elim t [ inl was ↦ was | inr none ↦ absurd none ])
 
+-- no more than the plan's file
+plan_alone : (words : List (String Global)) (old : FolderState) (count : ℕ) → count ≤ 1 → 1 < count → IsBuilt (command_of words old)
+plan_alone words old count most more = absurd (omega (arith, most, more))
+
 opened_as : (count : ℕ) (words : List (String Global)) (old new : FolderState) (stop : PlanStop) → OpensFirst count (operands words) old new → count ≤ 1 → is_run words ≡ true → 1 ≤ length (operands words)
     → OpensInOrder (plan_status stop) (command_of words old) new
-opened_as count words old new NoPlan opened most run some = (count, opened, (most, λ not. absurd (false≢true (sym not ∙ run))))
-opened_as zero words old new PlanFault opened most run some = (0, opened, inl refl)
-opened_as (suc count) words old new PlanFault opened most run some = let one : suc count ≡ 1 = omega (arith, most) in (suc count, opened, inr (inl (refl, one)))
-opened_as count words old new PlanMemory opened most run some = (count, opened, omega (arith, most, some))
+opened_as count words old new NoPlan opened most run some = (count, opened, (most, λ not. absurd (false≢true (sym not ∙ run))), plan_alone words old count most)
+opened_as zero words old new PlanFault opened most run some = (0, opened, inl refl, plan_alone words old 0 most)
+opened_as (suc count) words old new PlanFault opened most run some =
+    let one : suc count ≡ 1 = omega (arith, most) in
+    (suc count, opened, inr (inl (refl, one)), plan_alone words old (suc count) most)
+opened_as count words old new PlanMemory opened most run some = (count, opened, omega (arith, most, some), plan_alone words old count most)
 
 some_operands : (words : List (String Global)) → is_run words ≡ true → 1 ≤ length (operands words)
 some_operands words run = let e = ap length (operands_are words run) in omega (arith, e)
@@ -173,7 +180,7 @@ opened_early stop words old new opened none = go (is_run words) refl
     go false not =
         let n = none not in
         subst (λ (s : PlanStop). OpensInOrder (plan_status s) (command_of words old) new) (sym n.0)
-        (subst (λ (f : FolderState). OpensInOrder (plan_status NoPlan) (command_of words old) f) (sym n.1) (0, none_opened (operands words) old, (omega arith, λ _. refl)))
+        (subst (λ (f : FolderState). OpensInOrder (plan_status NoPlan) (command_of words old) f) (sym n.1) (0, none_opened (operands words) old, (omega arith, λ _. refl), plan_alone words old 0 (omega arith)))
 
 -- ---- what a stop leaves
 

@@ -8,7 +8,6 @@ use Rattle.pj_shape.specs.declared.plans.SmallPlan.{SmallPlan}
 use Rattle.pj_shape.specs.declared.plans.SmallStream.{SmallStream}
 use Rattle.pj_shape.specs.declared.plans.SmallJoin.{SmallJoin}
 use Rattle.pj_element.specs.declared.tally.Tally.{Tally}
-use Rattle.pj_intake.specs.declared.intake.IntakeStop.{IntakeStop}
 use Rattle.pj_intake.specs.declared.intake.IntakeStop.TheVariants.{ReadFault as IntakeFault, ByteLimit, NoMemory as IntakeMemory}
 use Rattle.pj_laws.specs.declared.events.Entry.{Entry}
 use Rattle.pj_laws.specs.Plan.{Node}
@@ -21,9 +20,11 @@ use Rattle.pj_core.specs.Cores.{CoreState}
 use Rattle.pj_engine.specs.declared.feeds.Arrival.{Arrival}
 use Rattle.pj_engine.specs.declared.results.Counts.{Counts}
 use Rattle.pj_engine.specs.declared.stops.FeedStop.{FeedStop}
+use Rattle.pj_engine.specs.declared.stops.FeedWhy.{FeedWhy}
+use Rattle.pj_engine.specs.declared.stops.FeedWhy.TheVariants.{Intake, WriteFailed as FlushFailed}
 use Rattle.pj_engine.specs.declared.stops.TurnStop.{TurnStop}
 use Rattle.pj_engine.specs.declared.stops.TurnStop.TheVariants.{Limit as TurnLimit, WriteFailed as TurnFailed, NoMemory as TurnMemory}
-use Rattle.pj_engine.specs.Feeds.{FeedState, files_of, AreFeeds, AreSameFeeds, AllTold, AllClosed, FeedStops, StopsIn, BringsIn, Gives, turn_of, turn_in, tallies_in}
+use Rattle.pj_engine.specs.Feeds.{FeedState, files_of, AreFeeds, AreSameFeeds, AllTold, AllClosed, FeedEnds, StopsIn, BringsIn, Gives, turn_of, turn_in, tallies_in}
 use Rattle.pj_engine.specs.Opened.{AreCounted}
 use Rattle.pj_engine.specs.Results.{out_lines}
 use Rattle.pj_engine.specs.RunEnds.{TurnsCause}
@@ -61,16 +62,18 @@ lines_so_far plan files history core left counts cut before mid ran written =
     (sym (out_lines-append (handed_out false (nodes_of plan) history) (handed_out false nodes rest))
     ∙ (ap out_lines (sym (outputs-append false (nodes_of plan) history rest)) ∙ ap (λ (h : List Entry). out_lines (handed_out false (nodes_of plan) h)) ran.all))
 
--- a fault rose at the file of the stream, or it is too large
-pub feed_cause : (plan : SmallPlan) (start olds news : List FeedState) (at : ℕ) (stop : FeedStop) (old new : SinkState) → StopsIn olds news at stop → AreSameFeeds start olds → TurnsCause (stop_at stop.stream stop.why) plan start news old new
-feed_cause plan start olds news at stop old new s same = go stop.why s.stops
+-- a fault rose at the file of the stream, it is too large, or the sink's faults rose
+pub feed_cause : (plan : SmallPlan) (start olds news : List FeedState) (at : ℕ) (stop : FeedStop) (first old new : SinkState) → StopsIn olds news at old new stop → AreSameFeeds start olds → first.faults ≤ old.faults
+    → TurnsCause (stop_at stop.stream stop.why) plan start news first new
+feed_cause plan start olds news at stop first old new s same later = go stop.why s.stops
   where
-    go : (why : IntakeStop) → FeedStops s.old s.new why → TurnsCause (stop_at stop.stream why) plan start news old new
-    go IntakeFault f = (s.new, s.now, let r = f.0 in omega (arith, r))
-    go ByteLimit f =
+    go : (why : FeedWhy) → FeedEnds s.old s.new old new why → TurnsCause (stop_at stop.stream why) plan start news first new
+    go (Intake IntakeFault) f = (s.new, s.now, let r = f.0 in omega (arith, r))
+    go (Intake ByteLimit) f =
         let o = same_at start olds stop.stream s.old same s.before in
         (o.0, o.1, λ told. subst (λ (bytes : List ℕ). 2 ^ 40 ≤ length bytes) (o.2.bytes told) (f (subst IsTrue (sym o.2.told) told)))
-    go IntakeMemory f = tt
+    go (Intake IntakeMemory) f = tt
+    go FlushFailed f = omega (arith, f, later)
 
 -- ---- a turn of the core that stopped
 

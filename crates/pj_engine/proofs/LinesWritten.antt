@@ -1,9 +1,9 @@
 -- Lines that were written, one after another.
-use Rattle.std.proofs.Common.{◌≡◌, ◌<◌, ℕ, List, [], ◌∷◌, ◌++◌, length, take, drop, map, Result, Ok, Err, refl, ap, sym, ◌∙◌, append_assoc, append-nil, subst, IsErrAnd, get_or, ◌+◌}
+use Rattle.std.proofs.Common.{◌≡◌, ◌<◌, ℕ, List, [], ◌∷◌, ◌++◌, length, take, drop, map, Result, Ok, Err, refl, ap, sym, ◌∙◌, append_assoc, append-nil, subst, IsErrAnd, get_or, ◌+◌, arith}
 use Rattle.std.proofs.lemmas.List.{take-append-drop, take_more, map-append}
 use Rattle.pj_io.specs.Pieces.{GrewByLess}
 use Rattle.pj_io.specs.States.{SinkState}
-use Rattle.pj_engine.specs.Written.{flat, Cut, anywhere, between, Leaves, WritesBy}
+use Rattle.pj_engine.specs.Written.{flat, Cut, anywhere, between, Leaves, WritesBy, WritesNothing}
 
 pub flat-append : (xs ys : List (List ℕ)) → flat (xs ++ ys) ≡ flat xs ++ flat ys
 flat-append [] ys = refl
@@ -14,6 +14,13 @@ piece_written lines old new piece is grew = grew ∙ ap (λ (xs : List ℕ). old
 
 pub piece_cut : (lines : List (List ℕ)) (before after piece : List ℕ) → flat lines ≡ piece → GrewByLess before after piece → Leaves anywhere lines before after
 piece_cut lines before after piece is grew = record { front = take grew.0 piece; others = drop grew.0 piece; all = take-append-drop grew.0 piece ∙ sym is; written = grew.1.grew }
+
+-- nothing was written, once and again
+pub nothing_yet : (sink : SinkState) → WritesNothing sink sink
+nothing_yet sink = record { told = λ t. t; same = λ t. refl; later = omega arith }
+
+pub nothing_then : (old mid new : SinkState) → WritesNothing old mid → WritesNothing mid new → WritesNothing old new
+nothing_then old mid new a b = record { told = λ t. a.told (b.told t); same = λ t. b.same t ∙ a.same (b.told t); later = omega (arith, a.later, b.later) }
 
 -- nothing was written
 pub none_written : (cut : Cut) (lines : List (List ℕ)) (before : List ℕ) → Leaves cut lines before before

@@ -4,7 +4,7 @@ use Rattle.std.specs.Prelude.{slice_index}
 use Rattle.std.proofs.lemmas.Bool.Decides.{nat_tests}
 use Rattle.std.proofs.lemmas.List.{at_drop_more, at_drop_all, length-take}
 use Rattle.pj_value.specs.Options.{with_first, with_front, both}
-use Rattle.pj_line.specs.declared.cell.Cell.{Cell}
+use Rattle.pj_line.specs.Spans.{Span}
 use Rattle.pj_line.specs.declared.cell.CellFault.{CellFault}
 use Rattle.pj_line.specs.declared.cell.CellFault.TheVariants.{Unclosed, TooMany}
 use Rattle.pj_line.specs.Lines.{pieces, line_of}
@@ -43,14 +43,14 @@ items_end f items rest done before end = before ∙ (ap (λ (r : List _). with_f
 -- ---- the cells of a line
 
 -- the loop over the cells of a line
-pub cells_more : (cells : List Cell) (i : ℕ) (cell : Cell) (done : List (List ℕ)) (copy : List ℕ) → done ++ bytes_in (drop i cells) ≡ bytes_in cells → i < length cells → cell ≡ get_or cells i cell → copy ≡ cell.bytes.now
+pub cells_more : (cells : List Span) (i : ℕ) (cell : Span) (done : List (List ℕ)) (bytes copy : List ℕ) → done ++ bytes_in (drop i cells) ≡ bytes_in cells → i < length cells → cell ≡ get_or cells i cell → bytes ≡ cell.bytes → copy ≡ bytes
     → (done ++ copy ∷ []) ++ bytes_in (drop (i + 1) cells) ≡ bytes_in cells
-cells_more cells i cell done copy before lt is same =
+cells_more cells i cell done bytes copy before lt is are same =
     append_assoc done (copy ∷ []) (bytes_in (drop (i + 1) cells))
-    ∙ (ap (λ (c : List ℕ). done ++ (c ∷ bytes_in (drop (i + 1) cells))) (same ∙ ap (λ (c : Cell). c.bytes.now) is)
+    ∙ (ap (λ (c : List ℕ). done ++ (c ∷ bytes_in (drop (i + 1) cells))) (same ∙ (are ∙ ap (λ (c : Span). c.bytes) is))
     ∙ (ap (λ (cs : List (List ℕ)). done ++ cs) (sym (at_drop_more bytes_in cells i cell lt)) ∙ before))
 
-pub cells_end : (cells : List Cell) (i : ℕ) (done : List (List ℕ)) → done ++ bytes_in (drop i cells) ≡ bytes_in cells → length cells ≤ i → done ≡ bytes_in cells
+pub cells_end : (cells : List Span) (i : ℕ) (done : List (List ℕ)) → done ++ bytes_in (drop i cells) ≡ bytes_in cells → length cells ≤ i → done ≡ bytes_in cells
 cells_end cells i done before le = sym (append_none done) ∙ (ap (λ (cs : List (List ℕ)). done ++ cs) (sym (at_drop_all bytes_in cells i le)) ∙ before)
 
 short_line : (b : Bool) (piece : List ℕ) → length (if b then take (length piece - 1) piece else piece) ≤ length piece
@@ -71,7 +71,7 @@ many_cells : (cells : List (List ℕ)) → 128 < length cells → statement_in (
 many_cells cells many = grind (arith, nat_tests)
 
 -- a line that is cut into cells
-pub line_cut : (piece line : List ℕ) (cells : List Cell) → is_short piece ≡ true → line ≡ line_of piece → AreCut line (Ok cells) → line_stated piece ≡ statement_of (bytes_in cells)
+pub line_cut : (piece line : List ℕ) (cells : List Span) → is_short piece ≡ true → line ≡ line_of piece → AreCut line (Ok cells) → line_stated piece ≡ statement_of (bytes_in cells)
 line_cut piece line cells e is cut =
     short_stated piece e ∙ (ap (λ (l : List ℕ). statement_in (cells_of l)) (sym is)
     ∙ (ap statement_in cut.0 ∙ few_cells (bytes_in cells) (omega (arith, cut.1, bytes_count cells))))

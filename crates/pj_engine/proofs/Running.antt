@@ -34,9 +34,8 @@ use Rattle.pj_core.specs.Calls.{IsFresh, IsPeak, turn_behind}
 use Rattle.pj_engine.specs.declared.feeds.Arrival.{Arrival}
 use Rattle.pj_engine.specs.declared.feeds.Arrival.TheVariants.{Brought, Closing}
 use Rattle.pj_engine.specs.declared.results.Counts.{Counts}
-use Rattle.pj_intake.specs.declared.intake.IntakeStop.{IntakeStop}
 use Rattle.pj_intake.specs.declared.intake.IntakeStop.TheVariants.{ReadFault as IntakeFault, ByteLimit, NoMemory as OutOfMemory}
-use Rattle.pj_engine.specs.Feeds.{FeedState, feed_left, feeds_left, brought, closes, turn_in, tallies_of, all_accepted, count_of, files_of, AreFeeds, AreNew, AreSameFeeds, AllTold, BringsIn, FeedStops, StopsIn}
+use Rattle.pj_engine.specs.Feeds.{FeedState, feed_left, feeds_left, brought, closes, turn_in, tallies_of, all_accepted, count_of, files_of, AreFeeds, AreNew, AreSameFeeds, AllTold, BringsIn, FeedEnds, StopsIn}
 use Rattle.pj_engine.specs.Outcome.{IsOutcome}
 use Rattle.pj_engine.specs.Results.{out_lines, counts_of}
 use Rattle.pj_engine.specs.Runs.{accepted_of, history_of, GoesBeyond, most_arrivals}
@@ -46,6 +45,8 @@ use Rattle.pj_engine.specs.Turning.{IsTurnOf, turn_outs, TurnDone, TurnsEnd, End
 use Rattle.pj_engine.specs.Ends.{EndsBefore, EndsAtLimit}
 use Rattle.pj_engine.specs.Stops.{stop_at}
 use Rattle.pj_engine.specs.declared.stops.FeedStop.{FeedStop}
+use Rattle.pj_engine.specs.declared.stops.FeedWhy.{FeedWhy}
+use Rattle.pj_engine.specs.declared.stops.FeedWhy.TheVariants.{Intake, WriteFailed as FlushFailed}
 use Rattle.pj_io.specs.States.{SinkState}
 use Rattle.pj_engine.specs.Written.{flat, Cut, Leaves}
 use Rattle.pj_engine.proofs.LinesWritten.{stop_among, written_then}
@@ -379,10 +380,10 @@ module _ (plan : SmallPlan) (start feeds feeds' : List FeedState) (at at' : ℕ)
   }
 
 -- a stream's turn could not be made
-pub going_stops : (plan : SmallPlan) (small : IsSmallPlan plan) (start feeds feeds' : List FeedState) (at : ℕ) (history : List Entry) (core : CoreState) (counts : Counts) (stop : FeedStop) (before lines : List ℕ) → IsGoing plan start feeds at history core counts
-    → AreSameFeeds feeds feeds' → StopsIn feeds feeds' at stop → AllTold start → lines ≡ before ++ flat (out_lines (handed_out false (nodes_of plan) history)) → TurnsEnd (stop_at stop.stream stop.why) plan (files_of start) feeds' before lines
+pub going_stops : (plan : SmallPlan) (small : IsSmallPlan plan) (start feeds feeds' : List FeedState) (at : ℕ) (history : List Entry) (core : CoreState) (counts : Counts) (stop : FeedStop) (old new : SinkState) (before lines : List ℕ) → IsGoing plan start feeds at history core counts
+    → AreSameFeeds feeds feeds' → StopsIn feeds feeds' at old new stop → AllTold start → lines ≡ before ++ flat (out_lines (handed_out false (nodes_of plan) history)) → TurnsEnd (stop_at stop.stream stop.why) plan (files_of start) feeds' before lines
 unfolding ends_before
-going_stops plan small start feeds feeds' at history core counts stop before lines going same s told written = go stop.why s.stops
+going_stops plan small start feeds feeds' at history core counts stop old new before lines going same s told written = go stop.why s.stops
   where
     told' : AllTold feeds
     told' = told_still start feeds going.same told
@@ -396,7 +397,8 @@ going_stops plan small start feeds feeds' at history core counts stop before lin
     arrived : arrived_at stop.stream history ≡ take (count_of s.old) (all_accepted s.old)
     arrived = arrived_so_far plan small (files_of start) history core feeds at counts stop.stream s.old ran going.fed (files_still start feeds going.same told) s.before s.still
 
-    go : (why : IntakeStop) → FeedStops s.old s.new why → TurnsEnd (stop_at stop.stream why) plan (files_of start) feeds' before lines
-    go IntakeFault f = (s.new, s.now, ends, arrived ∙ sym (f.1 (told_at feeds stop.stream s.old told' s.before)))
-    go ByteLimit f = ends
-    go OutOfMemory f = tt
+    go : (why : FeedWhy) → FeedEnds s.old s.new old new why → TurnsEnd (stop_at stop.stream why) plan (files_of start) feeds' before lines
+    go (Intake IntakeFault) f = (s.new, s.now, ends, arrived ∙ sym (f.1 (told_at feeds stop.stream s.old told' s.before)))
+    go (Intake ByteLimit) f = ends
+    go (Intake OutOfMemory) f = tt
+    go FlushFailed f = tt

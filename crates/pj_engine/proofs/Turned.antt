@@ -4,11 +4,12 @@ use Rattle.std.specs.List.{slice_get}
 use Rattle.std.proofs.lemmas.Option.{slice_get_within, get_or_from_slice_get}
 use Rattle.pj_shape.specs.declared.plans.SmallStream.{SmallStream}
 use Rattle.pj_pattern.specs.declared.element.Element.{Element}
-use Rattle.pj_intake.specs.declared.intake.IntakeStop.{IntakeStop}
+use Rattle.pj_io.specs.States.{SinkState}
+use Rattle.pj_engine.specs.declared.stops.FeedWhy.{FeedWhy}
 use Rattle.pj_laws.specs.OneThread.{Turn}
 use Rattle.pj_engine.specs.declared.feeds.Arrival.{Arrival}
 use Rattle.pj_engine.specs.declared.feeds.Arrival.TheVariants.{Brought, Closing}
-use Rattle.pj_engine.specs.Feeds.{FeedState, all_accepted, count_of, IsFed, FeedStops, AreFeeds, AllTold, AllClosed, HasTurn, StopsIn, turn_in, feed_left, feeds_left, brought, closes}
+use Rattle.pj_engine.specs.Feeds.{FeedState, all_accepted, count_of, IsFed, FeedEnds, AreFeeds, AllTold, AllClosed, HasTurn, StopsIn, turn_in, feed_left, feeds_left, brought, closes}
 use Rattle.pj_engine.proofs.AllFeeds.{one_of, told_at, closed_done, get_set}
 use Rattle.pj_engine.proofs.Feeding.{turn_at, no_turn, turn_made_at, turn_begins}
 
@@ -55,9 +56,9 @@ has_left streams feed still = go (drop (count_of feed) (all_accepted feed)) (ap 
     go (x ∷ es) e = record { first = turn_in streams (Brought feed.stream x); rest = brought streams feed.stream es ++ closes streams feed.stream true; left = e; mine = refl }
 
 -- the turn could not be made
-pub turn_stops : (feeds : List FeedState) (at place : ℕ) (feed feed' : FeedState) (why : IntakeStop) → HasTurn feeds at (Some place) → IsTurnAt feeds place feed → FeedStops feed feed' why
-    → StopsIn feeds (set feeds place feed') at (record { stream = place; why = why })
-turn_stops feeds at place feed feed' why has here stops = record {
+pub turn_stops : (feeds : List FeedState) (at place : ℕ) (feed feed' : FeedState) (before after : SinkState) (why : FeedWhy) → HasTurn feeds at (Some place) → IsTurnAt feeds place feed
+    → FeedEnds feed feed' before after why → StopsIn feeds (set feeds place feed') at before after (record { stream = place; why = why })
+turn_stops feeds at place feed feed' before after why has here stops = record {
   old = feed;
   new = feed';
   before = here.is;

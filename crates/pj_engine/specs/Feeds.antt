@@ -3,7 +3,7 @@ use Rattle.std.specs.Prelude.{◌≡◌, ℕ, ◌+◌, ◌-◌, ◌<◌, ◌≤�
 use Rattle.pj_shape.specs.declared.columns.Column.{Column}
 use Rattle.pj_shape.specs.declared.plans.SmallStream.{SmallStream}
 use Rattle.pj_io.specs.Causes.{Rose}
-use Rattle.pj_io.specs.States.{SourceState}
+use Rattle.pj_io.specs.States.{SinkState, SourceState}
 use Rattle.pj_pattern.specs.declared.element.Element.{Element}
 use Rattle.pj_pattern.specs.declared.element.Element.TheVariants.{Punct}
 use Rattle.pj_element.specs.declared.tally.Tally.{Tally}
@@ -19,6 +19,8 @@ use Rattle.pj_laws.specs.OneThread.{Turn, heads, tails, in_rounds}
 use Rattle.pj_engine.specs.declared.feeds.Arrival.{Arrival}
 use Rattle.pj_engine.specs.declared.feeds.Arrival.TheVariants.{Brought, Closing}
 use Rattle.pj_engine.specs.declared.stops.FeedStop.{FeedStop}
+use Rattle.pj_engine.specs.declared.stops.FeedWhy.{FeedWhy}
+use Rattle.pj_engine.specs.declared.stops.FeedWhy.TheVariants.{Intake, WriteFailed}
 
 -- A stream that is fed: its number, whether its closing is still to come, what its source tells of itself, and its intake
 pub record FeedState : Type 0 where
@@ -136,6 +138,11 @@ FeedStops old new ReadFault = Rose old.source.faults new.source.faults × (IsTru
 FeedStops old new ByteLimit = IsTrue old.source.told → 2 ^ 40 ≤ length (bytes_of old)
 FeedStops old new NoMemory = ⊤
 
+-- the same, or what the sink holds back was to be handed on and its faults rose
+abbrev pub FeedEnds : FeedState → FeedState → SinkState → SinkState → FeedWhy → Type 0
+FeedEnds old new before after (Intake stop) = FeedStops old new stop
+FeedEnds old new before after WriteFailed = Rose before.faults after.faults
+
 -- the next element of a stream is this one, or there is none and its file was judged whole
 abbrev pub IsNextOf : FeedState → FeedState → Option Element → Type 0
 IsNextOf old new None =
@@ -218,11 +225,11 @@ WorksOn olds news None = ⊤
 WorksOn olds news (Some next) = work_in news < work_in olds
 
 -- the turn of one of these streams was the next, and could not be made
-pub record StopsIn (olds news : List FeedState) (at : ℕ) (stop : FeedStop) : Type 0 where
+pub record StopsIn (olds news : List FeedState) (at : ℕ) (sink_before sink_now : SinkState) (stop : FeedStop) : Type 0 where
   pub old : FeedState
   pub new : FeedState
   pub before : slice_get olds stop.stream ≡ Some old
   pub now : slice_get news stop.stream ≡ Some new
-  pub stops : FeedStops old new stop.why
+  pub stops : FeedEnds old new sink_before sink_now stop.why
   pub still : old.is_open ≡ true
   pub next : AllTold olds → (streams : List SmallStream) → AreFeeds 0 streams olds → (turn : Turn) × (rest : List Turn) × (feeds_left streams olds at ≡ turn ∷ rest) × (turn.stream ≡ stop.stream)

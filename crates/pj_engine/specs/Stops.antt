@@ -1,12 +1,13 @@
 -- How the stop of a part becomes that of the whole.
 use Rattle.std.specs.Prelude.{ℕ, ◌+◌, ◌≤◌, ⊤}
-use Rattle.pj_intake.specs.declared.intake.IntakeStop.{IntakeStop}
 use Rattle.pj_intake.specs.declared.intake.IntakeStop.TheVariants.{ReadFault as IntakeFault, ByteLimit, NoMemory as IntakeMemory}
 use Rattle.pj_laws.specs.declared.events.Stop.{Stop}
 use Rattle.pj_laws.specs.declared.events.Stop.TheVariants.{Limit as CoreLimit, NoMemory as CoreMemory}
 use Rattle.pj_engine.specs.declared.stops.WriteStop.{WriteStop}
 use Rattle.pj_engine.specs.declared.stops.WriteStop.TheVariants.{Failed, NoMemory as WriteMemory}
 use Rattle.pj_engine.specs.declared.stops.FeedStop.{FeedStop}
+use Rattle.pj_engine.specs.declared.stops.FeedWhy.{FeedWhy}
+use Rattle.pj_engine.specs.declared.stops.FeedWhy.TheVariants.{Intake, WriteFailed as FlushFailed}
 use Rattle.pj_engine.specs.declared.stops.TurnStop.{TurnStop}
 use Rattle.pj_engine.specs.declared.stops.TurnStop.TheVariants.{Limit as TurnLimit, WriteFailed as TurnFailed, NoMemory as TurnMemory}
 use Rattle.pj_engine.specs.declared.stops.RunStop.{RunStop}
@@ -34,10 +35,11 @@ of_turn (TurnLimit node) = Limit node
 of_turn TurnFailed = WriteFailed
 of_turn TurnMemory = NoMemory
 
-abbrev pub stop_at : ℕ → IntakeStop → RunStop
-stop_at stream IntakeFault = ReadFault stream
-stop_at stream ByteLimit = TooLarge stream
-stop_at stream IntakeMemory = NoMemory
+abbrev pub stop_at : ℕ → FeedWhy → RunStop
+stop_at stream (Intake IntakeFault) = ReadFault stream
+stop_at stream (Intake ByteLimit) = TooLarge stream
+stop_at stream (Intake IntakeMemory) = NoMemory
+stop_at stream FlushFailed = WriteFailed
 
 abbrev pub of_feed : FeedStop → RunStop
 of_feed stop = stop_at stop.stream stop.why

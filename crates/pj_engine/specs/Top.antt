@@ -39,6 +39,17 @@ abbrev pub AreReadToEnd : List (List ℕ) → FolderState → FolderState → Ty
 AreReadToEnd [] old new = ⊤
 AreReadToEnd (name ∷ names) old new = (IsTrue (old.told name) → new.last name ≡ length (old.contents name)) × AreReadToEnd names old new
 
+-- ---- something to run
+
+-- the bytes are few enough and spell a plan of this many streams
+abbrev pub IsPlanOf : ℕ → List ℕ → Type 0
+IsPlanOf streams bytes = (length bytes ≤ 1048576) × ((plan : SmallPlan) × (plan_of bytes ≡ Some plan) × (length plan.streams ≡ streams))
+
+-- there is something to run, as far as words and plan tell: the plan has a stream for each file
+pub record IsBuilt (command : Command) : Type 0 where
+  pub form : command.is_run ≡ true
+  pub plan : HasToldPlan command → IsPlanOf (length (file_names command)) (plan_bytes command)
+
 -- ---- files
 
 -- so many operands may have been opened: none or one before the plan is found good, all before the run begins
@@ -50,9 +61,10 @@ MayOpen WriteFault command count = count ≡ length command.names
 MayOpen NoMemory command count = count ≤ length command.names
 MayOpen (Limit what) command count = count ≡ length command.names
 
--- the operands are opened in order, the streams' files once there is something to run
+-- the operands are opened in order, the streams' files only where there is something to run
 abbrev pub OpensInOrder : Status → Command → FolderState → Type 0
-OpensInOrder status command after = (count : ℕ) × OpensFirst count command.names command.folder after × MayOpen status command count
+OpensInOrder status command after =
+    (count : ℕ) × OpensFirst count command.names command.folder after × MayOpen status command count × (1 < count → IsBuilt command)
 
 -- ---- a run that stopped
 
@@ -171,20 +183,11 @@ NeverRetracted command old new =
 
 -- ---- causes
 
--- the bytes are few enough and spell a plan of this many streams
-abbrev pub IsPlanOf : ℕ → List ℕ → Type 0
-IsPlanOf streams bytes = (length bytes ≤ 1048576) × ((plan : SmallPlan) × (plan_of bytes ≡ Some plan) × (length plan.streams ≡ streams))
-
 -- the bytes are too many or spell no plan, or its streams are others in number
 abbrev pub IsNoPlanOf : ℕ → List ℕ → Type 0
 IsNoPlanOf streams bytes =
     (1048576 < length bytes) ⊎ (plan_of bytes ≡ None)
     ⊎ ((plan : SmallPlan) × (plan_of bytes ≡ Some plan) × (streams ≡ length plan.streams → ⊥))
-
--- there is something to run, as far as words and plan tell: the plan has a stream for each file
-pub record IsBuilt (command : Command) : Type 0 where
-  pub form : command.is_run ≡ true
-  pub plan : HasToldPlan command → IsPlanOf (length (file_names command)) (plan_bytes command)
 
 -- there is nothing to run: the words have another form, or the plan has
 abbrev pub IsUnbuilt : Command → Type 0

@@ -1,5 +1,5 @@
 -- What was written: whole lines, or a front of them.
-use Rattle.std.specs.Prelude.{◌≡◌, ℕ, Bool, false, IsTrue, not, ◌==◌, List, [], ◌∷◌, ◌++◌, map, filter, Result, Ok, Err, if◌then◌else◌, ◌⊎◌}
+use Rattle.std.specs.Prelude.{◌≡◌, ◌≤◌, ℕ, Bool, false, IsTrue, not, ◌==◌, List, [], ◌∷◌, ◌++◌, map, filter, Result, Ok, Err, if◌then◌else◌, ◌⊎◌}
 use Rattle.pj_io.specs.Causes.{Rose}
 use Rattle.pj_io.specs.States.{SinkState}
 use Rattle.pj_pattern.specs.declared.element.Element.{Element}
@@ -35,6 +35,12 @@ pub record FrontOf (bytes before after : List ℕ) : Type 0 where
 -- the sink with these bytes written
 abbrev pub holding : SinkState → List ℕ → SinkState
 holding sink bytes = record sink { written = bytes }
+
+-- what is written stays, and faults may rise
+pub record WritesNothing (old new : SinkState) : Type 0 where
+  pub told : IsTrue new.told → IsTrue old.told
+  pub same : IsTrue new.told → new.written ≡ old.written
+  pub later : old.faults ≤ new.faults
 
 -- where the sink tells its bytes, these were written, or the sink failed and a front of them was
 abbrev pub Delivered : List ℕ → SinkState → SinkState → Type 0

@@ -1,12 +1,14 @@
 // The elements of all streams, in turns, as their files are read.
-ghost use Rattle.std.specs.Prelude.{◌≡◌, ◌<◌, ◌≤◌, ℕ, List, [], ◌∷◌, length, true, false, IsTrue, IfOk, OnOk, IfErr, IfNone, None};
+ghost use Rattle.std.specs.Prelude.{◌≡◌, ◌<◌, ◌≤◌, ℕ, List, [], ◌∷◌, length, true, false, IsTrue, IfOk, OnOk, OnErr, IfErr, IfNone, None};
+ghost use Rattle.pj_io.specs.Causes.{Rose};
 ghost use Rattle.pj_shape.specs.declared.plans.SmallStream.{SmallStream};
-ghost use Rattle.pj_engine.specs.Feeds.{feed_of, turn_in, turn_of, feed_left, feeds_left, count_of, Gives, work_of, IsFed, IsSameFeed, IsNextOf, BringsOf, FeedStops, AreFeeds, AreSameFeeds, AllTold, IsFirstOpen, HasTurn, BringsIn, WorksOn, StopsIn};
+ghost use Rattle.pj_engine.specs.Feeds.{feed_of, turn_in, turn_of, feed_left, feeds_left, count_of, Gives, work_of, IsFed, IsSameFeed, IsNextOf, BringsOf, FeedEnds, AreFeeds, AreSameFeeds, AllTold, IsFirstOpen, HasTurn, BringsIn, WorksOn, StopsIn};
+ghost use Rattle.pj_engine.specs.Written.{WritesNothing};
 
-use crate::stops::FeedStop;
+use crate::stops::{FeedStop, FeedWhy};
 use pj_element::Tally;
-use pj_intake::{Intake, IntakeStop, Step};
-use pj_io::Source;
+use pj_intake::{Intake, Step};
+use pj_io::{Failed, Sink, Source};
 use pj_pattern::Element;
 use std::marker::Model;
 
@@ -52,8 +54,8 @@ impl<S: Source> Feed<S> {
     }
 
     /// The next turn of the stream, whose closing is still to come: its next accepted element, read from its file, or its
-    /// closing.
-    pub fn next(&mut self) -> Result<Arrival, IntakeStop>
+    /// closing. What the output holds back is handed on before a read.
+    pub fn next<K: Sink>(&mut self, out: &mut K) -> Result<Arrival, FeedWhy>
         requires fed { IsFed self.old }
         requires open { self.old.is_open ≡ true }
         ensures fed { OnOk result (IsFed self.new) }
@@ -61,16 +63,17 @@ impl<S: Source> Feed<S> {
         ensures left { IsTrue self.old.source.told → IfOk result (λ next. (streams : List SmallStream) → feed_left streams self.old ≡ turn_in streams next ∷ feed_left streams self.new) }
         ensures works { OnOk result (work_of self.new < work_of self.old) }
         ensures brings { IfOk result (λ next. BringsOf self.old next) }
-        ensures stops { IfErr result (λ stop. FeedStops self.old self.new stop) }
+        ensures written { WritesNothing (K.state out.old) (K.state out.new) }
+        ensures stops { IfErr result (λ why. FeedEnds self.old self.new (K.state out.old) (K.state out.new) why) }
     {
         let stream = self.stream;
-        match next_element(&mut self.intake) {
+        match next_element(&mut self.intake, out) {
             Ok(Some(element)) => Ok(Arrival::Brought { stream, element }),
             Ok(None) => {
                 self.is_open = false;
                 Ok(Arrival::Closing { stream })
             }
-            Err(stop) => Err(stop),
+            Err(why) => Err(why),
         }
     }
 
@@ -88,23 +91,40 @@ impl<S: Source> Feed<S> {
     }
 }
 
-// The next element that is accepted; `None` exactly where all lines were judged.
-fn next_element<S: Source>(intake: &mut Intake<S>) -> Result<Option<Element>, IntakeStop>
+// The next element that is accepted; `None` exactly where all lines were judged. What the output holds back is handed on
+// before a read.
+fn next_element<S: Source, K: Sink>(
+    intake: &mut Intake<S>,
+    out: &mut K,
+) -> Result<Option<Element>, FeedWhy>
     requires fed { IsFed (feed_of S.state 0 true intake.old) }
     ensures fed { OnOk result (IsFed (feed_of S.state 0 true intake.new)) }
     ensures same { IsSameFeed (feed_of S.state 0 true intake.old) (feed_of S.state 0 true intake.new) }
     ensures next { IfOk result (λ next. IsNextOf (feed_of S.state 0 true intake.old) (feed_of S.state 0 true intake.new) next) }
-    ensures stops { IfErr result (λ stop. FeedStops (feed_of S.state 0 true intake.old) (feed_of S.state 0 true intake.new) stop) }
+    ensures written { WritesNothing (K.state out.old) (K.state out.new) }
+    ensures stops { IfErr result (λ why. FeedEnds (feed_of S.state 0 true intake.old) (feed_of S.state 0 true intake.new) (K.state out.old) (K.state out.new) why) }
 {
     loop {
+        hand_on(intake, out)?;
         match intake.next() {
             Ok(Step::Tuple(row)) => return Ok(Some(Element::Tuple(row))),
             Ok(Step::Punct(punct)) => return Ok(Some(Element::Punct(punct))),
             Ok(Step::Rejected(_, _)) => {}
             Ok(Step::End) => return Ok(None),
-            Err(stop) => return Err(stop),
+            Err(stop) => return Err(FeedWhy::Intake(stop)),
         }
     }
+}
+
+// Hands on what the output holds back, where the intake waits for its source.
+fn hand_on<S: Source, K: Sink>(intake: &Intake<S>, out: &mut K) -> Result<(), Failed>
+    ensures written { WritesNothing (K.state out.old) (K.state out.new) }
+    ensures fault { OnErr result (Rose (K.state out.old).faults (K.state out.new).faults) }
+{
+    if intake.waits() {
+        out.flush()?;
+    }
+    Ok(())
 }
 
 /// All streams, and the place of the one whose turn comes next.
@@ -115,8 +135,8 @@ pub struct Feeds<S: Source> {
 
 impl<S: Source> Feeds<S> {
     /// The next turn: in rounds each stream has one, as long as its closing is still to come. `None` exactly where no stream
-    /// has. After an `Err` no further turn can be made.
-    pub fn next(&mut self) -> Result<Option<Arrival>, FeedStop>
+    /// has. What the output holds back is handed on before a read. After an `Err` no further turn can be made.
+    pub fn next<K: Sink>(&mut self, out: &mut K) -> Result<Option<Arrival>, FeedStop>
         requires fed { (streams : List SmallStream) × AreFeeds 0 streams self.old.feeds.items }
         requires few { length self.old.feeds.items ≤ 128 }
         ensures fed { (streams : List SmallStream) → AreFeeds 0 streams self.old.feeds.items → OnOk result (AreFeeds 0 streams self.new.feeds.items) }
@@ -126,13 +146,14 @@ impl<S: Source> Feeds<S> {
         ensures works { IfOk result (λ next. WorksOn self.old.feeds.items self.new.feeds.items next) }
         ensures brings { IfOk result (λ next. BringsIn self.old.feeds.items next) }
         ensures nothing { IfOk result (λ next. IfNone next (self.new.feeds.items ≡ self.old.feeds.items)) }
-        ensures stops { IfErr result (λ stop. StopsIn self.old.feeds.items self.new.feeds.items self.old.at stop) }
+        ensures written { WritesNothing (K.state out.old) (K.state out.new) }
+        ensures stops { IfErr result (λ stop. StopsIn self.old.feeds.items self.new.feeds.items self.old.at (K.state out.old) (K.state out.new) stop) }
     {
         match self.turn_place() {
             None => Ok(None),
             Some(place) => {
                 self.at = place + 1;
-                match self.feeds[place].next() {
+                match self.feeds[place].next(out) {
                     Ok(next) => Ok(Some(next)),
                     Err(why) => Err(FeedStop {
                         stream: place as u32,

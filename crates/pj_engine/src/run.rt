@@ -133,7 +133,7 @@ struct Ran {
     peak: u64,
 }
 
-// Runs the plan on one thread over its streams, and writes the lines of its outputs.
+// Runs the plan on one thread over its streams, and writes the lines of its outputs, which are handed on before a read.
 fn run_streams<S: Source, K: Sink>(
     alloc: Global,
     plan: &SmallPlan,
@@ -158,7 +158,7 @@ fn run_streams<S: Source, K: Sink>(
 {
     let mut core = Core::new(alloc, plan.copy(alloc)?, MOST_ARRIVALS)?;
     let mut counts = Counts { rows: 0, puncts: 0 };
-    while let Some(next) = feeds.next()? {
+    while let Some(next) = feeds.next(out)? {
         take_turn(alloc, &mut core, next, &mut counts, text, out)?;
     }
     Ok(Ran {

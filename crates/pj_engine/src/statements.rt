@@ -6,7 +6,7 @@ ghost use Rattle.pj_line.specs.Cells.{bytes_in};
 ghost use Rattle.pj_engine.specs.Statements.{all_of, statements_of, is_passed as passed, is_short as short, line_stated, statement_in, statement_of, stated as stated_by, plan_stated as plan_form, stream_stated as stream_form, scheme_stated as scheme_form, join_stated as join_form, output_stated as output_form, column_of, named_column, is_colon, kind_named as kind_of_name, mark_of, class_line, is_equals, is_marked, is_column_name as column_name, is_name as name_form, is_name_byte as name_byte, begins_small as begins};
 
 use crate::plan::{ClassLine, JoinLine, SchemeLine, Statement};
-use pj_line::{Cell, cells, first_piece, is_skipped, line_of_piece};
+use pj_line::{Cells, cells, first_piece, is_skipped, line_of_piece};
 use pj_shape::{Column, Schema, SmallStream};
 use pj_value::{Bytes, Kind, List, NoMemory};
 use std::alloc::Global;
@@ -54,7 +54,7 @@ fn read_line(alloc: Global, piece: &[u8]) -> Result<Option<Statement>, NoMemory>
     }
     match cells(line_of_piece(piece)) {
         Ok(cells) => {
-            let copies = copy_cells(alloc, cells.as_slice())?;
+            let copies = copy_cells(alloc, &cells)?;
             Ok(read_statement(alloc, copies.as_slice())?)
         }
         Err(_) => Ok(None),
@@ -63,11 +63,12 @@ fn read_line(alloc: Global, piece: &[u8]) -> Result<Option<Statement>, NoMemory>
 
 // The bytes of these cells.
 #[tactic(auto, using(crate::proofs::PlanLines::cells_more, crate::proofs::PlanLines::cells_end))]
-fn copy_cells(alloc: Global, cells: &[Cell<'_>]) -> Result<List<Bytes>, NoMemory>
+fn copy_cells(alloc: Global, cells: &Cells<'_>) -> Result<List<Bytes>, NoMemory>
     ensures { IfOk result (λ copies. copies ≡ bytes_in cells.now) }
 {
     let mut copies = List::new(alloc);
-    for cell in cells {
+    for at in 0..cells.len() {
+        let cell = cells.cell(at);
         copies.push(List::copy_of(alloc, cell.bytes)?)?;
     }
     Ok(copies)

@@ -25,11 +25,20 @@ pub enum WriteStop {
     NoMemory,
 }
 
+/// Why the next turn of a stream was not had.
+#[derive(Clone, Copy, Debug, PartialEq, Eq)]
+pub enum FeedWhy {
+    /// Its intake stopped.
+    Intake(IntakeStop),
+    /// The output failed, as what it holds back was to be handed on before a read.
+    WriteFailed,
+}
+
 /// Why the next turn of a stream, counted from 0, was not had.
 #[derive(Clone, Copy, Debug, PartialEq, Eq)]
 pub struct FeedStop {
     pub stream: u32,
-    pub why: IntakeStop,
+    pub why: FeedWhy,
 }
 
 /// Why a turn was not made to its end, or its lines were not written.
@@ -106,6 +115,16 @@ impl From<Failed> for WriteStop {
     }
 }
 
+impl From<Failed> for FeedWhy {
+    ghost use Rattle.pj_engine.specs.declared.stops.FeedWhy.TheVariants.{WriteFailed as FlushFailed};
+
+    ghost from_gives = { λ _ why. why ≡ FlushFailed };
+
+    fn from(_: Failed) -> FeedWhy {
+        FeedWhy::WriteFailed
+    }
+}
+
 impl From<WriteStop> for TurnStop {
     ghost use Rattle.pj_engine.specs.Stops.{of_write};
 
@@ -141,9 +160,10 @@ impl From<FeedStop> for RunStop {
     fn from(stop: FeedStop) -> RunStop {
         let FeedStop { stream, why } = stop;
         match why {
-            IntakeStop::ReadFault => RunStop::ReadFault { stream },
-            IntakeStop::ByteLimit => RunStop::TooLarge { stream },
-            IntakeStop::NoMemory => RunStop::NoMemory,
+            FeedWhy::Intake(IntakeStop::ReadFault) => RunStop::ReadFault { stream },
+            FeedWhy::Intake(IntakeStop::ByteLimit) => RunStop::TooLarge { stream },
+            FeedWhy::Intake(IntakeStop::NoMemory) => RunStop::NoMemory,
+            FeedWhy::WriteFailed => RunStop::WriteFailed,
         }
     }
 }

@@ -51,18 +51,18 @@ pub returns-in_err-next-clause-lines : goal.returns-in_err-next-clause-lines
 returns-in_err-next-clause-lines g c = λ told t.
     rw (err_is c.from_residual-in_err-next.result _ c.from_residual-in_err-next.ensures.1)
     (lines_so_far c.args.plan.now (files_of c.args.feeds.now.feeds.items) c.loop-core.invariant.0 c.loop-core.core _ c.loop-core.counts (run_cut (of_feed c.in_err-next.field-0.0)) _ _
-    (c.loop-core.invariant.1.ran told) (c.loop-core.invariant.4 told t))
+    (c.loop-core.invariant.1.ran told) (c.in_err-next.ensures.written.same t ∙ c.loop-core.invariant.4 told (c.in_err-next.ensures.written.told t)))
 
 pub returns-in_err-next-clause-ends : goal.returns-in_err-next-clause-ends
 returns-in_err-next-clause-ends g c = λ told t.
     if_err _ c.from_residual-in_err-next.result _ c.from_residual-in_err-next.ensures.1
-    (going_stops c.args.plan.now c.requires.small c.args.feeds.now.feeds.items c.loop-core.feeds.feeds.items c.next.new.self.feeds.items c.loop-core.feeds.at c.loop-core.invariant.0 c.loop-core.core c.loop-core.counts c.in_err-next.field-0.0 _ _
-    c.loop-core.invariant.1 c.in_err-next.ensures.same c.in_err-next.ensures.stops told (c.loop-core.invariant.4 told t))
+    (going_stops c.args.plan.now c.requires.small c.args.feeds.now.feeds.items c.loop-core.feeds.feeds.items c.next.new.self.feeds.items c.loop-core.feeds.at c.loop-core.invariant.0 c.loop-core.core c.loop-core.counts c.in_err-next.field-0.0 _ _ _ _
+    c.loop-core.invariant.1 c.in_err-next.ensures.same c.in_err-next.ensures.stops told (c.in_err-next.ensures.written.same t ∙ c.loop-core.invariant.4 told (c.in_err-next.ensures.written.told t)))
 
 pub returns-in_err-next-clause-causes : goal.returns-in_err-next-clause-causes
 returns-in_err-next-clause-causes g c =
     if_err _ c.from_residual-in_err-next.result _ c.from_residual-in_err-next.ensures.1
-    (feed_cause c.args.plan.now c.args.feeds.now.feeds.items c.loop-core.feeds.feeds.items c.next.new.self.feeds.items c.loop-core.feeds.at c.in_err-next.field-0.0 _ _ c.in_err-next.ensures.stops c.loop-core.invariant.1.same)
+    (feed_cause c.args.plan.now c.args.feeds.now.feeds.items c.loop-core.feeds.feeds.items c.next.new.self.feeds.items c.loop-core.feeds.at c.in_err-next.field-0.0 _ _ _ c.in_err-next.ensures.stops c.loop-core.invariant.1.same c.loop-core.invariant.2)
 
 pub take_turn-requires-clause-of : goal.take_turn-requires-clause-of
 take_turn-requires-clause-of g c =
@@ -84,12 +84,12 @@ loop-core-preserved g c =
       going_more plan start feeds feeds' c.loop-core.feeds.at c.next.new.self.at history core c.loop-core.counts c.in-Some.next c.loop-core.invariant.1
           (λ told streams f. given_some streams c.in_ok-next.field-0 c.in-Some.next _ _ c.in-Some.is (c.in_ok-next.ensures.gives told streams f))
           c.requires.small (c.in_ok-next.ensures.fed plan.streams c.loop-core.invariant.1.fed) c.in_ok-next.ensures.same c.take_turn.new.core c.take_turn.new.counts c.in_ok-take_turn.ensures.done,
-      omega (arith, c.loop-core.invariant.2, c.in_ok-take_turn.ensures.later),
-      λ t'. c.loop-core.invariant.3 (c.in_ok-take_turn.ensures.told t'),
+      omega (arith, c.loop-core.invariant.2, c.in_ok-next.ensures.written.later, c.in_ok-take_turn.ensures.later),
+      λ t'. c.loop-core.invariant.3 (c.in_ok-next.ensures.written.told (c.in_ok-take_turn.ensures.told t')),
       λ told t'.
           let ran = going_next plan start feeds feeds' c.loop-core.feeds.at c.next.new.self.at history core c.loop-core.counts c.in-Some.next c.loop-core.invariant.1 (λ told streams f. given_some streams c.in_ok-next.field-0 c.in-Some.next _ _ c.in-Some.is (c.in_ok-next.ensures.gives told streams f)) told in
-          written_then (out_lines (handed_out false (nodes_of plan) history)) (out_lines (turn_outs core history t)) (g.K.Sink.state c.args.out.now).written (g.K.Sink.state c.loop-core.out).written (g.K.Sink.state c.take_turn.new.out).written
-          (c.loop-core.invariant.4 told (c.in_ok-take_turn.ensures.told t'))
+          written_then (out_lines (handed_out false (nodes_of plan) history)) (out_lines (turn_outs core history t)) (g.K.Sink.state c.args.out.now).written (g.K.Sink.state c.next.new.out).written (g.K.Sink.state c.take_turn.new.out).written
+          (c.in_ok-next.ensures.written.same (c.in_ok-take_turn.ensures.told t') ∙ c.loop-core.invariant.4 told (c.in_ok-next.ensures.written.told (c.in_ok-take_turn.ensures.told t')))
           (c.in_ok-take_turn.ensures.lines t' history ran.stands (may_follow plan (files_of start) c.requires.small history core t left c.loop-core.counts ran))
           ∙ ap (λ (ls : List (List ℕ)). (g.K.Sink.state c.args.out.now).written ++ flat ls) (turn_lines plan (files_of start) c.requires.small history core t left c.loop-core.counts ran),
     )
@@ -113,8 +113,8 @@ returns-in_err-take_turn-clause-lines g c = λ told t'.
     let stop = c.in_err-take_turn.field-0.0 in
     rw (err_is c.from_residual-in_err-take_turn.result _ c.from_residual-in_err-take_turn.ensures.1)
     (subst (λ (cut : Cut). Leaves cut (out_lines (handed_out false (nodes_of plan) (history_of plan (files_of start)))) (g.K.Sink.state c.args.out.now).written (g.K.Sink.state c.take_turn.new.out).written) (sym (turn_cut_same stop))
-    (turn_stopped plan (files_of start) c.requires.small history core t left c.loop-core.counts ran (turn_cut stop) (g.K.Sink.state c.args.out.now).written (g.K.Sink.state c.loop-core.out).written (g.K.Sink.state c.take_turn.new.out).written
-    (c.loop-core.invariant.4 told (c.in_err-take_turn.ensures.told t'))
+    (turn_stopped plan (files_of start) c.requires.small history core t left c.loop-core.counts ran (turn_cut stop) (g.K.Sink.state c.args.out.now).written (g.K.Sink.state c.next.new.out).written (g.K.Sink.state c.take_turn.new.out).written
+    (c.in_ok-next.ensures.written.same (c.in_err-take_turn.ensures.told t') ∙ c.loop-core.invariant.4 told (c.in_ok-next.ensures.written.told (c.in_err-take_turn.ensures.told t')))
     (c.in_err-take_turn.ensures.lines t' history ran.stands (may_follow plan (files_of start) c.requires.small history core t left c.loop-core.counts ran))))
 
 pub returns-in_err-take_turn-clause-ends : goal.returns-in_err-take_turn-clause-ends
@@ -131,8 +131,8 @@ returns-in_err-take_turn-clause-ends g c = λ told t'.
     (λ told streams f. given_some streams c.in_ok-next.field-0 c.in-Some.next _ _ c.in-Some.is (c.in_ok-next.ensures.gives told streams f))
     told in
     if_err _ c.from_residual-in_err-take_turn.result _ c.from_residual-in_err-take_turn.ensures.1
-    (turn_ends plan (files_of start) c.requires.small history core t left c.loop-core.counts ran c.in_err-take_turn.field-0.0 feeds' (g.K.Sink.state c.args.out.now).written (g.K.Sink.state c.loop-core.out) (g.K.Sink.state c.take_turn.new.out)
-    (c.loop-core.invariant.4 told (c.in_err-take_turn.ensures.told t')) t'
+    (turn_ends plan (files_of start) c.requires.small history core t left c.loop-core.counts ran c.in_err-take_turn.field-0.0 feeds' (g.K.Sink.state c.args.out.now).written (g.K.Sink.state c.next.new.out) (g.K.Sink.state c.take_turn.new.out)
+    (c.in_ok-next.ensures.written.same (c.in_err-take_turn.ensures.told t') ∙ c.loop-core.invariant.4 told (c.in_ok-next.ensures.written.told (c.in_err-take_turn.ensures.told t'))) t'
     (c.in_err-take_turn.ensures.stops history ran.stands (may_follow plan (files_of start) c.requires.small history core t left c.loop-core.counts ran)))
 
 pub returns-in_err-take_turn-clause-causes : goal.returns-in_err-take_turn-clause-causes
@@ -146,8 +146,8 @@ returns-in_err-take_turn-clause-causes g c =
     let t = turn_in core.plan.streams c.in-Some.next in
     let left = feeds_left plan.streams feeds' c.next.new.self.at in
     if_err _ c.from_residual-in_err-take_turn.result _ c.from_residual-in_err-take_turn.ensures.1
-    (turn_cause c.in_err-take_turn.field-0.0 plan start feeds' core history t (g.K.Sink.state c.args.out.now) (g.K.Sink.state c.loop-core.out) (g.K.Sink.state c.take_turn.new.out)
-    c.loop-core.invariant.2 (λ is. c.in_err-take_turn.ensures.fault (ap Err is))
+    (turn_cause c.in_err-take_turn.field-0.0 plan start feeds' core history t (g.K.Sink.state c.args.out.now) (g.K.Sink.state c.next.new.out) (g.K.Sink.state c.take_turn.new.out)
+    (let a = c.loop-core.invariant.2 in let b = c.in_ok-next.ensures.written.later in omega (arith, a, b)) (λ is. c.in_err-take_turn.ensures.fault (ap Err is))
     (λ told.
     let ran = going_next plan start feeds feeds' c.loop-core.feeds.at c.next.new.self.at history core c.loop-core.counts c.in-Some.next c.loop-core.invariant.1
     (λ told streams f. given_some streams c.in_ok-next.field-0 c.in-Some.next _ _ c.in-Some.is (c.in_ok-next.ensures.gives told streams f))
@@ -164,8 +164,9 @@ returns-clause-lines g c = λ told t.
     let history = c.loop-core.invariant.0 in
     let going = c.loop-core.invariant.1 in
     let none = given_none plan.streams c.in_ok-next.field-0 _ _ c.in_default.is (c.in_ok-next.ensures.gives (told_still start c.loop-core.feeds.feeds.items going.same told) plan.streams going.fed) in
-    c.loop-core.invariant.4 told t
-    ∙ ap (λ h. (g.K.Sink.state c.args.out.now).written ++ flat (out_lines (handed_out false (nodes_of plan) h))) (all_ran plan (files_of start) history c.loop-core.core _ c.loop-core.counts (going.ran told) none)
+    c.in_ok-next.ensures.written.same t
+    ∙ (c.loop-core.invariant.4 told (c.in_ok-next.ensures.written.told t)
+    ∙ ap (λ h. (g.K.Sink.state c.args.out.now).written ++ flat (out_lines (handed_out false (nodes_of plan) h))) (all_ran plan (files_of start) history c.loop-core.core _ c.loop-core.counts (going.ran told) none))
 
 pub returns-clause-outcome : goal.returns-clause-outcome
 returns-clause-outcome g c = λ told.

@@ -2,5 +2,5 @@ use Rattle.std.proofs.Common.{◌≡◌, ◌++◌, drop}
 use Rattle.pj_line.specs.Cells.{bytes_in}
 use Rattle.pj_engine.proofs.statements.copy_cells.Given as goal
 
-abbrev pub invariant-loop-cell : goal.invariant-loop-cell
-invariant-loop-cell l = l.copies ++ bytes_in (drop l.cell-index l.cells) ≡ bytes_in l.cells
+abbrev pub invariant-loop-at : goal.invariant-loop-at
+invariant-loop-at l = l.copies ++ bytes_in (drop l.at l.cells) ≡ bytes_in l.cells

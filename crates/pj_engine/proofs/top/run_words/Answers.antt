@@ -80,7 +80,8 @@ returns-in-Ok-run_files-clause-never_retracted g c = λ all t.
 pub returns-in-Ok-run_files-clause-opened_in_order : goal.returns-in-Ok-run_files-clause-opened_in_order
 returns-in-Ok-run_files-clause-opened_in_order g c =
     let e = c.in-Ok.ensures in
-    opened_done c.args.words.now (g.F.Folder.state c.args.folder.now) (g.F.Folder.state c.prepare.new.folder) (g.F.Folder.state c.run_files.new.folder) e.form e.was_opened c.in-Ok-run_files.ensures.opened
+    opened_done c.args.words.now (g.F.Folder.state c.args.folder.now) (g.F.Folder.state c.prepare.new.folder) (g.F.Folder.state c.run_files.new.folder) e.form e.was_opened
+    (built c.args.words.now (g.F.Folder.state c.args.folder.now) (g.F.Folder.state c.prepare.new.folder) e.form e.told e.contents c.in-Ok.plan e.count e.read) c.in-Ok-run_files.ensures.opened
 
 pub returns-in-Ok-run_files-clause-cause_of_done : goal.returns-in-Ok-run_files-clause-cause_of_done
 returns-in-Ok-run_files-clause-cause_of_done g c = λ _.
@@ -142,7 +143,8 @@ pub returns-in-Ok-clause-opened_in_order : goal.returns-in-Ok-clause-opened_in_o
 returns-in-Ok-clause-opened_in_order g c =
     let e = c.in-Ok.ensures in
     rw c.status-status.ensures
-    (opened_stop c.args.words.now (g.F.Folder.state c.args.folder.now) (g.F.Folder.state c.prepare.new.folder) (g.F.Folder.state c.run_files.new.folder) e.form e.was_opened c.in-Err-run_files.stop c.in-Err-run_files.ensures.opened)
+    (opened_stop c.args.words.now (g.F.Folder.state c.args.folder.now) (g.F.Folder.state c.prepare.new.folder) (g.F.Folder.state c.run_files.new.folder) e.form e.was_opened
+    (built c.args.words.now (g.F.Folder.state c.args.folder.now) (g.F.Folder.state c.prepare.new.folder) e.form e.told e.contents c.in-Ok.plan e.count e.read) c.in-Err-run_files.stop c.in-Err-run_files.ensures.opened)
 
 pub returns-in-Ok-clause-cause_of_read_fault : goal.returns-in-Ok-clause-cause_of_read_fault
 returns-in-Ok-clause-cause_of_read_fault g c = λ n is.

@@ -61,4 +61,4 @@ returns-in-Err-clause-same g c =
 pub returns-in-Err-clause-stops : goal.returns-in-Err-clause-stops
 returns-in-Err-clause-stops g c =
     let here = turn g (goal.at.returns-in-Err-clause-stops g c).After-index_mut in
-    turn_stops c.args.self.now.feeds.items c.args.self.now.at c.in-Some.place c.index_mut.result.now c.next.new.self c.in-Err.why c.in-Some.ensures here c.in-Err.ensures.stops
+    turn_stops c.args.self.now.feeds.items c.args.self.now.at c.in-Some.place c.index_mut.result.now c.next.new.self (g.K.Sink.state c.args.out.now) (g.K.Sink.state c.next.new.out) c.in-Err.why c.in-Some.ensures here c.in-Err.ensures.stops
