@@ -2,6 +2,8 @@
 #![tactic(auto)]
 
 #[cfg(test)]
+mod live;
+#[cfg(test)]
 mod tests;
 
 use pj_engine::run_words;

@@ -319,7 +319,7 @@ impl Sink for Stuck {
 }
 
 #[test]
-fn what_is_held_back_is_handed_on_at_the_end(rt: HostRuntime) -> Result<(), Fail> {
+fn a_status_line_is_handed_on_too(rt: HostRuntime) -> Result<(), Fail> {
     let alloc = rt.alloc();
     let mut folder = MemFolder::new(alloc, &[])?;
     folder.add(alloc, b"plan", PLAN, 100, &[])?;
