@@ -9,17 +9,24 @@ use std::ops::Range;
 const LONGEST: usize = 65_536;
 const MOST_LISTED: usize = 1_000;
 
-enum Value {
-    Int(i64),
-    Text(Vec<u8>),
-}
-
 fn is_blank(byte: u8) -> bool {
     byte == b' ' || byte == b'\t'
 }
 
 fn is_skipped(line: &[u8]) -> bool {
     line.iter().find(|byte| !is_blank(**byte)).is_none_or(|byte| *byte == b'#')
+}
+
+// Where the quoted part ends that begins here: behind its closing quote.
+fn quoted_end(line: &[u8], start: usize) -> Option<usize> {
+    let mut at = start + 1;
+    loop {
+        at += line.get(at..)?.iter().position(|byte| matches!(byte, b'"' | b'\\'))?;
+        if line[at] == b'"' {
+            return Some(at + 1);
+        }
+        at += 2;
+    }
 }
 
 // The cells of a line; false where a quote stays open or there are too many cells.
@@ -31,98 +38,126 @@ fn cut(line: &[u8], cells: &mut Vec<Range<usize>>) -> bool {
             at += 1;
             continue;
         }
-        let (start, mut quoted) = (at, false);
-        while at < line.len() && (quoted || !is_blank(line[at])) {
-            match line[at] {
-                b'"' => quoted = !quoted,
-                b'\\' if quoted => at += 1,
-                _ => {}
+        let start = at;
+        while at < line.len() && !is_blank(line[at]) {
+            if line[at] != b'"' {
+                at += 1;
+                continue;
             }
-            at += 1;
-        }
-        if quoted {
-            return false;
+            match quoted_end(line, at) {
+                Some(end) => at = end,
+                None => return false,
+            }
         }
         cells.push(start..at);
     }
     cells.len() <= 128
 }
 
-fn read_text(cell: &[u8]) -> Option<Vec<u8>> {
+// 1 for a byte that stands for itself in a canonical text.
+static PLAIN: [bool; 256] = {
+    let mut table = [true; 256];
+    let mut byte = 0;
+    while byte < 256 {
+        table[byte] = !matches!(byte as u8, b'"' | b'\\' | 0..=31 | 127);
+        byte += 1;
+    }
+    table
+};
+
+// The byte that an escape stands for, whose backslash is at this place, and where the escape ends.
+fn escaped(bytes: &[u8], at: usize) -> Option<(u8, usize)> {
+    match bytes[at + 1..] {
+        [byte @ (b'"' | b'\\'), ..] => Some((byte, at + 2)),
+        [b'n', ..] => Some((b'\n', at + 2)),
+        [b'r', ..] => Some((b'\r', at + 2)),
+        [b't', ..] => Some((b'\t', at + 2)),
+        [b'x', high, low, ..] => {
+            let (high, low) = ((high as char).to_digit(16)?, (low as char).to_digit(16)?);
+            Some(((high * 16 + low) as u8, at + 4))
+        }
+        _ => None,
+    }
+}
+
+fn put_byte(byte: u8, out: &mut Vec<u8>) {
+    match byte {
+        b'"' | b'\\' => out.extend_from_slice(&[b'\\', byte]),
+        b'\n' => out.extend_from_slice(b"\\n"),
+        b'\r' => out.extend_from_slice(b"\\r"),
+        b'\t' => out.extend_from_slice(b"\\t"),
+        0..=31 | 127 => {
+            let digits = b"0123456789abcdef";
+            out.extend_from_slice(&[b'\\', b'x', digits[byte as usize / 16], digits[byte as usize % 16]]);
+        }
+        _ => out.push(byte),
+    }
+}
+
+// Puts a text, spelled canonically.
+fn put_text(cell: &[u8], out: &mut Vec<u8>) -> Option<()> {
     let inner = cell.strip_prefix(b"\"")?.strip_suffix(b"\"")?;
-    let mut text = Vec::with_capacity(inner.len());
-    let mut bytes = inner.iter().copied();
-    while let Some(byte) = bytes.next() {
-        text.push(match byte {
-            b'"' => return None,
-            b'\\' => match bytes.next()? {
-                byte @ (b'"' | b'\\') => byte,
-                b'n' => b'\n',
-                b'r' => b'\r',
-                b't' => b'\t',
-                b'x' => {
-                    let high = (bytes.next()? as char).to_digit(16)?;
-                    let low = (bytes.next()? as char).to_digit(16)?;
-                    (high * 16 + low) as u8
+    out.push(b'"');
+    let mut at = 0;
+    while at < inner.len() {
+        let run = inner[at..].iter().position(|byte| !PLAIN[*byte as usize]).unwrap_or(inner.len() - at);
+        out.extend_from_slice(&inner[at..at + run]);
+        at += run;
+        if at < inner.len() {
+            match inner[at] {
+                b'"' => return None,
+                b'\\' => {
+                    let (byte, end) = escaped(inner, at)?;
+                    put_byte(byte, out);
+                    at = end;
                 }
-                _ => return None,
-            },
-            byte => byte,
-        });
+                byte => {
+                    put_byte(byte, out);
+                    at += 1;
+                }
+            }
+        }
     }
-    Some(text)
+    out.push(b'"');
+    Some(())
 }
 
-fn read_value(cell: &[u8]) -> Option<Value> {
-    match cell[0] {
-        b'"' => read_text(cell).map(Value::Text),
-        b'+' => None,
-        _ => std::str::from_utf8(cell).ok()?.parse().ok().map(Value::Int),
+// Puts an int, spelled canonically.
+fn put_int(cell: &[u8], out: &mut Vec<u8>) -> Option<()> {
+    let digits = cell.strip_prefix(b"-").unwrap_or(cell);
+    if digits.is_empty() || !digits.iter().all(u8::is_ascii_digit) {
+        return None;
     }
+    if digits[0] != b'0' && digits.len() <= 18 || cell == b"0" {
+        out.extend_from_slice(cell);
+    } else {
+        let number: i64 = std::str::from_utf8(cell).ok()?.parse().ok()?;
+        write!(out, "{number}").ok()?;
+    }
+    Some(())
 }
 
-// The values of a line's tuple, or the words of its reject.
-fn judge(line: &[u8], kinds: &[u8], cells: &mut Vec<Range<usize>>, row: &mut Vec<Value>) -> Result<(), String> {
-    row.clear();
+// Puts the canonical line of a line's tuple, or gives the words of its reject.
+fn put_line(line: &[u8], kinds: &[u8], cells: &mut Vec<Range<usize>>, out: &mut Vec<u8>) -> Result<(), String> {
     if !cut(line, cells) || &line[cells[0].clone()] != b"t" {
         return Err("not an element".to_owned());
     }
     if cells.len() - 1 != kinds.len() {
         return Err(format!("arity want {} got {}", kinds.len(), cells.len() - 1));
     }
+    out.push(b't');
     for (column, (cell, kind)) in cells[1..].iter().zip(kinds).enumerate() {
-        let value = read_value(&line[cell.clone()]).ok_or_else(|| format!("bad cell {}", column + 1))?;
-        if matches!(value, Value::Int(_)) != (*kind == b'i') {
+        let cell = &line[cell.clone()];
+        out.push(b' ');
+        let is_text = cell[0] == b'"';
+        let put = if is_text { put_text(cell, out) } else { put_int(cell, out) };
+        put.ok_or_else(|| format!("bad cell {}", column + 1))?;
+        if is_text != (*kind == b't') {
             return Err(format!("wrong kind {}", column + 1));
         }
-        row.push(value);
     }
+    out.push(b'\n');
     Ok(())
-}
-
-fn write_row(row: &[Value], out: &mut impl Write) -> io::Result<()> {
-    out.write_all(b"t")?;
-    for value in row {
-        match value {
-            Value::Int(number) => write!(out, " {number}")?,
-            Value::Text(text) => {
-                out.write_all(b" \"")?;
-                for byte in text {
-                    match byte {
-                        b'"' => out.write_all(b"\\\"")?,
-                        b'\\' => out.write_all(b"\\\\")?,
-                        b'\n' => out.write_all(b"\\n")?,
-                        b'\r' => out.write_all(b"\\r")?,
-                        b'\t' => out.write_all(b"\\t")?,
-                        0..=31 | 127 => write!(out, "\\x{byte:02x}")?,
-                        _ => out.write_all(&[*byte])?,
-                    }
-                }
-                out.write_all(b"\"")?;
-            }
-        }
-    }
-    out.write_all(b"\n")
 }
 
 fn main() -> io::Result<()> {
@@ -130,7 +165,7 @@ fn main() -> io::Result<()> {
     let kinds = words[1].as_bytes();
     let mut file = BufReader::with_capacity(1 << 16, File::open(&words[2])?);
     let mut out = BufWriter::with_capacity(1 << 16, io::stdout().lock());
-    let (mut piece, mut cells, mut row, mut listed) = (Vec::new(), Vec::new(), Vec::new(), Vec::new());
+    let (mut piece, mut cells, mut text, mut listed) = (Vec::new(), Vec::new(), Vec::new(), Vec::new());
     let (mut number, mut tuples, mut rejected) = (0, 0, 0);
     loop {
         piece.clear();
@@ -138,6 +173,7 @@ fn main() -> io::Result<()> {
             break;
         }
         number += 1;
+        text.clear();
         let line = piece.strip_suffix(b"\n").unwrap_or(&piece);
         let judged = if line.len() > LONGEST {
             Err("too long".to_owned())
@@ -146,12 +182,12 @@ fn main() -> io::Result<()> {
             if is_skipped(line) {
                 continue;
             }
-            judge(line, kinds, &mut cells, &mut row)
+            put_line(line, kinds, &mut cells, &mut text)
         };
         match judged {
             Ok(()) => {
                 tuples += 1;
-                write_row(&row, &mut out)?;
+                out.write_all(&text)?;
             }
             Err(why) => {
                 rejected += 1;
