@@ -1,5 +1,6 @@
 -- What opening and closing a file leave of a folder.
 use Rattle.std.specs.Prelude.{◌≡◌, ◌≢◌, ◌≤◌, ℕ, List, [], Bool, IsTrue}
+use Rattle.pj_io.specs.Causes.{Rose}
 use Rattle.pj_io.specs.States.{SourceState}
 
 -- a file that was opened under this name, and that nothing was done with
@@ -29,3 +30,7 @@ SameElsewhere name before now = (other : List ℕ) → other ≢ name → now ot
 -- a number for each name, of which none fell
 abbrev pub NoneFalls : (List ℕ → ℕ) → (List ℕ → ℕ) → Type 0
 NoneFalls before now = (name : List ℕ) → before name ≤ now name
+
+-- a count for each name, which rose at this one
+abbrev pub RoseAt : List ℕ → (List ℕ → ℕ) → (List ℕ → ℕ) → Type 0
+RoseAt name before now = Rose (before name) (now name)

@@ -15,6 +15,10 @@ ConsumesAtMost most old new = (piece : List ℕ) × (length piece ≤ most) × C
 abbrev pub ConsumesExactly : ℕ → SourceState → SourceState → Type 0
 ConsumesExactly count old new = (piece : List ℕ) × (length piece ≡ count) × Consumes old new piece
 
+-- a piece of the bytes left went to the end of those taken and to the end of a list; where n is 0, no bytes are left
+abbrev pub ReadsOnto : SourceState → SourceState → List ℕ → List ℕ → ℕ → Type 0
+ReadsOnto old new before now n = (piece : List ℕ) × Consumes old new piece × (now ≡ before ++ piece) × (n ≡ 0 → new.left ≡ [])
+
 -- `Ok(n)`: the first n bytes of the buffer were the next ones, none of them only at the end; `Err`: nothing was taken
 abbrev pub Reads : {E : Type 0} → SourceState → SourceState → List ℕ → Result ℕ E → Type 0
 Reads old new buffer result =

@@ -1,7 +1,7 @@
 // Where files are found by name.
 ghost use Rattle.std.specs.Prelude.{◌≡◌, IsTrue, length, IfOk, OnOk, OnErr, IsErrOf};
-ghost use Rattle.pj_io.specs.Causes.{Rose, counted};
-ghost use Rattle.pj_io.specs.Folders.{IsFresh, IsNew, KeepsNames, NoneFalls, SameElsewhere, SameEverywhere};
+ghost use Rattle.pj_io.specs.Causes.{counted};
+ghost use Rattle.pj_io.specs.Folders.{IsFresh, IsNew, KeepsNames, NoneFalls, RoseAt, SameElsewhere, SameEverywhere};
 ghost use Rattle.pj_io.specs.States.{FolderState};
 
 use crate::Source;
@@ -46,7 +46,7 @@ pub trait Folder {
         ensures contents { (state self.new).contents ≡ (state self.old).contents }
         ensures last { SameEverywhere (state self.old).last (state self.new).last }
         ensures later { NoneFalls (state self.old).faults (state self.new).faults }
-        ensures cause { IsErrOf result OpenStop.Failed → Rose ((state self.old).faults name.now) ((state self.new).faults name.now) }
+        ensures cause { IsErrOf result OpenStop.Failed → RoseAt name.now (state self.old).faults (state self.new).faults }
         ensures other_faults { SameElsewhere name.now (state self.old).faults (state self.new).faults };
 
     /// Takes a file back: its faults are added to those of its name, and how much was taken from it is noted.

@@ -1,6 +1,6 @@
 // Bytes that are held back until there are enough of them.
-ghost use Rattle.std.specs.Prelude.{◌≡◌, ◌≤◌, ◌<◌, [], length, take, drop, vec_len, IfOk, OnOk, OnErr, MatchResult};
-ghost use Rattle.pj_io.specs.Held.{HandsOn};
+ghost use Rattle.std.specs.Prelude.{◌≡◌, ◌≤◌, ◌<◌, [], length, drop, vec_len, IfOk, OnOk, OnErr};
+ghost use Rattle.pj_io.specs.Held.{HandsOn, HoldsBack};
 
 use crate::Failed;
 use pj_value::NoMemory;
@@ -61,9 +61,7 @@ impl Held {
     pub fn hold<P: Print>(&mut self, rt: &P, piece: &[u8]) -> Result<usize, Failed>
         ensures bound { IfOk result (λ n. n ≤ length piece.now) }
         ensures progress { IfOk result (λ n. 0 < length piece.now → 0 < n) }
-        ensures held { MatchResult result
-            (λ n. HandsOn (drop self.old.sent self.old.bytes.items) (drop self.new.sent self.new.bytes.items) (take n piece.now))
-            (λ _. HandsOn (drop self.old.sent self.old.bytes.items) (drop self.new.sent self.new.bytes.items) []) }
+        ensures held { HoldsBack (drop self.old.sent self.old.bytes.items) (drop self.new.sent self.new.bytes.items) piece.now result }
     {
         self.make_room(rt)?;
         let count = piece.len().min(HELD - self.bytes.len());

@@ -1,7 +1,7 @@
 // A folder in memory, whose openings fail at planned calls.
 ghost use Rattle.std.specs.Prelude.{◌≡◌, ◌<◌, ◌||◌, ℕ, List, [], false, IsTrue, None, Some, is_none, length, IfOk, OnOk, OnErr, IsErrOf};
-ghost use Rattle.pj_io.specs.Causes.{Rose, counted};
-ghost use Rattle.pj_io.specs.Folders.{IsFresh, IsNew, KeepsNames, NoneFalls, SameElsewhere, SameEverywhere};
+ghost use Rattle.pj_io.specs.Causes.{counted};
+ghost use Rattle.pj_io.specs.Folders.{IsFresh, IsNew, KeepsNames, NoneFalls, RoseAt, SameElsewhere, SameEverywhere};
 ghost use Rattle.pj_io.specs.MemoryFolders.{added_of, folder_of};
 ghost use Rattle.pj_io.specs.Plans.{fresh_plan, is_planned};
 
@@ -93,7 +93,7 @@ impl Folder for MemFolder {
         ensures contents { (folder_of self.new).contents ≡ (folder_of self.old).contents }
         ensures last { SameEverywhere (folder_of self.old).last (folder_of self.new).last }
         ensures later { NoneFalls (folder_of self.old).faults (folder_of self.new).faults }
-        ensures cause { IsErrOf result OpenStop.Failed → Rose ((folder_of self.old).faults name.now) ((folder_of self.new).faults name.now) }
+        ensures cause { IsErrOf result OpenStop.Failed → RoseAt name.now (folder_of self.old).faults (folder_of self.new).faults }
         ensures other_faults { SameElsewhere name.now (folder_of self.old).faults (folder_of self.new).faults }
         ensures gives { IfOk result (λ file. added_of self.old.files name.now ≡ Some (record { bytes = file.source.left; plan = file.plan })) }
         ensures not_planned { OnOk result (is_planned self.old.open_fails self.old.opens ≡ false) }

@@ -1,7 +1,7 @@
 // The standard output: the edge of what is proved. It tells no contents.
-ghost use Rattle.std.specs.Prelude.{◌≡◌, ◌≤◌, ◌<◌, [], IsTrue, length, take, IfOk, MatchResult};
+ghost use Rattle.std.specs.Prelude.{◌≡◌, ◌≤◌, ◌<◌, [], IsTrue, length, IfOk, MatchResult};
 ghost use Rattle.pj_io.specs.Causes.{HasCause, CountsErrors};
-ghost use Rattle.pj_io.specs.Held.{HandsOn};
+ghost use Rattle.pj_io.specs.Held.{HandsOn, HoldsBack};
 ghost use Rattle.pj_io.specs.Pieces.{Appends};
 
 use crate::held::Held;
@@ -62,7 +62,7 @@ impl<'a, P: Print> Sink for StdSink<'a, P> {
         ensures bytes { IsTrue self.new.sink.told → Appends self.old.sink self.new.sink piece.now result }
         ensures cause { HasCause self.old.sink.faults self.new.sink.faults result }
         ensures counts { CountsErrors self.old.sink.faults self.new.sink.faults result }
-        ensures held { MatchResult result (λ n. HandsOn self.old.held self.new.held (take n piece.now)) (λ _. HandsOn self.old.held self.new.held []) }
+        ensures held { HoldsBack self.old.held self.new.held piece.now result }
     {
         match self.held.hold(self.rt, piece) {
             Ok(count) => Ok(count),

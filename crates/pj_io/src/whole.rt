@@ -1,7 +1,7 @@
 // A source read to its end.
-ghost use Rattle.std.specs.Prelude.{◌≡◌, ◌≤◌, ◌<◌, ◌^◌, ◌+◌, ◌++◌, List, ℕ, Bool, IsTrue, length, vec_len, IfOk, OnOk, OnErr, IsErrOf, []};
+ghost use Rattle.std.specs.Prelude.{◌≡◌, ◌≤◌, ◌<◌, ◌^◌, ◌+◌, IsTrue, length, vec_len, IfOk, OnOk, OnErr, IsErrOf, []};
 ghost use Rattle.pj_io.specs.Causes.{Rose};
-ghost use Rattle.pj_io.specs.Pieces.{Consumes, ConsumesAtMost, ConsumesExactly};
+ghost use Rattle.pj_io.specs.Pieces.{Consumes, ConsumesAtMost, ConsumesExactly, ReadsOnto};
 
 use crate::{Failed, Source};
 use pj_value::{Bytes, List, NoMemory};
@@ -87,8 +87,7 @@ fn read_piece<S: Source>(
     requires buffer { 0 < length buffer.old }
     ensures bound { IfOk result (λ n. n ≤ most) }
     ensures count { IfOk result (λ n. length whole.new ≡ length whole.old + n) }
-    ensures some { IsTrue (S.state source.old).told → IfOk result (λ n. (piece : List ℕ)
-        × Consumes (S.state source.old) (S.state source.new) piece × (whole.new ≡ whole.old ++ piece) × (n ≡ 0 → (S.state source.new).left ≡ [])) }
+    ensures some { IsTrue (S.state source.old).told → IfOk result (λ n. ReadsOnto (S.state source.old) (S.state source.new) whole.old whole.new n) }
     ensures err { IsTrue (S.state source.old).told → OnErr result (ConsumesAtMost most (S.state source.old) (S.state source.new)) }
     ensures never_long { IsErrOf result WholeStop.TooLong → ⊥ }
     ensures told { (S.state source.new).told ≡ (S.state source.old).told }
