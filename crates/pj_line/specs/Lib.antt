@@ -2,6 +2,7 @@ pub mod Buffers
 pub mod Cells
 pub mod Cutting
 pub mod Fed
+pub mod Filled
 pub mod Folds
 pub mod Held
 pub mod Lines

@@ -2,6 +2,7 @@
 ghost use Rattle.std.specs.Prelude.{◌≡◌, ◌+◌, ◌<◌, ◌≤◌, [], IsTrue, IfOk, OnErr, length, take, drop};
 ghost use Rattle.pj_io.specs.Causes.{HasCause};
 ghost use Rattle.pj_io.specs.Pieces.{Consumes, Reads};
+ghost use Rattle.pj_line.specs.Filled.{IsNextPiece};
 
 use pj_io::{Failed, Source};
 
@@ -17,9 +18,7 @@ pub(crate) fn read_behind<S: Source>(
     ensures len { length bytes.new ≡ length bytes.old }
     ensures front { take end bytes.new ≡ take end bytes.old }
     ensures bound { IfOk result (λ n. (n ≤ most) × (end + n ≤ length bytes.new)) }
-    ensures some { IsTrue (S.state source.old).told → IfOk result (λ n.
-        Consumes (S.state source.old) (S.state source.new) (take n (drop end bytes.new))
-        × (n ≡ 0 → (S.state source.new).left ≡ [])) }
+    ensures some { IsTrue (S.state source.old).told → IfOk result (λ n. IsNextPiece (S.state source.old) (S.state source.new) (take n (drop end bytes.new)) n) }
     ensures kept { IsTrue (S.state source.old).told → OnErr result (Consumes (S.state source.old) (S.state source.new) []) }
     ensures told { (S.state source.new).told ≡ (S.state source.old).told }
     ensures name { (S.state source.new).name ≡ (S.state source.old).name }

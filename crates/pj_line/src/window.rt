@@ -16,9 +16,10 @@ pub(crate) struct Window {
 }
 
 impl Window {
-    ghost use Rattle.std.specs.Prelude.{◌≡◌, ◌≢◌, ◌+◌, ◌-◌, ◌<◌, ◌≤◌, List, ℕ, IsTrue, IfOk, OnErr, [], ◌++◌, length, take, drop, slice_range, vec_len};
+    ghost use Rattle.std.specs.Prelude.{◌≡◌, ◌≢◌, ◌+◌, ◌-◌, ◌<◌, ◌≤◌, ℕ, IsTrue, IfOk, OnErr, [], length, take, drop, slice_range, vec_len};
     ghost use Rattle.pj_io.specs.Causes.{HasCause};
     ghost use Rattle.pj_io.specs.Pieces.{Consumes};
+    ghost use Rattle.pj_line.specs.Filled.{FillsUp};
     ghost use Rattle.pj_line.specs.Lines.{HasNo};
     ghost use Rattle.pj_line.specs.Held.{held, IsFeedAt};
 
@@ -114,9 +115,7 @@ impl Window {
         requires most { 0 < most }
         requires room { length (held self.old) < vec_len self.old.bytes }
         ensures len { vec_len self.new.bytes ≡ vec_len self.old.bytes }
-        ensures some { IfOk result (λ n. (piece : List ℕ) × (length piece ≡ n) × (n ≤ most) × (held self.new ≡ held self.old ++ piece)
-            × (IsTrue (S.state source.old).told → Consumes (S.state source.old) (S.state source.new) piece
-            × (n ≡ 0 → (S.state source.new).left ≡ []))) }
+        ensures some { IfOk result (λ n. FillsUp (S.state source.old) (S.state source.new) most (held self.old) (held self.new) n) }
         ensures none { OnErr result (held self.new ≡ held self.old) }
         ensures kept { IsTrue (S.state source.old).told → OnErr result (Consumes (S.state source.old) (S.state source.new) []) }
         ensures told { (S.state source.new).told ≡ (S.state source.old).told }
