@@ -11,14 +11,15 @@ use Rattle.pj_shape.specs.declared.columns.Column.{Column}
 use Rattle.pj_shape.specs.Columns.{kinds_of}
 use Rattle.pj_pattern.specs.declared.pattern.Form.{Form}
 use Rattle.pj_pattern.specs.declared.pattern.Form.TheVariants.{Wild, Empty, Constant, Range, Members}
-use Rattle.pj_pattern.specs.Patterns.{Pattern, is_of_kind}
+use Rattle.pj_pattern.specs.Patterns.{Pattern, is_of_kind, is_of_one_kind}
 use Rattle.pj_pattern.specs.Fitting.{row_fits, punct_fits}
 use Rattle.pj_pattern.specs.Normal.{normal_of}
 use Rattle.pj_element.specs.declared.element.Judged.{Judged}
 use Rattle.pj_element.specs.declared.element.Judged.TheVariants.{Fits}
+use Rattle.pj_element.specs.declared.forms.Spelled.TheVariants.{Good}
 use Rattle.pj_element.specs.Elements.{value_in, pattern_in, items_from, items_in, read_row, read_punct, tagged, judged, end_spelling, more_members, pattern_spelling, row_line, punct_line}
 use Rattle.pj_element.specs.Reading.{IsCell, AreCells, last_cell, first_cell, plain_byte, no_part, SpellsMembers, one_member, more_members as member_behind, SpellsEnd, no_end, value_end, SpellsForm, spells_star, spells_empty, spells_list, spells_range, spells_constant}
-use Rattle.pj_element.specs.Laws.{IsStorable, IsStorableEnd, AreStorable, IsKeptPattern, AreKeptPatterns, RowIsReadAgain, PunctIsReadAgain}
+use Rattle.pj_element.specs.Laws.{IsStorable, IsStorableEnd, AreStorable, IsKeptPattern, AreKeptPatterns, RowIsReadAgain, PunctIsReadAgain, PatternIsReadAgain}
 use Rattle.pj_element.proofs.ReadCells.{cells_are}
 use Rattle.pj_element.proofs.ReadForms.{form_sound}
 use Rattle.pj_element.proofs.FormCells.{value_cell, form_cell}
@@ -65,7 +66,21 @@ pattern_kind column (Constant c) fits = fits
 pattern_kind column (Range low high) fits = fits
 pattern_kind column (Members vs) fits = fits
 
+pattern_one_kind : (p : Pattern) → is_of_one_kind p ≡ true → is_of_one_kind (read_as p) ≡ true
+pattern_one_kind Wild fits = fits
+pattern_one_kind Empty fits = refl
+pattern_one_kind (Constant c) fits = fits
+pattern_one_kind (Range low high) fits = fits
+pattern_one_kind (Members vs) fits = fits
+
 -- ---- cells
+
+pub pattern_again : (p : Pattern) → IsKeptPattern p → PatternIsReadAgain p
+pattern_again p kept fits =
+    rw (form_sound (pattern_spelling p) (read_as p) (pattern_spelled p kept), pattern_one_kind p fits) (ap Good (pattern_normal p kept))
+
+pub pattern_cell : (p : Pattern) → IsKeptPattern p → IsCell (pattern_spelling p)
+pattern_cell p kept = form_cell (pattern_spelling p) (read_as p) (pattern_spelled p kept)
 
 value_fits : (column : Column) (v : Value) → IsStorable v → is_kind column.kind v ≡ true → value_in column (value_spelling v) ≡ Fits v
 value_fits column v storable fits = rw (value_again v storable, fits) refl

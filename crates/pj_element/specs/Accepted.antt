@@ -77,6 +77,10 @@ tally_of fs = record {
   listed = take 1000 (rejects_of 1 fs);
 }
 
+-- the tuple on line m, counted from 0, is refused because the line of this number, counted from 1, closes it
+abbrev pub IsRefusedFor : List Read → ℕ → ℕ → Type 0
+IsRefusedFor reads m line = slice_get (fates [] reads) m ≡ Some (Refused (Closed line))
+
 -- what the lines of a file say
 abbrev pub reads_of : List Column → List ℕ → List Read
 reads_of columns bytes = map (reading_at columns) (pieces bytes)

@@ -7,15 +7,16 @@ use Rattle.pj_shape.specs.declared.columns.Column.{Column}
 use Rattle.pj_shape.specs.Columns.{kinds_of}
 use Rattle.pj_pattern.specs.declared.pattern.Form.{Form}
 use Rattle.pj_pattern.specs.declared.pattern.Form.TheVariants.{Wild, Empty, Constant, Range, Members}
-use Rattle.pj_pattern.specs.Patterns.{Pattern}
+use Rattle.pj_pattern.specs.Patterns.{Pattern, is_of_one_kind}
 use Rattle.pj_pattern.specs.Fitting.{row_fits, punct_fits}
 use Rattle.pj_pattern.specs.Normal.{IsNormal, IsInBounds}
 use Rattle.pj_line.specs.Cells.{cells_of}
 use Rattle.pj_element.specs.declared.element.Read.{Read}
 use Rattle.pj_element.specs.declared.element.Read.TheVariants.{Tuple, Punct}
 use Rattle.pj_element.specs.Spelled.{value_of}
-use Rattle.pj_element.specs.Forms.{form_of}
-use Rattle.pj_element.specs.Elements.{reading_of, row_line, punct_line}
+use Rattle.pj_element.specs.declared.forms.Spelled.TheVariants.{Good}
+use Rattle.pj_element.specs.Forms.{form_of, pattern_of}
+use Rattle.pj_element.specs.Elements.{reading_of, pattern_spelling, row_line, punct_line}
 use Rattle.pj_element.specs.Reading.{AreCells, IsUnclosed, SpellsValue, SpellsForm, ReadsAs}
 
 -- ---- the grammar and what is computed agree
@@ -61,6 +62,10 @@ IsKeptPattern (Members vs) = AreStorable vs × IsNormal (Members vs)
 abbrev pub AreKeptPatterns : List Pattern → Type 0
 AreKeptPatterns [] = ⊤
 AreKeptPatterns (p ∷ ps) = IsKeptPattern p × AreKeptPatterns ps
+
+-- a pattern whose values are of one kind, printed, is read again as itself
+abbrev pub PatternIsReadAgain : Pattern → Type 0
+PatternIsReadAgain pattern = is_of_one_kind pattern ≡ true → pattern_of (pattern_spelling pattern) ≡ Good pattern
 
 -- a row that fits at most 120 columns, printed, is read again as itself
 abbrev pub RowIsReadAgain : List Value → Type 0

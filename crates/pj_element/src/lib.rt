@@ -22,6 +22,6 @@ pub use acceptance::{
 pub use element::{Read, Reject};
 pub use forms::{Spelled, read_pattern};
 pub use laws::{lines_are_read_again, lines_hold_no_feed, reading_is_exact};
-pub use reading::{punct_text, read_element, row_text};
+pub use reading::{pattern_text, punct_text, read_element, row_text};
 pub use spelled::read_value;
 pub use tally::Tally;

@@ -1,15 +1,16 @@
 // From a line to an element, and back.
 ghost use Rattle.std.specs.Prelude.{◌≡◌, ◌≤◌, ◌<◌, ◌^◌, ◌++◌, drop, length, IfOk, OnOk, OnErr};
 ghost use Rattle.pj_line.specs.Cells.{bytes_in};
-ghost use Rattle.pj_element.specs.Elements.{reading_of, tagged, read_row as row_read, read_punct as punct_read, items_in, value_in, pattern_in, row_line, punct_line};
-ghost use Rattle.pj_element.specs.Laws.{RowIsReadAgain, PunctIsReadAgain};
+ghost use Rattle.pj_element.specs.Elements.{reading_of, tagged, read_row as row_read, read_punct as punct_read, items_in, value_in, pattern_in, row_line, punct_line, pattern_spelling};
+ghost use Rattle.pj_element.specs.Laws.{RowIsReadAgain, PunctIsReadAgain, PatternIsReadAgain};
 
 use crate::canonical::read_canonical;
 use crate::element::{Read, Reject};
 use crate::items::{append_items, read_items};
-use crate::storable::{see_patterns, see_row};
+use crate::storable::{see_pattern, see_patterns, see_row};
+use crate::written::append_pattern;
 use pj_line::{Cells, cells, is_skipped};
-use pj_pattern::Punct;
+use pj_pattern::{Pattern, Punct};
 use pj_shape::{Column, Schema};
 use pj_value::{List, NoMemory, Row};
 use std::alloc::Global;
@@ -132,6 +133,25 @@ pub fn punct_text(alloc: Global, punct: &Punct, out: &mut List<u8>) -> Result<()
     out.push(b'p')?;
     see_patterns(punct.as_slice());
     match append_items(alloc, punct.as_slice(), out) {
+        Ok(()) => Ok(()),
+        Err(stop) => {
+            out.truncate(start);
+            Err(stop)
+        }
+    }
+}
+
+/// Appends the pattern's canonical spelling, without a blank. A pattern whose values are of one kind is read again as itself.
+/// On `NoMemory` the bytes are as they were.
+#[tactic(auto, using(crate::proofs::LinesAgain::pattern_again))]
+pub fn pattern_text(alloc: Global, pattern: &Pattern, out: &mut List<u8>) -> Result<(), NoMemory>
+    ensures ok { OnOk result (out.new ≡ out.old ++ pattern_spelling pattern.now) }
+    ensures again { OnOk result (PatternIsReadAgain pattern.now) }
+    ensures err { OnErr result (out.new ≡ out.old) }
+{
+    let start = out.len();
+    see_pattern(pattern);
+    match append_pattern(alloc, pattern, out) {
         Ok(()) => Ok(()),
         Err(stop) => {
             out.truncate(start);

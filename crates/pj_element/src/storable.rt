@@ -52,7 +52,8 @@ fn see_end(end: Option<&Value>)
     }
 }
 
-fn see_pattern(pattern: &Pattern)
+/// The pattern is in normal form, and its values are storable.
+pub(crate) fn see_pattern(pattern: &Pattern)
     ensures { IsKeptPattern pattern.now }
 {
     match pattern.shape() {
