@@ -1,4 +1,5 @@
 pub mod Meanings
 pub mod History
 pub mod Rule
+pub mod Sample
 pub mod Seats

@@ -16,8 +16,8 @@ struct Numbers {
 }
 
 impl Kept for Numbers {
-    ghost use Rattle.std.specs.Prelude.{◌≡◌, IfSome};
-    ghost use Rattle.std.specs.List.{All, filter_map};
+    ghost use Rattle.std.specs.Prelude.{◌≡◌};
+    ghost use Rattle.std.specs.List.{filter_map};
 
     type Entry = (u32, Option<(u32, u64)>);
 
@@ -34,11 +34,11 @@ struct Append {
 }
 
 impl Act<Numbers> for Append {
-    ghost use Rattle.std.specs.Prelude.{◌≡◌, ◌<◌, IfSome};
+    ghost use Rattle.pj_turn.specs.Sample.{appends};
 
     type Answer = Option<(u32, u64)>;
 
-    ghost meaning = { λ act. record { needs = λ limit n seen mine. (act.by ≡ n) × (act.value < limit); entry = λ n log answer. (n, answer); gives = λ n log x answer y. IfSome answer (λ p. p ≡ (act.by, act.value)) } };
+    ghost meaning = { λ act. appends act.by act.value };
 
     fn act(self, state: &mut Numbers) -> Option<(u32, u64)> {
         let one = (self.by, self.value);
