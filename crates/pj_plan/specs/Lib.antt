@@ -1,0 +1,12 @@
+pub mod Nodes
+pub mod Words
+pub mod Made
+pub mod Faults
+pub mod Built
+pub mod Names
+pub mod Kept
+pub mod Canonical
+pub mod Small
+pub mod Sound
+pub mod Laws
+pub mod Sorts

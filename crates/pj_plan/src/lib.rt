@@ -1,0 +1,24 @@
+//! Plans: what their statements say, which fault of a plan comes first, and the nodes of a plan without fault.
+#![tactic(auto)]
+
+mod build;
+mod checks;
+mod declare;
+mod fault;
+mod faults;
+mod limits;
+mod links;
+mod making;
+mod names;
+mod node;
+mod plan;
+mod schemas;
+mod statement;
+#[cfg(test)]
+mod tests;
+mod words;
+
+pub use fault::{PlanFault, PlanStop, PlanWhy};
+pub use node::{Draft, Node, Outline, PlanNode};
+pub use plan::Plan;
+pub use statement::{AggWord, ColumnWord, NamedAgg, Renamed, Stated, Statement, Test, TestWord};

@@ -1,0 +1,179 @@
+// How often nodes are used, and how many there may be.
+ghost use Rattle.std.specs.Prelude.{◌≡◌, ◌<◌, ◌≤◌, ◌∷◌, ◌++◌, [], ◌||◌, ◌&&◌, not, length, filter, flat_map, nat_le, nat_lt};
+ghost use Rattle.std.specs.List.{list_any};
+ghost use Rattle.pj_plan.specs.Made.{result_schema, number_of as number};
+ghost use Rattle.pj_plan.specs.Nodes.{inputs_of as inputs, is_stream as stream};
+ghost use Rattle.pj_plan.specs.Faults.{is_used_twice_or_never as twice_or_never, was_used as used, uses, is_in as within, has_unused as unused, leaves_unused as leaves, stream_count as streams, is_too_wide as too_wide, schemes_of as schemes, scheme_count as schemes_named, goes_beyond as beyond, output_use};
+
+use crate::names::{is_stream, number_of, repeats};
+use crate::words::used_names;
+use crate::{Draft, Node, PlanNode, Statement};
+use pj_shape::Column;
+use pj_value::Bytes;
+use std::slice::from_ref;
+
+/// The numbers of the nodes that feed it, in order of its inputs.
+pub(crate) fn inputs_of(node: &Node) -> &[u32]
+    ensures { result.now ≡ inputs node.now }
+{
+    match node {
+        Node::Stream { .. } => &[],
+        Node::Select { input, .. } => from_ref(input),
+        Node::Project { input, .. } => from_ref(input),
+        Node::Union { inputs } => inputs.as_slice(),
+        Node::Join { inputs, .. } => inputs.as_slice(),
+        Node::Group { input, .. } => from_ref(input),
+    }
+}
+
+/// Whether an input or output was used before or stands twice, or an output leaves another node unused.
+pub(crate) fn is_used_twice_or_never(draft: &Draft, statement: &Statement) -> bool
+    ensures { result ≡ twice_or_never draft.now statement.now }
+{
+    let names = used_names(statement);
+    (any_used(draft, names) || repeats(names)) || leaves_unused(draft, statement)
+}
+
+fn any_used(draft: &Draft, names: &[Bytes]) -> bool
+    ensures { result ≡ list_any (used draft.now) names.now }
+{
+    names.iter().any(|name| is_used(draft, number_of(draft.nodes.as_slice(), name.as_slice())))
+}
+
+// Whether the node of this number was used.
+fn is_used(draft: &Draft, number: usize) -> bool
+    ensures { result ≡ within (uses draft.now) number }
+{
+    feeds(draft.nodes.as_slice(), number) || is_output(draft.output, number)
+}
+
+// Whether the node of this number is an input of one of these.
+fn feeds(nodes: &[PlanNode], number: usize) -> bool
+    ensures { result ≡ within (flat_map (λ node. inputs node.node) nodes.now) number }
+{
+    for node in nodes {
+        if is_in(inputs_of(&node.node), number) {
+            return true;
+        }
+    }
+    false
+}
+
+fn is_in(numbers: &[u32], number: usize) -> bool
+    ensures { result ≡ within numbers.now number }
+{
+    numbers.iter().any(|other| *other as usize == number)
+}
+
+fn is_output(output: Option<u32>, number: usize) -> bool
+    ensures { result ≡ within (output_use output) number }
+{
+    match output {
+        None => false,
+        Some(output) => output as usize == number,
+    }
+}
+
+fn leaves_unused(draft: &Draft, statement: &Statement) -> bool
+    ensures { result ≡ leaves draft.now statement.now }
+{
+    match statement {
+        Statement::Plan { .. } => false,
+        Statement::Stream { .. } => false,
+        Statement::Scheme { .. } => false,
+        Statement::Select { .. } => false,
+        Statement::Project { .. } => false,
+        Statement::Union { .. } => false,
+        Statement::Join { .. } => false,
+        Statement::Group { .. } => false,
+        Statement::Output { name } => has_unused(
+            draft,
+            number_of(draft.nodes.as_slice(), name.as_slice()),
+        ),
+        Statement::Bad(_) => false,
+    }
+}
+
+// Whether a node but the one of this number was never used.
+fn has_unused(draft: &Draft, output: usize) -> bool
+    ensures { result ≡ unused (output ∷ uses draft.now) 0 draft.now.nodes }
+{
+    for number in 0..draft.nodes.len() {
+        if !is_needed(draft, output, number) {
+            return true;
+        }
+    }
+    false
+}
+
+fn is_needed(draft: &Draft, output: usize, number: usize) -> bool
+    ensures { result ≡ within (output ∷ uses draft.now) number }
+{
+    output == number || is_used(draft, number)
+}
+
+/// Whether the statement goes beyond a limit: 16 streams, 16 schemes of one, 16 inputs, 32 classes, 64 nodes, 120 columns.
+pub(crate) fn goes_beyond(nodes: &[PlanNode], statement: &Statement, schema: &[Column]) -> bool
+    requires { schema.now ≡ result_schema nodes.now statement.now }
+    ensures { result ≡ beyond nodes.now statement.now }
+{
+    match statement {
+        Statement::Plan { .. } => false,
+        Statement::Stream { .. } => stream_count(nodes) >= 16 || is_too_wide(nodes, schema),
+        Statement::Scheme { stream, .. } => scheme_count(nodes, stream.as_slice()) >= 16,
+        Statement::Select { .. } => is_too_wide(nodes, schema),
+        Statement::Project { .. } => is_too_wide(nodes, schema),
+        Statement::Union { inputs, .. } => inputs.len() > 16 || is_too_wide(nodes, schema),
+        Statement::Join {
+            inputs,
+            classes,
+            ..
+        } => (inputs.len() > 16 || classes.len() > 32) || is_too_wide(nodes, schema),
+        Statement::Group { .. } => is_too_wide(nodes, schema),
+        Statement::Output { .. } => false,
+        Statement::Bad(_) => false,
+    }
+}
+
+fn is_too_wide(nodes: &[PlanNode], schema: &[Column]) -> bool
+    ensures { result ≡ (nat_le 64 (length nodes.now) || nat_lt 120 (length schema.now)) }
+{
+    nodes.len() >= 64 || schema.len() > 120
+}
+
+fn stream_count(nodes: &[PlanNode]) -> usize
+    ensures { result ≡ streams nodes.now }
+{
+    let mut count = 0_usize;
+    for node in nodes {
+        if is_stream(&node.node) {
+            count += 1;
+        }
+    }
+    count
+}
+
+// The number of schemes of the node of this name.
+fn scheme_count(nodes: &[PlanNode], name: &[u8]) -> usize
+    ensures { result ≡ schemes_named nodes.now name.now }
+{
+    for node in nodes {
+        if name == node.name.as_slice() {
+            return schemes_of(&node.node);
+        }
+    }
+    0
+}
+
+fn schemes_of(node: &Node) -> usize
+    ensures { result ≡ schemes node.now }
+{
+    match node {
+        Node::Stream { schemes } => schemes.len(),
+        Node::Select { .. } => 0,
+        Node::Project { .. } => 0,
+        Node::Union { .. } => 0,
+        Node::Join { .. } => 0,
+        Node::Group { .. } => 0,
+    }
+}
