@@ -1,0 +1,12 @@
+pub mod CellLoops
+pub mod CellTexts
+pub mod CellsAgain
+pub mod LineTexts
+pub mod LinesAgain
+pub mod Parting
+pub mod PlanFits
+pub mod PlanLines
+pub mod PlansAgain
+pub mod SpelledLines
+pub mod Stored
+pub mod TestTexts

@@ -1,0 +1,8 @@
+pub mod Cuts
+pub mod CellWords
+pub mod Statements
+pub mod PlanRead
+pub mod Spelling
+pub mod Pairs
+pub mod Kept
+pub mod Laws

@@ -1,0 +1,23 @@
+//! The plan language: the plan that a text spells, or its first fault, and the canonical text of a plan.
+#![tactic(auto)]
+
+mod cell_texts;
+mod cell_words;
+mod cuts;
+mod laws;
+mod line_texts;
+mod lists;
+mod named;
+mod names;
+mod reader;
+mod statements;
+mod storable;
+mod word;
+mod writer;
+
+pub use laws::statements_are_read_again;
+pub use reader::read_plan;
+pub use writer::plan_text;
+
+#[cfg(test)]
+mod tests;
