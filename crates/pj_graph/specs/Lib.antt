@@ -1,0 +1,6 @@
+pub mod Sets
+pub mod Certificates
+pub mod Reaching
+pub mod Search
+pub mod Laws
+pub mod Samples

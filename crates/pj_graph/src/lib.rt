@@ -1,0 +1,13 @@
+//! Which inputs of a join an input reaches by the schemes of the punctuations that the inputs promise.
+#![tactic(auto)]
+
+mod answers;
+mod laws;
+mod saturation;
+mod search;
+#[cfg(test)]
+mod tests;
+
+pub use answers::Reach;
+pub use laws::safe_where_certified;
+pub use saturation::reach;
