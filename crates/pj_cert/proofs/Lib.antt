@@ -1,0 +1,3 @@
+pub mod ClosedSets
+pub mod TestedSteps
+pub mod Appended
