@@ -5,22 +5,18 @@ use Rattle.pj_laws.specs.Join.{In, Element, Tuple, Punct, Step, Take, Give, Swee
 use Rattle.pj_laws.specs.Plan.{Operator, Stream, Select, Project, Union, Join, Group, Node, Local, Comes, Fed, Own, PlanStep, join_step, after_all, hands_all, own, brought_from, locals, handed_at, batches, moved, operator_at, nowhere, IsWellMade, node_width, ArePlanned}
 use Rattle.pj_laws.specs.History.{Entry, Event, Arrive, Taken, Given, Swept, Drain, Halt, Look, Stopped, Idle, state_in, stream_node, step_of, nodes_by, nodes_from}
 use Rattle.pj_laws.specs.Outcomes.{Arrival, arriving, arrivals_in, arrivals_by, arrivals_at, step_at, own_step, join_steps_by}
+use Rattle.pj_laws.specs.Climb.{StandBehind}
 use Rattle.pj_laws.specs.HistoryLaws.{JoinFollows, Joined, TicketsCount}
 use Rattle.pj_laws.proofs.Glue.{batches-keep, length-moved}
 use Rattle.pj_laws.proofs.Operators.{join_steps, join-hands, join-after}
 use Rattle.pj_laws.proofs.Probes.{AllOperators, all-at}
 use Rattle.pj_laws.proofs.Sound.{run-append}
 
--- each node stands behind its inputs, from this number on
-abbrev pub AreBehind : ℕ → List Node → Type 0
-AreBehind n [] = Unit {0}
-AreBehind n (node ∷ nodes) = ((m : ℕ) → In m node.inputs → m < n) × AreBehind (n + 1) nodes
-
-pub planned-behind : (ws : List ℕ) (n : ℕ) (nodes : List Node) → length ws ≡ n → ArePlanned ws nodes → AreBehind n nodes
+pub planned-behind : (ws : List ℕ) (n : ℕ) (nodes : List Node) → length ws ≡ n → ArePlanned ws nodes → StandBehind n nodes
 planned-behind ws n [] l p = tt
 planned-behind ws n (node ∷ nodes) l p = (λ m h. omega (arith, p.0 m h, l), planned-behind (ws ++ node_width ws node ∷ []) (n + 1) nodes (omega (arith, length_push ws (node_width ws node), l)) p.2)
 
-pub behind-moved : (e : PlanStep) (done : List (List Element)) (n : ℕ) (nodes : List Node) → AreBehind n nodes → AreBehind n (moved e done nodes)
+pub behind-moved : (e : PlanStep) (done : List (List Element)) (n : ℕ) (nodes : List Node) → StandBehind n nodes → StandBehind n (moved e done nodes)
 behind-moved e done n [] b = tt
 behind-moved e done n (node ∷ nodes) b = (b.0, behind-moved e (done ++ handed_at e done node ∷ []) (n + 1) nodes b.1)
 
@@ -69,7 +65,7 @@ own-steps nodes (Stopped stop) n = refl
 own-steps nodes Idle n = refl
 
 -- what a step does to the join at a place of these nodes, behind what those before handed up
-follow-at : (e : PlanStep) (done : List (List Element)) (nodes : List Node) (n : ℕ) (spec : JoinData) (s : JoinState) → n < length nodes → AreBehind (length done) nodes → operator_at nodes n ≡ Join spec s
+follow-at : (e : PlanStep) (done : List (List Element)) (nodes : List Node) (n : ℕ) (spec : JoinData) (s : JoinState) → n < length nodes → StandBehind (length done) nodes → operator_at nodes n ≡ Join spec s
     → (operator_at (moved e done nodes) n ≡ Join spec (run spec s (join_steps (own e (length done + n)) ++ map step_at (arrivals_in 0 (get_or nodes n nowhere).inputs (batches e done nodes)))))
     × (get_or (batches e done nodes) (length done + n) [] ≡ outputs spec s (join_steps (own e (length done + n)) ++ map step_at (arrivals_in 0 (get_or nodes n nowhere).inputs (batches e done nodes))))
 follow-at e done [] n spec s lt b q = absurd (omega arith)
@@ -99,11 +95,11 @@ follow-at e done (node ∷ nodes) zero spec s lt b q = (
         ∙ ap₂ (λ (xs ys : List Step). xs ++ ys) (ap (λ (k : ℕ). join_steps (own e k)) (sym zeroth)) (brought-steps 0 node.inputs done full seen)
 follow-at e done (node ∷ nodes) (suc n) spec s lt b q =
     let z : length (done ++ handed_at e done node ∷ []) + n ≡ length done + suc n = omega (arith, length_push done (handed_at e done node)) in
-    let r = follow-at e (done ++ handed_at e done node ∷ []) nodes n spec s (omega arith) (subst (λ (k : ℕ). AreBehind k nodes) (sym (length_push done (handed_at e done node))) b.1) q in
+    let r = follow-at e (done ++ handed_at e done node ∷ []) nodes n spec s (omega arith) (subst (λ (k : ℕ). StandBehind k nodes) (sym (length_push done (handed_at e done node))) b.1) q in
     subst (λ (k : ℕ). (operator_at (moved e (done ++ handed_at e done node ∷ []) nodes) n ≡ Join spec (run spec s (join_steps (own e k) ++ map step_at (arrivals_in 0 (get_or nodes n nowhere).inputs (batches e (done ++ handed_at e done node ∷ []) nodes)))))
     × (get_or (batches e (done ++ handed_at e done node ∷ []) nodes) k [] ≡ outputs spec s (join_steps (own e k) ++ map step_at (arrivals_in 0 (get_or nodes n nowhere).inputs (batches e (done ++ handed_at e done node ∷ []) nodes))))) z r
 
-pub follows-behind : (nodes : List Node) → AreBehind 0 nodes → JoinFollows nodes
+pub follows-behind : (nodes : List Node) → StandBehind 0 nodes → JoinFollows nodes
 follows-behind nodes b event n spec s lt q =
     let z : 0 + n ≡ n = omega arith in
     let r = follow-at (step_of nodes event) [] nodes n spec s lt b q in
@@ -112,7 +108,7 @@ follows-behind nodes b event n spec s lt q =
       ap (λ (k : ℕ). get_or (batches (step_of nodes event) [] nodes) k []) (sym z) ∙ r.1 ∙ ap (outputs spec s) w,
     )
 
-pub behind-from : (nodes : List Node) (h : List Entry) → AreBehind 0 nodes → AreBehind 0 (nodes_from nodes h)
+pub behind-from : (nodes : List Node) (h : List Entry) → StandBehind 0 nodes → StandBehind 0 (nodes_from nodes h)
 behind-from nodes [] b = b
 behind-from nodes (entry ∷ h) b = behind-from (nodes_by nodes entry.event) h (behind-moved (step_of nodes entry.event) [] 0 nodes b)
 
@@ -153,7 +149,7 @@ next-arrivals spec s (a ∷ xs) = next-arrivals spec (step spec s (step_at a)) x
     one (Tuple row) = refl
     one (Punct patterns) = refl
 
-count-from : (nodes : List Node) (h : List Entry) (n : ℕ) (spec : JoinData) (s : JoinState) → n < length nodes → AreBehind 0 nodes → operator_at nodes n ≡ Join spec s
+count-from : (nodes : List Node) (h : List Entry) (n : ℕ) (spec : JoinData) (s : JoinState) → n < length nodes → StandBehind 0 nodes → operator_at nodes n ≡ Join spec s
     → (s' : JoinState) × (operator_at (nodes_from nodes h) n ≡ Join spec s') × (s'.next ≡ s.next + length (arrivals_at nodes h n))
 count-from nodes [] n spec s lt b q = (s, q, omega arith)
 count-from nodes (entry ∷ h) n spec s lt b q =

@@ -36,7 +36,7 @@ abbrev pub locals_all : List Node → Node → List PlanStep → List Local
 locals_all front node [] = []
 locals_all front node (e ∷ es) = locals e (batches e [] front) node ++ locals_all (moved e [] front) node es
 
-hands-append : (m : Operator) (ls ks : List Local) → hands_all m (ls ++ ks) ≡ hands_all m ls ++ hands_all (after_all m ls) ks
+pub hands-append : (m : Operator) (ls ks : List Local) → hands_all m (ls ++ ks) ≡ hands_all m ls ++ hands_all (after_all m ls) ks
 hands-append m [] ks = refl
 hands-append m (l ∷ ls) ks = ap (λ es. hands m l ++ es) (hands-append (after m l) ls ks) ∙ sym (append_assoc (hands m l) (hands_all (after m l) ls) (hands_all (after_all (after m l) ls) ks))
 

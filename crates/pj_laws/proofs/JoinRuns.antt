@@ -5,12 +5,13 @@ use Rattle.pj_laws.specs.Join.{In, Element, Step, JoinData, JoinState, inputs, a
 use Rattle.pj_laws.specs.Plan.{Operator, Join, Node, Local, PlanStep, after_all, own, brought_from, locals, handed_at, batches, moved, operator_at, nowhere, IsWellMade, node_width, ArePlanned, AreStepsLegal}
 use Rattle.pj_laws.specs.History.{Entry, step_of, nodes_by, begun, nodes_from, steps_from}
 use Rattle.pj_laws.specs.Outcomes.{arrivals_in, step_at, join_steps_by, join_steps_of}
+use Rattle.pj_laws.specs.Climb.{StandBehind}
 use Rattle.pj_laws.specs.HistoryLaws.{JoinRuns}
 use Rattle.pj_laws.proofs.Glue.{from_input, locals_all, locals-inputs, from-is, moved-append, batches-append, batches-keep, length-batches, length-moved}
 use Rattle.pj_laws.proofs.Operators.{AreWithin, AreOwnAllowed, IsFlow, join_steps, join-legal}
 use Rattle.pj_laws.proofs.Whole.{IsGood, AreLocalsAllowed, AreGood, locals-allowed, within-all, fed-join, node-good, front-good}
 use Rattle.pj_laws.proofs.Steps.{legal-steps}
-use Rattle.pj_laws.proofs.Follow.{AreBehind, planned-behind, behind-moved, steps-append, brought-steps, own-steps, follows-behind}
+use Rattle.pj_laws.proofs.Follow.{planned-behind, behind-moved, steps-append, brought-steps, own-steps, follows-behind}
 use Rattle.pj_laws.proofs.Sound.{run-append}
 use Rattle.pj_value.proofs.Members.{in-place, map-at}
 
@@ -127,7 +128,7 @@ runs-at front ws (node ∷ back) h (suc n) spec long planned legal good lt q =
 
 -- ---- what they make of it
 
-state-from : (nodes : List Node) (h : List Entry) (n : ℕ) (spec : JoinData) (s : JoinState) → AreBehind 0 nodes → n < length nodes → operator_at nodes n ≡ Join spec s
+state-from : (nodes : List Node) (h : List Entry) (n : ℕ) (spec : JoinData) (s : JoinState) → StandBehind 0 nodes → n < length nodes → operator_at nodes n ≡ Join spec s
     → operator_at (nodes_from nodes h) n ≡ Join spec (run spec s (join_steps_of nodes h n))
 state-from nodes [] n spec s b lt q = q
 state-from nodes (entry ∷ h) n spec s b lt q =

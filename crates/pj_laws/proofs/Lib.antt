@@ -44,4 +44,14 @@ pub mod SmallKept
 pub mod Limits
 pub mod Drains
 pub mod Tickets
+pub mod Climbing
+pub mod Trees
+pub mod ClimbingEvents
+pub mod ClimbingKept
+pub mod ClimbingParts
+pub mod ClimbingLimits
+pub mod StreamsJoined
+pub mod JoinedClimb
+pub mod JoinedMoves
+pub mod ClimbExample
 pub mod Example

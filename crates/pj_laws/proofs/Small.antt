@@ -12,7 +12,7 @@ use Rattle.pj_laws.specs.CoreKept.{stream_of, join_of, joins_of, nodes_of, colum
 abbrev wide : List SmallStream → List ℕ
 wide streams = map (λ stream. length stream.schema) streams
 
-streams-planned : (ws : List ℕ) (streams : List SmallStream) (rest : List Node) → ArePlanned (ws ++ wide streams) rest → ArePlanned ws (map stream_of streams ++ rest)
+pub streams-planned : (ws : List ℕ) (streams : List SmallStream) (rest : List Node) → ArePlanned (ws ++ wide streams) rest → ArePlanned ws (map stream_of streams ++ rest)
 streams-planned ws [] rest p = subst (λ (xs : List ℕ). ArePlanned xs rest) (append-nil ws) p
 streams-planned ws (stream ∷ streams) rest p = (
   (λ m h. absurd h),
@@ -29,7 +29,7 @@ widths-at : (streams : List SmallStream) (ks : List ℕ) → map (λ k. get_or (
 widths-at streams [] = refl
 widths-at streams (k ∷ ks) = ap₂ (λ (n : ℕ) (ns : List ℕ). n ∷ ns) (width-at streams k) (widths-at streams ks)
 
-join-planned : (streams : List SmallStream) (join : SmallJoin) → IsJoinOf streams join → ArePlanned (wide streams) (join_of join ∷ [])
+pub join-planned : (streams : List SmallStream) (join : SmallJoin) → IsJoinOf streams join → ArePlanned (wide streams) (join_of join ∷ [])
 join-planned streams join j = (
   (λ m h. omega (arith, j.there m h, length-map streams (λ (stream : SmallStream). length stream.schema))),
   (widths-at streams join.inputs ∙ ap (map length) (sym j.columns), omega (arith, j.sound.few_inputs.0, length-map join.spec.inputs (λ (schema : List Column). length schema)), refl),
@@ -38,12 +38,12 @@ join-planned streams join j = (
 
 plan-of : (streams : List SmallStream) (join : Option SmallJoin) → IsPlanOf streams join → ArePlanned [] (map stream_of streams ++ joins_of join)
 plan-of streams None p = streams-planned [] streams [] tt
-plan-of streams (Some join) p = streams-planned [] streams (join_of join ∷ []) (join-planned streams join p.1)
+plan-of streams (Some join) p = streams-planned [] streams (join_of join ∷ []) (join-planned streams join p.2)
 
 pub small-planned : (plan : SmallPlan) → IsSmallPlan plan → ArePlanned [] (nodes_of plan)
 small-planned plan p = plan-of plan.streams plan.join p
 
-no-groups : (streams : List SmallStream) (join : Option SmallJoin) (n : ℕ) → n < length (map stream_of streams ++ joins_of join) → IsNoGroup (operator_at (map stream_of streams ++ joins_of join) n)
+pub no-groups : (streams : List SmallStream) (join : Option SmallJoin) (n : ℕ) → n < length (map stream_of streams ++ joins_of join) → IsNoGroup (operator_at (map stream_of streams ++ joins_of join) n)
 no-groups [] None n lt = absurd (omega arith)
 no-groups [] (Some join) zero lt = tt
 no-groups [] (Some join) (suc n) lt = absurd (omega arith)

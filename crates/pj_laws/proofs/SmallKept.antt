@@ -22,7 +22,7 @@ stream-node-at [] m a lt = absurd (omega arith)
 stream-node-at (node ∷ front) zero a lt = a.0
 stream-node-at (node ∷ front) (suc m) a lt = stream-node-at front m a.1 (omega arith)
 
-at-front : (count : ℕ) (inputs : List ℕ) (nodes : List Node) (f : HasForm count inputs nodes) (m : ℕ) → m < count → IsStreamNode (get_or nodes m nowhere)
+pub at-front : (count : ℕ) (inputs : List ℕ) (nodes : List Node) (f : HasForm count inputs nodes) (m : ℕ) → m < count → IsStreamNode (get_or nodes m nowhere)
 at-front count inputs nodes f m lt =
     subst IsStreamNode (sym (ap (λ (xs : List Node). get_or xs m nowhere) f.split ∙ get_or_append_left f.front (f.last ∷ []) nowhere m (omega (arith, lt, f.long))))
     (stream-node-at f.front m f.streams (omega (arith, lt, f.long)))

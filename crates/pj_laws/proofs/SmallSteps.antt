@@ -145,7 +145,7 @@ pub form-from : (count : ℕ) (inputs : List ℕ) (nodes : List Node) (h : List 
 form-from count inputs nodes [] f = f
 form-from count inputs nodes (entry ∷ h) f = form-from count inputs (nodes_by nodes entry.event) h (form-moved count inputs (step_of nodes entry.event) nodes f)
 
-all-streams : (streams : List SmallStream) → AreStreamNodes (map stream_of streams)
+pub all-streams : (streams : List SmallStream) → AreStreamNodes (map stream_of streams)
 all-streams [] = tt
 all-streams (stream ∷ streams) = ((refl, refl), all-streams streams)
 
@@ -163,7 +163,7 @@ small-form streams join = record {
 -- ---- what events bring
 
 module _ (count : ℕ) (inputs : List ℕ) (nodes : List Node) (f : HasForm count inputs nodes) where
-  total : length nodes ≡ count + 1
+  pub total : length nodes ≡ count + 1
   total = ap length f.split ∙ length_push f.front f.last ∙ ap (λ (n : ℕ). n + 1) f.long
 
   pub last-at : get_or nodes count nowhere ≡ f.last
@@ -172,10 +172,10 @@ module _ (count : ℕ) (inputs : List ℕ) (nodes : List Node) (f : HasForm coun
   not-stream : (m : Operator) (spec : JoinData) (s : JoinState) → m ≡ Join spec s → is_stream m ≡ false
   not-stream m spec s q = ap is_stream q
 
-  numbers : streams_of nodes ≡ upto_from 0 count
+  pub numbers : streams_of nodes ≡ upto_from 0 count
   numbers = ap streams_of f.split ∙ number-of 0 f.front f.last f.streams (not-stream f.last.operator f.joins.0 f.joins.1 f.joins.2) ∙ ap (upto_from 0) f.long
 
-  node-is : (s : ℕ) → s < count → stream_node nodes s ≡ s
+  pub node-is : (s : ℕ) → s < count → stream_node nodes s ≡ s
   node-is s lt = ap (λ (ns : List ℕ). get_or ns s (length nodes)) numbers ∙ number-at 0 count s (length nodes) lt ∙ zero-plus s
     where
       zero-plus : (n : ℕ) → 0 + n ≡ n
@@ -279,7 +279,7 @@ module _ (count : ℕ) (inputs : List ℕ) (nodes : List Node) (f : HasForm coun
         | Below higher ↦ climb_each (climb d limit) limit (passed (record { place = count; input = j; operator = Join f.joins.0 f.joins.1; count = reached count }) e) higher []
       ])) (nothing-up d limit (hands (Join f.joins.0 f.joins.1) (Comes j e)))
 
-  goes : (reached : ℕ → ℕ) (limit s j : ℕ) (e : Element) → s < count → place_in 0 inputs s ≡ Some j
+  pub goes : (reached : ℕ → ℕ) (limit s j : ℕ) (e : Element) → s < count → place_in 0 inputs s ≡ Some j
       → beyond_of (climb (length nodes) limit (way_up reached 0 (stream_node nodes s) nodes) (get_or (batches (Feed (stream_node nodes s) e) [] nodes) (stream_node nodes s) [])) ≡ cond (eqb (reached count) limit) (Some count) None
   goes reached limit s j e lt p =
       ap (λ (n : ℕ). beyond_of (climb (length nodes) limit (way_up reached 0 n nodes) (get_or (batches (Feed (stream_node nodes s) e) [] nodes) n []))) (node-is s lt)
@@ -313,7 +313,7 @@ join-of-streams streams join j history = record {
 alone-moved : (e : PlanStep) (nodes : List Node) → AreStreamNodes nodes → AreStreamNodes (moved e [] nodes)
 alone-moved e nodes a = streams-moved e [] nodes a
 
-alone-from : (nodes : List Node) (h : List Entry) → AreStreamNodes nodes → AreStreamNodes (nodes_from nodes h)
+pub alone-from : (nodes : List Node) (h : List Entry) → AreStreamNodes nodes → AreStreamNodes (nodes_from nodes h)
 alone-from nodes [] a = a
 alone-from nodes (entry ∷ h) a = alone-from (nodes_by nodes entry.event) h (alone-moved (step_of nodes entry.event) nodes a)
 

@@ -4,7 +4,7 @@ use Rattle.pj_value.specs.declared.values.Value.{Value}
 use Rattle.pj_shape.specs.declared.plans.SmallPlan.{SmallPlan}
 use Rattle.pj_shape.specs.declared.plans.SmallStream.{SmallStream}
 use Rattle.pj_shape.specs.declared.plans.SmallJoin.{SmallJoin}
-use Rattle.std.specs.Prelude.{Some, None, false, ◌++◌, ◌<◌, slice_index_or}
+use Rattle.std.specs.Prelude.{Some, None, false, ◌++◌, ◌<◌, ◌≤◌, slice_index_or}
 use Rattle.pj_shape.specs.declared.columns.Column.{Column}
 use Rattle.pj_shape.specs.Sound.{IsSoundSpec}
 use Rattle.pj_laws.specs.Join.{In, AreDistinct, start, upto_from}
@@ -94,8 +94,8 @@ pub record IsJoinOf (streams : List SmallStream) (join : SmallJoin) : Type 0 whe
 
 abbrev pub IsPlanOf : List SmallStream → Option SmallJoin → Type 0
 IsPlanOf streams None = length streams ≡ 1
-IsPlanOf streams (Some join) = (length streams ≡ 2) × IsJoinOf streams join
+IsPlanOf streams (Some join) = (2 ≤ length streams) × (length streams ≤ 16) × IsJoinOf streams join
 
--- one stream, or two streams and a join of them
+-- one stream, or 2 to 16 streams and a join of them all
 abbrev pub IsSmallPlan : SmallPlan → Type 0
 IsSmallPlan plan = IsPlanOf plan.streams plan.join

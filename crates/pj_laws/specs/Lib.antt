@@ -7,6 +7,10 @@ pub mod Plan
 pub mod History
 pub mod Outcomes
 pub mod Limits
+pub mod Climb
 pub mod OneThread
 pub mod CoreKept
+pub mod ClimbLimits
+pub mod ClimbKept
 pub mod HistoryLaws
+pub mod StreamsJoined

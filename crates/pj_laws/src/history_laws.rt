@@ -54,7 +54,7 @@ pub fn one_thread()
     ensures swept_groups { (plan : List Node) → ArePlanned [] plan → 0 < length plan → AllAreCertified plan → AllPropagate plan → OneThreadIsAnswer true plan }
 {}
 
-/// A plan of one stream, or of two streams and a join of them, is well made and has no group.
+/// A plan of one stream, or of 2 to 16 streams and a join of them, is well made and has no group.
 pub fn small_plans()
     ensures planned { (plan : SmallPlan) → IsSmallPlan plan → ArePlanned [] (nodes_of plan) }
     ensures some { (plan : SmallPlan) → IsSmallPlan plan → 0 < length (nodes_of plan) }

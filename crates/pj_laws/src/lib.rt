@@ -1,11 +1,13 @@
 //! Histories of joins and plans, and the laws of them.
 #![tactic(auto)]
 
+mod climb_laws;
 mod events;
 mod history_laws;
 mod join_laws;
 mod plan_laws;
 
+pub use climb_laws::{climbs_of_histories, climbs_of_steps, joined_histories, streams_joined};
 pub use events::{Entry, Event, Look, Out, Stop};
 pub use history_laws::{
     history_answers, history_lawfulness, history_steps, joins_of_histories, never_retracted,
