@@ -1,0 +1,3 @@
+pub mod Handed
+pub mod Unions
+pub mod Insides
