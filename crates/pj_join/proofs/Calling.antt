@@ -10,10 +10,13 @@ use Rattle.pj_shape.specs.declared.columns.Column.{Column}
 use Rattle.pj_shape.specs.declared.joins.JoinSpec.{JoinSpec}
 use Rattle.pj_laws.specs.Join.{Value, TupleAt, PunctAt, Take, TupleComes, results, agree, product, joined, has, inputs, of_input, upto_from}
 use Rattle.pj_laws.specs.KeptState.{least, without}
-use Rattle.pj_join.specs.Joins.{Found, TakesLeast, unswept, after, found_of}
+use Rattle.pj_join.specs.Joins.{Found, JoinView, TakesLeast, unswept, after, found_of}
+use Rattle.pj_laws.specs.declared.events.Out.{Out}
+use Rattle.pj_laws.specs.declared.events.Out.TheVariants.{Tuple}
+use Rattle.pj_join.specs.Handed.{JoinProbes, behind_probe, found_out, rows_probed}
 use Rattle.pj_join.specs.Walks.{choices}
-use Rattle.pj_join.specs.Insides.{tickets, seen, Rise, IsOrdered}
-use Rattle.pj_join.proofs.Orders.{ordered-tuple, ordered-take, seen-tuple, rise-front, rise-to, rise-length, rise-has, least-first, pending-first, seen-take, taken-first, IsTakenFirst}
+use Rattle.pj_join.specs.Insides.{tickets, seen, Rise, IsOrdered, made_with}
+use Rattle.pj_join.proofs.Orders.{ordered-tuple, ordered-take, ordered-probe, seen-probe, seen-tuple, rise-front, rise-to, rise-length, rise-has, least-first, pending-first, seen-take, taken-first, IsTakenFirst}
 use Rattle.pj_join.proofs.Finding.{choices-results}
 use Rattle.pj_laws.proofs.Upto.{length-upto}
 use Rattle.pj_laws.proofs.NextProbe.{without-all}
@@ -108,14 +111,25 @@ done-fits spec limit next done log sides taken o =
 pub several : (spec : JoinSpec) (limit next done : ℕ) (log : List TupleAt) (sides : List (List TupleAt)) (taken : List ℕ) → IsOrdered spec limit next done log sides taken → 1 < inputs (unswept spec)
 several spec limit next done log sides taken o = omega (arith, o.sound.few_inputs.0, length-map spec.inputs (λ (schema : List Column). length schema))
 
+-- what the choices of a ticket give is what its work finds
+pub probe-finds : (node : ℕ) (spec : JoinSpec) (limit next done : ℕ) (log : List TupleAt) (sides : List (List TupleAt)) (puncts : List PunctAt) (taken : List ℕ) (x : TupleAt)
+    → IsOrdered spec limit next done log sides taken → Some x ≡ slice_get log done
+    → record { join = node; ticket = x.ticket; rows = map joined (filter (agree spec.classes) (product (choices spec.classes x sides))) } ≡ found_of (seen (made_with node spec limit) next done log puncts taken) x.ticket
+probe-finds node spec limit next done log sides puncts taken x o here =
+    ap the_found (subst (λ (y : TupleAt). map joined (filter (agree spec.classes) (product (choices spec.classes y sides))) ≡ map joined (results (unswept spec) log log y.ticket))
+    (get_or_from_slice_get log done x x (sym here)) (choices-results spec limit next done log sides taken x o (slice_get_within log done x (sym here))))
+  where
+    the_found : List (List Value) → Found
+    the_found rs = record { join = node; ticket = x.ticket; rows = rs }
+
 -- what a take leaves and finds
 pub takes-least : (node : ℕ) (spec : JoinSpec) (limit next done : ℕ) (log : List TupleAt) (sides : List (List TupleAt)) (puncts : List PunctAt) (taken : List ℕ) (x : TupleAt) (found : Found)
     → IsOrdered spec limit next done log sides taken → done < length log → get_or log done x ≡ x
     → found ≡ record { join = node; ticket = x.ticket; rows = map joined (filter (agree spec.classes) (product (choices spec.classes x sides))) }
-    → TakesLeast (seen node spec limit next done log puncts taken) (seen node spec limit next (done + 1) log puncts (taken ++ found.ticket ∷ [])) found
-takes-least node spec limit next done log sides puncts taken x found o lt here is = subst (λ (f : Found). TakesLeast (seen node spec limit next done log puncts taken) (seen node spec limit next (done + 1) log puncts (taken ++ f.ticket ∷ [])) f) (sym (is ∙ rows)) main
+    → TakesLeast (seen (made_with node spec limit) next done log puncts taken) (seen (made_with node spec limit) next (done + 1) log puncts (taken ++ found.ticket ∷ [])) found
+takes-least node spec limit next done log sides puncts taken x found o lt here is = subst (λ (f : Found). TakesLeast (seen (made_with node spec limit) next done log puncts taken) (seen (made_with node spec limit) next (done + 1) log puncts (taken ++ f.ticket ∷ [])) f) (sym (is ∙ rows)) main
   where
-    rows : record { join = node; ticket = x.ticket; rows = map joined (filter (agree spec.classes) (product (choices spec.classes x sides))) } ≡ found_of (seen node spec limit next done log puncts taken) x.ticket
+    rows : record { join = node; ticket = x.ticket; rows = map joined (filter (agree spec.classes) (product (choices spec.classes x sides))) } ≡ found_of (seen (made_with node spec limit) next done log puncts taken) x.ticket
     rows = ap (λ (rs : List (List Value)). the_found rs) (subst (λ (y : TupleAt). map joined (filter (agree spec.classes) (product (choices spec.classes y sides))) ≡ map joined (results (unswept spec) log log y.ticket)) here (choices-results spec limit next done log sides taken x o lt))
       where
         the_found : List (List Value) → Found
@@ -124,21 +138,21 @@ takes-least node spec limit next done log sides puncts taken x found o lt here i
     first : IsTakenFirst taken done log x.ticket
     first = subst (λ (y : TupleAt). IsTakenFirst taken done log y.ticket) here (taken-first next done log taken x o.open_rising lt)
 
-    main : TakesLeast (seen node spec limit next done log puncts taken) (seen node spec limit next (done + 1) log puncts (taken ++ x.ticket ∷ [])) (found_of (seen node spec limit next done log puncts taken) x.ticket)
+    main : TakesLeast (seen (made_with node spec limit) next done log puncts taken) (seen (made_with node spec limit) next (done + 1) log puncts (taken ++ x.ticket ∷ [])) (found_of (seen (made_with node spec limit) next done log puncts taken) x.ticket)
     main = record {
       pending = first.pending;
       least = first.least;
       finds = refl;
-      changes = subst (λ (y : TupleAt). seen node spec limit next (done + 1) log puncts (taken ++ y.ticket ∷ []) ≡ after (seen node spec limit next done log puncts taken) (Take y.ticket)) here (seen-take node spec limit next done log puncts taken x o.open_rising lt);
+      changes = subst (λ (y : TupleAt). seen (made_with node spec limit) next (done + 1) log puncts (taken ++ y.ticket ∷ []) ≡ after (seen (made_with node spec limit) next done log puncts taken) (Take y.ticket)) here (seen-take node spec limit next done log puncts taken x o.open_rising lt);
       taken = (first.opened, first.gone);
     }
 
 -- a tuple is kept
 pub tuple-keeps : (node : ℕ) (spec : JoinSpec) (limit next done : ℕ) (log more : List TupleAt) (puncts : List PunctAt) (taken : List ℕ) (input : ℕ) (row : List Value) (x : TupleAt)
     → done ≤ length log → x ≡ record { ticket = next; input = input; row = row } → more ≡ log ++ x ∷ []
-    → seen node spec limit (next + 1) done more puncts taken ≡ after (seen node spec limit next done log puncts taken) (TupleComes input row)
+    → seen (made_with node spec limit) (next + 1) done more puncts taken ≡ after (seen (made_with node spec limit) next done log puncts taken) (TupleComes input row)
 tuple-keeps node spec limit next done log more puncts taken input row x le e m =
-    ap (λ (l : List TupleAt). seen node spec limit (next + 1) done l puncts taken) (m ∙ ap (λ (y : TupleAt). log ++ y ∷ []) e)
+    ap (λ (l : List TupleAt). seen (made_with node spec limit) (next + 1) done l puncts taken) (m ∙ ap (λ (y : TupleAt). log ++ y ∷ []) e)
     ∙ seen-tuple node spec limit next done log puncts taken input row le
 
 pub tuple-ordered : (spec : JoinSpec) (limit next done : ℕ) (log more : List TupleAt) (sides all : List (List TupleAt)) (taken : List ℕ) (input : ℕ) (row : List Value) (x : TupleAt)
@@ -167,10 +181,58 @@ take-ordered node spec limit next done log sides taken new x found rows t o here
     subst (λ ts. IsOrdered spec limit next (done + 1) log sides ts) (sym (n ∙ ap (λ u. taken ++ u ∷ []) (e ∙ ap (λ (f : Found). f.ticket) is ∙ sym (ap (λ (y : TupleAt). y.ticket) (get_or_from_slice_get log done x x (sym here))))))
     (ordered-take spec limit next done log sides taken x o (slice_get_within log done x (sym here)))
 
+-- a ticket is taken, worked on and given at once
+pub probe-ordered : (spec : JoinSpec) (limit next done : ℕ) (log : List TupleAt) (sides : List (List TupleAt)) (taken : List ℕ) (x : TupleAt)
+    → IsOrdered spec limit next done log sides taken → Some x ≡ slice_get log done → IsOrdered spec limit next (done + 1) log sides taken
+probe-ordered spec limit next done log sides taken x o here = ordered-probe spec limit next done log sides taken x o (slice_get_within log done x (sym here))
+
+probe-does : (node : ℕ) (spec : JoinSpec) (limit next done : ℕ) (log : List TupleAt) (sides : List (List TupleAt)) (puncts : List PunctAt) (taken : List ℕ) (x : TupleAt)
+    → IsOrdered spec limit next done log sides taken → Some x ≡ slice_get log done
+    → JoinProbes (seen (made_with node spec limit) next done log puncts taken) (seen (made_with node spec limit) next (done + 1) log puncts taken) (Some x.ticket)
+probe-does node spec limit next done log sides puncts taken x o here = (
+  least,
+  subst (λ (y : TupleAt). seen (made_with node spec limit) next (done + 1) log puncts taken ≡ behind_probe (seen (made_with node spec limit) next done log puncts taken) y.ticket) at (seen-probe node spec limit next done log puncts taken x o.open_rising lt),
+)
+  where
+    lt : done < length log
+    lt = slice_get_within log done x (sym here)
+
+    at : get_or log done x ≡ x
+    at = get_or_from_slice_get log done x x (sym here)
+
+    rows : List (List Value)
+    rows = map joined (filter (agree spec.classes) (product (choices spec.classes x sides)))
+
+    is : record { join = node; ticket = x.ticket; rows = rows } ≡ found_of (seen (made_with node spec limit) next done log puncts taken) x.ticket
+    is = probe-finds node spec limit next done log sides puncts taken x o here
+
+    first : TakesLeast (seen (made_with node spec limit) next done log puncts taken) (seen (made_with node spec limit) next (done + 1) log puncts (taken ++ x.ticket ∷ [])) (record { join = node; ticket = x.ticket; rows = rows })
+    first = takes-least node spec limit next done log sides puncts taken x (record { join = node; ticket = x.ticket; rows = rows }) o lt at refl
+
+    least : TakesLeast (seen (made_with node spec limit) next done log puncts taken) (after (seen (made_with node spec limit) next done log puncts taken) (Take x.ticket)) (found_of (seen (made_with node spec limit) next done log puncts taken) x.ticket)
+    least = subst (λ (f : Found). TakesLeast (seen (made_with node spec limit) next done log puncts taken) (after (seen (made_with node spec limit) next done log puncts taken) (Take x.ticket)) f) is
+        (subst (λ (v : JoinView). TakesLeast (seen (made_with node spec limit) next done log puncts taken) v (record { join = node; ticket = x.ticket; rows = rows })) first.changes first)
+
+pub probe-does-at : (node : ℕ) (spec : JoinSpec) (limit next done : ℕ) (log : List TupleAt) (sides : List (List TupleAt)) (puncts : List PunctAt) (taken : List ℕ) (x : TupleAt)
+    → IsOrdered spec limit next done log sides taken → Some x ≡ slice_get log done → (old : JoinView) → seen (made_with node spec limit) next done log puncts taken ≡ old → (u : ℕ) → u ≡ x.ticket
+    → JoinProbes old (seen (made_with node spec limit) next (done + 1) log puncts taken) (Some u)
+probe-does-at node spec limit next done log sides puncts taken x o here old is u e =
+    subst (λ (v : JoinView). JoinProbes v (seen (made_with node spec limit) next (done + 1) log puncts taken) (Some u)) is
+    (subst (λ (n : ℕ). JoinProbes (seen (made_with node spec limit) next done log puncts taken) (seen (made_with node spec limit) next (done + 1) log puncts taken) (Some n)) (sym e)
+    (probe-does node spec limit next done log sides puncts taken x o here))
+
+pub probe-hands : (node : ℕ) (spec : JoinSpec) (limit next done : ℕ) (log : List TupleAt) (sides : List (List TupleAt)) (puncts : List PunctAt) (taken : List ℕ) (x : TupleAt)
+    → IsOrdered spec limit next done log sides taken → Some x ≡ slice_get log done → (old : JoinView) → seen (made_with node spec limit) next done log puncts taken ≡ old → (u : ℕ) → u ≡ x.ticket
+    → (before behind : List Out) → behind ≡ before ++ found_out spec.classes x sides → behind ≡ before ++ map Tuple (rows_probed old (Some u))
+probe-hands node spec limit next done log sides puncts taken x o here old is u e before behind hands =
+    hands ∙ ap (λ (f : Found). before ++ map Tuple f.rows) (probe-finds node spec limit next done log sides puncts taken x o here)
+    ∙ ap (λ (n : ℕ). before ++ map Tuple (rows_probed (seen (made_with node spec limit) next done log puncts taken) (Some n))) (sym e)
+    ∙ ap (λ (v : JoinView). before ++ map Tuple (rows_probed v (Some u))) is
+
 pub take-finds : (node : ℕ) (spec : JoinSpec) (limit next done : ℕ) (log : List TupleAt) (sides : List (List TupleAt)) (puncts : List PunctAt) (taken new : List ℕ) (x : TupleAt) (found : Found) (t : ℕ)
     → IsOrdered spec limit next done log sides taken → Some x ≡ slice_get log done
     → found ≡ record { join = node; ticket = x.ticket; rows = map joined (filter (agree spec.classes) (product (choices spec.classes x sides))) } → t ≡ found.ticket → new ≡ taken ++ t ∷ []
-    → TakesLeast (seen node spec limit next done log puncts taken) (seen node spec limit next (done + 1) log puncts new) found
+    → TakesLeast (seen (made_with node spec limit) next done log puncts taken) (seen (made_with node spec limit) next (done + 1) log puncts new) found
 take-finds node spec limit next done log sides puncts taken new x found t o here is e n =
-    subst (λ ts. TakesLeast (seen node spec limit next done log puncts taken) (seen node spec limit next (done + 1) log puncts ts) found) (sym (n ∙ ap (λ u. taken ++ u ∷ []) e))
+    subst (λ ts. TakesLeast (seen (made_with node spec limit) next done log puncts taken) (seen (made_with node spec limit) next (done + 1) log puncts ts) found) (sym (n ∙ ap (λ u. taken ++ u ∷ []) e))
     (takes-least node spec limit next done log sides puncts taken x found o (slice_get_within log done x (sym here)) (get_or_from_slice_get log done x x (sym here)) is)

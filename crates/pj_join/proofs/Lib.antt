@@ -11,4 +11,5 @@ pub mod Classes
 pub mod Decided
 pub mod Groups
 pub mod Pairs
+pub mod HandedOut
 pub mod Wanted

@@ -8,7 +8,7 @@ use Rattle.pj_shape.specs.Sound.{IsSoundSpec}
 use Rattle.pj_laws.specs.Join.{In, Value, TupleAt, PunctAt, TupleComes, Take, Give, of_input, upto_from, has}
 use Rattle.pj_laws.specs.KeptState.{least, without}
 use Rattle.pj_join.specs.Joins.{JoinView, after}
-use Rattle.pj_join.specs.Insides.{tickets, seen, Rise, IsOrdered}
+use Rattle.pj_join.specs.Insides.{tickets, seen, Rise, IsOrdered, made_with}
 use Rattle.pj_value.proofs.Members.{In-append_cases}
 use Rattle.pj_laws.proofs.NextProbe.{without-all}
 use Rattle.pj_join.proofs.Classes.{eqb-apart, eqb-below, classes-more}
@@ -143,7 +143,7 @@ ordered-tuple spec limit next done log sides taken x o le ne e lt = record {
 }
 
 pub seen-tuple : (node : ℕ) (spec : JoinSpec) (limit next done : ℕ) (log : List TupleAt) (puncts : List PunctAt) (taken : List ℕ) (input : ℕ) (row : List Value) → done ≤ length log
-    → seen node spec limit (next + 1) done (log ++ record { ticket = next; input = input; row = row } ∷ []) puncts taken ≡ after (seen node spec limit next done log puncts taken) (TupleComes input row)
+    → seen (made_with node spec limit) (next + 1) done (log ++ record { ticket = next; input = input; row = row } ∷ []) puncts taken ≡ after (seen (made_with node spec limit) next done log puncts taken) (TupleComes input row)
 seen-tuple node spec limit next done log puncts taken input row le =
     ap (λ ts. view ts (taken ++ ts)) (tickets-more done log (record { ticket = next; input = input; row = row }) le)
     ∙ ap (view (tickets (drop done log) ++ next ∷ [])) (sym (append_assoc taken (tickets (drop done log)) (next ∷ [])))
@@ -196,7 +196,7 @@ ordered-give spec limit next done log sides taken u o f = record {
 }
 
 pub seen-give : (node : ℕ) (spec : JoinSpec) (limit next done : ℕ) (log : List TupleAt) (puncts : List PunctAt) (taken : List ℕ) (u : ℕ) → has (tickets (drop done log)) u ≡ false
-    → seen node spec limit next done log puncts (without taken u) ≡ after (seen node spec limit next done log puncts taken) (Give u)
+    → seen (made_with node spec limit) next done log puncts (without taken u) ≡ after (seen (made_with node spec limit) next done log puncts taken) (Give u)
 seen-give node spec limit next done log puncts taken u f = ap view (sym (opened-without taken (tickets (drop done log)) u f))
   where
     view : List ℕ → JoinView
@@ -212,7 +212,7 @@ after-first : (taken : List ℕ) (u : ℕ) (us : List ℕ) (next : ℕ) → Rise
 after-first taken u us next r = (rise-back 0 taken (u ∷ us) next r).1
 
 pub seen-take : (node : ℕ) (spec : JoinSpec) (limit next done : ℕ) (log : List TupleAt) (puncts : List PunctAt) (taken : List ℕ) (d : TupleAt) → Rise 0 (taken ++ tickets (drop done log)) next → done < length log
-    → seen node spec limit next (done + 1) log puncts (taken ++ (get_or log done d).ticket ∷ []) ≡ after (seen node spec limit next done log puncts taken) (Take (get_or log done d).ticket)
+    → seen (made_with node spec limit) next (done + 1) log puncts (taken ++ (get_or log done d).ticket ∷ []) ≡ after (seen (made_with node spec limit) next done log puncts taken) (Take (get_or log done d).ticket)
 seen-take node spec limit next done log puncts taken d r lt = ap₂ view (sym pending) opened
   where
     view : List ℕ → List ℕ → JoinView
@@ -234,6 +234,17 @@ seen-take node spec limit next done log puncts taken d r lt = ap₂ view (sym pe
 
     opened : (taken ++ (get_or log done d).ticket ∷ []) ++ tickets (drop (done + 1) log) ≡ taken ++ tickets (drop done log)
     opened = append_assoc taken ((get_or log done d).ticket ∷ []) (tickets (drop (done + 1) log)) ∙ ap (λ ts. taken ++ ts) (sym first)
+
+-- a ticket behind those that are taken is the last of them
+rise-behind : (from : ℕ) (ts : List ℕ) (u : ℕ) (us : List ℕ) (end : ℕ) → Rise from (ts ++ u ∷ us) end → from ≤ u
+rise-behind from [] u us end r = r.0
+rise-behind from (t ∷ ts) u us end r = omega (arith, r.0, rise-behind (t + 1) ts u us end r.1)
+
+without-last : (from : ℕ) (ts : List ℕ) (u : ℕ) (us : List ℕ) (end : ℕ) → Rise from (ts ++ u ∷ us) end → without (ts ++ u ∷ []) u ≡ ts
+without-last from [] u us end r = without-first u [] refl
+without-last from (t ∷ ts) u us end r =
+    ap (λ b. cond (not b) (t ∷ without (ts ++ u ∷ []) u) (without (ts ++ u ∷ []) u)) (eqb-below t u (let b = rise-behind (t + 1) ts u us end r.1 in omega (arith, b)))
+    ∙ ap (λ vs. t ∷ vs) (without-last (t + 1) ts u us end r.1)
 
 -- the ticket that is taken: it was pending, and the least of those, and is taken and not given
 pub record IsTakenFirst (taken : List ℕ) (done : ℕ) (log : List TupleAt) (u : ℕ) : Type 0 where
@@ -259,6 +270,26 @@ taken-first next done log taken d r lt = record {
     go : (t : ℕ) → In t ((get_or log done d).ticket ∷ tickets (drop (done + 1) log)) → (get_or log done d).ticket ≤ t
     go t (inl e) = omega (arith, e)
     go t (inr h) = omega (arith, rise-in ((get_or log done d).ticket + 1) (tickets (drop (done + 1) log)) next t later h)
+
+taken-and-given : (next done : ℕ) (log : List TupleAt) (taken : List ℕ) (d : TupleAt) → Rise 0 (taken ++ tickets (drop done log)) next → done < length log
+    → without (taken ++ (get_or log done d).ticket ∷ []) (get_or log done d).ticket ≡ taken
+taken-and-given next done log taken d r lt =
+    without-last 0 taken (get_or log done d).ticket (tickets (drop (done + 1) log)) next (subst (λ ts. Rise 0 (taken ++ ts) next) (pending-first done log d lt) r)
+
+-- a ticket that is taken and given at once
+pub ordered-probe : (spec : JoinSpec) (limit next done : ℕ) (log : List TupleAt) (sides : List (List TupleAt)) (taken : List ℕ) (d : TupleAt)
+    → IsOrdered spec limit next done log sides taken → done < length log → IsOrdered spec limit next (done + 1) log sides taken
+ordered-probe spec limit next done log sides taken d o lt =
+    subst (λ ts. IsOrdered spec limit next (done + 1) log sides ts) (taken-and-given next done log taken d o.open_rising lt)
+    (ordered-give spec limit next (done + 1) log sides (taken ++ (get_or log done d).ticket ∷ []) (get_or log done d).ticket (ordered-take spec limit next done log sides taken d o lt)
+    (taken-first next done log taken d o.open_rising lt).gone)
+
+pub seen-probe : (node : ℕ) (spec : JoinSpec) (limit next done : ℕ) (log : List TupleAt) (puncts : List PunctAt) (taken : List ℕ) (d : TupleAt) → Rise 0 (taken ++ tickets (drop done log)) next → done < length log
+    → seen (made_with node spec limit) next (done + 1) log puncts taken ≡ after (after (seen (made_with node spec limit) next done log puncts taken) (Take (get_or log done d).ticket)) (Give (get_or log done d).ticket)
+seen-probe node spec limit next done log puncts taken d r lt =
+    ap (seen (made_with node spec limit) next (done + 1) log puncts) (sym (taken-and-given next done log taken d r lt))
+    ∙ seen-give node spec limit next (done + 1) log puncts (taken ++ (get_or log done d).ticket ∷ []) (get_or log done d).ticket (taken-first next done log taken d r lt).gone
+    ∙ ap (λ (v : JoinView). after v (Give (get_or log done d).ticket)) (seen-take node spec limit next done log puncts taken d r lt)
 
 pub ordered-start : (spec : JoinSpec) (limit : ℕ) (sides : List (List TupleAt)) → IsSoundSpec spec → limit ≤ 2 ^ 40 → sides ≡ map (λ k. of_input k []) (upto_from 0 (length spec.inputs)) → IsOrdered spec limit 0 0 [] sides []
 ordered-start spec limit sides s le e = record {

@@ -1,10 +1,11 @@
 -- What a join keeps follows its legal steps.
-use Rattle.std.proofs.Common.{ℕ, ◌<◌, Bool, true, false, cond, ◌||◌, not, List, [], ◌∷◌, ◌++◌, ◌≡◌, map, filter, length, Option, Some, None, refl, sym, ap, ◌∙◌, subst, inl, inr, eqb}
+use Rattle.std.proofs.Common.{ℕ, ◌<◌, Bool, true, false, cond, ◌||◌, not, List, [], ◌∷◌, ◌++◌, ◌≡◌, map, filter, length, Option, Some, None, refl, sym, ap, ◌∙◌, subst, inl, inr, eqb, append_assoc}
 use Rattle.std.proofs.lemmas.Bool.{eq-eqb, false≢true, or_left}
 use Rattle.pj_laws.specs.Join.{In, Value, TupleAt, Step, TupleComes, PunctComes, Take, Give, start, run, has, low, inputs, arity, joined, results, IsAllowed, IsNew}
 use Rattle.pj_laws.specs.KeptState.{KeptState, kept_low, lacking}
 use Rattle.pj_laws.specs.Laws.{StepsStand, IsNeverSwept, AllIsStored}
-use Rattle.pj_join.specs.Joins.{JoinView, JoinTakes, StandsFor, StandsTaken, IsTaken, Found, after}
+use Rattle.pj_join.specs.Joins.{JoinView, JoinTakes, StandsFor, StandsTaken, IsTaken, Found, after, found_of}
+use Rattle.pj_join.specs.Handed.{JoinProbes, StandsProbed}
 use Rattle.pj_laws.specs.Patterns.{Pattern}
 use Rattle.pj_laws.proofs.Tickets.{lacking-come}
 use Rattle.pj_laws.proofs.Stand.{least-lacking}
@@ -77,6 +78,18 @@ stands-taken join new (Some found) law never stored none lt t steps st =
   where
     same : join.kept.stored ≡ (run join.spec start steps).tuples
     same = ap (λ (k : KeptState). k.stored) st.1 ∙ stored steps (never none lt steps st.0)
+
+-- what is taken and given at once leads on, and the stored tuples give the results over all that arrived
+pub stands-probed : (join new : JoinView) (answer : Option ℕ) → StepsStand join.spec → IsNeverSwept join.spec → AllIsStored join.spec → join.spec.certs ≡ [] → 1 < inputs join.spec → JoinProbes join new answer
+    → (steps : List Step) → StandsFor join steps → StandsProbed join new steps answer
+stands-probed join new None law never stored none lt p steps st = subst (λ (v : JoinView). StandsFor v steps) (sym p.1) st
+stands-probed join new (Some u) law never stored none lt p steps st = (
+  subst (StandsFor new) (append_assoc steps (Take u ∷ []) (Give u ∷ [])) (stands-give (after join (Take u)) new u law p.0.taken p.1 (steps ++ Take u ∷ []) taken.0),
+  taken.1,
+)
+  where
+    taken : StandsTaken (after join (Take u)) steps (Some (found_of join u))
+    taken = stands-taken join (after join (Take u)) (Some (found_of join u)) law never stored none lt p.0 steps st
 
 -- ---- the low-water ticket
 

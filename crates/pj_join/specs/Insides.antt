@@ -8,13 +8,22 @@ use Rattle.pj_join.specs.Joins.{JoinView, unswept}
 abbrev pub tickets : List TupleAt → List ℕ
 tickets xs = map (λ x. x.ticket) xs
 
+-- what a join is made with: its number among the nodes, what it joins by, and how many elements may reach it
+pub record MadeWith : Type 0 where
+  pub node : ℕ
+  pub spec : JoinSpec
+  pub limit : ℕ
+
+abbrev pub made_with : ℕ → JoinSpec → ℕ → MadeWith
+made_with node spec limit = record { node = node; spec = spec; limit = limit }
+
 -- the join of these parts: the log has all tuples in order, of which the first so many are taken; of those, the ones
 -- that are not given are listed
-abbrev pub seen : ℕ → JoinSpec → ℕ → ℕ → ℕ → List TupleAt → List PunctAt → List ℕ → JoinView
-seen node spec limit next done log puncts taken = record {
-  node = node;
-  spec = unswept spec;
-  limit = limit;
+abbrev pub seen : MadeWith → ℕ → ℕ → List TupleAt → List PunctAt → List ℕ → JoinView
+seen made next done log puncts taken = record {
+  node = made.node;
+  spec = unswept made.spec;
+  limit = made.limit;
   kept = record {
     next = next;
     stored = log;

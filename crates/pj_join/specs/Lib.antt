@@ -4,4 +4,5 @@ pub mod Prints
 pub mod Sides
 pub mod Walks
 pub mod Insides
+pub mod Handed
 pub mod Triples

@@ -1,9 +1,14 @@
 -- How combinations that join are found one tuple after the other.
-use Rattle.std.specs.Prelude.{◌≡◌, true, ℕ, Bool, not, ◌==◌, nat_lt, ◌&&◌, ◌||◌, if◌then◌else◌, List, [], ◌∷◌, ◌++◌, map, filter, slice_index_or, length}
+use Rattle.std.specs.Prelude.{◌≡◌, true, ℕ, Bool, not, ◌==◌, nat_lt, ◌&&◌, ◌||◌, if◌then◌else◌, List, [], ◌∷◌, ◌++◌, map, filter, slice_index_or, length, Option, Some, None}
 use Rattle.std.specs.List.{list_all}
 use Rattle.pj_value.specs.Values.{value_eq}
 use Rattle.pj_join.specs.declared.found.Found.{Found}
-use Rattle.pj_laws.specs.Join.{ClassCol, In, TupleAt, Value, agree, joined, product, upto_from, value_at}
+use Rattle.pj_laws.specs.Join.{ClassCol, In, TupleAt, Value, agree, joined, no_value, product, upto_from, value_at}
+
+-- the value of a cell, where one that is not there has the empty text
+abbrev pub cell_value : Option Value → Value
+cell_value None = no_value
+cell_value (Some v) = v
 
 -- the tuple has this value in the column, where that is a column of its input
 abbrev pub has_there : Value → ClassCol → TupleAt → Bool

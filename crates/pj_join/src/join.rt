@@ -4,14 +4,16 @@ ghost use Rattle.pj_shape.specs.Sound.{IsSoundSpec};
 ghost use Rattle.pj_laws.specs.Join.{Step, TupleComes, PunctComes, Take, Give, IsNew, start, run, low, inputs, arity, of_input, upto_from};
 ghost use Rattle.pj_laws.specs.KeptState.{kept_of, kept_low, without};
 ghost use Rattle.std.specs.List.{position};
+ghost use Rattle.pj_join.specs.Handed.{JoinProbes, StandsProbed, rows_probed};
 ghost use Rattle.pj_join.specs.Insides.{Rise};
 ghost use Rattle.pj_join.specs.Joins.{IsTaken, StandsFor, JoinTakes, StandsTaken, after, unswept};
 
 use crate::arrivals::{Arrived, Heard};
+use crate::handing::hand_out_found;
 use crate::prints::key_column;
 use crate::side::Side;
 use crate::{JoinStop, Probe};
-use pj_laws::{standing, without_sweeps};
+use pj_laws::{Out, standing, without_sweeps};
 use pj_pattern::Punct;
 use pj_shape::JoinSpec;
 use pj_value::{List, NoMemory, Row};
@@ -38,11 +40,11 @@ pub struct Join {
 impl Model for Join {
     ghost use Rattle.std.specs.Arc.{arc_value};
     ghost use Rattle.pj_join.specs.Joins.{JoinView};
-    ghost use Rattle.pj_join.specs.Insides.{seen, IsOrdered};
+    ghost use Rattle.pj_join.specs.Insides.{IsOrdered, made_with, seen};
 
     ghost Value = { JoinView };
 
-    ghost view = { λ j. seen j.node (arc_value j.spec) j.limit j.next j.done j.log j.puncts j.taken.items };
+    ghost view = { λ j. seen (made_with j.node (arc_value j.spec) j.limit) j.next j.done j.log j.puncts j.taken.items };
 
     ghost invariant = { λ j. IsOrdered (arc_value j.spec) j.limit j.next j.done j.log j.sides.items j.taken.items };
 }
@@ -159,6 +161,29 @@ impl Join {
     {
         standing();
         forget(&mut self.taken, probe.ticket());
+    }
+
+    /// Takes the least ticket that is pending, puts the rows that its work finds at the end of `outs`, and gives it: a take, its
+    /// work and its give in one call, which keeps nothing in between. Answers the ticket; `None` exactly where none is
+    /// pending. On a refusal the join and `outs` are as before.
+    pub fn probe_next(&mut self, outs: &mut List<Out>) -> Result<Option<u64>, NoMemory>
+        ensures probes { IfOk result (λ answer. JoinProbes self.old self.new answer) }
+        ensures hands { IfOk result (λ answer. outs.new ≡ outs.old ++ map Out.Tuple (rows_probed self.old answer)) }
+        ensures stands { IfOk result (λ answer. (steps : List Step) → StandsFor self.old steps → StandsProbed self.old self.new steps answer) }
+        ensures refused { OnErr result ((self.new ≡ self.old) × (outs.new ≡ outs.old)) }
+    {
+        standing();
+        without_sweeps();
+        match self.log.get(self.done) {
+            None => Ok(None),
+            Some(own) => {
+                let ticket = own.ticket();
+                let classes = self.spec.classes.as_slice();
+                hand_out_found(self.alloc, classes, own, self.sides.as_slice(), outs)?;
+                self.done += 1;
+                Ok(Some(ticket))
+            }
+        }
     }
 
     /// The low-water ticket: the least that is not given, else the next.

@@ -3,6 +3,7 @@
 
 mod arrivals;
 mod found;
+mod handing;
 mod join;
 mod prints;
 mod probe;
@@ -10,6 +11,7 @@ mod side;
 mod walk;
 
 pub use found::{Found, JoinStop};
+pub use handing::hand_out_rows;
 pub use join::Join;
 pub use probe::Probe;
 

@@ -4,6 +4,7 @@ ghost use Rattle.pj_join.specs.Joins.{unswept};
 ghost use Rattle.pj_join.specs.Triples.{at, number, pair, triple};
 
 use super::*;
+use pj_laws::Out;
 use pj_pattern::{Pattern, Punct};
 use pj_shape::{ClassCol, Column, JoinSpec, Schema};
 use pj_value::{Kind, List, NoMemory, Row, Value};
@@ -159,15 +160,14 @@ fn append_numbers(row: &Row, all: &mut Vec<i64>) -> Result<(), NoMemory> {
     Ok(())
 }
 
-// The same of some rows of all inputs, and of more behind a punctuation.
-fn found_in_both(alloc: Global, join: &mut Join) -> Result<Vec<i64>, JoinStop>
+// Some rows of all inputs, and more behind a punctuation.
+fn put_both(alloc: Global, join: &mut Join) -> Result<(), JoinStop>
     requires { join.old.spec ≡ unswept triple }
 {
     let before = [(0, 1, 10), (2, 7, 5), (2, 8, 5), (0, 1, 11), (1, 1, 5)];
     put_all(alloc, join, &before)?;
     say(alloc, join, 0, 2)?;
-    put_all(alloc, join, &[(0, 1, 12), (1, 2, 5)])?;
-    Ok(found_in_all(alloc, join)?)
+    put_all(alloc, join, &[(0, 1, 12), (1, 2, 5)])
 }
 
 // The tickets of 4 and 6 find the older rows of the other inputs, in the order of their tickets.
@@ -175,12 +175,52 @@ fn found_in_both(alloc: Global, join: &mut Join) -> Result<Vec<i64>, JoinStop>
 fn results_come_in_order_of_tickets(rt: HostRuntime) -> Result<(), Fail> {
     let alloc = rt.alloc();
     let mut join = join_of(alloc, 100)?;
-    let found = found_in_both(alloc, &mut join)?;
+    put_both(alloc, &mut join)?;
+    let found = found_in_all(alloc, &mut join)?;
     let want = [
         1000, 1001, 1002, 1003, 1004, 1, 10, 1, 5, 7, 5, 1, 10, 1, 5, 8, 5, 1, 11, 1, 5, 7, 5, 1,
         11, 1, 5, 8, 5, 1006, 1, 12, 1, 5, 7, 5, 1, 12, 1, 5, 8, 5, 1007,
     ];
     assert_eq!(rt; found.as_slice(), want.as_slice());
+    Ok(())
+}
+
+// All numbers of the rows that a call for each ticket hands out.
+fn handed_in_all(alloc: Global, join: &mut Join) -> Result<Vec<i64>, NoMemory> {
+    let mut outs = List::new(alloc);
+    let mut all = Vec::new(alloc);
+    for _ in 0..1000 {
+        match join.probe_next(&mut outs)? {
+            None => break,
+            Some(_ticket) => {}
+        }
+    }
+    for out in outs.as_slice() {
+        append_out(out, &mut all)?;
+    }
+    Ok(all)
+}
+
+fn append_out(out: &Out, all: &mut Vec<i64>) -> Result<(), NoMemory> {
+    match out {
+        Out::Tuple(row) => append_numbers(row, all),
+        Out::Punct(_) => Ok(()),
+        Out::Purged { .. } => Ok(()),
+    }
+}
+
+#[test]
+fn one_call_a_ticket_hands_out_the_same_rows(rt: HostRuntime) -> Result<(), Fail> {
+    let alloc = rt.alloc();
+    let mut join = join_of(alloc, 100)?;
+    put_both(alloc, &mut join)?;
+    let handed = handed_in_all(alloc, &mut join)?;
+    let want = [
+        1, 10, 1, 5, 7, 5, 1, 10, 1, 5, 8, 5, 1, 11, 1, 5, 7, 5, 1, 11, 1, 5, 8, 5, 1, 12, 1, 5, 7,
+        5, 1, 12, 1, 5, 8, 5,
+    ];
+    assert_eq!(rt; handed.as_slice(), want.as_slice());
+    assert_eq!(rt; (join.pending(), join.taken()), (0, 0));
     Ok(())
 }
 

@@ -1,11 +1,12 @@
 // Combinations of tuples that join, found one tuple after the other.
 ghost use Rattle.std.specs.Prelude.{◌≡◌, ◌++◌, ◌||◌, true, not, map, ◌==◌, length, OnOk, IfOk, IfSome, nat_lt, ◌<◌, filter, flat_map, ◌&&◌, ◌∷◌, [], IsTrue};
-ghost use Rattle.std.specs.List.{list_all};
+ghost use Rattle.std.specs.List.{list_all, slice_get};
+ghost use Rattle.std.specs.Option.{option_copied};
 ghost use Rattle.pj_value.specs.declared.values.Value.{Value};
 ghost use Rattle.pj_value.specs.Values.{value_eq};
 ghost use Rattle.pj_laws.specs.Join.{agree, joined, product, value_at};
 ghost use Rattle.pj_join.specs.Decided.{ClassDecides, ColumnsDecide};
-ghost use Rattle.pj_join.specs.Walks.{AllJoin, all_have, choices, completed, choice, has_there, older_joins, pair, pairs, suits, suits_class};
+ghost use Rattle.pj_join.specs.Walks.{AllJoin, all_have, cell_value, choices, completed, choice, has_there, older_joins, pair, pairs, suits, suits_class};
 
 use crate::arrivals::Arrived;
 use crate::prints::wanted;
@@ -15,22 +16,45 @@ use pj_value::{JoinedParts, List, NoMemory, Row, Value};
 use std::alloc::Global;
 use std::slice::from_ref;
 
-/// Whether both rows have one value in these columns. A column that is not there has the empty text.
-fn same_cell(a: &Row, i: u32, b: &Row, j: u32) -> bool
-    ensures { result ≡ value_eq (value_at a.now i) (value_at b.now j) }
+// Whether both are one value. Integers are compared in place.
+#[inline(always)]
+fn same_value(v: &Value, w: &Value) -> bool
+    ensures { result ≡ value_eq v.now w.now }
 {
-    match a.get(i as usize) {
-        None => match b.get(j as usize) {
+    match v {
+        Value::Int(a) => match w {
+            Value::Int(b) => *a == *b,
+            Value::Text(_) => false,
+        },
+        Value::Text(_) => v.same(w),
+    }
+}
+
+// Whether both cells have one value. A cell that is not there has the empty text.
+#[inline(always)]
+fn same_cells(a: Option<&Value>, b: Option<&Value>) -> bool
+    ensures { result ≡ value_eq (cell_value (option_copied a.entry)) (cell_value (option_copied b.entry)) }
+{
+    match a {
+        None => match b {
             None => true,
             Some(w) => is_empty(w),
         },
-        Some(v) => match b.get(j as usize) {
+        Some(v) => match b {
             None => is_empty(v),
-            Some(w) => v.same(w),
+            Some(w) => same_value(v, w),
         },
     }
 }
 
+/// Whether both rows have one value in these columns. A column that is not there has the empty text.
+fn same_cell(a: &Row, i: u32, b: &Row, j: u32) -> bool
+    ensures { result ≡ value_eq (value_at a.now i) (value_at b.now j) }
+{
+    same_cells(a.get(i as usize), b.get(j as usize))
+}
+
+#[inline(always)]
 fn is_empty(value: &Value) -> bool
     ensures { result ≡ value_eq value.now (Value.Text []) }
 {
@@ -195,9 +219,9 @@ fn complete_with(
     Ok(())
 }
 
-// The tuples among which all are that are older than this one and join with it.
+/// The tuples among which all are that are older than this one and join with it.
 #[tactic(auto, using(crate::proofs::Wanted::candidates_hold))]
-fn candidates<'a>(
+pub fn candidates<'a>(
     classes: &[List<ClassCol>],
     own: &Arrived,
     side: &'a Side,
@@ -214,11 +238,11 @@ fn candidates<'a>(
     }
 }
 
-// The columns that decide whether two tuples join.
+/// The columns that decide whether two tuples join.
 #[derive(Clone, Copy)]
-struct EqualColumns {
-    mine: u32,
-    theirs: u32,
+pub struct EqualColumns {
+    pub mine: u32,
+    pub theirs: u32,
 }
 
 // The columns of a class that has one column of each of two inputs.
@@ -253,9 +277,13 @@ fn columns_of(class: &[ClassCol], own: usize, input: usize) -> Option<EqualColum
     }
 }
 
-// The columns that decide whether tuples of an input join with this one, where two do.
+/// The columns that decide whether tuples of an input join with this one, where two do.
 #[tactic(auto, using(crate::proofs::Decided::one_class))]
-fn equal_columns(classes: &[List<ClassCol>], own: &Arrived, input: usize) -> Option<EqualColumns>
+pub fn equal_columns(
+    classes: &[List<ClassCol>],
+    own: &Arrived,
+    input: usize,
+) -> Option<EqualColumns>
     ensures { IfSome result (λ columns. ColumnsDecide classes.now own.now input columns.mine columns.theirs) }
 {
     match classes {
@@ -264,31 +292,52 @@ fn equal_columns(classes: &[List<ClassCol>], own: &Arrived, input: usize) -> Opt
     }
 }
 
-// Whether the tuple joins with this one.
-fn joins_with(
+/// The tuple's value in its column of these.
+pub fn own_cell<'a>(own: &'a Arrived, columns: Option<EqualColumns>) -> Option<&'a Value>
+    ensures { IfSome columns (λ columns. option_copied result ≡ slice_get own.now.row columns.mine) }
+{
+    match columns {
+        None => None,
+        Some(columns) => own.row().get(columns.mine as usize),
+    }
+}
+
+// Whether the tuple joins with this one, by all classes.
+#[inline(never)]
+fn suits_one(classes: &[List<ClassCol>], own: &Arrived, other: &Arrived) -> bool
+    ensures { result ≡ suits classes.now (own.now ∷ []) other.now }
+{
+    suits(classes, from_ref(own), other)
+}
+
+/// Whether the tuple joins with this one, whose value in its column of these is `cell`.
+#[inline(always)]
+pub fn joins_with(
     classes: &[List<ClassCol>],
     own: &Arrived,
     input: usize,
     columns: Option<EqualColumns>,
+    cell: Option<&Value>,
     other: &Arrived,
 ) -> bool
-    requires { IfSome columns (λ columns. ColumnsDecide classes.now own.now input columns.mine columns.theirs) }
+    requires cell { IfSome columns (λ columns. option_copied cell ≡ slice_get own.now.row columns.mine) }
+    requires decide { IfSome columns (λ columns. ColumnsDecide classes.now own.now input columns.mine columns.theirs) }
     ensures { result ≡ suits classes.now (own.now ∷ []) other.now }
 {
     match columns {
-        None => suits(classes, from_ref(own), other),
+        None => suits_one(classes, own, other),
         Some(columns) => {
             if other.input() as usize == input {
-                same_cell(other.row(), columns.theirs, own.row(), columns.mine)
+                same_cells(other.row().get(columns.theirs as usize), cell)
             } else {
-                suits(classes, from_ref(own), other)
+                suits_one(classes, own, other)
             }
         }
     }
 }
 
-// Room for so many candidates is made at once.
-const FEW: usize = 64;
+/// Room for so many candidates is made at once.
+pub const FEW: usize = 64;
 
 fn older_that_suit(
     alloc: Global,
@@ -300,9 +349,10 @@ fn older_that_suit(
     ensures { IfOk result (λ found. found ≡ filter (older_joins classes.now own.now) side.now) }
 {
     let columns = equal_columns(classes, own, input);
+    let cell = own_cell(own, columns);
     let mut found = List::with_room(alloc, side.len().min(FEW))?;
     for other in side {
-        if other.ticket() < own.ticket() && joins_with(classes, own, input, columns, other) {
+        if other.ticket() < own.ticket() && joins_with(classes, own, input, columns, cell, other) {
             found.push(other.share(alloc)?)?;
         }
     }
@@ -356,7 +406,9 @@ pub fn choices(
 /// Whether it is known that the choices of this tuple all join: those of two inputs, each of which was compared with it.
 #[tactic(auto, using(crate::proofs::Pairs::two_choices))]
 pub fn choices_join(classes: &[List<ClassCol>], own: &Arrived, sides: &[Side]) -> bool
-    ensures { IsTrue result → AllJoin classes.now (choices classes.now own.now sides.now) }
+    ensures own { IsTrue result → own.now.input < 2 }
+    ensures two { IsTrue result → length sides.now ≡ 2 }
+    ensures all { IsTrue result → AllJoin classes.now (choices classes.now own.now sides.now) }
 {
     own.input() < 2 && sides.len() == 2 && suits(classes, &[], own)
 }
