@@ -1,5 +1,5 @@
 -- One more entry behind a history of one stream.
-use Rattle.std.proofs.Common.{ℕ, zero, suc, Bool, false, List, [], ◌∷◌, ◌++◌, ◌≡◌, map, length, Option, None, refl, sym, ap, ap₂, ◌∙◌, subst, inl, arith, length-append}
+use Rattle.std.proofs.Common.{ℕ, zero, suc, Bool, false, List, [], ◌∷◌, ◌++◌, ◌≡◌, map, length, get_or, Option, None, refl, sym, ap, ap₂, ◌∙◌, subst, inl, arith, length-append}
 use Rattle.std.proofs.lemmas.List.{append-nil}
 use Rattle.pj_shape.specs.declared.columns.Column.{Column}
 use Rattle.pj_shape.specs.declared.plans.SmallPlan.{SmallPlan}
@@ -10,16 +10,20 @@ use Rattle.pj_laws.specs.declared.events.Event.{Event}
 use Rattle.pj_laws.specs.declared.events.Event.TheVariants.{Arrive, Take as Taken, Give as Given, Sweep as Swept, Drain, Halt, Look, Stopped, Idle}
 use Rattle.pj_laws.specs.declared.events.Out.{Out}
 use Rattle.pj_laws.specs.declared.events.Stop.{Stop}
-use Rattle.pj_laws.specs.Plan.{Stream, Node, IsStepAllowed}
+use Rattle.pj_laws.specs.Plan.{Stream, Node, IsStepAllowed, batches}
 use Rattle.pj_laws.specs.History.{Reached, begun, next, nodes_by, nodes_from, reached_of, gained, out_of, closed_after, undrained_after, halted_after, stop_after, step_of, pending_in, IsOn, IsLegal, IsEventAllowed, AreEntriesLegal}
-use Rattle.pj_laws.specs.Outcomes.{arrivals_at, arrivals_by, peak_of, stored_at, goes_beyond}
+use Rattle.pj_laws.specs.Outcomes.{arrivals_at, arrivals_by, peak_of, stored_at, goes_beyond, beyond_of, climb, origin_of, way_up}
 use Rattle.pj_laws.specs.Limits.{StaysWithin}
 use Rattle.pj_laws.specs.OneThread.{plain, next_probe, probes}
 use Rattle.pj_laws.specs.CoreKept.{NothingKept, core_kept, kept_in, nodes_of}
 use Rattle.pj_laws.specs.HistoryLaws.{AddsEntry, GrowsLegally}
 use Rattle.pj_core.specs.Cores.{CoreState, StandsFor, MayFollow, all_kept}
 use Rattle.pj_core.specs.Calls.{opened_in, stored_in, waiting_in}
-use Rattle.pj_core.proofs.Moves.{first_beyond}
+
+-- where an event first goes beyond a limit
+abbrev first_beyond : ℕ → (ℕ → ℕ) → Event → List Node → Option ℕ
+first_beyond limit reached event nodes =
+    beyond_of (climb (length nodes) limit (way_up reached 0 (origin_of nodes event) nodes) (get_or (batches (step_of nodes event) [] nodes) (origin_of nodes event) []))
 
 -- a stream with what was sent
 abbrev pub one : List Column → List Element → List Node

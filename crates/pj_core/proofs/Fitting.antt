@@ -1,64 +1,68 @@
 -- Elements that fit their streams fit the join.
-use Rattle.std.proofs.Common.{ℕ, zero, suc, ◌<◌, ◌≤◌, Bool, true, false, List, [], ◌∷◌, ◌≡◌, length, Option, Some, None, refl, sym, ap, ◌∙◌, subst, arith}
+use Rattle.std.proofs.Common.{ℕ, zero, suc, ◌+◌, ◌<◌, Bool, true, false, cond, List, [], ◌∷◌, ◌≡◌, map, length, get_or, eqb, Option, Some, None, refl, sym, ap, ◌∙◌, subst, arith}
+use Rattle.std.proofs.lemmas.Bool.{eqb-true}
+use Rattle.std.proofs.lemmas.List.{length-map}
+use Rattle.pj_shape.specs.declared.columns.Column.{Column}
 use Rattle.pj_shape.specs.Columns.{kinds_of}
 use Rattle.pj_pattern.specs.Fitting.{FitsKinds}
 use Rattle.pj_shape.specs.declared.plans.SmallStream.{SmallStream}
 use Rattle.pj_shape.specs.declared.plans.SmallJoin.{SmallJoin}
 use Rattle.pj_pattern.specs.declared.element.Element.{Element}
-use Rattle.pj_laws.specs.Join.{JoinData, arity, inputs}
+use Rattle.pj_laws.specs.Join.{arity}
 use Rattle.pj_laws.specs.Plan.{Fits}
-use Rattle.pj_laws.specs.CoreKept.{IsPlanOf, columns_of}
+use Rattle.pj_laws.specs.Outcomes.{place_in}
+use Rattle.pj_laws.specs.CoreKept.{IsJoinOf, IsPlanOf, columns_of}
 use Rattle.pj_join.specs.Joins.{unswept}
 use Rattle.pj_join.specs.declared.found.JoinStop.{JoinStop}
 use Rattle.pj_join.specs.declared.found.JoinStop.TheVariants.{Limit as JoinFull, NoMemory as JoinWants}
 use Rattle.pj_core.specs.declared.joined.Joined.{Joined}
-use Rattle.pj_core.specs.Parts.{FitsAny, FitsInput, IsFull, IsMadeOf, IsStopOf, any_fresh, input_named, join_in, join_stop}
-use Rattle.pj_core.proofs.Form.{IsWide, named, zeroth, oneth, zeroth-lt, oneth-lt}
+use Rattle.pj_core.specs.Parts.{FitsAny, FitsInput, IsFull, IsMadeOf, IsStopOf, any_fresh, input_named, join_in, join_stop, number_or_zero}
+use Rattle.pj_core.proofs.Form.{input-at}
 use Rattle.pj_laws.proofs.Whole.{fits-length}
 use Rattle.pj_core.proofs.Arriving.{small}
-use Rattle.pj_core.proofs.Entries.{input-first, input-second}
-use Rattle.pj_core.proofs.Shapes.{IsTwo, two-of}
 
-few : (order : Bool) → length (named order) ≤ 16
-few false = omega arith
-few true = omega arith
+-- the place of a number stands behind the first, and it is there
+placed : (m : ℕ) (ns : List ℕ) (n i : ℕ) → place_in m ns n ≡ Some i → (p : ℕ) × (i ≡ m + p) × (p < length ns) × (get_or ns p 0 ≡ n)
+placed m [] n i e = cc
+placed m (v ∷ ns) n i e = go (eqb v n) refl e (placed (m + 1) ns n i)
+  where
+    go : (b : Bool) → eqb v n ≡ b → cond b (Some m) (place_in (m + 1) ns n) ≡ Some i → (place_in (m + 1) ns n ≡ Some i → (p : ℕ) × (i ≡ m + 1 + p) × (p < length ns) × (get_or ns p 0 ≡ n))
+        → (p : ℕ) × (i ≡ m + p) × (p < length (v ∷ ns)) × (get_or (v ∷ ns) p 0 ≡ n)
+    go true q h ih = let z : m ≡ i = cc in (0, omega (arith, z), omega arith, eqb-true v n q)
+    go false q h ih = let r = ih h in (suc r.0, omega (arith, r.1), omega (arith, r.2), r.3)
 
-module _ (sa sb : SmallStream) (j : Joined) (order : Bool) (q : j.inputs ≡ named order) (w : IsWide sa.schema sb.schema order (unswept j.join.spec.shape)) (un : j.join.spec ≡ unswept j.join.spec.shape) where
-  at-most : length j.inputs ≤ 16
-  at-most = subst (λ (ms : List ℕ). length ms ≤ 16) (sym q) (few order)
-
-  fits-two : (stream : ℕ) → stream < 2 → (e : Element) → FitsKinds (kinds_of (columns_of (sa ∷ sb ∷ []) stream)) e → FitsInput j stream e
-  fits-two zero lt e f =
-      let i = input-first j.inputs order q in (
-        at-most,
-        subst (λ (n : ℕ). n < inputs j.join.spec) (sym i) (subst (λ (n : ℕ). zeroth order < n) (sym (ap inputs un ∙ w.both)) (zeroth-lt order)),
-        subst (λ (n : ℕ). Fits n e) (sym (ap (λ (d : JoinData). arity d (input_named j.inputs 0)) un ∙ ap (arity (unswept j.join.spec.shape)) i ∙ w.first)) (fits-length sa.schema e f),
-      )
-  fits-two (suc zero) lt e f =
-      let i = input-second j.inputs order q in (
-        at-most,
-        subst (λ (n : ℕ). n < inputs j.join.spec) (sym i) (subst (λ (n : ℕ). oneth order < n) (sym (ap inputs un ∙ w.both)) (oneth-lt order)),
-        subst (λ (n : ℕ). Fits n e) (sym (ap (λ (d : JoinData). arity d (input_named j.inputs 1)) un ∙ ap (arity (unswept j.join.spec.shape)) i ∙ w.second)) (fits-length sb.schema e f),
-      )
-  fits-two (suc (suc n)) lt e f = absurd (omega arith)
-
-fits-of : (streams : List SmallStream) (j : Joined) → IsTwo streams (small j) → j.join.spec ≡ unswept j.join.spec.shape → (stream : ℕ) → stream < length streams → (e : Element) → FitsKinds (kinds_of (columns_of streams stream)) e → FitsInput j stream e
-fits-of streams j i un stream =
-    subst (λ (ss : List SmallStream). stream < length ss → (e : Element) → FitsKinds (kinds_of (columns_of ss stream)) e → FitsInput j stream e) (sym i.are)
-    (fits-two i.sa i.sb j i.order i.ins i.wide un stream)
+fits-of : (streams : List SmallStream) (j : Joined) → IsJoinOf streams (small j) → j.join.spec ≡ unswept j.join.spec.shape → (stream : ℕ) → stream < length streams
+    → (e : Element) → FitsKinds (kinds_of (columns_of streams stream)) e → FitsInput j stream e
+fits-of streams j is un stream lt e f =
+    let i = input-at streams (small j) is stream lt in
+    let p = placed 0 j.inputs stream i.0 i.1 in
+    let wide : length j.join.spec.shape.inputs ≡ length j.inputs = ap length is.columns ∙ length-map j.inputs (columns_of streams) in
+    let named : input_named j.inputs stream ≡ p.0 = ap number_or_zero i.1 ∙ (let z = p.1 in omega (arith, z)) in
+    let columns : arity j.join.spec p.0 ≡ length (columns_of streams stream) =
+    ap (λ (schemas : List (List Column)). get_or (map (λ schema. length schema) schemas) p.0 0) is.columns
+    ∙ width-at streams j.inputs p.0 p.2 ∙ ap (λ (m : ℕ). length (columns_of streams m)) p.3 in (
+      omega (arith, wide, is.sound.few_inputs.1),
+      omega (arith, named, p.2, wide, length-map j.join.spec.shape.inputs (λ schema. length schema)),
+      subst (λ (n : ℕ). Fits n e) (sym (ap (arity j.join.spec) named ∙ columns)) (fits-length (columns_of streams stream) e f),
+    )
+  where
+    width-at : (ss : List SmallStream) (ns : List ℕ) (p : ℕ) → p < length ns → get_or (map (λ schema. length schema) (map (columns_of ss) ns)) p 0 ≡ length (columns_of ss (get_or ns p 0))
+    width-at ss [] p lt = absurd (omega (arith, lt))
+    width-at ss (n ∷ ns) zero lt = refl
+    width-at ss (n ∷ ns) (suc p) lt = width-at ss ns p (omega (arith, lt))
 
 pub fits-any : (streams : List SmallStream) (l : ℕ) (joined : Option Joined) → IsMadeOf streams l joined → (stream : ℕ) → stream < length streams → (e : Element) → FitsKinds (kinds_of (columns_of streams stream)) e → FitsAny joined stream e
 fits-any streams l None made stream lt e f = tt
-fits-any streams l (Some j) made stream lt e f = fits-of streams j (two-of streams (small j) made.0) made.1.3 stream lt e f
+fits-any streams l (Some j) made stream lt e f = fits-of streams j made.0.2 made.1.3 stream lt e f
 
-pub join-fresh : (l : ℕ) (join : Option SmallJoin) → join_in (any_fresh l join) ≡ join
-join-fresh l None = refl
-join-fresh l (Some j) = refl
+pub join-fresh : (n l : ℕ) (join : Option SmallJoin) → join_in (any_fresh n l join) ≡ join
+join-fresh n l None = refl
+join-fresh n l (Some j) = refl
 
-pub made-fresh : (streams : List SmallStream) (l : ℕ) (join : Option SmallJoin) → IsPlanOf streams join → IsMadeOf streams l (any_fresh l join)
+pub made-fresh : (streams : List SmallStream) (l : ℕ) (join : Option SmallJoin) → IsPlanOf streams join → IsMadeOf streams l (any_fresh (length streams) l join)
 made-fresh streams l None p = (p, tt)
 made-fresh streams l (Some j) p = (p, (refl, refl, refl, refl))
 
-pub stop-of : (joined : Option Joined) (stop : JoinStop) → (stop ≡ JoinFull → IsFull joined) → IsStopOf joined (join_stop stop)
-stop-of joined JoinFull f = (refl, f refl)
-stop-of joined JoinWants f = tt
+pub stop-of : (n : ℕ) (joined : Option Joined) (stop : JoinStop) → (stop ≡ JoinFull → IsFull joined) → IsStopOf n joined (join_stop n stop)
+stop-of n joined JoinFull f = (refl, f refl)
+stop-of n joined JoinWants f = tt

@@ -1,214 +1,148 @@
--- A plan of two streams and a join at any moment of a legal history.
-use Rattle.std.proofs.Common.{ℕ, zero, suc, ◌<◌, Bool, true, false, List, [], ◌∷◌, ◌++◌, ◌≡◌, ◌≢◌, ◌⊎◌, length, refl, sym, ap, ◌∙◌, subst, inl, inr, arith}
-use Rattle.pj_shape.specs.declared.columns.Column.{Column}
-use Rattle.pj_value.specs.Lists.{In}
+-- Streams and a join of them at any moment of a legal history.
+use Rattle.std.proofs.Common.{ℕ, ◌+◌, ◌<◌, false, List, [], ◌∷◌, ◌++◌, ◌≡◌, map, length, sum, None, Some, refl, sym, ap, ◌∙◌, subst, arith}
+use Rattle.std.specs.List.{fold}
+use Rattle.std.proofs.lemmas.List.{length-map, get_or_at}
+use Rattle.pj_shape.specs.declared.joins.JoinSpec.{JoinSpec}
+use Rattle.pj_shape.specs.declared.plans.SmallStream.{SmallStream}
+use Rattle.pj_shape.specs.declared.plans.SmallJoin.{SmallJoin}
 use Rattle.pj_pattern.specs.declared.element.Element.{Element}
 use Rattle.pj_pattern.specs.declared.element.Element.TheVariants.{Tuple, Punct}
+use Rattle.pj_laws.specs.Join.{TupleAt, JoinData, JoinState, Step, start, run, step, joined, results, outputs, inputs, IsAllowed, AreLegalSteps}
+use Rattle.pj_laws.specs.KeptState.{lacking}
+use Rattle.pj_laws.specs.Plan.{Join, Node, join_step, nowhere, operator_at, ArePlanned}
 use Rattle.pj_laws.specs.declared.events.Entry.{Entry}
 use Rattle.pj_laws.specs.declared.events.Event.{Event}
-use Rattle.pj_laws.specs.declared.events.Event.TheVariants.{Arrive, Take as Taken, Give as Given, Sweep as Swept, Drain, Halt, Look, Stopped, Idle}
-use Rattle.pj_laws.specs.Join.{PunctAt, JoinData, JoinState, Step, Take, Give, Sweep, start, step, run, arity, inputs, IsAllowed, AreLegalSteps, new_punct}
-use Rattle.pj_value.proofs.Members.{In-append_left, In-append_right, In-append_cases}
-use Rattle.pj_laws.proofs.Sound.{run-append, legal-more}
-use Rattle.pj_laws.proofs.Whole.{fits-length}
-use Rattle.pj_laws.specs.Plan.{Stream, Join, Node, join_step, MayArrive, IsStepAllowed, Pass, moved}
-use Rattle.pj_laws.specs.History.{Reached, next, nodes_by, nodes_from, step_of, IsEventAllowed, AreEntriesLegal}
+use Rattle.pj_laws.specs.declared.events.Event.TheVariants.{Arrive, Take as Taken, Give as Given}
+use Rattle.pj_laws.specs.declared.events.Out.{Out}
+use Rattle.pj_laws.specs.declared.events.Out.TheVariants.{Tuple as RowOut}
+use Rattle.pj_laws.specs.History.{out_of, state_in, gained, nodes_from, pending_in, IsLegal}
+use Rattle.pj_laws.specs.Outcomes.{arrivals_by, place_in, join_steps_by, join_steps_of}
+use Rattle.pj_laws.specs.OneThread.{first_of, next_probe, probes, probes_at}
+use Rattle.pj_laws.specs.Climb.{local_of}
+use Rattle.pj_laws.specs.CoreKept.{stream_of, join_of, IsJoinOf}
+use Rattle.pj_laws.specs.HistoryLaws.{joined_plan, JoinRuns}
+use Rattle.pj_laws.specs.StreamsJoined.{NamesEach, Source, source_node, joined_nodes, sources_from, JoinedMoves}
+use Rattle.pj_laws.proofs.JoinRuns.{join-runs}
+use Rattle.pj_laws.proofs.JoinedMoves.{joined-after, joined-moves, length-sources}
+use Rattle.pj_laws.proofs.Small.{joined-planned}
+use Rattle.pj_laws.proofs.SmallSteps.{small-form, total}
+use Rattle.pj_laws.proofs.StreamsJoined.{input-of, named, names-each}
+use Rattle.pj_join.specs.Joins.{unswept}
+use Rattle.pj_core.specs.Calls.{opened_in, stored_in, waiting_in}
 
--- ---- steps of a join
+-- ---- what an event does
 
--- ---- what a join has heard
+-- what is handed out, what is next to be done, and what is told of streams and a join in this state
+pub record Moves (n : ℕ) (j : SmallJoin) (nodes : List Node) (s : JoinState) : Type 0 where
+  pub arrive : (k input : ℕ) (e : Element) → k < n → place_in 0 j.inputs k ≡ Some input → gained false nodes (Arrive k e) ≡ []
+  pub take : (u : ℕ) → gained false nodes (Taken n u) ≡ []
+  pub give : (u : ℕ) → gained false nodes (Given n u) ≡ map RowOut (map joined (results (unswept j.spec) s.tuples s.tuples u))
+  pub quiet : (event : Event) → local_of event ≡ None → gained false nodes event ≡ []
+  pub none : (event : Event) → local_of event ≡ None → arrivals_by nodes event n ≡ []
+  pub next : next_probe nodes ≡ first_of n (lacking s.taken s.tuples) None
+  pub all : probes nodes ≡ probes_at n (lacking s.taken s.tuples)
+  pub pending : pending_in nodes ≡ length (lacking s.taken s.tuples)
+  pub opened : opened_in nodes ≡ length (lacking s.given s.tuples)
+  pub stored : stored_in nodes ≡ length s.stored
+  pub waiting : waiting_in nodes ≡ length s.waiting
 
--- what the join has heard of an input was sent by the stream
-abbrev pub HasHeard : JoinState → ℕ → List Element → Type 0
-HasHeard s i sent = (p : PunctAt) → In p s.puncts → p.input ≡ i → In (Punct p.patterns) sent
+-- a join that hands up rows alone hands nothing up at an arrival
+silent : (shape : JoinSpec) (s : JoinState) (input : ℕ) (e : Element) → outputs (unswept shape) s (join_step input e ∷ []) ≡ []
+silent shape s input (Tuple row) = refl
+silent shape s input (Punct patterns) = refl
 
-pub may-come : (d : JoinData) (s : JoinState) (i : ℕ) (schema : List Column) (sent : List Element) (e : Element)
-    → i < inputs d → arity d i ≡ length schema → HasHeard s i sent → MayArrive (Stream schema sent) e → IsAllowed d s (join_step i e)
-may-come d s i schema sent (Tuple row) lt w h m = (lt, fits-length schema (Tuple row) m.1 ∙ sym w, λ p hp pi. m.0 p.patterns (h p hp pi))
-may-come d s i schema sent (Punct patterns) lt w h m = (lt, fits-length schema (Punct patterns) m.1 ∙ sym w)
+rows-out : (cs : List (List TupleAt)) → map out_of (map (λ c. Tuple (joined c)) cs ++ []) ≡ map RowOut (map joined cs)
+rows-out [] = refl
+rows-out (c ∷ cs) = ap (λ (outs : List Out). RowOut (joined c) ∷ outs) (rows-out cs)
 
-pub heard-own : (d : JoinData) (s : JoinState) (i : ℕ) (sent : List Element) (e : Element) → HasHeard s i sent → HasHeard (step d s (join_step i e)) i (sent ++ e ∷ [])
-heard-own d s i sent (Tuple row) h p hp pi = In-append_left (Punct p.patterns) sent (Tuple row ∷ []) (h p hp pi)
-heard-own d s i sent (Punct patterns) h p hp pi = go (In-append_cases p s.puncts (new_punct s i patterns ∷ []) hp)
+-- a sum over the nodes to which streams add nothing
+summed : (f : Node → ℕ) → ((source : Source) → f (source_node source) ≡ 0) → (sources : List Source) (node : Node) → sum (map f (map source_node sources ++ node ∷ [])) ≡ f node
+summed f z [] node = omega arith
+summed f z (source ∷ sources) node =
+    let none = z source in
+    let e : 0 + f (source_node source) ≡ 0 = omega (arith, none) in
+    ap (λ (a : ℕ). fold (λ x y. x + y) a (map f (map source_node sources ++ node ∷ []))) e ∙ summed f z sources node
+
+moves-here : (sources : List Source) (j : SmallJoin) (s : JoinState) → NamesEach (length sources) j.inputs → Moves (length sources) j (joined_nodes sources j.inputs (unswept j.spec) s) s
+moves-here sources j s names = record {
+  arrive = λ k input e lt p. (M.arrive k input e lt p).gained ∙ ap (map out_of) (silent j.spec s input e);
+  take = λ u. (M.take u).gained;
+  give = λ u. (M.give u).gained ∙ rows-out (results (unswept j.spec) s.tuples s.tuples u);
+  quiet = λ event q. (M.quiet event q).gained;
+  none = λ event q. (M.quiet event q).join;
+  next = M.next;
+  all = M.all;
+  pending = summed (λ node. length (lacking (state_in node.operator).taken (state_in node.operator).tuples)) (λ source. refl) sources last;
+  opened = summed (λ node. length (lacking (state_in node.operator).given (state_in node.operator).tuples)) (λ source. refl) sources last;
+  stored = summed (λ node. length (state_in node.operator).stored) (λ source. refl) sources last;
+  waiting = summed (λ node. length (state_in node.operator).waiting) (λ source. refl) sources last;
+}
   where
-    go : In p s.puncts ⊎ In p (new_punct s i patterns ∷ []) → In (Punct p.patterns) (sent ++ Punct patterns ∷ [])
-    go (inl k) = In-append_left (Punct p.patterns) sent (Punct patterns ∷ []) (h p k pi)
-    go (inr (inl k)) = In-append_right (Punct p.patterns) sent (Punct patterns ∷ []) (inl (ap (λ (z : PunctAt). Punct z.patterns) k))
-    go (inr (inr k)) = absurd k
+    M : JoinedMoves sources j.inputs (unswept j.spec) s
+    M = joined-moves sources j.inputs (unswept j.spec) s names
 
-pub heard-other : (d : JoinData) (s : JoinState) (i j : ℕ) (sent : List Element) (e : Element) → i ≢ j → HasHeard s j sent → HasHeard (step d s (join_step i e)) j sent
-heard-other d s i j sent (Tuple row) n h p hp pi = h p hp pi
-heard-other d s i j sent (Punct patterns) n h p hp pi = go (In-append_cases p s.puncts (new_punct s i patterns ∷ []) hp)
+    last : Node
+    last = record { inputs = j.inputs; operator = Join (unswept j.spec) s }
+
+-- the steps of the join in a history, and what they make of it
+abbrev pub steps_in : List SmallStream → SmallJoin → List Entry → List Step
+steps_in streams j history = join_steps_of (joined_plan streams j) history (length streams)
+
+abbrev pub state_after : List SmallStream → SmallJoin → List Entry → JoinState
+state_after streams j history = run (unswept j.spec) start (steps_in streams j history)
+
+pub moves-of : (streams : List SmallStream) (j : SmallJoin) → IsJoinOf streams j → (history : List Entry) → IsLegal (joined_plan streams j) history
+    → Moves (length streams) j (nodes_from (joined_plan streams j) history) (state_after streams j history)
+moves-of streams j is history legal =
+    subst (λ (nodes : List Node). Moves (length streams) j nodes (state_after streams j history)) (sym (joined-after streams j is history legal))
+    (subst (λ (n : ℕ). Moves n j (joined_nodes sources j.inputs (unswept j.spec) (state_after streams j history)) (state_after streams j history)) long
+    (moves-here sources j (state_after streams j history) (subst (λ (n : ℕ). NamesEach n j.inputs) (sym long) (names-each streams j is))))
   where
-    go : In p s.puncts ⊎ In p (new_punct s i patterns ∷ []) → In (Punct p.patterns) sent
-    go (inl k) = h p k pi
-    go (inr (inl k)) = absurd (n (ap (λ (z : PunctAt). z.input) k ∙ pi))
-    go (inr (inr k)) = absurd k
+    sources : List Source
+    sources = sources_from 0 streams history
 
--- ---- the nodes
+    long : length sources ≡ length streams
+    long = length-sources 0 streams history
 
--- the join's inputs name the two streams in order, or the other way round
-abbrev pub named : Bool → List ℕ
-named false = 0 ∷ 1 ∷ []
-named true = 1 ∷ 0 ∷ []
+-- ---- the steps of the join
 
--- the input of each stream
-abbrev pub zeroth : Bool → ℕ
-zeroth false = 0
-zeroth true = 1
+last-allowed : (d : JoinData) (s : JoinState) (steps : List Step) (st : Step) → AreLegalSteps d s (steps ++ st ∷ []) → IsAllowed d (run d s steps) st
+last-allowed d s [] st l = l.0
+last-allowed d s (e ∷ steps) st l = last-allowed d (step d s e) steps st l.1
 
-abbrev pub oneth : Bool → ℕ
-oneth false = 1
-oneth true = 0
+pub some-inputs : (streams : List SmallStream) (j : SmallJoin) → IsJoinOf streams j → 0 < inputs (unswept j.spec)
+some-inputs streams j is = omega (arith, is.sound.few_inputs.0, length-map j.spec.inputs (λ schema. length schema))
 
--- two streams with what was sent, and a join in this state
-abbrev pub two : List Column → List Column → Bool → JoinData → List Element → List Element → JoinState → List Node
-two a b order d x y s =
-    record { inputs = []; operator = Stream a x } ∷ record { inputs = []; operator = Stream b y } ∷ record { inputs = named order; operator = Join d s } ∷ []
+-- the input that names a stream
+pub input-at : (streams : List SmallStream) (j : SmallJoin) → IsJoinOf streams j → (stream : ℕ) → stream < length streams → (input : ℕ) × (place_in 0 j.inputs stream ≡ Some input)
+input-at streams j is stream lt = input-of 0 j.inputs stream (named (length streams) j.inputs (names-each streams j is) stream lt)
 
--- the widths of the join's inputs are those of the streams
-pub record IsWide (a b : List Column) (order : Bool) (d : JoinData) : Type 0 where
-  pub both : inputs d ≡ 2
-  pub first : arity d (zeroth order) ≡ length a
-  pub second : arity d (oneth order) ≡ length b
+module _ (streams : List SmallStream) (j : SmallJoin) (is : IsJoinOf streams j) where
+  pub planned : ArePlanned [] (joined_plan streams j)
+  planned = joined-planned streams j is
 
--- the nodes are such, the join came to its state by legal steps, and it has heard what the streams sent
-pub record HasForm (a b : List Column) (order : Bool) (d : JoinData) (nodes : List Node) : Type 0 where
-  pub x : List Element
-  pub y : List Element
-  pub steps : List Step
-  pub is : nodes ≡ two a b order d x y (run d start steps)
-  pub legal : AreLegalSteps d start steps
-  pub heard_first : HasHeard (run d start steps) (zeroth order) x
-  pub heard_second : HasHeard (run d start steps) (oneth order) y
+  pub there : length streams < length (joined_plan streams j)
+  there = omega (arith, total (length streams) j.inputs (joined_plan streams j) (small-form streams j))
 
-pub nodes-first : (a b : List Column) (order : Bool) (d : JoinData) (x y : List Element) (s : JoinState) (e : Element)
-    → nodes_by (two a b order d x y s) (Arrive 0 e) ≡ two a b order d (x ++ e ∷ []) y (step d s (join_step (zeroth order) e))
-nodes-first a b false d x y s e = refl
-nodes-first a b true d x y s e = refl
+  pub at-start : operator_at (joined_plan streams j) (length streams) ≡ Join (unswept j.spec) start
+  at-start = ap (λ (node : Node). node.operator) (get_or_at (map stream_of streams) (join_of j) [] nowhere (length streams) (length-map streams stream_of))
 
-pub nodes-second : (a b : List Column) (order : Bool) (d : JoinData) (x y : List Element) (s : JoinState) (e : Element)
-    → nodes_by (two a b order d x y s) (Arrive 1 e) ≡ two a b order d x (y ++ e ∷ []) (step d s (join_step (oneth order) e))
-nodes-second a b false d x y s e = refl
-nodes-second a b true d x y s e = refl
+  runs : JoinRuns (joined_plan streams j)
+  runs = join-runs (joined_plan streams j) planned
 
-pub nodes-taken : (a b : List Column) (order : Bool) (d : JoinData) (x y : List Element) (s : JoinState) (u : ℕ)
-    → nodes_by (two a b order d x y s) (Taken 2 u) ≡ two a b order d x y (step d s (Take u))
-nodes-taken a b false d x y s u = refl
-nodes-taken a b true d x y s u = refl
+  pub state-is : (history : List Entry) → operator_at (nodes_from (joined_plan streams j) history) (length streams) ≡ Join (unswept j.spec) (state_after streams j history)
+  state-is history = runs.state history (length streams) (unswept j.spec) there at-start
 
-pub nodes-given : (a b : List Column) (order : Bool) (d : JoinData) (x y : List Element) (s : JoinState) (u : ℕ)
-    → nodes_by (two a b order d x y s) (Given 2 u) ≡ two a b order d x y (step d s (Give u))
-nodes-given a b false d x y s u = refl
-nodes-given a b true d x y s u = refl
+  pub legal-in : (history : List Entry) → IsLegal (joined_plan streams j) history → AreLegalSteps (unswept j.spec) start (steps_in streams j history)
+  legal-in history l = runs.legal history (length streams) (unswept j.spec) l there at-start
 
-nodes-swept : (a b : List Column) (order : Bool) (d : JoinData) (x y : List Element) (s : JoinState) (i : ℕ)
-    → nodes_by (two a b order d x y s) (Swept 2 i) ≡ two a b order d x y (step d s (Sweep i))
-nodes-swept a b false d x y s i = refl
-nodes-swept a b true d x y s i = refl
+  pub more-steps : (history : List Entry) (entry : Entry) (es : List Step) → join_steps_by (nodes_from (joined_plan streams j) history) entry.event (length streams) ≡ es
+      → steps_in streams j (history ++ entry ∷ []) ≡ steps_in streams j history ++ es
+  more-steps history entry es e = runs.more history entry (length streams) ∙ ap (λ (ss : List Step). steps_in streams j history ++ ss) e
 
-pub nodes-pass : (a b : List Column) (order : Bool) (d : JoinData) (x y : List Element) (s : JoinState) → moved Pass [] (two a b order d x y s) ≡ two a b order d x y s
-nodes-pass a b false d x y s = refl
-nodes-pass a b true d x y s = refl
-
--- ---- the form stays
-
-pub zeroth-lt : (order : Bool) → zeroth order < 2
-zeroth-lt false = omega arith
-zeroth-lt true = omega arith
-
-pub oneth-lt : (order : Bool) → oneth order < 2
-oneth-lt false = omega arith
-oneth-lt true = omega arith
-
-apart : (order : Bool) → zeroth order ≢ oneth order
-apart false = λ e. omega arith
-apart true = λ e. omega arith
-
-module _ (a b : List Column) (order : Bool) (d : JoinData) (w : IsWide a b order d) where
-  pub form-first : (nodes : List Node) (e : Element) → (f : HasForm a b order d nodes) → MayArrive (Stream a f.x) e → HasForm a b order d (nodes_by nodes (Arrive 0 e))
-  form-first nodes e f m =
-      let s = run d start f.steps in
-      let st = join_step (zeroth order) e in
-      let lt : zeroth order < inputs d = subst (λ (n : ℕ). zeroth order < n) (sym w.both) (zeroth-lt order) in
-      record {
-        x = f.x ++ e ∷ [];
-        y = f.y;
-        steps = f.steps ++ st ∷ [];
-        is = ap (λ (ns : List Node). nodes_by ns (Arrive 0 e)) f.is ∙ nodes-first a b order d f.x f.y s e ∙ ap (two a b order d (f.x ++ e ∷ []) f.y) (sym (run-append d start f.steps (st ∷ [])));
-        legal = legal-more d start f.steps st f.legal (may-come d s (zeroth order) a f.x e lt w.first f.heard_first m);
-        heard_first = subst (λ (z : JoinState). HasHeard z (zeroth order) (f.x ++ e ∷ [])) (sym (run-append d start f.steps (st ∷ []))) (heard-own d s (zeroth order) f.x e f.heard_first);
-        heard_second = subst (λ (z : JoinState). HasHeard z (oneth order) f.y) (sym (run-append d start f.steps (st ∷ []))) (heard-other d s (zeroth order) (oneth order) f.y e (apart order) f.heard_second);
-      }
-
-  pub form-second : (nodes : List Node) (e : Element) → (f : HasForm a b order d nodes) → MayArrive (Stream b f.y) e → HasForm a b order d (nodes_by nodes (Arrive 1 e))
-  form-second nodes e f m =
-      let s = run d start f.steps in
-      let st = join_step (oneth order) e in
-      let lt : oneth order < inputs d = subst (λ (n : ℕ). oneth order < n) (sym w.both) (oneth-lt order) in
-      record {
-        x = f.x;
-        y = f.y ++ e ∷ [];
-        steps = f.steps ++ st ∷ [];
-        is = ap (λ (ns : List Node). nodes_by ns (Arrive 1 e)) f.is ∙ nodes-second a b order d f.x f.y s e ∙ ap (two a b order d f.x (f.y ++ e ∷ [])) (sym (run-append d start f.steps (st ∷ [])));
-        legal = legal-more d start f.steps st f.legal (may-come d s (oneth order) b f.y e lt w.second f.heard_second m);
-        heard_first = subst (λ (z : JoinState). HasHeard z (zeroth order) f.x) (sym (run-append d start f.steps (st ∷ []))) (heard-other d s (oneth order) (zeroth order) f.x e (λ q. apart order (sym q)) f.heard_first);
-        heard_second = subst (λ (z : JoinState). HasHeard z (oneth order) (f.y ++ e ∷ [])) (sym (run-append d start f.steps (st ∷ []))) (heard-own d s (oneth order) f.y e f.heard_second);
-      }
-
-  form-quiet : (nodes : List Node) (event : Event) (st : Step) → (f : HasForm a b order d nodes)
-      → nodes_by (two a b order d f.x f.y (run d start f.steps)) event ≡ two a b order d f.x f.y (step d (run d start f.steps) st)
-      → IsAllowed d (run d start f.steps) st → (step d (run d start f.steps) st).puncts ≡ (run d start f.steps).puncts
-      → HasForm a b order d (nodes_by nodes event)
-  form-quiet nodes event st f q l p =
-      let same : (run d start (f.steps ++ st ∷ [])).puncts ≡ (run d start f.steps).puncts = ap (λ (z : JoinState). z.puncts) (run-append d start f.steps (st ∷ [])) ∙ p in
-      record {
-        x = f.x;
-        y = f.y;
-        steps = f.steps ++ st ∷ [];
-        is = ap (λ (ns : List Node). nodes_by ns event) f.is ∙ q ∙ ap (two a b order d f.x f.y) (sym (run-append d start f.steps (st ∷ [])));
-        legal = legal-more d start f.steps st f.legal l;
-        heard_first = λ z hz. f.heard_first z (subst (λ (ps : List PunctAt). In z ps) same hz);
-        heard_second = λ z hz. f.heard_second z (subst (λ (ps : List PunctAt). In z ps) same hz);
-      }
-
-  there : (nodes : List Node) (event : Event) → (f : HasForm a b order d nodes) → IsStepAllowed nodes (step_of nodes event)
-      → (let ns = two a b order d f.x f.y (run d start f.steps) in IsStepAllowed ns (step_of ns event))
-  there nodes event f l = subst (λ (ns : List Node). IsStepAllowed ns (step_of ns event)) f.is l
-
-  stays : (nodes : List Node) → (f : HasForm a b order d nodes) → HasForm a b order d (moved Pass [] nodes)
-  stays nodes f = record {
-    x = f.x;
-    y = f.y;
-    steps = f.steps;
-    is = ap (moved Pass []) f.is ∙ nodes-pass a b order d f.x f.y (run d start f.steps);
-    legal = f.legal;
-    heard_first = f.heard_first;
-    heard_second = f.heard_second;
-  }
-
-  pub form-step : (r : Reached) (event : Event) → IsEventAllowed r event → HasForm a b order d r.nodes → HasForm a b order d (nodes_by r.nodes event)
-  form-step r (Arrive zero e) l f = form-first r.nodes e f (there r.nodes (Arrive 0 e) f l.2).1
-  form-step r (Arrive (suc zero) e) l f = form-second r.nodes e f (there r.nodes (Arrive 1 e) f l.2).1
-  form-step r (Arrive (suc (suc n)) e) l f = absurd (let m = (there r.nodes (Arrive (suc (suc n)) e) f l.2).0 in omega (arith, m))
-  form-step r (Taken zero u) l f = absurd (there r.nodes (Taken 0 u) f l.1).1
-  form-step r (Taken (suc zero) u) l f = absurd (there r.nodes (Taken 1 u) f l.1).1
-  form-step r (Taken (suc (suc zero)) u) l f = form-quiet r.nodes (Taken 2 u) (Take u) f (nodes-taken a b order d f.x f.y (run d start f.steps) u) (there r.nodes (Taken 2 u) f l.1).1.1 refl
-  form-step r (Taken (suc (suc (suc n))) u) l f = absurd (let m = (there r.nodes (Taken (suc (suc (suc n))) u) f l.1).0 in omega (arith, m))
-  form-step r (Given zero u) l f = absurd (there r.nodes (Given 0 u) f l.1).1
-  form-step r (Given (suc zero) u) l f = absurd (there r.nodes (Given 1 u) f l.1).1
-  form-step r (Given (suc (suc zero)) u) l f = form-quiet r.nodes (Given 2 u) (Give u) f (nodes-given a b order d f.x f.y (run d start f.steps) u) (there r.nodes (Given 2 u) f l.1).1.1 refl
-  form-step r (Given (suc (suc (suc n))) u) l f = absurd (let m = (there r.nodes (Given (suc (suc (suc n))) u) f l.1).0 in omega (arith, m))
-  form-step r (Swept zero i) l f = absurd (there r.nodes (Swept 0 i) f l.1).1
-  form-step r (Swept (suc zero) i) l f = absurd (there r.nodes (Swept 1 i) f l.1).1
-  form-step r (Swept (suc (suc zero)) i) l f = form-quiet r.nodes (Swept 2 i) (Sweep i) f (nodes-swept a b order d f.x f.y (run d start f.steps) i) (there r.nodes (Swept 2 i) f l.1).1.1 refl
-  form-step r (Swept (suc (suc (suc n))) i) l f = absurd (let m = (there r.nodes (Swept (suc (suc (suc n))) i) f l.1).0 in omega (arith, m))
-  form-step r Drain l f = stays r.nodes f
-  form-step r Halt l f = stays r.nodes f
-  form-step r (Look n) l f = stays r.nodes f
-  form-step r (Stopped stop) l f = stays r.nodes f
-  form-step r Idle l f = stays r.nodes f
-
-  pub form-from : (r : Reached) (history : List Entry) → AreEntriesLegal r history → HasForm a b order d r.nodes → HasForm a b order d (nodes_from r.nodes history)
-  form-from r [] l f = f
-  form-from r (entry ∷ history) l f = form-from (next false r entry) history l.1 (form-step r entry.event l.0.0 f)
+  -- the step of an entry that was legal is allowed
+  pub step-allowed : (history : List Entry) (entry : Entry) (st : Step) → IsLegal (joined_plan streams j) (history ++ entry ∷ [])
+      → join_steps_by (nodes_from (joined_plan streams j) history) entry.event (length streams) ≡ st ∷ [] → IsAllowed (unswept j.spec) (state_after streams j history) st
+  step-allowed history entry st l e =
+      last-allowed (unswept j.spec) start (steps_in streams j history) st
+      (subst (AreLegalSteps (unswept j.spec) start) (more-steps history entry (st ∷ []) e) (legal-in (history ++ entry ∷ []) l))

@@ -1,9 +1,7 @@
 pub mod Form
 pub mod Entering
-pub mod Moves
 pub mod Entries
 pub mod Alone
-pub mod Shapes
 pub mod Arriving
 pub mod Probing
 pub mod Standing
@@ -12,4 +10,5 @@ pub mod Words
 pub mod Ended
 pub mod Fresh
 pub mod Turning
+pub mod Probed
 pub mod Samples

@@ -10,25 +10,24 @@ use Rattle.pj_laws.specs.Join.{JoinData, Step, Take, Give, In, has, joined, resu
 use Rattle.std.proofs.lemmas.Bool.{false≢true}
 use Rattle.pj_laws.specs.KeptState.{kept_of, kept_step, without}
 use Rattle.pj_laws.specs.Outcomes.{results_of}
+use Rattle.pj_laws.specs.HistoryLaws.{joined_plan}
 use Rattle.pj_laws.specs.Limits.{StaysWithin}
 use Rattle.pj_laws.specs.OneThread.{first_of, next_probe, plain, probes, probes_at}
 use Rattle.pj_join.specs.declared.found.Found.{Found}
-use Rattle.pj_join.specs.Joins.{IsTaken, after, unswept}
+use Rattle.pj_join.specs.Joins.{IsTaken, after}
 use Rattle.pj_core.specs.declared.joined.Joined.{Joined}
 use Rattle.pj_core.specs.Known.{AreKnown}
 use Rattle.pj_core.specs.Cores.{StandsFor, nodes_in, nodes_after}
 use Rattle.pj_core.specs.Calls.{FindsNone, HasGiven, IsOpen, TakesNext, CoreTakes}
 use Rattle.pj_core.specs.Parts.{IsMadeOf, TakesAny, TakesOf, core_of, given, part_in, pending_kept}
 use Rattle.pj_core.specs.Turns.{finish_behind}
-use Rattle.pj_core.proofs.Form.{IsWide, named}
-use Rattle.pj_core.proofs.Entering.{core_two, nodes_two}
-use Rattle.pj_core.proofs.Entries as two
+use Rattle.pj_core.proofs.Entering.{core_joined}
+use Rattle.pj_core.proofs.Entries as entries
 use Rattle.pj_core.proofs.Alone as alone
-use Rattle.pj_core.proofs.Alone.{core_one, nodes_one}
+use Rattle.pj_core.proofs.Alone.{nodes_one}
 use Rattle.pj_core.proofs.Arriving.{small, part}
-use Rattle.pj_core.proofs.Shapes.{IsTwo, two-of}
 
-empty-of : {A : Type 0} (xs : List A) → length xs ≡ 0 → xs ≡ []
+pub empty-of : {A : Type 0} (xs : List A) → length xs ≡ 0 → xs ≡ []
 empty-of [] e = refl
 empty-of (x ∷ xs) e = absurd (omega (arith, e))
 
@@ -53,55 +52,46 @@ abbrev stepped : Joined → Step → Joined
 stepped j st = record j { join = after j.join st }
 
 module _ (k : AreKnown) (history : List Entry) (l : ℕ) (c : List ℕ) (u : List Out) where
-  -- what takes and gives do to a core of two streams
+  -- what takes and gives do to a core of streams and a join
   pub record Probes (streams : List SmallStream) (j : Joined) : Type 0 where
     pub none : length j.join.kept.pending ≡ 0 → next_probe (nodes_after (core_of streams l (Some j) c u None) history) ≡ None
     pub idle : length j.join.kept.pending ≡ 0 → StandsFor (core_of streams l (Some j) c u None) (history ++ plain Idle ∷ [])
     pub next : (t : ℕ) → has j.join.kept.pending t ≡ true → ((v : ℕ) → In v j.join.kept.pending → t ≤ v)
-        → next_probe (nodes_after (core_of streams l (Some j) c u None) history) ≡ Some (record { join = 2; ticket = t })
-    pub takes : (t : ℕ) → has j.join.kept.pending t ≡ true → StandsFor (core_of streams l (Some (stepped j (Take t))) c u None) (history ++ plain (Taken 2 t) ∷ [])
-    pub gives : (t : ℕ) (rows : List (List Value)) → IsTaken j.join.kept t → rows ≡ results_of (nodes_in (core_of streams l (Some j) c u None)) history 2 t
-        → StandsFor (core_of streams l (Some (stepped j (Give t))) c (u ++ map RowOut rows) None) (history ++ plain (Given 2 t) ∷ [])
+        → next_probe (nodes_after (core_of streams l (Some j) c u None) history) ≡ Some (record { join = length streams; ticket = t })
+    pub takes : (t : ℕ) → has j.join.kept.pending t ≡ true → StandsFor (core_of streams l (Some (stepped j (Take t))) c u None) (history ++ plain (Taken (length streams) t) ∷ [])
+    pub gives : (t : ℕ) (rows : List (List Value)) → IsTaken j.join.kept t → rows ≡ results_of (nodes_in (core_of streams l (Some j) c u None)) history (length streams) t
+        → StandsFor (core_of streams l (Some (stepped j (Give t))) c (u ++ map RowOut rows) None) (history ++ plain (Given (length streams) t) ∷ [])
     pub first : (t : ℕ) → has j.join.kept.pending t ≡ true → ((v : ℕ) → In v j.join.kept.pending → t ≤ v)
         → j.join.kept.pending ≡ t ∷ without j.join.kept.pending t
-    pub stays : (t : ℕ) → results_of (nodes_in (core_of streams l (Some j) c u None)) (history ++ plain (Taken 2 t) ∷ []) 2 t ≡ results_of (nodes_in (core_of streams l (Some j) c u None)) history 2 t
-    pub all : probes (nodes_after (core_of streams l (Some j) c u None) history) ≡ probes_at 2 j.join.kept.pending
+    pub stays : (t : ℕ) → results_of (nodes_in (core_of streams l (Some j) c u None)) (history ++ plain (Taken (length streams) t) ∷ []) (length streams) t ≡ results_of (nodes_in (core_of streams l (Some j) c u None)) history (length streams) t
+    pub all : probes (nodes_after (core_of streams l (Some j) c u None) history) ≡ probes_at (length streams) j.join.kept.pending
     pub within : StaysWithin l (nodes_in (core_of streams l (Some j) c u None)) history (finish_behind (core_of streams l (Some j) c u None) history)
     pub steps : (steps : List Step) × AreLegalSteps j.join.spec start steps × (j.join.kept ≡ kept_of (run j.join.spec start steps))
-        × ((t : ℕ) → results_of (nodes_in (core_of streams l (Some j) c u None)) history 2 t ≡ map joined (results j.join.spec (run j.join.spec start steps).tuples (run j.join.spec start steps).tuples t))
-
-  probes-two : (sa sb : SmallStream) (j : Joined) (order : Bool) → j.inputs ≡ named order → IsWide sa.schema sb.schema order (unswept j.join.spec.shape)
-      → j.join.spec ≡ unswept j.join.spec.shape → StandsFor (core_two sa sb (small j) l (part j) c u None) history → Probes (sa ∷ sb ∷ []) j
-  probes-two sa sb j order q w un S =
-      let p = nodes_two sa sb (small j) in
-      let s = k.stands (unswept j.join.spec.shape) (omega (arith, w.both)) in
-      let adds = k.adds p history in
-      let grows = k.grows p in
-      let same = (k.trace p history).nodes false in
-      let next = two.next-is sa sb (small j) order q w l (part j) c u history S adds grows same s in
-      let st = two.steps-stand sa sb (small j) order q w l (part j) c u history S adds grows same s in
-      record {
-        none = λ e. next ∙ ap (λ (ts : List ℕ). first_of 2 ts None) (empty-of j.join.kept.pending e);
-        idle = λ e. two.idles sa sb (small j) order q w l (part j) c u history S adds grows same s (empty-of j.join.kept.pending e);
-        next = λ t h least. two.next-taken sa sb (small j) order q w l (part j) c u history S adds grows same s t h least;
-        takes = λ t h. subst (λ (d : JoinData). StandsFor (core_two sa sb (small j) l (record { kept = kept_step d j.join.kept (Take t); peak = j.peak }) c u None) (history ++ plain (Taken 2 t) ∷ []))
-            (sym un) (two.takes sa sb (small j) order q w l (part j) c u history S adds grows same s t h);
-        gives = λ t rows h r. subst (λ (d : JoinData). StandsFor (core_two sa sb (small j) l (record { kept = kept_step d j.join.kept (Give t); peak = j.peak }) c (u ++ map RowOut rows) None) (history ++ plain (Given 2 t) ∷ []))
-            (sym un) (two.gives sa sb (small j) order q w l (part j) c u history S adds grows same s t rows h r);
-        first = λ t h least. two.first-of-pending sa sb (small j) order q w l (part j) c u history S adds grows same s t h least;
-        stays = λ t. two.results-stay sa sb (small j) order q w l (part j) c u history S adds grows same s t;
-        all = two.all-probes sa sb (small j) order q w l (part j) c u history S adds grows same s;
-        within = two.probes-stay-within sa sb (small j) order q w l (part j) c u history S adds grows same s;
-        steps = subst (λ (d : JoinData). (steps : List Step) × AreLegalSteps d start steps × (j.join.kept ≡ kept_of (run d start steps))
-            × ((t : ℕ) → results_of (nodes_two sa sb (small j)) history 2 t ≡ map joined (results d (run d start steps).tuples (run d start steps).tuples t)))
-            (sym un) st;
-      }
+        × ((t : ℕ) → results_of (nodes_in (core_of streams l (Some j) c u None)) history (length streams) t ≡ map joined (results j.join.spec (run j.join.spec start steps).tuples (run j.join.spec start steps).tuples t))
 
   pub probes-of : (streams : List SmallStream) (j : Joined) → IsMadeOf streams l (Some j) → StandsFor (core_of streams l (Some j) c u None) history → Probes streams j
-  probes-of streams j made S = go (two-of streams (small j) made.0)
-    where
-      go : IsTwo streams (small j) → Probes streams j
-      go i = subst (λ (ss : List SmallStream). StandsFor (core_of ss l (Some j) c u None) history → Probes ss j) (sym i.are) (probes-two i.sa i.sb j i.order i.ins i.wide made.1.3) S
+  probes-of streams j made S =
+      let n = length streams in
+      let is = made.0.2 in
+      let un = made.1.3 in
+      let next = entries.next-is k streams (small j) is l (part j) c u history S in
+      let st = entries.steps-stand k streams (small j) is l (part j) c u history S in
+      record {
+        none = λ e. next ∙ ap (λ (ts : List ℕ). first_of n ts None) (empty-of j.join.kept.pending e);
+        idle = λ e. entries.idles k streams (small j) is l (part j) c u history S (empty-of j.join.kept.pending e);
+        next = λ t h least. entries.next-taken k streams (small j) is l (part j) c u history S t h least;
+        takes = λ t h. subst (λ (d : JoinData). StandsFor (core_joined streams (small j) l (record { kept = kept_step d j.join.kept (Take t); peak = j.peak }) c u None) (history ++ plain (Taken n t) ∷ []))
+            (sym un) (entries.takes k streams (small j) is l (part j) c u history S t h);
+        gives = λ t rows h r. subst (λ (d : JoinData). StandsFor (core_joined streams (small j) l (record { kept = kept_step d j.join.kept (Give t); peak = j.peak }) c (u ++ map RowOut rows) None) (history ++ plain (Given n t) ∷ []))
+            (sym un) (entries.gives k streams (small j) is l (part j) c u history S t rows h r);
+        first = λ t h least. entries.first-of-pending k streams (small j) is l (part j) c u history S t h least;
+        stays = λ t. entries.results-stay k streams (small j) is l (part j) c u history S t;
+        all = entries.all-probes k streams (small j) is l (part j) c u history S;
+        within = entries.probes-stay-within k streams (small j) is l (part j) c u history S;
+        steps = subst (λ (d : JoinData). (steps : List Step) × AreLegalSteps d start steps × (j.join.kept ≡ kept_of (run d start steps))
+            × ((t : ℕ) → results_of (joined_plan streams (small j)) history n t ≡ map joined (results d (run d start steps).tuples (run d start steps).tuples t)))
+            (sym un) st;
+      }
 
 -- ---- the words of the calls
 
@@ -129,7 +119,7 @@ finds-none k streams l (Some j) c u made p = record {
 pub takes-next : (k : AreKnown) (streams : List SmallStream) (l : ℕ) (j : Joined) (new : Option Joined) (c : List ℕ) (u : List Out) (found : Found) → IsMadeOf streams l (Some j)
     → TakesOf j new found → TakesNext (core_of streams l (Some j) c u None) (core_of streams l new c u None) found
 takes-next k streams l j new c u found made t =
-    let at : found.join ≡ 2 = t.node ∙ made.1.1 in
+    let at : found.join ≡ length streams = t.node ∙ made.1.1 in
     subst (λ (o : Option Joined). TakesNext (core_of streams l (Some j) c u None) (core_of streams l o c u None) found) (sym t.changes)
     (record {
       next = λ history S. (probes-of k history l c u streams j made S).next found.ticket t.pending t.least ∙ ap (λ (n : ℕ). Some (record { join = n; ticket = found.ticket })) (sym at);
@@ -142,7 +132,7 @@ takes-next k streams l j new c u found made t =
           t.finds p.steps.0 (p.steps.1, p.steps.2) ∙ sym (p.steps.3 found.ticket) ∙ sym (p.stays found.ticket)
           ∙ ap (λ (n : ℕ). results_of (nodes_in (core_of streams l (Some j) c u None)) (history ++ plain (Taken n found.ticket) ∷ []) n found.ticket) (sym at);
       node = at;
-      opens = (at ∙ sym made.0.0, t.taken);
+      opens = (at, t.taken);
       notes = record {
         plan = refl;
         limit = refl;
@@ -167,7 +157,7 @@ pub has-given : (k : AreKnown) (streams : List SmallStream) (l : ℕ) (joined : 
     → HasGiven (core_of streams l joined c u None) (core_of streams l (given joined probe.ticket) c (u ++ map RowOut found.rows) None) probe found
 has-given k streams l None c u probe found made o = absurd o
 has-given k streams l (Some j) c u probe found made o =
-    let at : probe.join ≡ 2 = o.0 ∙ made.0.0 in
+    let at : probe.join ≡ length streams = o.0 in
     record {
       on = (refl, refl);
       pending = refl;

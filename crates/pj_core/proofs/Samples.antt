@@ -1,9 +1,10 @@
 -- The plans of the tests are small.
-use Rattle.std.proofs.Common.{ℕ, zero, suc, pos, true, length, ◌<◌, ◌≡◌, List, [], ◌∷◌, Option, Some, None, refl, sym, ap, inl, inr, arith, subst}
+use Rattle.std.proofs.Common.{ℕ, ℤ, zero, suc, pos, true, length, ◌<◌, ◌≡◌, List, [], ◌∷◌, Option, Some, None, refl, sym, ap, inl, inr, arith, subst}
 use Rattle.pj_value.specs.declared.values.Kind.TheVariants.{Int as IntKind}
 use Rattle.pj_value.specs.declared.values.Value.TheVariants.{Int}
 use Rattle.pj_shape.specs.Columns.{kinds_of}
 use Rattle.pj_pattern.specs.Fitting.{row_fits}
+use Rattle.pj_shape.specs.declared.columns.Column.{Column}
 use Rattle.pj_shape.specs.declared.joins.ClassCol.{ClassCol}
 use Rattle.pj_shape.specs.declared.plans.SmallPlan.{SmallPlan}
 use Rattle.pj_value.specs.Lists.{In}
@@ -13,10 +14,10 @@ use Rattle.pj_laws.specs.OneThread.{Turn}
 use Rattle.pj_laws.specs.CoreKept.{IsSmallPlan, columns_of}
 use Rattle.pj_core.specs.Cores.{CoreState}
 use Rattle.pj_core.specs.Calls.{IsTurnRefused}
-use Rattle.pj_core.specs.Sample.{at, equal, lone, number, sample}
+use Rattle.pj_core.specs.Sample.{at, equal, equal_of_three, lone, number, sample, three}
 
-only : IsSoundClass ((number ∷ []) ∷ (number ∷ []) ∷ []) (at 0 ∷ at 1 ∷ [])
-only = record {
+only : (rest : List (List Column)) → IsSoundClass ((number ∷ []) ∷ (number ∷ []) ∷ rest) (at 0 ∷ at 1 ∷ [])
+only rest = record {
   several = omega arith;
   one_each = (λ other h. apart other h, (λ other h. absurd h, tt));
   same_kind = (IntKind, λ c h. kind c h);
@@ -26,27 +27,37 @@ only = record {
     apart other (inl e) k = omega (arith, ap (λ (c : ClassCol). c.input) e, k)
     apart other (inr e) k = absurd e
 
-    kind : (c : ClassCol) → In c (at 0 ∷ at 1 ∷ []) → IsOfKind ((number ∷ []) ∷ (number ∷ []) ∷ []) c IntKind
-    kind c (inl e) = subst (λ (d : ClassCol). IsOfKind ((number ∷ []) ∷ (number ∷ []) ∷ []) d IntKind) e (number ∷ [], number, refl, refl, refl)
-    kind c (inr (inl e)) = subst (λ (d : ClassCol). IsOfKind ((number ∷ []) ∷ (number ∷ []) ∷ []) d IntKind) e (number ∷ [], number, refl, refl, refl)
+    kind : (c : ClassCol) → In c (at 0 ∷ at 1 ∷ []) → IsOfKind ((number ∷ []) ∷ (number ∷ []) ∷ rest) c IntKind
+    kind c (inl e) = subst (λ (d : ClassCol). IsOfKind ((number ∷ []) ∷ (number ∷ []) ∷ rest) d IntKind) e (number ∷ [], number, refl, refl, refl)
+    kind c (inr (inl e)) = subst (λ (d : ClassCol). IsOfKind ((number ∷ []) ∷ (number ∷ []) ∷ rest) d IntKind) e (number ∷ [], number, refl, refl, refl)
     kind c (inr (inr e)) = absurd e
+
+only-class : (rest : List (List Column)) (class : List ClassCol) → In class ((at 0 ∷ at 1 ∷ []) ∷ []) → IsSoundClass ((number ∷ []) ∷ (number ∷ []) ∷ rest) class
+only-class rest class (inl e) = subst (λ (k : List ClassCol). IsSoundClass ((number ∷ []) ∷ (number ∷ []) ∷ rest) k) e (only rest)
+only-class rest class (inr e) = absurd e
 
 sound : IsSoundSpec equal
 sound = record {
   few_inputs = (omega arith, omega arith);
   few_classes = (omega arith, omega arith);
   few_columns = omega arith;
-  sound_classes = λ class h. classes class h;
+  sound_classes = λ class h. only-class [] class h;
   apart = (λ other h c k. absurd h, tt);
 }
-  where
-    classes : (class : List ClassCol) → In class ((at 0 ∷ at 1 ∷ []) ∷ []) → IsSoundClass ((number ∷ []) ∷ (number ∷ []) ∷ []) class
-    classes class (inl e) = subst (λ (k : List ClassCol). IsSoundClass ((number ∷ []) ∷ (number ∷ []) ∷ []) k) e only
-    classes class (inr e) = absurd e
+
+sound-three : IsSoundSpec equal_of_three
+sound-three = record {
+  few_inputs = (omega arith, omega arith);
+  few_classes = (omega arith, omega arith);
+  few_columns = omega arith;
+  sound_classes = λ class h. only-class ((number ∷ []) ∷ []) class h;
+  apart = (λ other h c k. absurd h, tt);
+}
 
 pub sample_small : IsSmallPlan sample
 sample_small = (
-  refl,
+  omega arith,
+  omega arith,
   record {
     there = λ k h. below k h;
     once = (refl, (refl, tt));
@@ -60,6 +71,42 @@ sample_small = (
     below k (inl e) = omega (arith, e)
     below k (inr (inl e)) = omega (arith, e)
     below k (inr (inr e)) = absurd e
+
+-- ---- the plan of three streams
+
+pub three_small : IsSmallPlan three
+three_small = (
+  omega arith,
+  omega arith,
+  record {
+    there = λ k h. below k h;
+    once = (refl, (refl, (refl, tt)));
+    all = refl;
+    columns = refl;
+    sound = sound-three;
+  },
+)
+  where
+    below : (k : ℕ) → In k (2 ∷ 0 ∷ 1 ∷ []) → k < 3
+    below k (inl e) = omega (arith, e)
+    below k (inr (inl e)) = omega (arith, e)
+    below k (inr (inr (inl e))) = omega (arith, e)
+    below k (inr (inr (inr e))) = absurd e
+
+fits-at-three : (s : ℕ) (z : ℤ) → s < 3 → row_fits (kinds_of (columns_of three.streams s)) (Int z ∷ []) ≡ true
+fits-at-three zero z lt = refl
+fits-at-three (suc zero) z lt = refl
+fits-at-three (suc (suc zero)) z lt = refl
+fits-at-three (suc (suc (suc n))) z lt = absurd (omega arith)
+
+-- a row of one number fits each of the streams
+pub fits_three : (p : SmallPlan) (s : ℕ) (z : ℤ) → p ≡ three → s < 3 → row_fits (kinds_of (columns_of p.streams s)) (Int z ∷ []) ≡ true
+fits_three p s z e lt = subst (λ (q : SmallPlan). row_fits (kinds_of (columns_of q.streams s)) (Int z ∷ []) ≡ true) (sym e) (fits-at-three s z lt)
+
+pub there_three : (p : SmallPlan) (s : ℕ) → p ≡ three → s < 3 → s < length p.streams
+there_three p s e lt = subst (λ (q : SmallPlan). s < length q.streams) (sym e) lt
+
+-- ---- what a refused turn leaves
 
 refused-plan : (t : Option Stop) (old new : CoreState) (turn : Turn) (stop : Stop) → IsTurnRefused t old new turn stop → new.plan ≡ old.plan
 refused-plan None old new turn stop r = r.plan

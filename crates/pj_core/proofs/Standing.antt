@@ -1,5 +1,5 @@
 -- Stops, drains and looks at a core of a small plan.
-use Rattle.std.proofs.Common.{ℕ, ◌+◌, Bool, false, List, [], ◌∷◌, ◌++◌, ◌≡◌, length, Option, Some, None, refl, sym, ap, ap₂, ◌∙◌, subst, inl, arith}
+use Rattle.std.proofs.Common.{ℕ, ◌+◌, Bool, false, List, [], ◌∷◌, ◌++◌, ◌≡◌, length, replicate, Option, Some, None, refl, sym, ap, ap₂, ◌∙◌, subst, inl, arith}
 use Rattle.std.proofs.lemmas.List.{append-nil}
 use Rattle.pj_shape.specs.declared.plans.SmallPlan.{SmallPlan}
 use Rattle.pj_shape.specs.declared.plans.SmallStream.{SmallStream}
@@ -10,26 +10,26 @@ use Rattle.pj_laws.specs.declared.events.Event.TheVariants.{Drain, Look, Stopped
 use Rattle.pj_laws.specs.declared.events.Look.{Look as TheLook}
 use Rattle.pj_laws.specs.declared.events.Out.{Out}
 use Rattle.pj_laws.specs.declared.events.Stop.{Stop}
-use Rattle.pj_laws.specs.Join.{start}
-use Rattle.pj_laws.specs.KeptState.{kept_of}
+use Rattle.pj_laws.specs.Join.{JoinState, start}
+use Rattle.pj_laws.specs.KeptState.{KeptState, kept_of}
 use Rattle.pj_laws.specs.Plan.{Node}
-use Rattle.pj_laws.specs.History.{Reached, reached_of, next, nodes_from, gained, pending_in, undrained_after, halted_after, stop_after, IsEntryAllowed, IsLegal}
+use Rattle.pj_laws.specs.History.{Reached, reached_of, next, nodes_from, gained, pending_in, state_in, undrained_after, halted_after, stop_after, IsEntryAllowed, IsLegal}
 use Rattle.pj_laws.specs.Outcomes.{peak_of}
 use Rattle.pj_laws.specs.OneThread.{plain}
-use Rattle.pj_laws.specs.CoreKept.{nodes_of}
-use Rattle.pj_join.specs.Joins.{unswept}
+use Rattle.pj_laws.specs.CoreKept.{NothingKept, JoinKept, nodes_of, IsJoinOf}
+use Rattle.pj_laws.specs.HistoryLaws.{joined_plan}
+use Rattle.pj_laws.proofs.SmallKept.{keeps-join}
 use Rattle.pj_core.specs.declared.joined.Joined.{Joined}
 use Rattle.pj_core.specs.Known.{AreKnown}
 use Rattle.pj_core.specs.Cores.{CoreState, JoinPart, StandsFor, Notes, nodes_in, nodes_after}
 use Rattle.pj_core.specs.Calls.{IsFresh, IsLookAt, ended_of, IsPeak, StaysStopped, StopsNow, Tells, opened_in, stored_in, waiting_in, join_node}
 use Rattle.pj_core.specs.Parts.{IsMadeOf, core_of, join_in, part_in, pending_kept, opened_kept, stored_kept}
-use Rattle.pj_core.proofs.Entering.{core_two, nodes_two, form-of, peak-is}
-use Rattle.pj_core.proofs.Moves.{gains-drain, gains-idle, gains-look, gains-stopped}
-use Rattle.pj_core.proofs.Entries as two
+use Rattle.pj_core.proofs.Form.{moves-of, at-start}
+use Rattle.pj_core.proofs.Entering.{plan_joined, peak-is}
+use Rattle.pj_core.proofs.Entries as entries
 use Rattle.pj_core.proofs.Alone as alone
-use Rattle.pj_core.proofs.Alone.{core_one, nodes_one, alone-of}
+use Rattle.pj_core.proofs.Alone.{nodes_one, alone-of}
 use Rattle.pj_core.proofs.Arriving.{small, part}
-use Rattle.pj_core.proofs.Shapes.{IsTwo, two-of}
 
 -- ---- what hands out nothing
 
@@ -49,24 +49,17 @@ quiet-one sa history l =
       stopped = λ s. ap (λ (ns : List Node). gained false ns (Stopped s)) f.is;
     }
 
-quiet-two : (streams : List SmallStream) (j : SmallJoin) (history : List Entry) → IsTwo streams j → IsLegal (nodes_of (record { streams = streams; join = Some j })) history
-    → IsQuiet (record { streams = streams; join = Some j }) history
-quiet-two streams j history i =
-    subst (λ (ss : List SmallStream). IsLegal (nodes_of (record { streams = ss; join = Some j })) history → IsQuiet (record { streams = ss; join = Some j }) history) (sym i.are)
-    (λ l. let f = form-of i.sa i.sb j i.order i.ins i.wide history l in
-    record {
-      idle = ap (λ (ns : List Node). gained false ns Idle) f.is ∙ gains-idle i.sa.schema i.sb.schema (unswept j.spec) i.order f.x f.y _;
-      drain = ap (λ (ns : List Node). gained false ns Drain) f.is ∙ gains-drain i.sa.schema i.sb.schema (unswept j.spec) i.order f.x f.y _;
-      look = λ n. ap (λ (ns : List Node). gained false ns (Look n)) f.is ∙ gains-look i.sa.schema i.sb.schema (unswept j.spec) i.order f.x f.y _ n;
-      stopped = λ s. ap (λ (ns : List Node). gained false ns (Stopped s)) f.is ∙ gains-stopped i.sa.schema i.sb.schema (unswept j.spec) i.order f.x f.y _ s;
-    })
+quiet-joined : (streams : List SmallStream) (j : SmallJoin) → IsJoinOf streams j → (history : List Entry) → IsLegal (joined_plan streams j) history → IsQuiet (plan_joined streams j) history
+quiet-joined streams j is history l =
+    let m = moves-of streams j is history l in
+    record { idle = m.quiet Idle refl; drain = m.quiet Drain refl; look = λ n. m.quiet (Look n) refl; stopped = λ s. m.quiet (Stopped s) refl }
 
 pub quiet : (streams : List SmallStream) (l : ℕ) (joined : Option Joined) → IsMadeOf streams l joined → (history : List Entry)
     → IsLegal (nodes_of (record { streams = streams; join = join_in joined })) history → IsQuiet (record { streams = streams; join = join_in joined }) history
 quiet [] l None made history h = absurd (let z = made.0 in omega (arith, z))
 quiet (sa ∷ []) l None made history h = quiet-one sa history h
 quiet (sa ∷ sb ∷ rest) l None made history h = absurd (let z = made.0 in omega (arith, z))
-quiet streams l (Some j) made history h = quiet-two streams (small j) history (two-of streams (small j) made.0) h
+quiet streams l (Some j) made history h = quiet-joined streams (small j) made.0.2 history h
 
 -- ---- behind a stop
 
@@ -147,17 +140,11 @@ stays-stopped k streams l joined c u s made = record {
 abbrev Drains : List SmallStream → ℕ → Option Joined → List ℕ → List Out → Option Stop → List Entry → Type 0
 Drains streams l joined c u t history = StandsFor (core_of streams l joined c u t) history → StandsFor (core_of streams l joined c [] t) (history ++ plain Drain ∷ [])
 
-drains-two : (k : AreKnown) (streams : List SmallStream) (l : ℕ) (j : Joined) (c : List ℕ) (u : List Out) (history : List Entry) → IsTwo streams (small j) → Drains streams l (Some j) c u None history
-drains-two k streams l j c u history i =
-    subst (λ (ss : List SmallStream). Drains ss l (Some j) c u None history) (sym i.are)
-    (λ S. two.drains i.sa i.sb (small j) i.order i.ins i.wide l (part j) c u history S (k.adds (nodes_two i.sa i.sb (small j)) history) (k.grows (nodes_two i.sa i.sb (small j)))
-    ((k.trace (nodes_two i.sa i.sb (small j)) history).nodes false) (k.stands (unswept j.join.spec.shape) (let b = i.wide.both in omega (arith, b))))
-
 drains-on : (k : AreKnown) (streams : List SmallStream) (l : ℕ) (joined : Option Joined) (c : List ℕ) (u : List Out) → IsMadeOf streams l joined → (history : List Entry) → Drains streams l joined c u None history
 drains-on k [] l None c u made history S = absurd (let z = made.0 in omega (arith, z))
 drains-on k (sa ∷ []) l None c u made history S = alone.drains sa l c u history S (k.adds (nodes_one sa) history) (k.grows (nodes_one sa)) ((k.trace (nodes_one sa) history).nodes false)
 drains-on k (sa ∷ sb ∷ rest) l None c u made history S = absurd (let z = made.0 in omega (arith, z))
-drains-on k streams l (Some j) c u made history S = drains-two k streams l j c u history (two-of streams (small j) made.0) S
+drains-on k streams l (Some j) c u made history S = entries.drains k streams (small j) made.0.2 l (part j) c u history S
 
 drains : (k : AreKnown) (streams : List SmallStream) (l : ℕ) (joined : Option Joined) (c : List ℕ) (u : List Out) (t : Option Stop) → IsMadeOf streams l joined → (history : List Entry) → Drains streams l joined c u t history
 drains k streams l joined c u None made history S = drains-on k streams l joined c u made history S
@@ -178,24 +165,6 @@ record Seen (streams : List SmallStream) (l : ℕ) (joined : Option Joined) (c :
   waiting : waiting_in (nodes_after (core_of streams l joined c u None) history) ≡ 0
   looks : StandsFor (core_of streams l joined c u None) (history ++ plain (Look (pending_kept (part_in joined))) ∷ [])
 
-seen-two : (k : AreKnown) (streams : List SmallStream) (l : ℕ) (j : Joined) (c : List ℕ) (u : List Out) (history : List Entry) → IsTwo streams (small j)
-    → StandsFor (core_of streams l (Some j) c u None) history → Seen streams l (Some j) c u history
-seen-two k streams l j c u history i =
-    subst (λ (ss : List SmallStream). StandsFor (core_of ss l (Some j) c u None) history → Seen ss l (Some j) c u history) (sym i.are)
-    (λ S.
-    let p = nodes_two i.sa i.sb (small j) in
-    let a = k.adds p history in
-    let g = k.grows p in
-    let s = (k.trace p history).nodes false in
-    let st = k.stands (unswept j.join.spec.shape) (let b = i.wide.both in omega (arith, b)) in
-    record {
-      pending = two.pending-told i.sa i.sb (small j) i.order i.ins i.wide l (part j) c u history S a g s st;
-      opened = two.opened-told i.sa i.sb (small j) i.order i.ins i.wide l (part j) c u history S a g s st;
-      stored = two.stored-told i.sa i.sb (small j) i.order i.ins i.wide l (part j) c u history S a g s st;
-      waiting = two.waiting-told i.sa i.sb (small j) i.order i.ins i.wide l (part j) c u history S a g s st;
-      looks = two.looks i.sa i.sb (small j) i.order i.ins i.wide l (part j) c u history S a g s st;
-    })
-
 seen : (k : AreKnown) (streams : List SmallStream) (l : ℕ) (joined : Option Joined) (c : List ℕ) (u : List Out) → IsMadeOf streams l joined → (history : List Entry)
     → StandsFor (core_of streams l joined c u None) history → Seen streams l joined c u history
 seen k [] l None c u made history S = absurd (let z = made.0 in omega (arith, z))
@@ -211,7 +180,13 @@ seen k (sa ∷ []) l None c u made history S =
       looks = alone.looks sa l c u history S a g s;
     }
 seen k (sa ∷ sb ∷ rest) l None c u made history S = absurd (let z = made.0 in omega (arith, z))
-seen k streams l (Some j) c u made history S = seen-two k streams l j c u history (two-of streams (small j) made.0) S
+seen k streams l (Some j) c u made history S = record {
+  pending = entries.pending-told k streams (small j) made.0.2 l (part j) c u history S;
+  opened = entries.opened-told k streams (small j) made.0.2 l (part j) c u history S;
+  stored = entries.stored-told k streams (small j) made.0.2 l (part j) c u history S;
+  waiting = entries.waiting-told k streams (small j) made.0.2 l (part j) c u history S;
+  looks = entries.looks k streams (small j) made.0.2 l (part j) c u history S;
+}
 
 -- nothing is handed out and nothing changes at a look
 looks : (k : AreKnown) (streams : List SmallStream) (l : ℕ) (joined : Option Joined) (c : List ℕ) (u : List Out) (t : Option Stop) → IsMadeOf streams l joined → (history : List Entry)
@@ -263,26 +238,33 @@ is-look k streams l joined c u t look made n = record {
   };
 }
 
-peak-two : (streams : List SmallStream) (l : ℕ) (j : Joined) (c : List ℕ) (u : List Out) (history : List Entry) → IsTwo streams (small j)
-    → StandsFor (core_of streams l (Some j) c u None) history → j.peak ≡ peak_of (nodes_in (core_of streams l (Some j) c u None)) history 2
-peak-two streams l j c u history i =
-    subst (λ (ss : List SmallStream). StandsFor (core_of ss l (Some j) c u None) history → j.peak ≡ peak_of (nodes_in (core_of ss l (Some j) c u None)) history 2) (sym i.are)
-    (λ S. peak-is i.sa i.sb (small j) i.order i.ins i.wide l (part j) c u history S)
-
 pub is-peak : (streams : List SmallStream) (l : ℕ) (j : Joined) (c : List ℕ) (u : List Out) (t : Option Stop) (join : ℕ) → IsMadeOf streams l (Some j)
     → join ≡ join_node (core_of streams l (Some j) c u t) → IsPeak (core_of streams l (Some j) c u t) join j.peak
 is-peak streams l j c u (Some s) join made e on history S = cc
 is-peak streams l j c u None join made e on history S =
-    peak-two streams l j c u history (two-of streams (small j) made.0) S
-    ∙ ap (peak_of (nodes_in (core_of streams l (Some j) c u None)) history) (sym (e ∙ made.0.0))
+    peak-is streams (small j) made.0.2 l (part j) c u history S
+    ∙ ap (peak_of (nodes_in (core_of streams l (Some j) c u None)) history) (sym e)
 
 -- ---- a new core
 
-fresh-two : (streams : List SmallStream) (l : ℕ) (j : Joined) → IsTwo streams (small j) → part j ≡ record { kept = kept_of start; peak = 0 } → StandsFor (core_of streams l (Some j) [] [] None) []
-fresh-two streams l j i p =
-    subst (λ (ss : List SmallStream). StandsFor (core_of ss l (Some j) [] [] None) []) (sym i.are)
-    (subst (λ (z : JoinPart). StandsFor (core_two i.sa i.sb (small j) l z [] [] None) []) (sym p)
-    (record { legal = tt; stands = ((λ _. refl), refl, refl, refl) }))
+fresh-joined : (streams : List SmallStream) (l : ℕ) (j : Joined) → IsJoinOf streams (small j) → part j ≡ record { kept = kept_of start; peak = 0 } → StandsFor (core_of streams l (Some j) [] [] None) []
+fresh-joined streams l j is p =
+    let keeps = keeps-join streams (small j) is [] false in
+    let begins = ap state_in (at-start streams (small j) is) in
+    let kept = ap (λ (z : JoinPart). z.kept) p ∙ ap kept_of (sym begins) in
+    let peak = ap (λ (z : JoinPart). z.peak) p ∙ ap (λ (s : JoinState). length s.stored) (sym begins) in
+    let nodes = ap (λ (q : KeptState). replicate (length streams) NothingKept ++ JoinKept q ∷ []) kept ∙ sym keeps.nodes in
+    let counts = ap (λ (q : KeptState). replicate (length streams) 0 ++ q.next ∷ []) kept ∙ sym keeps.counts in
+    let peaks = ap (λ (n : ℕ). replicate (length streams) 0 ++ n ∷ []) peak ∙ sym keeps.peaks in
+    record {
+      legal = tt;
+      stands = (
+        (λ _ i. record { nodes = nodes i; counts = counts i; peaks = peaks i; closed = []; undrained = []; halted = false; stop = None }),
+        refl,
+        refl,
+        refl,
+      );
+    }
 
 pub fresh : (streams : List SmallStream) (l : ℕ) (joined : Option Joined) → IsMadeOf streams l joined
     → ((j : Joined) → joined ≡ Some j → part j ≡ record { kept = kept_of start; peak = 0 })
@@ -290,4 +272,4 @@ pub fresh : (streams : List SmallStream) (l : ℕ) (joined : Option Joined) → 
 fresh [] l None made p = absurd (let z = made.0 in omega (arith, z))
 fresh (sa ∷ []) l None made p = record { of_plan = refl; with_limit = refl; undrained = refl; on = refl; stands = record { legal = tt; stands = ((λ _. refl), refl, refl, refl) } }
 fresh (sa ∷ sb ∷ rest) l None made p = absurd (let z = made.0 in omega (arith, z))
-fresh streams l (Some j) made p = record { of_plan = refl; with_limit = refl; undrained = refl; on = refl; stands = fresh-two streams l j (two-of streams (small j) made.0) (p j refl) }
+fresh streams l (Some j) made p = record { of_plan = refl; with_limit = refl; undrained = refl; on = refl; stands = fresh-joined streams l j made.0.2 (p j refl) }

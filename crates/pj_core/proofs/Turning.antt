@@ -1,5 +1,5 @@
 -- Probes one after the other, and whole turns.
-use Rattle.std.proofs.Common.{ℕ, false, List, [], ◌∷◌, ◌++◌, ◌≡◌, length, Option, Some, None, sym, ap, ap₂, ◌∙◌, subst, append_assoc, arith}
+use Rattle.std.proofs.Common.{ℕ, false, List, [], ◌∷◌, ◌++◌, ◌≡◌, length, Option, Some, None, refl, sym, ap, ap₂, ◌∙◌, subst, append_assoc, arith}
 use Rattle.std.proofs.lemmas.List.{append-nil}
 use Rattle.pj_shape.specs.declared.plans.SmallPlan.{SmallPlan}
 use Rattle.pj_shape.specs.declared.plans.SmallStream.{SmallStream}
@@ -22,7 +22,7 @@ use Rattle.pj_join.specs.declared.found.Found.{Found}
 use Rattle.pj_core.specs.declared.joined.Joined.{Joined}
 use Rattle.pj_core.specs.Known.{AreKnown}
 use Rattle.pj_core.specs.Cores.{CoreState, Notes, StandsFor, nodes_after, nodes_in, pending_list}
-use Rattle.pj_core.specs.Calls.{FindsNone, HasArrived, HasGiven, IsCause, IsRefused, IsTurnRefused, StopsInTurn, StopsNow, TakesNext, MakesTurn, turn_behind}
+use Rattle.pj_core.specs.Calls.{HasArrived, HasGiven, IsCause, IsTurnRefused, StopsInTurn, StopsNow, TakesNext, MakesTurn, join_node, turn_behind}
 use Rattle.pj_core.specs.Parts.{IsMadeOf, core_of}
 use Rattle.pj_core.specs.Turns.{Finishes, StopsFinishing, finish_behind, ListsProbes, ProbesAll, ProbesOne, SoFar, StopsProbing}
 use Rattle.pj_core.proofs.Alone as alone
@@ -36,7 +36,7 @@ behind xs ys zs = append_assoc xs ys zs
 
 -- the probes that a core lists, while nothing stopped
 record Listed (core : CoreState) (history : List Entry) : Type 0 where
-  all : probes (nodes_after core history) ≡ probes_at 2 (pending_list core.joined)
+  all : probes (nodes_after core history) ≡ probes_at (join_node core) (pending_list core.joined)
   within : StaysWithin core.limit (nodes_in core) history (finish_behind core history)
 
 listed : (k : AreKnown) (streams : List SmallStream) (l : ℕ) (joined : Option Joined) (c : List ℕ) (u : List Out) → IsMadeOf streams l joined → (history : List Entry)
@@ -74,36 +74,31 @@ probed-one old mid new probe found same t g = record {
     ticket = probe.ticket;
     first = t.first history S ∙ ap (λ (ts : List ℕ). probe.ticket ∷ ts) (sym g.pending);
     stands =
-        subst (StandsFor new) (behind history (plain (Taken 2 probe.ticket) ∷ []) (plain (Given 2 probe.ticket) ∷ []))
+        subst (StandsFor new) (behind history (plain (Taken (join_node old) probe.ticket) ∷ []) (plain (Given (join_node old) probe.ticket) ∷ []))
         (subst (λ (n : ℕ). StandsFor new ((history ++ plain (Taken n probe.ticket) ∷ []) ++ plain (Given n probe.ticket) ∷ [])) t.node
         (g.stands (history ++ plain (Taken probe.join probe.ticket) ∷ []) (t.notes.stands history S) (ap (λ (z : Found). z.rows) same ∙ t.keeps history S)));
   };
 }
 
-pub none-probed : (old new : CoreState) → FindsNone old new → (new ≡ old) × (pending_list old.joined ≡ [])
-none-probed old new f = (f.stays, f.pending)
-
-refused-now : (t : Option Stop) (old new : CoreState) (stop : Stop) (cause : Type 0) → t ≡ None → IsRefused t old new stop cause → StopsNow old new stop × cause
-refused-now None old new stop cause e r = r
-refused-now (Some s) old new stop cause e r = cc
-
--- memory was wanting before it was given
-pub stops-between : (old mid new : CoreState) (probe : Found) (stop : Stop) → TakesNext old mid probe → StopsNow mid new stop → stop ≡ NoMemory → StopsProbing old new stop
-stops-between old mid new probe stop t s m = record {
-  plan = s.notes.plan ∙ t.notes.plan;
-  limit = s.notes.limit ∙ t.notes.limit;
+-- memory was wanting for the next
+pub stops-before : (old new : CoreState) (stop : Stop) → StopsNow old new stop → stop ≡ NoMemory → StopsProbing old new stop
+stops-before old new stop s m = record {
+  plan = s.notes.plan;
+  limit = s.notes.limit;
   stopped = s.stopped;
   memory = m;
   stops = λ history S. record {
-    front = plain (Taken 2 probe.ticket) ∷ [];
-    back = plain (Given 2 probe.ticket) ∷ probes_at 2 (pending_list mid.joined);
-    parts = ap (probes_at 2) (t.first history S);
-    stands = subst (λ (n : ℕ). StandsFor new ((history ++ plain (Taken n probe.ticket) ∷ []) ++ plain (Stopped stop) ∷ [])) t.node
-        (s.notes.stands (history ++ plain (Taken probe.join probe.ticket) ∷ []) (t.notes.stands history S));
+    front = [];
+    back = probes_at (join_node old) (pending_list old.joined);
+    parts = refl;
+    stands = subst (λ (es : List Entry). StandsFor new (es ++ plain (Stopped stop) ∷ [])) (sym (append-nil history)) (s.notes.stands history S);
   };
 }
 
 -- ---- all probes
+
+same-node : {old now : CoreState} → SoFar old now → join_node now ≡ join_node old
+same-node f = ap (λ (plan : SmallPlan). length plan.streams) f.plan
 
 pub so-far-more : (old now new : CoreState) → SoFar old now → ProbesOne now new → SoFar old new
 so-far-more old now new f p = record {
@@ -112,11 +107,12 @@ so-far-more old now new f p = record {
   on = p.on;
   goes = λ history S.
       let g = f.goes history S in
-      let q = p.probes (history ++ probes_at 2 g.tickets) g.stands in
+      let q = p.probes (history ++ probes_at (join_node old) g.tickets) g.stands in
       record {
         tickets = g.tickets ++ q.ticket ∷ [];
         parts = g.parts ∙ ap (λ (ts : List ℕ). g.tickets ++ ts) q.first ∙ sym (append_assoc g.tickets (q.ticket ∷ []) (pending_list new.joined));
-        stands = subst (StandsFor new) (behind history (probes_at 2 g.tickets) (probes_at 2 (q.ticket ∷ [])) ∙ ap (λ (es : List Entry). history ++ es) (sym (probes-append 2 g.tickets (q.ticket ∷ [])))) q.stands;
+        stands = subst (StandsFor new) (behind history (probes_at (join_node old) g.tickets) (probes_at (join_node old) (q.ticket ∷ [])) ∙ ap (λ (es : List Entry). history ++ es) (sym (probes-append (join_node old) g.tickets (q.ticket ∷ []))))
+            (subst (λ (n : ℕ). StandsFor new ((history ++ probes_at (join_node old) g.tickets) ++ probes_at n (q.ticket ∷ []))) (same-node f) q.stands);
       };
 }
 
@@ -129,7 +125,7 @@ all-probed old now new f p =
       stands = λ history S.
           let g = f.goes history S in
           let e : pending_list old.joined ≡ g.tickets = g.parts ∙ ap (λ (ts : List ℕ). g.tickets ++ ts) p.1 ∙ append-nil g.tickets in
-          subst (λ (ts : List ℕ). StandsFor now (history ++ probes_at 2 ts)) (sym e) g.stands;
+          subst (λ (ts : List ℕ). StandsFor now (history ++ probes_at (join_node old) ts)) (sym e) g.stands;
     })
 
 pub stops-later : (old now new : CoreState) (stop : Stop) → SoFar old now → StopsProbing now new stop → StopsProbing old new stop
@@ -140,12 +136,13 @@ stops-later old now new stop f s = record {
   memory = s.memory;
   stops = λ history S.
       let g = f.goes history S in
-      let a = s.stops (history ++ probes_at 2 g.tickets) g.stands in
+      let a = s.stops (history ++ probes_at (join_node old) g.tickets) g.stands in
       record {
-        front = probes_at 2 g.tickets ++ a.front;
+        front = probes_at (join_node old) g.tickets ++ a.front;
         back = a.back;
-        parts = ap (probes_at 2) g.parts ∙ probes-append 2 g.tickets (pending_list now.joined) ∙ ap (λ (es : List Entry). probes_at 2 g.tickets ++ es) a.parts ∙ sym (behind (probes_at 2 g.tickets) a.front a.back);
-        stands = subst (λ (es : List Entry). StandsFor new (es ++ plain (Stopped stop) ∷ [])) (behind history (probes_at 2 g.tickets) a.front) a.stands;
+        parts = ap (probes_at (join_node old)) g.parts ∙ probes-append (join_node old) g.tickets (pending_list now.joined)
+            ∙ ap (λ (es : List Entry). probes_at (join_node old) g.tickets ++ es) (ap (λ (n : ℕ). probes_at n (pending_list now.joined)) (sym (same-node f)) ∙ a.parts) ∙ sym (behind (probes_at (join_node old) g.tickets) a.front a.back);
+        stands = subst (λ (es : List Entry). StandsFor new (es ++ plain (Stopped stop) ∷ [])) (behind history (probes_at (join_node old) g.tickets) a.front) a.stands;
       };
 }
 
@@ -173,11 +170,11 @@ finishes old mid new outs ls on p o e n = record {
   within = ls.within on;
   stands = λ history S.
       subst (StandsFor new)
-      (behind history (probes_at 2 (pending_list old.joined)) (plain Drain ∷ []) ∙ ap (λ (es : List Entry). history ++ (es ++ plain Drain ∷ [])) (sym (ls.all on history S)))
-      (n.stands (history ++ probes_at 2 (pending_list old.joined)) (p.stands history S));
+      (behind history (probes_at (join_node old) (pending_list old.joined)) (plain Drain ∷ []) ∙ ap (λ (es : List Entry). history ++ (es ++ plain Drain ∷ [])) (sym (ls.all on history S)))
+      (n.stands (history ++ probes_at (join_node old) (pending_list old.joined)) (p.stands history S));
   hands = λ history S.
-      let ps = probes_at 2 (pending_list old.joined) in
-      o ∙ grown old mid history ps p.plan S (p.stands history S) (probes-no-drains 2 (pending_list old.joined))
+      let ps = probes_at (join_node old) (pending_list old.joined) in
+      o ∙ grown old mid history ps p.plan S (p.stands history S) (probes-no-drains (join_node old) (pending_list old.joined))
       ∙ ap (λ (outs : List Out). old.undrained ++ outs)
       (sym (append-nil (outputs_of false (nodes_after old history) ps))
       ∙ ap (λ (outs : List Out). outputs_of false (nodes_after old history) ps ++ outs) (sym (ap (λ (outs : List Out). outs ++ []) (drain-silent false (nodes_from (nodes_after old history) ps))))
@@ -196,7 +193,7 @@ stops-finishing old new stop ls on s = record {
       let nodes = nodes_after old history in
       let parts : finish_behind old history ≡ a.front ++ (a.back ++ plain Drain ∷ []) =
       ap (λ (es : List Entry). es ++ plain Drain ∷ []) (ls.all on history S ∙ a.parts) ∙ behind a.front a.back (plain Drain ∷ []) in
-      let quiet = front-no-drains a.front a.back (subst AreNoDrains a.parts (probes-no-drains 2 (pending_list old.joined))) in
+      let quiet = front-no-drains a.front a.back (subst AreNoDrains a.parts (probes-no-drains (join_node old) (pending_list old.joined))) in
       record {
         front = a.front;
         back = a.back ++ plain Drain ∷ [];

@@ -45,7 +45,7 @@ module _ (k : AreKnown) (streams : List SmallStream) (l : ℕ) (joined : Option 
   stopped-now e s =
       subst (λ (o : CoreState). StopsNow o (core_of streams l joined c u (Some s)) s) (ap (core_of streams l joined c u) (sym e) ∙ v) (stops-now k streams l joined joined c c u s made refl)
 
-  pub cause-is : t ≡ None → (stream : ℕ) → stream < length streams → (e : Element) (stop : Stop) → IsStopOf joined stop → IsCause old (Arrive stream e) stop
+  pub cause-is : t ≡ None → (stream : ℕ) → stream < length streams → (e : Element) (stop : Stop) → IsStopOf (length streams) joined stop → IsCause old (Arrive stream e) stop
   cause-is n stream lt e stop s =
       subst (λ (o : CoreState). IsCause o (Arrive stream e) stop) (ap (core_of streams l joined c u) (sym n) ∙ v) (is-cause k streams l joined c u made stream lt e stop s)
 
@@ -74,7 +74,7 @@ module _ (k : AreKnown) (streams : List SmallStream) (l : ℕ) (joined : Option 
       subst (λ (z : List SmallStream). FitsAny joined stream (wilds z stream)) (sym e)
       (fits-any streams l joined made stream lt (wilds streams stream) (wilds-fit (columns_of streams stream)))
 
-  pub closing-cause : t ≡ None → (stream : ℕ) → stream < length streams → (stop : Stop) → IsStopOf joined stop → IsCause old (Arrive stream (wilds old.plan.streams stream)) stop
+  pub closing-cause : t ≡ None → (stream : ℕ) → stream < length streams → (stop : Stop) → IsStopOf (length streams) joined stop → IsCause old (Arrive stream (wilds old.plan.streams stream)) stop
   closing-cause n stream lt stop s =
       subst (λ (ss : List SmallStream). IsCause old (Arrive stream (wilds ss stream)) stop) (ap (λ (o : CoreState). o.plan.streams) v) (cause-is n stream lt (wilds streams stream) stop s)
 
@@ -122,11 +122,12 @@ module _ (k : AreKnown) (streams : List SmallStream) (l : ℕ) (joined : Option 
   pub looked : (look : TheLook) → HasNumbers streams joined c u t look → IsLookAt old look
   looked look n = subst (λ (o : CoreState). IsLookAt o look) v (is-look k streams l joined c u t look made n)
 
-  pub peaked : (join peak : ℕ) → IsJoinNode old join → peak ≡ peak_kept (part_in joined) → IsPeak old join peak
-  peaked join peak n p =
-      subst (λ (o : CoreState). IsPeak o join peak) v
-      (subst (IsPeak (core_of streams l joined c u t) join) (sym p) (go joined made (subst (λ (o : CoreState). IsJoinNode o join) (sym v) n)))
-    where
-      go : (z : Option Joined) → IsMadeOf streams l z → IsJoinNode (core_of streams l z c u t) join → IsPeak (core_of streams l z c u t) join (peak_kept (part_in z))
-      go None m i = absurd i
-      go (Some j) m i = is-peak streams l j c u t join m i
+pub peaked : (streams : List SmallStream) (l : ℕ) (joined : Option Joined) (c : List ℕ) (u : List Out) (t : Option Stop) (old : CoreState) → core_of streams l joined c u t ≡ old → IsMadeOf streams l joined
+    → (join peak : ℕ) → IsJoinNode old join → peak ≡ peak_kept (part_in joined) → IsPeak old join peak
+peaked streams l joined c u t old v made join peak n p =
+    subst (λ (o : CoreState). IsPeak o join peak) v
+    (subst (IsPeak (core_of streams l joined c u t) join) (sym p) (go joined made (subst (λ (o : CoreState). IsJoinNode o join) (sym v) n)))
+  where
+    go : (z : Option Joined) → IsMadeOf streams l z → IsJoinNode (core_of streams l z c u t) join → IsPeak (core_of streams l z c u t) join (peak_kept (part_in z))
+    go None m i = absurd i
+    go (Some j) m i = is-peak streams l j c u t join m i

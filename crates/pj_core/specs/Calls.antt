@@ -99,7 +99,7 @@ pub record TakesNext (old new : CoreState) (probe : Found) : Type 0 where
   pub finds : (history : List Entry) → StandsFor old history → probe.rows ≡ results_of (nodes_in old) history probe.join probe.ticket
   pub keeps : (history : List Entry) → StandsFor old history
       → probe.rows ≡ results_of (nodes_in new) (history ++ plain (Taken probe.join probe.ticket) ∷ []) probe.join probe.ticket
-  pub node : probe.join ≡ 2
+  pub node : probe.join ≡ join_node old
   pub opens : IsOpen new probe
   pub notes : Notes old new (plain (Taken probe.join probe.ticket))
   pub on : new.stop ≡ None

@@ -1,5 +1,5 @@
 -- What contracts see of a core, and the histories that it stands for.
-use Rattle.std.specs.Prelude.{ℕ, ◌≡◌, false, List, [], ◌∷◌, ◌++◌, Option, Some, None}
+use Rattle.std.specs.Prelude.{ℕ, ◌≡◌, false, List, [], ◌∷◌, ◌++◌, length, replicate, Option, Some, None}
 use Rattle.pj_shape.specs.declared.plans.SmallPlan.{SmallPlan}
 use Rattle.pj_laws.specs.KeptState.{KeptState}
 use Rattle.pj_laws.specs.Plan.{Node}
@@ -28,25 +28,25 @@ pub record CoreState : Type 0 where
 abbrev pub nodes_in : CoreState → List Node
 nodes_in core = nodes_of core.plan
 
--- one stream, or two streams and a join: a stream keeps nothing, and no element reaches it from another node
+-- what is kept of the join, the number of elements that reached it, and its peak; none where there is no join
 abbrev pub operators_kept : Option JoinPart → List KeptOperator
-operators_kept None = NothingKept ∷ []
-operators_kept (Some part) = NothingKept ∷ NothingKept ∷ JoinKept part.kept ∷ []
+operators_kept None = []
+operators_kept (Some part) = JoinKept part.kept ∷ []
 
 abbrev pub counts_kept : Option JoinPart → List ℕ
-counts_kept None = 0 ∷ []
-counts_kept (Some part) = 0 ∷ 0 ∷ part.kept.next ∷ []
+counts_kept None = []
+counts_kept (Some part) = part.kept.next ∷ []
 
 abbrev pub peaks_kept : Option JoinPart → List ℕ
-peaks_kept None = 0 ∷ []
-peaks_kept (Some part) = 0 ∷ 0 ∷ part.peak ∷ []
+peaks_kept None = []
+peaks_kept (Some part) = part.peak ∷ []
 
--- all that a core keeps
+-- all that a core keeps: a stream keeps nothing, and no element reaches it from another node
 abbrev pub all_kept : CoreState → CoreKept
 all_kept core = record {
-  nodes = operators_kept core.joined;
-  counts = counts_kept core.joined;
-  peaks = peaks_kept core.joined;
+  nodes = replicate (length core.plan.streams) NothingKept ++ operators_kept core.joined;
+  counts = replicate (length core.plan.streams) 0 ++ counts_kept core.joined;
+  peaks = replicate (length core.plan.streams) 0 ++ peaks_kept core.joined;
   closed = core.closed;
   undrained = core.undrained;
   halted = false;

@@ -1,5 +1,5 @@
 -- What the parts of a core are seen as, and what an arrival makes of them.
-use Rattle.std.specs.Prelude.{ℕ, ◌<◌, ◌≤◌, ◌≡◌, ◌≢◌, true, List, [], ◌∷◌, ◌++◌, map, length, max, Option, Some, None}
+use Rattle.std.specs.Prelude.{ℕ, ◌<◌, ◌≤◌, ◌≡◌, ◌≢◌, Bool, true, false, List, [], ◌∷◌, ◌++◌, map, length, max, Option, Some, None}
 use Rattle.pj_shape.specs.declared.plans.SmallJoin.{SmallJoin}
 use Rattle.pj_shape.specs.declared.plans.SmallStream.{SmallStream}
 use Rattle.pj_pattern.specs.declared.element.Element.{Element}
@@ -32,15 +32,15 @@ abbrev pub part_in : Option Joined → Option JoinPart
 part_in None = None
 part_in (Some joined) = Some (record { kept = joined.join.kept; peak = joined.peak })
 
--- the join stands behind two streams, has this limit, is never swept and hands up rows alone
-abbrev pub IsJoinedTo : ℕ → Option Joined → Type 0
-IsJoinedTo limit None = Unit {0}
-IsJoinedTo limit (Some joined) =
-    (joined.node ≡ 2) × (joined.join.node ≡ 2) × (joined.join.limit ≡ limit) × (joined.join.spec ≡ unswept joined.join.spec.shape)
+-- the join stands behind so many streams, has this limit, is never swept and hands up rows alone
+abbrev pub IsJoinedTo : ℕ → ℕ → Option Joined → Type 0
+IsJoinedTo streams limit None = Unit {0}
+IsJoinedTo streams limit (Some joined) =
+    (joined.node ≡ streams) × (joined.join.node ≡ streams) × (joined.join.limit ≡ limit) × (joined.join.spec ≡ unswept joined.join.spec.shape)
 
 -- the streams and the join are those of a small plan
 abbrev pub IsMadeOf : List SmallStream → ℕ → Option Joined → Type 0
-IsMadeOf streams limit joined = IsPlanOf streams (join_in joined) × IsJoinedTo limit joined
+IsMadeOf streams limit joined = IsPlanOf streams (join_in joined) × IsJoinedTo (length streams) limit joined
 
 -- ---- what is kept, in numbers
 
@@ -60,19 +60,19 @@ abbrev pub peak_kept : Option JoinPart → ℕ
 peak_kept None = 0
 peak_kept (Some part) = part.peak
 
--- a new join of this limit
-abbrev pub fresh_joined : ℕ → SmallJoin → Joined
-fresh_joined limit join = record {
-  node = 2;
+-- a new join behind so many streams, of this limit
+abbrev pub fresh_joined : ℕ → ℕ → SmallJoin → Joined
+fresh_joined streams limit join = record {
+  node = streams;
   name = join.name;
   inputs = join.inputs;
-  join = record { node = 2; spec = unswept join.spec; limit = limit; kept = kept_of start };
+  join = record { node = streams; spec = unswept join.spec; limit = limit; kept = kept_of start };
   peak = 0;
 }
 
-abbrev pub any_fresh : ℕ → Option SmallJoin → Option Joined
-any_fresh limit None = None
-any_fresh limit (Some join) = Some (fresh_joined limit join)
+abbrev pub any_fresh : ℕ → ℕ → Option SmallJoin → Option Joined
+any_fresh streams limit None = None
+any_fresh streams limit (Some join) = Some (fresh_joined streams limit join)
 
 -- the join of the plan is sound
 abbrev pub IsSoundAny : Option SmallJoin → Type 0
@@ -139,15 +139,15 @@ abbrev pub IsFull : Option Joined → Type 0
 IsFull None = ⊥
 IsFull (Some joined) = joined.join.kept.next ≡ joined.join.limit
 
--- a join stops at its own node, and only where it is full
-abbrev pub IsStopOf : Option Joined → Stop → Type 0
-IsStopOf joined (Limit node) = (node ≡ 2) × IsFull joined
-IsStopOf joined NoMemory = Unit {0}
+-- a join behind so many streams stops at its own node, and only where it is full
+abbrev pub IsStopOf : ℕ → Option Joined → Stop → Type 0
+IsStopOf streams joined (Limit node) = (node ≡ streams) × IsFull joined
+IsStopOf streams joined NoMemory = Unit {0}
 
--- what a core answers where its join takes no more
-abbrev pub join_stop : JoinStop → Stop
-join_stop JoinFull = Limit 2
-join_stop JoinWants = NoMemory
+-- what a core of so many streams answers where its join takes no more
+abbrev pub join_stop : ℕ → JoinStop → Stop
+join_stop streams JoinFull = Limit streams
+join_stop streams JoinWants = NoMemory
 
 -- ---- probes
 
@@ -175,6 +175,23 @@ TakesAny (Some joined) new (Some found) = TakesOf joined new found
 abbrev pub given : Option Joined → ℕ → Option Joined
 given None ticket = None
 given (Some joined) ticket = Some (record joined { join = after joined.join (Give ticket) })
+
+-- the join behind the take of a ticket
+abbrev pub taken : Joined → ℕ → Joined
+taken joined ticket = record joined { join = after joined.join (Take ticket) }
+
+-- the join has taken its least pending ticket, and given it, and what its work finds is handed out
+pub record ProbesOf (joined : Joined) (new : Option Joined) (before behind : List Out) : Type 0 where
+  pub found : Found
+  pub takes : TakesOf joined (Some (taken joined found.ticket)) found
+  pub gives : new ≡ given (Some (taken joined found.ticket)) found.ticket
+  pub hands : behind ≡ before ++ map Out.Tuple found.rows
+
+-- one probe was done where one is pending
+abbrev pub ProbesAny : Bool → Option Joined → Option Joined → List Out → List Out → Type 0
+ProbesAny false joined new before behind = (new ≡ joined) × (behind ≡ before) × (pending_kept (part_in joined) ≡ 0)
+ProbesAny true None new before behind = ⊥
+ProbesAny true (Some joined) new before behind = ProbesOf joined new before behind
 
 -- the ticket is taken and not given
 abbrev pub IsTakenOf : Option Joined → ℕ → Type 0

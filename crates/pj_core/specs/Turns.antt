@@ -9,6 +9,7 @@ use Rattle.pj_laws.specs.Outcomes.{outputs_of}
 use Rattle.pj_laws.specs.Limits.{StaysWithin}
 use Rattle.pj_laws.specs.OneThread.{plain, probes, probes_at}
 use Rattle.pj_core.specs.Cores.{CoreState, StandsFor, nodes_after, nodes_in, pending_list}
+use Rattle.pj_core.specs.Calls.{join_node}
 
 -- all probes that the history asks for, and a drain
 abbrev pub finish_behind : CoreState → List Entry → List Entry
@@ -16,14 +17,14 @@ finish_behind core history = probes (nodes_after core history) ++ plain Drain �
 
 -- the probes of the pending tickets are all that the history asks for, and bring nothing beyond the limit
 pub record ListsProbes (core : CoreState) : Type 0 where
-  pub all : core.stop ≡ None → (history : List Entry) → StandsFor core history → probes (nodes_after core history) ≡ probes_at 2 (pending_list core.joined)
+  pub all : core.stop ≡ None → (history : List Entry) → StandsFor core history → probes (nodes_after core history) ≡ probes_at (join_node core) (pending_list core.joined)
   pub within : core.stop ≡ None → (history : List Entry) → StandsFor core history → StaysWithin core.limit (nodes_in core) history (finish_behind core history)
 
 -- the first pending ticket was taken and given
 pub record ProbesFirst (old new : CoreState) (history : List Entry) : Type 0 where
   pub ticket : ℕ
   pub first : pending_list old.joined ≡ ticket ∷ pending_list new.joined
-  pub stands : StandsFor new (history ++ probes_at 2 (ticket ∷ []))
+  pub stands : StandsFor new (history ++ probes_at (join_node old) (ticket ∷ []))
 
 pub record ProbesOne (old new : CoreState) : Type 0 where
   pub plan : new.plan ≡ old.plan
@@ -42,13 +43,13 @@ pub record ProbesAll (old new : CoreState) : Type 0 where
   pub plan : new.plan ≡ old.plan
   pub limit : new.limit ≡ old.limit
   pub on : new.stop ≡ None
-  pub stands : (history : List Entry) → StandsFor old history → StandsFor new (history ++ probes_at 2 (pending_list old.joined))
+  pub stands : (history : List Entry) → StandsFor old history → StandsFor new (history ++ probes_at (join_node old) (pending_list old.joined))
 
 -- a front of these tickets was taken and given
 pub record GoesTo (old now : CoreState) (history : List Entry) : Type 0 where
   pub tickets : List ℕ
   pub parts : pending_list old.joined ≡ tickets ++ pending_list now.joined
-  pub stands : StandsFor now (history ++ probes_at 2 tickets)
+  pub stands : StandsFor now (history ++ probes_at (join_node old) tickets)
 
 pub record SoFar (old now : CoreState) : Type 0 where
   pub plan : now.plan ≡ old.plan
@@ -60,7 +61,7 @@ pub record SoFar (old now : CoreState) : Type 0 where
 pub record StopsAmong (old new : CoreState) (history : List Entry) (stop : Stop) : Type 0 where
   pub front : List Entry
   pub back : List Entry
-  pub parts : probes_at 2 (pending_list old.joined) ≡ front ++ back
+  pub parts : probes_at (join_node old) (pending_list old.joined) ≡ front ++ back
   pub stands : StandsFor new (history ++ front ++ plain (Stopped stop) ∷ [])
 
 pub record StopsProbing (old new : CoreState) (stop : Stop) : Type 0 where

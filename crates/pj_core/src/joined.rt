@@ -1,6 +1,6 @@
 // The join of a core, with its place among the streams and its peak.
 ghost use Rattle.std.specs.Prelude.{◌≡◌, ◌↔◌, ◌≤◌, ◌^◌, ◌+◌, IfOk, OnOk, OnErr, IsErrOf, length};
-ghost use Rattle.pj_core.specs.Parts.{FitsAny, FitsInput, HasRoom, IsFull, IsSoundAny, IsTakenOf, TakesAny, any_entered, any_fresh, entered, given, input_named, join_in, opened_kept, outs_after, part_in, peak_kept, pending_kept, stored_kept};
+ghost use Rattle.pj_core.specs.Parts.{FitsAny, FitsInput, HasRoom, IsFull, IsSoundAny, IsTakenOf, ProbesAny, TakesAny, any_entered, any_fresh, entered, given, input_named, join_in, opened_kept, outs_after, part_in, peak_kept, pending_kept, stored_kept};
 
 use crate::handed::hand_out;
 use pj_join::{Join, JoinStop, Probe};
@@ -9,9 +9,6 @@ use pj_pattern::Element;
 use pj_shape::SmallJoin;
 use pj_value::{Bytes, List, NoMemory};
 use std::alloc::Global;
-
-/// The number of the join among the nodes: it stands behind two streams.
-pub const JOIN: u32 = 2;
 
 /// A join, its number among the nodes, its name, the streams that its inputs name, and the greatest number of tuples
 /// that was stored in it.
@@ -50,23 +47,24 @@ impl Joined {
     }
 }
 
-/// The join of a plan, with nothing in it, where the plan has one.
+/// The join of a plan of so many streams, with nothing in it, where the plan has one: it is the node behind them.
 pub fn new_joined(
     alloc: Global,
+    streams: u32,
     join: Option<SmallJoin>,
     limit: u64,
 ) -> Result<Option<Joined>, NoMemory>
     requires sound { IsSoundAny join }
     requires limit { (1 ≤ limit) × (limit ≤ 2 ^ 40) }
-    ensures { IfOk result (λ joined. joined ≡ any_fresh limit join) }
+    ensures { IfOk result (λ joined. joined ≡ any_fresh streams limit join) }
 {
     match join {
         None => Ok(None),
         Some(join) => {
             let SmallJoin { name, inputs, spec } = join;
-            let join = Join::new(alloc, JOIN, spec, limit)?;
+            let join = Join::new(alloc, streams, spec, limit)?;
             Ok(Some(Joined {
-                node: JOIN,
+                node: streams,
                 name,
                 inputs,
                 join,
@@ -108,6 +106,22 @@ pub fn take_next(joined: &mut Option<Joined>) -> Result<Option<Probe>, NoMemory>
     match joined {
         None => Ok(None),
         Some(joined) => joined.join.take(),
+    }
+}
+
+/// Takes the least pending ticket, hands out what its work finds, and gives it; `false` where none is pending or there is no
+/// join. On a refusal all is as before.
+pub fn probe_next(joined: &mut Option<Joined>, outs: &mut List<Out>) -> Result<bool, NoMemory>
+    ensures ok { IfOk result (λ more. ProbesAny more joined.old joined.new outs.old outs.new) }
+    ensures err { OnErr result ((joined.new ≡ joined.old) × (outs.new ≡ outs.old)) }
+{
+    match joined {
+        None => Ok(false),
+        Some(joined) => match joined.join.probe_next(outs) {
+            Ok(None) => Ok(false),
+            Ok(Some(_ticket)) => Ok(true),
+            Err(NoMemory) => Err(NoMemory),
+        },
     }
 }
 

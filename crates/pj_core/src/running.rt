@@ -10,15 +10,15 @@ ghost use Rattle.pj_laws.specs.OneThread.{arrival_of, plain};
 ghost use Rattle.pj_laws.specs.CoreKept.{IsSmallPlan, columns_of};
 ghost use Rattle.pj_core.specs.Cores.{Notes};
 ghost use Rattle.pj_core.specs.Calls.{arriving_of, closing_of, ended_of, HasArrived, HasGiven, IsCause, IsFresh, IsJoinNode, IsLookAt, IsOpen, IsPeak, IsRefused, StopsNow, CoreTakes};
-ghost use Rattle.pj_core.specs.Turns.{ListsProbes};
+ghost use Rattle.pj_core.specs.Turns.{ListsProbes, MayProbe};
 ghost use Rattle.pj_core.specs.Parts.{FitsAny, HasRoom, IsFull, any_entered, join_in, join_stop, outs_after};
 
-use crate::handed::hand_out_rows;
 use crate::joined::{
-    JOIN, Joined, enter, give_to, new_joined, peak_in, pending_in, stored_in, take_next, taken_in,
+    Joined, enter, give_to, new_joined, peak_in, pending_in, probe_next, stored_in, take_next,
+    taken_in,
 };
 use crate::known::known;
-use pj_join::{Found, JoinStop, Probe};
+use pj_join::{Found, JoinStop, Probe, hand_out_rows};
 use pj_laws::{Look, Out, Stop};
 use pj_pattern::{Element, Pattern, Punct};
 use pj_shape::{Column, SmallPlan, SmallStream};
@@ -26,7 +26,7 @@ use pj_value::{List, NoMemory};
 use std::alloc::Global;
 use std::marker::Model;
 
-/// The core of one stream, or of two streams and a join of them.
+/// The core of one stream, or of 2 to 16 streams and a join of them all.
 ///
 /// A contract sees its plan, its limit, and what it keeps. It stands for a history of its plan where that is what the
 /// history leaves, and each call takes it from a history to the same with the entry of the call behind it.
@@ -64,7 +64,7 @@ impl Core {
     {
         known();
         let SmallPlan { streams, join } = plan;
-        let joined = new_joined(alloc, join, limit)?;
+        let joined = new_joined(alloc, streams.len() as u32, join, limit)?;
         Ok(Core {
             alloc,
             streams,
@@ -98,7 +98,7 @@ impl Core {
             ) {
                 Ok(()) => Ok(()),
                 Err(stop) => {
-                    let met = stop_at_join(stop);
+                    let met = stop_at_join(self.streams.len() as u32, stop);
                     self.stop = Some(met);
                     Err(met)
                 }
@@ -127,7 +127,7 @@ impl Core {
             ) {
                 Ok(()) => Ok(()),
                 Err(stop) => {
-                    let stop = stop_at_join(stop);
+                    let stop = stop_at_join(self.streams.len() as u32, stop);
                     self.stop = Some(stop);
                     Err(stop)
                 }
@@ -193,15 +193,20 @@ impl Core {
         std::mem::replace(&mut self.undrained, empty)
     }
 
-    // The core stops for want of memory.
-    pub(crate) fn run_dry(&mut self) -> Stop
+    // One probe, where one is pending: its ticket is taken and given, and what its work finds is to be drained.
+    pub(crate) fn probe_one(&mut self) -> Result<bool, Stop>
         requires { self.old.stop ≡ None }
-        ensures memory { result ≡ Stop.NoMemory }
-        ensures stops { StopsNow self.old self.new result }
+        ensures ok { IfOk result (λ more. MayProbe more self.old self.new) }
+        ensures err { IfErr result (λ stop. StopsNow self.old self.new stop × (stop ≡ Stop.NoMemory)) }
     {
         known();
-        self.stop = Some(Stop::NoMemory);
-        Stop::NoMemory
+        match probe_next(&mut self.joined, &mut self.undrained) {
+            Ok(more) => Ok(more),
+            Err(NoMemory) => {
+                self.stop = Some(Stop::NoMemory);
+                Err(Stop::NoMemory)
+            }
+        }
     }
 
     // What is pending are all probes that are to be done.
@@ -241,12 +246,12 @@ impl Core {
     }
 }
 
-// The stop of a core whose join takes no more.
-fn stop_at_join(stop: JoinStop) -> Stop
-    ensures { result ≡ join_stop stop }
+// The stop of a core of so many streams whose join, the node behind them, takes no more.
+fn stop_at_join(streams: u32, stop: JoinStop) -> Stop
+    ensures { result ≡ join_stop streams stop }
 {
     match stop {
-        JoinStop::Limit => Stop::Limit { node: JOIN },
+        JoinStop::Limit => Stop::Limit { node: streams },
         JoinStop::NoMemory => Stop::NoMemory,
     }
 }

@@ -1,6 +1,6 @@
 // What no clause says: that the calls succeed with ample memory, and what they give on runs by hand.
 ghost use Rattle.std.specs.Prelude.{◌≡◌, ◌<◌, ◌≤◌, ◌^◌, [], ◌∷◌, IfOk, OnOk, pos};
-ghost use Rattle.pj_core.specs.Sample.{at, equal, lone, number, numbers, sample};
+ghost use Rattle.pj_core.specs.Sample.{at, equal, equal_of_three, lone, number, numbers, sample, three};
 
 use super::*;
 use pj_pattern::Element;
@@ -88,13 +88,13 @@ fn row(alloc: Global, n: i64) -> Result<Row, NoMemory>
 
 // A turn that brings a number to a stream.
 #[tactic(auto, using(crate::proofs::Samples::refused_plan, crate::proofs::Samples::fits_sample, crate::proofs::Samples::there_sample))]
-fn bring(alloc: Global, core: &mut Core, stream: u32, row: Row) -> Result<List<Out>, Stop>
+fn bring(core: &mut Core, stream: u32, row: Row) -> Result<List<Out>, Stop>
     requires plan { core.old.plan ≡ sample }
     requires stream { stream < 2 }
     requires row { row ≡ Value.Int (pos 0) ∷ [] }
     ensures { core.new.plan ≡ sample }
 {
-    core.turn(alloc, stream, Element::Tuple(row))
+    core.turn(stream, Element::Tuple(row))
 }
 
 // How many outputs a turn gave; where a limit stopped it, less than 0 by the number of the node.
@@ -113,7 +113,7 @@ fn counts_of(alloc: Global, core: &mut Core) -> Result<Vec<i64>, NoMemory>
     let mut counts = Vec::new(alloc);
     for turn in 0..5 {
         let row = row(alloc, 0)?;
-        let given = bring(alloc, core, turn % 2, row);
+        let given = bring(core, turn % 2, row);
         counts.push(count_of(given))?;
     }
     Ok(counts)
@@ -126,6 +126,75 @@ fn the_limit_stops_the_fourth_arrival(rt: HostRuntime) -> Result<(), Fail> {
     let counts = counts_of(alloc, &mut core)?;
     assert_eq!(rt; counts.as_slice(), [0, 1, 1, -2, -2].as_slice());
     assert_eq!(rt; core.look().stop, Some(Stop::Limit { node: 2 }));
+    Ok(())
+}
+
+fn spec_of_three(alloc: Global) -> Result<JoinSpec, NoMemory>
+    ensures { IfOk result (λ s. s ≡ equal_of_three) }
+{
+    let JoinSpec {
+        mut inputs,
+        classes,
+    } = spec(alloc)?;
+    inputs.push(schema(alloc)?)?;
+    Ok(JoinSpec { inputs, classes })
+}
+
+fn plan_of_three(alloc: Global) -> Result<SmallPlan, NoMemory>
+    ensures { IfOk result (λ p. p ≡ three) }
+{
+    let mut streams = List::new(alloc);
+    streams.push(stream(alloc)?)?;
+    streams.push(stream(alloc)?)?;
+    streams.push(stream(alloc)?)?;
+    let mut inputs = List::new(alloc);
+    inputs.push(2)?;
+    inputs.push(0)?;
+    inputs.push(1)?;
+    Ok(SmallPlan {
+        streams,
+        join: Some(SmallJoin {
+            name: List::copy_of(alloc, b"n")?,
+            inputs,
+            spec: spec_of_three(alloc)?,
+        }),
+    })
+}
+
+#[tactic(auto, using(crate::proofs::Samples::three_small))]
+fn core_of_three(alloc: Global, limit: u64) -> Result<Core, NoMemory>
+    requires { (1 ≤ limit) × (limit ≤ 2 ^ 40) }
+    ensures { IfOk result (λ core. core.plan ≡ three) }
+{
+    let plan = plan_of_three(alloc)?;
+    Core::new(alloc, plan, limit)
+}
+
+// How many outputs the turn gave that brought a number to a stream.
+#[tactic(auto, using(crate::proofs::Samples::refused_plan, crate::proofs::Samples::fits_three, crate::proofs::Samples::there_three))]
+fn bring_number(alloc: Global, core: &mut Core, stream: u32, n: i64) -> i64
+    requires plan { core.old.plan ≡ three }
+    requires stream { stream < 3 }
+    ensures { core.new.plan ≡ three }
+{
+    match row(alloc, n) {
+        Ok(row) => count_of(core.turn(stream, Element::Tuple(row))),
+        Err(NoMemory) => -99,
+    }
+}
+
+// The class is of the third stream and the first; the fourth arrival meets the limit, the fifth goes beyond it.
+#[test]
+fn three_streams_join_in_the_order_of_the_inputs(rt: HostRuntime) -> Result<(), Fail> {
+    let alloc = rt.alloc();
+    let mut core = core_of_three(alloc, 4)?;
+    let first = bring_number(alloc, &mut core, 0, 0);
+    let second = bring_number(alloc, &mut core, 1, 5);
+    let third = bring_number(alloc, &mut core, 2, 0);
+    let fourth = bring_number(alloc, &mut core, 1, 6);
+    let fifth = bring_number(alloc, &mut core, 0, 0);
+    assert_eq!(rt; [first, second, third, fourth, fifth], [0, 0, 1, 1, -3]);
+    assert_eq!(rt; core.look().stop, Some(Stop::Limit { node: 3 }));
     Ok(())
 }
 
@@ -178,10 +247,10 @@ fn first_handed(core: &mut Core, row: Row) -> i64
 
 // What is handed out first where the stream is closed.
 #[tactic(auto, using(crate::proofs::Samples::there_lone))]
-fn first_closed(alloc: Global, core: &mut Core) -> i64
+fn first_closed(core: &mut Core) -> i64
     requires { core.old.plan ≡ lone }
 {
-    match core.closing_turn(alloc, 0) {
+    match core.closing_turn(0) {
         Ok(outs) => first_of(&outs),
         Err(_) => -6,
     }
@@ -193,7 +262,7 @@ fn a_lone_stream_hands_out_its_elements(rt: HostRuntime) -> Result<(), Fail> {
     let row = row(alloc, 7)?;
     let mut core = lone_core(alloc)?;
     let handed = first_handed(&mut core, row);
-    let closed = first_closed(alloc, &mut core);
+    let closed = first_closed(&mut core);
     assert_eq!(rt; [handed, closed], [7, -1]);
     assert_eq!(rt; core.look().ended, 1);
     Ok(())

@@ -1,13 +1,17 @@
-use Rattle.std.proofs.Common.{refl}
-use Rattle.pj_core.proofs.Turning.{probed-one, stops-between}
+use Rattle.std.proofs.Common.{ap, reverse, refl, ◌∙◌}
+use Rattle.pj_core.proofs.Probed.{probed}
+use Rattle.pj_core.proofs.Words.{stopped-now}
 use Rattle.pj_core.proofs.running.Core.probe_one.Goals as goal
 
 pub returns-in-Ok-clause-ok : goal.returns-in-Ok-clause-ok
 returns-in-Ok-clause-ok c =
-    probed-one c.args.self.now c.take.new.self c.finish_probe.new.self c.in-Ok-Some.probe c.in-Ok-Some.probe refl
-    (rw c.in-Ok-Some.field-0-is at c.in-Ok-Some.ensures.ok) c.in-Ok.ensures.ok
+    probed c.known.ensures c.self.inside.streams c.self.inside.limit c.self.inside.joined (reverse c.self.inside.closed) c.self.inside.undrained c.self.inside.stop c.args.self.now c.self.view_is c.self.invariant
+    (ap (λ z. z.stop) c.self.view_is ∙ c.requires) c.probe_next.new.joined c.probe_next.new.outs c.in-Ok.more c.in-Ok.ensures.ok
 
-pub returns-in-Err-finish_probe-clause-err : goal.returns-in-Err-finish_probe-clause-err
-returns-in-Err-finish_probe-clause-err c =
-    stops-between c.args.self.now c.take.new.self c.finish_probe.new.self c.in-Ok-Some.probe c.in-Err-finish_probe.stop
-    (rw c.in-Ok-Some.field-0-is at c.in-Ok-Some.ensures.ok) c.in-Err-finish_probe.ensures.err.0 c.in-Err-finish_probe.ensures.err.1
+pub returns-in-Err-clause-err : goal.returns-in-Err-clause-err
+returns-in-Err-clause-err c =
+    rw (c.in-Err.ensures.err.0, c.in-Err.ensures.err.1) (
+      stopped-now c.known.ensures c.self.inside.streams c.self.inside.limit c.self.inside.joined (reverse c.self.inside.closed) c.self.inside.undrained c.self.inside.stop c.args.self.now c.self.view_is c.self.invariant
+          (ap (λ z. z.stop) c.self.view_is ∙ c.requires) _,
+      refl,
+    )
