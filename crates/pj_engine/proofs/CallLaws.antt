@@ -1,5 +1,5 @@
 -- The words of a call, and what a run over the files that they name leaves of the call.
-use Rattle.std.proofs.Common.{◌≡◌, ◌≢◌, ◌≤◌, ◌<◌, ◌+◌, ◌-◌, ◌⊎◌, ℕ, zero, suc, Bool, true, false, inl, inr, List, [], ◌∷◌, map, length, take, drop, Result, Err, Some, IsTrue, refl, ap, ap₂, sym, ◌∙◌, subst, arith}
+use Rattle.std.proofs.Common.{◌≡◌, ◌≢◌, ◌≤◌, ◌<◌, ◌+◌, ◌-◌, ◌⊎◌, ℕ, zero, suc, Bool, true, inl, inr, List, [], ◌∷◌, map, length, take, drop, Err, Some, IsTrue, refl, ap, ap₂, sym, ◌∙◌, subst, arith}
 use Rattle.std.specs.Prelude.{slice_index_or, ◌^◌}
 use Rattle.std.specs.String.{string_bytes}
 use Rattle.std.specs.declared.string.String.{String}
@@ -7,30 +7,27 @@ use Rattle.std.specs.declared.alloc.Global.{Global}
 use Rattle.std.proofs.lemmas.Bool.{false≢true}
 use Rattle.std.proofs.lemmas.List.{take_all, length-map}
 use Rattle.pj_value.specs.Lists.{In}
-use Rattle.pj_value.proofs.Members.{in-place}
 use Rattle.pj_io.specs.Causes.{Rose}
 use Rattle.pj_io.specs.Folders.{SameElsewhere, NoneFalls}
 use Rattle.pj_io.specs.States.{FolderState, SinkState}
 use Rattle.pj_shape.specs.declared.plans.SmallPlan.{SmallPlan}
 use Rattle.pj_shape.specs.declared.plans.SmallStream.{SmallStream}
-use Rattle.pj_engine.specs.declared.status.Status.TheVariants.{Done, NotBuilt, ReadFault, WriteFault, NoMemory, Limit}
+use Rattle.pj_engine.specs.declared.status.Status.TheVariants.{Done, OpenFault, ReadFault, WriteFault, NoMemory, Limit}
 use Rattle.pj_engine.specs.declared.status.LimitOf.TheVariants.{Node, File}
 use Rattle.pj_engine.specs.declared.stops.FilesStop.{FilesStop}
 use Rattle.pj_engine.specs.declared.stops.FilesStop.TheVariants.{Opening, Run}
 use Rattle.pj_engine.specs.declared.stops.OpeningStop.{OpeningStop}
 use Rattle.pj_engine.specs.declared.stops.OpeningStop.TheVariants.{Fault, NoMemory as OpeningMemory}
-use Rattle.pj_engine.specs.declared.stops.PlanStop.{PlanStop}
-use Rattle.pj_engine.specs.declared.stops.PlanStop.TheVariants.{NotBuilt as NoPlan, ReadFault as PlanFault, NoMemory as PlanMemory}
 use Rattle.pj_engine.specs.declared.stops.RunStop.TheVariants.{ReadFault as RunFault, TooLarge, Limit as RunLimit, WriteFailed, NoMemory as RunMemory}
 use Rattle.pj_engine.specs.Commands.{command_of, is_run, operands, operand, behind_first, plan_bytes, stream_files, files_named, AreTold, IsTold, HasToldPlan}
 use Rattle.pj_engine.specs.Ends.{AreDistinct, IsNoneOf, EndsBefore, EndsAtLimit, ArrivedOf}
-use Rattle.pj_engine.specs.Opened.{OpensFirst, OpensAtMost}
-use Rattle.pj_engine.specs.Plans.{plan_of}
+use Rattle.pj_engine.specs.Opened.{OpensFirst, IsReadToEnd}
+use Rattle.pj_engine.specs.Plans.{plan_of, SpellsPlan}
 use Rattle.pj_engine.specs.Report.{status_line}
 use Rattle.pj_engine.specs.RunEnds.{FilesEnd, FilesCause, FilesOpened, IsFaultOf}
 use Rattle.pj_engine.specs.Runs.{run_lines, GoesBeyond}
-use Rattle.pj_engine.specs.Stops.{files_status, plan_status, IsOfFew}
-use Rattle.pj_engine.specs.Top.{AreReadToEnd, BeyondLimit, EarlyEnd, FaultLeaves, HasFault, IsBuilt, IsTooLarge, OpensInOrder, StopLeaves, stop_name, limit_name}
+use Rattle.pj_engine.specs.Stops.{files_status, IsOfFew}
+use Rattle.pj_engine.specs.Top.{AreReadToEnd, BeyondLimit, EarlyEnd, FaultLeaves, HasFault, IsBuilt, IsUnopened, IsTooLarge, OpensInOrder, StopLeaves, stop_name, limit_name}
 use Rattle.pj_engine.specs.Written.{Delivered, Leaves, files_cut, flat, FrontOf}
 use Rattle.pj_engine.proofs.RunLaws.{same_after, earlier_rose}
 
@@ -87,11 +84,11 @@ module _ (words : List (String Global)) (old mid : FolderState) (run : is_run wo
   )
 
   -- all files were read to their ends
-  pub all_read : (new : FolderState) → (HasToldPlan (command_of words old) → new.last (operand (operands words) 1) ≡ length (plan_bytes (command_of words old))) → AreReadToEnd (names_in words) mid new → AreReadToEnd (operands words) old new
+  pub all_read : (new : FolderState) → (HasToldPlan (command_of words old) → IsReadToEnd (operand (operands words) 1) old new) → AreReadToEnd (names_in words) mid new → AreReadToEnd (operands words) old new
   all_read new first rest = subst (λ (ns : List (List ℕ)). AreReadToEnd ns old new) (sym (operands_are words run)) (first, read_named (names_in words) new rest)
 
   pub built : (plan : SmallPlan) → length words ≡ 2 + length plan.streams
-      → (HasToldPlan (command_of words old) → (plan_of (plan_bytes (command_of words old)) ≡ Some plan) × (length (plan_bytes (command_of words old)) ≤ 1048576)) → IsBuilt (command_of words old)
+      → (HasToldPlan (command_of words old) → SpellsPlan (plan_bytes (command_of words old)) plan) → IsBuilt (command_of words old)
   built plan count read = record {
     form = run;
     plan = λ t. let r = read t in (r.1, (plan, r.0, sym (ap length (names_are words run) ∙ names_counted words plan.streams run count)));
@@ -143,44 +140,14 @@ module _ (words : List (String Global)) (old mid new : FolderState) (run : is_ru
     opened_done more = (suc (length (names_in words)), then_opened (length (names_in words)) more, all_counted, λ _. is_built)
 
     pub opened_stop : (stop : FilesStop) → FilesOpened (Err stop) (names_in words) mid new → OpensInOrder (files_status stop) (command_of words old) new
-    opened_stop (Opening (Fault stream)) opened = (suc stream, then_opened stream opened, (let e : suc stream + 1 ≡ 2 + stream = omega arith in inl e), λ _. is_built)
+    opened_stop (Opening (Fault stream)) opened = (suc stream, then_opened stream opened, (let e : suc stream + 1 ≡ 2 + stream = omega arith in e), λ _. is_built)
     opened_stop (Opening OpeningMemory) opened =
         (suc opened.0, then_opened opened.0 opened.2, (let le = opened.1 in let all = all_counted in omega (arith, le, all)), λ _. is_built)
-    opened_stop (Run (RunFault stream)) opened = (suc (length (names_in words)), then_opened (length (names_in words)) opened, inr (inr all_counted), λ _. is_built)
+    opened_stop (Run (RunFault stream)) opened = (suc (length (names_in words)), then_opened (length (names_in words)) opened, (let two : 1 < 2 + stream = omega arith in inr (two, all_counted)), λ _. is_built)
     opened_stop (Run (TooLarge stream)) opened = (suc (length (names_in words)), then_opened (length (names_in words)) opened, all_counted, λ _. is_built)
     opened_stop (Run (RunLimit node)) opened = (suc (length (names_in words)), then_opened (length (names_in words)) opened, all_counted, λ _. is_built)
     opened_stop (Run WriteFailed) opened = (suc (length (names_in words)), then_opened (length (names_in words)) opened, all_counted, λ _. is_built)
     opened_stop (Run RunMemory) opened = (suc (length (names_in words)), then_opened (length (names_in words)) opened, omega (arith, all_counted), λ _. is_built)
-
-none_opened : (names : List (List ℕ)) (folder : FolderState) → OpensFirst 0 names folder folder
-none_opened names folder name = (λ t. inl t, λ t. elim t [ inl was ↦ was | inr none ↦ absurd none ])
-
--- no more than the plan's file
-plan_alone : (words : List (String Global)) (old : FolderState) (count : ℕ) → count ≤ 1 → 1 < count → IsBuilt (command_of words old)
-plan_alone words old count most more = absurd (omega (arith, most, more))
-
-opened_as : (count : ℕ) (words : List (String Global)) (old new : FolderState) (stop : PlanStop) → OpensFirst count (operands words) old new → count ≤ 1 → is_run words ≡ true → 1 ≤ length (operands words)
-    → OpensInOrder (plan_status stop) (command_of words old) new
-opened_as count words old new NoPlan opened most run some = (count, opened, (most, λ not. absurd (false≢true (sym not ∙ run))), plan_alone words old count most)
-opened_as zero words old new PlanFault opened most run some = (0, opened, inl refl, plan_alone words old 0 most)
-opened_as (suc count) words old new PlanFault opened most run some =
-    let one : suc count ≡ 1 = omega (arith, most) in
-    (suc count, opened, inr (inl (refl, one)), plan_alone words old (suc count) most)
-opened_as count words old new PlanMemory opened most run some = (count, opened, omega (arith, most, some), plan_alone words old count most)
-
-some_operands : (words : List (String Global)) → is_run words ≡ true → 1 ≤ length (operands words)
-some_operands words run = let e = ap length (operands_are words run) in omega (arith, e)
-
--- a call whose plan was not had
-pub opened_early : (stop : PlanStop) (words : List (String Global)) (old new : FolderState) → OpensAtMost 1 (operands words) old new → (is_run words ≡ false → (stop ≡ NoPlan) × (new ≡ old)) → OpensInOrder (plan_status stop) (command_of words old) new
-opened_early stop words old new opened none = go (is_run words) refl
-  where
-    go : (b : Bool) → is_run words ≡ b → OpensInOrder (plan_status stop) (command_of words old) new
-    go true run = opened_as opened.0 words old new stop opened.2 opened.1 run (some_operands words run)
-    go false not =
-        let n = none not in
-        subst (λ (s : PlanStop). OpensInOrder (plan_status s) (command_of words old) new) (sym n.0)
-        (subst (λ (f : FolderState). OpensInOrder (plan_status NoPlan) (command_of words old) f) (sym n.1) (0, none_opened (operands words) old, (omega arith, λ _. refl), plan_alone words old 0 (omega arith)))
 
 -- ---- what a stop leaves
 
@@ -196,14 +163,11 @@ module _ (words : List (String Global)) (old mid new : FolderState) (run : is_ru
 
   -- a file that was not opened
   not_opened : (plan : SmallPlan) (stream : ℕ) (before lines : List ℕ) → stream < length (names_in words) → FilesEnd (Opening (Fault stream)) plan (names_in words) mid new before lines
-      → FaultLeaves plan (command_of words old) new (2 + stream) before lines
-  not_opened plan stream before lines there ends = inl (
-    ends.0,
-    λ d.
-        let all = distinct_names d in
-        let at = at_operand stream in
-        ap new.last at ∙ (ends.1 all.1 ∙ (others (slice_index_or (names_in words) stream []) (none_at (operand (operands words) 1) (names_in words) stream all.0 there) ∙ ap old.last (sym at))),
-  )
+      → AreDistinct (operands words) → new.last (operand (operands words) (2 + stream)) ≡ old.last (operand (operands words) (2 + stream))
+  not_opened plan stream before lines there ends = λ d.
+      let all = distinct_names d in
+      let at = at_operand stream in
+      ap new.last at ∙ (ends.1 all.1 ∙ (others (slice_index_or (names_in words) stream []) (none_at (operand (operands words) 1) (names_in words) stream all.0 there) ∙ ap old.last (sym at)))
 
   -- a read that failed
   not_read : (plan : SmallPlan) (stream : ℕ) (before lines : List ℕ) → FilesEnd (Run (RunFault stream)) plan (names_in words) mid new before lines → FaultLeaves plan (command_of words old) new (2 + stream) before lines
@@ -213,23 +177,15 @@ module _ (words : List (String Global)) (old mid new : FolderState) (run : is_ru
           → (ends : EndsBefore plan files stream before lines) × (AreDistinct (names_in words) → ArrivedOf plan files stream (new.last (slice_index_or (names_in words) stream [])) ends.front)
           → FaultLeaves plan (command_of words old) new (2 + stream) before lines
       go files same e =
-          subst (λ (fs : List (List ℕ)). ((lines ≡ before) × (AreDistinct (operands words) → new.last (operand (operands words) (2 + stream)) ≡ old.last (operand (operands words) (2 + stream))))
-          ⊎ ((s : ℕ) × (2 + stream ≡ 2 + s) × (ends : EndsBefore plan fs s before lines) × (AreDistinct (operands words) → ArrivedOf plan fs s (new.last (operand (operands words) (2 + stream))) ends.front))) same
-          (inr (stream, refl, e.0, λ d. subst (λ (n : List ℕ). ArrivedOf plan files stream (new.last n) e.0.front) (sym (at_operand stream)) (e.1 (distinct_names d).1)))
+          subst (λ (fs : List (List ℕ)). ((s : ℕ) × (2 + stream ≡ 2 + s) × (ends : EndsBefore plan fs s before lines) × (AreDistinct (operands words) → ArrivedOf plan fs s (new.last (operand (operands words) (2 + stream))) ends.front))) same
+          (stream, refl, e.0, λ d. subst (λ (n : List ℕ). ArrivedOf plan files stream (new.last n) e.0.front) (sym (at_operand stream)) (e.1 (distinct_names d).1))
 
   -- the run stopped, and then the line of its status was written
   pub stopped : (stop : FilesStop) (plan : SmallPlan) (name : List ℕ) (first now after : SinkState) → IsTrue after.told → plan_of (plan_bytes (command_of words old)) ≡ Some plan → name ≡ stop_name plan (files_status stop)
       → FilesCause stop plan (names_in words) mid new first now → Leaves (files_cut stop) (run_lines plan (files_named (names_in words) mid)) first.written now.written
       → FilesEnd stop plan (names_in words) mid new first.written now.written → first.faults ≤ now.faults → Delivered (status_line name (files_status stop)) now after
       → StopLeaves (files_status stop) (command_of words old) new first after
-  stopped (Opening (Fault stream)) plan name first now after t read named cause left ends le line =
-      inr (
-        plan,
-        now.written,
-        read,
-        not_opened plan stream first.written now.written cause.there ends,
-        earlier_rose (status_line [] (ReadFault (2 + stream))) first now after le (subst (λ (x : List ℕ). Delivered (status_line x (ReadFault (2 + stream))) now after) named line),
-      )
+  stopped (Opening (Fault stream)) plan name first now after t read named cause left ends le line = not_opened plan stream first.written now.written cause.there ends
   stopped (Opening OpeningMemory) plan name first now after t read named cause left ends le line = (
     now.written,
     inr (plan, read, subst (λ (fs : List (List ℕ)). Leaves (files_cut (Opening OpeningMemory)) (run_lines plan fs) first.written now.written) files_are left),
@@ -243,14 +199,14 @@ module _ (words : List (String Global)) (old mid new : FolderState) (run : is_ru
         not_read plan stream first.written now.written ends,
         earlier_rose (status_line [] (ReadFault (2 + stream))) first now after le (subst (λ (x : List ℕ). Delivered (status_line x (ReadFault (2 + stream))) now after) named line),
       )
-  stopped (Run (TooLarge stream)) plan name first now after t read named cause left ends le line = (
+  stopped (Run (TooLarge stream)) plan name first now after t read named cause left ends le line = inr (
     plan,
     now.written,
     read,
     subst (λ (fs : List (List ℕ)). EndsBefore plan fs stream first.written now.written) files_are ends,
     earlier_rose (status_line (limit_name plan (File stream)) (Limit (File stream))) first now after le (subst (λ (x : List ℕ). Delivered (status_line x (Limit (File stream))) now after) named line),
   )
-  stopped (Run (RunLimit node)) plan name first now after t read named cause left ends le line = (
+  stopped (Run (RunLimit node)) plan name first now after t read named cause left ends le line = inr (
     plan,
     now.written,
     read,
@@ -271,25 +227,17 @@ module _ (words : List (String Global)) (old mid new : FolderState) (run : is_ru
 
   -- ---- a file that could not be opened
 
-  was_opened : (stream : ℕ) → stream < length (names_in words) → OpensFirst (length (names_in words)) (names_in words) mid new → IsTrue (new.opened (operand (operands words) (2 + stream)))
-  was_opened stream there opened =
-      subst (λ (n : List ℕ). IsTrue (new.opened n)) (sym (at_operand stream))
-      ((opened (slice_index_or (names_in words) stream [])).1 (inr (subst (In (slice_index_or (names_in words) stream [])) (sym (take_all (length (names_in words)) (names_in words) (omega arith))) (in-place (names_in words) [] stream there))))
-
-  pub early : (stop : FilesStop) (plan : SmallPlan) (name : List ℕ) (first now after : SinkState) → name ≡ stop_name plan (files_status stop) → FilesCause stop plan (names_in words) mid new first now → FilesOpened (Err stop) (names_in words) mid new
+  pub early : (stop : FilesStop) (plan : SmallPlan) (name : List ℕ) (first now after : SinkState) → name ≡ stop_name plan (files_status stop)
       → ((opening : OpeningStop) → stop ≡ Opening opening → now ≡ first) → Delivered (status_line name (files_status stop)) now after → EarlyEnd (files_status stop) (command_of words old) new first after
-  early (Opening (Fault stream)) plan name first now after named cause opened same line = λ _.
-      subst (λ (s : SinkState). Delivered (status_line [] (ReadFault (2 + stream))) s after) (same (Fault stream) refl)
-      (subst (λ (x : List ℕ). Delivered (status_line x (ReadFault (2 + stream))) now after) named line)
-  early (Opening OpeningMemory) plan name first now after named cause opened same line = tt
-  early (Run (RunFault stream)) plan name first now after named cause opened same line = λ why. elim why [
-    | inl one ↦ absurd (omega (arith, one))
-    | inr shut ↦ absurd (false≢true (sym shut ∙ was_opened stream cause.there opened))
-  ]
-  early (Run (TooLarge stream)) plan name first now after named cause opened same line = tt
-  early (Run (RunLimit node)) plan name first now after named cause opened same line = tt
-  early (Run WriteFailed) plan name first now after named cause opened same line = tt
-  early (Run RunMemory) plan name first now after named cause opened same line = tt
+  early (Opening (Fault stream)) plan name first now after named same line =
+      subst (λ (s : SinkState). Delivered (status_line [] (OpenFault (2 + stream))) s after) (same (Fault stream) refl)
+      (subst (λ (x : List ℕ). Delivered (status_line x (OpenFault (2 + stream))) now after) named line)
+  early (Opening OpeningMemory) plan name first now after named same line = tt
+  early (Run (RunFault stream)) plan name first now after named same line = λ one. absurd (omega (arith, one))
+  early (Run (TooLarge stream)) plan name first now after named same line = λ what. absurd (cc)
+  early (Run (RunLimit node)) plan name first now after named same line = λ what. absurd (cc)
+  early (Run WriteFailed) plan name first now after named same line = tt
+  early (Run RunMemory) plan name first now after named same line = tt
 
   -- ---- causes
 
@@ -304,13 +252,25 @@ module _ (words : List (String Global)) (old mid new : FolderState) (run : is_ru
     }
 
     pub faulted : (stop : FilesStop) (plan : SmallPlan) (first now : SinkState) (n : ℕ) → IsBuilt (command_of words old) → FilesCause stop plan (names_in words) mid new first now → files_status stop ≡ ReadFault n → HasFault (command_of words old) new n
-    faulted (Opening (Fault stream)) plan first now n is cause e = let same : 2 + stream ≡ n = cc e in subst (HasFault (command_of words old) new) same (fault_at stream is cause)
+    faulted (Opening (Fault stream)) plan first now n is cause e = absurd (cc)
     faulted (Opening OpeningMemory) plan first now n is cause e = absurd (cc)
     faulted (Run (RunFault stream)) plan first now n is cause e = let same : 2 + stream ≡ n = cc e in subst (HasFault (command_of words old) new) same (fault_at stream is cause)
     faulted (Run (TooLarge stream)) plan first now n is cause e = absurd (cc)
     faulted (Run (RunLimit node)) plan first now n is cause e = absurd (cc)
     faulted (Run WriteFailed) plan first now n is cause e = absurd (cc)
     faulted (Run RunMemory) plan first now n is cause e = absurd (cc)
+
+    pub unopened : (stop : FilesStop) (plan : SmallPlan) (first now : SinkState) (n : ℕ) → IsBuilt (command_of words old) → FilesCause stop plan (names_in words) mid new first now → OpensInOrder (files_status stop) (command_of words old) new
+        → files_status stop ≡ OpenFault n → IsUnopened (command_of words old) new n
+    unopened (Opening (Fault stream)) plan first now n is cause opened e =
+        let same : 2 + stream ≡ n = cc e in
+        subst (IsUnopened (command_of words old) new) same (record { fault = fault_at stream is cause; before = opened.0; number = opened.2; opened = opened.1 })
+    unopened (Opening OpeningMemory) plan first now n is cause opened e = absurd (cc)
+    unopened (Run (RunFault stream)) plan first now n is cause opened e = absurd (cc)
+    unopened (Run (TooLarge stream)) plan first now n is cause opened e = absurd (cc)
+    unopened (Run (RunLimit node)) plan first now n is cause opened e = absurd (cc)
+    unopened (Run WriteFailed) plan first now n is cause opened e = absurd (cc)
+    unopened (Run RunMemory) plan first now n is cause opened e = absurd (cc)
 
   pub write_failed : (stop : FilesStop) (plan : SmallPlan) (first now after : SinkState) → FilesCause stop plan (names_in words) mid new first now → now.faults ≤ after.faults → files_status stop ≡ WriteFault → Rose first.faults after.faults
   write_failed (Opening (Fault stream)) plan first now after cause le e = absurd (cc)
@@ -372,12 +332,3 @@ of_few (Run (TooLarge stream)) plan names before after first now few cause = tt
 of_few (Run (RunLimit node)) plan names before after first now few cause = tt
 of_few (Run WriteFailed) plan names before after first now few cause = tt
 of_few (Run RunMemory) plan names before after first now few cause = tt
-
-pub stop_is : (stop : PlanStop) → ◌≡◌ {A = Result SmallPlan PlanStop} (Err stop) (Err NoPlan) → stop ≡ NoPlan
-stop_is stop e = cc e
-
--- only a plan that is none is answered so
-pub no_plan : (stop : PlanStop) → plan_status stop ≡ NotBuilt → stop ≡ NoPlan
-no_plan NoPlan e = refl
-no_plan PlanFault e = absurd (cc)
-no_plan PlanMemory e = absurd (cc)

@@ -44,7 +44,7 @@ few_streams plan small = go plan.join small
   where
     go : (join : Option SmallJoin) → IsPlanOf plan.streams join → length plan.streams ≤ 128
     go None is = omega (arith, is)
-    go (Some join) is = omega (arith, is.0)
+    go (Some join) is = omega (arith, is.1)
 
 pub few_feeds : (plan : SmallPlan) (feeds : List FeedState) → IsSmallPlan plan → AreFeeds 0 plan.streams feeds → length feeds ≤ 128
 few_feeds plan feeds small f = let a = feeds_long 0 plan.streams feeds f in let b = few_streams plan small in omega (arith, a, b)

@@ -5,6 +5,7 @@ pub mod Arrivals
 pub mod CallLaws
 pub mod Closing
 pub mod Counting
+pub mod EarlyLaws
 pub mod Ending
 pub mod FeedFacts
 pub mod Feeding
@@ -17,10 +18,10 @@ pub mod NameLaws
 pub mod Opening
 pub mod Opens
 pub mod OutputLaws
-pub mod PlanForms
-pub mod PlanLines
+pub mod Refusing
 pub mod RunLaws
 pub mod Running
+pub mod SmallPlans
 pub mod StaysLaws
 pub mod Stepping
 pub mod StopLaws

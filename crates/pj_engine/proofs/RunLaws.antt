@@ -22,10 +22,13 @@ use Rattle.pj_element.proofs.Feeds.{decimal_no_feed}
 use Rattle.pj_laws.specs.CoreKept.{nodes_of}
 use Rattle.pj_laws.specs.Outcomes.{peak_of}
 use Rattle.pj_engine.specs.Commands.{Command, plan_bytes, stream_files}
-use Rattle.pj_engine.specs.Statements.{is_name_byte}
-use Rattle.pj_engine.specs.PlanForms.{HasPlainNames, is_plain, are_plain, is_plain_join}
+use Rattle.pj_plan.specs.Names.{is_name_byte}
+use Rattle.pj_engine.specs.PlanNames.{HasPlainNames, is_plain, are_plain, is_plain_join}
 use Rattle.pj_engine.specs.Plans.{plan_of}
-use Rattle.pj_engine.specs.Report.{stream_line, stream_lines, reject_line, reject_words, results_line, peak_line, counted_to}
+use Rattle.pj_plan.specs.declared.fault.PlanWhy.{PlanWhy}
+use Rattle.pj_plan.specs.declared.fault.PlanWhy.TheVariants.{NotAPlan, UnknownStatement, BadShape, NameTwice, UnknownName, UnknownColumn, ColumnTwice, KindsDiffer, BadClass, BadScheme, UsedTwiceOrNever, TooMany, Output, Unreadable}
+use Rattle.pj_engine.specs.declared.status.Status.TheVariants.{PlanRefused, FileCount}
+use Rattle.pj_engine.specs.Report.{fault_words, status_line, stream_line, stream_lines, reject_line, reject_words, results_line, peak_line, counted_to}
 use Rattle.pj_engine.specs.Runs.{outputs_of, history_of, report_of, run_lines, streams_report, peaks_report}
 use Rattle.pj_engine.specs.Written.{flat, Delivered, holding}
 use Rattle.pj_engine.proofs.Fronts.{IsNoteLine, AreNotes, notes-append}
@@ -118,6 +121,33 @@ reject_note name r none =
 rejects_note : (name : List ℕ) (rs : List (ℕ × Reject)) → HasNo 10 name → AreNotes (map (reject_line name) rs)
 rejects_note name [] none = tt
 rejects_note name (r ∷ rs) none = (reject_note name r none, rejects_note name rs none)
+
+-- the words of a plan's fault
+fault_words_no_feed : (why : PlanWhy) → NoFeed (fault_words why)
+fault_words_no_feed NotAPlan = literal (codes " P1 not a plan") refl
+fault_words_no_feed UnknownStatement = literal (codes " P2 unknown statement") refl
+fault_words_no_feed BadShape = literal (codes " P3 bad shape") refl
+fault_words_no_feed NameTwice = literal (codes " P4 name given twice") refl
+fault_words_no_feed UnknownName = literal (codes " P5 unknown name") refl
+fault_words_no_feed UnknownColumn = literal (codes " P6 unknown column") refl
+fault_words_no_feed ColumnTwice = literal (codes " P7 column name twice") refl
+fault_words_no_feed KindsDiffer = literal (codes " P8 kinds differ") refl
+fault_words_no_feed BadClass = literal (codes " P9 bad class") refl
+fault_words_no_feed BadScheme = literal (codes " P10 bad scheme") refl
+fault_words_no_feed UsedTwiceOrNever = literal (codes " P11 used twice or never") refl
+fault_words_no_feed TooMany = literal (codes " P12 too many") refl
+fault_words_no_feed Output = literal (codes " P13 output") refl
+fault_words_no_feed Unreadable = literal (codes " P14 unreadable line") refl
+
+pub plan_refused_note : (line : ℕ) (why : PlanWhy) → IsNoteLine (status_line [] (PlanRefused line why))
+plan_refused_note line why =
+    let all : NoFeed (codes "# refused plan line " ++ decimal line ++ fault_words why) = and_then (and_then (literal (codes "# refused plan line ") refl) (number line)) (fault_words_no_feed why) in
+    record { words = codes "# refused plan line " ++ decimal line ++ fault_words why; is = refl; note = refl; whole = all.it }
+
+pub file_count_note : (want got : ℕ) → IsNoteLine (status_line [] (FileCount want got))
+file_count_note want got =
+    let all : NoFeed (codes "# refused files want " ++ decimal want ++ codes " got " ++ decimal got) = and_then (and_then (and_then (literal (codes "# refused files want ") refl) (number want)) (literal (codes " got ") refl)) (number got) in
+    record { words = codes "# refused files want " ++ decimal want ++ codes " got " ++ decimal got; is = refl; note = refl; whole = all.it }
 
 stream_note : (name : List ℕ) (tally : Tally) → HasNo 10 name → IsNoteLine (stream_line name tally)
 stream_note name tally none =

@@ -16,16 +16,17 @@ use Rattle.pj_element.proofs.Feeds.{decimal_no_feed}
 use Rattle.pj_laws.specs.CoreKept.{IsSmallPlan}
 use Rattle.pj_engine.specs.declared.status.Status.{Status}
 use Rattle.pj_engine.specs.declared.status.LimitOf.{LimitOf}
-use Rattle.pj_engine.specs.declared.status.LimitOf.TheVariants.{Node, File}
-use Rattle.pj_engine.specs.declared.status.Status.TheVariants.{Done, NotBuilt, ReadFault, WriteFault, NoMemory, Limit}
+use Rattle.pj_engine.specs.declared.status.LimitOf.TheVariants.{Plan, Node, File}
+use Rattle.pj_engine.specs.declared.status.Status.TheVariants.{Done, Usage, NotBuilt, OpenFault, ReadFault, PlanRefused, FileCount, WriteFault, NoMemory, Limit}
 use Rattle.pj_engine.specs.declared.stops.FilesStop.{FilesStop}
 use Rattle.pj_engine.specs.declared.stops.FilesStop.TheVariants.{Opening, Run}
 use Rattle.pj_engine.specs.declared.stops.OpeningStop.TheVariants.{Fault, NoMemory as OpeningMemory}
 use Rattle.pj_engine.specs.declared.stops.PlanStop.{PlanStop}
-use Rattle.pj_engine.specs.declared.stops.PlanStop.TheVariants.{NotBuilt as NoPlan, ReadFault as PlanFault, NoMemory as PlanMemory}
+use Rattle.pj_engine.specs.declared.stops.PlanStop.TheVariants.{Usage as NoWords, File as PlanFile, Refused, FileCount as OtherCount, NotBuilt as NoPlan, NoMemory as PlanMemory}
+use Rattle.pj_engine.specs.declared.stops.FileStop.TheVariants.{OpenFault as NotOpened, ReadFault as NotRead, TooLong, NoMemory as FileMemory}
 use Rattle.pj_engine.specs.declared.stops.RunStop.TheVariants.{ReadFault as RunFault, TooLarge, Limit as RunLimit, WriteFailed, NoMemory as RunMemory}
 use Rattle.pj_engine.specs.Commands.{Command, plan_bytes, stream_files}
-use Rattle.pj_engine.specs.PlanForms.{HasPlainNames, is_plain, are_plain, is_plain_join}
+use Rattle.pj_engine.specs.PlanNames.{HasPlainNames, is_plain, are_plain, is_plain_join}
 use Rattle.pj_engine.specs.Plans.{plan_of}
 use Rattle.pj_engine.specs.Report.{status_line}
 use Rattle.pj_engine.specs.Runs.{outputs_of, report_of, run_lines}
@@ -36,7 +37,7 @@ use Rattle.pj_engine.proofs.FrontLaws.{stays}
 use Rattle.pj_engine.proofs.Fronts.{IsNoteLine, AreNotes, notes-append, notes_spell, FrontSpells, front_spells, FirstLines, first_lines}
 use Rattle.pj_engine.proofs.LinesWritten.{flat-append}
 use Rattle.pj_engine.proofs.OutputLaws.{outputs_lawful}
-use Rattle.pj_engine.proofs.RunLaws.{no_feeds, name_no_feed, name_short, report_notes, same_after}
+use Rattle.pj_engine.proofs.RunLaws.{plan_refused_note, file_count_note, no_feeds, name_no_feed, name_short, report_notes, same_after}
 use Rattle.pj_pattern.proofs.Lawful.{lawful_front}
 
 -- the plan's bytes spell a plan, and there is a file for each of its streams
@@ -82,6 +83,17 @@ note_never command line front others before after note is written =
 not_built_note : IsNoteLine (status_line [] NotBuilt)
 not_built_note = record { words = codes "# refused not built"; is = refl; note = refl; whole = no_feeds (codes "# refused not built") refl }
 
+usage_note : IsNoteLine (status_line [] Usage)
+usage_note = record { words = codes "# usage: run PLAN FILE.. | replay PLAN SCRIPT FILE.. | check PLAN | make SEED N"; is = refl; note = refl; whole = no_feeds (codes "# usage: run PLAN FILE.. | replay PLAN SCRIPT FILE.. | check PLAN | make SEED N") refl }
+
+open_fault_note : (n : ℕ) → IsNoteLine (status_line [] (OpenFault n))
+open_fault_note n = record {
+  words = codes "# stopped open fault operand " ++ decimal n;
+  is = refl;
+  note = refl;
+  whole = has_no_both 10 (codes "# stopped open fault operand ") (decimal n) (no_feeds (codes "# stopped open fault operand ") refl) (decimal_no_feed n);
+}
+
 no_memory_note : (name : List ℕ) → IsNoteLine (status_line name NoMemory)
 no_memory_note name = record { words = codes "# stopped no memory"; is = refl; note = refl; whole = no_feeds (codes "# stopped no memory") refl }
 
@@ -94,6 +106,7 @@ read_fault_note n = record {
 }
 
 limit_note : (what : LimitOf) (name : List ℕ) → HasNo 10 name → IsNoteLine (status_line name (Limit what))
+limit_note Plan name none = record { words = codes "# stopped limit plan"; is = refl; note = refl; whole = no_feeds (codes "# stopped limit plan") refl }
 limit_note (Node node) name none = record {
   words = codes "# stopped limit node " ++ name;
   is = refl;
@@ -117,16 +130,22 @@ stream_name_no_feed (s ∷ streams) zero plain = name_no_feed s.name (and_parts 
 stream_name_no_feed (s ∷ streams) (suc n) plain = stream_name_no_feed streams n (and_parts (is_plain s.name) (are_plain streams) plain).1
 
 limit_name_no_feed : (plan : SmallPlan) (what : LimitOf) → HasPlainNames plan → HasNo 10 (limit_name plan what)
+limit_name_no_feed plan Plan plain = tt
 limit_name_no_feed plan (Node node) plain = join_name_no_feed plan.join plain.1
 limit_name_no_feed plan (File stream) plain = stream_name_no_feed plan.streams stream plain.0
 
 -- the name of a status' line is short
 pub stop_name_short : (plan : SmallPlan) (status : Status) → HasPlainNames plan → length (stop_name plan status) ≤ 32
 stop_name_short plan Done plain = omega arith
+stop_name_short plan Usage plain = omega arith
 stop_name_short plan NotBuilt plain = omega arith
+stop_name_short plan (PlanRefused line why) plain = omega arith
+stop_name_short plan (FileCount want got) plain = omega arith
+stop_name_short plan (OpenFault n) plain = omega arith
 stop_name_short plan (ReadFault n) plain = omega arith
 stop_name_short plan WriteFault plain = omega arith
 stop_name_short plan NoMemory plain = omega arith
+stop_name_short plan (Limit Plan) plain = omega arith
 stop_name_short plan (Limit (Node node)) plain = go plan.join plain.1
   where
     go : (join : Option SmallJoin) → is_plain_join join ≡ true → length (join_name join) ≤ 32
@@ -159,8 +178,14 @@ early_note command line old new told note delivered =
 
 -- the run never began, and the line of the status was written
 pub never_early : (stop : PlanStop) (command : Command) (old new : SinkState) → IsTrue new.told → Delivered (status_line [] (plan_status stop)) old new → NoneRetracted command old.written new.written
+never_early NoWords command old new told delivered = early_note command (status_line [] Usage) old new told usage_note delivered
+never_early (PlanFile NotOpened) command old new told delivered = early_note command (status_line [] (OpenFault 1)) old new told (open_fault_note 1) delivered
+never_early (PlanFile NotRead) command old new told delivered = early_note command (status_line [] (ReadFault 1)) old new told (read_fault_note 1) delivered
+never_early (PlanFile TooLong) command old new told delivered = early_note command (status_line [] (Limit Plan)) old new told (limit_note Plan [] tt) delivered
+never_early (PlanFile FileMemory) command old new told delivered = early_note command (status_line [] NoMemory) old new told (no_memory_note []) delivered
+never_early (Refused fault) command old new told delivered = early_note command (status_line [] (PlanRefused fault.line fault.why)) old new told (plan_refused_note fault.line fault.why) delivered
+never_early (OtherCount want got) command old new told delivered = early_note command (status_line [] (FileCount want got)) old new told (file_count_note want got) delivered
 never_early NoPlan command old new told delivered = early_note command (status_line [] NotBuilt) old new told not_built_note delivered
-never_early PlanFault command old new told delivered = early_note command (status_line [] (ReadFault 1)) old new told (read_fault_note 1) delivered
 never_early PlanMemory command old new told delivered = early_note command (status_line [] NoMemory) old new told (no_memory_note []) delivered
 
 -- whole first lines of the run, and then a front of the line of the status
@@ -189,7 +214,7 @@ never_done plan command before after ready written =
 pub never_stopped : (stop : FilesStop) (plan : SmallPlan) (command : Command) (name before : List ℕ) (mid new : SinkState) → IsTrue new.told → IsReady plan command
     → name ≡ stop_name plan (files_status stop) → Leaves (files_cut stop) (run_lines plan (stream_files command)) before mid.written → Delivered (status_line name (files_status stop)) mid new → NoneRetracted command before new.written
 never_stopped (Opening (Fault stream)) plan command name before mid new told ready named left delivered =
-    whole_never plan command (status_line [] (ReadFault (2 + stream))) before mid new told ready (read_fault_note (2 + stream)) left (subst (λ (x : List ℕ). Delivered (status_line x (ReadFault (2 + stream))) mid new) named delivered)
+    whole_never plan command (status_line [] (OpenFault (2 + stream))) before mid new told ready (open_fault_note (2 + stream)) left (subst (λ (x : List ℕ). Delivered (status_line x (OpenFault (2 + stream))) mid new) named delivered)
 never_stopped (Opening OpeningMemory) plan command name before mid new told ready named left delivered = whole_never plan command (status_line name NoMemory) before mid new told ready (no_memory_note name) left delivered
 never_stopped (Run (RunFault stream)) plan command name before mid new told ready named left delivered =
     whole_never plan command (status_line [] (ReadFault (2 + stream))) before mid new told ready (read_fault_note (2 + stream)) left (subst (λ (x : List ℕ). Delivered (status_line x (ReadFault (2 + stream))) mid new) named delivered)

@@ -160,6 +160,11 @@ AreFeeds k [] (feed ∷ feeds) = ⊥
 AreFeeds k (stream ∷ streams) [] = ⊥
 AreFeeds k (stream ∷ streams) (feed ∷ feeds) = (feed.stream ≡ k) × (feed.intake.columns ≡ stream.schema) × IsFed feed × AreFeeds (k + 1) streams feeds
 
+-- whatever streams these feeds are of: the turn was the first of what was left of them in rounds, or nothing was left
+abbrev pub GivesInRounds : List FeedState → ℕ → List FeedState → ℕ → Option Arrival → Type 0
+GivesInRounds olds old_at news new_at next =
+    (streams : List SmallStream) → AreFeeds 0 streams olds → Gives (feeds_left streams olds old_at) (feeds_left streams news new_at) (turn_of streams next)
+
 -- nothing was taken yet
 abbrev pub AreNew : List FeedState → Type 0
 AreNew [] = ⊤

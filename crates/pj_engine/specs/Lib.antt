@@ -3,13 +3,13 @@ pub mod Ends
 pub mod Feeds
 pub mod Opened
 pub mod Outcome
-pub mod PlanForms
+pub mod PlanNames
 pub mod Plans
+pub mod Refusals
 pub mod Report
 pub mod Results
 pub mod RunEnds
 pub mod Runs
-pub mod Statements
 pub mod Stops
 pub mod Top
 pub mod Turning

@@ -1,9 +1,9 @@
 -- The feeds of files that were opened, and what closing them leaves of a folder.
-use Rattle.std.specs.Prelude.{◌≡◌, ◌≢◌, ◌<◌, ◌≤◌, ◌⊎◌, ◌↔◌, ℕ, ◌+◌, ⊤, Bool, true, List, [], ◌∷◌, length, take, IsTrue, slice_index_or}
+use Rattle.std.specs.Prelude.{◌≡◌, ◌≢◌, ◌<◌, ◌≤◌, ◌⊎◌, ◌↔◌, ℕ, ◌+◌, ⊤, Bool, true, List, [], ◌∷◌, length, take, Result, OnOk, IsTrue, slice_index_or}
 use Rattle.pj_value.specs.Lists.{In}
 use Rattle.pj_shape.specs.declared.plans.SmallStream.{SmallStream}
 use Rattle.pj_io.specs.Causes.{Rose, counted}
-use Rattle.pj_io.specs.Folders.{IsNew, IsFresh}
+use Rattle.pj_io.specs.Folders.{IsNew, IsFresh, RoseAt}
 use Rattle.pj_io.specs.States.{FolderState}
 use Rattle.pj_engine.specs.Feeds.{FeedState, IsFed, count_of}
 
@@ -14,6 +14,10 @@ OpensFirst count names old new = (name : List ℕ) → IsTrue (new.opened name) 
 -- under the names of some first operands, no more than so many
 abbrev pub OpensAtMost : ℕ → List (List ℕ) → FolderState → FolderState → Type 0
 OpensAtMost most names old new = (count : ℕ) × (count ≤ most) × OpensFirst count names old new
+
+-- no file was opened under this name, and its faults rose
+abbrev pub FailsToOpen : List ℕ → FolderState → FolderState → Type 0
+FailsToOpen name old new = OpensFirst 0 (name ∷ []) old new × RoseAt name old.faults new.faults
 
 -- the file of this stream, whose name has its place among these, could not be opened, and those before it were
 pub record IsFaultAt (stream : ℕ) (names : List (List ℕ)) (feeds : List FeedState) (old new : FolderState) : Type 0 where
@@ -57,6 +61,14 @@ NoneNamed name (feed ∷ feeds) = (feed.source.name ≢ name) × NoneNamed name 
 -- so many bytes were taken from the file of this name that was closed last, or none of these has the name and it is as it was
 abbrev pub IsLast : List ℕ → ℕ → List FeedState → ℕ → ℕ → Type 0
 IsLast name taken feeds before now = (now ≡ taken) ⊎ ((now ≡ before) × NoneNamed name feeds)
+
+-- of the file of this name that was closed last, all bytes were taken
+abbrev pub IsReadToEnd : List ℕ → FolderState → FolderState → Type 0
+IsReadToEnd name old new = new.last name ≡ length (old.contents name)
+
+-- `Ok`: files that are told and were read to their ends still are
+abbrev pub StayReadToEnd : {T E : Type 0} → FolderState → FolderState → Result T E → Type 0
+StayReadToEnd old new result = (name : List ℕ) → IsTrue (old.told name) → IsReadToEnd name old old → OnOk result (IsReadToEnd name old new)
 
 -- the faults of each file were added to those of its name
 abbrev pub AreCounted : (List ℕ → ℕ) → (List ℕ → ℕ) → List FeedState → Type 0

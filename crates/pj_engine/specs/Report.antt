@@ -6,9 +6,11 @@ use Rattle.pj_element.specs.declared.element.Reject.{Reject}
 use Rattle.pj_element.specs.declared.element.Reject.TheVariants.{TooLong, NotElement, Arity, BadCell, WrongKind, Closed}
 use Rattle.pj_element.specs.declared.tally.Tally.{Tally}
 use Rattle.pj_element.specs.Runs.{rows_of, puncts_of, fed}
+use Rattle.pj_plan.specs.declared.fault.PlanWhy.{PlanWhy}
+use Rattle.pj_plan.specs.declared.fault.PlanWhy.TheVariants.{NotAPlan, UnknownStatement, BadShape, NameTwice, UnknownName, UnknownColumn, ColumnTwice, KindsDiffer, BadClass, BadScheme, UsedTwiceOrNever, TooMany, Output, Unreadable}
 use Rattle.pj_engine.specs.declared.status.Status.{Status}
-use Rattle.pj_engine.specs.declared.status.LimitOf.TheVariants.{Node, File}
-use Rattle.pj_engine.specs.declared.status.Status.TheVariants.{Done, NotBuilt, ReadFault, WriteFault, NoMemory, Limit}
+use Rattle.pj_engine.specs.declared.status.LimitOf.TheVariants.{Plan, Node, File}
+use Rattle.pj_engine.specs.declared.status.Status.TheVariants.{Done, Usage, NotBuilt, OpenFault, ReadFault, PlanRefused, FileCount, WriteFault, NoMemory, Limit}
 
 abbrev pub reject_words : Reject → List ℕ
 reject_words TooLong = codes "too long"
@@ -46,21 +48,47 @@ results_line outputs = results_text (counted_to (length (rows_of outputs))) (cou
 abbrev pub peak_line : List ℕ → ℕ → List ℕ
 peak_line name peak = fed (codes "# peak " ++ name ++ codes " " ++ decimal peak)
 
+-- the words of a plan's fault, behind its number
+abbrev pub fault_words : PlanWhy → List ℕ
+fault_words NotAPlan = codes " P1 not a plan"
+fault_words UnknownStatement = codes " P2 unknown statement"
+fault_words BadShape = codes " P3 bad shape"
+fault_words NameTwice = codes " P4 name given twice"
+fault_words UnknownName = codes " P5 unknown name"
+fault_words UnknownColumn = codes " P6 unknown column"
+fault_words ColumnTwice = codes " P7 column name twice"
+fault_words KindsDiffer = codes " P8 kinds differ"
+fault_words BadClass = codes " P9 bad class"
+fault_words BadScheme = codes " P10 bad scheme"
+fault_words UsedTwiceOrNever = codes " P11 used twice or never"
+fault_words TooMany = codes " P12 too many"
+fault_words Output = codes " P13 output"
+fault_words Unreadable = codes " P14 unreadable line"
+
 -- the line of a status, with its line feed; nothing where it has none. What has a limit has this name
 abbrev pub status_line : List ℕ → Status → List ℕ
 status_line name Done = []
+status_line name Usage = fed (codes "# usage: run PLAN FILE.. | replay PLAN SCRIPT FILE.. | check PLAN | make SEED N")
 status_line name NotBuilt = fed (codes "# refused not built")
+status_line name (PlanRefused line why) = fed (codes "# refused plan line " ++ decimal line ++ fault_words why)
+status_line name (FileCount want got) = fed (codes "# refused files want " ++ decimal want ++ codes " got " ++ decimal got)
+status_line name (OpenFault operand) = fed (codes "# stopped open fault operand " ++ decimal operand)
 status_line name (ReadFault operand) = fed (codes "# stopped read fault operand " ++ decimal operand)
 status_line name WriteFault = []
 status_line name NoMemory = fed (codes "# stopped no memory")
+status_line name (Limit Plan) = fed (codes "# stopped limit plan")
 status_line name (Limit (Node node)) = fed (codes "# stopped limit node " ++ name)
 status_line name (Limit (File stream)) = fed (codes "# stopped limit file " ++ name)
 
 -- the exit status of the program
 abbrev pub status_number : Status → ℕ
 status_number Done = 0
-status_number NotBuilt = 9
+status_number (PlanRefused line why) = 1
+status_number (OpenFault operand) = 3
 status_number (ReadFault operand) = 3
 status_number WriteFault = 4
 status_number NoMemory = 5
 status_number (Limit what) = 6
+status_number (FileCount want got) = 8
+status_number NotBuilt = 9
+status_number Usage = 64

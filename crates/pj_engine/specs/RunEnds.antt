@@ -1,5 +1,5 @@
 -- How a run over files ends, and why.
-use Rattle.std.specs.Prelude.{◌≡◌, ◌<◌, ◌≤◌, ◌^◌, ℕ, ⊤, List, [], length, Result, Ok, Err, Some, IsTrue, slice_get, slice_index_or}
+use Rattle.std.specs.Prelude.{◌≡◌, ◌<◌, ◌≤◌, ◌^◌, ℕ, ⊤, List, [], length, Result, Ok, Err, Some, IsTrue, IfErr, slice_get, slice_index_or}
 use Rattle.pj_io.specs.Causes.{Rose}
 use Rattle.pj_io.specs.States.{FolderState, SinkState}
 use Rattle.pj_shape.specs.declared.plans.SmallPlan.{SmallPlan}
@@ -12,10 +12,20 @@ use Rattle.pj_engine.specs.Commands.{AreTold, files_named}
 use Rattle.pj_engine.specs.Ends.{EndsBefore, EndsAtLimit, ArrivedOf, AreDistinct}
 use Rattle.pj_engine.specs.Feeds.{FeedState, AreSameFeeds, AreAllTaken, AllTold, bytes_of, files_of}
 use Rattle.pj_engine.specs.Opened.{HasLasts, OpensFirst, OpensAtMost}
-use Rattle.pj_engine.specs.Runs.{GoesBeyond}
+use Rattle.pj_engine.specs.Runs.{GoesBeyond, run_lines}
 use Rattle.pj_engine.specs.Turning.{TurnsEnd}
+use Rattle.pj_engine.specs.Written.{WritesBy, run_cut, files_cut}
 
 -- ---- over feeds
+
+-- where the files and the sink are told: these lines were written, or as much of them as the stop leaves
+abbrev pub FeedsWrite : {T : Type 0} → List FeedState → List (List ℕ) → SinkState → SinkState → Result T RunStop → Type 0
+FeedsWrite feeds lines old new result = AllTold feeds → IsTrue new.told → WritesBy run_cut lines old new result
+
+-- where the files and the sink are told: what the stop of a run's turns leaves of the sink and of the feeds
+abbrev pub StoppedTurns : {T : Type 0} → SmallPlan → List FeedState → List FeedState → SinkState → SinkState → Result T RunStop → Type 0
+StoppedTurns plan olds news old new result =
+    AllTold olds → IsTrue new.told → IfErr result (λ stop. TurnsEnd stop plan (files_of olds) news old.written new.written)
 
 -- why the turns of a run stopped: a source's faults rose, a file gave too many bytes, an element went beyond a limit, or the sink's
 -- faults rose; memory may be wanting at any time
@@ -41,6 +51,11 @@ pub record FeedsEnd (stop : RunStop) (plan : SmallPlan) (feeds : List FeedState)
   pub ends : TurnsEnd stop plan (files_of feeds) news written lines
   pub lasts : HasLasts news before.last after.last
 
+-- the same, where the files and the sink are told
+abbrev pub StoppedFeeds : {T : Type 0} → SmallPlan → List FeedState → FolderState → FolderState → SinkState → SinkState → Result T RunStop → Type 0
+StoppedFeeds plan feeds before after old new result =
+    AllTold feeds → IsTrue new.told → IfErr result (λ stop. FeedsEnd stop plan feeds before after old.written new.written)
+
 -- why it stopped, where the faults of a file were added to those of its name
 abbrev pub FeedsCause : RunStop → SmallPlan → List FeedState → FolderState → FolderState → SinkState → SinkState → Type 0
 FeedsCause (ReadFault stream) plan feeds before after old new =
@@ -60,6 +75,11 @@ FilesOpened (Err (Opening (Fault stream))) names before after = OpensFirst strea
 FilesOpened (Err (Opening OpeningMemory)) names before after = OpensAtMost (length names) names before after
 FilesOpened (Err (Run stop)) names before after = OpensFirst (length names) names before after
 
+-- where the files and the sink are told: all lines of the run over these files were written, or as much of them as the stop leaves
+abbrev pub FilesWrite : {T : Type 0} → SmallPlan → List (List ℕ) → FolderState → SinkState → SinkState → Result T FilesStop → Type 0
+FilesWrite plan names folder old new result =
+    AreTold names folder → IsTrue new.told → WritesBy files_cut (run_lines plan (files_named names folder)) old new result
+
 -- what the stop of a run over these files leaves
 abbrev pub FilesEnd : FilesStop → SmallPlan → List (List ℕ) → FolderState → FolderState → List ℕ → List ℕ → Type 0
 FilesEnd (Opening (Fault stream)) plan names before after written lines =
@@ -72,6 +92,11 @@ FilesEnd (Run (TooLarge stream)) plan names before after written lines = EndsBef
 FilesEnd (Run (Limit node)) plan names before after written lines = EndsAtLimit plan (files_named names before) node written lines
 FilesEnd (Run WriteFailed) plan names before after written lines = ⊤
 FilesEnd (Run NoMemory) plan names before after written lines = ⊤
+
+-- the same, where the files and the sink are told
+abbrev pub StoppedFiles : {T : Type 0} → SmallPlan → List (List ℕ) → FolderState → FolderState → SinkState → SinkState → Result T FilesStop → Type 0
+StoppedFiles plan names before after old new result =
+    AreTold names before → IsTrue new.told → IfErr result (λ stop. FilesEnd stop plan names before after old.written new.written)
 
 -- there is such a file, and its faults rose
 pub record IsFaultOf (stream : ℕ) (names : List (List ℕ)) (before after : FolderState) : Type 0 where

@@ -16,11 +16,13 @@ use Rattle.pj_engine.specs.declared.stops.OpeningStop.{OpeningStop}
 use Rattle.pj_engine.specs.declared.stops.OpeningStop.TheVariants.{Fault, NoMemory as OpeningMemory}
 use Rattle.pj_engine.specs.declared.stops.FilesStop.{FilesStop}
 use Rattle.pj_engine.specs.declared.stops.FilesStop.TheVariants.{Opening, Run}
+use Rattle.pj_engine.specs.declared.stops.FileStop.{FileStop}
+use Rattle.pj_engine.specs.declared.stops.FileStop.TheVariants.{OpenFault as NotOpened, ReadFault as NotRead, TooLong, NoMemory as FileMemory}
 use Rattle.pj_engine.specs.declared.stops.PlanStop.{PlanStop}
-use Rattle.pj_engine.specs.declared.stops.PlanStop.TheVariants.{NotBuilt as NoPlan, ReadFault as PlanFault, NoMemory as PlanMemory}
+use Rattle.pj_engine.specs.declared.stops.PlanStop.TheVariants.{Usage as NoWords, File as PlanFile, Refused, FileCount as OtherCount, NotBuilt as NoPlan, NoMemory as PlanMemory}
 use Rattle.pj_engine.specs.declared.status.Status.{Status}
-use Rattle.pj_engine.specs.declared.status.Status.TheVariants.{NotBuilt, ReadFault as StatusFault, WriteFault, NoMemory as StatusMemory, Limit as StatusLimit}
-use Rattle.pj_engine.specs.declared.status.LimitOf.TheVariants.{Node, File}
+use Rattle.pj_engine.specs.declared.status.Status.TheVariants.{Usage, NotBuilt, OpenFault, ReadFault as StatusFault, PlanRefused, FileCount, WriteFault, NoMemory as StatusMemory, Limit as StatusLimit}
+use Rattle.pj_engine.specs.declared.status.LimitOf.TheVariants.{Plan, Node, File}
 
 abbrev pub of_core : Stop → TurnStop
 of_core (CoreLimit node) = TurnLimit node
@@ -44,10 +46,20 @@ stop_at stream FlushFailed = WriteFailed
 abbrev pub of_feed : FeedStop → RunStop
 of_feed stop = stop_at stop.stream stop.why
 
--- the status of a call whose plan was not had
+-- the status of a call whose plan's file was not read; it is operand 1
+abbrev pub file_status : FileStop → Status
+file_status NotOpened = OpenFault 1
+file_status NotRead = StatusFault 1
+file_status TooLong = StatusLimit Plan
+file_status FileMemory = StatusMemory
+
+-- the status of a call that has no plan to run
 abbrev pub plan_status : PlanStop → Status
+plan_status NoWords = Usage
+plan_status (PlanFile stop) = file_status stop
+plan_status (Refused fault) = PlanRefused fault.line fault.why
+plan_status (OtherCount want got) = FileCount want got
 plan_status NoPlan = NotBuilt
-plan_status PlanFault = StatusFault 1
 plan_status PlanMemory = StatusMemory
 
 -- the status of a run that ended; the plan is operand 1, and the streams' files follow
@@ -59,7 +71,7 @@ run_status WriteFailed = WriteFault
 run_status NoMemory = StatusMemory
 
 abbrev pub opening_status : OpeningStop → Status
-opening_status (Fault stream) = StatusFault (2 + stream)
+opening_status (Fault stream) = OpenFault (2 + stream)
 opening_status OpeningMemory = StatusMemory
 
 abbrev pub files_status : FilesStop → Status

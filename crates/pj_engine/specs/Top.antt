@@ -15,13 +15,14 @@ use Rattle.pj_laws.specs.Outcomes.{outputs_of as handed_out, elements_of as arri
 use Rattle.pj_laws.specs.CoreKept.{nodes_of}
 use Rattle.pj_laws.specs.Join.{upto_from}
 use Rattle.pj_engine.specs.declared.status.Status.{Status}
-use Rattle.pj_engine.specs.declared.status.Status.TheVariants.{Done, NotBuilt, ReadFault, WriteFault, NoMemory, Limit}
+use Rattle.pj_engine.specs.declared.status.Status.TheVariants.{Done, Usage, NotBuilt, OpenFault, ReadFault, PlanRefused, FileCount, WriteFault, NoMemory, Limit}
 use Rattle.pj_engine.specs.declared.status.LimitOf.{LimitOf}
-use Rattle.pj_engine.specs.declared.status.LimitOf.TheVariants.{Node, File}
+use Rattle.pj_engine.specs.declared.status.LimitOf.TheVariants.{Plan, Node, File}
 use Rattle.pj_engine.specs.Commands.{Command, IsTold, HasToldPlan, operand, file_names, plan_bytes, stream_files}
 use Rattle.pj_engine.specs.Ends.{EndsBefore, EndsAtLimit, ArrivedOf, AreDistinct}
-use Rattle.pj_engine.specs.Opened.{OpensFirst}
+use Rattle.pj_engine.specs.Opened.{OpensFirst, IsReadToEnd}
 use Rattle.pj_engine.specs.Plans.{plan_of}
+use Rattle.pj_engine.specs.Refusals.{refusal_of}
 use Rattle.pj_engine.specs.Report.{status_line}
 use Rattle.pj_engine.specs.Runs.{outputs_of, history_of, answer_of, run_lines, GoesBeyond}
 use Rattle.pj_engine.specs.Written.{flat, WholeLines, FrontOf, Delivered, Spells, holding}
@@ -37,7 +38,7 @@ Ran Holds command old new =
 -- of the file of each name that was closed last, all bytes were taken, where they are told
 abbrev pub AreReadToEnd : List (List ℕ) → FolderState → FolderState → Type 0
 AreReadToEnd [] old new = ⊤
-AreReadToEnd (name ∷ names) old new = (IsTrue (old.told name) → new.last name ≡ length (old.contents name)) × AreReadToEnd names old new
+AreReadToEnd (name ∷ names) old new = (IsTrue (old.told name) → IsReadToEnd name old new) × AreReadToEnd names old new
 
 -- ---- something to run
 
@@ -52,14 +53,21 @@ pub record IsBuilt (command : Command) : Type 0 where
 
 -- ---- files
 
--- so many operands may have been opened: none or one before the plan is found good, all before the run begins
+-- so many operands may have been opened: none where the words have not the form, one where the plan is refused, those before the one
+-- that could not be opened, and all before the run begins
 abbrev pub MayOpen : Status → Command → ℕ → Type 0
 MayOpen Done command count = count ≡ length command.names
-MayOpen NotBuilt command count = (count ≤ 1) × (command.is_run ≡ false → count ≡ 0)
-MayOpen (ReadFault n) command count = (count + 1 ≡ n) ⊎ ((n ≡ 1) × (count ≡ 1)) ⊎ (count ≡ length command.names)
+MayOpen Usage command count = count ≡ 0
+MayOpen NotBuilt command count = count ≡ 1
+MayOpen (PlanRefused line why) command count = count ≡ 1
+MayOpen (FileCount want got) command count = count ≡ 1
+MayOpen (OpenFault n) command count = count + 1 ≡ n
+MayOpen (ReadFault n) command count = ((n ≡ 1) × (count ≡ 1)) ⊎ ((1 < n) × (count ≡ length command.names))
 MayOpen WriteFault command count = count ≡ length command.names
 MayOpen NoMemory command count = count ≤ length command.names
-MayOpen (Limit what) command count = count ≡ length command.names
+MayOpen (Limit Plan) command count = count ≡ 1
+MayOpen (Limit (Node node)) command count = count ≡ length command.names
+MayOpen (Limit (File stream)) command count = count ≡ length command.names
 
 -- the operands are opened in order, the streams' files only where there is something to run
 abbrev pub OpensInOrder : Status → Command → FolderState → Type 0
@@ -86,45 +94,58 @@ stream_name (stream ∷ streams) (suc n) = stream_name streams n
 
 -- the name of what has a limit
 abbrev pub limit_name : SmallPlan → LimitOf → List ℕ
+limit_name plan Plan = []
 limit_name plan (Node node) = join_name plan.join
 limit_name plan (File stream) = stream_name plan.streams stream
 
 -- the name that the line of a status has, if any
 abbrev pub stop_name : SmallPlan → Status → List ℕ
 stop_name plan Done = []
+stop_name plan Usage = []
 stop_name plan NotBuilt = []
+stop_name plan (PlanRefused line why) = []
+stop_name plan (FileCount want got) = []
+stop_name plan (OpenFault n) = []
 stop_name plan (ReadFault n) = []
 stop_name plan WriteFault = []
 stop_name plan NoMemory = []
 stop_name plan (Limit what) = limit_name plan what
 
--- The file of this operand, a stream's, was not opened: nothing was written. Or a read of it failed: the lines of the outputs were
--- written up to a turn of that stream, and no line beyond those that were read whole was lost or made up
+-- A read of the file of this operand, a stream's, failed: the lines of the outputs were written up to a turn of that stream, and no
+-- line beyond those that were read whole was lost or made up
 abbrev pub FaultLeaves : SmallPlan → Command → FolderState → ℕ → List ℕ → List ℕ → Type 0
 FaultLeaves plan command after n before lines =
-    ((lines ≡ before) × (AreDistinct command.names → after.last (operand command.names n) ≡ command.folder.last (operand command.names n)))
-    ⊎ ((stream : ℕ) × (n ≡ 2 + stream) × (ends : EndsBefore plan (stream_files command) stream before lines)
-    × (AreDistinct command.names → ArrivedOf plan (stream_files command) stream (after.last (operand command.names n)) ends.front))
+    (stream : ℕ) × (n ≡ 2 + stream) × (ends : EndsBefore plan (stream_files command) stream before lines)
+    × (AreDistinct command.names → ArrivedOf plan (stream_files command) stream (after.last (operand command.names n)) ends.front)
 
 -- what a limit leaves: the lines of the outputs up to the step that goes beyond it, or up to the turn of the stream whose file is
 -- too large
 abbrev pub LimitLeaves : SmallPlan → List (List ℕ) → LimitOf → List ℕ → List ℕ → Type 0
+LimitLeaves plan files Plan before lines = ⊥
 LimitLeaves plan files (Node node) before lines = EndsAtLimit plan files node before lines
 LimitLeaves plan files (File stream) before lines = EndsBefore plan files stream before lines
+
+-- a limit of the run was met: what it leaves was written, and the status' line
+abbrev pub LimitStops : LimitOf → Command → SinkState → SinkState → Type 0
+LimitStops what command old new =
+    (plan : SmallPlan) × (lines : List ℕ) × (plan_of (plan_bytes command) ≡ Some plan) × LimitLeaves plan (stream_files command) what old.written lines
+    × Delivered (status_line (limit_name plan what) (Limit what)) (holding old lines) new
 
 -- what was written before the status' line, where there is a status line
 abbrev pub StopLeaves : Status → Command → FolderState → SinkState → SinkState → Type 0
 StopLeaves Done command after old new = ⊤
+StopLeaves Usage command after old new = ⊤
 StopLeaves NotBuilt command after old new = ⊤
+StopLeaves (PlanRefused line why) command after old new = ⊤
+StopLeaves (FileCount want got) command after old new = ⊤
+StopLeaves (OpenFault n) command after old new = AreDistinct command.names → after.last (operand command.names n) ≡ command.folder.last (operand command.names n)
 StopLeaves (ReadFault n) command after old new =
     (n ≡ 1) ⊎ ((plan : SmallPlan) × (lines : List ℕ) × (plan_of (plan_bytes command) ≡ Some plan) × FaultLeaves plan command after n old.written lines
     × Delivered (status_line [] (ReadFault n)) (holding old lines) new)
 StopLeaves WriteFault command after old new =
     (plan : SmallPlan) × (plan_of (plan_bytes command) ≡ Some plan) × FrontOf (flat (run_lines plan (stream_files command))) old.written new.written
 StopLeaves NoMemory command after old new = (lines : List ℕ) × LinesSoFar command old.written lines × Delivered (status_line [] NoMemory) (holding old lines) new
-StopLeaves (Limit what) command after old new =
-    (plan : SmallPlan) × (lines : List ℕ) × (plan_of (plan_bytes command) ≡ Some plan) × LimitLeaves plan (stream_files command) what old.written lines
-    × Delivered (status_line (limit_name plan what) (Limit what)) (holding old lines) new
+StopLeaves (Limit what) command after old new = (what ≡ Plan) ⊎ LimitStops what command old new
 
 -- Where the command and the sink are told: where a write failed, a front of the bytes of the whole run was written; where memory ran
 -- out, whole first lines of the run; where a read failed or a limit was met, exactly the lines of the outputs until then. Behind
@@ -132,15 +153,18 @@ StopLeaves (Limit what) command after old new =
 abbrev pub StoppedRun : Status → Command → FolderState → SinkState → SinkState → Type 0
 StoppedRun status command after old new = IsTold command → IsTrue new.told → StopLeaves status command after old new
 
--- a call that ends before the streams' files were opened, or because one could not be, has written its status' line and nothing else
+-- a call that is refused, or ends since a file could not be opened or the plan not be read, has written its status' line and nothing else
 abbrev pub EarlyEnd : Status → Command → FolderState → SinkState → SinkState → Type 0
 EarlyEnd Done command after old new = ⊤
+EarlyEnd Usage command after old new = Delivered (status_line [] Usage) old new
 EarlyEnd NotBuilt command after old new = Delivered (status_line [] NotBuilt) old new
-EarlyEnd (ReadFault n) command after old new =
-    (n ≡ 1) ⊎ (after.opened (operand command.names n) ≡ false) → Delivered (status_line [] (ReadFault n)) old new
+EarlyEnd (PlanRefused line why) command after old new = Delivered (status_line [] (PlanRefused line why)) old new
+EarlyEnd (FileCount want got) command after old new = Delivered (status_line [] (FileCount want got)) old new
+EarlyEnd (OpenFault n) command after old new = Delivered (status_line [] (OpenFault n)) old new
+EarlyEnd (ReadFault n) command after old new = n ≡ 1 → Delivered (status_line [] (ReadFault n)) old new
 EarlyEnd WriteFault command after old new = ⊤
 EarlyEnd NoMemory command after old new = ⊤
-EarlyEnd (Limit what) command after old new = ⊤
+EarlyEnd (Limit what) command after old new = what ≡ Plan → Delivered (status_line [] (Limit what)) old new
 
 -- ---- what was written stays right
 
@@ -153,6 +177,10 @@ abbrev pub gone_on : List (List Element) → List (List Element) → List (List 
 gone_on [] more = []
 gone_on (f ∷ fs) [] = f ∷ gone_on fs []
 gone_on (f ∷ fs) (m ∷ ms) = (f ++ m) ∷ gone_on fs ms
+
+-- the elements that a front of the plan's run brought to its streams, each going on with more
+abbrev pub streams_after : SmallPlan → List Entry → List (List Element) → List (List Element)
+streams_after plan front more = gone_on (arrived_in (length plan.streams) front) more
 
 abbrev pub AllLawful : List (List Element) → Type 0
 AllLawful [] = ⊤
@@ -172,8 +200,7 @@ pub record StaysRight (plan : SmallPlan) (files : List (List ℕ)) (outputs : Li
   pub others : List Element
   pub among : outputs ++ others ≡ elements_out (handed_out false (nodes_of plan) front)
   pub shortest : IsShortest plan front (length outputs)
-  pub right : (more : List (List Element)) → AllLawful (gone_on (arrived_in (length plan.streams) front) more)
-      → SubBag (rows_of outputs) (answer_of plan (map rows_of (gone_on (arrived_in (length plan.streams) front) more)))
+  pub right : (more : List (List Element)) → AllLawful (streams_after plan front more) → SubBag (rows_of outputs) (answer_of plan (map rows_of (streams_after plan front more)))
 
 -- where the command and the sink are told: what was written spells lawful outputs, and there are none or they stay right
 abbrev pub NeverRetracted : Command → SinkState → SinkState → Type 0
@@ -182,16 +209,6 @@ NeverRetracted command old new =
     × IsLawful outputs × ((outputs ≡ []) ⊎ ((plan : SmallPlan) × (plan_of (plan_bytes command) ≡ Some plan) × StaysRight plan (stream_files command) outputs))
 
 -- ---- causes
-
--- the bytes are too many or spell no plan, or its streams are others in number
-abbrev pub IsNoPlanOf : ℕ → List ℕ → Type 0
-IsNoPlanOf streams bytes =
-    (1048576 < length bytes) ⊎ (plan_of bytes ≡ None)
-    ⊎ ((plan : SmallPlan) × (plan_of bytes ≡ Some plan) × (streams ≡ length plan.streams → ⊥))
-
--- there is nothing to run: the words have another form, or the plan has
-abbrev pub IsUnbuilt : Command → Type 0
-IsUnbuilt command = (command.is_run ≡ false) ⊎ (HasToldPlan command → IsNoPlanOf (length (file_names command)) (plan_bytes command))
 
 -- there is something to run, and more elements come to this node than may
 pub record BeyondLimit (command : Command) (node : ℕ) : Type 0 where
@@ -214,3 +231,15 @@ pub record HasFault (command : Command) (after : FolderState) (n : ℕ) : Type 0
   pub last : n ≤ length command.names
   pub rose : Rose (command.folder.faults (operand command.names n)) (after.faults (operand command.names n))
   pub later : 1 < n → IsBuilt command
+
+-- the faults of this operand rose, and files were opened under the names of those before it alone
+pub record IsUnopened (command : Command) (after : FolderState) (n : ℕ) : Type 0 where
+  pub fault : HasFault command after n
+  pub before : ℕ
+  pub number : before + 1 ≡ n
+  pub opened : OpensFirst before command.names command.folder after
+
+-- where words, plan or number of files are refused, and the plan is told, the call answers that, unless memory ran out or the plan's file failed
+abbrev pub AnswersRefusal : Status → Command → Type 0
+AnswersRefusal answer command =
+    HasToldPlan command → (status : Status) → refusal_of command ≡ Some status → (answer ≡ status) ⊎ (answer ≡ NoMemory) ⊎ (answer ≡ OpenFault 1) ⊎ (answer ≡ ReadFault 1)

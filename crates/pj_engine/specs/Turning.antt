@@ -1,5 +1,5 @@
 -- What a turn of a core hands out, and how it ends.
-use Rattle.std.specs.Prelude.{◌≡◌, ◌<◌, ℕ, ⊤, false, List, ◌++◌, length, Option, Some, None, IsTrue, slice_get}
+use Rattle.std.specs.Prelude.{◌≡◌, ◌<◌, ℕ, ⊤, false, List, ◌++◌, length, Option, Some, None, Result, IsTrue, slice_get}
 use Rattle.pj_shape.specs.declared.plans.SmallPlan.{SmallPlan}
 use Rattle.pj_shape.specs.declared.plans.SmallStream.{SmallStream}
 use Rattle.pj_pattern.specs.declared.element.Element.{Element}
@@ -23,7 +23,7 @@ use Rattle.pj_engine.specs.declared.stops.RunStop.TheVariants.{ReadFault, TooLar
 use Rattle.pj_engine.specs.Feeds.{FeedState, fed_elements}
 use Rattle.pj_io.specs.States.{SinkState}
 use Rattle.pj_engine.specs.Results.{counts_of, out_lines}
-use Rattle.pj_engine.specs.Written.{flat}
+use Rattle.pj_engine.specs.Written.{flat, WritesBy, turn_cut}
 use Rattle.pj_engine.specs.Ends.{EndsBefore, EndsAtLimit}
 
 -- the turn is of one of these streams, and what it brings fits the columns, where it is no closing
@@ -60,6 +60,13 @@ pub record TurnDone (old new : CoreState) (turn : Turn) (before after : Counts) 
   pub makes : MakesTurn old new turn outs
   pub counted : (es : List Element) → before ≡ counts_of es → after ≡ counts_of (es ++ elements_out outs)
 
+-- where the sink is told: behind each history that the core stands for and that the turn may follow, the lines of what the turn hands
+-- out were written, or as much of them as the stop leaves
+abbrev pub TurnWrites : {T : Type 0} → CoreState → Turn → SinkState → SinkState → Result T TurnStop → Type 0
+TurnWrites core turn old new result =
+    IsTrue new.told → (history : List Entry) → StandsFor core history → MayFollow core history (arrival_of turn)
+    → WritesBy turn_cut (out_lines (turn_outs core history turn)) old new result
+
 -- Where a limit stopped the turn, an entry of it is the first that brings an element beyond the limit, at this node, and where the
 -- sink is told exactly the lines of the outputs up to it were written
 pub record EndsTurn (core : CoreState) (history : List Entry) (turn : Turn) (node : ℕ) (old new : SinkState) : Type 0 where
@@ -74,6 +81,11 @@ abbrev pub TurnStops : TurnStop → CoreState → List Entry → Turn → SinkSt
 TurnStops (TurnLimit node) core history turn old new = EndsTurn core history turn node old new
 TurnStops TurnFailed core history turn old new = ⊤
 TurnStops TurnMemory core history turn old new = ⊤
+
+-- what the stop leaves behind each history that the core stands for and that the turn may follow
+abbrev pub TurnStopsBehind : TurnStop → CoreState → Turn → SinkState → SinkState → Type 0
+TurnStopsBehind stop core turn old new =
+    (history : List Entry) → StandsFor core history → MayFollow core history (arrival_of turn) → TurnStops stop core history turn old new
 
 -- What the stop of a run's turns leaves: where a stream's turn could not be made, the lines of the outputs up to it, and where a
 -- read of its file failed, exactly the elements arrived that are accepted of the lines which end with a line feed in the bytes

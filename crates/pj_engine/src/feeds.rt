@@ -1,8 +1,8 @@
 // The elements of all streams, in turns, as their files are read.
-ghost use Rattle.std.specs.Prelude.{◌≡◌, ◌<◌, ◌≤◌, ℕ, List, [], ◌∷◌, length, true, false, IsTrue, IfOk, OnOk, OnErr, IfErr, IfNone, None};
+ghost use Rattle.std.specs.Prelude.{◌≡◌, ◌<◌, ◌≤◌, List, ◌∷◌, length, true, false, IsTrue, IfOk, OnOk, OnErr, IfErr, IfNone, None};
 ghost use Rattle.pj_io.specs.Causes.{Rose};
 ghost use Rattle.pj_shape.specs.declared.plans.SmallStream.{SmallStream};
-ghost use Rattle.pj_engine.specs.Feeds.{feed_of, turn_in, turn_of, feed_left, feeds_left, count_of, Gives, work_of, IsFed, IsSameFeed, IsNextOf, BringsOf, FeedEnds, AreFeeds, AreSameFeeds, AllTold, IsFirstOpen, HasTurn, BringsIn, WorksOn, StopsIn};
+ghost use Rattle.pj_engine.specs.Feeds.{feed_of, turn_in, feed_left, GivesInRounds, work_of, IsFed, IsSameFeed, IsNextOf, BringsOf, FeedEnds, AreFeeds, AreSameFeeds, AllTold, IsFirstOpen, HasTurn, BringsIn, WorksOn, StopsIn};
 ghost use Rattle.pj_engine.specs.Written.{WritesNothing};
 
 use crate::stops::{FeedStop, FeedWhy};
@@ -141,8 +141,7 @@ impl<S: Source> Feeds<S> {
         requires few { length self.old.feeds.items ≤ 128 }
         ensures fed { (streams : List SmallStream) → AreFeeds 0 streams self.old.feeds.items → OnOk result (AreFeeds 0 streams self.new.feeds.items) }
         ensures same { AreSameFeeds self.old.feeds.items self.new.feeds.items }
-        ensures gives { AllTold self.old.feeds.items → IfOk result (λ next. (streams : List SmallStream) → AreFeeds 0 streams self.old.feeds.items
-            → Gives (feeds_left streams self.old.feeds.items self.old.at) (feeds_left streams self.new.feeds.items self.new.at) (turn_of streams next)) }
+        ensures gives { AllTold self.old.feeds.items → IfOk result (λ next. GivesInRounds self.old.feeds.items self.old.at self.new.feeds.items self.new.at next) }
         ensures works { IfOk result (λ next. WorksOn self.old.feeds.items self.new.feeds.items next) }
         ensures brings { IfOk result (λ next. BringsIn self.old.feeds.items next) }
         ensures nothing { IfOk result (λ next. IfNone next (self.new.feeds.items ≡ self.old.feeds.items)) }

@@ -1,5 +1,5 @@
 // The run of a plan over its files.
-ghost use Rattle.std.specs.Prelude.{◌≡◌, ◌≤◌, ◌<◌, ◌+◌, ◌^◌, ℕ, List, map, [], length, slice_get, IsTrue, IfErr, IfOk, OnOk, Err, Some};
+ghost use Rattle.std.specs.Prelude.{◌≡◌, ◌≤◌, map, length, IsTrue, IfErr, IfOk, OnOk, Err, Some};
 ghost use Rattle.std.specs.String.{string_bytes};
 ghost use Rattle.pj_io.specs.Causes.{Rose};
 ghost use Rattle.pj_io.specs.Folders.{NoneFalls, SameEverywhere};
@@ -7,15 +7,13 @@ ghost use Rattle.pj_shape.specs.declared.plans.SmallJoin.{SmallJoin};
 ghost use Rattle.pj_element.specs.Runs.{element_lines};
 ghost use Rattle.pj_laws.specs.CoreKept.{IsSmallPlan};
 ghost use Rattle.pj_core.specs.Calls.{IsPeak};
-ghost use Rattle.pj_engine.specs.Commands.{AreTold, files_named};
 ghost use Rattle.pj_engine.specs.Feeds.{AreFeeds, AreNew, AreSameFeeds, AllTold, AreAllTaken, files_of, tallies_in};
-ghost use Rattle.pj_engine.specs.Opened.{AreOpened};
+ghost use Rattle.pj_engine.specs.Opened.{AreOpened, StayReadToEnd};
 ghost use Rattle.pj_engine.specs.Outcome.{IsOutcome, report_lines};
-ghost use Rattle.pj_engine.specs.RunEnds.{AreRead, FeedsCause, FeedsEnd, FilesCause, FilesEnd, FilesOpened, TurnsCause};
+ghost use Rattle.pj_engine.specs.RunEnds.{AreRead, FeedsCause, FeedsWrite, FilesCause, FilesOpened, FilesWrite, StoppedFeeds, StoppedFiles, StoppedTurns, TurnsCause};
 ghost use Rattle.pj_engine.specs.Runs.{run_lines, outputs_of};
 ghost use Rattle.pj_engine.specs.Top.{AreReadToEnd};
-ghost use Rattle.pj_engine.specs.Turning.{TurnsEnd};
-ghost use Rattle.pj_engine.specs.Written.{WritesBy, write_cut, run_cut, files_cut};
+ghost use Rattle.pj_engine.specs.Written.{WritesBy, write_cut};
 
 use crate::feeds::{Feed, Feeds};
 use crate::files::{close_feeds, open_feeds};
@@ -45,14 +43,11 @@ pub fn run_files<F: Folder, K: Sink>(
     requires small { IsSmallPlan plan.now }
     requires each { length names.now ≡ length plan.now.streams }
     ensures told { IsTrue (K.state out.new).told → IsTrue (K.state out.old).told }
-    ensures lines { AreTold (map string_bytes names.now) (F.state folder.old) → IsTrue (K.state out.new).told
-        → WritesBy files_cut (run_lines plan.now (files_named (map string_bytes names.now) (F.state folder.old))) (K.state out.old) (K.state out.new) result }
-    ensures ends { AreTold (map string_bytes names.now) (F.state folder.old) → IsTrue (K.state out.new).told → IfErr result (λ stop.
-        FilesEnd stop plan.now (map string_bytes names.now) (F.state folder.old) (F.state folder.new) (K.state out.old).written (K.state out.new).written) }
+    ensures lines { FilesWrite plan.now (map string_bytes names.now) (F.state folder.old) (K.state out.old) (K.state out.new) result }
+    ensures ends { StoppedFiles plan.now (map string_bytes names.now) (F.state folder.old) (F.state folder.new) (K.state out.old) (K.state out.new) result }
     ensures unopened { (stop : OpeningStop) → result ≡ Err (FilesStop.Opening stop) → out.new ≡ out.old }
     ensures last { OnOk result (AreReadToEnd (map string_bytes names.now) (F.state folder.old) (F.state folder.new)) }
-    ensures keeps { (name : List ℕ) → IsTrue ((F.state folder.old).told name) → (F.state folder.old).last name ≡ length ((F.state folder.old).contents name)
-        → OnOk result ((F.state folder.new).last name ≡ length ((F.state folder.old).contents name)) }
+    ensures keeps { StayReadToEnd (F.state folder.old) (F.state folder.new) result }
     ensures opened { FilesOpened result (map string_bytes names.now) (F.state folder.old) (F.state folder.new) }
     ensures causes { IfErr result (λ stop. FilesCause stop plan.now (map string_bytes names.now) (F.state folder.old) (F.state folder.new) (K.state out.old) (K.state out.new)) }
     ensures folder_later { NoneFalls (F.state folder.old).faults (F.state folder.new).faults }
@@ -88,9 +83,8 @@ fn run_feeds<F: Folder, K: Sink>(
     requires none { AreNew feeds.items }
     requires opened { AreOpened (F.state folder.old).opened feeds.items }
     ensures told { IsTrue (K.state out.new).told → IsTrue (K.state out.old).told }
-    ensures lines { AllTold feeds.items → IsTrue (K.state out.new).told → WritesBy run_cut (run_lines plan.now (files_of feeds.items)) (K.state out.old) (K.state out.new) result }
-    ensures ends { AllTold feeds.items → IsTrue (K.state out.new).told → IfErr result (λ stop.
-        FeedsEnd stop plan.now feeds.items (F.state folder.old) (F.state folder.new) (K.state out.old).written (K.state out.new).written) }
+    ensures lines { FeedsWrite feeds.items (run_lines plan.now (files_of feeds.items)) (K.state out.old) (K.state out.new) result }
+    ensures ends { StoppedFeeds plan.now feeds.items (F.state folder.old) (F.state folder.new) (K.state out.old) (K.state out.new) result }
     ensures last { OnOk result (AreRead feeds.items (F.state folder.old) (F.state folder.new)) }
     ensures causes { IfErr result (λ stop. FeedsCause stop plan.now feeds.items (F.state folder.old) (F.state folder.new) (K.state out.old) (K.state out.new)) }
     ensures still_opened { SameEverywhere (F.state folder.old).opened (F.state folder.new).opened }
@@ -147,10 +141,8 @@ fn run_streams<S: Source, K: Sink>(
     requires first { feeds.old.at ≡ 0 }
     ensures same { AreSameFeeds feeds.old.feeds.items feeds.new.feeds.items }
     ensures told { IsTrue (K.state out.new).told → IsTrue (K.state out.old).told }
-    ensures lines { AllTold feeds.old.feeds.items → IsTrue (K.state out.new).told
-        → WritesBy run_cut (element_lines (outputs_of plan.now (files_of feeds.old.feeds.items))) (K.state out.old) (K.state out.new) result }
-    ensures ends { AllTold feeds.old.feeds.items → IsTrue (K.state out.new).told → IfErr result (λ stop.
-        TurnsEnd stop plan.now (files_of feeds.old.feeds.items) feeds.new.feeds.items (K.state out.old).written (K.state out.new).written) }
+    ensures lines { FeedsWrite feeds.old.feeds.items (element_lines (outputs_of plan.now (files_of feeds.old.feeds.items))) (K.state out.old) (K.state out.new) result }
+    ensures ends { StoppedTurns plan.now feeds.old.feeds.items feeds.new.feeds.items (K.state out.old) (K.state out.new) result }
     ensures outcome { AllTold feeds.old.feeds.items → IfOk result (λ ran. IsOutcome plan.now (files_of feeds.old.feeds.items) (tallies_in feeds.new.feeds.items) ran.counts ran.peak) }
     ensures taken { OnOk result (AreAllTaken feeds.new.feeds.items) }
     ensures causes { IfErr result (λ stop. TurnsCause stop plan.now feeds.old.feeds.items feeds.new.feeds.items (K.state out.old) (K.state out.new)) }

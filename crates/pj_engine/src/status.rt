@@ -1,18 +1,27 @@
 // How a run ended.
 ghost use Rattle.std.specs.Prelude.{◌≡◌};
 ghost use Rattle.pj_engine.specs.Report.{status_number};
-ghost use Rattle.pj_engine.specs.Stops.{plan_status, opening_status as status_of_opening, run_status as status_of_run, files_status, IsOfFew, IsOpeningOfFew, IsRunOfFew};
+ghost use Rattle.pj_engine.specs.Stops.{file_status as status_of_file, plan_status, opening_status as status_of_opening, run_status as status_of_run, files_status, IsOfFew, IsOpeningOfFew, IsRunOfFew};
 
-use crate::stops::{FilesStop, OpeningStop, PlanStop, RunStop};
+use crate::stops::{FileStop, FilesStop, OpeningStop, PlanStop, RunStop};
+use pj_plan::{PlanFault, PlanWhy};
 
 /// How a call ended.
 #[derive(Clone, Copy, Debug, PartialEq, Eq)]
 pub enum Status {
     /// All files were read to their ends, and every line was written.
     Done,
-    /// The words or the plan are none that can be run, or there is another number of files.
+    /// The words ask for nothing that there is.
+    Usage,
+    /// The plan has a fault: the first line that has one, counted from 1, and what is wrong with it.
+    PlanRefused { line: u64, why: PlanWhy },
+    /// The plan has `want` streams, and `got` files were named.
+    FileCount { want: u32, got: u32 },
+    /// The plan is neither one stream, nor 2 to 16 streams and a join of them all.
     NotBuilt,
-    /// A file could not be opened or read; operands are counted from 1, the plan being 1.
+    /// A file could not be opened; operands are counted from 1, the plan being 1.
+    OpenFault { operand: u32 },
+    /// A file could not be read.
     ReadFault { operand: u32 },
     /// Not all could be written.
     WriteFault,
@@ -25,6 +34,8 @@ pub enum Status {
 /// What has a limit.
 #[derive(Clone, Copy, Debug, PartialEq, Eq)]
 pub enum LimitOf {
+    /// The bytes of the plan.
+    Plan,
     /// The arrivals at a join, by the number of its node.
     Node(u32),
     /// The bytes of a stream's file, by the number of the stream.
@@ -32,31 +43,55 @@ pub enum LimitOf {
 }
 
 impl Status {
-    /// The exit status of the program: 0, 9, 3, 4, 5 or 6.
+    /// The exit status of the program.
     pub fn number(self) -> u8
         ensures { result ≡ status_number self }
     {
         match self {
             Status::Done => 0,
-            Status::NotBuilt => 9,
+            Status::PlanRefused { .. } => 1,
+            Status::OpenFault { .. } => 3,
             Status::ReadFault { .. } => 3,
             Status::WriteFault => 4,
             Status::NoMemory => 5,
             Status::Limit { .. } => 6,
+            Status::FileCount { .. } => 8,
+            Status::NotBuilt => 9,
+            Status::Usage => 64,
         }
     }
 }
 
 impl PlanStop {
-    /// How a call ends whose plan was not had.
+    /// How a call ends that has no plan to run.
     pub(crate) fn status(self) -> Status
         ensures { result ≡ plan_status self }
     {
         match self {
+            PlanStop::Usage => Status::Usage,
+            PlanStop::File { stop } => file_status(stop),
+            PlanStop::Refused { fault } => {
+                let PlanFault { line, why } = fault;
+                Status::PlanRefused { line, why }
+            }
+            PlanStop::FileCount { want, got } => Status::FileCount { want, got },
             PlanStop::NotBuilt => Status::NotBuilt,
-            PlanStop::ReadFault => Status::ReadFault { operand: 1 },
             PlanStop::NoMemory => Status::NoMemory,
         }
+    }
+}
+
+// The plan is operand 1.
+fn file_status(stop: FileStop) -> Status
+    ensures { result ≡ status_of_file stop }
+{
+    match stop {
+        FileStop::OpenFault => Status::OpenFault { operand: 1 },
+        FileStop::ReadFault => Status::ReadFault { operand: 1 },
+        FileStop::TooLong => Status::Limit {
+            what: LimitOf::Plan,
+        },
+        FileStop::NoMemory => Status::NoMemory,
     }
 }
 
@@ -78,7 +113,7 @@ fn opening_status(stop: OpeningStop) -> Status
     ensures { result ≡ status_of_opening stop }
 {
     match stop {
-        OpeningStop::Fault { stream } => Status::ReadFault {
+        OpeningStop::Fault { stream } => Status::OpenFault {
             operand: 2 + stream,
         },
         OpeningStop::NoMemory => Status::NoMemory,

@@ -3,15 +3,35 @@ ghost use Rattle.std.specs.Prelude.{◌≡◌};
 
 use pj_intake::IntakeStop;
 use pj_io::Failed;
+use pj_plan::PlanFault;
 use pj_value::NoMemory;
 
-/// Why no plan was read that can be run.
+/// Why the plan's file was not read.
+#[derive(Clone, Copy, Debug, PartialEq, Eq)]
+pub enum FileStop {
+    /// It could not be opened.
+    OpenFault,
+    /// It could not be read.
+    ReadFault,
+    /// It has more bytes than a plan may have.
+    TooLong,
+    /// Memory could not be had.
+    NoMemory,
+}
+
+/// Why there is no plan to run.
 #[derive(Clone, Copy, Debug, PartialEq, Eq)]
 pub enum PlanStop {
-    /// The words or the plan are none that can be run, or there is another number of files.
+    /// The words have another form.
+    Usage,
+    /// The plan's file was not read.
+    File { stop: FileStop },
+    /// The plan has this fault.
+    Refused { fault: PlanFault },
+    /// The plan wants another number of files than was got.
+    FileCount { want: u32, got: u32 },
+    /// The plan is neither one stream, nor 2 to 16 streams and a join of them all.
     NotBuilt,
-    /// The plan's file could not be opened or read.
-    ReadFault,
     /// Memory could not be had.
     NoMemory,
 }
@@ -83,6 +103,16 @@ pub enum FilesStop {
     Opening { stop: OpeningStop },
     /// All were, and the run ended.
     Run { stop: RunStop },
+}
+
+impl From<FileStop> for PlanStop {
+    ghost use Rattle.pj_engine.specs.declared.stops.PlanStop.TheVariants.{File as OfFile};
+
+    ghost from_gives = { λ stop plan. plan ≡ OfFile stop };
+
+    fn from(stop: FileStop) -> PlanStop {
+        PlanStop::File { stop }
+    }
 }
 
 impl From<NoMemory> for PlanStop {

@@ -1,9 +1,11 @@
 // The top call.
 ghost use Rattle.std.specs.Prelude.{◌≡◌, ℕ, true, false};
-ghost use Rattle.pj_engine.specs.declared.status.LimitOf.TheVariants.{Node, File};
+ghost use Rattle.pj_engine.specs.declared.status.LimitOf.TheVariants.{Plan, Node, File};
+ghost use Rattle.pj_plan.specs.declared.fault.PlanWhy.{PlanWhy};
 ghost use Rattle.pj_engine.specs.Commands.{command_of, operands, is_run as run_form};
+ghost use Rattle.pj_engine.specs.Refusals.{IsRefused};
 ghost use Rattle.pj_engine.specs.Runs.{IsAnswer, ArePunctuations, AreLawful, AreTallies};
-ghost use Rattle.pj_engine.specs.Top.{Ran, AreReadToEnd, OpensInOrder, StoppedRun, EarlyEnd, NeverRetracted, IsBuilt, IsUnbuilt, WriteFails, BeyondLimit, IsTooLarge, HasFault, join_name as name_of_join, stream_name as name_of_stream, stop_name as stop_name_of};
+ghost use Rattle.pj_engine.specs.Top.{Ran, AreReadToEnd, OpensInOrder, StoppedRun, EarlyEnd, NeverRetracted, AnswersRefusal, IsBuilt, IsUnopened, WriteFails, BeyondLimit, IsTooLarge, HasFault, join_name as name_of_join, stream_name as name_of_stream, stop_name as stop_name_of};
 
 use crate::commands::prepare;
 use crate::run::run_files;
@@ -12,8 +14,8 @@ use crate::{LimitOf, Status};
 use pj_io::{Folder, Sink};
 use pj_shape::{SmallJoin, SmallPlan, SmallStream};
 
-/// Runs the command that the words spell: `run PLAN FILE ..` reads a plan of one stream, or of two streams and a join of
-/// them, and a file for each stream, and writes what the plan's run on one thread hands out, and the report.
+/// Runs the command that the words spell: `run PLAN FILE ..` reads a plan of one stream, or of 2 to 16 streams and a
+/// join of them all, and a file for each stream, and writes what the plan's run on one thread hands out, and the report.
 pub fn run_words<R: AllocGlobal, F: Folder, K: Sink>(
     rt: &R,
     words: &[String],
@@ -35,8 +37,14 @@ pub fn run_words<R: AllocGlobal, F: Folder, K: Sink>(
 
     // When each status comes.
     ensures cause_of_done { result ≡ Status.Done → IsBuilt (command_of words.now (F.state folder.old)) }
-    ensures cause_of_not_built { result ≡ Status.NotBuilt → IsUnbuilt (command_of words.now (F.state folder.old)) }
-    ensures not_built_by_words { run_form words.now ≡ false → result ≡ Status.NotBuilt }
+    ensures cause_of_usage { result ≡ Status.Usage → run_form words.now ≡ false }
+    ensures usage { run_form words.now ≡ false → result ≡ Status.Usage }
+    ensures cause_of_plan_limit { result ≡ Status.Limit Plan → IsRefused (command_of words.now (F.state folder.old)) (Status.Limit Plan) }
+    ensures cause_of_plan_refused { (line : ℕ) (why : PlanWhy) → result ≡ Status.PlanRefused line why → IsRefused (command_of words.now (F.state folder.old)) (Status.PlanRefused line why) }
+    ensures cause_of_file_count { (want got : ℕ) → result ≡ Status.FileCount want got → IsRefused (command_of words.now (F.state folder.old)) (Status.FileCount want got) }
+    ensures cause_of_not_built { result ≡ Status.NotBuilt → IsRefused (command_of words.now (F.state folder.old)) Status.NotBuilt }
+    ensures refused { AnswersRefusal result (command_of words.now (F.state folder.old)) }
+    ensures cause_of_open_fault { (n : ℕ) → result ≡ Status.OpenFault n → IsUnopened (command_of words.now (F.state folder.old)) (F.state folder.new) n }
     ensures cause_of_read_fault { (n : ℕ) → result ≡ Status.ReadFault n → HasFault (command_of words.now (F.state folder.old)) (F.state folder.new) n }
     ensures cause_of_write_fault { result ≡ Status.WriteFault → WriteFails (command_of words.now (F.state folder.old)) (K.state out.old) (K.state out.new) }
     ensures cause_of_no_memory { result ≡ Status.NoMemory → run_form words.now ≡ true }
@@ -66,11 +74,16 @@ fn stop_name(plan: &SmallPlan, status: Status) -> &[u8]
 {
     match status {
         Status::Limit { what } => match what {
+            LimitOf::Plan => b"",
             LimitOf::Node(_) => join_name(&plan.join),
             LimitOf::File(stream) => stream_name(plan.streams.as_slice(), stream),
         },
         Status::Done => b"",
+        Status::Usage => b"",
+        Status::PlanRefused { .. } => b"",
+        Status::FileCount { .. } => b"",
         Status::NotBuilt => b"",
+        Status::OpenFault { .. } => b"",
         Status::ReadFault { .. } => b"",
         Status::WriteFault => b"",
         Status::NoMemory => b"",

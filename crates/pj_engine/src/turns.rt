@@ -1,15 +1,10 @@
 // Turns of a core, and the lines of what they hand out.
-ghost use Rattle.std.specs.Prelude.{◌≡◌, ◌≤◌, ℕ, List, [], None, IsTrue, IfErr, IfOk, OnOk, Err};
+ghost use Rattle.std.specs.Prelude.{◌≡◌, ◌≤◌, [], None, IsTrue, IfErr, IfOk, OnOk, Err};
 ghost use Rattle.pj_io.specs.Causes.{Rose};
-ghost use Rattle.pj_laws.specs.declared.events.Entry.{Entry};
-ghost use Rattle.pj_laws.specs.OneThread.{arrival_of};
-ghost use Rattle.pj_core.specs.Cores.{StandsFor, MayFollow};
 ghost use Rattle.pj_core.specs.Calls.{IsTurnRefused, MakesTurn};
 ghost use Rattle.pj_engine.specs.Feeds.{turn_in};
-ghost use Rattle.pj_engine.specs.Results.{out_lines};
 ghost use Rattle.pj_engine.specs.Stops.{of_core};
-ghost use Rattle.pj_engine.specs.Turning.{IsTurnOf, turn_outs, Turned, TurnDone, TurnStops};
-ghost use Rattle.pj_engine.specs.Written.{WritesBy, turn_cut};
+ghost use Rattle.pj_engine.specs.Turning.{IsTurnOf, Turned, TurnDone, TurnStopsBehind, TurnWrites};
 
 use crate::feeds::Arrival;
 use crate::results::{Counts, write_outs};
@@ -37,15 +32,13 @@ pub fn take_turn<K: Sink>(
     requires drained { core.old.undrained ≡ [] }
     requires of { IsTurnOf core.old.plan.streams (turn_in core.old.plan.streams next) }
     ensures told { IsTrue (K.state out.new).told → IsTrue (K.state out.old).told }
-    ensures lines { IsTrue (K.state out.new).told → (history : List Entry) → StandsFor core.old history → MayFollow core.old history (arrival_of (turn_in core.old.plan.streams next))
-        → WritesBy turn_cut (out_lines (turn_outs core.old history (turn_in core.old.plan.streams next))) (K.state out.old) (K.state out.new) result }
+    ensures lines { TurnWrites core.old (turn_in core.old.plan.streams next) (K.state out.old) (K.state out.new) result }
     ensures done { OnOk result (TurnDone core.old core.new (turn_in core.old.plan.streams next) counts.old counts.new) }
-    ensures stops { IfErr result (λ stop. (history : List Entry) → StandsFor core.old history → MayFollow core.old history (arrival_of (turn_in core.old.plan.streams next))
-        → TurnStops stop core.old history (turn_in core.old.plan.streams next) (K.state out.old) (K.state out.new)) }
+    ensures stops { IfErr result (λ stop. TurnStopsBehind stop core.old (turn_in core.old.plan.streams next) (K.state out.old) (K.state out.new)) }
     ensures later { (K.state out.old).faults ≤ (K.state out.new).faults }
     ensures fault { result ≡ Err TurnStop.WriteFailed → Rose (K.state out.old).faults (K.state out.new).faults }
 {
-    let handed = turn_core(alloc, core, next);
+    let handed = turn_core(core, next);
     write_outs(alloc, handed.outs.as_slice(), counts, text, out)?;
     match handed.stop {
         None => Ok(()),
@@ -60,13 +53,13 @@ struct Handed {
     stop: Option<Stop>,
 }
 
-fn turn_core(alloc: Global, core: &mut Core, next: Arrival) -> Handed
+fn turn_core(core: &mut Core, next: Arrival) -> Handed
     requires on { core.old.stop ≡ None }
     requires drained { core.old.undrained ≡ [] }
     requires of { IsTurnOf core.old.plan.streams (turn_in core.old.plan.streams next) }
     ensures { Turned core.old core.new (turn_in core.old.plan.streams next) result.outs result.stop }
 {
-    match enter(alloc, core, next) {
+    match enter(core, next) {
         Ok(outs) => Handed { outs, stop: None },
         Err(stop) => Handed {
             outs: core.drain(),
@@ -75,14 +68,14 @@ fn turn_core(alloc: Global, core: &mut Core, next: Arrival) -> Handed
     }
 }
 
-fn enter(alloc: Global, core: &mut Core, next: Arrival) -> Result<Items<Out>, Stop>
+fn enter(core: &mut Core, next: Arrival) -> Result<Items<Out>, Stop>
     requires { IsTurnOf core.old.plan.streams (turn_in core.old.plan.streams next) }
     ensures ok { IfOk result (λ outs. MakesTurn core.old core.new (turn_in core.old.plan.streams next) outs) }
     ensures err { IfErr result (λ stop. IsTurnRefused core.old.stop core.old core.new (turn_in core.old.plan.streams next) stop) }
 {
     match next {
-        Arrival::Brought { stream, element } => core.turn(alloc, stream, element),
-        Arrival::Closing { stream } => core.closing_turn(alloc, stream),
+        Arrival::Brought { stream, element } => core.turn(stream, element),
+        Arrival::Closing { stream } => core.closing_turn(stream),
     }
 }
 

@@ -1,8 +1,8 @@
-use Rattle.std.proofs.Common.{List, ℕ, length, inr, sym, subst, IsTrue}
-use Rattle.pj_engine.specs.Commands.{operands, behind_first}
-use Rattle.pj_engine.specs.Top.{IsNoPlanOf}
+use Rattle.std.proofs.Common.{List, ℕ, ◌-◌, length, sym, subst, IsTrue}
+use Rattle.pj_engine.specs.Commands.{is_run, operands, behind_first}
 use Rattle.pj_engine.proofs.FilesLaws.{operands_are, first_operand, names_counted}
 use Rattle.pj_engine.proofs.Opening.{opens_most_of}
+use Rattle.pj_engine.proofs.Refusing.{fits_if, is_so, unprepared_if}
 use Rattle.pj_engine.proofs.commands.prepare.Goals as goal
 
 pub returns-clause-some_opened : goal.returns-clause-some_opened
@@ -12,11 +12,19 @@ returns-clause-some_opened g c =
     opens_most_of c.as_bytes.result.now (behind_first (operands words)) (operands words) (g.F.Folder.state c.args.folder.now) (g.F.Folder.state c.read_plan_for.new.folder)
     (operands_are words c.index-words-1.result c.as_bytes.result.now some c.index-words-1.is c.as_bytes.ensures.value) c.read_plan_for.ensures.some_opened
 
-pub returns-clause-not_built : goal.returns-clause-not_built
-returns-clause-not_built g c = λ is.
+pub returns-clause-fits : goal.returns-clause-fits
+returns-clause-fits g c = λ told.
     let words = c.args.words.now in
-    let folder = g.F.Folder.state c.args.folder.now in
+    let old = g.F.Folder.state c.args.folder.now in
     let some = c.is_run.ensures.some c.if-not-is_run.false in
     let at = first_operand words c.index-words-1.result c.as_bytes.result.now some c.index-words-1.is c.as_bytes.ensures.value in
-    inr (λ told. subst (λ (n : List ℕ). IsNoPlanOf (length (behind_first (operands words))) (folder.contents n)) at
-    (subst (λ (count : ℕ). IsNoPlanOf count (folder.contents c.as_bytes.result.now)) (names_counted words some) (c.read_plan_for.ensures.not_built is (subst (λ (n : List ℕ). IsTrue (folder.told n)) (sym at) told))))
+    fits_if c.read_plan_for.result words (length words - 2) c.as_bytes.result.now old (is_so c.is_run.result (is_run words) c.is_run.ensures.form c.if-not-is_run.false) at (names_counted words some)
+    (c.read_plan_for.ensures.fits (subst (λ (n : List ℕ). IsTrue (old.told n)) (sym at) told))
+
+pub returns-clause-cause : goal.returns-clause-cause
+returns-clause-cause g c =
+    let words = c.args.words.now in
+    let some = c.is_run.ensures.some c.if-not-is_run.false in
+    unprepared_if c.read_plan_for.result words (length words - 2) c.as_bytes.result.now (g.F.Folder.state c.args.folder.now) (g.F.Folder.state c.read_plan_for.new.folder)
+    (is_so c.is_run.result (is_run words) c.is_run.ensures.form c.if-not-is_run.false)
+    (first_operand words c.index-words-1.result c.as_bytes.result.now some c.index-words-1.is c.as_bytes.ensures.value) (names_counted words some) c.read_plan_for.ensures.cause

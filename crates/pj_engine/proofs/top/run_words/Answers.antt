@@ -1,8 +1,11 @@
 use Rattle.std.proofs.Common.{refl, ap, sym, ◌∙◌, ◌++◌, subst, Err, arith, IsTrue, List, ℕ, length}
+use Rattle.pj_engine.specs.declared.status.Status.TheVariants.{Done, NotBuilt, PlanRefused, FileCount, Limit}
+use Rattle.pj_engine.specs.declared.status.LimitOf.TheVariants.{Plan}
 use Rattle.pj_engine.specs.Commands.{command_of, files_named, operand, operands}
 use Rattle.pj_engine.specs.Runs.{IsAnswer, ArePunctuations, AreLawful, AreTallies, report_of, outputs_of, run_lines}
 use Rattle.pj_engine.specs.Written.{Leaves, files_cut, flat}
-use Rattle.pj_engine.proofs.CallLaws.{names_in, files_told, files_same, files_counted, all_read, built, opened_done, opened_stop, opened_early, stopped, early, faulted, write_failed, beyond, too_large, of_few, names_counted, stop_is, no_plan}
+use Rattle.pj_engine.proofs.CallLaws.{names_in, files_told, files_same, files_counted, all_read, built, opened_done, opened_stop, stopped, early, faulted, unopened, write_failed, beyond, too_large, of_few, names_counted}
+use Rattle.pj_engine.proofs.EarlyLaws.{answers_built, answers_early, early_early, fault_early, memory_early, no_words, opened_early, refused_early, refused_never, stopped_early, unopened_early, usage_early, usage_never}
 use Rattle.pj_engine.proofs.Ending.{few_streams}
 use Rattle.pj_engine.proofs.OutputLaws.{outputs_lawful, outputs_answer, outputs_puncts}
 use Rattle.pj_engine.proofs.RunLaws.{ran}
@@ -136,7 +139,7 @@ returns-in-Ok-clause-early_end g c =
     let r = c.in-Err-run_files.ensures in
     rw c.status-status.ensures
     (early c.args.words.now (g.F.Folder.state c.args.folder.now) (g.F.Folder.state c.prepare.new.folder) (g.F.Folder.state c.run_files.new.folder) e.form e.told e.contents e.other_last c.in-Err-run_files.stop c.in-Ok.plan c.stop_name.result.now
-    (g.K.Sink.state c.args.out.now) (g.K.Sink.state c.run_files.new.out) (g.K.Sink.state c.write_status.new.out) (rw (sym c.status-status.ensures) c.stop_name.ensures) r.causes r.opened
+    (g.K.Sink.state c.args.out.now) (g.K.Sink.state c.run_files.new.out) (g.K.Sink.state c.write_status.new.out) (rw (sym c.status-status.ensures) c.stop_name.ensures)
     (λ opening is. ap g.K.Sink.state (r.unopened opening (ap Err is))) (rw (sym c.status-status.ensures) c.write_status.ensures.line))
 
 pub returns-in-Ok-clause-opened_in_order : goal.returns-in-Ok-clause-opened_in_order
@@ -193,8 +196,90 @@ returns-clause-never_retracted g c = λ all t.
 pub returns-clause-opened_in_order : goal.returns-clause-opened_in_order
 returns-clause-opened_in_order g c =
     rw c.status-refusal.ensures
-    (opened_early c.in-Err.stop c.args.words.now (g.F.Folder.state c.args.folder.now) (g.F.Folder.state c.prepare.new.folder) c.in-Err.ensures.some_opened
-    (λ not. let w = c.in-Err.ensures.words not in (stop_is c.in-Err.stop w.0, ap g.F.Folder.state w.1)))
+    (opened_early c.args.words.now (g.F.Folder.state c.args.folder.now) (g.F.Folder.state c.prepare.new.folder) c.in-Err.stop c.in-Err.ensures.some_opened c.in-Err.ensures.cause)
+
+pub returns-clause-stopped_run : goal.returns-clause-stopped_run
+returns-clause-stopped_run g c = λ all t.
+    rw c.status-refusal.ensures
+    (stopped_early c.args.words.now (g.F.Folder.state c.args.folder.now) (g.F.Folder.state c.prepare.new.folder) c.in-Err.stop (g.K.Sink.state c.args.out.now) (g.K.Sink.state c.write_status-in-Err.new.out) c.in-Err.ensures.cause
+    (rw (sym c.status-refusal.ensures) c.write_status-in-Err.ensures.line))
+
+pub returns-clause-early_end : goal.returns-clause-early_end
+returns-clause-early_end g c =
+    rw c.status-refusal.ensures
+    (early_early c.args.words.now (g.F.Folder.state c.args.folder.now) (g.F.Folder.state c.prepare.new.folder) c.in-Err.stop (g.K.Sink.state c.args.out.now) (g.K.Sink.state c.write_status-in-Err.new.out)
+    (rw (sym c.status-refusal.ensures) c.write_status-in-Err.ensures.line))
+
+pub returns-clause-cause_of_read_fault : goal.returns-clause-cause_of_read_fault
+returns-clause-cause_of_read_fault g c = λ n is.
+    fault_early c.args.words.now (g.F.Folder.state c.args.folder.now) (g.F.Folder.state c.prepare.new.folder) c.in-Err.stop n c.in-Err.ensures.cause (sym c.status-refusal.ensures ∙ is)
+
+pub returns-clause-cause_of_open_fault : goal.returns-clause-cause_of_open_fault
+returns-clause-cause_of_open_fault g c = λ n is.
+    unopened_early c.args.words.now (g.F.Folder.state c.args.folder.now) (g.F.Folder.state c.prepare.new.folder) c.in-Err.stop n c.in-Err.ensures.cause (sym c.status-refusal.ensures ∙ is)
+
+pub returns-clause-usage : goal.returns-clause-usage
+returns-clause-usage g c = λ not.
+    c.status-refusal.ensures ∙ usage_early c.in-Err.stop (command_of c.args.words.now (g.F.Folder.state c.args.folder.now)) (g.F.Folder.state c.prepare.new.folder) c.in-Err.ensures.cause not
+
+pub returns-clause-cause_of_usage : goal.returns-clause-cause_of_usage
+returns-clause-cause_of_usage g c = λ is.
+    no_words c.in-Err.stop (command_of c.args.words.now (g.F.Folder.state c.args.folder.now)) (g.F.Folder.state c.prepare.new.folder) c.in-Err.ensures.cause (sym c.status-refusal.ensures ∙ is)
+
+pub returns-clause-cause_of_no_memory : goal.returns-clause-cause_of_no_memory
+returns-clause-cause_of_no_memory g c = λ is.
+    memory_early c.in-Err.stop (command_of c.args.words.now (g.F.Folder.state c.args.folder.now)) (g.F.Folder.state c.prepare.new.folder) c.in-Err.ensures.cause (sym c.status-refusal.ensures ∙ is)
+
+pub returns-clause-refused : goal.returns-clause-refused
+returns-clause-refused g c =
+    rw c.status-refusal.ensures (answers_early c.in-Err.stop (command_of c.args.words.now (g.F.Folder.state c.args.folder.now)) (g.F.Folder.state c.prepare.new.folder) c.in-Err.ensures.cause)
+
+pub returns-clause-cause_of_plan_limit : goal.returns-clause-cause_of_plan_limit
+returns-clause-cause_of_plan_limit g c = λ is.
+    refused_early c.in-Err.stop (command_of c.args.words.now (g.F.Folder.state c.args.folder.now)) (g.F.Folder.state c.prepare.new.folder) (Limit Plan) c.in-Err.ensures.cause (sym c.status-refusal.ensures ∙ is) tt
+
+pub returns-clause-cause_of_plan_refused : goal.returns-clause-cause_of_plan_refused
+returns-clause-cause_of_plan_refused g c = λ line why is.
+    refused_early c.in-Err.stop (command_of c.args.words.now (g.F.Folder.state c.args.folder.now)) (g.F.Folder.state c.prepare.new.folder) (PlanRefused line why) c.in-Err.ensures.cause (sym c.status-refusal.ensures ∙ is) tt
+
+pub returns-clause-cause_of_file_count : goal.returns-clause-cause_of_file_count
+returns-clause-cause_of_file_count g c = λ want got is.
+    refused_early c.in-Err.stop (command_of c.args.words.now (g.F.Folder.state c.args.folder.now)) (g.F.Folder.state c.prepare.new.folder) (FileCount want got) c.in-Err.ensures.cause (sym c.status-refusal.ensures ∙ is) tt
 
 pub returns-clause-cause_of_not_built : goal.returns-clause-cause_of_not_built
-returns-clause-cause_of_not_built g c = λ is. c.in-Err.ensures.not_built (ap Err (no_plan c.in-Err.stop (sym c.status-refusal.ensures ∙ is)))
+returns-clause-cause_of_not_built g c = λ is.
+    refused_early c.in-Err.stop (command_of c.args.words.now (g.F.Folder.state c.args.folder.now)) (g.F.Folder.state c.prepare.new.folder) NotBuilt c.in-Err.ensures.cause (sym c.status-refusal.ensures ∙ is) tt
+
+-- ---- refusals, where there is a plan to run
+
+pub returns-in-Ok-run_files-clause-refused : goal.returns-in-Ok-run_files-clause-refused
+returns-in-Ok-run_files-clause-refused g c = answers_built (command_of c.args.words.now (g.F.Folder.state c.args.folder.now)) Done c.in-Ok.ensures.fits
+
+pub returns-in-Ok-clause-refused : goal.returns-in-Ok-clause-refused
+returns-in-Ok-clause-refused g c = answers_built (command_of c.args.words.now (g.F.Folder.state c.args.folder.now)) c.status-status.result c.in-Ok.ensures.fits
+
+pub returns-in-Ok-clause-cause_of_usage : goal.returns-in-Ok-clause-cause_of_usage
+returns-in-Ok-clause-cause_of_usage g c = λ is. absurd (usage_never c.in-Err-run_files.stop (sym c.status-status.ensures ∙ is))
+
+pub returns-in-Ok-clause-cause_of_plan_limit : goal.returns-in-Ok-clause-cause_of_plan_limit
+returns-in-Ok-clause-cause_of_plan_limit g c = λ is. absurd (refused_never c.in-Err-run_files.stop (Limit Plan) (sym c.status-status.ensures ∙ is) tt)
+
+pub returns-in-Ok-clause-cause_of_plan_refused : goal.returns-in-Ok-clause-cause_of_plan_refused
+returns-in-Ok-clause-cause_of_plan_refused g c = λ line why is. absurd (refused_never c.in-Err-run_files.stop (PlanRefused line why) (sym c.status-status.ensures ∙ is) tt)
+
+pub returns-in-Ok-clause-cause_of_file_count : goal.returns-in-Ok-clause-cause_of_file_count
+returns-in-Ok-clause-cause_of_file_count g c = λ want got is. absurd (refused_never c.in-Err-run_files.stop (FileCount want got) (sym c.status-status.ensures ∙ is) tt)
+
+pub returns-in-Ok-clause-cause_of_not_built : goal.returns-in-Ok-clause-cause_of_not_built
+returns-in-Ok-clause-cause_of_not_built g c = λ is. absurd (refused_never c.in-Err-run_files.stop NotBuilt (sym c.status-status.ensures ∙ is) tt)
+
+pub returns-in-Ok-clause-cause_of_open_fault : goal.returns-in-Ok-clause-cause_of_open_fault
+returns-in-Ok-clause-cause_of_open_fault g c = λ n is.
+    let e = c.in-Ok.ensures in
+    let words = c.args.words.now in
+    let old = g.F.Folder.state c.args.folder.now in
+    let mid = g.F.Folder.state c.prepare.new.folder in
+    let new = g.F.Folder.state c.run_files.new.folder in
+    let is_built = built words old mid e.form e.told e.contents c.in-Ok.plan e.count e.read in
+    unopened words old mid new e.form e.told e.contents e.other_last e.later c.in-Err-run_files.stop c.in-Ok.plan (g.K.Sink.state c.args.out.now) (g.K.Sink.state c.run_files.new.out) n
+    is_built c.in-Err-run_files.ensures.causes (opened_stop words old mid new e.form e.was_opened is_built c.in-Err-run_files.stop c.in-Err-run_files.ensures.opened) (sym c.status-status.ensures ∙ is)

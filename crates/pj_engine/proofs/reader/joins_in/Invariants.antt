@@ -1,9 +1,0 @@
-use Rattle.std.proofs.Common.{◌≡◌, length, ◌++◌}
-use Rattle.pj_engine.specs.Plans.{joins_in}
-use Rattle.pj_engine.proofs.reader.joins_in.Given as goal
-
-abbrev pub invariant-loop-left : goal.invariant-loop-left
-invariant-loop-left l = joins_in l.rest ≡ l.joins ++ joins_in l.left
-
-abbrev pub decreases-loop-left : goal.decreases-loop-left
-decreases-loop-left l = length l.left

@@ -1,6 +1,0 @@
-use Rattle.std.proofs.Common.{◌≡◌, ◌++◌, drop}
-use Rattle.pj_line.specs.Cells.{bytes_in}
-use Rattle.pj_engine.proofs.statements.copy_cells.Given as goal
-
-abbrev pub invariant-loop-at : goal.invariant-loop-at
-invariant-loop-at l = l.copies ++ bytes_in (drop l.at l.cells) ≡ bytes_in l.cells
