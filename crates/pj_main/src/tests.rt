@@ -52,6 +52,13 @@ const AUCTION: &[u8] =
 const AUCTION_OUT: &[u8] =
     b"t 1 \"ann\" 1 50\n# stream items tuples 1 punctuations 1 rejected 0\n# stream bids tuples 1 punctuations 1 rejected 1\n# reject bids line 3 closed by line 2\n# results 1 punctuations 0\n# peak j 2\n";
 
+// A join whose inputs stand in another order than the streams, and its class in another than the inputs.
+const THREE: &[u8] =
+    b"plan 1\nstream a ak:int av:text\nstream b bk:int bv:int\nstream c cn:int ck:int\njoin j c a b on bk=ck=ak\noutput j\n";
+
+const THREE_OUT: &[u8] =
+    b"t 10 1 1 \"x\" 1 5\nt 20 2 2 \"z\" 2 6\n# stream a tuples 3 punctuations 0 rejected 0\n# stream b tuples 3 punctuations 0 rejected 0\n# stream c tuples 3 punctuations 0 rejected 0\n# results 2 punctuations 0\n# peak j 9\n";
+
 const STOPPED: &[u8] = b"# stopped read fault operand 2\n";
 
 // The words of a command.
@@ -159,6 +166,22 @@ fn two_streams_are_joined(rt: HostRuntime) -> Result<(), Fail> {
     Ok(())
 }
 
+// The third tuples of `a` and of `c` each complete a row, and `a` has its turn first.
+#[test]
+fn three_streams_are_joined(rt: HostRuntime) -> Result<(), Fail> {
+    let alloc = rt.alloc();
+    let mut folder = MemFolder::new(alloc, &[])?;
+    folder.add(alloc, b"plan", THREE, 100, &[])?;
+    folder.add(alloc, b"a", b"t 2 \"z\"\nt 3 \"w\"\nt 1 \"x\"\n", 7, &[])?;
+    folder.add(alloc, b"b", b"t 2 6\nt 1 5\nt 3 7\n", 1, &[])?;
+    folder.add(alloc, b"c", b"t 10 1\nt 30 4\nt 20 2\n", 100, &[])?;
+    let mut out = sink_of(alloc, &[])?;
+    let status = run_in(&rt, "run plan a b c", &mut folder, &mut out)?;
+    assert_eq!(rt; status, Status::Done);
+    assert_eq!(rt; out.bytes(), THREE_OUT);
+    Ok(())
+}
+
 // Whether the failure of this read of the file, by 7 bytes a read, leaves the lines that were read whole, so many bytes.
 fn leaves(rt: &HostRuntime, nth: u64, front: usize) -> Result<bool, Fail> {
     let mut out = sink_of(rt.alloc(), &[])?;
@@ -226,10 +249,10 @@ fn each_file_that_fails_is_named(rt: HostRuntime) -> Result<(), Fail> {
     let cases = [
         (
             Planned::Opening(0),
-            b"# stopped read fault operand 1\n".as_slice(),
+            b"# stopped open fault operand 1\n".as_slice(),
         ),
-        (Planned::Opening(1), b"# stopped read fault operand 2\n"),
-        (Planned::Opening(2), b"# stopped read fault operand 3\n"),
+        (Planned::Opening(1), b"# stopped open fault operand 2\n"),
+        (Planned::Opening(2), b"# stopped open fault operand 3\n"),
         (
             Planned::Read("plan", 0),
             b"# stopped read fault operand 1\n",
@@ -267,12 +290,12 @@ fn a_missing_file_is_named(rt: HostRuntime) -> Result<(), Fail> {
     for (command, want) in [
         (
             "run plan items nosuch",
-            b"# stopped read fault operand 3\n".as_slice(),
+            b"# stopped open fault operand 3\n".as_slice(),
         ),
-        ("run plan nosuch items", b"# stopped read fault operand 2\n"),
+        ("run plan nosuch items", b"# stopped open fault operand 2\n"),
         (
             "run nosuch items items",
-            b"# stopped read fault operand 1\n",
+            b"# stopped open fault operand 1\n",
         ),
     ] {
         let mut out = sink_of(alloc, &[])?;
@@ -329,20 +352,178 @@ fn a_status_line_is_handed_on_too(rt: HostRuntime) -> Result<(), Fail> {
     assert_eq!(rt; status, Status::WriteFault);
     assert_eq!(rt; out.faults, 1);
     let status = run_in(&rt, "run", &mut folder, &mut out)?;
-    assert_eq!(rt; status, Status::NotBuilt);
+    assert_eq!(rt; status, Status::Usage);
     assert_eq!(rt; out.faults, 2);
     Ok(())
 }
 
-// Whether the words and the plan are refused.
-fn is_refused(rt: &HostRuntime, command: &str, plan: &[u8]) -> Result<bool, Fail> {
+// How the command over this plan ends, where the file `file` is there.
+fn run_over(
+    rt: &HostRuntime,
+    command: &str,
+    plan: &[u8],
+    out: &mut MemSink,
+) -> Result<Status, Fail> {
     let alloc = rt.alloc();
     let mut folder = MemFolder::new(alloc, &[])?;
     folder.add(alloc, b"plan", plan, 65_536, &[])?;
     folder.add(alloc, b"file", ODD, 65_536, &[])?;
-    let mut out = sink_of(alloc, &[])?;
-    let status = run_in(rt, command, &mut folder, &mut out)?;
-    Ok(status.number() == 9 && out.bytes() == b"# refused not built\n".as_slice())
+    run_in(rt, command, &mut folder, out)
+}
+
+// Whether it ends with this number and writes this line alone.
+fn refuses(
+    rt: &HostRuntime,
+    command: &str,
+    plan: &[u8],
+    number: u8,
+    line: &[u8],
+) -> Result<bool, Fail> {
+    let mut out = sink_of(rt.alloc(), &[])?;
+    let status = run_over(rt, command, plan, &mut out)?;
+    Ok(status.number() == number && out.bytes() == line)
+}
+
+const USAGE: &[u8] =
+    b"# usage: run PLAN FILE.. | replay PLAN SCRIPT FILE.. | check PLAN | make SEED N\n";
+
+#[test]
+fn other_words_are_refused(rt: HostRuntime) -> Result<(), Fail> {
+    for command in [
+        "",
+        "run",
+        "run plan",
+        "walk plan file",
+        "run -plan file",
+        "run plan --file",
+        "run plan file -",
+        "walk nosuch file",
+    ] {
+        assert!(rt; refuses(&rt, command, b"", 64, USAGE)?, "at {command}");
+    }
+    let mut folder = MemFolder::new(rt.alloc(), &[])?;
+    let mut out = sink_of(rt.alloc(), &[])?;
+    let status = run_words(&rt, &[], &mut folder, &mut out);
+    assert_eq!(rt; status, Status::Usage);
+    assert_eq!(rt; out.bytes(), USAGE);
+    Ok(())
+}
+
+#[test]
+fn a_plan_is_refused_with_its_first_fault(rt: HostRuntime) -> Result<(), Fail> {
+    for (plan, line) in [
+        (
+            b"".as_slice(),
+            b"# refused plan line 1 P1 not a plan\n".as_slice(),
+        ),
+        (
+            b"plan 2\nstream s k:int\noutput s\n",
+            b"# refused plan line 1 P1 not a plan\n",
+        ),
+        (
+            b"plan 1\n\nplan 1\n",
+            b"# refused plan line 3 P2 unknown statement\n",
+        ),
+        (
+            b"plan 1\nstream a x:int x:blob\nstream a y:int y:int\nscheme q +\n",
+            b"# refused plan line 2 P3 bad shape\n",
+        ),
+        (
+            b"plan 1\nstream on k:int\noutput on\n",
+            b"# refused plan line 2 P3 bad shape\n",
+        ),
+        (
+            b"plan 1\nstream a x:int\nstream a y:int y:int\nscheme q +\n",
+            b"# refused plan line 3 P4 name given twice\n",
+        ),
+        (
+            b"plan 1\nstream s k:int\noutput t\n",
+            b"# refused plan line 3 P5 unknown name\n",
+        ),
+        (
+            b"plan 1\nstream s k:int\nproject p s j\n",
+            b"# refused plan line 3 P6 unknown column\n",
+        ),
+        (
+            b"plan 1\nstream s k:int k:int\noutput s\n",
+            b"# refused plan line 2 P7 column name twice\n",
+        ),
+        (
+            b"plan 1\nstream a x:int\nstream b y:text\njoin j a b on x=y\n",
+            b"# refused plan line 4 P8 kinds differ\n",
+        ),
+        (
+            b"plan 1\nstream a x:int z:int\nstream b y:int\njoin j a b on x=z\n",
+            b"# refused plan line 4 P9 bad class\n",
+        ),
+        (
+            b"plan 1\nstream s k:int\nscheme s _\n",
+            b"# refused plan line 3 P10 bad scheme\n",
+        ),
+        (
+            b"plan 1\nstream s k:int\nstream t k:int\noutput s\n",
+            b"# refused plan line 4 P11 used twice or never\n",
+        ),
+        (
+            b"plan 1\nstream s k:int\noutput s\nstream t k:int\n",
+            b"# refused plan line 4 P13 output\n",
+        ),
+        (
+            b"plan 1\nstream s k:int\nselect t s where k \"\noutput t\n",
+            b"# refused plan line 3 P14 unreadable line\n",
+        ),
+    ] {
+        let mut out = sink_of(rt.alloc(), &[])?;
+        let status = run_over(&rt, "run plan nosuch file file", plan, &mut out)?;
+        assert_eq!(rt; status.number(), 1);
+        assert_eq!(rt; out.bytes(), line);
+    }
+    Ok(())
+}
+
+#[test]
+fn another_number_of_files_and_other_forms_are_refused(rt: HostRuntime) -> Result<(), Fail> {
+    let select = b"plan 1\nstream s k:int\nselect t s where k 1\noutput t\n".as_slice();
+    for (command, plan, number, line) in [
+        (
+            "run plan nosuch",
+            AUCTION,
+            8u8,
+            b"# refused files want 2 got 1\n".as_slice(),
+        ),
+        (
+            "run plan file file nosuch",
+            AUCTION,
+            8,
+            b"# refused files want 2 got 3\n",
+        ),
+        (
+            "run plan file nosuch",
+            select,
+            8,
+            b"# refused files want 1 got 2\n",
+        ),
+        ("run plan nosuch", select, 9, b"# refused not built\n"),
+        (
+            "run plan file file nosuch",
+            b"plan 1\nstream a k:int\nstream b l:int\nstream c m:int\njoin i a b on k=l\njoin j i c on l=m\noutput j\n",
+            9,
+            b"# refused not built\n",
+        ),
+    ] {
+        assert!(rt; refuses(&rt, command, plan, number, line)?, "at {command}");
+    }
+    Ok(())
+}
+
+#[test]
+fn a_stream_alone_may_have_schemes(rt: HostRuntime) -> Result<(), Fail> {
+    let plan = b"plan 1\nstream s k:int v:text\nscheme s + _\noutput s\n";
+    let mut out = sink_of(rt.alloc(), &[])?;
+    let status = run_on(&rt, plan, CLOSED, 7, &[], &mut out)?;
+    assert_eq!(rt; status, Status::Done);
+    assert_eq!(rt; out.bytes(), CLOSED_OUT);
+    Ok(())
 }
 
 // The bytes with line feeds behind them, so many bytes in all.
@@ -355,30 +536,8 @@ fn padded(alloc: Global, bytes: &[u8], size: usize) -> Result<List<u8>, NoMemory
 }
 
 #[test]
-fn other_words_plans_and_sizes_are_refused(rt: HostRuntime) -> Result<(), Fail> {
+fn a_plan_of_more_bytes_than_may_be_is_refused(rt: HostRuntime) -> Result<(), Fail> {
     let alloc = rt.alloc();
-    for command in [
-        "",
-        "run",
-        "run plan",
-        "walk plan file",
-        "run -plan file",
-        "run plan --file",
-        "run plan file file",
-    ] {
-        assert!(rt; is_refused(&rt, command, PLAN)?, "at {command}");
-    }
-    for plan in [
-        b"".as_slice(),
-        b"plan 2\nstream s k:int\noutput s\n",
-        b"plan 1\nstream s k:blob\noutput s\n",
-        b"plan 1\nstream s k:int k:int\noutput s\n",
-        b"plan 1\nstream on k:int\noutput on\n",
-        b"plan 1\nstream s k:int\noutput t\n",
-        b"plan 1\nstream s k:int\noutput s\noutput s\n",
-    ] {
-        assert!(rt; is_refused(&rt, "run plan file", plan)?);
-    }
     let mut plan = padded(alloc, PLAN, 1_048_576)?;
     let file = padded(alloc, b"", 1_048_577)?;
     let mut out = sink_of(alloc, &[])?;
@@ -386,6 +545,7 @@ fn other_words_plans_and_sizes_are_refused(rt: HostRuntime) -> Result<(), Fail> 
     assert_eq!(rt; status, Status::Done);
     assert_eq!(rt; out.bytes(), NOTHING_OUT);
     plan.push(b'\n')?;
-    assert!(rt; is_refused(&rt, "run plan file", plan.as_slice())?);
+    let line = b"# stopped limit plan\n";
+    assert!(rt; refuses(&rt, "run plan file", plan.as_slice(), 6, line)?);
     Ok(())
 }
