@@ -142,6 +142,11 @@ named_agg columns word = agg_of columns word.agg
 abbrev pub old_number : List Column → Renamed → ℕ
 old_number columns word = column_number columns word.old
 
+-- the join of these inputs by these classes
+abbrev pub join_of : List PlanNode → List (List ℕ) → List (List (List ℕ)) → Node
+join_of nodes inputs classes =
+    JoinNode (map (number_of nodes) inputs) (record { inputs = map (schema_of nodes) inputs; classes = map (class_of (map (schema_of nodes) inputs)) classes })
+
 -- the operator that is declared
 abbrev pub operator_of : List PlanNode → Statement → Node
 operator_of nodes (Plan version) = StreamNode []
@@ -150,8 +155,7 @@ operator_of nodes (Scheme stream marks) = StreamNode []
 operator_of nodes (Select name input tests) = SelectNode (number_of nodes input) (map (column_test tests) (schema_of nodes input))
 operator_of nodes (Project name input columns) = ProjectNode (number_of nodes input) (map (old_number (schema_of nodes input)) columns)
 operator_of nodes (Union name inputs) = UnionNode (map (number_of nodes) inputs)
-operator_of nodes (Join name inputs classes) =
-    JoinNode (map (number_of nodes) inputs) (record { inputs = map (schema_of nodes) inputs; classes = map (class_of (map (schema_of nodes) inputs)) classes })
+operator_of nodes (Join name inputs classes) = join_of nodes inputs classes
 operator_of nodes (Group name input keys aggs) =
     GroupNode (number_of nodes input) (record { keys = map (column_number (schema_of nodes input)) keys; aggs = map (named_agg (schema_of nodes input)) aggs })
 operator_of nodes (Output name) = StreamNode []

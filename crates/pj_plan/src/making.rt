@@ -4,7 +4,7 @@ ghost use Rattle.std.specs.List.{list_any};
 ghost use Rattle.pj_pattern.specs.Patterns.{is_of_kind};
 ghost use Rattle.pj_pattern.specs.Meets.{meet_of};
 ghost use Rattle.pj_plan.specs.Words.{used_names};
-ghost use Rattle.pj_plan.specs.Made.{operator_of as declared, number_of as number, schema_of as schema, column_number as place, column_kind as kind, met_with, test_pattern, column_test as test_of_column, class_in, class_from, class_of as whole_class, agg_of as aggregate, named_agg, old_number};
+ghost use Rattle.pj_plan.specs.Made.{operator_of as declared, number_of as number, schema_of as schema, column_number as place, column_kind as kind, met_with, test_pattern, column_test as test_of_column, class_in, class_from, class_of as whole_class, join_of, agg_of as aggregate, named_agg, old_number};
 ghost use Rattle.pj_plan.specs.Faults.{misses_its_kind, misses_kind, has_other_kinds};
 ghost use Rattle.pj_plan.specs.Small.{AreSmall};
 
@@ -176,7 +176,7 @@ fn join(
 ) -> Result<Node, NoMemory>
     requires small { AreSmall nodes.now }
     requires few { length inputs.now ≤ 16 }
-    ensures { IfOk result (λ node. node ≡ Node.Join (map (number nodes.now) inputs.now) (record { inputs = map (schema nodes.now) inputs.now; classes = map (whole_class (map (schema nodes.now) inputs.now)) classes.now })) }
+    ensures { IfOk result (λ node. node ≡ join_of nodes.now inputs.now classes.now) }
 {
     let schemas = schemas_of(alloc, nodes, inputs)?;
     let classes = classes_of(alloc, schemas.as_slice(), classes)?;
