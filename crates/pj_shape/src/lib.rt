@@ -1,11 +1,10 @@
-//! The shapes of streams, joins and groups: columns, schemes, classes, certificates and plans of one join.
+//! The shapes of streams, joins and groups: columns, schemes, classes and certificates.
 #![tactic(auto)]
 
 mod columns;
 mod groups;
 mod joins;
 mod laws;
-mod plans;
 #[cfg(test)]
 mod tests;
 
@@ -13,4 +12,3 @@ pub use columns::{Column, Instance, Schema, Scheme, Schemes};
 pub use groups::{Agg, GroupSpec};
 pub use joins::{Cert, CertStep, ClassCol, JoinSpec};
 pub use laws::joining_is_tested;
-pub use plans::{SmallJoin, SmallPlan, SmallStream};

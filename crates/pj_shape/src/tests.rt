@@ -1,8 +1,5 @@
-// Each public call that allocates, with ample memory. A copy of a plan copies its streams and its join.
-use crate::{
-    Agg, Cert, CertStep, ClassCol, Column, GroupSpec, JoinSpec, Schema, Scheme, Schemes, SmallJoin,
-    SmallPlan, SmallStream,
-};
+// Each public call that allocates, with ample memory.
+use crate::{Agg, Cert, CertStep, ClassCol, Column, GroupSpec, JoinSpec, Schema, Scheme, Schemes};
 use pj_value::{Kind, List, NoMemory};
 use std::alloc::Global;
 
@@ -59,58 +56,15 @@ fn is_class(class: &[ClassCol]) -> bool {
     }
 }
 
-fn stream(alloc: Global) -> Result<SmallStream, NoMemory> {
-    let name = List::copy_of(alloc, b"s")?;
-    let schema = schema(alloc)?;
-    let schemes = schemes(alloc)?;
-    Ok(SmallStream {
-        name,
-        schema,
-        schemes,
-    })
-}
-
-fn is_stream(stream: &SmallStream) -> bool {
-    stream.name.as_slice() == b"s".as_slice()
-        && is_schema(&stream.schema)
-        && are_schemes(stream.schemes.as_slice())
-}
-
-fn join(alloc: Global) -> Result<SmallJoin, NoMemory> {
-    let name = List::copy_of(alloc, b"j")?;
-    let inputs = List::copy_of(alloc, &[1, 0])?;
+fn copied_spec(alloc: Global) -> Result<JoinSpec, NoMemory> {
     let spec = spec(alloc)?;
-    Ok(SmallJoin { name, inputs, spec })
-}
-
-fn is_join(join: &SmallJoin) -> bool {
-    join.name.as_slice() == b"j".as_slice()
-        && join.inputs.as_slice() == [1, 0].as_slice()
-        && is_spec(&join.spec)
-}
-
-fn plan(alloc: Global) -> Result<SmallPlan, NoMemory> {
-    let streams = only(alloc, stream(alloc)?)?;
-    let join = Some(join(alloc)?);
-    Ok(SmallPlan { streams, join })
-}
-
-fn copied_plan(alloc: Global) -> Result<SmallPlan, NoMemory> {
-    let plan = plan(alloc)?;
-    plan.copy(alloc)
-}
-
-fn is_plan(plan: &SmallPlan) -> bool {
-    match (plan.streams.as_slice(), &plan.join) {
-        ([stream], Some(join)) => is_stream(stream) && is_join(join),
-        _ => false,
-    }
+    spec.copy(alloc)
 }
 
 #[test]
-fn plans_are_copied(rt: HostRuntime) {
-    let copy = copied_plan(rt.alloc());
-    assert!(rt; matches!(&copy, Ok(copy) if is_plan(copy)));
+fn joins_are_copied(rt: HostRuntime) {
+    let copy = copied_spec(rt.alloc());
+    assert!(rt; matches!(&copy, Ok(copy) if is_spec(copy)));
 }
 
 fn copied_schemes(alloc: Global) -> Result<Schemes, NoMemory> {
