@@ -1,5 +1,5 @@
 -- Names, and statements in words that a line of a plan can spell.
-use Rattle.std.specs.Prelude.{ℕ, Bool, true, false, not, ◌||◌, ◌&&◌, ◌==◌, ◌≡◌, List, [], ◌∷◌, Some, length, nat_le}
+use Rattle.std.specs.Prelude.{ℕ, Bool, true, false, not, ◌||◌, ◌&&◌, ◌==◌, ◌≡◌, List, [], ◌∷◌, Some, length, nat_le, codes}
 use Rattle.std.specs.List.{list_all}
 use Rattle.std.specs.Str.{bytes_eq}
 use Rattle.pj_plan.specs.declared.fault.PlanWhy.{PlanWhy}
@@ -29,29 +29,13 @@ begins_small (b ∷ bs) = is_small b
 abbrev pub is_word : List ℕ → Bool
 is_word cell = begins_small cell && (nat_le (length cell) 32 && list_all is_name_byte cell)
 
--- `of`
-abbrev pub of_word : List ℕ
-of_word = 111 ∷ 102 ∷ []
-
--- `on`
-abbrev pub on_word : List ℕ
-on_word = 111 ∷ 110 ∷ []
-
--- `where`
-abbrev pub where_word : List ℕ
-where_word = 119 ∷ 104 ∷ 101 ∷ 114 ∷ 101 ∷ []
-
--- `by`
-abbrev pub by_word : List ℕ
-by_word = 98 ∷ 121 ∷ []
-
 -- the name of a column: `of` is none
 abbrev pub is_column_name : List ℕ → Bool
-is_column_name cell = is_word cell && not (bytes_eq cell of_word)
+is_column_name cell = is_word cell && not (bytes_eq cell (codes "of"))
 
 -- the name of a node: nor are `on`, `where` and `by`
 abbrev pub is_name : List ℕ → Bool
-is_name cell = is_column_name cell && not (is_among (on_word ∷ where_word ∷ by_word ∷ []) cell)
+is_name cell = is_column_name cell && not (is_among (codes "on" ∷ codes "where" ∷ codes "by" ∷ []) cell)
 
 -- ---- statements
 
