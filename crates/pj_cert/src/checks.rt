@@ -85,7 +85,8 @@ fn is_bound(classes: &[List<ClassCol>], known: &[u32], at: ClassCol) -> bool
     classes.iter().any(|class| holds(class.as_slice(), at) && touches(class.as_slice(), known))
 }
 
-fn holds(class: &[ClassCol], at: ClassCol) -> bool
+/// Whether the class has the column.
+pub(crate) fn holds(class: &[ClassCol], at: ClassCol) -> bool
     ensures { result ≡ has_column class.now at }
 {
     class
@@ -93,7 +94,8 @@ fn holds(class: &[ClassCol], at: ClassCol) -> bool
         .any(|c| c.input == at.input && c.column == at.column)
 }
 
-fn touches(class: &[ClassCol], known: &[u32]) -> bool
+/// Whether the class has a column of a known input.
+pub(crate) fn touches(class: &[ClassCol], known: &[u32]) -> bool
     ensures { result ≡ touched (among known.now) class.now }
 {
     class.iter().any(|c| is_among(known, c.input))

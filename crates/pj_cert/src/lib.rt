@@ -1,12 +1,21 @@
-//! Certificates of the inputs of a join, and closed sets of its inputs.
+//! Certificates of the inputs of a join, closed sets of its inputs, and rows that show why an input is stuck.
 #![tactic(auto)]
 
+mod blanks;
 mod checks;
+mod escaping;
+mod fresh;
+mod laws;
+mod partners;
 #[cfg(test)]
 mod tests;
 mod verdicts;
 mod verified;
 
+pub use blanks::{blank_instances, blank_row};
 pub use checks::closed;
+pub use escaping::escape;
+pub use laws::{escaping_is_lawful, fresh_values_are_new};
+pub use partners::partners_text;
 pub use verdicts::verdict_text;
 pub use verified::verify;

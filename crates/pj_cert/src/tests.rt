@@ -1,11 +1,16 @@
-// Worked lists of steps and sets of inputs of a join.
-ghost use Rattle.std.specs.Prelude.{◌≡◌, ◌<◌, ◌∷◌, [], true, false, IfOk};
+// Worked lists of steps, sets of inputs and rows of a join.
+ghost use Rattle.std.specs.Prelude.{◌≡◌, ◌<◌, ◌∷◌, [], true, false, length, IfOk};
+ghost use Rattle.pj_shape.specs.Columns.{kinds_of};
+ghost use Rattle.pj_pattern.specs.Fitting.{row_fits};
 ghost use Rattle.pj_graph.specs.Samples.{at, number, pair, pairs, firsts, seconds, sample, sample_schemes};
+ghost use Rattle.pj_cert.specs.Instances.{constants_of};
+ghost use Rattle.pj_cert.specs.Samples.{MixedRows};
 
-use crate::{closed, verdict_text, verify};
+use crate::fresh::{fresh_number, fresh_text};
+use crate::{blank_instances, blank_row, closed, escape, partners_text, verdict_text, verify};
 use pj_graph::Reach;
-use pj_shape::{Cert, CertStep, ClassCol, Column, JoinSpec, Schema, Scheme, Schemes};
-use pj_value::{Bytes, Kind, List, NoMemory};
+use pj_shape::{Cert, CertStep, ClassCol, Column, Instance, JoinSpec, Schema, Scheme, Schemes};
+use pj_value::{Bytes, Kind, List, NoMemory, Row, SharedText, Value};
 use std::alloc::Global;
 
 fn column(alloc: Global) -> Result<Column, NoMemory>
@@ -154,10 +159,20 @@ fn names(alloc: Global) -> Result<List<Bytes>, NoMemory> {
 
 // What is printed of the first input of the join `j`.
 fn printed(alloc: Global, found: &Reach) -> Result<Bytes, NoMemory> {
+    let spec = join(alloc)?;
     let schemes = schemes(alloc, true, false)?;
     let names = names(alloc)?;
     let mut text = List::new(alloc);
-    verdict_text(alloc, &schemes, b"j", names.as_slice(), 0, found, &mut text)?;
+    verdict_text(
+        alloc,
+        &spec,
+        &schemes,
+        b"j",
+        names.as_slice(),
+        0,
+        found,
+        &mut text,
+    )?;
     Ok(text)
 }
 
@@ -186,3 +201,85 @@ fn verdicts_are_printed(rt: HostRuntime) {
     assert!(rt; matches!(&whole, Ok(text) if text.as_slice() == safe));
     assert!(rt; matches!(&stuck, Ok(text) if text.as_slice() == unsafe_lines));
 }
+
+fn first_row(alloc: Global) -> Result<Row, NoMemory>
+    ensures { IfOk result (λ row. row_fits (kinds_of pair) row ≡ true) }
+{
+    let schema = schema(alloc)?;
+    blank_row(alloc, &schema)
+}
+
+// The rows that show why the first input is stuck.
+#[tactic(auto, using(pj_graph::proofs::Samples::sample_sound, pj_graph::proofs::Samples::sample_fits))]
+fn rows_of(alloc: Global, spec: &JoinSpec, schemes: &Schemes) -> Result<List<Row>, NoMemory>
+    requires spec { spec.now ≡ sample }
+    requires schemes { schemes.now ≡ sample_schemes false true }
+{
+    let row = first_row(alloc)?;
+    let listed = blank_instances(alloc, spec, schemes, &[0])?;
+    if closed(spec, schemes, &[0]) {
+        escape(alloc, spec, schemes, 0, &[0], &row, listed.as_slice())
+    } else {
+        Ok(List::new(alloc))
+    }
+}
+
+fn stuck_rows(alloc: Global) -> Result<List<Row>, NoMemory> {
+    let spec = join(alloc)?;
+    let schemes = schemes(alloc, false, true)?;
+    rows_of(alloc, &spec, &schemes)
+}
+
+fn partner_lines(alloc: Global) -> Result<Bytes, NoMemory> {
+    let names = names(alloc)?;
+    let rows = stuck_rows(alloc)?;
+    let mut text = List::new(alloc);
+    partners_text(alloc, names.as_slice(), 0, rows.as_slice(), &mut text)?;
+    Ok(text)
+}
+
+#[test]
+fn partners_are_printed(rt: HostRuntime) {
+    let lines = partner_lines(rt.alloc());
+    let want = b"# partner b t 0 1\n# partner c t 0 1\n".as_slice();
+    assert!(rt; matches!(&lines, Ok(text) if text.as_slice() == want));
+}
+
+fn constants(alloc: Global) -> Result<List<Value>, NoMemory>
+    ensures { IfOk result (λ constants. length constants ≡ 3) }
+{
+    let mut constants = List::new(alloc);
+    constants.push(Value::Int(1))?;
+    constants.push(Value::Text(SharedText::copy_of(alloc, b"ab")?))?;
+    constants.push(Value::Int(0))?;
+    Ok(constants)
+}
+
+fn listed(alloc: Global) -> Result<List<Instance>, NoMemory>
+    ensures { IfOk result (λ listed. length (constants_of listed) ≡ 3) }
+{
+    let mut listed = List::new(alloc);
+    listed.push(Instance {
+        input: 1,
+        scheme: 0,
+        constants: constants(alloc)?,
+    })?;
+    Ok(listed)
+}
+
+fn fresh_values(alloc: Global) -> Result<(u32, SharedText), NoMemory> {
+    let listed = listed(alloc)?;
+    let number = fresh_number(alloc, listed.as_slice())?;
+    Ok((number, fresh_text(alloc, listed.as_slice())?))
+}
+
+#[test]
+fn fresh_values_are_none_of_the_constants(rt: HostRuntime) {
+    let values = fresh_values(rt.alloc());
+    assert!(rt; matches!(&values, Ok((2, text)) if text.as_slice() == b"aaa".as_slice()));
+}
+
+// The definition gives the worked rows.
+fn mixed_rows_are_the_worked_ones()
+    ensures { MixedRows }
+{}

@@ -1,11 +1,12 @@
 // What is printed of an input of a join.
 ghost use Rattle.std.specs.Prelude.{◌≡◌, ◌++◌, drop, OnOk, OnErr};
 ghost use Rattle.std.specs.List.{flat_map};
-ghost use Rattle.pj_cert.specs.Verdicts.{mark_text as mark_bytes, name_of as named, marks_of, step_text, steps_text, more_text, names_text, head_text, whole_text, stuck_text, missing_text, reached_text, verdict_of};
+ghost use Rattle.pj_cert.specs.Verdicts.{mark_text as mark_bytes, name_of as named, marks_of, step_text, steps_text, more_text, names_text};
+ghost use Rattle.pj_cert.specs.Verdicts.{head_text, whole_text, stuck_text, missing_text, reached_text, verdict_of};
 ghost use Rattle.pj_graph.specs.Sets.{schemes_of};
 
 use pj_graph::Reach;
-use pj_shape::{Cert, CertStep, Scheme, Schemes};
+use pj_shape::{Cert, CertStep, JoinSpec, Scheme, Schemes};
 use pj_value::{Bytes, List, NoMemory};
 use std::alloc::Global;
 
@@ -13,6 +14,7 @@ use std::alloc::Global;
 /// `# unsafe join J input I: cannot reach M` and `# reached: I ..`. On a refusal `out` is as it was.
 pub fn verdict_text(
     alloc: Global,
+    _spec: &JoinSpec,
     schemes: &Schemes,
     join: &[u8],
     names: &[Bytes],
@@ -208,7 +210,14 @@ fn append_names(names: &[Bytes], inputs: &[u32], text: &mut List<u8>) -> Result<
 fn name_of(names: &[Bytes], input: u32) -> &[u8]
     ensures { result.now ≡ named names.now input }
 {
-    match names.get(input as usize) {
+    name_at(names, input as usize)
+}
+
+/// The name of an input.
+pub(crate) fn name_at(names: &[Bytes], input: usize) -> &[u8]
+    ensures { result.now ≡ named names.now input }
+{
+    match names.get(input) {
         None => &[],
         Some(name) => name.as_slice(),
     }

@@ -1,0 +1,184 @@
+-- Rows and instances of zeros and empty texts.
+use Rattle.std.proofs.Common.{ℕ, zero, suc, ◌+◌, ◌<◌, ◌≤◌, ◌≡◌, ◌⊎◌, length, get_or, min, arith, Bool, true, false, cond, List, [], ◌∷◌, ◌++◌, Some, drop, slice_get, refl, sym, ap, ◌∙◌, subst, inl, inr, append_assoc, append-nil}
+use Rattle.std.proofs.Math.Seq.{drop-nil}
+use Rattle.std.proofs.lemmas.Bool.{and_from}
+use Rattle.std.proofs.lemmas.List.{length-map}
+use Rattle.std.proofs.lemmas.Option.{slice_get-get_or}
+use Rattle.pj_value.specs.declared.values.Kind.{Kind}
+use Rattle.pj_value.specs.declared.values.Kind.TheVariants.{Int as KInt, Text as KText}
+use Rattle.pj_value.specs.declared.values.Value.{Value}
+use Rattle.pj_value.specs.Lists.{In}
+use Rattle.pj_value.specs.Values.{is_kind}
+use Rattle.pj_value.proofs.Members.{In-append_cases}
+use Rattle.pj_shape.specs.declared.columns.Column.{Column}
+use Rattle.pj_shape.specs.declared.columns.Instance.{Instance}
+use Rattle.pj_shape.specs.declared.joins.JoinSpec.{JoinSpec}
+use Rattle.pj_shape.specs.Columns.{kinds_of}
+use Rattle.pj_shape.proofs.KindsOf.{kinds_length}
+use Rattle.pj_pattern.specs.Fitting.{row_fits}
+use Rattle.pj_graph.specs.Sets.{FitSchemes, among, schemes_of}
+use Rattle.pj_graph.proofs.Steps.{drop_at, drop_got}
+use Rattle.pj_cert.specs.Instances.{AreInstances, blank, blank_input, blank_instances_from, blank_instances_of, blank_ones, blanks, marked}
+
+-- ---- they fit
+
+one_fits : (kind : Kind) → is_kind kind (blank kind) ≡ true
+one_fits KInt = refl
+one_fits KText = refl
+
+pub blanks_fit : (kinds : List Kind) → row_fits kinds (blanks kinds) ≡ true
+blanks_fit [] = refl
+blanks_fit (kind ∷ kinds) = and_from (is_kind kind (blank kind)) (row_fits kinds (blanks kinds)) (one_fits kind) (blanks_fit kinds)
+
+-- ---- the constants of one instance
+
+pub marked_length : {A B : Type 0} (marks : List Bool) (xs : List A) (ys : List B) → length xs ≡ length ys → length (marked marks xs) ≡ length (marked marks ys)
+marked_length [] xs ys e = refl
+marked_length (m ∷ marks) [] [] e = refl
+marked_length (m ∷ marks) [] (y ∷ ys) e = absurd (omega (arith, e))
+marked_length (m ∷ marks) (x ∷ xs) [] e = absurd (omega (arith, e))
+marked_length (true ∷ marks) (x ∷ xs) (y ∷ ys) e = ap suc (marked_length marks xs ys (omega (arith, e)))
+marked_length (false ∷ marks) (x ∷ xs) (y ∷ ys) e = marked_length marks xs ys (omega (arith, e))
+
+-- one column more, which is marked or not
+pub marked_on : (done more whole : List Value) (marks : List Bool) (columns : List Column) (k : ℕ) (m : Bool) (c : Column)
+    → done ++ blanks (marked (drop k marks) (kinds_of (drop k columns))) ≡ whole → slice_get marks k ≡ Some m → slice_get columns k ≡ Some c
+    → more ≡ done ++ cond m (blank c.kind ∷ []) [] → more ++ blanks (marked (drop (k + 1) marks) (kinds_of (drop (k + 1) columns))) ≡ whole
+marked_on done more whole marks columns k m c e f g h =
+    ap (λ (vs : List Value). vs ++ rest) h
+    ∙ (append_assoc done (cond m (blank c.kind ∷ []) []) rest
+    ∙ (ap (λ (vs : List Value). done ++ vs) (each m)
+    ∙ (sym (ap (λ (ms : List Bool). done ++ blanks (marked ms (c.kind ∷ kinds_of (drop (k + 1) columns)))) (drop_got marks k m f))
+    ∙ (sym (ap (λ (cs : List Column). done ++ blanks (marked (drop k marks) (kinds_of cs))) (drop_got columns k c g))
+    ∙ e))))
+  where
+    rest : List Value
+    rest = blanks (marked (drop (k + 1) marks) (kinds_of (drop (k + 1) columns)))
+
+    each : (b : Bool) → cond b (blank c.kind ∷ []) [] ++ blanks (marked (drop (k + 1) marks) (kinds_of (drop (k + 1) columns)))
+        ≡ blanks (marked (b ∷ drop (k + 1) marks) (c.kind ∷ kinds_of (drop (k + 1) columns)))
+    each true = refl
+    each false = refl
+
+pub unmarked_on : (done more whole : List Value) (marks : List Bool) (columns : List Column) (k : ℕ) (m : Bool)
+    → done ++ blanks (marked (drop k marks) (kinds_of (drop k columns))) ≡ whole → slice_get marks k ≡ Some m → k < length columns → m ≡ false
+    → more ≡ done → more ++ blanks (marked (drop (k + 1) marks) (kinds_of (drop (k + 1) columns))) ≡ whole
+unmarked_on done more whole marks columns k m e f lt is h =
+    let none : Column = record { name = []; kind = KInt } in
+    marked_on done more whole marks columns k m (get_or columns k none) e f (slice_get-get_or columns k none lt)
+    (h ∙ (sym (append-nil done) ∙ sym (ap (λ (b : Bool). done ++ cond b (blank (get_or columns k none).kind ∷ []) []) is)))
+
+pub none_marked : (marks : List Bool) (columns : List Column) (k : ℕ) → min (length marks) (length columns) ≤ k
+    → blanks (marked (drop k marks) (kinds_of (drop k columns))) ≡ []
+none_marked [] columns k h = ap (λ (ms : List Bool). blanks (marked ms (kinds_of (drop k columns)))) (drop-nil k)
+none_marked (m ∷ marks) [] k h = ap (λ (cs : List Column). blanks (marked (drop k (m ∷ marks)) (kinds_of cs))) (drop-nil k) ∙ nothing (drop k (m ∷ marks))
+  where
+    nothing : (ms : List Bool) → blanks (marked ms []) ≡ []
+    nothing [] = refl
+    nothing (x ∷ ms) = refl
+none_marked (m ∷ marks) (c ∷ columns) zero h = absurd (omega arith)
+none_marked (m ∷ marks) (c ∷ columns) (suc k) h = none_marked marks columns k (omega (arith, h))
+
+-- ---- one input more
+
+pub blank_on : (reached : List ℕ) (done more whole : List Instance) (schemas : List (List Column)) (lists : List (List (List Bool))) (k : ℕ) (schema : List Column) (list : List (List Bool))
+    → done ++ blank_instances_from reached k (drop k schemas) (drop k lists) ≡ whole → k < length schemas → schema ≡ get_or schemas k schema → slice_get lists k ≡ Some list
+    → more ≡ done ++ blank_input reached k (kinds_of schema) list → more ++ blank_instances_from reached (k + 1) (drop (k + 1) schemas) (drop (k + 1) lists) ≡ whole
+blank_on reached done more whole schemas lists k schema list e lt is f g =
+    ap (λ (l : List Instance). l ++ blank_instances_from reached (k + 1) (drop (k + 1) schemas) (drop (k + 1) lists)) g
+    ∙ (append_assoc done (blank_input reached k (kinds_of schema) list) (blank_instances_from reached (k + 1) (drop (k + 1) schemas) (drop (k + 1) lists))
+    ∙ (sym (ap (λ (l : List (List (List Bool))). done ++ blank_instances_from reached k (schema ∷ drop (k + 1) schemas) l) (drop_got lists k list f))
+    ∙ (sym (ap (λ (s : List (List Column)). done ++ blank_instances_from reached k s (drop k lists)) (drop_at schemas k schema lt is))
+    ∙ e)))
+
+-- ---- each is an instance of a given scheme
+
+-- it is of this input and one of these schemes, and has a constant for each mark
+record IsOne (input n : ℕ) (list : List (List Bool)) (instance : Instance) : Type 0 where
+  of_input : instance.input ≡ input
+  place : ℕ
+  within : place < length list
+  is_place : instance.scheme ≡ n + place
+  filled : length instance.constants ≡ length (marked (get_or list place []) (get_or list place []))
+
+in_ones : (input : ℕ) (kinds : List Kind) (n : ℕ) (list : List (List Bool)) (instance : Instance) → ((marks : List Bool) → In marks list → length marks ≡ length kinds)
+    → In instance (blank_ones input kinds n list) → IsOne input n list instance
+in_ones input kinds n [] instance fit h = absurd h
+in_ones input kinds n (marks ∷ list) instance fit (inl e) = record {
+  of_input = sym (ap (λ (i : Instance). i.input) e);
+  place = 0;
+  within = omega arith;
+  is_place = omega (arith, ap (λ (i : Instance). i.scheme) e);
+  filled =
+      sym (ap (λ (i : Instance). length i.constants) e)
+      ∙ (length-map (marked marks kinds) blank ∙ marked_length marks kinds marks (sym (fit marks (inl refl))));
+}
+in_ones input kinds n (marks ∷ list) instance fit (inr h) =
+    let r = in_ones input kinds (n + 1) list instance (λ ms k. fit ms (inr k)) h in
+    record {
+      of_input = r.of_input;
+      place = suc r.place;
+      within = omega (arith, r.within);
+      is_place = omega (arith, r.is_place);
+      filled = r.filled;
+    }
+
+-- the same of the instances of the inputs from one on
+record IsOneFrom (n : ℕ) (schemas : List (List Column)) (lists : List (List (List Bool))) (instance : Instance) : Type 0 where
+  place : ℕ
+  is_place : instance.input ≡ n + place
+  within : place < length schemas
+  one : IsOne instance.input 0 (schemes_of lists place) instance
+
+in_input : (reached : List ℕ) (input : ℕ) (kinds : List Kind) (list : List (List Bool)) (instance : Instance) → ((marks : List Bool) → In marks list → length marks ≡ length kinds)
+    → In instance (blank_input reached input kinds list) → IsOne input 0 list instance
+in_input reached input kinds list instance fit h = go (among reached input) h
+  where
+    go : (b : Bool) → In instance (cond b [] (blank_ones input kinds 0 list)) → IsOne input 0 list instance
+    go true k = absurd k
+    go false k = in_ones input kinds 0 list instance fit k
+
+in_from : (reached : List ℕ) (n : ℕ) (schemas : List (List Column)) (lists : List (List (List Bool))) (instance : Instance) → FitSchemes schemas lists
+    → In instance (blank_instances_from reached n schemas lists) → IsOneFrom n schemas lists instance
+in_from reached n [] lists instance fit h = absurd h
+in_from reached n (schema ∷ schemas) [] instance fit h = absurd h
+in_from reached n (schema ∷ schemas) (list ∷ lists) instance fit h =
+    go (In-append_cases instance (blank_input reached n (kinds_of schema) list) (blank_instances_from reached (n + 1) schemas lists) h) (in_from reached (n + 1) schemas lists instance fit.1)
+  where
+    short : (marks : List Bool) → In marks list → length marks ≡ length (kinds_of schema)
+    short marks k = fit.0 marks k ∙ sym (kinds_length schema)
+
+    go : In instance (blank_input reached n (kinds_of schema) list) ⊎ In instance (blank_instances_from reached (n + 1) schemas lists)
+        → (In instance (blank_instances_from reached (n + 1) schemas lists) → IsOneFrom (n + 1) schemas lists instance) → IsOneFrom n (schema ∷ schemas) (list ∷ lists) instance
+    go (inl k) ih =
+        let r = in_input reached n (kinds_of schema) list instance short k in
+        record {
+          place = 0;
+          is_place = omega (arith, r.of_input);
+          within = omega arith;
+          one = subst (λ (m : ℕ). IsOne m 0 list instance) (sym r.of_input) r;
+        }
+    go (inr k) ih =
+        let r = ih k in
+        record {
+          place = suc r.place;
+          is_place = omega (arith, r.is_place);
+          within = omega (arith, r.within);
+          one = r.one;
+        }
+
+pub blank_given : (spec : JoinSpec) (schemes : List (List (List Bool))) (reached : List ℕ) → FitSchemes spec.inputs schemes
+    → AreInstances spec schemes (blank_instances_of spec schemes reached)
+blank_given spec schemes reached fit instance h =
+    let r = in_from reached 0 spec.inputs schemes instance fit h in
+    let at : r.place ≡ instance.input = omega (arith, r.is_place) in
+    let one : IsOne instance.input 0 (schemes_of schemes instance.input) instance =
+    subst (λ (m : ℕ). IsOne instance.input 0 (schemes_of schemes m) instance) at r.one in
+    let scheme : one.place ≡ instance.scheme = omega (arith, one.is_place) in
+    record {
+      of_input = omega (arith, r.within, at);
+      of_scheme = omega (arith, one.within, scheme);
+      filled =
+          one.filled
+          ∙ ap (λ (m : ℕ). length (marked (get_or (schemes_of schemes instance.input) m []) (get_or (schemes_of schemes instance.input) m []))) scheme;
+    }
