@@ -1,0 +1,52 @@
+-- The first stuck input of a join.
+use Rattle.std.proofs.Common.{ℕ, ◌+◌, ◌<◌, ◌≡◌, length, true, List, Option, Some, None, sym, subst, below_more}
+use Rattle.pj_shape.specs.declared.joins.CertStep.{CertStep}
+use Rattle.pj_graph.specs.declared.answers.Reach.{Reach}
+use Rattle.pj_graph.specs.declared.answers.Reach.TheVariants.{All, Stuck}
+use Rattle.pj_graph.specs.Sets.{IsSafe, Reaches, among}
+use Rattle.pj_graph.specs.Reaching.{IsReach, IsStuck, IsWhole}
+use Rattle.pj_graph.proofs.Saturations.{in_among}
+use Rattle.pj_alone.specs.declared.safety.Unsafe.{Unsafe}
+use Rattle.pj_alone.specs.Asked.{Asked, FirstGoEverywhere, IsFirstOf, IsJoinJudged, IsStuckAt, or_stuck, stuck_lines}
+use Rattle.pj_alone.specs.Safety.{HasUnsafeLines}
+
+pub one_more : (asked : Asked) (n : ℕ) (cert : List CertStep) → FirstGoEverywhere asked n → IsWhole asked.spec asked.schemes n cert → FirstGoEverywhere asked (n + 1)
+one_more asked n cert before whole from lt to there = below_more (λ (k : ℕ). (m : ℕ) → m < length asked.spec.inputs → Reaches asked.spec asked.schemes k m) n before whole.all from lt to there
+
+pub all_safe : (asked : Asked) → FirstGoEverywhere asked (length asked.spec.inputs) → IsSafe asked.spec asked.schemes
+all_safe asked before from to lt there = before from lt to there
+
+pub stuck_at : (asked : Asked) (n missing : ℕ) (reached : List ℕ) → FirstGoEverywhere asked n → n < length asked.spec.inputs
+    → IsStuck asked.spec asked.schemes n reached missing → IsStuckAt asked n missing
+stuck_at asked n missing reached before lt stuck = record {
+  before = before;
+  input_there = lt;
+  missing_there = stuck.missing_is_input;
+  stuck = stuck.missed;
+  least = stuck.least;
+}
+
+pub first_more : (asked : Asked) (n : ℕ) (first : Option (ℕ × ℕ)) (found : Reach) → IsFirstOf asked n first → n < length asked.spec.inputs
+    → IsReach asked.spec asked.schemes n found → IsFirstOf asked (n + 1) (or_stuck first n found)
+first_more asked n (Some first) found is lt reach = is
+first_more asked n None (All cert) is lt whole = one_more asked n cert is whole
+first_more asked n None (Stuck reached missing) is lt stuck = stuck_at asked n missing reached is lt stuck
+
+-- an input reaches itself
+pub inside : (asked : Asked) (n missing : ℕ) (reached : List ℕ) → n < length asked.spec.inputs → IsStuck asked.spec asked.schemes n reached missing → among reached n ≡ true
+inside asked n missing reached lt stuck = in_among reached n ((stuck.exactly n).1 (lt, λ set closed here. here))
+
+-- the first stuck input of a join was found, with its lines
+pub judged : (asked : Asked) (join n missing : ℕ) (reached : List ℕ) (found : Unsafe) → FirstGoEverywhere asked n → n < length asked.spec.inputs
+    → IsStuck asked.spec asked.schemes n reached missing → found.join ≡ join → found.input ≡ n → found.missing ≡ missing
+    → found.lines ≡ stuck_lines asked n missing reached → HasUnsafeLines found → IsJoinJudged asked join (Some found)
+judged asked join n missing reached found before lt stuck e f g lines notes = (
+  e,
+  subst (λ (i : ℕ). IsStuckAt asked i found.missing) (sym f) (subst (λ (m : ℕ). IsStuckAt asked n m) (sym g) (stuck_at asked n missing reached before lt stuck)),
+  record {
+    reached = reached;
+    stuck = subst (λ (i : ℕ). IsStuck asked.spec asked.schemes i reached found.missing) (sym f) (subst (λ (m : ℕ). IsStuck asked.spec asked.schemes n reached m) (sym g) stuck);
+    lines = subst (λ (i : ℕ). found.lines ≡ stuck_lines asked i found.missing reached) (sym f) (subst (λ (m : ℕ). found.lines ≡ stuck_lines asked n m reached) (sym g) lines);
+    notes = notes;
+  },
+)

@@ -1,0 +1,3 @@
+pub mod Safety
+pub mod Asked
+pub mod Checks

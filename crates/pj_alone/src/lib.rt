@@ -1,0 +1,11 @@
+//! What is done without threads: whether a plan is safe, and what is told of it.
+#![tactic(auto)]
+
+mod asked;
+mod check;
+mod safety;
+#[cfg(test)]
+mod tests;
+
+pub use check::check_text;
+pub use safety::{Unsafe, first_unsafe};
