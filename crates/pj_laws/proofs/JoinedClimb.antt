@@ -7,7 +7,7 @@ use Rattle.pj_laws.specs.Outcomes.{arriving, place_in}
 use Rattle.pj_laws.specs.Climb.{stepped, Load, coming, going_on, Climbed, behind_node, climbed_from, climbed, climbed_by}
 use Rattle.pj_laws.specs.StreamsJoined.{NamesEach, Source, source_node, joined_nodes, fed, join_climb, JoinedClimb}
 use Rattle.pj_laws.proofs.Climbing.{placed-none}
-use Rattle.pj_laws.proofs.SmallSteps.{AreStreamNodes, HasForm, node-is}
+use Rattle.pj_laws.proofs.JoinSteps.{AreStreamNodes, HasForm, node-is}
 
 all-sources : (sources : List Source) → AreStreamNodes (map source_node sources)
 all-sources [] = tt

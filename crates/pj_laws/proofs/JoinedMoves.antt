@@ -1,9 +1,9 @@
 -- What each event makes of several streams and one join.
+use Rattle.pj_laws.specs.CoreKept.{OneJoin}
+use Rattle.pj_shape.specs.declared.columns.Column.{Column}
 use Rattle.std.proofs.Common.{ℕ, add-one, true, zero, suc, ◌+◌, ◌<◌, List, [], ◌∷◌, ◌++◌, ◌≡◌, None, map, length, get_or, replicate, refl, sym, ap, ◌∙◌, inl, inr, arith, append-nil}
 use Rattle.std.proofs.lemmas.Bool.{false≢true, cases_lt}
 use Rattle.std.proofs.lemmas.List.{length-map, length_push, get_or_at, ext_get_or}
-use Rattle.pj_shape.specs.declared.plans.SmallStream.{SmallStream}
-use Rattle.pj_shape.specs.declared.plans.SmallJoin.{SmallJoin}
 use Rattle.pj_laws.specs.Join.{Element, JoinData, JoinState, Take, Give, Sweep, start, step, run, outputs}
 use Rattle.pj_laws.specs.KeptState.{lacking}
 use Rattle.pj_laws.specs.Plan.{ArePlanned, Operator, Stream, Select, Project, Union, Join, Group, Node, join_step, nowhere, operator_at}
@@ -13,7 +13,7 @@ use Rattle.pj_laws.specs.Limits.{StaysWithin}
 use Rattle.pj_laws.specs.OneThread.{schema_of, plain, first_of, next_from, probes_from, probes_at, pending_at}
 use Rattle.pj_laws.specs.Climb.{IsTree, HasOneTop, above, local_of, Climbed, climb_of, climbed_where}
 use Rattle.pj_laws.specs.ClimbLimits.{begun_where}
-use Rattle.pj_laws.specs.StreamsJoined.{unswept_data, sources_from, JoinedAfter, NamesEach, Source, source_node, joined_nodes, fed, join_climb, JoinedClimb, MovesJoin, JoinedMoves, TopIsWithin}
+use Rattle.pj_laws.specs.StreamsJoined.{sources_from, JoinedAfter, NamesEach, Source, source_node, joined_nodes, fed, join_climb, JoinedClimb, MovesJoin, JoinedMoves, TopIsWithin}
 use Rattle.pj_laws.proofs.ClimbingEvents.{events-climb}
 use Rattle.pj_laws.proofs.ClimbingLimits.{beyond-is-climbed, levels-climb}
 use Rattle.pj_laws.proofs.JoinedClimb.{joined-climb, sources-form}
@@ -21,9 +21,9 @@ use Rattle.pj_laws.specs.CoreKept.{stream_of, join_of, IsJoinOf}
 use Rattle.pj_laws.specs.HistoryLaws.{joined_plan}
 use Rattle.pj_laws.proofs.JoinRuns.{join-runs}
 use Rattle.pj_laws.proofs.OneThreadAnswer.{streams-hold}
-use Rattle.pj_laws.proofs.Small.{joined-planned}
-use Rattle.pj_laws.proofs.SmallKept.{at-front}
-use Rattle.pj_laws.proofs.SmallSteps.{HasForm, form-from, small-form, last-at, node-is, numbers, total}
+use Rattle.pj_laws.proofs.StreamsPlans.{joined-planned}
+use Rattle.pj_laws.proofs.KeepsJoins.{at-front}
+use Rattle.pj_laws.proofs.JoinSteps.{HasForm, form-from, joined-form, last-at, node-is, numbers, total}
 use Rattle.pj_laws.proofs.Upto.{length-upto}
 use Rattle.pj_laws.proofs.StreamsJoined.{form-tree, form-top}
 use Rattle.pj_laws.proofs.Trees.{tree-from, above-from}
@@ -171,21 +171,21 @@ joined-moves sources inputs spec s names = record {
 same-node : (a b : Node) → a.inputs ≡ b.inputs → a.operator ≡ b.operator → a ≡ b
 same-node a b p q = λ i. record { inputs = p i; operator = q i }
 
-sources-at : (k : ℕ) (streams : List SmallStream) (h : List Entry) (rest behind : List Node) (i : ℕ) → i < length streams
+sources-at : (k : ℕ) (streams : List (List Column)) (h : List Entry) (rest behind : List Node) (i : ℕ) → i < length streams
     → get_or (map source_node (sources_from k streams h) ++ rest) i nowhere ≡ record { inputs = []; operator = Stream (schema_of (operator_at (map stream_of streams ++ behind) i)) (elements_of (k + i) h) }
 sources-at k [] h rest behind i lt = absurd (omega (arith, lt))
 sources-at k (stream ∷ streams) h rest behind zero lt =
-    let z : k ≡ k + 0 = omega arith in ap (λ (n : ℕ). record { inputs = []; operator = Stream stream.schema (elements_of n h) }) z
+    let z : k ≡ k + 0 = omega arith in ap (λ (n : ℕ). record { inputs = []; operator = Stream stream (elements_of n h) }) z
 sources-at k (stream ∷ streams) h rest behind (suc i) lt =
     let z : k + 1 + i ≡ k + suc i = omega arith in
     sources-at (k + 1) streams h rest behind i (omega (arith, lt))
     ∙ ap (λ (n : ℕ). record { inputs = []; operator = Stream (schema_of (operator_at (map stream_of streams ++ behind) i)) (elements_of n h) }) z
 
-pub length-sources : (k : ℕ) (streams : List SmallStream) (h : List Entry) → length (sources_from k streams h) ≡ length streams
+pub length-sources : (k : ℕ) (streams : List (List Column)) (h : List Entry) → length (sources_from k streams h) ≡ length streams
 length-sources k [] h = refl
 length-sources k (stream ∷ streams) h = ap suc (length-sources (k + 1) streams h)
 
-pub joined-after : (streams : List SmallStream) (join : SmallJoin) → IsJoinOf streams join → (history : List Entry) → IsLegal (joined_plan streams join) history → JoinedAfter streams join history
+pub joined-after : (streams : List (List Column)) (join : OneJoin) → IsJoinOf streams join → (history : List Entry) → IsLegal (joined_plan streams join) history → JoinedAfter streams join history
 joined-after streams join j history legal =
     ext_get_or nowhere (nodes_from plan history) there (long ∙ sym long-there) (λ i lt. at i (omega (arith, lt, long)))
   where
@@ -199,13 +199,13 @@ joined-after streams join j history legal =
     sources = sources_from 0 streams history
 
     final : Node
-    final = record { inputs = join.inputs; operator = Join (unswept_data join) (run (unswept_data join) start (join_steps_of plan history count)) }
+    final = record { inputs = join.inputs; operator = Join join.spec (run join.spec start (join_steps_of plan history count)) }
 
     there : List Node
     there = map source_node sources ++ final ∷ []
 
     form : HasForm count join.inputs plan
-    form = small-form streams join
+    form = joined-form streams join
 
     f : HasForm count join.inputs (nodes_from plan history)
     f = form-from count join.inputs plan history form
@@ -238,7 +238,7 @@ joined-after streams join j history legal =
         ∙ sym (sources-at 0 streams history (final ∷ []) (join_of join ∷ []) i lt)
 
     state : operator_at (nodes_from plan history) count ≡ final.operator
-    state = (join-runs plan planned).state history count (unswept_data join) (omega (arith, total count join.inputs plan form))
+    state = (join-runs plan planned).state history count join.spec (omega (arith, total count join.inputs plan form))
         (ap (λ (node : Node). node.operator) (get_or_at (map stream_of streams) (join_of join) [] nowhere count (length-map streams stream_of)))
 
     at : (i : ℕ) → i < count + 1 → get_or (nodes_from plan history) i nowhere ≡ get_or there i nowhere

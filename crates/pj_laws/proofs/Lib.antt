@@ -31,7 +31,7 @@ pub mod Probes
 pub mod OneRun
 pub mod OneThreadAnswer
 pub mod Retract
-pub mod Small
+pub mod StreamsPlans
 pub mod Follow
 pub mod JoinRuns
 pub mod NextProbe
@@ -39,8 +39,8 @@ pub mod Passes
 pub mod SettledRun
 pub mod LastTurn
 pub mod SweptRun
-pub mod SmallSteps
-pub mod SmallKept
+pub mod JoinSteps
+pub mod KeepsJoins
 pub mod Limits
 pub mod Drains
 pub mod Tickets

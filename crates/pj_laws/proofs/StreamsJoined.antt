@@ -1,24 +1,24 @@
 -- Plans of several streams and one join are trees, and the join is on top.
+use Rattle.pj_laws.specs.CoreKept.{StreamsPlan}
+use Rattle.pj_laws.specs.CoreKept.{OneJoin}
+use Rattle.pj_shape.specs.declared.columns.Column.{Column}
 use Rattle.std.proofs.Common.{ℕ, suc, ◌+◌, ◌<◌, ◌≤◌, Bool, cond, true, false, List, [], ◌∷◌, ◌++◌, ◌≡◌, Option, Some, None, map, length, refl, sym, ap, ap₂, ◌∙◌, subst, inl, inr, eqb, arith, append-nil}
 use Rattle.std.specs.List.{IsDistinct, AllByRecursion, list_any}
 use Rattle.std.proofs.lemmas.Bool.{or_parts, or_cases, eqb-true, false≢true, eq-eqb}
 use Rattle.std.proofs.lemmas.List.{length-map}
 use Rattle.std.proofs.lemmas.Map.Keys.{IsDistinct-cons}
 use Rattle.std.proofs.lemmas.Map.Steps.{length-le_from_distinct_below}
-use Rattle.pj_shape.specs.declared.plans.SmallPlan.{SmallPlan}
-use Rattle.pj_shape.specs.declared.plans.SmallStream.{SmallStream}
-use Rattle.pj_shape.specs.declared.plans.SmallJoin.{SmallJoin}
 use Rattle.pj_laws.specs.Join.{In, has, AreDistinct}
 use Rattle.pj_laws.specs.Plan.{Node}
 use Rattle.pj_laws.specs.Outcomes.{place_in}
 use Rattle.pj_laws.specs.Climb.{all_inputs, StandBehind, IsTree, first_above, above_from, above, HasOneTop}
-use Rattle.pj_laws.specs.CoreKept.{stream_of, joins_of, nodes_of, IsJoinOf, IsSmallPlan, IsPlanOf}
+use Rattle.pj_laws.specs.CoreKept.{stream_of, joins_of, nodes_of_streams, IsJoinOf, IsStreamsPlan, IsPlanOf}
 use Rattle.pj_laws.specs.HistoryLaws.{joined_plan}
 use Rattle.pj_laws.specs.StreamsJoined.{NamesEach}
 use Rattle.pj_laws.proofs.Complete.{eqb-sym}
 use Rattle.pj_laws.proofs.Climbing.{placed-none}
 use Rattle.pj_laws.proofs.Probes.{has-in}
-use Rattle.pj_laws.proofs.SmallSteps.{AreStreamNodes, HasForm, all-streams, small-form, total}
+use Rattle.pj_laws.proofs.JoinSteps.{AreStreamNodes, HasForm, all-streams, joined-form, total}
 
 -- ---- each stream is named
 
@@ -103,30 +103,30 @@ module _ (count : ℕ) (inputs : List ℕ) (nodes : List Node) (f : HasForm coun
       let i = input-of 0 inputs n (named count inputs e n (omega (arith, lt, total count inputs nodes f))) in
       (record { place = count; input = i.0 }, stream-above n i.0 i.1)
 
-pub names-each : (streams : List SmallStream) (join : SmallJoin) → IsJoinOf streams join → NamesEach (length streams) join.inputs
+pub names-each : (streams : List (List Column)) (join : OneJoin) → IsJoinOf streams join → NamesEach (length streams) join.inputs
 names-each streams join j = record { there = j.there; once = j.once; all = j.all }
 
-pub joined-tree : (streams : List SmallStream) (join : SmallJoin) → IsJoinOf streams join → IsTree (joined_plan streams join)
-joined-tree streams join j = form-tree (length streams) join.inputs (joined_plan streams join) (small-form streams join) (names-each streams join j)
+pub joined-tree : (streams : List (List Column)) (join : OneJoin) → IsJoinOf streams join → IsTree (joined_plan streams join)
+joined-tree streams join j = form-tree (length streams) join.inputs (joined_plan streams join) (joined-form streams join) (names-each streams join j)
 
-pub joined-top : (streams : List SmallStream) (join : SmallJoin) → IsJoinOf streams join → HasOneTop (joined_plan streams join)
-joined-top streams join j = form-top (length streams) join.inputs (joined_plan streams join) (small-form streams join) (names-each streams join j)
+pub joined-top : (streams : List (List Column)) (join : OneJoin) → IsJoinOf streams join → HasOneTop (joined_plan streams join)
+joined-top streams join j = form-top (length streams) join.inputs (joined_plan streams join) (joined-form streams join) (names-each streams join j)
 
 -- ---- plans of one stream, or of several and a join
 
-are-tree : (streams : List SmallStream) (join : Option SmallJoin) → IsPlanOf streams join → IsTree (map stream_of streams ++ joins_of join)
+are-tree : (streams : List (List Column)) (join : Option OneJoin) → IsPlanOf streams join → IsTree (map stream_of streams ++ joins_of join)
 are-tree streams None p = record {
   behind = streams-behind 0 (map stream_of streams) [] (all-streams streams) tt;
   once = subst AreDistinct (sym (streams-inputs (map stream_of streams) [] (all-streams streams))) tt;
 }
 are-tree streams (Some join) p = joined-tree streams join p.2
 
-pub streams_joined-tree : (plan : SmallPlan) → IsSmallPlan plan → IsTree (nodes_of plan)
+pub streams_joined-tree : (plan : StreamsPlan) → IsStreamsPlan plan → IsTree (nodes_of_streams plan)
 streams_joined-tree plan p = are-tree plan.streams plan.join p
 
-are-topped : (streams : List SmallStream) (join : Option SmallJoin) → IsPlanOf streams join → HasOneTop (map stream_of streams ++ joins_of join)
+are-topped : (streams : List (List Column)) (join : Option OneJoin) → IsPlanOf streams join → HasOneTop (map stream_of streams ++ joins_of join)
 are-topped streams None p n lt = absurd (omega (arith, p, lt, ap length (append-nil (map stream_of streams)), length-map streams stream_of))
 are-topped streams (Some join) p n lt = joined-top streams join p.2 n lt
 
-pub streams_joined-top : (plan : SmallPlan) → IsSmallPlan plan → HasOneTop (nodes_of plan)
+pub streams_joined-top : (plan : StreamsPlan) → IsStreamsPlan plan → HasOneTop (nodes_of_streams plan)
 streams_joined-top plan p = are-topped plan.streams plan.join p

@@ -1,13 +1,10 @@
 -- What a core has to keep of a history.
 use Rattle.std.specs.Prelude.{ℕ, ◌≡◌, Bool, List, [], ◌∷◌, map, length, Option}
 use Rattle.pj_value.specs.declared.values.Value.{Value}
-use Rattle.pj_shape.specs.declared.plans.SmallPlan.{SmallPlan}
-use Rattle.pj_shape.specs.declared.plans.SmallStream.{SmallStream}
-use Rattle.pj_shape.specs.declared.plans.SmallJoin.{SmallJoin}
-use Rattle.std.specs.Prelude.{Some, None, false, ◌++◌, ◌<◌, ◌≤◌, slice_index_or}
+use Rattle.std.specs.Prelude.{Some, None, ◌++◌, ◌<◌, ◌≤◌, slice_index_or}
 use Rattle.pj_shape.specs.declared.columns.Column.{Column}
 use Rattle.pj_shape.specs.Sound.{IsSoundSpec}
-use Rattle.pj_laws.specs.Join.{In, AreDistinct, start, upto_from}
+use Rattle.pj_laws.specs.Join.{In, AreDistinct, JoinData, start, upto_from}
 use Rattle.pj_laws.specs.KeptState.{KeptState, kept_of}
 use Rattle.pj_laws.specs.Operators.{UnionState}
 use Rattle.pj_laws.specs.Plan.{Operator, Stream, Select, Project, Union, Join, Group, Node}
@@ -60,42 +57,48 @@ Stands trace plan k history =
     × (k.halted ≡ (reached_of trace plan history).halted)
     × (k.stop ≡ (reached_of trace plan history).stop)
 
--- ---- plans of streams, and of at most one join
+-- ---- plans of streams, and of at most one join of them
 
-abbrev pub stream_of : SmallStream → Node
-stream_of stream = record { inputs = []; operator = Stream stream.schema [] }
+-- the streams that its inputs name, and what the join is
+pub record OneJoin : Type 0 where
+  pub inputs : List ℕ
+  pub spec : JoinData
 
--- a join that is never swept, and hands up no punctuations
-abbrev pub join_of : SmallJoin → Node
-join_of join = record {
-  inputs = join.inputs;
-  operator = Join (record { shape = join.spec; schemes = []; certs = []; propagates = false }) start;
-}
+-- the columns of each stream, and the join of them, if there is one
+pub record StreamsPlan : Type 0 where
+  pub streams : List (List Column)
+  pub join : Option OneJoin
 
-abbrev pub joins_of : Option SmallJoin → List Node
+abbrev pub stream_of : List Column → Node
+stream_of schema = record { inputs = []; operator = Stream schema [] }
+
+abbrev pub join_of : OneJoin → Node
+join_of join = record { inputs = join.inputs; operator = Join join.spec start }
+
+abbrev pub joins_of : Option OneJoin → List Node
 joins_of None = []
 joins_of (Some join) = join_of join ∷ []
 
--- the nodes of a small plan: its streams, and its join
-abbrev pub nodes_of : SmallPlan → List Node
-nodes_of plan = map stream_of plan.streams ++ joins_of plan.join
+-- the nodes of such a plan: its streams, and behind them the join
+abbrev pub nodes_of_streams : StreamsPlan → List Node
+nodes_of_streams plan = map stream_of plan.streams ++ joins_of plan.join
 
 -- the columns of a stream of these
-abbrev pub columns_of : List SmallStream → ℕ → List Column
-columns_of streams k = slice_index_or (map (λ stream. stream.schema) streams) k []
+abbrev pub columns_of : List (List Column) → ℕ → List Column
+columns_of streams k = slice_index_or streams k []
 
 -- the join is sound, names each of the streams once, and its inputs have their columns
-pub record IsJoinOf (streams : List SmallStream) (join : SmallJoin) : Type 0 where
+pub record IsJoinOf (streams : List (List Column)) (join : OneJoin) : Type 0 where
   pub there : (k : ℕ) → In k join.inputs → k < length streams
   pub once : AreDistinct join.inputs
   pub all : length join.inputs ≡ length streams
-  pub columns : join.spec.inputs ≡ map (columns_of streams) join.inputs
-  pub sound : IsSoundSpec join.spec
+  pub columns : join.spec.shape.inputs ≡ map (columns_of streams) join.inputs
+  pub sound : IsSoundSpec join.spec.shape
 
-abbrev pub IsPlanOf : List SmallStream → Option SmallJoin → Type 0
+abbrev pub IsPlanOf : List (List Column) → Option OneJoin → Type 0
 IsPlanOf streams None = length streams ≡ 1
 IsPlanOf streams (Some join) = (2 ≤ length streams) × (length streams ≤ 16) × IsJoinOf streams join
 
 -- one stream, or 2 to 16 streams and a join of them all
-abbrev pub IsSmallPlan : SmallPlan → Type 0
-IsSmallPlan plan = IsPlanOf plan.streams plan.join
+abbrev pub IsStreamsPlan : StreamsPlan → Type 0
+IsStreamsPlan plan = IsPlanOf plan.streams plan.join

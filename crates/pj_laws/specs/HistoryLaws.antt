@@ -1,12 +1,11 @@
 -- What holds of every legal history of a plan.
+use Rattle.pj_laws.specs.CoreKept.{OneJoin}
 use Rattle.std.specs.Prelude.{◌==◌, if◌then◌else◌, ℕ, ◌<◌, ◌≡◌, Bool, true, false, List, [], ◌∷◌, ◌++◌, map, length, max, replicate, slice_index_or, ◌↔◌, Some, None}
 use Rattle.pj_shape.specs.Columns.{kinds_of}
 use Rattle.pj_pattern.specs.Fitting.{FitsKinds}
 use Rattle.pj_pattern.specs.Elements.{IsLawful}
 use Rattle.pj_shape.specs.Joining.{join_answer}
-use Rattle.pj_shape.specs.declared.plans.SmallStream.{SmallStream}
-use Rattle.pj_shape.specs.declared.plans.SmallJoin.{SmallJoin}
-use Rattle.pj_laws.specs.CoreKept.{NothingKept, JoinKept, core_kept, nodes_of, IsJoinOf}
+use Rattle.pj_laws.specs.CoreKept.{NothingKept, JoinKept, core_kept, nodes_of_streams, IsJoinOf}
 use Rattle.pj_laws.specs.KeptState.{kept_of}
 use Rattle.pj_value.specs.Bags.{SameBag, SubBag}
 use Rattle.pj_value.specs.declared.values.Value.{Value}
@@ -185,15 +184,15 @@ ProbesGoOn nodes =
 abbrev pub NoneIsPending : List Node → Type 0
 NoneIsPending nodes = (next_probe nodes ≡ None) ↔ (pending_in nodes ≡ 0)
 
--- ---- small plans
+-- ---- plans of streams and a join of them
 
 -- the plan of these streams and a join of them
-abbrev pub joined_plan : List SmallStream → SmallJoin → List Node
-joined_plan streams join = nodes_of (record { streams = streams; join = Some join })
+abbrev pub joined_plan : List (List Column) → OneJoin → List Node
+joined_plan streams join = nodes_of_streams (record { streams = streams; join = Some join })
 
--- What events bring to the join of a small plan: an element of a stream comes in at the stream's input, and nothing else does.
+-- What events bring to the join of such a plan: an element of a stream comes in at the stream's input, and nothing else does.
 -- The join hands out what it hands up, and an element goes beyond the limit where as many have reached the join.
-pub record JoinOfStreams (streams : List SmallStream) (join : SmallJoin) (history : List Entry) : Type 0 where
+pub record JoinOfStreams (streams : List (List Column)) (join : OneJoin) (history : List Entry) : Type 0 where
   pub arrive : (stream input : ℕ) (e : Element) → stream < length streams → place_in 0 join.inputs stream ≡ Some input
       → join_steps_by (nodes_from (joined_plan streams join) history) (Arrive stream e) (length streams) ≡ join_step input e ∷ []
   pub take : (ticket : ℕ) → join_steps_by (nodes_from (joined_plan streams join) history) (Taken (length streams) ticket) (length streams) ≡ Take ticket ∷ []
@@ -204,19 +203,19 @@ pub record JoinOfStreams (streams : List SmallStream) (join : SmallJoin) (histor
       ≡ (if length (arrivals_at (joined_plan streams join) history (length streams)) == limit then Some (length streams) else None)
 
 -- The answer of a plan of one stream are its rows, and that of a plan with a join the join's answer over the streams that it names
-abbrev pub StreamAnswer : List SmallStream → Type 0
+abbrev pub StreamAnswer : List (List Column) → Type 0
 StreamAnswer streams =
-    length streams ≡ 1 → (lists : List (List (List Value))) → answer_of (nodes_of (record { streams = streams; join = None })) lists ≡ slice_index_or lists 0 []
+    length streams ≡ 1 → (lists : List (List (List Value))) → answer_of (nodes_of_streams (record { streams = streams; join = None })) lists ≡ slice_index_or lists 0 []
 
-abbrev pub JoinAnswer : List SmallStream → SmallJoin → Type 0
+abbrev pub JoinAnswer : List (List Column) → OneJoin → Type 0
 JoinAnswer streams join =
     IsJoinOf streams join → (lists : List (List (List Value)))
-    → answer_of (joined_plan streams join) lists ≡ join_answer join.spec.classes (map (λ k. slice_index_or lists k []) join.inputs)
+    → answer_of (joined_plan streams join) lists ≡ join_answer join.spec.shape.classes (map (λ k. slice_index_or lists k []) join.inputs)
 
 -- What events make of a plan of one stream: it hands out what arrives, and no limit is met
-pub record StreamAlone (streams : List SmallStream) (history : List Entry) : Type 0 where
-  pub hands : (e : Element) → root_hands (nodes_from (nodes_of (record { streams = streams; join = None })) history) (Arrive 0 e) ≡ e ∷ []
-  pub beyond : (limit : ℕ) (e : Element) → goes_beyond limit (nodes_of (record { streams = streams; join = None })) history (Arrive 0 e) ≡ None
+pub record StreamAlone (streams : List (List Column)) (history : List Entry) : Type 0 where
+  pub hands : (e : Element) → root_hands (nodes_from (nodes_of_streams (record { streams = streams; join = None })) history) (Arrive 0 e) ≡ e ∷ []
+  pub beyond : (limit : ℕ) (e : Element) → goes_beyond limit (nodes_of_streams (record { streams = streams; join = None })) history (Arrive 0 e) ≡ None
 
 -- ---- streams
 
@@ -249,7 +248,7 @@ pub record JoinRuns (plan : List Node) : Type 0 where
       → join_steps_of plan (history ++ entry ∷ []) n ≡ join_steps_of plan history n ++ join_steps_by (nodes_from plan history) entry.event n
 
 -- What a core keeps of a plan of streams and a join is what its join keeps, with the join's count and peak
-pub record KeepsJoin (streams : List SmallStream) (join : SmallJoin) (history : List Entry) (trace : Bool) : Type 0 where
+pub record KeepsJoin (streams : List (List Column)) (join : OneJoin) (history : List Entry) (trace : Bool) : Type 0 where
   pub nodes : (core_kept trace (joined_plan streams join) history).nodes
       ≡ replicate (length streams) NothingKept ++ JoinKept (kept_of (join_at (nodes_from (joined_plan streams join) history) (length streams))) ∷ []
   pub counts : (core_kept trace (joined_plan streams join) history).counts

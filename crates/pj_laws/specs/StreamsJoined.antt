@@ -1,9 +1,8 @@
 -- Plans of one stream, or of several streams and one join of them.
+use Rattle.pj_laws.specs.CoreKept.{OneJoin}
 use Rattle.std.specs.Prelude.{ℕ, zero, suc, ◌+◌, ◌<◌, ◌≡◌, false, List, [], ◌∷◌, ◌++◌, map, length, replicate, Some, None}
 use Rattle.pj_pattern.specs.declared.element.Element.{Element}
 use Rattle.pj_shape.specs.declared.columns.Column.{Column}
-use Rattle.pj_shape.specs.declared.plans.SmallStream.{SmallStream}
-use Rattle.pj_shape.specs.declared.plans.SmallJoin.{SmallJoin}
 use Rattle.pj_laws.specs.Join.{In, AreDistinct, JoinData, JoinState, Step, Take, Give, Sweep, start, step, run, outputs}
 use Rattle.pj_laws.specs.KeptState.{lacking}
 use Rattle.pj_laws.specs.Plan.{Stream, Join, Node, Own, join_step}
@@ -21,10 +20,6 @@ pub record NamesEach (count : ℕ) (inputs : List ℕ) : Type 0 where
   pub all : length inputs ≡ count
 
 -- ---- the nodes at any moment
-
--- the join of such a plan is never swept, and hands up rows alone
-abbrev pub unswept_data : SmallJoin → JoinData
-unswept_data join = record { shape = join.spec; schemes = []; certs = []; propagates = false }
 
 -- a stream, and what was fed to it
 pub record Source : Type 0 where
@@ -45,9 +40,9 @@ fed (source ∷ sources) zero e = record { schema = source.schema; sent = source
 fed (source ∷ sources) (suc k) e = source ∷ fed sources k e
 
 -- the streams of a plan with what a history brought to them, where the first has this number
-abbrev pub sources_from : ℕ → List SmallStream → List Entry → List Source
+abbrev pub sources_from : ℕ → List (List Column) → List Entry → List Source
 sources_from k [] history = []
-sources_from k (stream ∷ streams) history = record { schema = stream.schema; sent = elements_of k history } ∷ sources_from (k + 1) streams history
+sources_from k (stream ∷ streams) history = record { schema = stream; sent = elements_of k history } ∷ sources_from (k + 1) streams history
 
 -- a climb that ends at the join: this came to it and this is left
 abbrev pub join_climb : List Node → ℕ → List Arrival → List Element → Climbed
@@ -87,11 +82,11 @@ pub record JoinedMoves (sources : List Source) (inputs : List ℕ) (spec : JoinD
   pub all : probes (joined_nodes sources inputs spec s) ≡ probes_at (length sources) (lacking s.taken s.tuples)
 
 -- After a legal history the streams have what arrived at them, and the join made the steps that the history made there
-abbrev pub JoinedAfter : List SmallStream → SmallJoin → List Entry → Type 0
+abbrev pub JoinedAfter : List (List Column) → OneJoin → List Entry → Type 0
 JoinedAfter streams join history =
     nodes_from (joined_plan streams join) history
-    ≡ joined_nodes (sources_from 0 streams history) join.inputs (unswept_data join)
-    (run (unswept_data join) start (join_steps_of (joined_plan streams join) history (length streams)))
+    ≡ joined_nodes (sources_from 0 streams history) join.inputs join.spec
+    (run join.spec start (join_steps_of (joined_plan streams join) history (length streams)))
 
 -- Nothing that happens at a node which feeds none goes beyond a limit, and neither does what happens nowhere
 pub record TopIsWithin (plan : List Node) (limit : ℕ) (history : List Entry) : Type 0 where

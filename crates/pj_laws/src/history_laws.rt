@@ -1,13 +1,13 @@
 // Laws of whole histories of a plan.
+ghost use Rattle.pj_laws.specs.CoreKept.{StreamsPlan};
+ghost use Rattle.pj_laws.specs.CoreKept.{OneJoin};
+ghost use Rattle.pj_shape.specs.declared.columns.Column.{Column};
 ghost use Rattle.std.specs.Prelude.{Bool, ◌<◌, ◌≡◌, true, false, List, [], length};
 ghost use Rattle.pj_laws.specs.Plan.{Node, ArePlanned};
 ghost use Rattle.pj_pattern.specs.declared.element.Element.{Element};
-ghost use Rattle.pj_shape.specs.declared.plans.SmallPlan.{SmallPlan};
-ghost use Rattle.pj_shape.specs.declared.plans.SmallStream.{SmallStream};
-ghost use Rattle.pj_shape.specs.declared.plans.SmallJoin.{SmallJoin};
 ghost use Rattle.pj_laws.specs.History.{Entry, nodes_from};
 ghost use Rattle.pj_laws.specs.HistoryLaws.{AddsEntry, AllAreCertified, AllPropagate, CompleteIsAnswer, DrainsHandOutAll, FrontsAreLegal, GivenIsAnswer, GrowsLegally, HandsOutLawfully, HasNoGroup, AreAcceptedLists, IsWholeRun, JoinAnswer, JoinFollows, JoinOfStreams, JoinRuns, KeepsJoin, NeverRetracts, NoneIsPending, OneThreadIsAnswer, ProbesGoOn, RoundsGoOn, StreamAlone, StreamAnswer, StreamsHold, SweptIsComplete, TicketsCount, TraceAddsNotes, TurnsGoOn};
-ghost use Rattle.pj_laws.specs.CoreKept.{IsJoinOf, IsSmallPlan, nodes_of};
+ghost use Rattle.pj_laws.specs.CoreKept.{IsJoinOf, IsStreamsPlan, nodes_of_streams};
 
 /// No row that a legal history hands out matches a punctuation that was handed out before it.
 pub fn history_lawfulness()
@@ -55,19 +55,19 @@ pub fn one_thread()
 {}
 
 /// A plan of one stream, or of 2 to 16 streams and a join of them, is well made and has no group.
-pub fn small_plans()
-    ensures planned { (plan : SmallPlan) → IsSmallPlan plan → ArePlanned [] (nodes_of plan) }
-    ensures some { (plan : SmallPlan) → IsSmallPlan plan → 0 < length (nodes_of plan) }
-    ensures groups { (plan : SmallPlan) → HasNoGroup (nodes_of plan) }
+pub fn streams_plans()
+    ensures planned { (plan : StreamsPlan) → IsStreamsPlan plan → ArePlanned [] (nodes_of_streams plan) }
+    ensures some { (plan : StreamsPlan) → IsStreamsPlan plan → 0 < length (nodes_of_streams plan) }
+    ensures groups { (plan : StreamsPlan) → HasNoGroup (nodes_of_streams plan) }
 {}
 
-/// What events bring to the join of a small plan, what a core keeps of it, and what the answers of small plans are.
-pub fn small_joins()
-    ensures events { (streams : List SmallStream) (join : SmallJoin) → IsJoinOf streams join → (history : List Entry) → JoinOfStreams streams join history }
-    ensures keeps { (streams : List SmallStream) (join : SmallJoin) → IsJoinOf streams join → (history : List Entry) (trace : Bool) → KeepsJoin streams join history trace }
-    ensures alone { (streams : List SmallStream) → length streams ≡ 1 → (history : List Entry) → StreamAlone streams history }
-    ensures stream_answer { (streams : List SmallStream) → StreamAnswer streams }
-    ensures join_answer { (streams : List SmallStream) (join : SmallJoin) → JoinAnswer streams join }
+/// In a plan of one stream, or of streams and a join of them: what events bring to the join, what a core keeps of it, and the answer.
+pub fn joins_of_streams()
+    ensures events { (streams : List (List Column)) (join : OneJoin) → IsJoinOf streams join → (history : List Entry) → JoinOfStreams streams join history }
+    ensures keeps { (streams : List (List Column)) (join : OneJoin) → IsJoinOf streams join → (history : List Entry) (trace : Bool) → KeepsJoin streams join history trace }
+    ensures alone { (streams : List (List Column)) → length streams ≡ 1 → (history : List Entry) → StreamAlone streams history }
+    ensures stream_answer { (streams : List (List Column)) → StreamAnswer streams }
+    ensures join_answer { (streams : List (List Column)) (join : OneJoin) → JoinAnswer streams join }
 {}
 
 /// At any moment all probes are the next one and then all probes, and there is a next one where a ticket is pending.

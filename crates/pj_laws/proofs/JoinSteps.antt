@@ -1,17 +1,17 @@
--- What events make of small plans, and the answers of small plans.
+-- What events make of plans of streams and a join of them, and the answers of such plans.
+use Rattle.pj_laws.specs.CoreKept.{OneJoin}
+use Rattle.pj_shape.specs.declared.columns.Column.{Column}
 use Rattle.std.proofs.Common.{ℕ, zero, suc, ◌+◌, ◌<◌, Bool, true, false, cond, List, [], ◌∷◌, ◌++◌, ◌≡◌, Option, Some, None, map, length, get_or, refl, sym, ap, ap₂, ◌∙◌, subst, inl, inr, eqb, arith, append_assoc, append-nil, add-one}
 use Rattle.std.specs.Prelude.{pred}
 use Rattle.std.proofs.lemmas.Bool.{eq-eqb, ne_eqb, eqb-true, or_parts, false≢true}
 use Rattle.std.proofs.lemmas.List.{length-map, length_push, get_or_at}
 use Rattle.pj_value.specs.declared.values.Value.{Value}
-use Rattle.pj_shape.specs.declared.plans.SmallStream.{SmallStream}
-use Rattle.pj_shape.specs.declared.plans.SmallJoin.{SmallJoin}
 use Rattle.pj_shape.specs.Joining.{join_answer}
 use Rattle.pj_laws.specs.Join.{In, has, Element, Step, Take, Give, JoinData, JoinState, start, run, upto_from}
 use Rattle.pj_laws.specs.Plan.{Operator, Stream, Select, Project, Union, Join, Group, Node, Local, Comes, Fed, Own, PlanStep, Feed, Act, join_step, join_local, after_all, hands, hands_all, own, brought_from, locals, handed_at, batches, moved, nowhere, answers_from}
 use Rattle.pj_laws.specs.History.{Entry, Arrive, Taken, Given, is_stream, streams_from, streams_of, stream_node, root_of, step_of, nodes_by, nodes_from}
 use Rattle.pj_laws.specs.Outcomes.{Arrival, arriving, arrivals_in, arrivals_by, arrivals_at, step_at, join_steps_by, place_in, list_at, Level, passed, Climb, Beyond, Below, climb_each, climb, way_up, beyond_of}
-use Rattle.pj_laws.specs.CoreKept.{stream_of, join_of, nodes_of, IsJoinOf}
+use Rattle.pj_laws.specs.CoreKept.{stream_of, join_of, nodes_of_streams, IsJoinOf}
 use Rattle.pj_laws.specs.HistoryLaws.{joined_plan, JoinOfStreams, StreamAlone, StreamAnswer, JoinAnswer}
 use Rattle.pj_laws.proofs.Complete.{eqb-sym}
 use Rattle.pj_laws.proofs.Bags.{AreDistinct}
@@ -145,19 +145,19 @@ pub form-from : (count : ℕ) (inputs : List ℕ) (nodes : List Node) (h : List 
 form-from count inputs nodes [] f = f
 form-from count inputs nodes (entry ∷ h) f = form-from count inputs (nodes_by nodes entry.event) h (form-moved count inputs (step_of nodes entry.event) nodes f)
 
-pub all-streams : (streams : List SmallStream) → AreStreamNodes (map stream_of streams)
+pub all-streams : (streams : List (List Column)) → AreStreamNodes (map stream_of streams)
 all-streams [] = tt
 all-streams (stream ∷ streams) = ((refl, refl), all-streams streams)
 
-pub small-form : (streams : List SmallStream) (join : SmallJoin) → HasForm (length streams) join.inputs (joined_plan streams join)
-small-form streams join = record {
+pub joined-form : (streams : List (List Column)) (join : OneJoin) → HasForm (length streams) join.inputs (joined_plan streams join)
+joined-form streams join = record {
   front = map stream_of streams;
   last = join_of join;
   split = refl;
   streams = all-streams streams;
   long = length-map streams stream_of;
   ins = refl;
-  joins = (record { shape = join.spec; schemes = []; certs = []; propagates = false }, start, refl);
+  joins = (join.spec, start, refl);
 }
 
 -- ---- what events bring
@@ -287,7 +287,7 @@ module _ (count : ℕ) (inputs : List ℕ) (nodes : List Node) (f : HasForm coun
       ∙ ap (λ (n : ℕ). beyond_of (climb n limit (level reached j ∷ []) (e ∷ []))) (total ∙ add-one count)
       ∙ climbs reached count limit j e
 
-pub join-of-streams : (streams : List SmallStream) (join : SmallJoin) → IsJoinOf streams join → (history : List Entry) → JoinOfStreams streams join history
+pub join-of-streams : (streams : List (List Column)) (join : OneJoin) → IsJoinOf streams join → (history : List Entry) → JoinOfStreams streams join history
 join-of-streams streams join j history = record {
   arrive = λ s i e lt p. steps-arrive count inputs nodes f j.there j.once s i e lt p;
   take = λ u. steps-take count inputs nodes f j.there u;
@@ -306,7 +306,7 @@ join-of-streams streams join j history = record {
     nodes = nodes_from (joined_plan streams join) history
 
     f : HasForm count inputs nodes
-    f = form-from count inputs (joined_plan streams join) history (small-form streams join)
+    f = form-from count inputs (joined_plan streams join) history (joined-form streams join)
 
 -- ---- one stream alone
 
@@ -331,7 +331,7 @@ none-beyond : (d limit : ℕ) (es : List Element) → beyond_of (climb d limit [
 none-beyond zero limit es = refl
 none-beyond (suc d) limit es = refl
 
-pub stream-alone : (streams : List SmallStream) → length streams ≡ 1 → (history : List Entry) → StreamAlone streams history
+pub stream-alone : (streams : List (List Column)) → length streams ≡ 1 → (history : List Entry) → StreamAlone streams history
 stream-alone streams l history = record {
   hands = λ e.
       ap₂ (λ (p n : ℕ). get_or (batches (Feed p e) [] nodes) n []) first root
@@ -343,7 +343,7 @@ stream-alone streams l history = record {
 }
   where
     plan : List Node
-    plan = nodes_of (record { streams = streams; join = None })
+    plan = nodes_of_streams (record { streams = streams; join = None })
 
     nodes : List Node
     nodes = nodes_from plan history
@@ -365,13 +365,13 @@ stream-alone streams l history = record {
 
 -- ---- answers
 
-pub stream-answer : (streams : List SmallStream) → StreamAnswer streams
+pub stream-answer : (streams : List (List Column)) → StreamAnswer streams
 stream-answer [] l lists = absurd (omega arith)
 stream-answer (stream ∷ []) l lists = refl
 stream-answer (a ∷ b ∷ streams) l lists = absurd (omega arith)
 
 -- the answers of streams are their rows
-streams-first : (g : ℕ → List (List Value)) (done : List (List (List Value))) (streams : List SmallStream) (rest : List Node)
+streams-first : (g : ℕ → List (List Value)) (done : List (List (List Value))) (streams : List (List Column)) (rest : List Node)
     → answers_from g done (map stream_of streams ++ rest) ≡ answers_from g (done ++ map g (upto_from (length done) (length streams))) rest
 streams-first g done [] rest = ap (λ (evs : List (List (List Value))). answers_from g evs rest) (sym (append-nil done))
 streams-first g done (stream ∷ streams) rest =
@@ -379,11 +379,11 @@ streams-first g done (stream ∷ streams) rest =
     ∙ ap (λ (n : ℕ). answers_from g ((done ++ g (length done) ∷ []) ++ map g (upto_from n (length streams))) rest) (length_push done (g (length done)))
     ∙ ap (λ (evs : List (List (List Value))). answers_from g evs rest) (append_assoc done (g (length done) ∷ []) (map g (upto_from (length done + 1) (length streams))))
 
-pub join-answer : (streams : List SmallStream) (join : SmallJoin) → JoinAnswer streams join
+pub join-answer : (streams : List (List Column)) (join : OneJoin) → JoinAnswer streams join
 join-answer streams join j lists =
     ap₂ (λ (evs : List (List (List Value))) (n : ℕ). get_or evs n []) (streams-first g [] streams (join_of join ∷ [])) root
-    ∙ get_or_at A (join_answer join.spec.classes (map (λ m. get_or A m []) join.inputs)) [] [] count long
-    ∙ ap (join_answer join.spec.classes) (map-same (λ m. get_or A m []) (λ m. get_or lists m []) join.inputs (λ m h. rows m (j.there m h)))
+    ∙ get_or_at A (join_answer join.spec.shape.classes (map (λ m. get_or A m []) join.inputs)) [] [] count long
+    ∙ ap (join_answer join.spec.shape.classes) (map-same (λ m. get_or A m []) (λ m. get_or lists m []) join.inputs (λ m h. rows m (j.there m h)))
   where
     count : ℕ
     count = length streams
@@ -392,7 +392,7 @@ join-answer streams join j lists =
     plan = joined_plan streams join
 
     f : HasForm count join.inputs plan
-    f = small-form streams join
+    f = joined-form streams join
 
     g : ℕ → List (List Value)
     g n = list_at lists (place_in 0 (streams_of plan) n)

@@ -1,9 +1,9 @@
 -- What a core keeps of a plan of streams and a join.
+use Rattle.pj_laws.specs.CoreKept.{OneJoin}
+use Rattle.pj_shape.specs.declared.columns.Column.{Column}
 use Rattle.std.proofs.Common.{ℕ, zero, suc, ◌+◌, ◌<◌, ◌≤◌, max, Bool, true, List, [], ◌∷◌, ◌++◌, ◌≡◌, map, length, get_or, replicate, refl, sym, ap, ap₂, ◌∙◌, subst, arith, add-one}
 use Rattle.std.proofs.lemmas.Bool.{false≢true}
 use Rattle.std.proofs.lemmas.List.{length_push, map-append, get_or_append_left}
-use Rattle.pj_shape.specs.declared.plans.SmallStream.{SmallStream}
-use Rattle.pj_shape.specs.declared.plans.SmallJoin.{SmallJoin}
 use Rattle.pj_laws.specs.Join.{JoinData, JoinState, upto_from}
 use Rattle.pj_laws.specs.KeptState.{kept_of}
 use Rattle.pj_laws.specs.Plan.{Operator, Stream, Select, Project, Union, Join, Group, Node, batches, nowhere, operator_at}
@@ -11,9 +11,9 @@ use Rattle.pj_laws.specs.History.{Entry, is_stream, state_in, join_at, step_of, 
 use Rattle.pj_laws.specs.Outcomes.{Arrival, arrivals_in, arrivals_at, peak_of}
 use Rattle.pj_laws.specs.CoreKept.{KeptOperator, NothingKept, JoinKept, kept_in, IsJoinOf}
 use Rattle.pj_laws.specs.HistoryLaws.{Joined, joined_plan, KeepsJoin}
-use Rattle.pj_laws.proofs.Small.{joined-planned}
+use Rattle.pj_laws.proofs.StreamsPlans.{joined-planned}
 use Rattle.pj_laws.proofs.Follow.{tickets-count}
-use Rattle.pj_laws.proofs.SmallSteps.{IsStreamNode, AreStreamNodes, HasForm, form-from, form-moved, small-form, last-at}
+use Rattle.pj_laws.proofs.JoinSteps.{IsStreamNode, AreStreamNodes, HasForm, form-from, form-moved, joined-form, last-at}
 
 -- ---- streams keep nothing, and nothing reaches them
 
@@ -68,7 +68,7 @@ over-places g k (suc n) z =
     let e : k + 1 + n ≡ k + suc n = omega arith in
     ap₂ (λ (m : ℕ) (ms : List ℕ). m ∷ ms) (z k (omega arith) (omega arith)) (over-places g (k + 1) n (λ m le lt. z m (omega arith) (omega arith)) ∙ ap (λ (m : ℕ). replicate n 0 ++ g m ∷ []) e)
 
-pub keeps-join : (streams : List SmallStream) (join : SmallJoin) → IsJoinOf streams join → (history : List Entry) (trace : Bool) → KeepsJoin streams join history trace
+pub keeps-join : (streams : List (List Column)) (join : OneJoin) → IsJoinOf streams join → (history : List Entry) (trace : Bool) → KeepsJoin streams join history trace
 keeps-join streams join j history trace = record {
   nodes =
       ap (map (λ node. kept_in node.operator)) f.split
@@ -89,7 +89,7 @@ keeps-join streams join j history trace = record {
     count = length streams
 
     form : HasForm count join.inputs plan
-    form = small-form streams join
+    form = joined-form streams join
 
     f : HasForm count join.inputs (nodes_from plan history)
     f = form-from count join.inputs plan history form

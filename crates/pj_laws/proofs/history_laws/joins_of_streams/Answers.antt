@@ -1,6 +1,6 @@
-use Rattle.pj_laws.proofs.SmallSteps.{join-of-streams, stream-alone, stream-answer, join-answer}
-use Rattle.pj_laws.proofs.SmallKept.{keeps-join}
-use Rattle.pj_laws.proofs.history_laws.small_joins.Goals as goal
+use Rattle.pj_laws.proofs.JoinSteps.{join-of-streams, stream-alone, stream-answer, join-answer}
+use Rattle.pj_laws.proofs.KeepsJoins.{keeps-join}
+use Rattle.pj_laws.proofs.history_laws.joins_of_streams.Goals as goal
 
 pub returns-clause-events : goal.returns-clause-events
 returns-clause-events c = join-of-streams
