@@ -2,8 +2,6 @@
 use Rattle.std.proofs.Common.{ℕ, zero, suc, Bool, false, List, [], ◌∷◌, ◌++◌, ◌≡◌, map, length, get_or, Option, None, refl, sym, ap, ap₂, ◌∙◌, subst, inl, arith, length-append}
 use Rattle.std.proofs.lemmas.List.{append-nil}
 use Rattle.pj_shape.specs.declared.columns.Column.{Column}
-use Rattle.pj_shape.specs.declared.plans.SmallPlan.{SmallPlan}
-use Rattle.pj_shape.specs.declared.plans.SmallStream.{SmallStream}
 use Rattle.pj_pattern.specs.declared.element.Element.{Element}
 use Rattle.pj_laws.specs.declared.events.Entry.{Entry}
 use Rattle.pj_laws.specs.declared.events.Event.{Event}
@@ -11,13 +9,14 @@ use Rattle.pj_laws.specs.declared.events.Event.TheVariants.{Arrive, Take as Take
 use Rattle.pj_laws.specs.declared.events.Out.{Out}
 use Rattle.pj_laws.specs.declared.events.Stop.{Stop}
 use Rattle.pj_laws.specs.Plan.{Stream, Node, IsStepAllowed, batches}
-use Rattle.pj_laws.specs.History.{Reached, begun, next, nodes_by, nodes_from, reached_of, gained, out_of, closed_after, undrained_after, halted_after, stop_after, step_of, pending_in, IsOn, IsLegal, IsEventAllowed, AreEntriesLegal}
+use Rattle.pj_laws.specs.History.{IsEntryAllowed, Reached, begun, next, nodes_by, nodes_from, reached_of, gained, out_of, closed_after, undrained_after, halted_after, stop_after, step_of, pending_in, IsOn, IsLegal, IsEventAllowed, AreEntriesLegal}
 use Rattle.pj_laws.specs.Outcomes.{arrivals_at, arrivals_by, peak_of, stored_at, goes_beyond, beyond_of, climb, origin_of, way_up}
 use Rattle.pj_laws.specs.Limits.{StaysWithin}
 use Rattle.pj_laws.specs.OneThread.{plain, next_probe, probes}
-use Rattle.pj_laws.specs.CoreKept.{NothingKept, core_kept, kept_in, nodes_of}
+use Rattle.pj_laws.specs.CoreKept.{CoreKept, NothingKept, core_kept, kept_in, nodes_of_streams}
 use Rattle.pj_laws.specs.HistoryLaws.{AddsEntry, GrowsLegally}
-use Rattle.pj_core.specs.Cores.{CoreState, StandsFor, MayFollow, all_kept}
+use Rattle.pj_core.specs.Parts.{all_kept}
+use Rattle.pj_core.proofs.Holding.{Holds}
 use Rattle.pj_core.specs.Calls.{opened_in, stored_in, waiting_in}
 
 -- where an event first goes beyond a limit
@@ -69,51 +68,48 @@ alone-from : (a : List Column) (r : Reached) (history : List Entry) → AreEntri
 alone-from a r [] l f = f
 alone-from a r (entry ∷ history) l f = alone-from a (next false r entry) history l.1 (alone-step a r entry.event l.0.0 f)
 
-abbrev pub plan_one : SmallStream → SmallPlan
-plan_one sa = record { streams = sa ∷ []; join = None }
+abbrev pub nodes_one : List Column → List Node
+nodes_one columns = nodes_of_streams (record { streams = columns ∷ []; join = None })
 
-abbrev pub nodes_one : SmallStream → List Node
-nodes_one sa = nodes_of (plan_one sa)
+abbrev pub kept_one : List ℕ → List Out → Option Stop → CoreKept
+kept_one closed undrained stop = all_kept 1 None closed undrained stop
 
-abbrev pub core_one : SmallStream → ℕ → List ℕ → List Out → Option Stop → CoreState
-core_one sa l closed undrained stop = record { plan = plan_one sa; limit = l; joined = None; closed = closed; undrained = undrained; stop = stop }
-
-pub alone-of : (sa : SmallStream) (history : List Entry) → IsLegal (nodes_one sa) history → IsAlone sa.schema (nodes_from (nodes_one sa) history)
-alone-of sa history l = alone-from sa.schema (begun (nodes_one sa)) history l (record { x = []; is = refl })
+pub alone-of : (sa : List Column) (history : List Entry) → IsLegal (nodes_one sa) history → IsAlone sa (nodes_from (nodes_one sa) history)
+alone-of sa history l = alone-from sa (begun (nodes_one sa)) history l (record { x = []; is = refl })
 
 abbrev first_number : List ℕ → ℕ
 first_number [] = 0
 first_number (n ∷ rest) = n
 
-module _ (sa : SmallStream) (l : ℕ) (c : List ℕ) (u : List Out) (history : List Entry)
-    (S : StandsFor (core_one sa l c u None) history)
+module _ (sa : List Column) (c : List ℕ) (u : List Out) (history : List Entry)
+    (S : Holds (nodes_one sa) (kept_one c u None) history)
     (adds : (entry : Entry) → AddsEntry (nodes_one sa) history entry)
     (grows : GrowsLegally (nodes_one sa))
     (same : (reached_of false (nodes_one sa) history).nodes ≡ nodes_from (nodes_one sa) history) where
-  f : IsAlone sa.schema (nodes_from (nodes_one sa) history)
+  f : IsAlone sa (nodes_from (nodes_one sa) history)
   f = alone-of sa history S.legal
 
-  kept-is : all_kept (core_one sa l c u None) ≡ core_kept false (nodes_one sa) history
+  kept-is : kept_one c u None ≡ core_kept false (nodes_one sa) history
   kept-is = S.stands.0 (sym S.stands.3)
 
   on : IsOn (reached_of false (nodes_one sa) history)
   on = sym S.stands.3
 
-  nodes-are : (reached_of false (nodes_one sa) history).nodes ≡ one sa.schema f.x
+  nodes-are : (reached_of false (nodes_one sa) history).nodes ≡ one sa f.x
   nodes-are = same ∙ f.is
 
-  entered : (entry : Entry) (x' : List Element) (outs : List Out) → nodes_by (one sa.schema f.x) entry.event ≡ one sa.schema x'
-      → arrivals_by (one sa.schema f.x) entry.event 0 ≡ []
-      → MayFollow (core_one sa l c u None) history entry
+  entered : (entry : Entry) (x' : List Element) (outs : List Out) → nodes_by (one sa f.x) entry.event ≡ one sa x'
+      → arrivals_by (one sa f.x) entry.event 0 ≡ []
+      → IsEntryAllowed (reached_of false (nodes_one sa) history) entry
       → (c' : List ℕ) (u' : List Out)
       → c' ≡ closed_after c entry.closing entry.event
       → u' ≡ undrained_after false (reached_of false (nodes_one sa) history) entry.event
       → false ≡ halted_after false entry.event
       → None ≡ stop_after None entry.event
-      → StandsFor (core_one sa l c' u' None) (history ++ entry ∷ [])
+      → Holds (nodes_one sa) (kept_one c' u' None) (history ++ entry ∷ [])
   entered entry x' outs mv none m c' u' hc hu hh ht =
       let r : reached_of false (nodes_one sa) (history ++ entry ∷ []) ≡ next false (reached_of false (nodes_one sa) history) entry = (adds entry).reached false in
-      let to : nodes_by (nodes_from (nodes_one sa) history) entry.event ≡ one sa.schema x' = ap (λ (ns : List Node). nodes_by ns entry.event) f.is ∙ mv in
+      let to : nodes_by (nodes_from (nodes_one sa) history) entry.event ≡ one sa x' = ap (λ (ns : List Node). nodes_by ns entry.event) f.is ∙ mv in
       let c0 : 0 ≡ length (arrivals_at (nodes_one sa) (history ++ entry ∷ []) 0) =
       (let b = ap length ((adds entry).arrivals 0) ∙ length-append (arrivals_at (nodes_one sa) history 0) (arrivals_by (nodes_from (nodes_one sa) history) entry.event 0) in
       let z = ap (λ (ns : List Node). length (arrivals_by ns entry.event 0)) f.is ∙ ap length none in
@@ -147,18 +143,18 @@ module _ (sa : SmallStream) (l : ℕ) (c : List ℕ) (u : List Out) (history : L
         );
       }
 
-  outs-are : (event : Event) (outs : List Out) → gained false (one sa.schema f.x) event ≡ outs → u ++ outs ≡ (reached_of false (nodes_one sa) history).undrained ++ gained false (reached_of false (nodes_one sa) history).nodes event
+  outs-are : (event : Event) (outs : List Out) → gained false (one sa f.x) event ≡ outs → u ++ outs ≡ (reached_of false (nodes_one sa) history).undrained ++ gained false (reached_of false (nodes_one sa) history).nodes event
   outs-are event outs g =
       ap₂ (λ (xs ys : List Out). xs ++ ys) S.stands.1 (sym g ∙ ap (λ (ns : List Node). gained false ns event) (sym nodes-are))
 
-  pub arrives : (e : Element) (closing : ℕ) → MayFollow (core_one sa l c u None) history (record { event = Arrive 0 e; seat = 0; closing = closing })
-      → StandsFor (core_one sa l (closed_after c closing (Arrive 0 e)) (u ++ out_of e ∷ []) None) (history ++ record { event = Arrive 0 e; seat = 0; closing = closing } ∷ [])
+  pub arrives : (e : Element) (closing : ℕ) → IsEntryAllowed (reached_of false (nodes_one sa) history) (record { event = Arrive 0 e; seat = 0; closing = closing })
+      → Holds (nodes_one sa) (kept_one (closed_after c closing (Arrive 0 e)) (u ++ out_of e ∷ []) None) (history ++ record { event = Arrive 0 e; seat = 0; closing = closing } ∷ [])
   arrives e closing m =
       entered (record { event = Arrive 0 e; seat = 0; closing = closing }) (f.x ++ e ∷ []) (out_of e ∷ []) refl refl m
       (closed_after c closing (Arrive 0 e)) (u ++ out_of e ∷ []) refl (outs-are (Arrive 0 e) (out_of e ∷ []) refl) refl refl
 
-  pub never-beyond : (e : Element) → goes_beyond l (nodes_one sa) history (Arrive 0 e) ≡ None
-  never-beyond e = ap (first_beyond l (λ n. length (arrivals_at (nodes_one sa) history n)) (Arrive 0 e)) f.is
+  pub never-beyond : (l : ℕ) (e : Element) → goes_beyond l (nodes_one sa) history (Arrive 0 e) ≡ None
+  never-beyond l e = ap (first_beyond l (λ n. length (arrivals_at (nodes_one sa) history n)) (Arrive 0 e)) f.is
 
   pub none-next : next_probe (nodes_from (nodes_one sa) history) ≡ None
   none-next = ap next_probe f.is
@@ -166,8 +162,8 @@ module _ (sa : SmallStream) (l : ℕ) (c : List ℕ) (u : List Out) (history : L
   pub none-probed : probes (nodes_from (nodes_one sa) history) ≡ []
   none-probed = ap probes f.is
 
-  pub probes-stay-within : StaysWithin l (nodes_one sa) history (probes (nodes_from (nodes_one sa) history) ++ plain Drain ∷ [])
-  probes-stay-within =
+  pub probes-stay-within : (l : ℕ) → StaysWithin l (nodes_one sa) history (probes (nodes_from (nodes_one sa) history) ++ plain Drain ∷ [])
+  probes-stay-within l =
       subst (λ (es : List Entry). StaysWithin l (nodes_one sa) history (es ++ plain Drain ∷ [])) (sym none-probed)
       (ap (first_beyond l (λ n. length (arrivals_at (nodes_one sa) history n)) Drain) f.is, tt)
 
@@ -183,15 +179,15 @@ module _ (sa : SmallStream) (l : ℕ) (c : List ℕ) (u : List Out) (history : L
   pub none-waiting : waiting_in (nodes_from (nodes_one sa) history) ≡ 0
   none-waiting = ap waiting_in f.is
 
-  pub idles : StandsFor (core_one sa l c u None) (history ++ plain Idle ∷ [])
+  pub idles : Holds (nodes_one sa) (kept_one c u None) (history ++ plain Idle ∷ [])
   idles =
       entered (plain Idle) f.x [] refl refl ((λ _. ap pending_in nodes-are), inl refl) c u refl
       (sym (append-nil u) ∙ outs-are Idle [] refl) refl refl
 
-  pub looks : StandsFor (core_one sa l c u None) (history ++ plain (Look 0) ∷ [])
+  pub looks : Holds (nodes_one sa) (kept_one c u None) (history ++ plain (Look 0) ∷ [])
   looks =
       entered (plain (Look 0)) f.x [] refl refl ((λ _. sym (ap pending_in nodes-are)), inl refl) c u refl
       (sym (append-nil u) ∙ outs-are (Look 0) [] refl) refl refl
 
-  pub drains : StandsFor (core_one sa l c [] None) (history ++ plain Drain ∷ [])
+  pub drains : Holds (nodes_one sa) (kept_one c [] None) (history ++ plain Drain ∷ [])
   drains = entered (plain Drain) f.x [] refl refl (tt, inl refl) c [] refl refl refl refl

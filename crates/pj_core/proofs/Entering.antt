@@ -1,23 +1,21 @@
 -- One more entry behind a history of streams and a join.
 use Rattle.std.proofs.Common.{ℕ, ◌≤◌, max, Bool, false, List, [], ◌∷◌, ◌++◌, ◌≡◌, length, get_or, replicate, Option, Some, None, sym, ap, ap₂, ◌∙◌, subst, arith}
 use Rattle.std.proofs.lemmas.List.{length-replicate, get_or_at}
-use Rattle.pj_shape.specs.declared.plans.SmallPlan.{SmallPlan}
-use Rattle.pj_shape.specs.declared.plans.SmallStream.{SmallStream}
-use Rattle.pj_shape.specs.declared.plans.SmallJoin.{SmallJoin}
+use Rattle.pj_shape.specs.declared.columns.Column.{Column}
 use Rattle.pj_laws.specs.declared.events.Entry.{Entry}
 use Rattle.pj_laws.specs.declared.events.Out.{Out}
 use Rattle.pj_laws.specs.declared.events.Stop.{Stop}
 use Rattle.pj_laws.specs.Join.{JoinData, Step, start, run}
 use Rattle.pj_laws.specs.KeptState.{KeptState, kept_of, kept_step}
 use Rattle.pj_laws.specs.Plan.{Operator, Node}
-use Rattle.pj_laws.specs.History.{Reached, next, nodes_by, nodes_from, reached_of, state_in, join_at, closed_after, undrained_after, halted_after, stop_after}
+use Rattle.pj_laws.specs.History.{IsEntryAllowed, Reached, next, nodes_by, nodes_from, reached_of, state_in, join_at, closed_after, undrained_after, halted_after, stop_after}
 use Rattle.pj_laws.specs.Outcomes.{arrivals_at, join_steps_by, peak_of, stored_at}
-use Rattle.pj_laws.specs.CoreKept.{KeptOperator, NothingKept, JoinKept, core_kept, IsJoinOf}
+use Rattle.pj_laws.specs.CoreKept.{CoreKept, KeptOperator, NothingKept, JoinKept, OneJoin, core_kept, IsJoinOf}
 use Rattle.pj_laws.specs.HistoryLaws.{AddsEntry, GrowsLegally, Joined, KeepsJoin, joined_plan}
 use Rattle.pj_laws.proofs.Follow.{tickets-count}
-use Rattle.pj_laws.proofs.SmallKept.{keeps-join}
-use Rattle.pj_join.specs.Joins.{unswept}
-use Rattle.pj_core.specs.Cores.{CoreState, JoinPart, StandsFor, MayFollow, all_kept}
+use Rattle.pj_laws.proofs.KeepsJoins.{keeps-join}
+use Rattle.pj_core.specs.Parts.{JoinPart, all_kept}
+use Rattle.pj_core.proofs.Holding.{Holds}
 use Rattle.pj_core.proofs.Form.{steps_in, state_after, planned, there, at-start, state-is, more-steps}
 
 -- ---- what is stored is never more than the peak
@@ -26,11 +24,8 @@ pub stored-peak : (nodes : List Node) (history : List Entry) (n : ℕ) → store
 stored-peak nodes [] n = omega arith
 stored-peak nodes (entry ∷ history) n = let r = stored-peak (nodes_by nodes entry.event) history n in omega (arith, r)
 
-abbrev pub plan_joined : List SmallStream → SmallJoin → SmallPlan
-plan_joined streams j = record { streams = streams; join = Some j }
-
-abbrev pub core_joined : List SmallStream → SmallJoin → ℕ → JoinPart → List ℕ → List Out → Option Stop → CoreState
-core_joined streams j l part closed undrained stop = record { plan = plan_joined streams j; limit = l; joined = Some part; closed = closed; undrained = undrained; stop = stop }
+abbrev pub kept_joined : List (List Column) → JoinPart → List ℕ → List Out → Option Stop → CoreKept
+kept_joined streams part closed undrained stop = all_kept (length streams) (Some part) closed undrained stop
 
 -- what is kept of a join behind a step of it
 abbrev pub part_after : JoinData → JoinPart → Step → JoinPart
@@ -45,9 +40,9 @@ abbrev join_kept : KeptOperator → KeptState
 join_kept (JoinKept k) = k
 join_kept _ = kept_of start
 
-module _ (streams : List SmallStream) (j : SmallJoin) (is : IsJoinOf streams j) (l : ℕ) (part : JoinPart) (c : List ℕ) (u : List Out) (history : List Entry)
-    (S : StandsFor (core_joined streams j l part c u None) history) where
-  pub kept-is : all_kept (core_joined streams j l part c u None) ≡ core_kept false (joined_plan streams j) history
+module _ (streams : List (List Column)) (j : OneJoin) (is : IsJoinOf streams j) (part : JoinPart) (c : List ℕ) (u : List Out) (history : List Entry)
+    (S : Holds (joined_plan streams j) (kept_joined streams part c u None) history) where
+  pub kept-is : kept_joined streams part c u None ≡ core_kept false (joined_plan streams j) history
   kept-is = S.stands.0 (sym S.stands.3)
 
   keeps : KeepsJoin streams j history false
@@ -77,22 +72,22 @@ module _ (streams : List SmallStream) (j : SmallJoin) (is : IsJoinOf streams j) 
       omega (arith, peak-is, b, i)
 
   pub entered : (entry : Entry) (es : List Step) → join_steps_by (nodes_from (joined_plan streams j) history) entry.event (length streams) ≡ es
-      → (part' : JoinPart) → part'.kept ≡ kept_of (run (unswept j.spec) start (steps_in streams j history ++ es)) → part'.peak ≡ max part.peak (length part'.kept.stored)
+      → (part' : JoinPart) → part'.kept ≡ kept_of (run j.spec start (steps_in streams j history ++ es)) → part'.peak ≡ max part.peak (length part'.kept.stored)
       → AddsEntry (joined_plan streams j) history entry → GrowsLegally (joined_plan streams j)
-      → MayFollow (core_joined streams j l part c u None) history entry
+      → IsEntryAllowed (reached_of false (joined_plan streams j) history) entry
       → (c' : List ℕ) (u' : List Out) (t' : Option Stop)
       → c' ≡ closed_after c entry.closing entry.event
       → u' ≡ undrained_after false (reached_of false (joined_plan streams j) history) entry.event
       → false ≡ halted_after false entry.event
       → t' ≡ stop_after None entry.event
-      → StandsFor (core_joined streams j l part' c' u' t') (history ++ entry ∷ [])
+      → Holds (joined_plan streams j) (kept_joined streams part' c' u' t') (history ++ entry ∷ [])
   entered entry es by part' pk pp adds grows m c' u' t' hc hu hh ht =
       let n = length streams in
       let plan = joined_plan streams j in
       let after = keeps-join streams j is (history ++ entry ∷ []) false in
       let r : reached_of false plan (history ++ entry ∷ []) ≡ next false (reached_of false plan history) entry = adds.reached false in
       let made : part'.kept ≡ kept_of (join_at (nodes_from plan (history ++ entry ∷ [])) n) =
-      pk ∙ ap (λ (ss : List Step). kept_of (run (unswept j.spec) start ss)) (sym (more-steps streams j is history entry es by))
+      pk ∙ ap (λ (ss : List Step). kept_of (run j.spec start ss)) (sym (more-steps streams j is history entry es by))
       ∙ sym (ap (λ (o : Operator). kept_of (state_in o)) (state-is streams j is (history ++ entry ∷ []))) in
       let stored : length part'.kept.stored ≡ stored_at (nodes_by (nodes_from plan history) entry.event) n =
       ap (λ (k : KeptState). length k.stored) made ∙ ap (λ (ns : List Node). stored_at ns n) adds.nodes in

@@ -5,21 +5,19 @@ use Rattle.std.proofs.lemmas.List.{length-map}
 use Rattle.pj_shape.specs.declared.columns.Column.{Column}
 use Rattle.pj_shape.specs.Columns.{kinds_of}
 use Rattle.pj_pattern.specs.Fitting.{FitsKinds}
-use Rattle.pj_shape.specs.declared.plans.SmallStream.{SmallStream}
-use Rattle.pj_shape.specs.declared.plans.SmallJoin.{SmallJoin}
 use Rattle.pj_pattern.specs.declared.element.Element.{Element}
 use Rattle.pj_laws.specs.Join.{arity}
 use Rattle.pj_laws.specs.Plan.{Fits}
 use Rattle.pj_laws.specs.Outcomes.{place_in}
-use Rattle.pj_laws.specs.CoreKept.{IsJoinOf, IsPlanOf, columns_of}
-use Rattle.pj_join.specs.Joins.{unswept}
+use Rattle.pj_laws.specs.CoreKept.{IsJoinOf, columns_of}
 use Rattle.pj_join.specs.declared.found.JoinStop.{JoinStop}
 use Rattle.pj_join.specs.declared.found.JoinStop.TheVariants.{Limit as JoinFull, NoMemory as JoinWants}
 use Rattle.pj_core.specs.declared.joined.Joined.{Joined}
-use Rattle.pj_core.specs.Parts.{FitsAny, FitsInput, IsFull, IsMadeOf, IsStopOf, any_fresh, input_named, join_in, join_stop, number_or_zero}
+use Rattle.pj_core.specs.Parts.{FitsAny, FitsInput, IsFull, IsStopOf, input_named, join_stop, number_or_zero}
+use Rattle.pj_core.proofs.Holding.{IsPlaced}
 use Rattle.pj_core.proofs.Form.{input-at}
 use Rattle.pj_laws.proofs.Whole.{fits-length}
-use Rattle.pj_core.proofs.Arriving.{small}
+use Rattle.pj_core.proofs.Arriving.{join_seen}
 
 -- the place of a number stands behind the first, and it is there
 placed : (m : ℕ) (ns : List ℕ) (n i : ℕ) → place_in m ns n ≡ Some i → (p : ℕ) × (i ≡ m + p) × (p < length ns) × (get_or ns p 0 ≡ n)
@@ -31,10 +29,10 @@ placed m (v ∷ ns) n i e = go (eqb v n) refl e (placed (m + 1) ns n i)
     go true q h ih = let z : m ≡ i = cc in (0, omega (arith, z), omega arith, eqb-true v n q)
     go false q h ih = let r = ih h in (suc r.0, omega (arith, r.1), omega (arith, r.2), r.3)
 
-fits-of : (streams : List SmallStream) (j : Joined) → IsJoinOf streams (small j) → j.join.spec ≡ unswept j.join.spec.shape → (stream : ℕ) → stream < length streams
+fits-of : (streams : List (List Column)) (j : Joined) → IsJoinOf streams (join_seen j) → (stream : ℕ) → stream < length streams
     → (e : Element) → FitsKinds (kinds_of (columns_of streams stream)) e → FitsInput j stream e
-fits-of streams j is un stream lt e f =
-    let i = input-at streams (small j) is stream lt in
+fits-of streams j is stream lt e f =
+    let i = input-at streams (join_seen j) is stream lt in
     let p = placed 0 j.inputs stream i.0 i.1 in
     let wide : length j.join.spec.shape.inputs ≡ length j.inputs = ap length is.columns ∙ length-map j.inputs (columns_of streams) in
     let named : input_named j.inputs stream ≡ p.0 = ap number_or_zero i.1 ∙ (let z = p.1 in omega (arith, z)) in
@@ -46,22 +44,14 @@ fits-of streams j is un stream lt e f =
       subst (λ (n : ℕ). Fits n e) (sym (ap (arity j.join.spec) named ∙ columns)) (fits-length (columns_of streams stream) e f),
     )
   where
-    width-at : (ss : List SmallStream) (ns : List ℕ) (p : ℕ) → p < length ns → get_or (map (λ schema. length schema) (map (columns_of ss) ns)) p 0 ≡ length (columns_of ss (get_or ns p 0))
+    width-at : (ss : List (List Column)) (ns : List ℕ) (p : ℕ) → p < length ns → get_or (map (λ schema. length schema) (map (columns_of ss) ns)) p 0 ≡ length (columns_of ss (get_or ns p 0))
     width-at ss [] p lt = absurd (omega (arith, lt))
     width-at ss (n ∷ ns) zero lt = refl
     width-at ss (n ∷ ns) (suc p) lt = width-at ss ns p (omega (arith, lt))
 
-pub fits-any : (streams : List SmallStream) (l : ℕ) (joined : Option Joined) → IsMadeOf streams l joined → (stream : ℕ) → stream < length streams → (e : Element) → FitsKinds (kinds_of (columns_of streams stream)) e → FitsAny joined stream e
+pub fits-any : (streams : List (List Column)) (l : ℕ) (joined : Option Joined) → IsPlaced streams l joined → (stream : ℕ) → stream < length streams → (e : Element) → FitsKinds (kinds_of (columns_of streams stream)) e → FitsAny joined stream e
 fits-any streams l None made stream lt e f = tt
-fits-any streams l (Some j) made stream lt e f = fits-of streams j made.0.2 made.1.3 stream lt e f
-
-pub join-fresh : (n l : ℕ) (join : Option SmallJoin) → join_in (any_fresh n l join) ≡ join
-join-fresh n l None = refl
-join-fresh n l (Some j) = refl
-
-pub made-fresh : (streams : List SmallStream) (l : ℕ) (join : Option SmallJoin) → IsPlanOf streams join → IsMadeOf streams l (any_fresh (length streams) l join)
-made-fresh streams l None p = (p, tt)
-made-fresh streams l (Some j) p = (p, (refl, refl, refl, refl))
+fits-any streams l (Some j) made stream lt e f = fits-of streams j made.0.2 stream lt e f
 
 pub stop-of : (n : ℕ) (joined : Option Joined) (stop : JoinStop) → (stop ≡ JoinFull → IsFull joined) → IsStopOf n joined (join_stop n stop)
 stop-of n joined JoinFull f = (refl, f refl)

@@ -2,9 +2,8 @@
 use Rattle.std.proofs.Common.{ℕ, ◌+◌, ◌<◌, false, List, [], ◌∷◌, ◌++◌, ◌≡◌, map, length, sum, None, Some, refl, sym, ap, ◌∙◌, subst, arith}
 use Rattle.std.specs.List.{fold}
 use Rattle.std.proofs.lemmas.List.{length-map, get_or_at}
+use Rattle.pj_shape.specs.declared.columns.Column.{Column}
 use Rattle.pj_shape.specs.declared.joins.JoinSpec.{JoinSpec}
-use Rattle.pj_shape.specs.declared.plans.SmallStream.{SmallStream}
-use Rattle.pj_shape.specs.declared.plans.SmallJoin.{SmallJoin}
 use Rattle.pj_pattern.specs.declared.element.Element.{Element}
 use Rattle.pj_pattern.specs.declared.element.Element.TheVariants.{Tuple, Punct}
 use Rattle.pj_laws.specs.Join.{TupleAt, JoinData, JoinState, Step, start, run, step, joined, results, outputs, inputs, IsAllowed, AreLegalSteps}
@@ -19,13 +18,13 @@ use Rattle.pj_laws.specs.History.{out_of, state_in, gained, nodes_from, pending_
 use Rattle.pj_laws.specs.Outcomes.{arrivals_by, place_in, join_steps_by, join_steps_of}
 use Rattle.pj_laws.specs.OneThread.{first_of, next_probe, probes, probes_at}
 use Rattle.pj_laws.specs.Climb.{local_of}
-use Rattle.pj_laws.specs.CoreKept.{stream_of, join_of, IsJoinOf}
+use Rattle.pj_laws.specs.CoreKept.{OneJoin, stream_of, join_of, IsJoinOf}
 use Rattle.pj_laws.specs.HistoryLaws.{joined_plan, JoinRuns}
 use Rattle.pj_laws.specs.StreamsJoined.{NamesEach, Source, source_node, joined_nodes, sources_from, JoinedMoves}
 use Rattle.pj_laws.proofs.JoinRuns.{join-runs}
 use Rattle.pj_laws.proofs.JoinedMoves.{joined-after, joined-moves, length-sources}
-use Rattle.pj_laws.proofs.Small.{joined-planned}
-use Rattle.pj_laws.proofs.SmallSteps.{small-form, total}
+use Rattle.pj_laws.proofs.StreamsPlans.{joined-planned}
+use Rattle.pj_laws.proofs.JoinSteps.{joined-form, total}
 use Rattle.pj_laws.proofs.StreamsJoined.{input-of, named, names-each}
 use Rattle.pj_join.specs.Joins.{unswept}
 use Rattle.pj_core.specs.Calls.{opened_in, stored_in, waiting_in}
@@ -33,10 +32,10 @@ use Rattle.pj_core.specs.Calls.{opened_in, stored_in, waiting_in}
 -- ---- what an event does
 
 -- what is handed out, what is next to be done, and what is told of streams and a join in this state
-pub record Moves (n : ℕ) (j : SmallJoin) (nodes : List Node) (s : JoinState) : Type 0 where
+pub record Moves (n : ℕ) (j : OneJoin) (nodes : List Node) (s : JoinState) : Type 0 where
   pub arrive : (k input : ℕ) (e : Element) → k < n → place_in 0 j.inputs k ≡ Some input → gained false nodes (Arrive k e) ≡ []
   pub take : (u : ℕ) → gained false nodes (Taken n u) ≡ []
-  pub give : (u : ℕ) → gained false nodes (Given n u) ≡ map RowOut (map joined (results (unswept j.spec) s.tuples s.tuples u))
+  pub give : (u : ℕ) → gained false nodes (Given n u) ≡ map RowOut (map joined (results j.spec s.tuples s.tuples u))
   pub quiet : (event : Event) → local_of event ≡ None → gained false nodes event ≡ []
   pub none : (event : Event) → local_of event ≡ None → arrivals_by nodes event n ≡ []
   pub next : next_probe nodes ≡ first_of n (lacking s.taken s.tuples) None
@@ -51,6 +50,9 @@ silent : (shape : JoinSpec) (s : JoinState) (input : ℕ) (e : Element) → outp
 silent shape s input (Tuple row) = refl
 silent shape s input (Punct patterns) = refl
 
+silent-join : (spec : JoinData) → spec ≡ unswept spec.shape → (s : JoinState) (input : ℕ) (e : Element) → outputs spec s (join_step input e ∷ []) ≡ []
+silent-join spec un s input e = subst (λ (d : JoinData). outputs d s (join_step input e ∷ []) ≡ []) (sym un) (silent spec.shape s input e)
+
 rows-out : (cs : List (List TupleAt)) → map out_of (map (λ c. Tuple (joined c)) cs ++ []) ≡ map RowOut (map joined cs)
 rows-out [] = refl
 rows-out (c ∷ cs) = ap (λ (outs : List Out). RowOut (joined c) ∷ outs) (rows-out cs)
@@ -63,11 +65,11 @@ summed f z (source ∷ sources) node =
     let e : 0 + f (source_node source) ≡ 0 = omega (arith, none) in
     ap (λ (a : ℕ). fold (λ x y. x + y) a (map f (map source_node sources ++ node ∷ []))) e ∙ summed f z sources node
 
-moves-here : (sources : List Source) (j : SmallJoin) (s : JoinState) → NamesEach (length sources) j.inputs → Moves (length sources) j (joined_nodes sources j.inputs (unswept j.spec) s) s
-moves-here sources j s names = record {
-  arrive = λ k input e lt p. (M.arrive k input e lt p).gained ∙ ap (map out_of) (silent j.spec s input e);
+moves-here : (sources : List Source) (j : OneJoin) → j.spec ≡ unswept j.spec.shape → (s : JoinState) → NamesEach (length sources) j.inputs → Moves (length sources) j (joined_nodes sources j.inputs j.spec s) s
+moves-here sources j un s names = record {
+  arrive = λ k input e lt p. (M.arrive k input e lt p).gained ∙ ap (map out_of) (silent-join j.spec un s input e);
   take = λ u. (M.take u).gained;
-  give = λ u. (M.give u).gained ∙ rows-out (results (unswept j.spec) s.tuples s.tuples u);
+  give = λ u. (M.give u).gained ∙ rows-out (results j.spec s.tuples s.tuples u);
   quiet = λ event q. (M.quiet event q).gained;
   none = λ event q. (M.quiet event q).join;
   next = M.next;
@@ -78,25 +80,25 @@ moves-here sources j s names = record {
   waiting = summed (λ node. length (state_in node.operator).waiting) (λ source. refl) sources last;
 }
   where
-    M : JoinedMoves sources j.inputs (unswept j.spec) s
-    M = joined-moves sources j.inputs (unswept j.spec) s names
+    M : JoinedMoves sources j.inputs j.spec s
+    M = joined-moves sources j.inputs j.spec s names
 
     last : Node
-    last = record { inputs = j.inputs; operator = Join (unswept j.spec) s }
+    last = record { inputs = j.inputs; operator = Join j.spec s }
 
 -- the steps of the join in a history, and what they make of it
-abbrev pub steps_in : List SmallStream → SmallJoin → List Entry → List Step
+abbrev pub steps_in : List (List Column) → OneJoin → List Entry → List Step
 steps_in streams j history = join_steps_of (joined_plan streams j) history (length streams)
 
-abbrev pub state_after : List SmallStream → SmallJoin → List Entry → JoinState
-state_after streams j history = run (unswept j.spec) start (steps_in streams j history)
+abbrev pub state_after : List (List Column) → OneJoin → List Entry → JoinState
+state_after streams j history = run j.spec start (steps_in streams j history)
 
-pub moves-of : (streams : List SmallStream) (j : SmallJoin) → IsJoinOf streams j → (history : List Entry) → IsLegal (joined_plan streams j) history
+pub moves-of : (streams : List (List Column)) (j : OneJoin) → IsJoinOf streams j → j.spec ≡ unswept j.spec.shape → (history : List Entry) → IsLegal (joined_plan streams j) history
     → Moves (length streams) j (nodes_from (joined_plan streams j) history) (state_after streams j history)
-moves-of streams j is history legal =
+moves-of streams j is un history legal =
     subst (λ (nodes : List Node). Moves (length streams) j nodes (state_after streams j history)) (sym (joined-after streams j is history legal))
-    (subst (λ (n : ℕ). Moves n j (joined_nodes sources j.inputs (unswept j.spec) (state_after streams j history)) (state_after streams j history)) long
-    (moves-here sources j (state_after streams j history) (subst (λ (n : ℕ). NamesEach n j.inputs) (sym long) (names-each streams j is))))
+    (subst (λ (n : ℕ). Moves n j (joined_nodes sources j.inputs j.spec (state_after streams j history)) (state_after streams j history)) long
+    (moves-here sources j un (state_after streams j history) (subst (λ (n : ℕ). NamesEach n j.inputs) (sym long) (names-each streams j is))))
   where
     sources : List Source
     sources = sources_from 0 streams history
@@ -110,31 +112,31 @@ last-allowed : (d : JoinData) (s : JoinState) (steps : List Step) (st : Step) �
 last-allowed d s [] st l = l.0
 last-allowed d s (e ∷ steps) st l = last-allowed d (step d s e) steps st l.1
 
-pub some-inputs : (streams : List SmallStream) (j : SmallJoin) → IsJoinOf streams j → 0 < inputs (unswept j.spec)
-some-inputs streams j is = omega (arith, is.sound.few_inputs.0, length-map j.spec.inputs (λ schema. length schema))
+pub some-inputs : (streams : List (List Column)) (j : OneJoin) → IsJoinOf streams j → 0 < inputs j.spec
+some-inputs streams j is = omega (arith, is.sound.few_inputs.0, length-map j.spec.shape.inputs (λ schema. length schema))
 
 -- the input that names a stream
-pub input-at : (streams : List SmallStream) (j : SmallJoin) → IsJoinOf streams j → (stream : ℕ) → stream < length streams → (input : ℕ) × (place_in 0 j.inputs stream ≡ Some input)
+pub input-at : (streams : List (List Column)) (j : OneJoin) → IsJoinOf streams j → (stream : ℕ) → stream < length streams → (input : ℕ) × (place_in 0 j.inputs stream ≡ Some input)
 input-at streams j is stream lt = input-of 0 j.inputs stream (named (length streams) j.inputs (names-each streams j is) stream lt)
 
-module _ (streams : List SmallStream) (j : SmallJoin) (is : IsJoinOf streams j) where
+module _ (streams : List (List Column)) (j : OneJoin) (is : IsJoinOf streams j) where
   pub planned : ArePlanned [] (joined_plan streams j)
   planned = joined-planned streams j is
 
   pub there : length streams < length (joined_plan streams j)
-  there = omega (arith, total (length streams) j.inputs (joined_plan streams j) (small-form streams j))
+  there = omega (arith, total (length streams) j.inputs (joined_plan streams j) (joined-form streams j))
 
-  pub at-start : operator_at (joined_plan streams j) (length streams) ≡ Join (unswept j.spec) start
+  pub at-start : operator_at (joined_plan streams j) (length streams) ≡ Join j.spec start
   at-start = ap (λ (node : Node). node.operator) (get_or_at (map stream_of streams) (join_of j) [] nowhere (length streams) (length-map streams stream_of))
 
   runs : JoinRuns (joined_plan streams j)
   runs = join-runs (joined_plan streams j) planned
 
-  pub state-is : (history : List Entry) → operator_at (nodes_from (joined_plan streams j) history) (length streams) ≡ Join (unswept j.spec) (state_after streams j history)
-  state-is history = runs.state history (length streams) (unswept j.spec) there at-start
+  pub state-is : (history : List Entry) → operator_at (nodes_from (joined_plan streams j) history) (length streams) ≡ Join j.spec (state_after streams j history)
+  state-is history = runs.state history (length streams) j.spec there at-start
 
-  pub legal-in : (history : List Entry) → IsLegal (joined_plan streams j) history → AreLegalSteps (unswept j.spec) start (steps_in streams j history)
-  legal-in history l = runs.legal history (length streams) (unswept j.spec) l there at-start
+  pub legal-in : (history : List Entry) → IsLegal (joined_plan streams j) history → AreLegalSteps j.spec start (steps_in streams j history)
+  legal-in history l = runs.legal history (length streams) j.spec l there at-start
 
   pub more-steps : (history : List Entry) (entry : Entry) (es : List Step) → join_steps_by (nodes_from (joined_plan streams j) history) entry.event (length streams) ≡ es
       → steps_in streams j (history ++ entry ∷ []) ≡ steps_in streams j history ++ es
@@ -142,7 +144,7 @@ module _ (streams : List SmallStream) (j : SmallJoin) (is : IsJoinOf streams j) 
 
   -- the step of an entry that was legal is allowed
   pub step-allowed : (history : List Entry) (entry : Entry) (st : Step) → IsLegal (joined_plan streams j) (history ++ entry ∷ [])
-      → join_steps_by (nodes_from (joined_plan streams j) history) entry.event (length streams) ≡ st ∷ [] → IsAllowed (unswept j.spec) (state_after streams j history) st
+      → join_steps_by (nodes_from (joined_plan streams j) history) entry.event (length streams) ≡ st ∷ [] → IsAllowed j.spec (state_after streams j history) st
   step-allowed history entry st l e =
-      last-allowed (unswept j.spec) start (steps_in streams j history) st
-      (subst (AreLegalSteps (unswept j.spec) start) (more-steps history entry (st ∷ []) e) (legal-in (history ++ entry ∷ []) l))
+      last-allowed j.spec start (steps_in streams j history) st
+      (subst (AreLegalSteps j.spec start) (more-steps history entry (st ∷ []) e) (legal-in (history ++ entry ∷ []) l))

@@ -1,10 +1,12 @@
 -- What the calls of a core answer, and what they make of it.
-use Rattle.std.specs.Prelude.{ℕ, ◌+◌, ◌<◌, ◌≡◌, false, List, [], ◌∷◌, ◌++◌, map, filter, length, sum, Option, Some, None}
-use Rattle.pj_shape.specs.declared.plans.SmallPlan.{SmallPlan}
+use Rattle.std.specs.Prelude.{ℕ, ◌+◌, ◌<◌, ◌≡◌, true, false, List, [], ◌∷◌, ◌++◌, map, filter, length, slice_index_or, sum, Option, Some, None}
+use Rattle.pj_plan.specs.declared.node.Outline.{Outline}
+use Rattle.pj_plan.specs.Nodes.{is_join, streams_of}
+use Rattle.pj_plan.specs.Canonical.{node_at}
 use Rattle.pj_pattern.specs.declared.element.Element.{Element}
 use Rattle.pj_pattern.specs.declared.element.Element.TheVariants.{Punct}
 use Rattle.pj_laws.specs.Patterns.{all_wild}
-use Rattle.pj_laws.specs.CoreKept.{columns_of}
+use Rattle.pj_laws.specs.CoreKept.{KeptOperator, NothingKept, UnionKept, JoinKept, GroupKept}
 use Rattle.pj_laws.specs.declared.events.Entry.{Entry}
 use Rattle.pj_laws.specs.declared.events.Event.{Event}
 use Rattle.pj_laws.specs.declared.events.Event.TheVariants.{Arrive, Take as Taken, Give as Given, Look as Looked, Stopped, Idle}
@@ -21,16 +23,17 @@ use Rattle.pj_laws.specs.Limits.{StaysWithin, StopsAt}
 use Rattle.pj_laws.specs.OneThread.{Turn, arrival_of, next_probe, plain, turn_entries}
 use Rattle.pj_join.specs.declared.found.Found.{Found}
 use Rattle.pj_join.specs.Joins.{IsTaken}
-use Rattle.pj_core.specs.Cores.{CoreState, JoinPart, MayFollow, Notes, NotesAllowed, StandsFor, nodes_after, nodes_in, pending_list}
+use Rattle.pj_core.specs.Cores.{CoreState, MayFollow, Notes, NotesAllowed, StandsFor, nodes_after, nodes_in}
+use Rattle.pj_core.specs.Plans.{stream_columns, streams_in}
 
 -- ---- a new core
 
 -- nothing has happened yet
-pub record IsFresh (core : CoreState) (plan : SmallPlan) (limit : ℕ) : Type 0 where
+pub record IsFresh (core : CoreState) (plan : Outline) (limit : ℕ) : Type 0 where
   pub of_plan : core.plan ≡ plan
   pub with_limit : core.limit ≡ limit
-  pub undrained : core.undrained ≡ []
-  pub on : core.stop ≡ None
+  pub undrained : core.kept.undrained ≡ []
+  pub on : core.kept.stop ≡ None
   pub stands : StandsFor core []
 
 -- ---- stops
@@ -48,8 +51,8 @@ IsCause core event NoMemory = Unit {0}
 -- the core stops now, and what it has to hand out stays
 pub record StopsNow (old new : CoreState) (stop : Stop) : Type 0 where
   pub notes : Notes old new (plain (Stopped stop))
-  pub stopped : new.stop ≡ Some stop
-  pub undrained : new.undrained ≡ old.undrained
+  pub stopped : new.kept.stop ≡ Some stop
+  pub undrained : new.kept.undrained ≡ old.kept.undrained
 
 -- a core that stopped before answers that stop again and stays as it is
 pub record StaysStopped (old new : CoreState) (before stop : Stop) : Type 0 where
@@ -66,29 +69,38 @@ IsRefused (Some before) old new stop cause = StaysStopped old new before stop
 
 -- the element has arrived, and none went beyond the limit
 pub record HasArrived (old new : CoreState) (entry : Entry) : Type 0 where
-  pub on : (old.stop ≡ None) × (new.stop ≡ None)
+  pub on : (old.kept.stop ≡ None) × (new.kept.stop ≡ None)
   pub notes : NotesAllowed old new entry
   pub within : HasRoomFor old entry.event
 
 -- ---- probes
 
--- the probe's ticket is taken at this join, and not given
-abbrev pub IsOpenAt : ℕ → Option JoinPart → Found → Type 0
-IsOpenAt join None probe = ⊥
-IsOpenAt join (Some part) probe = (probe.join ≡ join) × IsTaken part.kept probe.ticket
-
--- the join of a plan stands behind its streams
-abbrev pub join_node : CoreState → ℕ
-join_node core = length core.plan.streams
+-- the ticket is taken and not given at the join that this is kept of
+abbrev pub IsTakenIn : KeptOperator → ℕ → Type 0
+IsTakenIn (JoinKept kept) ticket = IsTaken kept ticket
+IsTakenIn NothingKept ticket = ⊥
+IsTakenIn (UnionKept union) ticket = ⊥
+IsTakenIn (GroupKept rows) ticket = ⊥
 
 -- the probe was taken from the core, and its ticket is not given
 abbrev pub IsOpen : CoreState → Found → Type 0
-IsOpen core probe = IsOpenAt (join_node core) core.joined probe
+IsOpen core probe = IsTakenIn (slice_index_or core.kept.nodes probe.join NothingKept) probe.ticket
+
+-- how many tickets are pending at the node that this is kept of
+abbrev pub pending_kept : KeptOperator → ℕ
+pending_kept (JoinKept kept) = length kept.pending
+pending_kept NothingKept = 0
+pending_kept (UnionKept union) = 0
+pending_kept (GroupKept rows) = 0
+
+-- how many tickets are pending at all nodes
+abbrev pub all_pending : CoreState → ℕ
+all_pending core = sum (map pending_kept core.kept.nodes)
 
 -- nothing is pending, and the core stays as it is
 pub record FindsNone (old new : CoreState) : Type 0 where
   pub none : (history : List Entry) → StandsFor old history → next_probe (nodes_after old history) ≡ None
-  pub pending : pending_list old.joined ≡ []
+  pub pending : all_pending old ≡ 0
   pub stays : new ≡ old
   pub notes : Notes old new (plain Idle)
 
@@ -99,26 +111,22 @@ pub record TakesNext (old new : CoreState) (probe : Found) : Type 0 where
   pub finds : (history : List Entry) → StandsFor old history → probe.rows ≡ results_of (nodes_in old) history probe.join probe.ticket
   pub keeps : (history : List Entry) → StandsFor old history
       → probe.rows ≡ results_of (nodes_in new) (history ++ plain (Taken probe.join probe.ticket) ∷ []) probe.join probe.ticket
-  pub node : probe.join ≡ join_node old
   pub opens : IsOpen new probe
   pub notes : Notes old new (plain (Taken probe.join probe.ticket))
-  pub on : new.stop ≡ None
-  pub undrained : new.undrained ≡ old.undrained
-  pub fewer : length (pending_list new.joined) < length (pending_list old.joined)
-  pub first : (history : List Entry) → StandsFor old history → pending_list old.joined ≡ probe.ticket ∷ pending_list new.joined
+  pub on : new.kept.stop ≡ None
+  pub undrained : new.kept.undrained ≡ old.kept.undrained
+  pub fewer : all_pending new < all_pending old
 
 -- none where nothing is pending, else the next
 abbrev pub CoreTakes : CoreState → CoreState → Option Found → Type 0
 CoreTakes old new None = FindsNone old new
 CoreTakes old new (Some probe) = TakesNext old new probe
 
--- the rows are handed out, and where they are the results of the ticket, the ticket is given
+-- where the rows are the results of the ticket, the ticket is given, and what its join hands up went as far as it goes
 pub record HasGiven (old new : CoreState) (probe found : Found) : Type 0 where
-  pub on : (old.stop ≡ None) × (new.stop ≡ None)
-  pub pending : pending_list new.joined ≡ pending_list old.joined
+  pub on : (old.kept.stop ≡ None) × (new.kept.stop ≡ None)
   pub plan : new.plan ≡ old.plan
   pub limit : new.limit ≡ old.limit
-  pub undrained : new.undrained ≡ old.undrained ++ map Out.Tuple found.rows
   pub stands : (history : List Entry) → StandsFor old history
       → found.rows ≡ results_of (nodes_in old) history probe.join probe.ticket
       → StandsFor new (history ++ plain (Given probe.join probe.ticket) ∷ [])
@@ -145,28 +153,25 @@ pub record Tells (core : CoreState) (history : List Entry) (look : Look) : Type 
   pub taken : look.taken + look.pending ≡ opened_in (nodes_after core history)
   pub stored : look.stored ≡ stored_in (nodes_after core history)
   pub waiting : look.waiting ≡ waiting_in (nodes_after core history)
-  pub ended : look.ended ≡ ended_of (length core.plan.streams) (reached_of false (nodes_in core) history).closed
+  pub ended : look.ended ≡ ended_of (length (streams_of core.plan.nodes)) (reached_of false (nodes_in core) history).closed
 
 -- the outputs, the streams and the stop are always told, the other numbers while nothing stopped
 pub record IsLookAt (core : CoreState) (look : Look) : Type 0 where
-  pub outputs : look.outputs ≡ length core.undrained
+  pub outputs : look.outputs ≡ length core.kept.undrained
   pub halted : look.halted ≡ false
-  pub stop : look.stop ≡ core.stop
-  pub streams : look.streams ≡ length core.plan.streams
-  pub tells : core.stop ≡ None → (history : List Entry) → StandsFor core history → Tells core history look
+  pub stop : look.stop ≡ core.kept.stop
+  pub streams : look.streams ≡ length (streams_of core.plan.nodes)
+  pub tells : core.kept.stop ≡ None → (history : List Entry) → StandsFor core history → Tells core history look
   pub notes : Notes core core (plain (Looked look.pending))
 
--- the node is the join of the core's plan
+-- the node is a join of the core's plan
 abbrev pub IsJoinNode : CoreState → ℕ → Type 0
-IsJoinNode core join = elim core.plan.join [
-  | None ↦ ⊥
-  | Some _ ↦ join ≡ join_node core
-]
+IsJoinNode core join = (join < length core.plan.nodes) × (is_join (node_at core.plan.nodes join) ≡ true)
 
 -- the greatest number of tuples that was stored at a join, while nothing stopped
 abbrev pub IsPeak : CoreState → ℕ → ℕ → Type 0
 IsPeak core join peak =
-    core.stop ≡ None → (history : List Entry) → StandsFor core history → peak ≡ peak_of (nodes_in core) history join
+    core.kept.stop ≡ None → (history : List Entry) → StandsFor core history → peak ≡ peak_of (nodes_in core) history join
 
 -- ---- turns
 
@@ -176,7 +181,7 @@ arriving_of stream element = record { stream = stream; element = element; closin
 
 -- the turn that closes a stream, by a punctuation with a wildcard for each of its columns
 abbrev pub closing_of : CoreState → ℕ → Turn
-closing_of core stream = record { stream = stream; element = Punct (all_wild (length (columns_of core.plan.streams stream))); closing = 1 }
+closing_of core stream = record { stream = stream; element = Punct (all_wild (length (stream_columns (streams_in core.plan.nodes) stream))); closing = 1 }
 
 -- the entries of the turn behind this history
 abbrev pub turn_behind : CoreState → List Entry → Turn → List Entry
@@ -188,15 +193,15 @@ TurnStaysWithin core history turn = StaysWithin core.limit (nodes_in core) histo
 
 -- the whole turn was made within the limit, and all that was not drained is handed out with what the turn gained
 pub record MakesTurn (old new : CoreState) (turn : Turn) (outs : List Out) : Type 0 where
-  pub on : (old.stop ≡ None) × (new.stop ≡ None)
+  pub on : (old.kept.stop ≡ None) × (new.kept.stop ≡ None)
   pub plan : new.plan ≡ old.plan
   pub limit : new.limit ≡ old.limit
-  pub undrained : new.undrained ≡ []
+  pub undrained : new.kept.undrained ≡ []
   pub within : (history : List Entry) → StandsFor old history → MayFollow old history (arrival_of turn) → TurnStaysWithin old history turn
   pub stands : (history : List Entry) → StandsFor old history → MayFollow old history (arrival_of turn)
       → StandsFor new (history ++ turn_behind old history turn)
   pub hands : (history : List Entry) → StandsFor old history → MayFollow old history (arrival_of turn)
-      → outs ≡ old.undrained ++ outputs_of false (nodes_after old history) (turn_behind old history turn)
+      → outs ≡ old.kept.undrained ++ outputs_of false (nodes_after old history) (turn_behind old history turn)
 
 -- a front of the turn was made within the limit before the core stopped, and what it gained is not drained;
 -- where a limit stopped it, the first entry behind the front goes beyond
@@ -207,12 +212,12 @@ pub record MakesFront (old new : CoreState) (history : List Entry) (turn : Turn)
   pub within : StaysWithin old.limit (nodes_in old) history front
   pub stops : StopsAt old.limit (nodes_in old) (history ++ front) back stop
   pub stands : StandsFor new (history ++ front ++ plain (Stopped stop) ∷ [])
-  pub undrained : new.undrained ≡ old.undrained ++ outputs_of false (nodes_after old history) front
+  pub undrained : new.kept.undrained ≡ old.kept.undrained ++ outputs_of false (nodes_after old history) front
 
 pub record StopsInTurn (old new : CoreState) (turn : Turn) (stop : Stop) : Type 0 where
   pub plan : new.plan ≡ old.plan
   pub limit : new.limit ≡ old.limit
-  pub stopped : new.stop ≡ Some stop
+  pub stopped : new.kept.stop ≡ Some stop
   pub cause : IsCause old (Arrive turn.stream turn.element) stop
   pub takes : (history : List Entry) → StandsFor old history → MayFollow old history (arrival_of turn) → MakesFront old new history turn stop
 

@@ -1,67 +1,26 @@
 -- What contracts see of a core, and the histories that it stands for.
-use Rattle.std.specs.Prelude.{ℕ, ◌≡◌, false, List, [], ◌∷◌, ◌++◌, length, replicate, Option, Some, None}
-use Rattle.pj_shape.specs.declared.plans.SmallPlan.{SmallPlan}
-use Rattle.pj_laws.specs.KeptState.{KeptState}
+use Rattle.std.specs.Prelude.{ℕ, ◌≡◌, false, List, [], ◌∷◌, ◌++◌}
+use Rattle.pj_plan.specs.declared.node.Outline.{Outline}
 use Rattle.pj_laws.specs.Plan.{Node}
 use Rattle.pj_laws.specs.declared.events.Entry.{Entry}
-use Rattle.pj_laws.specs.declared.events.Out.{Out}
-use Rattle.pj_laws.specs.declared.events.Stop.{Stop}
 use Rattle.pj_laws.specs.History.{IsEntryAllowed, IsLegal, reached_of, nodes_from}
-use Rattle.pj_laws.specs.CoreKept.{KeptOperator, NothingKept, JoinKept, CoreKept, Stands, nodes_of}
+use Rattle.pj_laws.specs.CoreKept.{CoreKept, Stands}
+use Rattle.pj_core.specs.Plans.{nodes_of}
 
--- what is kept of the join, and the greatest number of tuples stored there
-pub record JoinPart : Type 0 where
-  pub kept : KeptState
-  pub peak : ℕ
-
--- the plan, how many elements may reach its join, what is kept of the join where the plan has one, the streams that are
--- closed, the latest first, the outputs that are not drained, and the stop
+-- the plan, how many elements may reach a join of it, and what is kept: of each node, and of the run
 pub record CoreState : Type 0 where
-  pub plan : SmallPlan
+  pub plan : Outline
   pub limit : ℕ
-  pub joined : Option JoinPart
-  pub closed : List ℕ
-  pub undrained : List Out
-  pub stop : Option Stop
+  pub kept : CoreKept
 
--- the nodes of the core's plan
+-- the nodes of the core's plan at their starts
 abbrev pub nodes_in : CoreState → List Node
 nodes_in core = nodes_of core.plan
-
--- what is kept of the join, the number of elements that reached it, and its peak; none where there is no join
-abbrev pub operators_kept : Option JoinPart → List KeptOperator
-operators_kept None = []
-operators_kept (Some part) = JoinKept part.kept ∷ []
-
-abbrev pub counts_kept : Option JoinPart → List ℕ
-counts_kept None = []
-counts_kept (Some part) = part.kept.next ∷ []
-
-abbrev pub peaks_kept : Option JoinPart → List ℕ
-peaks_kept None = []
-peaks_kept (Some part) = part.peak ∷ []
-
--- all that a core keeps: a stream keeps nothing, and no element reaches it from another node
-abbrev pub all_kept : CoreState → CoreKept
-all_kept core = record {
-  nodes = replicate (length core.plan.streams) NothingKept ++ operators_kept core.joined;
-  counts = replicate (length core.plan.streams) 0 ++ counts_kept core.joined;
-  peaks = replicate (length core.plan.streams) 0 ++ peaks_kept core.joined;
-  closed = core.closed;
-  undrained = core.undrained;
-  halted = false;
-  stop = core.stop;
-}
-
--- the tickets that are not taken; none where there is no join
-abbrev pub pending_list : Option JoinPart → List ℕ
-pending_list None = []
-pending_list (Some part) = part.kept.pending
 
 -- the history is a legal one of the core's plan, and the core keeps what it has to after it
 pub record StandsFor (core : CoreState) (history : List Entry) : Type 0 where
   pub legal : IsLegal (nodes_in core) history
-  pub stands : Stands false (nodes_in core) (all_kept core) history
+  pub stands : Stands false (nodes_in core) core.kept history
 
 -- the entry may follow the history
 abbrev pub MayFollow : CoreState → List Entry → Entry → Type 0

@@ -1,52 +1,86 @@
 -- What the parts of a core are seen as, and what an arrival makes of them.
-use Rattle.std.specs.Prelude.{ℕ, ◌<◌, ◌≤◌, ◌≡◌, ◌≢◌, Bool, true, false, List, [], ◌∷◌, ◌++◌, map, length, max, Option, Some, None}
-use Rattle.pj_shape.specs.declared.plans.SmallJoin.{SmallJoin}
-use Rattle.pj_shape.specs.declared.plans.SmallStream.{SmallStream}
+use Rattle.std.specs.Prelude.{ℕ, ◌<◌, ◌≤◌, ◌≡◌, ◌≢◌, Bool, true, false, List, [], ◌∷◌, ◌++◌, map, length, max, replicate, Option, Some, None}
+use Rattle.pj_plan.specs.declared.node.Outline.{Outline}
+use Rattle.pj_plan.specs.Sound.{IsSoundPlan}
 use Rattle.pj_pattern.specs.declared.element.Element.{Element}
 use Rattle.pj_laws.specs.declared.events.Out.{Out}
 use Rattle.pj_laws.specs.declared.events.Stop.{Stop}
 use Rattle.pj_laws.specs.declared.events.Stop.TheVariants.{Limit, NoMemory}
 use Rattle.pj_laws.specs.Join.{Give, In, Step, Take, arity, has, inputs, joined, results, run, start}
 use Rattle.pj_shape.specs.Sound.{IsSoundSpec}
-use Rattle.pj_laws.specs.KeptState.{kept_of}
+use Rattle.pj_laws.specs.KeptState.{KeptState, kept_of}
 use Rattle.pj_laws.specs.Plan.{Fits, join_step}
 use Rattle.pj_laws.specs.History.{out_of}
 use Rattle.pj_laws.specs.Outcomes.{place_in}
-use Rattle.pj_laws.specs.CoreKept.{IsPlanOf}
+use Rattle.pj_laws.specs.CoreKept.{KeptOperator, NothingKept, JoinKept, CoreKept, OneJoin}
 use Rattle.pj_join.specs.declared.found.Found.{Found}
 use Rattle.pj_join.specs.declared.found.JoinStop.{JoinStop}
 use Rattle.pj_join.specs.declared.found.JoinStop.TheVariants.{Limit as JoinFull, NoMemory as JoinWants}
 use Rattle.pj_join.specs.Joins.{IsTaken, JoinView, StandsFor as JoinStandsFor, after, unswept}
 use Rattle.pj_core.specs.declared.joined.Joined.{Joined}
-use Rattle.pj_core.specs.Cores.{CoreState, JoinPart, pending_list}
+use Rattle.pj_core.specs.Cores.{CoreState}
+use Rattle.pj_core.specs.Plans.{IsRun}
+use Rattle.pj_core.specs.Forms.{plan_join, stream_total}
 
 -- ---- what is seen of a join
 
+-- what is kept of the join, and the greatest number of tuples stored there
+pub record JoinPart : Type 0 where
+  pub kept : KeptState
+  pub peak : ℕ
+
 -- the join of the plan
-abbrev pub join_in : Option Joined → Option SmallJoin
+abbrev pub join_in : Option Joined → Option OneJoin
 join_in None = None
-join_in (Some joined) = Some (record { name = joined.name; inputs = joined.inputs; spec = joined.join.spec.shape })
+join_in (Some joined) = Some (record { inputs = joined.inputs; spec = joined.join.spec })
 
 -- what is kept of the join
 abbrev pub part_in : Option Joined → Option JoinPart
 part_in None = None
 part_in (Some joined) = Some (record { kept = joined.join.kept; peak = joined.peak })
 
+-- what is kept of the join, the number of elements that reached it, and its peak; none where there is no join
+abbrev pub operators_kept : Option JoinPart → List KeptOperator
+operators_kept None = []
+operators_kept (Some part) = JoinKept part.kept ∷ []
+
+abbrev pub counts_kept : Option JoinPart → List ℕ
+counts_kept None = []
+counts_kept (Some part) = part.kept.next ∷ []
+
+abbrev pub peaks_kept : Option JoinPart → List ℕ
+peaks_kept None = []
+peaks_kept (Some part) = part.peak ∷ []
+
+-- all that a core of so many streams keeps: a stream keeps nothing, and no element reaches it from another node
+abbrev pub all_kept : ℕ → Option JoinPart → List ℕ → List Out → Option Stop → CoreKept
+all_kept streams part closed undrained stop = record {
+  nodes = replicate streams NothingKept ++ operators_kept part;
+  counts = replicate streams 0 ++ counts_kept part;
+  peaks = replicate streams 0 ++ peaks_kept part;
+  closed = closed;
+  undrained = undrained;
+  halted = false;
+  stop = stop;
+}
+
 -- the join stands behind so many streams, has this limit, is never swept and hands up rows alone
 abbrev pub IsJoinedTo : ℕ → ℕ → Option Joined → Type 0
 IsJoinedTo streams limit None = Unit {0}
 IsJoinedTo streams limit (Some joined) =
-    (joined.node ≡ streams) × (joined.join.node ≡ streams) × (joined.join.limit ≡ limit) × (joined.join.spec ≡ unswept joined.join.spec.shape)
+    (joined.join.node ≡ streams) × (joined.join.limit ≡ limit) × (joined.join.spec ≡ unswept joined.join.spec.shape)
 
--- the streams and the join are those of a small plan
-abbrev pub IsMadeOf : List SmallStream → ℕ → Option Joined → Type 0
-IsMadeOf streams limit joined = IsPlanOf streams (join_in joined) × IsJoinedTo (length streams) limit joined
+-- the plan is a sound one of streams and at most one join, and the join is the plan's
+abbrev pub IsMadeOf : Outline → ℕ → Option Joined → Type 0
+IsMadeOf plan limit joined =
+    IsSoundPlan plan.nodes × IsRun plan × (join_in joined ≡ plan_join plan) × IsJoinedTo (stream_total plan) limit joined
 
 -- ---- what is kept, in numbers
 
 -- the number of pending tickets, of those that are not given, and of stored tuples; 0 where there is no join
-abbrev pub pending_kept : Option JoinPart → ℕ
-pending_kept part = length (pending_list part)
+abbrev pub pending_of : Option JoinPart → ℕ
+pending_of None = 0
+pending_of (Some part) = length part.kept.pending
 
 abbrev pub opened_kept : Option JoinPart → ℕ
 opened_kept None = 0
@@ -61,23 +95,21 @@ peak_kept None = 0
 peak_kept (Some part) = part.peak
 
 -- a new join behind so many streams, of this limit
-abbrev pub fresh_joined : ℕ → ℕ → SmallJoin → Joined
+abbrev pub fresh_joined : ℕ → ℕ → OneJoin → Joined
 fresh_joined streams limit join = record {
-  node = streams;
-  name = join.name;
   inputs = join.inputs;
-  join = record { node = streams; spec = unswept join.spec; limit = limit; kept = kept_of start };
+  join = record { node = streams; spec = join.spec; limit = limit; kept = kept_of start };
   peak = 0;
 }
 
-abbrev pub any_fresh : ℕ → ℕ → Option SmallJoin → Option Joined
+abbrev pub any_fresh : ℕ → ℕ → Option OneJoin → Option Joined
 any_fresh streams limit None = None
 any_fresh streams limit (Some join) = Some (fresh_joined streams limit join)
 
 -- the join of the plan is sound
-abbrev pub IsSoundAny : Option SmallJoin → Type 0
+abbrev pub IsSoundAny : Option OneJoin → Type 0
 IsSoundAny None = Unit {0}
-IsSoundAny (Some join) = IsSoundSpec join.spec
+IsSoundAny (Some join) = IsSoundSpec join.spec.shape
 
 -- ---- arrivals
 
@@ -114,19 +146,16 @@ any_entered None stream e = None
 any_entered (Some joined) stream e = Some (entered joined stream e)
 
 -- the outputs behind an arrival: where there is no join, the element is handed out
-abbrev pub outs_after : Option SmallJoin → List Out → Element → List Out
+abbrev pub outs_after : Option OneJoin → List Out → Element → List Out
 outs_after None outs e = outs ++ out_of e ∷ []
 outs_after (Some join) outs e = outs
 
 -- what a core with these parts is seen as
-abbrev pub core_of : List SmallStream → ℕ → Option Joined → List ℕ → List Out → Option Stop → CoreState
-core_of streams limit joined closed undrained stop = record {
-  plan = record { streams = streams; join = join_in joined };
+abbrev pub core_of : Outline → ℕ → Option Joined → List ℕ → List Out → Option Stop → CoreState
+core_of plan limit joined closed undrained stop = record {
+  plan = plan;
   limit = limit;
-  joined = part_in joined;
-  closed = closed;
-  undrained = undrained;
-  stop = stop;
+  kept = all_kept (stream_total plan) (part_in joined) closed undrained stop;
 }
 
 -- fewer elements than the limit have reached the join, where there is one
@@ -167,7 +196,7 @@ pub record TakesOf (joined : Joined) (new : Option Joined) (found : Found) : Typ
   pub finds : FindsResults joined.join found
 
 abbrev pub TakesAny : Option Joined → Option Joined → Option Found → Type 0
-TakesAny joined new None = (new ≡ joined) × (pending_kept (part_in joined) ≡ 0)
+TakesAny joined new None = (new ≡ joined) × (pending_of (part_in joined) ≡ 0)
 TakesAny None new (Some found) = ⊥
 TakesAny (Some joined) new (Some found) = TakesOf joined new found
 
@@ -189,7 +218,7 @@ pub record ProbesOf (joined : Joined) (new : Option Joined) (before behind : Lis
 
 -- one probe was done where one is pending
 abbrev pub ProbesAny : Bool → Option Joined → Option Joined → List Out → List Out → Type 0
-ProbesAny false joined new before behind = (new ≡ joined) × (behind ≡ before) × (pending_kept (part_in joined) ≡ 0)
+ProbesAny false joined new before behind = (new ≡ joined) × (behind ≡ before) × (pending_of (part_in joined) ≡ 0)
 ProbesAny true None new before behind = ⊥
 ProbesAny true (Some joined) new before behind = ProbesOf joined new before behind
 

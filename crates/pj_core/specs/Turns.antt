@@ -1,5 +1,5 @@
 -- What a turn is made of.
-use Rattle.std.specs.Prelude.{ℕ, ◌<◌, ◌≡◌, Bool, true, false, List, [], ◌∷◌, ◌++◌, length, Some, None}
+use Rattle.std.specs.Prelude.{ℕ, ◌+◌, ◌<◌, ◌≡◌, Bool, true, false, List, [], ◌∷◌, ◌++◌, Some, None}
 use Rattle.pj_laws.specs.declared.events.Entry.{Entry}
 use Rattle.pj_laws.specs.declared.events.Event.TheVariants.{Drain, Stopped}
 use Rattle.pj_laws.specs.declared.events.Stop.{Stop}
@@ -8,8 +8,25 @@ use Rattle.pj_laws.specs.declared.events.Out.{Out}
 use Rattle.pj_laws.specs.Outcomes.{outputs_of}
 use Rattle.pj_laws.specs.Limits.{StaysWithin}
 use Rattle.pj_laws.specs.OneThread.{plain, probes, probes_at}
-use Rattle.pj_core.specs.Cores.{CoreState, StandsFor, nodes_after, nodes_in, pending_list}
-use Rattle.pj_core.specs.Calls.{join_node}
+use Rattle.pj_laws.specs.CoreKept.{KeptOperator, NothingKept, UnionKept, JoinKept, GroupKept}
+use Rattle.pj_core.specs.Cores.{CoreState, StandsFor, nodes_after, nodes_in}
+use Rattle.pj_core.specs.Calls.{all_pending}
+
+-- the tickets that are pending at the node that this is kept of
+abbrev pub tickets_kept : KeptOperator → List ℕ
+tickets_kept (JoinKept kept) = kept.pending
+tickets_kept NothingKept = []
+tickets_kept (UnionKept union) = []
+tickets_kept (GroupKept rows) = []
+
+-- the probes of all pending tickets of the nodes from this number on, in order
+abbrev pub probes_kept : ℕ → List KeptOperator → List Entry
+probes_kept node [] = []
+probes_kept node (kept ∷ nodes) = probes_at node (tickets_kept kept) ++ probes_kept (node + 1) nodes
+
+-- the probes of all pending tickets of a core
+abbrev pub probes_in : CoreState → List Entry
+probes_in core = probes_kept 0 core.kept.nodes
 
 -- all probes that the history asks for, and a drain
 abbrev pub finish_behind : CoreState → List Entry → List Entry
@@ -17,57 +34,58 @@ finish_behind core history = probes (nodes_after core history) ++ plain Drain �
 
 -- the probes of the pending tickets are all that the history asks for, and bring nothing beyond the limit
 pub record ListsProbes (core : CoreState) : Type 0 where
-  pub all : core.stop ≡ None → (history : List Entry) → StandsFor core history → probes (nodes_after core history) ≡ probes_at (join_node core) (pending_list core.joined)
-  pub within : core.stop ≡ None → (history : List Entry) → StandsFor core history → StaysWithin core.limit (nodes_in core) history (finish_behind core history)
+  pub all : core.kept.stop ≡ None → (history : List Entry) → StandsFor core history → probes (nodes_after core history) ≡ probes_in core
+  pub within : core.kept.stop ≡ None → (history : List Entry) → StandsFor core history → StaysWithin core.limit (nodes_in core) history (finish_behind core history)
 
 -- the first pending ticket was taken and given
 pub record ProbesFirst (old new : CoreState) (history : List Entry) : Type 0 where
+  pub join : ℕ
   pub ticket : ℕ
-  pub first : pending_list old.joined ≡ ticket ∷ pending_list new.joined
-  pub stands : StandsFor new (history ++ probes_at (join_node old) (ticket ∷ []))
+  pub first : probes_in old ≡ probes_at join (ticket ∷ []) ++ probes_in new
+  pub stands : StandsFor new (history ++ probes_at join (ticket ∷ []))
 
 pub record ProbesOne (old new : CoreState) : Type 0 where
   pub plan : new.plan ≡ old.plan
   pub limit : new.limit ≡ old.limit
-  pub on : new.stop ≡ None
-  pub fewer : length (pending_list new.joined) < length (pending_list old.joined)
+  pub on : new.kept.stop ≡ None
+  pub fewer : all_pending new < all_pending old
   pub probes : (history : List Entry) → StandsFor old history → ProbesFirst old new history
 
 -- one probe was done, or there was none to do
 abbrev pub MayProbe : Bool → CoreState → CoreState → Type 0
 MayProbe true old new = ProbesOne old new
-MayProbe false old new = (new ≡ old) × (pending_list old.joined ≡ [])
+MayProbe false old new = (new ≡ old) × (probes_in old ≡ [])
 
 -- every pending ticket was taken and given, in order
 pub record ProbesAll (old new : CoreState) : Type 0 where
   pub plan : new.plan ≡ old.plan
   pub limit : new.limit ≡ old.limit
-  pub on : new.stop ≡ None
-  pub stands : (history : List Entry) → StandsFor old history → StandsFor new (history ++ probes_at (join_node old) (pending_list old.joined))
+  pub on : new.kept.stop ≡ None
+  pub stands : (history : List Entry) → StandsFor old history → StandsFor new (history ++ probes_in old)
 
--- a front of these tickets was taken and given
+-- a front of the probes was done
 pub record GoesTo (old now : CoreState) (history : List Entry) : Type 0 where
-  pub tickets : List ℕ
-  pub parts : pending_list old.joined ≡ tickets ++ pending_list now.joined
-  pub stands : StandsFor now (history ++ probes_at (join_node old) tickets)
+  pub front : List Entry
+  pub parts : probes_in old ≡ front ++ probes_in now
+  pub stands : StandsFor now (history ++ front)
 
 pub record SoFar (old now : CoreState) : Type 0 where
   pub plan : now.plan ≡ old.plan
   pub limit : now.limit ≡ old.limit
-  pub on : now.stop ≡ None
+  pub on : now.kept.stop ≡ None
   pub goes : (history : List Entry) → StandsFor old history → GoesTo old now history
 
 -- memory was wanting among the probes
 pub record StopsAmong (old new : CoreState) (history : List Entry) (stop : Stop) : Type 0 where
   pub front : List Entry
   pub back : List Entry
-  pub parts : probes_at (join_node old) (pending_list old.joined) ≡ front ++ back
+  pub parts : probes_in old ≡ front ++ back
   pub stands : StandsFor new (history ++ front ++ plain (Stopped stop) ∷ [])
 
 pub record StopsProbing (old new : CoreState) (stop : Stop) : Type 0 where
   pub plan : new.plan ≡ old.plan
   pub limit : new.limit ≡ old.limit
-  pub stopped : new.stop ≡ Some stop
+  pub stopped : new.kept.stop ≡ Some stop
   pub memory : stop ≡ NoMemory
   pub stops : (history : List Entry) → StandsFor old history → StopsAmong old new history stop
 
@@ -75,11 +93,11 @@ pub record StopsProbing (old new : CoreState) (stop : Stop) : Type 0 where
 pub record Finishes (old new : CoreState) (outs : List Out) : Type 0 where
   pub plan : new.plan ≡ old.plan
   pub limit : new.limit ≡ old.limit
-  pub on : new.stop ≡ None
-  pub undrained : new.undrained ≡ []
+  pub on : new.kept.stop ≡ None
+  pub undrained : new.kept.undrained ≡ []
   pub within : (history : List Entry) → StandsFor old history → StaysWithin old.limit (nodes_in old) history (finish_behind old history)
   pub stands : (history : List Entry) → StandsFor old history → StandsFor new (history ++ finish_behind old history)
-  pub hands : (history : List Entry) → StandsFor old history → outs ≡ old.undrained ++ outputs_of false (nodes_after old history) (finish_behind old history)
+  pub hands : (history : List Entry) → StandsFor old history → outs ≡ old.kept.undrained ++ outputs_of false (nodes_after old history) (finish_behind old history)
 
 -- memory was wanting on the way
 pub record FinishesFront (old new : CoreState) (history : List Entry) (stop : Stop) : Type 0 where
@@ -88,11 +106,11 @@ pub record FinishesFront (old new : CoreState) (history : List Entry) (stop : St
   pub parts : finish_behind old history ≡ front ++ back
   pub within : StaysWithin old.limit (nodes_in old) history front
   pub stands : StandsFor new (history ++ front ++ plain (Stopped stop) ∷ [])
-  pub undrained : new.undrained ≡ old.undrained ++ outputs_of false (nodes_after old history) front
+  pub undrained : new.kept.undrained ≡ old.kept.undrained ++ outputs_of false (nodes_after old history) front
 
 pub record StopsFinishing (old new : CoreState) (stop : Stop) : Type 0 where
   pub plan : new.plan ≡ old.plan
   pub limit : new.limit ≡ old.limit
-  pub stopped : new.stop ≡ Some stop
+  pub stopped : new.kept.stop ≡ Some stop
   pub memory : stop ≡ NoMemory
   pub stops : (history : List Entry) → StandsFor old history → FinishesFront old new history stop

@@ -1,21 +1,20 @@
 // The join of a core, with its place among the streams and its peak.
-ghost use Rattle.std.specs.Prelude.{◌≡◌, ◌↔◌, ◌≤◌, ◌^◌, ◌+◌, IfOk, OnOk, OnErr, IsErrOf, length};
-ghost use Rattle.pj_core.specs.Parts.{FitsAny, FitsInput, HasRoom, IsFull, IsSoundAny, IsTakenOf, ProbesAny, TakesAny, any_entered, any_fresh, entered, given, input_named, join_in, opened_kept, outs_after, part_in, peak_kept, pending_kept, stored_kept};
+ghost use Rattle.std.specs.Prelude.{◌≡◌, ◌↔◌, ◌≤◌, ◌^◌, ◌+◌, ◌-◌, IfOk, OnOk, OnErr, IsErrOf, length};
+ghost use Rattle.pj_core.specs.Plans.{IsRun};
+ghost use Rattle.pj_core.specs.Forms.{join_as, plan_join};
+ghost use Rattle.pj_core.specs.Parts.{FitsAny, FitsInput, HasRoom, IsFull, IsMadeOf, IsSoundAny, IsTakenOf, ProbesAny, TakesAny, any_entered, any_fresh, entered, given, input_named, join_in, opened_kept, outs_after, part_in, peak_kept, pending_of, stored_kept};
 
 use crate::handed::hand_out;
 use pj_join::{Join, JoinStop, Probe};
 use pj_laws::Out;
 use pj_pattern::Element;
-use pj_shape::SmallJoin;
-use pj_value::{Bytes, List, NoMemory};
+use pj_plan::{Node, Plan};
+use pj_value::{List, NoMemory};
 use std::alloc::Global;
 
-/// A join, its number among the nodes, its name, the streams that its inputs name, and the greatest number of tuples
-/// that was stored in it.
+/// A join, the streams that its inputs name, and the greatest number of tuples that was stored in it.
 #[derive(Drop)]
 pub struct Joined {
-    pub node: u32,
-    pub name: Bytes,
     pub inputs: List<u32>,
     pub join: Join,
     pub peak: u64,
@@ -47,30 +46,39 @@ impl Joined {
     }
 }
 
-/// The join of a plan of so many streams, with nothing in it, where the plan has one: it is the node behind them.
-pub fn new_joined(
-    alloc: Global,
-    streams: u32,
-    join: Option<SmallJoin>,
-    limit: u64,
-) -> Result<Option<Joined>, NoMemory>
-    requires sound { IsSoundAny join }
+/// The join of a plan of streams and at most one join of them, with nothing in it, where the plan has one: it is the last
+/// node.
+#[tactic(auto, using(crate::proofs::Fresh::made_new, crate::proofs::PlanForms::join_is_sound))]
+pub fn new_joined(alloc: Global, plan: &Plan, limit: u64) -> Result<Option<Joined>, NoMemory>
+    requires plan { IsRun plan.now }
     requires limit { (1 ≤ limit) × (limit ≤ 2 ^ 40) }
-    ensures { IfOk result (λ joined. joined ≡ any_fresh streams limit join) }
+    ensures made { IfOk result (λ joined. IsMadeOf plan.now limit joined) }
+    ensures fresh { IfOk result (λ joined. joined ≡ any_fresh (length plan.now.nodes - 1) limit (plan_join plan.now)) }
 {
-    match join {
-        None => Ok(None),
-        Some(join) => {
-            let SmallJoin { name, inputs, spec } = join;
-            let join = Join::new(alloc, streams, spec, limit)?;
-            Ok(Some(Joined {
-                node: streams,
-                name,
-                inputs,
-                join,
-                peak: 0,
-            }))
-        }
+    let last = plan.nodes() - 1;
+    join_at(alloc, last, plan.node(last), limit)
+}
+
+// The join that the node of this number is, with nothing in it, where it is one.
+fn join_at(alloc: Global, number: u32, node: &Node, limit: u64) -> Result<Option<Joined>, NoMemory>
+    requires sound { IsSoundAny (join_as node.now) }
+    requires limit { (1 ≤ limit) × (limit ≤ 2 ^ 40) }
+    ensures { IfOk result (λ joined. joined ≡ any_fresh number limit (join_as node.now)) }
+{
+    match node {
+        Node::Stream { schemes: _ } => Ok(None),
+        Node::Select { input: _, test: _ } => Ok(None),
+        Node::Project {
+            input: _,
+            columns: _,
+        } => Ok(None),
+        Node::Union { inputs: _ } => Ok(None),
+        Node::Join { inputs, spec } => Ok(Some(Joined {
+            inputs: List::copy_of(alloc, inputs.as_slice())?,
+            join: Join::new(alloc, number, spec.copy(alloc)?, limit)?,
+            peak: 0,
+        })),
+        Node::Group { input: _, spec: _ } => Ok(None),
     }
 }
 
@@ -138,7 +146,7 @@ pub fn give_to(joined: &mut Option<Joined>, probe: Probe)
 
 /// How many tickets are pending; 0 where there is no join.
 pub fn pending_in(joined: &Option<Joined>) -> u64
-    ensures { result ≡ pending_kept (part_in joined.now) }
+    ensures { result ≡ pending_of (part_in joined.now) }
 {
     match joined {
         None => 0,
@@ -148,7 +156,7 @@ pub fn pending_in(joined: &Option<Joined>) -> u64
 
 /// How many tickets are taken and not given; 0 where there is no join.
 pub fn taken_in(joined: &Option<Joined>) -> u64
-    ensures { result + pending_kept (part_in joined.now) ≡ opened_kept (part_in joined.now) }
+    ensures { result + pending_of (part_in joined.now) ≡ opened_kept (part_in joined.now) }
 {
     match joined {
         None => 0,

@@ -1,5 +1,5 @@
-//! The core of a run over one stream, or over 2 to 16 streams and a join of them all: it takes elements, lends the work
-//! of probes, and hands out what the plan's last node gives. Each call is one entry of the run's history.
+//! The core of a run of a plan of streams and at most one join of them: it takes elements, lends the work of probes, and
+//! hands out what the plan's last node gives. Each call is one entry of the run's history.
 #![tactic(auto)]
 
 mod handed;

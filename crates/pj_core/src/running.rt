@@ -7,7 +7,8 @@ ghost use Rattle.pj_laws.specs.Join.{has};
 ghost use Rattle.pj_pattern.specs.Fitting.{FitsKinds};
 ghost use Rattle.pj_shape.specs.Columns.{kinds_of};
 ghost use Rattle.pj_laws.specs.OneThread.{arrival_of, plain};
-ghost use Rattle.pj_laws.specs.CoreKept.{IsSmallPlan, columns_of};
+ghost use Rattle.pj_plan.specs.Nodes.{streams_of};
+ghost use Rattle.pj_core.specs.Plans.{IsRun, stream_columns, streams_in};
 ghost use Rattle.pj_core.specs.Cores.{Notes};
 ghost use Rattle.pj_core.specs.Calls.{arriving_of, closing_of, ended_of, HasArrived, HasGiven, IsCause, IsFresh, IsJoinNode, IsLookAt, IsOpen, IsPeak, IsRefused, StopsNow, CoreTakes};
 ghost use Rattle.pj_core.specs.Turns.{ListsProbes, MayProbe};
@@ -21,19 +22,20 @@ use crate::known::known;
 use pj_join::{Found, JoinStop, Probe, hand_out_rows};
 use pj_laws::{Look, Out, Stop};
 use pj_pattern::{Element, Pattern, Punct};
-use pj_shape::{Column, SmallPlan, SmallStream};
+use pj_plan::Plan;
+use pj_shape::Column;
 use pj_value::{List, NoMemory};
 use std::alloc::Global;
 use std::marker::Model;
 
-/// The core of one stream, or of 2 to 16 streams and a join of them all.
+/// The core of a plan of streams and at most one join of them: of one stream, or of 2 to 16 streams and a join of them all.
 ///
 /// A contract sees its plan, its limit, and what it keeps. It stands for a history of its plan where that is what the
 /// history leaves, and each call takes it from a history to the same with the entry of the call behind it.
 #[derive(Drop)]
 pub struct Core {
     alloc: Global,
-    streams: List<SmallStream>,
+    plan: Plan,
     limit: u64,
     joined: Option<Joined>,
     closed: List<u32>,
@@ -49,25 +51,24 @@ impl Model for Core {
 
     ghost use Rattle.pj_core.specs.Parts.{IsMadeOf, core_of};
 
-    ghost view = { λ c. core_of c.streams c.limit c.joined (reverse c.closed) c.undrained c.stop };
+    ghost view = { λ c. core_of c.plan c.limit c.joined (reverse c.closed) c.undrained c.stop };
 
-    ghost invariant = { λ c. IsMadeOf c.streams c.limit c.joined };
+    ghost invariant = { λ c. IsMadeOf c.plan c.limit c.joined };
 }
 
 impl Core {
     /// A core of this plan, at whose join at most `limit` elements may arrive, from 1 to 2^40. It stands for the empty
     /// history.
-    pub fn new(alloc: Global, plan: SmallPlan, limit: u64) -> Result<Core, NoMemory>
-        requires plan { IsSmallPlan plan }
+    pub fn new(alloc: Global, plan: Plan, limit: u64) -> Result<Core, NoMemory>
+        requires plan { IsRun plan }
         requires limit { (1 ≤ limit) × (limit ≤ 2 ^ 40) }
         ensures { IfOk result (λ core. IsFresh core plan limit) }
     {
         known();
-        let SmallPlan { streams, join } = plan;
-        let joined = new_joined(alloc, streams.len() as u32, join, limit)?;
+        let joined = new_joined(alloc, &plan, limit)?;
         Ok(Core {
             alloc,
-            streams,
+            plan,
             limit,
             joined,
             closed: List::new(alloc),
@@ -81,10 +82,10 @@ impl Core {
     /// `Limit` comes exactly where as many elements as may have arrived at the join and this is one more; `NoMemory`
     /// where memory could not be had. After a stop the core answers the same stop and changes nothing.
     pub fn arrive(&mut self, stream: u32, element: Element) -> Result<(), Stop>
-        requires there { stream < length self.old.plan.streams }
-        requires fits { FitsKinds (kinds_of (columns_of self.old.plan.streams stream)) element }
+        requires there { stream < length (streams_of self.old.plan.nodes) }
+        requires fits { FitsKinds (kinds_of (stream_columns (streams_in self.old.plan.nodes) stream)) element }
         ensures ok { OnOk result (HasArrived self.old self.new (arrival_of (arriving_of stream element))) }
-        ensures err { IfErr result (λ stop. IsRefused self.old.stop self.old self.new stop (IsCause self.old (Arrives stream element) stop)) }
+        ensures err { IfErr result (λ stop. IsRefused self.old.kept.stop self.old self.new stop (IsCause self.old (Arrives stream element) stop)) }
     {
         known();
         match self.stop {
@@ -98,7 +99,7 @@ impl Core {
             ) {
                 Ok(()) => Ok(()),
                 Err(stop) => {
-                    let met = stop_at_join(self.streams.len() as u32, stop);
+                    let met = stop_at_join(self.plan.streams().len() as u32, stop);
                     self.stop = Some(met);
                     Err(met)
                 }
@@ -110,16 +111,16 @@ impl Core {
     ///
     /// The stops are those of an arrival.
     pub fn close_stream(&mut self, stream: u32) -> Result<(), Stop>
-        requires there { stream < length self.old.plan.streams }
+        requires there { stream < length (streams_of self.old.plan.nodes) }
         ensures ok { OnOk result (HasArrived self.old self.new (arrival_of (closing_of self.old stream))) }
-        ensures err { IfErr result (λ stop. IsRefused self.old.stop self.old self.new stop (IsCause self.old (Arrives stream (closing_of self.old stream).element) stop)) }
+        ensures err { IfErr result (λ stop. IsRefused self.old.kept.stop self.old self.new stop (IsCause self.old (Arrives stream (closing_of self.old stream).element) stop)) }
     {
         known();
         match self.stop {
             Some(stop) => Err(stop),
             None => match close(
                 self.alloc,
-                self.streams.as_slice(),
+                columns_at(&self.plan, stream),
                 &mut self.closed,
                 &mut self.joined,
                 &mut self.undrained,
@@ -127,7 +128,7 @@ impl Core {
             ) {
                 Ok(()) => Ok(()),
                 Err(stop) => {
-                    let stop = stop_at_join(self.streams.len() as u32, stop);
+                    let stop = stop_at_join(self.plan.streams().len() as u32, stop);
                     self.stop = Some(stop);
                     Err(stop)
                 }
@@ -139,9 +140,9 @@ impl Core {
     ///
     /// `NoMemory` comes where memory could not be had, any other stop only where it was answered before.
     pub fn take(&mut self) -> Result<Option<Probe>, Stop>
-        ensures on { OnOk result (self.old.stop ≡ None) }
+        ensures on { OnOk result (self.old.kept.stop ≡ None) }
         ensures ok { IfOk result (λ answer. CoreTakes self.old self.new answer) }
-        ensures err { IfErr result (λ stop. IsRefused self.old.stop self.old self.new stop (stop ≡ Stop.NoMemory)) }
+        ensures err { IfErr result (λ stop. IsRefused self.old.kept.stop self.old self.new stop (stop ≡ Stop.NoMemory)) }
     {
         known();
         match self.stop {
@@ -161,10 +162,10 @@ impl Core {
     ///
     /// `NoMemory` comes where memory could not be had, any other stop only where it was answered before.
     pub fn give(&mut self, probe: Probe, found: Found) -> Result<(), Stop>
-        requires open { self.old.stop ≡ None → IsOpen self.old probe }
+        requires open { self.old.kept.stop ≡ None → IsOpen self.old probe }
         requires same { (found.join ≡ probe.join) × (found.ticket ≡ probe.ticket) }
         ensures ok { OnOk result (HasGiven self.old self.new probe found) }
-        ensures err { IfErr result (λ stop. IsRefused self.old.stop self.old self.new stop (stop ≡ Stop.NoMemory)) }
+        ensures err { IfErr result (λ stop. IsRefused self.old.kept.stop self.old self.new stop (stop ≡ Stop.NoMemory)) }
     {
         known();
         match self.stop {
@@ -184,8 +185,8 @@ impl Core {
 
     /// Hands out all that was not drained, in order. It takes no memory, and goes on after a stop.
     pub fn drain(&mut self) -> List<Out>
-        ensures handed { result ≡ self.old.undrained }
-        ensures left { self.new ≡ record self.old { undrained = [] } }
+        ensures handed { result ≡ self.old.kept.undrained }
+        ensures left { self.new ≡ record self.old { kept = record self.old.kept { undrained = [] } } }
         ensures notes { Notes self.old self.new (plain Drains) }
     {
         known();
@@ -195,7 +196,7 @@ impl Core {
 
     // One probe, where one is pending: its ticket is taken and given, and what its work finds is to be drained.
     pub(crate) fn probe_one(&mut self) -> Result<bool, Stop>
-        requires { self.old.stop ≡ None }
+        requires { self.old.kept.stop ≡ None }
         ensures ok { IfOk result (λ more. MayProbe more self.old self.new) }
         ensures err { IfErr result (λ stop. StopsNow self.old self.new stop × (stop ≡ Stop.NoMemory)) }
     {
@@ -222,7 +223,7 @@ impl Core {
         ensures { IsLookAt self.now result }
     {
         known();
-        let streams = self.streams.len() as u32;
+        let streams = self.plan.streams().len() as u32;
         Look {
             pending: pending_in(&self.joined),
             taken: taken_in(&self.joined),
@@ -234,6 +235,13 @@ impl Core {
             halted: false,
             stop: self.stop,
         }
+    }
+
+    /// Its plan.
+    pub fn plan(&self) -> &Plan
+        ensures { result.now ≡ self.now.plan }
+    {
+        &self.plan
     }
 
     /// The greatest number of tuples that was stored at the join, which is the node of this number, after any entry so
@@ -256,25 +264,35 @@ fn stop_at_join(streams: u32, stop: JoinStop) -> Stop
     }
 }
 
-// Marks the stream as closed, and hands a punctuation of wildcards alone to the join; where there is none it is handed out.
+// The columns of a stream, by its number among the streams.
+#[tactic(auto, using(crate::proofs::Streams::number_below, crate::proofs::Streams::columns_there))]
+pub(crate) fn columns_at(plan: &Plan, stream: u32) -> &[Column]
+    requires { stream < length (streams_of plan.now.nodes) }
+    ensures { result.now ≡ stream_columns (streams_in plan.now.nodes) stream }
+{
+    let node = plan.streams()[stream as usize];
+    plan.schema(node).columns()
+}
+
+// Marks the stream of these columns as closed, and hands a punctuation of wildcards alone to the join; where there is none it
+// is handed out.
 fn close(
     alloc: Global,
-    streams: &[SmallStream],
+    columns: &[Column],
     closed: &mut List<u32>,
     joined: &mut Option<Joined>,
     outs: &mut List<Out>,
     stream: u32,
 ) -> Result<(), JoinStop>
-    requires there { stream < length streams.now }
-    requires fits { FitsAny joined.old stream (PunctOf (all_wild (length (columns_of streams.now stream)))) }
+    requires fits { FitsAny joined.old stream (PunctOf (all_wild (length columns.now))) }
     ensures closed { OnOk result (closed.new ≡ closed.old ++ stream ∷ []) }
-    ensures joined { OnOk result (joined.new ≡ any_entered joined.old stream (PunctOf (all_wild (length (columns_of streams.now stream))))) }
-    ensures outs { OnOk result (outs.new ≡ outs_after (join_in joined.old) outs.old (PunctOf (all_wild (length (columns_of streams.now stream))))) }
+    ensures joined { OnOk result (joined.new ≡ any_entered joined.old stream (PunctOf (all_wild (length columns.now)))) }
+    ensures outs { OnOk result (outs.new ≡ outs_after (join_in joined.old) outs.old (PunctOf (all_wild (length columns.now)))) }
     ensures room { OnOk result (HasRoom joined.old) }
     ensures full { IsErrOf result JoinStop.Limit → IsFull joined.old }
     ensures refused { OnErr result ((joined.new ≡ joined.old) × (outs.new ≡ outs.old)) }
 {
-    match mark(alloc, &streams[stream as usize], closed, stream) {
+    match mark(alloc, columns, closed, stream) {
         Ok(punct) => enter(alloc, joined, outs, stream, Element::Punct(punct)),
         Err(NoMemory) => Err(JoinStop::NoMemory),
     }
@@ -283,14 +301,14 @@ fn close(
 // Marks the stream as closed, and gives a punctuation with a wildcard for each of its columns.
 fn mark(
     alloc: Global,
-    shape: &SmallStream,
+    columns: &[Column],
     closed: &mut List<u32>,
     stream: u32,
 ) -> Result<Punct, NoMemory>
-    ensures punct { IfOk result (λ punct. punct ≡ all_wild (length shape.now.schema)) }
+    ensures punct { IfOk result (λ punct. punct ≡ all_wild (length columns.now)) }
     ensures closed { OnOk result (closed.new ≡ closed.old ++ stream ∷ []) }
 {
-    let punct = wild_for(alloc, shape.schema.columns())?;
+    let punct = wild_for(alloc, columns)?;
     closed.push(stream)?;
     Ok(punct)
 }

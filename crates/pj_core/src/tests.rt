@@ -1,81 +1,179 @@
 // What no clause says: that the calls succeed with ample memory, and what they give on runs by hand.
-ghost use Rattle.std.specs.Prelude.{◌≡◌, ◌<◌, ◌≤◌, ◌^◌, [], ◌∷◌, IfOk, OnOk, pos};
-ghost use Rattle.pj_core.specs.Sample.{at, equal, equal_of_three, lone, number, numbers, sample, three};
+ghost use Rattle.std.specs.Prelude.{◌≡◌, ◌<◌, ◌≤◌, ◌^◌, [], ◌∷◌, None, true, map, length, IfOk, IsTrue};
+ghost use Rattle.pj_value.specs.declared.values.Kind.TheVariants.{Int as IntKind};
+ghost use Rattle.pj_shape.specs.Columns.{kinds_of};
+ghost use Rattle.pj_plan.specs.Names.{AreSpelled, are_inputs, is_class, is_column_name, is_name, is_spelled};
+ghost use Rattle.pj_plan.specs.Laws.{what_of};
+ghost use Rattle.pj_plan.specs.Nodes.{streams_of};
+ghost use Rattle.pj_core.specs.Calls.{IsOpen};
+ghost use Rattle.pj_core.specs.Plans.{are_run, stream_columns, streams_in};
 
 use super::*;
+use crate::running::columns_at;
 use pj_pattern::Element;
-use pj_shape::{ClassCol, Column, JoinSpec, Schema, SmallJoin, SmallPlan, SmallStream};
-use pj_value::{Kind, List, NoMemory, Row, Value};
+use pj_plan::{ColumnWord, Plan, Stated, Statement};
+use pj_shape::Column;
+use pj_value::{Bytes, Kind, List, NoMemory, Row, Value};
 use std::alloc::Global;
-use std::test::Fail;
 
-fn schema(alloc: Global) -> Result<Schema, NoMemory>
-    ensures { IfOk result (λ s. s ≡ number ∷ []) }
+// ---- plans
+
+// A stream of one number, which has the stream's name.
+fn stream(alloc: Global, name: &[u8]) -> Result<Stated, NoMemory>
+    requires name { is_name name.now ≡ true }
+    requires column { is_column_name name.now ≡ true }
+    ensures { IfOk result (λ stated. is_spelled stated.what ≡ true) }
 {
     let mut columns = List::new(alloc);
-    columns.push(Column {
-        name: List::copy_of(alloc, b"n")?,
+    columns.push(ColumnWord {
+        name: List::copy_of(alloc, name)?,
         kind: Kind::Int,
     })?;
-    Ok(Schema::of(columns))
-}
-
-fn stream(alloc: Global) -> Result<SmallStream, NoMemory>
-    ensures { IfOk result (λ s. s ≡ numbers) }
-{
-    Ok(SmallStream {
-        name: List::copy_of(alloc, b"n")?,
-        schema: schema(alloc)?,
-        schemes: List::new(alloc),
+    let name = List::copy_of(alloc, name)?;
+    Ok(Stated {
+        line: 1,
+        what: Statement::Stream { name, columns },
     })
 }
 
-fn spec(alloc: Global) -> Result<JoinSpec, NoMemory>
-    ensures { IfOk result (λ s. s ≡ equal) }
+fn two_names(alloc: Global, first: &[u8], second: &[u8]) -> Result<List<Bytes>, NoMemory>
+    ensures { IfOk result (λ names. names ≡ first.now ∷ second.now ∷ []) }
 {
-    let mut class = List::new(alloc);
-    class.push(ClassCol {
-        input: 0,
-        column: 0,
-    })?;
-    class.push(ClassCol {
-        input: 1,
-        column: 0,
-    })?;
+    let mut names = List::new(alloc);
+    names.push(List::copy_of(alloc, first)?)?;
+    names.push(List::copy_of(alloc, second)?)?;
+    Ok(names)
+}
+
+// The join `j` of these inputs, in which the numbers of this class are equal.
+fn join(alloc: Global, inputs: List<Bytes>, class: List<Bytes>) -> Result<Stated, NoMemory>
+    requires inputs { are_inputs inputs ≡ true }
+    requires class { is_class class ≡ true }
+    ensures { IfOk result (λ stated. is_spelled stated.what ≡ true) }
+{
     let mut classes = List::new(alloc);
     classes.push(class)?;
-    let mut inputs = List::new(alloc);
-    inputs.push(schema(alloc)?)?;
-    inputs.push(schema(alloc)?)?;
-    Ok(JoinSpec { inputs, classes })
-}
-
-fn plan(alloc: Global) -> Result<SmallPlan, NoMemory>
-    ensures { IfOk result (λ p. p ≡ sample) }
-{
-    let mut streams = List::new(alloc);
-    streams.push(stream(alloc)?)?;
-    streams.push(stream(alloc)?)?;
-    let mut inputs = List::new(alloc);
-    inputs.push(1)?;
-    inputs.push(0)?;
-    Ok(SmallPlan {
-        streams,
-        join: Some(SmallJoin {
-            name: List::copy_of(alloc, b"n")?,
+    let name = List::copy_of(alloc, b"j")?;
+    Ok(Stated {
+        line: 1,
+        what: Statement::Join {
+            name,
             inputs,
-            spec: spec(alloc)?,
-        }),
+            classes,
+        },
     })
 }
 
-#[tactic(auto, using(crate::proofs::Samples::sample_small))]
-fn core_of(alloc: Global, limit: u64) -> Result<Core, NoMemory>
-    requires { (1 ≤ limit) × (limit ≤ 2 ^ 40) }
-    ensures { IfOk result (λ core. core.plan ≡ sample) }
+fn output(alloc: Global, name: &[u8]) -> Result<Stated, NoMemory>
+    requires { is_name name.now ≡ true }
+    ensures { IfOk result (λ stated. is_spelled stated.what ≡ true) }
 {
-    let plan = plan(alloc)?;
-    Core::new(alloc, plan, limit)
+    Ok(Stated {
+        line: 1,
+        what: Statement::Output {
+            name: List::copy_of(alloc, name)?,
+        },
+    })
+}
+
+// The version, and the stream `a`.
+fn begun(alloc: Global) -> Result<List<Stated>, NoMemory>
+    ensures { IfOk result (λ statements. AreSpelled (map what_of statements)) }
+{
+    let mut statements = List::new(alloc);
+    statements.push(Stated {
+        line: 1,
+        what: Statement::Plan { version: 1 },
+    })?;
+    statements.push(stream(alloc, b"a")?)?;
+    Ok(statements)
+}
+
+fn lone(alloc: Global) -> Result<List<Stated>, NoMemory>
+    ensures { IfOk result (λ statements. AreSpelled (map what_of statements)) }
+{
+    let mut statements = begun(alloc)?;
+    statements.push(output(alloc, b"a")?)?;
+    Ok(statements)
+}
+
+// The first input of the join is the second stream.
+fn two(alloc: Global) -> Result<List<Stated>, NoMemory>
+    ensures { IfOk result (λ statements. AreSpelled (map what_of statements)) }
+{
+    let inputs = two_names(alloc, b"b", b"a")?;
+    let class = two_names(alloc, b"b", b"a")?;
+    let mut statements = begun(alloc)?;
+    statements.push(stream(alloc, b"b")?)?;
+    statements.push(join(alloc, inputs, class)?)?;
+    statements.push(output(alloc, b"j")?)?;
+    Ok(statements)
+}
+
+// The inputs of the join are the third stream, the first and the second; the class is of the first two of them.
+fn three(alloc: Global) -> Result<List<Stated>, NoMemory>
+    ensures { IfOk result (λ statements. AreSpelled (map what_of statements)) }
+{
+    let mut inputs = two_names(alloc, b"c", b"a")?;
+    inputs.push(List::copy_of(alloc, b"b")?)?;
+    let class = two_names(alloc, b"c", b"a")?;
+    let mut statements = begun(alloc)?;
+    statements.push(stream(alloc, b"b")?)?;
+    statements.push(stream(alloc, b"c")?)?;
+    statements.push(join(alloc, inputs, class)?)?;
+    statements.push(output(alloc, b"j")?)?;
+    Ok(statements)
+}
+
+// ---- cores
+
+fn is_run(plan: &Plan) -> bool
+    ensures { result ≡ are_run plan.now.nodes }
+{
+    let streams = plan.streams().len();
+    let joins = plan.joins().len();
+    joins <= 1 && streams + joins == plan.nodes() as usize
+}
+
+fn core_of(alloc: Global, plan: Plan, limit: u64) -> Option<Core>
+    requires { (1 ≤ limit) × (limit ≤ 2 ^ 40) }
+{
+    if is_run(&plan) {
+        Core::new(alloc, plan, limit).ok()
+    } else {
+        None
+    }
+}
+
+// The core of the plan that these statements make, where there is one.
+fn core_over(alloc: Global, statements: Result<List<Stated>, NoMemory>, limit: u64) -> Option<Core>
+    requires spelled { IfOk statements (λ stated. AreSpelled (map what_of stated)) }
+    requires limit { (1 ≤ limit) × (limit ≤ 2 ^ 40) }
+{
+    match statements {
+        Ok(statements) => match Plan::build(alloc, statements.as_slice(), 9) {
+            Ok(plan) => core_of(alloc, plan, limit),
+            Err(_) => None,
+        },
+        Err(NoMemory) => None,
+    }
+}
+
+fn is_number(columns: &[Column]) -> bool
+    ensures { IsTrue result → kinds_of columns.now ≡ IntKind ∷ [] }
+{
+    columns.len() == 1 && columns[0].kind == Kind::Int
+}
+
+fn takes_a_number(plan: &Plan, stream: u32) -> bool
+    ensures there { IsTrue result → stream < length (streams_of plan.now.nodes) }
+    ensures fits { IsTrue result → kinds_of (stream_columns (streams_in plan.now.nodes) stream) ≡ IntKind ∷ [] }
+{
+    if (stream as usize) < plan.streams().len() {
+        is_number(columns_at(plan, stream))
+    } else {
+        false
+    }
 }
 
 fn row(alloc: Global, n: i64) -> Result<Row, NoMemory>
@@ -86,16 +184,7 @@ fn row(alloc: Global, n: i64) -> Result<Row, NoMemory>
     Ok(Row::of(values))
 }
 
-// A turn that brings a number to a stream.
-#[tactic(auto, using(crate::proofs::Samples::refused_plan, crate::proofs::Samples::fits_sample, crate::proofs::Samples::there_sample))]
-fn bring(core: &mut Core, stream: u32, row: Row) -> Result<List<Out>, Stop>
-    requires plan { core.old.plan ≡ sample }
-    requires stream { stream < 2 }
-    requires row { row ≡ Value.Int (pos 0) ∷ [] }
-    ensures { core.new.plan ≡ sample }
-{
-    core.turn(stream, Element::Tuple(row))
-}
+// ---- turns
 
 // How many outputs a turn gave; where a limit stopped it, less than 0 by the number of the node.
 fn count_of(given: Result<List<Out>, Stop>) -> i64 {
@@ -106,110 +195,105 @@ fn count_of(given: Result<List<Out>, Stop>) -> i64 {
     }
 }
 
-// The counts of five turns, by the two streams in turn.
-fn counts_of(alloc: Global, core: &mut Core) -> Result<Vec<i64>, NoMemory>
-    requires { core.old.plan ≡ sample }
-{
-    let mut counts = Vec::new(alloc);
+// What the turn gave that brought a number to a stream.
+fn bring(alloc: Global, core: &mut Core, stream: u32, n: i64) -> i64 {
+    if takes_a_number(core.plan(), stream) {
+        match row(alloc, n) {
+            Ok(row) => count_of(core.turn(stream, Element::Tuple(row))),
+            Err(NoMemory) => -99,
+        }
+    } else {
+        -98
+    }
+}
+
+// What five turns gave; a turn is the stream and the number that it brings.
+fn bring_all(alloc: Global, core: &mut Core, turns: [(u32, i64); 5]) -> [i64; 5] {
+    let mut counts = [0; 5];
     for turn in 0..5 {
-        let row = row(alloc, 0)?;
-        let given = bring(core, turn % 2, row);
-        counts.push(count_of(given))?;
+        let (stream, n) = turns[turn];
+        counts[turn] = bring(alloc, core, stream, n);
     }
-    Ok(counts)
+    counts
 }
 
 #[test]
-fn the_limit_stops_the_fourth_arrival(rt: HostRuntime) -> Result<(), Fail> {
+fn the_limit_stops_the_fourth_arrival(rt: HostRuntime) {
     let alloc = rt.alloc();
-    let mut core = core_of(alloc, 3)?;
-    let counts = counts_of(alloc, &mut core)?;
-    assert_eq!(rt; counts.as_slice(), [0, 1, 1, -2, -2].as_slice());
-    assert_eq!(rt; core.look().stop, Some(Stop::Limit { node: 2 }));
-    Ok(())
-}
-
-fn spec_of_three(alloc: Global) -> Result<JoinSpec, NoMemory>
-    ensures { IfOk result (λ s. s ≡ equal_of_three) }
-{
-    let JoinSpec {
-        mut inputs,
-        classes,
-    } = spec(alloc)?;
-    inputs.push(schema(alloc)?)?;
-    Ok(JoinSpec { inputs, classes })
-}
-
-fn plan_of_three(alloc: Global) -> Result<SmallPlan, NoMemory>
-    ensures { IfOk result (λ p. p ≡ three) }
-{
-    let mut streams = List::new(alloc);
-    streams.push(stream(alloc)?)?;
-    streams.push(stream(alloc)?)?;
-    streams.push(stream(alloc)?)?;
-    let mut inputs = List::new(alloc);
-    inputs.push(2)?;
-    inputs.push(0)?;
-    inputs.push(1)?;
-    Ok(SmallPlan {
-        streams,
-        join: Some(SmallJoin {
-            name: List::copy_of(alloc, b"n")?,
-            inputs,
-            spec: spec_of_three(alloc)?,
-        }),
-    })
-}
-
-#[tactic(auto, using(crate::proofs::Samples::three_small))]
-fn core_of_three(alloc: Global, limit: u64) -> Result<Core, NoMemory>
-    requires { (1 ≤ limit) × (limit ≤ 2 ^ 40) }
-    ensures { IfOk result (λ core. core.plan ≡ three) }
-{
-    let plan = plan_of_three(alloc)?;
-    Core::new(alloc, plan, limit)
-}
-
-// How many outputs the turn gave that brought a number to a stream.
-#[tactic(auto, using(crate::proofs::Samples::refused_plan, crate::proofs::Samples::fits_three, crate::proofs::Samples::there_three))]
-fn bring_number(alloc: Global, core: &mut Core, stream: u32, n: i64) -> i64
-    requires plan { core.old.plan ≡ three }
-    requires stream { stream < 3 }
-    ensures { core.new.plan ≡ three }
-{
-    match row(alloc, n) {
-        Ok(row) => count_of(core.turn(stream, Element::Tuple(row))),
-        Err(NoMemory) => -99,
+    match core_over(alloc, two(alloc), 3) {
+        Some(mut core) => {
+            let counts = bring_all(alloc, &mut core, [(0, 0), (1, 0), (0, 0), (1, 0), (0, 0)]);
+            assert_eq!(rt; counts, [0, 1, 1, -2, -2]);
+            assert_eq!(rt; core.look().stop, Some(Stop::Limit { node: 2 }));
+        }
+        None => assert!(rt; false),
     }
 }
 
-// The class is of the third stream and the first; the fourth arrival meets the limit, the fifth goes beyond it.
+// The fourth arrival meets the limit, the fifth goes beyond it.
 #[test]
-fn three_streams_join_in_the_order_of_the_inputs(rt: HostRuntime) -> Result<(), Fail> {
+fn three_streams_join_in_the_order_of_the_inputs(rt: HostRuntime) {
     let alloc = rt.alloc();
-    let mut core = core_of_three(alloc, 4)?;
-    let first = bring_number(alloc, &mut core, 0, 0);
-    let second = bring_number(alloc, &mut core, 1, 5);
-    let third = bring_number(alloc, &mut core, 2, 0);
-    let fourth = bring_number(alloc, &mut core, 1, 6);
-    let fifth = bring_number(alloc, &mut core, 0, 0);
-    assert_eq!(rt; [first, second, third, fourth, fifth], [0, 0, 1, 1, -3]);
-    assert_eq!(rt; core.look().stop, Some(Stop::Limit { node: 3 }));
-    Ok(())
+    match core_over(alloc, three(alloc), 4) {
+        Some(mut core) => {
+            let counts = bring_all(alloc, &mut core, [(0, 0), (1, 5), (2, 0), (1, 6), (0, 0)]);
+            assert_eq!(rt; counts, [0, 0, 1, 1, -3]);
+            assert_eq!(rt; core.look().stop, Some(Stop::Limit { node: 3 }));
+        }
+        None => assert!(rt; false),
+    }
 }
 
-// A core of one stream and no join.
-#[tactic(auto, using(crate::proofs::Samples::lone_small))]
-fn lone_core(alloc: Global) -> Result<Core, NoMemory>
-    ensures { IfOk result (λ core. core.plan ≡ lone) }
+// ---- calls one by one
+
+// Whether a number has arrived at a stream.
+fn arrives(alloc: Global, core: &mut Core, stream: u32, n: i64) -> bool {
+    if takes_a_number(core.plan(), stream) {
+        match row(alloc, n) {
+            Ok(row) => core.arrive(stream, Element::Tuple(row)).is_ok(),
+            Err(NoMemory) => false,
+        }
+    } else {
+        false
+    }
+}
+
+// How many rows the work of the probe finds, which are handed out.
+fn give_back(alloc: Global, core: &mut Core, probe: Probe) -> i64
+    requires { core.old.kept.stop ≡ None → IsOpen core.old probe }
 {
-    let mut streams = List::new(alloc);
-    streams.push(stream(alloc)?)?;
-    let plan = SmallPlan {
-        streams,
-        join: None,
-    };
-    Core::new(alloc, plan, 1)
+    match probe.work(alloc) {
+        Ok(found) => match core.give(probe, found) {
+            Ok(()) => core.drain().len() as i64,
+            Err(_) => -6,
+        },
+        Err(NoMemory) => -7,
+    }
+}
+
+// How many rows the next probe hands out, and -1 where none is pending.
+fn give_next(alloc: Global, core: &mut Core) -> i64 {
+    match core.take() {
+        Ok(Some(probe)) => give_back(alloc, core, probe),
+        Ok(None) => -1,
+        Err(_) => -5,
+    }
+}
+
+#[test]
+fn probes_are_taken_and_given_one_by_one(rt: HostRuntime) {
+    let alloc = rt.alloc();
+    match core_over(alloc, two(alloc), 3) {
+        Some(mut core) => {
+            let came = arrives(alloc, &mut core, 0, 4) && arrives(alloc, &mut core, 1, 4);
+            let first = give_next(alloc, &mut core);
+            let second = give_next(alloc, &mut core);
+            let third = give_next(alloc, &mut core);
+            assert!(rt; came);
+            assert_eq!(rt; [first, second, third], [0, 1, -1]);
+        }
+        None => assert!(rt; false),
+    }
 }
 
 // The number of a row, and -1 for a punctuation.
@@ -232,38 +316,30 @@ fn first_of(outs: &List<Out>) -> i64 {
     }
 }
 
-// What is handed out first where a number arrives.
-#[tactic(auto, using(crate::proofs::Samples::fits_lone, crate::proofs::Samples::there_lone))]
-fn first_handed(core: &mut Core, row: Row) -> i64
-    requires plan { core.old.plan ≡ lone }
-    requires row { row ≡ Value.Int (pos 7) ∷ [] }
-    ensures { core.new.plan ≡ lone }
-{
-    match core.arrive(0, Element::Tuple(row)) {
-        Ok(()) => first_of(&core.drain()),
-        Err(_) => -6,
-    }
-}
-
 // What is handed out first where the stream is closed.
-#[tactic(auto, using(crate::proofs::Samples::there_lone))]
-fn first_closed(core: &mut Core) -> i64
-    requires { core.old.plan ≡ lone }
-{
-    match core.closing_turn(0) {
-        Ok(outs) => first_of(&outs),
-        Err(_) => -6,
+fn first_closed(core: &mut Core, stream: u32) -> i64 {
+    if (stream as usize) < core.plan().streams().len() {
+        match core.closing_turn(stream) {
+            Ok(outs) => first_of(&outs),
+            Err(_) => -6,
+        }
+    } else {
+        -7
     }
 }
 
 #[test]
-fn a_lone_stream_hands_out_its_elements(rt: HostRuntime) -> Result<(), Fail> {
+fn a_lone_stream_hands_out_its_elements(rt: HostRuntime) {
     let alloc = rt.alloc();
-    let row = row(alloc, 7)?;
-    let mut core = lone_core(alloc)?;
-    let handed = first_handed(&mut core, row);
-    let closed = first_closed(&mut core);
-    assert_eq!(rt; [handed, closed], [7, -1]);
-    assert_eq!(rt; core.look().ended, 1);
-    Ok(())
+    match core_over(alloc, lone(alloc), 1) {
+        Some(mut core) => {
+            let came = arrives(alloc, &mut core, 0, 7);
+            let handed = first_of(&core.drain());
+            let closed = first_closed(&mut core, 0);
+            assert!(rt; came);
+            assert_eq!(rt; [handed, closed], [7, -1]);
+            assert_eq!(rt; core.look().ended, 1);
+        }
+        None => assert!(rt; false),
+    }
 }

@@ -1,16 +1,19 @@
 use Rattle.std.proofs.Common.{refl, reverse}
-use Rattle.pj_core.proofs.Words.{gave, refused-again, refused-now}
+use Rattle.pj_core.proofs.Words.{gave, refused-again, refused-now, taken-now}
 use Rattle.pj_core.proofs.running.Core.give.Goals as goal
 
+pub give_to-requires : goal.give_to-requires
+give_to-requires c = taken-now c.known.ensures c.self.inside.plan c.self.inside.limit c.self.inside.joined (reverse c.self.inside.closed) c.self.inside.undrained c.self.inside.stop c.args.self.now c.self.view_is c.self.invariant c.in-None.is c.args.probe c.requires.open
+
 pub returns-in-Some-clause-err : goal.returns-in-Some-clause-err
-returns-in-Some-clause-err c = refused-again c.known.ensures c.self.inside.streams c.self.inside.limit c.self.inside.joined (reverse c.self.inside.closed) c.self.inside.undrained c.self.inside.stop c.args.self.now c.self.view_is c.self.invariant c.in-Some.stop _ c.in-Some.is
+returns-in-Some-clause-err c = refused-again c.known.ensures c.self.inside.plan c.self.inside.limit c.self.inside.joined (reverse c.self.inside.closed) c.self.inside.undrained c.self.inside.stop c.args.self.now c.self.view_is c.self.invariant c.in-Some.stop _ c.in-Some.is
 
 pub returns-in-Ok-clause-ok : goal.returns-in-Ok-clause-ok
 returns-in-Ok-clause-ok c =
-    gave c.known.ensures c.self.inside.streams c.self.inside.limit c.self.inside.joined (reverse c.self.inside.closed) c.self.inside.undrained c.self.inside.stop c.args.self.now c.self.view_is c.self.invariant
+    gave c.known.ensures c.self.inside.plan c.self.inside.limit c.self.inside.joined (reverse c.self.inside.closed) c.self.inside.undrained c.self.inside.stop c.args.self.now c.self.view_is c.self.invariant
     c.in-None.is c.args.probe c.args.found c.give_to.new.joined c.hand_out_rows.new.outs c.requires.open c.give_to.ensures c.in-Ok.ensures.ok
 
 pub returns-in-Err-clause-err : goal.returns-in-Err-clause-err
 returns-in-Err-clause-err c =
-    refused-now c.known.ensures c.self.inside.streams c.self.inside.limit c.self.inside.joined (reverse c.self.inside.closed) c.self.inside.undrained c.self.inside.stop c.args.self.now c.self.view_is c.self.invariant
-    c.self.inside.joined _ c.hand_out_rows.new.outs _ _ c.in-None.is refl c.in-Err.ensures.err refl
+    refused-now c.known.ensures c.self.inside.plan c.self.inside.limit c.self.inside.joined (reverse c.self.inside.closed) c.self.inside.undrained c.self.inside.stop c.args.self.now c.self.view_is c.self.invariant
+    c.self.inside.joined _ c.hand_out_rows.new.outs _ _ c.in-None.is c.in-Err.ensures.err refl

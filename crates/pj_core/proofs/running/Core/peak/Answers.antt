@@ -4,5 +4,5 @@ use Rattle.pj_core.proofs.running.Core.peak.Goals as goal
 
 pub returns : goal.returns
 returns c =
-    peaked c.self.inside.streams c.self.inside.limit c.self.inside.joined (reverse c.self.inside.closed) c.self.inside.undrained c.self.inside.stop c.args.self.now c.self.view_is c.self.invariant
+    peaked c.self.inside.plan c.self.inside.limit c.self.inside.joined (reverse c.self.inside.closed) c.self.inside.undrained c.self.inside.stop c.args.self.now c.self.view_is c.self.invariant
     c.args.join c.peak_in.result c.requires c.peak_in.ensures
