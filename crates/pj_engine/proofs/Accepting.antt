@@ -1,49 +1,54 @@
 -- The accepted elements of the streams of a plan.
-use Rattle.std.proofs.Common.{◌≡◌, ℕ, zero, suc, ◌+◌, ◌<◌, List, [], ◌∷◌, ◌++◌, length, map, get_or, Option, Some, None, refl, ap, sym, ◌∙◌, subst, arith, zero-add}
+use Rattle.std.proofs.Common.{◌≡◌, ℕ, zero, suc, ◌<◌, true, List, [], ◌∷◌, length, get_or, refl, ap, sym, ◌∙◌, subst, arith, zero-add}
+use Rattle.std.proofs.lemmas.Bool.{false≢true}
+use Rattle.std.proofs.lemmas.List.{get_or-map}
 use Rattle.pj_shape.specs.declared.columns.Column.{Column}
-use Rattle.pj_shape.specs.declared.plans.SmallPlan.{SmallPlan}
-use Rattle.pj_shape.specs.declared.plans.SmallStream.{SmallStream}
-use Rattle.pj_shape.specs.declared.plans.SmallJoin.{SmallJoin}
-use Rattle.pj_laws.specs.Plan.{Node, operator_at}
-use Rattle.pj_laws.specs.History.{streams_from, streams_of}
+use Rattle.pj_plan.specs.declared.node.Node.{Node as Operation}
+use Rattle.pj_plan.specs.declared.node.Node.TheVariants.{Stream as StreamNode, Select as SelectNode, Project as ProjectNode, Union as UnionNode, Join as JoinNode, Group as GroupNode}
+use Rattle.pj_plan.specs.declared.node.Outline.{Outline}
+use Rattle.pj_plan.specs.declared.node.PlanNode.{PlanNode}
+use Rattle.pj_plan.specs.Nodes.{is_stream, streams_of as numbers_of}
+use Rattle.pj_plan.specs.Canonical.{no_node}
+use Rattle.pj_laws.specs.Plan.{Node, nowhere, operator_at}
+use Rattle.pj_laws.specs.History.{streams_of}
 use Rattle.pj_laws.specs.OneThread.{schema_of}
 use Rattle.pj_laws.specs.HistoryLaws.{AreAccepted, AreAcceptedLists}
-use Rattle.pj_laws.specs.CoreKept.{stream_of, joins_of, nodes_of, columns_of}
+use Rattle.pj_core.specs.Plans.{node_of, nodes_of, operator_of, schema_in, stream_columns, streams_in}
 use Rattle.pj_engine.specs.Runs.{accepted_of}
 use Rattle.pj_engine.proofs.AcceptedLaws.{accepted_file}
+use Rattle.pj_engine.proofs.StreamNodes.{IsStreamAt, count_numbers, same-numbers, stream-at}
 
 -- ---- the streams of a plan
 
-abbrev plan_nodes : List SmallStream → Option SmallJoin → List Node
-plan_nodes streams join = map stream_of streams ++ joins_of join
+pub count-streams : (plan : Outline) → length (streams_of (nodes_of plan)) ≡ length (streams_in plan.nodes)
+count-streams plan = ap length (same-numbers plan) ∙ count_numbers plan.nodes
 
-count-from : (n : ℕ) (streams : List SmallStream) (join : Option SmallJoin) → length (streams_from n (plan_nodes streams join)) ≡ length streams
-count-from n [] None = refl
-count-from n [] (Some join) = refl
-count-from n (s ∷ streams) join = ap suc (count-from (n + 1) streams join)
-
-pub count-streams : (plan : SmallPlan) → length (streams_of (nodes_of plan)) ≡ length plan.streams
-count-streams plan = count-from 0 plan.streams plan.join
-
-number-from : (n k d : ℕ) (streams : List SmallStream) (join : Option SmallJoin) → k < length streams → get_or (streams_from n (plan_nodes streams join)) k d ≡ n + k
-number-from n k d [] join lt = absurd (omega arith)
-number-from n zero d (s ∷ streams) join lt = omega arith
-number-from n (suc k) d (s ∷ streams) join lt = let z : n + 1 + k ≡ n + suc k = omega arith in number-from (n + 1) k d streams join (omega arith) ∙ z
-
-schema-from : (k : ℕ) (streams : List SmallStream) (join : Option SmallJoin) → k < length streams → schema_of (operator_at (plan_nodes streams join) k) ≡ columns_of streams k
-schema-from k [] join lt = absurd (omega arith)
-schema-from zero (s ∷ streams) join lt = refl
-schema-from (suc k) (s ∷ streams) join lt = schema-from k streams join (omega arith)
+stream-columns : (schema : List Column) (operation : Operation) → is_stream operation ≡ true → schema_of (operator_of schema operation) ≡ schema
+stream-columns schema (StreamNode schemes) t = refl
+stream-columns schema (SelectNode input test) t = absurd (false≢true t)
+stream-columns schema (ProjectNode input columns) t = absurd (false≢true t)
+stream-columns schema (UnionNode inputs) t = absurd (false≢true t)
+stream-columns schema (JoinNode inputs spec) t = absurd (false≢true t)
+stream-columns schema (GroupNode input spec) t = absurd (false≢true t)
 
 -- the columns of a stream of the plan
-pub schema-is : (plan : SmallPlan) (k d : ℕ) → k < length plan.streams → schema_of (operator_at (nodes_of plan) (get_or (streams_of (nodes_of plan)) k d)) ≡ columns_of plan.streams k
+pub schema-is : (plan : Outline) (k d : ℕ) → k < length (streams_in plan.nodes) → schema_of (operator_at (nodes_of plan) (get_or (streams_of (nodes_of plan)) k d)) ≡ stream_columns (streams_in plan.nodes) k
 schema-is plan k d lt =
-    ap (λ (n : ℕ). schema_of (operator_at (nodes_of plan) n)) (number-from 0 k d plan.streams plan.join lt ∙ zero-add k)
-    ∙ schema-from k plan.streams plan.join lt
+    ap (λ (ns : List ℕ). schema_of (operator_at (nodes_of plan) (get_or ns k d))) (same-numbers plan)
+    ∙ (ap (λ (n : ℕ). schema_of (operator_at (nodes_of plan) n)) (here.at ∙ zero-add here.place)
+    ∙ (ap (λ (x : Node). schema_of x.operator) (get_or-map node_of plan.nodes here.place no_node nowhere here.there ∙ ap node_of here.is)
+    ∙ (stream-columns stream.schema stream.node here.stream
+    ∙ sym (get_or-map schema_in (streams_in plan.nodes) k no_node [] lt))))
+  where
+    stream : PlanNode
+    stream = get_or (streams_in plan.nodes) k no_node
+
+    here : IsStreamAt 0 plan.nodes (get_or (numbers_of plan.nodes) k d) stream
+    here = stream-at plan.nodes k d lt
 
 -- ---- their accepted elements
 
-count-accepted : (streams : List SmallStream) (files : List (List ℕ)) → length (accepted_of streams files) ≡ length streams
+count-accepted : (streams : List PlanNode) (files : List (List ℕ)) → length (accepted_of streams files) ≡ length streams
 count-accepted [] files = refl
 count-accepted (s ∷ streams) [] = ap suc (count-accepted streams [])
 count-accepted (s ∷ streams) (bytes ∷ files) = ap suc (count-accepted streams files)
@@ -51,7 +56,7 @@ count-accepted (s ∷ streams) (bytes ∷ files) = ap suc (count-accepted stream
 none-accepted : (ks : List Column) → AreAccepted ks []
 none-accepted ks = (λ e h. absurd h, tt)
 
-accepted-from : (k : ℕ) (streams : List SmallStream) (files : List (List ℕ)) → k < length streams → AreAccepted (columns_of streams k) (get_or (accepted_of streams files) k [])
+accepted-from : (k : ℕ) (streams : List PlanNode) (files : List (List ℕ)) → k < length streams → AreAccepted (stream_columns streams k) (get_or (accepted_of streams files) k [])
 accepted-from k [] files lt = absurd (omega arith)
 accepted-from zero (s ∷ streams) [] lt = none-accepted s.schema
 accepted-from zero (s ∷ streams) (bytes ∷ files) lt = accepted_file s.schema bytes
@@ -59,9 +64,9 @@ accepted-from (suc k) (s ∷ streams) [] lt = accepted-from k streams [] (omega 
 accepted-from (suc k) (s ∷ streams) (bytes ∷ files) lt = accepted-from k streams files (omega arith)
 
 -- the lists of accepted elements are accepted by the plan's streams
-pub accepted_lists : (plan : SmallPlan) (files : List (List ℕ)) → AreAcceptedLists (nodes_of plan) (accepted_of plan.streams files)
+pub accepted_lists : (plan : Outline) (files : List (List ℕ)) → AreAcceptedLists (nodes_of plan) (accepted_of (streams_in plan.nodes) files)
 accepted_lists plan files = (
-  count-accepted plan.streams files ∙ sym (count-streams plan),
-  λ k lt. let there : k < length plan.streams = omega (arith, lt, count-streams plan) in
-      subst (λ (ks : List Column). AreAccepted ks (get_or (accepted_of plan.streams files) k [])) (sym (schema-is plan k (length (nodes_of plan)) there)) (accepted-from k plan.streams files there),
+  count-accepted (streams_in plan.nodes) files ∙ sym (count-streams plan),
+  λ k lt. let there : k < length (streams_in plan.nodes) = omega (arith, lt, count-streams plan) in
+      subst (λ (ks : List Column). AreAccepted ks (get_or (accepted_of (streams_in plan.nodes) files) k [])) (sym (schema-is plan k (length (nodes_of plan)) there)) (accepted-from k (streams_in plan.nodes) files there),
 )

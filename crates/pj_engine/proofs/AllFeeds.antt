@@ -1,12 +1,12 @@
 -- Lists of feeds: what one of them shows of all, and what a turn of one leaves.
+use Rattle.pj_plan.specs.declared.node.PlanNode.{PlanNode}
+use Rattle.pj_core.specs.Plans.{stream_columns}
 use Rattle.std.proofs.Common.{◌≡◌, ℕ, zero, suc, ◌+◌, ◌<◌, Bool, true, false, List, [], ◌∷◌, ◌++◌, map, length, drop, get_or, set, refl, ap, ap₂, sym, ◌∙◌, subst, arith, Some, inl, inr, IsTrue, zero-add}
 use Rattle.std.specs.List.{slice_get}
 use Rattle.pj_value.specs.Lists.{In}
 use Rattle.pj_shape.specs.declared.columns.Column.{Column}
-use Rattle.pj_shape.specs.declared.plans.SmallStream.{SmallStream}
 use Rattle.pj_element.specs.declared.tally.Tally.{Tally}
 use Rattle.pj_element.specs.Accepted.{taken_of, fates_of, tally_of}
-use Rattle.pj_laws.specs.CoreKept.{columns_of}
 use Rattle.pj_laws.specs.OneThread.{Turn}
 use Rattle.pj_laws.proofs.Rounds.{AreTagged}
 use Rattle.pj_pattern.specs.declared.element.Element.{Element}
@@ -18,13 +18,13 @@ use Rattle.pj_engine.proofs.FeedFacts.{nothing_left_of, whole_tally}
 -- ---- one of them
 
 -- what holds of the feed at a place
-pub record IsOneOf (streams : List SmallStream) (number : ℕ) (place : ℕ) (feed : FeedState) : Type 0 where
+pub record IsOneOf (streams : List PlanNode) (number : ℕ) (place : ℕ) (feed : FeedState) : Type 0 where
   pub there : place < length streams
   pub is_number : feed.stream ≡ number
-  pub schema : feed.intake.columns ≡ columns_of streams place
+  pub schema : feed.intake.columns ≡ stream_columns streams place
   pub fed : IsFed feed
 
-pub one_of : (k : ℕ) (streams : List SmallStream) (feeds : List FeedState) (place : ℕ) (feed : FeedState) → AreFeeds k streams feeds → slice_get feeds place ≡ Some feed → IsOneOf streams (k + place) place feed
+pub one_of : (k : ℕ) (streams : List PlanNode) (feeds : List FeedState) (place : ℕ) (feed : FeedState) → AreFeeds k streams feeds → slice_get feeds place ≡ Some feed → IsOneOf streams (k + place) place feed
 one_of k [] [] place feed all is = absurd (cc)
 one_of k [] (f ∷ fs) place feed all is = absurd all
 one_of k (s ∷ ss) [] place feed all is = absurd all
@@ -47,21 +47,21 @@ told_in [] feed all h = absurd h
 told_in (f ∷ fs) feed all (inl same) = subst (λ (g : FeedState). IsTrue g.source.told) same all.0
 told_in (f ∷ fs) feed all (inr h) = told_in fs feed all.1 h
 
-fed_in : (k : ℕ) (streams : List SmallStream) (feeds : List FeedState) (feed : FeedState) → AreFeeds k streams feeds → In feed feeds → IsFed feed
+fed_in : (k : ℕ) (streams : List PlanNode) (feeds : List FeedState) (feed : FeedState) → AreFeeds k streams feeds → In feed feeds → IsFed feed
 fed_in k [] [] feed all h = absurd h
 fed_in k [] (f ∷ fs) feed all h = absurd all
 fed_in k (s ∷ ss) [] feed all h = absurd all
 fed_in k (s ∷ ss) (f ∷ fs) feed all (inl same) = subst IsFed same all.2
 fed_in k (s ∷ ss) (f ∷ fs) feed all (inr h) = fed_in (k + 1) ss fs feed all.3 h
 
-pub feeds_long : (k : ℕ) (streams : List SmallStream) (feeds : List FeedState) → AreFeeds k streams feeds → length feeds ≡ length streams
+pub feeds_long : (k : ℕ) (streams : List PlanNode) (feeds : List FeedState) → AreFeeds k streams feeds → length feeds ≡ length streams
 feeds_long k [] [] all = refl
 feeds_long k [] (f ∷ fs) all = absurd all
 feeds_long k (s ∷ ss) [] all = absurd all
 feeds_long k (s ∷ ss) (f ∷ fs) all = ap suc (feeds_long (k + 1) ss fs all.3)
 
 -- nothing is left of a stream whose closing had its turn
-pub closed_done : (streams : List SmallStream) (k : ℕ) (some : List SmallStream) (feeds : List FeedState) → AreFeeds k some feeds → AllTold feeds → (f : FeedState) → In f feeds → f.is_open ≡ false → feed_left streams f ≡ []
+pub closed_done : (streams : List PlanNode) (k : ℕ) (some : List PlanNode) (feeds : List FeedState) → AreFeeds k some feeds → AllTold feeds → (f : FeedState) → In f feeds → f.is_open ≡ false → feed_left streams f ≡ []
 closed_done streams k some feeds all told f h closed =
     let fed = fed_in k some feeds f all h in
     rw (nothing_left_of f fed (fed.closed closed) (told_in feeds f told h)) (rw closed refl)
@@ -99,7 +99,7 @@ same_set [] place feed feed' is same = absurd (cc)
 same_set (f ∷ fs) zero feed feed' is same = let e : feed ≡ f = cc is in (subst (λ (g : FeedState). IsSameFeed g feed') e same, all_same fs)
 same_set (f ∷ fs) (suc place) feed feed' is same = (same_one f, same_set fs place feed feed' is same)
 
-pub feeds_set : (k : ℕ) (streams : List SmallStream) (feeds : List FeedState) (place : ℕ) (feed feed' : FeedState) → AreFeeds k streams feeds → slice_get feeds place ≡ Some feed → IsSameFeed feed feed' → IsFed feed'
+pub feeds_set : (k : ℕ) (streams : List PlanNode) (feeds : List FeedState) (place : ℕ) (feed feed' : FeedState) → AreFeeds k streams feeds → slice_get feeds place ≡ Some feed → IsSameFeed feed feed' → IsFed feed'
     → AreFeeds k streams (set feeds place feed')
 feeds_set k [] [] place feed feed' all is same fed = absurd (cc)
 feeds_set k [] (f ∷ fs) place feed feed' all is same fed = absurd all
@@ -138,13 +138,13 @@ files_still (o ∷ os) (n ∷ ns) same told = ap₂ (λ (b : List ℕ) (bs : Lis
 -- ---- the end
 
 -- all closings had their turns: all bytes were taken, and the tallies are those of the files
-pub all_taken : (k : ℕ) (streams : List SmallStream) (feeds : List FeedState) → AreFeeds k streams feeds → AllClosed feeds → AreAllTaken feeds
+pub all_taken : (k : ℕ) (streams : List PlanNode) (feeds : List FeedState) → AreFeeds k streams feeds → AllClosed feeds → AreAllTaken feeds
 all_taken k [] [] all closed = tt
 all_taken k [] (f ∷ fs) all closed = absurd all
 all_taken k (s ∷ ss) [] all closed = absurd all
 all_taken k (s ∷ ss) (f ∷ fs) all closed = let end = all.2.closed closed.0 in (λ told. all.2.at_end end.0 told, all_taken (k + 1) ss fs all.3 closed.1)
 
-pub all_tallied : (k : ℕ) (streams : List SmallStream) (feeds : List FeedState) → AreFeeds k streams feeds → AllClosed feeds → AllTold feeds → tallies_in feeds ≡ tallies_of streams (files_of feeds)
+pub all_tallied : (k : ℕ) (streams : List PlanNode) (feeds : List FeedState) → AreFeeds k streams feeds → AllClosed feeds → AllTold feeds → tallies_in feeds ≡ tallies_of streams (files_of feeds)
 all_tallied k [] [] all closed told = refl
 all_tallied k [] (f ∷ fs) all closed told = absurd all
 all_tallied k (s ∷ ss) [] all closed told = absurd all
@@ -156,7 +156,7 @@ all_tallied k (s ∷ ss) (f ∷ fs) all closed told =
 -- ---- the beginning
 
 -- all turns of a stream are left
-pub first_left : (all : List SmallStream) (k : ℕ) (streams : List SmallStream) (feeds : List FeedState) (i : ℕ) → AreFeeds k streams feeds → AreNew feeds → i < length feeds
+pub first_left : (all : List PlanNode) (k : ℕ) (streams : List PlanNode) (feeds : List FeedState) (i : ℕ) → AreFeeds k streams feeds → AreNew feeds → i < length feeds
     → get_or (map (feed_left all) feeds) i [] ≡ brought all (k + i) (get_or (accepted_of streams (files_of feeds)) i []) ++ closes all (k + i) true
 first_left all k [] [] i fed new lt = absurd (omega (arith, lt))
 first_left all k [] (f ∷ fs) i fed new lt = absurd fed
@@ -170,7 +170,7 @@ first_left all k (s ∷ ss) (f ∷ fs) (suc i) fed new lt =
     ∙ ap (λ (n : ℕ). brought all n (get_or (accepted_of ss (files_of fs)) i []) ++ closes all n true) e
 
 -- the turns that are left of the feeds are those of their streams
-pub left_tagged : (all : List SmallStream) (k : ℕ) (streams : List SmallStream) (feeds : List FeedState) → AreFeeds k streams feeds → AreTagged k (map (feed_left all) feeds)
+pub left_tagged : (all : List PlanNode) (k : ℕ) (streams : List PlanNode) (feeds : List FeedState) → AreFeeds k streams feeds → AreTagged k (map (feed_left all) feeds)
 left_tagged all k [] [] fed = tt
 left_tagged all k [] (f ∷ fs) fed = absurd fed
 left_tagged all k (s ∷ ss) [] fed = absurd fed
@@ -197,7 +197,7 @@ pub tagged_parts : (xs ys : List (List Turn)) → AreTagged 0 (xs ++ ys) → Are
 tagged_parts xs ys t = let r = tagged_split 0 xs ys t in (r.0, subst (λ (n : ℕ). AreTagged n ys) (zero-add (length xs)) r.1)
 
 -- what is accepted of the file of one of the streams
-pub accepted_of_feed : (k : ℕ) (streams : List SmallStream) (feeds : List FeedState) (place : ℕ) (feed : FeedState) → AreFeeds k streams feeds → slice_get feeds place ≡ Some feed
+pub accepted_of_feed : (k : ℕ) (streams : List PlanNode) (feeds : List FeedState) (place : ℕ) (feed : FeedState) → AreFeeds k streams feeds → slice_get feeds place ≡ Some feed
     → get_or (accepted_of streams (files_of feeds)) place [] ≡ all_accepted feed
 accepted_of_feed k [] [] place feed f is = absurd (cc)
 accepted_of_feed k [] (g ∷ gs) place feed f is = absurd f

@@ -1,4 +1,9 @@
 -- The words of a call, and what a run over the files that they name leaves of the call.
+use Rattle.pj_plan.specs.declared.node.Outline.{Outline}
+use Rattle.pj_plan.specs.declared.node.PlanNode.{PlanNode}
+use Rattle.pj_plan.specs.Nodes.{streams_of}
+use Rattle.pj_alone.specs.Safety.{IsSafePlan}
+use Rattle.pj_core.specs.Plans.{streams_in}
 use Rattle.std.proofs.Common.{◌≡◌, ◌≢◌, ◌≤◌, ◌<◌, ◌+◌, ◌-◌, ◌⊎◌, ℕ, zero, suc, Bool, true, inl, inr, List, [], ◌∷◌, map, length, take, drop, Err, Some, IsTrue, refl, ap, ap₂, sym, ◌∙◌, subst, arith}
 use Rattle.std.specs.Prelude.{slice_index_or, ◌^◌}
 use Rattle.std.specs.String.{string_bytes}
@@ -10,8 +15,6 @@ use Rattle.pj_value.specs.Lists.{In}
 use Rattle.pj_io.specs.Causes.{Rose}
 use Rattle.pj_io.specs.Folders.{SameElsewhere, NoneFalls}
 use Rattle.pj_io.specs.States.{FolderState, SinkState}
-use Rattle.pj_shape.specs.declared.plans.SmallPlan.{SmallPlan}
-use Rattle.pj_shape.specs.declared.plans.SmallStream.{SmallStream}
 use Rattle.pj_engine.specs.declared.status.Status.TheVariants.{Done, OpenFault, ReadFault, WriteFault, NoMemory, Limit}
 use Rattle.pj_engine.specs.declared.status.LimitOf.TheVariants.{Node, File}
 use Rattle.pj_engine.specs.declared.stops.FilesStop.{FilesStop}
@@ -30,6 +33,7 @@ use Rattle.pj_engine.specs.Stops.{files_status, IsOfFew}
 use Rattle.pj_engine.specs.Top.{AreReadToEnd, BeyondLimit, EarlyEnd, FaultLeaves, HasFault, IsBuilt, IsUnopened, IsTooLarge, OpensInOrder, StopLeaves, stop_name, limit_name}
 use Rattle.pj_engine.specs.Written.{Delivered, Leaves, files_cut, flat, FrontOf}
 use Rattle.pj_engine.proofs.RunLaws.{same_after, earlier_rose}
+use Rattle.pj_engine.proofs.StreamNodes.{count_numbers}
 
 -- ---- the words
 
@@ -49,14 +53,22 @@ operands_are (x ∷ y ∷ z ∷ ws) run =
 pub names_are : (words : List (String Global)) → is_run words ≡ true → behind_first (operands words) ≡ names_in words
 names_are words run = ap behind_first (operands_are words run)
 
-pub names_counted : (words : List (String Global)) (streams : List SmallStream) → is_run words ≡ true → length words ≡ 2 + length streams → length (names_in words) ≡ length streams
-names_counted [] streams run count = absurd (false≢true run)
-names_counted (x ∷ []) streams run count = absurd (false≢true run)
-names_counted (x ∷ y ∷ []) streams run count = absurd (false≢true run)
-names_counted (x ∷ y ∷ z ∷ ws) streams run count =
+pub names_counted : (words : List (String Global)) (count : ℕ) → is_run words ≡ true → length words ≡ 2 + count → length (names_in words) ≡ count
+names_counted [] count run long = absurd (false≢true run)
+names_counted (x ∷ []) count run long = absurd (false≢true run)
+names_counted (x ∷ y ∷ []) count run long = absurd (false≢true run)
+names_counted (x ∷ y ∷ z ∷ ws) count run long =
     let all : take (length (x ∷ y ∷ z ∷ ws) - 2) (z ∷ ws) ≡ z ∷ ws = take_all (length (x ∷ y ∷ z ∷ ws) - 2) (z ∷ ws) (omega arith) in
-    let counted : length (z ∷ ws) ≡ length streams = omega (arith, count) in
+    let counted : length (z ∷ ws) ≡ count = omega (arith, long) in
     length-map (take (length (x ∷ y ∷ z ∷ ws) - 2) (z ∷ ws)) string_bytes ∙ (ap length all ∙ counted)
+
+-- there is a name for each stream
+pub names_of_streams : (words : List (String Global)) (nodes : List PlanNode) → is_run words ≡ true → length words ≡ 2 + length (streams_of nodes) → length (names_in words) ≡ length (streams_in nodes)
+names_of_streams words nodes run long = names_counted words (length (streams_of nodes)) run long ∙ count_numbers nodes
+
+-- there is a word for each stream's file
+pub files_of_streams : (words : List (String Global)) (nodes : List PlanNode) → is_run words ≡ true → length words ≡ 2 + length (streams_of nodes) → length (take (length words - 2) (drop 2 words)) ≡ length (streams_in nodes)
+files_of_streams words nodes run long = sym (length-map (take (length words - 2) (drop 2 words)) string_bytes) ∙ names_of_streams words nodes run long
 
 -- ---- the folder once the plan was read
 
@@ -72,9 +84,9 @@ module _ (words : List (String Global)) (old mid : FolderState) (run : is_run wo
   files_same = ap₂ (λ (f : List ℕ → List ℕ) (ns : List (List ℕ)). map f ns) contents (sym (names_are words run))
 
   -- there is a file for each stream
-  pub files_counted : (streams : List SmallStream) → length words ≡ 2 + length streams → length (stream_files (command_of words old)) ≡ length streams
-  files_counted streams count =
-      length-map (behind_first (operands words)) old.contents ∙ (ap length (names_are words run) ∙ names_counted words streams run count)
+  pub files_counted : (nodes : List PlanNode) → length words ≡ 2 + length (streams_of nodes) → length (stream_files (command_of words old)) ≡ length (streams_in nodes)
+  files_counted nodes long =
+      length-map (behind_first (operands words)) old.contents ∙ (ap length (names_are words run) ∙ names_of_streams words nodes run long)
 
   read_named : (names : List (List ℕ)) (new : FolderState) → AreReadToEnd names mid new → AreReadToEnd names old new
   read_named [] new read = tt
@@ -87,11 +99,11 @@ module _ (words : List (String Global)) (old mid : FolderState) (run : is_run wo
   pub all_read : (new : FolderState) → (HasToldPlan (command_of words old) → IsReadToEnd (operand (operands words) 1) old new) → AreReadToEnd (names_in words) mid new → AreReadToEnd (operands words) old new
   all_read new first rest = subst (λ (ns : List (List ℕ)). AreReadToEnd ns old new) (sym (operands_are words run)) (first, read_named (names_in words) new rest)
 
-  pub built : (plan : SmallPlan) → length words ≡ 2 + length plan.streams
+  pub built : (plan : Outline) → length words ≡ 2 + length (streams_of plan.nodes) → IsSafePlan plan.nodes
       → (HasToldPlan (command_of words old) → SpellsPlan (plan_bytes (command_of words old)) plan) → IsBuilt (command_of words old)
-  built plan count read = record {
+  built plan long safe read = record {
     form = run;
-    plan = λ t. let r = read t in (r.1, (plan, r.0, sym (ap length (names_are words run) ∙ names_counted words plan.streams run count)));
+    plan = λ t. let r = read t in (r.1, (plan, r.0, sym (ap length (names_are words run) ∙ names_counted words (length (streams_of plan.nodes)) run long), safe));
   }
 
 -- ---- operands by their numbers
@@ -162,7 +174,7 @@ module _ (words : List (String Global)) (old mid new : FolderState) (run : is_ru
   files_are = files_same words old mid run told contents
 
   -- a file that was not opened
-  not_opened : (plan : SmallPlan) (stream : ℕ) (before lines : List ℕ) → stream < length (names_in words) → FilesEnd (Opening (Fault stream)) plan (names_in words) mid new before lines
+  not_opened : (plan : Outline) (stream : ℕ) (before lines : List ℕ) → stream < length (names_in words) → FilesEnd (Opening (Fault stream)) plan (names_in words) mid new before lines
       → AreDistinct (operands words) → new.last (operand (operands words) (2 + stream)) ≡ old.last (operand (operands words) (2 + stream))
   not_opened plan stream before lines there ends = λ d.
       let all = distinct_names d in
@@ -170,7 +182,7 @@ module _ (words : List (String Global)) (old mid new : FolderState) (run : is_ru
       ap new.last at ∙ (ends.1 all.1 ∙ (others (slice_index_or (names_in words) stream []) (none_at (operand (operands words) 1) (names_in words) stream all.0 there) ∙ ap old.last (sym at)))
 
   -- a read that failed
-  not_read : (plan : SmallPlan) (stream : ℕ) (before lines : List ℕ) → FilesEnd (Run (RunFault stream)) plan (names_in words) mid new before lines → FaultLeaves plan (command_of words old) new (2 + stream) before lines
+  not_read : (plan : Outline) (stream : ℕ) (before lines : List ℕ) → FilesEnd (Run (RunFault stream)) plan (names_in words) mid new before lines → FaultLeaves plan (command_of words old) new (2 + stream) before lines
   not_read plan stream before lines ends = go (files_named (names_in words) mid) files_are ends
     where
       go : (files : List (List ℕ)) → files ≡ stream_files (command_of words old)
@@ -181,7 +193,7 @@ module _ (words : List (String Global)) (old mid new : FolderState) (run : is_ru
           (stream, refl, e.0, λ d. subst (λ (n : List ℕ). ArrivedOf plan files stream (new.last n) e.0.front) (sym (at_operand stream)) (e.1 (distinct_names d).1))
 
   -- the run stopped, and then the line of its status was written
-  pub stopped : (stop : FilesStop) (plan : SmallPlan) (name : List ℕ) (first now after : SinkState) → IsTrue after.told → plan_of (plan_bytes (command_of words old)) ≡ Some plan → name ≡ stop_name plan (files_status stop)
+  pub stopped : (stop : FilesStop) (plan : Outline) (name : List ℕ) (first now after : SinkState) → IsTrue after.told → plan_of (plan_bytes (command_of words old)) ≡ Some plan → name ≡ stop_name plan (files_status stop)
       → FilesCause stop plan (names_in words) mid new first now → Leaves (files_cut stop) (run_lines plan (files_named (names_in words) mid)) first.written now.written
       → FilesEnd stop plan (names_in words) mid new first.written now.written → first.faults ≤ now.faults → Delivered (status_line name (files_status stop)) now after
       → StopLeaves (files_status stop) (command_of words old) new first after
@@ -227,7 +239,7 @@ module _ (words : List (String Global)) (old mid new : FolderState) (run : is_ru
 
   -- ---- a file that could not be opened
 
-  pub early : (stop : FilesStop) (plan : SmallPlan) (name : List ℕ) (first now after : SinkState) → name ≡ stop_name plan (files_status stop)
+  pub early : (stop : FilesStop) (plan : Outline) (name : List ℕ) (first now after : SinkState) → name ≡ stop_name plan (files_status stop)
       → ((opening : OpeningStop) → stop ≡ Opening opening → now ≡ first) → Delivered (status_line name (files_status stop)) now after → EarlyEnd (files_status stop) (command_of words old) new first after
   early (Opening (Fault stream)) plan name first now after named same line =
       subst (λ (s : SinkState). Delivered (status_line [] (OpenFault (2 + stream))) s after) (same (Fault stream) refl)
@@ -251,7 +263,7 @@ module _ (words : List (String Global)) (old mid new : FolderState) (run : is_ru
       later = λ _. is;
     }
 
-    pub faulted : (stop : FilesStop) (plan : SmallPlan) (first now : SinkState) (n : ℕ) → IsBuilt (command_of words old) → FilesCause stop plan (names_in words) mid new first now → files_status stop ≡ ReadFault n → HasFault (command_of words old) new n
+    pub faulted : (stop : FilesStop) (plan : Outline) (first now : SinkState) (n : ℕ) → IsBuilt (command_of words old) → FilesCause stop plan (names_in words) mid new first now → files_status stop ≡ ReadFault n → HasFault (command_of words old) new n
     faulted (Opening (Fault stream)) plan first now n is cause e = absurd (cc)
     faulted (Opening OpeningMemory) plan first now n is cause e = absurd (cc)
     faulted (Run (RunFault stream)) plan first now n is cause e = let same : 2 + stream ≡ n = cc e in subst (HasFault (command_of words old) new) same (fault_at stream is cause)
@@ -260,7 +272,7 @@ module _ (words : List (String Global)) (old mid new : FolderState) (run : is_ru
     faulted (Run WriteFailed) plan first now n is cause e = absurd (cc)
     faulted (Run RunMemory) plan first now n is cause e = absurd (cc)
 
-    pub unopened : (stop : FilesStop) (plan : SmallPlan) (first now : SinkState) (n : ℕ) → IsBuilt (command_of words old) → FilesCause stop plan (names_in words) mid new first now → OpensInOrder (files_status stop) (command_of words old) new
+    pub unopened : (stop : FilesStop) (plan : Outline) (first now : SinkState) (n : ℕ) → IsBuilt (command_of words old) → FilesCause stop plan (names_in words) mid new first now → OpensInOrder (files_status stop) (command_of words old) new
         → files_status stop ≡ OpenFault n → IsUnopened (command_of words old) new n
     unopened (Opening (Fault stream)) plan first now n is cause opened e =
         let same : 2 + stream ≡ n = cc e in
@@ -272,7 +284,7 @@ module _ (words : List (String Global)) (old mid new : FolderState) (run : is_ru
     unopened (Run WriteFailed) plan first now n is cause opened e = absurd (cc)
     unopened (Run RunMemory) plan first now n is cause opened e = absurd (cc)
 
-  pub write_failed : (stop : FilesStop) (plan : SmallPlan) (first now after : SinkState) → FilesCause stop plan (names_in words) mid new first now → now.faults ≤ after.faults → files_status stop ≡ WriteFault → Rose first.faults after.faults
+  pub write_failed : (stop : FilesStop) (plan : Outline) (first now after : SinkState) → FilesCause stop plan (names_in words) mid new first now → now.faults ≤ after.faults → files_status stop ≡ WriteFault → Rose first.faults after.faults
   write_failed (Opening (Fault stream)) plan first now after cause le e = absurd (cc)
   write_failed (Opening OpeningMemory) plan first now after cause le e = absurd (cc)
   write_failed (Run (RunFault stream)) plan first now after cause le e = absurd (cc)
@@ -281,7 +293,7 @@ module _ (words : List (String Global)) (old mid new : FolderState) (run : is_ru
   write_failed (Run WriteFailed) plan first now after cause le e = omega (arith, cause, le)
   write_failed (Run RunMemory) plan first now after cause le e = absurd (cc)
 
-  pub beyond : (stop : FilesStop) (plan : SmallPlan) (first now : SinkState) (node : ℕ) → IsBuilt (command_of words old) → (HasToldPlan (command_of words old) → plan_of (plan_bytes (command_of words old)) ≡ Some plan) → FilesCause stop plan (names_in words) mid new first now
+  pub beyond : (stop : FilesStop) (plan : Outline) (first now : SinkState) (node : ℕ) → IsBuilt (command_of words old) → (HasToldPlan (command_of words old) → plan_of (plan_bytes (command_of words old)) ≡ Some plan) → FilesCause stop plan (names_in words) mid new first now
       → files_status stop ≡ Limit (Node node) → BeyondLimit (command_of words old) node
   beyond (Opening (Fault stream)) plan first now node is_built read cause e = absurd (cc)
   beyond (Opening OpeningMemory) plan first now node is_built read cause e = absurd (cc)
@@ -302,7 +314,7 @@ module _ (words : List (String Global)) (old mid new : FolderState) (run : is_ru
   beyond (Run WriteFailed) plan first now node is_built read cause e = absurd (cc)
   beyond (Run RunMemory) plan first now node is_built read cause e = absurd (cc)
 
-  pub too_large : (stop : FilesStop) (plan : SmallPlan) (first now : SinkState) (stream : ℕ) → IsBuilt (command_of words old) → FilesCause stop plan (names_in words) mid new first now → files_status stop ≡ Limit (File stream) → IsTooLarge (command_of words old) stream
+  pub too_large : (stop : FilesStop) (plan : Outline) (first now : SinkState) (stream : ℕ) → IsBuilt (command_of words old) → FilesCause stop plan (names_in words) mid new first now → files_status stop ≡ Limit (File stream) → IsTooLarge (command_of words old) stream
   too_large (Opening (Fault s)) plan first now stream is_built cause e = absurd (cc)
   too_large (Opening OpeningMemory) plan first now stream is_built cause e = absurd (cc)
   too_large (Run (RunFault s)) plan first now stream is_built cause e = absurd (cc)
@@ -324,7 +336,7 @@ module _ (words : List (String Global)) (old mid new : FolderState) (run : is_ru
   too_large (Run RunMemory) plan first now stream is_built cause e = absurd (cc)
 
 -- few streams have small numbers
-pub of_few : (stop : FilesStop) (plan : SmallPlan) (names : List (List ℕ)) (before after : FolderState) (first now : SinkState) → length names ≤ 128 → FilesCause stop plan names before after first now → IsOfFew stop
+pub of_few : (stop : FilesStop) (plan : Outline) (names : List (List ℕ)) (before after : FolderState) (first now : SinkState) → length names ≤ 128 → FilesCause stop plan names before after first now → IsOfFew stop
 of_few (Opening (Fault stream)) plan names before after first now few cause = let there = cause.there in omega (arith, few, there)
 of_few (Opening OpeningMemory) plan names before after first now few cause = tt
 of_few (Run (RunFault stream)) plan names before after first now few cause = let there = cause.there in omega (arith, few, there)

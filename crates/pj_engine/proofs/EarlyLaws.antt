@@ -1,12 +1,19 @@
 -- A call that has no plan to run: what is opened and written, and why.
-use Rattle.std.proofs.Common.{◌≡◌, ◌≤◌, ◌<◌, ◌⊎◌, ℕ, Bool, true, false, inl, inr, List, [], ◌∷◌, length, Option, None, Some, refl, ap, sym, ◌∙◌, subst, cond, arith}
+use Rattle.std.proofs.Common.{◌≡◌, ◌≤◌, ◌<◌, ◌⊎◌, ℕ, true, false, inl, inr, List, [], ◌∷◌, length, Result, Ok, Err, refl, ap, ap₂, sym, ◌∙◌, subst, arith}
 use Rattle.std.specs.declared.string.String.{String}
 use Rattle.std.specs.declared.alloc.Global.{Global}
-use Rattle.std.proofs.lemmas.Bool.{false≢true}
+use Rattle.std.proofs.lemmas.Bool.{cases_lt, false≢true}
 use Rattle.pj_io.specs.Causes.{Rose}
 use Rattle.pj_io.specs.States.{FolderState, SinkState}
+use Rattle.pj_plan.specs.declared.fault.PlanFault.{PlanFault}
+use Rattle.pj_plan.specs.declared.node.PlanNode.{PlanNode}
+use Rattle.pj_plan.specs.declared.node.Outline.{Outline}
+use Rattle.pj_plan.specs.Nodes.{streams_of}
+use Rattle.pj_plan_text.specs.PlanRead.{plan_read}
+use Rattle.pj_alone.specs.Safety.{IsFirstStuck, IsSafeJoin, IsSafePlan}
+use Rattle.pj_core.specs.Plans.{are_run}
 use Rattle.pj_engine.specs.declared.status.Status.{Status}
-use Rattle.pj_engine.specs.declared.status.Status.TheVariants.{Done, Usage, NotBuilt, OpenFault, ReadFault, PlanRefused, FileCount, WriteFault, NoMemory, Limit}
+use Rattle.pj_engine.specs.declared.status.Status.TheVariants.{Done, Usage, NotBuilt, OpenFault, ReadFault, PlanRefused, FileCount, Unsafe, WriteFault, NoMemory, Limit}
 use Rattle.pj_engine.specs.declared.status.LimitOf.TheVariants.{Plan, Node, File}
 use Rattle.pj_engine.specs.declared.stops.FilesStop.{FilesStop}
 use Rattle.pj_engine.specs.declared.stops.FilesStop.TheVariants.{Opening, Run}
@@ -14,15 +21,15 @@ use Rattle.pj_engine.specs.declared.stops.OpeningStop.TheVariants.{Fault, NoMemo
 use Rattle.pj_engine.specs.declared.stops.RunStop.TheVariants.{ReadFault as RunFault, TooLarge, Limit as RunLimit, WriteFailed, NoMemory as RunMemory}
 use Rattle.pj_engine.specs.declared.stops.FileStop.TheVariants.{OpenFault as NotOpened, ReadFault as NotRead, TooLong, NoMemory as FileMemory}
 use Rattle.pj_engine.specs.declared.stops.PlanStop.{PlanStop}
-use Rattle.pj_engine.specs.declared.stops.PlanStop.TheVariants.{Usage as NoWords, File as PlanFile, Refused, FileCount as OtherCount, NotBuilt as NoPlan, NoMemory as PlanMemory}
+use Rattle.pj_engine.specs.declared.stops.PlanStop.TheVariants.{Usage as NoWords, File as PlanFile, Refused, FileCount as OtherCount, Unsafe as Stuck, NotBuilt as NoPlan, NoMemory as PlanMemory}
 use Rattle.pj_engine.specs.Commands.{Command, HasToldPlan, command_of, is_run, operands, operand, file_names, plan_bytes}
 use Rattle.pj_engine.specs.Opened.{OpensFirst, OpensAtMost}
-use Rattle.pj_engine.specs.Refusals.{IsRefused, Unprepared, plan_refusal, refusal_of}
-use Rattle.pj_engine.specs.Report.{status_line}
-use Rattle.pj_engine.specs.Stops.{files_status, plan_status}
-use Rattle.pj_engine.specs.Top.{AnswersRefusal, EarlyEnd, HasFault, IsBuilt, IsUnopened, OpensInOrder, StopLeaves}
+use Rattle.pj_engine.specs.Refusals.{HasLines, IsRefused, Refuses, RefusesBytes, RefusesPlan, RefusesRead, Unprepared}
+use Rattle.pj_engine.specs.Stops.{files_status, plan_status, refusal_text}
+use Rattle.pj_engine.specs.Top.{AnswersRefusal, EarlyEnd, HasFault, IsBuilt, IsPlanOf, IsUnopened, OpensInOrder, StopLeaves}
 use Rattle.pj_engine.specs.Written.{Delivered}
 use Rattle.pj_engine.proofs.CallLaws.{operands_are}
+use Rattle.pj_engine.proofs.Refusing.{IsReadAs, read_as}
 
 -- ---- what is opened
 
@@ -33,33 +40,34 @@ some_operands : (words : List (String Global)) → is_run words ≡ true → 1 �
 some_operands words run = let e = ap length (operands_are words run) in omega (arith, e)
 
 module _ (words : List (String Global)) (old new : FolderState) where
-  abbrev command : Command
-  command = command_of words old
+  abbrev asked : Command
+  asked = command_of words old
 
   -- no more than the plan's file
-  alone : (count : ℕ) → count ≤ 1 → 1 < count → IsBuilt command
+  alone : (count : ℕ) → count ≤ 1 → 1 < count → IsBuilt asked
   alone count most more = absurd (omega (arith, most, more))
 
   first_alone : is_run words ≡ true → OpensFirst 1 (operand (operands words) 1 ∷ []) old new → OpensFirst 1 (operands words) old new
   first_alone run opened = subst (λ (ns : List (List ℕ)). OpensFirst 1 ns old new) (sym (operands_are words run)) opened
 
-  memory_opened : is_run words ≡ true → OpensAtMost 1 (operands words) old new → OpensInOrder NoMemory command new
+  memory_opened : is_run words ≡ true → OpensAtMost 1 (operands words) old new → OpensInOrder NoMemory asked new
   memory_opened run most = (most.0, most.2, (let le = most.1 in let some = some_operands words run in omega (arith, le, some)), alone most.0 most.1)
 
-  pub opened_early : (stop : PlanStop) → OpensAtMost 1 (operands words) old new → Unprepared stop command new → OpensInOrder (plan_status stop) command new
-  opened_early NoWords most u = subst (OpensInOrder Usage command) (sym u.1) (0, none_opened (operands words) old, refl, alone 0 (omega arith))
+  pub opened_early : (stop : PlanStop) → OpensAtMost 1 (operands words) old new → Unprepared stop asked new → OpensInOrder (plan_status stop) asked new
+  opened_early NoWords most u = subst (OpensInOrder Usage asked) (sym u.1) (0, none_opened (operands words) old, refl, alone 0 (omega arith))
   opened_early (PlanFile NotOpened) most u = (0, u.1.0, refl, alone 0 (omega arith))
   opened_early (PlanFile NotRead) most u = (1, first_alone u.0 u.1.0, inl (refl, refl), alone 1 (omega arith))
   opened_early (PlanFile TooLong) most u = (1, first_alone u.0 u.1.0, refl, alone 1 (omega arith))
   opened_early (PlanFile FileMemory) most u = memory_opened u.0 most
   opened_early (Refused fault) most u = (1, first_alone u.0 u.1.0, refl, alone 1 (omega arith))
   opened_early (OtherCount want got) most u = (1, first_alone u.0 u.1.0, refl, alone 1 (omega arith))
+  opened_early (Stuck found) most u = (1, first_alone u.0 u.1.0.0, refl, alone 1 (omega arith))
   opened_early NoPlan most u = (1, first_alone u.0 u.1.0, refl, alone 1 (omega arith))
   opened_early PlanMemory most u = memory_opened u most
 
   -- ---- what is written
 
-  pub stopped_early : (stop : PlanStop) (first after : SinkState) → Unprepared stop command new → Delivered (status_line [] (plan_status stop)) first after → StopLeaves (plan_status stop) command new first after
+  pub stopped_early : (stop : PlanStop) (first after : SinkState) → Unprepared stop asked new → Delivered (refusal_text stop) first after → StopLeaves (plan_status stop) asked new first after
   stopped_early NoWords first after u line = tt
   stopped_early (PlanFile NotOpened) first after u line = λ d. u.1.2 (operand (operands words) 1)
   stopped_early (PlanFile NotRead) first after u line = inl refl
@@ -67,46 +75,50 @@ module _ (words : List (String Global)) (old new : FolderState) where
   stopped_early (PlanFile FileMemory) first after u line = (first.written, inl refl, line)
   stopped_early (Refused fault) first after u line = tt
   stopped_early (OtherCount want got) first after u line = tt
+  stopped_early (Stuck found) first after u line = tt
   stopped_early NoPlan first after u line = tt
   stopped_early PlanMemory first after u line = (first.written, inl refl, line)
 
-  pub early_early : (stop : PlanStop) (first after : SinkState) → Delivered (status_line [] (plan_status stop)) first after → EarlyEnd (plan_status stop) command new first after
-  early_early NoWords first after line = line
-  early_early (PlanFile NotOpened) first after line = line
-  early_early (PlanFile NotRead) first after line = λ one. line
-  early_early (PlanFile TooLong) first after line = λ what. line
-  early_early (PlanFile FileMemory) first after line = tt
-  early_early (Refused fault) first after line = line
-  early_early (OtherCount want got) first after line = line
-  early_early NoPlan first after line = line
-  early_early PlanMemory first after line = tt
+  pub early_early : (stop : PlanStop) (first after : SinkState) → Unprepared stop asked new → Delivered (refusal_text stop) first after → EarlyEnd (plan_status stop) asked new first after
+  early_early NoWords first after u line = line
+  early_early (PlanFile NotOpened) first after u line = line
+  early_early (PlanFile NotRead) first after u line = λ one. line
+  early_early (PlanFile TooLong) first after u line = λ what. line
+  early_early (PlanFile FileMemory) first after u line = tt
+  early_early (Refused fault) first after u line = line
+  early_early (OtherCount want got) first after u line = line
+  early_early (Stuck found) first after u line = (u.1.0.1, found.lines, λ told. (u.1.0.3 told).1, u.1.0.2.1, line)
+  early_early NoPlan first after u line = line
+  early_early PlanMemory first after u line = tt
 
   -- ---- causes
 
-  first_fault : is_run words ≡ true → Rose (old.faults (operand (operands words) 1)) (new.faults (operand (operands words) 1)) → HasFault command new 1
+  first_fault : is_run words ≡ true → Rose (old.faults (operand (operands words) 1)) (new.faults (operand (operands words) 1)) → HasFault asked new 1
   first_fault run rose = record { first = omega arith; last = some_operands words run; rose = rose; later = λ more. absurd (omega (arith, more)) }
 
-  pub fault_early : (stop : PlanStop) (n : ℕ) → Unprepared stop command new → plan_status stop ≡ ReadFault n → HasFault command new n
+  pub fault_early : (stop : PlanStop) (n : ℕ) → Unprepared stop asked new → plan_status stop ≡ ReadFault n → HasFault asked new n
   fault_early NoWords n u e = absurd (cc)
   fault_early (PlanFile NotOpened) n u e = absurd (cc)
-  fault_early (PlanFile NotRead) n u e = let same : 1 ≡ n = cc e in subst (HasFault command new) same (first_fault u.0 u.1.1)
+  fault_early (PlanFile NotRead) n u e = let same : 1 ≡ n = cc e in subst (HasFault asked new) same (first_fault u.0 u.1.1)
   fault_early (PlanFile TooLong) n u e = absurd (cc)
   fault_early (PlanFile FileMemory) n u e = absurd (cc)
   fault_early (Refused fault) n u e = absurd (cc)
   fault_early (OtherCount want got) n u e = absurd (cc)
+  fault_early (Stuck found) n u e = absurd (cc)
   fault_early NoPlan n u e = absurd (cc)
   fault_early PlanMemory n u e = absurd (cc)
 
-  pub unopened_early : (stop : PlanStop) (n : ℕ) → Unprepared stop command new → plan_status stop ≡ OpenFault n → IsUnopened command new n
+  pub unopened_early : (stop : PlanStop) (n : ℕ) → Unprepared stop asked new → plan_status stop ≡ OpenFault n → IsUnopened asked new n
   unopened_early NoWords n u e = absurd (cc)
   unopened_early (PlanFile NotOpened) n u e =
       let same : 1 ≡ n = cc e in
-      subst (IsUnopened command new) same (record { fault = first_fault u.0 u.1.1; before = 0; number = refl; opened = u.1.0 })
+      subst (IsUnopened asked new) same (record { fault = first_fault u.0 u.1.1; before = 0; number = refl; opened = u.1.0 })
   unopened_early (PlanFile NotRead) n u e = absurd (cc)
   unopened_early (PlanFile TooLong) n u e = absurd (cc)
   unopened_early (PlanFile FileMemory) n u e = absurd (cc)
   unopened_early (Refused fault) n u e = absurd (cc)
   unopened_early (OtherCount want got) n u e = absurd (cc)
+  unopened_early (Stuck found) n u e = absurd (cc)
   unopened_early NoPlan n u e = absurd (cc)
   unopened_early PlanMemory n u e = absurd (cc)
 
@@ -117,6 +129,7 @@ form_or_not NoWords command after u = inl (refl, u.0)
 form_or_not (PlanFile stop) command after u = inr u.0
 form_or_not (Refused fault) command after u = inr u.0
 form_or_not (OtherCount want got) command after u = inr u.0
+form_or_not (Stuck found) command after u = inr u.0
 form_or_not NoPlan command after u = inr u.0
 form_or_not PlanMemory command after u = inr u
 
@@ -131,6 +144,7 @@ no_words (PlanFile TooLong) command after u e = absurd (cc)
 no_words (PlanFile FileMemory) command after u e = absurd (cc)
 no_words (Refused fault) command after u e = absurd (cc)
 no_words (OtherCount want got) command after u e = absurd (cc)
+no_words (Stuck found) command after u e = absurd (cc)
 no_words NoPlan command after u e = absurd (cc)
 no_words PlanMemory command after u e = absurd (cc)
 
@@ -140,51 +154,206 @@ memory_early stop command after u e = elim (form_or_not stop command after u) [ 
     no : Usage ≡ NoMemory → ⊥
     no x = cc
 
+-- the lines of an unsafe plan spell no element
+pub early_lines : (stop : PlanStop) (command : Command) (after : FolderState) → Unprepared stop command after → HasLines stop
+early_lines NoWords command after u = tt
+early_lines (PlanFile stop) command after u = tt
+early_lines (Refused fault) command after u = tt
+early_lines (OtherCount want got) command after u = tt
+early_lines (Stuck found) command after u = u.1.1
+early_lines NoPlan command after u = tt
+early_lines PlanMemory command after u = tt
+
+-- ---- what is refused is refused with one status
+
+-- an unsafe join is not safe
+never_safe : (nodes : List PlanNode) (join input missing : ℕ) → IsFirstStuck nodes join input missing → IsSafeJoin nodes join → ⊥
+never_safe nodes join input missing f safe = f.stuck (safe input missing f.input_there f.missing_there)
+
+module _ (nodes : List PlanNode) (join input missing : ℕ) (f : IsFirstStuck nodes join input missing) where
+  same_join : (j i m : ℕ) → IsFirstStuck nodes j i m → join ≡ j
+  same_join j i m g = elim (cases_lt join j) [
+    | inl before ↦ absurd (never_safe nodes join input missing f (g.joins join f.there before))
+    | inr le ↦ elim (cases_lt j join) [
+      | inl behind ↦ absurd (never_safe nodes j i m g (f.joins j g.there behind))
+      | inr ge ↦ omega (arith, le, ge)
+    ]
+  ]
+
+  same_input : (i m : ℕ) → IsFirstStuck nodes join i m → input ≡ i
+  same_input i m g = elim (cases_lt input i) [
+    | inl before ↦ absurd (f.stuck (g.inputs input before missing f.missing_there))
+    | inr le ↦ elim (cases_lt i input) [
+      | inl behind ↦ absurd (g.stuck (f.inputs i behind m g.missing_there))
+      | inr ge ↦ omega (arith, le, ge)
+    ]
+  ]
+
+  same_missing : (m : ℕ) → IsFirstStuck nodes join input m → missing ≡ m
+  same_missing m g = elim (cases_lt missing m) [
+    | inl before ↦ absurd (f.stuck (g.least missing before))
+    | inr le ↦ elim (cases_lt m missing) [
+      | inl behind ↦ absurd (g.stuck (f.least m behind))
+      | inr ge ↦ omega (arith, le, ge)
+    ]
+  ]
+
+  same_stuck : (j i m : ℕ) → IsFirstStuck nodes j i m → Unsafe join input missing ≡ Unsafe j i m
+  same_stuck j i m g =
+      let join_is = same_join j i m g in
+      let at_join : IsFirstStuck nodes join i m = subst (λ (k : ℕ). IsFirstStuck nodes k i m) (sym join_is) g in
+      let input_is = same_input i m at_join in
+      let at_input : IsFirstStuck nodes join input m = subst (λ (k : ℕ). IsFirstStuck nodes join k m) (sym input_is) at_join in
+      let missing_is = same_missing m at_input in
+      cc
+
+-- a plan that is not safe
+not_safe : (nodes : List PlanNode) (join input missing : ℕ) → IsFirstStuck nodes join input missing → IsSafePlan nodes → ⊥
+not_safe nodes join input missing f safe = never_safe nodes join input missing f (safe join f.there)
+
+module _ (files : ℕ) (plan : Outline) where
+  count_alone : (want got : ℕ) (other : Status) → RefusesPlan (FileCount want got) files plan → RefusesPlan other files plan → FileCount want got ≡ other
+  count_alone want got Done a b = absurd b
+  count_alone want got Usage a b = absurd b
+  count_alone want got (PlanRefused line why) a b = absurd b
+  count_alone want got (FileCount w g) a b = ap₂ FileCount (a.1 ∙ sym b.1) (a.2 ∙ sym b.2)
+  count_alone want got (Unsafe join input missing) a b = absurd (a.0 b.0)
+  count_alone want got NotBuilt a b = absurd (a.0 b.0)
+  count_alone want got (OpenFault n) a b = absurd b
+  count_alone want got (ReadFault n) a b = absurd b
+  count_alone want got WriteFault a b = absurd b
+  count_alone want got NoMemory a b = absurd b
+  count_alone want got (Limit what) a b = absurd b
+
+  unsafe_alone : (join input missing : ℕ) (other : Status) → RefusesPlan (Unsafe join input missing) files plan → RefusesPlan other files plan → Unsafe join input missing ≡ other
+  unsafe_alone join input missing Done a b = absurd b
+  unsafe_alone join input missing Usage a b = absurd b
+  unsafe_alone join input missing (PlanRefused line why) a b = absurd b
+  unsafe_alone join input missing (FileCount w g) a b = absurd (b.0 a.0)
+  unsafe_alone join input missing (Unsafe j i m) a b = same_stuck plan.nodes join input missing a.1 j i m b.1
+  unsafe_alone join input missing NotBuilt a b = absurd (not_safe plan.nodes join input missing a.1 b.1)
+  unsafe_alone join input missing (OpenFault n) a b = absurd b
+  unsafe_alone join input missing (ReadFault n) a b = absurd b
+  unsafe_alone join input missing WriteFault a b = absurd b
+  unsafe_alone join input missing NoMemory a b = absurd b
+  unsafe_alone join input missing (Limit what) a b = absurd b
+
+  not_built_alone : (other : Status) → RefusesPlan NotBuilt files plan → RefusesPlan other files plan → NotBuilt ≡ other
+  not_built_alone Done a b = absurd b
+  not_built_alone Usage a b = absurd b
+  not_built_alone (PlanRefused line why) a b = absurd b
+  not_built_alone (FileCount w g) a b = absurd (b.0 a.0)
+  not_built_alone (Unsafe join input missing) a b = absurd (not_safe plan.nodes join input missing b.1 a.1)
+  not_built_alone NotBuilt a b = refl
+  not_built_alone (OpenFault n) a b = absurd b
+  not_built_alone (ReadFault n) a b = absurd b
+  not_built_alone WriteFault a b = absurd b
+  not_built_alone NoMemory a b = absurd b
+  not_built_alone (Limit what) a b = absurd b
+
+  plan_alone : (one other : Status) → RefusesPlan one files plan → RefusesPlan other files plan → one ≡ other
+  plan_alone Done other a b = absurd a
+  plan_alone Usage other a b = absurd a
+  plan_alone (PlanRefused line why) other a b = absurd a
+  plan_alone (FileCount want got) other a b = count_alone want got other a b
+  plan_alone (Unsafe join input missing) other a b = unsafe_alone join input missing other a b
+  plan_alone NotBuilt other a b = not_built_alone other a b
+  plan_alone (OpenFault n) other a b = absurd a
+  plan_alone (ReadFault n) other a b = absurd a
+  plan_alone WriteFault other a b = absurd a
+  plan_alone NoMemory other a b = absurd a
+  plan_alone (Limit what) other a b = absurd a
+
+  -- a safe plan of the right number of streams that is run is not refused
+  never_fit : (status : Status) → length (streams_of plan.nodes) ≡ files → IsSafePlan plan.nodes → are_run plan.nodes ≡ true → RefusesPlan status files plan → ⊥
+  never_fit Done count safe run a = a
+  never_fit Usage count safe run a = a
+  never_fit (PlanRefused line why) count safe run a = a
+  never_fit (FileCount want got) count safe run a = a.0 count
+  never_fit (Unsafe join input missing) count safe run a = not_safe plan.nodes join input missing a.1 safe
+  never_fit NotBuilt count safe run a = false≢true (sym a.2 ∙ run)
+  never_fit (OpenFault n) count safe run a = a
+  never_fit (ReadFault n) count safe run a = a
+  never_fit WriteFault count safe run a = a
+  never_fit NoMemory count safe run a = a
+  never_fit (Limit what) count safe run a = a
+
+read_alone : (files : ℕ) (result : Result Outline PlanFault) (one other : Status) → RefusesRead one files result → RefusesRead other files result → one ≡ other
+read_alone files (Ok plan) one other a b = plan_alone files plan one other a b
+read_alone files (Err fault) one other a b = a ∙ sym b
+
+bytes_alone : (files : ℕ) (bytes : List ℕ) (one other : Status) → RefusesBytes one files bytes → RefusesBytes other files bytes → one ≡ other
+bytes_alone files bytes one other (inl a) (inl b) = a.1 ∙ sym b.1
+bytes_alone files bytes one other (inl a) (inr b) = absurd (let more = a.0 in let few = b.0 in omega (arith, more, few))
+bytes_alone files bytes one other (inr a) (inl b) = absurd (let few = a.0 in let more = b.0 in omega (arith, more, few))
+bytes_alone files bytes one other (inr a) (inr b) = read_alone files (plan_read bytes) one other a.1 b.1
+
+refused_alone : (command : Command) (one other : Status) → Refuses command one → Refuses command other → one ≡ other
+refused_alone command one other (inl a) (inl b) = a.1 ∙ sym b.1
+refused_alone command one other (inl a) (inr b) = absurd (false≢true (sym a.0 ∙ b.0))
+refused_alone command one other (inr a) (inl b) = absurd (false≢true (sym b.0 ∙ a.0))
+refused_alone command one other (inr a) (inr b) = bytes_alone (length (file_names command)) (plan_bytes command) one other a.1 b.1
+
 -- ---- refusals
 
 -- a refusal of the plan or of the number of files
-abbrev pub RefusesPlan : Status → Type 0
-RefusesPlan Done = ⊥
-RefusesPlan Usage = ⊥
-RefusesPlan NotBuilt = Unit {0}
-RefusesPlan (OpenFault n) = ⊥
-RefusesPlan (ReadFault n) = ⊥
-RefusesPlan (PlanRefused line why) = Unit {0}
-RefusesPlan (FileCount want got) = Unit {0}
-RefusesPlan WriteFault = ⊥
-RefusesPlan NoMemory = ⊥
-RefusesPlan (Limit Plan) = Unit {0}
-RefusesPlan (Limit (Node node)) = ⊥
-RefusesPlan (Limit (File stream)) = ⊥
+abbrev pub IsOfPlan : Status → Type 0
+IsOfPlan Done = ⊥
+IsOfPlan Usage = ⊥
+IsOfPlan NotBuilt = Unit {0}
+IsOfPlan (OpenFault n) = ⊥
+IsOfPlan (ReadFault n) = ⊥
+IsOfPlan (PlanRefused line why) = Unit {0}
+IsOfPlan (FileCount want got) = Unit {0}
+IsOfPlan (Unsafe join input missing) = Unit {0}
+IsOfPlan WriteFault = ⊥
+IsOfPlan NoMemory = ⊥
+IsOfPlan (Limit Plan) = Unit {0}
+IsOfPlan (Limit (Node node)) = ⊥
+IsOfPlan (Limit (File stream)) = ⊥
 
-run_form : (command : Command) → command.is_run ≡ true → refusal_of command ≡ plan_refusal (length (file_names command)) (plan_bytes command)
-run_form command run = ap (λ (b : Bool). cond b (plan_refusal (length (file_names command)) (plan_bytes command)) (Some Usage)) run
+-- how it is known that the bytes are refused so
+too_long : (files : ℕ) (bytes : List ℕ) → 1048576 < length bytes → RefusesBytes (Limit Plan) files bytes
+too_long files bytes more = inl (more, refl)
 
-other_form : (command : Command) → command.is_run ≡ false → refusal_of command ≡ Some Usage
-other_form command not = ap (λ (b : Bool). cond b (plan_refusal (length (file_names command)) (plan_bytes command)) (Some Usage)) not
+has_fault : (files : ℕ) (bytes : List ℕ) (fault : PlanFault) → (length bytes ≤ 1048576) × (plan_read bytes ≡ Err fault) → RefusesBytes (PlanRefused fault.line fault.why) files bytes
+has_fault files bytes fault read = inr (read.0, subst (RefusesRead (PlanRefused fault.line fault.why) files) (sym read.1) refl)
 
-so_refused : (command : Command) (status other : Status) → command.is_run ≡ true → (HasToldPlan command → plan_refusal (length (file_names command)) (plan_bytes command) ≡ Some status) → status ≡ other → IsRefused command other
-so_refused command status other run is same = subst (IsRefused command) same (run, λ told. run_form command run ∙ is told)
+is_unfit : (status : Status) (files : ℕ) (bytes : List ℕ) (plan : Outline) → RefusesPlan status files plan → (length bytes ≤ 1048576) × (plan_read bytes ≡ Ok plan) → RefusesBytes status files bytes
+is_unfit status files bytes plan refuses read = inr (read.0, subst (RefusesRead status files) (sym read.1) refuses)
 
-pub refused_early : (stop : PlanStop) (command : Command) (after : FolderState) (status : Status) → Unprepared stop command after → plan_status stop ≡ status → RefusesPlan status → IsRefused command status
-refused_early NoWords command after status u e p = absurd (subst RefusesPlan (sym e) p)
-refused_early (PlanFile NotOpened) command after status u e p = absurd (subst RefusesPlan (sym e) p)
-refused_early (PlanFile NotRead) command after status u e p = absurd (subst RefusesPlan (sym e) p)
-refused_early (PlanFile TooLong) command after status u e p = so_refused command _ status u.0 u.1.1 e
-refused_early (PlanFile FileMemory) command after status u e p = absurd (subst RefusesPlan (sym e) p)
-refused_early (Refused fault) command after status u e p = so_refused command _ status u.0 u.1.1 e
-refused_early (OtherCount want got) command after status u e p = so_refused command _ status u.0 u.1.1 e
-refused_early NoPlan command after status u e p = so_refused command _ status u.0 u.1.1 e
-refused_early PlanMemory command after status u e p = absurd (subst RefusesPlan (sym e) p)
+-- the status of a command of the right form
+module _ (command : Command) (run : command.is_run ≡ true) where
+  abbrev of_bytes : Status → Type 0
+  of_bytes status = HasToldPlan command → RefusesBytes status (length (file_names command)) (plan_bytes command)
 
-pub refused_never : (stop : FilesStop) (status : Status) → files_status stop ≡ status → RefusesPlan status → ⊥
-refused_never (Opening (Fault stream)) status e p = subst RefusesPlan (sym e) p
-refused_never (Opening OpeningMemory) status e p = subst RefusesPlan (sym e) p
-refused_never (Run (RunFault stream)) status e p = subst RefusesPlan (sym e) p
-refused_never (Run (TooLarge stream)) status e p = subst RefusesPlan (sym e) p
-refused_never (Run (RunLimit node)) status e p = subst RefusesPlan (sym e) p
-refused_never (Run WriteFailed) status e p = subst RefusesPlan (sym e) p
-refused_never (Run RunMemory) status e p = subst RefusesPlan (sym e) p
+  refused_so : (status other : Status) → of_bytes status → status ≡ other → IsRefused command other
+  refused_so status other is same = subst (IsRefused command) same (run, λ told. inr (run, is told))
+
+  answers_so : (answer : Status) → of_bytes answer → AnswersRefusal answer command
+  answers_so answer is told status refuses = inl (refused_alone command answer status (inr (run, is told)) refuses)
+
+pub refused_early : (stop : PlanStop) (command : Command) (after : FolderState) (status : Status) → Unprepared stop command after → plan_status stop ≡ status → IsOfPlan status → IsRefused command status
+refused_early NoWords command after status u e p = absurd (subst IsOfPlan (sym e) p)
+refused_early (PlanFile NotOpened) command after status u e p = absurd (subst IsOfPlan (sym e) p)
+refused_early (PlanFile NotRead) command after status u e p = absurd (subst IsOfPlan (sym e) p)
+refused_early (PlanFile TooLong) command after status u e p = refused_so command u.0 (Limit Plan) status (λ told. too_long (length (file_names command)) (plan_bytes command) (u.1.1 told)) e
+refused_early (PlanFile FileMemory) command after status u e p = absurd (subst IsOfPlan (sym e) p)
+refused_early (Refused fault) command after status u e p = refused_so command u.0 (PlanRefused fault.line fault.why) status (λ told. has_fault (length (file_names command)) (plan_bytes command) fault (u.1.1 told)) e
+refused_early (OtherCount want got) command after status u e p = refused_so command u.0 (FileCount want got) status (λ told. is_unfit (FileCount want got) (length (file_names command)) (plan_bytes command) u.1.1 u.1.2 (u.1.3 told)) e
+refused_early (Stuck found) command after status u e p =
+    refused_so command u.0 (Unsafe found.join found.input found.missing) status (λ told. is_unfit (Unsafe found.join found.input found.missing) (length (file_names command)) (plan_bytes command) u.1.0.1 u.1.0.2.0 (u.1.0.3 told)) e
+refused_early NoPlan command after status u e p = refused_so command u.0 NotBuilt status (λ told. is_unfit NotBuilt (length (file_names command)) (plan_bytes command) u.1.1 u.1.2 (u.1.3 told)) e
+refused_early PlanMemory command after status u e p = absurd (subst IsOfPlan (sym e) p)
+
+pub refused_never : (stop : FilesStop) (status : Status) → files_status stop ≡ status → IsOfPlan status → ⊥
+refused_never (Opening (Fault stream)) status e p = subst IsOfPlan (sym e) p
+refused_never (Opening OpeningMemory) status e p = subst IsOfPlan (sym e) p
+refused_never (Run (RunFault stream)) status e p = subst IsOfPlan (sym e) p
+refused_never (Run (TooLarge stream)) status e p = subst IsOfPlan (sym e) p
+refused_never (Run (RunLimit node)) status e p = subst IsOfPlan (sym e) p
+refused_never (Run WriteFailed) status e p = subst IsOfPlan (sym e) p
+refused_never (Run RunMemory) status e p = subst IsOfPlan (sym e) p
 
 pub usage_never : (stop : FilesStop) → files_status stop ≡ Usage → ⊥
 usage_never (Opening (Fault stream)) e = cc
@@ -195,27 +364,30 @@ usage_never (Run (RunLimit node)) e = cc
 usage_never (Run WriteFailed) e = cc
 usage_never (Run RunMemory) e = cc
 
-same_status : (refusal : Option Status) (one other : Status) → refusal ≡ Some one → refusal ≡ Some other → one ≡ other
-same_status refusal one other e f = cc
-
--- the answer is what is refused, where that is this
-answers : (command : Command) (answer : Status) → (HasToldPlan command → refusal_of command ≡ Some answer) → AnswersRefusal answer command
-answers command answer is told status e = inl (same_status (refusal_of command) answer status (is told) e)
-
 pub answers_early : (stop : PlanStop) (command : Command) (after : FolderState) → Unprepared stop command after → AnswersRefusal (plan_status stop) command
-answers_early NoWords command after u = answers command Usage (λ told. other_form command u.0)
-answers_early (PlanFile NotOpened) command after u = λ told status e. inr (inr (inl refl))
-answers_early (PlanFile NotRead) command after u = λ told status e. inr (inr (inr refl))
-answers_early (PlanFile TooLong) command after u = answers command _ (λ told. run_form command u.0 ∙ u.1.1 told)
-answers_early (PlanFile FileMemory) command after u = λ told status e. inr (inl refl)
-answers_early (Refused fault) command after u = answers command _ (λ told. run_form command u.0 ∙ u.1.1 told)
-answers_early (OtherCount want got) command after u = answers command _ (λ told. run_form command u.0 ∙ u.1.1 told)
-answers_early NoPlan command after u = answers command _ (λ told. run_form command u.0 ∙ u.1.1 told)
-answers_early PlanMemory command after u = λ told status e. inr (inl refl)
+answers_early NoWords command after u = λ told status refuses. inl (refused_alone command Usage status (inl (u.0, refl)) refuses)
+answers_early (PlanFile NotOpened) command after u = λ told status refuses. inr (inr (inl refl))
+answers_early (PlanFile NotRead) command after u = λ told status refuses. inr (inr (inr refl))
+answers_early (PlanFile TooLong) command after u = answers_so command u.0 (Limit Plan) (λ told. too_long (length (file_names command)) (plan_bytes command) (u.1.1 told))
+answers_early (PlanFile FileMemory) command after u = λ told status refuses. inr (inl refl)
+answers_early (Refused fault) command after u = answers_so command u.0 (PlanRefused fault.line fault.why) (λ told. has_fault (length (file_names command)) (plan_bytes command) fault (u.1.1 told))
+answers_early (OtherCount want got) command after u = answers_so command u.0 (FileCount want got) (λ told. is_unfit (FileCount want got) (length (file_names command)) (plan_bytes command) u.1.1 u.1.2 (u.1.3 told))
+answers_early (Stuck found) command after u =
+    answers_so command u.0 (Unsafe found.join found.input found.missing) (λ told. is_unfit (Unsafe found.join found.input found.missing) (length (file_names command)) (plan_bytes command) u.1.0.1 u.1.0.2.0 (u.1.0.3 told))
+answers_early NoPlan command after u = answers_so command u.0 NotBuilt (λ told. is_unfit NotBuilt (length (file_names command)) (plan_bytes command) u.1.1 u.1.2 (u.1.3 told))
+answers_early PlanMemory command after u = λ told status refuses. inr (inl refl)
 
--- where nothing is refused
-pub answers_built : (command : Command) (answer : Status) → (HasToldPlan command → refusal_of command ≡ None) → AnswersRefusal answer command
-answers_built command answer none told status e = absurd (no status (sym (none told) ∙ e))
-  where
-    no : (status : Status) → None ≡ Some status → ⊥
-    no status x = cc
+-- where there is something to run, nothing is refused
+bytes_never : (files : ℕ) (bytes : List ℕ) (status : Status) → IsPlanOf files bytes → RefusesBytes status files bytes → ⊥
+bytes_never files bytes status is (inl long) = let few = is.0 in let more = long.0 in omega (arith, few, more)
+bytes_never files bytes status is (inr read) =
+    let plan = is.1.0 in
+    let got : IsReadAs bytes plan = read_as bytes plan is.1.1 in
+    never_fit files plan status is.1.2 is.1.3 got.run (subst (RefusesRead status files) got.read read.1)
+
+refuses_never : (command : Command) (status : Status) → IsBuilt command → HasToldPlan command → Refuses command status → ⊥
+refuses_never command status built told (inl not) = false≢true (sym not.0 ∙ built.form)
+refuses_never command status built told (inr refuses) = bytes_never (length (file_names command)) (plan_bytes command) status (built.plan told) refuses.1
+
+pub answers_built : (command : Command) (answer : Status) → IsBuilt command → AnswersRefusal answer command
+answers_built command answer built told status refuses = absurd (refuses_never command status built told refuses)

@@ -1,20 +1,20 @@
 -- How the turns of a run end.
+use Rattle.pj_plan.specs.declared.node.Outline.{Outline}
+use Rattle.pj_plan.specs.declared.node.PlanNode.{PlanNode}
+use Rattle.pj_plan.specs.Sound.{IsSoundPlan}
+use Rattle.pj_core.specs.Plans.{nodes_of, streams_in}
 use Rattle.std.proofs.Common.{◌≡◌, ℕ, ◌≤◌, ◌^◌, false, List, [], ◌∷◌, ◌++◌, length, Option, Some, None, IfNone, IsTrue, refl, ap, sym, ◌∙◌, subst, arith}
 use Rattle.std.specs.List.{slice_get}
 use Rattle.std.proofs.lemmas.List.{length-map}
 use Rattle.pj_io.specs.Causes.{Rose}
 use Rattle.pj_io.specs.States.{SinkState}
-use Rattle.pj_shape.specs.declared.plans.SmallPlan.{SmallPlan}
-use Rattle.pj_shape.specs.declared.plans.SmallStream.{SmallStream}
-use Rattle.pj_shape.specs.declared.plans.SmallJoin.{SmallJoin}
 use Rattle.pj_element.specs.declared.tally.Tally.{Tally}
 use Rattle.pj_intake.specs.declared.intake.IntakeStop.TheVariants.{ReadFault as IntakeFault, ByteLimit, NoMemory as IntakeMemory}
 use Rattle.pj_laws.specs.declared.events.Entry.{Entry}
-use Rattle.pj_laws.specs.Plan.{Node}
+use Rattle.pj_laws.specs.Plan.{Node, ArePlanned}
 use Rattle.pj_laws.specs.History.{nodes_from}
 use Rattle.pj_laws.specs.Outcomes.{outputs_of as handed_out}
 use Rattle.pj_laws.specs.OneThread.{Turn, turns_entries}
-use Rattle.pj_laws.specs.CoreKept.{nodes_of, IsPlanOf, IsSmallPlan}
 use Rattle.pj_laws.proofs.Histories.{outputs-append}
 use Rattle.pj_core.specs.Cores.{CoreState}
 use Rattle.pj_engine.specs.declared.feeds.Arrival.{Arrival}
@@ -37,22 +37,15 @@ use Rattle.pj_engine.proofs.Counting.{out_lines-append}
 use Rattle.pj_engine.proofs.LinesWritten.{first_written}
 use Rattle.pj_engine.proofs.Opening.{rose_at}
 use Rattle.pj_engine.proofs.Running.{Ran, ends_at_limit, goes_beyond_here}
+use Rattle.pj_engine.proofs.StreamNodes.{few-streams}
 
--- a small plan has few streams
-pub few_streams : (plan : SmallPlan) → IsSmallPlan plan → length plan.streams ≤ 128
-few_streams plan small = go plan.join small
-  where
-    go : (join : Option SmallJoin) → IsPlanOf plan.streams join → length plan.streams ≤ 128
-    go None is = omega (arith, is)
-    go (Some join) is = omega (arith, is.1)
-
-pub few_feeds : (plan : SmallPlan) (feeds : List FeedState) → IsSmallPlan plan → AreFeeds 0 plan.streams feeds → length feeds ≤ 128
-few_feeds plan feeds small f = let a = feeds_long 0 plan.streams feeds f in let b = few_streams plan small in omega (arith, a, b)
+pub few_feeds : (plan : Outline) (feeds : List FeedState) → IsSoundPlan plan.nodes → AreFeeds 0 (streams_in plan.nodes) feeds → length feeds ≤ 128
+few_feeds plan feeds sound f = let a = feeds_long 0 (streams_in plan.nodes) feeds f in let b = few-streams plan.nodes sound in omega (arith, a, b)
 
 -- ---- a stream's turn that could not be made
 
 -- whole first lines of the run were written
-pub lines_so_far : (plan : SmallPlan) (files : List (List ℕ)) (history : List Entry) (core : CoreState) (left : List Turn) (counts : Counts) (cut : Cut) (before mid : List ℕ)
+pub lines_so_far : (plan : Outline) (files : List (List ℕ)) (history : List Entry) (core : CoreState) (left : List Turn) (counts : Counts) (cut : Cut) (before mid : List ℕ)
     → Ran plan files history core left counts → mid ≡ before ++ flat (out_lines (handed_out false (nodes_of plan) history))
     → Leaves cut (out_lines (handed_out false (nodes_of plan) (history_of plan files))) before mid
 lines_so_far plan files history core left counts cut before mid ran written =
@@ -63,7 +56,7 @@ lines_so_far plan files history core left counts cut before mid ran written =
     ∙ (ap out_lines (sym (outputs-append false (nodes_of plan) history rest)) ∙ ap (λ (h : List Entry). out_lines (handed_out false (nodes_of plan) h)) ran.all))
 
 -- a fault rose at the file of the stream, it is too large, or the sink's faults rose
-pub feed_cause : (plan : SmallPlan) (start olds news : List FeedState) (at : ℕ) (stop : FeedStop) (first old new : SinkState) → StopsIn olds news at old new stop → AreSameFeeds start olds → first.faults ≤ old.faults
+pub feed_cause : (plan : Outline) (start olds news : List FeedState) (at : ℕ) (stop : FeedStop) (first old new : SinkState) → StopsIn olds news at old new stop → AreSameFeeds start olds → first.faults ≤ old.faults
     → TurnsCause (stop_at stop.stream stop.why) plan start news first new
 feed_cause plan start olds news at stop first old new s same later = go stop.why s.stops
   where
@@ -77,16 +70,16 @@ feed_cause plan start olds news at stop first old new s same later = go stop.why
 
 -- ---- a turn of the core that stopped
 
-module _ (plan : SmallPlan) (files : List (List ℕ)) (small : IsSmallPlan plan) (history : List Entry) (core : CoreState) (t : Turn) (left : List Turn) (counts : Counts) (ran : Ran plan files history core (t ∷ left) counts) where
+module _ (plan : Outline) (files : List (List ℕ)) (planned : ArePlanned [] (nodes_of plan)) (history : List Entry) (core : CoreState) (t : Turn) (left : List Turn) (counts : Counts) (ran : Ran plan files history core (t ∷ left) counts) where
   pub turn_ends : (stop : TurnStop) (feeds : List FeedState) (before : List ℕ) (old new : SinkState) → old.written ≡ before ++ flat (out_lines (handed_out false (nodes_of plan) history)) → IsTrue new.told
       → TurnStops stop core history t old new → TurnsEnd (of_turn stop) plan files feeds before new.written
-  turn_ends (TurnLimit node) feeds before old new first told ends = ends_at_limit plan files small history core t left counts ran node before old new first told ends
+  turn_ends (TurnLimit node) feeds before old new first told ends = ends_at_limit plan files planned history core t left counts ran node before old new first told ends
   turn_ends TurnFailed feeds before old new first told ends = tt
   turn_ends TurnMemory feeds before old new first told ends = tt
 
 -- why it stopped, where the sink's faults rose with a failed write
-pub turn_cause : (stop : TurnStop) (plan : SmallPlan) (olds news : List FeedState) (core : CoreState) (history : List Entry) (t : Turn) (first old new : SinkState) → first.faults ≤ old.faults → (stop ≡ TurnFailed → Rose old.faults new.faults)
-    → (AllTold olds → (left : List Turn) × (counts : Counts) × IsSmallPlan plan × Ran plan (files_of olds) history core (t ∷ left) counts × TurnStops stop core history t old new)
+pub turn_cause : (stop : TurnStop) (plan : Outline) (olds news : List FeedState) (core : CoreState) (history : List Entry) (t : Turn) (first old new : SinkState) → first.faults ≤ old.faults → (stop ≡ TurnFailed → Rose old.faults new.faults)
+    → (AllTold olds → (left : List Turn) × (counts : Counts) × ArePlanned [] (nodes_of plan) × Ran plan (files_of olds) history core (t ∷ left) counts × TurnStops stop core history t old new)
     → TurnsCause (of_turn stop) plan olds news first new
 turn_cause (TurnLimit node) plan olds news core history t first old new later rose stops = λ told.
     let s = stops told in
@@ -96,10 +89,10 @@ turn_cause TurnMemory plan olds news core history t first old new later rose sto
 
 -- ---- what a call of the feeds gave
 
-pub given_some : (streams : List SmallStream) (given : Option Arrival) (next : Arrival) (old new : List Turn) → given ≡ Some next → Gives old new (turn_of streams given) → old ≡ turn_in streams next ∷ new
+pub given_some : (streams : List PlanNode) (given : Option Arrival) (next : Arrival) (old new : List Turn) → given ≡ Some next → Gives old new (turn_of streams given) → old ≡ turn_in streams next ∷ new
 given_some streams given next old new is gives = subst (λ (o : Option Arrival). Gives old new (turn_of streams o)) is gives
 
-pub given_none : (streams : List SmallStream) (given : Option Arrival) (old new : List Turn) → given ≡ None → Gives old new (turn_of streams given) → old ≡ []
+pub given_none : (streams : List PlanNode) (given : Option Arrival) (old new : List Turn) → given ≡ None → Gives old new (turn_of streams given) → old ≡ []
 given_none streams given old new is gives = subst (λ (o : Option Arrival). Gives old new (turn_of streams o)) is gives
 
 pub brings_some : (feeds : List FeedState) (given : Option Arrival) (next : Arrival) → given ≡ Some next → BringsIn feeds given → BringsIn feeds (Some next)
@@ -120,6 +113,6 @@ fault_of_name olds news stream before now same counted f =
     let o = same_at olds news stream f.0 same f.1 in
     (o.0, o.1, subst (λ (m : List ℕ). Rose (before m) (now m)) o.2.name (rose_at before now news stream f.0 counted f.1 f.2))
 
-pub tallies_count : (plan : SmallPlan) (olds news : List FeedState) (tallies lent : List Tally) → AreFeeds 0 plan.streams olds → AreSameFeeds olds news → tallies ≡ tallies_in news → lent ≡ tallies → length lent ≡ length plan.streams
+pub tallies_count : (plan : Outline) (olds news : List FeedState) (tallies lent : List Tally) → AreFeeds 0 (streams_in plan.nodes) olds → AreSameFeeds olds news → tallies ≡ tallies_in news → lent ≡ tallies → length lent ≡ length (streams_in plan.nodes)
 tallies_count plan olds news tallies lent f same is lends =
-    ap length lends ∙ (ap length is ∙ (length-map news (λ feed. feed.intake.seen.tally) ∙ (same_long olds news same ∙ feeds_long 0 plan.streams olds f)))
+    ap length lends ∙ (ap length is ∙ (length-map news (λ feed. feed.intake.seen.tally) ∙ (same_long olds news same ∙ feeds_long 0 (streams_in plan.nodes) olds f)))

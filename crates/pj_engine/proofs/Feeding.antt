@@ -1,4 +1,5 @@
 -- Turns of streams, one by one.
+use Rattle.pj_plan.specs.declared.node.PlanNode.{PlanNode}
 use Rattle.std.proofs.Common.{◌≡◌, ℕ, zero, suc, ◌+◌, ◌-◌, ◌<◌, ◌≤◌, false, List, [], ◌∷◌, ◌++◌, map, length, take, drop, get_or, set, subst, refl, ap, ap₂, sym, ◌∙◌, append_assoc, append-nil, arith, Some, inl, inr}
 use Rattle.std.specs.List.{slice_get}
 use Rattle.std.proofs.lemmas.Bool.{cases_lt}
@@ -6,7 +7,6 @@ use Rattle.std.proofs.lemmas.List.{take_more, take_more_set, drop-set-lt, drop_m
 use Rattle.std.proofs.lemmas.Option.{slice_get_within, get_or_from_slice_get}
 use Rattle.pj_value.specs.Lists.{In}
 use Rattle.pj_value.proofs.Members.{In-append_left, In-append_right}
-use Rattle.pj_shape.specs.declared.plans.SmallStream.{SmallStream}
 use Rattle.pj_laws.specs.OneThread.{Turn, heads, tails, rounds, longest, in_rounds}
 use Rattle.pj_laws.proofs.OneThreadAnswer.{rounds-go-on}
 use Rattle.pj_engine.specs.Feeds.{FeedState, feed_left, round_left, feeds_left, AllClosed, IsFirstOpen, HasTurn}
@@ -46,7 +46,7 @@ at_place feeds at feed is =
       take_more feeds at feed there ∙ ap (λ (f : FeedState). take at feeds ++ f ∷ []) here,
     )
 
-module _ (streams : List SmallStream) where
+module _ (streams : List PlanNode) where
   abbrev left : FeedState → List Turn
   left = feed_left streams
 

@@ -1,11 +1,12 @@
--- First outputs of a small plan's run stay right.
+-- First outputs of a plan's run stay right.
+use Rattle.pj_plan.specs.declared.node.Outline.{Outline}
+use Rattle.pj_core.specs.Plans.{nodes_of, streams_in}
 use Rattle.std.proofs.Common.{◌≡◌, ◌<◌, ◌≤◌, ◌+◌, ℕ, zero, suc, false, ◌⊎◌, inl, inr, List, [], ◌∷◌, ◌++◌, length, map, get_or, refl, ap, sym, ◌∙◌, subst, append_assoc, append-nil, arith}
 use Rattle.std.proofs.lemmas.Bool.{cases_lt}
 use Rattle.std.proofs.lemmas.List.{length-append}
 use Rattle.std.proofs.Math.ListN.{get_or-map}
 use Rattle.pj_value.specs.Bags.{weigh, SubBag}
 use Rattle.pj_value.proofs.Bags.{sub-front}
-use Rattle.pj_shape.specs.declared.plans.SmallPlan.{SmallPlan}
 use Rattle.pj_pattern.specs.declared.element.Element.{Element}
 use Rattle.pj_pattern.specs.Elements.{rows_of}
 use Rattle.pj_pattern.proofs.Elements.{rows_of-append}
@@ -15,17 +16,15 @@ use Rattle.pj_laws.specs.declared.events.Entry.{Entry}
 use Rattle.pj_laws.specs.History.{nodes_from, streams_of, IsLegal}
 use Rattle.pj_laws.specs.Outcomes.{elements_out}
 use Rattle.pj_laws.specs.Outcomes.{outputs_of as handed_out, elements_of as arrived_at}
-use Rattle.pj_laws.specs.CoreKept.{nodes_of, IsSmallPlan}
 use Rattle.pj_laws.specs.HistoryLaws.{GoOn}
 use Rattle.pj_laws.proofs.Histories.{outputs-append}
 use Rattle.pj_laws.proofs.HistoryAnswers.{fronts-are-legal}
 use Rattle.pj_laws.proofs.Retract.{never-retracts}
-use Rattle.pj_laws.proofs.Small.{small-planned, small-nodes, small-no_group}
 use Rattle.pj_laws.proofs.Steps.{elements-append}
 use Rattle.pj_engine.specs.Runs.{history_of, outputs_of, answer_of}
 use Rattle.pj_engine.specs.Top.{arrived_in, gone_on, StaysRight}
 use Rattle.pj_engine.proofs.Accepting.{count-streams}
-use Rattle.pj_engine.proofs.OutputLaws.{whole_run}
+use Rattle.pj_engine.proofs.OutputLaws.{IsPlanned, whole_run}
 
 -- ---- what a history hands out grows
 
@@ -99,16 +98,16 @@ rows_front xs ys zs e f =
     let front = sub-front (rows_of xs) (rows_of ys) f in
     omega (arith, all, parts, front)
 
-right_front : (plan : SmallPlan) (files : List (List ℕ)) (first others : List Element) (front back : List Entry) → IsSmallPlan plan → front ++ back ≡ history_of plan files
+right_front : (plan : Outline) (files : List (List ℕ)) (first others : List Element) (front back : List Entry) → IsPlanned plan → front ++ back ≡ history_of plan files
     → first ++ others ≡ given_out (nodes_of plan) front
-    → (more : List (List Element)) → SubBag (rows_of first) (answer_of plan (map rows_of (gone_on (arrived_in (length plan.streams) front) more)))
+    → (more : List (List Element)) → SubBag (rows_of first) (answer_of plan (map rows_of (gone_on (arrived_in (length (streams_in plan.nodes)) front) more)))
 right_front plan files first others front back p run among more f =
     let legal = fronts-are-legal (nodes_of plan) front back (subst (IsLegal (nodes_of plan)) (sym run) (whole_run plan files p).legal) in
-    let sub = never-retracts (nodes_of plan) (small-planned plan p) (small-nodes plan p) (small-no_group plan) false front legal
-    (map rows_of (gone_on (arrived_in (length plan.streams) front) more)) (go_on (nodes_of plan) (length plan.streams) front more (count-streams plan)) f in
+    let sub = never-retracts (nodes_of plan) p.well_made p.some p.no_groups false front legal
+    (map rows_of (gone_on (arrived_in (length (streams_in plan.nodes)) front) more)) (go_on (nodes_of plan) (length (streams_in plan.nodes)) front more (count-streams plan)) f in
     omega (arith, sub, rows_front first others (given_out (nodes_of plan) front) among f)
 
-stays_by : (plan : SmallPlan) (files : List (List ℕ)) (first others : List Element) → IsSmallPlan plan → first ++ others ≡ outputs_of plan files
+stays_by : (plan : Outline) (files : List (List ℕ)) (first others : List Element) → IsPlanned plan → first ++ others ≡ outputs_of plan files
     → IsLeast (nodes_of plan) (history_of plan files) (length first) → StaysRight plan files first
 stays_by plan files first others p e cut =
     let now = cut.front ++ cut.last ∷ [] in
@@ -124,9 +123,8 @@ stays_by plan files first others p e cut =
       right = λ more lawful. right_front plan files first part.0 now cut.back p cut.run part.1 more;
     }
 
-pub stays : (plan : SmallPlan) (files : List (List ℕ)) (first others : List Element) → IsSmallPlan plan → length files ≡ length plan.streams → first ++ others ≡ outputs_of plan files
-    → (first ≡ []) ⊎ StaysRight plan files first
-stays plan files [] others p l e = inl refl
-stays plan files (x ∷ first) others p l e =
+pub stays : (plan : Outline) (files : List (List ℕ)) (first others : List Element) → IsPlanned plan → first ++ others ≡ outputs_of plan files → (first ≡ []) ⊎ StaysRight plan files first
+stays plan files [] others p e = inl refl
+stays plan files (x ∷ first) others p e =
     inr (stays_by plan files (x ∷ first) others p e
     (least (nodes_of plan) [] (history_of plan files) (length (x ∷ first)) (omega arith) (omega (arith, ap length e, length-append (x ∷ first) others))))

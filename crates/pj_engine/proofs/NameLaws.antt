@@ -1,14 +1,76 @@
--- The names of streams by their numbers.
-use Rattle.std.proofs.Common.{◌≡◌, ◌≤◌, ℕ, zero, suc, List, [], ◌∷◌, length, get_or, refl, ap, arith}
-use Rattle.pj_shape.specs.declared.plans.SmallStream.{SmallStream}
+-- The names of a plan's nodes, and its streams by their numbers.
+use Rattle.std.proofs.Common.{◌≡◌, ◌≤◌, ℕ, zero, suc, Bool, true, false, cond, List, [], ◌∷◌, length, flat_map, get_or, refl, ap, ◌∙◌, inl, inr, arith}
+use Rattle.std.proofs.lemmas.Bool.{and_parts, and_from}
+use Rattle.pj_value.specs.Lists.{In}
+use Rattle.pj_value.proofs.Members.{In-append_left, In-flat_map_from, all_at, all_from}
+use Rattle.pj_plan.specs.declared.node.Node.{Node}
+use Rattle.pj_plan.specs.declared.node.Node.TheVariants.{Stream, Select, Project, Union, Join, Group}
+use Rattle.pj_plan.specs.declared.node.PlanNode.{PlanNode}
+use Rattle.pj_plan.specs.declared.node.Outline.{Outline}
+use Rattle.pj_plan.specs.Names.{is_name, is_column_name, is_word, begins_small, is_spelled}
+use Rattle.pj_plan.specs.Nodes.{is_stream, streams_of}
+use Rattle.pj_plan.specs.Canonical.{declaration, node_name, node_statements, statements_of}
+use Rattle.pj_plan.specs.Kept.{IsMadeAgain}
+use Rattle.pj_plan.specs.Sound.{IsSoundPlan}
+use Rattle.pj_core.specs.Plans.{streams_in}
+use Rattle.pj_engine.specs.PlanNames.{HasPlainNames, are_plain, is_plain}
 use Rattle.pj_engine.specs.Top.{stream_name}
+use Rattle.pj_engine.proofs.StreamNodes.{count_numbers, few-streams, name-at}
 
-pub named_stream : (streams : List SmallStream) (n : ℕ) (stream : SmallStream) → suc n ≤ length streams → stream ≡ get_or streams n stream → stream.name ≡ stream_name streams n
-named_stream [] n stream within is = absurd (omega (arith, within))
-named_stream (s ∷ streams) zero stream within is = ap (λ (x : SmallStream). x.name) is
-named_stream (s ∷ streams) (suc n) stream within is = named_stream streams n stream (omega (arith, within)) is
+-- ---- streams by their numbers
 
-pub unnamed_stream : (streams : List SmallStream) (n : ℕ) → length streams ≤ n → [] ≡ stream_name streams n
-unnamed_stream [] n past = refl
-unnamed_stream (s ∷ streams) zero past = absurd (omega (arith, past))
-unnamed_stream (s ∷ streams) (suc n) past = unnamed_stream streams n (omega (arith, past))
+-- few nodes have few streams
+pub few_numbers : (nodes : List PlanNode) → IsSoundPlan nodes → length (streams_of nodes) ≤ 64
+few_numbers nodes sound = let few = few-streams nodes sound in let count = count_numbers nodes in omega (arith, few, count)
+
+-- the name of a node is that of the stream that it is
+pub named_stream : (nodes : List PlanNode) (s number : ℕ) → suc s ≤ length (streams_of nodes) → number ≡ get_or (streams_of nodes) s number → node_name nodes number ≡ stream_name (streams_in nodes) s
+named_stream nodes s number within is =
+    let count = count_numbers nodes in
+    ap (node_name nodes) is ∙ name-at nodes s number (omega (arith, within, count))
+
+-- there is no node of this number
+pub unnamed : (nodes : List PlanNode) (n : ℕ) → length nodes ≤ n → [] ≡ node_name nodes n
+unnamed [] n past = refl
+unnamed (node ∷ nodes) zero past = absurd (omega (arith, past))
+unnamed (node ∷ nodes) (suc n) past = unnamed nodes n (omega (arith, past))
+
+pub unnamed_stream : (nodes : List PlanNode) (s : ℕ) → length (streams_of nodes) ≤ s → [] ≡ stream_name (streams_in nodes) s
+unnamed_stream nodes s past = let e = count_numbers nodes in unnamed (streams_in nodes) s (omega (arith, past, e))
+
+-- ---- plain names
+
+plain : (name : List ℕ) → is_name name ≡ true → is_plain name ≡ true
+plain name e = (and_parts (begins_small name) (is_plain name) (and_parts (is_word name) _ (and_parts (is_column_name name) _ e).0).0).1
+
+plain_of : (nodes : List PlanNode) (x : PlanNode) (node : Node) → is_spelled (declaration nodes x node) ≡ true → is_plain x.name ≡ true
+plain_of nodes x (Stream schemes) e = plain x.name (and_parts (is_name x.name) _ e).0
+plain_of nodes x (Select input test) e = plain x.name (and_parts (is_name x.name) _ (and_parts _ _ e).0).0
+plain_of nodes x (Project input columns) e = plain x.name (and_parts (is_name x.name) _ (and_parts _ _ e).0).0
+plain_of nodes x (Union inputs) e = plain x.name (and_parts (is_name x.name) _ e).0
+plain_of nodes x (Join inputs spec) e = plain x.name (and_parts (is_name x.name) _ (and_parts _ _ e).0).0
+plain_of nodes x (Group input spec) e = plain x.name (and_parts (is_name x.name) _ (and_parts _ _ e).0).0
+
+-- the statement that declares a node can be spelled
+declared : (plan : Outline) (node : PlanNode) → IsMadeAgain plan → In node plan.nodes → is_spelled (declaration plan.nodes node node.node) ≡ true
+declared plan node made there =
+    all_at is_spelled (statements_of plan) (declaration plan.nodes node node.node) made.spelled
+    (inr (In-append_left (declaration plan.nodes node node.node) (flat_map (node_statements plan.nodes) plan.nodes) _
+    (In-flat_map_from (node_statements plan.nodes) (declaration plan.nodes node node.node) node plan.nodes there (inl refl))))
+
+-- the names of a plan that is made again by its canonical statements
+pub plain_names : (plan : Outline) → IsMadeAgain plan → HasPlainNames plan.nodes
+plain_names plan made = all_from (λ node. is_plain node.name) plan.nodes (λ node there. plain_of plan.nodes node node.node (declared plan node made there))
+
+pub name_plain : (nodes : List PlanNode) (n : ℕ) → are_plain nodes ≡ true → is_plain (node_name nodes n) ≡ true
+name_plain [] n e = refl
+name_plain (node ∷ nodes) zero e = (and_parts (is_plain node.name) (are_plain nodes) e).0
+name_plain (node ∷ nodes) (suc n) e = name_plain nodes n (and_parts (is_plain node.name) (are_plain nodes) e).1
+
+pub streams_plain : (nodes : List PlanNode) → are_plain nodes ≡ true → are_plain (streams_in nodes) ≡ true
+streams_plain [] e = refl
+streams_plain (node ∷ nodes) e = let p = and_parts (is_plain node.name) (are_plain nodes) e in go (is_stream node.node) p.0 (streams_plain nodes p.1)
+  where
+    go : (b : Bool) → is_plain node.name ≡ true → are_plain (streams_in nodes) ≡ true → are_plain (cond b (node ∷ streams_in nodes) (streams_in nodes)) ≡ true
+    go true one more = and_from (is_plain node.name) (are_plain (streams_in nodes)) one more
+    go false one more = more

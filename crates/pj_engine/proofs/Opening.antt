@@ -1,4 +1,7 @@
 -- Files that were opened as those of the streams of a run, and what they leave once they are closed.
+use Rattle.pj_shape.specs.declared.columns.Column.{Column}
+use Rattle.pj_plan.specs.declared.node.PlanNode.{PlanNode}
+use Rattle.pj_plan.specs.Canonical.{no_node}
 use Rattle.std.proofs.Common.{◌≡◌, ◌≢◌, ◌≤◌, ◌<◌, ◌+◌, ◌⊎◌, ℕ, zero, suc, Bool, inl, inr, List, [], ◌∷◌, ◌++◌, map, take, length, get_or, Some, IsTrue, refl, ap, ap₂, sym, ◌∙◌, subst, append-nil, arith}
 use Rattle.std.specs.Prelude.{⊤, slice_index_or}
 use Rattle.std.specs.List.{slice_get}
@@ -9,13 +12,12 @@ use Rattle.std.proofs.lemmas.List.{length-append, take_more}
 use Rattle.pj_value.specs.Lists.{In}
 use Rattle.pj_value.proofs.Members.{In-append_left, In-append_right, In-append_cases}
 use Rattle.pj_io.specs.Causes.{Rose, counted}
-use Rattle.pj_io.specs.Folders.{IsFresh, KeepsNames, SameElsewhere, SameEverywhere}
+use Rattle.pj_io.specs.Folders.{IsFresh, KeepsNames, NoneFalls, SameElsewhere, SameEverywhere}
 use Rattle.pj_io.specs.States.{FolderState}
-use Rattle.pj_shape.specs.declared.plans.SmallStream.{SmallStream}
 use Rattle.pj_engine.specs.Commands.{AreTold, files_named}
 use Rattle.pj_engine.specs.Ends.{AreDistinct, IsNoneOf}
 use Rattle.pj_engine.specs.Feeds.{FeedState, bytes_of, files_of, AreFeeds, AreNew, AreSameFeeds, AllTold, AreAllTaken}
-use Rattle.pj_engine.specs.Opened.{IsFeedOf, AreFeedsOf, AreOpened, AgreeOn, NoneNamed, IsLast, AreCounted, HasLasts, OpensFirst, OpensAtMost}
+use Rattle.pj_engine.specs.Opened.{IsFeedOf, AreFeedsOf, AreOpened, AgreeOn, NoneNamed, IsLast, AreCounted, HasLasts, OpensFirst, OpensAtMost, FailsToOpen, IsFaultAt}
 use Rattle.pj_engine.proofs.FilesLaws.{same_or_other}
 
 -- ---- the names under which files are opened
@@ -97,6 +99,18 @@ opens_most_then most i names name old mid new first then few low is = go then.0 
     go (suc zero) le opens = (i + 1, omega (arith, few), opens_then i names name old mid new first opens low is)
     go (suc (suc n)) le opens = absurd (omega (arith, le))
 
+-- the file of the next name could not be opened
+pub fault_of_next : (i stream : ℕ) (names : List (List ℕ)) (name : List ℕ) (feeds : List FeedState) (old mid new : FolderState) → OpensFirst i names old mid → NoneFalls old.faults mid.faults
+    → (stream ≡ i) × FailsToOpen name mid new → i < length names → name ≡ slice_index_or names i [] → length feeds ≡ i → IsFaultAt stream names feeds old new
+fault_of_next i stream names name feeds old mid new first falls fails low is count =
+    subst (λ (n : ℕ). IsFaultAt n names feeds old new) (sym fails.0)
+    (record {
+      there = low;
+      before = count;
+      opened = opens_no_more i names (name ∷ []) old mid new first fails.1.0;
+      rose = subst (λ (n : List ℕ). Rose (old.faults n) (new.faults n)) is (let less = falls name in let rose = fails.1.1 in omega (arith, less, rose));
+    })
+
 -- whatever other names there are behind the first
 pub opens_most_of : (name : List ℕ) (names all : List (List ℕ)) (old new : FolderState) → all ≡ name ∷ names → OpensAtMost 1 (name ∷ []) old new → OpensAtMost 1 all old new
 opens_most_of name names all old new is some = subst (λ (ns : List (List ℕ)). OpensAtMost 1 ns old new) (sym is) (go some.0 some.1 some.2)
@@ -108,29 +122,29 @@ opens_most_of name names all old new is some = subst (λ (ns : List (List ℕ)).
 
 -- ---- files that are opened one after the other
 
-one_more : (k i : ℕ) (streams : List SmallStream) (words : List (String Global)) (folder : FolderState) (feeds : List FeedState) (s : SmallStream) (word : String Global) (feed : FeedState)
-    → AreFeedsOf k streams (map string_bytes words) folder feeds → length feeds ≡ i → i < length streams → i < length words → s ≡ get_or streams i s → word ≡ get_or words i word
-    → IsFeedOf (k + i) s (string_bytes word) folder feed → AreFeedsOf k streams (map string_bytes words) folder (feeds ++ feed ∷ [])
-one_more k i [] words folder feeds s word feed all count low few here named of = absurd (omega (arith, low))
-one_more k i (t ∷ ts) [] folder feeds s word feed all count low few here named of = absurd (omega (arith, few))
-one_more k zero (t ∷ ts) (w ∷ ws) folder [] s word feed all count low few here named of =
+one_more : (k i : ℕ) (streams : List PlanNode) (words : List (String Global)) (folder : FolderState) (feeds : List FeedState) (schema : List Column) (word : String Global) (feed : FeedState)
+    → AreFeedsOf k streams (map string_bytes words) folder feeds → length feeds ≡ i → i < length streams → i < length words → schema ≡ (get_or streams i no_node).schema → word ≡ get_or words i word
+    → IsFeedOf (k + i) schema (string_bytes word) folder feed → AreFeedsOf k streams (map string_bytes words) folder (feeds ++ feed ∷ [])
+one_more k i [] words folder feeds schema word feed all count low few here named of = absurd (omega (arith, low))
+one_more k i (t ∷ ts) [] folder feeds schema word feed all count low few here named of = absurd (omega (arith, few))
+one_more k zero (t ∷ ts) (w ∷ ws) folder [] schema word feed all count low few here named of =
     let first : k + 0 ≡ k = omega arith in (
-      subst (λ (n : ℕ). IsFeedOf n t (string_bytes w) folder feed) first (subst (λ (x : SmallStream). IsFeedOf (k + 0) x (string_bytes w) folder feed) here
-          (subst (λ (x : String Global). IsFeedOf (k + 0) s (string_bytes x) folder feed) named of)),
+      subst (λ (n : ℕ). IsFeedOf n t.schema (string_bytes w) folder feed) first (subst (λ (x : List Column). IsFeedOf (k + 0) x (string_bytes w) folder feed) here
+          (subst (λ (x : String Global). IsFeedOf (k + 0) schema (string_bytes x) folder feed) named of)),
       tt,
     )
-one_more k zero (t ∷ ts) (w ∷ ws) folder (f ∷ fs) s word feed all count low few here named of = absurd (omega (arith, count))
-one_more k (suc i) (t ∷ ts) (w ∷ ws) folder [] s word feed all count low few here named of = absurd (omega (arith, count))
-one_more k (suc i) (t ∷ ts) (w ∷ ws) folder (f ∷ fs) s word feed all count low few here named of =
+one_more k zero (t ∷ ts) (w ∷ ws) folder (f ∷ fs) schema word feed all count low few here named of = absurd (omega (arith, count))
+one_more k (suc i) (t ∷ ts) (w ∷ ws) folder [] schema word feed all count low few here named of = absurd (omega (arith, count))
+one_more k (suc i) (t ∷ ts) (w ∷ ws) folder (f ∷ fs) schema word feed all count low few here named of =
     let next : k + suc i ≡ k + 1 + i = omega arith in (
       all.0,
-      one_more (k + 1) i ts ws folder fs s word feed all.1 (omega (arith, count)) (omega (arith, low)) (omega (arith, few)) here named
-          (subst (λ (n : ℕ). IsFeedOf n s (string_bytes word) folder feed) next of),
+      one_more (k + 1) i ts ws folder fs schema word feed all.1 (omega (arith, count)) (omega (arith, low)) (omega (arith, few)) here named
+          (subst (λ (n : ℕ). IsFeedOf n schema (string_bytes word) folder feed) next of),
     )
 
 -- what a folder tells of a file that is opened is what it told before
-feed_before : (i : ℕ) (s : SmallStream) (name : List ℕ) (old mid : FolderState) (feed : FeedState) → mid.told ≡ old.told → mid.contents ≡ old.contents → IsFeedOf i s name mid feed → IsFeedOf i s name old feed
-feed_before i s name old mid feed told contents of = record {
+feed_before : (i : ℕ) (schema : List Column) (name : List ℕ) (old mid : FolderState) (feed : FeedState) → mid.told ≡ old.told → mid.contents ≡ old.contents → IsFeedOf i schema name mid feed → IsFeedOf i schema name old feed
+feed_before i schema name old mid feed told contents of = record {
   number = of.number;
   columns = of.columns;
   still = of.still;
@@ -142,15 +156,15 @@ feed_before i s name old mid feed told contents of = record {
 }
 
 -- the file of one more name was opened, by a folder that tells the same as before
-pub feeds_more : (i : ℕ) (streams : List SmallStream) (words : List (String Global)) (old mid : FolderState) (feeds news : List FeedState) (s : SmallStream) (word : String Global) (name : List ℕ) (feed : FeedState)
-    → AreFeedsOf 0 streams (map string_bytes words) old feeds → length feeds ≡ i → i < length streams → length words ≡ length streams → s ≡ get_or streams i s → word ≡ get_or words i word → name ≡ string_bytes word
-    → mid.told ≡ old.told → mid.contents ≡ old.contents → IsFeedOf i s name mid feed → news ≡ feeds ++ feed ∷ [] → AreFeedsOf 0 streams (map string_bytes words) old news
-feeds_more i streams words old mid feeds news s word name feed all count low each here named is told contents of new =
+pub feeds_more : (i : ℕ) (streams : List PlanNode) (words : List (String Global)) (old mid : FolderState) (feeds news : List FeedState) (schema : List Column) (word : String Global) (name : List ℕ) (feed : FeedState)
+    → AreFeedsOf 0 streams (map string_bytes words) old feeds → length feeds ≡ i → i < length streams → length words ≡ length streams → schema ≡ (get_or streams i no_node).schema → word ≡ get_or words i word → name ≡ string_bytes word
+    → mid.told ≡ old.told → mid.contents ≡ old.contents → IsFeedOf i schema name mid feed → news ≡ feeds ++ feed ∷ [] → AreFeedsOf 0 streams (map string_bytes words) old news
+feeds_more i streams words old mid feeds news schema word name feed all count low each here named is told contents of new =
     let number : i ≡ 0 + i = omega arith in
     subst (λ (fs : List FeedState). AreFeedsOf 0 streams (map string_bytes words) old fs) (sym new)
-    (one_more 0 i streams words old feeds s word feed all count low (omega (arith, low, each)) here named
-    (subst (λ (n : ℕ). IsFeedOf n s (string_bytes word) old feed) number
-    (subst (λ (n : List ℕ). IsFeedOf i s n old feed) is (feed_before i s name old mid feed told contents of))))
+    (one_more 0 i streams words old feeds schema word feed all count low (omega (arith, low, each)) here named
+    (subst (λ (n : ℕ). IsFeedOf n schema (string_bytes word) old feed) number
+    (subst (λ (n : List ℕ). IsFeedOf i schema n old feed) is (feed_before i schema name old mid feed told contents of))))
 
 pub count_more : (i : ℕ) (feeds news : List FeedState) (feed : FeedState) → length feeds ≡ i → news ≡ feeds ++ feed ∷ [] → length news ≡ i + 1
 count_more i feeds news feed count new = let long = ap length new ∙ length-append feeds (feed ∷ []) in omega (arith, long, count)
@@ -170,37 +184,37 @@ word_at (w ∷ ws) (suc i) word low is = word_at ws i word (omega (arith, low)) 
 
 -- ---- feeds that were just opened
 
-pub feeds_of : (k : ℕ) (streams : List SmallStream) (names : List (List ℕ)) (folder : FolderState) (feeds : List FeedState) → AreFeedsOf k streams names folder feeds → length feeds ≡ length streams → AreFeeds k streams feeds
+pub feeds_of : (k : ℕ) (streams : List PlanNode) (names : List (List ℕ)) (folder : FolderState) (feeds : List FeedState) → AreFeedsOf k streams names folder feeds → length feeds ≡ length streams → AreFeeds k streams feeds
 feeds_of k [] names folder [] all each = tt
 feeds_of k [] names folder (f ∷ fs) all each = absurd all
 feeds_of k (s ∷ ss) names folder [] all each = absurd (omega (arith, each))
 feeds_of k (s ∷ ss) [] folder (f ∷ fs) all each = absurd all
 feeds_of k (s ∷ ss) (n ∷ ns) folder (f ∷ fs) all each = (all.0.number, all.0.columns, all.0.fed, feeds_of (k + 1) ss ns folder fs all.1 (omega (arith, each)))
 
-pub new_of : (k : ℕ) (streams : List SmallStream) (names : List (List ℕ)) (folder : FolderState) (feeds : List FeedState) → AreFeedsOf k streams names folder feeds → AreNew feeds
+pub new_of : (k : ℕ) (streams : List PlanNode) (names : List (List ℕ)) (folder : FolderState) (feeds : List FeedState) → AreFeedsOf k streams names folder feeds → AreNew feeds
 new_of k streams names folder [] all = tt
 new_of k [] names folder (f ∷ fs) all = absurd all
 new_of k (s ∷ ss) [] folder (f ∷ fs) all = absurd all
 new_of k (s ∷ ss) (n ∷ ns) folder (f ∷ fs) all = (all.0.still, all.0.none, new_of (k + 1) ss ns folder fs all.1)
 
-pub told_of : (k : ℕ) (streams : List SmallStream) (names : List (List ℕ)) (folder : FolderState) (feeds : List FeedState) → AreFeedsOf k streams names folder feeds → AreTold names folder → AllTold feeds
+pub told_of : (k : ℕ) (streams : List PlanNode) (names : List (List ℕ)) (folder : FolderState) (feeds : List FeedState) → AreFeedsOf k streams names folder feeds → AreTold names folder → AllTold feeds
 told_of k streams names folder [] all told = tt
 told_of k [] names folder (f ∷ fs) all told = absurd all
 told_of k (s ∷ ss) [] folder (f ∷ fs) all told = absurd all
 told_of k (s ∷ ss) (n ∷ ns) folder (f ∷ fs) all told = ((all.0.told told.0).tells, told_of (k + 1) ss ns folder fs all.1 told.1)
 
 -- all bytes of the file that was opened under a name are its contents
-bytes_are : (k : ℕ) (s : SmallStream) (name : List ℕ) (folder : FolderState) (feed : FeedState) → IsFeedOf k s name folder feed → IsTrue (folder.told name) → bytes_of feed ≡ folder.contents name
-bytes_are k s name folder feed of told = let fresh = of.told told in ap₂ (λ (xs ys : List ℕ). xs ++ ys) fresh.taken fresh.left
+bytes_are : (k : ℕ) (schema : List Column) (name : List ℕ) (folder : FolderState) (feed : FeedState) → IsFeedOf k schema name folder feed → IsTrue (folder.told name) → bytes_of feed ≡ folder.contents name
+bytes_are k schema name folder feed of told = let fresh = of.told told in ap₂ (λ (xs ys : List ℕ). xs ++ ys) fresh.taken fresh.left
 
-pub files_are : (k : ℕ) (streams : List SmallStream) (names : List (List ℕ)) (folder : FolderState) (feeds : List FeedState) → AreFeedsOf k streams names folder feeds → length feeds ≡ length names → AreTold names folder
+pub files_are : (k : ℕ) (streams : List PlanNode) (names : List (List ℕ)) (folder : FolderState) (feeds : List FeedState) → AreFeedsOf k streams names folder feeds → length feeds ≡ length names → AreTold names folder
     → files_of feeds ≡ files_named names folder
 files_are k streams [] folder [] all each told = refl
 files_are k streams (n ∷ ns) folder [] all each told = absurd (omega (arith, each))
 files_are k [] names folder (f ∷ fs) all each told = absurd all
 files_are k (s ∷ ss) [] folder (f ∷ fs) all each told = absurd all
 files_are k (s ∷ ss) (n ∷ ns) folder (f ∷ fs) all each told =
-    ap₂ (λ (xs : List ℕ) (ys : List (List ℕ)). xs ∷ ys) (bytes_are k s n folder f all.0 told.0) (files_are (k + 1) ss ns folder fs all.1 (omega (arith, each)) told.1)
+    ap₂ (λ (xs : List ℕ) (ys : List (List ℕ)). xs ∷ ys) (bytes_are k s.schema n folder f all.0 told.0) (files_are (k + 1) ss ns folder fs all.1 (omega (arith, each)) told.1)
 
 -- the name of the feed at a place, and its bytes where they are told
 pub record IsNamed (names : List (List ℕ)) (i : ℕ) (folder : FolderState) (feed : FeedState) : Type 0 where
@@ -209,14 +223,14 @@ pub record IsNamed (names : List (List ℕ)) (i : ℕ) (folder : FolderState) (f
   pub told : IsTrue (folder.told (slice_index_or names i [])) → IsTrue feed.source.told
   pub bytes : IsTrue (folder.told (slice_index_or names i [])) → bytes_of feed ≡ folder.contents (slice_index_or names i [])
 
-pub named_of : (k : ℕ) (streams : List SmallStream) (names : List (List ℕ)) (folder : FolderState) (feeds : List FeedState) (i : ℕ) (feed : FeedState) → AreFeedsOf k streams names folder feeds → slice_get feeds i ≡ Some feed
+pub named_of : (k : ℕ) (streams : List PlanNode) (names : List (List ℕ)) (folder : FolderState) (feeds : List FeedState) (i : ℕ) (feed : FeedState) → AreFeedsOf k streams names folder feeds → slice_get feeds i ≡ Some feed
     → IsNamed names i folder feed
 named_of k streams names folder [] i feed all is = absurd (cc)
 named_of k [] names folder (f ∷ fs) i feed all is = absurd all
 named_of k (s ∷ ss) [] folder (f ∷ fs) i feed all is = absurd all
 named_of k (s ∷ ss) (n ∷ ns) folder (f ∷ fs) zero feed all is =
     let same : f ≡ feed = cc is in
-    subst (IsNamed (n ∷ ns) 0 folder) same (record { there = omega arith; named = all.0.opened.named; told = λ t. (all.0.told t).tells; bytes = λ t. bytes_are k s n folder f all.0 t })
+    subst (IsNamed (n ∷ ns) 0 folder) same (record { there = omega arith; named = all.0.opened.named; told = λ t. (all.0.told t).tells; bytes = λ t. bytes_are k s.schema n folder f all.0 t })
 named_of k (s ∷ ss) (n ∷ ns) folder (f ∷ fs) (suc i) feed all is =
     let r = named_of (k + 1) ss ns folder fs i feed all.1 is in
     let low = r.there in record { there = omega (arith, low); named = r.named; told = r.told; bytes = r.bytes }
@@ -229,7 +243,7 @@ AreNamed [] names = ⊤
 AreNamed (feed ∷ feeds) [] = ⊥
 AreNamed (feed ∷ feeds) (name ∷ names) = (feed.source.name ≡ name) × AreNamed feeds names
 
-pub named_still : (k : ℕ) (streams : List SmallStream) (names : List (List ℕ)) (folder : FolderState) (olds news : List FeedState) → AreFeedsOf k streams names folder olds → AreSameFeeds olds news → AreNamed news names
+pub named_still : (k : ℕ) (streams : List PlanNode) (names : List (List ℕ)) (folder : FolderState) (olds news : List FeedState) → AreFeedsOf k streams names folder olds → AreSameFeeds olds news → AreNamed news names
 named_still k streams names folder [] [] all same = tt
 named_still k streams names folder [] (g ∷ gs) all same = absurd same
 named_still k streams names folder (f ∷ fs) [] all same = absurd same
@@ -272,7 +286,7 @@ agree_at (f ∷ fs) (n ∷ ns) (suc i) feed named distinct told is =
     (λ e. absurd (other_at n ns i distinct.0 low (sym named.0 ∙ e)), agree_at fs ns i feed named.1 distinct.1 told.1 is)
 
 -- so many bytes were taken from the file of this name that was closed last
-pub last_at_fault : (k : ℕ) (streams : List SmallStream) (names : List (List ℕ)) (folder : FolderState) (olds news : List FeedState) (i : ℕ) (feed : FeedState) (before now : List ℕ → ℕ) → AreFeedsOf k streams names folder olds
+pub last_at_fault : (k : ℕ) (streams : List PlanNode) (names : List (List ℕ)) (folder : FolderState) (olds news : List FeedState) (i : ℕ) (feed : FeedState) (before now : List ℕ → ℕ) → AreFeedsOf k streams names folder olds
     → AreSameFeeds olds news → AllTold news → AreDistinct names → slice_get news i ≡ Some feed → HasLasts news before now → now (slice_index_or names i []) ≡ length feed.source.taken
 last_at_fault k streams names folder olds news i feed before now all same told distinct is lasts = go (lasts name (length feed.source.taken) (agree_at news names i feed named distinct told is))
   where
@@ -289,7 +303,7 @@ last_at_fault k streams names folder olds news i feed before now all same told d
 -- ---- feeds that were read to their ends
 
 -- where a name is told, all bytes were taken from each file of it
-agree_read : (k : ℕ) (streams : List SmallStream) (names : List (List ℕ)) (folder : FolderState) (olds news : List FeedState) (name : List ℕ) → AreFeedsOf k streams names folder olds → AreSameFeeds olds news → AreAllTaken news
+agree_read : (k : ℕ) (streams : List PlanNode) (names : List (List ℕ)) (folder : FolderState) (olds news : List FeedState) (name : List ℕ) → AreFeedsOf k streams names folder olds → AreSameFeeds olds news → AreAllTaken news
     → IsTrue (folder.told name) → AgreeOn name (length (folder.contents name)) news
 agree_read k streams names folder [] [] name all same taken told = tt
 agree_read k streams names folder [] (g ∷ gs) name all same taken told = absurd same
@@ -304,17 +318,17 @@ agree_read k (s ∷ ss) (n ∷ ns) folder (f ∷ fs) (g ∷ gs) name all same ta
         let here : IsTrue (folder.told n) = subst (λ (m : List ℕ). IsTrue (folder.told m)) (sym is) told in
         let old_told : IsTrue f.source.told = (all.0.told here).tells in
         let new_told : IsTrue g.source.told = subst IsTrue (sym same.0.told) old_told in
-        let bytes : bytes_of g ≡ folder.contents n = same.0.bytes old_told ∙ bytes_are k s n folder f all.0 here in
+        let bytes : bytes_of g ≡ folder.contents n = same.0.bytes old_told ∙ bytes_are k s.schema n folder f all.0 here in
         let none : bytes_of g ≡ g.source.taken = ap (λ (xs : List ℕ). g.source.taken ++ xs) (taken.0 new_told) ∙ append-nil g.source.taken in
         (new_told, ap length (sym none ∙ (bytes ∙ ap folder.contents is)))
 
 -- what holds of each name that is told once these files are closed
-pub last_read : (k : ℕ) (streams : List SmallStream) (names : List (List ℕ)) (folder : FolderState) (olds news : List FeedState) (before now : List ℕ → ℕ) (name : List ℕ) → AreFeedsOf k streams names folder olds → AreSameFeeds olds news
+pub last_read : (k : ℕ) (streams : List PlanNode) (names : List (List ℕ)) (folder : FolderState) (olds news : List FeedState) (before now : List ℕ → ℕ) (name : List ℕ) → AreFeedsOf k streams names folder olds → AreSameFeeds olds news
     → AreAllTaken news → HasLasts news before now → IsTrue (folder.told name) → IsLast name (length (folder.contents name)) news (before name) (now name)
 last_read k streams names folder olds news before now name all same taken lasts told = lasts name (length (folder.contents name)) (agree_read k streams names folder olds news name all same taken told)
 
 -- a name whose file was read to its end before stays one
-pub keeps_of : (k : ℕ) (streams : List SmallStream) (names : List (List ℕ)) (folder : FolderState) (olds news : List FeedState) (before now : List ℕ → ℕ) (name : List ℕ) → AreFeedsOf k streams names folder olds → AreSameFeeds olds news
+pub keeps_of : (k : ℕ) (streams : List PlanNode) (names : List (List ℕ)) (folder : FolderState) (olds news : List FeedState) (before now : List ℕ → ℕ) (name : List ℕ) → AreFeedsOf k streams names folder olds → AreSameFeeds olds news
     → AreAllTaken news → HasLasts news before now → IsTrue (folder.told name) → before name ≡ length (folder.contents name) → now name ≡ length (folder.contents name)
 keeps_of k streams names folder olds news before now name all same taken lasts told had = go (last_read k streams names folder olds news before now name all same taken lasts told)
   where

@@ -1,49 +1,86 @@
--- Why there is no plan to run, from the bytes of its file up to the words.
-use Rattle.std.proofs.Common.{◌≡◌, ◌≤◌, ◌<◌, ℕ, Bool, true, false, List, [], ◌∷◌, length, Option, None, Some, Result, Ok, Err, IsTrue, IfErr, OnOk, refl, ap, sym, ◌∙◌, subst, cond, arith}
-use Rattle.std.specs.Prelude.{nat_lt}
+-- Why there is no plan to run, from the plan of the file up to the words.
+use Rattle.std.proofs.Common.{◌≡◌, ◌≤◌, ℕ, Bool, true, false, cond, List, [], ◌∷◌, length, Some, None, Result, Ok, Err, IsTrue, IfErr, refl, ap, sym, ◌∙◌, subst}
 use Rattle.std.specs.declared.string.String.{String}
 use Rattle.std.specs.declared.alloc.Global.{Global}
-use Rattle.std.proofs.lemmas.Bool.Decides.{nat_tests}
 use Rattle.pj_io.specs.States.{FolderState}
-use Rattle.pj_shape.specs.declared.plans.SmallPlan.{SmallPlan}
+use Rattle.pj_plan.specs.declared.fault.PlanFault.{PlanFault}
 use Rattle.pj_plan.specs.declared.node.Outline.{Outline}
+use Rattle.pj_plan.specs.Nodes.{streams_of}
+use Rattle.pj_plan.specs.Kept.{IsMadeAgain}
+use Rattle.pj_plan.specs.Sound.{IsSoundPlan}
 use Rattle.pj_plan_text.specs.PlanRead.{plan_read}
-use Rattle.pj_engine.specs.declared.status.Status.{Status}
-use Rattle.pj_engine.specs.declared.status.Status.TheVariants.{Usage, Limit}
-use Rattle.pj_engine.specs.declared.status.LimitOf.TheVariants.{Plan}
+use Rattle.pj_alone.specs.Safety.{IsSafePlan}
+use Rattle.pj_core.specs.Plans.{are_run}
+use Rattle.pj_core.specs.Cores.{CoreState}
+use Rattle.pj_core.specs.Calls.{IsFresh}
 use Rattle.pj_engine.specs.declared.stops.FileStop.{FileStop}
 use Rattle.pj_engine.specs.declared.stops.FileStop.TheVariants.{OpenFault as NotOpened, ReadFault as NotRead, TooLong, NoMemory as FileMemory}
 use Rattle.pj_engine.specs.declared.stops.PlanStop.{PlanStop}
-use Rattle.pj_engine.specs.declared.stops.PlanStop.TheVariants.{Usage as NoWords, File as PlanFile, Refused, FileCount as OtherCount, NotBuilt as NoPlan, NoMemory as PlanMemory}
-use Rattle.pj_engine.specs.Commands.{Command, command_of, is_run, operands, operand, behind_first, file_names, plan_bytes}
+use Rattle.pj_engine.specs.declared.stops.PlanStop.TheVariants.{Usage as NoWords, File as PlanFile, Refused, FileCount as OtherCount, Unsafe as Stuck, NotBuilt as NoPlan, NoMemory as PlanMemory}
+use Rattle.pj_engine.specs.Commands.{Command, command_of, is_run, operands, operand, behind_first, file_names}
 use Rattle.pj_engine.specs.Opened.{OpensFirst}
-use Rattle.pj_engine.specs.Refusals.{BytesRefused, FileCause, FileOpens, PlanCause, PlanUnfit, Unprepared, count_refusal, plan_refusal, read_refusal, refusal_of}
+use Rattle.pj_engine.specs.PlanNames.{HasPlainNames}
+use Rattle.pj_engine.specs.Plans.{plan_of, plan_if, run_plan}
+use Rattle.pj_engine.specs.Refusals.{BytesRefused, FileCause, FileOpens, HasLines, IsUnrun, PlanCause, PlanUnfit, Unprepared}
+use Rattle.pj_engine.specs.Runs.{IsNewCore, most_arrivals}
+use Rattle.pj_engine.proofs.NameLaws.{plain_names}
+
+-- ---- a plan
+
+-- a core of a plan that is run
+pub new_core : (core : CoreState) (plan : Outline) → IsFresh core plan most_arrivals → are_run plan.nodes ≡ true → IsSoundPlan plan.nodes → IsMadeAgain plan → IsNewCore core
+new_core core plan fresh run sound made =
+    subst (λ (p : Outline). IsFresh core p most_arrivals × (are_run p.nodes ≡ true) × HasPlainNames p.nodes × IsSoundPlan p.nodes) (sym fresh.of_plan) (fresh, run, plain_names plan made, sound)
+
+-- a safe plan of the right number of streams, which is not run
+pub unrun_unfit : (stop : PlanStop) (files : ℕ) (plan : Outline) → IsUnrun stop plan → length (streams_of plan.nodes) ≡ files → IsSafePlan plan.nodes → PlanUnfit stop files plan
+unrun_unfit NoWords files plan u count safe = absurd u
+unrun_unfit (PlanFile stop) files plan u count safe = absurd u
+unrun_unfit (Refused fault) files plan u count safe = absurd u
+unrun_unfit (OtherCount want got) files plan u count safe = absurd u
+unrun_unfit (Stuck found) files plan u count safe = absurd u
+unrun_unfit NoPlan files plan u count safe = (count, safe, u)
+unrun_unfit PlanMemory files plan u count safe = tt
+
+pub unrun_lines : (stop : PlanStop) (plan : Outline) → IsUnrun stop plan → HasLines stop
+unrun_lines NoWords plan u = tt
+unrun_lines (PlanFile stop) plan u = tt
+unrun_lines (Refused fault) plan u = tt
+unrun_lines (OtherCount want got) plan u = tt
+unrun_lines (Stuck found) plan u = absurd u
+unrun_lines NoPlan plan u = tt
+unrun_lines PlanMemory plan u = tt
 
 -- ---- bytes
 
-pub of_bytes : (files : ℕ) (bytes contents : List ℕ) (refusal : Option Status) → bytes ≡ contents → length bytes ≤ 1048576 → read_refusal files (plan_read bytes) ≡ refusal → plan_refusal files contents ≡ refusal
-of_bytes files bytes contents refusal same few is = subst (λ (bs : List ℕ). plan_refusal files bs ≡ refusal) same (go (nat_lt 1048576 (length bytes)) refl)
-  where
-    go : (b : Bool) → nat_lt 1048576 (length bytes) ≡ b → cond (nat_lt 1048576 (length bytes)) (Some (Limit Plan)) (read_refusal files (plan_read bytes)) ≡ refusal
-    go true e = absurd (grind (arith, nat_tests))
-    go false e = ap (λ (b : Bool). cond b (Some (Limit Plan)) (read_refusal files (plan_read bytes))) e ∙ is
+-- the bytes spell the plan of a core
+pub spelled : (bytes : List ℕ) (plan : Outline) (core : CoreState) → plan_read bytes ≡ Ok plan → core.plan ≡ plan → IsNewCore core → plan_of bytes ≡ Some core.plan
+spelled bytes plan core read same new =
+    ap plan_if read ∙ ap run_plan (sym same) ∙ ap (λ (b : Bool). cond b (Some core.plan) None) new.1
 
-too_long : (files : ℕ) (bytes : List ℕ) → 1048576 < length bytes → plan_refusal files bytes ≡ Some (Limit Plan)
-too_long files bytes more = go (nat_lt 1048576 (length bytes)) refl
-  where
-    go : (b : Bool) → nat_lt 1048576 (length bytes) ≡ b → plan_refusal files bytes ≡ Some (Limit Plan)
-    go true e = ap (λ (b : Bool). cond b (Some (Limit Plan)) (read_refusal files (plan_read bytes))) e
-    go false e = absurd (grind (arith, nat_tests))
+-- bytes that spell a plan that is run spell a plan
+pub record IsReadAs (bytes : List ℕ) (plan : Outline) : Type 0 where
+  pub read : plan_read bytes ≡ Ok plan
+  pub run : are_run plan.nodes ≡ true
 
-pub fit_bytes : (files : ℕ) (bytes : List ℕ) (plan : Outline) (refusal : Option Status) → plan_read bytes ≡ Ok plan → count_refusal files plan ≡ refusal → read_refusal files (plan_read bytes) ≡ refusal
-fit_bytes files bytes plan refusal read is = ap (read_refusal files) read ∙ is
+pub read_as : (bytes : List ℕ) (plan : Outline) → plan_of bytes ≡ Some plan → IsReadAs bytes plan
+read_as bytes plan e = go (plan_read bytes) refl e
+  where
+    chosen : (p : Outline) → plan_read bytes ≡ Ok p → (b : Bool) → are_run p.nodes ≡ b → cond b (Some p) None ≡ Some plan → IsReadAs bytes plan
+    chosen p is true run q = let same : p ≡ plan = cc in subst (IsReadAs bytes) same (record { read = is; run = run })
+    chosen p is false run q = absurd (cc)
+
+    go : (r : Result Outline PlanFault) → plan_read bytes ≡ r → plan_if r ≡ Some plan → IsReadAs bytes plan
+    go (Ok p) is q = chosen p is (are_run p.nodes) refl q
+    go (Err fault) is q = absurd (cc)
 
 pub unfit_bytes : (stop : PlanStop) (files : ℕ) (bytes : List ℕ) (plan : Outline) → plan_read bytes ≡ Ok plan → PlanUnfit stop files plan → BytesRefused stop files bytes
-unfit_bytes NoWords files bytes plan read u = u
-unfit_bytes (PlanFile stop) files bytes plan read u = u
+unfit_bytes NoWords files bytes plan read u = absurd u
+unfit_bytes (PlanFile stop) files bytes plan read u = absurd u
 unfit_bytes (Refused fault) files bytes plan read u = absurd u
-unfit_bytes (OtherCount want got) files bytes plan read u = ap (read_refusal files) read ∙ u
-unfit_bytes NoPlan files bytes plan read u = ap (read_refusal files) read ∙ u
+unfit_bytes (OtherCount want got) files bytes plan read u = (plan, read, u)
+unfit_bytes (Stuck found) files bytes plan read u = (plan, read, u)
+unfit_bytes NoPlan files bytes plan read u = (plan, read, u)
 unfit_bytes PlanMemory files bytes plan read u = tt
 
 -- ---- the plan's file
@@ -51,17 +88,22 @@ unfit_bytes PlanMemory files bytes plan read u = tt
 pub file_cause : (stop : FileStop) (files : ℕ) (name : List ℕ) (old new : FolderState) → FileCause stop name old new → FileOpens stop name old new → PlanCause (PlanFile stop) files name old new
 file_cause NotOpened files name old new cause opens = (opens.0, cause, opens.1)
 file_cause NotRead files name old new cause opens = (opens, cause)
-file_cause TooLong files name old new cause opens = (opens, λ told. too_long files (old.contents name) (cause told))
+file_cause TooLong files name old new cause opens = (opens, cause)
 file_cause FileMemory files name old new cause opens = tt
 
-pub bytes_cause : (stop : PlanStop) (files : ℕ) (name bytes : List ℕ) (old new : FolderState) → (IsTrue (old.told name) → bytes ≡ old.contents name) → length bytes ≤ 1048576 → OpensFirst 1 (name ∷ []) old new
-    → BytesRefused stop files bytes → PlanCause stop files name old new
-bytes_cause NoWords files name bytes old new is few opened b = b
-bytes_cause (PlanFile stop) files name bytes old new is few opened b = absurd b
-bytes_cause (Refused fault) files name bytes old new is few opened b = (opened, λ told. of_bytes files bytes (old.contents name) _ (is told) few b)
-bytes_cause (OtherCount want got) files name bytes old new is few opened b = (opened, λ told. of_bytes files bytes (old.contents name) _ (is told) few b)
-bytes_cause NoPlan files name bytes old new is few opened b = (opened, λ told. of_bytes files bytes (old.contents name) _ (is told) few b)
-bytes_cause PlanMemory files name bytes old new is few opened b = tt
+module _ (files : ℕ) (name bytes : List ℕ) (old new : FolderState) (is : IsTrue (old.told name) → bytes ≡ old.contents name) (few : length bytes ≤ 1048576) (opened : OpensFirst 1 (name ∷ []) old new) where
+  -- what the bytes that were read are is so of those that the folder tells
+  told_so : (result : Result Outline PlanFault) → plan_read bytes ≡ result → IsTrue (old.told name) → (length (old.contents name) ≤ 1048576) × (plan_read (old.contents name) ≡ result)
+  told_so result read told = subst (λ (bs : List ℕ). (length bs ≤ 1048576) × (plan_read bs ≡ result)) (is told) (few, read)
+
+  pub bytes_cause : (stop : PlanStop) → BytesRefused stop files bytes → HasLines stop → PlanCause stop files name old new
+  bytes_cause NoWords b lines = absurd b
+  bytes_cause (PlanFile stop) b lines = absurd b
+  bytes_cause (Refused fault) b lines = (opened, told_so (Err fault) b)
+  bytes_cause (OtherCount want got) b lines = (opened, b.0, b.2, told_so (Ok b.0) b.1)
+  bytes_cause (Stuck found) b lines = ((opened, b.0, b.2, told_so (Ok b.0) b.1), lines)
+  bytes_cause NoPlan b lines = (opened, b.0, b.2, told_so (Ok b.0) b.1)
+  bytes_cause PlanMemory b lines = tt
 
 -- ---- the words
 
@@ -70,6 +112,7 @@ unprepared_so NoWords command after run cause = absurd cause
 unprepared_so (PlanFile stop) command after run cause = (run, cause)
 unprepared_so (Refused fault) command after run cause = (run, cause)
 unprepared_so (OtherCount want got) command after run cause = (run, cause)
+unprepared_so (Stuck found) command after run cause = (run, cause)
 unprepared_so NoPlan command after run cause = (run, cause)
 unprepared_so PlanMemory command after run cause = run
 
@@ -79,22 +122,11 @@ unprepared stop words files name old new run at count cause =
     unprepared_so stop (command_of words old) new run
     (subst (λ (n : List ℕ). PlanCause stop (length (behind_first (operands words))) n old new) at (subst (λ (k : ℕ). PlanCause stop k name old new) count cause))
 
-pub nothing_refused : (words : List (String Global)) (files : ℕ) (name : List ℕ) (old : FolderState) → is_run words ≡ true → name ≡ operand (operands words) 1 → files ≡ length (behind_first (operands words))
-    → plan_refusal files (old.contents name) ≡ None → refusal_of (command_of words old) ≡ None
-nothing_refused words files name old run at count none =
-    ap (λ (b : Bool). cond b (plan_refusal (length (behind_first (operands words))) (plan_bytes (command_of words old))) (Some Usage)) run
-    ∙ (subst (λ (n : List ℕ). plan_refusal (length (behind_first (operands words))) (old.contents n) ≡ None) at (subst (λ (k : ℕ). plan_refusal k (old.contents name) ≡ None) count none))
-
 -- the same of an answer
-pub unprepared_if : (result : Result SmallPlan PlanStop) (words : List (String Global)) (files : ℕ) (name : List ℕ) (old new : FolderState) → is_run words ≡ true → name ≡ operand (operands words) 1 → files ≡ length (behind_first (operands words))
-    → IfErr result (λ stop. PlanCause stop files name old new) → IfErr result (λ stop. Unprepared stop (command_of words old) new)
-unprepared_if (Ok plan) words files name old new run at count cause = tt
+pub unprepared_if : {T : Type 0} (result : Result T PlanStop) (words : List (String Global)) (files : ℕ) (name : List ℕ) (old new : FolderState) → is_run words ≡ true → name ≡ operand (operands words) 1
+    → files ≡ length (behind_first (operands words)) → IfErr result (λ stop. PlanCause stop files name old new) → IfErr result (λ stop. Unprepared stop (command_of words old) new)
+unprepared_if (Ok core) words files name old new run at count cause = tt
 unprepared_if (Err stop) words files name old new run at count cause = unprepared stop words files name old new run at count cause
-
-pub fits_if : (result : Result SmallPlan PlanStop) (words : List (String Global)) (files : ℕ) (name : List ℕ) (old : FolderState) → is_run words ≡ true → name ≡ operand (operands words) 1 → files ≡ length (behind_first (operands words))
-    → OnOk result (plan_refusal files (old.contents name) ≡ None) → OnOk result (refusal_of (command_of words old) ≡ None)
-fits_if (Ok plan) words files name old run at count none = nothing_refused words files name old run at count none
-fits_if (Err stop) words files name old run at count none = tt
 
 pub is_so : (one other : Bool) → one ≡ other → IsTrue one → other ≡ true
 is_so one other same t = sym same ∙ t

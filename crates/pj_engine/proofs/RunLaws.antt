@@ -1,14 +1,14 @@
 -- What a run leaves written.
-use Rattle.std.proofs.Common.{◌≡◌, ◌≤◌, ◌≢◌, ℕ, Bool, true, not, ◌==◌, inl, inr, List, [], ◌∷◌, ◌++◌, map, length, Option, None, Some, IsTrue, refl, ap, sym, ◌∙◌, subst, append-nil, arith}
+use Rattle.pj_plan.specs.declared.node.Outline.{Outline}
+use Rattle.pj_plan.specs.declared.node.PlanNode.{PlanNode}
+use Rattle.pj_core.specs.Plans.{nodes_of, streams_in}
+use Rattle.std.proofs.Common.{◌≡◌, ◌≤◌, ◌≢◌, ℕ, Bool, true, not, ◌==◌, inl, inr, List, [], ◌∷◌, ◌++◌, map, length, Some, IsTrue, refl, ap, sym, ◌∙◌, subst, append-nil, arith}
 use Rattle.std.specs.Prelude.{codes, nat_le}
 use Rattle.std.specs.List.{list_all}
 use Rattle.std.specs.Fmt.{decimal}
 use Rattle.std.proofs.lemmas.Bool.{false≢true, and_parts}
 use Rattle.std.proofs.lemmas.Bool.Decides.{nat_tests, eqb_tells}
 use Rattle.pj_io.specs.States.{SinkState}
-use Rattle.pj_shape.specs.declared.plans.SmallPlan.{SmallPlan}
-use Rattle.pj_shape.specs.declared.plans.SmallStream.{SmallStream}
-use Rattle.pj_shape.specs.declared.plans.SmallJoin.{SmallJoin}
 use Rattle.pj_pattern.specs.declared.element.Element.{Element}
 use Rattle.pj_pattern.specs.Elements.{rows_of, puncts_of}
 use Rattle.pj_element.specs.declared.element.Reject.{Reject}
@@ -19,29 +19,32 @@ use Rattle.pj_element.specs.Runs.{element_lines}
 use Rattle.pj_element.specs.Accepted.{fates_of, tally_of}
 use Rattle.pj_line.proofs.Feeds.{has_no_both}
 use Rattle.pj_element.proofs.Feeds.{decimal_no_feed}
-use Rattle.pj_laws.specs.CoreKept.{nodes_of}
+use Rattle.pj_laws.specs.declared.events.Entry.{Entry}
 use Rattle.pj_laws.specs.Outcomes.{peak_of}
 use Rattle.pj_engine.specs.Commands.{Command, plan_bytes, stream_files}
+use Rattle.pj_plan.specs.Canonical.{node_name}
 use Rattle.pj_plan.specs.Names.{is_name_byte}
-use Rattle.pj_engine.specs.PlanNames.{HasPlainNames, is_plain, are_plain, is_plain_join}
+use Rattle.pj_plan.specs.Nodes.{joins_of}
+use Rattle.pj_engine.specs.PlanNames.{HasPlainNames, is_plain, are_plain}
 use Rattle.pj_engine.specs.Plans.{plan_of}
 use Rattle.pj_plan.specs.declared.fault.PlanWhy.{PlanWhy}
 use Rattle.pj_plan.specs.declared.fault.PlanWhy.TheVariants.{NotAPlan, UnknownStatement, BadShape, NameTwice, UnknownName, UnknownColumn, ColumnTwice, KindsDiffer, BadClass, BadScheme, UsedTwiceOrNever, TooMany, Output, Unreadable}
 use Rattle.pj_engine.specs.declared.status.Status.TheVariants.{PlanRefused, FileCount}
 use Rattle.pj_engine.specs.Report.{fault_words, status_line, stream_line, stream_lines, reject_line, reject_words, results_line, peak_line, counted_to}
-use Rattle.pj_engine.specs.Runs.{outputs_of, history_of, report_of, run_lines, streams_report, peaks_report}
+use Rattle.pj_engine.specs.Runs.{outputs_of, history_of, report_of, run_lines, streams_report, peak_report}
 use Rattle.pj_engine.specs.Written.{flat, Delivered, holding}
 use Rattle.pj_engine.proofs.Fronts.{IsNoteLine, AreNotes, notes-append}
+use Rattle.pj_engine.proofs.NameLaws.{name_plain, streams_plain}
 
 -- ---- a run that is done
 
 -- all lines were written, and this holds of the outputs
-pub ran : (Holds : SmallPlan → List (List ℕ) → List Element → List (List ℕ) → Type 0) (plan : SmallPlan) (command : Command) (ready : List (List ℕ)) (old new : SinkState)
+pub ran : (Holds : Outline → List (List ℕ) → List Element → List (List ℕ) → Type 0) (plan : Outline) (command : Command) (ready : List (List ℕ)) (old new : SinkState)
     → plan_of (plan_bytes command) ≡ Some plan → ready ≡ stream_files command → new.written ≡ old.written ++ flat (run_lines plan ready) → Holds plan ready (outputs_of plan ready) (report_of plan ready (outputs_of plan ready))
-    → (plan : SmallPlan) × (outputs : List Element) × (report : List (List ℕ)) × (plan_of (plan_bytes command) ≡ Some plan)
+    → (plan : Outline) × (outputs : List Element) × (report : List (List ℕ)) × (plan_of (plan_bytes command) ≡ Some plan)
     × (outputs ≡ outputs_of plan (stream_files command)) × (new.written ≡ old.written ++ flat (element_lines outputs ++ report)) × Holds plan (stream_files command) outputs report
 ran Holds plan command ready old new read same written holds =
-    subst (λ (fs : List (List ℕ)). (plan : SmallPlan) × (outputs : List Element) × (report : List (List ℕ)) × (plan_of (plan_bytes command) ≡ Some plan)
+    subst (λ (fs : List (List ℕ)). (plan : Outline) × (outputs : List Element) × (report : List (List ℕ)) × (plan_of (plan_bytes command) ≡ Some plan)
     × (outputs ≡ outputs_of plan fs) × (new.written ≡ old.written ++ flat (element_lines outputs ++ report)) × Holds plan fs outputs report) same
     (plan, outputs_of plan ready, report_of plan ready (outputs_of plan ready), read, refl, written, holds)
 
@@ -171,7 +174,7 @@ peak_note name peak none =
     let all : NoFeed (codes "# peak " ++ name ++ codes " " ++ decimal peak) = and_then (and_then (and_then (literal (codes "# peak ") refl) named) (literal (codes " ") refl)) (number peak) in
     record { words = codes "# peak " ++ name ++ codes " " ++ decimal peak; is = refl; note = refl; whole = all.it }
 
-streams_note : (streams : List SmallStream) (files : List (List ℕ)) → are_plain streams ≡ true → AreNotes (streams_report streams files)
+streams_note : (streams : List PlanNode) (files : List (List ℕ)) → are_plain streams ≡ true → AreNotes (streams_report streams files)
 streams_note [] files plain = tt
 streams_note (stream ∷ streams) [] plain = tt
 streams_note (stream ∷ streams) (bytes ∷ files) plain =
@@ -180,12 +183,15 @@ streams_note (stream ∷ streams) (bytes ∷ files) plain =
     let tally = tally_of (fates_of stream.schema bytes) in
     notes-append (stream_lines stream.name tally) _ (stream_note stream.name tally none, rejects_note stream.name tally.listed none) (streams_note streams files p.1)
 
-peaks_note : (join : Option SmallJoin) (peak : ℕ) → is_plain_join join ≡ true → AreNotes (peaks_report join peak)
-peaks_note None peak plain = tt
-peaks_note (Some join) peak plain = (peak_note join.name peak (name_no_feed join.name plain), tt)
+peaks_note : (plan : Outline) (history : List Entry) (joins : List ℕ) → HasPlainNames plan.nodes → AreNotes (map (peak_report plan history) joins)
+peaks_note plan history [] plain = tt
+peaks_note plan history (join ∷ joins) plain = (
+  peak_note (node_name plan.nodes join) (peak_of (nodes_of plan) history join) (name_no_feed (node_name plan.nodes join) (name_plain plan.nodes join plain)),
+  peaks_note plan history joins plain,
+)
 
-pub report_notes : (plan : SmallPlan) (files : List (List ℕ)) (outputs : List Element) → HasPlainNames plan → AreNotes (report_of plan files outputs)
+pub report_notes : (plan : Outline) (files : List (List ℕ)) (outputs : List Element) → HasPlainNames plan.nodes → AreNotes (report_of plan files outputs)
 report_notes plan files outputs plain =
-    notes-append (streams_report plan.streams files ++ results_line outputs ∷ []) _
-    (notes-append (streams_report plan.streams files) (results_line outputs ∷ []) (streams_note plan.streams files plain.0) (results_note outputs, tt))
-    (peaks_note plan.join (peak_of (nodes_of plan) (history_of plan files) (length plan.streams)) plain.1)
+    notes-append (streams_report (streams_in plan.nodes) files ++ results_line outputs ∷ []) _
+    (notes-append (streams_report (streams_in plan.nodes) files) (results_line outputs ∷ []) (streams_note (streams_in plan.nodes) files (streams_plain plan.nodes plain)) (results_note outputs, tt))
+    (peaks_note plan (history_of plan files) (joins_of plan.nodes) plain)

@@ -1,65 +1,70 @@
 -- What was written spells outputs that stay right.
-use Rattle.std.proofs.Common.{◌≡◌, ◌≤◌, ◌+◌, ℕ, zero, suc, true, ◌⊎◌, inl, inr, List, [], ◌∷◌, ◌++◌, length, Option, None, Some, IsTrue, refl, ap, sym, ◌∙◌, subst, append_assoc, append-nil, arith}
+use Rattle.pj_plan.specs.declared.node.Outline.{Outline}
+use Rattle.pj_plan.specs.declared.node.PlanNode.{PlanNode}
+use Rattle.pj_core.specs.Plans.{streams_in}
+use Rattle.std.proofs.Common.{◌≡◌, ◌≤◌, ◌+◌, ◌==◌, ℕ, true, false, ◌⊎◌, inl, inr, List, [], ◌∷◌, ◌++◌, length, Some, IsTrue, refl, ap, sym, ◌∙◌, subst, append_assoc, append-nil, arith}
 use Rattle.std.specs.Prelude.{codes}
 use Rattle.std.specs.Fmt.{decimal}
-use Rattle.std.proofs.lemmas.Bool.{and_parts}
+use Rattle.std.specs.List.{list_any}
+use Rattle.std.proofs.lemmas.Bool.{false≢true, or_parts}
+use Rattle.std.proofs.lemmas.Bool.Decides.{eqb_tells}
+use Rattle.pj_value.specs.Lists.{In}
 use Rattle.pj_io.specs.States.{SinkState}
-use Rattle.pj_shape.specs.declared.plans.SmallPlan.{SmallPlan}
-use Rattle.pj_shape.specs.declared.plans.SmallStream.{SmallStream}
-use Rattle.pj_shape.specs.declared.plans.SmallJoin.{SmallJoin}
 use Rattle.pj_pattern.specs.declared.element.Element.{Element}
 use Rattle.pj_pattern.specs.Elements.{IsLawful}
 use Rattle.pj_line.specs.Lines.{HasNo}
 use Rattle.pj_element.specs.Runs.{element_lines}
 use Rattle.pj_line.proofs.Feeds.{has_no_both}
 use Rattle.pj_element.proofs.Feeds.{decimal_no_feed}
-use Rattle.pj_laws.specs.CoreKept.{IsSmallPlan}
+use Rattle.pj_plan.specs.Canonical.{node_name}
+use Rattle.pj_alone.specs.Safety.{IsNote}
 use Rattle.pj_engine.specs.declared.status.Status.{Status}
 use Rattle.pj_engine.specs.declared.status.LimitOf.{LimitOf}
 use Rattle.pj_engine.specs.declared.status.LimitOf.TheVariants.{Plan, Node, File}
-use Rattle.pj_engine.specs.declared.status.Status.TheVariants.{Done, Usage, NotBuilt, OpenFault, ReadFault, PlanRefused, FileCount, WriteFault, NoMemory, Limit}
+use Rattle.pj_engine.specs.declared.status.Status.TheVariants.{Done, Usage, NotBuilt, OpenFault, ReadFault, PlanRefused, FileCount, Unsafe, WriteFault, NoMemory, Limit}
 use Rattle.pj_engine.specs.declared.stops.FilesStop.{FilesStop}
 use Rattle.pj_engine.specs.declared.stops.FilesStop.TheVariants.{Opening, Run}
 use Rattle.pj_engine.specs.declared.stops.OpeningStop.TheVariants.{Fault, NoMemory as OpeningMemory}
 use Rattle.pj_engine.specs.declared.stops.PlanStop.{PlanStop}
-use Rattle.pj_engine.specs.declared.stops.PlanStop.TheVariants.{Usage as NoWords, File as PlanFile, Refused, FileCount as OtherCount, NotBuilt as NoPlan, NoMemory as PlanMemory}
+use Rattle.pj_engine.specs.declared.stops.PlanStop.TheVariants.{Usage as NoWords, File as PlanFile, Refused, FileCount as OtherCount, Unsafe as Stuck, NotBuilt as NoPlan, NoMemory as PlanMemory}
 use Rattle.pj_engine.specs.declared.stops.FileStop.TheVariants.{OpenFault as NotOpened, ReadFault as NotRead, TooLong, NoMemory as FileMemory}
 use Rattle.pj_engine.specs.declared.stops.RunStop.TheVariants.{ReadFault as RunFault, TooLarge, Limit as RunLimit, WriteFailed, NoMemory as RunMemory}
 use Rattle.pj_engine.specs.Commands.{Command, plan_bytes, stream_files}
-use Rattle.pj_engine.specs.PlanNames.{HasPlainNames, is_plain, are_plain, is_plain_join}
+use Rattle.pj_engine.specs.PlanNames.{HasPlainNames, are_plain}
 use Rattle.pj_engine.specs.Plans.{plan_of}
 use Rattle.pj_engine.specs.Report.{status_line}
 use Rattle.pj_engine.specs.Runs.{outputs_of, report_of, run_lines}
-use Rattle.pj_engine.specs.Stops.{files_status, plan_status}
-use Rattle.pj_engine.specs.Top.{StaysRight, join_name, stream_name, limit_name, stop_name}
+use Rattle.pj_engine.specs.Refusals.{HasLines}
+use Rattle.pj_engine.specs.Stops.{files_status, refusal_text}
+use Rattle.pj_engine.specs.Top.{StaysRight, limit_name, stop_name}
 use Rattle.pj_engine.specs.Written.{flat, WholeLines, Delivered, Leaves, Spells, files_cut}
 use Rattle.pj_engine.proofs.FrontLaws.{stays}
 use Rattle.pj_engine.proofs.Fronts.{IsNoteLine, AreNotes, notes-append, notes_spell, FrontSpells, front_spells, FirstLines, first_lines}
 use Rattle.pj_engine.proofs.LinesWritten.{flat-append}
-use Rattle.pj_engine.proofs.OutputLaws.{outputs_lawful}
+use Rattle.pj_engine.proofs.NameLaws.{name_plain, streams_plain}
+use Rattle.pj_engine.proofs.OutputLaws.{IsPlanned, outputs_lawful}
 use Rattle.pj_engine.proofs.RunLaws.{plan_refused_note, file_count_note, no_feeds, name_no_feed, name_short, report_notes, same_after}
 use Rattle.pj_pattern.proofs.Lawful.{lawful_front}
 
--- the plan's bytes spell a plan, and there is a file for each of its streams
-pub record IsReady (plan : SmallPlan) (command : Command) : Type 0 where
+-- the plan's bytes spell a plan that is run, whose names are plain
+pub record IsReady (plan : Outline) (command : Command) : Type 0 where
   pub read : plan_of (plan_bytes command) ≡ Some plan
-  pub small : IsSmallPlan plan
-  pub names : HasPlainNames plan
-  pub count : length (stream_files command) ≡ length plan.streams
+  pub planned : IsPlanned plan
+  pub names : HasPlainNames plan.nodes
 
 -- what was written behind these bytes spells outputs that stay right
 abbrev pub NoneRetracted : Command → List ℕ → List ℕ → Type 0
 NoneRetracted command before after =
     (bytes : List ℕ) × (after ≡ before ++ bytes) × (outputs : List Element) × Spells bytes outputs
-    × IsLawful outputs × ((outputs ≡ []) ⊎ ((plan : SmallPlan) × (plan_of (plan_bytes command) ≡ Some plan) × StaysRight plan (stream_files command) outputs))
+    × IsLawful outputs × ((outputs ≡ []) ⊎ ((plan : Outline) × (plan_of (plan_bytes command) ≡ Some plan) × StaysRight plan (stream_files command) outputs))
 
-or_stays : (plan : SmallPlan) (command : Command) (first : List Element) → plan_of (plan_bytes command) ≡ Some plan → (first ≡ []) ⊎ StaysRight plan (stream_files command) first
-    → (first ≡ []) ⊎ ((p : SmallPlan) × (plan_of (plan_bytes command) ≡ Some p) × StaysRight p (stream_files command) first)
+or_stays : (plan : Outline) (command : Command) (first : List Element) → plan_of (plan_bytes command) ≡ Some plan → (first ≡ []) ⊎ StaysRight plan (stream_files command) first
+    → (first ≡ []) ⊎ ((p : Outline) × (plan_of (plan_bytes command) ≡ Some p) × StaysRight p (stream_files command) first)
 or_stays plan command first read (inl none) = inl none
 or_stays plan command first read (inr stay) = inr (plan, read, stay)
 
 -- a front of the lines of first outputs, and of notes
-front_never : (plan : SmallPlan) (command : Command) (outputs more : List Element) (notes : List (List ℕ)) (front others before after : List ℕ) → IsReady plan command
+front_never : (plan : Outline) (command : Command) (outputs more : List Element) (notes : List (List ℕ)) (front others before after : List ℕ) → IsReady plan command
     → outputs ++ more ≡ outputs_of plan (stream_files command) → AreNotes notes → front ++ others ≡ flat (element_lines outputs ++ notes) → after ≡ before ++ front → NoneRetracted command before after
 front_never plan command outputs more notes front others before after ready all noted is written =
     let files : List (List ℕ) = stream_files command in
@@ -69,14 +74,13 @@ front_never plan command outputs more notes front others before after ready all 
       written,
       f.first,
       f.spells,
-      lawful_front f.first (f.others ++ more) (subst IsLawful (sym whole) (outputs_lawful plan files ready.small ready.count)),
-      or_stays plan command f.first ready.read (stays plan files f.first (f.others ++ more) ready.small ready.count whole),
+      lawful_front f.first (f.others ++ more) (subst IsLawful (sym whole) (outputs_lawful plan files ready.planned)),
+      or_stays plan command f.first ready.read (stays plan files f.first (f.others ++ more) ready.planned whole),
     )
 
--- nothing, and a front of a note
-note_never : (command : Command) (line front others before after : List ℕ) → IsNoteLine line → front ++ others ≡ line → after ≡ before ++ front → NoneRetracted command before after
-note_never command line front others before after note is written =
-    (front, written, [], notes_spell (line ∷ []) front others (note, tt) (is ∙ sym (append-nil line)), tt, inl refl)
+-- nothing, and a front of notes
+notes_never : (command : Command) (lines : List (List ℕ)) (front others before after : List ℕ) → AreNotes lines → front ++ others ≡ flat lines → after ≡ before ++ front → NoneRetracted command before after
+notes_never command lines front others before after notes is written = (front, written, [], notes_spell lines front others notes is, tt, inl refl)
 
 -- ---- the lines of the statuses
 
@@ -120,43 +124,51 @@ limit_note (File stream) name none = record {
   whole = has_no_both 10 (codes "# stopped limit file ") name (no_feeds (codes "# stopped limit file ") refl) none;
 }
 
-join_name_no_feed : (join : Option SmallJoin) → is_plain_join join ≡ true → HasNo 10 (join_name join)
-join_name_no_feed None plain = tt
-join_name_no_feed (Some join) plain = name_no_feed join.name plain
+name_at_no_feed : (nodes : List PlanNode) (n : ℕ) → are_plain nodes ≡ true → HasNo 10 (node_name nodes n)
+name_at_no_feed nodes n plain = name_no_feed (node_name nodes n) (name_plain nodes n plain)
 
-stream_name_no_feed : (streams : List SmallStream) (n : ℕ) → are_plain streams ≡ true → HasNo 10 (stream_name streams n)
-stream_name_no_feed [] n plain = tt
-stream_name_no_feed (s ∷ streams) zero plain = name_no_feed s.name (and_parts (is_plain s.name) (are_plain streams) plain).0
-stream_name_no_feed (s ∷ streams) (suc n) plain = stream_name_no_feed streams n (and_parts (is_plain s.name) (are_plain streams) plain).1
-
-limit_name_no_feed : (plan : SmallPlan) (what : LimitOf) → HasPlainNames plan → HasNo 10 (limit_name plan what)
+limit_name_no_feed : (plan : Outline) (what : LimitOf) → HasPlainNames plan.nodes → HasNo 10 (limit_name plan what)
 limit_name_no_feed plan Plan plain = tt
-limit_name_no_feed plan (Node node) plain = join_name_no_feed plan.join plain.1
-limit_name_no_feed plan (File stream) plain = stream_name_no_feed plan.streams stream plain.0
+limit_name_no_feed plan (Node node) plain = name_at_no_feed plan.nodes node plain
+limit_name_no_feed plan (File stream) plain = name_at_no_feed (streams_in plan.nodes) stream (streams_plain plan.nodes plain)
+
+-- the lines of an unsafe plan
+feeds_none : (xs : List ℕ) → list_any (λ b. b == 10) xs ≡ false → HasNo 10 xs
+feeds_none [] e = tt
+feeds_none (x ∷ xs) e =
+    let p = or_parts (x == 10) (list_any (λ b. b == 10) xs) e in
+    (elim (eqb_tells x 10) [ inl same ↦ absurd (false≢true (sym p.0 ∙ same.0)) | inr other ↦ other.1 ], feeds_none xs p.1)
+
+note_line : (line : List ℕ) → IsNote line → IsNoteLine line
+note_line line n = record {
+  words = codes "#" ++ n.text;
+  is = n.form;
+  note = refl;
+  whole = has_no_both 10 (codes "#") n.text (no_feeds (codes "#") refl) (feeds_none n.text n.no_feed);
+}
+
+note_lines : (lines : List (List ℕ)) → ((line : List ℕ) → In line lines → IsNote line) → AreNotes lines
+note_lines [] each = tt
+note_lines (line ∷ lines) each = (note_line line (each line (inl refl)), note_lines lines (λ l there. each l (inr there)))
 
 -- the name of a status' line is short
-pub stop_name_short : (plan : SmallPlan) (status : Status) → HasPlainNames plan → length (stop_name plan status) ≤ 32
+name_at_short : (nodes : List PlanNode) (n : ℕ) → are_plain nodes ≡ true → length (node_name nodes n) ≤ 32
+name_at_short nodes n plain = name_short (node_name nodes n) (name_plain nodes n plain)
+
+pub stop_name_short : (plan : Outline) (status : Status) → HasPlainNames plan.nodes → length (stop_name plan status) ≤ 32
 stop_name_short plan Done plain = omega arith
 stop_name_short plan Usage plain = omega arith
 stop_name_short plan NotBuilt plain = omega arith
 stop_name_short plan (PlanRefused line why) plain = omega arith
 stop_name_short plan (FileCount want got) plain = omega arith
+stop_name_short plan (Unsafe join input missing) plain = omega arith
 stop_name_short plan (OpenFault n) plain = omega arith
 stop_name_short plan (ReadFault n) plain = omega arith
 stop_name_short plan WriteFault plain = omega arith
 stop_name_short plan NoMemory plain = omega arith
 stop_name_short plan (Limit Plan) plain = omega arith
-stop_name_short plan (Limit (Node node)) plain = go plan.join plain.1
-  where
-    go : (join : Option SmallJoin) → is_plain_join join ≡ true → length (join_name join) ≤ 32
-    go None e = omega arith
-    go (Some join) e = name_short join.name e
-stop_name_short plan (Limit (File stream)) plain = go plan.streams stream plain.0
-  where
-    go : (streams : List SmallStream) (n : ℕ) → are_plain streams ≡ true → length (stream_name streams n) ≤ 32
-    go [] n e = omega arith
-    go (s ∷ streams) zero e = name_short s.name (and_parts (is_plain s.name) (are_plain streams) e).0
-    go (s ∷ streams) (suc n) e = go streams n (and_parts (is_plain s.name) (are_plain streams) e).1
+stop_name_short plan (Limit (Node node)) plain = name_at_short plan.nodes node plain
+stop_name_short plan (Limit (File stream)) plain = name_at_short (streams_in plan.nodes) stream (streams_plain plan.nodes plain)
 
 -- what was delivered of a line
 record Part (line before after : List ℕ) : Type 0 where
@@ -174,22 +186,28 @@ part_of line old new told delivered = elim (delivered told) [
 early_note : (command : Command) (line : List ℕ) (old new : SinkState) → IsTrue new.told → IsNoteLine line → Delivered line old new → NoneRetracted command old.written new.written
 early_note command line old new told note delivered =
     let p : Part line old.written new.written = part_of line old new told delivered in
-    note_never command line p.front p.others old.written new.written note p.all p.written
+    notes_never command (line ∷ []) p.front p.others old.written new.written (note, tt) (p.all ∙ sym (append-nil line)) p.written
 
--- the run never began, and the line of the status was written
-pub never_early : (stop : PlanStop) (command : Command) (old new : SinkState) → IsTrue new.told → Delivered (status_line [] (plan_status stop)) old new → NoneRetracted command old.written new.written
-never_early NoWords command old new told delivered = early_note command (status_line [] Usage) old new told usage_note delivered
-never_early (PlanFile NotOpened) command old new told delivered = early_note command (status_line [] (OpenFault 1)) old new told (open_fault_note 1) delivered
-never_early (PlanFile NotRead) command old new told delivered = early_note command (status_line [] (ReadFault 1)) old new told (read_fault_note 1) delivered
-never_early (PlanFile TooLong) command old new told delivered = early_note command (status_line [] (Limit Plan)) old new told (limit_note Plan [] tt) delivered
-never_early (PlanFile FileMemory) command old new told delivered = early_note command (status_line [] NoMemory) old new told (no_memory_note []) delivered
-never_early (Refused fault) command old new told delivered = early_note command (status_line [] (PlanRefused fault.line fault.why)) old new told (plan_refused_note fault.line fault.why) delivered
-never_early (OtherCount want got) command old new told delivered = early_note command (status_line [] (FileCount want got)) old new told (file_count_note want got) delivered
-never_early NoPlan command old new told delivered = early_note command (status_line [] NotBuilt) old new told not_built_note delivered
-never_early PlanMemory command old new told delivered = early_note command (status_line [] NoMemory) old new told (no_memory_note []) delivered
+early_notes : (command : Command) (lines : List (List ℕ)) (old new : SinkState) → IsTrue new.told → AreNotes lines → Delivered (flat lines) old new → NoneRetracted command old.written new.written
+early_notes command lines old new told notes delivered =
+    let p : Part (flat lines) old.written new.written = part_of (flat lines) old new told delivered in
+    notes_never command lines p.front p.others old.written new.written notes p.all p.written
+
+-- the run never began, and the lines of the status were written
+pub never_early : (stop : PlanStop) (command : Command) (old new : SinkState) → IsTrue new.told → HasLines stop → Delivered (refusal_text stop) old new → NoneRetracted command old.written new.written
+never_early NoWords command old new told lines delivered = early_note command (status_line [] Usage) old new told usage_note delivered
+never_early (PlanFile NotOpened) command old new told lines delivered = early_note command (status_line [] (OpenFault 1)) old new told (open_fault_note 1) delivered
+never_early (PlanFile NotRead) command old new told lines delivered = early_note command (status_line [] (ReadFault 1)) old new told (read_fault_note 1) delivered
+never_early (PlanFile TooLong) command old new told lines delivered = early_note command (status_line [] (Limit Plan)) old new told (limit_note Plan [] tt) delivered
+never_early (PlanFile FileMemory) command old new told lines delivered = early_note command (status_line [] NoMemory) old new told (no_memory_note []) delivered
+never_early (Refused fault) command old new told lines delivered = early_note command (status_line [] (PlanRefused fault.line fault.why)) old new told (plan_refused_note fault.line fault.why) delivered
+never_early (OtherCount want got) command old new told lines delivered = early_note command (status_line [] (FileCount want got)) old new told (file_count_note want got) delivered
+never_early (Stuck found) command old new told lines delivered = early_notes command found.lines old new told (note_lines found.lines lines) delivered
+never_early NoPlan command old new told lines delivered = early_note command (status_line [] NotBuilt) old new told not_built_note delivered
+never_early PlanMemory command old new told lines delivered = early_note command (status_line [] NoMemory) old new told (no_memory_note []) delivered
 
 -- whole first lines of the run, and then a front of the line of the status
-whole_never : (plan : SmallPlan) (command : Command) (line before : List ℕ) (mid new : SinkState) → IsTrue new.told → IsReady plan command → IsNoteLine line
+whole_never : (plan : Outline) (command : Command) (line before : List ℕ) (mid new : SinkState) → IsTrue new.told → IsReady plan command → IsNoteLine line
     → WholeLines (run_lines plan (stream_files command)) before mid.written → Delivered line mid new → NoneRetracted command before new.written
 whole_never plan command line before mid new told ready note w delivered =
     let files : List (List ℕ) = stream_files command in
@@ -204,14 +222,14 @@ whole_never plan command line before mid new told ready note w delivered =
     (p.written ∙ (ap (λ (xs : List ℕ). xs ++ p.front) w.written ∙ append_assoc before (flat w.first) p.front))
 
 -- the run is done
-pub never_done : (plan : SmallPlan) (command : Command) (before after : List ℕ) → IsReady plan command → after ≡ before ++ flat (run_lines plan (stream_files command)) → NoneRetracted command before after
+pub never_done : (plan : Outline) (command : Command) (before after : List ℕ) → IsReady plan command → after ≡ before ++ flat (run_lines plan (stream_files command)) → NoneRetracted command before after
 never_done plan command before after ready written =
     let files : List (List ℕ) = stream_files command in
     let outputs : List Element = outputs_of plan files in
     front_never plan command outputs [] (report_of plan files outputs) (flat (run_lines plan files)) [] before after ready (append-nil outputs) (report_notes plan files outputs ready.names) (append-nil (flat (run_lines plan files))) written
 
 -- the run stopped, and then the line of its status was written
-pub never_stopped : (stop : FilesStop) (plan : SmallPlan) (command : Command) (name before : List ℕ) (mid new : SinkState) → IsTrue new.told → IsReady plan command
+pub never_stopped : (stop : FilesStop) (plan : Outline) (command : Command) (name before : List ℕ) (mid new : SinkState) → IsTrue new.told → IsReady plan command
     → name ≡ stop_name plan (files_status stop) → Leaves (files_cut stop) (run_lines plan (stream_files command)) before mid.written → Delivered (status_line name (files_status stop)) mid new → NoneRetracted command before new.written
 never_stopped (Opening (Fault stream)) plan command name before mid new told ready named left delivered =
     whole_never plan command (status_line [] (OpenFault (2 + stream))) before mid new told ready (open_fault_note (2 + stream)) left (subst (λ (x : List ℕ). Delivered (status_line x (OpenFault (2 + stream))) mid new) named delivered)

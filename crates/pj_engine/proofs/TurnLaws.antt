@@ -1,5 +1,9 @@
 -- Turns of a core.
-use Rattle.std.proofs.Common.{◌≡◌, ℕ, false, List, [], ◌++◌, Option, Some, None, IsTrue, ap, sym, ◌∙◌, append-nil, subst}
+use Rattle.pj_plan.specs.declared.node.PlanNode.{PlanNode}
+use Rattle.pj_plan.specs.Nodes.{streams_of}
+use Rattle.pj_pattern.specs.declared.element.Element.{Element}
+use Rattle.pj_core.specs.Plans.{nodes_of, streams_in}
+use Rattle.std.proofs.Common.{◌≡◌, ◌<◌, ℕ, false, List, [], ◌++◌, length, Option, Some, None, Result, Ok, Err, IfOk, IfErr, IsTrue, ap, sym, ◌∙◌, append-nil, subst, arith}
 use Rattle.pj_io.specs.States.{SinkState}
 use Rattle.pj_laws.specs.declared.events.Entry.{Entry}
 use Rattle.pj_laws.specs.declared.events.Out.{Out}
@@ -8,22 +12,49 @@ use Rattle.pj_laws.specs.declared.events.Stop.TheVariants.{Limit, NoMemory}
 use Rattle.pj_laws.specs.Plan.{Node}
 use Rattle.pj_laws.specs.History.{nodes_from}
 use Rattle.pj_laws.specs.Outcomes.{outputs_of}
-use Rattle.pj_laws.specs.CoreKept.{nodes_of}
 use Rattle.pj_laws.specs.OneThread.{Turn, arrival_of}
 use Rattle.pj_laws.proofs.Histories.{outputs-append}
 use Rattle.pj_core.specs.Cores.{CoreState, StandsFor, MayFollow}
-use Rattle.pj_core.specs.Calls.{IsTurnRefused, StopsInTurn}
+use Rattle.pj_core.specs.Calls.{IsTurnRefused, MakesTurn, StopsInTurn}
+use Rattle.pj_engine.specs.declared.feeds.Arrival.{Arrival}
+use Rattle.pj_engine.specs.declared.feeds.Arrival.TheVariants.{Brought, Closing}
 use Rattle.pj_engine.specs.declared.stops.WriteStop.{WriteStop}
 use Rattle.pj_engine.specs.declared.stops.WriteStop.TheVariants.{Failed, NoMemory as WriteMemory}
+use Rattle.pj_engine.specs.Feeds.{turn_in}
 use Rattle.pj_engine.specs.Results.{out_lines}
 use Rattle.pj_engine.specs.Stops.{of_core, of_write}
-use Rattle.pj_engine.specs.Turning.{StopsBehind, Turned, TurnStops, turn_outs}
+use Rattle.pj_engine.specs.Turning.{IsTurnOf, StopsBehind, Turned, TurnStops, turn_outs}
 use Rattle.pj_engine.specs.Written.{flat, Cut, Leaves, write_cut, turn_cut}
 use Rattle.pj_engine.proofs.Carried.{write_cut_same}
 use Rattle.pj_engine.proofs.Counting.{out_lines-append}
 use Rattle.pj_engine.proofs.LinesWritten.{first_written, stop_first}
+use Rattle.pj_engine.proofs.StreamNodes.{count_numbers}
 
-stops_now : (old mid : CoreState) (turn : Turn) (stop : Stop) (outs : List Out) → old.undrained ≡ [] → StopsInTurn old mid turn stop → outs ≡ mid.undrained → StopsBehind old turn outs stop
+-- ---- what a turn needs, and what stays
+
+-- the stream that a turn brings an element to, or closes, is one of the plan's
+pub brings_there : (nodes : List PlanNode) (next : Arrival) (stream : ℕ) (element : Element) → next ≡ Brought stream element → IsTurnOf (streams_in nodes) (turn_in (streams_in nodes) next) → stream < length (streams_of nodes)
+brings_there nodes next stream element is of =
+    let count = count_numbers nodes in
+    let there = (subst (λ (a : Arrival). IsTurnOf (streams_in nodes) (turn_in (streams_in nodes) a)) is of).0 in omega (arith, count, there)
+
+pub closes_there : (nodes : List PlanNode) (next : Arrival) (stream : ℕ) → next ≡ Closing stream → IsTurnOf (streams_in nodes) (turn_in (streams_in nodes) next) → stream < length (streams_of nodes)
+closes_there nodes next stream is of =
+    let count = count_numbers nodes in
+    let there = (subst (λ (a : Arrival). IsTurnOf (streams_in nodes) (turn_in (streams_in nodes) a)) is of).0 in omega (arith, count, there)
+
+refused_plan : (before : Option Stop) (old new : CoreState) (turn : Turn) (stop : Stop) → IsTurnRefused before old new turn stop → new.plan ≡ old.plan
+refused_plan None old new turn stop refused = refused.plan
+refused_plan (Some s) old new turn stop refused = ap (λ (c : CoreState). c.plan) refused.stays
+
+-- the plan stays, whether the turn was made or refused
+pub turn_plan : (old new : CoreState) (turn : Turn) (result : Result (List Out) Stop) → IfOk result (λ outs. MakesTurn old new turn outs) → IfErr result (λ stop. IsTurnRefused old.kept.stop old new turn stop) → new.plan ≡ old.plan
+turn_plan old new turn (Ok outs) made refused = made.plan
+turn_plan old new turn (Err stop) made refused = refused_plan old.kept.stop old new turn stop refused
+
+-- ---- what a turn hands out
+
+stops_now : (old mid : CoreState) (turn : Turn) (stop : Stop) (outs : List Out) → old.kept.undrained ≡ [] → StopsInTurn old mid turn stop → outs ≡ mid.kept.undrained → StopsBehind old turn outs stop
 stops_now old mid turn stop outs drained s handed = record {
   cause = s.cause;
   hands = λ history stands may.
@@ -39,12 +70,12 @@ stops_now old mid turn stop outs drained s handed = record {
 }
 
 -- a core that was on and drained stops in the turn
-pub stops_behind : (before : Option Stop) (old mid : CoreState) (turn : Turn) (stop : Stop) (outs : List Out) → before ≡ None → old.undrained ≡ [] → IsTurnRefused before old mid turn stop → outs ≡ mid.undrained → StopsBehind old turn outs stop
+pub stops_behind : (before : Option Stop) (old mid : CoreState) (turn : Turn) (stop : Stop) (outs : List Out) → before ≡ None → old.kept.undrained ≡ [] → IsTurnRefused before old mid turn stop → outs ≡ mid.kept.undrained → StopsBehind old turn outs stop
 stops_behind None old mid turn stop outs on drained refused handed = stops_now old mid turn stop outs drained refused handed
 stops_behind (Some s) old mid turn stop outs on drained refused handed = absurd (cc)
 
 -- what is handed out is a front of the turn's
-outs_front : (old new : CoreState) (turn : Turn) (outs : List Out) (stop : Option Stop) (history : List Entry) → old.undrained ≡ [] → Turned old new turn outs stop → StandsFor old history → MayFollow old history (arrival_of turn)
+outs_front : (old new : CoreState) (turn : Turn) (outs : List Out) (stop : Option Stop) (history : List Entry) → old.kept.undrained ≡ [] → Turned old new turn outs stop → StandsFor old history → MayFollow old history (arrival_of turn)
     → (others : List Out) × (outs ++ others ≡ turn_outs old history turn)
 outs_front old new turn outs None history drained turned stands may =
     ([], append-nil outs ∙ (turned.hands history stands may ∙ ap (λ (xs : List Out). xs ++ turn_outs old history turn) drained))
@@ -54,7 +85,7 @@ outs_front old new turn outs (Some stop) history drained turned stands may =
     let others : List Out = outputs_of false (nodes_from nodes f.front) f.back in
     (others, ap (λ (xs : List Out). xs ++ others) f.outs_are ∙ (sym (outputs-append false nodes f.front f.back) ∙ ap (outputs_of false nodes) (sym f.parts)))
 
-module _ (old new : CoreState) (turn : Turn) (outs slice : List Out) (stop : Option Stop) (history : List Entry) (drained : old.undrained ≡ []) (turned : Turned old new turn outs stop) (is : slice ≡ outs) (stands : StandsFor old history) (may : MayFollow old history (arrival_of turn)) where
+module _ (old new : CoreState) (turn : Turn) (outs slice : List Out) (stop : Option Stop) (history : List Entry) (drained : old.kept.undrained ≡ []) (turned : Turned old new turn outs stop) (is : slice ≡ outs) (stands : StandsFor old history) (may : MayFollow old history (arrival_of turn)) where
   lines_front : (others : List Out) × (out_lines slice ++ out_lines others ≡ out_lines (turn_outs old history turn))
   lines_front =
       let f = outs_front old new turn outs stop history drained turned stands may in

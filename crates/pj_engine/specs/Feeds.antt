@@ -1,7 +1,8 @@
 -- What is left of the streams of a run, in turns.
 use Rattle.std.specs.Prelude.{◌≡◌, ℕ, ◌+◌, ◌-◌, ◌<◌, ◌≤◌, ◌^◌, ◌⊎◌, ⊤, Bool, true, false, ◌==◌, List, [], ◌∷◌, ◌++◌, map, take, drop, length, Option, Some, None, if◌then◌else◌, IsTrue, slice_get}
+use Rattle.pj_plan.specs.declared.node.PlanNode.{PlanNode}
+use Rattle.pj_core.specs.Plans.{stream_columns}
 use Rattle.pj_shape.specs.declared.columns.Column.{Column}
-use Rattle.pj_shape.specs.declared.plans.SmallStream.{SmallStream}
 use Rattle.pj_io.specs.Causes.{Rose}
 use Rattle.pj_io.specs.States.{SinkState, SourceState}
 use Rattle.pj_pattern.specs.declared.element.Element.{Element}
@@ -14,7 +15,6 @@ use Rattle.pj_intake.specs.Taking.{IntakeState, Taking, IsOpen}
 use Rattle.pj_pattern.specs.Columns.{all_wild}
 use Rattle.pj_pattern.specs.Fitting.{FitsKinds}
 use Rattle.pj_shape.specs.Columns.{kinds_of}
-use Rattle.pj_laws.specs.CoreKept.{columns_of}
 use Rattle.pj_laws.specs.OneThread.{Turn, heads, tails, in_rounds}
 use Rattle.pj_engine.specs.declared.feeds.Arrival.{Arrival}
 use Rattle.pj_engine.specs.declared.feeds.Arrival.TheVariants.{Brought, Closing}
@@ -76,24 +76,24 @@ feed_of state stream is_open taking = record {
 -- ---- turns
 
 -- the turn that this is, where these are the streams
-abbrev pub turn_in : List SmallStream → Arrival → Turn
+abbrev pub turn_in : List PlanNode → Arrival → Turn
 turn_in streams (Brought stream element) = record { stream = stream; element = element; closing = 0 }
-turn_in streams (Closing stream) = record { stream = stream; element = Punct (all_wild (length (columns_of streams stream))); closing = 1 }
+turn_in streams (Closing stream) = record { stream = stream; element = Punct (all_wild (length (stream_columns streams stream))); closing = 1 }
 
-abbrev pub turn_of : List SmallStream → Option Arrival → Option Turn
+abbrev pub turn_of : List PlanNode → Option Arrival → Option Turn
 turn_of streams None = None
 turn_of streams (Some next) = Some (turn_in streams next)
 
 -- the turns of these elements of a stream, in order
-abbrev pub brought : List SmallStream → ℕ → List Element → List Turn
+abbrev pub brought : List PlanNode → ℕ → List Element → List Turn
 brought streams stream es = map (λ e. turn_in streams (Brought stream e)) es
 
 -- its closing, where that is still to come
-abbrev pub closes : List SmallStream → ℕ → Bool → List Turn
+abbrev pub closes : List PlanNode → ℕ → Bool → List Turn
 closes streams stream still = if still then (turn_in streams (Closing stream) ∷ []) else []
 
 -- what is left of a stream: the elements that are accepted behind those that were, and its closing
-abbrev pub feed_left : List SmallStream → FeedState → List Turn
+abbrev pub feed_left : List PlanNode → FeedState → List Turn
 feed_left streams feed = brought streams feed.stream (drop (count_of feed) (all_accepted feed)) ++ closes streams feed.stream feed.is_open
 
 -- what is left of these lists in rounds, where the first ones had their turn of this round
@@ -101,7 +101,7 @@ abbrev pub round_left : List (List Turn) → List (List Turn) → List Turn
 round_left had others = heads others ++ in_rounds (had ++ tails others)
 
 -- what is left of streams, where those before this place had their turn of this round
-abbrev pub feeds_left : List SmallStream → List FeedState → ℕ → List Turn
+abbrev pub feeds_left : List PlanNode → List FeedState → ℕ → List Turn
 feeds_left streams feeds at = round_left (map (feed_left streams) (take at feeds)) (map (feed_left streams) (drop at feeds))
 
 -- the first of what was left, or that nothing was
@@ -154,7 +154,7 @@ IsNextOf old new (Some e) =
 -- ---- all streams
 
 -- there is a feed for each stream, from this number on
-abbrev pub AreFeeds : ℕ → List SmallStream → List FeedState → Type 0
+abbrev pub AreFeeds : ℕ → List PlanNode → List FeedState → Type 0
 AreFeeds k [] [] = ⊤
 AreFeeds k [] (feed ∷ feeds) = ⊥
 AreFeeds k (stream ∷ streams) [] = ⊥
@@ -163,7 +163,7 @@ AreFeeds k (stream ∷ streams) (feed ∷ feeds) = (feed.stream ≡ k) × (feed.
 -- whatever streams these feeds are of: the turn was the first of what was left of them in rounds, or nothing was left
 abbrev pub GivesInRounds : List FeedState → ℕ → List FeedState → ℕ → Option Arrival → Type 0
 GivesInRounds olds old_at news new_at next =
-    (streams : List SmallStream) → AreFeeds 0 streams olds → Gives (feeds_left streams olds old_at) (feeds_left streams news new_at) (turn_of streams next)
+    (streams : List PlanNode) → AreFeeds 0 streams olds → Gives (feeds_left streams olds old_at) (feeds_left streams news new_at) (turn_of streams next)
 
 -- nothing was taken yet
 abbrev pub AreNew : List FeedState → Type 0
@@ -199,7 +199,7 @@ AreAllTaken [] = ⊤
 AreAllTaken (feed ∷ feeds) = (IsTrue feed.source.told → feed.source.left ≡ []) × AreAllTaken feeds
 
 -- the counts of each stream
-abbrev pub tallies_of : List SmallStream → List (List ℕ) → List Tally
+abbrev pub tallies_of : List PlanNode → List (List ℕ) → List Tally
 tallies_of [] files = []
 tallies_of (stream ∷ streams) [] = []
 tallies_of (stream ∷ streams) (bytes ∷ files) = tally_of (fates_of stream.schema bytes) ∷ tallies_of streams files
@@ -237,4 +237,5 @@ pub record StopsIn (olds news : List FeedState) (at : ℕ) (sink_before sink_now
   pub now : slice_get news stop.stream ≡ Some new
   pub stops : FeedEnds old new sink_before sink_now stop.why
   pub still : old.is_open ≡ true
-  pub next : AllTold olds → (streams : List SmallStream) → AreFeeds 0 streams olds → (turn : Turn) × (rest : List Turn) × (feeds_left streams olds at ≡ turn ∷ rest) × (turn.stream ≡ stop.stream)
+  pub next : AllTold olds → (streams : List PlanNode) → AreFeeds 0 streams olds
+      → (turn : Turn) × (rest : List Turn) × (feeds_left streams olds at ≡ turn ∷ rest) × (turn.stream ≡ stop.stream)

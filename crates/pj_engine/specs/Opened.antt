@@ -1,7 +1,8 @@
 -- The feeds of files that were opened, and what closing them leaves of a folder.
 use Rattle.std.specs.Prelude.{◌≡◌, ◌≢◌, ◌<◌, ◌≤◌, ◌⊎◌, ◌↔◌, ℕ, ◌+◌, ⊤, Bool, true, List, [], ◌∷◌, length, take, Result, OnOk, IsTrue, slice_index_or}
+use Rattle.pj_shape.specs.declared.columns.Column.{Column}
+use Rattle.pj_plan.specs.declared.node.PlanNode.{PlanNode}
 use Rattle.pj_value.specs.Lists.{In}
-use Rattle.pj_shape.specs.declared.plans.SmallStream.{SmallStream}
 use Rattle.pj_io.specs.Causes.{Rose, counted}
 use Rattle.pj_io.specs.Folders.{IsNew, IsFresh, RoseAt}
 use Rattle.pj_io.specs.States.{FolderState}
@@ -27,9 +28,9 @@ pub record IsFaultAt (stream : ℕ) (names : List (List ℕ)) (feeds : List Feed
   pub rose : Rose (old.faults (slice_index_or names stream [])) (new.faults (slice_index_or names stream []))
 
 -- the feed of a stream whose file was opened under a name, and of which nothing was taken
-pub record IsFeedOf (stream : ℕ) (of : SmallStream) (name : List ℕ) (folder : FolderState) (feed : FeedState) : Type 0 where
+pub record IsFeedOf (stream : ℕ) (schema : List Column) (name : List ℕ) (folder : FolderState) (feed : FeedState) : Type 0 where
   pub number : feed.stream ≡ stream
-  pub columns : feed.intake.columns ≡ of.schema
+  pub columns : feed.intake.columns ≡ schema
   pub still : feed.is_open ≡ true
   pub fed : IsFed feed
   pub none : count_of feed ≡ 0
@@ -37,12 +38,12 @@ pub record IsFeedOf (stream : ℕ) (of : SmallStream) (name : List ℕ) (folder 
   pub told : IsTrue (folder.told name) → IsFresh (folder.contents name) feed.source
 
 -- these are the feeds of the first of these streams, from this number on
-abbrev pub AreFeedsOf : ℕ → List SmallStream → List (List ℕ) → FolderState → List FeedState → Type 0
+abbrev pub AreFeedsOf : ℕ → List PlanNode → List (List ℕ) → FolderState → List FeedState → Type 0
 AreFeedsOf k streams names folder [] = ⊤
 AreFeedsOf k [] names folder (feed ∷ feeds) = ⊥
 AreFeedsOf k (stream ∷ streams) [] folder (feed ∷ feeds) = ⊥
 AreFeedsOf k (stream ∷ streams) (name ∷ names) folder (feed ∷ feeds) =
-    IsFeedOf k stream name folder feed × AreFeedsOf (k + 1) streams names folder feeds
+    IsFeedOf k stream.schema name folder feed × AreFeedsOf (k + 1) streams names folder feeds
 
 -- files were opened under the names of these feeds
 abbrev pub AreOpened : (List ℕ → Bool) → List FeedState → Type 0

@@ -1,22 +1,23 @@
 -- What words, plan and number of files refuse, and why there is no plan to run.
-use Rattle.std.specs.Prelude.{ℕ, ◌^◌, ◌-◌, ◌<◌, ◌≡◌, ◌==◌, true, false, ⊤, min, nat_lt, List, [], ◌∷◌, Option, Some, None, Result, Ok, Err, IsTrue, if◌then◌else◌, length}
+use Rattle.std.specs.Prelude.{ℕ, ◌^◌, ◌-◌, ◌<◌, ◌≤◌, ◌≡◌, ◌≢◌, ◌⊎◌, true, false, ⊤, min, List, [], ◌∷◌, Result, Ok, Err, IsTrue, length}
 use Rattle.pj_io.specs.Folders.{RoseAt, SameEverywhere}
 use Rattle.pj_io.specs.States.{FolderState}
-use Rattle.pj_shape.specs.declared.plans.SmallPlan.{SmallPlan}
 use Rattle.pj_plan.specs.declared.fault.PlanFault.{PlanFault}
+use Rattle.pj_plan.specs.declared.fault.PlanWhy.{PlanWhy}
 use Rattle.pj_plan.specs.declared.node.Outline.{Outline}
 use Rattle.pj_plan.specs.Nodes.{streams_of}
 use Rattle.pj_plan_text.specs.PlanRead.{plan_read}
 use Rattle.pj_engine.specs.declared.status.Status.{Status}
-use Rattle.pj_engine.specs.declared.status.Status.TheVariants.{Usage, NotBuilt, PlanRefused, FileCount, Limit}
+use Rattle.pj_engine.specs.declared.status.Status.TheVariants.{Done, Usage, NotBuilt, OpenFault, ReadFault, PlanRefused, FileCount, Unsafe, WriteFault, NoMemory, Limit}
 use Rattle.pj_engine.specs.declared.status.LimitOf.TheVariants.{Plan}
 use Rattle.pj_engine.specs.declared.stops.FileStop.{FileStop}
 use Rattle.pj_engine.specs.declared.stops.FileStop.TheVariants.{OpenFault, ReadFault, TooLong, NoMemory as FileMemory}
 use Rattle.pj_engine.specs.declared.stops.PlanStop.{PlanStop}
-use Rattle.pj_engine.specs.declared.stops.PlanStop.TheVariants.{Usage as NoWords, File, Refused, FileCount as OtherCount, NotBuilt as NoPlan, NoMemory as PlanMemory}
+use Rattle.pj_engine.specs.declared.stops.PlanStop.TheVariants.{Usage as NoWords, File, Refused, FileCount as OtherCount, Unsafe as Stuck, NotBuilt as NoPlan, NoMemory as PlanMemory}
 use Rattle.pj_engine.specs.Commands.{Command, HasToldPlan, file_names, operand, plan_bytes}
 use Rattle.pj_engine.specs.Opened.{OpensFirst}
-use Rattle.pj_engine.specs.Plans.{small_plan}
+use Rattle.pj_core.specs.Plans.{are_run}
+use Rattle.pj_alone.specs.Safety.{IsFirstStuck, IsSafePlan, AreUnsafeLines, HasUnsafeLines}
 
 -- ---- what is refused
 
@@ -24,32 +25,53 @@ use Rattle.pj_engine.specs.Plans.{small_plan}
 abbrev pub counted_files : ℕ → ℕ
 counted_files n = min n (2 ^ 32 - 1)
 
--- a plan that is not of one stream, or of 2 to 16 streams and a join of them all, is not built
-abbrev pub form_refusal : Option SmallPlan → Option Status
-form_refusal None = Some NotBuilt
-form_refusal (Some plan) = None
-
--- a plan without fault is refused where it has another number of streams than there are files, or has not the form
-abbrev pub count_refusal : ℕ → Outline → Option Status
-count_refusal files plan =
-    if length (streams_of plan.nodes) == files then form_refusal (small_plan plan) else Some (FileCount (length (streams_of plan.nodes)) (counted_files files))
+-- What a plan without fault is refused with, where there are so many files: it has another number of streams; or else an input of
+-- a join does not reach all, and these are the first such join, its first such input and the least that it does not reach; or else
+-- the plan is safe, and is not one that is run
+abbrev pub RefusesPlan : Status → ℕ → Outline → Type 0
+RefusesPlan (FileCount want got) files plan =
+    (length (streams_of plan.nodes) ≢ files) × (want ≡ length (streams_of plan.nodes)) × (got ≡ counted_files files)
+RefusesPlan (Unsafe join input missing) files plan = (length (streams_of plan.nodes) ≡ files) × IsFirstStuck plan.nodes join input missing
+RefusesPlan NotBuilt files plan = (length (streams_of plan.nodes) ≡ files) × IsSafePlan plan.nodes × (are_run plan.nodes ≡ false)
+RefusesPlan Done files plan = ⊥
+RefusesPlan Usage files plan = ⊥
+RefusesPlan (PlanRefused line why) files plan = ⊥
+RefusesPlan (OpenFault operand) files plan = ⊥
+RefusesPlan (ReadFault operand) files plan = ⊥
+RefusesPlan WriteFault files plan = ⊥
+RefusesPlan NoMemory files plan = ⊥
+RefusesPlan (Limit what) files plan = ⊥
 
 -- a plan with a fault is refused with its first
-abbrev pub read_refusal : ℕ → Result Outline PlanFault → Option Status
-read_refusal files (Ok plan) = count_refusal files plan
-read_refusal files (Err fault) = Some (PlanRefused fault.line fault.why)
+abbrev pub RefusesRead : Status → ℕ → Result Outline PlanFault → Type 0
+RefusesRead status files (Ok plan) = RefusesPlan status files plan
+RefusesRead status files (Err fault) = status ≡ PlanRefused fault.line fault.why
 
 -- a file of more than 1,048,576 bytes is too long for a plan
-abbrev pub plan_refusal : ℕ → List ℕ → Option Status
-plan_refusal files bytes = if nat_lt 1048576 (length bytes) then Some (Limit Plan) else read_refusal files (plan_read bytes)
+abbrev pub RefusesBytes : Status → ℕ → List ℕ → Type 0
+RefusesBytes status files bytes =
+    ((1048576 < length bytes) × (status ≡ Limit Plan)) ⊎ ((length bytes ≤ 1048576) × RefusesRead status files (plan_read bytes))
 
--- what words, plan and number of files refuse, whichever is asked first; none where there is something to run
-abbrev pub refusal_of : Command → Option Status
-refusal_of command = if command.is_run then plan_refusal (length (file_names command)) (plan_bytes command) else Some Usage
+-- what words, plan and number of files are refused with, whichever is asked first
+abbrev pub Refuses : Command → Status → Type 0
+Refuses command status =
+    ((command.is_run ≡ false) × (status ≡ Usage))
+    ⊎ ((command.is_run ≡ true) × RefusesBytes status (length (file_names command)) (plan_bytes command))
 
 -- the words ask for a run, and where the plan is told it is refused so
 abbrev pub IsRefused : Command → Status → Type 0
-IsRefused command status = (command.is_run ≡ true) × (HasToldPlan command → refusal_of command ≡ Some status)
+IsRefused command status = (command.is_run ≡ true) × (HasToldPlan command → Refuses command status)
+
+-- an answer that the plan has a fault, that another number of files is wanted, or that the plan is unsafe, is right
+abbrev pub IsRightFault : Status → Command → Type 0
+IsRightFault answer command = (line : ℕ) (why : PlanWhy) → answer ≡ PlanRefused line why → IsRefused command (PlanRefused line why)
+
+abbrev pub IsRightCount : Status → Command → Type 0
+IsRightCount answer command = (want got : ℕ) → answer ≡ FileCount want got → IsRefused command (FileCount want got)
+
+abbrev pub IsRightlyUnsafe : Status → Command → Type 0
+IsRightlyUnsafe answer command =
+    (join input missing : ℕ) → answer ≡ Unsafe join input missing → IsRefused command (Unsafe join input missing)
 
 -- ---- why there is no plan to run
 
@@ -58,17 +80,44 @@ abbrev pub PlanUnfit : PlanStop → ℕ → Outline → Type 0
 PlanUnfit NoWords files plan = ⊥
 PlanUnfit (File stop) files plan = ⊥
 PlanUnfit (Refused fault) files plan = ⊥
-PlanUnfit (OtherCount want got) files plan = count_refusal files plan ≡ Some (FileCount want got)
-PlanUnfit NoPlan files plan = count_refusal files plan ≡ Some NotBuilt
+PlanUnfit (OtherCount want got) files plan = RefusesPlan (FileCount want got) files plan
+PlanUnfit (Stuck found) files plan =
+    RefusesPlan (Unsafe found.join found.input found.missing) files plan × AreUnsafeLines plan.nodes found.join found.input found.missing found.lines
+PlanUnfit NoPlan files plan = RefusesPlan NotBuilt files plan
 PlanUnfit PlanMemory files plan = ⊤
 
--- the bytes of a plan's file are refused so, where there are so many files
+-- a safe plan of the right number of streams is not run: it has other nodes than streams and one join; or memory was wanting
+abbrev pub IsUnrun : PlanStop → Outline → Type 0
+IsUnrun NoWords plan = ⊥
+IsUnrun (File stop) plan = ⊥
+IsUnrun (Refused fault) plan = ⊥
+IsUnrun (OtherCount want got) plan = ⊥
+IsUnrun (Stuck found) plan = ⊥
+IsUnrun NoPlan plan = are_run plan.nodes ≡ false
+IsUnrun PlanMemory plan = ⊤
+
+-- the lines of an unsafe plan are such as spell no element
+abbrev pub HasLines : PlanStop → Type 0
+HasLines (Stuck found) = HasUnsafeLines found
+HasLines NoWords = ⊤
+HasLines (File stop) = ⊤
+HasLines (Refused fault) = ⊤
+HasLines (OtherCount want got) = ⊤
+HasLines NoPlan = ⊤
+HasLines PlanMemory = ⊤
+
+-- the bytes spell a plan without fault, which is refused so
+abbrev pub ReadUnfit : PlanStop → ℕ → List ℕ → Type 0
+ReadUnfit stop files bytes = (plan : Outline) × (plan_read bytes ≡ Ok plan) × PlanUnfit stop files plan
+
+-- the bytes of a plan's file, which are not too many, are refused so, where there are so many files
 abbrev pub BytesRefused : PlanStop → ℕ → List ℕ → Type 0
 BytesRefused NoWords files bytes = ⊥
 BytesRefused (File stop) files bytes = ⊥
-BytesRefused (Refused fault) files bytes = read_refusal files (plan_read bytes) ≡ Some (PlanRefused fault.line fault.why)
-BytesRefused (OtherCount want got) files bytes = read_refusal files (plan_read bytes) ≡ Some (FileCount want got)
-BytesRefused NoPlan files bytes = read_refusal files (plan_read bytes) ≡ Some NotBuilt
+BytesRefused (Refused fault) files bytes = plan_read bytes ≡ Err fault
+BytesRefused (OtherCount want got) files bytes = ReadUnfit (OtherCount want got) files bytes
+BytesRefused (Stuck found) files bytes = ReadUnfit (Stuck found) files bytes
+BytesRefused NoPlan files bytes = ReadUnfit NoPlan files bytes
 BytesRefused PlanMemory files bytes = ⊤
 
 -- why the file of this name was not read: its faults rose, at its opening or later, or it is too long
@@ -85,20 +134,28 @@ FileOpens ReadFault name old new = OpensFirst 1 (name ∷ []) old new
 FileOpens TooLong name old new = OpensFirst 1 (name ∷ []) old new
 FileOpens FileMemory name old new = ⊤
 
--- the file of this name was opened, and the plan in it is refused so, where it is told
-abbrev pub OpenedAndRefused : Status → ℕ → List ℕ → FolderState → FolderState → Type 0
-OpenedAndRefused status files name old new = OpensFirst 1 (name ∷ []) old new × (IsTrue (old.told name) → plan_refusal files (old.contents name) ≡ Some status)
+-- the file of this name was opened, and where it is told its bytes, which are not too many, have this fault
+abbrev pub OpenedWithFault : PlanFault → List ℕ → FolderState → FolderState → Type 0
+OpenedWithFault fault name old new =
+    OpensFirst 1 (name ∷ []) old new × (IsTrue (old.told name) → (length (old.contents name) ≤ 1048576) × (plan_read (old.contents name) ≡ Err fault))
+
+-- the file of this name was opened, and a plan was read that is refused so; where the file is told it is the plan that its bytes spell
+abbrev pub OpenedAndUnfit : PlanStop → ℕ → List ℕ → FolderState → FolderState → Type 0
+OpenedAndUnfit stop files name old new =
+    OpensFirst 1 (name ∷ []) old new × (plan : Outline) × PlanUnfit stop files plan
+    × (IsTrue (old.told name) → (length (old.contents name) ≤ 1048576) × (plan_read (old.contents name) ≡ Ok plan))
 
 -- why there is no plan in the file of this name for so many files
 abbrev pub PlanCause : PlanStop → ℕ → List ℕ → FolderState → FolderState → Type 0
 PlanCause NoWords files name old new = ⊥
 PlanCause (File OpenFault) files name old new = OpensFirst 0 (name ∷ []) old new × RoseAt name old.faults new.faults × SameEverywhere old.last new.last
 PlanCause (File ReadFault) files name old new = OpensFirst 1 (name ∷ []) old new × RoseAt name old.faults new.faults
-PlanCause (File TooLong) files name old new = OpenedAndRefused (Limit Plan) files name old new
+PlanCause (File TooLong) files name old new = OpensFirst 1 (name ∷ []) old new × (IsTrue (old.told name) → 1048576 < length (old.contents name))
 PlanCause (File FileMemory) files name old new = ⊤
-PlanCause (Refused fault) files name old new = OpenedAndRefused (PlanRefused fault.line fault.why) files name old new
-PlanCause (OtherCount want got) files name old new = OpenedAndRefused (FileCount want got) files name old new
-PlanCause NoPlan files name old new = OpenedAndRefused NotBuilt files name old new
+PlanCause (Refused fault) files name old new = OpenedWithFault fault name old new
+PlanCause (OtherCount want got) files name old new = OpenedAndUnfit (OtherCount want got) files name old new
+PlanCause (Stuck found) files name old new = OpenedAndUnfit (Stuck found) files name old new × HasUnsafeLines found
+PlanCause NoPlan files name old new = OpenedAndUnfit NoPlan files name old new
 PlanCause PlanMemory files name old new = ⊤
 
 -- why a command has no plan to run: its words have not the form, and nothing was done; or they name a file with no such plan
@@ -108,5 +165,6 @@ Unprepared (File stop) command after = (command.is_run ≡ true) × PlanCause (F
 Unprepared (Refused fault) command after = (command.is_run ≡ true) × PlanCause (Refused fault) (length (file_names command)) (operand command.names 1) command.folder after
 Unprepared (OtherCount want got) command after =
     (command.is_run ≡ true) × PlanCause (OtherCount want got) (length (file_names command)) (operand command.names 1) command.folder after
+Unprepared (Stuck found) command after = (command.is_run ≡ true) × PlanCause (Stuck found) (length (file_names command)) (operand command.names 1) command.folder after
 Unprepared NoPlan command after = (command.is_run ≡ true) × PlanCause NoPlan (length (file_names command)) (operand command.names 1) command.folder after
 Unprepared PlanMemory command after = (command.is_run ≡ true)

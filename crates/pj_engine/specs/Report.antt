@@ -10,7 +10,7 @@ use Rattle.pj_plan.specs.declared.fault.PlanWhy.{PlanWhy}
 use Rattle.pj_plan.specs.declared.fault.PlanWhy.TheVariants.{NotAPlan, UnknownStatement, BadShape, NameTwice, UnknownName, UnknownColumn, ColumnTwice, KindsDiffer, BadClass, BadScheme, UsedTwiceOrNever, TooMany, Output, Unreadable}
 use Rattle.pj_engine.specs.declared.status.Status.{Status}
 use Rattle.pj_engine.specs.declared.status.LimitOf.TheVariants.{Plan, Node, File}
-use Rattle.pj_engine.specs.declared.status.Status.TheVariants.{Done, Usage, NotBuilt, OpenFault, ReadFault, PlanRefused, FileCount, WriteFault, NoMemory, Limit}
+use Rattle.pj_engine.specs.declared.status.Status.TheVariants.{Done, Usage, NotBuilt, OpenFault, ReadFault, PlanRefused, FileCount, Unsafe, WriteFault, NoMemory, Limit}
 
 abbrev pub reject_words : Reject → List ℕ
 reject_words TooLong = codes "too long"
@@ -65,13 +65,15 @@ fault_words TooMany = codes " P12 too many"
 fault_words Output = codes " P13 output"
 fault_words Unreadable = codes " P14 unreadable line"
 
--- the line of a status, with its line feed; nothing where it has none. What has a limit has this name
+-- the line of a status, with its line feed; nothing where it has none, and for an unsafe plan, whose two lines have names of it.
+-- What has a limit has this name
 abbrev pub status_line : List ℕ → Status → List ℕ
 status_line name Done = []
 status_line name Usage = fed (codes "# usage: run PLAN FILE.. | replay PLAN SCRIPT FILE.. | check PLAN | make SEED N")
 status_line name NotBuilt = fed (codes "# refused not built")
 status_line name (PlanRefused line why) = fed (codes "# refused plan line " ++ decimal line ++ fault_words why)
 status_line name (FileCount want got) = fed (codes "# refused files want " ++ decimal want ++ codes " got " ++ decimal got)
+status_line name (Unsafe join input missing) = []
 status_line name (OpenFault operand) = fed (codes "# stopped open fault operand " ++ decimal operand)
 status_line name (ReadFault operand) = fed (codes "# stopped read fault operand " ++ decimal operand)
 status_line name WriteFault = []
@@ -84,6 +86,7 @@ status_line name (Limit (File stream)) = fed (codes "# stopped limit file " ++ n
 abbrev pub status_number : Status → ℕ
 status_number Done = 0
 status_number (PlanRefused line why) = 1
+status_number (Unsafe join input missing) = 2
 status_number (OpenFault operand) = 3
 status_number (ReadFault operand) = 3
 status_number WriteFault = 4

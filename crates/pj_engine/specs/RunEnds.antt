@@ -1,8 +1,8 @@
 -- How a run over files ends, and why.
 use Rattle.std.specs.Prelude.{◌≡◌, ◌<◌, ◌≤◌, ◌^◌, ℕ, ⊤, List, [], length, Result, Ok, Err, Some, IsTrue, IfErr, slice_get, slice_index_or}
+use Rattle.pj_plan.specs.declared.node.Outline.{Outline}
 use Rattle.pj_io.specs.Causes.{Rose}
 use Rattle.pj_io.specs.States.{FolderState, SinkState}
-use Rattle.pj_shape.specs.declared.plans.SmallPlan.{SmallPlan}
 use Rattle.pj_engine.specs.declared.stops.RunStop.{RunStop}
 use Rattle.pj_engine.specs.declared.stops.RunStop.TheVariants.{ReadFault, TooLarge, Limit, WriteFailed, NoMemory}
 use Rattle.pj_engine.specs.declared.stops.OpeningStop.TheVariants.{Fault, NoMemory as OpeningMemory}
@@ -23,13 +23,13 @@ abbrev pub FeedsWrite : {T : Type 0} → List FeedState → List (List ℕ) → 
 FeedsWrite feeds lines old new result = AllTold feeds → IsTrue new.told → WritesBy run_cut lines old new result
 
 -- where the files and the sink are told: what the stop of a run's turns leaves of the sink and of the feeds
-abbrev pub StoppedTurns : {T : Type 0} → SmallPlan → List FeedState → List FeedState → SinkState → SinkState → Result T RunStop → Type 0
+abbrev pub StoppedTurns : {T : Type 0} → Outline → List FeedState → List FeedState → SinkState → SinkState → Result T RunStop → Type 0
 StoppedTurns plan olds news old new result =
     AllTold olds → IsTrue new.told → IfErr result (λ stop. TurnsEnd stop plan (files_of olds) news old.written new.written)
 
 -- why the turns of a run stopped: a source's faults rose, a file gave too many bytes, an element went beyond a limit, or the sink's
 -- faults rose; memory may be wanting at any time
-abbrev pub TurnsCause : RunStop → SmallPlan → List FeedState → List FeedState → SinkState → SinkState → Type 0
+abbrev pub TurnsCause : RunStop → Outline → List FeedState → List FeedState → SinkState → SinkState → Type 0
 TurnsCause (ReadFault stream) plan olds news old new = (feed : FeedState) × (slice_get news stream ≡ Some feed) × (1 ≤ feed.source.faults)
 TurnsCause (TooLarge stream) plan olds news old new =
     (feed : FeedState) × (slice_get olds stream ≡ Some feed) × (IsTrue feed.source.told → 2 ^ 40 ≤ length (bytes_of feed))
@@ -45,19 +45,19 @@ pub record AreRead (feeds : List FeedState) (before after : FolderState) : Type 
   pub lasts : HasLasts news before.last after.last
 
 -- what the stop of a run over feeds leaves of the sink and the folder
-pub record FeedsEnd (stop : RunStop) (plan : SmallPlan) (feeds : List FeedState) (before after : FolderState) (written lines : List ℕ) : Type 0 where
+pub record FeedsEnd (stop : RunStop) (plan : Outline) (feeds : List FeedState) (before after : FolderState) (written lines : List ℕ) : Type 0 where
   pub news : List FeedState
   pub same : AreSameFeeds feeds news
   pub ends : TurnsEnd stop plan (files_of feeds) news written lines
   pub lasts : HasLasts news before.last after.last
 
 -- the same, where the files and the sink are told
-abbrev pub StoppedFeeds : {T : Type 0} → SmallPlan → List FeedState → FolderState → FolderState → SinkState → SinkState → Result T RunStop → Type 0
+abbrev pub StoppedFeeds : {T : Type 0} → Outline → List FeedState → FolderState → FolderState → SinkState → SinkState → Result T RunStop → Type 0
 StoppedFeeds plan feeds before after old new result =
     AllTold feeds → IsTrue new.told → IfErr result (λ stop. FeedsEnd stop plan feeds before after old.written new.written)
 
 -- why it stopped, where the faults of a file were added to those of its name
-abbrev pub FeedsCause : RunStop → SmallPlan → List FeedState → FolderState → FolderState → SinkState → SinkState → Type 0
+abbrev pub FeedsCause : RunStop → Outline → List FeedState → FolderState → FolderState → SinkState → SinkState → Type 0
 FeedsCause (ReadFault stream) plan feeds before after old new =
     (feed : FeedState) × (slice_get feeds stream ≡ Some feed) × Rose (before.faults feed.source.name) (after.faults feed.source.name)
 FeedsCause (TooLarge stream) plan feeds before after old new =
@@ -76,12 +76,12 @@ FilesOpened (Err (Opening OpeningMemory)) names before after = OpensAtMost (leng
 FilesOpened (Err (Run stop)) names before after = OpensFirst (length names) names before after
 
 -- where the files and the sink are told: all lines of the run over these files were written, or as much of them as the stop leaves
-abbrev pub FilesWrite : {T : Type 0} → SmallPlan → List (List ℕ) → FolderState → SinkState → SinkState → Result T FilesStop → Type 0
+abbrev pub FilesWrite : {T : Type 0} → Outline → List (List ℕ) → FolderState → SinkState → SinkState → Result T FilesStop → Type 0
 FilesWrite plan names folder old new result =
     AreTold names folder → IsTrue new.told → WritesBy files_cut (run_lines plan (files_named names folder)) old new result
 
 -- what the stop of a run over these files leaves
-abbrev pub FilesEnd : FilesStop → SmallPlan → List (List ℕ) → FolderState → FolderState → List ℕ → List ℕ → Type 0
+abbrev pub FilesEnd : FilesStop → Outline → List (List ℕ) → FolderState → FolderState → List ℕ → List ℕ → Type 0
 FilesEnd (Opening (Fault stream)) plan names before after written lines =
     (lines ≡ written) × (AreDistinct names → after.last (slice_index_or names stream []) ≡ before.last (slice_index_or names stream []))
 FilesEnd (Opening OpeningMemory) plan names before after written lines = ⊤
@@ -94,7 +94,7 @@ FilesEnd (Run WriteFailed) plan names before after written lines = ⊤
 FilesEnd (Run NoMemory) plan names before after written lines = ⊤
 
 -- the same, where the files and the sink are told
-abbrev pub StoppedFiles : {T : Type 0} → SmallPlan → List (List ℕ) → FolderState → FolderState → SinkState → SinkState → Result T FilesStop → Type 0
+abbrev pub StoppedFiles : {T : Type 0} → Outline → List (List ℕ) → FolderState → FolderState → SinkState → SinkState → Result T FilesStop → Type 0
 StoppedFiles plan names before after old new result =
     AreTold names before → IsTrue new.told → IfErr result (λ stop. FilesEnd stop plan names before after old.written new.written)
 
@@ -109,7 +109,7 @@ pub record IsLargeFile (stream : ℕ) (names : List (List ℕ)) (folder : Folder
   pub bytes : IsTrue (folder.told (slice_index_or names stream [])) → 2 ^ 40 ≤ length (folder.contents (slice_index_or names stream []))
 
 -- why it stopped
-abbrev pub FilesCause : FilesStop → SmallPlan → List (List ℕ) → FolderState → FolderState → SinkState → SinkState → Type 0
+abbrev pub FilesCause : FilesStop → Outline → List (List ℕ) → FolderState → FolderState → SinkState → SinkState → Type 0
 FilesCause (Opening (Fault stream)) plan names before after old new = IsFaultOf stream names before after
 FilesCause (Opening OpeningMemory) plan names before after old new = ⊤
 FilesCause (Run (ReadFault stream)) plan names before after old new = IsFaultOf stream names before after

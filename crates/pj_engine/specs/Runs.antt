@@ -1,10 +1,12 @@
 -- What a plan's run over files hands out, and the lines that it writes. There is one file for each stream.
-use Rattle.std.specs.Prelude.{◌≡◌, false, ℕ, ◌^◌, List, [], ◌∷◌, ◌++◌, map, length, Option, Some, None}
+use Rattle.std.specs.Prelude.{◌≡◌, false, ℕ, ◌^◌, List, [], ◌∷◌, ◌++◌, map}
+use Rattle.pj_plan.specs.declared.node.Outline.{Outline}
+use Rattle.pj_plan.specs.declared.node.PlanNode.{PlanNode}
+use Rattle.pj_plan.specs.Nodes.{joins_of}
+use Rattle.pj_plan.specs.Canonical.{node_name}
+use Rattle.pj_core.specs.Plans.{IsRun, nodes_of, streams_in}
 use Rattle.pj_value.specs.declared.values.Value.{Value}
 use Rattle.pj_value.specs.Bags.{SameBag}
-use Rattle.pj_shape.specs.declared.plans.SmallPlan.{SmallPlan}
-use Rattle.pj_shape.specs.declared.plans.SmallStream.{SmallStream}
-use Rattle.pj_shape.specs.declared.plans.SmallJoin.{SmallJoin}
 use Rattle.pj_pattern.specs.Patterns.{Pattern}
 use Rattle.pj_pattern.specs.declared.element.Element.{Element}
 use Rattle.pj_pattern.specs.declared.element.Element.TheVariants.{Punct}
@@ -15,27 +17,30 @@ use Rattle.pj_laws.specs.Limits.{ReachesLimit}
 use Rattle.pj_laws.specs.Outcomes.{elements_out, peak_of}
 use Rattle.pj_laws.specs.Outcomes.{outputs_of as handed_out, answer_of as plan_answer}
 use Rattle.pj_laws.specs.OneThread.{one_thread_of}
-use Rattle.pj_laws.specs.CoreKept.{nodes_of}
+use Rattle.pj_core.specs.Cores.{CoreState}
+use Rattle.pj_core.specs.Calls.{IsFresh}
+use Rattle.pj_plan.specs.Sound.{IsSoundPlan}
+use Rattle.pj_engine.specs.PlanNames.{HasPlainNames}
 use Rattle.pj_engine.specs.Report.{stream_lines, results_line, peak_line}
 
 -- the accepted elements of these streams, without their closings
-abbrev pub accepted_of : List SmallStream → List (List ℕ) → List (List Element)
+abbrev pub accepted_of : List PlanNode → List (List ℕ) → List (List Element)
 accepted_of [] files = []
 accepted_of (stream ∷ streams) [] = [] ∷ accepted_of streams []
 accepted_of (stream ∷ streams) (bytes ∷ files) = taken_of (fates_of stream.schema bytes) ∷ accepted_of streams files
 
 -- these elements of streams, each stream's with its closing behind them
-abbrev pub with_closings : List SmallStream → List (List Element) → List (List Element)
+abbrev pub with_closings : List PlanNode → List (List Element) → List (List Element)
 with_closings [] lists = []
 with_closings (stream ∷ streams) [] = (Punct (closing stream.schema) ∷ []) ∷ with_closings streams []
 with_closings (stream ∷ streams) (es ∷ lists) = (es ++ Punct (closing stream.schema) ∷ []) ∷ with_closings streams lists
 
 -- the accepted elements of each stream, with the closing punctuation
-abbrev pub elements_of : SmallPlan → List (List ℕ) → List (List Element)
-elements_of plan files = with_closings plan.streams (accepted_of plan.streams files)
+abbrev pub elements_of : Outline → List (List ℕ) → List (List Element)
+elements_of plan files = with_closings (streams_in plan.nodes) (accepted_of (streams_in plan.nodes) files)
 
 -- the nested-loop answer of a plan over complete lists of rows, one for each stream
-abbrev pub answer_of : SmallPlan → List (List (List Value)) → List (List Value)
+abbrev pub answer_of : Outline → List (List (List Value)) → List (List Value)
 answer_of plan lists = plan_answer (nodes_of plan) lists
 
 -- the punctuations that a plan of one stream hands out: the stream's own
@@ -44,49 +49,52 @@ first_puncts [] = []
 first_puncts (puncts ∷ others) = puncts
 
 -- the history of the run on one thread
-abbrev pub history_of : SmallPlan → List (List ℕ) → List Entry
-history_of plan files = one_thread_of false (nodes_of plan) (accepted_of plan.streams files)
+abbrev pub history_of : Outline → List (List ℕ) → List Entry
+history_of plan files = one_thread_of false (nodes_of plan) (accepted_of (streams_in plan.nodes) files)
 
 -- the outputs of the run on one thread
-abbrev pub outputs_of : SmallPlan → List (List ℕ) → List Element
+abbrev pub outputs_of : Outline → List (List ℕ) → List Element
 outputs_of plan files = elements_out (handed_out false (nodes_of plan) (history_of plan files))
 
 -- the lines of each stream
-abbrev pub streams_report : List SmallStream → List (List ℕ) → List (List ℕ)
+abbrev pub streams_report : List PlanNode → List (List ℕ) → List (List ℕ)
 streams_report [] files = []
 streams_report (stream ∷ streams) [] = []
 streams_report (stream ∷ streams) (bytes ∷ files) = stream_lines stream.name (tally_of (fates_of stream.schema bytes)) ++ streams_report streams files
 
--- the line of the join's peak, where there is a join
-abbrev pub peaks_report : Option SmallJoin → ℕ → List (List ℕ)
-peaks_report None peak = []
-peaks_report (Some join) peak = peak_line join.name peak ∷ []
+-- the line of a join's peak after a history
+abbrev pub peak_report : Outline → List Entry → ℕ → List ℕ
+peak_report plan history join = peak_line (node_name plan.nodes join) (peak_of (nodes_of plan) history join)
 
--- the report: the lines of each stream, the counts of results, and the peak of the join, which stands behind the streams
-abbrev pub report_of : SmallPlan → List (List ℕ) → List Element → List (List ℕ)
+-- the lines of the joins' peaks after a history, in order of declaration
+abbrev pub peaks_report : Outline → List Entry → List (List ℕ)
+peaks_report plan history = map (peak_report plan history) (joins_of plan.nodes)
+
+-- the report: the lines of each stream, the counts of results, and the peaks of the joins
+abbrev pub report_of : Outline → List (List ℕ) → List Element → List (List ℕ)
 report_of plan files outputs =
-    streams_report plan.streams files ++ results_line outputs ∷ [] ++ peaks_report plan.join (peak_of (nodes_of plan) (history_of plan files) (length plan.streams))
+    streams_report (streams_in plan.nodes) files ++ results_line outputs ∷ [] ++ peaks_report plan (history_of plan files)
 
 -- all lines of the run
-abbrev pub run_lines : SmallPlan → List (List ℕ) → List (List ℕ)
+abbrev pub run_lines : Outline → List (List ℕ) → List (List ℕ)
 run_lines plan files = element_lines (outputs_of plan files) ++ report_of plan files (outputs_of plan files)
 
 -- ---- what holds of the outputs of a run that is done
 
 -- the rows are the plan's answer over exactly the accepted rows, as a bag
-abbrev pub IsAnswer : SmallPlan → List (List ℕ) → List Element → List (List ℕ) → Type 0
-IsAnswer plan files outputs report = SameBag (rows_of outputs) (answer_of plan (map rows_of (accepted_of plan.streams files)))
+abbrev pub IsAnswer : Outline → List (List ℕ) → List Element → List (List ℕ) → Type 0
+IsAnswer plan files outputs report = SameBag (rows_of outputs) (answer_of plan (map rows_of (accepted_of (streams_in plan.nodes) files)))
 
--- where the plan is one stream, the punctuations are those of the stream and its closing, as a bag
-abbrev pub ArePunctuations : SmallPlan → List (List ℕ) → List Element → List (List ℕ) → Type 0
-ArePunctuations plan files outputs report = plan.join ≡ None → SameBag (puncts_of outputs) (first_puncts (map puncts_of (elements_of plan files)))
+-- where the plan has no join, the punctuations are those of its stream and its closing, as a bag
+abbrev pub ArePunctuations : Outline → List (List ℕ) → List Element → List (List ℕ) → Type 0
+ArePunctuations plan files outputs report = joins_of plan.nodes ≡ [] → SameBag (puncts_of outputs) (first_puncts (map puncts_of (elements_of plan files)))
 
 -- no row matches a punctuation before it
-abbrev pub AreLawful : SmallPlan → List (List ℕ) → List Element → List (List ℕ) → Type 0
+abbrev pub AreLawful : Outline → List (List ℕ) → List Element → List (List ℕ) → Type 0
 AreLawful plan files outputs report = IsLawful outputs
 
 -- the counts, the listed rejects and the peak are those of the files, and the counts of results those of the outputs
-abbrev pub AreTallies : SmallPlan → List (List ℕ) → List Element → List (List ℕ) → Type 0
+abbrev pub AreTallies : Outline → List (List ℕ) → List Element → List (List ℕ) → Type 0
 AreTallies plan files outputs report = report ≡ report_of plan files outputs
 
 -- ---- limits
@@ -95,6 +103,10 @@ AreTallies plan files outputs report = report ≡ report_of plan files outputs
 abbrev pub most_arrivals : ℕ
 most_arrivals = 2 ^ 40
 
+-- a new core of a plan that is run, at whose join so many may arrive
+abbrev pub IsNewCore : CoreState → Type 0
+IsNewCore core = IsFresh core core.plan most_arrivals × IsRun core.plan × HasPlainNames core.plan.nodes × IsSoundPlan core.plan.nodes
+
 -- a step of the run on one thread is the first that brings an element beyond the limit, and this is its node
-abbrev pub GoesBeyond : SmallPlan → List (List ℕ) → ℕ → Type 0
+abbrev pub GoesBeyond : Outline → List (List ℕ) → ℕ → Type 0
 GoesBeyond plan files node = ReachesLimit most_arrivals (nodes_of plan) (history_of plan files) node

@@ -1,5 +1,5 @@
 -- How the stop of a part becomes that of the whole.
-use Rattle.std.specs.Prelude.{ℕ, ◌+◌, ◌≤◌, ⊤}
+use Rattle.std.specs.Prelude.{ℕ, ◌+◌, ◌≤◌, ⊤, List, []}
 use Rattle.pj_intake.specs.declared.intake.IntakeStop.TheVariants.{ReadFault as IntakeFault, ByteLimit, NoMemory as IntakeMemory}
 use Rattle.pj_laws.specs.declared.events.Stop.{Stop}
 use Rattle.pj_laws.specs.declared.events.Stop.TheVariants.{Limit as CoreLimit, NoMemory as CoreMemory}
@@ -19,9 +19,11 @@ use Rattle.pj_engine.specs.declared.stops.FilesStop.TheVariants.{Opening, Run}
 use Rattle.pj_engine.specs.declared.stops.FileStop.{FileStop}
 use Rattle.pj_engine.specs.declared.stops.FileStop.TheVariants.{OpenFault as NotOpened, ReadFault as NotRead, TooLong, NoMemory as FileMemory}
 use Rattle.pj_engine.specs.declared.stops.PlanStop.{PlanStop}
-use Rattle.pj_engine.specs.declared.stops.PlanStop.TheVariants.{Usage as NoWords, File as PlanFile, Refused, FileCount as OtherCount, NotBuilt as NoPlan, NoMemory as PlanMemory}
+use Rattle.pj_engine.specs.declared.stops.PlanStop.TheVariants.{Usage as NoWords, File as PlanFile, Refused, FileCount as OtherCount, Unsafe as Stuck, NotBuilt as NoPlan, NoMemory as PlanMemory}
 use Rattle.pj_engine.specs.declared.status.Status.{Status}
-use Rattle.pj_engine.specs.declared.status.Status.TheVariants.{Usage, NotBuilt, OpenFault, ReadFault as StatusFault, PlanRefused, FileCount, WriteFault, NoMemory as StatusMemory, Limit as StatusLimit}
+use Rattle.pj_engine.specs.Report.{status_line}
+use Rattle.pj_engine.specs.Written.{flat}
+use Rattle.pj_engine.specs.declared.status.Status.TheVariants.{Usage, NotBuilt, OpenFault, ReadFault as StatusFault, PlanRefused, FileCount, Unsafe, WriteFault, NoMemory as StatusMemory, Limit as StatusLimit}
 use Rattle.pj_engine.specs.declared.status.LimitOf.TheVariants.{Plan, Node, File}
 
 abbrev pub of_core : Stop → TurnStop
@@ -59,8 +61,19 @@ plan_status NoWords = Usage
 plan_status (PlanFile stop) = file_status stop
 plan_status (Refused fault) = PlanRefused fault.line fault.why
 plan_status (OtherCount want got) = FileCount want got
+plan_status (Stuck found) = Unsafe found.join found.input found.missing
 plan_status NoPlan = NotBuilt
 plan_status PlanMemory = StatusMemory
+
+-- what is written where there is no plan to run: the two lines of an unsafe plan, or the line of the status
+abbrev pub refusal_text : PlanStop → List ℕ
+refusal_text (Stuck found) = flat found.lines
+refusal_text NoWords = status_line [] Usage
+refusal_text (PlanFile stop) = status_line [] (file_status stop)
+refusal_text (Refused fault) = status_line [] (PlanRefused fault.line fault.why)
+refusal_text (OtherCount want got) = status_line [] (FileCount want got)
+refusal_text NoPlan = status_line [] NotBuilt
+refusal_text PlanMemory = status_line [] StatusMemory
 
 -- the status of a run that ended; the plan is operand 1, and the streams' files follow
 abbrev pub run_status : RunStop → Status

@@ -1,10 +1,14 @@
 -- What the top call promises of a command.
-use Rattle.std.specs.Prelude.{◌≡◌, ◌<◌, ◌≤◌, ◌+◌, ◌^◌, ℕ, zero, suc, true, false, ◌⊎◌, ⊤, List, [], ◌∷◌, ◌++◌, map, length, Option, Some, None, IsTrue}
+use Rattle.std.specs.Prelude.{◌≡◌, ◌<◌, ◌≤◌, ◌+◌, ◌^◌, ℕ, true, false, ◌⊎◌, ⊤, List, [], ◌∷◌, ◌++◌, map, length, Some, Ok, IsTrue}
+use Rattle.pj_plan.specs.declared.node.Outline.{Outline}
+use Rattle.pj_plan.specs.declared.node.PlanNode.{PlanNode}
+use Rattle.pj_plan.specs.Nodes.{streams_of}
+use Rattle.pj_plan.specs.Canonical.{node_name}
+use Rattle.pj_plan_text.specs.PlanRead.{plan_read}
+use Rattle.pj_alone.specs.Safety.{IsSafePlan, AreUnsafeLines}
+use Rattle.pj_core.specs.Plans.{nodes_of, streams_in}
 use Rattle.pj_io.specs.Causes.{Rose}
 use Rattle.pj_io.specs.States.{FolderState, SinkState}
-use Rattle.pj_shape.specs.declared.plans.SmallPlan.{SmallPlan}
-use Rattle.pj_shape.specs.declared.plans.SmallStream.{SmallStream}
-use Rattle.pj_shape.specs.declared.plans.SmallJoin.{SmallJoin}
 use Rattle.pj_pattern.specs.declared.element.Element.{Element}
 use Rattle.pj_pattern.specs.Elements.{rows_of, IsLawful}
 use Rattle.pj_element.specs.Runs.{element_lines}
@@ -12,17 +16,16 @@ use Rattle.pj_value.specs.Bags.{SubBag}
 use Rattle.pj_laws.specs.declared.events.Entry.{Entry}
 use Rattle.pj_laws.specs.Outcomes.{elements_out}
 use Rattle.pj_laws.specs.Outcomes.{outputs_of as handed_out, elements_of as arrived_at}
-use Rattle.pj_laws.specs.CoreKept.{nodes_of}
 use Rattle.pj_laws.specs.Join.{upto_from}
 use Rattle.pj_engine.specs.declared.status.Status.{Status}
-use Rattle.pj_engine.specs.declared.status.Status.TheVariants.{Done, Usage, NotBuilt, OpenFault, ReadFault, PlanRefused, FileCount, WriteFault, NoMemory, Limit}
+use Rattle.pj_engine.specs.declared.status.Status.TheVariants.{Done, Usage, NotBuilt, OpenFault, ReadFault, PlanRefused, FileCount, Unsafe, WriteFault, NoMemory, Limit}
 use Rattle.pj_engine.specs.declared.status.LimitOf.{LimitOf}
 use Rattle.pj_engine.specs.declared.status.LimitOf.TheVariants.{Plan, Node, File}
 use Rattle.pj_engine.specs.Commands.{Command, IsTold, HasToldPlan, operand, file_names, plan_bytes, stream_files}
 use Rattle.pj_engine.specs.Ends.{EndsBefore, EndsAtLimit, ArrivedOf, AreDistinct}
 use Rattle.pj_engine.specs.Opened.{OpensFirst, IsReadToEnd}
 use Rattle.pj_engine.specs.Plans.{plan_of}
-use Rattle.pj_engine.specs.Refusals.{refusal_of}
+use Rattle.pj_engine.specs.Refusals.{Refuses}
 use Rattle.pj_engine.specs.Report.{status_line}
 use Rattle.pj_engine.specs.Runs.{outputs_of, history_of, answer_of, run_lines, GoesBeyond}
 use Rattle.pj_engine.specs.Written.{flat, WholeLines, FrontOf, Delivered, Spells, holding}
@@ -30,9 +33,9 @@ use Rattle.pj_engine.specs.Written.{flat, WholeLines, FrontOf, Delivered, Spells
 -- ---- a run that is done
 
 -- Where the command and the sink are told: the plan's run wrote the lines of its outputs and a report, and this holds of them
-abbrev pub Ran : (SmallPlan → List (List ℕ) → List Element → List (List ℕ) → Type 0) → Command → SinkState → SinkState → Type 0
+abbrev pub Ran : (Outline → List (List ℕ) → List Element → List (List ℕ) → Type 0) → Command → SinkState → SinkState → Type 0
 Ran Holds command old new =
-    IsTold command → IsTrue new.told → (plan : SmallPlan) × (outputs : List Element) × (report : List (List ℕ)) × (plan_of (plan_bytes command) ≡ Some plan)
+    IsTold command → IsTrue new.told → (plan : Outline) × (outputs : List Element) × (report : List (List ℕ)) × (plan_of (plan_bytes command) ≡ Some plan)
     × (outputs ≡ outputs_of plan (stream_files command)) × (new.written ≡ old.written ++ flat (element_lines outputs ++ report)) × Holds plan (stream_files command) outputs report
 
 -- of the file of each name that was closed last, all bytes were taken, where they are told
@@ -42,9 +45,9 @@ AreReadToEnd (name ∷ names) old new = (IsTrue (old.told name) → IsReadToEnd 
 
 -- ---- something to run
 
--- the bytes are few enough and spell a plan of this many streams
+-- the bytes are few enough and spell a safe plan of this many streams
 abbrev pub IsPlanOf : ℕ → List ℕ → Type 0
-IsPlanOf streams bytes = (length bytes ≤ 1048576) × ((plan : SmallPlan) × (plan_of bytes ≡ Some plan) × (length plan.streams ≡ streams))
+IsPlanOf streams bytes = (length bytes ≤ 1048576) × ((plan : Outline) × (plan_of bytes ≡ Some plan) × (length (streams_of plan.nodes) ≡ streams) × IsSafePlan plan.nodes)
 
 -- there is something to run, as far as words and plan tell: the plan has a stream for each file
 pub record IsBuilt (command : Command) : Type 0 where
@@ -61,6 +64,7 @@ MayOpen Usage command count = count ≡ 0
 MayOpen NotBuilt command count = count ≡ 1
 MayOpen (PlanRefused line why) command count = count ≡ 1
 MayOpen (FileCount want got) command count = count ≡ 1
+MayOpen (Unsafe join input missing) command count = count ≡ 1
 MayOpen (OpenFault n) command count = count + 1 ≡ n
 MayOpen (ReadFault n) command count = ((n ≡ 1) × (count ≡ 1)) ⊎ ((1 < n) × (count ≡ length command.names))
 MayOpen WriteFault command count = count ≡ length command.names
@@ -79,32 +83,26 @@ OpensInOrder status command after =
 -- nothing was written, or whole first lines of the plan's run
 abbrev pub LinesSoFar : Command → List ℕ → List ℕ → Type 0
 LinesSoFar command before lines =
-    (lines ≡ before) ⊎ ((plan : SmallPlan) × (plan_of (plan_bytes command) ≡ Some plan) × WholeLines (run_lines plan (stream_files command)) before lines)
-
--- the name of the plan's join
-abbrev pub join_name : Option SmallJoin → List ℕ
-join_name None = []
-join_name (Some join) = join.name
+    (lines ≡ before) ⊎ ((plan : Outline) × (plan_of (plan_bytes command) ≡ Some plan) × WholeLines (run_lines plan (stream_files command)) before lines)
 
 -- the name of a stream, by its number
-abbrev pub stream_name : List SmallStream → ℕ → List ℕ
-stream_name [] n = []
-stream_name (stream ∷ streams) zero = stream.name
-stream_name (stream ∷ streams) (suc n) = stream_name streams n
+abbrev pub stream_name : List PlanNode → ℕ → List ℕ
+stream_name streams n = node_name streams n
 
 -- the name of what has a limit
-abbrev pub limit_name : SmallPlan → LimitOf → List ℕ
+abbrev pub limit_name : Outline → LimitOf → List ℕ
 limit_name plan Plan = []
-limit_name plan (Node node) = join_name plan.join
-limit_name plan (File stream) = stream_name plan.streams stream
+limit_name plan (Node node) = node_name plan.nodes node
+limit_name plan (File stream) = stream_name (streams_in plan.nodes) stream
 
 -- the name that the line of a status has, if any
-abbrev pub stop_name : SmallPlan → Status → List ℕ
+abbrev pub stop_name : Outline → Status → List ℕ
 stop_name plan Done = []
 stop_name plan Usage = []
 stop_name plan NotBuilt = []
 stop_name plan (PlanRefused line why) = []
 stop_name plan (FileCount want got) = []
+stop_name plan (Unsafe join input missing) = []
 stop_name plan (OpenFault n) = []
 stop_name plan (ReadFault n) = []
 stop_name plan WriteFault = []
@@ -113,14 +111,14 @@ stop_name plan (Limit what) = limit_name plan what
 
 -- A read of the file of this operand, a stream's, failed: the lines of the outputs were written up to a turn of that stream, and no
 -- line beyond those that were read whole was lost or made up
-abbrev pub FaultLeaves : SmallPlan → Command → FolderState → ℕ → List ℕ → List ℕ → Type 0
+abbrev pub FaultLeaves : Outline → Command → FolderState → ℕ → List ℕ → List ℕ → Type 0
 FaultLeaves plan command after n before lines =
     (stream : ℕ) × (n ≡ 2 + stream) × (ends : EndsBefore plan (stream_files command) stream before lines)
     × (AreDistinct command.names → ArrivedOf plan (stream_files command) stream (after.last (operand command.names n)) ends.front)
 
 -- what a limit leaves: the lines of the outputs up to the step that goes beyond it, or up to the turn of the stream whose file is
 -- too large
-abbrev pub LimitLeaves : SmallPlan → List (List ℕ) → LimitOf → List ℕ → List ℕ → Type 0
+abbrev pub LimitLeaves : Outline → List (List ℕ) → LimitOf → List ℕ → List ℕ → Type 0
 LimitLeaves plan files Plan before lines = ⊥
 LimitLeaves plan files (Node node) before lines = EndsAtLimit plan files node before lines
 LimitLeaves plan files (File stream) before lines = EndsBefore plan files stream before lines
@@ -128,7 +126,7 @@ LimitLeaves plan files (File stream) before lines = EndsBefore plan files stream
 -- a limit of the run was met: what it leaves was written, and the status' line
 abbrev pub LimitStops : LimitOf → Command → SinkState → SinkState → Type 0
 LimitStops what command old new =
-    (plan : SmallPlan) × (lines : List ℕ) × (plan_of (plan_bytes command) ≡ Some plan) × LimitLeaves plan (stream_files command) what old.written lines
+    (plan : Outline) × (lines : List ℕ) × (plan_of (plan_bytes command) ≡ Some plan) × LimitLeaves plan (stream_files command) what old.written lines
     × Delivered (status_line (limit_name plan what) (Limit what)) (holding old lines) new
 
 -- what was written before the status' line, where there is a status line
@@ -138,12 +136,13 @@ StopLeaves Usage command after old new = ⊤
 StopLeaves NotBuilt command after old new = ⊤
 StopLeaves (PlanRefused line why) command after old new = ⊤
 StopLeaves (FileCount want got) command after old new = ⊤
+StopLeaves (Unsafe join input missing) command after old new = ⊤
 StopLeaves (OpenFault n) command after old new = AreDistinct command.names → after.last (operand command.names n) ≡ command.folder.last (operand command.names n)
 StopLeaves (ReadFault n) command after old new =
-    (n ≡ 1) ⊎ ((plan : SmallPlan) × (lines : List ℕ) × (plan_of (plan_bytes command) ≡ Some plan) × FaultLeaves plan command after n old.written lines
+    (n ≡ 1) ⊎ ((plan : Outline) × (lines : List ℕ) × (plan_of (plan_bytes command) ≡ Some plan) × FaultLeaves plan command after n old.written lines
     × Delivered (status_line [] (ReadFault n)) (holding old lines) new)
 StopLeaves WriteFault command after old new =
-    (plan : SmallPlan) × (plan_of (plan_bytes command) ≡ Some plan) × FrontOf (flat (run_lines plan (stream_files command))) old.written new.written
+    (plan : Outline) × (plan_of (plan_bytes command) ≡ Some plan) × FrontOf (flat (run_lines plan (stream_files command))) old.written new.written
 StopLeaves NoMemory command after old new = (lines : List ℕ) × LinesSoFar command old.written lines × Delivered (status_line [] NoMemory) (holding old lines) new
 StopLeaves (Limit what) command after old new = (what ≡ Plan) ⊎ LimitStops what command old new
 
@@ -153,6 +152,12 @@ StopLeaves (Limit what) command after old new = (what ≡ Plan) ⊎ LimitStops w
 abbrev pub StoppedRun : Status → Command → FolderState → SinkState → SinkState → Type 0
 StoppedRun status command after old new = IsTold command → IsTrue new.told → StopLeaves status command after old new
 
+-- the two lines of an unsafe plan were written: of the join's input, with what it does not reach, and of what it reaches
+abbrev pub TellsUnsafe : ℕ → ℕ → ℕ → Command → SinkState → SinkState → Type 0
+TellsUnsafe join input missing command old new =
+    (plan : Outline) × (lines : List (List ℕ)) × (HasToldPlan command → plan_read (plan_bytes command) ≡ Ok plan)
+    × AreUnsafeLines plan.nodes join input missing lines × Delivered (flat lines) old new
+
 -- a call that is refused, or ends since a file could not be opened or the plan not be read, has written its status' line and nothing else
 abbrev pub EarlyEnd : Status → Command → FolderState → SinkState → SinkState → Type 0
 EarlyEnd Done command after old new = ⊤
@@ -160,6 +165,7 @@ EarlyEnd Usage command after old new = Delivered (status_line [] Usage) old new
 EarlyEnd NotBuilt command after old new = Delivered (status_line [] NotBuilt) old new
 EarlyEnd (PlanRefused line why) command after old new = Delivered (status_line [] (PlanRefused line why)) old new
 EarlyEnd (FileCount want got) command after old new = Delivered (status_line [] (FileCount want got)) old new
+EarlyEnd (Unsafe join input missing) command after old new = TellsUnsafe join input missing command old new
 EarlyEnd (OpenFault n) command after old new = Delivered (status_line [] (OpenFault n)) old new
 EarlyEnd (ReadFault n) command after old new = n ≡ 1 → Delivered (status_line [] (ReadFault n)) old new
 EarlyEnd WriteFault command after old new = ⊤
@@ -179,21 +185,21 @@ gone_on (f ∷ fs) [] = f ∷ gone_on fs []
 gone_on (f ∷ fs) (m ∷ ms) = (f ++ m) ∷ gone_on fs ms
 
 -- the elements that a front of the plan's run brought to its streams, each going on with more
-abbrev pub streams_after : SmallPlan → List Entry → List (List Element) → List (List Element)
-streams_after plan front more = gone_on (arrived_in (length plan.streams) front) more
+abbrev pub streams_after : Outline → List Entry → List (List Element) → List (List Element)
+streams_after plan front more = gone_on (arrived_in (length (streams_in plan.nodes)) front) more
 
 abbrev pub AllLawful : List (List Element) → Type 0
 AllLawful [] = ⊤
 AllLawful (es ∷ ess) = IsLawful es × AllLawful ess
 
 -- the history is as long as it must be to hand out this many elements: with one entry less it hands out fewer
-abbrev pub IsShortest : SmallPlan → List Entry → ℕ → Type 0
+abbrev pub IsShortest : Outline → List Entry → ℕ → Type 0
 IsShortest plan history count =
     (history ≡ []) ⊎ ((front : List Entry) × (last : Entry) × (history ≡ front ++ last ∷ []) × (length (elements_out (handed_out false (nodes_of plan) front)) < count))
 
 -- These outputs are first ones of what a front of the run on one thread hands out, which is no longer than it must be;
 -- and however the streams lawfully go on from there, their rows are among those of the answer, as bags
-pub record StaysRight (plan : SmallPlan) (files : List (List ℕ)) (outputs : List Element) : Type 0 where
+pub record StaysRight (plan : Outline) (files : List (List ℕ)) (outputs : List Element) : Type 0 where
   pub front : List Entry
   pub back : List Entry
   pub run : front ++ back ≡ history_of plan files
@@ -206,14 +212,14 @@ pub record StaysRight (plan : SmallPlan) (files : List (List ℕ)) (outputs : Li
 abbrev pub NeverRetracted : Command → SinkState → SinkState → Type 0
 NeverRetracted command old new =
     IsTold command → IsTrue new.told → (bytes : List ℕ) × (new.written ≡ old.written ++ bytes) × (outputs : List Element) × Spells bytes outputs
-    × IsLawful outputs × ((outputs ≡ []) ⊎ ((plan : SmallPlan) × (plan_of (plan_bytes command) ≡ Some plan) × StaysRight plan (stream_files command) outputs))
+    × IsLawful outputs × ((outputs ≡ []) ⊎ ((plan : Outline) × (plan_of (plan_bytes command) ≡ Some plan) × StaysRight plan (stream_files command) outputs))
 
 -- ---- causes
 
 -- there is something to run, and more elements come to this node than may
 pub record BeyondLimit (command : Command) (node : ℕ) : Type 0 where
   pub built : IsBuilt command
-  pub beyond : IsTold command → (plan : SmallPlan) × (plan_of (plan_bytes command) ≡ Some plan) × GoesBeyond plan (stream_files command) node
+  pub beyond : IsTold command → (plan : Outline) × (plan_of (plan_bytes command) ≡ Some plan) × GoesBeyond plan (stream_files command) node
 
 -- there is something to run, and such a stream; where its file is told, that gave as many bytes as may be and had not ended
 pub record IsTooLarge (command : Command) (stream : ℕ) : Type 0 where
@@ -242,4 +248,4 @@ pub record IsUnopened (command : Command) (after : FolderState) (n : ℕ) : Type
 -- where words, plan or number of files are refused, and the plan is told, the call answers that, unless memory ran out or the plan's file failed
 abbrev pub AnswersRefusal : Status → Command → Type 0
 AnswersRefusal answer command =
-    HasToldPlan command → (status : Status) → refusal_of command ≡ Some status → (answer ≡ status) ⊎ (answer ≡ NoMemory) ⊎ (answer ≡ OpenFault 1) ⊎ (answer ≡ ReadFault 1)
+    HasToldPlan command → (status : Status) → Refuses command status → (answer ≡ status) ⊎ (answer ≡ NoMemory) ⊎ (answer ≡ OpenFault 1) ⊎ (answer ≡ ReadFault 1)

@@ -1,7 +1,8 @@
 -- What a turn of a core hands out, and how it ends.
 use Rattle.std.specs.Prelude.{◌≡◌, ◌<◌, ℕ, ⊤, false, List, ◌++◌, length, Option, Some, None, Result, IsTrue, slice_get}
-use Rattle.pj_shape.specs.declared.plans.SmallPlan.{SmallPlan}
-use Rattle.pj_shape.specs.declared.plans.SmallStream.{SmallStream}
+use Rattle.pj_plan.specs.declared.node.Outline.{Outline}
+use Rattle.pj_plan.specs.declared.node.PlanNode.{PlanNode}
+use Rattle.pj_core.specs.Plans.{stream_columns}
 use Rattle.pj_pattern.specs.declared.element.Element.{Element}
 use Rattle.pj_laws.specs.declared.events.Entry.{Entry}
 use Rattle.pj_laws.specs.declared.events.Event.TheVariants.{Arrive}
@@ -9,7 +10,6 @@ use Rattle.pj_laws.specs.declared.events.Out.{Out}
 use Rattle.pj_laws.specs.declared.events.Stop.{Stop}
 use Rattle.pj_pattern.specs.Fitting.{FitsKinds}
 use Rattle.pj_shape.specs.Columns.{kinds_of}
-use Rattle.pj_laws.specs.CoreKept.{columns_of}
 use Rattle.pj_laws.specs.Outcomes.{elements_out, outputs_of, elements_of as arrived_at}
 use Rattle.pj_laws.specs.Limits.{StaysWithin, BeginsBeyond, StopsAt}
 use Rattle.pj_laws.specs.OneThread.{Turn, arrival_of}
@@ -27,8 +27,8 @@ use Rattle.pj_engine.specs.Written.{flat, WritesBy, turn_cut}
 use Rattle.pj_engine.specs.Ends.{EndsBefore, EndsAtLimit}
 
 -- the turn is of one of these streams, and what it brings fits the columns, where it is no closing
-abbrev pub IsTurnOf : List SmallStream → Turn → Type 0
-IsTurnOf streams turn = (turn.stream < length streams) × (turn.closing ≡ 0 → FitsKinds (kinds_of (columns_of streams turn.stream)) turn.element)
+abbrev pub IsTurnOf : List PlanNode → Turn → Type 0
+IsTurnOf streams turn = (turn.stream < length streams) × (turn.closing ≡ 0 → FitsKinds (kinds_of (stream_columns streams turn.stream)) turn.element)
 
 -- all that the turn hands out behind this history
 abbrev pub turn_outs : CoreState → List Entry → Turn → List Out
@@ -90,7 +90,7 @@ TurnStopsBehind stop core turn old new =
 -- What the stop of a run's turns leaves: where a stream's turn could not be made, the lines of the outputs up to it, and where a
 -- read of its file failed, exactly the elements arrived that are accepted of the lines which end with a line feed in the bytes
 -- taken; at a limit, the lines of the outputs up to the entry that brought one element beyond it
-abbrev pub TurnsEnd : RunStop → SmallPlan → List (List ℕ) → List FeedState → List ℕ → List ℕ → Type 0
+abbrev pub TurnsEnd : RunStop → Outline → List (List ℕ) → List FeedState → List ℕ → List ℕ → Type 0
 TurnsEnd (ReadFault stream) plan files feeds before lines =
     (feed : FeedState) × (slice_get feeds stream ≡ Some feed) × (ends : EndsBefore plan files stream before lines)
     × (arrived_at stream ends.front ≡ fed_elements feed.intake.columns feed.source.taken)

@@ -1,38 +1,37 @@
 // What the words of a call ask for: a plan, with a file for each of its streams.
-ghost use Rattle.std.specs.Prelude.{◌≡◌, ◌≤◌, ◌+◌, ◌∷◌, [], true, None, Some, Err, IsTrue, IfOk, IfErr, OnOk, length};
+ghost use Rattle.std.specs.Prelude.{◌≡◌, ◌≤◌, ◌+◌, ◌∷◌, [], true, Some, IsTrue, IfOk, IfErr, OnOk, length};
 ghost use Rattle.pj_io.specs.Folders.{NoneFalls, SameElsewhere};
-ghost use Rattle.pj_laws.specs.CoreKept.{IsSmallPlan};
 ghost use Rattle.pj_plan.specs.Nodes.{streams_of};
 ghost use Rattle.pj_plan_text.specs.PlanRead.{plan_read};
+ghost use Rattle.pj_core.specs.Plans.{are_run};
+ghost use Rattle.pj_alone.specs.Safety.{IsSafePlan};
 ghost use Rattle.pj_engine.specs.Commands.{is_run as run_form, is_option as option_form, no_options as none_is_option, operands, operand, command_of, plan_bytes, HasToldPlan};
 ghost use Rattle.pj_engine.specs.Opened.{OpensFirst, OpensAtMost, IsReadToEnd};
-ghost use Rattle.pj_engine.specs.PlanNames.{HasPlainNames};
-ghost use Rattle.pj_engine.specs.Plans.{small_plan, plan_of, SpellsPlan};
-ghost use Rattle.pj_engine.specs.Refusals.{BytesRefused, PlanCause, PlanUnfit, Unprepared, counted_files, count_refusal, plan_refusal, read_refusal, refusal_of};
+ghost use Rattle.pj_engine.specs.Plans.{plan_of, SpellsPlan};
+ghost use Rattle.pj_engine.specs.Refusals.{BytesRefused, HasLines, IsUnrun, PlanCause, PlanUnfit, Unprepared, counted_files};
+ghost use Rattle.pj_engine.specs.Runs.{IsNewCore};
 
 use crate::files::read_file;
-use crate::small_plans::small_plan_of;
 use crate::stops::PlanStop;
+use pj_alone::first_unsafe;
+use pj_core::Core;
 use pj_io::Folder;
 use pj_plan::{Plan, PlanStop as ReadStop};
 use pj_plan_text::read_plan;
-use pj_shape::SmallPlan;
 use std::alloc::Global;
 
-/// Reads the plan that the words name, if there is a file for each of its streams.
-pub fn prepare<F: Folder>(
-    alloc: Global,
-    words: &[String],
-    folder: &mut F,
-) -> Result<SmallPlan, PlanStop>
-    ensures small { IfOk result (λ plan. IsSmallPlan plan) }
-    ensures names { IfOk result (λ plan. HasPlainNames plan) }
-    ensures count { IfOk result (λ plan. length words.now ≡ 2 + length plan.streams) }
+// The most elements that may arrive at a join.
+const MOST_ARRIVALS: u64 = 1 << 40;
+
+/// A core of the plan that the words name, if that is safe, is one that is run, and there is a file for each of its streams.
+pub fn prepare<F: Folder>(alloc: Global, words: &[String], folder: &mut F) -> Result<Core, PlanStop>
+    ensures fresh { IfOk result (λ core. IsNewCore core) }
+    ensures safe { IfOk result (λ core. IsSafePlan core.plan.nodes) }
+    ensures count { IfOk result (λ core. length words.now ≡ 2 + length (streams_of core.plan.nodes)) }
     ensures form { OnOk result (run_form words.now ≡ true) }
     ensures told { (F.state folder.new).told ≡ (F.state folder.old).told }
     ensures contents { (F.state folder.new).contents ≡ (F.state folder.old).contents }
-    ensures read { HasToldPlan (command_of words.now (F.state folder.old)) → IfOk result (λ plan. SpellsPlan (plan_bytes (command_of words.now (F.state folder.old))) plan) }
-    ensures fits { HasToldPlan (command_of words.now (F.state folder.old)) → OnOk result (refusal_of (command_of words.now (F.state folder.old)) ≡ None) }
+    ensures read { HasToldPlan (command_of words.now (F.state folder.old)) → IfOk result (λ core. SpellsPlan (plan_bytes (command_of words.now (F.state folder.old))) core.plan) }
     ensures last { HasToldPlan (command_of words.now (F.state folder.old)) → OnOk result (IsReadToEnd (operand (operands words.now) 1) (F.state folder.old) (F.state folder.new)) }
     ensures other_last { SameElsewhere (operand (operands words.now) 1) (F.state folder.old).last (F.state folder.new).last }
     ensures later { NoneFalls (F.state folder.old).faults (F.state folder.new).faults }
@@ -46,21 +45,20 @@ pub fn prepare<F: Folder>(
     read_plan_for(alloc, words[1].as_bytes(), words.len() - 2, folder)
 }
 
-// Reads the plan of this name, if it has so many streams.
-#[tactic(auto, using(crate::proofs::Refusing::file_cause, crate::proofs::Refusing::bytes_cause, crate::proofs::Refusing::of_bytes))]
+// A core of the plan of this name, if it has so many streams.
+#[tactic(auto, using(crate::proofs::Refusing::file_cause, crate::proofs::Refusing::bytes_cause))]
 fn read_plan_for<F: Folder>(
     alloc: Global,
     name: &[u8],
     files: usize,
     folder: &mut F,
-) -> Result<SmallPlan, PlanStop>
-    ensures small { IfOk result (λ plan. IsSmallPlan plan) }
-    ensures names { IfOk result (λ plan. HasPlainNames plan) }
-    ensures count { IfOk result (λ plan. files ≡ length plan.streams) }
+) -> Result<Core, PlanStop>
+    ensures fresh { IfOk result (λ core. IsNewCore core) }
+    ensures safe { IfOk result (λ core. IsSafePlan core.plan.nodes) }
+    ensures count { IfOk result (λ core. files ≡ length (streams_of core.plan.nodes)) }
     ensures told { (F.state folder.new).told ≡ (F.state folder.old).told }
     ensures contents { (F.state folder.new).contents ≡ (F.state folder.old).contents }
-    ensures read { IsTrue ((F.state folder.old).told name.now) → IfOk result (λ plan. SpellsPlan ((F.state folder.old).contents name.now) plan) }
-    ensures fits { IsTrue ((F.state folder.old).told name.now) → OnOk result (plan_refusal files ((F.state folder.old).contents name.now) ≡ None) }
+    ensures read { IsTrue ((F.state folder.old).told name.now) → IfOk result (λ core. SpellsPlan ((F.state folder.old).contents name.now) core.plan) }
     ensures last { IsTrue ((F.state folder.old).told name.now) → OnOk result (IsReadToEnd name.now (F.state folder.old) (F.state folder.new)) }
     ensures other_last { SameElsewhere name.now (F.state folder.old).last (F.state folder.new).last }
     ensures later { NoneFalls (F.state folder.old).faults (F.state folder.new).faults }
@@ -69,48 +67,71 @@ fn read_plan_for<F: Folder>(
     ensures cause { IfErr result (λ stop. PlanCause stop files name.now (F.state folder.old) (F.state folder.new)) }
 {
     let bytes = read_file(alloc, folder, name)?;
-    Ok(plan_in(alloc, bytes.as_slice(), files)?)
+    Ok(core_in(alloc, bytes.as_slice(), files)?)
 }
 
-// The plan that the bytes spell, if it has so many streams.
-#[tactic(auto, using(crate::proofs::Refusing::unfit_bytes, crate::proofs::Refusing::fit_bytes))]
-fn plan_in(alloc: Global, bytes: &[u8], files: usize) -> Result<SmallPlan, PlanStop>
-    ensures small { IfOk result (λ plan. IsSmallPlan plan) }
-    ensures names { IfOk result (λ plan. HasPlainNames plan) }
-    ensures count { IfOk result (λ plan. files ≡ length plan.streams) }
-    ensures read { IfOk result (λ plan. plan_of bytes.now ≡ Some plan) }
-    ensures fits { OnOk result (read_refusal files (plan_read bytes.now) ≡ None) }
+// A core of the plan that the bytes spell, if it has so many streams.
+#[tactic(auto, using(crate::proofs::Refusing::unfit_bytes, crate::proofs::Refusing::spelled))]
+fn core_in(alloc: Global, bytes: &[u8], files: usize) -> Result<Core, PlanStop>
+    ensures fresh { IfOk result (λ core. IsNewCore core) }
+    ensures safe { IfOk result (λ core. IsSafePlan core.plan.nodes) }
+    ensures count { IfOk result (λ core. files ≡ length (streams_of core.plan.nodes)) }
+    ensures read { IfOk result (λ core. plan_of bytes.now ≡ Some core.plan) }
     ensures cause { IfErr result (λ stop. BytesRefused stop files bytes.now) }
+    ensures lines { IfErr result HasLines }
 {
     match read_plan(alloc, bytes) {
-        Ok(plan) => Ok(plan_for(alloc, &plan, files)?),
+        Ok(plan) => Ok(core_for(alloc, plan, files)?),
         Err(ReadStop::Fault(fault)) => Err(PlanStop::Refused { fault }),
         Err(ReadStop::NoMemory) => Err(PlanStop::NoMemory),
     }
 }
 
-// The plan as one that is run, if it has so many streams.
-fn plan_for(alloc: Global, plan: &Plan, files: usize) -> Result<SmallPlan, PlanStop>
-    ensures small { IfOk result (λ small. IsSmallPlan small) }
-    ensures names { IfOk result (λ small. HasPlainNames small) }
-    ensures count { IfOk result (λ small. files ≡ length small.streams) }
-    ensures read { IfOk result (λ small. small_plan plan.now ≡ Some small) }
-    ensures fits { OnOk result (count_refusal files plan.now ≡ None) }
-    ensures cause { IfErr result (λ stop. PlanUnfit stop files plan.now) }
+// A core of the plan, if that has so many streams, is safe, and is one that is run.
+#[tactic(auto, using(crate::proofs::Refusing::unrun_unfit, crate::proofs::Refusing::unrun_lines))]
+fn core_for(alloc: Global, plan: Plan, files: usize) -> Result<Core, PlanStop>
+    ensures fresh { IfOk result (λ core. IsNewCore core) }
+    ensures safe { OnOk result (IsSafePlan plan.nodes) }
+    ensures count { OnOk result (files ≡ length (streams_of plan.nodes)) }
+    ensures same { IfOk result (λ core. core.plan ≡ plan) }
+    ensures cause { IfErr result (λ stop. PlanUnfit stop files plan) }
+    ensures lines { IfErr result HasLines }
 {
-    let want = stream_count(plan);
+    let want = stream_count(&plan);
     if want as usize != files {
         let got = file_count(files);
         return Err(PlanStop::FileCount { want, got });
     }
-    match small_plan_of(alloc, plan)? {
-        Some(small) => Ok(small),
-        None => Err(PlanStop::NotBuilt),
+    match first_unsafe(alloc, &plan)? {
+        Some(found) => Err(PlanStop::Unsafe { found }),
+        None => Ok(run_core(alloc, plan)?),
     }
 }
 
+// A core of the plan, if it is one that is run.
+#[tactic(auto, using(crate::proofs::Refusing::new_core))]
+fn run_core(alloc: Global, plan: Plan) -> Result<Core, PlanStop>
+    ensures fresh { IfOk result (λ core. IsNewCore core) }
+    ensures same { IfOk result (λ core. core.plan ≡ plan) }
+    ensures cause { IfErr result (λ stop. IsUnrun stop plan) }
+{
+    let _nodes = plan.nodes();
+    if !is_run_plan(&plan) {
+        return Err(PlanStop::NotBuilt);
+    }
+    Ok(Core::new(alloc, plan, MOST_ARRIVALS)?)
+}
+
+// Whether the plan's nodes are streams, but for at most one join.
+fn is_run_plan(plan: &Plan) -> bool
+    ensures { result ≡ are_run plan.now.nodes }
+{
+    let joins = plan.joins().len();
+    joins <= 1 && plan.streams().len() + joins == plan.nodes() as usize
+}
+
 // The number of the plan's streams.
-#[tactic(auto, using(crate::proofs::SmallPlans::few_streams))]
+#[tactic(auto, using(crate::proofs::NameLaws::few_numbers))]
 fn stream_count(plan: &Plan) -> u32
     ensures { result ≡ length (streams_of plan.now.nodes) }
 {

@@ -1,7 +1,7 @@
 // The elements of all streams, in turns, as their files are read.
 ghost use Rattle.std.specs.Prelude.{◌≡◌, ◌<◌, ◌≤◌, List, ◌∷◌, length, true, false, IsTrue, IfOk, OnOk, OnErr, IfErr, IfNone, None};
+ghost use Rattle.pj_plan.specs.declared.node.PlanNode.{PlanNode};
 ghost use Rattle.pj_io.specs.Causes.{Rose};
-ghost use Rattle.pj_shape.specs.declared.plans.SmallStream.{SmallStream};
 ghost use Rattle.pj_engine.specs.Feeds.{feed_of, turn_in, feed_left, GivesInRounds, work_of, IsFed, IsSameFeed, IsNextOf, BringsOf, FeedEnds, AreFeeds, AreSameFeeds, AllTold, IsFirstOpen, HasTurn, BringsIn, WorksOn, StopsIn};
 ghost use Rattle.pj_engine.specs.Written.{WritesNothing};
 
@@ -60,7 +60,7 @@ impl<S: Source> Feed<S> {
         requires open { self.old.is_open ≡ true }
         ensures fed { OnOk result (IsFed self.new) }
         ensures same { IsSameFeed self.old self.new }
-        ensures left { IsTrue self.old.source.told → IfOk result (λ next. (streams : List SmallStream) → feed_left streams self.old ≡ turn_in streams next ∷ feed_left streams self.new) }
+        ensures left { IsTrue self.old.source.told → IfOk result (λ next. (streams : List PlanNode) → feed_left streams self.old ≡ turn_in streams next ∷ feed_left streams self.new) }
         ensures works { OnOk result (work_of self.new < work_of self.old) }
         ensures brings { IfOk result (λ next. BringsOf self.old next) }
         ensures written { WritesNothing (K.state out.old) (K.state out.new) }
@@ -137,9 +137,9 @@ impl<S: Source> Feeds<S> {
     /// The next turn: in rounds each stream has one, as long as its closing is still to come. `None` exactly where no stream
     /// has. What the output holds back is handed on before a read. After an `Err` no further turn can be made.
     pub fn next<K: Sink>(&mut self, out: &mut K) -> Result<Option<Arrival>, FeedStop>
-        requires fed { (streams : List SmallStream) × AreFeeds 0 streams self.old.feeds.items }
+        requires fed { (streams : List PlanNode) × AreFeeds 0 streams self.old.feeds.items }
         requires few { length self.old.feeds.items ≤ 128 }
-        ensures fed { (streams : List SmallStream) → AreFeeds 0 streams self.old.feeds.items → OnOk result (AreFeeds 0 streams self.new.feeds.items) }
+        ensures fed { (streams : List PlanNode) → AreFeeds 0 streams self.old.feeds.items → OnOk result (AreFeeds 0 streams self.new.feeds.items) }
         ensures same { AreSameFeeds self.old.feeds.items self.new.feeds.items }
         ensures gives { AllTold self.old.feeds.items → IfOk result (λ next. GivesInRounds self.old.feeds.items self.old.at self.new.feeds.items self.new.at next) }
         ensures works { IfOk result (λ next. WorksOn self.old.feeds.items self.new.feeds.items next) }

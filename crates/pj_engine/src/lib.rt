@@ -8,12 +8,12 @@ mod lines;
 mod report;
 mod results;
 mod run;
-mod small_plans;
 mod status;
 mod status_line;
 mod stops;
 mod top;
 mod turns;
 
+pub use pj_alone::check_text;
 pub use status::{LimitOf, Status};
 pub use top::run_words;

@@ -1,77 +1,78 @@
 // The report's lines.
-ghost use Rattle.std.specs.Prelude.{◌≡◌, ◌≤◌, ◌++◌, ◌∷◌, [], ℕ, List, map, length, IsTrue, OnOk, Err};
+ghost use Rattle.std.specs.Prelude.{◌≡◌, ◌≤◌, ◌++◌, ◌∷◌, [], map, length, IsTrue, OnOk, Err};
+ghost use Rattle.pj_core.specs.Plans.{streams_in};
 ghost use Rattle.std.specs.Fmt.{decimal};
 ghost use Rattle.pj_io.specs.Causes.{Rose};
 ghost use Rattle.pj_element.specs.Runs.{fed};
 ghost use Rattle.pj_engine.specs.Report.{stream_line, stream_lines, reject_line, reject_words, results_text, peak_line};
-ghost use Rattle.pj_engine.specs.Runs.{peaks_report};
-ghost use Rattle.pj_engine.specs.Outcome.{report_lines, tally_lines};
+ghost use Rattle.pj_engine.specs.Outcome.{Reports, ReportsPeaks, tally_lines};
 ghost use Rattle.pj_engine.specs.Written.{WritesBy, write_cut};
 
 use crate::lines::write_piece;
 use crate::results::Counts;
 use crate::stops::WriteStop;
 use itoa::Buffer;
+use pj_core::Core;
 use pj_element::{Reject, Tally};
 use pj_io::Sink;
-use pj_shape::{SmallJoin, SmallPlan, SmallStream};
+use pj_plan::Plan;
 use pj_value::{List, NoMemory};
 
-/// Writes the report: the lines of each stream, the counts of results, and the peak of the join, where there is one.
-/// `text` is where lines are made.
+/// Writes the report: the lines of each stream, the counts of results, and the peak of each join after the history that the core
+/// stands for. `text` is where lines are made.
 pub fn write_report<K: Sink>(
-    plan: &SmallPlan,
+    core: &Core,
     tallies: &[Tally],
     counts: Counts,
-    peak: u64,
     text: &mut List<u8>,
     out: &mut K,
 ) -> Result<(), WriteStop>
-    requires { length tallies.now ≡ length plan.now.streams }
+    requires on { core.now.kept.stop ≡ None }
+    requires each { length tallies.now ≡ length (streams_in core.now.plan.nodes) }
     ensures told { IsTrue (K.state out.new).told → IsTrue (K.state out.old).told }
-    ensures lines { IsTrue (K.state out.new).told → WritesBy write_cut (report_lines plan.now tallies.now counts peak) (K.state out.old) (K.state out.new) result }
+    ensures lines { Reports core.now tallies.now counts (K.state out.old) (K.state out.new) result }
     ensures later { (K.state out.old).faults ≤ (K.state out.new).faults }
     ensures fault { result ≡ Err WriteStop.Failed → Rose (K.state out.old).faults (K.state out.new).faults }
 {
-    write_streams(plan.streams.as_slice(), tallies, text, out)?;
+    write_streams(core.plan(), tallies, text, out)?;
     write_results(counts.rows, counts.puncts, text, out)?;
-    write_peak(&plan.join, peak, text, out)?;
+    write_peaks(core, text, out)?;
     Ok(())
 }
 
+// Writes the lines of the streams, in order.
+#[tactic(auto, using(crate::proofs::StreamNodes::count_numbers))]
 fn write_streams<K: Sink>(
-    streams: &[SmallStream],
+    plan: &Plan,
     tallies: &[Tally],
     text: &mut List<u8>,
     out: &mut K,
 ) -> Result<(), WriteStop>
-    requires { length tallies.now ≡ length streams.now }
+    requires { length tallies.now ≡ length (streams_in plan.now.nodes) }
     ensures told { IsTrue (K.state out.new).told → IsTrue (K.state out.old).told }
-    ensures lines { IsTrue (K.state out.new).told → WritesBy write_cut (tally_lines streams.now tallies.now) (K.state out.old) (K.state out.new) result }
+    ensures lines { IsTrue (K.state out.new).told → WritesBy write_cut (tally_lines (streams_in plan.now.nodes) tallies.now) (K.state out.old) (K.state out.new) result }
     ensures later { (K.state out.old).faults ≤ (K.state out.new).faults }
     ensures fault { result ≡ Err WriteStop.Failed → Rose (K.state out.old).faults (K.state out.new).faults }
 {
+    let streams = plan.streams();
     for i in 0..streams.len() {
-        write_stream(streams[i].name.as_slice(), &tallies[i], text, out)?;
+        write_stream(plan.name(streams[i]), &tallies[i], text, out)?;
     }
     Ok(())
 }
 
-fn write_peak<K: Sink>(
-    join: &Option<SmallJoin>,
-    peak: u64,
-    text: &mut List<u8>,
-    out: &mut K,
-) -> Result<(), WriteStop>
+// Writes the lines of the joins' peaks, in order of declaration.
+fn write_peaks<K: Sink>(core: &Core, text: &mut List<u8>, out: &mut K) -> Result<(), WriteStop>
+    requires { core.now.kept.stop ≡ None }
     ensures told { IsTrue (K.state out.new).told → IsTrue (K.state out.old).told }
-    ensures lines { IsTrue (K.state out.new).told → WritesBy write_cut (peaks_report join.now peak) (K.state out.old) (K.state out.new) result }
+    ensures lines { ReportsPeaks core.now (K.state out.old) (K.state out.new) result }
     ensures later { (K.state out.old).faults ≤ (K.state out.new).faults }
     ensures fault { result ≡ Err WriteStop.Failed → Rose (K.state out.old).faults (K.state out.new).faults }
 {
-    match join {
-        None => Ok(()),
-        Some(join) => Ok(write_peak_line(join.name.as_slice(), peak, text, out)?),
+    for join in core.plan().joins() {
+        write_peak_line(core.plan().name(*join), core.peak(*join), text, out)?;
     }
+    Ok(())
 }
 
 fn write_peak_line<K: Sink>(
@@ -103,7 +104,6 @@ fn peak_text(name: &[u8], peak: u64, text: &mut List<u8>) -> Result<(), NoMemory
 }
 
 // Writes the lines of a stream: its counts, and its first rejects.
-
 fn write_stream<K: Sink>(
     name: &[u8],
     tally: &Tally,

@@ -4,7 +4,7 @@ ghost use Rattle.pj_engine.specs.Report.{status_number};
 ghost use Rattle.pj_engine.specs.Stops.{file_status as status_of_file, plan_status, opening_status as status_of_opening, run_status as status_of_run, files_status, IsOfFew, IsOpeningOfFew, IsRunOfFew};
 
 use crate::stops::{FileStop, FilesStop, OpeningStop, PlanStop, RunStop};
-use pj_plan::{PlanFault, PlanWhy};
+use pj_plan::PlanWhy;
 
 /// How a call ended.
 #[derive(Clone, Copy, Debug, PartialEq, Eq)]
@@ -17,7 +17,9 @@ pub enum Status {
     PlanRefused { line: u64, why: PlanWhy },
     /// The plan has `want` streams, and `got` files were named.
     FileCount { want: u32, got: u32 },
-    /// The plan is neither one stream, nor 2 to 16 streams and a join of them all.
+    /// An input of a join does not reach another: the join's node, and its inputs, counted from 0.
+    Unsafe { join: u32, input: u32, missing: u32 },
+    /// The plan is safe, but is neither one stream, nor 2 to 16 streams and a join of them all.
     NotBuilt,
     /// A file could not be opened; operands are counted from 1, the plan being 1.
     OpenFault { operand: u32 },
@@ -50,6 +52,7 @@ impl Status {
         match self {
             Status::Done => 0,
             Status::PlanRefused { .. } => 1,
+            Status::Unsafe { .. } => 2,
             Status::OpenFault { .. } => 3,
             Status::ReadFault { .. } => 3,
             Status::WriteFault => 4,
@@ -64,17 +67,25 @@ impl Status {
 
 impl PlanStop {
     /// How a call ends that has no plan to run.
-    pub(crate) fn status(self) -> Status
-        ensures { result ≡ plan_status self }
+    pub(crate) fn status(&self) -> Status
+        ensures { result ≡ plan_status self.now }
     {
         match self {
             PlanStop::Usage => Status::Usage,
-            PlanStop::File { stop } => file_status(stop),
-            PlanStop::Refused { fault } => {
-                let PlanFault { line, why } = fault;
-                Status::PlanRefused { line, why }
-            }
-            PlanStop::FileCount { want, got } => Status::FileCount { want, got },
+            PlanStop::File { stop } => file_status(*stop),
+            PlanStop::Refused { fault } => Status::PlanRefused {
+                line: fault.line,
+                why: fault.why,
+            },
+            PlanStop::FileCount { want, got } => Status::FileCount {
+                want: *want,
+                got: *got,
+            },
+            PlanStop::Unsafe { found } => Status::Unsafe {
+                join: found.join,
+                input: found.input,
+                missing: found.missing,
+            },
             PlanStop::NotBuilt => Status::NotBuilt,
             PlanStop::NoMemory => Status::NoMemory,
         }

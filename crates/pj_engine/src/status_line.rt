@@ -3,13 +3,16 @@ ghost use Rattle.std.specs.Prelude.{◌≡◌, ◌≤◌, ◌<◌, ◌+◌, ◌+
 ghost use Rattle.std.specs.Fmt.{decimal};
 ghost use Rattle.pj_element.specs.Runs.{fed};
 ghost use Rattle.pj_engine.specs.Report.{status_line, fault_words as words_of_fault};
-ghost use Rattle.pj_engine.specs.Written.{Delivered};
+ghost use Rattle.pj_engine.specs.Written.{Delivered, flat};
+ghost use Rattle.pj_engine.specs.Stops.{refusal_text};
 
+use crate::stops::PlanStop;
 use crate::{LimitOf, Status};
 use arrayvec::ArrayVec;
 use itoa::Buffer;
 use pj_io::{Failed, Sink, write_all};
 use pj_plan::PlanWhy;
+use pj_value::Bytes;
 
 // The longest line, in bytes, with its line feed: the words of a status, and a name or a number.
 const LINE: usize = 80;
@@ -17,8 +20,9 @@ const LINE: usize = 80;
 const USAGE: &[u8] =
     b"# usage: run PLAN FILE.. | replay PLAN SCRIPT FILE.. | check PLAN | make SEED N";
 
-/// Writes the line of a status by one `write_all`, takes no memory for it, and hands on what the sink holds back. Where that
-/// fails, the status stays what it was. What has a limit has this name, which has at most 32 bytes.
+/// Writes the line of a status by one `write_all`, takes no memory for it, and hands on what the sink holds back; for an unsafe
+/// plan, whose lines have names of it, it writes nothing. Where that fails, the status stays what it was. What has a limit has this
+/// name, which has at most 32 bytes.
 pub fn write_status<K: Sink>(name: &[u8], status: Status, out: &mut K)
     requires { length name.now ≤ 32 }
     ensures told { IsTrue (K.state out.new).told → IsTrue (K.state out.old).told }
@@ -31,6 +35,7 @@ pub fn write_status<K: Sink>(name: &[u8], status: Status, out: &mut K)
         Status::Usage => deliver(out, USAGE, b""),
         Status::PlanRefused { line, why } => write_fault(line, why, out),
         Status::FileCount { want, got } => write_counts(want, got, out),
+        Status::Unsafe { .. } => Ok(()),
         Status::NotBuilt => deliver(out, b"# refused not built", b""),
         Status::OpenFault { operand } => {
             let text = digits.format(operand);
@@ -48,6 +53,38 @@ pub fn write_status<K: Sink>(name: &[u8], status: Status, out: &mut K)
             LimitOf::File(_) => deliver(out, b"# stopped limit file ", name),
         },
     };
+}
+
+/// Writes the line of why there is no plan to run, or the two lines of an unsafe plan, each by one `write_all`, and hands on what
+/// the sink holds back. Where that fails, the status stays what it was.
+pub fn write_refusal<K: Sink>(stop: &PlanStop, out: &mut K)
+    ensures told { IsTrue (K.state out.new).told → IsTrue (K.state out.old).told }
+    ensures lines { Delivered (refusal_text stop.now) (K.state out.old) (K.state out.new) }
+    ensures later { (K.state out.old).faults ≤ (K.state out.new).faults }
+{
+    match stop {
+        PlanStop::Unsafe { found } => {
+            let _ = write_lines(found.lines.as_slice(), out);
+        }
+        PlanStop::Usage => write_status(b"", stop.status(), out),
+        PlanStop::File { .. } => write_status(b"", stop.status(), out),
+        PlanStop::Refused { .. } => write_status(b"", stop.status(), out),
+        PlanStop::FileCount { .. } => write_status(b"", stop.status(), out),
+        PlanStop::NotBuilt => write_status(b"", stop.status(), out),
+        PlanStop::NoMemory => write_status(b"", stop.status(), out),
+    }
+}
+
+// Writes these lines, and hands on what the sink holds back.
+fn write_lines<K: Sink>(lines: &[Bytes], out: &mut K) -> Result<(), Failed>
+    ensures told { IsTrue (K.state out.new).told → IsTrue (K.state out.old).told }
+    ensures lines { Delivered (flat lines.now) (K.state out.old) (K.state out.new) }
+    ensures later { (K.state out.old).faults ≤ (K.state out.new).faults }
+{
+    for line in lines {
+        write_all(out, line.as_slice())?;
+    }
+    out.flush()
 }
 
 // Writes the line of a plan's fault.

@@ -1,6 +1,7 @@
 // Why a part of a run ended before its end.
 ghost use Rattle.std.specs.Prelude.{◌≡◌};
 
+use pj_alone::Unsafe;
 use pj_intake::IntakeStop;
 use pj_io::Failed;
 use pj_plan::PlanFault;
@@ -20,7 +21,7 @@ pub enum FileStop {
 }
 
 /// Why there is no plan to run.
-#[derive(Clone, Copy, Debug, PartialEq, Eq)]
+#[derive(Drop)]
 pub enum PlanStop {
     /// The words have another form.
     Usage,
@@ -30,7 +31,9 @@ pub enum PlanStop {
     Refused { fault: PlanFault },
     /// The plan wants another number of files than was got.
     FileCount { want: u32, got: u32 },
-    /// The plan is neither one stream, nor 2 to 16 streams and a join of them all.
+    /// An input of a join of the plan does not reach all.
+    Unsafe { found: Unsafe },
+    /// The plan is safe, but is neither one stream, nor 2 to 16 streams and a join of them all.
     NotBuilt,
     /// Memory could not be had.
     NoMemory,

@@ -1,21 +1,23 @@
 // The top call.
 ghost use Rattle.std.specs.Prelude.{◌≡◌, ℕ, true, false};
-ghost use Rattle.pj_engine.specs.declared.status.LimitOf.TheVariants.{Plan, Node, File};
-ghost use Rattle.pj_plan.specs.declared.fault.PlanWhy.{PlanWhy};
+ghost use Rattle.pj_engine.specs.declared.status.LimitOf.TheVariants.{Plan as PlanFile, Node, File};
+ghost use Rattle.pj_plan.specs.Canonical.{node_name as name_of_node};
+ghost use Rattle.pj_core.specs.Plans.{streams_in};
 ghost use Rattle.pj_engine.specs.Commands.{command_of, operands, is_run as run_form};
-ghost use Rattle.pj_engine.specs.Refusals.{IsRefused};
+ghost use Rattle.pj_engine.specs.Refusals.{IsRefused, IsRightFault, IsRightCount, IsRightlyUnsafe};
 ghost use Rattle.pj_engine.specs.Runs.{IsAnswer, ArePunctuations, AreLawful, AreTallies};
-ghost use Rattle.pj_engine.specs.Top.{Ran, AreReadToEnd, OpensInOrder, StoppedRun, EarlyEnd, NeverRetracted, AnswersRefusal, IsBuilt, IsUnopened, WriteFails, BeyondLimit, IsTooLarge, HasFault, join_name as name_of_join, stream_name as name_of_stream, stop_name as stop_name_of};
+ghost use Rattle.pj_engine.specs.Top.{Ran, AreReadToEnd, OpensInOrder, StoppedRun, EarlyEnd, NeverRetracted, AnswersRefusal, IsBuilt, IsUnopened, WriteFails, BeyondLimit, IsTooLarge, HasFault, stream_name as name_of_stream, stop_name as stop_name_of};
 
 use crate::commands::prepare;
 use crate::run::run_files;
-use crate::status_line::write_status;
+use crate::status_line::{write_refusal, write_status};
 use crate::{LimitOf, Status};
 use pj_io::{Folder, Sink};
-use pj_shape::{SmallJoin, SmallPlan, SmallStream};
+use pj_plan::Plan;
 
 /// Runs the command that the words spell: `run PLAN FILE ..` reads a plan of one stream, or of 2 to 16 streams and a
 /// join of them all, and a file for each stream, and writes what the plan's run on one thread hands out, and the report.
+/// A plan of which an input of a join does not reach all is refused with `Unsafe` before a file of a stream is opened.
 pub fn run_words<R: AllocGlobal, F: Folder, K: Sink>(
     rt: &R,
     words: &[String],
@@ -39,9 +41,10 @@ pub fn run_words<R: AllocGlobal, F: Folder, K: Sink>(
     ensures cause_of_done { result ≡ Status.Done → IsBuilt (command_of words.now (F.state folder.old)) }
     ensures cause_of_usage { result ≡ Status.Usage → run_form words.now ≡ false }
     ensures usage { run_form words.now ≡ false → result ≡ Status.Usage }
-    ensures cause_of_plan_limit { result ≡ Status.Limit Plan → IsRefused (command_of words.now (F.state folder.old)) (Status.Limit Plan) }
-    ensures cause_of_plan_refused { (line : ℕ) (why : PlanWhy) → result ≡ Status.PlanRefused line why → IsRefused (command_of words.now (F.state folder.old)) (Status.PlanRefused line why) }
-    ensures cause_of_file_count { (want got : ℕ) → result ≡ Status.FileCount want got → IsRefused (command_of words.now (F.state folder.old)) (Status.FileCount want got) }
+    ensures cause_of_plan_limit { result ≡ Status.Limit PlanFile → IsRefused (command_of words.now (F.state folder.old)) (Status.Limit PlanFile) }
+    ensures cause_of_plan_refused { IsRightFault result (command_of words.now (F.state folder.old)) }
+    ensures cause_of_file_count { IsRightCount result (command_of words.now (F.state folder.old)) }
+    ensures cause_of_unsafe { IsRightlyUnsafe result (command_of words.now (F.state folder.old)) }
     ensures cause_of_not_built { result ≡ Status.NotBuilt → IsRefused (command_of words.now (F.state folder.old)) Status.NotBuilt }
     ensures refused { AnswersRefusal result (command_of words.now (F.state folder.old)) }
     ensures cause_of_open_fault { (n : ℕ) → result ≡ Status.OpenFault n → IsUnopened (command_of words.now (F.state folder.old)) (F.state folder.new) n }
@@ -52,36 +55,36 @@ pub fn run_words<R: AllocGlobal, F: Folder, K: Sink>(
     ensures cause_of_file_limit { (stream : ℕ) → result ≡ Status.Limit (File stream) → IsTooLarge (command_of words.now (F.state folder.old)) stream }
 {
     match prepare(rt.alloc(), words, folder) {
-        Ok(plan) => match run_files(rt.alloc(), &plan, &words[2..], folder, out) {
+        Ok(mut core) => match run_files(rt.alloc(), &mut core, &words[2..], folder, out) {
             Ok(()) => Status::Done,
             Err(stop) => {
                 let status = stop.status();
-                write_status(stop_name(&plan, status), status, out);
+                write_status(stop_name(core.plan(), status), status, out);
                 status
             }
         },
         Err(stop) => {
-            let refusal = stop.status();
-            write_status(b"", refusal, out);
-            refusal
+            write_refusal(&stop, out);
+            stop.status()
         }
     }
 }
 
 // The name that the line of the status has, if any.
-fn stop_name(plan: &SmallPlan, status: Status) -> &[u8]
+fn stop_name(plan: &Plan, status: Status) -> &[u8]
     ensures { result.now ≡ stop_name_of plan.now status }
 {
     match status {
         Status::Limit { what } => match what {
             LimitOf::Plan => b"",
-            LimitOf::Node(_) => join_name(&plan.join),
-            LimitOf::File(stream) => stream_name(plan.streams.as_slice(), stream),
+            LimitOf::Node(node) => node_name(plan, node),
+            LimitOf::File(stream) => stream_name(plan, stream),
         },
         Status::Done => b"",
         Status::Usage => b"",
         Status::PlanRefused { .. } => b"",
         Status::FileCount { .. } => b"",
+        Status::Unsafe { .. } => b"",
         Status::NotBuilt => b"",
         Status::OpenFault { .. } => b"",
         Status::ReadFault { .. } => b"",
@@ -90,21 +93,25 @@ fn stop_name(plan: &SmallPlan, status: Status) -> &[u8]
     }
 }
 
-fn join_name(join: &Option<SmallJoin>) -> &[u8]
-    ensures { result.now ≡ name_of_join join.now }
+// The name of a node, by its number.
+#[tactic(auto, using(crate::proofs::NameLaws::unnamed))]
+fn node_name(plan: &Plan, node: u32) -> &[u8]
+    ensures { result.now ≡ name_of_node plan.now.nodes node }
 {
-    match join {
-        Some(join) => join.name.as_slice(),
-        None => b"",
+    if node < plan.nodes() {
+        plan.name(node)
+    } else {
+        b""
     }
 }
 
 // The name of a stream, by its number.
-fn stream_name(streams: &[SmallStream], stream: u32) -> &[u8]
-    ensures { result.now ≡ name_of_stream streams.now stream }
+#[tactic(auto, using(crate::proofs::NameLaws::named_stream, crate::proofs::NameLaws::unnamed_stream))]
+fn stream_name(plan: &Plan, stream: u32) -> &[u8]
+    ensures { result.now ≡ name_of_stream (streams_in plan.now.nodes) stream }
 {
-    match streams.get(stream as usize) {
-        Some(stream) => stream.name.as_slice(),
+    match plan.streams().get(stream as usize) {
+        Some(node) => node_name(plan, *node),
         None => b"",
     }
 }

@@ -1,5 +1,6 @@
 // Turns of a core, and the lines of what they hand out.
 ghost use Rattle.std.specs.Prelude.{◌≡◌, ◌≤◌, [], None, IsTrue, IfErr, IfOk, OnOk, Err};
+ghost use Rattle.pj_core.specs.Plans.{streams_in};
 ghost use Rattle.pj_io.specs.Causes.{Rose};
 ghost use Rattle.pj_core.specs.Calls.{IsTurnRefused, MakesTurn};
 ghost use Rattle.pj_engine.specs.Feeds.{turn_in};
@@ -28,13 +29,14 @@ pub fn take_turn<K: Sink>(
     text: &mut Items<u8>,
     out: &mut K,
 ) -> Result<(), TurnStop>
-    requires on { core.old.stop ≡ None }
-    requires drained { core.old.undrained ≡ [] }
-    requires of { IsTurnOf core.old.plan.streams (turn_in core.old.plan.streams next) }
+    requires on { core.old.kept.stop ≡ None }
+    requires drained { core.old.kept.undrained ≡ [] }
+    requires of { IsTurnOf (streams_in core.old.plan.nodes) (turn_in (streams_in core.old.plan.nodes) next) }
+    ensures plan { core.new.plan ≡ core.old.plan }
     ensures told { IsTrue (K.state out.new).told → IsTrue (K.state out.old).told }
-    ensures lines { TurnWrites core.old (turn_in core.old.plan.streams next) (K.state out.old) (K.state out.new) result }
-    ensures done { OnOk result (TurnDone core.old core.new (turn_in core.old.plan.streams next) counts.old counts.new) }
-    ensures stops { IfErr result (λ stop. TurnStopsBehind stop core.old (turn_in core.old.plan.streams next) (K.state out.old) (K.state out.new)) }
+    ensures lines { TurnWrites core.old (turn_in (streams_in core.old.plan.nodes) next) (K.state out.old) (K.state out.new) result }
+    ensures done { OnOk result (TurnDone core.old core.new (turn_in (streams_in core.old.plan.nodes) next) counts.old counts.new) }
+    ensures stops { IfErr result (λ stop. TurnStopsBehind stop core.old (turn_in (streams_in core.old.plan.nodes) next) (K.state out.old) (K.state out.new)) }
     ensures later { (K.state out.old).faults ≤ (K.state out.new).faults }
     ensures fault { result ≡ Err TurnStop.WriteFailed → Rose (K.state out.old).faults (K.state out.new).faults }
 {
@@ -54,10 +56,11 @@ struct Handed {
 }
 
 fn turn_core(core: &mut Core, next: Arrival) -> Handed
-    requires on { core.old.stop ≡ None }
-    requires drained { core.old.undrained ≡ [] }
-    requires of { IsTurnOf core.old.plan.streams (turn_in core.old.plan.streams next) }
-    ensures { Turned core.old core.new (turn_in core.old.plan.streams next) result.outs result.stop }
+    requires on { core.old.kept.stop ≡ None }
+    requires drained { core.old.kept.undrained ≡ [] }
+    requires of { IsTurnOf (streams_in core.old.plan.nodes) (turn_in (streams_in core.old.plan.nodes) next) }
+    ensures plan { core.new.plan ≡ core.old.plan }
+    ensures turned { Turned core.old core.new (turn_in (streams_in core.old.plan.nodes) next) result.outs result.stop }
 {
     match enter(core, next) {
         Ok(outs) => Handed { outs, stop: None },
@@ -69,9 +72,10 @@ fn turn_core(core: &mut Core, next: Arrival) -> Handed
 }
 
 fn enter(core: &mut Core, next: Arrival) -> Result<Items<Out>, Stop>
-    requires { IsTurnOf core.old.plan.streams (turn_in core.old.plan.streams next) }
-    ensures ok { IfOk result (λ outs. MakesTurn core.old core.new (turn_in core.old.plan.streams next) outs) }
-    ensures err { IfErr result (λ stop. IsTurnRefused core.old.stop core.old core.new (turn_in core.old.plan.streams next) stop) }
+    requires { IsTurnOf (streams_in core.old.plan.nodes) (turn_in (streams_in core.old.plan.nodes) next) }
+    ensures plan { core.new.plan ≡ core.old.plan }
+    ensures ok { IfOk result (λ outs. MakesTurn core.old core.new (turn_in (streams_in core.old.plan.nodes) next) outs) }
+    ensures err { IfErr result (λ stop. IsTurnRefused core.old.kept.stop core.old core.new (turn_in (streams_in core.old.plan.nodes) next) stop) }
 {
     match next {
         Arrival::Brought { stream, element } => core.turn(stream, element),

@@ -1,8 +1,8 @@
-use Rattle.std.proofs.Common.{List, ℕ, ◌-◌, length, sym, subst, IsTrue}
+use Rattle.std.proofs.Common.{◌-◌, length}
 use Rattle.pj_engine.specs.Commands.{is_run, operands, behind_first}
 use Rattle.pj_engine.proofs.FilesLaws.{operands_are, first_operand, names_counted}
 use Rattle.pj_engine.proofs.Opening.{opens_most_of}
-use Rattle.pj_engine.proofs.Refusing.{fits_if, is_so, unprepared_if}
+use Rattle.pj_engine.proofs.Refusing.{is_so, unprepared_if}
 use Rattle.pj_engine.proofs.commands.prepare.Goals as goal
 
 pub returns-clause-some_opened : goal.returns-clause-some_opened
@@ -11,15 +11,6 @@ returns-clause-some_opened g c =
     let some = c.is_run.ensures.some c.if-not-is_run.false in
     opens_most_of c.as_bytes.result.now (behind_first (operands words)) (operands words) (g.F.Folder.state c.args.folder.now) (g.F.Folder.state c.read_plan_for.new.folder)
     (operands_are words c.index-words-1.result c.as_bytes.result.now some c.index-words-1.is c.as_bytes.ensures.value) c.read_plan_for.ensures.some_opened
-
-pub returns-clause-fits : goal.returns-clause-fits
-returns-clause-fits g c = λ told.
-    let words = c.args.words.now in
-    let old = g.F.Folder.state c.args.folder.now in
-    let some = c.is_run.ensures.some c.if-not-is_run.false in
-    let at = first_operand words c.index-words-1.result c.as_bytes.result.now some c.index-words-1.is c.as_bytes.ensures.value in
-    fits_if c.read_plan_for.result words (length words - 2) c.as_bytes.result.now old (is_so c.is_run.result (is_run words) c.is_run.ensures.form c.if-not-is_run.false) at (names_counted words some)
-    (c.read_plan_for.ensures.fits (subst (λ (n : List ℕ). IsTrue (old.told n)) (sym at) told))
 
 pub returns-clause-cause : goal.returns-clause-cause
 returns-clause-cause g c =

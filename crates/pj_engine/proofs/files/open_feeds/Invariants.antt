@@ -2,6 +2,7 @@ use Rattle.std.proofs.Common.{◌≡◌, map, length}
 use Rattle.std.specs.Prelude.{vec_capacity}
 use Rattle.std.specs.String.{string_bytes}
 use Rattle.pj_io.specs.Folders.{NoneFalls, SameEverywhere}
+use Rattle.pj_core.specs.Plans.{streams_in}
 use Rattle.pj_engine.specs.Opened.{AreFeedsOf, AreOpened, OpensFirst}
 use Rattle.pj_engine.proofs.files.open_feeds.Given as goal
 
@@ -11,7 +12,7 @@ invariant-loop-i g l = record {
   room : vec_capacity l.feeds ≡ vec_capacity l.fn.feeds;
   told : (g.F.Folder.state l.folder).told ≡ (g.F.Folder.state l.fn.folder).told;
   contents : (g.F.Folder.state l.folder).contents ≡ (g.F.Folder.state l.fn.folder).contents;
-  feeds : AreFeedsOf 0 l.streams (map string_bytes l.names) (g.F.Folder.state l.fn.folder) l.feeds.items;
+  feeds : AreFeedsOf 0 (streams_in l.plan.nodes) (map string_bytes l.names) (g.F.Folder.state l.fn.folder) l.feeds.items;
   opened : AreOpened (g.F.Folder.state l.folder).opened l.feeds.items;
   opens : OpensFirst l.i (map string_bytes l.names) (g.F.Folder.state l.fn.folder) (g.F.Folder.state l.folder);
   last : SameEverywhere (g.F.Folder.state l.fn.folder).last (g.F.Folder.state l.folder).last;

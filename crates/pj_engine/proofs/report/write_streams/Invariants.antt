@@ -1,4 +1,5 @@
 use Rattle.std.proofs.Common.{◌≡◌, ◌≤◌, ◌++◌, IsTrue, take}
+use Rattle.pj_core.specs.Plans.{streams_in}
 use Rattle.pj_engine.specs.Outcome.{tally_lines}
 use Rattle.pj_engine.specs.Written.{flat}
 use Rattle.pj_engine.proofs.report.write_streams.Given as goal
@@ -7,5 +8,5 @@ abbrev pub invariant-loop-i : goal.invariant-loop-i
 invariant-loop-i g l = record {
   later : (g.K.Sink.state l.fn.out).faults ≤ (g.K.Sink.state l.out).faults;
   told : IsTrue (g.K.Sink.state l.out).told → IsTrue (g.K.Sink.state l.fn.out).told;
-  lines : IsTrue (g.K.Sink.state l.out).told → (g.K.Sink.state l.out).written ≡ (g.K.Sink.state l.fn.out).written ++ flat (tally_lines (take l.i l.streams) (take l.i l.tallies));
+  lines : IsTrue (g.K.Sink.state l.out).told → (g.K.Sink.state l.out).written ≡ (g.K.Sink.state l.fn.out).written ++ flat (tally_lines (take l.i (streams_in l.plan.nodes)) (take l.i l.tallies));
 }

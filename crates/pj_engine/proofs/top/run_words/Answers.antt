@@ -1,16 +1,24 @@
+use Rattle.pj_plan.specs.declared.node.Outline.{Outline}
 use Rattle.std.proofs.Common.{refl, ap, sym, ◌∙◌, ◌++◌, subst, Err, arith, IsTrue, List, ℕ, length}
-use Rattle.pj_engine.specs.declared.status.Status.TheVariants.{Done, NotBuilt, PlanRefused, FileCount, Limit}
+use Rattle.pj_engine.specs.declared.status.Status.TheVariants.{Done, NotBuilt, PlanRefused, FileCount, Unsafe, Limit}
 use Rattle.pj_engine.specs.declared.status.LimitOf.TheVariants.{Plan}
 use Rattle.pj_engine.specs.Commands.{command_of, files_named, operand, operands}
+use Rattle.pj_engine.specs.PlanNames.{HasPlainNames}
 use Rattle.pj_engine.specs.Runs.{IsAnswer, ArePunctuations, AreLawful, AreTallies, report_of, outputs_of, run_lines}
+use Rattle.pj_engine.specs.Top.{stop_name}
 use Rattle.pj_engine.specs.Written.{Leaves, files_cut, flat}
-use Rattle.pj_engine.proofs.CallLaws.{names_in, files_told, files_same, files_counted, all_read, built, opened_done, opened_stop, stopped, early, faulted, unopened, write_failed, beyond, too_large, of_few, names_counted}
-use Rattle.pj_engine.proofs.EarlyLaws.{answers_built, answers_early, early_early, fault_early, memory_early, no_words, opened_early, refused_early, refused_never, stopped_early, unopened_early, usage_early, usage_never}
-use Rattle.pj_engine.proofs.Ending.{few_streams}
-use Rattle.pj_engine.proofs.OutputLaws.{outputs_lawful, outputs_answer, outputs_puncts}
+use Rattle.pj_engine.proofs.CallLaws.{names_in, files_told, files_same, files_counted, all_read, built, opened_done, opened_stop, stopped, early, faulted, unopened, write_failed, beyond, too_large, of_few, names_of_streams, files_of_streams}
+use Rattle.pj_engine.proofs.EarlyLaws.{answers_built, answers_early, early_early, early_lines, fault_early, memory_early, no_words, opened_early, refused_early, refused_never, stopped_early, unopened_early, usage_early, usage_never}
+use Rattle.pj_engine.proofs.OutputLaws.{outputs_lawful, outputs_answer, outputs_puncts, run_planned}
 use Rattle.pj_engine.proofs.RunLaws.{ran}
 use Rattle.pj_engine.proofs.StaysLaws.{never_early, never_done, never_stopped, stop_name_short}
+use Rattle.pj_engine.proofs.StreamNodes.{few-streams}
 use Rattle.pj_engine.proofs.top.run_words.Goals as goal
+
+-- ---- the run begins
+
+pub run_files-requires-clause-each : goal.run_files-requires-clause-each
+run_files-requires-clause-each g c = files_of_streams c.args.words.now c.in-Ok.core.plan.nodes c.in-Ok.ensures.form c.in-Ok.ensures.count
 
 -- ---- the run is done
 
@@ -22,8 +30,8 @@ returns-in-Ok-run_files-clause-answer g c = λ _ all t.
     let mid = g.F.Folder.state c.prepare.new.folder in
     let same = files_same words old mid e.form e.told e.contents in
     let ready = files_named (names_in words) mid in
-    ran IsAnswer c.in-Ok.plan (command_of words old) ready (g.K.Sink.state c.args.out.now) (g.K.Sink.state c.run_files.new.out) (e.read all.plan).0 same (c.in-Ok-run_files.ensures.lines (files_told words old mid e.form e.told e.contents all) t)
-    (outputs_answer c.in-Ok.plan ready e.small (ap length same ∙ files_counted words old mid e.form e.told e.contents c.in-Ok.plan.streams e.count) (report_of c.in-Ok.plan ready (outputs_of c.in-Ok.plan ready)))
+    ran IsAnswer c.in-Ok.core.plan (command_of words old) ready (g.K.Sink.state c.args.out.now) (g.K.Sink.state c.run_files.new.out) (e.read all.plan).0 same (c.in-Ok-run_files.ensures.lines (files_told words old mid e.form e.told e.contents all) t)
+    (outputs_answer c.in-Ok.core.plan ready (run_planned c.in-Ok.core.plan e.fresh.3 e.fresh.1) (report_of c.in-Ok.core.plan ready (outputs_of c.in-Ok.core.plan ready)))
 
 pub returns-in-Ok-run_files-clause-punctuations : goal.returns-in-Ok-run_files-clause-punctuations
 returns-in-Ok-run_files-clause-punctuations g c = λ _ all t.
@@ -33,8 +41,8 @@ returns-in-Ok-run_files-clause-punctuations g c = λ _ all t.
     let mid = g.F.Folder.state c.prepare.new.folder in
     let same = files_same words old mid e.form e.told e.contents in
     let ready = files_named (names_in words) mid in
-    ran ArePunctuations c.in-Ok.plan (command_of words old) ready (g.K.Sink.state c.args.out.now) (g.K.Sink.state c.run_files.new.out) (e.read all.plan).0 same (c.in-Ok-run_files.ensures.lines (files_told words old mid e.form e.told e.contents all) t)
-    (outputs_puncts c.in-Ok.plan ready e.small (ap length same ∙ files_counted words old mid e.form e.told e.contents c.in-Ok.plan.streams e.count) (report_of c.in-Ok.plan ready (outputs_of c.in-Ok.plan ready)))
+    ran ArePunctuations c.in-Ok.core.plan (command_of words old) ready (g.K.Sink.state c.args.out.now) (g.K.Sink.state c.run_files.new.out) (e.read all.plan).0 same (c.in-Ok-run_files.ensures.lines (files_told words old mid e.form e.told e.contents all) t)
+    (outputs_puncts c.in-Ok.core.plan ready (run_planned c.in-Ok.core.plan e.fresh.3 e.fresh.1) (ap length same ∙ files_counted words old mid e.form e.told e.contents c.in-Ok.core.plan.nodes e.count) (report_of c.in-Ok.core.plan ready (outputs_of c.in-Ok.core.plan ready)))
 
 pub returns-in-Ok-run_files-clause-lawful : goal.returns-in-Ok-run_files-clause-lawful
 returns-in-Ok-run_files-clause-lawful g c = λ _ all t.
@@ -44,8 +52,8 @@ returns-in-Ok-run_files-clause-lawful g c = λ _ all t.
     let mid = g.F.Folder.state c.prepare.new.folder in
     let same = files_same words old mid e.form e.told e.contents in
     let ready = files_named (names_in words) mid in
-    ran AreLawful c.in-Ok.plan (command_of words old) ready (g.K.Sink.state c.args.out.now) (g.K.Sink.state c.run_files.new.out) (e.read all.plan).0 same (c.in-Ok-run_files.ensures.lines (files_told words old mid e.form e.told e.contents all) t)
-    (outputs_lawful c.in-Ok.plan ready e.small (ap length same ∙ files_counted words old mid e.form e.told e.contents c.in-Ok.plan.streams e.count))
+    ran AreLawful c.in-Ok.core.plan (command_of words old) ready (g.K.Sink.state c.args.out.now) (g.K.Sink.state c.run_files.new.out) (e.read all.plan).0 same (c.in-Ok-run_files.ensures.lines (files_told words old mid e.form e.told e.contents all) t)
+    (outputs_lawful c.in-Ok.core.plan ready (run_planned c.in-Ok.core.plan e.fresh.3 e.fresh.1))
 
 pub returns-in-Ok-run_files-clause-tallies : goal.returns-in-Ok-run_files-clause-tallies
 returns-in-Ok-run_files-clause-tallies g c = λ _ all t.
@@ -53,7 +61,7 @@ returns-in-Ok-run_files-clause-tallies g c = λ _ all t.
     let words = c.args.words.now in
     let old = g.F.Folder.state c.args.folder.now in
     let mid = g.F.Folder.state c.prepare.new.folder in
-    ran AreTallies c.in-Ok.plan (command_of words old) (files_named (names_in words) mid) (g.K.Sink.state c.args.out.now) (g.K.Sink.state c.run_files.new.out) (e.read all.plan).0 (files_same words old mid e.form e.told e.contents)
+    ran AreTallies c.in-Ok.core.plan (command_of words old) (files_named (names_in words) mid) (g.K.Sink.state c.args.out.now) (g.K.Sink.state c.run_files.new.out) (e.read all.plan).0 (files_same words old mid e.form e.told e.contents)
     (c.in-Ok-run_files.ensures.lines (files_told words old mid e.form e.told e.contents all) t) refl
 
 pub returns-in-Ok-run_files-clause-read_to_end : goal.returns-in-Ok-run_files-clause-read_to_end
@@ -76,33 +84,33 @@ returns-in-Ok-run_files-clause-never_retracted g c = λ all t.
     let old = g.F.Folder.state c.args.folder.now in
     let mid = g.F.Folder.state c.prepare.new.folder in
     let before = (g.K.Sink.state c.args.out.now).written in
-    never_done c.in-Ok.plan (command_of words old) before _
-    (record { read = (e.read all.plan).0; small = e.small; names = e.names; count = files_counted words old mid e.form e.told e.contents c.in-Ok.plan.streams e.count })
-    (c.in-Ok-run_files.ensures.lines (files_told words old mid e.form e.told e.contents all) t ∙ ap (λ files. before ++ flat (run_lines c.in-Ok.plan files)) (files_same words old mid e.form e.told e.contents))
+    never_done c.in-Ok.core.plan (command_of words old) before _
+    (record { read = (e.read all.plan).0; planned = run_planned c.in-Ok.core.plan e.fresh.3 e.fresh.1; names = e.fresh.2 })
+    (c.in-Ok-run_files.ensures.lines (files_told words old mid e.form e.told e.contents all) t ∙ ap (λ files. before ++ flat (run_lines c.in-Ok.core.plan files)) (files_same words old mid e.form e.told e.contents))
 
 pub returns-in-Ok-run_files-clause-opened_in_order : goal.returns-in-Ok-run_files-clause-opened_in_order
 returns-in-Ok-run_files-clause-opened_in_order g c =
     let e = c.in-Ok.ensures in
     opened_done c.args.words.now (g.F.Folder.state c.args.folder.now) (g.F.Folder.state c.prepare.new.folder) (g.F.Folder.state c.run_files.new.folder) e.form e.was_opened
-    (built c.args.words.now (g.F.Folder.state c.args.folder.now) (g.F.Folder.state c.prepare.new.folder) e.form e.told e.contents c.in-Ok.plan e.count e.read) c.in-Ok-run_files.ensures.opened
+    (built c.args.words.now (g.F.Folder.state c.args.folder.now) (g.F.Folder.state c.prepare.new.folder) e.form e.told e.contents c.in-Ok.core.plan e.count e.safe e.read) c.in-Ok-run_files.ensures.opened
 
 pub returns-in-Ok-run_files-clause-cause_of_done : goal.returns-in-Ok-run_files-clause-cause_of_done
 returns-in-Ok-run_files-clause-cause_of_done g c = λ _.
     let e = c.in-Ok.ensures in
-    built c.args.words.now (g.F.Folder.state c.args.folder.now) (g.F.Folder.state c.prepare.new.folder) e.form e.told e.contents c.in-Ok.plan e.count e.read
+    built c.args.words.now (g.F.Folder.state c.args.folder.now) (g.F.Folder.state c.prepare.new.folder) e.form e.told e.contents c.in-Ok.core.plan e.count e.safe e.read
 
 -- ---- the run stopped
 
 pub status-status-requires : goal.status-status-requires
 status-status-requires g c =
     let e = c.in-Ok.ensures in
-    let few = few_streams c.in-Ok.plan e.small in
-    let counted = names_counted c.args.words.now c.in-Ok.plan.streams e.form e.count in
-    of_few c.in-Err-run_files.stop c.in-Ok.plan (names_in c.args.words.now) (g.F.Folder.state c.prepare.new.folder) (g.F.Folder.state c.run_files.new.folder) (g.K.Sink.state c.args.out.now) (g.K.Sink.state c.run_files.new.out)
+    let few = few-streams c.in-Ok.core.plan.nodes e.fresh.3 in
+    let counted = names_of_streams c.args.words.now c.in-Ok.core.plan.nodes e.form e.count in
+    of_few c.in-Err-run_files.stop c.in-Ok.core.plan (names_in c.args.words.now) (g.F.Folder.state c.prepare.new.folder) (g.F.Folder.state c.run_files.new.folder) (g.K.Sink.state c.args.out.now) (g.K.Sink.state c.run_files.new.out)
     (omega (arith, few, counted)) c.in-Err-run_files.ensures.causes
 
 pub write_status-requires : goal.write_status-requires
-write_status-requires g c = rw c.stop_name.ensures (stop_name_short c.in-Ok.plan c.status-status.result c.in-Ok.ensures.names)
+write_status-requires g c = rw c.stop_name.ensures (stop_name_short c.plan.result.now c.status-status.result (subst (λ (p : Outline). HasPlainNames p.nodes) (sym (c.plan.ensures ∙ c.in-Err-run_files.ensures.plan)) c.in-Ok.ensures.fresh.2))
 
 pub returns-in-Ok-clause-stopped_run : goal.returns-in-Ok-clause-stopped_run
 returns-in-Ok-clause-stopped_run g c = λ all t.
@@ -114,8 +122,8 @@ returns-in-Ok-clause-stopped_run g c = λ all t.
     let t' = c.write_status.ensures.told t in
     let told = files_told words old mid e.form e.told e.contents all in
     rw c.status-status.ensures
-    (stopped words old mid (g.F.Folder.state c.run_files.new.folder) e.form e.told e.contents e.other_last c.in-Err-run_files.stop c.in-Ok.plan c.stop_name.result.now
-    (g.K.Sink.state c.args.out.now) (g.K.Sink.state c.run_files.new.out) (g.K.Sink.state c.write_status.new.out) t (e.read all.plan).0 (rw (sym c.status-status.ensures) c.stop_name.ensures)
+    (stopped words old mid (g.F.Folder.state c.run_files.new.folder) e.form e.told e.contents e.other_last c.in-Err-run_files.stop c.in-Ok.core.plan c.stop_name.result.now
+    (g.K.Sink.state c.args.out.now) (g.K.Sink.state c.run_files.new.out) (g.K.Sink.state c.write_status.new.out) t (e.read all.plan).0 (rw (sym c.status-status.ensures) (c.stop_name.ensures ∙ ap (λ (p : Outline). stop_name p c.status-status.result) (c.plan.ensures ∙ c.in-Err-run_files.ensures.plan)))
     r.causes (r.lines told t') (r.ends told t') r.later (rw (sym c.status-status.ensures) c.write_status.ensures.line))
 
 pub returns-in-Ok-clause-never_retracted : goal.returns-in-Ok-clause-never_retracted
@@ -127,10 +135,10 @@ returns-in-Ok-clause-never_retracted g c = λ all t.
     let mid = g.F.Folder.state c.prepare.new.folder in
     let told = files_told words old mid e.form e.told e.contents all in
     let before = (g.K.Sink.state c.args.out.now).written in
-    never_stopped c.in-Err-run_files.stop c.in-Ok.plan (command_of words old) c.stop_name.result.now before (g.K.Sink.state c.run_files.new.out) (g.K.Sink.state c.write_status.new.out) t
-    (record { read = (e.read all.plan).0; small = e.small; names = e.names; count = files_counted words old mid e.form e.told e.contents c.in-Ok.plan.streams e.count })
-    (rw (sym c.status-status.ensures) c.stop_name.ensures)
-    (subst (λ files. Leaves (files_cut c.in-Err-run_files.stop) (run_lines c.in-Ok.plan files) before (g.K.Sink.state c.run_files.new.out).written) (files_same words old mid e.form e.told e.contents) (r.lines told (c.write_status.ensures.told t)))
+    never_stopped c.in-Err-run_files.stop c.in-Ok.core.plan (command_of words old) c.stop_name.result.now before (g.K.Sink.state c.run_files.new.out) (g.K.Sink.state c.write_status.new.out) t
+    (record { read = (e.read all.plan).0; planned = run_planned c.in-Ok.core.plan e.fresh.3 e.fresh.1; names = e.fresh.2 })
+    (rw (sym c.status-status.ensures) (c.stop_name.ensures ∙ ap (λ (p : Outline). stop_name p c.status-status.result) (c.plan.ensures ∙ c.in-Err-run_files.ensures.plan)))
+    (subst (λ files. Leaves (files_cut c.in-Err-run_files.stop) (run_lines c.in-Ok.core.plan files) before (g.K.Sink.state c.run_files.new.out).written) (files_same words old mid e.form e.told e.contents) (r.lines told (c.write_status.ensures.told t)))
     (rw (sym c.status-status.ensures) c.write_status.ensures.line)
 
 pub returns-in-Ok-clause-early_end : goal.returns-in-Ok-clause-early_end
@@ -138,8 +146,8 @@ returns-in-Ok-clause-early_end g c =
     let e = c.in-Ok.ensures in
     let r = c.in-Err-run_files.ensures in
     rw c.status-status.ensures
-    (early c.args.words.now (g.F.Folder.state c.args.folder.now) (g.F.Folder.state c.prepare.new.folder) (g.F.Folder.state c.run_files.new.folder) e.form e.told e.contents e.other_last c.in-Err-run_files.stop c.in-Ok.plan c.stop_name.result.now
-    (g.K.Sink.state c.args.out.now) (g.K.Sink.state c.run_files.new.out) (g.K.Sink.state c.write_status.new.out) (rw (sym c.status-status.ensures) c.stop_name.ensures)
+    (early c.args.words.now (g.F.Folder.state c.args.folder.now) (g.F.Folder.state c.prepare.new.folder) (g.F.Folder.state c.run_files.new.folder) e.form e.told e.contents e.other_last c.in-Err-run_files.stop c.in-Ok.core.plan c.stop_name.result.now
+    (g.K.Sink.state c.args.out.now) (g.K.Sink.state c.run_files.new.out) (g.K.Sink.state c.write_status.new.out) (rw (sym c.status-status.ensures) (c.stop_name.ensures ∙ ap (λ (p : Outline). stop_name p c.status-status.result) (c.plan.ensures ∙ c.in-Err-run_files.ensures.plan)))
     (λ opening is. ap g.K.Sink.state (r.unopened opening (ap Err is))) (rw (sym c.status-status.ensures) c.write_status.ensures.line))
 
 pub returns-in-Ok-clause-opened_in_order : goal.returns-in-Ok-clause-opened_in_order
@@ -147,7 +155,7 @@ returns-in-Ok-clause-opened_in_order g c =
     let e = c.in-Ok.ensures in
     rw c.status-status.ensures
     (opened_stop c.args.words.now (g.F.Folder.state c.args.folder.now) (g.F.Folder.state c.prepare.new.folder) (g.F.Folder.state c.run_files.new.folder) e.form e.was_opened
-    (built c.args.words.now (g.F.Folder.state c.args.folder.now) (g.F.Folder.state c.prepare.new.folder) e.form e.told e.contents c.in-Ok.plan e.count e.read) c.in-Err-run_files.stop c.in-Err-run_files.ensures.opened)
+    (built c.args.words.now (g.F.Folder.state c.args.folder.now) (g.F.Folder.state c.prepare.new.folder) e.form e.told e.contents c.in-Ok.core.plan e.count e.safe e.read) c.in-Err-run_files.stop c.in-Err-run_files.ensures.opened)
 
 pub returns-in-Ok-clause-cause_of_read_fault : goal.returns-in-Ok-clause-cause_of_read_fault
 returns-in-Ok-clause-cause_of_read_fault g c = λ n is.
@@ -155,8 +163,8 @@ returns-in-Ok-clause-cause_of_read_fault g c = λ n is.
     let words = c.args.words.now in
     let old = g.F.Folder.state c.args.folder.now in
     let mid = g.F.Folder.state c.prepare.new.folder in
-    faulted words old mid (g.F.Folder.state c.run_files.new.folder) e.form e.told e.contents e.other_last e.later c.in-Err-run_files.stop c.in-Ok.plan (g.K.Sink.state c.args.out.now) (g.K.Sink.state c.run_files.new.out) n
-    (built words old mid e.form e.told e.contents c.in-Ok.plan e.count e.read) c.in-Err-run_files.ensures.causes (sym c.status-status.ensures ∙ is)
+    faulted words old mid (g.F.Folder.state c.run_files.new.folder) e.form e.told e.contents e.other_last e.later c.in-Err-run_files.stop c.in-Ok.core.plan (g.K.Sink.state c.args.out.now) (g.K.Sink.state c.run_files.new.out) n
+    (built words old mid e.form e.told e.contents c.in-Ok.core.plan e.count e.safe e.read) c.in-Err-run_files.ensures.causes (sym c.status-status.ensures ∙ is)
 
 pub returns-in-Ok-clause-cause_of_write_fault : goal.returns-in-Ok-clause-cause_of_write_fault
 returns-in-Ok-clause-cause_of_write_fault g c = λ is.
@@ -164,9 +172,9 @@ returns-in-Ok-clause-cause_of_write_fault g c = λ is.
     let words = c.args.words.now in
     let old = g.F.Folder.state c.args.folder.now in
     let mid = g.F.Folder.state c.prepare.new.folder in (
-      write_failed words old mid (g.F.Folder.state c.run_files.new.folder) e.form e.told e.contents e.other_last c.in-Err-run_files.stop c.in-Ok.plan (g.K.Sink.state c.args.out.now) (g.K.Sink.state c.run_files.new.out) (g.K.Sink.state c.write_status.new.out)
+      write_failed words old mid (g.F.Folder.state c.run_files.new.folder) e.form e.told e.contents e.other_last c.in-Err-run_files.stop c.in-Ok.core.plan (g.K.Sink.state c.args.out.now) (g.K.Sink.state c.run_files.new.out) (g.K.Sink.state c.write_status.new.out)
           c.in-Err-run_files.ensures.causes c.write_status.ensures.later (sym c.status-status.ensures ∙ is),
-      built words old mid e.form e.told e.contents c.in-Ok.plan e.count e.read,
+      built words old mid e.form e.told e.contents c.in-Ok.core.plan e.count e.safe e.read,
     )
 
 pub returns-in-Ok-clause-cause_of_limit : goal.returns-in-Ok-clause-cause_of_limit
@@ -175,8 +183,8 @@ returns-in-Ok-clause-cause_of_limit g c = λ node is.
     let words = c.args.words.now in
     let old = g.F.Folder.state c.args.folder.now in
     let mid = g.F.Folder.state c.prepare.new.folder in
-    beyond words old mid (g.F.Folder.state c.run_files.new.folder) e.form e.told e.contents e.other_last c.in-Err-run_files.stop c.in-Ok.plan (g.K.Sink.state c.args.out.now) (g.K.Sink.state c.run_files.new.out) node
-    (built words old mid e.form e.told e.contents c.in-Ok.plan e.count e.read) (λ t. (e.read t).0) c.in-Err-run_files.ensures.causes (sym c.status-status.ensures ∙ is)
+    beyond words old mid (g.F.Folder.state c.run_files.new.folder) e.form e.told e.contents e.other_last c.in-Err-run_files.stop c.in-Ok.core.plan (g.K.Sink.state c.args.out.now) (g.K.Sink.state c.run_files.new.out) node
+    (built words old mid e.form e.told e.contents c.in-Ok.core.plan e.count e.safe e.read) (λ t. (e.read t).0) c.in-Err-run_files.ensures.causes (sym c.status-status.ensures ∙ is)
 
 pub returns-in-Ok-clause-cause_of_file_limit : goal.returns-in-Ok-clause-cause_of_file_limit
 returns-in-Ok-clause-cause_of_file_limit g c = λ stream is.
@@ -184,79 +192,89 @@ returns-in-Ok-clause-cause_of_file_limit g c = λ stream is.
     let words = c.args.words.now in
     let old = g.F.Folder.state c.args.folder.now in
     let mid = g.F.Folder.state c.prepare.new.folder in
-    too_large words old mid (g.F.Folder.state c.run_files.new.folder) e.form e.told e.contents e.other_last c.in-Err-run_files.stop c.in-Ok.plan (g.K.Sink.state c.args.out.now) (g.K.Sink.state c.run_files.new.out) stream
-    (built words old mid e.form e.told e.contents c.in-Ok.plan e.count e.read) c.in-Err-run_files.ensures.causes (sym c.status-status.ensures ∙ is)
+    too_large words old mid (g.F.Folder.state c.run_files.new.folder) e.form e.told e.contents e.other_last c.in-Err-run_files.stop c.in-Ok.core.plan (g.K.Sink.state c.args.out.now) (g.K.Sink.state c.run_files.new.out) stream
+    (built words old mid e.form e.told e.contents c.in-Ok.core.plan e.count e.safe e.read) c.in-Err-run_files.ensures.causes (sym c.status-status.ensures ∙ is)
 
 -- ---- the plan was not had
 
 pub returns-clause-never_retracted : goal.returns-clause-never_retracted
 returns-clause-never_retracted g c = λ all t.
-    never_early c.in-Err.stop (command_of c.args.words.now (g.F.Folder.state c.args.folder.now)) (g.K.Sink.state c.args.out.now) (g.K.Sink.state c.write_status-in-Err.new.out) t (rw (sym c.status-refusal.ensures) c.write_status-in-Err.ensures.line)
+    never_early c.in-Err.stop (command_of c.args.words.now (g.F.Folder.state c.args.folder.now)) (g.K.Sink.state c.args.out.now) (g.K.Sink.state c.write_refusal.new.out) t (early_lines c.in-Err.stop (command_of c.args.words.now (g.F.Folder.state c.args.folder.now)) (g.F.Folder.state c.prepare.new.folder) c.in-Err.ensures.cause) c.write_refusal.ensures.lines
 
 pub returns-clause-opened_in_order : goal.returns-clause-opened_in_order
 returns-clause-opened_in_order g c =
-    rw c.status-refusal.ensures
+    rw c.status.ensures
     (opened_early c.args.words.now (g.F.Folder.state c.args.folder.now) (g.F.Folder.state c.prepare.new.folder) c.in-Err.stop c.in-Err.ensures.some_opened c.in-Err.ensures.cause)
 
 pub returns-clause-stopped_run : goal.returns-clause-stopped_run
 returns-clause-stopped_run g c = λ all t.
-    rw c.status-refusal.ensures
-    (stopped_early c.args.words.now (g.F.Folder.state c.args.folder.now) (g.F.Folder.state c.prepare.new.folder) c.in-Err.stop (g.K.Sink.state c.args.out.now) (g.K.Sink.state c.write_status-in-Err.new.out) c.in-Err.ensures.cause
-    (rw (sym c.status-refusal.ensures) c.write_status-in-Err.ensures.line))
+    rw c.status.ensures
+    (stopped_early c.args.words.now (g.F.Folder.state c.args.folder.now) (g.F.Folder.state c.prepare.new.folder) c.in-Err.stop (g.K.Sink.state c.args.out.now) (g.K.Sink.state c.write_refusal.new.out) c.in-Err.ensures.cause
+    c.write_refusal.ensures.lines)
 
 pub returns-clause-early_end : goal.returns-clause-early_end
 returns-clause-early_end g c =
-    rw c.status-refusal.ensures
-    (early_early c.args.words.now (g.F.Folder.state c.args.folder.now) (g.F.Folder.state c.prepare.new.folder) c.in-Err.stop (g.K.Sink.state c.args.out.now) (g.K.Sink.state c.write_status-in-Err.new.out)
-    (rw (sym c.status-refusal.ensures) c.write_status-in-Err.ensures.line))
+    rw c.status.ensures
+    (early_early c.args.words.now (g.F.Folder.state c.args.folder.now) (g.F.Folder.state c.prepare.new.folder) c.in-Err.stop (g.K.Sink.state c.args.out.now) (g.K.Sink.state c.write_refusal.new.out) c.in-Err.ensures.cause
+    c.write_refusal.ensures.lines)
 
 pub returns-clause-cause_of_read_fault : goal.returns-clause-cause_of_read_fault
 returns-clause-cause_of_read_fault g c = λ n is.
-    fault_early c.args.words.now (g.F.Folder.state c.args.folder.now) (g.F.Folder.state c.prepare.new.folder) c.in-Err.stop n c.in-Err.ensures.cause (sym c.status-refusal.ensures ∙ is)
+    fault_early c.args.words.now (g.F.Folder.state c.args.folder.now) (g.F.Folder.state c.prepare.new.folder) c.in-Err.stop n c.in-Err.ensures.cause (sym c.status.ensures ∙ is)
 
 pub returns-clause-cause_of_open_fault : goal.returns-clause-cause_of_open_fault
 returns-clause-cause_of_open_fault g c = λ n is.
-    unopened_early c.args.words.now (g.F.Folder.state c.args.folder.now) (g.F.Folder.state c.prepare.new.folder) c.in-Err.stop n c.in-Err.ensures.cause (sym c.status-refusal.ensures ∙ is)
+    unopened_early c.args.words.now (g.F.Folder.state c.args.folder.now) (g.F.Folder.state c.prepare.new.folder) c.in-Err.stop n c.in-Err.ensures.cause (sym c.status.ensures ∙ is)
 
 pub returns-clause-usage : goal.returns-clause-usage
 returns-clause-usage g c = λ not.
-    c.status-refusal.ensures ∙ usage_early c.in-Err.stop (command_of c.args.words.now (g.F.Folder.state c.args.folder.now)) (g.F.Folder.state c.prepare.new.folder) c.in-Err.ensures.cause not
+    c.status.ensures ∙ usage_early c.in-Err.stop (command_of c.args.words.now (g.F.Folder.state c.args.folder.now)) (g.F.Folder.state c.prepare.new.folder) c.in-Err.ensures.cause not
 
 pub returns-clause-cause_of_usage : goal.returns-clause-cause_of_usage
 returns-clause-cause_of_usage g c = λ is.
-    no_words c.in-Err.stop (command_of c.args.words.now (g.F.Folder.state c.args.folder.now)) (g.F.Folder.state c.prepare.new.folder) c.in-Err.ensures.cause (sym c.status-refusal.ensures ∙ is)
+    no_words c.in-Err.stop (command_of c.args.words.now (g.F.Folder.state c.args.folder.now)) (g.F.Folder.state c.prepare.new.folder) c.in-Err.ensures.cause (sym c.status.ensures ∙ is)
 
 pub returns-clause-cause_of_no_memory : goal.returns-clause-cause_of_no_memory
 returns-clause-cause_of_no_memory g c = λ is.
-    memory_early c.in-Err.stop (command_of c.args.words.now (g.F.Folder.state c.args.folder.now)) (g.F.Folder.state c.prepare.new.folder) c.in-Err.ensures.cause (sym c.status-refusal.ensures ∙ is)
+    memory_early c.in-Err.stop (command_of c.args.words.now (g.F.Folder.state c.args.folder.now)) (g.F.Folder.state c.prepare.new.folder) c.in-Err.ensures.cause (sym c.status.ensures ∙ is)
 
 pub returns-clause-refused : goal.returns-clause-refused
 returns-clause-refused g c =
-    rw c.status-refusal.ensures (answers_early c.in-Err.stop (command_of c.args.words.now (g.F.Folder.state c.args.folder.now)) (g.F.Folder.state c.prepare.new.folder) c.in-Err.ensures.cause)
+    rw c.status.ensures (answers_early c.in-Err.stop (command_of c.args.words.now (g.F.Folder.state c.args.folder.now)) (g.F.Folder.state c.prepare.new.folder) c.in-Err.ensures.cause)
 
 pub returns-clause-cause_of_plan_limit : goal.returns-clause-cause_of_plan_limit
 returns-clause-cause_of_plan_limit g c = λ is.
-    refused_early c.in-Err.stop (command_of c.args.words.now (g.F.Folder.state c.args.folder.now)) (g.F.Folder.state c.prepare.new.folder) (Limit Plan) c.in-Err.ensures.cause (sym c.status-refusal.ensures ∙ is) tt
+    refused_early c.in-Err.stop (command_of c.args.words.now (g.F.Folder.state c.args.folder.now)) (g.F.Folder.state c.prepare.new.folder) (Limit Plan) c.in-Err.ensures.cause (sym c.status.ensures ∙ is) tt
 
 pub returns-clause-cause_of_plan_refused : goal.returns-clause-cause_of_plan_refused
 returns-clause-cause_of_plan_refused g c = λ line why is.
-    refused_early c.in-Err.stop (command_of c.args.words.now (g.F.Folder.state c.args.folder.now)) (g.F.Folder.state c.prepare.new.folder) (PlanRefused line why) c.in-Err.ensures.cause (sym c.status-refusal.ensures ∙ is) tt
+    refused_early c.in-Err.stop (command_of c.args.words.now (g.F.Folder.state c.args.folder.now)) (g.F.Folder.state c.prepare.new.folder) (PlanRefused line why) c.in-Err.ensures.cause (sym c.status.ensures ∙ is) tt
 
 pub returns-clause-cause_of_file_count : goal.returns-clause-cause_of_file_count
 returns-clause-cause_of_file_count g c = λ want got is.
-    refused_early c.in-Err.stop (command_of c.args.words.now (g.F.Folder.state c.args.folder.now)) (g.F.Folder.state c.prepare.new.folder) (FileCount want got) c.in-Err.ensures.cause (sym c.status-refusal.ensures ∙ is) tt
+    refused_early c.in-Err.stop (command_of c.args.words.now (g.F.Folder.state c.args.folder.now)) (g.F.Folder.state c.prepare.new.folder) (FileCount want got) c.in-Err.ensures.cause (sym c.status.ensures ∙ is) tt
+
+pub returns-clause-cause_of_unsafe : goal.returns-clause-cause_of_unsafe
+returns-clause-cause_of_unsafe g c = λ join input missing is.
+    refused_early c.in-Err.stop (command_of c.args.words.now (g.F.Folder.state c.args.folder.now)) (g.F.Folder.state c.prepare.new.folder) (Unsafe join input missing) c.in-Err.ensures.cause (sym c.status.ensures ∙ is) tt
 
 pub returns-clause-cause_of_not_built : goal.returns-clause-cause_of_not_built
 returns-clause-cause_of_not_built g c = λ is.
-    refused_early c.in-Err.stop (command_of c.args.words.now (g.F.Folder.state c.args.folder.now)) (g.F.Folder.state c.prepare.new.folder) NotBuilt c.in-Err.ensures.cause (sym c.status-refusal.ensures ∙ is) tt
+    refused_early c.in-Err.stop (command_of c.args.words.now (g.F.Folder.state c.args.folder.now)) (g.F.Folder.state c.prepare.new.folder) NotBuilt c.in-Err.ensures.cause (sym c.status.ensures ∙ is) tt
 
 -- ---- refusals, where there is a plan to run
 
 pub returns-in-Ok-run_files-clause-refused : goal.returns-in-Ok-run_files-clause-refused
-returns-in-Ok-run_files-clause-refused g c = answers_built (command_of c.args.words.now (g.F.Folder.state c.args.folder.now)) Done c.in-Ok.ensures.fits
+returns-in-Ok-run_files-clause-refused g c =
+    let e = c.in-Ok.ensures in
+    answers_built (command_of c.args.words.now (g.F.Folder.state c.args.folder.now)) Done
+    (built c.args.words.now (g.F.Folder.state c.args.folder.now) (g.F.Folder.state c.prepare.new.folder) e.form e.told e.contents c.in-Ok.core.plan e.count e.safe e.read)
 
 pub returns-in-Ok-clause-refused : goal.returns-in-Ok-clause-refused
-returns-in-Ok-clause-refused g c = answers_built (command_of c.args.words.now (g.F.Folder.state c.args.folder.now)) c.status-status.result c.in-Ok.ensures.fits
+returns-in-Ok-clause-refused g c =
+    let e = c.in-Ok.ensures in
+    answers_built (command_of c.args.words.now (g.F.Folder.state c.args.folder.now)) c.status-status.result
+    (built c.args.words.now (g.F.Folder.state c.args.folder.now) (g.F.Folder.state c.prepare.new.folder) e.form e.told e.contents c.in-Ok.core.plan e.count e.safe e.read)
 
 pub returns-in-Ok-clause-cause_of_usage : goal.returns-in-Ok-clause-cause_of_usage
 returns-in-Ok-clause-cause_of_usage g c = λ is. absurd (usage_never c.in-Err-run_files.stop (sym c.status-status.ensures ∙ is))
@@ -270,6 +288,9 @@ returns-in-Ok-clause-cause_of_plan_refused g c = λ line why is. absurd (refused
 pub returns-in-Ok-clause-cause_of_file_count : goal.returns-in-Ok-clause-cause_of_file_count
 returns-in-Ok-clause-cause_of_file_count g c = λ want got is. absurd (refused_never c.in-Err-run_files.stop (FileCount want got) (sym c.status-status.ensures ∙ is) tt)
 
+pub returns-in-Ok-clause-cause_of_unsafe : goal.returns-in-Ok-clause-cause_of_unsafe
+returns-in-Ok-clause-cause_of_unsafe g c = λ join input missing is. absurd (refused_never c.in-Err-run_files.stop (Unsafe join input missing) (sym c.status-status.ensures ∙ is) tt)
+
 pub returns-in-Ok-clause-cause_of_not_built : goal.returns-in-Ok-clause-cause_of_not_built
 returns-in-Ok-clause-cause_of_not_built g c = λ is. absurd (refused_never c.in-Err-run_files.stop NotBuilt (sym c.status-status.ensures ∙ is) tt)
 
@@ -280,6 +301,6 @@ returns-in-Ok-clause-cause_of_open_fault g c = λ n is.
     let old = g.F.Folder.state c.args.folder.now in
     let mid = g.F.Folder.state c.prepare.new.folder in
     let new = g.F.Folder.state c.run_files.new.folder in
-    let is_built = built words old mid e.form e.told e.contents c.in-Ok.plan e.count e.read in
-    unopened words old mid new e.form e.told e.contents e.other_last e.later c.in-Err-run_files.stop c.in-Ok.plan (g.K.Sink.state c.args.out.now) (g.K.Sink.state c.run_files.new.out) n
+    let is_built = built words old mid e.form e.told e.contents c.in-Ok.core.plan e.count e.safe e.read in
+    unopened words old mid new e.form e.told e.contents e.other_last e.later c.in-Err-run_files.stop c.in-Ok.core.plan (g.K.Sink.state c.args.out.now) (g.K.Sink.state c.run_files.new.out) n
     is_built c.in-Err-run_files.ensures.causes (opened_stop words old mid new e.form e.was_opened is_built c.in-Err-run_files.stop c.in-Err-run_files.ensures.opened) (sym c.status-status.ensures ∙ is)
