@@ -54,10 +54,14 @@ const AUCTION_OUT: &[u8] =
 
 // A join whose inputs stand in another order than the streams, and its class in another than the inputs.
 const THREE: &[u8] =
-    b"plan 1\nstream a ak:int av:text\nstream b bk:int bv:int\nstream c cn:int ck:int\njoin j c a b on bk=ck=ak\noutput j\n";
+    b"plan 1\nstream a ak:int av:text\nstream b bk:int bv:int\nstream c cn:int ck:int\nscheme a + _\nscheme b + _\nscheme c _ +\njoin j c a b on bk=ck=ak\noutput j\n";
 
 const THREE_OUT: &[u8] =
     b"t 10 1 1 \"x\" 1 5\nt 20 2 2 \"z\" 2 6\n# stream a tuples 3 punctuations 0 rejected 0\n# stream b tuples 3 punctuations 0 rejected 0\n# stream c tuples 3 punctuations 0 rejected 0\n# results 2 punctuations 0\n# peak j 9\n";
+
+// A tuple of `a` binds one of the two marked columns of `b` alone.
+const UNSAFE: &[u8] =
+    b"plan 1\nstream a x:int y:int\nstream b bx:int bz:int\nscheme a + _\nscheme b + +\njoin j a b on x=bx\noutput j\n";
 
 const STOPPED: &[u8] = b"# stopped read fault operand 2\n";
 
@@ -482,7 +486,9 @@ fn a_plan_is_refused_with_its_first_fault(rt: HostRuntime) -> Result<(), Fail> {
 }
 
 #[test]
-fn another_number_of_files_and_other_forms_are_refused(rt: HostRuntime) -> Result<(), Fail> {
+fn another_number_of_files_unsafe_plans_and_other_forms_are_refused(
+    rt: HostRuntime,
+) -> Result<(), Fail> {
     let select = b"plan 1\nstream s k:int\nselect t s where k 1\noutput t\n".as_slice();
     for (command, plan, number, line) in [
         (
@@ -503,10 +509,28 @@ fn another_number_of_files_and_other_forms_are_refused(rt: HostRuntime) -> Resul
             8,
             b"# refused files want 1 got 2\n",
         ),
+        (
+            "run plan nosuch",
+            UNSAFE,
+            8,
+            b"# refused files want 2 got 1\n",
+        ),
+        (
+            "run plan nosuch nosuch",
+            UNSAFE,
+            2,
+            b"# unsafe join j input a: cannot reach b\n# reached: a\n",
+        ),
+        (
+            "run plan nosuch nosuch nosuch",
+            b"plan 1\nstream a k:int\nstream b l:int\nstream c m:int\nscheme a +\nscheme b +\njoin i a b on k=l\njoin j c i on m=l\noutput j\n",
+            2,
+            b"# unsafe join j input i: cannot reach c\n# reached: i\n",
+        ),
         ("run plan nosuch", select, 9, b"# refused not built\n"),
         (
             "run plan file file nosuch",
-            b"plan 1\nstream a k:int\nstream b l:int\nstream c m:int\njoin i a b on k=l\njoin j i c on l=m\noutput j\n",
+            b"plan 1\nstream a k:int\nstream b l:int\nstream c m:int\nscheme a +\nscheme b +\nscheme c +\njoin i a b on k=l\njoin j i c on l=m\noutput j\n",
             9,
             b"# refused not built\n",
         ),
