@@ -1,0 +1,9 @@
+pub mod Rising
+pub mod Blocks
+pub mod Slots
+pub mod Between
+pub mod Passed
+pub mod Entries
+pub mod Indexed
+pub mod Looking
+pub mod Empty

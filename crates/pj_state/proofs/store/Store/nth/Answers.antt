@@ -1,0 +1,17 @@
+use Rattle.std.proofs.Common.{List, length, ap, sym, ◌∙◌, arith}
+use Rattle.std.specs.List.{slice_get}
+use Rattle.std.specs.Option.{is_some}
+use Rattle.pj_state.specs.declared.shared.Stored.{Stored}
+use Rattle.pj_state.proofs.Slots.{held-at, length-rows}
+use Rattle.pj_state.proofs.store.Store.nth.Goals as goal
+
+pub nth-place-requires : goal.nth-place-requires
+nth-place-requires c = omega (arith, c.requires, ap length c.self.view_is, length-rows c.self.inside.slab.slots c.self.inside.places)
+
+pub index-requires : goal.index-requires
+index-requires c = ap is_some (held-at c.self.inside.slab.slots c.self.inside.places c.args.at c.nth-place.result c.self.invariant.held c.nth-place.ensures).0.1
+
+pub returns : goal.returns
+returns c =
+    ap (λ (rows : List Stored). slice_get rows c.args.at) (sym c.self.view_is)
+    ∙ ((held-at c.self.inside.slab.slots c.self.inside.places c.args.at c.nth-place.result c.self.invariant.held c.nth-place.ensures).1 ∙ c.index.ensures)

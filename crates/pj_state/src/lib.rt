@@ -1,0 +1,18 @@
+//! The stored rows of an input of a join: in order of their tickets, with an index for each column that is asked for.
+#![tactic(auto)]
+
+mod groups;
+mod halving;
+mod index;
+mod places;
+mod prints;
+mod shared;
+mod state;
+mod store;
+mod tickets;
+
+pub use shared::{Shared, Stored};
+pub use state::State;
+
+#[cfg(test)]
+mod tests;
