@@ -228,7 +228,7 @@ join-wild spec ls on lt h done =
 
 -- ---- unions
 
-all-sent : (k n : ℕ) (came : List Sent) (p : Sent) (width : ℕ) → length p.patterns ≡ width → ((j : ℕ) → k ≤ j → j < k + n → (q : Sent) × In q came × (q.input ≡ j) × (q.patterns ≡ all_wild width)) → all_sent_from k n came p ≡ true
+pub all-sent : (k n : ℕ) (came : List Sent) (p : Sent) (width : ℕ) → length p.patterns ≡ width → ((j : ℕ) → k ≤ j → j < k + n → (q : Sent) × In q came × (q.input ≡ j) × (q.patterns ≡ all_wild width)) → all_sent_from k n came p ≡ true
 all-sent k zero came p width l f = refl
 all-sent k (suc n) came p width l f =
     and_from (eqb k p.input || list_any test came) (all_sent_from (k + 1) n came p)
@@ -245,7 +245,7 @@ all-sent k (suc n) came p width l f =
 abbrev pub WillBeWild : ℕ → UnionState → List Local → ℕ → Type 0
 WillBeWild width u ls k = ((q : Sent) × In q u.came × (q.input ≡ k) × (q.patterns ≡ all_wild width)) ⊎ HasWild width (from_input k ls)
 
-will-on : (width n : ℕ) (u : UnionState) (i : ℕ) (ps : List Pattern) (ls : List Local) (k : ℕ) → WillBeWild width u (Comes i (Punct ps) ∷ ls) k → WillBeWild width (union_after n u i (Punct ps)) ls k
+pub will-on : (width n : ℕ) (u : UnionState) (i : ℕ) (ps : List Pattern) (ls : List Local) (k : ℕ) → WillBeWild width u (Comes i (Punct ps) ∷ ls) k → WillBeWild width (union_after n u i (Punct ps)) ls k
 will-on width n u i ps ls k (inl c) = inl (c.0, In-append_left c.0 u.came (record { input = i; patterns = ps } ∷ []) c.1, c.2, c.3)
 will-on width n u i ps ls k (inr h) = go (eqb i k) (λ t. eqb-true i k t) h
   where

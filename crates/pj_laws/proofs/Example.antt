@@ -1,18 +1,20 @@
 -- Worked runs, computed through the definitions.
 use Rattle.std.proofs.Common.{ℕ, zero, suc, inl, inr, arith, true, false, List, [], ◌∷◌, ◌++◌, ◌≡◌, Some, None, refl}
-use Rattle.std.specs.Prelude.{pos}
+use Rattle.std.specs.Prelude.{pos, map}
 use Rattle.pj_value.specs.declared.values.Kind.TheVariants.{Int as IntKind, Text as TextKind}
 use Rattle.pj_value.specs.declared.values.Value.{Value}
 use Rattle.pj_value.specs.declared.values.Value.TheVariants.{Int, Text}
 use Rattle.pj_shape.specs.declared.columns.Column.{Column}
 use Rattle.pj_pattern.specs.declared.pattern.Form.TheVariants.{Constant}
 use Rattle.pj_laws.specs.Patterns.{wild}
-use Rattle.pj_laws.specs.Join.{AreCertified, Element, Tuple, Punct, JoinData, start}
+use Rattle.pj_laws.specs.Join.{AreCertified, Element, Tuple, Punct, JoinData, start, puncts_of}
 use Rattle.pj_laws.specs.Operators.{Count, Sum, Min, Max}
-use Rattle.pj_laws.specs.Plan.{ArePlanned, Stream, Union, Join, Group, Node}
+use Rattle.pj_laws.specs.Plan.{ArePlanned, Stream, Select, Project, Union, Join, Group, Node}
 use Rattle.pj_laws.specs.History.{Entry, Arrive, Taken, Given, Swept, RowOut, PunctOut, Purged}
 use Rattle.pj_laws.specs.Outcomes.{low_of, peak_of, outputs_of, answer_of, goes_beyond}
 use Rattle.pj_laws.specs.OneThread.{plain, one_thread_of}
+use Rattle.pj_laws.specs.Punctuations.{puncts_answer, puncts_answers}
+use Rattle.pj_laws.specs.HistoryLaws.{closed_lists}
 
 abbrev int : ℕ → Value
 int n = Int (pos n)
@@ -130,3 +132,27 @@ united-run : outputs_of false united (one_thread_of true united (
     ≡ RowOut (int 5 ∷ int 0 ∷ []) ∷ RowOut (int 5 ∷ int 0 ∷ []) ∷ PunctOut (Constant (int 5) ∷ Constant (int 0) ∷ []) ∷ PunctOut (Constant (int 5) ∷ wild ∷ [])
     ∷ PunctOut (wild ∷ wild ∷ []) ∷ PunctOut (wild ∷ wild ∷ []) ∷ []
 united-run = refl
+
+-- ---- the punctuations of plans
+
+-- those of each input of a join in turn, widened
+joined-puncts : puncts_answer plan (map puncts_of (closed_lists plan lists))
+    ≡ (Constant (int 1) ∷ wild ∷ wild ∷ wild ∷ []) ∷ (wild ∷ wild ∷ wild ∷ wild ∷ []) ∷ (wild ∷ wild ∷ Constant (int 1) ∷ wild ∷ []) ∷ (wild ∷ wild ∷ wild ∷ wild ∷ []) ∷ []
+joined-puncts = refl
+
+-- the second stream's rows that match a test and those of the first, cut to the second column, in groups
+abbrev stacked : List Node
+stacked =
+    fed ints ∷ fed ints ∷ record { inputs = 1 ∷ []; operator = Select (wild ∷ Constant (int 3) ∷ []) }
+    ∷ record { inputs = 0 ∷ 2 ∷ []; operator = Union 2 (record { came = []; waiting = [] }) }
+    ∷ record { inputs = 3 ∷ []; operator = Project (1 ∷ 1 ∷ []) }
+    ∷ record { inputs = 4 ∷ []; operator = Group (record { keys = 0 ∷ []; aggs = Count ∷ [] }) [] } ∷ []
+
+-- the union has them all, the project those that are a wildcard in the first column, and the group those that are one in its second
+stacked-puncts : puncts_answers stacked (((Constant (int 1) ∷ wild ∷ []) ∷ (wild ∷ wild ∷ []) ∷ []) ∷ ((wild ∷ Constant (int 3) ∷ []) ∷ (wild ∷ wild ∷ []) ∷ []) ∷ [])
+    ≡ ((Constant (int 1) ∷ wild ∷ []) ∷ (wild ∷ wild ∷ []) ∷ []) ∷ ((wild ∷ Constant (int 3) ∷ []) ∷ (wild ∷ wild ∷ []) ∷ [])
+    ∷ ((wild ∷ Constant (int 3) ∷ []) ∷ (wild ∷ wild ∷ []) ∷ [])
+    ∷ ((Constant (int 1) ∷ wild ∷ []) ∷ (wild ∷ wild ∷ []) ∷ (wild ∷ Constant (int 3) ∷ []) ∷ (wild ∷ wild ∷ []) ∷ [])
+    ∷ ((wild ∷ wild ∷ []) ∷ (Constant (int 3) ∷ Constant (int 3) ∷ []) ∷ (wild ∷ wild ∷ []) ∷ [])
+    ∷ ((wild ∷ wild ∷ []) ∷ (wild ∷ wild ∷ []) ∷ []) ∷ []
+stacked-puncts = refl

@@ -8,8 +8,8 @@ use Rattle.pj_shape.specs.declared.columns.Column.{Column}
 use Rattle.pj_laws.specs.Patterns.{all_wild}
 use Rattle.pj_value.specs.Bags.{weigh}
 use Rattle.pj_laws.specs.Join.{In, Element, Tuple, Punct, AllGiven, IsSettled, has, rows_of}
-use Rattle.pj_laws.specs.Plan.{Operator, Stream, Select, Project, Union, Join, Group, Node, Local, Comes, Fed, Own, after, after_all, plan_run, fed_to, answers, HasGiven, IsClosedBy, IsDone, ArePlanned, operator_at}
-use Rattle.pj_laws.specs.History.{reached_of, Entry, Event, Arrive, Taken, Given, Swept, Drain, Halt, Look, Stopped, Idle, Out, Stop, is_stream, streams_from, streams_of, stream_node, root_of, state_in, nodes_by, gained, Reached, begun, closed_after, undrained_after, halted_after, stop_after, next, reached_from, nodes_from, steps_from, Closes, IsMarked, IsEntryAllowed, AreEntriesLegal, IsLegal}
+use Rattle.pj_laws.specs.Plan.{Operator, Stream, Select, Project, Union, Join, Group, Node, Local, Comes, Fed, Own, after, after_all, plan_run, fed_to, answers, HasGiven, IsClosedBy, IsDone, IsCompleteRun, ArePlanned, operator_at}
+use Rattle.pj_laws.specs.History.{reached_of, Entry, Event, Arrive, Taken, Given, Swept, Drain, Halt, Look, Stopped, Idle, Out, Stop, is_stream, streams_from, streams_of, stream_node, root_of, state_in, nodes_by, gained, Reached, begun, closed_after, undrained_after, halted_after, stop_after, next, reached_from, nodes_from, steps_from, Closes, IsMarked, IsEntryAllowed, AreEntriesLegal, IsLegal, IsComplete}
 use Rattle.pj_laws.specs.Outcomes.{Arrival, arrivals_by, arrivals_at, stored_at, peak_of, outputs_of, drained_by, drained_from, element_at, elements_of, place_in, list_at, answers_of, lists_of}
 use Rattle.pj_laws.specs.OneThread.{schema_of}
 use Rattle.pj_laws.specs.HistoryLaws.{HandsOutLawfully, IsNoGroup, HasNoGroup, GivenIsAnswer, Propagates, AllPropagate, CompleteIsAnswer, AddsEntry, AreMadeBy, DrainsHandOutAll, GrowsLegally, FrontsAreLegal, TraceAddsNotes}
@@ -205,20 +205,21 @@ closings plan h l closed n k e =
       | inr m ↦ subst (λ (es : List Element). In (Punct (all_wild (length (schema_of (operator_at plan n))))) es) (sym (fed-elements (begun plan) h p.0 p.1 l) ∙ ap (λ (j : ℕ). fed_to j (steps_from plan h)) p.2) m
     ]
 
+-- a complete history makes a complete run
+pub complete-run : (plan : List Node) → AllPropagate plan → (h : List Entry) → IsLegal plan h → IsComplete plan h → IsCompleteRun plan (steps_from plan h)
+complete-run plan on h l complete n k =
+    let o = operator-from plan h n k in (
+      closed-by (operator_at plan n) (fed_to n (steps_from plan h)) (closings plan h l complete.closed n k),
+      subst (λ (nodes : List Node). IsDone (operator_at nodes n)) (nodes-run plan h)
+          (is-done (operator_at (nodes_from plan h) n) (subst Propagates (sym o.1) (propagates-all (operator_at plan n) o.0 (on n k))) (complete.settled n k)),
+    )
+
 pub complete-is-answer : (plan : List Node) → ArePlanned [] plan → 0 < length plan → AllPropagate plan → CompleteIsAnswer plan
 complete-is-answer plan planned lt on trace h l complete =
     (λ f.
     ap (λ es. weigh f (rows_of es)) (outputs-handed trace plan h)
-    ∙ complete-answers plan planned (steps_from plan h) (legal-steps (begun plan) h l) all (root_of plan) (root-there plan lt) f
+    ∙ complete-answers plan planned (steps_from plan h) (legal-steps (begun plan) h l) (complete-run plan on h l complete) (root_of plan) (root-there plan lt) f
     ∙ ap (λ evs. weigh f (get_or evs (root_of plan) [])) (answers-are plan h l))
-  where
-    all : (n : ℕ) → n < length plan → IsClosedBy (operator_at plan n) (fed_to n (steps_from plan h)) × IsDone (operator_at (plan_run plan (steps_from plan h)) n)
-    all n k =
-        let o = operator-from plan h n k in (
-          closed-by (operator_at plan n) (fed_to n (steps_from plan h)) (closings plan h l complete.closed n k),
-          subst (λ (nodes : List Node). IsDone (operator_at nodes n)) (nodes-run plan h)
-              (is-done (operator_at (nodes_from plan h) n) (subst Propagates (sym o.1) (propagates-all (operator_at plan n) o.0 (on n k))) (complete.settled n k)),
-        )
 
 -- ---- one more entry
 

@@ -78,7 +78,7 @@ numbers-alone n [] a = refl
 numbers-alone n (node ∷ front) a =
     ap (λ (b : Bool). cond b (n ∷ streams_from (n + 1) front) (streams_from (n + 1) front)) a.0.1 ∙ ap (λ (ns : List ℕ). n ∷ ns) (numbers-alone (n + 1) front a.1)
 
-number-at : (k n s d : ℕ) → s < n → get_or (upto_from k n) s d ≡ k + s
+pub number-at : (k n s d : ℕ) → s < n → get_or (upto_from k n) s d ≡ k + s
 number-at k zero s d lt = absurd (omega arith)
 number-at k (suc n) zero d lt = omega arith
 number-at k (suc n) (suc s) d lt = let r = number-at (k + 1) n s d (omega arith) in omega (arith, r)
@@ -225,7 +225,7 @@ module _ (count : ℕ) (inputs : List ℕ) (nodes : List Node) (f : HasForm coun
   steps-give there u =
       ap₂ (λ (b : Bool) (xs : List Arrival). cond b (Give u ∷ []) [] ++ map step_at xs) (eq-eqb count count refl) (brings-none there (Give u))
 
-  root-last : root_of nodes ≡ count
+  pub root-last : root_of nodes ≡ count
   root-last = ap pred (total ∙ add-one count)
 
   -- ---- the way up

@@ -22,6 +22,7 @@ pub mod Groups
 pub mod WholeAnswers
 pub mod Closing
 pub mod Settled
+pub mod Puncts
 pub mod Histories
 pub mod Steps
 pub mod Nodes
@@ -40,6 +41,7 @@ pub mod SettledRun
 pub mod LastTurn
 pub mod SweptRun
 pub mod JoinSteps
+pub mod HistoryPuncts
 pub mod KeepsJoins
 pub mod Limits
 pub mod Drains

@@ -40,7 +40,7 @@ own-of spec s (Own t ∷ ls) a st (inl q) = subst IsOwn (let p : t ≡ st = cc q
 own-of spec s (Own t ∷ ls) a st (inr h) = own-of spec (step spec s t) ls a.2 st h
 
 -- one list of lists, joined, is that list
-pub one-list : (lists : List (List (List Value))) → length lists ≡ 1 → flat_map (λ l. l) lists ≡ get_or lists 0 []
+pub one-list : {A : Type 0} (lists : List (List A)) → length lists ≡ 1 → flat_map (λ l. l) lists ≡ get_or lists 0 []
 one-list [] l = absurd (omega arith)
 one-list (x ∷ []) l = append-nil x
 one-list (x ∷ y ∷ lists) l = absurd (omega arith)

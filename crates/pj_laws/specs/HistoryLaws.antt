@@ -10,11 +10,12 @@ use Rattle.pj_laws.specs.KeptState.{kept_of}
 use Rattle.pj_value.specs.Bags.{SameBag, SubBag}
 use Rattle.pj_value.specs.declared.values.Value.{Value}
 use Rattle.pj_shape.specs.declared.columns.Column.{Column}
-use Rattle.pj_laws.specs.Patterns.{all_wild}
-use Rattle.pj_laws.specs.Join.{AreCertified, AreLegalSteps, start, In, Take, Give, JoinData, JoinState, Element, run, outputs, Punct, AllGiven, has, rows_of}
+use Rattle.pj_laws.specs.Patterns.{Pattern, all_wild}
+use Rattle.pj_laws.specs.Join.{AreCertified, AreLegalSteps, start, In, Take, Give, JoinData, JoinState, Element, run, outputs, Punct, AllGiven, has, rows_of, puncts_of, upto_from}
 use Rattle.pj_laws.specs.Plan.{Operator, Stream, Join, Group, Node, join_step, batches, operator_at}
 use Rattle.pj_laws.specs.History.{Entry, Event, Arrive, Taken, Given, root_of, root_hands, pending_in, streams_of, stream_node, IsOn, join_at, step_of, nodes_by, gained, next, reached_of, nodes_from, IsEntryAllowed, IsLegal, IsComplete}
 use Rattle.pj_laws.specs.Outcomes.{place_in, goes_beyond, arrivals_by, join_steps_by, join_steps_of, arrivals_at, stored_at, peak_of, elements_out, rows_out, outputs_of, elements_of, drained_of, answer_of, lists_of}
+use Rattle.pj_laws.specs.Punctuations.{join_puncts, puncts_answer, puncts_lists}
 use Rattle.pj_laws.specs.OneThread.{Turn, heads, tails, in_rounds, turns_entries, Pending, plain, probes, next_probe, schema_of, one_thread_of}
 
 -- What is handed out is lawful: no row matches a punctuation before it
@@ -52,6 +53,12 @@ abbrev pub CompleteIsAnswer : List Node → Type 0
 CompleteIsAnswer plan =
     (trace : Bool) (history : List Entry) → IsLegal plan history → IsComplete plan history
     → SameBag (rows_out (outputs_of trace plan history)) (answer_of plan (lists_of plan history))
+
+-- The punctuations that a complete history hands out are the plan's over all that arrived, as a bag
+abbrev pub CompleteIsPuncts : List Node → Type 0
+CompleteIsPuncts plan =
+    (trace : Bool) (history : List Entry) → IsLegal plan history → IsComplete plan history
+    → SameBag (puncts_of (elements_out (outputs_of trace plan history))) (puncts_answer plan (puncts_lists plan history))
 
 -- What one more entry adds to what a history has come to, brought, stored and handed out
 pub record AddsEntry (plan : List Node) (history : List Entry) (entry : Entry) : Type 0 where
@@ -115,6 +122,20 @@ AllAreCertified plan = (n : ℕ) → n < length plan → Certified (operator_at 
 -- the run with sweeps over accepted elements leaves every join settled
 abbrev pub SweptIsComplete : List Node → Type 0
 SweptIsComplete plan = (lists : List (List Element)) → AreAcceptedLists plan lists → IsComplete plan (one_thread_of true plan lists)
+
+-- the elements of a stream, and its closing behind them
+abbrev pub closed_list : List Node → List (List Element) → ℕ → List Element
+closed_list plan lists stream = slice_index_or lists stream [] ++ Punct (all_wild (length (schema_at plan stream))) ∷ []
+
+-- the elements of each stream, and its closing behind them
+abbrev pub closed_lists : List Node → List (List Element) → List (List Element)
+closed_lists plan lists = map (closed_list plan lists) (upto_from 0 (length (streams_of plan)))
+
+-- The punctuations of the run with sweeps over accepted elements are the plan's over those of the elements and the closings, as a bag
+abbrev pub SweptIsPuncts : List Node → Type 0
+SweptIsPuncts plan =
+    (lists : List (List Element)) → AreAcceptedLists plan lists → (trace : Bool)
+    → SameBag (puncts_of (elements_out (outputs_of trace plan (one_thread_of true plan lists)))) (puncts_answer plan (map puncts_of (closed_lists plan lists)))
 
 -- ---- what was handed out is never taken back
 
@@ -211,6 +232,16 @@ abbrev pub JoinAnswer : List (List Column) → OneJoin → Type 0
 JoinAnswer streams join =
     IsJoinOf streams join → (lists : List (List (List Value)))
     → answer_of (joined_plan streams join) lists ≡ join_answer join.spec.shape.classes (map (λ k. slice_index_or lists k []) join.inputs)
+
+-- The punctuations of a plan of one stream are its own, and those of a plan with a join those of each input in order, each widened
+abbrev pub StreamPuncts : List (List Column) → Type 0
+StreamPuncts streams =
+    length streams ≡ 1 → (lists : List (List (List Pattern))) → puncts_answer (nodes_of_streams (record { streams = streams; join = None })) lists ≡ slice_index_or lists 0 []
+
+abbrev pub JoinPuncts : List (List Column) → OneJoin → Type 0
+JoinPuncts streams join =
+    IsJoinOf streams join → (lists : List (List (List Pattern)))
+    → puncts_answer (joined_plan streams join) lists ≡ join_puncts join.spec 0 (map (λ k. slice_index_or lists k []) join.inputs)
 
 -- What events make of a plan of one stream: it hands out what arrives, and no limit is met
 pub record StreamAlone (streams : List (List Column)) (history : List Entry) : Type 0 where

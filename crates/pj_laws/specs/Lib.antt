@@ -12,5 +12,6 @@ pub mod OneThread
 pub mod CoreKept
 pub mod ClimbLimits
 pub mod ClimbKept
+pub mod Punctuations
 pub mod HistoryLaws
 pub mod StreamsJoined

@@ -6,7 +6,7 @@ ghost use Rattle.std.specs.Prelude.{Bool, ◌<◌, ◌≡◌, true, false, List,
 ghost use Rattle.pj_laws.specs.Plan.{Node, ArePlanned};
 ghost use Rattle.pj_pattern.specs.declared.element.Element.{Element};
 ghost use Rattle.pj_laws.specs.History.{Entry, nodes_from};
-ghost use Rattle.pj_laws.specs.HistoryLaws.{AddsEntry, AllAreCertified, AllPropagate, CompleteIsAnswer, DrainsHandOutAll, FrontsAreLegal, GivenIsAnswer, GrowsLegally, HandsOutLawfully, HasNoGroup, AreAcceptedLists, IsWholeRun, JoinAnswer, JoinFollows, JoinOfStreams, JoinRuns, KeepsJoin, NeverRetracts, NoneIsPending, OneThreadIsAnswer, ProbesGoOn, RoundsGoOn, StreamAlone, StreamAnswer, StreamsHold, SweptIsComplete, TicketsCount, TraceAddsNotes, TurnsGoOn};
+ghost use Rattle.pj_laws.specs.HistoryLaws.{AddsEntry, AllAreCertified, AllPropagate, CompleteIsAnswer, CompleteIsPuncts, DrainsHandOutAll, FrontsAreLegal, GivenIsAnswer, GrowsLegally, HandsOutLawfully, HasNoGroup, AreAcceptedLists, IsWholeRun, JoinAnswer, JoinFollows, JoinOfStreams, JoinPuncts, JoinRuns, KeepsJoin, NeverRetracts, NoneIsPending, OneThreadIsAnswer, ProbesGoOn, RoundsGoOn, StreamAlone, StreamAnswer, StreamPuncts, StreamsHold, SweptIsComplete, SweptIsPuncts, TicketsCount, TraceAddsNotes, TurnsGoOn};
 ghost use Rattle.pj_laws.specs.CoreKept.{IsJoinOf, IsStreamsPlan, nodes_of_streams};
 
 /// No row that a legal history hands out matches a punctuation that was handed out before it.
@@ -19,6 +19,16 @@ pub fn history_lawfulness()
 pub fn history_answers()
     ensures given { (plan : List Node) → ArePlanned [] plan → 0 < length plan → HasNoGroup plan → GivenIsAnswer plan }
     ensures complete { (plan : List Node) → ArePlanned [] plan → 0 < length plan → AllPropagate plan → CompleteIsAnswer plan }
+{}
+
+/// The punctuations that a complete history hands out are those of the plan over all that arrived at its streams, as a bag,
+/// and so are those of the run on one thread with sweeps over accepted elements. A plan of one stream hands out the
+/// stream's own, and a plan with a join those of each input, widened.
+pub fn history_punctuations()
+    ensures complete { (plan : List Node) → ArePlanned [] plan → 0 < length plan → AllPropagate plan → CompleteIsPuncts plan }
+    ensures swept { (plan : List Node) → ArePlanned [] plan → 0 < length plan → AllAreCertified plan → AllPropagate plan → SweptIsPuncts plan }
+    ensures stream { (streams : List (List Column)) → StreamPuncts streams }
+    ensures join { (streams : List (List Column)) (join : OneJoin) → JoinPuncts streams join }
 {}
 
 /// What one more entry adds to a history and when it may come, what the drains of one seat hand out, and what a trace adds.

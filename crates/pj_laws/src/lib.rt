@@ -10,8 +10,8 @@ mod plan_laws;
 pub use climb_laws::{climbs_of_histories, climbs_of_steps, joined_histories, streams_joined};
 pub use events::{Entry, Event, Look, Out, Stop};
 pub use history_laws::{
-    history_answers, history_lawfulness, history_steps, joins_of_histories, joins_of_streams,
-    never_retracted, one_thread, probing, streams_plans, turns,
+    history_answers, history_lawfulness, history_punctuations, history_steps, joins_of_histories,
+    joins_of_streams, never_retracted, one_thread, probing, streams_plans, turns,
 };
 pub use join_laws::{
     completeness, forgetting_is_safe, lawfulness, ripeness, settling, standing, without_sweeps,
