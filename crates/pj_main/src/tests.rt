@@ -49,15 +49,17 @@ const NOTHING_OUT: &[u8] =
 const AUCTION: &[u8] =
     b"plan 1\nstream items item:int seller:text\nstream bids bitem:int price:int\nscheme items + _\nscheme bids + _\njoin j items bids on item=bitem\noutput j\n";
 
+// What is written of the auction over these files. The bids' punctuation goes out at its arrival, since the sweep behind the
+// items' punctuation removed the bid; the items' punctuation waits for the next sweep.
 const AUCTION_OUT: &[u8] =
-    b"t 1 \"ann\" 1 50\n# stream items tuples 1 punctuations 1 rejected 0\n# stream bids tuples 1 punctuations 1 rejected 1\n# reject bids line 3 closed by line 2\n# results 1 punctuations 0\n# peak j 2\n";
+    b"t 1 \"ann\" 1 50\np * * 1 *\np 1 * * *\np * * * *\np * * * *\n# stream items tuples 1 punctuations 1 rejected 0\n# stream bids tuples 1 punctuations 1 rejected 1\n# reject bids line 3 closed by line 2\n# results 1 punctuations 4\n# peak j 2\n";
 
 // A join whose inputs stand in another order than the streams, and its class in another than the inputs.
 const THREE: &[u8] =
     b"plan 1\nstream a ak:int av:text\nstream b bk:int bv:int\nstream c cn:int ck:int\nscheme a + _\nscheme b + _\nscheme c _ +\njoin j c a b on bk=ck=ak\noutput j\n";
 
 const THREE_OUT: &[u8] =
-    b"t 10 1 1 \"x\" 1 5\nt 20 2 2 \"z\" 2 6\n# stream a tuples 3 punctuations 0 rejected 0\n# stream b tuples 3 punctuations 0 rejected 0\n# stream c tuples 3 punctuations 0 rejected 0\n# results 2 punctuations 0\n# peak j 9\n";
+    b"t 10 1 1 \"x\" 1 5\nt 20 2 2 \"z\" 2 6\np * * * * * *\np * * * * * *\np * * * * * *\n# stream a tuples 3 punctuations 0 rejected 0\n# stream b tuples 3 punctuations 0 rejected 0\n# stream c tuples 3 punctuations 0 rejected 0\n# results 2 punctuations 3\n# peak j 9\n";
 
 // A tuple of `a` binds one of the two marked columns of `b` alone.
 const UNSAFE: &[u8] =
@@ -156,17 +158,74 @@ fn lines_of_the_greatest_length_and_longer(rt: HostRuntime) -> Result<(), Fail> 
     Ok(())
 }
 
-#[test]
-fn two_streams_are_joined(rt: HostRuntime) -> Result<(), Fail> {
+// Whether the auction over these files ends well and writes this.
+fn auctions(rt: &HostRuntime, items: &[u8], bids: &[u8], want: &[u8]) -> Result<bool, Fail> {
     let alloc = rt.alloc();
     let mut folder = MemFolder::new(alloc, &[])?;
     folder.add(alloc, b"plan", AUCTION, 100, &[])?;
-    folder.add(alloc, b"items", b"t 1 \"ann\"\np 1 *\n", 7, &[])?;
-    folder.add(alloc, b"bids", b"t 1 50\np 1 *\nt 1 60\n", 1, &[])?;
+    folder.add(alloc, b"items", items, 7, &[])?;
+    folder.add(alloc, b"bids", bids, 1, &[])?;
     let mut out = sink_of(alloc, &[])?;
-    let status = run_in(&rt, "run plan items bids", &mut folder, &mut out)?;
-    assert_eq!(rt; status, Status::Done);
-    assert_eq!(rt; out.bytes(), AUCTION_OUT);
+    let status = run_in(rt, "run plan items bids", &mut folder, &mut out)?;
+    Ok(status == Status::Done && out.bytes() == want)
+}
+
+#[test]
+fn two_streams_are_joined(rt: HostRuntime) -> Result<(), Fail> {
+    for (items, bids, want) in [
+        (
+            b"t 1 \"ann\"\np 1 *\n".as_slice(),
+            b"t 1 50\np 1 *\nt 1 60\n".as_slice(),
+            AUCTION_OUT,
+        ),
+        // Both files are empty.
+        (
+            b"",
+            b"",
+            b"p * * * *\np * * * *\n# stream items tuples 0 punctuations 0 rejected 0\n# stream bids tuples 0 punctuations 0 rejected 0\n# results 0 punctuations 2\n# peak j 0\n",
+        ),
+        // A stream that ends in its first line.
+        (
+            b"p * *\nt 1 \"x\"\n",
+            b"",
+            b"p * * * *\np * * * *\np * * * *\n# stream items tuples 0 punctuations 1 rejected 1\n# reject items line 2 closed by line 1\n# stream bids tuples 0 punctuations 0 rejected 0\n# results 0 punctuations 3\n# peak j 0\n",
+        ),
+        // The items' punctuation waits until the last sweep, though it came before the result.
+        (
+            b"t 1 \"ann\"\np 1 *\n",
+            b"p 9 *\nt 1 50\n",
+            b"p * * 9 *\nt 1 \"ann\" 1 50\np * * * *\np 1 * * *\np * * * *\n# stream items tuples 1 punctuations 1 rejected 0\n# stream bids tuples 1 punctuations 1 rejected 0\n# results 1 punctuations 4\n# peak j 2\n",
+        ),
+        // Equal rows count as often as they come.
+        (
+            b"t 1 \"a\"\nt 1 \"a\"\n",
+            b"t 1 5\nt 1 5\nt 1 5\n",
+            b"t 1 \"a\" 1 5\nt 1 \"a\" 1 5\nt 1 \"a\" 1 5\nt 1 \"a\" 1 5\nt 1 \"a\" 1 5\nt 1 \"a\" 1 5\np * * * *\np * * * *\n# stream items tuples 2 punctuations 0 rejected 0\n# stream bids tuples 3 punctuations 0 rejected 0\n# results 6 punctuations 2\n# peak j 4\n",
+        ),
+    ] {
+        assert!(rt; auctions(&rt, items, bids, want)?);
+    }
+    Ok(())
+}
+
+// The lines of the auction in order; the write of each fails in turn, and what was written before it stays.
+#[test]
+fn each_write_of_a_join_fails_in_turn(rt: HostRuntime) -> Result<(), Fail> {
+    let alloc = rt.alloc();
+    let mut rest = AUCTION_OUT;
+    for nth in 0u64..10 {
+        let mut folder = MemFolder::new(alloc, &[])?;
+        folder.add(alloc, b"plan", AUCTION, 100, &[])?;
+        folder.add(alloc, b"items", b"t 1 \"ann\"\np 1 *\n", 100, &[])?;
+        folder.add(alloc, b"bids", b"t 1 50\np 1 *\nt 1 60\n", 100, &[])?;
+        let mut out = sink_of(alloc, &[nth])?;
+        let status = run_in(&rt, "run plan items bids", &mut folder, &mut out)?;
+        assert_eq!(rt; status, Status::WriteFault);
+        assert!(rt; AUCTION_OUT.starts_with(out.bytes()));
+        assert_eq!(rt; out.bytes().len().saturating_add(rest.len()), AUCTION_OUT.len());
+        rest = first_piece(rest).1;
+    }
+    assert!(rt; rest.is_empty());
     Ok(())
 }
 
@@ -271,7 +330,7 @@ fn each_file_that_fails_is_named(rt: HostRuntime) -> Result<(), Fail> {
         ),
         (
             Planned::Read("bids", 2),
-            b"t 1 \"ann\" 1 50\n# stopped read fault operand 3\n",
+            b"t 1 \"ann\" 1 50\np * * 9 *\n# stopped read fault operand 3\n",
         ),
     ];
     for (planned, want) in cases {

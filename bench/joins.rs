@@ -1,0 +1,477 @@
+// What the program does on a plan of streams and one join of them, in plain Rust: the measure of its speed. Files have
+// canonical lines, and punctuations of constants and wildcards alone. Words: the plan, and the file of each stream.
+
+use std::collections::{BTreeMap, BTreeSet, HashMap};
+use std::fs::File;
+use std::io::{self, BufRead, BufReader, BufWriter, Write};
+use std::rc::Rc;
+
+// The cells of an element, without its first one. A wildcard is `*`.
+struct Row {
+    line: Box<[u8]>,
+    ends: Box<[(u32, u32)]>,
+}
+
+impl Row {
+    fn of(line: &[u8]) -> Row {
+        let (mut ends, mut at) = (Vec::new(), 1);
+        while at < line.len() {
+            let start = at + 1;
+            at = start;
+            if line[at] == b'"' {
+                at += 1;
+                while line[at] != b'"' {
+                    at += if line[at] == b'\\' { 2 } else { 1 };
+                }
+                at += 1;
+            } else {
+                at += line[at..].iter().position(|byte| *byte == b' ').unwrap_or(line.len() - at);
+            }
+            ends.push((start as u32, at as u32));
+        }
+        Row { line: line.into(), ends: ends.into() }
+    }
+
+    fn cell(&self, column: usize) -> &[u8] {
+        let (start, end) = self.ends[column];
+        &self.line[start as usize..end as usize]
+    }
+
+    fn is_wild(&self, column: usize) -> bool {
+        self.cell(column) == b"*"
+    }
+
+    fn constants(&self) -> Vec<usize> {
+        (0..self.ends.len()).filter(|column| !self.is_wild(*column)).collect()
+    }
+
+    fn matches(&self, row: &Row) -> bool {
+        (0..self.ends.len()).all(|column| self.is_wild(column) || self.cell(column) == row.cell(column))
+    }
+}
+
+type Key = Box<[u8]>;
+
+// The cells of these columns, each with a space behind it.
+fn key_of(row: &Row, columns: &[usize]) -> Key {
+    let mut key = Vec::new();
+    for column in columns {
+        key.extend_from_slice(row.cell(*column));
+        key.push(b' ');
+    }
+    key.into()
+}
+
+// Punctuations by the columns in which they have constants, each with the least of its numbers.
+#[derive(Default)]
+struct Store {
+    forms: Vec<(Vec<usize>, HashMap<Key, u64>)>,
+}
+
+impl Store {
+    fn push(&mut self, punct: &Row, number: u64) {
+        let columns = punct.constants();
+        let key = key_of(punct, &columns);
+        match self.forms.iter_mut().find(|form| form.0 == columns) {
+            Some(form) => drop(form.1.entry(key).or_insert(number)),
+            None => self.forms.push((columns, HashMap::from([(key, number)]))),
+        }
+    }
+
+    fn first_match(&self, row: &Row) -> Option<u64> {
+        self.forms.iter().filter_map(|(columns, numbers)| numbers.get(&key_of(row, columns)).copied()).min()
+    }
+
+    // Whether one covers the instance that has these values in the marked columns.
+    fn covers(&self, marked: &[usize], values: &[&[u8]]) -> bool {
+        self.forms.iter().any(|(columns, numbers)| {
+            let mut key = Vec::new();
+            for column in columns {
+                let Some(at) = marked.iter().position(|other| other == column) else { return false };
+                key.extend_from_slice(values[at]);
+                key.push(b' ');
+            }
+            numbers.contains_key(&key[..])
+        })
+    }
+}
+
+struct Stream {
+    name: String,
+    arity: usize,
+    schemes: Vec<Vec<usize>>,
+}
+
+struct Plan {
+    streams: Vec<Stream>,
+    join: String,
+    inputs: Vec<usize>,
+    // For each class the column of each input that it has.
+    classes: Vec<BTreeMap<usize, usize>>,
+    // For each input the others in an order in which the marked columns of a scheme of each are bound.
+    certs: Vec<Vec<(usize, Vec<usize>)>>,
+}
+
+fn read_plan(text: &str) -> Plan {
+    let (mut streams, mut columns) = (Vec::<Stream>::new(), Vec::<Vec<String>>::new());
+    let (mut join, mut inputs, mut classes) = (String::new(), Vec::new(), Vec::new());
+    for line in text.lines() {
+        let words: Vec<&str> = line.split(' ').collect();
+        let number = |name: &str, streams: &[Stream]| streams.iter().position(|stream| stream.name == name).unwrap();
+        match words[0] {
+            "stream" => {
+                columns.push(words[2..].iter().map(|word| word.split(':').next().unwrap().to_owned()).collect());
+                streams.push(Stream { name: words[1].to_owned(), arity: words.len() - 2, schemes: Vec::new() });
+            }
+            "scheme" => {
+                let marked = (2..words.len()).filter(|at| words[*at] == "+").map(|at| at - 2).collect();
+                let stream = number(words[1], &streams);
+                streams[stream].schemes.push(marked);
+            }
+            "join" => {
+                let on = words.iter().position(|word| *word == "on").unwrap();
+                join = words[1].to_owned();
+                inputs = words[2..on].iter().map(|name| number(name, &streams)).collect::<Vec<usize>>();
+                for class in &words[on + 1..] {
+                    let mut places = BTreeMap::new();
+                    for name in class.split('=') {
+                        for (input, stream) in inputs.iter().enumerate() {
+                            if let Some(column) = columns[*stream].iter().position(|other| other == name) {
+                                places.insert(input, column);
+                            }
+                        }
+                    }
+                    classes.push(places);
+                }
+            }
+            _ => {}
+        }
+    }
+    let certs = (0..inputs.len()).map(|input| certificate(&streams, &inputs, &classes, input)).collect();
+    Plan { streams, join, inputs, classes, certs }
+}
+
+fn certificate(streams: &[Stream], inputs: &[usize], classes: &[BTreeMap<usize, usize>], input: usize) -> Vec<(usize, Vec<usize>)> {
+    let (mut known, mut steps) = (BTreeSet::from([input]), Vec::new());
+    'add: loop {
+        for (other, stream) in inputs.iter().enumerate().filter(|(other, _)| !known.contains(other)) {
+            let bound = |column: &usize| classes.iter().any(|class| class.get(&other) == Some(column) && class.keys().any(|k| known.contains(k)));
+            if let Some(scheme) = streams[*stream].schemes.iter().find(|scheme| scheme.iter().all(bound)) {
+                steps.push((other, scheme.clone()));
+                known.insert(other);
+                continue 'add;
+            }
+        }
+        return steps;
+    }
+}
+
+// A stored row, and the rows that watch through it.
+struct Stored {
+    row: Rc<Row>,
+    watchers: Vec<(usize, u64)>,
+}
+
+struct Waiting {
+    punct: Rc<Row>,
+    witness: u64,
+}
+
+#[derive(Default)]
+struct Side {
+    rows: BTreeMap<u64, Stored>,
+    // For each column that a class has, the tickets of the rows with a value there.
+    index: HashMap<usize, HashMap<Key, BTreeSet<u64>>>,
+    store: Store,
+    // The rows to be judged at the next sweep.
+    marked: BTreeSet<u64>,
+    // For each scheme, by the constants of an instance, the rows that watch it.
+    watches: HashMap<Vec<usize>, HashMap<Key, Vec<(usize, u64)>>>,
+    waiting: BTreeMap<u64, Waiting>,
+    witnesses: HashMap<u64, Vec<u64>>,
+}
+
+struct Join {
+    sides: Vec<Side>,
+    next: u64,
+    peak: usize,
+    before: Vec<usize>,
+    width: usize,
+    rows: u64,
+    puncts: u64,
+}
+
+impl Join {
+    fn new(plan: &Plan) -> Join {
+        let arities: Vec<usize> = plan.inputs.iter().map(|stream| plan.streams[*stream].arity).collect();
+        let before = (0..arities.len()).map(|input| arities[..input].iter().sum()).collect();
+        let mut sides: Vec<Side> = (0..arities.len()).map(|_| Side::default()).collect();
+        for (input, column) in plan.classes.iter().flatten() {
+            sides[*input].index.insert(*column, HashMap::new());
+        }
+        Join { sides, next: 0, peak: 0, before, width: arities.iter().sum(), rows: 0, puncts: 0 }
+    }
+
+    // The tickets of the rows of an input that agree with the parts in each class, which are all older than this one.
+    fn partners(&self, plan: &Plan, parts: &[Option<(u64, Rc<Row>)>], input: usize, below: u64) -> Vec<u64> {
+        let mut found: Option<Vec<u64>> = None;
+        for class in &plan.classes {
+            let Some(column) = class.get(&input) else { continue };
+            let Some((other, there)) = class.iter().find(|(other, _)| parts[**other].is_some()) else { continue };
+            let value = parts[*other].as_ref().unwrap().1.cell(*there);
+            match &mut found {
+                None => found = Some(self.sides[input].index[column].get(value).map_or(Vec::new(), |set| set.range(..below).copied().collect())),
+                Some(tickets) => tickets.retain(|ticket| self.sides[input].rows[ticket].row.cell(*column) == value),
+            }
+        }
+        found.unwrap_or_else(|| self.sides[input].rows.range(..below).map(|(ticket, _)| *ticket).collect())
+    }
+
+    fn tuple(&mut self, plan: &Plan, input: usize, row: Row, out: &mut impl Write) -> io::Result<()> {
+        let (ticket, row) = (self.next, Rc::new(row));
+        self.next += 1;
+        let side = &mut self.sides[input];
+        for (column, tickets) in &mut side.index {
+            match tickets.get_mut(row.cell(*column)) {
+                Some(set) => drop(set.insert(ticket)),
+                None => drop(tickets.insert(row.cell(*column).into(), BTreeSet::from([ticket]))),
+            }
+        }
+        side.rows.insert(ticket, Stored { row: row.clone(), watchers: Vec::new() });
+        side.marked.insert(ticket);
+        self.peak = self.peak.max(self.sides.iter().map(|side| side.rows.len()).sum());
+        let mut parts = vec![None; self.sides.len()];
+        parts[input] = Some((ticket, row));
+        let mut found = Vec::new();
+        self.complete(plan, &mut parts, ticket, &mut found);
+        found.sort_by(|a: &Vec<(u64, Rc<Row>)>, b| a.iter().map(|part| part.0).cmp(b.iter().map(|part| part.0)));
+        for combination in found {
+            out.write_all(b"t")?;
+            for (_, part) in &combination {
+                out.write_all(&part.line[1..])?;
+            }
+            out.write_all(b"\n")?;
+            self.rows += 1;
+        }
+        Ok(())
+    }
+
+    fn complete(&self, plan: &Plan, parts: &mut Vec<Option<(u64, Rc<Row>)>>, below: u64, found: &mut Vec<Vec<(u64, Rc<Row>)>>) {
+        let open: Vec<usize> = (0..parts.len()).filter(|input| parts[*input].is_none()).collect();
+        let linked = |input: &&usize| plan.classes.iter().any(|class| class.contains_key(*input) && class.keys().any(|k| parts[*k].is_some()));
+        let Some(input) = open.iter().find(linked).or(open.first()).copied() else {
+            found.push(parts.iter().flatten().cloned().collect());
+            return;
+        };
+        for ticket in self.partners(plan, parts, input, below) {
+            parts[input] = Some((ticket, self.sides[input].rows[&ticket].row.clone()));
+            self.complete(plan, parts, below, found);
+        }
+        parts[input] = None;
+    }
+
+    fn emit(&mut self, input: usize, punct: &Row, out: &mut impl Write) -> io::Result<()> {
+        self.puncts += 1;
+        out.write_all(b"p")?;
+        let behind = self.width - self.before[input] - punct.ends.len();
+        out.write_all(" *".repeat(self.before[input]).as_bytes())?;
+        out.write_all(&punct.line[1..])?;
+        out.write_all(" *".repeat(behind).as_bytes())?;
+        out.write_all(b"\n")
+    }
+
+    // The first stored row from this ticket on that the punctuation matches.
+    fn witness(&self, input: usize, punct: &Row, from: u64) -> Option<u64> {
+        let side = &self.sides[input];
+        let indexed = side.index.iter().find(|(column, _)| !punct.is_wild(**column));
+        match indexed {
+            Some((column, tickets)) => tickets.get(punct.cell(*column))?.range(from..).find(|ticket| punct.matches(&side.rows[ticket].row)).copied(),
+            None => side.rows.range(from..).find(|(_, stored)| punct.matches(&stored.row)).map(|(ticket, _)| *ticket),
+        }
+    }
+
+    fn wait(&mut self, input: usize, number: u64, punct: Rc<Row>, witness: u64) {
+        self.sides[input].witnesses.entry(witness).or_default().push(number);
+        self.sides[input].waiting.insert(number, Waiting { punct, witness });
+    }
+
+    fn punct(&mut self, plan: &Plan, input: usize, punct: Row, out: &mut impl Write) -> io::Result<()> {
+        let (number, punct) = (self.next, Rc::new(punct));
+        self.next += 1;
+        self.sides[input].store.push(&punct, number);
+        match self.witness(input, &punct, 0) {
+            None => self.emit(input, &punct, out)?,
+            Some(witness) => self.wait(input, number, punct.clone(), witness),
+        }
+        let columns = punct.constants();
+        let mut woken = Vec::new();
+        for (marked, watches) in &mut self.sides[input].watches {
+            if *marked == columns {
+                woken.extend(watches.remove(&key_of(&punct, &columns)).unwrap_or_default());
+            } else if columns.iter().all(|column| marked.contains(column)) {
+                woken.extend(watches.drain().flat_map(|(_, rows)| rows));
+            }
+        }
+        for (other, ticket) in woken {
+            self.mark(other, ticket);
+        }
+        for other in 0..plan.inputs.len() {
+            self.sweep(plan, other, out)?;
+        }
+        Ok(())
+    }
+
+    fn mark(&mut self, input: usize, ticket: u64) {
+        if self.sides[input].rows.contains_key(&ticket) {
+            self.sides[input].marked.insert(ticket);
+        }
+    }
+
+    // Whether all is covered that the parts ask for; else the row watches the first instance that is not.
+    fn judge(&mut self, plan: &Plan, own: (usize, u64), at: usize, parts: &mut Vec<Option<(u64, Rc<Row>)>>) -> bool {
+        let cert = &plan.certs[own.0];
+        let Some((input, marked)) = cert.get(at) else { return true };
+        let mut values = Vec::new();
+        for column in marked {
+            let class = plan.classes.iter().find(|class| class.get(input) == Some(column)).unwrap();
+            let (other, there) = class.iter().find(|(other, _)| parts[**other].is_some()).unwrap();
+            values.push((*other, *there));
+        }
+        let cells: Vec<&[u8]> = values.iter().map(|(other, there)| parts[*other].as_ref().unwrap().1.cell(*there)).collect();
+        if !self.sides[*input].store.covers(marked, &cells) {
+            let mut key = Vec::new();
+            for cell in cells {
+                key.extend_from_slice(cell);
+                key.push(b' ');
+            }
+            self.sides[*input].watches.entry(marked.clone()).or_default().entry(key.into()).or_default().push(own);
+            for (other, part) in parts.iter().enumerate().filter(|(other, _)| *other != own.0) {
+                if let Some((ticket, _)) = part {
+                    self.sides[other].rows.get_mut(ticket).unwrap().watchers.push(own);
+                }
+            }
+            return false;
+        }
+        for ticket in self.partners(plan, parts, *input, self.next) {
+            parts[*input] = Some((ticket, self.sides[*input].rows[&ticket].row.clone()));
+            let covered = self.judge(plan, own, at + 1, parts);
+            parts[*input] = None;
+            if !covered {
+                return false;
+            }
+        }
+        true
+    }
+
+    fn sweep(&mut self, plan: &Plan, input: usize, out: &mut impl Write) -> io::Result<()> {
+        let marked = std::mem::take(&mut self.sides[input].marked);
+        let mut ripe = Vec::new();
+        for ticket in marked {
+            let mut parts = vec![None; self.sides.len()];
+            parts[input] = Some((ticket, self.sides[input].rows[&ticket].row.clone()));
+            if self.judge(plan, (input, ticket), 0, &mut parts) {
+                ripe.push(ticket);
+            }
+        }
+        let mut looked = BTreeSet::new();
+        for ticket in ripe {
+            let side = &mut self.sides[input];
+            let stored = side.rows.remove(&ticket).unwrap();
+            for (column, tickets) in &mut side.index {
+                let set = tickets.get_mut(stored.row.cell(*column)).unwrap();
+                set.remove(&ticket);
+                if set.is_empty() {
+                    tickets.remove(stored.row.cell(*column));
+                }
+            }
+            looked.extend(side.witnesses.remove(&ticket).unwrap_or_default());
+            for (other, watcher) in stored.watchers {
+                self.mark(other, watcher);
+            }
+        }
+        for number in looked {
+            let waiting = self.sides[input].waiting.remove(&number).unwrap();
+            match self.witness(input, &waiting.punct, waiting.witness) {
+                None => self.emit(input, &waiting.punct, out)?,
+                Some(witness) => self.wait(input, number, waiting.punct, witness),
+            }
+        }
+        Ok(())
+    }
+}
+
+// A stream's file with its accepted punctuations and its counts.
+struct Feed {
+    file: Option<BufReader<File>>,
+    number: u64,
+    store: Store,
+    tuples: u64,
+    puncts: u64,
+    rejects: Vec<(u64, u64)>,
+}
+
+enum Turn {
+    Tuple(Row),
+    Punct(Row),
+    End,
+}
+
+impl Feed {
+    fn next(&mut self, line: &mut Vec<u8>) -> io::Result<Turn> {
+        loop {
+            line.clear();
+            if self.file.as_mut().unwrap().read_until(b'\n', line)? == 0 {
+                self.file = None;
+                return Ok(Turn::End);
+            }
+            self.number += 1;
+            let row = Row::of(line.strip_suffix(b"\n").unwrap_or(line));
+            if row.line[0] == b'p' {
+                self.puncts += 1;
+                self.store.push(&row, self.number);
+                return Ok(Turn::Punct(row));
+            }
+            match self.store.first_match(&row) {
+                Some(number) => self.rejects.push((self.number, number)),
+                None => {
+                    self.tuples += 1;
+                    return Ok(Turn::Tuple(row));
+                }
+            }
+        }
+    }
+}
+
+fn main() -> io::Result<()> {
+    let words: Vec<String> = std::env::args().collect();
+    let plan = read_plan(&std::fs::read_to_string(&words[1])?);
+    let mut out = BufWriter::with_capacity(1 << 16, io::stdout().lock());
+    let mut feeds = Vec::new();
+    for name in &words[2..] {
+        let file = Some(BufReader::with_capacity(1 << 16, File::open(name)?));
+        feeds.push(Feed { file, number: 0, store: Store::default(), tuples: 0, puncts: 0, rejects: Vec::new() });
+    }
+    let (mut join, mut line) = (Join::new(&plan), Vec::new());
+    while feeds.iter().any(|feed| feed.file.is_some()) {
+        for (stream, feed) in feeds.iter_mut().enumerate().filter(|(_, feed)| feed.file.is_some()) {
+            let input = plan.inputs.iter().position(|other| *other == stream).unwrap();
+            match feed.next(&mut line)? {
+                Turn::Tuple(row) => join.tuple(&plan, input, row, &mut out)?,
+                Turn::Punct(punct) => join.punct(&plan, input, punct, &mut out)?,
+                Turn::End => {
+                    let closing = format!("p{}", " *".repeat(plan.streams[stream].arity));
+                    join.punct(&plan, input, Row::of(closing.as_bytes()), &mut out)?;
+                }
+            }
+        }
+    }
+    for (stream, feed) in plan.streams.iter().zip(&feeds) {
+        writeln!(out, "# stream {} tuples {} punctuations {} rejected {}", stream.name, feed.tuples, feed.puncts, feed.rejects.len())?;
+        for (number, by) in feed.rejects.iter().take(1_000) {
+            writeln!(out, "# reject {} line {number} closed by line {by}", stream.name)?;
+        }
+    }
+    writeln!(out, "# results {} punctuations {}", join.rows, join.puncts)?;
+    writeln!(out, "# peak {} {}", plan.join, join.peak)?;
+    out.flush()
+}
