@@ -1,10 +1,31 @@
 // What the program does on a plan of streams and one join of them, in plain Rust: the measure of its speed. Files have
 // canonical lines, and punctuations of constants and wildcards alone. Words: the plan, and the file of each stream.
 
-use std::collections::{BTreeMap, BTreeSet, HashMap};
+use std::collections::{BTreeMap, BTreeSet};
 use std::fs::File;
+use std::hash::{BuildHasherDefault, Hasher};
 use std::io::{self, BufRead, BufReader, BufWriter, Write};
 use std::rc::Rc;
+
+// A quick hash of keys, which are no secret.
+#[derive(Default)]
+struct Quick(u64);
+
+impl Hasher for Quick {
+    fn finish(&self) -> u64 {
+        self.0 ^ self.0 >> 32
+    }
+
+    fn write(&mut self, bytes: &[u8]) {
+        for part in bytes.chunks(8) {
+            let mut word = [0; 8];
+            word[..part.len()].copy_from_slice(part);
+            self.0 = (self.0.rotate_left(5) ^ u64::from_le_bytes(word)).wrapping_mul(0x517c_c1b7_2722_0a95);
+        }
+    }
+}
+
+type HashMap<K, V> = std::collections::HashMap<K, V, BuildHasherDefault<Quick>>;
 
 // The cells of an element, without its first one. A wildcard is `*`.
 struct Row {
@@ -74,7 +95,7 @@ impl Store {
         let key = key_of(punct, &columns);
         match self.forms.iter_mut().find(|form| form.0 == columns) {
             Some(form) => drop(form.1.entry(key).or_insert(number)),
-            None => self.forms.push((columns, HashMap::from([(key, number)]))),
+            None => self.forms.push((columns, HashMap::from_iter([(key, number)]))),
         }
     }
 
@@ -207,7 +228,7 @@ impl Join {
         let before = (0..arities.len()).map(|input| arities[..input].iter().sum()).collect();
         let mut sides: Vec<Side> = (0..arities.len()).map(|_| Side::default()).collect();
         for (input, column) in plan.classes.iter().flatten() {
-            sides[*input].index.insert(*column, HashMap::new());
+            sides[*input].index.insert(*column, HashMap::default());
         }
         Join { sides, next: 0, peak: 0, before, width: arities.iter().sum(), rows: 0, puncts: 0 }
     }
