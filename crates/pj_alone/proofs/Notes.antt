@@ -7,9 +7,9 @@ use Rattle.std.proofs.lemmas.List.Folds.{list_any-append}
 use Rattle.pj_value.specs.Lists.{In}
 use Rattle.pj_value.proofs.Members.{all_at, none_from}
 use Rattle.pj_plan.specs.Names.{is_name_byte}
-use Rattle.pj_cert.specs.Verdicts.{name_of, names_text, reached_text}
+use Rattle.pj_cert.specs.Verdicts.{name_of, names_text, reached_text, unreached_text}
 use Rattle.pj_alone.specs.Safety.{IsNote}
-use Rattle.pj_alone.specs.Asked.{Asked, IsAskable, is_plain, stuck_lines, unreached_line}
+use Rattle.pj_alone.specs.Asked.{Asked, IsAskable, is_plain, stuck_lines}
 
 -- whether there is a line feed
 abbrev has_feed : List ℕ → Bool
@@ -47,7 +47,7 @@ module _ (asked : Asked) (plain : IsAskable asked) where
   all_plain : list_all is_plain asked.names ≡ true
   all_plain = (and_parts (is_plain asked.name) (list_all is_plain asked.names) plain.plain).1
 
-  unreached_note : (input missing : ℕ) → IsNote (unreached_line asked input missing)
+  unreached_note : (input missing : ℕ) → IsNote (unreached_text asked.name asked.names input missing)
   unreached_note input missing =
       let from : List ℕ = name_of asked.names input in
       let to : List ℕ = name_of asked.names missing in

@@ -1,15 +1,18 @@
 -- The first unsafe join of a plan.
-use Rattle.std.proofs.Common.{ℕ, ◌+◌, ◌<◌, ◌≤◌, ◌≡◌, ◌⊎◌, length, get_or, take, arith, List, [], ◌∷◌, Option, Some, None, sym, ap, ◌∙◌, subst, inl, inr}
-use Rattle.std.proofs.lemmas.List.{take_all, take_more}
+use Rattle.std.proofs.Common.{ℕ, ◌+◌, ◌<◌, ◌≤◌, ◌≡◌, ◌⊎◌, length, get_or, take, arith, List, [], ◌∷◌, ◌++◌, map, Option, Some, None, refl, sym, ap, ◌∙◌, subst, inl, inr}
+use Rattle.std.proofs.lemmas.List.{map-append, take_all, take_more}
 use Rattle.pj_value.specs.Lists.{In}
 use Rattle.pj_value.proofs.Members.{In-append_cases, in-place}
+use Rattle.pj_shape.specs.declared.joins.CertStep.{CertStep}
 use Rattle.pj_plan.specs.declared.node.PlanNode.{PlanNode}
 use Rattle.pj_plan.specs.Nodes.{joins_of}
 use Rattle.pj_graph.specs.Reaching.{IsRising}
+use Rattle.pj_alone.specs.declared.safety.Judged.TheVariants.{Safe, Unsafe as PlanRefused}
 use Rattle.pj_alone.specs.declared.safety.Unsafe.{Unsafe}
+use Rattle.pj_alone.specs.declared.safety.Verdict.TheVariants.{Certified, Refused}
 use Rattle.pj_alone.specs.Asked.{AreStuckLines, IsFirstIn, IsFirstStuckOf, IsJoinJudged, IsStuckAt, asked_of, or_join}
 use Rattle.pj_alone.specs.Checks.{IsAnswer}
-use Rattle.pj_alone.specs.Safety.{AreRising, AreUnsafeLines, HasUnsafeLines, IsFirstStuck, IsJudged, IsSafeJoin, IsSafePlan}
+use Rattle.pj_alone.specs.Safety.{AreCertificatesAt, AreRising, AreUnsafeLines, HasUnsafeLines, IsFirstStuck, IsJudgment, IsSafeJoin, IsSafePlan, certificates_at}
 use Rattle.pj_alone.proofs.Inputs.{all_safe}
 use Rattle.pj_alone.proofs.Joins.{before_taken, joins_rise}
 
@@ -86,13 +89,53 @@ rising (n ∷ ns) r = (r.0, rising ns r.1)
 unsafe_lines_are : (nodes : List PlanNode) (join : ℕ) (found : Unsafe) → AreStuckLines (asked_of nodes join) found → AreUnsafeLines nodes join found.input found.missing found.lines
 unsafe_lines_are nodes join found are = (are.reached, record { rising = rising are.reached are.stuck.in_order; exactly = are.stuck.exactly }, are.lines)
 
-pub plan_judged : (nodes : List PlanNode) (n join : ℕ) (found : Unsafe) → FirstAreSafe nodes n → n < length (joins_of nodes) → join ≡ get_or (joins_of nodes) n 0
-    → IsJoinJudged (asked_of nodes join) join (Some found) → IsJudged nodes (Some found)
-plan_judged nodes n join found before lt e (same, at, lines) = (
+-- ---- what is found of a plan
+
+-- so many joins, the first ones, are safe, and these are their certificates
+pub record FirstAreJudged (nodes : List PlanNode) (n : ℕ) (certs : List (List (List CertStep))) : Type 0 where
+  pub safe : FirstAreSafe nodes n
+  pub in_order : certs ≡ map (certificates_at nodes) (take n (joins_of nodes))
+  pub valid : (join : ℕ) → In join (take n (joins_of nodes)) → AreCertificatesAt nodes join
+
+pub none_yet : (nodes : List PlanNode) → FirstAreJudged nodes 0 []
+none_yet nodes = record { safe = λ join h. absurd h; in_order = refl; valid = λ join h. absurd h }
+
+pub one_certified : (nodes : List PlanNode) (n join : ℕ) (list : List (List CertStep)) (certs more : List (List (List CertStep))) → FirstAreJudged nodes n certs
+    → n < length (joins_of nodes) → join ≡ get_or (joins_of nodes) n 0 → IsJoinJudged (asked_of nodes join) join (Certified list) → more ≡ certs ++ list ∷ []
+    → FirstAreJudged nodes (n + 1) more
+one_certified nodes n join list certs more before lt e found pushed = record {
+  safe = one_more nodes n join before.safe lt e (all_safe (asked_of nodes join) found.everywhere);
+  in_order =
+      pushed ∙ ap (λ (cs : List (List (List CertStep))). cs ++ list ∷ []) before.in_order
+      ∙ ap (λ (l : List (List CertStep)). map (certificates_at nodes) (take n (joins_of nodes)) ++ l ∷ []) (found.in_order ∙ ap (certificates_at nodes) e)
+      ∙ sym (map-append (certificates_at nodes) (take n (joins_of nodes)) (get_or (joins_of nodes) n 0 ∷ []))
+      ∙ sym (ap (map (certificates_at nodes)) (take_more (joins_of nodes) n 0 lt));
+  valid = λ other h.
+      go other (In-append_cases other (take n (joins_of nodes)) (get_or (joins_of nodes) n 0 ∷ []) (subst (λ (js : List ℕ). In other js) (take_more (joins_of nodes) n 0 lt) h));
+}
+  where
+    go : (other : ℕ) → In other (take n (joins_of nodes)) ⊎ In other (get_or (joins_of nodes) n 0 ∷ []) → AreCertificatesAt nodes other
+    go other (inl i) = before.valid other i
+    go other (inr (inl f)) = subst (AreCertificatesAt nodes) (e ∙ f) found.valid
+    go other (inr (inr i)) = absurd i
+
+pub plan_certified : (nodes : List PlanNode) (certs : List (List (List CertStep))) → FirstAreJudged nodes (length (joins_of nodes)) certs → IsJudgment nodes (Safe certs)
+plan_certified nodes certs all = (
+  plan_safe nodes all.safe,
+  all.in_order ∙ ap (map (certificates_at nodes)) whole,
+  λ join h. all.valid join (subst (λ (js : List ℕ). In join js) (sym whole) h),
+)
+  where
+    whole : take (length (joins_of nodes)) (joins_of nodes) ≡ joins_of nodes
+    whole = take_all (length (joins_of nodes)) (joins_of nodes) (omega arith)
+
+pub plan_refused : (nodes : List PlanNode) (n join : ℕ) (certs : List (List (List CertStep))) (found : Unsafe) → FirstAreJudged nodes n certs → n < length (joins_of nodes)
+    → join ≡ get_or (joins_of nodes) n 0 → IsJoinJudged (asked_of nodes join) join (Refused found) → IsJudgment nodes (PlanRefused found)
+plan_refused nodes n join certs found before lt e (same, at, lines) = (
   subst (λ (j : ℕ). IsFirstStuck nodes j found.input found.missing) (sym (same ∙ e))
-      (this_stuck nodes n lt found.input found.missing before (subst (λ (j : ℕ). IsStuckAt (asked_of nodes j) found.input found.missing) e at)),
+      (this_stuck nodes n lt found.input found.missing before.safe (subst (λ (j : ℕ). IsStuckAt (asked_of nodes j) found.input found.missing) e at)),
   subst (λ (j : ℕ). AreUnsafeLines nodes j found.input found.missing found.lines) (sym same) (unsafe_lines_are nodes join found lines),
 )
 
-pub judged_notes : (nodes : List PlanNode) (join : ℕ) (found : Unsafe) → IsJoinJudged (asked_of nodes join) join (Some found) → HasUnsafeLines found
+pub judged_notes : (nodes : List PlanNode) (join : ℕ) (found : Unsafe) → IsJoinJudged (asked_of nodes join) join (Refused found) → HasUnsafeLines found
 judged_notes nodes join found (same, at, lines) = lines.notes

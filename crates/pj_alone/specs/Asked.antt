@@ -1,7 +1,8 @@
 -- What is asked of one join of a plan, and which of its inputs is the first that does not reach all.
-use Rattle.std.specs.Prelude.{ℕ, ◌<◌, ◌≡◌, Bool, true, ◌&&◌, List, [], ◌∷◌, ◌++◌, Option, Some, None, length, codes, take}
-use Rattle.std.specs.List.{list_all}
+use Rattle.std.specs.Prelude.{ℕ, ◌<◌, ◌≡◌, Bool, true, ◌&&◌, List, [], ◌∷◌, Option, Some, None, map, length, take}
+use Rattle.std.specs.List.{list_all, range_with_len}
 use Rattle.pj_value.specs.Lists.{In}
+use Rattle.pj_shape.specs.declared.joins.CertStep.{CertStep}
 use Rattle.pj_shape.specs.declared.joins.JoinSpec.{JoinSpec}
 use Rattle.pj_shape.specs.Sound.{IsSoundSpec}
 use Rattle.pj_plan.specs.declared.node.PlanNode.{PlanNode}
@@ -11,9 +12,13 @@ use Rattle.pj_plan.specs.Nodes.{joins_of}
 use Rattle.pj_graph.specs.declared.answers.Reach.{Reach}
 use Rattle.pj_graph.specs.declared.answers.Reach.TheVariants.{All, Stuck}
 use Rattle.pj_graph.specs.Reaching.{IsStuck}
-use Rattle.pj_graph.specs.Sets.{FitSchemes, IsSafe, Reaches}
-use Rattle.pj_cert.specs.Verdicts.{head_text, missing_text, name_of, reached_text}
+use Rattle.pj_graph.specs.Sets.{FitSchemes, Reaches}
+use Rattle.pj_graph.specs.Certificates.{IsCertificate}
+use Rattle.pj_graph.specs.Saturation.{certificate_of}
+use Rattle.pj_cert.specs.Verdicts.{reached_text, unreached_text}
 use Rattle.pj_alone.specs.declared.safety.Unsafe.{Unsafe}
+use Rattle.pj_alone.specs.declared.safety.Verdict.{Verdict}
+use Rattle.pj_alone.specs.declared.safety.Verdict.TheVariants.{Certified, Refused}
 use Rattle.pj_alone.specs.Safety.{HasUnsafeLines, IsFirstStuck, IsSafeJoin, input_names, schemes_at, spec_at}
 
 -- ---- one join
@@ -94,16 +99,23 @@ or_join (Some first) join found = Some first
 or_join None join None = None
 or_join None join (Some (input, missing)) = Some (join, input, missing)
 
--- ---- its two lines
+-- ---- certificates
 
--- what the input does not reach
-abbrev pub unreached_line : Asked → ℕ → ℕ → List ℕ
-unreached_line asked input missing =
-    head_text (codes "# unsafe join ") asked.name (name_of asked.names input) ++ missing_text (name_of asked.names missing)
+-- those of so many inputs of the join, the first ones
+abbrev pub first_certificates : Asked → ℕ → List (List CertStep)
+first_certificates asked count = map (certificate_of asked.spec asked.schemes) (range_with_len 0 count)
 
--- that, and what it reaches
+-- so many inputs of the join, the first ones, reach all, and these are their certificates
+pub record AreCertified (asked : Asked) (count : ℕ) (certs : List (List CertStep)) : Type 0 where
+  pub everywhere : FirstGoEverywhere asked count
+  pub in_order : certs ≡ first_certificates asked count
+  pub valid : (input : ℕ) → input < count → IsCertificate asked.spec asked.schemes input (certificate_of asked.spec asked.schemes input)
+
+-- ---- the lines of a stuck input
+
+-- what it does not reach, and what it reaches
 abbrev pub stuck_lines : Asked → ℕ → ℕ → List ℕ → List (List ℕ)
-stuck_lines asked input missing reached = unreached_line asked input missing ∷ reached_text asked.names reached ∷ []
+stuck_lines asked input missing reached = unreached_text asked.name asked.names input missing ∷ reached_text asked.names reached ∷ []
 
 -- these are the two lines of the input, which are notes
 pub record AreStuckLines (asked : Asked) (found : Unsafe) : Type 0 where
@@ -112,7 +124,7 @@ pub record AreStuckLines (asked : Asked) (found : Unsafe) : Type 0 where
   pub lines : found.lines ≡ stuck_lines asked found.input found.missing reached
   pub notes : HasUnsafeLines found
 
--- the join is safe; or the first stuck input of it was found, and its lines
-abbrev pub IsJoinJudged : Asked → ℕ → Option Unsafe → Type 0
-IsJoinJudged asked join None = IsSafe asked.spec asked.schemes
-IsJoinJudged asked join (Some found) = (found.join ≡ join) × IsStuckAt asked found.input found.missing × AreStuckLines asked found
+-- the join is safe, with its certificates; or the first stuck input of it was found, and its lines
+abbrev pub IsJoinJudged : Asked → ℕ → Verdict → Type 0
+IsJoinJudged asked join (Certified certs) = AreCertified asked (length asked.spec.inputs) certs
+IsJoinJudged asked join (Refused found) = (found.join ≡ join) × IsStuckAt asked found.input found.missing × AreStuckLines asked found

@@ -1,7 +1,8 @@
 -- Which plans are safe, and what is told of one that is not.
-use Rattle.std.specs.Prelude.{ℕ, ◌<◌, ◌≡◌, ◌↔◌, ◌==◌, Bool, false, List, [], ◌∷◌, ◌++◌, Option, Some, None, map, length, codes}
-use Rattle.std.specs.List.{list_any}
+use Rattle.std.specs.Prelude.{ℕ, ◌<◌, ◌≡◌, ◌↔◌, ◌==◌, Bool, false, List, [], ◌∷◌, ◌++◌, map, length, codes}
+use Rattle.std.specs.List.{list_any, range_with_len}
 use Rattle.pj_value.specs.Lists.{In}
+use Rattle.pj_shape.specs.declared.joins.CertStep.{CertStep}
 use Rattle.pj_shape.specs.declared.joins.JoinSpec.{JoinSpec}
 use Rattle.pj_plan.specs.declared.node.Node.{Node}
 use Rattle.pj_plan.specs.declared.node.Node.TheVariants.{Stream, Select, Project, Union, Join, Group}
@@ -10,7 +11,11 @@ use Rattle.pj_plan.specs.Nodes.{inputs_of, joins_of}
 use Rattle.pj_plan.specs.Canonical.{node_at, node_name}
 use Rattle.pj_scheme.specs.Derived.{inputs_schemes, schemes_of}
 use Rattle.pj_graph.specs.Sets.{IsSafe, Reaches}
-use Rattle.pj_cert.specs.Verdicts.{head_text, missing_text, name_of, reached_text}
+use Rattle.pj_graph.specs.Certificates.{IsCertificate}
+use Rattle.pj_graph.specs.Saturation.{certificate_of}
+use Rattle.pj_cert.specs.Verdicts.{reached_text, unreached_text}
+use Rattle.pj_alone.specs.declared.safety.Judged.{Judged}
+use Rattle.pj_alone.specs.declared.safety.Judged.TheVariants.{Safe, Unsafe as Refused}
 use Rattle.pj_alone.specs.declared.safety.Unsafe.{Unsafe}
 
 -- ---- the joins of a plan
@@ -67,6 +72,25 @@ pub record IsFirstStuck (nodes : List PlanNode) (join input missing : ℕ) : Typ
   pub stuck : ¬ ReachesAt nodes join input missing
   pub least : (other : ℕ) → other < missing → ReachesAt nodes join input other
 
+-- ---- the certificates of a safe plan
+
+-- the certificate of each input of the join
+abbrev pub certificates_at : List PlanNode → ℕ → List (List CertStep)
+certificates_at nodes join = map (certificate_of (spec_at nodes join) (schemes_at nodes join)) (range_with_len 0 (inputs_at nodes join))
+
+-- the same of each join
+abbrev pub certificates_of : List PlanNode → List (List (List CertStep))
+certificates_of nodes = map (certificates_at nodes) (joins_of nodes)
+
+-- those of this join are certificates
+abbrev pub AreCertificatesAt : List PlanNode → ℕ → Type 0
+AreCertificatesAt nodes join = (input : ℕ) → input < inputs_at nodes join
+    → IsCertificate (spec_at nodes join) (schemes_at nodes join) input (certificate_of (spec_at nodes join) (schemes_at nodes join) input)
+
+-- those of each join are certificates
+abbrev pub AreCertificates : List PlanNode → Type 0
+AreCertificates nodes = (join : ℕ) → In join (joins_of nodes) → AreCertificatesAt nodes join
+
 -- ---- what is told
 
 -- each number is greater than those before it
@@ -86,9 +110,7 @@ input_names nodes join = map (node_name nodes) (inputs_of (node_at nodes join))
 -- the line of a stuck input with what it does not reach, and that of what it reaches
 abbrev pub unsafe_lines : List PlanNode → ℕ → ℕ → ℕ → List ℕ → List (List ℕ)
 unsafe_lines nodes join input missing reached =
-    (head_text (codes "# unsafe join ") (node_name nodes join) (name_of (input_names nodes join) input)
-    ++ missing_text (name_of (input_names nodes join) missing))
-    ∷ reached_text (input_names nodes join) reached ∷ []
+    unreached_text (node_name nodes join) (input_names nodes join) input missing ∷ reached_text (input_names nodes join) reached ∷ []
 
 -- these are the two lines of the input
 abbrev pub AreUnsafeLines : List PlanNode → ℕ → ℕ → ℕ → List (List ℕ) → Type 0
@@ -104,7 +126,12 @@ pub record IsNote (line : List ℕ) : Type 0 where
 abbrev pub HasUnsafeLines : Unsafe → Type 0
 HasUnsafeLines found = (line : List ℕ) → In line found.lines → IsNote line
 
--- the plan is safe; or the first stuck input of its first unsafe join was found, and its lines
-abbrev pub IsJudged : List PlanNode → Option Unsafe → Type 0
-IsJudged nodes None = IsSafePlan nodes
-IsJudged nodes (Some found) = IsFirstStuck nodes found.join found.input found.missing × AreUnsafeLines nodes found.join found.input found.missing found.lines
+-- the same, if there are any
+abbrev pub AreLinesNotes : Judged → Type 0
+AreLinesNotes (Safe certs) = Unit {0}
+AreLinesNotes (Refused found) = HasUnsafeLines found
+
+-- the plan is safe, with its certificates; or the first stuck input of its first unsafe join was found, and its lines
+abbrev pub IsJudgment : List PlanNode → Judged → Type 0
+IsJudgment nodes (Safe certs) = IsSafePlan nodes × (certs ≡ certificates_of nodes) × AreCertificates nodes
+IsJudgment nodes (Refused found) = IsFirstStuck nodes found.join found.input found.missing × AreUnsafeLines nodes found.join found.input found.missing found.lines

@@ -5,7 +5,6 @@ ghost use Rattle.pj_plan.specs.Nodes.{inputs_of, is_join, joins_of};
 ghost use Rattle.pj_plan.specs.Canonical.{node_at, node_name};
 ghost use Rattle.pj_scheme.specs.Derived.{schemes_of};
 ghost use Rattle.pj_graph.specs.Reaching.{IsReach};
-ghost use Rattle.pj_cert.specs.Verdicts.{name_of};
 ghost use Rattle.pj_alone.specs.Safety.{spec_in};
 ghost use Rattle.pj_alone.specs.Asked.{asked_of, IsAskable};
 
@@ -67,16 +66,6 @@ impl<'a> Asked<'a> {
         ensures { IfOk result (λ found. IsReach self.now.spec self.now.schemes input found) }
     {
         reach(alloc, self.spec, &self.schemes, input)
-    }
-
-    /// The name of an input, empty where there is no such input.
-    pub(crate) fn input_name(&self, input: u32) -> &[u8]
-        ensures { result.now ≡ name_of self.now.names input }
-    {
-        match self.names.as_slice().get(input as usize) {
-            None => &[],
-            Some(name) => name.as_slice(),
-        }
     }
 
     /// How many inputs there are. The shape is sound, the schemes fit it, and the names are plain.

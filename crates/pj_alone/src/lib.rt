@@ -8,4 +8,4 @@ mod safety;
 mod tests;
 
 pub use check::check_text;
-pub use safety::{Unsafe, first_unsafe};
+pub use safety::{Judged, Unsafe, judge};

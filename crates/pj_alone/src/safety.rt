@@ -1,17 +1,17 @@
 // Whether a plan is safe.
-ghost use Rattle.std.specs.Prelude.{ℕ, ◌≡◌, ◌++◌, List, IfOk, IfSome, OnOk};
+ghost use Rattle.std.specs.Prelude.{ℕ, ◌≡◌, List, IfOk};
 ghost use Rattle.pj_value.specs.Lists.{In};
 ghost use Rattle.pj_plan.specs.Nodes.{joins_of};
 ghost use Rattle.pj_scheme.specs.Derived.{schemes_of};
-ghost use Rattle.pj_cert.specs.Verdicts.{names_text, reached_text};
-ghost use Rattle.pj_alone.specs.Safety.{HasUnsafeLines, IsJudged, IsNote};
-ghost use Rattle.pj_alone.specs.Asked.{asked_of, IsAskable, IsJoinJudged, stuck_lines as lines_of_stuck, unreached_line as line_of_unreached};
+ghost use Rattle.pj_alone.specs.Safety.{AreLinesNotes, IsJudgment, IsNote};
+ghost use Rattle.pj_alone.specs.Asked.{asked_of, IsAskable, IsJoinJudged, stuck_lines as lines_of_stuck};
 
 use crate::asked::Asked;
-use pj_graph::Reach;
+use pj_cert::{reached_line, unreached_line};
+use pj_graph::{Reach, saturations_are_told};
 use pj_plan::Plan;
 use pj_scheme::derived;
-use pj_shape::Schemes;
+use pj_shape::{Cert, Schemes};
 use pj_value::{Bytes, List, NoMemory};
 use std::alloc::Global;
 
@@ -25,48 +25,62 @@ pub struct Unsafe {
     pub lines: List<Bytes>,
 }
 
-/// Why the plan is unsafe; `None` exactly where it is safe.
-#[tactic(auto, using(crate::proofs::Plans::judged_notes))]
-pub fn first_unsafe(alloc: Global, plan: &Plan) -> Result<Option<Unsafe>, NoMemory>
-    ensures judged { IfOk result (λ found. IsJudged plan.now.nodes found) }
-    ensures lines { IfOk result (λ found. IfSome found HasUnsafeLines) }
-{
-    let all = derived(alloc, plan)?;
-    for join in plan.joins() {
-        match stuck_in(alloc, plan, &all, *join)? {
-            None => {}
-            Some(found) => return Ok(Some(found)),
-        }
-    }
-    Ok(None)
+/// What is found of a plan.
+#[derive(Drop)]
+pub enum Judged {
+    /// It is safe. For each join, in order of declaration, the certificate of each of its inputs, in order.
+    Safe { certs: List<List<Cert>> },
+    /// It is unsafe, and why.
+    Unsafe { found: Unsafe },
 }
 
-// Why this join is unsafe, if it is.
-fn stuck_in(
-    alloc: Global,
-    plan: &Plan,
-    all: &Schemes,
-    join: u32,
-) -> Result<Option<Unsafe>, NoMemory>
+// What is found of a join: the certificate of each input, or why the plan is unsafe.
+#[derive(Drop)]
+enum Verdict {
+    Certified(List<Cert>),
+    Refused(Unsafe),
+}
+
+/// Whether the plan is safe. The certificate of an input starts from the input alone and always adds the least input that can
+/// be added, by its first scheme that allows it.
+#[tactic(auto, using(crate::proofs::Plans::judged_notes))]
+pub fn judge(alloc: Global, plan: &Plan) -> Result<Judged, NoMemory>
+    ensures judged { IfOk result (λ judged. IsJudgment plan.now.nodes judged) }
+    ensures lines { IfOk result AreLinesNotes }
+{
+    let all = derived(alloc, plan)?;
+    let mut certs = List::new(alloc);
+    for join in plan.joins() {
+        match judge_join(alloc, plan, &all, *join)? {
+            Verdict::Certified(list) => certs.push(list)?,
+            Verdict::Refused(found) => return Ok(Judged::Unsafe { found }),
+        }
+    }
+    Ok(Judged::Safe { certs })
+}
+
+fn judge_join(alloc: Global, plan: &Plan, all: &Schemes, join: u32) -> Result<Verdict, NoMemory>
     requires join { In join (joins_of plan.now.nodes) }
     requires all { all.now ≡ schemes_of plan.now.nodes }
-    ensures { IfOk result (λ found. IsJoinJudged (asked_of plan.now.nodes join) join found) }
+    ensures { IfOk result (λ verdict. IsJoinJudged (asked_of plan.now.nodes join) join verdict) }
 {
     let asked = Asked::of(alloc, plan, all, join)?;
-    let found = first_stuck(alloc, &asked, join)?;
-    Ok(found)
+    let verdict = judge_inputs(alloc, &asked, join)?;
+    Ok(verdict)
 }
 
 #[tactic(auto, using(crate::proofs::Inputs::judged))]
-fn first_stuck(alloc: Global, asked: &Asked<'_>, join: u32) -> Result<Option<Unsafe>, NoMemory>
-    ensures { IfOk result (λ found. IsJoinJudged asked.now join found) }
+fn judge_inputs(alloc: Global, asked: &Asked<'_>, join: u32) -> Result<Verdict, NoMemory>
+    ensures { IfOk result (λ verdict. IsJoinJudged asked.now join verdict) }
 {
+    saturations_are_told();
+    let mut certs = List::new(alloc);
     for input in 0..asked.inputs() {
         match asked.reach(alloc, input)? {
-            Reach::All(_) => {}
+            Reach::All(cert) => certs.push(cert)?,
             Reach::Stuck { reached, missing } => {
                 let lines = stuck_lines(alloc, asked, input, missing, reached.as_slice())?;
-                return Ok(Some(Unsafe {
+                return Ok(Verdict::Refused(Unsafe {
                     join,
                     input,
                     missing,
@@ -75,7 +89,7 @@ fn first_stuck(alloc: Global, asked: &Asked<'_>, join: u32) -> Result<Option<Uns
             }
         }
     }
-    Ok(None)
+    Ok(Verdict::Certified(certs))
 }
 
 // What the input does not reach, and what it reaches.
@@ -90,48 +104,9 @@ fn stuck_lines(
     ensures lines { IfOk result (λ lines. lines ≡ lines_of_stuck asked.now input missing reached.now) }
     ensures notes { IfOk result (λ lines. (line : List ℕ) → In line lines → IsNote line) }
 {
+    let names = asked.names.as_slice();
     let mut lines = List::new(alloc);
-    lines.push(unreached_line(alloc, asked, input, missing)?)?;
-    lines.push(reached_line(alloc, asked, reached)?)?;
+    lines.push(unreached_line(alloc, asked.name, names, input, missing)?)?;
+    lines.push(reached_line(alloc, names, reached)?)?;
     Ok(lines)
-}
-
-fn unreached_line(
-    alloc: Global,
-    asked: &Asked<'_>,
-    input: u32,
-    missing: u32,
-) -> Result<Bytes, NoMemory>
-    ensures { IfOk result (λ line. line ≡ line_of_unreached asked.now input missing) }
-{
-    let mut line = List::new(alloc);
-    line.append(b"# unsafe join ")?;
-    line.append(asked.name)?;
-    line.append(b" input ")?;
-    line.append(asked.input_name(input))?;
-    line.append(b":")?;
-    line.append(b" cannot reach ")?;
-    line.append(asked.input_name(missing))?;
-    line.append(b"\n")?;
-    Ok(line)
-}
-
-fn reached_line(alloc: Global, asked: &Asked<'_>, reached: &[u32]) -> Result<Bytes, NoMemory>
-    ensures { IfOk result (λ line. line ≡ reached_text asked.now.names reached.now) }
-{
-    let mut line = List::new(alloc);
-    line.append(b"# reached:")?;
-    append_names(asked, reached, &mut line)?;
-    line.append(b"\n")?;
-    Ok(line)
-}
-
-fn append_names(asked: &Asked<'_>, inputs: &[u32], line: &mut Bytes) -> Result<(), NoMemory>
-    ensures { OnOk result (line.new ≡ line.old ++ names_text asked.now.names inputs.now) }
-{
-    for input in inputs {
-        line.append(b" ")?;
-        line.append(asked.input_name(*input))?;
-    }
-    Ok(())
 }

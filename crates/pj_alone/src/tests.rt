@@ -2,6 +2,7 @@
 use super::*;
 use pj_plan::{Plan, PlanStop};
 use pj_plan_text::read_plan;
+use pj_shape::Cert;
 use pj_value::{List, NoMemory};
 use std::alloc::Global;
 use std::test::Fail;
@@ -44,17 +45,44 @@ fn told(alloc: Global, plan: &Plan, print: bool) -> Result<List<u8>, NoMemory> {
     Ok(out)
 }
 
+// Each step of the certificate, and a semicolon.
+fn append_cert(cert: &Cert, out: &mut List<u8>) -> Result<(), NoMemory> {
+    for n in 0..cert.len() {
+        append_number(cert.at(n).input, out)?;
+        out.push(b'.')?;
+        append_number(cert.at(n).scheme, out)?;
+        out.push(b' ')?;
+    }
+    out.push(b';')
+}
+
+// The certificates of a join on a line.
+fn append_certs(certs: &[Cert], out: &mut List<u8>) -> Result<(), NoMemory> {
+    for cert in certs {
+        append_cert(cert, out)?;
+    }
+    out.push(b'\n')
+}
+
 // Why the plan is unsafe on a line, and the lines that tell it.
-fn refused(alloc: Global, plan: &Plan) -> Result<List<u8>, NoMemory> {
+fn append_unsafe(found: &Unsafe, out: &mut List<u8>) -> Result<(), NoMemory> {
+    append_numbers(found.join, found.input, found.missing, out)?;
+    for line in found.lines.as_slice() {
+        out.append(line.as_slice())?;
+    }
+    Ok(())
+}
+
+// A line for each join of a safe plan, or why it is unsafe.
+fn judged(alloc: Global, plan: &Plan) -> Result<List<u8>, NoMemory> {
     let mut out = List::new(alloc);
-    match first_unsafe(alloc, plan)? {
-        None => out.append(b"safe\n")?,
-        Some(found) => {
-            append_numbers(found.join, found.input, found.missing, &mut out)?;
-            for line in found.lines.as_slice() {
-                out.append(line.as_slice())?;
+    match judge(alloc, plan)? {
+        Judged::Safe { certs } => {
+            for list in certs.as_slice() {
+                append_certs(list.as_slice(), &mut out)?;
             }
         }
+        Judged::Unsafe { found } => append_unsafe(&found, &mut out)?,
     }
     Ok(out)
 }
@@ -77,17 +105,17 @@ fn are_told(alloc: Global, table: &str, print: bool) -> Result<bool, NoMemory> {
     Ok(true)
 }
 
-fn is_refused(alloc: Global, case: &str) -> Result<bool, NoMemory> {
+fn is_judged(alloc: Global, case: &str) -> Result<bool, NoMemory> {
     let (text, want) = case.split_once("=>\n").unwrap_or((case, ""));
     match plan_of(alloc, text)? {
         None => Ok(false),
-        Some(plan) => Ok(refused(alloc, &plan)?.as_slice() == want.as_bytes()),
+        Some(plan) => Ok(judged(alloc, &plan)?.as_slice() == want.as_bytes()),
     }
 }
 
-fn are_refused(alloc: Global, table: &str) -> Result<bool, NoMemory> {
+fn are_judged(alloc: Global, table: &str) -> Result<bool, NoMemory> {
     for case in table.split("--\n") {
-        if !is_refused(alloc, case)? {
+        if !is_judged(alloc, case)? {
             return Ok(false);
         }
     }
@@ -402,8 +430,8 @@ output k2
 "
 }
 
-// Why plans are not run.
-fn refusals() -> &'static str {
+// Unsafe plans, one of two joins, and a safe one.
+fn judgments() -> &'static str {
     "plan 1
 stream a x:int y:int
 stream b bx:int bz:int
@@ -424,9 +452,13 @@ scheme a + _
 scheme b + +
 scheme c + _
 join j a b c on x=bx=cx bz=cz
-output j
+stream d w:int
+scheme d +
+join k j d on x=w
+output k
 =>
-safe
+2.0 1.0 ;0.0 2.0 ;0.0 1.0 ;
+1.0 ;0.0 ;
 --
 plan 1
 stream a x:int
@@ -468,6 +500,6 @@ output p3
 fn plans_are_judged(rt: HostRuntime) -> Result<(), Fail> {
     assert!(rt; are_told(rt.alloc(), verdicts(), false)?);
     assert!(rt; are_told(rt.alloc(), printed(), true)?);
-    assert!(rt; are_refused(rt.alloc(), refusals())?);
+    assert!(rt; are_judged(rt.alloc(), judgments())?);
     Ok(())
 }

@@ -8,8 +8,8 @@ use Rattle.pj_graph.specs.Sets.{schemes_of}
 
 -- a mark behind a space: a plus, or a low line for a column that is not marked
 abbrev pub mark_text : Bool → List ℕ
-mark_text true = 32 ∷ 43 ∷ []
-mark_text false = 32 ∷ 95 ∷ []
+mark_text true = codes " +"
+mark_text false = codes " _"
 
 -- the name of an input
 abbrev pub name_of : List (List ℕ) → ℕ → List ℕ
@@ -21,12 +21,12 @@ marks_of schemes step = slice_index_or (schemes_of schemes step.input) step.sche
 
 -- a step behind a space: its input and the marks of its scheme
 abbrev pub step_text : List (List (List Bool)) → List (List ℕ) → CertStep → List ℕ
-step_text schemes names step = 32 ∷ name_of names step.input ++ codes " by" ++ flat_map mark_text (marks_of schemes step)
+step_text schemes names step = codes " " ++ name_of names step.input ++ codes " by" ++ flat_map mark_text (marks_of schemes step)
 
 -- more steps, each behind a comma
 abbrev pub more_text : List (List (List Bool)) → List (List ℕ) → List CertStep → List ℕ
 more_text schemes names [] = []
-more_text schemes names (step ∷ steps) = 44 ∷ step_text schemes names step ++ more_text schemes names steps
+more_text schemes names (step ∷ steps) = codes "," ++ step_text schemes names step ++ more_text schemes names steps
 
 -- the steps, parted by commas
 abbrev pub steps_text : List (List (List Bool)) → List (List ℕ) → List CertStep → List ℕ
@@ -36,7 +36,7 @@ steps_text schemes names (step ∷ steps) = step_text schemes names step ++ more
 -- names of inputs, each behind a space
 abbrev pub names_text : List (List ℕ) → List ℕ → List ℕ
 names_text names [] = []
-names_text names (input ∷ inputs) = 32 ∷ name_of names input ++ names_text names inputs
+names_text names (input ∷ inputs) = codes " " ++ name_of names input ++ names_text names inputs
 
 -- what stands before the verdict
 abbrev pub head_text : List ℕ → List ℕ → List ℕ → List ℕ
@@ -51,14 +51,17 @@ whole_text schemes join names input cert =
 abbrev pub missing_text : List ℕ → List ℕ
 missing_text name = codes " cannot reach " ++ name ++ codes "\n"
 
+-- the first line of a stuck input
+abbrev pub unreached_text : List ℕ → List (List ℕ) → ℕ → ℕ → List ℕ
+unreached_text join names input missing = head_text (codes "# unsafe join ") join (name_of names input) ++ missing_text (name_of names missing)
+
 -- the second line of a stuck input
 abbrev pub reached_text : List (List ℕ) → List ℕ → List ℕ
 reached_text names reached = codes "# reached:" ++ names_text names reached ++ codes "\n"
 
 -- both lines of a stuck input
 abbrev pub stuck_text : List ℕ → List (List ℕ) → ℕ → List ℕ → ℕ → List ℕ
-stuck_text join names input reached missing =
-    head_text (codes "# unsafe join ") join (name_of names input) ++ missing_text (name_of names missing) ++ reached_text names reached
+stuck_text join names input reached missing = unreached_text join names input missing ++ reached_text names reached
 
 -- the lines of an input: its certificate, or what it cannot reach and what it reaches
 abbrev pub verdict_of : List (List (List Bool)) → List ℕ → List (List ℕ) → ℕ → Reach → List ℕ

@@ -17,5 +17,5 @@ pub use checks::closed;
 pub use escaping::escape;
 pub use laws::{escaping_is_lawful, fresh_values_are_new};
 pub use partners::partners_text;
-pub use verdicts::verdict_text;
+pub use verdicts::{reached_line, unreached_line, verdict_text};
 pub use verified::verify;

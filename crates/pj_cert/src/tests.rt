@@ -7,7 +7,10 @@ ghost use Rattle.pj_cert.specs.Instances.{constants_of};
 ghost use Rattle.pj_cert.specs.Samples.{MixedRows};
 
 use crate::fresh::{fresh_number, fresh_text};
-use crate::{blank_instances, blank_row, closed, escape, partners_text, verdict_text, verify};
+use crate::{
+    blank_instances, blank_row, closed, escape, partners_text, reached_line, unreached_line,
+    verdict_text, verify,
+};
 use pj_graph::Reach;
 use pj_shape::{Cert, CertStep, ClassCol, Column, Instance, JoinSpec, Schema, Scheme, Schemes};
 use pj_value::{Bytes, Kind, List, NoMemory, Row, SharedText, Value};
@@ -200,6 +203,26 @@ fn verdicts_are_printed(rt: HostRuntime) {
     let unsafe_lines = b"# unsafe join j input a: cannot reach b\n# reached: a c\n".as_slice();
     assert!(rt; matches!(&whole, Ok(text) if text.as_slice() == safe));
     assert!(rt; matches!(&stuck, Ok(text) if text.as_slice() == unsafe_lines));
+}
+
+fn first_line(alloc: Global) -> Result<Bytes, NoMemory> {
+    let names = names(alloc)?;
+    unreached_line(alloc, b"j", names.as_slice(), 0, 1)
+}
+
+fn second_line(alloc: Global) -> Result<Bytes, NoMemory> {
+    let names = names(alloc)?;
+    reached_line(alloc, names.as_slice(), &[0, 2])
+}
+
+#[test]
+fn lines_of_a_stuck_input_are_made(rt: HostRuntime) {
+    let first = first_line(rt.alloc());
+    let second = second_line(rt.alloc());
+    let unreached = b"# unsafe join j input a: cannot reach b\n".as_slice();
+    let reached = b"# reached: a c\n".as_slice();
+    assert!(rt; matches!(&first, Ok(line) if line.as_slice() == unreached));
+    assert!(rt; matches!(&second, Ok(line) if line.as_slice() == reached));
 }
 
 fn first_row(alloc: Global) -> Result<Row, NoMemory>

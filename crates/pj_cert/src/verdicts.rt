@@ -1,8 +1,8 @@
 // What is printed of an input of a join.
-ghost use Rattle.std.specs.Prelude.{◌≡◌, ◌++◌, drop, OnOk, OnErr};
+ghost use Rattle.std.specs.Prelude.{◌≡◌, ◌++◌, drop, IfOk, OnOk, OnErr};
 ghost use Rattle.std.specs.List.{flat_map};
 ghost use Rattle.pj_cert.specs.Verdicts.{mark_text as mark_bytes, name_of as named, marks_of, step_text, steps_text, more_text, names_text};
-ghost use Rattle.pj_cert.specs.Verdicts.{head_text, whole_text, stuck_text, missing_text, reached_text, verdict_of};
+ghost use Rattle.pj_cert.specs.Verdicts.{head_text, whole_text, stuck_text, missing_text, unreached_text, reached_text, verdict_of};
 ghost use Rattle.pj_graph.specs.Sets.{schemes_of};
 
 use pj_graph::Reach;
@@ -29,6 +29,30 @@ pub fn verdict_text(
     append_verdict(schemes, join, names, input, found, &mut text)?;
     out.append(text.as_slice())?;
     Ok(())
+}
+
+/// The first line of a stuck input of the join with this name: `# unsafe join J input I: cannot reach M`, with a line feed.
+pub fn unreached_line(
+    alloc: Global,
+    join: &[u8],
+    names: &[Bytes],
+    input: u32,
+    missing: u32,
+) -> Result<Bytes, NoMemory>
+    ensures { IfOk result (λ line. line ≡ unreached_text join.now names.now input missing) }
+{
+    let mut line = List::new(alloc);
+    append_unreached(join, names, input, missing, &mut line)?;
+    Ok(line)
+}
+
+/// The second line of a stuck input, with the inputs that it reaches: `# reached: I ..`, with a line feed.
+pub fn reached_line(alloc: Global, names: &[Bytes], reached: &[u32]) -> Result<Bytes, NoMemory>
+    ensures { IfOk result (λ line. line ≡ reached_text names.now reached.now) }
+{
+    let mut line = List::new(alloc);
+    append_reached(names, reached, &mut line)?;
+    Ok(line)
 }
 
 fn append_verdict(
@@ -81,9 +105,22 @@ fn append_stuck(
 ) -> Result<(), NoMemory>
     ensures { OnOk result (text.new ≡ text.old ++ stuck_text join.now names.now input reached.now missing) }
 {
+    append_unreached(join, names, input, missing, text)?;
+    append_reached(names, reached, text)?;
+    Ok(())
+}
+
+fn append_unreached(
+    join: &[u8],
+    names: &[Bytes],
+    input: u32,
+    missing: u32,
+    text: &mut List<u8>,
+) -> Result<(), NoMemory>
+    ensures { OnOk result (text.new ≡ text.old ++ unreached_text join.now names.now input missing) }
+{
     append_head(b"# unsafe join ", join, name_of(names, input), text)?;
     append_missing(name_of(names, missing), text)?;
-    append_reached(names, reached, text)?;
     Ok(())
 }
 
@@ -141,7 +178,7 @@ fn append_more(
     ensures { OnOk result (text.new ≡ text.old ++ more_text schemes.now names.now (drop 1 cert.now)) }
 {
     for n in 1..cert.len() {
-        text.push(44)?;
+        text.append(b",")?;
         append_step(schemes, names, *cert.at(n), text)?;
     }
     Ok(())
@@ -155,7 +192,7 @@ fn append_step(
 ) -> Result<(), NoMemory>
     ensures { OnOk result (text.new ≡ text.old ++ step_text schemes.now names.now step) }
 {
-    text.push(32)?;
+    text.append(b" ")?;
     text.append(name_of(names, step.input))?;
     text.append(b" by")?;
     append_scheme(schemes, step, text)?;
@@ -201,7 +238,7 @@ fn append_names(names: &[Bytes], inputs: &[u32], text: &mut List<u8>) -> Result<
     ensures { OnOk result (text.new ≡ text.old ++ names_text names.now inputs.now) }
 {
     for input in inputs {
-        text.push(32)?;
+        text.append(b" ")?;
         text.append(name_of(names, *input))?;
     }
     Ok(())

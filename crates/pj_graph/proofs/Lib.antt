@@ -5,4 +5,5 @@ pub mod Found
 pub mod Certified
 pub mod Told
 pub mod Safe
+pub mod Unique
 pub mod Samples

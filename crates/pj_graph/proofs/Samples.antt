@@ -1,4 +1,4 @@
--- The join of the tests is sound, and its schemes fit it.
+-- The join of the tests is sound, its schemes fit it, and its certificates are those of the tests.
 use Rattle.std.proofs.Common.{◌≡◌, Bool, true, false, List, [], ◌∷◌, length, refl, sym, ap, inl, inr, arith, subst}
 use Rattle.pj_value.specs.declared.values.Kind.TheVariants.{Int}
 use Rattle.pj_shape.specs.declared.joins.ClassCol.{ClassCol}
@@ -6,6 +6,7 @@ use Rattle.pj_value.specs.Lists.{In}
 use Rattle.pj_shape.specs.Sound.{IsSoundSpec, IsSoundClass, IsOfKind}
 use Rattle.pj_graph.specs.Sets.{FitSchemes}
 use Rattle.pj_graph.specs.Samples.{number, pair, pairs, at, firsts, seconds, sample, sample_schemes}
+use Rattle.pj_graph.specs.Saturation.{certificate_of, step_by}
 
 first : IsSoundClass pairs firsts
 first = record {
@@ -89,3 +90,15 @@ sample_fits a b = ((λ marks h. two marks h), ((λ marks h. both marks h), ((λ 
     last : (marks : List Bool) → In marks ((a ∷ b ∷ []) ∷ []) → length marks ≡ 2
     last marks (inl e) = sym (ap length e)
     last marks (inr e) = absurd e
+
+first_certificate : certificate_of sample (sample_schemes true false) 0 ≡ step_by 2 0 ∷ step_by 1 0 ∷ []
+first_certificate = refl
+
+second_certificate : certificate_of sample (sample_schemes true false) 1 ≡ step_by 0 1 ∷ step_by 2 0 ∷ []
+second_certificate = refl
+
+third_certificate : certificate_of sample (sample_schemes true false) 2 ≡ step_by 0 1 ∷ step_by 1 0 ∷ []
+third_certificate = refl
+
+stuck_at_once : certificate_of sample (sample_schemes false true) 0 ≡ []
+stuck_at_once = refl

@@ -1,9 +1,12 @@
--- A law of safe joins.
-use Rattle.std.specs.Prelude.{ℕ, ◌<◌, ◌↔◌, Bool, List, length}
+-- Laws of safe joins and their certificates.
+use Rattle.std.specs.Prelude.{ℕ, ◌<◌, ◌≡◌, ◌↔◌, Bool, List, length}
 use Rattle.pj_shape.specs.declared.joins.CertStep.{CertStep}
 use Rattle.pj_shape.specs.declared.joins.JoinSpec.{JoinSpec}
+use Rattle.pj_graph.specs.declared.answers.Reach.TheVariants.{All}
 use Rattle.pj_graph.specs.Sets.{FitSchemes, IsSafe}
 use Rattle.pj_graph.specs.Certificates.{IsCertificate}
+use Rattle.pj_graph.specs.Reaching.{IsReach}
+use Rattle.pj_graph.specs.Saturation.{certificate_of}
 
 -- every input has a certificate
 abbrev pub AreCertified : JoinSpec → List (List (List Bool)) → Type 0
@@ -13,3 +16,9 @@ AreCertified spec schemes = (input : ℕ) → input < length spec.inputs → (ce
 abbrev pub SafeWhereCertified : Type 0
 SafeWhereCertified =
     (spec : JoinSpec) (schemes : List (List (List Bool))) → FitSchemes spec.inputs schemes → IsSafe spec schemes ↔ AreCertified spec schemes
+
+-- a certificate that answers what an input reaches is the one that the saturation from this input gives
+abbrev pub SaturationsAreTold : Type 0
+SaturationsAreTold =
+    (spec : JoinSpec) (schemes : List (List (List Bool))) (input : ℕ) (cert : List CertStep) → IsReach spec schemes input (All cert)
+    → cert ≡ certificate_of spec schemes input

@@ -2,5 +2,6 @@ pub mod Sets
 pub mod Certificates
 pub mod Reaching
 pub mod Search
+pub mod Saturation
 pub mod Laws
 pub mod Samples

@@ -9,5 +9,5 @@ mod search;
 mod tests;
 
 pub use answers::Reach;
-pub use laws::safe_where_certified;
+pub use laws::{safe_where_certified, saturations_are_told};
 pub use saturation::reach;
