@@ -7,10 +7,9 @@ use Rattle.std.proofs.lemmas.List.{length-map}
 use Rattle.std.proofs.lemmas.List.Quantifiers.{position-Some}
 use Rattle.std.proofs.lemmas.Option.{slice_get_within, get_or_from_slice_get}
 use Rattle.pj_shape.specs.declared.columns.Column.{Column}
-use Rattle.pj_shape.specs.declared.joins.JoinSpec.{JoinSpec}
-use Rattle.pj_laws.specs.Join.{Value, TupleAt, PunctAt, Take, TupleComes, results, agree, product, joined, has, inputs, of_input, upto_from}
+use Rattle.pj_laws.specs.Join.{JoinData, Value, TupleAt, PunctAt, Take, TupleComes, results, agree, product, joined, has, inputs, of_input, upto_from}
 use Rattle.pj_laws.specs.KeptState.{least, without}
-use Rattle.pj_join.specs.Joins.{Found, JoinView, TakesLeast, unswept, after, found_of}
+use Rattle.pj_join.specs.Joins.{Found, JoinView, TakesLeast, after, found_of}
 use Rattle.pj_laws.specs.declared.events.Out.{Out}
 use Rattle.pj_laws.specs.declared.events.Out.TheVariants.{Tuple}
 use Rattle.pj_join.specs.Handed.{JoinProbes, behind_probe, found_out, rows_probed}
@@ -99,38 +98,38 @@ forget-none ts u e = go (ltb (position_or_len (λ t. eqb t u) ts) (length ts)) r
 -- ---- calls
 
 -- a ticket that was taken may be taken out
-pub may-forget : (spec : JoinSpec) (limit next done : ℕ) (log : List TupleAt) (sides : List (List TupleAt)) (taken : List ℕ) → IsOrdered spec limit next done log sides taken → Rise 0 taken (2 ^ 64)
+pub may-forget : (spec : JoinData) (limit next done : ℕ) (log : List TupleAt) (sides : List (List TupleAt)) (taken : List ℕ) → IsOrdered spec limit next done log sides taken → Rise 0 taken (2 ^ 64)
 may-forget spec limit next done log sides taken o =
     rise-to 0 taken next (2 ^ 64) (omega (arith, o.small, o.below)) (rise-front 0 taken (tickets (drop done log)) next o.open_rising)
 
 -- one more ticket can be counted
-pub done-fits : (spec : JoinSpec) (limit next done : ℕ) (log : List TupleAt) (sides : List (List TupleAt)) (taken : List ℕ) → IsOrdered spec limit next done log sides taken → done < 2 ^ 40 + 1
+pub done-fits : (spec : JoinData) (limit next done : ℕ) (log : List TupleAt) (sides : List (List TupleAt)) (taken : List ℕ) → IsOrdered spec limit next done log sides taken → done < 2 ^ 40 + 1
 done-fits spec limit next done log sides taken o =
     omega (arith, o.small, o.below, o.within, rise-length 0 (tickets log) next o.rising, length-map log (λ (x : TupleAt). x.ticket))
 
-pub several : (spec : JoinSpec) (limit next done : ℕ) (log : List TupleAt) (sides : List (List TupleAt)) (taken : List ℕ) → IsOrdered spec limit next done log sides taken → 1 < inputs (unswept spec)
-several spec limit next done log sides taken o = omega (arith, o.sound.few_inputs.0, length-map spec.inputs (λ (schema : List Column). length schema))
+pub several : (spec : JoinData) (limit next done : ℕ) (log : List TupleAt) (sides : List (List TupleAt)) (taken : List ℕ) → IsOrdered spec limit next done log sides taken → 1 < inputs spec
+several spec limit next done log sides taken o = omega (arith, o.sound.few_inputs.0, length-map spec.shape.inputs (λ (schema : List Column). length schema))
 
 -- what the choices of a ticket give is what its work finds
-pub probe-finds : (node : ℕ) (spec : JoinSpec) (limit next done : ℕ) (log : List TupleAt) (sides : List (List TupleAt)) (puncts : List PunctAt) (taken : List ℕ) (x : TupleAt)
+pub probe-finds : (node : ℕ) (spec : JoinData) (limit next done : ℕ) (log : List TupleAt) (sides : List (List TupleAt)) (puncts waiting : List PunctAt) (taken : List ℕ) (x : TupleAt)
     → IsOrdered spec limit next done log sides taken → Some x ≡ slice_get log done
-    → record { join = node; ticket = x.ticket; rows = map joined (filter (agree spec.classes) (product (choices spec.classes x sides))) } ≡ found_of (seen (made_with node spec limit) next done log puncts taken) x.ticket
-probe-finds node spec limit next done log sides puncts taken x o here =
-    ap the_found (subst (λ (y : TupleAt). map joined (filter (agree spec.classes) (product (choices spec.classes y sides))) ≡ map joined (results (unswept spec) log log y.ticket))
+    → record { join = node; ticket = x.ticket; rows = map joined (filter (agree spec.shape.classes) (product (choices spec.shape.classes x sides))) } ≡ found_of (seen (made_with node spec limit) next done log puncts waiting taken) x.ticket
+probe-finds node spec limit next done log sides puncts waiting taken x o here =
+    ap the_found (subst (λ (y : TupleAt). map joined (filter (agree spec.shape.classes) (product (choices spec.shape.classes y sides))) ≡ map joined (results spec log log y.ticket))
     (get_or_from_slice_get log done x x (sym here)) (choices-results spec limit next done log sides taken x o (slice_get_within log done x (sym here))))
   where
     the_found : List (List Value) → Found
     the_found rs = record { join = node; ticket = x.ticket; rows = rs }
 
 -- what a take leaves and finds
-pub takes-least : (node : ℕ) (spec : JoinSpec) (limit next done : ℕ) (log : List TupleAt) (sides : List (List TupleAt)) (puncts : List PunctAt) (taken : List ℕ) (x : TupleAt) (found : Found)
+pub takes-least : (node : ℕ) (spec : JoinData) (limit next done : ℕ) (log : List TupleAt) (sides : List (List TupleAt)) (puncts waiting : List PunctAt) (taken : List ℕ) (x : TupleAt) (found : Found)
     → IsOrdered spec limit next done log sides taken → done < length log → get_or log done x ≡ x
-    → found ≡ record { join = node; ticket = x.ticket; rows = map joined (filter (agree spec.classes) (product (choices spec.classes x sides))) }
-    → TakesLeast (seen (made_with node spec limit) next done log puncts taken) (seen (made_with node spec limit) next (done + 1) log puncts (taken ++ found.ticket ∷ [])) found
-takes-least node spec limit next done log sides puncts taken x found o lt here is = subst (λ (f : Found). TakesLeast (seen (made_with node spec limit) next done log puncts taken) (seen (made_with node spec limit) next (done + 1) log puncts (taken ++ f.ticket ∷ [])) f) (sym (is ∙ rows)) main
+    → found ≡ record { join = node; ticket = x.ticket; rows = map joined (filter (agree spec.shape.classes) (product (choices spec.shape.classes x sides))) }
+    → TakesLeast (seen (made_with node spec limit) next done log puncts waiting taken) (seen (made_with node spec limit) next (done + 1) log puncts waiting (taken ++ found.ticket ∷ [])) found
+takes-least node spec limit next done log sides puncts waiting taken x found o lt here is = subst (λ (f : Found). TakesLeast (seen (made_with node spec limit) next done log puncts waiting taken) (seen (made_with node spec limit) next (done + 1) log puncts waiting (taken ++ f.ticket ∷ [])) f) (sym (is ∙ rows)) main
   where
-    rows : record { join = node; ticket = x.ticket; rows = map joined (filter (agree spec.classes) (product (choices spec.classes x sides))) } ≡ found_of (seen (made_with node spec limit) next done log puncts taken) x.ticket
-    rows = ap (λ (rs : List (List Value)). the_found rs) (subst (λ (y : TupleAt). map joined (filter (agree spec.classes) (product (choices spec.classes y sides))) ≡ map joined (results (unswept spec) log log y.ticket)) here (choices-results spec limit next done log sides taken x o lt))
+    rows : record { join = node; ticket = x.ticket; rows = map joined (filter (agree spec.shape.classes) (product (choices spec.shape.classes x sides))) } ≡ found_of (seen (made_with node spec limit) next done log puncts waiting taken) x.ticket
+    rows = ap (λ (rs : List (List Value)). the_found rs) (subst (λ (y : TupleAt). map joined (filter (agree spec.shape.classes) (product (choices spec.shape.classes y sides))) ≡ map joined (results spec log log y.ticket)) here (choices-results spec limit next done log sides taken x o lt))
       where
         the_found : List (List Value) → Found
         the_found rs = record { join = node; ticket = x.ticket; rows = rs }
@@ -138,35 +137,35 @@ takes-least node spec limit next done log sides puncts taken x found o lt here i
     first : IsTakenFirst taken done log x.ticket
     first = subst (λ (y : TupleAt). IsTakenFirst taken done log y.ticket) here (taken-first next done log taken x o.open_rising lt)
 
-    main : TakesLeast (seen (made_with node spec limit) next done log puncts taken) (seen (made_with node spec limit) next (done + 1) log puncts (taken ++ x.ticket ∷ [])) (found_of (seen (made_with node spec limit) next done log puncts taken) x.ticket)
+    main : TakesLeast (seen (made_with node spec limit) next done log puncts waiting taken) (seen (made_with node spec limit) next (done + 1) log puncts waiting (taken ++ x.ticket ∷ [])) (found_of (seen (made_with node spec limit) next done log puncts waiting taken) x.ticket)
     main = record {
       pending = first.pending;
       least = first.least;
       finds = refl;
-      changes = subst (λ (y : TupleAt). seen (made_with node spec limit) next (done + 1) log puncts (taken ++ y.ticket ∷ []) ≡ after (seen (made_with node spec limit) next done log puncts taken) (Take y.ticket)) here (seen-take node spec limit next done log puncts taken x o.open_rising lt);
+      changes = subst (λ (y : TupleAt). seen (made_with node spec limit) next (done + 1) log puncts waiting (taken ++ y.ticket ∷ []) ≡ after (seen (made_with node spec limit) next done log puncts waiting taken) (Take y.ticket)) here (seen-take node spec limit next done log puncts waiting taken x o.open_rising lt);
       taken = (first.opened, first.gone);
     }
 
 -- a tuple is kept
-pub tuple-keeps : (node : ℕ) (spec : JoinSpec) (limit next done : ℕ) (log more : List TupleAt) (puncts : List PunctAt) (taken : List ℕ) (input : ℕ) (row : List Value) (x : TupleAt)
+pub tuple-keeps : (node : ℕ) (spec : JoinData) (limit next done : ℕ) (log more : List TupleAt) (puncts waiting : List PunctAt) (taken : List ℕ) (input : ℕ) (row : List Value) (x : TupleAt)
     → done ≤ length log → x ≡ record { ticket = next; input = input; row = row } → more ≡ log ++ x ∷ []
-    → seen (made_with node spec limit) (next + 1) done more puncts taken ≡ after (seen (made_with node spec limit) next done log puncts taken) (TupleComes input row)
-tuple-keeps node spec limit next done log more puncts taken input row x le e m =
-    ap (λ (l : List TupleAt). seen (made_with node spec limit) (next + 1) done l puncts taken) (m ∙ ap (λ (y : TupleAt). log ++ y ∷ []) e)
-    ∙ seen-tuple node spec limit next done log puncts taken input row le
+    → seen (made_with node spec limit) (next + 1) done more puncts waiting taken ≡ after (seen (made_with node spec limit) next done log puncts waiting taken) (TupleComes input row)
+tuple-keeps node spec limit next done log more puncts waiting taken input row x le e m =
+    ap (λ (l : List TupleAt). seen (made_with node spec limit) (next + 1) done l puncts waiting taken) (m ∙ ap (λ (y : TupleAt). log ++ y ∷ []) e)
+    ∙ seen-tuple node spec limit next done log puncts waiting taken input row le
 
-pub tuple-ordered : (spec : JoinSpec) (limit next done : ℕ) (log more : List TupleAt) (sides all : List (List TupleAt)) (taken : List ℕ) (input : ℕ) (row : List Value) (x : TupleAt)
-    → IsOrdered spec limit next done log sides taken → (next ≡ limit → ⊥) → input < inputs (unswept spec) → x ≡ record { ticket = next; input = input; row = row } → more ≡ log ++ x ∷ []
+pub tuple-ordered : (spec : JoinData) (limit next done : ℕ) (log more : List TupleAt) (sides all : List (List TupleAt)) (taken : List ℕ) (input : ℕ) (row : List Value) (x : TupleAt)
+    → IsOrdered spec limit next done log sides taken → (next ≡ limit → ⊥) → input < inputs spec → x ≡ record { ticket = next; input = input; row = row } → more ≡ log ++ x ∷ []
     → all ≡ set sides input (get_or sides input [] ++ x ∷ []) → IsOrdered spec limit (next + 1) done more all taken
 tuple-ordered spec limit next done log more sides all taken input row x o ne lt e m s =
     subst (λ (l : List TupleAt). IsOrdered spec limit (next + 1) done l all taken) (sym (m ∙ ap (λ (y : TupleAt). log ++ y ∷ []) e))
     (subst (λ (a : List (List TupleAt)). IsOrdered spec limit (next + 1) done (log ++ record { ticket = next; input = input; row = row } ∷ []) a taken) (sym (s ∙ ap (λ (y : TupleAt). set sides input (get_or sides input [] ++ y ∷ [])) e))
-    (ordered-tuple spec limit next done log sides taken (record { ticket = next; input = input; row = row }) o o.below ne refl (omega (arith, lt, length-map spec.inputs (λ (schema : List Column). length schema)))))
+    (ordered-tuple spec limit next done log sides taken (record { ticket = next; input = input; row = row }) o o.below ne refl (omega (arith, lt, length-map spec.shape.inputs (λ (schema : List Column). length schema)))))
 
 -- an input has its side
-pub has-side : (spec : JoinSpec) (limit next done : ℕ) (log : List TupleAt) (sides : List (List TupleAt)) (taken : List ℕ) (input : ℕ) → IsOrdered spec limit next done log sides taken → input < inputs (unswept spec) → input < length sides
+pub has-side : (spec : JoinData) (limit next done : ℕ) (log : List TupleAt) (sides : List (List TupleAt)) (taken : List ℕ) (input : ℕ) → IsOrdered spec limit next done log sides taken → input < inputs spec → input < length sides
 has-side spec limit next done log sides taken input o lt =
-    omega (arith, lt, length-map spec.inputs (λ (schema : List Column). length schema), length-upto 0 (length spec.inputs), length-map (upto_from 0 (length spec.inputs)) (λ k. of_input k log), ap (λ (s : List (List TupleAt)). length s) o.by_input)
+    omega (arith, lt, length-map spec.shape.inputs (λ (schema : List Column). length schema), length-upto 0 (length spec.shape.inputs), length-map (upto_from 0 (length spec.shape.inputs)) (λ k. of_input k log), ap (λ (s : List (List TupleAt)). length s) o.by_input)
 
 pub same-at : {A : Type 0} (xs : List A) (i : ℕ) (d e : A) → i < length xs → get_or xs i d ≡ get_or xs i e
 same-at [] i d e lt = absurd (omega (arith, lt))
@@ -174,7 +173,7 @@ same-at (x ∷ xs) zero d e lt = refl
 same-at (x ∷ xs) (suc i) d e lt = same-at xs i d e (omega (arith, lt))
 
 -- a ticket is taken
-pub take-ordered : (node : ℕ) (spec : JoinSpec) (limit next done : ℕ) (log : List TupleAt) (sides : List (List TupleAt)) (taken new : List ℕ) (x : TupleAt) (found : Found) (rows : List (List Value)) (t : ℕ)
+pub take-ordered : (node : ℕ) (spec : JoinData) (limit next done : ℕ) (log : List TupleAt) (sides : List (List TupleAt)) (taken new : List ℕ) (x : TupleAt) (found : Found) (rows : List (List Value)) (t : ℕ)
     → IsOrdered spec limit next done log sides taken → Some x ≡ slice_get log done → found ≡ record { join = node; ticket = x.ticket; rows = rows } → t ≡ found.ticket → new ≡ taken ++ t ∷ []
     → IsOrdered spec limit next (done + 1) log sides new
 take-ordered node spec limit next done log sides taken new x found rows t o here is e n =
@@ -182,16 +181,16 @@ take-ordered node spec limit next done log sides taken new x found rows t o here
     (ordered-take spec limit next done log sides taken x o (slice_get_within log done x (sym here)))
 
 -- a ticket is taken, worked on and given at once
-pub probe-ordered : (spec : JoinSpec) (limit next done : ℕ) (log : List TupleAt) (sides : List (List TupleAt)) (taken : List ℕ) (x : TupleAt)
+pub probe-ordered : (spec : JoinData) (limit next done : ℕ) (log : List TupleAt) (sides : List (List TupleAt)) (taken : List ℕ) (x : TupleAt)
     → IsOrdered spec limit next done log sides taken → Some x ≡ slice_get log done → IsOrdered spec limit next (done + 1) log sides taken
 probe-ordered spec limit next done log sides taken x o here = ordered-probe spec limit next done log sides taken x o (slice_get_within log done x (sym here))
 
-probe-does : (node : ℕ) (spec : JoinSpec) (limit next done : ℕ) (log : List TupleAt) (sides : List (List TupleAt)) (puncts : List PunctAt) (taken : List ℕ) (x : TupleAt)
+probe-does : (node : ℕ) (spec : JoinData) (limit next done : ℕ) (log : List TupleAt) (sides : List (List TupleAt)) (puncts waiting : List PunctAt) (taken : List ℕ) (x : TupleAt)
     → IsOrdered spec limit next done log sides taken → Some x ≡ slice_get log done
-    → JoinProbes (seen (made_with node spec limit) next done log puncts taken) (seen (made_with node spec limit) next (done + 1) log puncts taken) (Some x.ticket)
-probe-does node spec limit next done log sides puncts taken x o here = (
+    → JoinProbes (seen (made_with node spec limit) next done log puncts waiting taken) (seen (made_with node spec limit) next (done + 1) log puncts waiting taken) (Some x.ticket)
+probe-does node spec limit next done log sides puncts waiting taken x o here = (
   least,
-  subst (λ (y : TupleAt). seen (made_with node spec limit) next (done + 1) log puncts taken ≡ behind_probe (seen (made_with node spec limit) next done log puncts taken) y.ticket) at (seen-probe node spec limit next done log puncts taken x o.open_rising lt),
+  subst (λ (y : TupleAt). seen (made_with node spec limit) next (done + 1) log puncts waiting taken ≡ behind_probe (seen (made_with node spec limit) next done log puncts waiting taken) y.ticket) at (seen-probe node spec limit next done log puncts waiting taken x o.open_rising lt),
 )
   where
     lt : done < length log
@@ -201,38 +200,38 @@ probe-does node spec limit next done log sides puncts taken x o here = (
     at = get_or_from_slice_get log done x x (sym here)
 
     rows : List (List Value)
-    rows = map joined (filter (agree spec.classes) (product (choices spec.classes x sides)))
+    rows = map joined (filter (agree spec.shape.classes) (product (choices spec.shape.classes x sides)))
 
-    is : record { join = node; ticket = x.ticket; rows = rows } ≡ found_of (seen (made_with node spec limit) next done log puncts taken) x.ticket
-    is = probe-finds node spec limit next done log sides puncts taken x o here
+    is : record { join = node; ticket = x.ticket; rows = rows } ≡ found_of (seen (made_with node spec limit) next done log puncts waiting taken) x.ticket
+    is = probe-finds node spec limit next done log sides puncts waiting taken x o here
 
-    first : TakesLeast (seen (made_with node spec limit) next done log puncts taken) (seen (made_with node spec limit) next (done + 1) log puncts (taken ++ x.ticket ∷ [])) (record { join = node; ticket = x.ticket; rows = rows })
-    first = takes-least node spec limit next done log sides puncts taken x (record { join = node; ticket = x.ticket; rows = rows }) o lt at refl
+    first : TakesLeast (seen (made_with node spec limit) next done log puncts waiting taken) (seen (made_with node spec limit) next (done + 1) log puncts waiting (taken ++ x.ticket ∷ [])) (record { join = node; ticket = x.ticket; rows = rows })
+    first = takes-least node spec limit next done log sides puncts waiting taken x (record { join = node; ticket = x.ticket; rows = rows }) o lt at refl
 
-    least : TakesLeast (seen (made_with node spec limit) next done log puncts taken) (after (seen (made_with node spec limit) next done log puncts taken) (Take x.ticket)) (found_of (seen (made_with node spec limit) next done log puncts taken) x.ticket)
-    least = subst (λ (f : Found). TakesLeast (seen (made_with node spec limit) next done log puncts taken) (after (seen (made_with node spec limit) next done log puncts taken) (Take x.ticket)) f) is
-        (subst (λ (v : JoinView). TakesLeast (seen (made_with node spec limit) next done log puncts taken) v (record { join = node; ticket = x.ticket; rows = rows })) first.changes first)
+    least : TakesLeast (seen (made_with node spec limit) next done log puncts waiting taken) (after (seen (made_with node spec limit) next done log puncts waiting taken) (Take x.ticket)) (found_of (seen (made_with node spec limit) next done log puncts waiting taken) x.ticket)
+    least = subst (λ (f : Found). TakesLeast (seen (made_with node spec limit) next done log puncts waiting taken) (after (seen (made_with node spec limit) next done log puncts waiting taken) (Take x.ticket)) f) is
+        (subst (λ (v : JoinView). TakesLeast (seen (made_with node spec limit) next done log puncts waiting taken) v (record { join = node; ticket = x.ticket; rows = rows })) first.changes first)
 
-pub probe-does-at : (node : ℕ) (spec : JoinSpec) (limit next done : ℕ) (log : List TupleAt) (sides : List (List TupleAt)) (puncts : List PunctAt) (taken : List ℕ) (x : TupleAt)
-    → IsOrdered spec limit next done log sides taken → Some x ≡ slice_get log done → (old : JoinView) → seen (made_with node spec limit) next done log puncts taken ≡ old → (u : ℕ) → u ≡ x.ticket
-    → JoinProbes old (seen (made_with node spec limit) next (done + 1) log puncts taken) (Some u)
-probe-does-at node spec limit next done log sides puncts taken x o here old is u e =
-    subst (λ (v : JoinView). JoinProbes v (seen (made_with node spec limit) next (done + 1) log puncts taken) (Some u)) is
-    (subst (λ (n : ℕ). JoinProbes (seen (made_with node spec limit) next done log puncts taken) (seen (made_with node spec limit) next (done + 1) log puncts taken) (Some n)) (sym e)
-    (probe-does node spec limit next done log sides puncts taken x o here))
+pub probe-does-at : (node : ℕ) (spec : JoinData) (limit next done : ℕ) (log : List TupleAt) (sides : List (List TupleAt)) (puncts waiting : List PunctAt) (taken : List ℕ) (x : TupleAt)
+    → IsOrdered spec limit next done log sides taken → Some x ≡ slice_get log done → (old : JoinView) → seen (made_with node spec limit) next done log puncts waiting taken ≡ old → (u : ℕ) → u ≡ x.ticket
+    → JoinProbes old (seen (made_with node spec limit) next (done + 1) log puncts waiting taken) (Some u)
+probe-does-at node spec limit next done log sides puncts waiting taken x o here old is u e =
+    subst (λ (v : JoinView). JoinProbes v (seen (made_with node spec limit) next (done + 1) log puncts waiting taken) (Some u)) is
+    (subst (λ (n : ℕ). JoinProbes (seen (made_with node spec limit) next done log puncts waiting taken) (seen (made_with node spec limit) next (done + 1) log puncts waiting taken) (Some n)) (sym e)
+    (probe-does node spec limit next done log sides puncts waiting taken x o here))
 
-pub probe-hands : (node : ℕ) (spec : JoinSpec) (limit next done : ℕ) (log : List TupleAt) (sides : List (List TupleAt)) (puncts : List PunctAt) (taken : List ℕ) (x : TupleAt)
-    → IsOrdered spec limit next done log sides taken → Some x ≡ slice_get log done → (old : JoinView) → seen (made_with node spec limit) next done log puncts taken ≡ old → (u : ℕ) → u ≡ x.ticket
-    → (before behind : List Out) → behind ≡ before ++ found_out spec.classes x sides → behind ≡ before ++ map Tuple (rows_probed old (Some u))
-probe-hands node spec limit next done log sides puncts taken x o here old is u e before behind hands =
-    hands ∙ ap (λ (f : Found). before ++ map Tuple f.rows) (probe-finds node spec limit next done log sides puncts taken x o here)
-    ∙ ap (λ (n : ℕ). before ++ map Tuple (rows_probed (seen (made_with node spec limit) next done log puncts taken) (Some n))) (sym e)
+pub probe-hands : (node : ℕ) (spec : JoinData) (limit next done : ℕ) (log : List TupleAt) (sides : List (List TupleAt)) (puncts waiting : List PunctAt) (taken : List ℕ) (x : TupleAt)
+    → IsOrdered spec limit next done log sides taken → Some x ≡ slice_get log done → (old : JoinView) → seen (made_with node spec limit) next done log puncts waiting taken ≡ old → (u : ℕ) → u ≡ x.ticket
+    → (before behind : List Out) → behind ≡ before ++ found_out spec.shape.classes x sides → behind ≡ before ++ map Tuple (rows_probed old (Some u))
+probe-hands node spec limit next done log sides puncts waiting taken x o here old is u e before behind hands =
+    hands ∙ ap (λ (f : Found). before ++ map Tuple f.rows) (probe-finds node spec limit next done log sides puncts waiting taken x o here)
+    ∙ ap (λ (n : ℕ). before ++ map Tuple (rows_probed (seen (made_with node spec limit) next done log puncts waiting taken) (Some n))) (sym e)
     ∙ ap (λ (v : JoinView). before ++ map Tuple (rows_probed v (Some u))) is
 
-pub take-finds : (node : ℕ) (spec : JoinSpec) (limit next done : ℕ) (log : List TupleAt) (sides : List (List TupleAt)) (puncts : List PunctAt) (taken new : List ℕ) (x : TupleAt) (found : Found) (t : ℕ)
+pub take-finds : (node : ℕ) (spec : JoinData) (limit next done : ℕ) (log : List TupleAt) (sides : List (List TupleAt)) (puncts waiting : List PunctAt) (taken new : List ℕ) (x : TupleAt) (found : Found) (t : ℕ)
     → IsOrdered spec limit next done log sides taken → Some x ≡ slice_get log done
-    → found ≡ record { join = node; ticket = x.ticket; rows = map joined (filter (agree spec.classes) (product (choices spec.classes x sides))) } → t ≡ found.ticket → new ≡ taken ++ t ∷ []
-    → TakesLeast (seen (made_with node spec limit) next done log puncts taken) (seen (made_with node spec limit) next (done + 1) log puncts new) found
-take-finds node spec limit next done log sides puncts taken new x found t o here is e n =
-    subst (λ ts. TakesLeast (seen (made_with node spec limit) next done log puncts taken) (seen (made_with node spec limit) next (done + 1) log puncts ts) found) (sym (n ∙ ap (λ u. taken ++ u ∷ []) e))
-    (takes-least node spec limit next done log sides puncts taken x found o (slice_get_within log done x (sym here)) (get_or_from_slice_get log done x x (sym here)) is)
+    → found ≡ record { join = node; ticket = x.ticket; rows = map joined (filter (agree spec.shape.classes) (product (choices spec.shape.classes x sides))) } → t ≡ found.ticket → new ≡ taken ++ t ∷ []
+    → TakesLeast (seen (made_with node spec limit) next done log puncts waiting taken) (seen (made_with node spec limit) next (done + 1) log puncts waiting new) found
+take-finds node spec limit next done log sides puncts waiting taken new x found t o here is e n =
+    subst (λ ts. TakesLeast (seen (made_with node spec limit) next done log puncts waiting taken) (seen (made_with node spec limit) next (done + 1) log puncts waiting ts) found) (sym (n ∙ ap (λ u. taken ++ u ∷ []) e))
+    (takes-least node spec limit next done log sides puncts waiting taken x found o (slice_get_within log done x (sym here)) (get_or_from_slice_get log done x x (sym here)) is)

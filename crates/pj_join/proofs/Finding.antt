@@ -3,9 +3,7 @@ use Rattle.std.proofs.Common.{ℕ, zero, suc, ◌+◌, ◌<◌, ◌≤◌, Bool,
 use Rattle.std.specs.List.{list_all}
 use Rattle.std.proofs.lemmas.Bool.{eqb-true, eq-eqb, false≢true, or_right}
 use Rattle.std.proofs.lemmas.List.{length-map}
-use Rattle.pj_shape.specs.declared.joins.JoinSpec.{JoinSpec}
-use Rattle.pj_laws.specs.Join.{In, TupleAt, ClassCol, agree, product, joined, of_input, older, upto_from, candidates, combinations, results}
-use Rattle.pj_join.specs.Joins.{unswept}
+use Rattle.pj_laws.specs.Join.{In, JoinData, TupleAt, ClassCol, agree, product, joined, of_input, older, upto_from, candidates, combinations, results}
 use Rattle.pj_join.specs.Walks.{suits, choice, choices}
 use Rattle.pj_join.specs.Insides.{IsOrdered}
 use Rattle.pj_value.proofs.Members.{In-flat_map, In-map, all_from, filter-agree, filter-filter}
@@ -84,49 +82,49 @@ choice-candidates classes x log sides k e = go (eqb k x.input) refl
         ∙ ap (filter (λ y. ltb y.ticket x.ticket && suits classes (x ∷ []) y)) (sym e)
 
 -- the combinations of the choices that join are those of all candidates
-choices-combinations : (spec : JoinSpec) (x : TupleAt) (log : List TupleAt) (sides : List (List TupleAt)) → x.input < length spec.inputs → sides ≡ map (λ k. of_input k log) (upto_from 0 (length spec.inputs))
-    → filter (agree spec.classes) (product (choices spec.classes x sides)) ≡ filter (agree spec.classes) (product (map (candidates x log) (upto_from 0 (length spec.inputs))))
+choices-combinations : (spec : JoinData) (x : TupleAt) (log : List TupleAt) (sides : List (List TupleAt)) → x.input < length spec.shape.inputs → sides ≡ map (λ k. of_input k log) (upto_from 0 (length spec.shape.inputs))
+    → filter (agree spec.shape.classes) (product (choices spec.shape.classes x sides)) ≡ filter (agree spec.shape.classes) (product (map (candidates x log) (upto_from 0 (length spec.shape.inputs))))
 choices-combinations spec x log sides lt e =
-    ap (λ m. filter (agree spec.classes) (product (map (choice spec.classes x sides) (upto_from 0 m)))) count
-    ∙ sym (own-first (choice spec.classes x sides) own-choice)
-    ∙ ap (λ (lists : List (List TupleAt)). filter (λ c. agree spec.classes (x ∷ c)) (product lists)) (sym filtered)
-    ∙ sym (product-filter (λ y. eqb y.input x.input || suits spec.classes (x ∷ []) y) (λ c. agree spec.classes (x ∷ c)) (map (candidates x log) (upto_from 0 (length spec.inputs))) all-pass)
+    ap (λ m. filter (agree spec.shape.classes) (product (map (choice spec.shape.classes x sides) (upto_from 0 m)))) count
+    ∙ sym (own-first (choice spec.shape.classes x sides) own-choice)
+    ∙ ap (λ (lists : List (List TupleAt)). filter (λ c. agree spec.shape.classes (x ∷ c)) (product lists)) (sym filtered)
+    ∙ sym (product-filter (λ y. eqb y.input x.input || suits spec.shape.classes (x ∷ []) y) (λ c. agree spec.shape.classes (x ∷ c)) (map (candidates x log) (upto_from 0 (length spec.shape.inputs))) all-pass)
     ∙ own-first (candidates x log) own-candidate
   where
-    count : length sides ≡ length spec.inputs
-    count = ap (λ (s : List (List TupleAt)). length s) e ∙ length-map (upto_from 0 (length spec.inputs)) (λ k. of_input k log) ∙ length-upto 0 (length spec.inputs)
+    count : length sides ≡ length spec.shape.inputs
+    count = ap (λ (s : List (List TupleAt)). length s) e ∙ length-map (upto_from 0 (length spec.shape.inputs)) (λ k. of_input k log) ∙ length-upto 0 (length spec.shape.inputs)
 
-    own-choice : choice spec.classes x sides x.input ≡ x ∷ []
-    own-choice = ap (λ b. cond b (x ∷ []) (filter (λ y. ltb y.ticket x.ticket && suits spec.classes (x ∷ []) y) (get_or sides x.input []))) (eq-eqb x.input x.input refl)
+    own-choice : choice spec.shape.classes x sides x.input ≡ x ∷ []
+    own-choice = ap (λ b. cond b (x ∷ []) (filter (λ y. ltb y.ticket x.ticket && suits spec.shape.classes (x ∷ []) y) (get_or sides x.input []))) (eq-eqb x.input x.input refl)
 
     own-candidate : candidates x log x.input ≡ x ∷ []
     own-candidate = ap (λ b. cond b (x ∷ []) (of_input x.input (older x.ticket log))) (eq-eqb x.input x.input refl)
 
-    own-first : (f : ℕ → List TupleAt) → f x.input ≡ x ∷ [] → filter (λ c. agree spec.classes (x ∷ c)) (product (map f (upto_from 0 (length spec.inputs)))) ≡ filter (agree spec.classes) (product (map f (upto_from 0 (length spec.inputs))))
+    own-first : (f : ℕ → List TupleAt) → f x.input ≡ x ∷ [] → filter (λ c. agree spec.shape.classes (x ∷ c)) (product (map f (upto_from 0 (length spec.shape.inputs)))) ≡ filter (agree spec.shape.classes) (product (map f (upto_from 0 (length spec.shape.inputs))))
     own-first f own =
-        filter-agree (λ c. agree spec.classes (x ∷ c)) (agree spec.classes) (product (map f (upto_from 0 (length spec.inputs)))) (λ c h.
-        agree-own spec.classes x c (product-has x f x.input 0 (length spec.inputs) own (omega arith) (omega (arith, lt)) c h))
+        filter-agree (λ c. agree spec.shape.classes (x ∷ c)) (agree spec.shape.classes) (product (map f (upto_from 0 (length spec.shape.inputs)))) (λ c h.
+        agree-own spec.shape.classes x c (product-has x f x.input 0 (length spec.shape.inputs) own (omega arith) (omega (arith, lt)) c h))
 
-    side-at : (k : ℕ) → k < 0 + length spec.inputs → get_or sides k [] ≡ of_input k log
-    side-at k l = ap (λ (s : List (List TupleAt)). get_or s k []) e ∙ get_or-upto (λ i. of_input i log) 0 (length spec.inputs) k [] (omega (arith, l)) ∙ ap (λ i. of_input i log) (omega arith)
+    side-at : (k : ℕ) → k < 0 + length spec.shape.inputs → get_or sides k [] ≡ of_input k log
+    side-at k l = ap (λ (s : List (List TupleAt)). get_or s k []) e ∙ get_or-upto (λ i. of_input i log) 0 (length spec.shape.inputs) k [] (omega (arith, l)) ∙ ap (λ i. of_input i log) (omega arith)
 
-    filtered : map (filter (λ y. eqb y.input x.input || suits spec.classes (x ∷ []) y)) (map (candidates x log) (upto_from 0 (length spec.inputs))) ≡ map (choice spec.classes x sides) (upto_from 0 (length spec.inputs))
+    filtered : map (filter (λ y. eqb y.input x.input || suits spec.shape.classes (x ∷ []) y)) (map (candidates x log) (upto_from 0 (length spec.shape.inputs))) ≡ map (choice spec.shape.classes x sides) (upto_from 0 (length spec.shape.inputs))
     filtered =
-        map-map_upto (filter (λ y. eqb y.input x.input || suits spec.classes (x ∷ []) y)) (candidates x log) 0 (length spec.inputs)
-        ∙ map-upto (λ k. filter (λ y. eqb y.input x.input || suits spec.classes (x ∷ []) y) (candidates x log k)) (choice spec.classes x sides) 0 (length spec.inputs) (λ k l. choice-candidates spec.classes x log sides k (side-at k l))
+        map-map_upto (filter (λ y. eqb y.input x.input || suits spec.shape.classes (x ∷ []) y)) (candidates x log) 0 (length spec.shape.inputs)
+        ∙ map-upto (λ k. filter (λ y. eqb y.input x.input || suits spec.shape.classes (x ∷ []) y) (candidates x log k)) (choice spec.shape.classes x sides) 0 (length spec.shape.inputs) (λ k l. choice-candidates spec.shape.classes x log sides k (side-at k l))
 
-    all-pass : (c : List TupleAt) → agree spec.classes (x ∷ c) ≡ true → list_all (λ y. eqb y.input x.input || suits spec.classes (x ∷ []) y) c ≡ true
-    all-pass c t = all_from (λ y. eqb y.input x.input || suits spec.classes (x ∷ []) y) c (λ y h. or_right (eqb y.input x.input) (suits spec.classes (x ∷ []) y) (pair-suits spec.classes (x ∷ c) x y t (inl refl) (inr h)))
+    all-pass : (c : List TupleAt) → agree spec.shape.classes (x ∷ c) ≡ true → list_all (λ y. eqb y.input x.input || suits spec.shape.classes (x ∷ []) y) c ≡ true
+    all-pass c t = all_from (λ y. eqb y.input x.input || suits spec.shape.classes (x ∷ []) y) c (λ y h. or_right (eqb y.input x.input) (suits spec.shape.classes (x ∷ []) y) (pair-suits spec.shape.classes (x ∷ c) x y t (inl refl) (inr h)))
 
 -- what a tuple's choices give is the results of its ticket
-pub choices-results : (spec : JoinSpec) (limit next done : ℕ) (log : List TupleAt) (sides : List (List TupleAt)) (taken : List ℕ) (d : TupleAt) → IsOrdered spec limit next done log sides taken → done < length log
-    → map joined (filter (agree spec.classes) (product (choices spec.classes (get_or log done d) sides))) ≡ map joined (results (unswept spec) log log (get_or log done d).ticket)
+pub choices-results : (spec : JoinData) (limit next done : ℕ) (log : List TupleAt) (sides : List (List TupleAt)) (taken : List ℕ) (d : TupleAt) → IsOrdered spec limit next done log sides taken → done < length log
+    → map joined (filter (agree spec.shape.classes) (product (choices spec.shape.classes (get_or log done d) sides))) ≡ map joined (results spec log log (get_or log done d).ticket)
 choices-results spec limit next done log sides taken d o lt =
     ap (map joined) (
     choices-combinations spec (get_or log done d) log sides (o.placed (get_or log done d) (get_or-in log done d lt)) o.by_input
-    ∙ ap (λ m. filter (agree spec.classes) (product (map (candidates (get_or log done d) log) (upto_from 0 m)))) (sym (length-map spec.inputs (λ (schema : List _). length schema)))
-    ∙ sym (append-nil (combinations (unswept spec) log (get_or log done d)))
-    ∙ ap (flat_map (combinations (unswept spec) log)) (sym (only-of 0 log next done d o.rising lt))
+    ∙ ap (λ m. filter (agree spec.shape.classes) (product (map (candidates (get_or log done d) log) (upto_from 0 m)))) (sym (length-map spec.shape.inputs (λ (schema : List _). length schema)))
+    ∙ sym (append-nil (combinations spec log (get_or log done d)))
+    ∙ ap (flat_map (combinations spec log)) (sym (only-of 0 log next done d o.rising lt))
     )
   where
     get_or-in : (xs : List TupleAt) (i : ℕ) (e : TupleAt) → i < length xs → In (get_or xs i e) xs

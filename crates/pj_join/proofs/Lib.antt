@@ -13,3 +13,8 @@ pub mod Groups
 pub mod Pairs
 pub mod HandedOut
 pub mod Wanted
+pub mod Instances
+pub mod Judging
+pub mod SortedOut
+pub mod Sweeps
+pub mod SweptLists

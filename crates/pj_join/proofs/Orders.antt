@@ -3,9 +3,8 @@ use Rattle.std.proofs.Common.{ℕ, zero, suc, ◌+◌, ◌<◌, ◌≤◌, ◌^�
 use Rattle.std.proofs.lemmas.Bool.{eq-eqb, or_right}
 use Rattle.std.proofs.lemmas.List.{map-append, length-append, drop_more}
 use Rattle.std.proofs.lemmas.List.Elements.{filter-append}
-use Rattle.pj_shape.specs.declared.joins.JoinSpec.{JoinSpec}
 use Rattle.pj_shape.specs.Sound.{IsSoundSpec}
-use Rattle.pj_laws.specs.Join.{In, Value, TupleAt, PunctAt, TupleComes, Take, Give, of_input, upto_from, has}
+use Rattle.pj_laws.specs.Join.{In, AreCertified, JoinData, Value, TupleAt, PunctAt, TupleComes, Take, Give, of_input, upto_from, has}
 use Rattle.pj_laws.specs.KeptState.{least, without}
 use Rattle.pj_join.specs.Joins.{JoinView, after}
 use Rattle.pj_join.specs.Insides.{tickets, seen, Rise, IsOrdered, made_with}
@@ -23,7 +22,7 @@ pub rise-widen : (from : ℕ) (ts : List ℕ) (end : ℕ) → Rise from ts end �
 rise-widen from [] end r = omega (arith, r)
 rise-widen from (t ∷ ts) end r = (r.0, rise-widen (t + 1) ts end r.1)
 
-rise-lower : (low from : ℕ) (ts : List ℕ) (end : ℕ) → low ≤ from → Rise from ts end → Rise low ts end
+pub rise-lower : (low from : ℕ) (ts : List ℕ) (end : ℕ) → low ≤ from → Rise from ts end → Rise low ts end
 rise-lower low from [] end le r = omega (arith, le, r)
 rise-lower low from (t ∷ ts) end le r = (omega (arith, le, r.0), r.1)
 
@@ -122,11 +121,12 @@ only-of from (x ∷ xs) end (suc i) d r lt =
 
 -- ---- the calls
 
-pub ordered-tuple : (spec : JoinSpec) (limit next done : ℕ) (log : List TupleAt) (sides : List (List TupleAt)) (taken : List ℕ) (x : TupleAt)
-    → IsOrdered spec limit next done log sides taken → next ≤ limit → (next ≡ limit → ⊥) → x.ticket ≡ next → x.input < length spec.inputs
+pub ordered-tuple : (spec : JoinData) (limit next done : ℕ) (log : List TupleAt) (sides : List (List TupleAt)) (taken : List ℕ) (x : TupleAt)
+    → IsOrdered spec limit next done log sides taken → next ≤ limit → (next ≡ limit → ⊥) → x.ticket ≡ next → x.input < length spec.shape.inputs
     → IsOrdered spec limit (next + 1) done (log ++ x ∷ []) (set sides x.input (get_or sides x.input [] ++ x ∷ [])) taken
 ordered-tuple spec limit next done log sides taken x o le ne e lt = record {
   sound = o.sound;
+  certified = o.certified;
   small = o.small;
   below = omega (arith, le, ne);
   within = omega (arith, o.within, length-append log (x ∷ []));
@@ -135,31 +135,32 @@ ordered-tuple spec limit next done log sides taken x o le ne e lt = record {
   placed = λ y h. elim (In-append_cases y log (x ∷ []) h) [
     | inl k ↦ o.placed y k
     | inr k ↦ elim k [
-      | inl same ↦ subst (λ (z : TupleAt). z.input < length spec.inputs) same lt
+      | inl same ↦ subst (λ (z : TupleAt). z.input < length spec.shape.inputs) same lt
       | inr none ↦ absurd none
     ]
   ];
-  by_input = ap (λ (s : List (List TupleAt)). set s x.input (get_or s x.input [] ++ x ∷ [])) o.by_input ∙ classes-more (λ y. y.input) 0 (length spec.inputs) x.input log x (omega arith) lt;
+  by_input = ap (λ (s : List (List TupleAt)). set s x.input (get_or s x.input [] ++ x ∷ [])) o.by_input ∙ classes-more (λ y. y.input) 0 (length spec.shape.inputs) x.input log x (omega arith) lt;
 }
 
-pub seen-tuple : (node : ℕ) (spec : JoinSpec) (limit next done : ℕ) (log : List TupleAt) (puncts : List PunctAt) (taken : List ℕ) (input : ℕ) (row : List Value) → done ≤ length log
-    → seen (made_with node spec limit) (next + 1) done (log ++ record { ticket = next; input = input; row = row } ∷ []) puncts taken ≡ after (seen (made_with node spec limit) next done log puncts taken) (TupleComes input row)
-seen-tuple node spec limit next done log puncts taken input row le =
+pub seen-tuple : (node : ℕ) (spec : JoinData) (limit next done : ℕ) (log : List TupleAt) (puncts waiting : List PunctAt) (taken : List ℕ) (input : ℕ) (row : List Value) → done ≤ length log
+    → seen (made_with node spec limit) (next + 1) done (log ++ record { ticket = next; input = input; row = row } ∷ []) puncts waiting taken ≡ after (seen (made_with node spec limit) next done log puncts waiting taken) (TupleComes input row)
+seen-tuple node spec limit next done log puncts waiting taken input row le =
     ap (λ ts. view ts (taken ++ ts)) (tickets-more done log (record { ticket = next; input = input; row = row }) le)
     ∙ ap (view (tickets (drop done log) ++ next ∷ [])) (sym (append_assoc taken (tickets (drop done log)) (next ∷ [])))
   where
     view : List ℕ → List ℕ → JoinView
     view pending opened = record {
       node = node;
-      spec = record { shape = spec; schemes = []; certs = []; propagates = false };
+      spec = spec;
       limit = limit;
-      kept = record { next = next + 1; stored = log ++ record { ticket = next; input = input; row = row } ∷ []; puncts = puncts; pending = pending; opened = opened; waiting = [] };
+      kept = record { next = next + 1; stored = log ++ record { ticket = next; input = input; row = row } ∷ []; puncts = puncts; pending = pending; opened = opened; waiting = waiting };
     }
 
-pub ordered-punct : (spec : JoinSpec) (limit next done : ℕ) (log : List TupleAt) (sides : List (List TupleAt)) (taken : List ℕ)
+pub ordered-punct : (spec : JoinData) (limit next done : ℕ) (log : List TupleAt) (sides : List (List TupleAt)) (taken : List ℕ)
     → IsOrdered spec limit next done log sides taken → (next ≡ limit → ⊥) → IsOrdered spec limit (next + 1) done log sides taken
 ordered-punct spec limit next done log sides taken o ne = record {
   sound = o.sound;
+  certified = o.certified;
   small = o.small;
   below = omega (arith, o.below, ne);
   within = o.within;
@@ -169,10 +170,11 @@ ordered-punct spec limit next done log sides taken o ne = record {
   by_input = o.by_input;
 }
 
-pub ordered-take : (spec : JoinSpec) (limit next done : ℕ) (log : List TupleAt) (sides : List (List TupleAt)) (taken : List ℕ) (d : TupleAt)
+pub ordered-take : (spec : JoinData) (limit next done : ℕ) (log : List TupleAt) (sides : List (List TupleAt)) (taken : List ℕ) (d : TupleAt)
     → IsOrdered spec limit next done log sides taken → done < length log → IsOrdered spec limit next (done + 1) log sides (taken ++ (get_or log done d).ticket ∷ [])
 ordered-take spec limit next done log sides taken d o lt = record {
   sound = o.sound;
+  certified = o.certified;
   small = o.small;
   below = o.below;
   within = omega (arith, lt);
@@ -182,10 +184,11 @@ ordered-take spec limit next done log sides taken d o lt = record {
   by_input = o.by_input;
 }
 
-pub ordered-give : (spec : JoinSpec) (limit next done : ℕ) (log : List TupleAt) (sides : List (List TupleAt)) (taken : List ℕ) (u : ℕ)
+pub ordered-give : (spec : JoinData) (limit next done : ℕ) (log : List TupleAt) (sides : List (List TupleAt)) (taken : List ℕ) (u : ℕ)
     → IsOrdered spec limit next done log sides taken → has (tickets (drop done log)) u ≡ false → IsOrdered spec limit next done log sides (without taken u)
 ordered-give spec limit next done log sides taken u o f = record {
   sound = o.sound;
+  certified = o.certified;
   small = o.small;
   below = o.below;
   within = o.within;
@@ -195,32 +198,32 @@ ordered-give spec limit next done log sides taken u o f = record {
   by_input = o.by_input;
 }
 
-pub seen-give : (node : ℕ) (spec : JoinSpec) (limit next done : ℕ) (log : List TupleAt) (puncts : List PunctAt) (taken : List ℕ) (u : ℕ) → has (tickets (drop done log)) u ≡ false
-    → seen (made_with node spec limit) next done log puncts (without taken u) ≡ after (seen (made_with node spec limit) next done log puncts taken) (Give u)
-seen-give node spec limit next done log puncts taken u f = ap view (sym (opened-without taken (tickets (drop done log)) u f))
+pub seen-give : (node : ℕ) (spec : JoinData) (limit next done : ℕ) (log : List TupleAt) (puncts waiting : List PunctAt) (taken : List ℕ) (u : ℕ) → has (tickets (drop done log)) u ≡ false
+    → seen (made_with node spec limit) next done log puncts waiting (without taken u) ≡ after (seen (made_with node spec limit) next done log puncts waiting taken) (Give u)
+seen-give node spec limit next done log puncts waiting taken u f = ap view (sym (opened-without taken (tickets (drop done log)) u f))
   where
     view : List ℕ → JoinView
     view opened = record {
       node = node;
-      spec = record { shape = spec; schemes = []; certs = []; propagates = false };
+      spec = spec;
       limit = limit;
-      kept = record { next = next; stored = log; puncts = puncts; pending = tickets (drop done log); opened = opened; waiting = [] };
+      kept = record { next = next; stored = log; puncts = puncts; pending = tickets (drop done log); opened = opened; waiting = waiting };
     }
 
 -- the pending tickets behind the first are greater
 after-first : (taken : List ℕ) (u : ℕ) (us : List ℕ) (next : ℕ) → Rise 0 (taken ++ u ∷ us) next → Rise (u + 1) us next
 after-first taken u us next r = (rise-back 0 taken (u ∷ us) next r).1
 
-pub seen-take : (node : ℕ) (spec : JoinSpec) (limit next done : ℕ) (log : List TupleAt) (puncts : List PunctAt) (taken : List ℕ) (d : TupleAt) → Rise 0 (taken ++ tickets (drop done log)) next → done < length log
-    → seen (made_with node spec limit) next (done + 1) log puncts (taken ++ (get_or log done d).ticket ∷ []) ≡ after (seen (made_with node spec limit) next done log puncts taken) (Take (get_or log done d).ticket)
-seen-take node spec limit next done log puncts taken d r lt = ap₂ view (sym pending) opened
+pub seen-take : (node : ℕ) (spec : JoinData) (limit next done : ℕ) (log : List TupleAt) (puncts waiting : List PunctAt) (taken : List ℕ) (d : TupleAt) → Rise 0 (taken ++ tickets (drop done log)) next → done < length log
+    → seen (made_with node spec limit) next (done + 1) log puncts waiting (taken ++ (get_or log done d).ticket ∷ []) ≡ after (seen (made_with node spec limit) next done log puncts waiting taken) (Take (get_or log done d).ticket)
+seen-take node spec limit next done log puncts waiting taken d r lt = ap₂ view (sym pending) opened
   where
     view : List ℕ → List ℕ → JoinView
     view pending opened = record {
       node = node;
-      spec = record { shape = spec; schemes = []; certs = []; propagates = false };
+      spec = spec;
       limit = limit;
-      kept = record { next = next; stored = log; puncts = puncts; pending = pending; opened = opened; waiting = [] };
+      kept = record { next = next; stored = log; puncts = puncts; pending = pending; opened = opened; waiting = waiting };
     }
 
     first : tickets (drop done log) ≡ (get_or log done d).ticket ∷ tickets (drop (done + 1) log)
@@ -277,23 +280,24 @@ taken-and-given next done log taken d r lt =
     without-last 0 taken (get_or log done d).ticket (tickets (drop (done + 1) log)) next (subst (λ ts. Rise 0 (taken ++ ts) next) (pending-first done log d lt) r)
 
 -- a ticket that is taken and given at once
-pub ordered-probe : (spec : JoinSpec) (limit next done : ℕ) (log : List TupleAt) (sides : List (List TupleAt)) (taken : List ℕ) (d : TupleAt)
+pub ordered-probe : (spec : JoinData) (limit next done : ℕ) (log : List TupleAt) (sides : List (List TupleAt)) (taken : List ℕ) (d : TupleAt)
     → IsOrdered spec limit next done log sides taken → done < length log → IsOrdered spec limit next (done + 1) log sides taken
 ordered-probe spec limit next done log sides taken d o lt =
     subst (λ ts. IsOrdered spec limit next (done + 1) log sides ts) (taken-and-given next done log taken d o.open_rising lt)
     (ordered-give spec limit next (done + 1) log sides (taken ++ (get_or log done d).ticket ∷ []) (get_or log done d).ticket (ordered-take spec limit next done log sides taken d o lt)
     (taken-first next done log taken d o.open_rising lt).gone)
 
-pub seen-probe : (node : ℕ) (spec : JoinSpec) (limit next done : ℕ) (log : List TupleAt) (puncts : List PunctAt) (taken : List ℕ) (d : TupleAt) → Rise 0 (taken ++ tickets (drop done log)) next → done < length log
-    → seen (made_with node spec limit) next (done + 1) log puncts taken ≡ after (after (seen (made_with node spec limit) next done log puncts taken) (Take (get_or log done d).ticket)) (Give (get_or log done d).ticket)
-seen-probe node spec limit next done log puncts taken d r lt =
-    ap (seen (made_with node spec limit) next (done + 1) log puncts) (sym (taken-and-given next done log taken d r lt))
-    ∙ seen-give node spec limit next (done + 1) log puncts (taken ++ (get_or log done d).ticket ∷ []) (get_or log done d).ticket (taken-first next done log taken d r lt).gone
-    ∙ ap (λ (v : JoinView). after v (Give (get_or log done d).ticket)) (seen-take node spec limit next done log puncts taken d r lt)
+pub seen-probe : (node : ℕ) (spec : JoinData) (limit next done : ℕ) (log : List TupleAt) (puncts waiting : List PunctAt) (taken : List ℕ) (d : TupleAt) → Rise 0 (taken ++ tickets (drop done log)) next → done < length log
+    → seen (made_with node spec limit) next (done + 1) log puncts waiting taken ≡ after (after (seen (made_with node spec limit) next done log puncts waiting taken) (Take (get_or log done d).ticket)) (Give (get_or log done d).ticket)
+seen-probe node spec limit next done log puncts waiting taken d r lt =
+    ap (seen (made_with node spec limit) next (done + 1) log puncts waiting) (sym (taken-and-given next done log taken d r lt))
+    ∙ seen-give node spec limit next (done + 1) log puncts waiting (taken ++ (get_or log done d).ticket ∷ []) (get_or log done d).ticket (taken-first next done log taken d r lt).gone
+    ∙ ap (λ (v : JoinView). after v (Give (get_or log done d).ticket)) (seen-take node spec limit next done log puncts waiting taken d r lt)
 
-pub ordered-start : (spec : JoinSpec) (limit : ℕ) (sides : List (List TupleAt)) → IsSoundSpec spec → limit ≤ 2 ^ 40 → sides ≡ map (λ k. of_input k []) (upto_from 0 (length spec.inputs)) → IsOrdered spec limit 0 0 [] sides []
-ordered-start spec limit sides s le e = record {
+pub ordered-start : (spec : JoinData) (limit : ℕ) (sides : List (List TupleAt)) → IsSoundSpec spec.shape → AreCertified spec → limit ≤ 2 ^ 40 → sides ≡ map (λ k. of_input k []) (upto_from 0 (length spec.shape.inputs)) → IsOrdered spec limit 0 0 [] sides []
+ordered-start spec limit sides s certified le e = record {
   sound = s;
+  certified = certified;
   small = le;
   below = omega arith;
   within = omega arith;

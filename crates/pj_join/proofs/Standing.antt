@@ -1,15 +1,18 @@
 -- What a join keeps follows its legal steps.
-use Rattle.std.proofs.Common.{ℕ, ◌<◌, Bool, true, false, cond, ◌||◌, not, List, [], ◌∷◌, ◌++◌, ◌≡◌, map, filter, length, Option, Some, None, refl, sym, ap, ◌∙◌, subst, inl, inr, eqb, append_assoc}
-use Rattle.std.proofs.lemmas.Bool.{eq-eqb, false≢true, or_left}
-use Rattle.pj_laws.specs.Join.{In, Value, TupleAt, Step, TupleComes, PunctComes, Take, Give, start, run, has, low, inputs, arity, joined, results, IsAllowed, IsNew}
+use Rattle.std.proofs.Common.{ℕ, ◌<◌, Bool, true, false, cond, ◌||◌, ◌&&◌, not, List, [], ◌∷◌, ◌++◌, ◌≡◌, map, filter, flat_map, length, Option, Some, None, refl, sym, ap, ◌∙◌, subst, inl, inr, eqb, append_assoc}
+use Rattle.std.proofs.lemmas.Bool.{eq-eqb, eqb-true, false≢true, or_left}
+use Rattle.pj_laws.specs.Join.{In, Value, JoinData, JoinState, TupleAt, Step, TupleComes, PunctComes, Take, Give, Sweep, start, run, has, low, inputs, arity, combinations, joined, results, AreCertified, IsAllowed, IsNew}
 use Rattle.pj_laws.specs.KeptState.{KeptState, kept_low, lacking}
-use Rattle.pj_laws.specs.Laws.{StepsStand, IsNeverSwept, AllIsStored}
+use Rattle.pj_laws.specs.Laws.{StepsStand, StoredSuffice}
 use Rattle.pj_join.specs.Joins.{JoinView, JoinTakes, StandsFor, StandsTaken, IsTaken, Found, after, found_of}
 use Rattle.pj_join.specs.Handed.{JoinProbes, StandsProbed}
 use Rattle.pj_laws.specs.Patterns.{Pattern}
 use Rattle.pj_laws.proofs.Tickets.{lacking-come}
 use Rattle.pj_laws.proofs.Stand.{least-lacking}
-use Rattle.pj_laws.proofs.Sound.{legal-more}
+use Rattle.pj_laws.proofs.Forget.{IsSound}
+use Rattle.pj_laws.proofs.Results.{open-kept}
+use Rattle.pj_laws.proofs.Sound.{legal-more, sound-run, sound-start}
+use Rattle.pj_value.proofs.Members.{filter-agree, filter-filter}
 
 -- an allowed step leads on
 stands-more : (join : JoinView) (e : Step) (steps : List Step) → StepsStand join.spec → StandsFor join steps → IsAllowed join.spec (run join.spec start steps) e → StandsFor (after join e) (steps ++ e ∷ [])
@@ -66,30 +69,54 @@ pub stands-give : (join new : JoinView) (u : ℕ) → StepsStand join.spec → I
 stands-give join new u law t e steps st =
     subst (λ (v : JoinView). StandsFor v (steps ++ Give u ∷ [])) (sym e) (stands-more join (Give u) steps law st (allowed-give join u steps st t))
 
+-- a sweep leads on
+pub stands-sweep : (join new : JoinView) (input : ℕ) → StepsStand join.spec → AreCertified join.spec → input < inputs join.spec → new ≡ after join (Sweep input)
+    → (steps : List Step) → StandsFor join steps → StandsFor new (steps ++ Sweep input ∷ [])
+stands-sweep join new input law certified i e steps st =
+    subst (λ (v : JoinView). StandsFor v (steps ++ Sweep input ∷ [])) (sym e) (stands-more join (Sweep input) steps law st (i, certified))
+
+-- a tuple that is not given is stored
+open-stored : (spec : JoinData) (s : JoinState) → IsSound spec s → (u : ℕ) → has s.given u ≡ false → filter (λ x. eqb x.ticket u) s.stored ≡ filter (λ x. eqb x.ticket u) s.tuples
+open-stored spec s i u o =
+    ap (filter (λ x. eqb x.ticket u)) i.stored_is
+    ∙ filter-filter i.keep (λ x. eqb x.ticket u) s.tuples
+    ∙ filter-agree (λ x. i.keep x && eqb x.ticket u) (λ x. eqb x.ticket u) s.tuples (λ x h. both (i.keep x) (eqb x.ticket u) (λ e. open-kept spec s i x h (ap (has s.given) (eqb-true x.ticket u e) ∙ o)))
+  where
+    both : (a b : Bool) → (b ≡ true → a ≡ true) → (a && b) ≡ b
+    both true b f = refl
+    both false true f = f refl
+    both false false f = refl
+
 -- what is taken leads on, and the stored tuples give the results over all that arrived
-pub stands-taken : (join new : JoinView) (answer : Option Found) → StepsStand join.spec → IsNeverSwept join.spec → AllIsStored join.spec → join.spec.certs ≡ [] → 1 < inputs join.spec → JoinTakes join new answer
+pub stands-taken : (join new : JoinView) (answer : Option Found) → StepsStand join.spec → StoredSuffice join.spec → JoinTakes join new answer
     → (steps : List Step) → StandsFor join steps → StandsTaken new steps answer
-stands-taken join new None law never stored none lt t steps st = subst (λ (v : JoinView). StandsFor v steps) (sym t.1) st
-stands-taken join new (Some found) law never stored none lt t steps st =
+stands-taken join new None law suffice t steps st = subst (λ (v : JoinView). StandsFor v steps) (sym t.1) st
+stands-taken join new (Some found) law suffice t steps st =
     subst (λ (v : JoinView). StandsTaken v steps (Some found)) (sym t.changes) (
       stands-more join (Take found.ticket) steps law st (allowed-take join found.ticket steps st t.pending),
-      ap (λ (f : Found). f.rows) t.finds ∙ ap (λ (xs : List TupleAt). map joined (results join.spec xs xs found.ticket)) same,
+      ap (λ (f : Found). f.rows) t.finds
+          ∙ ap (λ (k : KeptState). map joined (results join.spec k.stored k.stored found.ticket)) st.1
+          ∙ ap (λ (xs : List TupleAt). map joined (flat_map (combinations join.spec (run join.spec start steps).stored) xs)) (open-stored join.spec (run join.spec start steps) (sound-run join.spec start steps (sound-start join.spec) st.0) found.ticket ungiven)
+          ∙ ap (map joined) (suffice steps st.0 found.ticket ungiven),
     )
   where
-    same : join.kept.stored ≡ (run join.spec start steps).tuples
-    same = ap (λ (k : KeptState). k.stored) st.1 ∙ stored steps (never none lt steps st.0)
+    opened : has join.kept.opened found.ticket ≡ true
+    opened = subst (λ (v : JoinView). has v.kept.opened found.ticket ≡ true) t.changes t.taken.0
+
+    ungiven : has (run join.spec start steps).given found.ticket ≡ false
+    ungiven = (lacking-come (run join.spec start steps).given (run join.spec start steps).tuples found.ticket (subst (λ (k : KeptState). has k.opened found.ticket ≡ true) st.1 opened)).1
 
 -- what is taken and given at once leads on, and the stored tuples give the results over all that arrived
-pub stands-probed : (join new : JoinView) (answer : Option ℕ) → StepsStand join.spec → IsNeverSwept join.spec → AllIsStored join.spec → join.spec.certs ≡ [] → 1 < inputs join.spec → JoinProbes join new answer
+pub stands-probed : (join new : JoinView) (answer : Option ℕ) → StepsStand join.spec → StoredSuffice join.spec → JoinProbes join new answer
     → (steps : List Step) → StandsFor join steps → StandsProbed join new steps answer
-stands-probed join new None law never stored none lt p steps st = subst (λ (v : JoinView). StandsFor v steps) (sym p.1) st
-stands-probed join new (Some u) law never stored none lt p steps st = (
+stands-probed join new None law suffice p steps st = subst (λ (v : JoinView). StandsFor v steps) (sym p.1) st
+stands-probed join new (Some u) law suffice p steps st = (
   subst (StandsFor new) (append_assoc steps (Take u ∷ []) (Give u ∷ [])) (stands-give (after join (Take u)) new u law p.0.taken p.1 (steps ++ Take u ∷ []) taken.0),
   taken.1,
 )
   where
     taken : StandsTaken (after join (Take u)) steps (Some (found_of join u))
-    taken = stands-taken join (after join (Take u)) (Some (found_of join u)) law never stored none lt p.0 steps st
+    taken = stands-taken join (after join (Take u)) (Some (found_of join u)) law suffice p.0 steps st
 
 -- ---- the low-water ticket
 

@@ -1,9 +1,8 @@
 -- What stands inside a join, and how it is seen.
 use Rattle.std.specs.Prelude.{ℕ, ◌+◌, ◌<◌, ◌^◌, ◌≤◌, ◌≡◌, List, [], ◌∷◌, ◌++◌, map, drop, length}
-use Rattle.pj_shape.specs.declared.joins.JoinSpec.{JoinSpec}
 use Rattle.pj_shape.specs.Sound.{IsSoundSpec}
-use Rattle.pj_laws.specs.Join.{In, TupleAt, PunctAt, of_input, upto_from}
-use Rattle.pj_join.specs.Joins.{JoinView, unswept}
+use Rattle.pj_laws.specs.Join.{In, JoinData, TupleAt, PunctAt, AreCertified, of_input, upto_from}
+use Rattle.pj_join.specs.Joins.{JoinView}
 
 abbrev pub tickets : List TupleAt → List ℕ
 tickets xs = map (λ x. x.ticket) xs
@@ -11,18 +10,18 @@ tickets xs = map (λ x. x.ticket) xs
 -- what a join is made with: its number among the nodes, what it joins by, and how many elements may reach it
 pub record MadeWith : Type 0 where
   pub node : ℕ
-  pub spec : JoinSpec
+  pub spec : JoinData
   pub limit : ℕ
 
-abbrev pub made_with : ℕ → JoinSpec → ℕ → MadeWith
+abbrev pub made_with : ℕ → JoinData → ℕ → MadeWith
 made_with node spec limit = record { node = node; spec = spec; limit = limit }
 
--- the join of these parts: the log has all tuples in order, of which the first so many are taken; of those, the ones
--- that are not given are listed
-abbrev pub seen : MadeWith → ℕ → ℕ → List TupleAt → List PunctAt → List ℕ → JoinView
-seen made next done log puncts taken = record {
+-- the join of these parts: the log has the stored tuples in order, of which the first so many are taken; the tickets that
+-- are taken and not given are listed
+abbrev pub seen : MadeWith → ℕ → ℕ → List TupleAt → List PunctAt → List PunctAt → List ℕ → JoinView
+seen made next done log puncts waiting taken = record {
   node = made.node;
-  spec = unswept made.spec;
+  spec = made.spec;
   limit = made.limit;
   kept = record {
     next = next;
@@ -30,7 +29,7 @@ seen made next done log puncts taken = record {
     puncts = puncts;
     pending = tickets (drop done log);
     opened = taken ++ tickets (drop done log);
-    waiting = [];
+    waiting = waiting;
   };
 }
 
@@ -40,12 +39,13 @@ Rise from [] end = from ≤ end
 Rise from (t ∷ ts) end = (from ≤ t) × Rise (t + 1) ts end
 
 -- the tickets of the log rise, as do those that are not given; the sides hold the log's tuples by their inputs
-pub record IsOrdered (spec : JoinSpec) (limit next done : ℕ) (log : List TupleAt) (sides : List (List TupleAt)) (taken : List ℕ) : Type 0 where
-  pub sound : IsSoundSpec spec
+pub record IsOrdered (spec : JoinData) (limit next done : ℕ) (log : List TupleAt) (sides : List (List TupleAt)) (taken : List ℕ) : Type 0 where
+  pub sound : IsSoundSpec spec.shape
+  pub certified : AreCertified spec
   pub small : limit ≤ 2 ^ 40
   pub below : next ≤ limit
   pub within : done ≤ length log
   pub rising : Rise 0 (tickets log) next
   pub open_rising : Rise 0 (taken ++ tickets (drop done log)) next
-  pub placed : (x : TupleAt) → In x log → x.input < length spec.inputs
-  pub by_input : sides ≡ map (λ k. of_input k log) (upto_from 0 (length spec.inputs))
+  pub placed : (x : TupleAt) → In x log → x.input < length spec.shape.inputs
+  pub by_input : sides ≡ map (λ k. of_input k log) (upto_from 0 (length spec.shape.inputs))

@@ -1,5 +1,6 @@
 -- What contracts see of a join, and what its calls do.
-use Rattle.std.specs.Prelude.{ℕ, ◌≤◌, ◌≡◌, true, false, List, [], ◌∷◌, ◌++◌, map, Option, Some, None}
+use Rattle.std.specs.Prelude.{ℕ, ◌≤◌, ◌≡◌, Bool, true, false, List, [], ◌∷◌, ◌++◌, map, Option, Some, None}
+use Rattle.pj_shape.specs.declared.joins.CertStep.{CertStep}
 use Rattle.pj_shape.specs.declared.joins.JoinSpec.{JoinSpec}
 pub use Rattle.pj_join.specs.declared.found.Found.{Found}
 use Rattle.pj_laws.specs.Join.{In, JoinData, Step, Take, start, run, has, joined, results, AreLegalSteps}
@@ -12,9 +13,9 @@ pub record JoinView : Type 0 where
   pub limit : ℕ
   pub kept : KeptState
 
--- a join of this shape that is never swept and hands up rows alone
-abbrev pub unswept : JoinSpec → JoinData
-unswept shape = record { shape = shape; schemes = []; certs = []; propagates = false }
+-- a join of this shape with these schemes and certificates of its inputs, which hands up rows and punctuations
+abbrev pub join_data : JoinSpec → List (List (List Bool)) → List (List CertStep) → JoinData
+join_data shape schemes certs = record { shape = shape; schemes = schemes; certs = certs; propagates = true }
 
 -- the join after a step
 abbrev pub after : JoinView → Step → JoinView

@@ -5,4 +5,6 @@ pub mod Sides
 pub mod Walks
 pub mod Insides
 pub mod Handed
+pub mod Judging
+pub mod Sweeping
 pub mod Triples

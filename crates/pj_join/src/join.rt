@@ -1,21 +1,26 @@
 // A join over plain lists.
-ghost use Rattle.std.specs.Prelude.{◌≡◌, ◌<◌, ◌≤◌, ◌+◌, ◌^◌, ◌↔◌, List, [], ◌∷◌, ◌++◌, length, OnOk, OnErr, IfOk, IsErrOf, IsTrue, Err, map, ◌==◌};
+ghost use Rattle.std.specs.Prelude.{◌≡◌, ◌<◌, ◌≤◌, ◌+◌, ◌^◌, ◌↔◌, List, [], ◌∷◌, ◌++◌, length, OnOk, OnErr, IfOk, IsErrOf, IsTrue, Err, map, take, ◌==◌};
 ghost use Rattle.pj_shape.specs.Sound.{IsSoundSpec};
-ghost use Rattle.pj_laws.specs.Join.{Step, TupleComes, PunctComes, Take, Give, IsNew, start, run, low, inputs, arity, of_input, upto_from};
-ghost use Rattle.pj_laws.specs.KeptState.{kept_of, kept_low, without};
+ghost use Rattle.pj_laws.specs.Join.{AreCertified, Step, TupleComes, PunctComes, Take, Give, Sweep, IsNew, start, run, low, inputs, arity, of_input, upto_from};
+ghost use Rattle.pj_laws.specs.KeptState.{kept_of, kept_low, swept, without};
 ghost use Rattle.std.specs.List.{position};
 ghost use Rattle.pj_join.specs.Handed.{JoinProbes, StandsProbed, rows_probed};
 ghost use Rattle.pj_join.specs.Insides.{Rise};
-ghost use Rattle.pj_join.specs.Joins.{IsTaken, StandsFor, JoinTakes, StandsTaken, after, unswept};
+ghost use Rattle.pj_join.specs.Judging.{IsRenewed, waiting_on};
+ghost use Rattle.pj_join.specs.Joins.{IsTaken, StandsFor, JoinTakes, StandsTaken, after, join_data};
+ghost use Rattle.pj_join.specs.Sweeping.{GoesWhereCovered, HandsUp, HasBeenLawful, IsForgotten, puncts_up, rows_off, swept_off};
 
 use crate::arrivals::{Arrived, Heard};
+use crate::certs::entries_of;
 use crate::handing::hand_out_found;
 use crate::prints::key_column;
 use crate::side::Side;
+use crate::sweeping::{Left, renew, sweep_lists};
+use crate::widening::hear;
 use crate::{JoinStop, Probe};
-use pj_laws::{Out, standing, without_sweeps};
+use pj_laws::{Out, forgetting_is_safe, lawfulness, ripeness, standing};
 use pj_pattern::Punct;
-use pj_shape::JoinSpec;
+use pj_shape::{Cert, JoinSpec, Schemes};
 use pj_value::{List, NoMemory, Row};
 use std::alloc::Global;
 use std::marker::Model;
@@ -28,44 +33,59 @@ pub struct Join {
     alloc: Global,
     node: u32,
     spec: Arc<JoinSpec, Global>,
+    schemes: Schemes,
+    certs: List<Cert>,
     limit: u64,
     next: u64,
     log: List<Arrived>,
     sides: Vec<Side>,
     puncts: List<Heard>,
+    waiting: List<Heard>,
     done: usize,
     taken: Vec<u64>,
 }
 
 impl Model for Join {
     ghost use Rattle.std.specs.Arc.{arc_value};
-    ghost use Rattle.pj_join.specs.Joins.{JoinView};
+    ghost use Rattle.pj_join.specs.Joins.{JoinView, join_data};
     ghost use Rattle.pj_join.specs.Insides.{IsOrdered, made_with, seen};
 
     ghost Value = { JoinView };
 
-    ghost view = { λ j. seen (made_with j.node (arc_value j.spec) j.limit) j.next j.done j.log j.puncts j.taken.items };
+    ghost view = { λ j. seen (made_with j.node (join_data (arc_value j.spec) j.schemes j.certs) j.limit) j.next j.done j.log j.puncts j.waiting j.taken.items };
 
-    ghost invariant = { λ j. IsOrdered (arc_value j.spec) j.limit j.next j.done j.log j.sides.items j.taken.items };
+    ghost invariant = { λ j. IsOrdered (join_data (arc_value j.spec) j.schemes j.certs) j.limit j.next j.done j.log j.sides.items j.taken.items };
 }
 
 impl Join {
-    /// A join with this number among the nodes that takes at most `limit` elements, from 1 to 2^40.
-    pub fn new(alloc: Global, node: u32, spec: JoinSpec, limit: u64) -> Result<Join, NoMemory>
+    /// A join with this number among the nodes that takes at most `limit` elements, from 1 to 2^40. `schemes` has a list of
+    /// schemes for each input, and `certs` a certificate of each.
+    pub fn new(
+        alloc: Global,
+        node: u32,
+        spec: JoinSpec,
+        schemes: Schemes,
+        certs: List<Cert>,
+        limit: u64,
+    ) -> Result<Join, NoMemory>
         requires sound { IsSoundSpec spec }
+        requires certified { AreCertified (join_data spec schemes certs) }
         requires limit { (1 ≤ limit) × (limit ≤ 2 ^ 40) }
-        ensures { IfOk result (λ join. join ≡ record { node = node; spec = unswept spec; limit = limit; kept = kept_of start }) }
+        ensures { IfOk result (λ join. join ≡ record { node = node; spec = join_data spec schemes certs; limit = limit; kept = kept_of start }) }
     {
         let sides = empty_sides(alloc, &spec)?;
         Ok(Join {
             alloc,
             node,
             spec: Arc::new(alloc, spec)?,
+            schemes,
+            certs,
             limit,
             next: 0,
             log: List::new(alloc),
             sides,
             puncts: List::new(alloc),
+            waiting: List::new(alloc),
             done: 0,
             taken: Vec::new(alloc),
         })
@@ -98,8 +118,8 @@ impl Join {
         Ok(ticket)
     }
 
-    /// Keeps a punctuation of an input under the next ticket and gives the ticket; `out` stays as it was. On a refusal
-    /// the join is as before.
+    /// Keeps a punctuation of an input under the next ticket and gives the ticket. Where no stored tuple of the input matches
+    /// it, it is put at the end of `out`, widened; else it waits for a sweep. On a refusal the join and `out` are as before.
     ///
     /// `Limit` comes exactly where as many elements have come as may.
     pub fn punct(
@@ -112,17 +132,26 @@ impl Join {
         ensures ticket { IfOk result (λ ticket. ticket ≡ self.old.kept.next) }
         ensures keeps { OnOk result (self.new ≡ after self.old (PunctComes input punct)) }
         ensures stands { OnOk result ((steps : List Step) → StandsFor self.old steps → StandsFor self.new (steps ++ PunctComes input punct ∷ [])) }
+        ensures out { OnOk result (out.new ≡ out.old ++ puncts_up self.old (PunctComes input punct)) }
+        ensures hands { OnOk result ((steps : List Step) → StandsFor self.old steps → HandsUp self.old steps (PunctComes input punct)) }
         ensures limit { IsErrOf result JoinStop.Limit ↔ (self.old.kept.next ≡ self.old.limit) }
-        ensures refused { OnErr result (self.new ≡ self.old) }
-        ensures silent { out.new ≡ out.old }
+        ensures refused { OnErr result ((self.new ≡ self.old) × (out.new ≡ out.old)) }
     {
         standing();
-        let _ = out;
         if is_full(self.next, self.limit) {
             return Err(JoinStop::Limit);
         }
         let ticket = self.next;
-        self.puncts.push(Heard::new(ticket, input, punct))?;
+        let heard = Heard::new(self.alloc, ticket, input, punct)?;
+        hear(
+            self.alloc,
+            self.spec.inputs.as_slice(),
+            self.log.as_slice(),
+            &mut self.puncts,
+            &mut self.waiting,
+            heard,
+            out,
+        )?;
         self.next += 1;
         Ok(ticket)
     }
@@ -134,7 +163,7 @@ impl Join {
         ensures refused { OnErr result (self.new ≡ self.old) }
     {
         standing();
-        without_sweeps();
+        forgetting_is_safe();
         let place = self.done;
         match self.log.get(place) {
             None => Ok(None),
@@ -173,7 +202,7 @@ impl Join {
         ensures refused { OnErr result ((self.new ≡ self.old) × (outs.new ≡ outs.old)) }
     {
         standing();
-        without_sweeps();
+        forgetting_is_safe();
         match self.log.get(self.done) {
             None => Ok(None),
             Some(own) => {
@@ -184,6 +213,98 @@ impl Join {
                 Ok(Some(ticket))
             }
         }
+    }
+
+    /// Judges each stored tuple of an input on the join as it is, and removes exactly the ripe ones: their rows are put at the
+    /// end of `removed`. Then the waiting punctuations of the input that no stored tuple matches any more are put at the end
+    /// of `out`, widened. Both are in order of tickets. Answers how many tuples were removed. On a refusal all is as before.
+    ///
+    /// A tuple is ripe where its ticket is below the low-water ticket, and each instance that it asks for by the certificate of
+    /// its input, over the tuples that are stored below that ticket, is covered by one punctuation below it.
+    pub fn sweep(
+        &mut self,
+        input: u32,
+        removed: &mut List<Row>,
+        out: &mut List<Punct>,
+    ) -> Result<u64, NoMemory>
+        requires there { input < inputs self.old.spec }
+        ensures sweeps { OnOk result (self.new ≡ after self.old (Sweep input)) }
+        ensures count { IfOk result (λ count. count ≡ length (swept_off self.old input)) }
+        ensures removed { OnOk result (removed.new ≡ removed.old ++ rows_off self.old input) }
+        ensures out { OnOk result (out.new ≡ out.old ++ puncts_up self.old (Sweep input)) }
+        ensures stands { OnOk result ((steps : List Step) → StandsFor self.old steps → StandsFor self.new (steps ++ Sweep input ∷ [])) }
+        ensures hands { OnOk result ((steps : List Step) → StandsFor self.old steps → HandsUp self.old steps (Sweep input)) }
+        ensures forgets { OnOk result ((steps : List Step) → StandsFor self.old steps → IsForgotten self.old steps input) }
+        ensures covered { OnOk result ((steps : List Step) → StandsFor self.old steps → GoesWhereCovered self.old steps input) }
+        ensures lawful { OnOk result ((steps : List Step) → StandsFor self.new steps → HasBeenLawful self.new steps) }
+        ensures refused { OnErr result ((self.new ≡ self.old) × (removed.new ≡ removed.old) × (out.new ≡ out.old)) }
+    {
+        standing();
+        forgetting_is_safe();
+        ripeness();
+        lawfulness();
+        let before = removed.len();
+        let out_before = out.len();
+        match self.judge(input, removed, out) {
+            Ok(left) => Ok(self.settle(input, left)),
+            Err(stop) => {
+                removed.truncate(before);
+                out.truncate(out_before);
+                Err(stop)
+            }
+        }
+    }
+
+    // What a sweep of the input leaves. The rows of the tuples that go are put at the end of `removed`, and the punctuations that
+    // are let go at the end of `out`. After a refusal both begin as before.
+    fn judge(
+        &self,
+        input: u32,
+        removed: &mut List<Row>,
+        out: &mut List<Punct>,
+    ) -> Result<Left, NoMemory>
+        requires there { input < inputs self.now.spec }
+        ensures certified { OnOk result (AreCertified self.now.spec) }
+        ensures log { IfOk result (λ left. left.log ≡ swept self.now.spec self.now.kept input) }
+        ensures side { IfOk result (λ left. IsRenewed input self.now.kept.stored left.log left.side) }
+        ensures waiting { IfOk result (λ left. left.waiting ≡ waiting_on left.log input self.now.kept.waiting) }
+        ensures removed { OnOk result (removed.new ≡ removed.old ++ rows_off self.now input) }
+        ensures out { OnOk result (out.new ≡ out.old ++ puncts_up self.now (Sweep input)) }
+        ensures err { OnErr result ((take (length removed.old) removed.new ≡ removed.old) × (take (length out.old) out.new ≡ out.old)) }
+    {
+        let cert = entries_of(self.alloc, &self.schemes, self.certs.as_slice(), input)?;
+        let low = self.low();
+        let left = sweep_lists(
+            self.alloc,
+            &self.spec,
+            cert.as_slice(),
+            self.log.as_slice(),
+            self.puncts.as_slice(),
+            self.waiting.as_slice(),
+            low,
+            input,
+            removed,
+            out,
+        )?;
+        Ok(left)
+    }
+
+    // Takes over what a sweep of the input leaves, and answers how many tuples went.
+    fn settle(&mut self, input: u32, left: Left) -> u64
+        requires there { input < inputs self.old.spec }
+        requires log { left.log ≡ swept self.old.spec self.old.kept input }
+        requires side { IsRenewed input self.old.kept.stored left.log left.side }
+        requires waiting { left.waiting ≡ waiting_on left.log input self.old.kept.waiting }
+        ensures sweeps { self.new ≡ after self.old (Sweep input) }
+        ensures count { result ≡ length (swept_off self.old input) }
+    {
+        let Left { log, side, waiting } = left;
+        let gone = self.log.len() - log.len();
+        self.done -= gone;
+        self.log = log;
+        self.waiting = waiting;
+        renew(&mut self.sides[input as usize], side);
+        gone as u64
     }
 
     /// The low-water ticket: the least that is not given, else the next.
@@ -205,6 +326,13 @@ impl Join {
         ensures { result ≡ length self.now.kept.stored }
     {
         self.log.len() as u64
+    }
+
+    /// How many punctuations wait.
+    pub fn waiting(&self) -> u64
+        ensures { result ≡ length self.now.kept.waiting }
+    {
+        self.waiting.len() as u64
     }
 
     /// How many tickets are not taken.

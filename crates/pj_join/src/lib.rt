@@ -2,13 +2,18 @@
 #![tactic(auto)]
 
 mod arrivals;
+mod asking;
+mod certs;
 mod found;
 mod handing;
 mod join;
+mod judge;
 mod prints;
 mod probe;
 mod side;
+mod sweeping;
 mod walk;
+mod widening;
 
 pub use found::{Found, JoinStop};
 pub use handing::hand_out_rows;

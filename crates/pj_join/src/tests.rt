@@ -1,13 +1,13 @@
 // What no clause says: that the calls succeed with ample memory, and what the definitions mean on runs by hand.
-ghost use Rattle.std.specs.Prelude.{◌≡◌, ◌<◌, ◌≤◌, ◌^◌, ◌∷◌, [], length, IfOk};
-ghost use Rattle.pj_join.specs.Joins.{unswept};
-ghost use Rattle.pj_join.specs.Triples.{at, number, pair, triple};
+ghost use Rattle.std.specs.Prelude.{◌≡◌, ◌<◌, ◌≤◌, ◌^◌, ◌∷◌, [], if◌then◌else◌, length, IfOk};
+ghost use Rattle.pj_laws.specs.Join.{arity, inputs};
+ghost use Rattle.pj_join.specs.Triples.{at, by, double, double_certs, double_join, double_schemes, first_marked, named, number, pair, second_marked, triple_certs, triple_join, triple_schemes};
 
 use super::*;
 use pj_laws::Out;
-use pj_pattern::{Pattern, Punct};
-use pj_shape::{ClassCol, Column, JoinSpec, Schema};
-use pj_value::{Kind, List, NoMemory, Row, Value};
+use pj_pattern::{Pattern, Punct, Shape};
+use pj_shape::{Cert, CertStep, ClassCol, Column, JoinSpec, Schema, Scheme, Schemes};
+use pj_value::{Kind, List, NoMemory, Row, SharedText, Value};
 use std::alloc::Global;
 use std::test::Fail;
 
@@ -63,17 +63,69 @@ fn classes(alloc: Global) -> Result<List<List<ClassCol>>, NoMemory>
     Ok(classes)
 }
 
+fn scheme(alloc: Global, first: bool) -> Result<Scheme, NoMemory>
+    ensures { IfOk result (λ s. s ≡ (if first then first_marked else second_marked)) }
+{
+    if first {
+        Ok(Scheme::of(List::copy_of(alloc, &[true, false])?))
+    } else {
+        Ok(Scheme::of(List::copy_of(alloc, &[false, true])?))
+    }
+}
+
+fn one_scheme(alloc: Global, first: bool) -> Result<List<Scheme>, NoMemory>
+    ensures { IfOk result (λ l. l ≡ (if first then first_marked else second_marked) ∷ []) }
+{
+    let mut list = List::new(alloc);
+    list.push(scheme(alloc, first)?)?;
+    Ok(list)
+}
+
+fn schemes(alloc: Global) -> Result<Schemes, NoMemory>
+    ensures { IfOk result (λ s. s ≡ triple_schemes) }
+{
+    let mut middle = one_scheme(alloc, true)?;
+    middle.push(scheme(alloc, false)?)?;
+    let mut lists = List::new(alloc);
+    lists.push(one_scheme(alloc, true)?)?;
+    lists.push(middle)?;
+    lists.push(one_scheme(alloc, false)?)?;
+    Ok(Schemes::of(lists))
+}
+
+fn by(input: u32, scheme: u32) -> CertStep
+    ensures { result ≡ by input scheme }
+{
+    CertStep { input, scheme }
+}
+
+fn cert(alloc: Global, steps: &[CertStep]) -> Result<Cert, NoMemory>
+    ensures { IfOk result (λ c. c ≡ steps.now) }
+{
+    Ok(Cert::of(List::copy_of(alloc, steps)?))
+}
+
+fn certs(alloc: Global) -> Result<List<Cert>, NoMemory>
+    ensures { IfOk result (λ c. c ≡ triple_certs) }
+{
+    let mut certs = List::new(alloc);
+    certs.push(cert(alloc, &[by(1, 0), by(2, 0)])?)?;
+    certs.push(cert(alloc, &[by(0, 0), by(2, 0)])?)?;
+    certs.push(cert(alloc, &[by(1, 1), by(0, 0)])?)?;
+    Ok(certs)
+}
+
 // A join of three inputs of two columns: the first columns of 0 and 1 are equal, and the second ones of 1 and 2.
-#[tactic(auto, using(crate::proofs::Triples::triple_sound))]
+#[tactic(auto, using(crate::proofs::Triples::triple_sound, crate::proofs::Triples::triple_certified))]
 fn join_of(alloc: Global, limit: u64) -> Result<Join, NoMemory>
     requires { (1 ≤ limit) × (limit ≤ 2 ^ 40) }
-    ensures { IfOk result (λ join. join.spec ≡ unswept triple) }
+    ensures { IfOk result (λ join. join.spec ≡ triple_join) }
 {
     let spec = JoinSpec {
         inputs: inputs(alloc)?,
         classes: classes(alloc)?,
     };
-    Join::new(alloc, 7, spec, limit)
+    Join::new(alloc, 7, spec, schemes(alloc)?, certs(alloc)?, limit)
 }
 
 fn row(alloc: Global, a: i64, b: i64) -> Result<Row, NoMemory>
@@ -86,7 +138,7 @@ fn row(alloc: Global, a: i64, b: i64) -> Result<Row, NoMemory>
 }
 
 fn put(alloc: Global, join: &mut Join, input: u32, a: i64, b: i64) -> Result<u64, JoinStop>
-    requires spec { join.old.spec ≡ unswept triple }
+    requires spec { join.old.spec ≡ triple_join }
     requires input { input < 3 }
     ensures { join.new.spec ≡ join.old.spec }
 {
@@ -95,7 +147,7 @@ fn put(alloc: Global, join: &mut Join, input: u32, a: i64, b: i64) -> Result<u64
 }
 
 fn say(alloc: Global, join: &mut Join, input: u32, a: i64) -> Result<u64, JoinStop>
-    requires spec { join.old.spec ≡ unswept triple }
+    requires spec { join.old.spec ≡ triple_join }
     requires input { input < 3 }
     ensures { join.new.spec ≡ join.old.spec }
 {
@@ -121,8 +173,8 @@ fn next(alloc: Global, join: &mut Join) -> Result<Option<Found>, NoMemory>
 }
 
 fn put_all(alloc: Global, join: &mut Join, rows: &[(u32, i64, i64)]) -> Result<(), JoinStop>
-    requires { join.old.spec ≡ unswept triple }
-    ensures { join.new.spec ≡ unswept triple }
+    requires { join.old.spec ≡ triple_join }
+    ensures { join.new.spec ≡ triple_join }
 {
     for (input, a, b) in rows {
         put(alloc, join, *input % 3, *a, *b)?;
@@ -162,7 +214,7 @@ fn append_numbers(row: &Row, all: &mut Vec<i64>) -> Result<(), NoMemory> {
 
 // Some rows of all inputs, and more behind a punctuation.
 fn put_both(alloc: Global, join: &mut Join) -> Result<(), JoinStop>
-    requires { join.old.spec ≡ unswept triple }
+    requires { join.old.spec ≡ triple_join }
 {
     let before = [(0, 1, 10), (2, 7, 5), (2, 8, 5), (0, 1, 11), (1, 1, 5)];
     put_all(alloc, join, &before)?;
@@ -245,7 +297,7 @@ fn next_count(alloc: Global, join: &mut Join) -> Result<usize, NoMemory>
 
 // How many rows a run of so many tuples on two of the sides finds, where each has one partner.
 fn matches(alloc: Global, join: &mut Join, count: i64) -> Result<usize, JoinStop>
-    requires { join.old.spec ≡ unswept triple }
+    requires { join.old.spec ≡ triple_join }
 {
     let mut rows = 0_usize;
     for n in 0..count {
@@ -259,7 +311,7 @@ fn matches(alloc: Global, join: &mut Join, count: i64) -> Result<usize, JoinStop
 
 // The same behind one tuple of the third side.
 fn matches_in_all(alloc: Global, join: &mut Join) -> Result<usize, JoinStop>
-    requires { join.old.spec ≡ unswept triple }
+    requires { join.old.spec ≡ triple_join }
 {
     put(alloc, join, 2, 0, 0)?;
     next_count(alloc, join)?;
@@ -271,5 +323,231 @@ fn long_runs_are_fast(rt: HostRuntime) -> Result<(), Fail> {
     let alloc = rt.alloc();
     let mut join = join_of(alloc, 1_000_000)?;
     assert_eq!(rt; matches_in_all(alloc, &mut join)?, 2000);
+    Ok(())
+}
+
+// A number and a word.
+fn named(alloc: Global) -> Result<Schema, NoMemory>
+    ensures { IfOk result (λ s. s ≡ named) }
+{
+    let mut columns = List::new(alloc);
+    columns.push(column(alloc)?)?;
+    columns.push(Column {
+        name: List::copy_of(alloc, b"w")?,
+        kind: Kind::Text,
+    })?;
+    Ok(Schema::of(columns))
+}
+
+fn double_spec(alloc: Global) -> Result<JoinSpec, NoMemory>
+    ensures { IfOk result (λ s. s ≡ double) }
+{
+    let mut inputs = List::new(alloc);
+    inputs.push(named(alloc)?)?;
+    inputs.push(schema(alloc)?)?;
+    let mut classes = List::new(alloc);
+    classes.push(class(alloc, col(0, 0), col(1, 0))?)?;
+    Ok(JoinSpec { inputs, classes })
+}
+
+fn double_schemes(alloc: Global) -> Result<Schemes, NoMemory>
+    ensures { IfOk result (λ s. s ≡ double_schemes) }
+{
+    let mut lists = List::new(alloc);
+    lists.push(one_scheme(alloc, true)?)?;
+    lists.push(one_scheme(alloc, true)?)?;
+    Ok(Schemes::of(lists))
+}
+
+fn double_certs(alloc: Global) -> Result<List<Cert>, NoMemory>
+    ensures { IfOk result (λ c. c ≡ double_certs) }
+{
+    let mut certs = List::new(alloc);
+    certs.push(cert(alloc, &[by(1, 0)])?)?;
+    certs.push(cert(alloc, &[by(0, 0)])?)?;
+    Ok(certs)
+}
+
+// Items and bids for them.
+#[tactic(auto, using(crate::proofs::Triples::double_sound, crate::proofs::Triples::double_certified))]
+fn double_join(alloc: Global) -> Result<Join, NoMemory>
+    ensures { IfOk result (λ join. join.spec ≡ double_join) }
+{
+    let spec = double_spec(alloc)?;
+    Join::new(
+        alloc,
+        3,
+        spec,
+        double_schemes(alloc)?,
+        double_certs(alloc)?,
+        100,
+    )
+}
+
+// -2 for a wildcard, a constant number itself, and -3 for any other pattern.
+fn pattern_number(pattern: &Pattern) -> i64 {
+    match pattern.shape() {
+        Shape::Wild => -2,
+        Shape::Empty => -3,
+        Shape::Constant(Value::Int(n)) => *n,
+        Shape::Constant(Value::Text(_)) => -3,
+        Shape::Range(_, _) => -3,
+        Shape::Members(_) => -3,
+    }
+}
+
+fn append_patterns(puncts: &List<Punct>, all: &mut Vec<i64>) -> Result<(), NoMemory> {
+    for punct in puncts.as_slice() {
+        append_pattern_numbers(punct, all)?;
+    }
+    Ok(())
+}
+
+fn append_pattern_numbers(punct: &Punct, all: &mut Vec<i64>) -> Result<(), NoMemory> {
+    for pattern in punct.as_slice() {
+        all.push(pattern_number(pattern))?;
+    }
+    Ok(())
+}
+
+// A number of two columns: -2 stands for a wildcard.
+fn pattern(number: i64) -> Pattern {
+    if number == -2 {
+        Pattern::wild()
+    } else {
+        Pattern::constant(Value::Int(number))
+    }
+}
+
+// A punctuation comes; what it hands up at once is put at the end.
+fn hear(
+    alloc: Global,
+    join: &mut Join,
+    input: u32,
+    a: i64,
+    b: i64,
+    all: &mut Vec<i64>,
+) -> Result<(), JoinStop>
+    requires there { input < inputs join.old.spec }
+    requires two { arity join.old.spec input ≡ 2 }
+    ensures { join.new.spec ≡ join.old.spec }
+{
+    let mut patterns = List::new(alloc);
+    patterns.push(pattern(a))?;
+    patterns.push(pattern(b))?;
+    let mut out = List::new(alloc);
+    join.punct(input, Punct::of(patterns), &mut out)?;
+    append_patterns(&out, all)?;
+    Ok(())
+}
+
+// A sweep: how many rows it removes, their numbers, and what it hands up are put at the end.
+fn sweep(alloc: Global, join: &mut Join, input: u32, all: &mut Vec<i64>) -> Result<(), NoMemory>
+    requires { input < inputs join.old.spec }
+    ensures { join.new.spec ≡ join.old.spec }
+{
+    let mut removed = List::new(alloc);
+    let mut out = List::new(alloc);
+    let count = join.sweep(input, &mut removed, &mut out)?;
+    all.push((count % 1000) as i64)?;
+    for row in removed.as_slice() {
+        append_numbers(row, all)?;
+    }
+    append_patterns(&out, all)?;
+    Ok(())
+}
+
+// Sweeps of both inputs.
+fn sweep_both(alloc: Global, join: &mut Join, all: &mut Vec<i64>) -> Result<(), NoMemory>
+    requires { join.old.spec ≡ double_join }
+    ensures { join.new.spec ≡ double_join }
+{
+    sweep(alloc, join, 0, all)?;
+    sweep(alloc, join, 1, all)?;
+    Ok(())
+}
+
+fn item(alloc: Global) -> Result<Row, NoMemory>
+    ensures { IfOk result (λ r. length r ≡ 2) }
+{
+    let mut values = List::new(alloc);
+    values.push(Value::Int(1))?;
+    values.push(Value::Text(SharedText::copy_of(alloc, b"ann")?))?;
+    Ok(Row::of(values))
+}
+
+// An item, a bid for it, and that no more of either come.
+fn item_and_bid(alloc: Global, join: &mut Join, all: &mut Vec<i64>) -> Result<(), JoinStop>
+    requires { join.old.spec ≡ double_join }
+    ensures { join.new.spec ≡ double_join }
+{
+    let item = item(alloc)?;
+    join.tuple(0, item)?;
+    let bid = row(alloc, 1, 50)?;
+    join.tuple(1, bid)?;
+    hear(alloc, join, 0, 1, -2, all)?;
+    hear(alloc, join, 1, 1, -2, all)?;
+    Ok(())
+}
+
+// Both are swept before any give, after the first, and after the second.
+fn sweeps_of_both(alloc: Global, join: &mut Join) -> Result<Vec<i64>, JoinStop>
+    requires { join.old.spec ≡ double_join }
+{
+    let mut all = Vec::new(alloc);
+    item_and_bid(alloc, join, &mut all)?;
+    sweep_both(alloc, join, &mut all)?;
+    next_count(alloc, join)?;
+    sweep_both(alloc, join, &mut all)?;
+    next_count(alloc, join)?;
+    sweep_both(alloc, join, &mut all)?;
+    Ok(all)
+}
+
+#[test]
+fn rows_are_removed_and_then_punctuations_go_up(rt: HostRuntime) -> Result<(), Fail> {
+    let alloc = rt.alloc();
+    let mut join = double_join(alloc)?;
+    let swept = sweeps_of_both(alloc, &mut join)?;
+    let want = [0, 0, 0, 0, 1, 1, 1, -2, -2, -2, 1, 1, 50, -2, -2, 1, -2];
+    assert_eq!(rt; swept.as_slice(), want.as_slice());
+    assert_eq!(rt; (join.stored(), join.waiting()), (0, 0));
+    Ok(())
+}
+
+// The rows of a chain are given.
+fn chain_rows(alloc: Global, join: &mut Join) -> Result<(), JoinStop>
+    requires { join.old.spec ≡ triple_join }
+    ensures { join.new.spec ≡ triple_join }
+{
+    put_all(alloc, join, &[(0, 1, 0), (1, 1, 10), (1, 1, 20)])?;
+    next_count(alloc, join)?;
+    next_count(alloc, join)?;
+    next_count(alloc, join)?;
+    Ok(())
+}
+
+// Then no more of the second input come, and one value after the other of the third is closed.
+fn sweeps_of_chain(alloc: Global, join: &mut Join) -> Result<Vec<i64>, JoinStop>
+    requires { join.old.spec ≡ triple_join }
+{
+    let mut all = Vec::new(alloc);
+    chain_rows(alloc, join)?;
+    hear(alloc, join, 1, 1, -2, &mut all)?;
+    hear(alloc, join, 2, -2, 10, &mut all)?;
+    sweep(alloc, join, 0, &mut all)?;
+    hear(alloc, join, 2, -2, 20, &mut all)?;
+    sweep(alloc, join, 0, &mut all)?;
+    Ok(all)
+}
+
+#[test]
+fn each_partner_of_a_row_is_asked_for(rt: HostRuntime) -> Result<(), Fail> {
+    let alloc = rt.alloc();
+    let mut join = join_of(alloc, 100)?;
+    let swept = sweeps_of_chain(alloc, &mut join)?;
+    let want = [-2, -2, -2, -2, -2, 10, 0, -2, -2, -2, -2, -2, 20, 1, 1, 0];
+    assert_eq!(rt; swept.as_slice(), want.as_slice());
+    assert_eq!(rt; (join.stored(), join.waiting()), (2, 1));
     Ok(())
 }
