@@ -40,13 +40,13 @@ abbrev join_kept : KeptOperator → KeptState
 join_kept (JoinKept k) = k
 join_kept _ = kept_of start
 
-module _ (streams : List (List Column)) (j : OneJoin) (is : IsJoinOf streams j) (part : JoinPart) (c : List ℕ) (u : List Out) (history : List Entry)
-    (S : Holds (joined_plan streams j) (kept_joined streams part c u None) history) where
-  pub kept-is : kept_joined streams part c u None ≡ core_kept false (joined_plan streams j) history
+module _ (trace : Bool) (streams : List (List Column)) (j : OneJoin) (is : IsJoinOf streams j) (part : JoinPart) (c : List ℕ) (u : List Out) (history : List Entry)
+    (S : Holds trace (joined_plan streams j) (kept_joined streams part c u None) history) where
+  pub kept-is : kept_joined streams part c u None ≡ core_kept trace (joined_plan streams j) history
   kept-is = S.stands.0 (sym S.stands.3)
 
-  keeps : KeepsJoin streams j history false
-  keeps = keeps-join streams j is history false
+  keeps : KeepsJoin streams j history trace
+  keeps = keeps-join streams j is history trace
 
   part-at : part.kept ≡ kept_of (join_at (nodes_from (joined_plan streams j) history) (length streams))
   part-at =
@@ -77,27 +77,27 @@ module _ (streams : List (List Column)) (j : OneJoin) (is : IsJoinOf streams j) 
       → IsEntryAllowed (reached_of false (joined_plan streams j) history) entry
       → (c' : List ℕ) (u' : List Out) (t' : Option Stop)
       → c' ≡ closed_after c entry.closing entry.event
-      → u' ≡ undrained_after false (reached_of false (joined_plan streams j) history) entry.event
+      → u' ≡ undrained_after trace (reached_of trace (joined_plan streams j) history) entry.event
       → false ≡ halted_after false entry.event
       → t' ≡ stop_after None entry.event
-      → Holds (joined_plan streams j) (kept_joined streams part' c' u' t') (history ++ entry ∷ [])
+      → Holds trace (joined_plan streams j) (kept_joined streams part' c' u' t') (history ++ entry ∷ [])
   entered entry es by part' pk pp adds grows m c' u' t' hc hu hh ht =
       let n = length streams in
       let plan = joined_plan streams j in
-      let after = keeps-join streams j is (history ++ entry ∷ []) false in
-      let r : reached_of false plan (history ++ entry ∷ []) ≡ next false (reached_of false plan history) entry = adds.reached false in
+      let after = keeps-join streams j is (history ++ entry ∷ []) trace in
+      let r : reached_of trace plan (history ++ entry ∷ []) ≡ next trace (reached_of trace plan history) entry = adds.reached trace in
       let made : part'.kept ≡ kept_of (join_at (nodes_from plan (history ++ entry ∷ [])) n) =
       pk ∙ ap (λ (ss : List Step). kept_of (run j.spec start ss)) (sym (more-steps streams j is history entry es by))
       ∙ sym (ap (λ (o : Operator). kept_of (state_in o)) (state-is streams j is (history ++ entry ∷ []))) in
       let stored : length part'.kept.stored ≡ stored_at (nodes_by (nodes_from plan history) entry.event) n =
       ap (λ (k : KeptState). length k.stored) made ∙ ap (λ (ns : List Node). stored_at ns n) adds.nodes in
       let peak : part'.peak ≡ peak_of plan (history ++ entry ∷ []) n = pp ∙ ap₂ max peak-is stored ∙ sym (adds.peak n) in
-      let closed : c' ≡ (reached_of false plan (history ++ entry ∷ [])).closed =
+      let closed : c' ≡ (reached_of trace plan (history ++ entry ∷ [])).closed =
       hc ∙ ap (λ (z : List ℕ). closed_after z entry.closing entry.event) (ap (λ k. k.closed) kept-is) ∙ sym (ap (λ (z : Reached). z.closed) r) in
-      let undrained : u' ≡ (reached_of false plan (history ++ entry ∷ [])).undrained = hu ∙ sym (ap (λ (z : Reached). z.undrained) r) in
-      let halted : false ≡ (reached_of false plan (history ++ entry ∷ [])).halted =
+      let undrained : u' ≡ (reached_of trace plan (history ++ entry ∷ [])).undrained = hu ∙ sym (ap (λ (z : Reached). z.undrained) r) in
+      let halted : false ≡ (reached_of trace plan (history ++ entry ∷ [])).halted =
       hh ∙ ap (λ (z : Bool). halted_after z entry.event) S.stands.2 ∙ sym (ap (λ (z : Reached). z.halted) r) in
-      let stop : t' ≡ (reached_of false plan (history ++ entry ∷ [])).stop =
+      let stop : t' ≡ (reached_of trace plan (history ++ entry ∷ [])).stop =
       ht ∙ ap (λ (z : Option Stop). stop_after z entry.event) S.stands.3 ∙ sym (ap (λ (z : Reached). z.stop) r) in
       let nodes = ap (λ (k : KeptState). replicate n NothingKept ++ JoinKept k ∷ []) made ∙ sym after.nodes in
       let counts = ap (λ (k : KeptState). replicate n 0 ++ k.next ∷ []) made ∙ sym after.counts in

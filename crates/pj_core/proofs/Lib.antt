@@ -14,3 +14,7 @@ pub mod Turning
 pub mod Probed
 pub mod Words
 pub mod Fresh
+pub mod Sweeping
+pub mod Making
+pub mod TurnEnds
+pub mod Samples

@@ -1,28 +1,31 @@
 -- A sound plan of streams and at most one join of them: its join, if it has one, is the last node and is of all its streams.
-use Rattle.std.proofs.Common.{ℕ, zero, suc, ◌+◌, ◌-◌, ◌≤◌, ◌<◌, Bool, true, false, cond, ◌==◌, nat_le, List, [], ◌∷◌, ◌++◌, ◌≡◌, map, length, take, get_or, slice_get, Option, Some, refl, sym, ap, ap₂, ◌∙◌, subst, inl, inr, append-nil, arith}
+use Rattle.std.proofs.Common.{ℕ, zero, suc, ◌+◌, ◌-◌, ◌≤◌, ◌<◌, Bool, true, false, cond, ◌==◌, nat_le, List, [], ◌∷◌, ◌++◌, ◌≡◌, map, length, take, drop, get_or, slice_get, Option, Some, None, refl, sym, ap, ap₂, ◌∙◌, subst, inl, inr, append-nil, arith}
 use Rattle.std.proofs.Math.Seq.{get_or-append_seam}
 use Rattle.std.proofs.lemmas.Bool.{false≢true, and_parts, eqb-true, eq-eqb, leb-true}
-use Rattle.std.proofs.lemmas.List.{length-map, length-append, get_or_append_left, map-append, take_more, take_all}
+use Rattle.std.proofs.lemmas.List.{length-map, length-append, get_or_append_left, get_or_at, take_more, take_all}
 use Rattle.std.proofs.lemmas.List.Elements.{filter-append}
 use Rattle.pj_value.specs.Lists.{In}
 use Rattle.pj_value.proofs.Members.{none_from, map-same}
 use Rattle.pj_shape.specs.declared.columns.Column.{Column}
+use Rattle.pj_shape.specs.declared.joins.CertStep.{CertStep}
 use Rattle.pj_shape.specs.declared.joins.JoinSpec.{JoinSpec}
+use Rattle.pj_shape.specs.Sound.{IsSoundSpec}
+use Rattle.pj_scheme.specs.Derived.{inputs_schemes, schemes_of}
 use Rattle.pj_plan.specs.declared.node.Node.{Node as Operation}
 use Rattle.pj_plan.specs.declared.node.Node.TheVariants.{Stream as StreamNode, Select as SelectNode, Project as ProjectNode, Union as UnionNode, Join as JoinNode, Group as GroupNode}
 use Rattle.pj_plan.specs.declared.node.PlanNode.{PlanNode}
-use Rattle.pj_plan.specs.declared.node.Outline.{Outline}
+use Rattle.pj_core.specs.Plans.{IsRun, RunPlan, are_run, certs_behind, node_of, nodes_of, nodes_with, operator_of, run_plan, schema_in, streams_in}
 use Rattle.pj_plan.specs.Nodes.{inputs_of, is_join, is_stream, joins_of, numbers_from, streams_of}
 use Rattle.pj_plan.specs.Canonical.{no_node, node_at, node_schema}
 use Rattle.pj_plan.specs.Sound.{AreDistinct, HasParent, IsSoundNode, IsSoundOperator, IsSoundPlan, all_inputs}
 use Rattle.pj_plan.proofs.Lists.{in_at}
-use Rattle.pj_laws.specs.Join.{has, AreDistinct as AreApart}
-use Rattle.pj_laws.specs.Plan.{Node}
-use Rattle.pj_laws.specs.CoreKept.{IsJoinOf, IsPlanOf, IsStreamsPlan, OneJoin, columns_of, nodes_of_streams, stream_of}
+use Rattle.pj_laws.specs.Join.{has, start, AreCertified, AreDistinct as AreApart}
+use Rattle.pj_laws.specs.Plan.{Join, Node, nowhere, operator_at}
+use Rattle.pj_laws.specs.HistoryLaws.{AllAreCertified, Certified}
+use Rattle.pj_laws.specs.CoreKept.{IsJoinOf, IsPlanOf, IsStreamsPlan, OneJoin, columns_of, join_of, nodes_of_streams, stream_of}
 use Rattle.pj_laws.specs.CoreKept.{joins_of as joins_behind}
-use Rattle.pj_join.specs.Joins.{unswept}
-use Rattle.pj_core.specs.Plans.{IsRun, are_run, node_of, nodes_of, operator_of, schema_in, streams_in}
-use Rattle.pj_core.specs.Forms.{join_as, plan_join, stream_total, streams_plan}
+use Rattle.pj_join.specs.Joins.{join_data}
+use Rattle.pj_core.specs.Forms.{columns_in, first_certs, join_as, last_join, plan_join, stream_total, streams_plan}
 use Rattle.pj_core.specs.Parts.{IsSoundAny}
 
 -- ---- the inputs of a join
@@ -159,13 +162,22 @@ all_streams n (node ∷ nodes) e = go (is_stream node.node) refl (λ more. all_s
 abbrev node_with : List ℕ → List Column → Operation → PlanNode
 node_with name schema operation = record { name = name; schema = schema; node = operation }
 
-stream_node : (schema : List Column) (operation : Operation) → is_stream operation ≡ true → record { inputs = inputs_of operation; operator = operator_of schema operation } ≡ stream_of schema
-stream_node schema (StreamNode schemes) t = refl
-stream_node schema (SelectNode input test) t = absurd (false≢true t)
-stream_node schema (ProjectNode input columns) t = absurd (false≢true t)
-stream_node schema (UnionNode inputs) t = absurd (false≢true t)
-stream_node schema (JoinNode inputs spec) t = absurd (false≢true t)
-stream_node schema (GroupNode input spec) t = absurd (false≢true t)
+stream_node : (schemes : List (List (List Bool))) (certs : List (List CertStep)) (schema : List Column) (operation : Operation) → is_stream operation ≡ true
+    → record { inputs = inputs_of operation; operator = operator_of schemes certs schema operation } ≡ stream_of schema
+stream_node schemes certs schema (StreamNode stated) t = refl
+stream_node schemes certs schema (SelectNode input test) t = absurd (false≢true t)
+stream_node schemes certs schema (ProjectNode input columns) t = absurd (false≢true t)
+stream_node schemes certs schema (UnionNode inputs) t = absurd (false≢true t)
+stream_node schemes certs schema (JoinNode inputs spec) t = absurd (false≢true t)
+stream_node schemes certs schema (GroupNode input spec) t = absurd (false≢true t)
+
+no_join : (operation : Operation) → is_stream operation ≡ true → is_join operation ≡ false
+no_join (StreamNode schemes) t = refl
+no_join (SelectNode input test) t = refl
+no_join (ProjectNode input columns) t = refl
+no_join (UnionNode inputs) t = refl
+no_join (JoinNode inputs spec) t = absurd (false≢true t)
+no_join (GroupNode input spec) t = refl
 
 no_inputs : (operation : Operation) → is_stream operation ≡ true → inputs_of operation ≡ []
 no_inputs (StreamNode schemes) t = refl
@@ -175,9 +187,17 @@ no_inputs (UnionNode inputs) t = absurd (false≢true t)
 no_inputs (JoinNode inputs spec) t = absurd (false≢true t)
 no_inputs (GroupNode input spec) t = absurd (false≢true t)
 
-stream_nodes : (nodes : List PlanNode) → AreStreams nodes → map node_of nodes ≡ map stream_of (map schema_in nodes)
-stream_nodes [] a = refl
-stream_nodes (node ∷ nodes) a = ap₂ (λ (x : Node) (xs : List Node). x ∷ xs) (stream_node node.schema node.node a.0) (stream_nodes nodes a.1)
+-- the node behind streams has the first of the certificates
+behind_streams : (schemes : List (List (List Bool))) (certs : List (List (List CertStep))) (front : List PlanNode) (last : PlanNode) → AreStreams front
+    → nodes_with schemes certs (front ++ last ∷ []) ≡ map stream_of (map schema_in front) ++ node_of schemes (first_certs certs) last ∷ []
+behind_streams schemes certs [] last a = refl
+behind_streams schemes certs (node ∷ front) last a =
+    ap₂ (λ (x : Node) (xs : List Node). x ∷ xs) (stream_node schemes (first_certs certs) node.schema node.node a.0)
+    (ap (λ (b : Bool). nodes_with schemes (cond b (drop 1 certs) certs) (front ++ last ∷ [])) (no_join node.node a.0) ∙ behind_streams schemes certs front last a.1)
+
+pub length_with : (schemes : List (List (List Bool))) (certs : List (List (List CertStep))) (nodes : List PlanNode) → length (nodes_with schemes certs nodes) ≡ length nodes
+length_with schemes certs [] = refl
+length_with schemes certs (node ∷ nodes) = ap suc (length_with schemes (certs_behind node certs) nodes)
 
 streams_kept : (nodes : List PlanNode) → AreStreams nodes → streams_in nodes ≡ nodes
 streams_kept [] a = refl
@@ -201,9 +221,9 @@ columns_same (node ∷ nodes) (suc k) = columns_same nodes k
 -- ---- the form of a plan
 
 -- the nodes are streams, and behind them the join that is the last node, if it is one
-record HasForm (nodes : List PlanNode) : Type 0 where
-  form : map node_of nodes ≡ map stream_of (map schema_in (streams_in nodes)) ++ joins_behind (join_as (node_at nodes (length nodes - 1)))
-  plan : IsPlanOf (map schema_in (streams_in nodes)) (join_as (node_at nodes (length nodes - 1)))
+record HasForm (schemes : List (List (List Bool))) (certs : List (List (List CertStep))) (nodes : List PlanNode) : Type 0 where
+  form : nodes_with schemes certs nodes ≡ map stream_of (map schema_in (streams_in nodes)) ++ joins_behind (join_as schemes (first_certs certs) (node_at nodes (length nodes - 1)))
+  plan : IsPlanOf (map schema_in (streams_in nodes)) (join_as schemes (first_certs certs) (node_at nodes (length nodes - 1)))
 
 -- what a test of the form tells
 record HasCounts (nodes : List PlanNode) : Type 0 where
@@ -216,7 +236,7 @@ counts nodes run =
     record { joins = leb-true (length (joins_of nodes)) 1 p.0; all = eqb-true (length (streams_of nodes) + length (joins_of nodes)) (length nodes) p.1 }
 
 -- streams, and behind them one join
-module _ (front : List PlanNode) (name : List ℕ) (schema : List Column) (inputs : List ℕ) (spec : JoinSpec) where
+module _ (schemes : List (List (List Bool))) (certs : List (List (List CertStep))) (front : List PlanNode) (name : List ℕ) (schema : List Column) (inputs : List ℕ) (spec : JoinSpec) where
   abbrev last : PlanNode
   last = node_with name schema (JoinNode inputs spec)
 
@@ -224,7 +244,7 @@ module _ (front : List PlanNode) (name : List ℕ) (schema : List Column) (input
   here = front ++ last ∷ []
 
   abbrev join_here : OneJoin
-  join_here = record { inputs = inputs; spec = unswept spec }
+  join_here = record { inputs = inputs; spec = join_data spec (inputs_schemes schemes inputs) (first_certs certs) }
 
   total : length here ≡ length front + 1
   total = length-append front (last ∷ [])
@@ -299,25 +319,26 @@ module _ (front : List PlanNode) (name : List ℕ) (schema : List Column) (input
     place : length here - 1 ≡ length front
     place = let n = total in omega (arith, n)
 
-    join_is : join_as (node_at here (length here - 1)) ≡ Some join_here
-    join_is = ap (λ (n : ℕ). join_as (node_at here n)) place ∙ ap join_as at_last
+    join_is : join_as schemes (first_certs certs) (node_at here (length here - 1)) ≡ Some join_here
+    join_is = ap (λ (n : ℕ). join_as schemes (first_certs certs) (node_at here n)) place ∙ ap (join_as schemes (first_certs certs)) at_last
 
-    joined_form : HasForm here
+    joined_form : HasForm schemes certs here
     joined_form = record {
       form =
-          map-append node_of front (last ∷ [])
-          ∙ ap₂ (λ (xs : List Node) (o : Option OneJoin). xs ++ joins_behind o) (stream_nodes front front_streams ∙ ap (λ (ns : List PlanNode). map stream_of (map schema_in ns)) (sym streams_are)) (sym join_is);
-      plan = subst (λ (ns : List PlanNode). IsPlanOf (map schema_in ns) (join_as (node_at here (length here - 1)))) (sym streams_are)
+          behind_streams schemes certs front last front_streams
+          ∙ ap₂ (λ (xs : List Node) (o : Option OneJoin). xs ++ joins_behind o) (ap (λ (ns : List PlanNode). map stream_of (map schema_in ns)) (sym streams_are)) (sym join_is);
+      plan = subst (λ (ns : List PlanNode). IsPlanOf (map schema_in ns) (join_as schemes (first_certs certs) (node_at here (length here - 1)))) (sym streams_are)
           (subst (IsPlanOf (map schema_in front)) (sym join_is) joined_plan_of);
     }
 
 -- a stream that is the last node is the only one: the node before it feeds none
-lone_form : (front : List PlanNode) (name : List ℕ) (schema : List Column) (schemes : List (List Bool)) → IsSoundPlan (front ++ node_with name schema (StreamNode schemes) ∷ []) → HasForm (front ++ node_with name schema (StreamNode schemes) ∷ [])
-lone_form [] name schema schemes sound = record { form = refl; plan = refl }
-lone_form (node ∷ front) name schema schemes sound = absurd (fed (sound.led (length front) (let n = long in omega (arith, n))))
+lone_form : (schemes : List (List (List Bool))) (certs : List (List (List CertStep))) (front : List PlanNode) (name : List ℕ) (schema : List Column) (stated : List (List Bool))
+    → IsSoundPlan (front ++ node_with name schema (StreamNode stated) ∷ []) → HasForm schemes certs (front ++ node_with name schema (StreamNode stated) ∷ [])
+lone_form schemes certs [] name schema stated sound = record { form = refl; plan = refl }
+lone_form schemes certs (node ∷ front) name schema stated sound = absurd (fed (sound.led (length front) (let n = long in omega (arith, n))))
   where
     last : PlanNode
-    last = node_with name schema (StreamNode schemes)
+    last = node_with name schema (StreamNode stated)
 
     all : List PlanNode
     all = (node ∷ front) ++ last ∷ []
@@ -344,14 +365,15 @@ neither front last s j run =
     let few = at_most 0 front in
     omega (arith, all, long, streams, joins, few)
 
-last_form : (front : List PlanNode) (name : List ℕ) (schema : List Column) (operation : Operation) → IsSoundPlan (front ++ node_with name schema operation ∷ []) → are_run (front ++ node_with name schema operation ∷ []) ≡ true
-    → HasForm (front ++ node_with name schema operation ∷ [])
-last_form front name schema (StreamNode schemes) sound run = lone_form front name schema schemes sound
-last_form front name schema (SelectNode input test) sound run = absurd (neither front (node_with name schema (SelectNode input test)) refl refl run)
-last_form front name schema (ProjectNode input columns) sound run = absurd (neither front (node_with name schema (ProjectNode input columns)) refl refl run)
-last_form front name schema (UnionNode inputs) sound run = absurd (neither front (node_with name schema (UnionNode inputs)) refl refl run)
-last_form front name schema (JoinNode inputs spec) sound run = joined_form front name schema inputs spec sound run
-last_form front name schema (GroupNode input spec) sound run = absurd (neither front (node_with name schema (GroupNode input spec)) refl refl run)
+last_form : (schemes : List (List (List Bool))) (certs : List (List (List CertStep))) (front : List PlanNode) (name : List ℕ) (schema : List Column) (operation : Operation)
+    → IsSoundPlan (front ++ node_with name schema operation ∷ []) → are_run (front ++ node_with name schema operation ∷ []) ≡ true
+    → HasForm schemes certs (front ++ node_with name schema operation ∷ [])
+last_form schemes certs front name schema (StreamNode stated) sound run = lone_form schemes certs front name schema stated sound
+last_form schemes certs front name schema (SelectNode input test) sound run = absurd (neither front (node_with name schema (SelectNode input test)) refl refl run)
+last_form schemes certs front name schema (ProjectNode input columns) sound run = absurd (neither front (node_with name schema (ProjectNode input columns)) refl refl run)
+last_form schemes certs front name schema (UnionNode inputs) sound run = absurd (neither front (node_with name schema (UnionNode inputs)) refl refl run)
+last_form schemes certs front name schema (JoinNode inputs spec) sound run = joined_form schemes certs front name schema inputs spec sound run
+last_form schemes certs front name schema (GroupNode input spec) sound run = absurd (neither front (node_with name schema (GroupNode input spec)) refl refl run)
 
 -- the nodes before the last, and the last
 last_split : (nodes : List PlanNode) → 1 ≤ length nodes → take (length nodes - 1) nodes ++ get_or nodes (length nodes - 1) no_node ∷ [] ≡ nodes
@@ -360,49 +382,99 @@ last_split nodes some =
     let again : length nodes ≤ length nodes - 1 + 1 = omega (arith, some) in
     sym (take_more nodes (length nodes - 1) no_node less) ∙ take_all (length nodes - 1 + 1) nodes again
 
-form-of : (nodes : List PlanNode) → IsSoundPlan nodes → are_run nodes ≡ true → HasForm nodes
-form-of nodes sound run =
+form-of : (schemes : List (List (List Bool))) (certs : List (List (List CertStep))) (nodes : List PlanNode) → IsSoundPlan nodes → are_run nodes ≡ true → HasForm schemes certs nodes
+form-of schemes certs nodes sound run =
     let last = get_or nodes (length nodes - 1) no_node in
     let split = last_split nodes sound.some in
-    subst HasForm split
-    (last_form (take (length nodes - 1) nodes) last.name last.schema last.node (subst IsSoundPlan (sym split) sound) (subst (λ (ns : List PlanNode). are_run ns ≡ true) (sym split) run))
+    subst (HasForm schemes certs) split
+    (last_form schemes certs (take (length nodes - 1) nodes) last.name last.schema last.node (subst IsSoundPlan (sym split) sound) (subst (λ (ns : List PlanNode). are_run ns ≡ true) (sym split) run))
 
 -- ---- what laws see of the plan
 
-pub nodes-are : (plan : Outline) → IsSoundPlan plan.nodes → IsRun plan → nodes_of plan ≡ nodes_of_streams (streams_plan plan)
-nodes-are plan sound run = (form-of plan.nodes sound run).form
+pub nodes-are : (plan : RunPlan) → IsSoundPlan plan.nodes → IsRun plan.nodes → nodes_of plan ≡ nodes_of_streams (streams_plan plan)
+nodes-are plan sound run = (form-of (schemes_of plan.nodes) plan.certs plan.nodes sound run).form
 
-pub plan-is : (plan : Outline) → IsSoundPlan plan.nodes → IsRun plan → IsStreamsPlan (streams_plan plan)
-plan-is plan sound run = (form-of plan.nodes sound run).plan
+pub plan-is : (plan : RunPlan) → IsSoundPlan plan.nodes → IsRun plan.nodes → IsStreamsPlan (streams_plan plan)
+plan-is plan sound run = (form-of (schemes_of plan.nodes) plan.certs plan.nodes sound run).plan
 
 -- where the plan has a join, so many streams stand before it
-pub join-behind : (plan : Outline) → IsSoundPlan plan.nodes → IsRun plan → (j : OneJoin) → plan_join plan ≡ Some j → length plan.nodes - 1 ≡ stream_total plan
+pub join-behind : (plan : RunPlan) → IsSoundPlan plan.nodes → IsRun plan.nodes → (j : OneJoin) → plan_join plan ≡ Some j → length plan.nodes - 1 ≡ stream_total plan
 join-behind plan sound run j e =
     let count = ap length (nodes-are plan sound run) ∙ length-append (map stream_of (streams_plan plan).streams) (joins_behind (plan_join plan)) in
-    let nodes = length-map plan.nodes node_of in
+    let nodes = length_with (schemes_of plan.nodes) plan.certs plan.nodes in
     let streams = length-map (streams_plan plan).streams stream_of in
     let one = ap (λ (o : Option OneJoin). length (joins_behind o)) e in
     omega (arith, count, nodes, streams, one)
 
--- the join of a sound plan is sound
-sound_at : (nodes : List PlanNode) (schema : List Column) (operation : Operation) → IsSoundOperator nodes schema operation → IsSoundAny (join_as operation)
-sound_at nodes schema (StreamNode schemes) s = tt
-sound_at nodes schema (SelectNode input test) s = tt
-sound_at nodes schema (ProjectNode input columns) s = tt
-sound_at nodes schema (UnionNode inputs) s = tt
-sound_at nodes schema (JoinNode inputs spec) s = s.0
-sound_at nodes schema (GroupNode input spec) s = tt
+-- ---- the join of a sound plan is sound
 
-pub join_is_sound : (nodes : List PlanNode) (n : ℕ) → IsSoundPlan nodes → n < length nodes → IsSoundAny (join_as (node_at nodes n))
-join_is_sound nodes n sound lt = sound_at nodes (node_schema nodes n) (node_at nodes n) (sound.each n lt).operator
+sound_at : (schemes : List (List (List Bool))) (certs : List (List CertStep)) (nodes : List PlanNode) (schema : List Column) (operation : Operation) → IsSoundOperator nodes schema operation
+    → (j : OneJoin) → join_as schemes certs operation ≡ Some j → IsSoundSpec j.spec.shape
+sound_at schemes certs nodes schema (StreamNode stated) s j e = cc
+sound_at schemes certs nodes schema (SelectNode input test) s j e = cc
+sound_at schemes certs nodes schema (ProjectNode input columns) s j e = cc
+sound_at schemes certs nodes schema (UnionNode inputs) s j e = cc
+sound_at schemes certs nodes schema (JoinNode inputs spec) s j e =
+    let same : record { inputs = inputs; spec = join_data spec (inputs_schemes schemes inputs) certs } ≡ j = cc in subst (λ (o : OneJoin). IsSoundSpec o.spec.shape) same s.0
+sound_at schemes certs nodes schema (GroupNode input spec) s j e = cc
 
-unswept_as : (operation : Operation) (j : OneJoin) → join_as operation ≡ Some j → j.spec ≡ unswept j.spec.shape
-unswept_as (StreamNode schemes) j e = cc
-unswept_as (SelectNode input test) j e = cc
-unswept_as (ProjectNode input columns) j e = cc
-unswept_as (UnionNode inputs) j e = cc
-unswept_as (JoinNode inputs spec) j e = let same : record { inputs = inputs; spec = unswept spec } ≡ j = cc in subst (λ (o : OneJoin). o.spec ≡ unswept o.spec.shape) same refl
-unswept_as (GroupNode input spec) j e = cc
+inputs_at : (schemes : List (List (List Bool))) (certs : List (List CertStep)) (operation : Operation) (j : OneJoin) → join_as schemes certs operation ≡ Some j → j.inputs ≡ inputs_of operation
+inputs_at schemes certs (StreamNode stated) j e = cc
+inputs_at schemes certs (SelectNode input test) j e = cc
+inputs_at schemes certs (ProjectNode input columns) j e = cc
+inputs_at schemes certs (UnionNode inputs) j e = cc
+inputs_at schemes certs (JoinNode inputs spec) j e =
+    let same : record { inputs = inputs; spec = join_data spec (inputs_schemes schemes inputs) certs } ≡ j = cc in subst (λ (o : OneJoin). o.inputs ≡ inputs) same refl
+inputs_at schemes certs (GroupNode input spec) j e = cc
 
-pub never-swept : (plan : Outline) (j : OneJoin) → plan_join plan ≡ Some j → j.spec ≡ unswept j.spec.shape
-never-swept plan j e = unswept_as (node_at plan.nodes (length plan.nodes - 1)) j e
+-- the inputs of the join are those of the last node
+pub inputs-last : (plan : RunPlan) (j : OneJoin) → plan_join plan ≡ Some j → j.inputs ≡ inputs_of (node_at plan.nodes (length plan.nodes - 1))
+inputs-last plan j e = inputs_at (schemes_of plan.nodes) (first_certs plan.certs) (node_at plan.nodes (length plan.nodes - 1)) j e
+
+joins_at : (schemes : List (List (List Bool))) (certs : List (List CertStep)) (operation : Operation) (j : OneJoin) → join_as schemes certs operation ≡ Some j → is_join operation ≡ true
+joins_at schemes certs (StreamNode stated) j e = cc
+joins_at schemes certs (SelectNode input test) j e = cc
+joins_at schemes certs (ProjectNode input columns) j e = cc
+joins_at schemes certs (UnionNode inputs) j e = cc
+joins_at schemes certs (JoinNode inputs spec) j e = refl
+joins_at schemes certs (GroupNode input spec) j e = cc
+
+-- and the last node is a join
+pub joins-last : (plan : RunPlan) (j : OneJoin) → plan_join plan ≡ Some j → is_join (node_at plan.nodes (length plan.nodes - 1)) ≡ true
+joins-last plan j e = joins_at (schemes_of plan.nodes) (first_certs plan.certs) (node_at plan.nodes (length plan.nodes - 1)) j e
+
+-- the join among nodes that are certified is so
+certified_in : (streams : List (List Column)) (join : Option OneJoin) → AllAreCertified (nodes_of_streams (record { streams = streams; join = join })) → (j : OneJoin) → join ≡ Some j → AreCertified j.spec
+certified_in streams None all j e = cc
+certified_in streams (Some i) all j e =
+    let at : operator_at (map stream_of streams ++ join_of i ∷ []) (length streams) ≡ Join i.spec start =
+    ap (λ (node : Node). node.operator) (get_or_at (map stream_of streams) (join_of i) [] nowhere (length streams) (length-map streams stream_of)) in
+    let long = length-append (map stream_of streams) (join_of i ∷ []) in
+    let wide = length-map streams stream_of in
+    let there = all (length streams) (omega (arith, long, wide)) in
+    let same : i ≡ j = cc in
+    subst (λ (o : OneJoin). AreCertified o.spec) same (subst Certified at there)
+
+sound_any : (join : Option OneJoin) → ((j : OneJoin) → join ≡ Some j → IsSoundSpec j.spec.shape × AreCertified j.spec) → IsSoundAny join
+sound_any None f = tt
+sound_any (Some j) f = f j refl
+
+-- the join of a sound plan whose joins are certified
+pub join_is_sound : (nodes : List PlanNode) (certs : List (List (List CertStep))) → IsSoundPlan nodes → IsRun nodes → AllAreCertified (nodes_of (run_plan nodes certs true)) → IsSoundAny (last_join nodes certs)
+join_is_sound nodes certs sound run all =
+    sound_any (last_join nodes certs) (λ j e. (
+      sound_at (schemes_of nodes) (first_certs certs) nodes (node_schema nodes (length nodes - 1)) (node_at nodes (length nodes - 1))
+          (sound.each (length nodes - 1) (let some = sound.some in omega (arith, some))).operator j e,
+      certified_in (columns_in (run_plan nodes certs true)) (last_join nodes certs) (subst AllAreCertified (nodes-are (run_plan nodes certs true) sound run) all) j e,
+    ))
+
+-- a join among the nodes that is certified is so with its schemes as they were derived
+pub certified_as : (nodes : List PlanNode) (all schemes : List (List (List Bool))) (certs : List (List CertStep)) (n : ℕ) (inputs : List ℕ) (spec copy : JoinSpec)
+    → IsSoundAny (join_as (schemes_of nodes) certs (node_at nodes n)) → node_at nodes n ≡ JoinNode inputs spec → all ≡ schemes_of nodes → schemes ≡ inputs_schemes all (inputs_of (node_at nodes n)) → copy ≡ spec
+    → AreCertified (join_data copy schemes certs)
+certified_as nodes all schemes certs n inputs spec copy sound is derived e copied =
+    let s = subst (λ (operation : Operation). IsSoundAny (join_as (schemes_of nodes) certs operation)) is sound in
+    let same : schemes ≡ inputs_schemes (schemes_of nodes) inputs =
+    e ∙ ap (λ (ss : List (List (List Bool))). inputs_schemes ss (inputs_of (node_at nodes n))) derived ∙ ap (λ (operation : Operation). inputs_schemes (schemes_of nodes) (inputs_of operation)) is in
+    subst (λ (shape : JoinSpec). AreCertified (join_data shape schemes certs)) (sym copied)
+    (subst (λ (ss : List (List (List Bool))). AreCertified (join_data spec ss certs)) (sym same) s.1)

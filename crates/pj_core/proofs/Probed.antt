@@ -1,6 +1,6 @@
 -- A ticket that is taken, worked on and given at once.
 use Rattle.std.proofs.Common.{ℕ, Bool, true, false, List, [], ◌∷◌, ◌++◌, ◌≡◌, map, Option, Some, None, refl, sym, ap, ◌∙◌, subst, append_assoc, arith}
-use Rattle.pj_plan.specs.declared.node.Outline.{Outline}
+use Rattle.pj_core.specs.Plans.{RunPlan}
 use Rattle.pj_laws.specs.declared.events.Event.TheVariants.{Take as Taken, Give as Given}
 use Rattle.pj_laws.specs.declared.events.Out.{Out}
 use Rattle.pj_laws.specs.declared.events.Out.TheVariants.{Tuple as RowOut}
@@ -36,7 +36,7 @@ probed-join j join before behind u p hands stands = record {
 
 -- ---- a core
 
-probes-one : (k : AreKnown) (plan : Outline) (l : ℕ) (j : Joined) (new : Option Joined) (c : List ℕ) (u v : List Out) → IsMadeOf plan l (Some j)
+probes-one : (k : AreKnown) (plan : RunPlan) (l : ℕ) (j : Joined) (new : Option Joined) (c : List ℕ) (u v : List Out) → IsMadeOf plan l (Some j)
     → ProbesOf j new u v → ProbesOne (core_of plan l (Some j) c u None) (core_of plan l new c v None)
 probes-one k plan l j new c u v made p =
     subst (λ (o : Option Joined). ProbesOne old (core_of plan l o c v None)) (sym p.gives)
@@ -78,7 +78,7 @@ probes-one k plan l j new c u v made p =
     gives : HasGiven mid last p.found p.found
     gives = has-given k plan l (Some behind) c u p.found p.found made takes.opens
 
-probes-any : (k : AreKnown) (plan : Outline) (l : ℕ) (joined new : Option Joined) (c : List ℕ) (u v : List Out) (more : Bool) → IsMadeOf plan l joined → ProbesAny more joined new u v
+probes-any : (k : AreKnown) (plan : RunPlan) (l : ℕ) (joined new : Option Joined) (c : List ℕ) (u v : List Out) (more : Bool) → IsMadeOf plan l joined → ProbesAny more joined new u v
     → MayProbe more (core_of plan l joined c u None) (core_of plan l new c v None)
 probes-any k plan l joined new c u v false made p =
     (ap (λ (o : Option Joined). core_of plan l o c v None) p.0 ∙ ap (λ (w : List Out). core_of plan l joined c w None) p.1, probes-none (stream_total plan) joined p.2)
@@ -86,7 +86,7 @@ probes-any k plan l None new c u v true made p = absurd p
 probes-any k plan l (Some j) new c u v true made p = probes-one k plan l j new c u v made p
 
 -- one probe of a core that has not stopped
-pub probed : (k : AreKnown) (plan : Outline) (l : ℕ) (joined : Option Joined) (c : List ℕ) (u : List Out) (t : Option Stop) (old : CoreState) → core_of plan l joined c u t ≡ old
+pub probed : (k : AreKnown) (plan : RunPlan) (l : ℕ) (joined : Option Joined) (c : List ℕ) (u : List Out) (t : Option Stop) (old : CoreState) → core_of plan l joined c u t ≡ old
     → IsMadeOf plan l joined → t ≡ None → (new : Option Joined) (v : List Out) (more : Bool) → ProbesAny more joined new u v → MayProbe more old (core_of plan l new c v t)
 probed k plan l joined c u t old is made n new v more p =
     subst (λ (o : CoreState). MayProbe more o (core_of plan l new c v t)) (ap (core_of plan l joined c u) (sym n) ∙ is)

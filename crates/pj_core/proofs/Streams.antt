@@ -2,10 +2,9 @@
 use Rattle.std.proofs.Common.{ℕ, zero, suc, ◌+◌, ◌<◌, Bool, true, false, cond, List, [], ◌∷◌, ◌≡◌, length, get_or, refl, sym, ap, ◌∙◌, arith}
 use Rattle.std.proofs.lemmas.List.{length-map}
 use Rattle.pj_plan.specs.declared.node.PlanNode.{PlanNode}
-use Rattle.pj_plan.specs.declared.node.Outline.{Outline}
+use Rattle.pj_core.specs.Plans.{RunPlan, schema_in, stream_columns, streams_in}
 use Rattle.pj_plan.specs.Nodes.{is_stream, numbers_from, streams_of}
 use Rattle.pj_plan.specs.Canonical.{node_schema}
-use Rattle.pj_core.specs.Plans.{schema_in, stream_columns, streams_in}
 use Rattle.pj_core.specs.Forms.{stream_total}
 
 -- the stream of this number stands at a place, and its columns are those of the node there
@@ -41,7 +40,7 @@ counted n (node ∷ nodes) = go (is_stream node.node) (counted (n + 1) nodes)
     go true e = ap suc e
     go false e = e
 
-pub streams_total : (plan : Outline) → length (streams_of plan.nodes) ≡ stream_total plan
+pub streams_total : (plan : RunPlan) → length (streams_of plan.nodes) ≡ stream_total plan
 streams_total plan = counted 0 plan.nodes ∙ sym (length-map (streams_in plan.nodes) schema_in)
 
 pub number_below : (nodes : List PlanNode) (k : ℕ) → k < length (streams_of nodes) → get_or (streams_of nodes) k 0 < length nodes

@@ -3,7 +3,7 @@ use Rattle.std.proofs.Common.{ℕ, ◌<◌, List, [], ◌∷◌, ◌++◌, ◌�
 use Rattle.std.proofs.lemmas.List.{reverse-append}
 use Rattle.pj_shape.specs.declared.columns.Column.{Column}
 use Rattle.pj_shape.specs.Columns.{kinds_of}
-use Rattle.pj_plan.specs.declared.node.Outline.{Outline}
+use Rattle.pj_core.specs.Plans.{RunPlan, stream_columns, streams_in}
 use Rattle.pj_plan.specs.Nodes.{streams_of}
 use Rattle.pj_pattern.specs.Fitting.{FitsKinds}
 use Rattle.pj_pattern.specs.declared.element.Element.{Element}
@@ -21,11 +21,10 @@ use Rattle.pj_join.specs.declared.found.JoinStop.{JoinStop}
 use Rattle.pj_join.specs.declared.found.JoinStop.TheVariants.{Limit as JoinFull}
 use Rattle.pj_core.specs.declared.joined.Joined.{Joined}
 use Rattle.pj_core.specs.Known.{AreKnown}
-use Rattle.pj_core.specs.Plans.{stream_columns, streams_in}
 use Rattle.pj_core.specs.Forms.{columns_in, plan_join, stream_total}
 use Rattle.pj_core.specs.Cores.{CoreState, Notes}
 use Rattle.pj_core.specs.Calls.{closing_of, HasArrived, HasGiven, IsCause, IsFresh, IsJoinNode, IsLookAt, IsOpen, IsPeak, IsRefused, StopsNow, CoreTakes}
-use Rattle.pj_core.specs.Parts.{FitsAny, HasRoom, IsFull, IsMadeOf, IsTakenOf, TakesAny, any_entered, any_fresh, core_of, given, join_in, join_stop, outs_after, part_in, peak_kept}
+use Rattle.pj_core.specs.Parts.{FitsAny, HasRoom, IsFull, IsMadeOf, IsTakenOf, TakesAny, any_entered, any_fresh, core_of, given, join_stop, outs_after, part_in, peak_kept}
 use Rattle.pj_core.proofs.Arriving.{arrival, has-arrived, is-cause}
 use Rattle.pj_core.proofs.Fitting.{fits-any, stop-of}
 use Rattle.pj_core.proofs.Holding.{placed}
@@ -37,7 +36,7 @@ use Rattle.pj_core.proofs.Streams.{streams_total}
 abbrev pub wilds : List Column → Element
 wilds columns = Punct (all_wild (length columns))
 
-module _ (k : AreKnown) (plan : Outline) (l : ℕ) (joined : Option Joined) (c : List ℕ) (u : List Out) (t : Option Stop) (old : CoreState)
+module _ (k : AreKnown) (plan : RunPlan) (l : ℕ) (joined : Option Joined) (c : List ℕ) (u : List Out) (t : Option Stop) (old : CoreState)
     (v : core_of plan l joined c u t ≡ old) (made : IsMadeOf plan l joined) where
   -- a core that has not stopped is the old one
   on-is : t ≡ None → core_of plan l joined c u None ≡ old
@@ -56,6 +55,11 @@ module _ (k : AreKnown) (plan : Outline) (l : ℕ) (joined : Option Joined) (c :
 
   pub stopped-now : t ≡ None → (s : Stop) → StopsNow old (core_of plan l joined c u (Some s)) s
   stopped-now e s = subst (λ (o : CoreState). StopsNow o (core_of plan l joined c u (Some s)) s) (on-is e) (stops-now k plan l joined joined c c u s made)
+
+  pub stopped-on : t ≡ None → (joined' : Option Joined) (u' : List Out) (s : Stop) → u' ≡ u → StopsNow old (core_of plan l joined' c u' (Some s)) s
+  stopped-on e joined' u' s q =
+      subst (λ (o : CoreState). StopsNow o (core_of plan l joined' c u' (Some s)) s) (on-is e)
+      (subst (λ (w : List Out). StopsNow (core_of plan l joined c u None) (core_of plan l joined' c w (Some s)) s) (sym q) (stops-now k plan l joined joined' c c u s made))
 
   -- ---- arrivals
 
@@ -79,22 +83,22 @@ module _ (k : AreKnown) (plan : Outline) (l : ℕ) (joined : Option Joined) (c :
       (is-cause k plan l joined c u made stream (there stream lt) e (join_stop (stream_total plan) stop) (stop-of (stream_total plan) joined stop full)))
 
   pub arrived-plain : t ≡ None → (stream : ℕ) → IsThere stream → (e : Element) (joined' : Option Joined) (u' : List Out)
-      → joined' ≡ any_entered joined stream e → u' ≡ outs_after (join_in joined) u e → HasRoom joined
+      → joined' ≡ any_entered joined stream e → u' ≡ outs_after joined u stream e → HasRoom joined
       → HasArrived old (core_of plan l joined' c u' t) (arrival stream e 0)
   arrived-plain n stream lt e joined' u' j q room =
       subst (λ (o : CoreState). HasArrived o (core_of plan l joined' c u' t) (arrival stream e 0)) (on-is n)
       (subst (λ (w : CoreState). HasArrived (core_of plan l joined c u None) w (arrival stream e 0))
-      (ap (λ (z : Option Joined). core_of plan l z c (outs_after (join_in joined) u e) None) (sym j) ∙ ap (λ (z : List Out). core_of plan l joined' c z None) (sym q) ∙ ap (core_of plan l joined' c u') (sym n))
+      (ap (λ (z : Option Joined). core_of plan l z c (outs_after joined u stream e) None) (sym j) ∙ ap (λ (z : List Out). core_of plan l joined' c z None) (sym q) ∙ ap (core_of plan l joined' c u') (sym n))
       (has-arrived k plan l joined c u made stream (there stream lt) e 0 room))
 
   arrived-closing : t ≡ None → (stream : ℕ) → IsThere stream → (e : Element) (joined' : Option Joined) (c' : List ℕ) (u' : List Out)
-      → joined' ≡ any_entered joined stream e → c' ≡ stream ∷ c → u' ≡ outs_after (join_in joined) u e → HasRoom joined
+      → joined' ≡ any_entered joined stream e → c' ≡ stream ∷ c → u' ≡ outs_after joined u stream e → HasRoom joined
       → HasArrived old (core_of plan l joined' c' u' t) (arrival stream e 1)
   arrived-closing n stream lt e joined' c' u' j p q room =
       subst (λ (o : CoreState). HasArrived o (core_of plan l joined' c' u' t) (arrival stream e 1)) (on-is n)
       (subst (λ (w : CoreState). HasArrived (core_of plan l joined c u None) w (arrival stream e 1))
-      (ap (λ (z : Option Joined). core_of plan l z (stream ∷ c) (outs_after (join_in joined) u e) None) (sym j)
-      ∙ ap (λ (z : List ℕ). core_of plan l joined' z (outs_after (join_in joined) u e) None) (sym p)
+      (ap (λ (z : Option Joined). core_of plan l z (stream ∷ c) (outs_after joined u stream e) None) (sym j)
+      ∙ ap (λ (z : List ℕ). core_of plan l joined' z (outs_after joined u stream e) None) (sym p)
       ∙ ap (λ (z : List Out). core_of plan l joined' c' z None) (sym q) ∙ ap (core_of plan l joined' c' u') (sym n))
       (has-arrived k plan l joined c u made stream (there stream lt) e 1 room))
 
@@ -113,7 +117,7 @@ module _ (k : AreKnown) (plan : Outline) (l : ℕ) (joined : Option Joined) (c :
       (wilds-fit (stream_columns (streams_in plan.nodes) stream)))
 
   pub arrived-closed : (columns : List Column) (stream : ℕ) → AreOf columns stream → t ≡ None → IsThere stream → (closed : List ℕ) (joined' : Option Joined) (closed' : List ℕ) (u' : List Out)
-      → c ≡ reverse closed → joined' ≡ any_entered joined stream (wilds columns) → closed' ≡ closed ++ stream ∷ [] → u' ≡ outs_after (join_in joined) u (wilds columns) → HasRoom joined
+      → c ≡ reverse closed → joined' ≡ any_entered joined stream (wilds columns) → closed' ≡ closed ++ stream ∷ [] → u' ≡ outs_after joined u stream (wilds columns) → HasRoom joined
       → HasArrived old (core_of plan l joined' (reverse closed') u' t) (arrival_of (closing_of old stream))
   arrived-closed columns stream e n lt closed joined' closed' u' r j p q room =
       subst (λ (z : Element). HasArrived old (core_of plan l joined' (reverse closed') u' t) (arrival stream z 1)) (wilds-are columns stream e)
@@ -154,7 +158,7 @@ module _ (k : AreKnown) (plan : Outline) (l : ℕ) (joined : Option Joined) (c :
   pub looked : (look : TheLook) → HasNumbers plan joined c u t look → IsLookAt old look
   looked look n = subst (λ (o : CoreState). IsLookAt o look) v (is-look k plan l joined c u t look made n)
 
-pub peaked : (plan : Outline) (l : ℕ) (joined : Option Joined) (c : List ℕ) (u : List Out) (t : Option Stop) (old : CoreState) → core_of plan l joined c u t ≡ old → IsMadeOf plan l joined
+pub peaked : (plan : RunPlan) (l : ℕ) (joined : Option Joined) (c : List ℕ) (u : List Out) (t : Option Stop) (old : CoreState) → core_of plan l joined c u t ≡ old → IsMadeOf plan l joined
     → (join peak : ℕ) → IsJoinNode old join → peak ≡ peak_kept (part_in joined) → IsPeak old join peak
 peaked plan l joined c u t old v made join peak n p =
     subst (λ (o : CoreState). IsPeak o join peak) v
@@ -162,7 +166,7 @@ peaked plan l joined c u t old v made join peak n p =
 
 -- ---- a new core
 
-pub fresh-core : (plan : Outline) (n l : ℕ) (joined : Option Joined) → IsMadeOf plan l joined → joined ≡ any_fresh n l (plan_join plan) → (c : List ℕ) → c ≡ [] → (u : List Out) → u ≡ []
+pub fresh-core : (plan : RunPlan) (n l : ℕ) (joined : Option Joined) → IsMadeOf plan l joined → joined ≡ any_fresh n l (plan_join plan) → (c : List ℕ) → c ≡ [] → (u : List Out) → u ≡ []
     → IsFresh (core_of plan l joined (reverse c) u None) plan l
 fresh-core plan n l joined made j c q u r =
     subst (λ (z : CoreState). IsFresh z plan l)

@@ -1,7 +1,6 @@
 -- What the calls of a core answer, and what they make of it.
 use Rattle.std.specs.Prelude.{ℕ, ◌+◌, ◌<◌, ◌≡◌, true, false, List, [], ◌∷◌, ◌++◌, map, filter, length, slice_index_or, sum, Option, Some, None}
-use Rattle.pj_plan.specs.declared.node.Outline.{Outline}
-use Rattle.pj_plan.specs.Nodes.{is_join, streams_of}
+use Rattle.pj_plan.specs.Nodes.{inputs_of, is_join, streams_of}
 use Rattle.pj_plan.specs.Canonical.{node_at}
 use Rattle.pj_pattern.specs.declared.element.Element.{Element}
 use Rattle.pj_pattern.specs.declared.element.Element.TheVariants.{Punct}
@@ -9,7 +8,7 @@ use Rattle.pj_laws.specs.Patterns.{all_wild}
 use Rattle.pj_laws.specs.CoreKept.{KeptOperator, NothingKept, UnionKept, JoinKept, GroupKept}
 use Rattle.pj_laws.specs.declared.events.Entry.{Entry}
 use Rattle.pj_laws.specs.declared.events.Event.{Event}
-use Rattle.pj_laws.specs.declared.events.Event.TheVariants.{Arrive, Take as Taken, Give as Given, Look as Looked, Stopped, Idle}
+use Rattle.pj_laws.specs.declared.events.Event.TheVariants.{Arrive, Take as Taken, Give as Given, Sweep as Swept, Look as Looked, Stopped, Idle}
 use Rattle.pj_laws.specs.declared.events.Look.{Look}
 use Rattle.pj_laws.specs.declared.events.Out.{Out}
 use Rattle.pj_laws.specs.declared.events.Stop.{Stop}
@@ -17,19 +16,19 @@ use Rattle.pj_laws.specs.declared.events.Stop.TheVariants.{Limit, NoMemory}
 use Rattle.pj_laws.specs.Join.{has, upto_from}
 use Rattle.pj_laws.specs.KeptState.{lacking}
 use Rattle.pj_laws.specs.Plan.{Node}
-use Rattle.pj_laws.specs.History.{pending_in, reached_of, state_in}
-use Rattle.pj_laws.specs.Outcomes.{goes_beyond, outputs_of, peak_of, results_of}
+use Rattle.pj_laws.specs.History.{nodes_by, pending_in, reached_of, state_in}
+use Rattle.pj_laws.specs.Outcomes.{goes_beyond, outputs_of, peak_of, results_of, stored_at}
 use Rattle.pj_laws.specs.Limits.{StaysWithin, StopsAt}
 use Rattle.pj_laws.specs.OneThread.{Turn, arrival_of, next_probe, plain, turn_entries}
 use Rattle.pj_join.specs.declared.found.Found.{Found}
 use Rattle.pj_join.specs.Joins.{IsTaken}
 use Rattle.pj_core.specs.Cores.{CoreState, MayFollow, Notes, NotesAllowed, StandsFor, nodes_after, nodes_in}
-use Rattle.pj_core.specs.Plans.{stream_columns, streams_in}
+use Rattle.pj_core.specs.Plans.{RunPlan, stream_columns, streams_in}
 
 -- ---- a new core
 
 -- nothing has happened yet
-pub record IsFresh (core : CoreState) (plan : Outline) (limit : ℕ) : Type 0 where
+pub record IsFresh (core : CoreState) (plan : RunPlan) (limit : ℕ) : Type 0 where
   pub of_plan : core.plan ≡ plan
   pub with_limit : core.limit ≡ limit
   pub undrained : core.kept.undrained ≡ []
@@ -131,6 +130,30 @@ pub record HasGiven (old new : CoreState) (probe found : Found) : Type 0 where
       → found.rows ≡ results_of (nodes_in old) history probe.join probe.ticket
       → StandsFor new (history ++ plain (Given probe.join probe.ticket) ∷ [])
 
+-- ---- sweeps
+
+-- the node is a join of the core's plan
+abbrev pub IsJoinNode : CoreState → ℕ → Type 0
+IsJoinNode core join = (join < length core.plan.nodes) × (is_join (node_at core.plan.nodes join) ≡ true)
+
+-- the node is a join of the core's plan, and has such an input
+abbrev pub IsJoinInput : CoreState → ℕ → ℕ → Type 0
+IsJoinInput core join input = IsJoinNode core join × (input < length (inputs_of (node_at core.plan.nodes join)))
+
+-- the number of tuples stored at a join before the sweep of an input, and after it
+abbrev pub stored_before : CoreState → List Entry → ℕ → ℕ
+stored_before core history join = stored_at (nodes_after core history) join
+
+abbrev pub stored_behind : CoreState → List Entry → ℕ → ℕ → ℕ
+stored_behind core history join input = stored_at (nodes_by (nodes_after core history) (Swept join input)) join
+
+-- the input of the join was swept, and so many tuples were removed; what the join hands up went as far as it goes
+pub record HasSwept (old new : CoreState) (join input count : ℕ) : Type 0 where
+  pub on : (old.kept.stop ≡ None) × (new.kept.stop ≡ None)
+  pub notes : Notes old new (plain (Swept join input))
+  pub within : HasRoomFor old (Swept join input)
+  pub removes : (history : List Entry) → StandsFor old history → count + stored_behind old history join input ≡ stored_before old history join
+
 -- ---- looks
 
 -- the number of tuples that are stored at these nodes, of those that are not given, and of punctuations that wait
@@ -164,10 +187,6 @@ pub record IsLookAt (core : CoreState) (look : Look) : Type 0 where
   pub tells : core.kept.stop ≡ None → (history : List Entry) → StandsFor core history → Tells core history look
   pub notes : Notes core core (plain (Looked look.pending))
 
--- the node is a join of the core's plan
-abbrev pub IsJoinNode : CoreState → ℕ → Type 0
-IsJoinNode core join = (join < length core.plan.nodes) × (is_join (node_at core.plan.nodes join) ≡ true)
-
 -- the greatest number of tuples that was stored at a join, while nothing stopped
 abbrev pub IsPeak : CoreState → ℕ → ℕ → Type 0
 IsPeak core join peak =
@@ -185,7 +204,7 @@ closing_of core stream = record { stream = stream; element = Punct (all_wild (le
 
 -- the entries of the turn behind this history
 abbrev pub turn_behind : CoreState → List Entry → Turn → List Entry
-turn_behind core history turn = turn_entries false (nodes_after core history) turn
+turn_behind core history turn = turn_entries true (nodes_after core history) turn
 
 -- none of the turn's entries brings an element beyond the limit
 abbrev pub TurnStaysWithin : CoreState → List Entry → Turn → Type 0
@@ -201,7 +220,7 @@ pub record MakesTurn (old new : CoreState) (turn : Turn) (outs : List Out) : Typ
   pub stands : (history : List Entry) → StandsFor old history → MayFollow old history (arrival_of turn)
       → StandsFor new (history ++ turn_behind old history turn)
   pub hands : (history : List Entry) → StandsFor old history → MayFollow old history (arrival_of turn)
-      → outs ≡ old.kept.undrained ++ outputs_of false (nodes_after old history) (turn_behind old history turn)
+      → outs ≡ old.kept.undrained ++ outputs_of old.plan.trace (nodes_after old history) (turn_behind old history turn)
 
 -- a front of the turn was made within the limit before the core stopped, and what it gained is not drained;
 -- where a limit stopped it, the first entry behind the front goes beyond
@@ -212,7 +231,7 @@ pub record MakesFront (old new : CoreState) (history : List Entry) (turn : Turn)
   pub within : StaysWithin old.limit (nodes_in old) history front
   pub stops : StopsAt old.limit (nodes_in old) (history ++ front) back stop
   pub stands : StandsFor new (history ++ front ++ plain (Stopped stop) ∷ [])
-  pub undrained : new.kept.undrained ≡ old.kept.undrained ++ outputs_of false (nodes_after old history) front
+  pub undrained : new.kept.undrained ≡ old.kept.undrained ++ outputs_of old.plan.trace (nodes_after old history) front
 
 pub record StopsInTurn (old new : CoreState) (turn : Turn) (stop : Stop) : Type 0 where
   pub plan : new.plan ≡ old.plan

@@ -1,15 +1,14 @@
 -- What contracts see of a core, and the histories that it stands for.
 use Rattle.std.specs.Prelude.{ℕ, ◌≡◌, false, List, [], ◌∷◌, ◌++◌}
-use Rattle.pj_plan.specs.declared.node.Outline.{Outline}
 use Rattle.pj_laws.specs.Plan.{Node}
 use Rattle.pj_laws.specs.declared.events.Entry.{Entry}
 use Rattle.pj_laws.specs.History.{IsEntryAllowed, IsLegal, reached_of, nodes_from}
 use Rattle.pj_laws.specs.CoreKept.{CoreKept, Stands}
-use Rattle.pj_core.specs.Plans.{nodes_of}
+use Rattle.pj_core.specs.Plans.{RunPlan, nodes_of}
 
--- the plan, how many elements may reach a join of it, and what is kept: of each node, and of the run
+-- the plan as it is run, how many elements may reach a join of it, and what is kept: of each node, and of the run
 pub record CoreState : Type 0 where
-  pub plan : Outline
+  pub plan : RunPlan
   pub limit : ℕ
   pub kept : CoreKept
 
@@ -20,7 +19,7 @@ nodes_in core = nodes_of core.plan
 -- the history is a legal one of the core's plan, and the core keeps what it has to after it
 pub record StandsFor (core : CoreState) (history : List Entry) : Type 0 where
   pub legal : IsLegal (nodes_in core) history
-  pub stands : Stands false (nodes_in core) core.kept history
+  pub stands : Stands core.plan.trace (nodes_in core) core.kept history
 
 -- the entry may follow the history
 abbrev pub MayFollow : CoreState → List Entry → Entry → Type 0

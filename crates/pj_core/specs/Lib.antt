@@ -5,3 +5,4 @@ pub mod Calls
 pub mod Parts
 pub mod Known
 pub mod Turns
+pub mod Samples

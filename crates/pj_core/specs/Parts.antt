@@ -1,12 +1,13 @@
 -- What the parts of a core are seen as, and what an arrival makes of them.
-use Rattle.std.specs.Prelude.{ℕ, ◌<◌, ◌≤◌, ◌≡◌, ◌≢◌, Bool, true, false, List, [], ◌∷◌, ◌++◌, map, length, max, replicate, Option, Some, None}
-use Rattle.pj_plan.specs.declared.node.Outline.{Outline}
+use Rattle.std.specs.Prelude.{ℕ, ◌<◌, ◌≤◌, ◌≡◌, ◌≢◌, Bool, true, false, if◌then◌else◌, List, [], ◌∷◌, ◌++◌, map, length, max, replicate, Option, Some, None}
+use Rattle.pj_value.specs.declared.values.Value.{Value}
 use Rattle.pj_plan.specs.Sound.{IsSoundPlan}
 use Rattle.pj_pattern.specs.declared.element.Element.{Element}
 use Rattle.pj_laws.specs.declared.events.Out.{Out}
+use Rattle.pj_laws.specs.declared.events.Out.TheVariants.{Punct as PunctOut, Purged}
 use Rattle.pj_laws.specs.declared.events.Stop.{Stop}
 use Rattle.pj_laws.specs.declared.events.Stop.TheVariants.{Limit, NoMemory}
-use Rattle.pj_laws.specs.Join.{Give, In, Step, Take, arity, has, inputs, joined, results, run, start}
+use Rattle.pj_laws.specs.Join.{AreCertified, Give, In, JoinData, Step, Sweep, Take, arity, has, inputs, joined, results, run, start}
 use Rattle.pj_shape.specs.Sound.{IsSoundSpec}
 use Rattle.pj_laws.specs.KeptState.{KeptState, kept_of}
 use Rattle.pj_laws.specs.Plan.{Fits, join_step}
@@ -16,10 +17,11 @@ use Rattle.pj_laws.specs.CoreKept.{KeptOperator, NothingKept, JoinKept, CoreKept
 use Rattle.pj_join.specs.declared.found.Found.{Found}
 use Rattle.pj_join.specs.declared.found.JoinStop.{JoinStop}
 use Rattle.pj_join.specs.declared.found.JoinStop.TheVariants.{Limit as JoinFull, NoMemory as JoinWants}
-use Rattle.pj_join.specs.Joins.{IsTaken, JoinView, StandsFor as JoinStandsFor, after, unswept}
+use Rattle.pj_join.specs.Joins.{IsTaken, JoinView, StandsFor as JoinStandsFor, after}
+use Rattle.pj_join.specs.Sweeping.{puncts_up, rows_off, swept_off}
 use Rattle.pj_core.specs.declared.joined.Joined.{Joined}
 use Rattle.pj_core.specs.Cores.{CoreState}
-use Rattle.pj_core.specs.Plans.{IsRun}
+use Rattle.pj_core.specs.Plans.{IsRun, RunPlan}
 use Rattle.pj_core.specs.Forms.{plan_join, stream_total}
 
 -- ---- what is seen of a join
@@ -64,20 +66,21 @@ all_kept streams part closed undrained stop = record {
   stop = stop;
 }
 
--- the join stands behind so many streams, has this limit, is never swept and hands up rows alone
+-- the join stands behind so many streams, has this limit, and each of its inputs has a certificate
 abbrev pub IsJoinedTo : ℕ → ℕ → Option Joined → Type 0
 IsJoinedTo streams limit None = Unit {0}
 IsJoinedTo streams limit (Some joined) =
-    (joined.join.node ≡ streams) × (joined.join.limit ≡ limit) × (joined.join.spec ≡ unswept joined.join.spec.shape)
+    (joined.join.node ≡ streams) × (joined.join.limit ≡ limit) × AreCertified joined.join.spec
 
 -- the plan is a sound one of streams and at most one join, and the join is the plan's
-abbrev pub IsMadeOf : Outline → ℕ → Option Joined → Type 0
+abbrev pub IsMadeOf : RunPlan → ℕ → Option Joined → Type 0
 IsMadeOf plan limit joined =
-    IsSoundPlan plan.nodes × IsRun plan × (join_in joined ≡ plan_join plan) × IsJoinedTo (stream_total plan) limit joined
+    IsSoundPlan plan.nodes × IsRun plan.nodes × (join_in joined ≡ plan_join plan) × IsJoinedTo (stream_total plan) limit joined
 
 -- ---- what is kept, in numbers
 
--- the number of pending tickets, of those that are not given, and of stored tuples; 0 where there is no join
+-- the number of pending tickets, of those that are not given, of stored tuples and of punctuations that wait; 0 where there is
+-- no join
 abbrev pub pending_of : Option JoinPart → ℕ
 pending_of None = 0
 pending_of (Some part) = length part.kept.pending
@@ -89,6 +92,10 @@ opened_kept (Some part) = length part.kept.opened
 abbrev pub stored_kept : Option JoinPart → ℕ
 stored_kept None = 0
 stored_kept (Some part) = length part.kept.stored
+
+abbrev pub waiting_kept : Option JoinPart → ℕ
+waiting_kept None = 0
+waiting_kept (Some part) = length part.kept.waiting
 
 abbrev pub peak_kept : Option JoinPart → ℕ
 peak_kept None = 0
@@ -106,10 +113,24 @@ abbrev pub any_fresh : ℕ → ℕ → Option OneJoin → Option Joined
 any_fresh streams limit None = None
 any_fresh streams limit (Some join) = Some (fresh_joined streams limit join)
 
--- the join of the plan is sound
+-- the join of the plan is sound, and each of its inputs has a certificate
 abbrev pub IsSoundAny : Option OneJoin → Type 0
 IsSoundAny None = Unit {0}
-IsSoundAny (Some join) = IsSoundSpec join.spec.shape
+IsSoundAny (Some join) = IsSoundSpec join.spec.shape × AreCertified join.spec
+
+-- what stays of a join whatever it does
+pub record JoinShape : Type 0 where
+  pub inputs : List ℕ
+  pub node : ℕ
+  pub spec : JoinData
+  pub limit : ℕ
+
+abbrev pub shape_of : Joined → JoinShape
+shape_of joined = record { inputs = joined.inputs; node = joined.join.node; spec = joined.join.spec; limit = joined.join.limit }
+
+abbrev pub shape_in : Option Joined → Option JoinShape
+shape_in None = None
+shape_in (Some joined) = Some (shape_of joined)
 
 -- ---- arrivals
 
@@ -145,13 +166,17 @@ abbrev pub any_entered : Option Joined → ℕ → Element → Option Joined
 any_entered None stream e = None
 any_entered (Some joined) stream e = Some (entered joined stream e)
 
+-- what the join hands out at an element of a stream: a punctuation that goes up at once
+abbrev pub outs_entered : Joined → ℕ → Element → List Out
+outs_entered joined stream e = map PunctOut (puncts_up joined.join (step_for joined.inputs stream e))
+
 -- the outputs behind an arrival: where there is no join, the element is handed out
-abbrev pub outs_after : Option OneJoin → List Out → Element → List Out
-outs_after None outs e = outs ++ out_of e ∷ []
-outs_after (Some join) outs e = outs
+abbrev pub outs_after : Option Joined → List Out → ℕ → Element → List Out
+outs_after None outs stream e = outs ++ out_of e ∷ []
+outs_after (Some joined) outs stream e = outs ++ outs_entered joined stream e
 
 -- what a core with these parts is seen as
-abbrev pub core_of : Outline → ℕ → Option Joined → List ℕ → List Out → Option Stop → CoreState
+abbrev pub core_of : RunPlan → ℕ → Option Joined → List ℕ → List Out → Option Stop → CoreState
 core_of plan limit joined closed undrained stop = record {
   plan = plan;
   limit = limit;
@@ -226,3 +251,41 @@ ProbesAny true (Some joined) new before behind = ProbesOf joined new before behi
 abbrev pub IsTakenOf : Option Joined → ℕ → Type 0
 IsTakenOf None ticket = ⊥
 IsTakenOf (Some joined) ticket = IsTaken joined.join.kept ticket
+
+-- ---- sweeps
+
+-- the input is one of the join's
+abbrev pub HasInput : Option Joined → ℕ → Type 0
+HasInput None input = Unit {0}
+HasInput (Some joined) input = input < inputs joined.join.spec
+
+-- how many inputs the join has; 0 where there is no join
+abbrev pub inputs_total : Option Joined → ℕ
+inputs_total None = 0
+inputs_total (Some joined) = length joined.inputs
+
+-- the join behind the sweep of an input
+abbrev pub swept : Joined → ℕ → Joined
+swept joined input = record joined { join = after joined.join (Sweep input) }
+
+abbrev pub any_swept : Option Joined → ℕ → Option Joined
+any_swept None input = None
+any_swept (Some joined) input = Some (swept joined input)
+
+-- with a trace a note of each of these rows that were removed from an input of a join
+abbrev pub notes_out : Bool → ℕ → ℕ → List (List Value) → List Out
+notes_out trace join input rows = if trace then map (Purged join input) rows else []
+
+-- what the sweep of an input hands out, where the join is this node: the notes of the removed rows, and then the punctuations
+abbrev pub outs_swept : Joined → Bool → ℕ → ℕ → List Out
+outs_swept joined trace join input = notes_out trace join input (rows_off joined.join input) ++ map PunctOut (puncts_up joined.join (Sweep input))
+
+-- the outputs behind a sweep
+abbrev pub outs_behind : Option Joined → List Out → Bool → ℕ → ℕ → List Out
+outs_behind None outs trace join input = outs
+outs_behind (Some joined) outs trace join input = outs ++ outs_swept joined trace join input
+
+-- how many tuples a sweep removes
+abbrev pub count_off : Option Joined → ℕ → ℕ
+count_off None input = 0
+count_off (Some joined) input = length (swept_off joined.join input)

@@ -1,14 +1,16 @@
 -- The nodes of a plan as histories speak of them, its streams, and which plans a core runs.
-use Rattle.std.specs.Prelude.{ℕ, ◌+◌, ◌≡◌, Bool, true, ◌&&◌, ◌==◌, nat_le, List, [], map, filter, length, slice_index_or}
+use Rattle.std.specs.Prelude.{ℕ, ◌+◌, ◌≡◌, Bool, true, ◌&&◌, ◌==◌, nat_le, if◌then◌else◌, List, [], ◌∷◌, map, filter, drop, length, slice_index_or}
 use Rattle.pj_shape.specs.declared.columns.Column.{Column}
 use Rattle.pj_plan.specs.declared.node.Node.{Node as Operation}
 use Rattle.pj_plan.specs.declared.node.Node.TheVariants.{Stream as StreamNode, Select as SelectNode, Project as ProjectNode, Union as UnionNode, Join as JoinNode, Group as GroupNode}
 use Rattle.pj_plan.specs.declared.node.PlanNode.{PlanNode}
-use Rattle.pj_plan.specs.declared.node.Outline.{Outline}
-use Rattle.pj_plan.specs.Nodes.{inputs_of, is_stream, streams_of, joins_of}
+use Rattle.pj_plan.specs.Nodes.{inputs_of, is_stream, is_join, streams_of, joins_of}
+use Rattle.pj_shape.specs.declared.joins.CertStep.{CertStep}
+use Rattle.pj_shape.specs.declared.joins.JoinSpec.{JoinSpec}
+use Rattle.pj_scheme.specs.Derived.{schemes_of, inputs_schemes}
 use Rattle.pj_laws.specs.Join.{start}
 use Rattle.pj_laws.specs.Plan.{Operator, Stream, Select, Project, Union, Join, Group, Node}
-use Rattle.pj_join.specs.Joins.{unswept}
+use Rattle.pj_join.specs.Joins.{join_data}
 
 -- ---- streams
 
@@ -25,21 +27,45 @@ stream_columns streams stream = slice_index_or (map schema_in streams) stream []
 
 -- ---- nodes
 
--- an operator at its start, with these columns; a join is never swept, and hands up rows alone
-abbrev pub operator_of : List Column → Operation → Operator
-operator_of schema (StreamNode schemes) = Stream schema []
-operator_of schema (SelectNode input test) = Select test
-operator_of schema (ProjectNode input columns) = Project columns
-operator_of schema (UnionNode inputs) = Union (length inputs) (record { came = []; waiting = [] })
-operator_of schema (JoinNode inputs spec) = Join (unswept spec) start
-operator_of schema (GroupNode input spec) = Group spec []
+-- A plan as it is run: its nodes, for each join in order a certificate of each of its inputs, and whether the rows that
+-- sweeps remove are noted
+pub record RunPlan : Type 0 where
+  pub nodes : List PlanNode
+  pub certs : List (List (List CertStep))
+  pub trace : Bool
 
-abbrev pub node_of : PlanNode → Node
-node_of node = record { inputs = inputs_of node.node; operator = operator_of node.schema node.node }
+abbrev pub run_plan : List PlanNode → List (List (List CertStep)) → Bool → RunPlan
+run_plan nodes certs trace = record { nodes = nodes; certs = certs; trace = trace }
+
+-- the join of these inputs at its start, with the schemes of these nodes that feed it, and these certificates
+abbrev pub join_at_start : List (List (List Bool)) → List (List CertStep) → List ℕ → JoinSpec → Operator
+join_at_start schemes certs inputs spec = Join (join_data spec (inputs_schemes schemes inputs) certs) start
+
+-- an operator at its start, with these columns, where these are the schemes of all nodes and, of a join, the certificates
+abbrev pub operator_of : List (List (List Bool)) → List (List CertStep) → List Column → Operation → Operator
+operator_of schemes certs columns (StreamNode stated) = Stream columns []
+operator_of schemes certs columns (SelectNode input test) = Select test
+operator_of schemes certs columns (ProjectNode input kept) = Project kept
+operator_of schemes certs columns (UnionNode inputs) = Union (length inputs) (record { came = []; waiting = [] })
+operator_of schemes certs columns (JoinNode inputs spec) = join_at_start schemes certs inputs spec
+operator_of schemes certs columns (GroupNode input spec) = Group spec []
+
+abbrev pub node_of : List (List (List Bool)) → List (List CertStep) → PlanNode → Node
+node_of schemes certs node = record { inputs = inputs_of node.node; operator = operator_of schemes certs node.schema node.node }
+
+-- the certificates that are left for the joins behind a node
+abbrev pub certs_behind : PlanNode → List (List (List CertStep)) → List (List (List CertStep))
+certs_behind node certs = if is_join node.node then drop 1 certs else certs
+
+-- these nodes at their starts; each join has the next of the certificates
+abbrev pub nodes_with : List (List (List Bool)) → List (List (List CertStep)) → List PlanNode → List Node
+nodes_with schemes certs [] = []
+nodes_with schemes certs (node ∷ nodes) =
+    node_of schemes (slice_index_or certs 0 []) node ∷ nodes_with schemes (certs_behind node certs) nodes
 
 -- the nodes of a plan at their starts
-abbrev pub nodes_of : Outline → List Node
-nodes_of plan = map node_of plan.nodes
+abbrev pub nodes_of : RunPlan → List Node
+nodes_of plan = nodes_with (schemes_of plan.nodes) plan.certs plan.nodes
 
 -- ---- plans that are run
 
@@ -47,6 +73,6 @@ nodes_of plan = map node_of plan.nodes
 abbrev pub are_run : List PlanNode → Bool
 are_run nodes = nat_le (length (joins_of nodes)) 1 && (length (streams_of nodes) + length (joins_of nodes) == length nodes)
 
--- the plan has no node but streams and one join of them
-abbrev pub IsRun : Outline → Type 0
-IsRun plan = are_run plan.nodes ≡ true
+-- there is no node but streams and one join of them
+abbrev pub IsRun : List PlanNode → Type 0
+IsRun nodes = are_run nodes ≡ true

@@ -1,29 +1,31 @@
 // The core of a run.
 ghost use Rattle.std.specs.Prelude.{◌≡◌, ◌<◌, ◌≤◌, ◌^◌, [], ◌∷◌, ◌++◌, None, length, IfErr, IfOk, OnErr, OnOk, IsErrOf};
 ghost use Rattle.pj_pattern.specs.declared.element.Element.TheVariants.{Punct as PunctOf};
-ghost use Rattle.pj_laws.specs.declared.events.Event.TheVariants.{Arrive as Arrives, Drain as Drains};
+ghost use Rattle.pj_laws.specs.declared.events.Event.TheVariants.{Arrive as Arrives, Drain as Drains, Sweep as Sweeps};
+ghost use Rattle.pj_join.specs.declared.found.Found.{Found};
+ghost use Rattle.pj_laws.specs.HistoryLaws.{AllAreCertified};
 ghost use Rattle.pj_laws.specs.Patterns.{all_wild};
 ghost use Rattle.pj_laws.specs.Join.{has};
 ghost use Rattle.pj_pattern.specs.Fitting.{FitsKinds};
 ghost use Rattle.pj_shape.specs.Columns.{kinds_of};
 ghost use Rattle.pj_laws.specs.OneThread.{arrival_of, plain};
 ghost use Rattle.pj_plan.specs.Nodes.{streams_of};
-ghost use Rattle.pj_core.specs.Plans.{IsRun, stream_columns, streams_in};
+ghost use Rattle.pj_core.specs.Plans.{IsRun, nodes_of, run_plan, stream_columns, streams_in};
 ghost use Rattle.pj_core.specs.Cores.{Notes};
-ghost use Rattle.pj_core.specs.Calls.{arriving_of, closing_of, ended_of, HasArrived, HasGiven, IsCause, IsFresh, IsJoinNode, IsLookAt, IsOpen, IsPeak, IsRefused, StopsNow, CoreTakes};
-ghost use Rattle.pj_core.specs.Turns.{ListsProbes, MayProbe};
-ghost use Rattle.pj_core.specs.Parts.{FitsAny, HasRoom, IsFull, any_entered, join_in, join_stop, outs_after};
+ghost use Rattle.pj_core.specs.Calls.{arriving_of, closing_of, ended_of, HasArrived, HasGiven, HasSwept, IsCause, IsFresh, IsJoinInput, IsJoinNode, IsLookAt, IsOpen, IsPeak, IsRefused, StopsNow, CoreTakes};
+ghost use Rattle.pj_core.specs.Turns.{HasPlaces, ListsProbes, MayProbe};
+ghost use Rattle.pj_core.specs.Parts.{FitsAny, HasRoom, IsFull, any_entered, join_stop, outs_after, shape_in};
 
 use crate::joined::{
-    Joined, enter, give_to, new_joined, peak_in, pending_in, probe_next, stored_in, take_next,
-    taken_in,
+    Joined, enter, give_to, inputs_in, new_joined, peak_in, pending_in, probe_next, stored_in,
+    sweep, take_next, taken_in, waiting_in,
 };
 use crate::known::known;
 use pj_join::{Found, JoinStop, Probe, hand_out_rows};
 use pj_laws::{Look, Out, Stop};
 use pj_pattern::{Element, Pattern, Punct};
 use pj_plan::Plan;
-use pj_shape::Column;
+use pj_shape::{Cert, Column};
 use pj_value::{List, NoMemory};
 use std::alloc::Global;
 use std::marker::Model;
@@ -36,6 +38,8 @@ use std::marker::Model;
 pub struct Core {
     alloc: Global,
     plan: Plan,
+    certs: List<List<Cert>>,
+    trace: bool,
     limit: u64,
     joined: Option<Joined>,
     closed: List<u32>,
@@ -49,26 +53,37 @@ impl Model for Core {
 
     ghost Value = { CoreState };
 
+    ghost use Rattle.pj_core.specs.Plans.{run_plan};
     ghost use Rattle.pj_core.specs.Parts.{IsMadeOf, core_of};
 
-    ghost view = { λ c. core_of c.plan c.limit c.joined (reverse c.closed) c.undrained c.stop };
+    ghost view = { λ c. core_of (run_plan c.plan.nodes c.certs c.trace) c.limit c.joined (reverse c.closed) c.undrained c.stop };
 
-    ghost invariant = { λ c. IsMadeOf c.plan c.limit c.joined };
+    ghost invariant = { λ c. IsMadeOf (run_plan c.plan.nodes c.certs c.trace) c.limit c.joined };
 }
 
 impl Core {
     /// A core of this plan, at whose join at most `limit` elements may arrive, from 1 to 2^40. It stands for the empty
-    /// history.
-    pub fn new(alloc: Global, plan: Plan, limit: u64) -> Result<Core, NoMemory>
-        requires plan { IsRun plan }
+    /// history. `certs` has a list for each join, in order, with a certificate of each of its inputs for the schemes that are
+    /// derived for them. With `trace` the rows that sweeps remove are noted among what is handed out.
+    pub fn new(
+        alloc: Global,
+        plan: Plan,
+        certs: List<List<Cert>>,
+        limit: u64,
+        trace: bool,
+    ) -> Result<Core, NoMemory>
+        requires plan { IsRun plan.nodes }
+        requires certified { AllAreCertified (nodes_of (run_plan plan.nodes certs trace)) }
         requires limit { (1 ≤ limit) × (limit ≤ 2 ^ 40) }
-        ensures { IfOk result (λ core. IsFresh core plan limit) }
+        ensures { IfOk result (λ core. IsFresh core (run_plan plan.nodes certs trace) limit) }
     {
         known();
-        let joined = new_joined(alloc, &plan, limit)?;
+        let joined = new_joined(alloc, &plan, certs.as_slice(), limit)?;
         Ok(Core {
             alloc,
             plan,
+            certs,
+            trace,
             limit,
             joined,
             closed: List::new(alloc),
@@ -183,6 +198,23 @@ impl Core {
         }
     }
 
+    /// Sweeps an input of a join: its ripe rows are removed, and the punctuations that none of those left matches go up. Answers
+    /// how many rows were removed. A probe that was taken stays open.
+    ///
+    /// The stops are those of an arrival.
+    pub fn sweep(&mut self, join: u32, input: u32) -> Result<u64, Stop>
+        requires there { IsJoinInput self.old join input }
+        ensures ok { IfOk result (λ count. HasSwept self.old self.new join input count) }
+        ensures open { OnOk result ((probe : Found) → IsOpen self.old probe → IsOpen self.new probe) }
+        ensures err { IfErr result (λ stop. IsRefused self.old.kept.stop self.old self.new stop (IsCause self.old (Sweeps join input) stop)) }
+    {
+        known();
+        match self.stop {
+            Some(stop) => Err(stop),
+            None => self.sweep_one(join, input),
+        }
+    }
+
     /// Hands out all that was not drained, in order. It takes no memory, and goes on after a stop.
     pub fn drain(&mut self) -> List<Out>
         ensures handed { result ≡ self.old.kept.undrained }
@@ -210,6 +242,46 @@ impl Core {
         }
     }
 
+    // One sweep of an input of the join.
+    pub(crate) fn sweep_one(&mut self, join: u32, input: u32) -> Result<u64, Stop>
+        requires on { self.old.kept.stop ≡ None }
+        requires there { IsJoinInput self.old join input }
+        ensures ok { IfOk result (λ count. HasSwept self.old self.new join input count) }
+        ensures open { OnOk result ((probe : Found) → IsOpen self.old probe → IsOpen self.new probe) }
+        ensures err { IfErr result (λ stop. StopsNow self.old self.new stop × (stop ≡ Stop.NoMemory)) }
+    {
+        known();
+        match sweep(
+            self.alloc,
+            &mut self.joined,
+            &mut self.undrained,
+            self.trace,
+            join,
+            input,
+        ) {
+            Ok(count) => Ok(count),
+            Err(NoMemory) => {
+                self.stop = Some(Stop::NoMemory);
+                Err(Stop::NoMemory)
+            }
+        }
+    }
+
+    // The node behind the streams.
+    pub(crate) fn behind_streams(&self) -> u32
+        ensures { result ≡ length (streams_of self.now.plan.nodes) }
+    {
+        self.plan.streams().len() as u32
+    }
+
+    // How many inputs the join has that stands behind the streams: these are all places of the plan. 0 where there is none.
+    pub(crate) fn places(&self) -> u32
+        ensures { HasPlaces self.now result }
+    {
+        known();
+        inputs_in(&self.joined) as u32
+    }
+
     // What is pending are all probes that are to be done.
     pub(crate) fn lists_probes(&self)
         ensures { ListsProbes self.now }
@@ -230,7 +302,7 @@ impl Core {
             streams,
             ended: count_ended(self.closed.as_slice(), streams),
             stored: stored_in(&self.joined),
-            waiting: 0,
+            waiting: waiting_in(&self.joined),
             outputs: self.undrained.len() as u64,
             halted: false,
             stop: self.stop,
@@ -239,7 +311,7 @@ impl Core {
 
     /// Its plan.
     pub fn plan(&self) -> &Plan
-        ensures { result.now ≡ self.now.plan }
+        ensures { result.now.nodes ≡ self.now.plan.nodes }
     {
         &self.plan
     }
@@ -275,7 +347,7 @@ pub(crate) fn columns_at(plan: &Plan, stream: u32) -> &[Column]
 }
 
 // Marks the stream of these columns as closed, and hands a punctuation of wildcards alone to the join; where there is none it
-// is handed out.
+// is handed out. On a refusal the outputs are as before.
 fn close(
     alloc: Global,
     columns: &[Column],
@@ -287,10 +359,10 @@ fn close(
     requires fits { FitsAny joined.old stream (PunctOf (all_wild (length columns.now))) }
     ensures closed { OnOk result (closed.new ≡ closed.old ++ stream ∷ []) }
     ensures joined { OnOk result (joined.new ≡ any_entered joined.old stream (PunctOf (all_wild (length columns.now)))) }
-    ensures outs { OnOk result (outs.new ≡ outs_after (join_in joined.old) outs.old (PunctOf (all_wild (length columns.now)))) }
+    ensures outs { OnOk result (outs.new ≡ outs_after joined.old outs.old stream (PunctOf (all_wild (length columns.now)))) }
     ensures room { OnOk result (HasRoom joined.old) }
     ensures full { IsErrOf result JoinStop.Limit → IsFull joined.old }
-    ensures refused { OnErr result ((joined.new ≡ joined.old) × (outs.new ≡ outs.old)) }
+    ensures refused { OnErr result ((shape_in joined.new ≡ shape_in joined.old) × (outs.new ≡ outs.old)) }
 {
     match mark(alloc, columns, closed, stream) {
         Ok(punct) => enter(alloc, joined, outs, stream, Element::Punct(punct)),

@@ -1,42 +1,70 @@
 // What no clause says: that the calls succeed with ample memory, and what they give on runs by hand.
-ghost use Rattle.std.specs.Prelude.{◌≡◌, ◌<◌, ◌≤◌, ◌^◌, [], ◌∷◌, None, true, map, length, IfOk, IsTrue};
+ghost use Rattle.std.specs.Prelude.{◌≡◌, ◌<◌, ◌≤◌, ◌^◌, [], ◌∷◌, None, true, codes, map, length, Bool, IfOk, IsTrue};
 ghost use Rattle.pj_value.specs.declared.values.Kind.TheVariants.{Int as IntKind};
 ghost use Rattle.pj_shape.specs.Columns.{kinds_of};
-ghost use Rattle.pj_plan.specs.Names.{AreSpelled, are_inputs, is_class, is_column_name, is_name, is_spelled};
-ghost use Rattle.pj_plan.specs.Laws.{what_of};
-ghost use Rattle.pj_plan.specs.Nodes.{streams_of};
+ghost use Rattle.pj_pattern.specs.Fitting.{FitsKinds, row_fits, punct_fits};
+ghost use Rattle.pj_plan.specs.Canonical.{node_at};
+ghost use Rattle.pj_plan.specs.Nodes.{inputs_of, is_join, streams_of};
 ghost use Rattle.pj_core.specs.Calls.{IsOpen};
-ghost use Rattle.pj_core.specs.Plans.{are_run, stream_columns, streams_in};
+ghost use Rattle.pj_core.specs.Plans.{stream_columns, streams_in};
+ghost use Rattle.pj_core.specs.Samples.{IsSample, begun as beginning, chain_certs as certs_of_chain, chain_statements, join as join_of, kinds, lone_statements, number_column, output as output_of, pair_certs as certs_of_pair, pair_statements, scheme as scheme_of, step as step_of, stream as stream_of};
 
 use super::*;
 use crate::running::columns_at;
-use pj_pattern::Element;
-use pj_plan::{ColumnWord, Plan, Stated, Statement};
-use pj_shape::Column;
+use pj_pattern::{Element, Pattern, Punct, Shape};
+use pj_plan::{ColumnWord, Node, Plan, Stated, Statement};
+use pj_shape::{Cert, CertStep, Column};
 use pj_value::{Bytes, Kind, List, NoMemory, Row, Value};
 use std::alloc::Global;
 
-// ---- plans
+// ---- statements
 
-// A stream of one number, which has the stream's name.
-fn stream(alloc: Global, name: &[u8]) -> Result<Stated, NoMemory>
-    requires name { is_name name.now ≡ true }
-    requires column { is_column_name name.now ≡ true }
-    ensures { IfOk result (λ stated. is_spelled stated.what ≡ true) }
+fn stated(what: Statement) -> Stated
+    ensures { result ≡ record { line = 1; what = what } }
 {
-    let mut columns = List::new(alloc);
-    columns.push(ColumnWord {
+    Stated { line: 1, what }
+}
+
+fn column(alloc: Global, name: &[u8]) -> Result<ColumnWord, NoMemory>
+    ensures { IfOk result (λ word. word ≡ number_column name.now) }
+{
+    Ok(ColumnWord {
         name: List::copy_of(alloc, name)?,
         kind: Kind::Int,
-    })?;
-    let name = List::copy_of(alloc, name)?;
-    Ok(Stated {
-        line: 1,
-        what: Statement::Stream { name, columns },
     })
 }
 
-fn two_names(alloc: Global, first: &[u8], second: &[u8]) -> Result<List<Bytes>, NoMemory>
+// A stream of one number.
+fn one(alloc: Global, name: &[u8], first: &[u8]) -> Result<Stated, NoMemory>
+    ensures { IfOk result (λ s. s ≡ stream_of name.now (first.now ∷ [])) }
+{
+    let mut columns = List::new(alloc);
+    columns.push(column(alloc, first)?)?;
+    let name = List::copy_of(alloc, name)?;
+    Ok(stated(Statement::Stream { name, columns }))
+}
+
+// A stream of two numbers.
+fn two(alloc: Global, name: &[u8], first: &[u8], second: &[u8]) -> Result<Stated, NoMemory>
+    ensures { IfOk result (λ s. s ≡ stream_of name.now (first.now ∷ second.now ∷ [])) }
+{
+    let mut columns = List::new(alloc);
+    columns.push(column(alloc, first)?)?;
+    columns.push(column(alloc, second)?)?;
+    let name = List::copy_of(alloc, name)?;
+    Ok(stated(Statement::Stream { name, columns }))
+}
+
+fn scheme(alloc: Global, stream: &[u8], marks: &[bool]) -> Result<Stated, NoMemory>
+    ensures { IfOk result (λ s. s ≡ scheme_of stream.now marks.now) }
+{
+    Ok(stated(Statement::Scheme {
+        stream: List::copy_of(alloc, stream)?,
+        marks: List::copy_of(alloc, marks)?,
+    }))
+}
+
+fn names(alloc: Global, first: &[u8], second: &[u8]) -> Result<List<Bytes>, NoMemory>
     ensures { IfOk result (λ names. names ≡ first.now ∷ second.now ∷ []) }
 {
     let mut names = List::new(alloc);
@@ -45,143 +73,260 @@ fn two_names(alloc: Global, first: &[u8], second: &[u8]) -> Result<List<Bytes>, 
     Ok(names)
 }
 
-// The join `j` of these inputs, in which the numbers of this class are equal.
-fn join(alloc: Global, inputs: List<Bytes>, class: List<Bytes>) -> Result<Stated, NoMemory>
-    requires inputs { are_inputs inputs ≡ true }
-    requires class { is_class class ≡ true }
-    ensures { IfOk result (λ stated. is_spelled stated.what ≡ true) }
+// The join `j` of these inputs by these classes.
+fn join(alloc: Global, inputs: List<Bytes>, classes: List<List<Bytes>>) -> Result<Stated, NoMemory>
+    ensures { IfOk result (λ s. s ≡ join_of inputs classes) }
 {
-    let mut classes = List::new(alloc);
-    classes.push(class)?;
     let name = List::copy_of(alloc, b"j")?;
-    Ok(Stated {
-        line: 1,
-        what: Statement::Join {
-            name,
-            inputs,
-            classes,
-        },
-    })
+    Ok(stated(Statement::Join {
+        name,
+        inputs,
+        classes,
+    }))
 }
 
 fn output(alloc: Global, name: &[u8]) -> Result<Stated, NoMemory>
-    requires { is_name name.now ≡ true }
-    ensures { IfOk result (λ stated. is_spelled stated.what ≡ true) }
+    ensures { IfOk result (λ s. s ≡ output_of name.now) }
 {
-    Ok(Stated {
-        line: 1,
-        what: Statement::Output {
-            name: List::copy_of(alloc, name)?,
-        },
-    })
+    Ok(stated(Statement::Output {
+        name: List::copy_of(alloc, name)?,
+    }))
 }
 
-// The version, and the stream `a`.
 fn begun(alloc: Global) -> Result<List<Stated>, NoMemory>
-    ensures { IfOk result (λ statements. AreSpelled (map what_of statements)) }
+    ensures { IfOk result (λ s. s ≡ beginning ∷ []) }
 {
     let mut statements = List::new(alloc);
-    statements.push(Stated {
-        line: 1,
-        what: Statement::Plan { version: 1 },
-    })?;
-    statements.push(stream(alloc, b"a")?)?;
+    statements.push(stated(Statement::Plan { version: 1 }))?;
     Ok(statements)
 }
 
 fn lone(alloc: Global) -> Result<List<Stated>, NoMemory>
-    ensures { IfOk result (λ statements. AreSpelled (map what_of statements)) }
+    ensures { IfOk result (λ s. s ≡ lone_statements) }
 {
     let mut statements = begun(alloc)?;
+    statements.push(one(alloc, b"a", b"x")?)?;
     statements.push(output(alloc, b"a")?)?;
     Ok(statements)
 }
 
-// The first input of the join is the second stream.
-fn two(alloc: Global) -> Result<List<Stated>, NoMemory>
-    ensures { IfOk result (λ statements. AreSpelled (map what_of statements)) }
+fn pair_join(alloc: Global) -> Result<Stated, NoMemory>
+    ensures { IfOk result (λ s. s ≡ join_of (codes "items" ∷ codes "bids" ∷ []) ((codes "item" ∷ codes "bitem" ∷ []) ∷ [])) }
 {
-    let inputs = two_names(alloc, b"b", b"a")?;
-    let class = two_names(alloc, b"b", b"a")?;
+    let inputs = names(alloc, b"items", b"bids")?;
+    let mut classes = List::new(alloc);
+    classes.push(names(alloc, b"item", b"bitem")?)?;
+    join(alloc, inputs, classes)
+}
+
+fn pair(alloc: Global) -> Result<List<Stated>, NoMemory>
+    ensures { IfOk result (λ s. s ≡ pair_statements) }
+{
     let mut statements = begun(alloc)?;
-    statements.push(stream(alloc, b"b")?)?;
-    statements.push(join(alloc, inputs, class)?)?;
+    statements.push(two(alloc, b"items", b"item", b"seller")?)?;
+    statements.push(scheme(alloc, b"items", &[true, false])?)?;
+    statements.push(two(alloc, b"bids", b"bitem", b"price")?)?;
+    statements.push(scheme(alloc, b"bids", &[true, false])?)?;
+    statements.push(pair_join(alloc)?)?;
     statements.push(output(alloc, b"j")?)?;
     Ok(statements)
 }
 
-// The inputs of the join are the third stream, the first and the second; the class is of the first two of them.
-fn three(alloc: Global) -> Result<List<Stated>, NoMemory>
-    ensures { IfOk result (λ statements. AreSpelled (map what_of statements)) }
+fn chain_join(alloc: Global) -> Result<Stated, NoMemory>
+    ensures { IfOk result (λ s. s ≡ join_of (codes "a" ∷ codes "b" ∷ codes "c" ∷ []) ((codes "x" ∷ codes "bx" ∷ []) ∷ (codes "by" ∷ codes "cy" ∷ []) ∷ [])) }
 {
-    let mut inputs = two_names(alloc, b"c", b"a")?;
-    inputs.push(List::copy_of(alloc, b"b")?)?;
-    let class = two_names(alloc, b"c", b"a")?;
+    let mut inputs = names(alloc, b"a", b"b")?;
+    inputs.push(List::copy_of(alloc, b"c")?)?;
+    let mut classes = List::new(alloc);
+    classes.push(names(alloc, b"x", b"bx")?)?;
+    classes.push(names(alloc, b"by", b"cy")?)?;
+    join(alloc, inputs, classes)
+}
+
+fn chain(alloc: Global) -> Result<List<Stated>, NoMemory>
+    ensures { IfOk result (λ s. s ≡ chain_statements) }
+{
     let mut statements = begun(alloc)?;
-    statements.push(stream(alloc, b"b")?)?;
-    statements.push(stream(alloc, b"c")?)?;
-    statements.push(join(alloc, inputs, class)?)?;
+    statements.push(one(alloc, b"a", b"x")?)?;
+    statements.push(scheme(alloc, b"a", &[true])?)?;
+    statements.push(two(alloc, b"b", b"bx", b"by")?)?;
+    statements.push(scheme(alloc, b"b", &[true, false])?)?;
+    statements.push(scheme(alloc, b"b", &[false, true])?)?;
+    statements.push(one(alloc, b"c", b"cy")?)?;
+    statements.push(scheme(alloc, b"c", &[true])?)?;
+    statements.push(chain_join(alloc)?)?;
     statements.push(output(alloc, b"j")?)?;
     Ok(statements)
+}
+
+// ---- certificates
+
+fn step(input: u32, scheme: u32) -> CertStep
+    ensures { result ≡ step_of input scheme }
+{
+    CertStep { input, scheme }
+}
+
+fn cert(alloc: Global, steps: &[CertStep]) -> Result<Cert, NoMemory>
+    ensures { IfOk result (λ c. c ≡ steps.now) }
+{
+    Ok(Cert::of(List::copy_of(alloc, steps)?))
+}
+
+fn pair_certs(alloc: Global) -> Result<List<List<Cert>>, NoMemory>
+    ensures { IfOk result (λ certs. certs ≡ certs_of_pair) }
+{
+    let mut inputs = List::new(alloc);
+    inputs.push(cert(alloc, &[step(1, 0)])?)?;
+    inputs.push(cert(alloc, &[step(0, 0)])?)?;
+    let mut joins = List::new(alloc);
+    joins.push(inputs)?;
+    Ok(joins)
+}
+
+fn chain_certs(alloc: Global) -> Result<List<List<Cert>>, NoMemory>
+    ensures { IfOk result (λ certs. certs ≡ certs_of_chain) }
+{
+    let mut inputs = List::new(alloc);
+    inputs.push(cert(alloc, &[step(1, 0), step(2, 0)])?)?;
+    inputs.push(cert(alloc, &[step(0, 0), step(2, 0)])?)?;
+    inputs.push(cert(alloc, &[step(1, 1), step(0, 0)])?)?;
+    let mut joins = List::new(alloc);
+    joins.push(inputs)?;
+    Ok(joins)
 }
 
 // ---- cores
 
-fn is_run(plan: &Plan) -> bool
-    ensures { result ≡ are_run plan.now.nodes }
+// The core of the plan that these statements make, with at most `limit` elements at its join.
+fn core_of(
+    alloc: Global,
+    statements: List<Stated>,
+    certs: List<List<Cert>>,
+    limit: u64,
+    trace: bool,
+) -> Option<Core>
+    requires sample { IsSample statements certs }
+    requires limit { (1 ≤ limit) × (limit ≤ 2 ^ 40) }
 {
-    let streams = plan.streams().len();
-    let joins = plan.joins().len();
-    joins <= 1 && streams + joins == plan.nodes() as usize
-}
-
-fn core_of(alloc: Global, plan: Plan, limit: u64) -> Option<Core>
-    requires { (1 ≤ limit) × (limit ≤ 2 ^ 40) }
-{
-    if is_run(&plan) {
-        Core::new(alloc, plan, limit).ok()
-    } else {
-        None
+    match Plan::build(alloc, statements.as_slice(), 9) {
+        Ok(plan) => Core::new(alloc, plan, certs, limit, trace).ok(),
+        Err(_) => None,
     }
 }
 
-// The core of the plan that these statements make, where there is one.
-fn core_over(alloc: Global, statements: Result<List<Stated>, NoMemory>, limit: u64) -> Option<Core>
-    requires spelled { IfOk statements (λ stated. AreSpelled (map what_of stated)) }
-    requires limit { (1 ≤ limit) × (limit ≤ 2 ^ 40) }
-{
-    match statements {
-        Ok(statements) => match Plan::build(alloc, statements.as_slice(), 9) {
-            Ok(plan) => core_of(alloc, plan, limit),
-            Err(_) => None,
-        },
+#[tactic(auto, using(crate::proofs::Samples::lone_sample))]
+fn lone_core(alloc: Global) -> Option<Core> {
+    match lone(alloc) {
+        Ok(statements) => core_of(alloc, statements, List::new(alloc), 1, false),
         Err(NoMemory) => None,
     }
 }
 
-fn is_number(columns: &[Column]) -> bool
-    ensures { IsTrue result → kinds_of columns.now ≡ IntKind ∷ [] }
+#[tactic(auto, using(crate::proofs::Samples::pair_sample))]
+fn pair_core(alloc: Global, limit: u64, trace: bool) -> Option<Core>
+    requires { (1 ≤ limit) × (limit ≤ 2 ^ 40) }
 {
-    columns.len() == 1 && columns[0].kind == Kind::Int
+    match (pair(alloc), pair_certs(alloc)) {
+        (Ok(statements), Ok(certs)) => core_of(alloc, statements, certs, limit, trace),
+        _ => None,
+    }
 }
 
-fn takes_a_number(plan: &Plan, stream: u32) -> bool
+#[tactic(auto, using(crate::proofs::Samples::chain_sample))]
+fn chain_core(alloc: Global, limit: u64, trace: bool) -> Option<Core>
+    requires { (1 ≤ limit) × (limit ≤ 2 ^ 40) }
+{
+    match (chain(alloc), chain_certs(alloc)) {
+        (Ok(statements), Ok(certs)) => core_of(alloc, statements, certs, limit, trace),
+        _ => None,
+    }
+}
+
+// ---- elements: of one number, or of two where they are wide
+
+fn are_numbers(columns: &[Column], wide: bool) -> bool
+    ensures { IsTrue result → kinds_of columns.now ≡ kinds wide }
+{
+    if wide {
+        columns.len() == 2 && columns[0].kind == Kind::Int && columns[1].kind == Kind::Int
+    } else {
+        columns.len() == 1 && columns[0].kind == Kind::Int
+    }
+}
+
+fn takes(plan: &Plan, stream: u32, wide: bool) -> bool
     ensures there { IsTrue result → stream < length (streams_of plan.now.nodes) }
-    ensures fits { IsTrue result → kinds_of (stream_columns (streams_in plan.now.nodes) stream) ≡ IntKind ∷ [] }
+    ensures fits { IsTrue result → kinds_of (stream_columns (streams_in plan.now.nodes) stream) ≡ kinds wide }
 {
     if (stream as usize) < plan.streams().len() {
-        is_number(columns_at(plan, stream))
+        are_numbers(columns_at(plan, stream), wide)
     } else {
         false
     }
 }
 
-fn row(alloc: Global, n: i64) -> Result<Row, NoMemory>
-    ensures { IfOk result (λ r. r ≡ Value.Int n ∷ []) }
+fn row(alloc: Global, wide: bool, n: i64, m: i64) -> Result<Row, NoMemory>
+    ensures { IfOk result (λ r. row_fits (kinds wide) r ≡ true) }
 {
     let mut values = List::new(alloc);
     values.push(Value::Int(n))?;
+    if wide {
+        values.push(Value::Int(m))?;
+    }
     Ok(Row::of(values))
+}
+
+// The number in the first column, and a wildcard in the second.
+fn punct(alloc: Global, wide: bool, n: i64) -> Result<Punct, NoMemory>
+    ensures { IfOk result (λ p. punct_fits (kinds wide) p ≡ true) }
+{
+    let mut patterns = List::new(alloc);
+    patterns.push(Pattern::constant(Value::Int(n)))?;
+    if wide {
+        patterns.push(Pattern::wild())?;
+    }
+    Ok(Punct::of(patterns))
+}
+
+// An element of a stream: a punctuation of its first number, or a tuple.
+#[derive(Clone, Copy)]
+struct Given {
+    stream: u32,
+    punct: bool,
+    wide: bool,
+    n: i64,
+    m: i64,
+}
+
+fn tuple_of(stream: u32, wide: bool, n: i64, m: i64) -> Given {
+    Given {
+        stream,
+        punct: false,
+        wide,
+        n,
+        m,
+    }
+}
+
+fn punct_of(stream: u32, wide: bool, n: i64) -> Given {
+    Given {
+        stream,
+        punct: true,
+        wide,
+        n,
+        m: 0,
+    }
+}
+
+fn element(alloc: Global, given: Given) -> Result<Element, NoMemory>
+    ensures { IfOk result (λ e. FitsKinds (kinds given.wide) e) }
+{
+    if given.punct {
+        Ok(Element::Punct(punct(alloc, given.wide, given.n)?))
+    } else {
+        Ok(Element::Tuple(row(alloc, given.wide, given.n, given.m)?))
+    }
 }
 
 // ---- turns
@@ -195,11 +340,11 @@ fn count_of(given: Result<List<Out>, Stop>) -> i64 {
     }
 }
 
-// What the turn gave that brought a number to a stream.
-fn bring(alloc: Global, core: &mut Core, stream: u32, n: i64) -> i64 {
-    if takes_a_number(core.plan(), stream) {
-        match row(alloc, n) {
-            Ok(row) => count_of(core.turn(stream, Element::Tuple(row))),
+// What the turn gave that brought an element.
+fn bring(alloc: Global, core: &mut Core, given: Given) -> i64 {
+    if takes(core.plan(), given.stream, given.wide) {
+        match element(alloc, given) {
+            Ok(element) => count_of(core.turn(given.stream, element)),
             Err(NoMemory) => -99,
         }
     } else {
@@ -207,12 +352,10 @@ fn bring(alloc: Global, core: &mut Core, stream: u32, n: i64) -> i64 {
     }
 }
 
-// What five turns gave; a turn is the stream and the number that it brings.
-fn bring_all(alloc: Global, core: &mut Core, turns: [(u32, i64); 5]) -> [i64; 5] {
+fn bring_all(alloc: Global, core: &mut Core, turns: [Given; 5]) -> [i64; 5] {
     let mut counts = [0; 5];
     for turn in 0..5 {
-        let (stream, n) = turns[turn];
-        counts[turn] = bring(alloc, core, stream, n);
+        counts[turn] = bring(alloc, core, turns[turn]);
     }
     counts
 }
@@ -220,9 +363,11 @@ fn bring_all(alloc: Global, core: &mut Core, turns: [(u32, i64); 5]) -> [i64; 5]
 #[test]
 fn the_limit_stops_the_fourth_arrival(rt: HostRuntime) {
     let alloc = rt.alloc();
-    match core_over(alloc, two(alloc), 3) {
+    match pair_core(alloc, 3, false) {
         Some(mut core) => {
-            let counts = bring_all(alloc, &mut core, [(0, 0), (1, 0), (0, 0), (1, 0), (0, 0)]);
+            let item = tuple_of(0, true, 1, 7);
+            let bid = tuple_of(1, true, 1, 50);
+            let counts = bring_all(alloc, &mut core, [item, bid, item, bid, item]);
             assert_eq!(rt; counts, [0, 1, 1, -2, -2]);
             assert_eq!(rt; core.look().stop, Some(Stop::Limit { node: 2 }));
         }
@@ -232,11 +377,14 @@ fn the_limit_stops_the_fourth_arrival(rt: HostRuntime) {
 
 // The fourth arrival meets the limit, the fifth goes beyond it.
 #[test]
-fn three_streams_join_in_the_order_of_the_inputs(rt: HostRuntime) {
+fn three_streams_join(rt: HostRuntime) {
     let alloc = rt.alloc();
-    match core_over(alloc, three(alloc), 4) {
+    match chain_core(alloc, 4, false) {
         Some(mut core) => {
-            let counts = bring_all(alloc, &mut core, [(0, 0), (1, 5), (2, 0), (1, 6), (0, 0)]);
+            let a = tuple_of(0, false, 1, 0);
+            let b = tuple_of(1, true, 1, 10);
+            let c = tuple_of(2, false, 10, 0);
+            let counts = bring_all(alloc, &mut core, [a, b, c, a, c]);
             assert_eq!(rt; counts, [0, 0, 1, 1, -3]);
             assert_eq!(rt; core.look().stop, Some(Stop::Limit { node: 3 }));
         }
@@ -244,13 +392,42 @@ fn three_streams_join_in_the_order_of_the_inputs(rt: HostRuntime) {
     }
 }
 
+// How many outputs the turn gave that closed a stream.
+fn close(core: &mut Core, stream: u32) -> i64 {
+    if (stream as usize) < core.plan().streams().len() {
+        count_of(core.closing_turn(stream))
+    } else {
+        -98
+    }
+}
+
+// The first closing waits for the item, which goes at the second; then both go up.
+#[test]
+fn turns_sweep_where_streams_close(rt: HostRuntime) {
+    let alloc = rt.alloc();
+    match pair_core(alloc, 9, false) {
+        Some(mut core) => {
+            let item = bring(alloc, &mut core, tuple_of(0, true, 1, 7));
+            let bid = bring(alloc, &mut core, tuple_of(1, true, 1, 50));
+            let first = close(&mut core, 0);
+            let waiting = core.look().waiting;
+            let second = close(&mut core, 1);
+            assert_eq!(rt; [item, bid, first, second], [0, 1, 0, 2]);
+            assert_eq!(rt;
+                [waiting, core.look().waiting, core.look().stored],
+                [1, 0, 0]
+            );
+        }
+        None => assert!(rt; false),
+    }
+}
+
 // ---- calls one by one
 
-// Whether a number has arrived at a stream.
-fn arrives(alloc: Global, core: &mut Core, stream: u32, n: i64) -> bool {
-    if takes_a_number(core.plan(), stream) {
-        match row(alloc, n) {
-            Ok(row) => core.arrive(stream, Element::Tuple(row)).is_ok(),
+fn arrives(alloc: Global, core: &mut Core, given: Given) -> bool {
+    if takes(core.plan(), given.stream, given.wide) {
+        match element(alloc, given) {
+            Ok(element) => core.arrive(given.stream, element).is_ok(),
             Err(NoMemory) => false,
         }
     } else {
@@ -258,7 +435,7 @@ fn arrives(alloc: Global, core: &mut Core, stream: u32, n: i64) -> bool {
     }
 }
 
-// How many rows the work of the probe finds, which are handed out.
+// Whether the probe's results are handed out, and how many there are then to be drained.
 fn give_back(alloc: Global, core: &mut Core, probe: Probe) -> i64
     requires { core.old.kept.stop ≡ None → IsOpen core.old probe }
 {
@@ -280,47 +457,40 @@ fn give_next(alloc: Global, core: &mut Core) -> i64 {
     }
 }
 
-#[test]
-fn probes_are_taken_and_given_one_by_one(rt: HostRuntime) {
-    let alloc = rt.alloc();
-    match core_over(alloc, two(alloc), 3) {
-        Some(mut core) => {
-            let came = arrives(alloc, &mut core, 0, 4) && arrives(alloc, &mut core, 1, 4);
-            let first = give_next(alloc, &mut core);
-            let second = give_next(alloc, &mut core);
-            let third = give_next(alloc, &mut core);
-            assert!(rt; came);
-            assert_eq!(rt; [first, second, third], [0, 1, -1]);
+fn has_input(plan: &Plan, join: u32, input: u32) -> bool
+    ensures there { IsTrue result → join < length plan.now.nodes }
+    ensures join { IsTrue result → is_join (node_at plan.now.nodes join) ≡ true }
+    ensures input { IsTrue result → input < length (inputs_of (node_at plan.now.nodes join)) }
+{
+    if join < plan.nodes() {
+        match plan.node(join) {
+            Node::Join { inputs, spec: _ } => (input as usize) < inputs.len(),
+            Node::Stream { schemes: _ } => false,
+            Node::Select { input: _, test: _ } => false,
+            Node::Project {
+                input: _,
+                columns: _,
+            } => false,
+            Node::Union { inputs: _ } => false,
+            Node::Group { input: _, spec: _ } => false,
         }
-        None => assert!(rt; false),
+    } else {
+        false
     }
 }
 
-// The number of a row, and -1 for a punctuation.
-fn number_of(out: &Out) -> i64 {
-    match out {
-        Out::Tuple(row) => match row.get(0) {
-            Some(Value::Int(n)) => *n,
-            Some(Value::Text(_)) => -2,
-            None => -3,
-        },
-        Out::Punct(_) => -1,
-        Out::Purged { .. } => -4,
+fn number_of(count: u64) -> i64 {
+    match i64::try_from(count) {
+        Ok(n) => n,
+        Err(_) => -9,
     }
 }
 
-fn first_of(outs: &List<Out>) -> i64 {
-    match outs.as_slice().first() {
-        Some(out) => number_of(out),
-        None => -5,
-    }
-}
-
-// What is handed out first where the stream is closed.
-fn first_closed(core: &mut Core, stream: u32) -> i64 {
-    if (stream as usize) < core.plan().streams().len() {
-        match core.closing_turn(stream) {
-            Ok(outs) => first_of(&outs),
+// How many rows the sweep of an input removes.
+fn sweep(core: &mut Core, join: u32, input: u32) -> i64 {
+    if has_input(core.plan(), join, input) {
+        match core.sweep(join, input) {
+            Ok(count) => number_of(count),
             Err(_) => -6,
         }
     } else {
@@ -328,16 +498,156 @@ fn first_closed(core: &mut Core, stream: u32) -> i64 {
     }
 }
 
+// How many rows a sweep removes while the probe is held, and how many the probe hands out then.
+fn sweep_with(alloc: Global, core: &mut Core, probe: Probe, join: u32, input: u32) -> (i64, i64)
+    requires { IsOpen core.old probe }
+{
+    if has_input(core.plan(), join, input) {
+        match core.sweep(join, input) {
+            Ok(count) => (number_of(count), give_back(alloc, core, probe)),
+            Err(_) => (-6, -6),
+        }
+    } else {
+        (-7, -7)
+    }
+}
+
+fn sweep_held(alloc: Global, core: &mut Core, join: u32, input: u32) -> (i64, i64) {
+    match core.take() {
+        Ok(Some(probe)) => sweep_with(alloc, core, probe, join, input),
+        Ok(None) => (-1, -1),
+        Err(_) => (-5, -5),
+    }
+}
+
+fn number_in(row: &Row, column: usize) -> i64 {
+    match row.get(column) {
+        Some(Value::Int(n)) => *n,
+        Some(Value::Text(_)) => -2,
+        None => -3,
+    }
+}
+
+// The number of the first column that has one, with the column.
+fn constant_in(punct: &Punct) -> (i64, i64) {
+    let mut column = 0;
+    for pattern in punct.as_slice() {
+        if let Shape::Constant(Value::Int(n)) = pattern.shape() {
+            return (column, *n);
+        }
+        column += 1;
+    }
+    (-1, column)
+}
+
+// A row is told by its first number, a punctuation by its first constant, a note by its input and the first number.
+fn told(out: &Out) -> (i64, i64, i64) {
+    match out {
+        Out::Tuple(row) => (0, 0, number_in(row, 0)),
+        Out::Punct(punct) => {
+            let (column, n) = constant_in(punct);
+            (1, column, n)
+        }
+        Out::Purged { join, input, row } => {
+            (i64::from(*join), i64::from(*input), number_in(row, 0))
+        }
+    }
+}
+
+fn told_at(outs: &List<Out>, at: usize) -> (i64, i64, i64) {
+    match outs.as_slice().get(at) {
+        Some(out) => told(out),
+        None => (-1, -1, -1),
+    }
+}
+
+fn come_pair(alloc: Global, core: &mut Core) -> bool {
+    let came = arrives(alloc, core, tuple_of(0, true, 1, 7));
+    let both = arrives(alloc, core, tuple_of(1, true, 1, 50));
+    let closed = arrives(alloc, core, punct_of(0, true, 1));
+    let all = arrives(alloc, core, punct_of(1, true, 1));
+    came && both && closed && all
+}
+
+// Nothing goes before it is given with all before it; then the item and the bid go, and what waited for them goes up.
+#[test]
+fn a_pair_forgets_what_is_given_and_closed(rt: HostRuntime) {
+    let alloc = rt.alloc();
+    match pair_core(alloc, 9, true) {
+        Some(mut core) => {
+            let came = come_pair(alloc, &mut core);
+            let early = (sweep(&mut core, 2, 0), sweep(&mut core, 2, 1));
+            let first = give_next(alloc, &mut core);
+            let held = sweep_held(alloc, &mut core, 2, 0);
+            let late = (sweep(&mut core, 2, 0), sweep(&mut core, 2, 1));
+            let outs = core.drain();
+            assert!(rt; came);
+            assert_eq!(rt; (early, first, held, late), ((0, 0), 0, (0, 1), (1, 1)));
+            assert_eq!(rt;
+                [told_at(&outs, 0), told_at(&outs, 1)],
+                [(2, 0, 1), (1, 0, 1)]
+            );
+            assert_eq!(rt;
+                [told_at(&outs, 2), told_at(&outs, 3)],
+                [(2, 1, 1), (1, 2, 1)]
+            );
+        }
+        None => assert!(rt; false),
+    }
+}
+
+// How many rows the probe of a tuple hands out that arrives.
+fn come_and_give(alloc: Global, core: &mut Core, given: Given) -> i64 {
+    if arrives(alloc, core, given) {
+        give_next(alloc, core)
+    } else {
+        -8
+    }
+}
+
+// The row of the first stream goes once both rows that it joins with have what they ask for.
+#[test]
+fn a_chain_forgets_what_all_partners_have_closed(rt: HostRuntime) {
+    let alloc = rt.alloc();
+    match chain_core(alloc, 9, false) {
+        Some(mut core) => {
+            let first = come_and_give(alloc, &mut core, tuple_of(0, false, 1, 0));
+            let second = come_and_give(alloc, &mut core, tuple_of(1, true, 1, 10));
+            let third = come_and_give(alloc, &mut core, tuple_of(1, true, 1, 20));
+            let closed = arrives(alloc, &mut core, punct_of(1, true, 1));
+            let one = arrives(alloc, &mut core, punct_of(2, false, 10));
+            let early = sweep(&mut core, 3, 0);
+            let other = arrives(alloc, &mut core, punct_of(2, false, 20));
+            let late = sweep(&mut core, 3, 0);
+            assert!(rt; closed && one && other);
+            assert_eq!(rt; [first, second, third, early, late], [0, 0, 0, 0, 1]);
+        }
+        None => assert!(rt; false),
+    }
+}
+
+// What is handed out first where the stream is closed.
+fn first_closed(core: &mut Core, stream: u32) -> (i64, i64, i64) {
+    if (stream as usize) < core.plan().streams().len() {
+        match core.closing_turn(stream) {
+            Ok(outs) => told_at(&outs, 0),
+            Err(_) => (-6, -6, -6),
+        }
+    } else {
+        (-7, -7, -7)
+    }
+}
+
 #[test]
 fn a_lone_stream_hands_out_its_elements(rt: HostRuntime) {
     let alloc = rt.alloc();
-    match core_over(alloc, lone(alloc), 1) {
+    match lone_core(alloc) {
         Some(mut core) => {
-            let came = arrives(alloc, &mut core, 0, 7);
-            let handed = first_of(&core.drain());
+            let came = arrives(alloc, &mut core, tuple_of(0, false, 7, 0));
+            let handed = told_at(&core.drain(), 0);
             let closed = first_closed(&mut core, 0);
             assert!(rt; came);
-            assert_eq!(rt; [handed, closed], [7, -1]);
+            assert_eq!(rt; (handed, closed), ((0, 0, 7), (1, -1, 1)));
             assert_eq!(rt; core.look().ended, 1);
         }
         None => assert!(rt; false),

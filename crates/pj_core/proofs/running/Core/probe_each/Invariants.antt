@@ -1,6 +1,6 @@
 use Rattle.pj_core.specs.Calls.{all_pending}
 use Rattle.pj_core.specs.Turns.{SoFar}
-use Rattle.pj_core.proofs.running.Core.probe_all.Given as goal
+use Rattle.pj_core.proofs.running.Core.probe_each.Given as goal
 
 abbrev pub invariant-probing : goal.invariant-probing
 invariant-probing l = SoFar l.fn.self l.self

@@ -1,0 +1,95 @@
+-- Plans for the tests, with a certificate of each input of their joins.
+use Rattle.std.specs.Prelude.{ℕ, ◌≡◌, Bool, true, false, if◌then◌else◌, List, [], ◌∷◌, map, codes, Ok}
+use Rattle.pj_value.specs.declared.values.Kind.{Kind}
+use Rattle.pj_value.specs.declared.values.Kind.TheVariants.{Int}
+use Rattle.pj_shape.specs.declared.joins.CertStep.{CertStep}
+use Rattle.pj_plan.specs.declared.node.Outline.{Outline}
+use Rattle.pj_plan.specs.declared.statement.ColumnWord.{ColumnWord}
+use Rattle.pj_plan.specs.declared.statement.Statement.{Statement}
+use Rattle.pj_plan.specs.declared.statement.Statement.TheVariants.{Plan, Stream, Scheme, Join, Output}
+use Rattle.pj_plan.specs.declared.statement.Stated.{Stated}
+use Rattle.pj_plan.specs.Names.{AreSpelled}
+use Rattle.pj_plan.specs.Built.{built}
+use Rattle.pj_plan.specs.Laws.{what_of}
+use Rattle.pj_laws.specs.HistoryLaws.{AllAreCertified}
+use Rattle.pj_core.specs.Plans.{IsRun, nodes_of, run_plan}
+
+-- ---- rows of one number, or of two where they are wide
+
+abbrev pub kinds : Bool → List Kind
+kinds wide = if wide then (Int ∷ Int ∷ []) else (Int ∷ [])
+
+-- ---- statements
+
+abbrev pub stated : Statement → Stated
+stated what = record { line = 1; what = what }
+
+abbrev pub begun : Stated
+begun = stated (Plan 1)
+
+abbrev pub number_column : List ℕ → ColumnWord
+number_column name = record { name = name; kind = Int }
+
+-- a stream of numbers
+abbrev pub stream : List ℕ → List (List ℕ) → Stated
+stream name columns = stated (Stream name (map number_column columns))
+
+abbrev pub scheme : List ℕ → List Bool → Stated
+scheme name marks = stated (Scheme name marks)
+
+abbrev pub join : List (List ℕ) → List (List (List ℕ)) → Stated
+join inputs classes = stated (Join (codes "j") inputs classes)
+
+abbrev pub output : List ℕ → Stated
+output name = stated (Output name)
+
+abbrev pub step : ℕ → ℕ → CertStep
+step input scheme = record { input = input; scheme = scheme }
+
+-- ---- one stream
+
+abbrev pub lone_statements : List Stated
+lone_statements = begun ∷ stream (codes "a") (codes "x" ∷ []) ∷ output (codes "a") ∷ []
+
+-- ---- items and bids on them
+
+abbrev pub pair_statements : List Stated
+pair_statements =
+    begun
+    ∷ stream (codes "items") (codes "item" ∷ codes "seller" ∷ [])
+    ∷ scheme (codes "items") (true ∷ false ∷ [])
+    ∷ stream (codes "bids") (codes "bitem" ∷ codes "price" ∷ [])
+    ∷ scheme (codes "bids") (true ∷ false ∷ [])
+    ∷ join (codes "items" ∷ codes "bids" ∷ []) ((codes "item" ∷ codes "bitem" ∷ []) ∷ [])
+    ∷ output (codes "j")
+    ∷ []
+
+abbrev pub pair_certs : List (List (List CertStep))
+pair_certs = ((step 1 0 ∷ []) ∷ (step 0 0 ∷ []) ∷ []) ∷ []
+
+-- ---- a chain of three streams
+
+abbrev pub chain_statements : List Stated
+chain_statements =
+    begun
+    ∷ stream (codes "a") (codes "x" ∷ [])
+    ∷ scheme (codes "a") (true ∷ [])
+    ∷ stream (codes "b") (codes "bx" ∷ codes "by" ∷ [])
+    ∷ scheme (codes "b") (true ∷ false ∷ [])
+    ∷ scheme (codes "b") (false ∷ true ∷ [])
+    ∷ stream (codes "c") (codes "cy" ∷ [])
+    ∷ scheme (codes "c") (true ∷ [])
+    ∷ join (codes "a" ∷ codes "b" ∷ codes "c" ∷ []) ((codes "x" ∷ codes "bx" ∷ []) ∷ (codes "by" ∷ codes "cy" ∷ []) ∷ [])
+    ∷ output (codes "j")
+    ∷ []
+
+abbrev pub chain_certs : List (List (List CertStep))
+chain_certs = ((step 1 0 ∷ step 2 0 ∷ []) ∷ (step 0 0 ∷ step 2 0 ∷ []) ∷ (step 1 1 ∷ step 0 0 ∷ []) ∷ []) ∷ []
+
+-- ---- what is asked of a sample
+
+-- the statements are spelled, and the plan that they make is run with these certificates
+pub record IsSample (statements : List Stated) (certs : List (List (List CertStep))) : Type 0 where
+  pub spelled : AreSpelled (map what_of statements)
+  pub run : (plan : Outline) → built statements 9 ≡ Ok plan → IsRun plan.nodes
+  pub certified : (plan : Outline) → built statements 9 ≡ Ok plan → (trace : Bool) → AllAreCertified (nodes_of (run_plan plan.nodes certs trace))
