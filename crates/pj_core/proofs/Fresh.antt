@@ -1,8 +1,10 @@
 -- The join of a new core is that of its plan, and stays so.
-use Rattle.std.proofs.Common.{ℕ, ◌-◌, ◌≡◌, Bool, true, false, List, length, Option, Some, None, refl, sym, ap, ◌∙◌, subst}
+use Rattle.std.proofs.Common.{ℕ, ◌-◌, ◌≡◌, Bool, true, false, List, length, Option, Some, None, Result, Ok, Err, IfOk, refl, sym, ap, ◌∙◌, subst}
 use Rattle.pj_shape.specs.declared.joins.CertStep.{CertStep}
 use Rattle.pj_plan.specs.declared.node.PlanNode.{PlanNode}
 use Rattle.pj_plan.specs.Sound.{IsSoundPlan}
+use Rattle.pj_plan.specs.Canonical.{node_at}
+use Rattle.pj_scheme.specs.Derived.{schemes_of}
 use Rattle.pj_laws.specs.HistoryLaws.{AllAreCertified}
 use Rattle.pj_laws.specs.Join.{AreCertified}
 use Rattle.pj_laws.specs.CoreKept.{OneJoin}
@@ -11,7 +13,7 @@ use Rattle.pj_laws.specs.declared.events.Out.{Out}
 use Rattle.pj_join.specs.declared.found.Found.{Found}
 use Rattle.pj_core.specs.declared.joined.Joined.{Joined}
 use Rattle.pj_core.specs.Plans.{IsRun, RunPlan, nodes_of, run_plan}
-use Rattle.pj_core.specs.Forms.{last_join, plan_join, stream_total}
+use Rattle.pj_core.specs.Forms.{first_certs, join_as, last_join, plan_join, stream_total}
 use Rattle.pj_core.specs.Parts.{IsJoinedTo, IsMadeOf, IsSoundAny, JoinShape, ProbesAny, TakesAny, any_entered, any_fresh, any_swept, given, join_in, shape_in, shape_of}
 use Rattle.pj_core.proofs.PlanForms.{join-behind, join_is_sound}
 
@@ -33,6 +35,17 @@ made_new nodes certs l joined sound run all e trace =
       join-fresh (length nodes - 1) l (plan_join plan),
       joined-to (stream_total plan) (length nodes - 1) l (plan_join plan) (λ j q. join-behind plan sound run j q) (join_is_sound nodes certs sound run all),
     )
+
+-- the same of an answer, where the last node was asked with the first certificates
+pub made_answer : {E : Type 0} → (nodes : List PlanNode) (certs : List (List (List CertStep))) (l n : ℕ) (first : List (List CertStep)) (result : Result (Option Joined) E)
+    → IsSoundPlan nodes → IsRun nodes → AllAreCertified (nodes_of (run_plan nodes certs true)) → n ≡ length nodes → first ≡ first_certs certs
+    → IfOk result (λ joined. joined ≡ any_fresh (n - 1) l (join_as (schemes_of nodes) first (node_at nodes (n - 1))))
+    → IfOk result (λ joined. (trace : Bool) → IsMadeOf (run_plan nodes certs trace) l joined)
+made_answer nodes certs l n first (Err e) sound run all count is made = made
+made_answer nodes certs l n first (Ok joined) sound run all count is made =
+    made_new nodes certs l joined sound run all
+    (made ∙ (ap (λ (m : ℕ). any_fresh (m - 1) l (join_as (schemes_of nodes) first (node_at nodes (m - 1)))) count
+    ∙ ap (λ (cs : List (List CertStep)). any_fresh (length nodes - 1) l (join_as (schemes_of nodes) cs (node_at nodes (length nodes - 1)))) is))
 
 -- what is made of a plan stays so while it has its shape
 same-join : (joined new : Joined) → shape_of new ≡ shape_of joined → (n l : ℕ) → IsJoinedTo n l (Some joined) → IsJoinedTo n l (Some new)
