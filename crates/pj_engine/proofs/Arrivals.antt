@@ -5,11 +5,11 @@ use Rattle.std.proofs.lemmas.List.{append_cancel_right, length-append, take-appe
 use Rattle.std.proofs.lemmas.List.Elements.{filter-append}
 use Rattle.pj_pattern.specs.declared.element.Element.{Element}
 use Rattle.pj_laws.specs.declared.events.Entry.{Entry}
-use Rattle.pj_laws.specs.declared.events.Event.TheVariants.{Drain}
+use Rattle.pj_laws.specs.declared.events.Event.TheVariants.{Drain, Sweep as Swept}
 use Rattle.pj_laws.specs.Plan.{Node}
 use Rattle.pj_laws.specs.History.{nodes_from}
 use Rattle.pj_laws.specs.Outcomes.{elements_of}
-use Rattle.pj_laws.specs.OneThread.{Turn, heads, tails, in_rounds, arrival_of, probes_at, probes_from, probes, pending_at, follow_up, turn_entries, turns_entries, plain}
+use Rattle.pj_laws.specs.OneThread.{Place, Turn, heads, tails, in_rounds, arrival_of, is_punct, places_from, probes_at, probes_from, probes, pending_at, follow_up, sweeps_at, turn_entries, turns_entries, plain}
 use Rattle.pj_laws.proofs.Rounds.{mine, AreTagged, tails-tagged, length-tails, none-below, mine-heads, mine-in_rounds}
 use Rattle.pj_engine.specs.Feeds.{round_left}
 use Rattle.pj_laws.proofs.OneRun.{elements-append}
@@ -27,10 +27,27 @@ none-from s (suc n) join nodes =
     elements-append s here (probes_from (nodes_from nodes here) (join + 1) n)
     ∙ ap₂ (λ (xs ys : List Element). xs ++ ys) (none-at s join (pending_at nodes join)) (none-from s n (join + 1) (nodes_from nodes here))
 
-none-follow : (s : ℕ) (nodes : List Node) (e : Element) → elements_of s (follow_up false nodes e) ≡ []
+none-swept : (s : ℕ) (nodes : List Node) (places : List Place) → elements_of s (sweeps_at nodes places) ≡ []
+none-swept s nodes [] = refl
+none-swept s nodes (place ∷ places) =
+    let here : List Entry = plain (Swept place.join place.input) ∷ [] in
+    let swept : List Node = nodes_from nodes here in
+    let after : List Entry = here ++ probes swept in
+    elements-append s after (sweeps_at (nodes_from nodes after) places)
+    ∙ ap₂ (λ (xs ys : List Element). xs ++ ys) (none-from s (length swept) 0 swept) (none-swept s (nodes_from nodes after) places)
+
+none-follow : (s : ℕ) (nodes : List Node) (e : Element) → elements_of s (follow_up true nodes e) ≡ []
 none-follow s nodes e =
-    elements-append s (probes nodes ++ []) (plain Drain ∷ [])
-    ∙ ap (λ (xs : List Element). xs ++ []) (ap (elements_of s) (append-nil (probes nodes)) ∙ none-from s (length nodes) 0 nodes)
+    let probed : List Entry = probes nodes in
+    let after : List Node = nodes_from nodes probed in
+    let sweeps : List Entry = sweeps_at after (places_from 0 after) in
+    elements-append s (probed ++ cond (is_punct e) sweeps []) (plain Drain ∷ [])
+    ∙ ap (λ (xs : List Element). xs ++ []) (elements-append s probed (cond (is_punct e) sweeps [])
+    ∙ ap₂ (λ (xs ys : List Element). xs ++ ys) (none-from s (length nodes) 0 nodes) (chosen (is_punct e) sweeps (none-swept s after (places_from 0 after))))
+  where
+    chosen : (b : Bool) (sweeps : List Entry) → elements_of s sweeps ≡ [] → elements_of s (cond b sweeps []) ≡ []
+    chosen true sweeps none = none
+    chosen false sweeps none = refl
 
 -- what one turn brings
 abbrev pub brought_by : ℕ → Turn → List Element
@@ -40,11 +57,11 @@ abbrev pub all_brought : ℕ → List Turn → List Element
 all_brought s [] = []
 all_brought s (t ∷ ts) = brought_by s t ++ all_brought s ts
 
-pub elements-turns : (s : ℕ) (nodes : List Node) (ts : List Turn) → elements_of s (turns_entries false nodes ts) ≡ all_brought s ts
+pub elements-turns : (s : ℕ) (nodes : List Node) (ts : List Turn) → elements_of s (turns_entries true nodes ts) ≡ all_brought s ts
 elements-turns s nodes [] = refl
 elements-turns s nodes (t ∷ ts) =
-    let here : List Entry = turn_entries false nodes t in
-    elements-append s here (turns_entries false (nodes_from nodes here) ts)
+    let here : List Entry = turn_entries true nodes t in
+    elements-append s here (turns_entries true (nodes_from nodes here) ts)
     ∙ ap₂ (λ (xs ys : List Element). xs ++ ys)
     (ap (λ (xs : List Element). brought_by s t ++ xs) (none-follow s (nodes_from nodes (arrival_of t ∷ [])) t.element) ∙ append-nil (brought_by s t))
     (elements-turns s (nodes_from nodes here) ts)

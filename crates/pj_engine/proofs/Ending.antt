@@ -2,8 +2,8 @@
 use Rattle.pj_plan.specs.declared.node.Outline.{Outline}
 use Rattle.pj_plan.specs.declared.node.PlanNode.{PlanNode}
 use Rattle.pj_plan.specs.Sound.{IsSoundPlan}
-use Rattle.pj_core.specs.Plans.{nodes_of, streams_in}
-use Rattle.std.proofs.Common.{◌≡◌, ℕ, ◌≤◌, ◌^◌, false, List, [], ◌∷◌, ◌++◌, length, Option, Some, None, IfNone, IsTrue, refl, ap, sym, ◌∙◌, subst, arith}
+use Rattle.pj_core.specs.Plans.{streams_in}
+use Rattle.std.proofs.Common.{◌≡◌, ℕ, ◌≤◌, ◌^◌, false, List, [], ◌∷◌, ◌++◌, length, Option, Some, None, IfNone, IsTrue, refl, ap, sym, ◌∙◌, subst, arith, true}
 use Rattle.std.specs.List.{slice_get}
 use Rattle.std.proofs.lemmas.List.{length-map}
 use Rattle.pj_io.specs.Causes.{Rose}
@@ -11,7 +11,7 @@ use Rattle.pj_io.specs.States.{SinkState}
 use Rattle.pj_element.specs.declared.tally.Tally.{Tally}
 use Rattle.pj_intake.specs.declared.intake.IntakeStop.TheVariants.{ReadFault as IntakeFault, ByteLimit, NoMemory as IntakeMemory}
 use Rattle.pj_laws.specs.declared.events.Entry.{Entry}
-use Rattle.pj_laws.specs.Plan.{Node, ArePlanned}
+use Rattle.pj_laws.specs.Plan.{Node}
 use Rattle.pj_laws.specs.History.{nodes_from}
 use Rattle.pj_laws.specs.Outcomes.{outputs_of as handed_out}
 use Rattle.pj_laws.specs.OneThread.{Turn, turns_entries}
@@ -28,7 +28,7 @@ use Rattle.pj_engine.specs.Feeds.{FeedState, files_of, AreFeeds, AreSameFeeds, A
 use Rattle.pj_engine.specs.Opened.{AreCounted}
 use Rattle.pj_engine.specs.Results.{out_lines}
 use Rattle.pj_engine.specs.RunEnds.{TurnsCause}
-use Rattle.pj_engine.specs.Runs.{history_of}
+use Rattle.pj_engine.specs.Runs.{history_of, run_nodes}
 use Rattle.pj_engine.specs.Stops.{of_turn, stop_at}
 use Rattle.pj_engine.specs.Turning.{TurnsEnd, TurnStops}
 use Rattle.pj_engine.specs.Written.{flat, Cut, Leaves}
@@ -37,6 +37,7 @@ use Rattle.pj_engine.proofs.Counting.{out_lines-append}
 use Rattle.pj_engine.proofs.LinesWritten.{first_written}
 use Rattle.pj_engine.proofs.Opening.{rose_at}
 use Rattle.pj_engine.proofs.Running.{Ran, ends_at_limit, goes_beyond_here}
+use Rattle.pj_engine.proofs.Planned.{IsPlanned}
 use Rattle.pj_engine.proofs.StreamNodes.{few-streams}
 
 pub few_feeds : (plan : Outline) (feeds : List FeedState) → IsSoundPlan plan.nodes → AreFeeds 0 (streams_in plan.nodes) feeds → length feeds ≤ 128
@@ -46,14 +47,14 @@ few_feeds plan feeds sound f = let a = feeds_long 0 (streams_in plan.nodes) feed
 
 -- whole first lines of the run were written
 pub lines_so_far : (plan : Outline) (files : List (List ℕ)) (history : List Entry) (core : CoreState) (left : List Turn) (counts : Counts) (cut : Cut) (before mid : List ℕ)
-    → Ran plan files history core left counts → mid ≡ before ++ flat (out_lines (handed_out false (nodes_of plan) history))
-    → Leaves cut (out_lines (handed_out false (nodes_of plan) (history_of plan files))) before mid
+    → Ran plan files history core left counts → mid ≡ before ++ flat (out_lines (handed_out false (run_nodes plan) history))
+    → Leaves cut (out_lines (handed_out false (run_nodes plan) (history_of plan files))) before mid
 lines_so_far plan files history core left counts cut before mid ran written =
-    let nodes : List Node = nodes_from (nodes_of plan) history in
-    let rest : List Entry = turns_entries false nodes left in
-    first_written cut (out_lines (handed_out false (nodes_of plan) history)) (out_lines (handed_out false nodes rest)) (out_lines (handed_out false (nodes_of plan) (history_of plan files))) before mid written
-    (sym (out_lines-append (handed_out false (nodes_of plan) history) (handed_out false nodes rest))
-    ∙ (ap out_lines (sym (outputs-append false (nodes_of plan) history rest)) ∙ ap (λ (h : List Entry). out_lines (handed_out false (nodes_of plan) h)) ran.all))
+    let nodes : List Node = nodes_from (run_nodes plan) history in
+    let rest : List Entry = turns_entries true nodes left in
+    first_written cut (out_lines (handed_out false (run_nodes plan) history)) (out_lines (handed_out false nodes rest)) (out_lines (handed_out false (run_nodes plan) (history_of plan files))) before mid written
+    (sym (out_lines-append (handed_out false (run_nodes plan) history) (handed_out false nodes rest))
+    ∙ (ap out_lines (sym (outputs-append false (run_nodes plan) history rest)) ∙ ap (λ (h : List Entry). out_lines (handed_out false (run_nodes plan) h)) ran.all))
 
 -- a fault rose at the file of the stream, it is too large, or the sink's faults rose
 pub feed_cause : (plan : Outline) (start olds news : List FeedState) (at : ℕ) (stop : FeedStop) (first old new : SinkState) → StopsIn olds news at old new stop → AreSameFeeds start olds → first.faults ≤ old.faults
@@ -70,8 +71,8 @@ feed_cause plan start olds news at stop first old new s same later = go stop.why
 
 -- ---- a turn of the core that stopped
 
-module _ (plan : Outline) (files : List (List ℕ)) (planned : ArePlanned [] (nodes_of plan)) (history : List Entry) (core : CoreState) (t : Turn) (left : List Turn) (counts : Counts) (ran : Ran plan files history core (t ∷ left) counts) where
-  pub turn_ends : (stop : TurnStop) (feeds : List FeedState) (before : List ℕ) (old new : SinkState) → old.written ≡ before ++ flat (out_lines (handed_out false (nodes_of plan) history)) → IsTrue new.told
+module _ (plan : Outline) (files : List (List ℕ)) (planned : IsPlanned plan) (history : List Entry) (core : CoreState) (t : Turn) (left : List Turn) (counts : Counts) (ran : Ran plan files history core (t ∷ left) counts) where
+  pub turn_ends : (stop : TurnStop) (feeds : List FeedState) (before : List ℕ) (old new : SinkState) → old.written ≡ before ++ flat (out_lines (handed_out false (run_nodes plan) history)) → IsTrue new.told
       → TurnStops stop core history t old new → TurnsEnd (of_turn stop) plan files feeds before new.written
   turn_ends (TurnLimit node) feeds before old new first told ends = ends_at_limit plan files planned history core t left counts ran node before old new first told ends
   turn_ends TurnFailed feeds before old new first told ends = tt
@@ -79,7 +80,7 @@ module _ (plan : Outline) (files : List (List ℕ)) (planned : ArePlanned [] (no
 
 -- why it stopped, where the sink's faults rose with a failed write
 pub turn_cause : (stop : TurnStop) (plan : Outline) (olds news : List FeedState) (core : CoreState) (history : List Entry) (t : Turn) (first old new : SinkState) → first.faults ≤ old.faults → (stop ≡ TurnFailed → Rose old.faults new.faults)
-    → (AllTold olds → (left : List Turn) × (counts : Counts) × ArePlanned [] (nodes_of plan) × Ran plan (files_of olds) history core (t ∷ left) counts × TurnStops stop core history t old new)
+    → (AllTold olds → (left : List Turn) × (counts : Counts) × IsPlanned plan × Ran plan (files_of olds) history core (t ∷ left) counts × TurnStops stop core history t old new)
     → TurnsCause (of_turn stop) plan olds news first new
 turn_cause (TurnLimit node) plan olds news core history t first old new later rose stops = λ told.
     let s = stops told in

@@ -1,6 +1,6 @@
 -- First outputs of a plan's run stay right.
 use Rattle.pj_plan.specs.declared.node.Outline.{Outline}
-use Rattle.pj_core.specs.Plans.{nodes_of, streams_in}
+use Rattle.pj_core.specs.Plans.{streams_in}
 use Rattle.std.proofs.Common.{◌≡◌, ◌<◌, ◌≤◌, ◌+◌, ℕ, zero, suc, false, ◌⊎◌, inl, inr, List, [], ◌∷◌, ◌++◌, length, map, get_or, refl, ap, sym, ◌∙◌, subst, append_assoc, append-nil, arith}
 use Rattle.std.proofs.lemmas.Bool.{cases_lt}
 use Rattle.std.proofs.lemmas.List.{length-append}
@@ -21,10 +21,11 @@ use Rattle.pj_laws.proofs.Histories.{outputs-append}
 use Rattle.pj_laws.proofs.HistoryAnswers.{fronts-are-legal}
 use Rattle.pj_laws.proofs.Retract.{never-retracts}
 use Rattle.pj_laws.proofs.Steps.{elements-append}
-use Rattle.pj_engine.specs.Runs.{history_of, outputs_of, answer_of}
+use Rattle.pj_engine.specs.Runs.{history_of, outputs_of, answer_of, run_nodes}
 use Rattle.pj_engine.specs.Top.{arrived_in, gone_on, StaysRight}
 use Rattle.pj_engine.proofs.Accepting.{count-streams}
-use Rattle.pj_engine.proofs.OutputLaws.{IsPlanned, whole_run}
+use Rattle.pj_engine.proofs.OutputLaws.{whole_run}
+use Rattle.pj_engine.proofs.Planned.{IsPlanned}
 
 -- ---- what a history hands out grows
 
@@ -99,20 +100,20 @@ rows_front xs ys zs e f =
     omega (arith, all, parts, front)
 
 right_front : (plan : Outline) (files : List (List ℕ)) (first others : List Element) (front back : List Entry) → IsPlanned plan → front ++ back ≡ history_of plan files
-    → first ++ others ≡ given_out (nodes_of plan) front
+    → first ++ others ≡ given_out (run_nodes plan) front
     → (more : List (List Element)) → SubBag (rows_of first) (answer_of plan (map rows_of (gone_on (arrived_in (length (streams_in plan.nodes)) front) more)))
 right_front plan files first others front back p run among more f =
-    let legal = fronts-are-legal (nodes_of plan) front back (subst (IsLegal (nodes_of plan)) (sym run) (whole_run plan files p).legal) in
-    let sub = never-retracts (nodes_of plan) p.well_made p.some p.no_groups false front legal
-    (map rows_of (gone_on (arrived_in (length (streams_in plan.nodes)) front) more)) (go_on (nodes_of plan) (length (streams_in plan.nodes)) front more (count-streams plan)) f in
-    omega (arith, sub, rows_front first others (given_out (nodes_of plan) front) among f)
+    let legal = fronts-are-legal (run_nodes plan) front back (subst (IsLegal (run_nodes plan)) (sym run) (whole_run plan files p).legal) in
+    let sub = never-retracts (run_nodes plan) p.well_made p.some p.no_groups false front legal
+    (map rows_of (gone_on (arrived_in (length (streams_in plan.nodes)) front) more)) (go_on (run_nodes plan) (length (streams_in plan.nodes)) front more (count-streams plan)) f in
+    omega (arith, sub, rows_front first others (given_out (run_nodes plan) front) among f)
 
 stays_by : (plan : Outline) (files : List (List ℕ)) (first others : List Element) → IsPlanned plan → first ++ others ≡ outputs_of plan files
-    → IsLeast (nodes_of plan) (history_of plan files) (length first) → StaysRight plan files first
+    → IsLeast (run_nodes plan) (history_of plan files) (length first) → StaysRight plan files first
 stays_by plan files first others p e cut =
     let now = cut.front ++ cut.last ∷ [] in
-    let all = e ∙ (ap (given_out (nodes_of plan)) (sym cut.run) ∙ given-append (nodes_of plan) now cut.back) in
-    let part = front-of first others (given_out (nodes_of plan) now) (given_out (nodes_from (nodes_of plan) now) cut.back) all cut.enough in
+    let all = e ∙ (ap (given_out (run_nodes plan)) (sym cut.run) ∙ given-append (run_nodes plan) now cut.back) in
+    let part = front-of first others (given_out (run_nodes plan) now) (given_out (nodes_from (run_nodes plan) now) cut.back) all cut.enough in
     record {
       front = now;
       back = cut.back;
@@ -127,4 +128,4 @@ pub stays : (plan : Outline) (files : List (List ℕ)) (first others : List Elem
 stays plan files [] others p e = inl refl
 stays plan files (x ∷ first) others p e =
     inr (stays_by plan files (x ∷ first) others p e
-    (least (nodes_of plan) [] (history_of plan files) (length (x ∷ first)) (omega arith) (omega (arith, ap length e, length-append (x ∷ first) others))))
+    (least (run_nodes plan) [] (history_of plan files) (length (x ∷ first)) (omega arith) (omega (arith, ap length e, length-append (x ∷ first) others))))

@@ -51,8 +51,8 @@ join-met core joins k join are lt is =
     subst (IsJoinNode core) (sym (is ∙ ap (λ (ns : List ℕ). get_or ns k 0) are)) (join-at core k 0 less)
 
 -- the line of a join's peak, with the name that the plan gives it and the peak that the core tells
-pub peak-line-is : (core : CoreState) (history : List Entry) (joins : List ℕ) (k peak : ℕ) (name : List ℕ) (plan : Outline) → plan ≡ core.plan → joins ≡ joins_of core.plan.nodes → name ≡ node_name plan.nodes (get_or joins k 0)
+pub peak-line-is : (core : CoreState) (history : List Entry) (joins : List ℕ) (k peak : ℕ) (name : List ℕ) (plan : Outline) → plan.nodes ≡ core.plan.nodes → joins ≡ joins_of core.plan.nodes → name ≡ node_name plan.nodes (get_or joins k 0)
     → IsPeak core (get_or joins k 0) peak → core.kept.stop ≡ None → StandsFor core history → peak_line name peak ∷ [] ≡ peak_report core.plan history (get_or (joins_of core.plan.nodes) k 0) ∷ []
 peak-line-is core history joins k peak name plan same are named at on stands =
-    ap₂ (λ (n : List ℕ) (m : ℕ). peak_line n m ∷ []) (named ∙ ap (λ (p : Outline). node_name p.nodes (get_or joins k 0)) same) (at on history stands)
+    ap₂ (λ (n : List ℕ) (m : ℕ). peak_line n m ∷ []) (named ∙ ap (λ (ns : List PlanNode). node_name ns (get_or joins k 0)) same) (at on history stands)
     ∙ ap (λ (ns : List ℕ). peak_report core.plan history (get_or ns k 0) ∷ []) are

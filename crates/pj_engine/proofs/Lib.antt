@@ -4,6 +4,7 @@ pub mod AllFeeds
 pub mod Arrivals
 pub mod CallLaws
 pub mod Carried
+pub mod Certified
 pub mod Closing
 pub mod Counting
 pub mod EarlyLaws

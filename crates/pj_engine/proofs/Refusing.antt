@@ -4,13 +4,16 @@ use Rattle.std.specs.declared.string.String.{String}
 use Rattle.std.specs.declared.alloc.Global.{Global}
 use Rattle.pj_io.specs.States.{FolderState}
 use Rattle.pj_plan.specs.declared.fault.PlanFault.{PlanFault}
+use Rattle.pj_shape.specs.declared.joins.CertStep.{CertStep}
 use Rattle.pj_plan.specs.declared.node.Outline.{Outline}
+use Rattle.pj_plan.specs.declared.node.PlanNode.{PlanNode}
 use Rattle.pj_plan.specs.Nodes.{streams_of}
 use Rattle.pj_plan.specs.Kept.{IsMadeAgain}
 use Rattle.pj_plan.specs.Sound.{IsSoundPlan}
 use Rattle.pj_plan_text.specs.PlanRead.{plan_read}
 use Rattle.pj_alone.specs.Safety.{IsSafePlan}
-use Rattle.pj_core.specs.Plans.{are_run}
+use Rattle.pj_core.specs.Plans.{RunPlan, are_run, nodes_of, run_plan}
+use Rattle.pj_laws.specs.HistoryLaws.{AllAreCertified}
 use Rattle.pj_core.specs.Cores.{CoreState}
 use Rattle.pj_core.specs.Calls.{IsFresh}
 use Rattle.pj_engine.specs.declared.stops.FileStop.{FileStop}
@@ -20,17 +23,23 @@ use Rattle.pj_engine.specs.declared.stops.PlanStop.TheVariants.{Usage as NoWords
 use Rattle.pj_engine.specs.Commands.{Command, command_of, is_run, operands, operand, behind_first, file_names}
 use Rattle.pj_engine.specs.Opened.{OpensFirst}
 use Rattle.pj_engine.specs.PlanNames.{HasPlainNames}
-use Rattle.pj_engine.specs.Plans.{plan_of, plan_if, run_plan}
+use Rattle.pj_engine.specs.Plans.{if_run, plan_of, plan_if}
 use Rattle.pj_engine.specs.Refusals.{BytesRefused, FileCause, FileOpens, HasLines, IsUnrun, PlanCause, PlanUnfit, Unprepared}
-use Rattle.pj_engine.specs.Runs.{IsNewCore, most_arrivals}
+use Rattle.pj_engine.specs.Runs.{IsNewCore, most_arrivals, outline_in}
+use Rattle.pj_alone.specs.Safety.{AreCertificates, certificates_of}
+use Rattle.pj_engine.proofs.Certified.{run_certified}
 use Rattle.pj_engine.proofs.NameLaws.{plain_names}
 
 -- ---- a plan
 
 -- a core of a plan that is run
-pub new_core : (core : CoreState) (plan : Outline) → IsFresh core plan most_arrivals → are_run plan.nodes ≡ true → IsSoundPlan plan.nodes → IsMadeAgain plan → IsNewCore core
-new_core core plan fresh run sound made =
-    subst (λ (p : Outline). IsFresh core p most_arrivals × (are_run p.nodes ≡ true) × HasPlainNames p.nodes × IsSoundPlan p.nodes) (sym fresh.of_plan) (fresh, run, plain_names plan made, sound)
+pub new_core : (core : CoreState) (plan : Outline) (certs : List (List (List CertStep))) → IsFresh core (run_plan plan.nodes certs false) most_arrivals → are_run plan.nodes ≡ true → IsSoundPlan plan.nodes → IsMadeAgain plan
+    → certs ≡ certificates_of plan.nodes → AreCertificates plan.nodes → IsNewCore core
+new_core core plan certs fresh run sound made found are =
+    let same : core.plan.nodes ≡ plan.nodes = ap (λ (p : RunPlan). p.nodes) fresh.of_plan in
+    subst (λ (ns : List PlanNode). IsFresh core (run_plan ns (certificates_of ns) false) most_arrivals → AllAreCertified (nodes_of (run_plan ns (certificates_of ns) false)) → are_run ns ≡ true → HasPlainNames ns → IsSoundPlan ns → IsNewCore core)
+    same (λ f c r p s. record { fresh = f; certified = c; form = r; names = p; sound = s })
+    (subst (λ (cs : List (List (List CertStep))). IsFresh core (run_plan plan.nodes cs false) most_arrivals) found fresh) (run_certified plan.nodes sound are) run (plain_names plan made) sound
 
 -- a safe plan of the right number of streams, which is not run
 pub unrun_unfit : (stop : PlanStop) (files : ℕ) (plan : Outline) → IsUnrun stop plan → length (streams_of plan.nodes) ≡ files → IsSafePlan plan.nodes → PlanUnfit stop files plan
@@ -54,9 +63,9 @@ unrun_lines PlanMemory plan u = tt
 -- ---- bytes
 
 -- the bytes spell the plan of a core
-pub spelled : (bytes : List ℕ) (plan : Outline) (core : CoreState) → plan_read bytes ≡ Ok plan → core.plan ≡ plan → IsNewCore core → plan_of bytes ≡ Some core.plan
+pub spelled : (bytes : List ℕ) (plan : Outline) (core : CoreState) → plan_read bytes ≡ Ok plan → outline_in core ≡ plan → IsNewCore core → plan_of bytes ≡ Some (outline_in core)
 spelled bytes plan core read same new =
-    ap plan_if read ∙ ap run_plan (sym same) ∙ ap (λ (b : Bool). cond b (Some core.plan) None) new.1
+    ap plan_if read ∙ ap if_run (sym same) ∙ ap (λ (b : Bool). cond b (Some (outline_in core)) None) new.form
 
 -- bytes that spell a plan that is run spell a plan
 pub record IsReadAs (bytes : List ℕ) (plan : Outline) : Type 0 where

@@ -1,7 +1,7 @@
 -- What a run leaves written.
 use Rattle.pj_plan.specs.declared.node.Outline.{Outline}
 use Rattle.pj_plan.specs.declared.node.PlanNode.{PlanNode}
-use Rattle.pj_core.specs.Plans.{nodes_of, streams_in}
+use Rattle.pj_core.specs.Plans.{RunPlan, nodes_of, streams_in}
 use Rattle.std.proofs.Common.{◌≡◌, ◌≤◌, ◌≢◌, ℕ, Bool, true, not, ◌==◌, inl, inr, List, [], ◌∷◌, ◌++◌, map, length, Some, IsTrue, refl, ap, sym, ◌∙◌, subst, append-nil, arith}
 use Rattle.std.specs.Prelude.{codes, nat_le}
 use Rattle.std.specs.List.{list_all}
@@ -31,7 +31,7 @@ use Rattle.pj_plan.specs.declared.fault.PlanWhy.{PlanWhy}
 use Rattle.pj_plan.specs.declared.fault.PlanWhy.TheVariants.{NotAPlan, UnknownStatement, BadShape, NameTwice, UnknownName, UnknownColumn, ColumnTwice, KindsDiffer, BadClass, BadScheme, UsedTwiceOrNever, TooMany, Output, Unreadable}
 use Rattle.pj_engine.specs.declared.status.Status.TheVariants.{PlanRefused, FileCount}
 use Rattle.pj_engine.specs.Report.{fault_words, status_line, stream_line, stream_lines, reject_line, reject_words, results_line, peak_line, counted_to}
-use Rattle.pj_engine.specs.Runs.{outputs_of, history_of, report_of, run_lines, streams_report, peak_report}
+use Rattle.pj_engine.specs.Runs.{outputs_of, history_of, report_of, run_lines, streams_report, peak_report, plan_run}
 use Rattle.pj_engine.specs.Written.{flat, Delivered, holding}
 use Rattle.pj_engine.proofs.Fronts.{IsNoteLine, AreNotes, notes-append}
 use Rattle.pj_engine.proofs.NameLaws.{name_plain, streams_plain}
@@ -183,7 +183,7 @@ streams_note (stream ∷ streams) (bytes ∷ files) plain =
     let tally = tally_of (fates_of stream.schema bytes) in
     notes-append (stream_lines stream.name tally) _ (stream_note stream.name tally none, rejects_note stream.name tally.listed none) (streams_note streams files p.1)
 
-peaks_note : (plan : Outline) (history : List Entry) (joins : List ℕ) → HasPlainNames plan.nodes → AreNotes (map (peak_report plan history) joins)
+peaks_note : (plan : RunPlan) (history : List Entry) (joins : List ℕ) → HasPlainNames plan.nodes → AreNotes (map (peak_report plan history) joins)
 peaks_note plan history [] plain = tt
 peaks_note plan history (join ∷ joins) plain = (
   peak_note (node_name plan.nodes join) (peak_of (nodes_of plan) history join) (name_no_feed (node_name plan.nodes join) (name_plain plan.nodes join plain)),
@@ -194,4 +194,4 @@ pub report_notes : (plan : Outline) (files : List (List ℕ)) (outputs : List El
 report_notes plan files outputs plain =
     notes-append (streams_report (streams_in plan.nodes) files ++ results_line outputs ∷ []) _
     (notes-append (streams_report (streams_in plan.nodes) files) (results_line outputs ∷ []) (streams_note (streams_in plan.nodes) files (streams_plain plan.nodes plain)) (results_note outputs, tt))
-    (peaks_note plan (history_of plan files) (joins_of plan.nodes) plain)
+    (peaks_note (plan_run plan) (history_of plan files) (joins_of plan.nodes) plain)

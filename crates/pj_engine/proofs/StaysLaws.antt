@@ -42,7 +42,8 @@ use Rattle.pj_engine.proofs.FrontLaws.{stays}
 use Rattle.pj_engine.proofs.Fronts.{IsNoteLine, AreNotes, notes-append, notes_spell, FrontSpells, front_spells, FirstLines, first_lines}
 use Rattle.pj_engine.proofs.LinesWritten.{flat-append}
 use Rattle.pj_engine.proofs.NameLaws.{name_plain, streams_plain}
-use Rattle.pj_engine.proofs.OutputLaws.{IsPlanned, outputs_lawful}
+use Rattle.pj_engine.proofs.OutputLaws.{outputs_lawful}
+use Rattle.pj_engine.proofs.Planned.{IsPlanned}
 use Rattle.pj_engine.proofs.RunLaws.{plan_refused_note, file_count_note, no_feeds, name_no_feed, name_short, report_notes, same_after}
 use Rattle.pj_pattern.proofs.Lawful.{lawful_front}
 
@@ -169,6 +170,22 @@ stop_name_short plan NoMemory plain = omega arith
 stop_name_short plan (Limit Plan) plain = omega arith
 stop_name_short plan (Limit (Node node)) plain = name_at_short plan.nodes node plain
 stop_name_short plan (Limit (File stream)) plain = name_at_short (streams_in plan.nodes) stream (streams_plain plan.nodes plain)
+
+-- it is the same of plans with the same nodes
+pub stop_name_by : (plan other : Outline) (status : Status) → plan.nodes ≡ other.nodes → stop_name plan status ≡ stop_name other status
+stop_name_by plan other Done same = refl
+stop_name_by plan other Usage same = refl
+stop_name_by plan other NotBuilt same = refl
+stop_name_by plan other (PlanRefused line why) same = refl
+stop_name_by plan other (FileCount want got) same = refl
+stop_name_by plan other (Unsafe join input missing) same = refl
+stop_name_by plan other (OpenFault n) same = refl
+stop_name_by plan other (ReadFault n) same = refl
+stop_name_by plan other WriteFault same = refl
+stop_name_by plan other NoMemory same = refl
+stop_name_by plan other (Limit Plan) same = refl
+stop_name_by plan other (Limit (Node node)) same = ap (λ (ns : List PlanNode). node_name ns node) same
+stop_name_by plan other (Limit (File stream)) same = ap (λ (ns : List PlanNode). node_name (streams_in ns) stream) same
 
 -- what was delivered of a line
 record Part (line before after : List ℕ) : Type 0 where

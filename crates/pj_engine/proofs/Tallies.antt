@@ -11,7 +11,7 @@ use Rattle.pj_engine.specs.declared.results.Counts.{Counts}
 use Rattle.pj_engine.specs.Feeds.{tallies_of}
 use Rattle.pj_engine.specs.Outcome.{tally_lines, report_lines, IsOutcome}
 use Rattle.pj_engine.specs.Report.{stream_lines, results_text}
-use Rattle.pj_engine.specs.Runs.{streams_report, peaks_report, report_of, history_of, outputs_of}
+use Rattle.pj_engine.specs.Runs.{streams_report, peaks_report, report_of, history_of, outputs_of, plan_run}
 use Rattle.pj_engine.proofs.StreamNodes.{count_numbers}
 
 pub tally_rest : (i : ℕ) (streams : List PlanNode) (tallies : List Tally) → length tallies ≡ length streams → tally_lines (take i streams) (take i tallies) ++ tally_lines (drop i streams) (drop i tallies) ≡ tally_lines streams tallies
@@ -51,7 +51,7 @@ streams-lines (s ∷ streams) (f ∷ files) = ap (λ (ls : List (List ℕ)). str
 
 -- the report of a run that was made to its end
 pub report_is : (plan : Outline) (files : List (List ℕ)) (tallies : List Tally) (counts : Counts) → IsOutcome plan files tallies counts
-    → report_lines plan tallies counts (history_of plan files) ≡ report_of plan files (outputs_of plan files)
+    → report_lines (plan_run plan) tallies counts (history_of plan files) ≡ report_of plan files (outputs_of plan files)
 report_is plan files tallies counts o =
-    ap (λ (ls : List (List ℕ)). ls ++ results_text counts.rows counts.puncts ∷ [] ++ peaks_report plan (history_of plan files)) (ap (tally_lines (streams_in plan.nodes)) o.each ∙ streams-lines (streams_in plan.nodes) files)
-    ∙ ap (λ (c : Counts). streams_report (streams_in plan.nodes) files ++ results_text c.rows c.puncts ∷ [] ++ peaks_report plan (history_of plan files)) o.results
+    ap (λ (ls : List (List ℕ)). ls ++ results_text counts.rows counts.puncts ∷ [] ++ peaks_report (plan_run plan) (history_of plan files)) (ap (tally_lines (streams_in plan.nodes)) o.each ∙ streams-lines (streams_in plan.nodes) files)
+    ∙ ap (λ (c : Counts). streams_report (streams_in plan.nodes) files ++ results_text c.rows c.puncts ∷ [] ++ peaks_report (plan_run plan) (history_of plan files)) o.results

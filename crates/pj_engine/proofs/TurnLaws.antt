@@ -3,7 +3,7 @@ use Rattle.pj_plan.specs.declared.node.PlanNode.{PlanNode}
 use Rattle.pj_plan.specs.Nodes.{streams_of}
 use Rattle.pj_pattern.specs.declared.element.Element.{Element}
 use Rattle.pj_core.specs.Plans.{nodes_of, streams_in}
-use Rattle.std.proofs.Common.{◌≡◌, ◌<◌, ℕ, false, List, [], ◌++◌, length, Option, Some, None, Result, Ok, Err, IfOk, IfErr, IsTrue, ap, sym, ◌∙◌, append-nil, subst, arith}
+use Rattle.std.proofs.Common.{◌≡◌, ◌<◌, ℕ, List, [], ◌++◌, length, Option, Some, None, Result, Ok, Err, IfOk, IfErr, IsTrue, ap, sym, ◌∙◌, append-nil, subst, arith}
 use Rattle.pj_io.specs.States.{SinkState}
 use Rattle.pj_laws.specs.declared.events.Entry.{Entry}
 use Rattle.pj_laws.specs.declared.events.Out.{Out}
@@ -65,7 +65,7 @@ stops_now old mid turn stop outs drained s handed = record {
         parts = f.parts;
         within = f.within;
         stops = f.stops;
-        outs_are = handed ∙ (f.undrained ∙ ap (λ (xs : List Out). xs ++ outputs_of false (nodes_from (nodes_of old.plan) history) f.front) drained);
+        outs_are = handed ∙ (f.undrained ∙ ap (λ (xs : List Out). xs ++ outputs_of old.plan.trace (nodes_from (nodes_of old.plan) history) f.front) drained);
       };
 }
 
@@ -82,8 +82,8 @@ outs_front old new turn outs None history drained turned stands may =
 outs_front old new turn outs (Some stop) history drained turned stands may =
     let f = turned.hands history stands may in
     let nodes : List Node = nodes_from (nodes_of old.plan) history in
-    let others : List Out = outputs_of false (nodes_from nodes f.front) f.back in
-    (others, ap (λ (xs : List Out). xs ++ others) f.outs_are ∙ (sym (outputs-append false nodes f.front f.back) ∙ ap (outputs_of false nodes) (sym f.parts)))
+    let others : List Out = outputs_of old.plan.trace (nodes_from nodes f.front) f.back in
+    (others, ap (λ (xs : List Out). xs ++ others) f.outs_are ∙ (sym (outputs-append old.plan.trace nodes f.front f.back) ∙ ap (outputs_of old.plan.trace nodes) (sym f.parts)))
 
 module _ (old new : CoreState) (turn : Turn) (outs slice : List Out) (stop : Option Stop) (history : List Entry) (drained : old.kept.undrained ≡ []) (turned : Turned old new turn outs stop) (is : slice ≡ outs) (stands : StandsFor old history) (may : MayFollow old history (arrival_of turn)) where
   lines_front : (others : List Out) × (out_lines slice ++ out_lines others ≡ out_lines (turn_outs old history turn))

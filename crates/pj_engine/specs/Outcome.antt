@@ -2,7 +2,7 @@
 use Rattle.std.specs.Prelude.{◌≡◌, ℕ, List, [], ◌∷◌, ◌++◌, Result, IsTrue}
 use Rattle.pj_plan.specs.declared.node.Outline.{Outline}
 use Rattle.pj_plan.specs.declared.node.PlanNode.{PlanNode}
-use Rattle.pj_core.specs.Plans.{streams_in}
+use Rattle.pj_core.specs.Plans.{RunPlan, streams_in}
 use Rattle.pj_io.specs.States.{SinkState}
 use Rattle.pj_element.specs.declared.tally.Tally.{Tally}
 use Rattle.pj_core.specs.Cores.{CoreState, StandsFor}
@@ -27,7 +27,7 @@ tally_lines (stream ∷ streams) [] = []
 tally_lines (stream ∷ streams) (tally ∷ tallies) = stream_lines stream.name tally ++ tally_lines streams tallies
 
 -- the lines of a report with these counts, after a history
-abbrev pub report_lines : Outline → List Tally → Counts → List Entry → List (List ℕ)
+abbrev pub report_lines : RunPlan → List Tally → Counts → List Entry → List (List ℕ)
 report_lines plan tallies counts history =
     tally_lines (streams_in plan.nodes) tallies ++ results_text counts.rows counts.puncts ∷ [] ++ peaks_report plan history
 

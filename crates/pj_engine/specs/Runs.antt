@@ -1,17 +1,19 @@
 -- What a plan's run over files hands out, and the lines that it writes. There is one file for each stream.
-use Rattle.std.specs.Prelude.{◌≡◌, false, ℕ, ◌^◌, List, [], ◌∷◌, ◌++◌, map}
+use Rattle.std.specs.Prelude.{◌≡◌, false, true, ℕ, ◌^◌, List, [], ◌∷◌, ◌++◌, map}
 use Rattle.pj_plan.specs.declared.node.Outline.{Outline}
 use Rattle.pj_plan.specs.declared.node.PlanNode.{PlanNode}
 use Rattle.pj_plan.specs.Nodes.{joins_of}
 use Rattle.pj_plan.specs.Canonical.{node_name}
-use Rattle.pj_core.specs.Plans.{IsRun, nodes_of, streams_in}
+use Rattle.pj_core.specs.Plans.{IsRun, RunPlan, nodes_of, run_plan, streams_in}
 use Rattle.pj_value.specs.declared.values.Value.{Value}
 use Rattle.pj_value.specs.Bags.{SameBag}
-use Rattle.pj_pattern.specs.Patterns.{Pattern}
 use Rattle.pj_pattern.specs.declared.element.Element.{Element}
 use Rattle.pj_pattern.specs.declared.element.Element.TheVariants.{Punct}
 use Rattle.pj_element.specs.Runs.{rows_of, puncts_of, IsLawful, element_lines, closing}
 use Rattle.pj_element.specs.Accepted.{taken_of, fates_of, tally_of}
+use Rattle.pj_laws.specs.Plan.{Node}
+use Rattle.pj_laws.specs.HistoryLaws.{AllAreCertified}
+use Rattle.pj_laws.specs.Punctuations.{puncts_answer}
 use Rattle.pj_laws.specs.declared.events.Entry.{Entry}
 use Rattle.pj_laws.specs.Limits.{ReachesLimit}
 use Rattle.pj_laws.specs.Outcomes.{elements_out, peak_of}
@@ -20,8 +22,21 @@ use Rattle.pj_laws.specs.OneThread.{one_thread_of}
 use Rattle.pj_core.specs.Cores.{CoreState}
 use Rattle.pj_core.specs.Calls.{IsFresh}
 use Rattle.pj_plan.specs.Sound.{IsSoundPlan}
+use Rattle.pj_alone.specs.Safety.{certificates_of}
 use Rattle.pj_engine.specs.PlanNames.{HasPlainNames}
 use Rattle.pj_engine.specs.Report.{stream_lines, results_line, peak_line}
+
+-- ---- the plan as it is run
+
+-- with the certificates that the checker finds for the inputs of its joins; rows that sweeps remove are not noted
+abbrev pub plan_run : Outline → RunPlan
+plan_run plan = run_plan plan.nodes (certificates_of plan.nodes) false
+
+-- its nodes at their starts
+abbrev pub run_nodes : Outline → List Node
+run_nodes plan = nodes_of (plan_run plan)
+
+-- ---- what is handed out
 
 -- the accepted elements of these streams, without their closings
 abbrev pub accepted_of : List PlanNode → List (List ℕ) → List (List Element)
@@ -41,20 +56,17 @@ elements_of plan files = with_closings (streams_in plan.nodes) (accepted_of (str
 
 -- the nested-loop answer of a plan over complete lists of rows, one for each stream
 abbrev pub answer_of : Outline → List (List (List Value)) → List (List Value)
-answer_of plan lists = plan_answer (nodes_of plan) lists
+answer_of plan lists = plan_answer (run_nodes plan) lists
 
--- the punctuations that a plan of one stream hands out: the stream's own
-abbrev pub first_puncts : List (List (List Pattern)) → List (List Pattern)
-first_puncts [] = []
-first_puncts (puncts ∷ others) = puncts
-
--- the history of the run on one thread
+-- the history of the run on one thread, with sweeps
 abbrev pub history_of : Outline → List (List ℕ) → List Entry
-history_of plan files = one_thread_of false (nodes_of plan) (accepted_of (streams_in plan.nodes) files)
+history_of plan files = one_thread_of true (run_nodes plan) (accepted_of (streams_in plan.nodes) files)
 
 -- the outputs of the run on one thread
 abbrev pub outputs_of : Outline → List (List ℕ) → List Element
-outputs_of plan files = elements_out (handed_out false (nodes_of plan) (history_of plan files))
+outputs_of plan files = elements_out (handed_out false (run_nodes plan) (history_of plan files))
+
+-- ---- the report
 
 -- the lines of each stream
 abbrev pub streams_report : List PlanNode → List (List ℕ) → List (List ℕ)
@@ -63,17 +75,17 @@ streams_report (stream ∷ streams) [] = []
 streams_report (stream ∷ streams) (bytes ∷ files) = stream_lines stream.name (tally_of (fates_of stream.schema bytes)) ++ streams_report streams files
 
 -- the line of a join's peak after a history
-abbrev pub peak_report : Outline → List Entry → ℕ → List ℕ
+abbrev pub peak_report : RunPlan → List Entry → ℕ → List ℕ
 peak_report plan history join = peak_line (node_name plan.nodes join) (peak_of (nodes_of plan) history join)
 
 -- the lines of the joins' peaks after a history, in order of declaration
-abbrev pub peaks_report : Outline → List Entry → List (List ℕ)
+abbrev pub peaks_report : RunPlan → List Entry → List (List ℕ)
 peaks_report plan history = map (peak_report plan history) (joins_of plan.nodes)
 
 -- the report: the lines of each stream, the counts of results, and the peaks of the joins
 abbrev pub report_of : Outline → List (List ℕ) → List Element → List (List ℕ)
 report_of plan files outputs =
-    streams_report (streams_in plan.nodes) files ++ results_line outputs ∷ [] ++ peaks_report plan (history_of plan files)
+    streams_report (streams_in plan.nodes) files ++ results_line outputs ∷ [] ++ peaks_report (plan_run plan) (history_of plan files)
 
 -- all lines of the run
 abbrev pub run_lines : Outline → List (List ℕ) → List (List ℕ)
@@ -85,9 +97,9 @@ run_lines plan files = element_lines (outputs_of plan files) ++ report_of plan f
 abbrev pub IsAnswer : Outline → List (List ℕ) → List Element → List (List ℕ) → Type 0
 IsAnswer plan files outputs report = SameBag (rows_of outputs) (answer_of plan (map rows_of (accepted_of (streams_in plan.nodes) files)))
 
--- where the plan has no join, the punctuations are those of its stream and its closing, as a bag
+-- the punctuations are the plan's over those that were accepted and the closings, as a bag
 abbrev pub ArePunctuations : Outline → List (List ℕ) → List Element → List (List ℕ) → Type 0
-ArePunctuations plan files outputs report = joins_of plan.nodes ≡ [] → SameBag (puncts_of outputs) (first_puncts (map puncts_of (elements_of plan files)))
+ArePunctuations plan files outputs report = SameBag (puncts_of outputs) (puncts_answer (run_nodes plan) (map puncts_of (elements_of plan files)))
 
 -- no row matches a punctuation before it
 abbrev pub AreLawful : Outline → List (List ℕ) → List Element → List (List ℕ) → Type 0
@@ -103,10 +115,18 @@ AreTallies plan files outputs report = report ≡ report_of plan files outputs
 abbrev pub most_arrivals : ℕ
 most_arrivals = 2 ^ 40
 
--- a new core of a plan that is run, at whose join so many may arrive
-abbrev pub IsNewCore : CoreState → Type 0
-IsNewCore core = IsFresh core core.plan most_arrivals × IsRun core.plan × HasPlainNames core.plan.nodes × IsSoundPlan core.plan.nodes
+-- the plan that a core runs; there is one version
+abbrev pub outline_in : CoreState → Outline
+outline_in core = record { version = 1; nodes = core.plan.nodes }
+
+-- a new core of a sound plan as it is run, whose certificates hold and at whose join so many may arrive
+pub record IsNewCore (core : CoreState) : Type 0 where
+  pub fresh : IsFresh core (plan_run (outline_in core)) most_arrivals
+  pub certified : AllAreCertified (run_nodes (outline_in core))
+  pub form : IsRun core.plan.nodes
+  pub names : HasPlainNames core.plan.nodes
+  pub sound : IsSoundPlan core.plan.nodes
 
 -- a step of the run on one thread is the first that brings an element beyond the limit, and this is its node
 abbrev pub GoesBeyond : Outline → List (List ℕ) → ℕ → Type 0
-GoesBeyond plan files node = ReachesLimit most_arrivals (nodes_of plan) (history_of plan files) node
+GoesBeyond plan files node = ReachesLimit most_arrivals (run_nodes plan) (history_of plan files) node

@@ -6,7 +6,7 @@ use Rattle.pj_plan.specs.Nodes.{streams_of}
 use Rattle.pj_plan.specs.Canonical.{node_name}
 use Rattle.pj_plan_text.specs.PlanRead.{plan_read}
 use Rattle.pj_alone.specs.Safety.{IsSafePlan, AreUnsafeLines}
-use Rattle.pj_core.specs.Plans.{nodes_of, streams_in}
+use Rattle.pj_core.specs.Plans.{streams_in}
 use Rattle.pj_io.specs.Causes.{Rose}
 use Rattle.pj_io.specs.States.{FolderState, SinkState}
 use Rattle.pj_pattern.specs.declared.element.Element.{Element}
@@ -27,7 +27,7 @@ use Rattle.pj_engine.specs.Opened.{OpensFirst, IsReadToEnd}
 use Rattle.pj_engine.specs.Plans.{plan_of}
 use Rattle.pj_engine.specs.Refusals.{Refuses}
 use Rattle.pj_engine.specs.Report.{status_line}
-use Rattle.pj_engine.specs.Runs.{outputs_of, history_of, answer_of, run_lines, GoesBeyond}
+use Rattle.pj_engine.specs.Runs.{outputs_of, history_of, answer_of, run_lines, run_nodes, GoesBeyond}
 use Rattle.pj_engine.specs.Written.{flat, WholeLines, FrontOf, Delivered, Spells, holding}
 
 -- ---- a run that is done
@@ -195,7 +195,7 @@ AllLawful (es ∷ ess) = IsLawful es × AllLawful ess
 -- the history is as long as it must be to hand out this many elements: with one entry less it hands out fewer
 abbrev pub IsShortest : Outline → List Entry → ℕ → Type 0
 IsShortest plan history count =
-    (history ≡ []) ⊎ ((front : List Entry) × (last : Entry) × (history ≡ front ++ last ∷ []) × (length (elements_out (handed_out false (nodes_of plan) front)) < count))
+    (history ≡ []) ⊎ ((front : List Entry) × (last : Entry) × (history ≡ front ++ last ∷ []) × (length (elements_out (handed_out false (run_nodes plan) front)) < count))
 
 -- These outputs are first ones of what a front of the run on one thread hands out, which is no longer than it must be;
 -- and however the streams lawfully go on from there, their rows are among those of the answer, as bags
@@ -204,7 +204,7 @@ pub record StaysRight (plan : Outline) (files : List (List ℕ)) (outputs : List
   pub back : List Entry
   pub run : front ++ back ≡ history_of plan files
   pub others : List Element
-  pub among : outputs ++ others ≡ elements_out (handed_out false (nodes_of plan) front)
+  pub among : outputs ++ others ≡ elements_out (handed_out false (run_nodes plan) front)
   pub shortest : IsShortest plan front (length outputs)
   pub right : (more : List (List Element)) → AllLawful (streams_after plan front more) → SubBag (rows_of outputs) (answer_of plan (map rows_of (streams_after plan front more)))
 

@@ -1,5 +1,5 @@
 -- What a turn of a core hands out, and how it ends.
-use Rattle.std.specs.Prelude.{◌≡◌, ◌<◌, ℕ, ⊤, false, List, ◌++◌, length, Option, Some, None, Result, IsTrue, slice_get}
+use Rattle.std.specs.Prelude.{◌≡◌, ◌<◌, ℕ, ⊤, List, ◌++◌, length, Option, Some, None, Result, IsTrue, slice_get}
 use Rattle.pj_plan.specs.declared.node.Outline.{Outline}
 use Rattle.pj_plan.specs.declared.node.PlanNode.{PlanNode}
 use Rattle.pj_core.specs.Plans.{stream_columns}
@@ -32,7 +32,7 @@ IsTurnOf streams turn = (turn.stream < length streams) × (turn.closing ≡ 0 �
 
 -- all that the turn hands out behind this history
 abbrev pub turn_outs : CoreState → List Entry → Turn → List Out
-turn_outs core history turn = outputs_of false (nodes_after core history) (turn_behind core history turn)
+turn_outs core history turn = outputs_of core.plan.trace (nodes_after core history) (turn_behind core history turn)
 
 -- the outputs of a front of the turn's entries, none of which brings an element beyond a limit, up to the stop
 pub record HandsFront (core : CoreState) (history : List Entry) (turn : Turn) (outs : List Out) (stop : Stop) : Type 0 where
@@ -41,7 +41,7 @@ pub record HandsFront (core : CoreState) (history : List Entry) (turn : Turn) (o
   pub parts : turn_behind core history turn ≡ front ++ back
   pub within : StaysWithin core.limit (nodes_in core) history front
   pub stops : StopsAt core.limit (nodes_in core) (history ++ front) back stop
-  pub outs_are : outs ≡ outputs_of false (nodes_after core history) front
+  pub outs_are : outs ≡ outputs_of core.plan.trace (nodes_after core history) front
 
 -- the core stopped in the turn, and handed out what it had until then: exactly the outputs of the front of the turn's entries
 -- that were made
@@ -75,7 +75,7 @@ pub record EndsTurn (core : CoreState) (history : List Entry) (turn : Turn) (nod
   pub parts : turn_behind core history turn ≡ front ++ back
   pub within : StaysWithin core.limit (nodes_in core) history front
   pub beyond : BeginsBeyond core.limit (nodes_in core) (history ++ front) back node
-  pub written : IsTrue new.told → new.written ≡ old.written ++ flat (out_lines (outputs_of false (nodes_after core history) front))
+  pub written : IsTrue new.told → new.written ≡ old.written ++ flat (out_lines (outputs_of core.plan.trace (nodes_after core history) front))
 
 abbrev pub TurnStops : TurnStop → CoreState → List Entry → Turn → SinkState → SinkState → Type 0
 TurnStops (TurnLimit node) core history turn old new = EndsTurn core history turn node old new

@@ -4,20 +4,22 @@ ghost use Rattle.pj_io.specs.Folders.{NoneFalls, SameElsewhere};
 ghost use Rattle.pj_plan.specs.Nodes.{streams_of};
 ghost use Rattle.pj_plan_text.specs.PlanRead.{plan_read};
 ghost use Rattle.pj_core.specs.Plans.{are_run};
-ghost use Rattle.pj_alone.specs.Safety.{IsSafePlan};
+ghost use Rattle.pj_alone.specs.Safety.{AreCertificates, IsSafePlan, certificates_of};
 ghost use Rattle.pj_engine.specs.Commands.{is_run as run_form, is_option as option_form, no_options as none_is_option, operands, operand, command_of, plan_bytes, HasToldPlan};
 ghost use Rattle.pj_engine.specs.Opened.{OpensFirst, OpensAtMost, IsReadToEnd};
 ghost use Rattle.pj_engine.specs.Plans.{plan_of, SpellsPlan};
 ghost use Rattle.pj_engine.specs.Refusals.{BytesRefused, HasLines, IsUnrun, PlanCause, PlanUnfit, Unprepared, counted_files};
-ghost use Rattle.pj_engine.specs.Runs.{IsNewCore};
+ghost use Rattle.pj_engine.specs.Runs.{IsNewCore, outline_in};
 
 use crate::files::read_file;
 use crate::stops::PlanStop;
-use pj_alone::first_unsafe;
+use pj_alone::{Judged, judge};
 use pj_core::Core;
 use pj_io::Folder;
 use pj_plan::{Plan, PlanStop as ReadStop};
 use pj_plan_text::read_plan;
+use pj_shape::Cert;
+use pj_value::List;
 use std::alloc::Global;
 
 // The most elements that may arrive at a join.
@@ -31,7 +33,7 @@ pub fn prepare<F: Folder>(alloc: Global, words: &[String], folder: &mut F) -> Re
     ensures form { OnOk result (run_form words.now ≡ true) }
     ensures told { (F.state folder.new).told ≡ (F.state folder.old).told }
     ensures contents { (F.state folder.new).contents ≡ (F.state folder.old).contents }
-    ensures read { HasToldPlan (command_of words.now (F.state folder.old)) → IfOk result (λ core. SpellsPlan (plan_bytes (command_of words.now (F.state folder.old))) core.plan) }
+    ensures read { HasToldPlan (command_of words.now (F.state folder.old)) → IfOk result (λ core. SpellsPlan (plan_bytes (command_of words.now (F.state folder.old))) (outline_in core)) }
     ensures last { HasToldPlan (command_of words.now (F.state folder.old)) → OnOk result (IsReadToEnd (operand (operands words.now) 1) (F.state folder.old) (F.state folder.new)) }
     ensures other_last { SameElsewhere (operand (operands words.now) 1) (F.state folder.old).last (F.state folder.new).last }
     ensures later { NoneFalls (F.state folder.old).faults (F.state folder.new).faults }
@@ -58,7 +60,7 @@ fn read_plan_for<F: Folder>(
     ensures count { IfOk result (λ core. files ≡ length (streams_of core.plan.nodes)) }
     ensures told { (F.state folder.new).told ≡ (F.state folder.old).told }
     ensures contents { (F.state folder.new).contents ≡ (F.state folder.old).contents }
-    ensures read { IsTrue ((F.state folder.old).told name.now) → IfOk result (λ core. SpellsPlan ((F.state folder.old).contents name.now) core.plan) }
+    ensures read { IsTrue ((F.state folder.old).told name.now) → IfOk result (λ core. SpellsPlan ((F.state folder.old).contents name.now) (outline_in core)) }
     ensures last { IsTrue ((F.state folder.old).told name.now) → OnOk result (IsReadToEnd name.now (F.state folder.old) (F.state folder.new)) }
     ensures other_last { SameElsewhere name.now (F.state folder.old).last (F.state folder.new).last }
     ensures later { NoneFalls (F.state folder.old).faults (F.state folder.new).faults }
@@ -76,7 +78,7 @@ fn core_in(alloc: Global, bytes: &[u8], files: usize) -> Result<Core, PlanStop>
     ensures fresh { IfOk result (λ core. IsNewCore core) }
     ensures safe { IfOk result (λ core. IsSafePlan core.plan.nodes) }
     ensures count { IfOk result (λ core. files ≡ length (streams_of core.plan.nodes)) }
-    ensures read { IfOk result (λ core. plan_of bytes.now ≡ Some core.plan) }
+    ensures read { IfOk result (λ core. plan_of bytes.now ≡ Some (outline_in core)) }
     ensures cause { IfErr result (λ stop. BytesRefused stop files bytes.now) }
     ensures lines { IfErr result HasLines }
 {
@@ -93,7 +95,7 @@ fn core_for(alloc: Global, plan: Plan, files: usize) -> Result<Core, PlanStop>
     ensures fresh { IfOk result (λ core. IsNewCore core) }
     ensures safe { OnOk result (IsSafePlan plan.nodes) }
     ensures count { OnOk result (files ≡ length (streams_of plan.nodes)) }
-    ensures same { IfOk result (λ core. core.plan ≡ plan) }
+    ensures same { IfOk result (λ core. outline_in core ≡ plan) }
     ensures cause { IfErr result (λ stop. PlanUnfit stop files plan) }
     ensures lines { IfErr result HasLines }
 {
@@ -102,24 +104,26 @@ fn core_for(alloc: Global, plan: Plan, files: usize) -> Result<Core, PlanStop>
         let got = file_count(files);
         return Err(PlanStop::FileCount { want, got });
     }
-    match first_unsafe(alloc, &plan)? {
-        Some(found) => Err(PlanStop::Unsafe { found }),
-        None => Ok(run_core(alloc, plan)?),
+    match judge(alloc, &plan)? {
+        Judged::Safe { certs } => Ok(run_core(alloc, plan, certs)?),
+        Judged::Unsafe { found } => Err(PlanStop::Unsafe { found }),
     }
 }
 
-// A core of the plan, if it is one that is run.
+// A core of the plan with the certificates of its joins, if it is one that is run.
 #[tactic(auto, using(crate::proofs::Refusing::new_core))]
-fn run_core(alloc: Global, plan: Plan) -> Result<Core, PlanStop>
+fn run_core(alloc: Global, plan: Plan, certs: List<List<Cert>>) -> Result<Core, PlanStop>
+    requires certs { certs ≡ certificates_of plan.nodes }
+    requires certified { AreCertificates plan.nodes }
     ensures fresh { IfOk result (λ core. IsNewCore core) }
-    ensures same { IfOk result (λ core. core.plan ≡ plan) }
+    ensures same { IfOk result (λ core. outline_in core ≡ plan) }
     ensures cause { IfErr result (λ stop. IsUnrun stop plan) }
 {
     let _nodes = plan.nodes();
     if !is_run_plan(&plan) {
         return Err(PlanStop::NotBuilt);
     }
-    Ok(Core::new(alloc, plan, MOST_ARRIVALS)?)
+    Ok(Core::new(alloc, plan, certs, MOST_ARRIVALS, false)?)
 }
 
 // Whether the plan's nodes are streams, but for at most one join.

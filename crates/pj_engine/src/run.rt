@@ -10,7 +10,7 @@ ghost use Rattle.pj_engine.specs.Feeds.{AreFeeds, AreNew, AreSameFeeds, AllTold,
 ghost use Rattle.pj_engine.specs.Opened.{AreOpened, StayReadToEnd};
 ghost use Rattle.pj_engine.specs.Outcome.{IsOutcome, Reports};
 ghost use Rattle.pj_engine.specs.RunEnds.{AreRead, FeedsCause, FeedsWrite, FilesCause, FilesOpened, FilesWrite, StoppedFeeds, StoppedFiles, StoppedTurns, TurnsCause};
-ghost use Rattle.pj_engine.specs.Runs.{IsNewCore, history_of, run_lines, outputs_of};
+ghost use Rattle.pj_engine.specs.Runs.{IsNewCore, history_of, outline_in, outputs_of, run_lines};
 ghost use Rattle.pj_engine.specs.Top.{AreReadToEnd};
 ghost use Rattle.pj_engine.specs.Written.{WritesBy, write_cut};
 
@@ -40,13 +40,13 @@ pub fn run_files<F: Folder, K: Sink>(
     requires each { length names.now ≡ length (streams_in core.old.plan.nodes) }
     ensures plan { core.new.plan ≡ core.old.plan }
     ensures told { IsTrue (K.state out.new).told → IsTrue (K.state out.old).told }
-    ensures lines { FilesWrite core.old.plan (map string_bytes names.now) (F.state folder.old) (K.state out.old) (K.state out.new) result }
-    ensures ends { StoppedFiles core.old.plan (map string_bytes names.now) (F.state folder.old) (F.state folder.new) (K.state out.old) (K.state out.new) result }
+    ensures lines { FilesWrite (outline_in core.old) (map string_bytes names.now) (F.state folder.old) (K.state out.old) (K.state out.new) result }
+    ensures ends { StoppedFiles (outline_in core.old) (map string_bytes names.now) (F.state folder.old) (F.state folder.new) (K.state out.old) (K.state out.new) result }
     ensures unopened { (stop : OpeningStop) → result ≡ Err (FilesStop.Opening stop) → out.new ≡ out.old }
     ensures last { OnOk result (AreReadToEnd (map string_bytes names.now) (F.state folder.old) (F.state folder.new)) }
     ensures keeps { StayReadToEnd (F.state folder.old) (F.state folder.new) result }
     ensures opened { FilesOpened result (map string_bytes names.now) (F.state folder.old) (F.state folder.new) }
-    ensures causes { IfErr result (λ stop. FilesCause stop core.old.plan (map string_bytes names.now) (F.state folder.old) (F.state folder.new) (K.state out.old) (K.state out.new)) }
+    ensures causes { IfErr result (λ stop. FilesCause stop (outline_in core.old) (map string_bytes names.now) (F.state folder.old) (F.state folder.new) (K.state out.old) (K.state out.new)) }
     ensures folder_later { NoneFalls (F.state folder.old).faults (F.state folder.new).faults }
     ensures later { (K.state out.old).faults ≤ (K.state out.new).faults }
 {
@@ -81,10 +81,10 @@ fn run_feeds<F: Folder, K: Sink>(
     requires opened { AreOpened (F.state folder.old).opened feeds.items }
     ensures plan { core.new.plan ≡ core.old.plan }
     ensures told { IsTrue (K.state out.new).told → IsTrue (K.state out.old).told }
-    ensures lines { FeedsWrite feeds.items (run_lines core.old.plan (files_of feeds.items)) (K.state out.old) (K.state out.new) result }
-    ensures ends { StoppedFeeds core.old.plan feeds.items (F.state folder.old) (F.state folder.new) (K.state out.old) (K.state out.new) result }
+    ensures lines { FeedsWrite feeds.items (run_lines (outline_in core.old) (files_of feeds.items)) (K.state out.old) (K.state out.new) result }
+    ensures ends { StoppedFeeds (outline_in core.old) feeds.items (F.state folder.old) (F.state folder.new) (K.state out.old) (K.state out.new) result }
     ensures last { OnOk result (AreRead feeds.items (F.state folder.old) (F.state folder.new)) }
-    ensures causes { IfErr result (λ stop. FeedsCause stop core.old.plan feeds.items (F.state folder.old) (F.state folder.new) (K.state out.old) (K.state out.new)) }
+    ensures causes { IfErr result (λ stop. FeedsCause stop (outline_in core.old) feeds.items (F.state folder.old) (F.state folder.new) (K.state out.old) (K.state out.new)) }
     ensures still_opened { SameEverywhere (F.state folder.old).opened (F.state folder.new).opened }
     ensures folder_later { NoneFalls (F.state folder.old).faults (F.state folder.new).faults }
     ensures later { (K.state out.old).faults ≤ (K.state out.new).faults }
@@ -135,12 +135,12 @@ fn run_streams<S: Source, K: Sink>(
     ensures on { OnOk result (core.new.kept.stop ≡ None) }
     ensures same { AreSameFeeds feeds.old.feeds.items feeds.new.feeds.items }
     ensures told { IsTrue (K.state out.new).told → IsTrue (K.state out.old).told }
-    ensures lines { FeedsWrite feeds.old.feeds.items (element_lines (outputs_of core.old.plan (files_of feeds.old.feeds.items))) (K.state out.old) (K.state out.new) result }
-    ensures ends { StoppedTurns core.old.plan feeds.old.feeds.items feeds.new.feeds.items (K.state out.old) (K.state out.new) result }
-    ensures outcome { AllTold feeds.old.feeds.items → IfOk result (λ counts. IsOutcome core.old.plan (files_of feeds.old.feeds.items) (tallies_in feeds.new.feeds.items) counts) }
-    ensures stands { AllTold feeds.old.feeds.items → OnOk result (StandsFor core.new (history_of core.old.plan (files_of feeds.old.feeds.items))) }
+    ensures lines { FeedsWrite feeds.old.feeds.items (element_lines (outputs_of (outline_in core.old) (files_of feeds.old.feeds.items))) (K.state out.old) (K.state out.new) result }
+    ensures ends { StoppedTurns (outline_in core.old) feeds.old.feeds.items feeds.new.feeds.items (K.state out.old) (K.state out.new) result }
+    ensures outcome { AllTold feeds.old.feeds.items → IfOk result (λ counts. IsOutcome (outline_in core.old) (files_of feeds.old.feeds.items) (tallies_in feeds.new.feeds.items) counts) }
+    ensures stands { AllTold feeds.old.feeds.items → OnOk result (StandsFor core.new (history_of (outline_in core.old) (files_of feeds.old.feeds.items))) }
     ensures taken { OnOk result (AreAllTaken feeds.new.feeds.items) }
-    ensures causes { IfErr result (λ stop. TurnsCause stop core.old.plan feeds.old.feeds.items feeds.new.feeds.items (K.state out.old) (K.state out.new)) }
+    ensures causes { IfErr result (λ stop. TurnsCause stop (outline_in core.old) feeds.old.feeds.items feeds.new.feeds.items (K.state out.old) (K.state out.new)) }
     ensures later { (K.state out.old).faults ≤ (K.state out.new).faults }
 {
     let mut counts = Counts { rows: 0, puncts: 0 };

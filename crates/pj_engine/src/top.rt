@@ -18,6 +18,9 @@ use pj_plan::Plan;
 /// Runs the command that the words spell: `run PLAN FILE ..` reads a plan of one stream, or of 2 to 16 streams and a
 /// join of them all, and a file for each stream, and writes what the plan's run on one thread hands out, and the report.
 /// A plan of which an input of a join does not reach all is refused with `Unsafe` before a file of a stream is opened.
+///
+/// Sweeps keep the join finite: after each punctuation the run removes the stored rows that nothing which still comes can
+/// join, and hands out each punctuation, widened, as soon as no stored row of its input matches it.
 pub fn run_words<R: AllocGlobal, F: Folder, K: Sink>(
     rt: &R,
     words: &[String],

@@ -1,5 +1,5 @@
 use Rattle.std.proofs.Common.{◌≡◌, ◌<◌, ◌+◌, ◌++◌, [], ◌∷◌, List, ℕ, map, take, drop, length, get_or, refl, sym, ap, ◌∙◌, subst, arith}
-use Rattle.pj_plan.specs.declared.node.Outline.{Outline}
+use Rattle.pj_plan.specs.declared.node.PlanNode.{PlanNode}
 use Rattle.pj_plan.specs.Nodes.{joins_of}
 use Rattle.pj_engine.specs.Runs.{peak_report}
 use Rattle.pj_engine.specs.Written.{flat, write_cut, Leaves}
@@ -9,14 +9,14 @@ use Rattle.pj_engine.proofs.report.write_peaks.Goals as goal
 
 pub name-requires : goal.name-requires
 name-requires g c =
-    let are = c.joins-join-items.ensures ∙ ap (λ (p : Outline). joins_of p.nodes) c.plan.ensures in
+    let are = c.joins-join-items.ensures ∙ ap joins_of c.plan.ensures in
     let join = get_or c.joins-join-items.result.now c.loop-join.join-index 0 in
     let met = join-met c.args.core.now c.joins-join-items.result.now c.loop-join.join-index join are c.loop-join-test.true refl in
-    subst (λ (p : Outline). join < length p.nodes) (sym c.plan-in-loop-join.ensures) met.0
+    subst (λ (ns : List PlanNode). join < length ns) (sym c.plan-in-loop-join.ensures) met.0
 
 pub peak-requires : goal.peak-requires
 peak-requires g c =
-    let are = c.joins-join-items.ensures ∙ ap (λ (p : Outline). joins_of p.nodes) c.plan.ensures in
+    let are = c.joins-join-items.ensures ∙ ap joins_of c.plan.ensures in
     join-met c.args.core.now c.joins-join-items.result.now c.loop-join.join-index (get_or c.joins-join-items.result.now c.loop-join.join-index 0) are c.loop-join-test.true refl
 
 pub returns-in_err-write_peak_line-clause-lines : goal.returns-in_err-write_peak_line-clause-lines
@@ -25,7 +25,7 @@ returns-in_err-write_peak_line-clause-lines g c = λ t history stands.
     let f = peak_report core.plan history in
     let xs = joins_of core.plan.nodes in
     let i = c.loop-join.join-index in
-    let are = c.joins-join-items.ensures ∙ ap (λ (p : Outline). joins_of p.nodes) c.plan.ensures in
+    let are = c.joins-join-items.ensures ∙ ap joins_of c.plan.ensures in
     let there : i < length xs = subst (λ (ns : List ℕ). i < length ns) are c.loop-join-test.true in
     let line = f (get_or xs i 0) in
     let stop = c.in_err-write_peak_line.field-0.0 in
@@ -42,7 +42,7 @@ loop-join-preserved g c =
     let core = c.args.core.now in
     let xs = joins_of core.plan.nodes in
     let i = c.loop-join.join-index in
-    let are = c.joins-join-items.ensures ∙ ap (λ (p : Outline). joins_of p.nodes) c.plan.ensures in
+    let are = c.joins-join-items.ensures ∙ ap joins_of c.plan.ensures in
     let there : i < length xs = subst (λ (ns : List ℕ). i < length ns) are c.loop-join-test.true in
     let old = g.K.Sink.state c.args.out.now in
     let mid = g.K.Sink.state c.loop-join.out in

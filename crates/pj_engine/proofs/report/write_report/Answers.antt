@@ -1,6 +1,6 @@
-use Rattle.pj_plan.specs.declared.node.Outline.{Outline}
+use Rattle.pj_plan.specs.declared.node.PlanNode.{PlanNode}
 use Rattle.pj_core.specs.Plans.{streams_in}
-use Rattle.std.proofs.Common.{[], ◌∷◌, ◌++◌, ◌≡◌, ◌∙◌, ap, sym, append_assoc, append-nil, subst}
+use Rattle.std.proofs.Common.{List, [], ◌∷◌, ◌++◌, ◌≡◌, ◌∙◌, ap, sym, append_assoc, append-nil, subst}
 use Rattle.pj_engine.specs.Outcome.{tally_lines, report_lines}
 use Rattle.pj_engine.specs.Report.{results_text}
 use Rattle.pj_engine.specs.Runs.{peaks_report}
@@ -16,7 +16,7 @@ returns-in_err-write_streams-clause-lines g c = λ told history stands.
     let ys = results_text c.args.counts.rows c.args.counts.puncts ∷ [] in
     let zs = peaks_report plan history in
     stopped_first write_cut c.from_residual.result c.in_err-write_streams.field-0.0 xs (ys ++ zs) (report_lines plan tallies c.args.counts history) (g.K.Sink.state c.args.out.now) (g.K.Sink.state c.write_streams.new.out)
-    (c.in_err-write_streams.ensures.lines told) (sym (append_assoc xs ys zs) ∙ ap (λ (p : Outline). (tally_lines (streams_in p.nodes) tallies ++ ys) ++ zs) c.plan.ensures) c.from_residual.ensures.1
+    (c.in_err-write_streams.ensures.lines told) (sym (append_assoc xs ys zs) ∙ ap (λ (ns : List PlanNode). (tally_lines (streams_in ns) tallies ++ ys) ++ zs) c.plan.ensures) c.from_residual.ensures.1
 
 pub returns-in_err-write_results-clause-lines : goal.returns-in_err-write_results-clause-lines
 returns-in_err-write_results-clause-lines g c = λ told history stands.
@@ -27,7 +27,7 @@ returns-in_err-write_results-clause-lines g c = λ told history stands.
     let zs = peaks_report plan history in
     stopped_then write_cut c.from_residual-in_err-write_results.result c.in_err-write_results.field-0.0 xs ys zs (report_lines plan tallies c.args.counts history) (g.K.Sink.state c.args.out.now)
     (g.K.Sink.state c.write_streams.new.out) (g.K.Sink.state c.write_results.new.out) (c.in_ok-write_streams.ensures.lines (c.in_err-write_results.ensures.told told)) (c.in_err-write_results.ensures.lines told)
-    (ap (λ (p : Outline). (tally_lines (streams_in p.nodes) tallies ++ ys) ++ zs) c.plan.ensures) c.from_residual-in_err-write_results.ensures.1
+    (ap (λ (ns : List PlanNode). (tally_lines (streams_in ns) tallies ++ ys) ++ zs) c.plan.ensures) c.from_residual-in_err-write_results.ensures.1
 
 pub returns-in_err-write_peaks-clause-lines : goal.returns-in_err-write_peaks-clause-lines
 returns-in_err-write_peaks-clause-lines g c = λ told history stands.
@@ -42,7 +42,7 @@ returns-in_err-write_peaks-clause-lines g c = λ told history stands.
     let told_second = c.in_err-write_peaks.ensures.told told in
     stopped_then write_cut c.from_residual-in_err-write_peaks.result c.in_err-write_peaks.field-0.0 (xs ++ ys) zs [] (report_lines plan tallies c.args.counts history) old second (g.K.Sink.state c.write_peaks.new.out)
     (written_then xs ys old.written first.written second.written (c.in_ok-write_streams.ensures.lines (c.in_ok-write_results.ensures.told told_second)) (c.in_ok-write_results.ensures.lines told_second))
-    (c.in_err-write_peaks.ensures.lines told history stands) (append-nil ((xs ++ ys) ++ zs) ∙ ap (λ (p : Outline). (tally_lines (streams_in p.nodes) tallies ++ ys) ++ zs) c.plan.ensures)
+    (c.in_err-write_peaks.ensures.lines told history stands) (append-nil ((xs ++ ys) ++ zs) ∙ ap (λ (ns : List PlanNode). (tally_lines (streams_in ns) tallies ++ ys) ++ zs) c.plan.ensures)
     c.from_residual-in_err-write_peaks.ensures.1
 
 pub returns-clause-lines : goal.returns-clause-lines
@@ -57,7 +57,7 @@ returns-clause-lines g c = λ told history stands.
     let second = g.K.Sink.state c.write_results.new.out in
     let new = g.K.Sink.state c.write_peaks.new.out in
     let told_second = c.in_ok-write_peaks.ensures.told told in
-    subst (λ (p : Outline). new.written ≡ old.written ++ flat ((tally_lines (streams_in p.nodes) tallies ++ ys) ++ zs)) c.plan.ensures
+    subst (λ (ns : List PlanNode). new.written ≡ old.written ++ flat ((tally_lines (streams_in ns) tallies ++ ys) ++ zs)) c.plan.ensures
     (written_then (xs ++ ys) zs old.written second.written new.written
     (written_then xs ys old.written first.written second.written (c.in_ok-write_streams.ensures.lines (c.in_ok-write_results.ensures.told told_second)) (c.in_ok-write_results.ensures.lines told_second))
     (c.in_ok-write_peaks.ensures.lines told history stands))

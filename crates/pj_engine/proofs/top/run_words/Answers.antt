@@ -1,17 +1,17 @@
-use Rattle.pj_plan.specs.declared.node.Outline.{Outline}
+use Rattle.pj_core.specs.Plans.{RunPlan}
 use Rattle.std.proofs.Common.{refl, ap, sym, ◌∙◌, ◌++◌, subst, Err, arith, IsTrue, List, ℕ, length}
 use Rattle.pj_engine.specs.declared.status.Status.TheVariants.{Done, NotBuilt, PlanRefused, FileCount, Unsafe, Limit}
 use Rattle.pj_engine.specs.declared.status.LimitOf.TheVariants.{Plan}
 use Rattle.pj_engine.specs.Commands.{command_of, files_named, operand, operands}
 use Rattle.pj_engine.specs.PlanNames.{HasPlainNames}
-use Rattle.pj_engine.specs.Runs.{IsAnswer, ArePunctuations, AreLawful, AreTallies, report_of, outputs_of, run_lines}
-use Rattle.pj_engine.specs.Top.{stop_name}
+use Rattle.pj_engine.specs.Runs.{IsAnswer, ArePunctuations, AreLawful, AreTallies, outline_in, report_of, outputs_of, run_lines}
 use Rattle.pj_engine.specs.Written.{Leaves, files_cut, flat}
-use Rattle.pj_engine.proofs.CallLaws.{names_in, files_told, files_same, files_counted, all_read, built, opened_done, opened_stop, stopped, early, faulted, unopened, write_failed, beyond, too_large, of_few, names_of_streams, files_of_streams}
+use Rattle.pj_engine.proofs.CallLaws.{names_in, files_told, files_same, all_read, built, opened_done, opened_stop, stopped, early, faulted, unopened, write_failed, beyond, too_large, of_few, names_of_streams, files_of_streams}
 use Rattle.pj_engine.proofs.EarlyLaws.{answers_built, answers_early, early_early, early_lines, fault_early, memory_early, no_words, opened_early, refused_early, refused_never, stopped_early, unopened_early, usage_early, usage_never}
-use Rattle.pj_engine.proofs.OutputLaws.{outputs_lawful, outputs_answer, outputs_puncts, run_planned}
+use Rattle.pj_engine.proofs.OutputLaws.{outputs_lawful, outputs_answer, outputs_puncts}
+use Rattle.pj_engine.proofs.Planned.{new_planned}
 use Rattle.pj_engine.proofs.RunLaws.{ran}
-use Rattle.pj_engine.proofs.StaysLaws.{never_early, never_done, never_stopped, stop_name_short}
+use Rattle.pj_engine.proofs.StaysLaws.{never_early, never_done, never_stopped, stop_name_by, stop_name_short}
 use Rattle.pj_engine.proofs.StreamNodes.{few-streams}
 use Rattle.pj_engine.proofs.top.run_words.Goals as goal
 
@@ -30,8 +30,8 @@ returns-in-Ok-run_files-clause-answer g c = λ _ all t.
     let mid = g.F.Folder.state c.prepare.new.folder in
     let same = files_same words old mid e.form e.told e.contents in
     let ready = files_named (names_in words) mid in
-    ran IsAnswer c.in-Ok.core.plan (command_of words old) ready (g.K.Sink.state c.args.out.now) (g.K.Sink.state c.run_files.new.out) (e.read all.plan).0 same (c.in-Ok-run_files.ensures.lines (files_told words old mid e.form e.told e.contents all) t)
-    (outputs_answer c.in-Ok.core.plan ready (run_planned c.in-Ok.core.plan e.fresh.3 e.fresh.1) (report_of c.in-Ok.core.plan ready (outputs_of c.in-Ok.core.plan ready)))
+    ran IsAnswer (outline_in c.in-Ok.core) (command_of words old) ready (g.K.Sink.state c.args.out.now) (g.K.Sink.state c.run_files.new.out) (e.read all.plan).0 same (c.in-Ok-run_files.ensures.lines (files_told words old mid e.form e.told e.contents all) t)
+    (outputs_answer (outline_in c.in-Ok.core) ready (new_planned c.in-Ok.core e.fresh) (report_of (outline_in c.in-Ok.core) ready (outputs_of (outline_in c.in-Ok.core) ready)))
 
 pub returns-in-Ok-run_files-clause-punctuations : goal.returns-in-Ok-run_files-clause-punctuations
 returns-in-Ok-run_files-clause-punctuations g c = λ _ all t.
@@ -41,8 +41,8 @@ returns-in-Ok-run_files-clause-punctuations g c = λ _ all t.
     let mid = g.F.Folder.state c.prepare.new.folder in
     let same = files_same words old mid e.form e.told e.contents in
     let ready = files_named (names_in words) mid in
-    ran ArePunctuations c.in-Ok.core.plan (command_of words old) ready (g.K.Sink.state c.args.out.now) (g.K.Sink.state c.run_files.new.out) (e.read all.plan).0 same (c.in-Ok-run_files.ensures.lines (files_told words old mid e.form e.told e.contents all) t)
-    (outputs_puncts c.in-Ok.core.plan ready (run_planned c.in-Ok.core.plan e.fresh.3 e.fresh.1) (ap length same ∙ files_counted words old mid e.form e.told e.contents c.in-Ok.core.plan.nodes e.count) (report_of c.in-Ok.core.plan ready (outputs_of c.in-Ok.core.plan ready)))
+    ran ArePunctuations (outline_in c.in-Ok.core) (command_of words old) ready (g.K.Sink.state c.args.out.now) (g.K.Sink.state c.run_files.new.out) (e.read all.plan).0 same (c.in-Ok-run_files.ensures.lines (files_told words old mid e.form e.told e.contents all) t)
+    (outputs_puncts (outline_in c.in-Ok.core) ready (new_planned c.in-Ok.core e.fresh) (report_of (outline_in c.in-Ok.core) ready (outputs_of (outline_in c.in-Ok.core) ready)))
 
 pub returns-in-Ok-run_files-clause-lawful : goal.returns-in-Ok-run_files-clause-lawful
 returns-in-Ok-run_files-clause-lawful g c = λ _ all t.
@@ -52,8 +52,8 @@ returns-in-Ok-run_files-clause-lawful g c = λ _ all t.
     let mid = g.F.Folder.state c.prepare.new.folder in
     let same = files_same words old mid e.form e.told e.contents in
     let ready = files_named (names_in words) mid in
-    ran AreLawful c.in-Ok.core.plan (command_of words old) ready (g.K.Sink.state c.args.out.now) (g.K.Sink.state c.run_files.new.out) (e.read all.plan).0 same (c.in-Ok-run_files.ensures.lines (files_told words old mid e.form e.told e.contents all) t)
-    (outputs_lawful c.in-Ok.core.plan ready (run_planned c.in-Ok.core.plan e.fresh.3 e.fresh.1))
+    ran AreLawful (outline_in c.in-Ok.core) (command_of words old) ready (g.K.Sink.state c.args.out.now) (g.K.Sink.state c.run_files.new.out) (e.read all.plan).0 same (c.in-Ok-run_files.ensures.lines (files_told words old mid e.form e.told e.contents all) t)
+    (outputs_lawful (outline_in c.in-Ok.core) ready (new_planned c.in-Ok.core e.fresh))
 
 pub returns-in-Ok-run_files-clause-tallies : goal.returns-in-Ok-run_files-clause-tallies
 returns-in-Ok-run_files-clause-tallies g c = λ _ all t.
@@ -61,7 +61,7 @@ returns-in-Ok-run_files-clause-tallies g c = λ _ all t.
     let words = c.args.words.now in
     let old = g.F.Folder.state c.args.folder.now in
     let mid = g.F.Folder.state c.prepare.new.folder in
-    ran AreTallies c.in-Ok.core.plan (command_of words old) (files_named (names_in words) mid) (g.K.Sink.state c.args.out.now) (g.K.Sink.state c.run_files.new.out) (e.read all.plan).0 (files_same words old mid e.form e.told e.contents)
+    ran AreTallies (outline_in c.in-Ok.core) (command_of words old) (files_named (names_in words) mid) (g.K.Sink.state c.args.out.now) (g.K.Sink.state c.run_files.new.out) (e.read all.plan).0 (files_same words old mid e.form e.told e.contents)
     (c.in-Ok-run_files.ensures.lines (files_told words old mid e.form e.told e.contents all) t) refl
 
 pub returns-in-Ok-run_files-clause-read_to_end : goal.returns-in-Ok-run_files-clause-read_to_end
@@ -84,33 +84,33 @@ returns-in-Ok-run_files-clause-never_retracted g c = λ all t.
     let old = g.F.Folder.state c.args.folder.now in
     let mid = g.F.Folder.state c.prepare.new.folder in
     let before = (g.K.Sink.state c.args.out.now).written in
-    never_done c.in-Ok.core.plan (command_of words old) before _
-    (record { read = (e.read all.plan).0; planned = run_planned c.in-Ok.core.plan e.fresh.3 e.fresh.1; names = e.fresh.2 })
-    (c.in-Ok-run_files.ensures.lines (files_told words old mid e.form e.told e.contents all) t ∙ ap (λ files. before ++ flat (run_lines c.in-Ok.core.plan files)) (files_same words old mid e.form e.told e.contents))
+    never_done (outline_in c.in-Ok.core) (command_of words old) before _
+    (record { read = (e.read all.plan).0; planned = new_planned c.in-Ok.core e.fresh; names = e.fresh.names })
+    (c.in-Ok-run_files.ensures.lines (files_told words old mid e.form e.told e.contents all) t ∙ ap (λ files. before ++ flat (run_lines (outline_in c.in-Ok.core) files)) (files_same words old mid e.form e.told e.contents))
 
 pub returns-in-Ok-run_files-clause-opened_in_order : goal.returns-in-Ok-run_files-clause-opened_in_order
 returns-in-Ok-run_files-clause-opened_in_order g c =
     let e = c.in-Ok.ensures in
     opened_done c.args.words.now (g.F.Folder.state c.args.folder.now) (g.F.Folder.state c.prepare.new.folder) (g.F.Folder.state c.run_files.new.folder) e.form e.was_opened
-    (built c.args.words.now (g.F.Folder.state c.args.folder.now) (g.F.Folder.state c.prepare.new.folder) e.form e.told e.contents c.in-Ok.core.plan e.count e.safe e.read) c.in-Ok-run_files.ensures.opened
+    (built c.args.words.now (g.F.Folder.state c.args.folder.now) (g.F.Folder.state c.prepare.new.folder) e.form e.told e.contents (outline_in c.in-Ok.core) e.count e.safe e.read) c.in-Ok-run_files.ensures.opened
 
 pub returns-in-Ok-run_files-clause-cause_of_done : goal.returns-in-Ok-run_files-clause-cause_of_done
 returns-in-Ok-run_files-clause-cause_of_done g c = λ _.
     let e = c.in-Ok.ensures in
-    built c.args.words.now (g.F.Folder.state c.args.folder.now) (g.F.Folder.state c.prepare.new.folder) e.form e.told e.contents c.in-Ok.core.plan e.count e.safe e.read
+    built c.args.words.now (g.F.Folder.state c.args.folder.now) (g.F.Folder.state c.prepare.new.folder) e.form e.told e.contents (outline_in c.in-Ok.core) e.count e.safe e.read
 
 -- ---- the run stopped
 
 pub status-status-requires : goal.status-status-requires
 status-status-requires g c =
     let e = c.in-Ok.ensures in
-    let few = few-streams c.in-Ok.core.plan.nodes e.fresh.3 in
+    let few = few-streams c.in-Ok.core.plan.nodes e.fresh.sound in
     let counted = names_of_streams c.args.words.now c.in-Ok.core.plan.nodes e.form e.count in
-    of_few c.in-Err-run_files.stop c.in-Ok.core.plan (names_in c.args.words.now) (g.F.Folder.state c.prepare.new.folder) (g.F.Folder.state c.run_files.new.folder) (g.K.Sink.state c.args.out.now) (g.K.Sink.state c.run_files.new.out)
+    of_few c.in-Err-run_files.stop (outline_in c.in-Ok.core) (names_in c.args.words.now) (g.F.Folder.state c.prepare.new.folder) (g.F.Folder.state c.run_files.new.folder) (g.K.Sink.state c.args.out.now) (g.K.Sink.state c.run_files.new.out)
     (omega (arith, few, counted)) c.in-Err-run_files.ensures.causes
 
 pub write_status-requires : goal.write_status-requires
-write_status-requires g c = rw c.stop_name.ensures (stop_name_short c.plan.result.now c.status-status.result (subst (λ (p : Outline). HasPlainNames p.nodes) (sym (c.plan.ensures ∙ c.in-Err-run_files.ensures.plan)) c.in-Ok.ensures.fresh.2))
+write_status-requires g c = rw c.stop_name.ensures (stop_name_short c.plan.result.now c.status-status.result (subst HasPlainNames (sym (c.plan.ensures ∙ ap (λ (p : RunPlan). p.nodes) c.in-Err-run_files.ensures.plan)) c.in-Ok.ensures.fresh.names))
 
 pub returns-in-Ok-clause-stopped_run : goal.returns-in-Ok-clause-stopped_run
 returns-in-Ok-clause-stopped_run g c = λ all t.
@@ -122,8 +122,8 @@ returns-in-Ok-clause-stopped_run g c = λ all t.
     let t' = c.write_status.ensures.told t in
     let told = files_told words old mid e.form e.told e.contents all in
     rw c.status-status.ensures
-    (stopped words old mid (g.F.Folder.state c.run_files.new.folder) e.form e.told e.contents e.other_last c.in-Err-run_files.stop c.in-Ok.core.plan c.stop_name.result.now
-    (g.K.Sink.state c.args.out.now) (g.K.Sink.state c.run_files.new.out) (g.K.Sink.state c.write_status.new.out) t (e.read all.plan).0 (rw (sym c.status-status.ensures) (c.stop_name.ensures ∙ ap (λ (p : Outline). stop_name p c.status-status.result) (c.plan.ensures ∙ c.in-Err-run_files.ensures.plan)))
+    (stopped words old mid (g.F.Folder.state c.run_files.new.folder) e.form e.told e.contents e.other_last c.in-Err-run_files.stop (outline_in c.in-Ok.core) c.stop_name.result.now
+    (g.K.Sink.state c.args.out.now) (g.K.Sink.state c.run_files.new.out) (g.K.Sink.state c.write_status.new.out) t (e.read all.plan).0 (rw (sym c.status-status.ensures) (c.stop_name.ensures ∙ stop_name_by c.plan.result.now (outline_in c.in-Ok.core) c.status-status.result (c.plan.ensures ∙ ap (λ (p : RunPlan). p.nodes) c.in-Err-run_files.ensures.plan)))
     r.causes (r.lines told t') (r.ends told t') r.later (rw (sym c.status-status.ensures) c.write_status.ensures.line))
 
 pub returns-in-Ok-clause-never_retracted : goal.returns-in-Ok-clause-never_retracted
@@ -135,10 +135,10 @@ returns-in-Ok-clause-never_retracted g c = λ all t.
     let mid = g.F.Folder.state c.prepare.new.folder in
     let told = files_told words old mid e.form e.told e.contents all in
     let before = (g.K.Sink.state c.args.out.now).written in
-    never_stopped c.in-Err-run_files.stop c.in-Ok.core.plan (command_of words old) c.stop_name.result.now before (g.K.Sink.state c.run_files.new.out) (g.K.Sink.state c.write_status.new.out) t
-    (record { read = (e.read all.plan).0; planned = run_planned c.in-Ok.core.plan e.fresh.3 e.fresh.1; names = e.fresh.2 })
-    (rw (sym c.status-status.ensures) (c.stop_name.ensures ∙ ap (λ (p : Outline). stop_name p c.status-status.result) (c.plan.ensures ∙ c.in-Err-run_files.ensures.plan)))
-    (subst (λ files. Leaves (files_cut c.in-Err-run_files.stop) (run_lines c.in-Ok.core.plan files) before (g.K.Sink.state c.run_files.new.out).written) (files_same words old mid e.form e.told e.contents) (r.lines told (c.write_status.ensures.told t)))
+    never_stopped c.in-Err-run_files.stop (outline_in c.in-Ok.core) (command_of words old) c.stop_name.result.now before (g.K.Sink.state c.run_files.new.out) (g.K.Sink.state c.write_status.new.out) t
+    (record { read = (e.read all.plan).0; planned = new_planned c.in-Ok.core e.fresh; names = e.fresh.names })
+    (rw (sym c.status-status.ensures) (c.stop_name.ensures ∙ stop_name_by c.plan.result.now (outline_in c.in-Ok.core) c.status-status.result (c.plan.ensures ∙ ap (λ (p : RunPlan). p.nodes) c.in-Err-run_files.ensures.plan)))
+    (subst (λ files. Leaves (files_cut c.in-Err-run_files.stop) (run_lines (outline_in c.in-Ok.core) files) before (g.K.Sink.state c.run_files.new.out).written) (files_same words old mid e.form e.told e.contents) (r.lines told (c.write_status.ensures.told t)))
     (rw (sym c.status-status.ensures) c.write_status.ensures.line)
 
 pub returns-in-Ok-clause-early_end : goal.returns-in-Ok-clause-early_end
@@ -146,8 +146,8 @@ returns-in-Ok-clause-early_end g c =
     let e = c.in-Ok.ensures in
     let r = c.in-Err-run_files.ensures in
     rw c.status-status.ensures
-    (early c.args.words.now (g.F.Folder.state c.args.folder.now) (g.F.Folder.state c.prepare.new.folder) (g.F.Folder.state c.run_files.new.folder) e.form e.told e.contents e.other_last c.in-Err-run_files.stop c.in-Ok.core.plan c.stop_name.result.now
-    (g.K.Sink.state c.args.out.now) (g.K.Sink.state c.run_files.new.out) (g.K.Sink.state c.write_status.new.out) (rw (sym c.status-status.ensures) (c.stop_name.ensures ∙ ap (λ (p : Outline). stop_name p c.status-status.result) (c.plan.ensures ∙ c.in-Err-run_files.ensures.plan)))
+    (early c.args.words.now (g.F.Folder.state c.args.folder.now) (g.F.Folder.state c.prepare.new.folder) (g.F.Folder.state c.run_files.new.folder) e.form e.told e.contents e.other_last c.in-Err-run_files.stop (outline_in c.in-Ok.core) c.stop_name.result.now
+    (g.K.Sink.state c.args.out.now) (g.K.Sink.state c.run_files.new.out) (g.K.Sink.state c.write_status.new.out) (rw (sym c.status-status.ensures) (c.stop_name.ensures ∙ stop_name_by c.plan.result.now (outline_in c.in-Ok.core) c.status-status.result (c.plan.ensures ∙ ap (λ (p : RunPlan). p.nodes) c.in-Err-run_files.ensures.plan)))
     (λ opening is. ap g.K.Sink.state (r.unopened opening (ap Err is))) (rw (sym c.status-status.ensures) c.write_status.ensures.line))
 
 pub returns-in-Ok-clause-opened_in_order : goal.returns-in-Ok-clause-opened_in_order
@@ -155,7 +155,7 @@ returns-in-Ok-clause-opened_in_order g c =
     let e = c.in-Ok.ensures in
     rw c.status-status.ensures
     (opened_stop c.args.words.now (g.F.Folder.state c.args.folder.now) (g.F.Folder.state c.prepare.new.folder) (g.F.Folder.state c.run_files.new.folder) e.form e.was_opened
-    (built c.args.words.now (g.F.Folder.state c.args.folder.now) (g.F.Folder.state c.prepare.new.folder) e.form e.told e.contents c.in-Ok.core.plan e.count e.safe e.read) c.in-Err-run_files.stop c.in-Err-run_files.ensures.opened)
+    (built c.args.words.now (g.F.Folder.state c.args.folder.now) (g.F.Folder.state c.prepare.new.folder) e.form e.told e.contents (outline_in c.in-Ok.core) e.count e.safe e.read) c.in-Err-run_files.stop c.in-Err-run_files.ensures.opened)
 
 pub returns-in-Ok-clause-cause_of_read_fault : goal.returns-in-Ok-clause-cause_of_read_fault
 returns-in-Ok-clause-cause_of_read_fault g c = λ n is.
@@ -163,8 +163,8 @@ returns-in-Ok-clause-cause_of_read_fault g c = λ n is.
     let words = c.args.words.now in
     let old = g.F.Folder.state c.args.folder.now in
     let mid = g.F.Folder.state c.prepare.new.folder in
-    faulted words old mid (g.F.Folder.state c.run_files.new.folder) e.form e.told e.contents e.other_last e.later c.in-Err-run_files.stop c.in-Ok.core.plan (g.K.Sink.state c.args.out.now) (g.K.Sink.state c.run_files.new.out) n
-    (built words old mid e.form e.told e.contents c.in-Ok.core.plan e.count e.safe e.read) c.in-Err-run_files.ensures.causes (sym c.status-status.ensures ∙ is)
+    faulted words old mid (g.F.Folder.state c.run_files.new.folder) e.form e.told e.contents e.other_last e.later c.in-Err-run_files.stop (outline_in c.in-Ok.core) (g.K.Sink.state c.args.out.now) (g.K.Sink.state c.run_files.new.out) n
+    (built words old mid e.form e.told e.contents (outline_in c.in-Ok.core) e.count e.safe e.read) c.in-Err-run_files.ensures.causes (sym c.status-status.ensures ∙ is)
 
 pub returns-in-Ok-clause-cause_of_write_fault : goal.returns-in-Ok-clause-cause_of_write_fault
 returns-in-Ok-clause-cause_of_write_fault g c = λ is.
@@ -172,9 +172,9 @@ returns-in-Ok-clause-cause_of_write_fault g c = λ is.
     let words = c.args.words.now in
     let old = g.F.Folder.state c.args.folder.now in
     let mid = g.F.Folder.state c.prepare.new.folder in (
-      write_failed words old mid (g.F.Folder.state c.run_files.new.folder) e.form e.told e.contents e.other_last c.in-Err-run_files.stop c.in-Ok.core.plan (g.K.Sink.state c.args.out.now) (g.K.Sink.state c.run_files.new.out) (g.K.Sink.state c.write_status.new.out)
+      write_failed words old mid (g.F.Folder.state c.run_files.new.folder) e.form e.told e.contents e.other_last c.in-Err-run_files.stop (outline_in c.in-Ok.core) (g.K.Sink.state c.args.out.now) (g.K.Sink.state c.run_files.new.out) (g.K.Sink.state c.write_status.new.out)
           c.in-Err-run_files.ensures.causes c.write_status.ensures.later (sym c.status-status.ensures ∙ is),
-      built words old mid e.form e.told e.contents c.in-Ok.core.plan e.count e.safe e.read,
+      built words old mid e.form e.told e.contents (outline_in c.in-Ok.core) e.count e.safe e.read,
     )
 
 pub returns-in-Ok-clause-cause_of_limit : goal.returns-in-Ok-clause-cause_of_limit
@@ -183,8 +183,8 @@ returns-in-Ok-clause-cause_of_limit g c = λ node is.
     let words = c.args.words.now in
     let old = g.F.Folder.state c.args.folder.now in
     let mid = g.F.Folder.state c.prepare.new.folder in
-    beyond words old mid (g.F.Folder.state c.run_files.new.folder) e.form e.told e.contents e.other_last c.in-Err-run_files.stop c.in-Ok.core.plan (g.K.Sink.state c.args.out.now) (g.K.Sink.state c.run_files.new.out) node
-    (built words old mid e.form e.told e.contents c.in-Ok.core.plan e.count e.safe e.read) (λ t. (e.read t).0) c.in-Err-run_files.ensures.causes (sym c.status-status.ensures ∙ is)
+    beyond words old mid (g.F.Folder.state c.run_files.new.folder) e.form e.told e.contents e.other_last c.in-Err-run_files.stop (outline_in c.in-Ok.core) (g.K.Sink.state c.args.out.now) (g.K.Sink.state c.run_files.new.out) node
+    (built words old mid e.form e.told e.contents (outline_in c.in-Ok.core) e.count e.safe e.read) (λ t. (e.read t).0) c.in-Err-run_files.ensures.causes (sym c.status-status.ensures ∙ is)
 
 pub returns-in-Ok-clause-cause_of_file_limit : goal.returns-in-Ok-clause-cause_of_file_limit
 returns-in-Ok-clause-cause_of_file_limit g c = λ stream is.
@@ -192,8 +192,8 @@ returns-in-Ok-clause-cause_of_file_limit g c = λ stream is.
     let words = c.args.words.now in
     let old = g.F.Folder.state c.args.folder.now in
     let mid = g.F.Folder.state c.prepare.new.folder in
-    too_large words old mid (g.F.Folder.state c.run_files.new.folder) e.form e.told e.contents e.other_last c.in-Err-run_files.stop c.in-Ok.core.plan (g.K.Sink.state c.args.out.now) (g.K.Sink.state c.run_files.new.out) stream
-    (built words old mid e.form e.told e.contents c.in-Ok.core.plan e.count e.safe e.read) c.in-Err-run_files.ensures.causes (sym c.status-status.ensures ∙ is)
+    too_large words old mid (g.F.Folder.state c.run_files.new.folder) e.form e.told e.contents e.other_last c.in-Err-run_files.stop (outline_in c.in-Ok.core) (g.K.Sink.state c.args.out.now) (g.K.Sink.state c.run_files.new.out) stream
+    (built words old mid e.form e.told e.contents (outline_in c.in-Ok.core) e.count e.safe e.read) c.in-Err-run_files.ensures.causes (sym c.status-status.ensures ∙ is)
 
 -- ---- the plan was not had
 
@@ -268,13 +268,13 @@ pub returns-in-Ok-run_files-clause-refused : goal.returns-in-Ok-run_files-clause
 returns-in-Ok-run_files-clause-refused g c =
     let e = c.in-Ok.ensures in
     answers_built (command_of c.args.words.now (g.F.Folder.state c.args.folder.now)) Done
-    (built c.args.words.now (g.F.Folder.state c.args.folder.now) (g.F.Folder.state c.prepare.new.folder) e.form e.told e.contents c.in-Ok.core.plan e.count e.safe e.read)
+    (built c.args.words.now (g.F.Folder.state c.args.folder.now) (g.F.Folder.state c.prepare.new.folder) e.form e.told e.contents (outline_in c.in-Ok.core) e.count e.safe e.read)
 
 pub returns-in-Ok-clause-refused : goal.returns-in-Ok-clause-refused
 returns-in-Ok-clause-refused g c =
     let e = c.in-Ok.ensures in
     answers_built (command_of c.args.words.now (g.F.Folder.state c.args.folder.now)) c.status-status.result
-    (built c.args.words.now (g.F.Folder.state c.args.folder.now) (g.F.Folder.state c.prepare.new.folder) e.form e.told e.contents c.in-Ok.core.plan e.count e.safe e.read)
+    (built c.args.words.now (g.F.Folder.state c.args.folder.now) (g.F.Folder.state c.prepare.new.folder) e.form e.told e.contents (outline_in c.in-Ok.core) e.count e.safe e.read)
 
 pub returns-in-Ok-clause-cause_of_usage : goal.returns-in-Ok-clause-cause_of_usage
 returns-in-Ok-clause-cause_of_usage g c = λ is. absurd (usage_never c.in-Err-run_files.stop (sym c.status-status.ensures ∙ is))
@@ -301,6 +301,6 @@ returns-in-Ok-clause-cause_of_open_fault g c = λ n is.
     let old = g.F.Folder.state c.args.folder.now in
     let mid = g.F.Folder.state c.prepare.new.folder in
     let new = g.F.Folder.state c.run_files.new.folder in
-    let is_built = built words old mid e.form e.told e.contents c.in-Ok.core.plan e.count e.safe e.read in
-    unopened words old mid new e.form e.told e.contents e.other_last e.later c.in-Err-run_files.stop c.in-Ok.core.plan (g.K.Sink.state c.args.out.now) (g.K.Sink.state c.run_files.new.out) n
+    let is_built = built words old mid e.form e.told e.contents (outline_in c.in-Ok.core) e.count e.safe e.read in
+    unopened words old mid new e.form e.told e.contents e.other_last e.later c.in-Err-run_files.stop (outline_in c.in-Ok.core) (g.K.Sink.state c.args.out.now) (g.K.Sink.state c.run_files.new.out) n
     is_built c.in-Err-run_files.ensures.causes (opened_stop words old mid new e.form e.was_opened is_built c.in-Err-run_files.stop c.in-Err-run_files.ensures.opened) (sym c.status-status.ensures ∙ is)

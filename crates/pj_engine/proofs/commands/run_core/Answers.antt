@@ -1,0 +1,11 @@
+use Rattle.std.proofs.Common.{List, false, subst, sym}
+use Rattle.pj_shape.specs.declared.joins.CertStep.{CertStep}
+use Rattle.pj_laws.specs.HistoryLaws.{AllAreCertified}
+use Rattle.pj_core.specs.Plans.{nodes_of, run_plan}
+use Rattle.pj_engine.proofs.Certified.{run_certified}
+use Rattle.pj_engine.proofs.commands.run_core.Goals as goal
+
+pub new-requires-clause-certified : goal.new-requires-clause-certified
+new-requires-clause-certified c =
+    let nodes = c.args.plan.nodes in
+    subst (λ (certs : List (List (List CertStep))). AllAreCertified (nodes_of (run_plan nodes certs false))) (sym c.requires.certs) (run_certified nodes c.nodes-nodes.ensures.sound c.requires.certified)
