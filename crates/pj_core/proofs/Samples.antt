@@ -1,5 +1,5 @@
 -- The plans of the tests are run, and their certificates hold.
-use Rattle.std.proofs.Common.{ℕ, zero, suc, ◌+◌, ◌<◌, ◌≡◌, ◌≢◌, Bool, true, false, List, [], ◌∷◌, map, length, refl, sym, ap, subst, inl, inr, arith}
+use Rattle.std.proofs.Common.{ℕ, zero, suc, ◌<◌, ◌≡◌, ◌≢◌, Bool, true, false, List, [], ◌∷◌, map, refl, subst, inl, inr, arith}
 use Rattle.std.specs.Prelude.{Ok, codes}
 use Rattle.pj_value.specs.declared.values.Kind.TheVariants.{Int}
 use Rattle.pj_value.specs.Lists.{In}
@@ -12,9 +12,8 @@ use Rattle.pj_plan.specs.declared.node.Outline.{Outline}
 use Rattle.pj_plan.specs.declared.node.PlanNode.{PlanNode}
 use Rattle.pj_plan.specs.declared.statement.Stated.{Stated}
 use Rattle.pj_plan.specs.Built.{built}
-use Rattle.pj_laws.specs.Join.{AreCertified, CertEntry, ClassCol, IsCertified, JoinData, entry_of, inputs, steps_of}
-use Rattle.pj_laws.specs.Plan.{operator_at}
-use Rattle.pj_laws.specs.HistoryLaws.{AllAreCertified, Certified}
+use Rattle.pj_laws.specs.Join.{AreCertified, CertEntry, ClassCol, JoinData, entry_of}
+use Rattle.pj_laws.specs.HistoryLaws.{AllAreCertified}
 use Rattle.pj_join.specs.Joins.{join_data}
 use Rattle.pj_core.specs.Plans.{IsRun, nodes_of, run_plan}
 use Rattle.pj_core.specs.Samples.{IsSample, chain_certs, chain_statements, lone_statements, pair_certs, pair_statements, step}

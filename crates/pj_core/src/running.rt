@@ -32,8 +32,9 @@ use std::marker::Model;
 
 /// The core of a plan of streams and at most one join of them: of one stream, or of 2 to 16 streams and a join of them all.
 ///
-/// A contract sees its plan, its limit, and what it keeps. It stands for a history of its plan where that is what the
-/// history leaves, and each call takes it from a history to the same with the entry of the call behind it.
+/// A contract sees its plan with the certificates of its join, its limit, and what it keeps. It stands for a history of its
+/// plan where that is what the history leaves, and each call takes it from a history to the same with the entry of the call
+/// behind it.
 #[derive(Drop)]
 pub struct Core {
     alloc: Global,

@@ -528,36 +528,33 @@ fn number_in(row: &Row, column: usize) -> i64 {
     }
 }
 
-// The number of the first column that has one, with the column.
-fn constant_in(punct: &Punct) -> (i64, i64) {
-    let mut column = 0;
-    for pattern in punct.as_slice() {
-        if let Shape::Constant(Value::Int(n)) = pattern.shape() {
+// The first column that has a number, and the number; 99 and 0 where none has.
+fn constant_in(punct: &Punct) -> (usize, i64) {
+    for column in 0..punct.len() {
+        if let Shape::Constant(Value::Int(n)) = punct.at(column).shape() {
             return (column, *n);
         }
-        column += 1;
     }
-    (-1, column)
+    (99, 0)
 }
 
-// A row is told by its first number, a punctuation by its first constant, a note by its input and the first number.
-fn told(out: &Out) -> (i64, i64, i64) {
+// A row is told by 0 and its first number, a punctuation by 1 and its first constant, a note by the node of its join, its input
+// and the first number.
+fn told(out: &Out) -> (u32, usize, i64) {
     match out {
         Out::Tuple(row) => (0, 0, number_in(row, 0)),
         Out::Punct(punct) => {
             let (column, n) = constant_in(punct);
             (1, column, n)
         }
-        Out::Purged { join, input, row } => {
-            (i64::from(*join), i64::from(*input), number_in(row, 0))
-        }
+        Out::Purged { join, input, row } => (*join, *input as usize, number_in(row, 0)),
     }
 }
 
-fn told_at(outs: &List<Out>, at: usize) -> (i64, i64, i64) {
+fn told_at(outs: &List<Out>, at: usize) -> (u32, usize, i64) {
     match outs.as_slice().get(at) {
         Some(out) => told(out),
-        None => (-1, -1, -1),
+        None => (90, 0, 0),
     }
 }
 
@@ -627,14 +624,14 @@ fn a_chain_forgets_what_all_partners_have_closed(rt: HostRuntime) {
 }
 
 // What is handed out first where the stream is closed.
-fn first_closed(core: &mut Core, stream: u32) -> (i64, i64, i64) {
+fn first_closed(core: &mut Core, stream: u32) -> (u32, usize, i64) {
     if (stream as usize) < core.plan().streams().len() {
         match core.closing_turn(stream) {
             Ok(outs) => told_at(&outs, 0),
-            Err(_) => (-6, -6, -6),
+            Err(_) => (96, 0, 0),
         }
     } else {
-        (-7, -7, -7)
+        (97, 0, 0)
     }
 }
 
@@ -647,7 +644,7 @@ fn a_lone_stream_hands_out_its_elements(rt: HostRuntime) {
             let handed = told_at(&core.drain(), 0);
             let closed = first_closed(&mut core, 0);
             assert!(rt; came);
-            assert_eq!(rt; (handed, closed), ((0, 0, 7), (1, -1, 1)));
+            assert_eq!(rt; (handed, closed), ((0, 0, 7), (1, 99, 0)));
             assert_eq!(rt; core.look().ended, 1);
         }
         None => assert!(rt; false),
