@@ -33,14 +33,8 @@ first_class_is classes input column = sym (found classes classes 0 (record { inp
 pub first_here : (x : TupleAt) (xs : List TupleAt) (at : ClassCol) → x.input ≡ at.input → BeginWith (values_in (map part_of (x ∷ xs)) at) at (Some x)
 first_here x xs at e = (values_in (map part_of xs) at, ap (λ (b : Bool). cond b (value_at x.row at.column ∷ []) [] ++ values_in (map part_of xs) at) (eq-eqb x.input at.input e))
 
-pub first_later : (x : TupleAt) (xs : List TupleAt) (at : ClassCol) → (x.input ≡ at.input → ⊥) → values_in (map part_of (x ∷ xs)) at ≡ values_in (map part_of xs) at
-first_later x xs at f = ap (λ (b : Bool). cond b (value_at x.row at.column ∷ []) [] ++ values_in (map part_of xs) at) (ne_eqb x.input at.input f)
-
 pub constant_here : (at : ClassCol) (class : List ClassCol) (xs : List TupleAt) (x : TupleAt) → BeginWith (values_in (map part_of xs) at) at (Some x) → constant (at ∷ class) xs ≡ value_at x.row at.column
 constant_here at class xs x b = ap (λ (vs : List Value). value_at (vs ++ values (map part_of xs) class) 0) b.1
-
-pub constant_later : (at : ClassCol) (class : List ClassCol) (xs : List TupleAt) → values_in (map part_of xs) at ≡ [] → constant (at ∷ class) xs ≡ constant class xs
-constant_later at class xs e = ap (λ (vs : List Value). value_at (vs ++ values (map part_of xs) class) 0) e
 
 pub first_found : (xs : List TupleAt) (x : TupleAt) (others : List TupleAt) (at : ClassCol) → xs ≡ x ∷ others → x.input ≡ at.input → BeginWith (values_in (map part_of xs) at) at (Some x)
 first_found xs x others at is e = subst (λ (ys : List TupleAt). BeginWith (values_in (map part_of ys) at) at (Some x)) (sym is) (first_here x others at e)

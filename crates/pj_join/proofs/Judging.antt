@@ -1,7 +1,6 @@
 -- What the judge of stored tuples cites.
 use Rattle.std.proofs.Common.{ℕ, ◌<◌, ◌≤◌, Bool, true, false, cond, ◌&&◌, List, [], ◌∷◌, ◌++◌, ◌≡◌, map, filter, flat_map, length, get_or, take, refl, sym, ap, ◌∙◌, subst, inl, inr, eqb, ltb}
 use Rattle.std.specs.List.{list_all}
-use Rattle.std.proofs.lemmas.Bool.{and_parts}
 use Rattle.std.proofs.Math.Bool.{and-false}
 use Rattle.std.proofs.lemmas.List.{take_all}
 use Rattle.std.proofs.lemmas.List.Folds.{list_all-append, list_all_at}
@@ -66,11 +65,6 @@ entry_fails j e cert all xs i y is lt at f =
     ∙ ap (λ b. covered (older_puncts j.low j.puncts) (demand j.classes e xs) && b) (list_all_at (covered_with j e cert xs) j.stored i y lt (ap (covered_with j e cert xs) (sym at) ∙ f))
     ∙ and-false (covered (older_puncts j.low j.puncts) (demand j.classes e xs))))
 
-pub entry_lacks : (j : Judged) (e : CertEntry) (cert all : List CertEntry) (xs : List TupleAt) → all ≡ e ∷ cert → covered (older_puncts j.low j.puncts) (demand j.classes e xs) ≡ false → false ≡ all_covered j all xs
-entry_lacks j e cert all xs is f =
-    subst (λ (es : List CertEntry). false ≡ all_covered j es xs) (sym is)
-    (sym (entry_covered j e cert xs ∙ ap (λ b. b && list_all (covered_with j e cert xs) j.stored) f))
-
 -- where none does, all is covered
 pub entry_holds : (j : Judged) (e : CertEntry) (cert all : List CertEntry) (xs : List TupleAt) (i : ℕ) → all ≡ e ∷ cert → covered (older_puncts j.low j.puncts) (demand j.classes e xs) ≡ true
     → length j.stored ≤ i → list_all (covered_with j e cert xs) (take i j.stored) ≡ true → true ≡ all_covered j all xs
@@ -114,9 +108,6 @@ joins_where_suits classes xs y t =
 pub stands_where_suits : (classes : List (List ClassCol)) (low : ℕ) (e : CertEntry) (xs : List TupleAt) (y : TupleAt) → agree classes xs ≡ true
     → (ltb y.ticket low && (eqb y.input e.input && suits classes xs y)) ≡ may_stand classes low e xs y
 stands_where_suits classes low e xs y t = ap (λ b. ltb y.ticket low && (eqb y.input e.input && b)) (sym (joins_where_suits classes xs y t))
-
-pub stands_joins : (classes : List (List ClassCol)) (low : ℕ) (e : CertEntry) (xs : List TupleAt) (y : TupleAt) → may_stand classes low e xs y ≡ true → agree classes (y ∷ xs) ≡ true
-stands_joins classes low e xs y t = (and_parts (eqb y.input e.input) (agree classes (y ∷ xs)) (and_parts (ltb y.ticket low) (eqb y.input e.input && agree classes (y ∷ xs)) t).1).1
 
 one-column : (class : List ClassCol) (a b : ClassCol) → AreOfOtherInputs class → In a class → In b class → a.input ≡ b.input → a ≡ b
 one-column [] a b o ha hb e = absurd ha

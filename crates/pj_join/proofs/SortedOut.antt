@@ -1,4 +1,4 @@
--- Lists that are sorted out one element after the other.
+-- Lists that are gone through one element after the other.
 use Rattle.std.proofs.Common.{Option, Some, None, ℕ, zero, suc, ◌+◌, ◌<◌, ◌≤◌, Bool, true, false, cond, not, List, [], ◌∷◌, ◌++◌, ◌≡◌, map, filter, take, drop, length, get_or, sum, refl, sym, ap, ◌∙◌, eqb, arith, append_assoc}
 use Rattle.std.proofs.lemmas.List.{map-append, take_more, take-map, replicate-append-replicate}
 use Rattle.std.specs.List.{slice_get}

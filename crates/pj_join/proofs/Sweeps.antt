@@ -6,7 +6,7 @@ use Rattle.pj_value.specs.declared.values.Value.{Value}
 use Rattle.pj_laws.specs.Patterns.{Pattern}
 use Rattle.pj_laws.specs.Join.{In, CertEntry, JoinSpec, JoinData, JoinState, TupleAt, PunctAt, Punct, Step, PunctComes, Sweep, AreLegalSteps, cert_of, covered, inputs, is_held, kept, low, need_of, older, older_puncts, ripe, run, start, widened}
 use Rattle.pj_laws.specs.KeptState.{KeptState, kept_low, kept_of, kept_ripe, swept}
-use Rattle.pj_laws.specs.Laws.{HandsUpLawfully, NeverNeeded, RipeWhenCovered}
+use Rattle.pj_laws.specs.Laws.{NeverNeeded, RipeWhenCovered}
 use Rattle.pj_laws.proofs.Forget.{stored-in}
 use Rattle.pj_laws.proofs.Sound.{run-append, sound-run, sound-start}
 use Rattle.pj_laws.proofs.Stand.{low-kept}
@@ -14,7 +14,7 @@ use Rattle.pj_value.proofs.Members.{In-filter, In-filter_from, filter-agree}
 use Rattle.pj_join.specs.Joins.{JoinView, StandsFor, after}
 use Rattle.pj_join.specs.Insides.{made_with, seen}
 use Rattle.pj_join.specs.Judging.{Judged, goes, going_at_once, going_up, is_ripe, judged, rows_going, staying, waiting_with}
-use Rattle.pj_join.specs.Sweeping.{GoesWhereCovered, HandsUp, HasBeenLawful, IsForgotten, next_punct, puncts_at_once, puncts_up, rows_off, swept_off}
+use Rattle.pj_join.specs.Sweeping.{GoesWhereCovered, HandsUp, IsForgotten, next_punct, puncts_at_once, puncts_up, rows_off, swept_off}
 
 -- ---- which tuples go
 
@@ -145,9 +145,6 @@ goes-where-covered join input covers steps st = λ x h is lt whole.
     In-filter_from (λ z. eqb z.input input && kept_ripe join.spec join.kept z) x join.kept.stored h
     (and_from (eqb x.input input) (kept_ripe join.spec join.kept x) (eq-eqb x.input input is)
     (ap (λ (k : KeptState). kept_ripe join.spec k x) st.1 ∙ ripe-same join.spec (run join.spec start steps) x ∙ ripe_now))
-
-pub been-lawful : (join : JoinView) → HandsUpLawfully join.spec → (steps : List Step) → StandsFor join steps → HasBeenLawful join steps
-been-lawful join law steps st = law steps st.0
 
 -- ---- punctuations
 

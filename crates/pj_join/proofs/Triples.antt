@@ -1,11 +1,15 @@
 -- The joins of the tests are sound and certified.
-use Rattle.std.proofs.Common.{ℕ, zero, suc, ◌<◌, ◌≢◌, ◌≡◌, List, [], ◌∷◌, refl, sym, ap, inl, inr, map, arith, subst}
+use Rattle.std.proofs.Common.{Bool, ℕ, zero, suc, ◌<◌, ◌≢◌, ◌≡◌, List, [], ◌∷◌, refl, sym, ap, inl, inr, map, arith, subst}
 use Rattle.pj_value.specs.declared.values.Kind.TheVariants.{Int}
+use Rattle.pj_shape.specs.declared.columns.Column.{Column}
+use Rattle.pj_shape.specs.declared.joins.CertStep.{CertStep}
 use Rattle.pj_shape.specs.declared.joins.ClassCol.{ClassCol}
+use Rattle.pj_shape.specs.declared.joins.JoinSpec.{JoinSpec}
 use Rattle.pj_laws.specs.Join.{CertEntry, AreCertified, entry_of, steps_of}
 use Rattle.pj_value.specs.Lists.{In}
 use Rattle.pj_shape.specs.Sound.{IsSoundSpec, IsSoundClass, IsOfKind}
-use Rattle.pj_join.specs.Triples.{number, pair, named, at, triple, triple_join, double, double_join}
+use Rattle.pj_join.specs.Joins.{join_data}
+use Rattle.pj_join.specs.Triples.{number, pair, named, at, triple, triple_certs, triple_join, triple_schemes, double, double_certs, double_join, double_schemes}
 
 first : IsSoundClass (pair ∷ pair ∷ pair ∷ []) (at 0 0 ∷ at 1 0 ∷ [])
 first = record {
@@ -166,3 +170,12 @@ double_certified (suc zero) lt = (
     others (suc zero) l ne = absurd (ne refl)
     others (suc (suc k)) l ne = absurd (omega (arith, l))
 double_certified (suc (suc k)) lt = absurd (omega (arith, lt))
+
+-- ---- as the tests make them
+
+pub triple_is_certified : (inputs : List (List Column)) (classes : List (List ClassCol)) (schemes : List (List (List Bool))) (certs : List (List CertStep))
+    → inputs ≡ triple.inputs → classes ≡ triple.classes → schemes ≡ triple_schemes → certs ≡ triple_certs → AreCertified (join_data (record { inputs = inputs; classes = classes }) schemes certs)
+triple_is_certified inputs classes schemes certs i k s c = subst AreCertified (λ j. join_data (record { inputs = sym i j; classes = sym k j }) (sym s j) (sym c j)) triple_certified
+
+pub double_is_certified : (spec : JoinSpec) (schemes : List (List (List Bool))) (certs : List (List CertStep)) → spec ≡ double → schemes ≡ double_schemes → certs ≡ double_certs → AreCertified (join_data spec schemes certs)
+double_is_certified spec schemes certs k s c = subst AreCertified (λ j. join_data (sym k j) (sym s j) (sym c j)) double_certified

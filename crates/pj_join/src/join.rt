@@ -26,8 +26,9 @@ use std::alloc::Global;
 use std::marker::Model;
 use std::sync::Arc;
 
-/// A join by equal columns. It keeps every element that reaches it, each under its ticket, and lends its tuples to probes.
-/// A contract sees its number, its shape, its limit and what it keeps.
+/// A join by equal columns. It stores each tuple that reaches it under its ticket, until a sweep removes it, and lends it to
+/// probes. It keeps each punctuation, and hands it up widened once no stored tuple of its input matches it (Tucker et al.
+/// 2003; Li et al. 2006). A contract sees its number, its shape with schemes and certificates, its limit and what it keeps.
 #[derive(Drop)]
 pub struct Join {
     alloc: Global,
@@ -274,11 +275,12 @@ impl Join {
     {
         let cert = entries_of(self.alloc, &self.schemes, self.certs.as_slice(), input)?;
         let low = self.low();
+        let stored = self.log.as_slice();
         let left = sweep_lists(
             self.alloc,
             &self.spec,
             cert.as_slice(),
-            self.log.as_slice(),
+            stored,
             self.puncts.as_slice(),
             self.waiting.as_slice(),
             low,

@@ -1,4 +1,4 @@
-//! A join of two and more inputs over plain lists of rows, and the probes that find its results.
+//! A join of two and more inputs over plain lists of rows: the probes that find its results, and sweeps that forget rows.
 #![tactic(auto)]
 
 mod arrivals;

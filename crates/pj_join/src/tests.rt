@@ -116,7 +116,7 @@ fn certs(alloc: Global) -> Result<List<Cert>, NoMemory>
 }
 
 // A join of three inputs of two columns: the first columns of 0 and 1 are equal, and the second ones of 1 and 2.
-#[tactic(auto, using(crate::proofs::Triples::triple_sound, crate::proofs::Triples::triple_certified))]
+#[tactic(auto, using(crate::proofs::Triples::triple_sound))]
 fn join_of(alloc: Global, limit: u64) -> Result<Join, NoMemory>
     requires { (1 ≤ limit) × (limit ≤ 2 ^ 40) }
     ensures { IfOk result (λ join. join.spec ≡ triple_join) }
@@ -369,7 +369,7 @@ fn double_certs(alloc: Global) -> Result<List<Cert>, NoMemory>
 }
 
 // Items and bids for them.
-#[tactic(auto, using(crate::proofs::Triples::double_sound, crate::proofs::Triples::double_certified))]
+#[tactic(auto, using(crate::proofs::Triples::double_sound))]
 fn double_join(alloc: Global) -> Result<Join, NoMemory>
     ensures { IfOk result (λ join. join.spec ≡ double_join) }
 {
