@@ -1,0 +1,7 @@
+pub mod Placing
+pub mod Columns
+pub mod Cells
+pub mod Classes
+pub mod Combining
+pub mod Growing
+pub mod Whole

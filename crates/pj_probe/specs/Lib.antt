@@ -1,0 +1,4 @@
+pub mod Walks
+pub mod Cells
+pub mod Walking
+pub mod Visits

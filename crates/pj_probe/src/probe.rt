@@ -1,0 +1,151 @@
+// A tuple on its way through the work of a join.
+ghost use Rattle.std.specs.Prelude.{◌≡◌, ◌≤◌, length, IfOk, IsTrue, OnOk, OnErr};
+ghost use Rattle.std.specs.Arc.{arc_value};
+ghost use Rattle.pj_probe.specs.Walks.{end_to_end, found_in, sides_at};
+ghost use Rattle.pj_probe.specs.Visits.{Grows, GrowsByFront};
+
+use crate::walk::walk;
+use crate::{Joined, Visit};
+use arrayvec::ArrayVec;
+use pj_shape::JoinSpec;
+use pj_state::Shared;
+use pj_value::{JoinedParts, List, NoMemory, Row};
+use std::alloc::Global;
+use std::marker::Model;
+use std::sync::Arc;
+
+/// The results of a tuple: the number of its join, its ticket there, and the joined rows in the order of their tickets.
+#[derive(Drop)]
+pub struct Found {
+    pub join: u32,
+    pub ticket: u64,
+    pub rows: List<Row>,
+}
+
+/// A tuple that was taken, with the candidates of each other input. It is seen as what its work finds.
+#[derive(Drop)]
+pub struct Probe {
+    join: u32,
+    ticket: u64,
+    spec: Arc<JoinSpec, Global>,
+    sides: List<List<(u64, Shared)>>,
+}
+
+impl Model for Probe {
+    ghost use Rattle.std.specs.Prelude.{◌≤◌, length};
+    ghost use Rattle.std.specs.Arc.{arc_value};
+    ghost use Rattle.pj_probe.specs.declared.probe.Found.{Found};
+    ghost use Rattle.pj_probe.specs.Walks.{found_in, sides_at};
+
+    ghost Value = { Found };
+
+    ghost view = { λ p. found_in p.join p.ticket (arc_value p.spec).classes (sides_at 0 p.sides) };
+
+    ghost invariant = { λ p. length p.sides ≤ 16 };
+}
+
+impl Probe {
+    /// The probe with this ticket at the join with this number, of at most 16 inputs. For each input in order the
+    /// candidates with their tickets, in the order of these; for the probe's own its own row alone.
+    pub fn new(
+        join: u32,
+        ticket: u64,
+        spec: Arc<JoinSpec, Global>,
+        sides: List<List<(u64, Shared)>>,
+    ) -> Probe
+        requires { length sides ≤ 16 }
+        ensures { result ≡ found_in join ticket (arc_value spec).classes (sides_at 0 sides) }
+    {
+        Probe {
+            join,
+            ticket,
+            spec,
+            sides,
+        }
+    }
+
+    /// The number of its join.
+    pub fn join(&self) -> u32
+        ensures { result ≡ self.now.join }
+    {
+        self.join
+    }
+
+    /// Its ticket there.
+    pub fn ticket(&self) -> u64
+        ensures { result ≡ self.now.ticket }
+    {
+        self.ticket
+    }
+
+    /// Shows the visitor each combination of one candidate of each input in which all classes agree, in lexicographic
+    /// order of the candidates' places, those of the first input slowest. It copies no row. Where the visitor refuses one
+    /// the walk ends there.
+    pub fn each<V: Visit>(&self, visit: &mut V) -> Result<(), NoMemory>
+        ensures told { IsTrue (V.told visit.new) → IsTrue (V.told visit.old) }
+        ensures ok { OnOk result (Grows (V.told visit.new) (V.list visit.old) (V.list visit.new) self.now.rows) }
+        ensures err { OnErr result (GrowsByFront (V.told visit.new) (V.list visit.old) (V.list visit.new) self.now.rows) }
+    {
+        let mut places = ArrayVec::new();
+        walk(
+            self.spec.classes.as_slice(),
+            self.sides.as_slice(),
+            &mut places,
+            visit,
+        )
+    }
+
+    /// Finds its results: the row of each combination of one candidate of each input in which all classes agree, in the
+    /// same order as `each`; or `NoMemory`.
+    pub fn work(&self, alloc: Global) -> Result<Found, NoMemory>
+        ensures { IfOk result (λ found. found ≡ self.now) }
+    {
+        let mut rows = JoinedRows {
+            alloc,
+            rows: List::new(alloc),
+        };
+        self.each(&mut rows)?;
+        Ok(Found {
+            join: self.join,
+            ticket: self.ticket,
+            rows: rows.rows,
+        })
+    }
+}
+
+// Makes the joined rows.
+#[derive(Drop)]
+struct JoinedRows {
+    alloc: Global,
+    rows: List<Row>,
+}
+
+impl Visit for JoinedRows {
+    ghost use Rattle.std.specs.Prelude.{true};
+
+    ghost told = { λ _. true };
+
+    ghost list = { λ v. v.rows };
+
+    fn joined(&mut self, parts: Joined<'_>) -> Result<(), NoMemory> {
+        let row = joined_row(self.alloc, &parts)?;
+        self.rows.push(row)?;
+        Ok(())
+    }
+}
+
+// The row of these parts, which shares their values.
+fn joined_row(alloc: Global, parts: &Joined<'_>) -> Result<Row, NoMemory>
+    ensures { IfOk result (λ row. row ≡ end_to_end parts.now) }
+{
+    let count = parts.parts();
+    if count == 2 {
+        let row = Row::pair(alloc, parts.part(0), parts.part(1))?;
+        return Ok(row);
+    }
+    let mut values = JoinedParts::with_room(alloc, count)?;
+    for input in 0..count {
+        parts.nth(input).join_to(alloc, &mut values)?;
+    }
+    Ok(Row::joined(values))
+}
