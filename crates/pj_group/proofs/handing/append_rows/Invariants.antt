@@ -1,0 +1,6 @@
+use Rattle.std.proofs.Common.{◌≡◌, ◌++◌, take}
+use Rattle.pj_group.specs.Steps.{closed_rows}
+use Rattle.pj_group.proofs.handing.append_rows.Given as goal
+
+abbrev pub invariant-loop-at : goal.invariant-loop-at
+invariant-loop-at l = l.out ≡ l.fn.out ++ closed_rows l.kept (take l.at l.table.entries)

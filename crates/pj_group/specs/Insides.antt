@@ -1,0 +1,27 @@
+-- How large what a group keeps may be.
+use Rattle.std.specs.Prelude.{ℕ, ◌*◌, ◌^◌, ◌≤◌, ◌≡◌, List, length, pos, neg_ℤ, ◌≤ℤ◌, All}
+use Rattle.pj_shape.specs.declared.groups.GroupSpec.{GroupSpec}
+use Rattle.pj_group.specs.declared.tally.Tally.{Tally}
+use Rattle.pj_group.specs.declared.tally.Tally.TheVariants.{Rows, Total, Least, Greatest}
+use Rattle.pj_group.specs.Tables.{GroupKept}
+
+-- what so many rows may come to
+abbrev pub IsBounded : ℕ → Tally → Type 0
+IsBounded n (Rows m) = m ≤ n
+IsBounded n (Total z) = (neg_ℤ (pos (n * 2 ^ 63)) ≤ℤ z) × (z ≤ℤ pos (n * 2 ^ 63))
+IsBounded n (Least v) = Unit {0}
+IsBounded n (Greatest v) = Unit {0}
+
+-- one state for each aggregate, each of at most so many rows
+pub record AreStates (count aggs : ℕ) (tallies : List Tally) : Type 0 where
+  pub each : length tallies ≡ aggs
+  pub bounded : All (IsBounded count) tallies
+
+abbrev pub AllStates : ℕ → GroupSpec → List GroupKept → Type 0
+AllStates count spec table = All (λ e. AreStates count (length spec.aggs) e.1) table
+
+-- the entries are of at most as many rows as came, and no more came than may
+pub record IsHeld (spec : GroupSpec) (limit count : ℕ) (table : List GroupKept) : Type 0 where
+  pub few : limit ≤ 2 ^ 40
+  pub within : count ≤ limit
+  pub states : AllStates count spec table

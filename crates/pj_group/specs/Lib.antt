@@ -1,0 +1,4 @@
+pub mod Insides
+pub mod Prints
+pub mod Steps
+pub mod Tables

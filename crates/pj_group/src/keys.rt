@@ -1,0 +1,129 @@
+// Keys of groups.
+ghost use Rattle.std.specs.Prelude.{◌≡◌, ◌<◌, All, IfOk, length};
+ghost use Rattle.pj_value.specs.declared.values.Value.{Value};
+ghost use Rattle.pj_value.specs.Values.{row_eq};
+ghost use Rattle.pj_shape.specs.Joining.{value_at};
+ghost use Rattle.pj_laws.specs.Operators.{picked_cells};
+ghost use Rattle.pj_group.specs.Prints.{next_print, print_of, with_bytes, with_value};
+ghost use Rattle.std.specs.Cmp.{decided, partial_equiv_from_equiv};
+ghost use Rattle.std.proofs.Common.{ap};
+ghost use Rattle.pj_value.proofs.Orders.{row_equal_if_same, row_same_if_equal};
+ghost use Rattle.std.specs.Hash as fed;
+
+use pj_value::{List, NoMemory, Row, Value};
+use std::alloc::Global;
+use std::hash::{Hash, Hasher};
+use std::marker::Model;
+
+/// The values of a row in the columns of a group.
+#[derive(Drop)]
+pub struct Key {
+    row: Row,
+}
+
+impl Model for Key {
+    ghost use Rattle.std.specs.Prelude.{List};
+    ghost use Rattle.pj_value.specs.declared.values.Value.{Value as AnyValue};
+
+    ghost Value = { List AnyValue };
+
+    ghost view = { λ k. k.row };
+}
+
+impl Key {
+    /// The key of a row in these columns. A text is shared and not copied.
+    pub fn of(alloc: Global, columns: &[u32], row: &Row) -> Result<Key, NoMemory>
+        requires { All (λ column. column < length row.now) columns.now }
+        ensures { IfOk result (λ key. key ≡ picked_cells columns.now row.now) }
+    {
+        Ok(Key {
+            row: Row::of(picked(alloc, columns, row)?),
+        })
+    }
+
+    /// Its values.
+    pub fn row(&self) -> &Row
+        ensures { result.now ≡ self.now }
+    {
+        &self.row
+    }
+}
+
+impl PartialEq for Key {
+    ghost eq = { row_eq };
+
+    ghost laws = { partial_equiv_from_equiv (decided row_eq (λ x y. (row_same_if_equal x y, row_equal_if_same x y))) };
+
+    fn eq(&self, other: &Key) -> bool {
+        self.row.same(&other.row)
+    }
+}
+
+impl Eq for Key {
+    ghost laws = { decided row_eq (λ x y. (row_same_if_equal x y, row_equal_if_same x y)) };
+}
+
+impl Hash for Key {
+    ghost hash_input = { λ key. fed.u64 (print_of key) };
+
+    ghost respects_eq = { λ x y t. ap (λ key. fed.u64 (print_of key)) (row_same_if_equal x y t) };
+
+    fn hash<H: Hasher>(&self, state: &mut H) {
+        state.write_u64(print(&self.row));
+    }
+}
+
+fn picked(alloc: Global, columns: &[u32], row: &Row) -> Result<List<Value>, NoMemory>
+    requires { All (λ column. column < length row.now) columns.now }
+    ensures { IfOk result (λ values. values ≡ picked_cells columns.now row.now) }
+{
+    let mut values = List::with_room(alloc, columns.len())?;
+    for column in columns {
+        values.push(cell(row, *column).copy(alloc)?)?;
+    }
+    Ok(values)
+}
+
+/// The value of a column.
+#[tactic(auto, using(crate::proofs::Equality::cell_is))]
+pub fn cell(row: &Row, column: u32) -> &Value
+    requires { column < length row.now }
+    ensures { result.now ≡ value_at row.now column }
+{
+    row.at(column as usize)
+}
+
+fn print(row: &Row) -> u64
+    ensures { result ≡ print_of row.now }
+{
+    let mut print = 0;
+    for column in 0..row.len() {
+        print = with_value(print, row.at(column));
+    }
+    print
+}
+
+fn with_value(print: u64, value: &Value) -> u64
+    ensures { result ≡ with_value print value.now }
+{
+    match value {
+        Value::Int(number) => next_print(print, number.unsigned_abs()),
+        Value::Text(text) => with_bytes(print, text.as_slice()),
+    }
+}
+
+fn with_bytes(print: u64, bytes: &[u8]) -> u64
+    ensures { result ≡ with_bytes print bytes.now }
+{
+    let mut print = print;
+    for byte in bytes {
+        print = next_print(print, u64::from(*byte));
+    }
+    print
+}
+
+fn next_print(print: u64, number: u64) -> u64
+    ensures { result ≡ next_print print number }
+{
+    print.wrapping_mul(1099511628211).wrapping_add(number)
+}

@@ -1,0 +1,223 @@
+// What no clause says: that the calls succeed with ample memory, and what they hand out on runs by hand.
+ghost use Rattle.std.specs.Prelude.{◌≡◌, ◌≤◌, ◌+◌, ◌^◌, ◌∷◌, [], All, IfOk, length};
+ghost use Rattle.pj_group.specs.Steps.{Fits, IsInRange};
+
+use super::*;
+use pj_pattern::{Element, Pattern, Punct, Shape};
+use pj_shape::{Agg, GroupSpec};
+use pj_value::{List, NoMemory, Row, SharedText, Value};
+use std::alloc::Global;
+use std::test::Fail;
+
+#[derive(Clone, Copy)]
+enum Said {
+    Row(i64, i64),
+    Close(Option<i64>, Option<i64>),
+}
+
+// A group of rows of two columns by the first.
+fn group_of(alloc: Global, aggs: &[Agg], limit: u64) -> Result<Group, NoMemory>
+    requires range { All (IsInRange 2) aggs.now }
+    requires few { length aggs.now ≤ 100 }
+    requires limit { limit ≤ 2 ^ 40 }
+    ensures fits { IfOk result (λ g. Fits g.spec 2) }
+    ensures few { IfOk result (λ g. length g.spec.keys + length g.spec.aggs ≤ 120) }
+{
+    let keys = List::copy_of(alloc, &[0])?;
+    let aggs = List::copy_of(alloc, aggs)?;
+    Ok(Group::new(alloc, GroupSpec { keys, aggs }, limit)?)
+}
+
+fn put(alloc: Global, group: &mut Group, a: Value, b: Value) -> Result<(), GroupStop>
+    requires { Fits group.old.spec 2 }
+    ensures { group.new.spec ≡ group.old.spec }
+{
+    let mut values = List::new(alloc);
+    values.push(a)?;
+    values.push(b)?;
+    group.tuple(Row::of(values))
+}
+
+fn pattern(number: Option<i64>) -> Pattern {
+    match number {
+        None => Pattern::wild(),
+        Some(n) => Pattern::range(Some(Value::Int(n)), Some(Value::Int(n))),
+    }
+}
+
+fn close(
+    alloc: Global,
+    group: &mut Group,
+    a: Option<i64>,
+    b: Option<i64>,
+    out: &mut List<Element>,
+) -> Result<(), GroupStop>
+    requires fits { Fits group.old.spec 2 }
+    requires few { length group.old.spec.keys + length group.old.spec.aggs ≤ 120 }
+    ensures { group.new.spec ≡ group.old.spec }
+{
+    let mut patterns = List::new(alloc);
+    patterns.push(pattern(a))?;
+    patterns.push(pattern(b))?;
+    group.punct(Punct::of(patterns), out)
+}
+
+fn say(
+    alloc: Global,
+    group: &mut Group,
+    said: Said,
+    out: &mut List<Element>,
+) -> Result<(), GroupStop>
+    requires fits { Fits group.old.spec 2 }
+    requires few { length group.old.spec.keys + length group.old.spec.aggs ≤ 120 }
+    ensures { group.new.spec ≡ group.old.spec }
+{
+    match said {
+        Said::Row(a, b) => put(alloc, group, Value::Int(a), Value::Int(b)),
+        Said::Close(a, b) => close(alloc, group, a, b, out),
+    }
+}
+
+// A number, the length of a text.
+fn value_mark(value: &Value) -> i64 {
+    match value {
+        Value::Int(n) => *n,
+        Value::Text(text) => (text.len() % 1000) as i64,
+    }
+}
+
+// A constant, or -7 for any other pattern.
+fn pattern_mark(pattern: &Pattern) -> i64 {
+    match pattern.shape() {
+        Shape::Constant(value) => value_mark(value),
+        _ => -7,
+    }
+}
+
+fn append_marks(element: &Element, marks: &mut Vec<i64>) -> Result<(), NoMemory> {
+    match element {
+        Element::Tuple(row) => append_row(row, marks),
+        Element::Punct(punct) => append_punct(punct, marks),
+    }
+}
+
+fn append_row(row: &Row, marks: &mut Vec<i64>) -> Result<(), NoMemory> {
+    for column in 0..row.len() {
+        marks.push(value_mark(row.at(column)))?;
+    }
+    Ok(())
+}
+
+fn append_punct(punct: &Punct, marks: &mut Vec<i64>) -> Result<(), NoMemory> {
+    for pattern in punct.as_slice() {
+        marks.push(pattern_mark(pattern))?;
+    }
+    Ok(())
+}
+
+fn marks_of(alloc: Global, out: &[Element]) -> Result<Vec<i64>, NoMemory> {
+    let mut marks = Vec::new(alloc);
+    for element in out {
+        append_marks(element, &mut marks)?;
+    }
+    Ok(marks)
+}
+
+// What goes out.
+fn run(alloc: Global, aggs: &[Agg], all: &[Said]) -> Result<Vec<i64>, GroupStop>
+    requires range { All (IsInRange 2) aggs.now }
+    requires few { length aggs.now ≤ 100 }
+{
+    let mut group = group_of(alloc, aggs, 1000)?;
+    let mut out = List::new(alloc);
+    for said in all {
+        say(alloc, &mut group, *said, &mut out)?;
+    }
+    Ok(marks_of(alloc, out.as_slice())?)
+}
+
+fn agrees(made: &Result<Vec<i64>, GroupStop>, want: &[i64]) -> bool {
+    matches!(made, Ok(marks) if marks.as_slice() == want)
+}
+
+#[test]
+fn groups_close_where_keys_match(rt: HostRuntime) {
+    let said = [
+        Said::Row(1, 50),
+        Said::Row(2, 7),
+        Said::Row(1, 60),
+        Said::Close(None, Some(50)),
+        Said::Close(Some(1), None),
+        Said::Row(2, 9223372036854775807),
+        Said::Close(None, None),
+    ];
+    let want = [1, 2, 110, 1, -7, -7, 2, 2, 9223372036854775807, -7, -7, -7];
+    let made = run(rt.alloc(), &[Agg::Count, Agg::Sum(1)], &said);
+    assert!(rt; agrees(&made, &want));
+}
+
+#[test]
+fn sums_are_exact_and_clamped(rt: HostRuntime) {
+    let (least, greatest) = (-9223372036854775807, 9223372036854775807);
+    let said = [
+        Said::Row(3, greatest),
+        Said::Row(1, least),
+        Said::Row(3, greatest),
+        Said::Row(1, -9),
+        Said::Row(3, least),
+        Said::Row(3, least),
+        Said::Row(3, -2),
+        Said::Close(None, None),
+    ];
+    let aggs = [Agg::Sum(1), Agg::Min(1), Agg::Max(1)];
+    let want = [
+        3,
+        -2,
+        least,
+        greatest,
+        1,
+        least - 1,
+        least,
+        -9,
+        -7,
+        -7,
+        -7,
+        -7,
+    ];
+    assert!(rt; agrees(&run(rt.alloc(), &aggs, &said), &want));
+}
+
+fn text(alloc: Global, bytes: &[u8]) -> Result<Value, NoMemory> {
+    Ok(Value::Text(SharedText::copy_of(alloc, bytes)?))
+}
+
+// The lengths of the least and the greatest of three texts.
+fn texts(alloc: Global) -> Result<Vec<i64>, GroupStop> {
+    let mut group = group_of(alloc, &[Agg::Min(1), Agg::Max(1)], 4)?;
+    put(alloc, &mut group, Value::Int(1), text(alloc, b"bb")?)?;
+    put(alloc, &mut group, Value::Int(1), text(alloc, b"abcd")?)?;
+    put(alloc, &mut group, Value::Int(1), text(alloc, b"b")?)?;
+    let mut out = List::new(alloc);
+    close(alloc, &mut group, Some(1), None, &mut out)?;
+    Ok(marks_of(alloc, out.as_slice())?)
+}
+
+#[test]
+fn texts_have_least_and_greatest(rt: HostRuntime) {
+    assert!(rt; agrees(&texts(rt.alloc()), &[1, 4, 2, 1, -7, -7]));
+}
+
+#[test]
+fn no_more_than_the_limit_come(rt: HostRuntime) -> Result<(), Fail> {
+    let alloc = rt.alloc();
+    let mut group = group_of(alloc, &[Agg::Count], 1)?;
+    let first = put(alloc, &mut group, Value::Int(1), Value::Int(1));
+    let second = put(alloc, &mut group, Value::Int(1), Value::Int(1));
+    let third = close(alloc, &mut group, None, None, &mut List::new(alloc));
+    assert_eq!(rt; first, Ok(()));
+    assert_eq!(rt;
+        (second, third),
+        (Err(GroupStop::Limit), Err(GroupStop::Limit))
+    );
+    Ok(())
+}
