@@ -1,1 +1,15 @@
+pub mod Cells
+pub mod Classes
+pub mod Constants
+pub mod Covering
 pub mod Firsts
+pub mod Agreeing
+pub mod Judged
+pub mod Searching
+pub mod Tickets
+pub mod ChainIs
+pub mod Lent
+pub mod Stored
+pub mod Below
+pub mod Bound
+pub mod Steps

@@ -1,1 +1,6 @@
+pub mod Givens
 pub mod Stores
+pub mod Rising
+pub mod Suits
+pub mod Asking
+pub mod Chain

@@ -1,7 +1,9 @@
 -- Punctuations with numbers, and the first of them that a row matches.
-use Rattle.std.specs.Prelude.{◌≡◌, ◌≤◌, ◌<◌, ◌⊎◌, ℕ, ⊤, true, List, [], ◌∷◌, Option, Some, None, if◌then◌else◌}
+use Rattle.std.specs.Prelude.{◌≡◌, ◌≤◌, ◌<◌, ◌⊎◌, ℕ, ⊤, Bool, true, ◌&&◌, nat_lt, List, [], ◌∷◌, Option, Some, None, if◌then◌else◌}
+use Rattle.std.specs.List.{list_any}
 use Rattle.pj_value.specs.declared.values.Value.{Value}
 use Rattle.pj_pattern.specs.Columns.{matches_row}
+use Rattle.pj_laws.specs.Patterns.{covers}
 use Rattle.pj_cover.specs.declared.store.NumberedPunct.{NumberedPunct}
 
 -- the number of columns, and the punctuations in order of their numbers
@@ -38,3 +40,7 @@ IsMatched (k ∷ ks) row n = ((k.number ≡ n) × (matches_row k.punct row ≡ t
 abbrev pub IsLeastMatch : List NumberedPunct → List Value → Option ℕ → Type 0
 IsLeastMatch kept row None = (n : ℕ) → IsMatched kept row n → ⊥
 IsLeastMatch kept row (Some least) = IsMatched kept row least × ((n : ℕ) → IsMatched kept row n → least ≤ n)
+
+-- one of these, with a number below this one, covers the instance
+abbrev pub covered_below : List NumberedPunct → ℕ → List (Option Value) → Bool
+covered_below kept below instance = list_any (λ k. nat_lt k.number below && covers k.punct instance) kept

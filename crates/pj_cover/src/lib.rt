@@ -1,8 +1,15 @@
 //! A store of the punctuations of a stream or an input, and which of them a row breaks.
 #![tactic(auto)]
 
+mod asked;
+mod given;
+mod ripeness;
+mod rows;
 mod store;
 #[cfg(test)]
 mod tests;
 
+pub use given::Given;
+pub use ripeness::{first_uncovered, ripe};
+pub use rows::{StoredRows, Uncovered};
 pub use store::{NumberedPunct, PunctStore};

@@ -1,9 +1,11 @@
 // What no clause says: that the calls succeed with ample memory, on worked punctuations.
-ghost use Rattle.std.specs.Prelude.{◌≡◌, length, IfOk};
+ghost use Rattle.std.specs.Prelude.{◌≡◌, ◌∷◌, [], ℕ, map, true, false, not, length, IfOk};
+ghost use Rattle.pj_cover.specs.Chain.{at, chain, chain_cert, chain_schemes, firsts, number, pair, pairs, seconds, two_rows};
 
 use super::*;
 use pj_pattern::{Pattern, Punct};
-use pj_value::{List, NoMemory, Row, Value};
+use pj_shape::{Cert, CertStep, ClassCol, Column, JoinSpec, Schema, Scheme, Schemes};
+use pj_value::{Kind, List, NoMemory, Row, Value};
 use std::alloc::Global;
 
 // The punctuation of one column that closes a number.
@@ -39,5 +41,277 @@ fn first_closing(alloc: Global, number: i64) -> Result<Option<u64>, NoMemory> {
 fn the_first_match_is_named(rt: HostRuntime) {
     for (number, first) in [(5, Some(3)), (6, None)] {
         assert!(rt; first_closing(rt.alloc(), number) == Ok(first));
+    }
+}
+
+// The punctuation of two columns with this pattern in the first or the second one, and a wildcard in the other.
+fn beside_wild(alloc: Global, pattern: Pattern, is_first: bool) -> Result<Punct, NoMemory>
+    ensures { IfOk result (λ punct. length punct ≡ 2) }
+{
+    let mut patterns = List::new(alloc);
+    if is_first {
+        patterns.push(pattern)?;
+        patterns.push(Pattern::wild())?;
+        return Ok(Punct::of(patterns));
+    }
+    patterns.push(Pattern::wild())?;
+    patterns.push(pattern)?;
+    Ok(Punct::of(patterns))
+}
+
+// A store with this punctuation alone.
+fn store_of(alloc: Global, punct: Punct, number: u64) -> Result<PunctStore, NoMemory>
+    requires { length punct ≡ 2 }
+    ensures { IfOk result (λ store. store.arity ≡ 2) }
+{
+    let mut store = PunctStore::new(alloc, 2)?;
+    store.push(punct, number)?;
+    Ok(store)
+}
+
+fn scheme(alloc: Global, is_first: bool) -> Result<Scheme, NoMemory>
+    ensures { IfOk result (λ marks. marks ≡ is_first ∷ not is_first ∷ []) }
+{
+    let mut marks = List::new(alloc);
+    marks.push(is_first)?;
+    marks.push(!is_first)?;
+    Ok(Scheme::of(marks))
+}
+
+// Whether the pattern, with the number 3, covers 5 in the first column.
+fn covers_five(
+    alloc: Global,
+    pattern: Pattern,
+    is_first: bool,
+    below: u64,
+) -> Result<bool, NoMemory> {
+    let store = store_of(alloc, beside_wild(alloc, pattern, is_first)?, 3)?;
+    let scheme = scheme(alloc, true)?;
+    let five = Value::Int(5);
+    let mut given = Given::new();
+    given.push(&five);
+    Ok(store.covers(&scheme, &given, below))
+}
+
+fn upto_nine() -> Pattern {
+    Pattern::range(None, Some(Value::Int(9)))
+}
+
+fn five_or_six(alloc: Global) -> Result<Pattern, NoMemory> {
+    let mut values = List::new(alloc);
+    values.push(Value::Int(6))?;
+    values.push(Value::Int(5))?;
+    Pattern::list(alloc, values)
+}
+
+#[test]
+fn instances_are_covered(rt: HostRuntime) {
+    let alloc = rt.alloc();
+    for (number, below, covered) in [(5, 4, true), (5, 3, false), (6, 4, false)] {
+        let constant = Pattern::constant(Value::Int(number));
+        assert!(rt; covers_five(alloc, constant, true, below) == Ok(covered));
+    }
+    assert!(rt; covers_five(alloc, Pattern::wild(), true, 4) == Ok(true));
+    assert!(rt; covers_five(alloc, Pattern::empty(), true, 4) == Ok(false));
+    assert!(rt; covers_five(alloc, upto_nine(), true, 4) == Ok(true));
+    assert!(rt; covers_five(alloc, upto_nine(), false, 4) == Ok(false));
+}
+
+#[test]
+fn lists_cover_their_members(rt: HostRuntime) {
+    let alloc = rt.alloc();
+    match five_or_six(alloc) {
+        Err(_) => assert!(rt; false),
+        Ok(pattern) => assert!(rt; covers_five(alloc, pattern, true, 4) == Ok(true)),
+    }
+}
+
+fn column(alloc: Global) -> Result<Column, NoMemory>
+    ensures { IfOk result (λ c. c ≡ number) }
+{
+    Ok(Column {
+        name: List::copy_of(alloc, b"n")?,
+        kind: Kind::Int,
+    })
+}
+
+fn schema(alloc: Global) -> Result<Schema, NoMemory>
+    ensures { IfOk result (λ s. s ≡ pair) }
+{
+    let mut columns = List::new(alloc);
+    columns.push(column(alloc)?)?;
+    columns.push(column(alloc)?)?;
+    Ok(Schema::of(columns))
+}
+
+fn inputs(alloc: Global) -> Result<List<Schema>, NoMemory>
+    ensures { IfOk result (λ i. i ≡ pairs) }
+{
+    let mut inputs = List::new(alloc);
+    inputs.push(schema(alloc)?)?;
+    inputs.push(schema(alloc)?)?;
+    inputs.push(schema(alloc)?)?;
+    Ok(inputs)
+}
+
+// The columns of this number of two inputs.
+fn class(alloc: Global, one: u32, other: u32, column: u32) -> Result<List<ClassCol>, NoMemory>
+    ensures { IfOk result (λ c. c ≡ at one column ∷ at other column ∷ []) }
+{
+    let mut class = List::new(alloc);
+    class.push(ClassCol { input: one, column })?;
+    class.push(ClassCol {
+        input: other,
+        column,
+    })?;
+    Ok(class)
+}
+
+fn join(alloc: Global) -> Result<JoinSpec, NoMemory>
+    ensures { IfOk result (λ spec. spec ≡ chain) }
+{
+    let inputs = inputs(alloc)?;
+    let mut classes = List::new(alloc);
+    classes.push(class(alloc, 0, 1, 0)?)?;
+    classes.push(class(alloc, 1, 2, 1)?)?;
+    Ok(JoinSpec { inputs, classes })
+}
+
+fn only(alloc: Global, is_first: bool) -> Result<List<Scheme>, NoMemory>
+    ensures { IfOk result (λ list. list ≡ (is_first ∷ not is_first ∷ []) ∷ []) }
+{
+    let mut list = List::new(alloc);
+    list.push(scheme(alloc, is_first)?)?;
+    Ok(list)
+}
+
+fn schemes(alloc: Global) -> Result<Schemes, NoMemory>
+    ensures { IfOk result (λ lists. lists ≡ chain_schemes) }
+{
+    let mut lists = List::new(alloc);
+    lists.push(only(alloc, true)?)?;
+    lists.push(only(alloc, true)?)?;
+    lists.push(only(alloc, false)?)?;
+    Ok(Schemes::of(lists))
+}
+
+fn cert(alloc: Global) -> Result<Cert, NoMemory>
+    ensures { IfOk result (λ cert. cert ≡ chain_cert) }
+{
+    let steps = [
+        CertStep {
+            input: 1,
+            scheme: 0,
+        },
+        CertStep {
+            input: 2,
+            scheme: 0,
+        },
+    ];
+    Ok(Cert::of(List::copy_of(alloc, &steps)?))
+}
+
+// Stores of the three inputs, of which the second one closes `first` and the third one `second`.
+fn stores(alloc: Global, first: i64, second: i64) -> Result<List<PunctStore>, NoMemory>
+    ensures { IfOk result (λ stores. map (λ s. s.arity) stores ≡ 2 ∷ 2 ∷ 2 ∷ []) }
+{
+    let first = beside_wild(alloc, Pattern::constant(Value::Int(first)), true)?;
+    let second = beside_wild(alloc, Pattern::constant(Value::Int(second)), false)?;
+    let mut stores = List::new(alloc);
+    stores.push(PunctStore::new(alloc, 2)?)?;
+    stores.push(store_of(alloc, first, 3)?)?;
+    stores.push(store_of(alloc, second, 4)?)?;
+    Ok(stores)
+}
+
+fn pair_row(alloc: Global, one: i64, other: i64) -> Result<Row, NoMemory>
+    ensures { IfOk result (λ row. length row ≡ 2) }
+{
+    let mut values = List::new(alloc);
+    values.push(Value::Int(one))?;
+    values.push(Value::Int(other))?;
+    Ok(Row::of(values))
+}
+
+// Two rows of the second input, with the tickets 1 and 2.
+#[derive(Drop)]
+struct TwoRows {
+    one: Row,
+    other: Row,
+}
+
+impl StoredRows for TwoRows {
+    ghost rows = { λ s. two_rows s.one s.other };
+
+    fn count(&self, input: u32) -> usize {
+        if input == 1 { 2 } else { 0 }
+    }
+
+    fn nth(&self, _input: u32, at: usize) -> (u64, &Row) {
+        if at == 0 {
+            (1, &self.one)
+        } else {
+            (2, &self.other)
+        }
+    }
+}
+
+fn two_rows(alloc: Global) -> Result<TwoRows, NoMemory>
+    ensures { IfOk result (λ rows. (length rows.one ≡ 2) × (length rows.other ≡ 2)) }
+{
+    let one = pair_row(alloc, 8, 5)?;
+    let other = pair_row(alloc, 7, 6)?;
+    Ok(TwoRows { one, other })
+}
+
+// The place of the step that asks for the instance, and the first ticket through which it does, or 0; (9, 9) where none is.
+fn told(found: Option<Uncovered>) -> (usize, u64) {
+    match found {
+        None => (9, 9),
+        Some(found) => match found.through.as_slice().first() {
+            None => (found.entry, 0),
+            Some(ticket) => (found.entry, *ticket),
+        },
+    }
+}
+
+// What the row (7, 1) of the first input asks for first that is not covered.
+#[tactic(auto, using(crate::proofs::ChainIs::chain_certified, crate::proofs::ChainIs::chain_parts))]
+fn judged(alloc: Global, stores: &[PunctStore], low: u64) -> Result<((usize, u64), bool), NoMemory>
+    requires { map (λ s. s.arity) stores.now ≡ 2 ∷ 2 ∷ 2 ∷ [] }
+{
+    let spec = join(alloc)?;
+    let schemes = schemes(alloc)?;
+    let cert = cert(alloc)?;
+    let rows = two_rows(alloc)?;
+    let own = pair_row(alloc, 7, 1)?;
+    let found = first_uncovered(&spec, &schemes, &cert, 0, &own, &rows, stores, low);
+    let is_ripe = ripe(&spec, &schemes, &cert, 0, 0, &own, &rows, stores, low);
+    Ok((told(found), is_ripe))
+}
+
+fn judged_closing(
+    alloc: Global,
+    first: i64,
+    second: i64,
+    low: u64,
+) -> Result<((usize, u64), bool), NoMemory> {
+    let stores = stores(alloc, first, second)?;
+    judged(alloc, stores.as_slice(), low)
+}
+
+#[test]
+fn rows_are_judged_by_the_certificate(rt: HostRuntime) {
+    let alloc = rt.alloc();
+    let table = [
+        (0, 0, 9, (0, 0), false),
+        (7, 0, 3, (0, 0), false),
+        (7, 0, 9, (1, 2), false),
+        (7, 5, 9, (1, 2), false),
+        (7, 6, 9, (9, 9), true),
+        (7, 6, 0, (0, 0), false),
+    ];
+    for (first, second, low, place, is_ripe) in table {
+        assert!(rt; judged_closing(alloc, first, second, low) == Ok((place, is_ripe)));
     }
 }

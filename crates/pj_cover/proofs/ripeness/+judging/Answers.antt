@@ -1,0 +1,80 @@
+use Rattle.std.proofs.Common.{rules, ◌≡◌, ◌^◌, drop, ◌<◌, ◌≤◌, ◌+◌, ◌∷◌, refl, sym, ap, ◌∙◌, subst, true, Option, length, map, List, arith}
+use Rattle.pj_laws.specs.Join.{TupleAt}
+use Rattle.pj_cover.specs.declared.rows.Uncovered.{Uncovered}
+use Rattle.pj_cover.specs.Suits.{suits}
+use Rattle.pj_cover.specs.Asking.{IsJudgedWith, IsOnWalk, entries, known_of, tuple_of}
+use Rattle.pj_cover.proofs.Searching.{few_found, found_here, goes_on, gone_through, has_room, in_here, last_step, not_suited, one_more, ready, went_on}
+use Rattle.pj_cover.proofs.ripeness.+judging.Goals as goal
+
+pub seek-step_is_covered-requires : goal.seek-step_is_covered-requires
+seek-step_is_covered-requires g t c = ready c.args.spec.now c.args.schemes.now (g.R.StoredRows.rows c.args.rows.now) c.args.stores.now c.args.cert.now c.args.at c.at-step.result.now c.args.parts.now.items c.as_slice.result.now c.requires.parts c.requires.walk c.at-step.ensures c.as_slice.ensures.value
+
+pub seek-returns-then-not-step_is_covered-clause-judged : goal.seek-returns-then-not-step_is_covered-clause-judged
+seek-returns-then-not-step_is_covered-clause-judged g t c =
+    let k = known_of c.args.spec.now (g.R.StoredRows.rows c.args.rows.now) c.args.stores.now c.args.low in
+    found_here k c.args.schemes.now c.args.cert.now c.args.at c.at-step.result.now c.args.parts.now.items c.as_slice.result.now c.step_is_covered.result (record { entry = c.args.at; through = c.new.result })
+    c.at-step.ensures c.as_slice.ensures.value (c.step_is_covered.ensures (g.R.StoredRows.rows c.args.rows.now)) c.if-not-step_is_covered.true refl c.new.ensures
+
+pub seek-returns-clause-judged : goal.seek-returns-clause-judged
+seek-returns-clause-judged g t c =
+    gone_through c.args.spec.now c.args.schemes.now (g.R.StoredRows.rows c.args.rows.now) c.args.stores.now c.args.low c.args.cert.now c.args.at c.at-step.result.now c.args.parts.now.items c.as_slice.result.now c.step_is_covered.result c.seek_through.result
+    c.at-step.ensures c.as_slice.ensures.value (c.step_is_covered.ensures (g.R.StoredRows.rows c.args.rows.now)) c.if-not-step_is_covered.false c.seek_through.ensures.judged
+
+pub seek_through-returns-then-len-at-clause-judged : goal.seek_through-returns-then-len-at-clause-judged
+seek_through-returns-then-len-at-clause-judged g t c =
+    let le : length c.args.cert.now ≤ c.args.at + 1 = omega (arith, c.if-len-at.true, c.len.ensures) in
+    last_step (known_of c.args.spec.now (g.R.StoredRows.rows c.args.rows.now) c.args.stores.now c.args.low) c.args.schemes.now c.args.cert.now c.args.at c.args.step c.args.parts.now.items (map (tuple_of c.args.step.input) (g.R.StoredRows.rows c.args.rows.now c.args.step.input)) c.requires.step le
+
+pub seek_through-seek_with-requires : goal.seek_through-seek_with-requires
+seek_through-seek_with-requires g t c κs l =
+    let walk : IsOnWalk c.args.spec.now c.args.schemes.now (drop c.args.at c.args.cert.now) c.loop-n.parts.items = subst (λ (xs : List TupleAt). IsOnWalk c.args.spec.now c.args.schemes.now (drop c.args.at c.args.cert.now) xs) (sym c.loop-n.invariant.0) c.requires.walk in
+    let fits : c.args.at + 1 < 2 ^ 64 = omega (arith, c.if-len-at.false, c.len.type_inv) in
+    (search rules, (search rules, (c.requires.parts, (walk, (c.requires.step, (fits, in_here (g.R.StoredRows.rows c.args.rows.now c.args.step.input) c.loop-n.n (c.nth-ticket.result.0, c.nth-ticket.result.1.now) c.nth-ticket.ensures))))))
+
+pub seek_through-loop-n-preserved : goal.seek_through-loop-n-preserved
+seek_through-loop-n-preserved g t c =
+    let k = known_of c.args.spec.now (g.R.StoredRows.rows c.args.rows.now) c.args.stores.now c.args.low in (
+      c.seek_with.ensures.same ∙ c.loop-n.invariant.0,
+      one_more k c.args.schemes.now c.args.cert.now c.args.at c.args.step c.args.parts.now.items c.loop-n.parts.items (g.R.StoredRows.rows c.args.rows.now c.args.step.input) c.loop-n.n (c.nth-ticket.result.0, c.nth-ticket.result.1.now) c.seek_with.result
+          c.requires.step c.nth-ticket.ensures c.loop-n.invariant.0 c.loop-n.invariant.1 c.seek_with.ensures.judged c.in-None.is,
+    )
+
+pub seek_with-returns-then-not-suits-clause-judged : goal.seek_with-returns-then-not-suits-clause-judged
+seek_with-returns-then-not-suits-clause-judged g t c = not_suited (known_of c.args.spec.now (g.R.StoredRows.rows c.args.rows.now) c.args.stores.now c.args.low) c.args.schemes.now c.args.cert.now c.args.at c.args.step c.args.parts.now.items (tuple_of c.args.step.input (c.args.ticket, c.args.row.now)) c.requires.step (rw (← c.as_slice.ensures, ← c.as_slice-2.ensures.value, ← c.of-next.ensures) (sym c.suits.ensures ∙ c.if-not-suits.true))
+
+pub seek_with-insert-requires : goal.seek_with-insert-requires
+seek_with-insert-requires g t c =
+    let room : length c.args.parts.now.items < 16 = has_room c.args.spec.now c.args.schemes.now c.args.cert.now c.args.at c.args.step c.args.parts.now.items c.requires.walk c.requires.step in
+    (search rules, (search rules, room))
+
+pub seek_with-seek-found-requires : goal.seek_with-seek-found-requires
+seek_with-seek-found-requires g t c κs l =
+    let suited : suits c.args.spec.now.classes c.args.parts.now.items (tuple_of c.args.step.input (c.args.ticket, c.args.row.now)) ≡ true = rw (← c.as_slice.ensures, ← c.as_slice-2.ensures.value, ← c.of-next.ensures) (sym c.suits.ensures ∙ c.if-not-suits.false) in
+    let same : c.insert.new.self.items ≡ tuple_of c.args.step.input (c.args.ticket, c.args.row.now) ∷ c.args.parts.now.items = c.insert.ensures.items ∙ ap (λ (x : TupleAt). x ∷ c.args.parts.now.items) c.of-next.ensures in (
+      search rules,
+      (
+        search rules,
+        (
+          c.requires.parts,
+          goes_on c.args.spec.now c.args.schemes.now (g.R.StoredRows.rows c.args.rows.now) c.args.stores.now c.args.cert.now c.args.at c.args.step c.args.parts.now.items c.insert.new.self.items (c.args.ticket, c.args.row.now)
+              c.requires.parts c.requires.walk c.requires.step c.requires.stored suited same,
+        ),
+      ),
+    )
+
+pub seek_with-with_ticket-requires : goal.seek_with-with_ticket-requires
+seek_with-with_ticket-requires g t c =
+    let suited : suits c.args.spec.now.classes c.args.parts.now.items (tuple_of c.args.step.input (c.args.ticket, c.args.row.now)) ≡ true = rw (← c.as_slice.ensures, ← c.as_slice-2.ensures.value, ← c.of-next.ensures) (sym c.suits.ensures ∙ c.if-not-suits.false) in
+    let same : c.insert.new.self.items ≡ tuple_of c.args.step.input (c.args.ticket, c.args.row.now) ∷ c.args.parts.now.items = c.insert.ensures.items ∙ ap (λ (x : TupleAt). x ∷ c.args.parts.now.items) c.of-next.ensures in
+    let walk = goes_on c.args.spec.now c.args.schemes.now (g.R.StoredRows.rows c.args.rows.now) c.args.stores.now c.args.cert.now c.args.at c.args.step c.args.parts.now.items c.insert.new.self.items (c.args.ticket, c.args.row.now)
+    c.requires.parts c.requires.walk c.requires.step c.requires.stored suited same in
+    few_found (known_of c.args.spec.now (g.R.StoredRows.rows c.args.rows.now) c.args.stores.now c.args.low) c.args.schemes.now (drop (c.args.at + 1) c.args.cert.now) (c.args.at + 1) c.insert.new.self.items c.seek-found.result c.args.spec.now walk c.seek-found.ensures.judged
+
+pub seek_with-returns-clause-judged : goal.seek_with-returns-clause-judged
+seek_with-returns-clause-judged g t c =
+    let k = known_of c.args.spec.now (g.R.StoredRows.rows c.args.rows.now) c.args.stores.now c.args.low in
+    let suited : suits c.args.spec.now.classes c.args.parts.now.items (tuple_of c.args.step.input (c.args.ticket, c.args.row.now)) ≡ true = rw (← c.as_slice.ensures, ← c.as_slice-2.ensures.value, ← c.of-next.ensures) (sym c.suits.ensures ∙ c.if-not-suits.false) in
+    let same : c.insert.new.self.items ≡ tuple_of c.args.step.input (c.args.ticket, c.args.row.now) ∷ c.args.parts.now.items = c.insert.ensures.items ∙ ap (λ (x : TupleAt). x ∷ c.args.parts.now.items) c.of-next.ensures in
+    subst (λ (o : Option Uncovered). IsJudgedWith k (entries c.args.schemes.now (drop c.args.at c.args.cert.now)) c.args.at c.args.parts.now.items (tuple_of c.args.step.input (c.args.ticket, c.args.row.now)) o) (sym c.with_ticket.ensures)
+    (went_on c.args.spec.now c.args.schemes.now (g.R.StoredRows.rows c.args.rows.now) c.args.stores.now c.args.low c.args.cert.now c.args.at c.args.step c.args.parts.now.items c.insert.new.self.items (c.args.ticket, c.args.row.now) c.seek-found.result
+    c.requires.walk c.requires.step c.requires.stored c.if-ticket-low.false suited same c.seek-found.ensures.judged)

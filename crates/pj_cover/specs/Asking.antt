@@ -1,0 +1,203 @@
+-- What a row asks for over the stored rows, and the first of it that is not covered.
+use Rattle.std.specs.Prelude.{ℕ, zero, suc, ◌+◌, ◌<◌, ◌≡◌, Bool, true, false, nat_lt, ◌==◌, ◌&&◌, if◌then◌else◌, List, [], ◌∷◌, ◌++◌, length, map, slice_get, slice_index, slice_index_or, ◌≤◌, Option, Some, None}
+use Rattle.std.specs.List.{list_all}
+use Rattle.pj_value.specs.declared.values.Value.{Value}
+use Rattle.pj_value.specs.Lists.{In}
+use Rattle.pj_shape.specs.declared.joins.JoinSpec.{JoinSpec}
+use Rattle.pj_shape.specs.Joining.{has_column}
+use Rattle.pj_shape.specs.Sound.{IsSoundSpec, arities_of}
+use Rattle.pj_laws.specs.Join.{TupleAt, PunctAt, ClassCol, CertStep, CertEntry, JoinData, Demand, AreListedOnce, IsWalk, agree, constant, class_with, covered, demand, entry_of, need, older, older_puncts}
+use Rattle.pj_cover.specs.Stores.{Store}
+use Rattle.pj_cover.specs.declared.store.NumberedPunct.{NumberedPunct}
+use Rattle.pj_cover.specs.declared.rows.Uncovered.{Uncovered}
+
+-- ---- rows and punctuations of all inputs
+
+abbrev pub tuple_of : ℕ → ℕ × List Value → TupleAt
+tuple_of input r = record { ticket = r.0; input = input; row = r.1 }
+
+-- the rows of the first so many inputs
+abbrev pub tuples_of : (ℕ → List (ℕ × List Value)) → ℕ → List TupleAt
+tuples_of rows zero = []
+tuples_of rows (suc n) = tuples_of rows n ++ map (tuple_of n) (rows n)
+
+abbrev pub punct_of : ℕ → NumberedPunct → PunctAt
+punct_of input k = record { ticket = k.number; input = input; patterns = k.punct }
+
+-- the punctuations of the inputs from this one on
+abbrev pub puncts_from : ℕ → List Store → List PunctAt
+puncts_from input [] = []
+puncts_from input (s ∷ stores) = map (punct_of input) s.kept ++ puncts_from (input + 1) stores
+
+-- a join of this shape whose inputs have these schemes
+abbrev pub data_of : JoinSpec → List (List (List Bool)) → JoinData
+data_of spec schemes = record { shape = spec; schemes = schemes; certs = []; propagates = false }
+
+-- the certificate of these steps
+abbrev pub entries : List (List (List Bool)) → List CertStep → List CertEntry
+entries schemes steps = map (entry_of schemes) steps
+
+-- ---- what is known of a join
+
+-- the classes of its columns, the stored rows, the punctuations, and the low-water ticket
+pub record Known : Type 0 where
+  pub classes : List (List ClassCol)
+  pub stored : List TupleAt
+  pub puncts : List PunctAt
+  pub low : ℕ
+
+abbrev pub known_of : JoinSpec → (ℕ → List (ℕ × List Value)) → List Store → ℕ → Known
+known_of spec rows stores low = record {
+  classes = spec.classes;
+  stored = tuples_of rows (length spec.inputs);
+  puncts = puncts_from 0 stores;
+  low = low;
+}
+
+-- a punctuation below the low-water ticket covers the instance
+abbrev pub is_covered : Known → Demand → Bool
+is_covered k d = covered (older_puncts k.low k.puncts) d
+
+-- whether all that these rows ask for, over the stored rows below the low-water ticket, is covered
+abbrev pub all_covered : Known → List CertEntry → List TupleAt → Bool
+all_covered k cert xs = list_all (is_covered k) (need k.classes (older k.low k.stored) cert xs)
+
+abbrev pub tickets_of : List TupleAt → List ℕ
+tickets_of xs = map (λ y. y.ticket) xs
+
+-- after these rows of the first entries' inputs, each of which joins with xs and those before it, the next entry asks for this
+abbrev pub IsAsked : List (List ClassCol) → List CertEntry → List TupleAt → List TupleAt → Demand → Type 0
+IsAsked classes [] through xs d = ⊥
+IsAsked classes (e ∷ cert) [] xs d = demand classes e xs ≡ d
+IsAsked classes (e ∷ cert) (y ∷ through) xs d =
+    (y.input ≡ e.input) × (agree classes (y ∷ xs) ≡ true) × IsAsked classes cert through (y ∷ xs) d
+
+-- An instance that these rows ask for, by the entry with this place after the first `at`, through stored rows with these
+-- tickets, which are below the low-water ticket; no punctuation below that covers it
+pub record IsOpen (k : Known) (cert : List CertEntry) (at : ℕ) (xs : List TupleAt) (u : Uncovered) : Type 0 where
+  pub rows : List TupleAt
+  pub asks : Demand
+  pub tickets : tickets_of rows ≡ u.through.items
+  pub place : at + length rows ≡ u.entry
+  pub stored_in : (y : TupleAt) → In y rows → In y k.stored
+  pub below : (y : TupleAt) → In y rows → y.ticket < k.low
+  pub asked : IsAsked k.classes cert rows xs asks
+  pub uncovered : is_covered k asks ≡ false
+
+-- nothing where all that these rows ask for is covered; else what is not
+abbrev pub IsJudged : Known → List CertEntry → ℕ → List TupleAt → Option Uncovered → Type 0
+IsJudged k cert at xs None = all_covered k cert xs ≡ true
+IsJudged k cert at xs (Some u) = IsOpen k cert at xs u
+
+-- the row may stand for the entry, beside these
+pub record MayStand (k : Known) (e : CertEntry) (xs : List TupleAt) (y : TupleAt) : Type 0 where
+  pub below : y.ticket < k.low
+  pub input : y.input ≡ e.input
+  pub joins : agree k.classes (y ∷ xs) ≡ true
+
+-- nothing where this row may not stand for the first entry, or all that is asked for with it is covered; else what is not
+abbrev pub IsJudgedWith : Known → List CertEntry → ℕ → List TupleAt → TupleAt → Option Uncovered → Type 0
+IsJudgedWith k [] at xs y o = ⊥
+IsJudgedWith k (e ∷ cert) at xs y None = MayStand k e xs y → all_covered k cert (y ∷ xs) ≡ true
+IsJudgedWith k (e ∷ cert) at xs y (Some u) = IsOpen k (e ∷ cert) at xs u
+
+-- with none of these rows anything is asked for that is not covered
+abbrev pub AreDone : Known → List CertEntry → List TupleAt → List TupleAt → Type 0
+AreDone k [] xs ys = ⊥
+AreDone k (e ∷ cert) xs ys = (y : TupleAt) → In y ys → MayStand k e xs y → all_covered k cert (y ∷ xs) ≡ true
+
+-- nothing exactly where all that the row asks for is covered; else what is not
+abbrev pub IsFirstUncovered : Known → List CertEntry → TupleAt → Option Uncovered → Type 0
+IsFirstUncovered k cert x None = all_covered k cert (x ∷ []) ≡ true
+IsFirstUncovered k cert x (Some u) = IsOpen k cert 0 (x ∷ []) u × (all_covered k cert (x ∷ []) ≡ false)
+
+-- ---- the constants of an instance
+
+-- the value that the first of these rows that is of its input has in a column
+abbrev pub there : List TupleAt → ClassCol → Option Value
+there [] at = None
+there (x ∷ xs) at = if x.input == at.input then slice_get x.row at.column else there xs at
+
+abbrev pub or_else : Option Value → Option Value → Option Value
+or_else None other = other
+or_else (Some v) other = Some v
+
+-- the value that these rows have in the first column of a class that is there
+abbrev pub first_there : List TupleAt → List ClassCol → Option Value
+first_there xs [] = None
+first_there xs (at ∷ class) = or_else (there xs at) (first_there xs class)
+
+-- the value of the class is found in these rows
+abbrev pub IsFound : List ClassCol → List TupleAt → Type 0
+IsFound class xs = (v : Value) × (first_there xs class ≡ Some v) × (constant class xs ≡ v)
+
+-- that of each marked column is
+abbrev pub AreFound : List (List ClassCol) → ℕ → List Bool → List TupleAt → Type 0
+AreFound classes input marks xs = (column : ℕ) → slice_get marks column ≡ Some true → IsFound (class_with classes input column) xs
+
+-- the constant of a column, where it is marked
+abbrev pub constant_if : Bool → List (List ClassCol) → ℕ → ℕ → List TupleAt → List Value
+constant_if false classes input column xs = []
+constant_if true classes input column xs = constant (class_with classes input column) xs ∷ []
+
+-- those of the marked columns, of which the first is this one
+abbrev pub constants_in : List (List ClassCol) → ℕ → ℕ → List Bool → List TupleAt → List Value
+constants_in classes input column [] xs = []
+constants_in classes input column (mark ∷ marks) xs = constant_if mark classes input column xs ++ constants_in classes input (column + 1) marks xs
+
+-- the columns of the first of these classes that has the column, or none
+abbrev pub first_class : List (List ClassCol) → ClassCol → List ClassCol
+first_class [] at = []
+first_class (class ∷ classes) at = if has_column class at then class else first_class classes at
+
+-- ---- the parts of a join fit each other
+
+-- each row has so many values
+abbrev pub HaveLength : ℕ → List (ℕ × List Value) → Type 0
+HaveLength n rs = (r : ℕ × List Value) → In r rs → length r.1 ≡ n
+
+-- a sound join, rows that fit it, and one store of punctuations for each input
+pub record AreParts (spec : JoinSpec) (rows : ℕ → List (ℕ × List Value)) (stores : List Store) : Type 0 where
+  pub sound : IsSoundSpec spec
+  pub fit : (input : ℕ) → input < length spec.inputs → HaveLength (slice_index (arities_of spec.inputs) input) (rows input)
+  pub one_each : map (λ s. s.arity) stores ≡ arities_of spec.inputs
+
+abbrev pub inputs_of : List TupleAt → List ℕ
+inputs_of xs = map (λ x. x.input) xs
+
+-- these steps go on with a certificate from these rows, which fit, and join
+pub record IsOnWalk (spec : JoinSpec) (schemes : List (List (List Bool))) (steps : List CertStep) (xs : List TupleAt) : Type 0 where
+  pub listed : AreListedOnce schemes steps (inputs_of xs)
+  pub walk : IsWalk (data_of spec schemes) (entries schemes steps) (inputs_of xs)
+  pub fit : (x : TupleAt) → In x xs → length x.row ≡ slice_index (arities_of spec.inputs) x.input
+  pub joined : agree spec.classes xs ≡ true
+  pub few : length xs + length steps ≤ 16
+
+-- the marks of a step's scheme
+abbrev pub marks_of : List (List (List Bool)) → CertStep → List Bool
+marks_of schemes step = (entry_of schemes step).marks
+
+-- what is asked for by a step can be looked up: it has a scheme, there is a store of its arity, and the constants are found
+pub record IsStep (spec : JoinSpec) (schemes : List (List (List Bool))) (stores : List Store) (step : CertStep) (xs : List TupleAt) : Type 0 where
+  pub scheme : step.scheme < length (slice_index_or schemes step.input [])
+  pub store : step.input < length stores
+  pub fits : (d : Store) → length (marks_of schemes step) ≡ (slice_index_or stores step.input d).arity
+  pub few : length (marks_of schemes step) ≤ 120
+  pub found : AreFound spec.classes step.input (marks_of schemes step) xs
+
+-- the same with one row more
+abbrev pub through_more : ℕ → Uncovered → Uncovered
+through_more ticket u = record u { through = record { items = ticket ∷ u.through.items } }
+
+abbrev pub with_ticket : ℕ → Option Uncovered → Option Uncovered
+with_ticket ticket None = None
+with_ticket ticket (Some u) = Some (through_more ticket u)
+
+-- nothing where with none of these rows anything is asked for that is not covered; else what is not
+abbrev pub IsJudgedThrough : Known → List CertEntry → ℕ → List TupleAt → List TupleAt → Option Uncovered → Type 0
+IsJudgedThrough k cert at xs ys None = AreDone k cert xs ys
+IsJudgedThrough k cert at xs ys (Some u) = IsOpen k cert at xs u
+
+-- whether the row is below the low-water ticket, and all that it asks for is covered
+abbrev pub is_ripe : Known → List CertEntry → TupleAt → Bool
+is_ripe k cert x = nat_lt x.ticket k.low && all_covered k cert (x ∷ [])

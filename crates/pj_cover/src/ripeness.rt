@@ -1,0 +1,232 @@
+// Whether a stored row is ripe: whether all that it asks for by the certificate of its input is covered.
+ghost use Rattle.std.specs.Prelude.{◌≡◌, ◌<◌, ◌≤◌, ◌+◌, ◌^◌, ◌∷◌, [], ℕ, drop, map, length, slice_get, slice_index, slice_index_or, Some, IfSome};
+ghost use Rattle.pj_value.specs.Lists.{In};
+ghost use Rattle.pj_shape.specs.Sound.{IsSoundSpec, arities_of};
+ghost use Rattle.pj_laws.specs.Join.{IsCertified, agree, demand, entry_of};
+ghost use Rattle.pj_cover.specs.Asking.{AreParts, HaveLength, IsFirstUncovered, IsJudged, IsJudgedThrough, IsJudgedWith, IsOnWalk, IsStep, data_of, entries, is_covered, is_ripe, known_of, marks_of, tuple_of, with_ticket};
+
+use crate::asked::{Lent, lend_constants, suits};
+use crate::{Given, PunctStore, StoredRows, Uncovered};
+use arrayvec::ArrayVec;
+use pj_shape::{Cert, CertStep, JoinSpec, Scheme, Schemes};
+use pj_value::Row;
+
+// The scheme of a certificate's step.
+#[tactic(auto, using(crate::proofs::Steps::listed_input))]
+fn scheme_of(schemes: &Schemes, step: CertStep) -> &Scheme
+    requires { step.scheme < length (slice_index_or schemes.now step.input []) }
+    ensures { result.now ≡ marks_of schemes.now step }
+{
+    &schemes.at(step.input as usize).as_slice()[step.scheme as usize]
+}
+
+// Whether the instance that a step asks for of these rows is covered.
+fn step_is_covered(
+    spec: &JoinSpec,
+    schemes: &Schemes,
+    stores: &[PunctStore],
+    low: u64,
+    step: CertStep,
+    rows: &[Lent<'_>],
+) -> bool
+    requires { IsStep spec.now schemes.now stores.now step rows.now }
+    ensures { (lists : ℕ → _) → result ≡ is_covered (known_of spec.now lists stores.now low) (demand spec.now.classes (entry_of schemes.now step) rows.now) }
+{
+    let scheme = scheme_of(schemes, step);
+    let mut given = Given::new();
+    lend_constants(
+        spec.classes.as_slice(),
+        step.input,
+        scheme,
+        rows,
+        &mut given,
+    );
+    stores[step.input as usize].covers(scheme, &given, low)
+}
+
+// The same with the ticket of one row more in front.
+fn with_ticket(ticket: u64, found: Option<Uncovered>) -> Option<Uncovered>
+    requires { IfSome found (λ u. length u.through.items < 16) }
+    ensures { result ≡ with_ticket ticket found }
+{
+    match found {
+        None => None,
+        Some(found) => {
+            let Uncovered { entry, mut through } = found;
+            through.insert(0, ticket);
+            Some(Uncovered { entry, through })
+        }
+    }
+}
+
+// The first instance that these rows ask for, by the certificate's steps from a place on, and that is not covered.
+#[cycle(judging)]
+fn seek<'a, R: StoredRows>(
+    spec: &JoinSpec,
+    schemes: &Schemes,
+    cert: &Cert,
+    at: usize,
+    rows: &'a R,
+    stores: &[PunctStore],
+    low: u64,
+    parts: &mut ArrayVec<Lent<'a>, 16>,
+) -> Option<Uncovered>
+    requires parts { AreParts spec.now (R.rows rows.now) stores.now }
+    requires walk { IsOnWalk spec.now schemes.now (drop at cert.now) parts.old.items }
+    ensures same { parts.new.items ≡ parts.old.items }
+    ensures judged { IsJudged (known_of spec.now (R.rows rows.now) stores.now low) (entries schemes.now (drop at cert.now)) at parts.old.items result }
+{
+    if at >= cert.len() {
+        return None;
+    }
+    let step = *cert.at(at);
+    if !step_is_covered(spec, schemes, stores, low, step, parts.as_slice()) {
+        return Some(Uncovered {
+            entry: at,
+            through: ArrayVec::new(),
+        });
+    }
+    seek_through(spec, schemes, cert, at, step, rows, stores, low, parts)
+}
+
+// The same through each stored row that may stand for the step at the place, which itself is covered.
+#[cycle(judging)]
+fn seek_through<'a, R: StoredRows>(
+    spec: &JoinSpec,
+    schemes: &Schemes,
+    cert: &Cert,
+    at: usize,
+    step: CertStep,
+    rows: &'a R,
+    stores: &[PunctStore],
+    low: u64,
+    parts: &mut ArrayVec<Lent<'a>, 16>,
+) -> Option<Uncovered>
+    requires parts { AreParts spec.now (R.rows rows.now) stores.now }
+    requires walk { IsOnWalk spec.now schemes.now (drop at cert.now) parts.old.items }
+    requires step { slice_get cert.now at ≡ Some step }
+    ensures same { parts.new.items ≡ parts.old.items }
+    ensures judged { IsJudgedThrough (known_of spec.now (R.rows rows.now) stores.now low) (entries schemes.now (drop at cert.now)) at parts.old.items (map (tuple_of step.input) (R.rows rows.now step.input)) result }
+{
+    if cert.len() <= at + 1 {
+        return None;
+    }
+    for n in 0..rows.count(step.input) {
+        let (ticket, row) = rows.nth(step.input, n);
+        match seek_with(
+            spec, schemes, cert, at, step, rows, stores, low, ticket, row, parts,
+        ) {
+            None => {}
+            Some(found) => return Some(found),
+        }
+    }
+    None
+}
+
+// The same through this stored row.
+#[cycle(judging)]
+fn seek_with<'a, R: StoredRows>(
+    spec: &JoinSpec,
+    schemes: &Schemes,
+    cert: &Cert,
+    at: usize,
+    step: CertStep,
+    rows: &'a R,
+    stores: &[PunctStore],
+    low: u64,
+    ticket: u64,
+    row: &'a Row,
+    parts: &mut ArrayVec<Lent<'a>, 16>,
+) -> Option<Uncovered>
+    requires parts { AreParts spec.now (R.rows rows.now) stores.now }
+    requires walk { IsOnWalk spec.now schemes.now (drop at cert.now) parts.old.items }
+    requires step { slice_get cert.now at ≡ Some step }
+    requires fits { at + 1 < 2 ^ 64 }
+    requires stored { In (ticket, row.now) (R.rows rows.now step.input) }
+    ensures same { parts.new.items ≡ parts.old.items }
+    ensures judged { IsJudgedWith (known_of spec.now (R.rows rows.now) stores.now low) (entries schemes.now (drop at cert.now)) at parts.old.items (tuple_of step.input (ticket, row.now)) result }
+{
+    if ticket >= low {
+        return None;
+    }
+    let next = Lent::of(ticket, step.input, row);
+    if !suits(spec.classes.as_slice(), parts.as_slice(), &next) {
+        return None;
+    }
+    parts.insert(0, next);
+    let found = seek(spec, schemes, cert, at + 1, rows, stores, low, parts);
+    parts.remove(0);
+    with_ticket(ticket, found)
+}
+
+// What a row asks for first that is not covered.
+fn judge<R: StoredRows>(
+    spec: &JoinSpec,
+    schemes: &Schemes,
+    cert: &Cert,
+    own: Lent<'_>,
+    rows: &R,
+    stores: &[PunctStore],
+    low: u64,
+) -> Option<Uncovered>
+    requires parts { AreParts spec.now (R.rows rows.now) stores.now }
+    requires walk { IsOnWalk spec.now schemes.now cert.now (own ∷ []) }
+    ensures { IsFirstUncovered (known_of spec.now (R.rows rows.now) stores.now low) (entries schemes.now cert.now) own.entry result }
+{
+    let mut parts = ArrayVec::new();
+    parts.push(own);
+    seek(spec, schemes, cert, 0, rows, stores, low, &mut parts)
+}
+
+/// The first instance that a row of an input asks for, by the input's certificate, over the stored rows below the low-water
+/// ticket, and that no punctuation below it covers; `None` exactly where all that it asks for is covered. The join is sound,
+/// the certificate is one of the input, all rows fit it, and there is one store of punctuations for each input.
+pub fn first_uncovered<R: StoredRows>(
+    spec: &JoinSpec,
+    schemes: &Schemes,
+    cert: &Cert,
+    input: u32,
+    row: &Row,
+    rows: &R,
+    stores: &[PunctStore],
+    low: u64,
+) -> Option<Uncovered>
+    requires parts { AreParts spec.now (R.rows rows.now) stores.now }
+    requires input { input < length spec.now.inputs }
+    requires certified { IsCertified (data_of spec.now schemes.now) input cert.now }
+    requires fits { length row.now ≡ slice_index (arities_of spec.now.inputs) input }
+    ensures { (ticket : ℕ) → IsFirstUncovered (known_of spec.now (R.rows rows.now) stores.now low) (entries schemes.now cert.now) (tuple_of input (ticket, row.now)) result }
+{
+    let own = Lent::of(0, input, row);
+    judge(spec, schemes, cert, own, rows, stores, low)
+}
+
+/// Whether a row of an input is ripe: its ticket is below the low-water ticket, and each instance that it asks for, by the
+/// input's certificate, over the stored rows below the low-water ticket, is covered by a punctuation below it. The join is
+/// sound, the certificate is one of the input, all rows fit it, and there is one store of punctuations for each input.
+pub fn ripe<R: StoredRows>(
+    spec: &JoinSpec,
+    schemes: &Schemes,
+    cert: &Cert,
+    input: u32,
+    ticket: u64,
+    row: &Row,
+    rows: &R,
+    stores: &[PunctStore],
+    low: u64,
+) -> bool
+    requires parts { AreParts spec.now (R.rows rows.now) stores.now }
+    requires input { input < length spec.now.inputs }
+    requires certified { IsCertified (data_of spec.now schemes.now) input cert.now }
+    requires fits { length row.now ≡ slice_index (arities_of spec.now.inputs) input }
+    ensures { result ≡ is_ripe (known_of spec.now (R.rows rows.now) stores.now low) (entries schemes.now cert.now) (tuple_of input (ticket, row.now)) }
+{
+    if low <= ticket {
+        return false;
+    }
+    let own = Lent::of(ticket, input, row);
+    match judge(spec, schemes, cert, own, rows, stores, low) {
+        None => true,
+        Some(_) => false,
+    }
+}
