@@ -16,6 +16,10 @@ use Rattle.pj_cover.specs.declared.rows.Uncovered.{Uncovered}
 abbrev pub tuple_of : ℕ → ℕ × List Value → TupleAt
 tuple_of input r = record { ticket = r.0; input = input; row = r.1 }
 
+-- the rows of an input
+abbrev pub tuples_at : (ℕ → List (ℕ × List Value)) → ℕ → List TupleAt
+tuples_at rows input = map (tuple_of input) (rows input)
+
 -- the rows of the first so many inputs
 abbrev pub tuples_of : (ℕ → List (ℕ × List Value)) → ℕ → List TupleAt
 tuples_of rows zero = []

@@ -1,4 +1,5 @@
-//! A store of the punctuations of a stream or an input, and which of them a row breaks.
+//! A store of the punctuations of a stream or an input, which of them a row breaks, which instances of a scheme they cover,
+//! and whether a stored row of a join is ripe.
 #![tactic(auto)]
 
 mod asked;

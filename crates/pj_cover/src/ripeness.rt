@@ -1,9 +1,9 @@
 // Whether a stored row is ripe: whether all that it asks for by the certificate of its input is covered.
-ghost use Rattle.std.specs.Prelude.{◌≡◌, ◌<◌, ◌≤◌, ◌+◌, ◌^◌, ◌∷◌, [], ℕ, drop, map, length, slice_get, slice_index, slice_index_or, Some, IfSome};
+ghost use Rattle.std.specs.Prelude.{◌≡◌, ◌<◌, ◌≤◌, ◌+◌, ◌^◌, ◌∷◌, [], ℕ, drop, length, slice_get, slice_index, slice_index_or, Some, IfSome};
 ghost use Rattle.pj_value.specs.Lists.{In};
 ghost use Rattle.pj_shape.specs.Sound.{IsSoundSpec, arities_of};
 ghost use Rattle.pj_laws.specs.Join.{IsCertified, agree, demand, entry_of};
-ghost use Rattle.pj_cover.specs.Asking.{AreParts, HaveLength, IsFirstUncovered, IsJudged, IsJudgedThrough, IsJudgedWith, IsOnWalk, IsStep, data_of, entries, is_covered, is_ripe, known_of, marks_of, tuple_of, with_ticket};
+ghost use Rattle.pj_cover.specs.Asking.{AreParts, HaveLength, IsFirstUncovered, IsJudged, IsJudgedThrough, IsJudgedWith, IsOnWalk, IsStep, data_of, entries, is_covered, is_ripe, known_of, marks_of, tuple_of, tuples_at, with_ticket};
 
 use crate::asked::{Lent, lend_constants, suits};
 use crate::{Given, PunctStore, StoredRows, Uncovered};
@@ -106,7 +106,7 @@ fn seek_through<'a, R: StoredRows>(
     requires walk { IsOnWalk spec.now schemes.now (drop at cert.now) parts.old.items }
     requires step { slice_get cert.now at ≡ Some step }
     ensures same { parts.new.items ≡ parts.old.items }
-    ensures judged { IsJudgedThrough (known_of spec.now (R.rows rows.now) stores.now low) (entries schemes.now (drop at cert.now)) at parts.old.items (map (tuple_of step.input) (R.rows rows.now step.input)) result }
+    ensures judged { IsJudgedThrough (known_of spec.now (R.rows rows.now) stores.now low) (entries schemes.now (drop at cert.now)) at parts.old.items (tuples_at (R.rows rows.now) step.input) result }
 {
     if cert.len() <= at + 1 {
         return None;

@@ -17,5 +17,5 @@ returns-in-None g c =
 
 pub returns-in-Some : goal.returns-in-Some
 returns-in-Some g c =
-    ripe_some (known_of c.args.spec.now (g.R.StoredRows.rows c.args.rows.now) c.args.stores.now c.args.low) (entries c.args.schemes.now c.args.cert.now) (tuple_of c.args.input (c.args.ticket, c.args.row.now)) c.of-own.result c.judge.result c.in-Some.field-0
+    ripe_some (known_of c.args.spec.now (g.R.StoredRows.rows c.args.rows.now) c.args.stores.now c.args.low) (entries c.args.schemes.now c.args.cert.now) (tuple_of c.args.input (c.args.ticket, c.args.row.now)) c.of-own.result c.judge.result _
     c.of-own.ensures c.judge.ensures c.in-Some.is
