@@ -83,11 +83,6 @@ module _ (words : List (String Global)) (old mid : FolderState) (run : is_run wo
   pub files_same : files_named (names_in words) mid ≡ stream_files (command_of words old)
   files_same = ap₂ (λ (f : List ℕ → List ℕ) (ns : List (List ℕ)). map f ns) contents (sym (names_are words run))
 
-  -- there is a file for each stream
-  pub files_counted : (nodes : List PlanNode) → length words ≡ 2 + length (streams_of nodes) → length (stream_files (command_of words old)) ≡ length (streams_in nodes)
-  files_counted nodes long =
-      length-map (behind_first (operands words)) old.contents ∙ (ap length (names_are words run) ∙ names_of_streams words nodes run long)
-
   read_named : (names : List (List ℕ)) (new : FolderState) → AreReadToEnd names mid new → AreReadToEnd names old new
   read_named [] new read = tt
   read_named (n ∷ ns) new read = (

@@ -11,7 +11,7 @@ use Rattle.pj_shape.specs.declared.joins.CertStep.{CertStep}
 use Rattle.pj_shape.specs.declared.joins.ClassCol.{ClassCol}
 use Rattle.pj_shape.specs.declared.joins.JoinSpec.{JoinSpec}
 use Rattle.pj_shape.specs.Joining.{class_from, class_of, has_column}
-use Rattle.pj_shape.specs.Sound.{AreApart, IsSoundSpec}
+use Rattle.pj_shape.specs.Sound.{AreApart}
 use Rattle.pj_plan.specs.declared.node.Node.{Node as Operation}
 use Rattle.pj_plan.specs.declared.node.Node.TheVariants.{Stream as StreamNode, Select as SelectNode, Project as ProjectNode, Union as UnionNode, Join as JoinNode, Group as GroupNode}
 use Rattle.pj_plan.specs.declared.node.PlanNode.{PlanNode}
@@ -22,17 +22,16 @@ use Rattle.pj_scheme.specs.Derived.{inputs_schemes, schemes_of}
 use Rattle.pj_scheme.specs.Fitting.{FitInputs}
 use Rattle.pj_scheme.proofs.Wide.{joins_fit}
 use Rattle.pj_graph.specs.Sets.{among, are_bound, is_bound, touches}
-use Rattle.pj_graph.specs.Certificates.{AreSteps, IsCertificate, steps_of, inputs_of as added_by}
+use Rattle.pj_graph.specs.Certificates.{AreSteps, IsCertificate, steps_of}
 use Rattle.pj_graph.specs.Saturation.{certificate_of}
 use Rattle.pj_graph.proofs.Saturations.{among_in}
 use Rattle.pj_graph.proofs.Certified.{in_or_none}
-use Rattle.pj_alone.specs.Safety.{schemes_at, spec_at, spec_in}
+use Rattle.pj_alone.specs.Safety.{AreCertificates, certificates_at, certificates_of, schemes_at, spec_at, spec_in}
 use Rattle.pj_laws.specs.Join.{AreBound, AreCertified, AreListedOnce, CertEntry, IsCertified, IsWalk, class_at, class_with, entry_of}
-use Rattle.pj_laws.specs.Plan.{Node, operator_at}
+use Rattle.pj_laws.specs.Plan.{operator_at}
 use Rattle.pj_laws.specs.HistoryLaws.{AllAreCertified, Certified}
 use Rattle.pj_join.specs.Joins.{join_data}
 use Rattle.pj_core.specs.Plans.{certs_behind, join_at_start, nodes_of, nodes_with, operator_of, run_plan}
-use Rattle.pj_alone.specs.Safety.{AreCertificates, certificates_at, certificates_of}
 
 -- ---- the class of a column
 

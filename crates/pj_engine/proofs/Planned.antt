@@ -1,12 +1,11 @@
 -- What the laws of histories ask of the nodes of a sound plan's run.
-use Rattle.std.proofs.Common.{ℕ, zero, suc, ◌+◌, ◌≤◌, ◌<◌, ◌≡◌, ◌⊎◌, Bool, true, false, cond, ◌==◌, nat_le, List, [], ◌∷◌, ◌++◌, map, flat_map, length, sum, get_or, refl, sym, ap, ap₂, ◌∙◌, subst, inl, inr, append-nil, append_assoc, arith}
+use Rattle.std.proofs.Common.{ℕ, zero, suc, ◌+◌, ◌≤◌, ◌<◌, ◌≡◌, Bool, true, false, cond, ◌==◌, nat_le, List, [], ◌∷◌, ◌++◌, map, flat_map, length, sum, get_or, refl, sym, ap, ap₂, ◌∙◌, subst, inl, inr, append_assoc, arith}
 use Rattle.std.specs.Prelude.{slice_index}
 use Rattle.std.proofs.Math.Seq.{get_or-append_seam}
-use Rattle.std.proofs.lemmas.Bool.{false≢true, and_parts, eqb-true}
+use Rattle.std.proofs.lemmas.Bool.{and_parts, eqb-true}
 use Rattle.std.proofs.lemmas.List.{length-append, length-map, map-append}
 use Rattle.std.proofs.lemmas.List.Sums.{sum-map, sum_by-cons}
 use Rattle.pj_value.specs.Lists.{In}
-use Rattle.pj_value.specs.declared.values.Kind.{Kind}
 use Rattle.pj_value.proofs.Members.{In-map}
 use Rattle.pj_shape.specs.declared.columns.Column.{Column}
 use Rattle.pj_shape.specs.declared.joins.CertStep.{CertStep}
@@ -18,11 +17,11 @@ use Rattle.pj_plan.specs.declared.node.Outline.{Outline}
 use Rattle.pj_plan.specs.declared.node.PlanNode.{PlanNode}
 use Rattle.pj_plan.specs.Nodes.{inputs_of, is_join, is_stream, joins_of, numbers_from, streams_of}
 use Rattle.pj_plan.specs.Canonical.{no_node, node_at, node_schema}
-use Rattle.pj_plan.specs.Sound.{IsSoundOperator, IsSoundPlan, agg_kind_at, columns_of_first, kind_at}
+use Rattle.pj_plan.specs.Sound.{IsSoundOperator, IsSoundPlan, agg_kind_at, kind_at}
 use Rattle.pj_scheme.specs.Derived.{schemes_of}
-use Rattle.pj_laws.specs.Plan.{ArePlanned, IsWellMade, Node, operator_at, operator_width}
+use Rattle.pj_laws.specs.Plan.{ArePlanned, IsWellMade, operator_width}
 use Rattle.pj_laws.specs.HistoryLaws.{AllAreCertified, AllPropagate, HasNoGroup, IsNoGroup, Propagates}
-use Rattle.pj_core.specs.Plans.{IsRun, certs_behind, node_of, nodes_with, operator_of}
+use Rattle.pj_core.specs.Plans.{IsRun, certs_behind, nodes_with, operator_of}
 use Rattle.pj_alone.specs.Safety.{certificates_at, certificates_of}
 use Rattle.pj_core.specs.Cores.{CoreState}
 use Rattle.pj_engine.specs.Runs.{IsNewCore, outline_in, run_nodes}

@@ -11,7 +11,7 @@ use Rattle.pj_plan.specs.Nodes.{streams_of}
 use Rattle.pj_plan.specs.Kept.{IsMadeAgain}
 use Rattle.pj_plan.specs.Sound.{IsSoundPlan}
 use Rattle.pj_plan_text.specs.PlanRead.{plan_read}
-use Rattle.pj_alone.specs.Safety.{IsSafePlan}
+use Rattle.pj_alone.specs.Safety.{AreCertificates, IsSafePlan, certificates_of}
 use Rattle.pj_core.specs.Plans.{RunPlan, are_run, nodes_of, run_plan}
 use Rattle.pj_laws.specs.HistoryLaws.{AllAreCertified}
 use Rattle.pj_core.specs.Cores.{CoreState}
@@ -26,7 +26,6 @@ use Rattle.pj_engine.specs.PlanNames.{HasPlainNames}
 use Rattle.pj_engine.specs.Plans.{if_run, plan_of, plan_if}
 use Rattle.pj_engine.specs.Refusals.{BytesRefused, FileCause, FileOpens, HasLines, IsUnrun, PlanCause, PlanUnfit, Unprepared}
 use Rattle.pj_engine.specs.Runs.{IsNewCore, most_arrivals, outline_in}
-use Rattle.pj_alone.specs.Safety.{AreCertificates, certificates_of}
 use Rattle.pj_engine.proofs.Certified.{run_certified}
 use Rattle.pj_engine.proofs.NameLaws.{plain_names}
 

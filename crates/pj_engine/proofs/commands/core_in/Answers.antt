@@ -1,6 +1,5 @@
-use Rattle.std.proofs.Common.{List, ap, sym, subst}
+use Rattle.std.proofs.Common.{ap, sym, subst}
 use Rattle.pj_plan.specs.declared.node.Outline.{Outline}
-use Rattle.pj_plan.specs.declared.node.PlanNode.{PlanNode}
 use Rattle.pj_alone.specs.Safety.{IsSafePlan}
 use Rattle.pj_engine.proofs.commands.core_in.Goals as goal
 
