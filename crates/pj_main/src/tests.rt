@@ -222,7 +222,10 @@ fn each_write_of_a_join_fails_in_turn(rt: HostRuntime) -> Result<(), Fail> {
         let status = run_in(&rt, "run plan items bids", &mut folder, &mut out)?;
         assert_eq!(rt; status, Status::WriteFault);
         assert!(rt; AUCTION_OUT.starts_with(out.bytes()));
-        assert_eq!(rt; out.bytes().len().saturating_add(rest.len()), AUCTION_OUT.len());
+        assert_eq!(rt;
+            out.bytes().len().saturating_add(rest.len()),
+            AUCTION_OUT.len()
+        );
         rest = first_piece(rest).1;
     }
     assert!(rt; rest.is_empty());
