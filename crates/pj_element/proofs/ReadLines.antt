@@ -1,6 +1,6 @@
 -- The elements that lines stand for, and the rejects, are those of the grammar.
 use Rattle.std.proofs.Common.{◌≡◌, ◌≢◌, ℕ, ◌+◌, ◌<◌, ◌≤◌, Bool, true, false, eqb, ltb, ◌⊎◌, inl, inr, List, [], ◌∷◌, Option, Some, None, Result, Ok, Err, length, refl, ap, sym, ◌∙◌, subst, arith}
-use Rattle.std.specs.Prelude.{◌↔◌}
+use Rattle.std.specs.Prelude.{◌↔◌, codes}
 use Rattle.std.specs.Str.{bytes_eq}
 use Rattle.std.proofs.lemmas.Bool.Decides.{nat_tests}
 use Rattle.std.proofs.lemmas.Slice.Eq.{bytes_eq-Decides}
@@ -192,35 +192,35 @@ fault_reads Spells IsOf all_columns line _ _ _ _ (behind_column n column columns
 
 -- ---- what the grammar says is what is computed
 
-tagged_reading : (tag : ℕ) (columns : List Column) (line : List ℕ) (cells : List (List ℕ)) → IsTagged tag line cells → reading_of columns line ≡ tagged columns ((tag ∷ []) ∷ cells)
+tagged_reading : (tag : List ℕ) (columns : List Column) (line : List ℕ) (cells : List (List ℕ)) → IsTagged tag line cells → reading_of columns line ≡ tagged columns (tag ∷ cells)
 tagged_reading tag columns line cells t =
     unskipped columns line t.0
-    ∙ (ap (judged columns) (cells_are line ((tag ∷ []) ∷ cells) t.1) ∙ few_cells columns ((tag ∷ []) ∷ cells) (let few : length cells < 128 = t.2 in omega arith))
+    ∙ (ap (judged columns) (cells_are line (tag ∷ cells) t.1) ∙ few_cells columns (tag ∷ cells) (let few : length cells < 128 = t.2 in omega arith))
 
 tuple_reading : (columns : List Column) (line : List ℕ) (row : List Value) → IsTupleLine columns line row → reading_of columns line ≡ Tuple row
 tuple_reading columns line row t =
-    tagged_reading 116 columns line t.0 t.1
+    tagged_reading (codes "t") columns line t.0 t.1
     ∙ ap read_row
     (as_many value_in SpellsIn SpellsValue HasKind values_agree columns t.0 (each_as_many value_in SpellsIn SpellsValue HasKind values_agree columns t.0 row t.2)
     ∙ each_sound value_in SpellsIn SpellsValue HasKind values_agree 1 columns t.0 row t.2)
 
 punct_reading : (columns : List Column) (line : List ℕ) (punct : List Pattern) → IsPunctLine columns line punct → reading_of columns line ≡ Punct punct
 punct_reading columns line punct t =
-    tagged_reading 112 columns line t.0 t.1
+    tagged_reading (codes "p") columns line t.0 t.1
     ∙ ap read_punct
     (as_many pattern_in SpellsPattern SpellsForm HasFormKind forms_agree columns t.0 (each_as_many pattern_in SpellsPattern SpellsForm HasFormKind forms_agree columns t.0 punct t.2)
     ∙ each_sound pattern_in SpellsPattern SpellsForm HasFormKind forms_agree 1 columns t.0 punct t.2)
 
-tuple_fault : (columns : List Column) (line : List ℕ) (cells : List (List ℕ)) (why : Reject) → length cells ≡ length columns → IsTagged 116 line cells → IsFirstFault SpellsValue HasKind 1 columns cells why → reading_of columns line ≡ Bad why
+tuple_fault : (columns : List Column) (line : List ℕ) (cells : List (List ℕ)) (why : Reject) → length cells ≡ length columns → IsTagged (codes "t") line cells → IsFirstFault SpellsValue HasKind 1 columns cells why → reading_of columns line ≡ Bad why
 tuple_fault columns line cells why same t fault =
-    tagged_reading 116 columns line cells t
+    tagged_reading (codes "t") columns line cells t
     ∙ ap read_row
     (as_many value_in SpellsIn SpellsValue HasKind values_agree columns cells same
     ∙ fault_sound value_in SpellsIn SpellsValue HasKind values_agree 1 columns cells why fault)
 
-punct_fault : (columns : List Column) (line : List ℕ) (cells : List (List ℕ)) (why : Reject) → length cells ≡ length columns → IsTagged 112 line cells → IsFirstFault SpellsForm HasFormKind 1 columns cells why → reading_of columns line ≡ Bad why
+punct_fault : (columns : List Column) (line : List ℕ) (cells : List (List ℕ)) (why : Reject) → length cells ≡ length columns → IsTagged (codes "p") line cells → IsFirstFault SpellsForm HasFormKind 1 columns cells why → reading_of columns line ≡ Bad why
 punct_fault columns line cells why same t fault =
-    tagged_reading 112 columns line cells t
+    tagged_reading (codes "p") columns line cells t
     ∙ ap read_punct
     (as_many pattern_in SpellsPattern SpellsForm HasFormKind forms_agree columns cells same
     ∙ fault_sound pattern_in SpellsPattern SpellsForm HasFormKind forms_agree 1 columns cells why fault)
@@ -228,22 +228,22 @@ punct_fault columns line cells why same t fault =
 fault_reading : (columns : List Column) (line : List ℕ) (why : Reject) → HasFault columns line why → reading_of columns line ≡ Bad why
 fault_reading columns line why h = go h.2
   where
-    go : (IsTagged 116 line h.0 × IsFirstFault SpellsValue HasKind 1 columns h.0 why) ⊎ (IsTagged 112 line h.0 × IsFirstFault SpellsForm HasFormKind 1 columns h.0 why) → reading_of columns line ≡ Bad why
+    go : (IsTagged (codes "t") line h.0 × IsFirstFault SpellsValue HasKind 1 columns h.0 why) ⊎ (IsTagged (codes "p") line h.0 × IsFirstFault SpellsForm HasFormKind 1 columns h.0 why) → reading_of columns line ≡ Bad why
     go (inl t) = tuple_fault columns line h.0 why h.1 t.0 t.1
     go (inr t) = punct_fault columns line h.0 why h.1 t.0 t.1
 
-tuple_width : (columns : List Column) (line : List ℕ) (cells : List (List ℕ)) → IsTagged 116 line cells → length cells ≢ length columns → reading_of columns line ≡ Bad (Arity (width columns) (length cells))
-tuple_width columns line cells t differ = tagged_reading 116 columns line cells t ∙ ap read_row (not_as_many value_in SpellsIn SpellsValue HasKind values_agree columns cells differ)
+tuple_width : (columns : List Column) (line : List ℕ) (cells : List (List ℕ)) → IsTagged (codes "t") line cells → length cells ≢ length columns → reading_of columns line ≡ Bad (Arity (width columns) (length cells))
+tuple_width columns line cells t differ = tagged_reading (codes "t") columns line cells t ∙ ap read_row (not_as_many value_in SpellsIn SpellsValue HasKind values_agree columns cells differ)
 
-punct_width : (columns : List Column) (line : List ℕ) (cells : List (List ℕ)) → IsTagged 112 line cells → length cells ≢ length columns → reading_of columns line ≡ Bad (Arity (width columns) (length cells))
-punct_width columns line cells t differ = tagged_reading 112 columns line cells t ∙ ap read_punct (not_as_many pattern_in SpellsPattern SpellsForm HasFormKind forms_agree columns cells differ)
+punct_width : (columns : List Column) (line : List ℕ) (cells : List (List ℕ)) → IsTagged (codes "p") line cells → length cells ≢ length columns → reading_of columns line ≡ Bad (Arity (width columns) (length cells))
+punct_width columns line cells t differ = tagged_reading (codes "p") columns line cells t ∙ ap read_punct (not_as_many pattern_in SpellsPattern SpellsForm HasFormKind forms_agree columns cells differ)
 
 width_reading : (columns : List Column) (line : List ℕ) (want got : ℕ) → HasOtherWidth columns line want got → reading_of columns line ≡ Bad (Arity want got)
 width_reading columns line want got h = go h.2 ∙ rw (h.5, h.6) refl
   where
-    go : (h.0 ≡ 116) ⊎ (h.0 ≡ 112) → reading_of columns line ≡ Bad (Arity (width columns) (length h.1))
-    go (inl e) = tuple_width columns line h.1 (subst (λ (tag : ℕ). IsTagged tag line h.1) e h.3) h.4
-    go (inr e) = punct_width columns line h.1 (subst (λ (tag : ℕ). IsTagged tag line h.1) e h.3) h.4
+    go : (h.0 ≡ codes "t") ⊎ (h.0 ≡ codes "p") → reading_of columns line ≡ Bad (Arity (width columns) (length h.1))
+    go (inl e) = tuple_width columns line h.1 (subst (λ (tag : List ℕ). IsTagged tag line h.1) e h.3) h.4
+    go (inr e) = punct_width columns line h.1 (subst (λ (tag : List ℕ). IsTagged tag line h.1) e h.3) h.4
 
 unlike : (xs ys : List ℕ) → xs ≢ ys → bytes_eq xs ys ≡ false
 unlike xs ys differ = go (bytes_eq xs ys) refl
@@ -258,7 +258,7 @@ untagged_is columns (tag ∷ cells) u = go (ltb 128 (length (tag ∷ cells))) re
   where
     go : (t : Bool) → ltb 128 (length (tag ∷ cells)) ≡ t → judged columns (Some (tag ∷ cells)) ≡ Bad NotElement
     go true h = rw h refl
-    go false h = rw h (tag_other columns tag cells (unlike tag (116 ∷ []) u.0) (unlike tag (112 ∷ []) u.1))
+    go false h = rw h (tag_other columns tag cells (unlike tag (codes "t") u.0) (unlike tag (codes "p") u.1))
 
 no_element_reading : (columns : List Column) (line : List ℕ) → IsNoElement line → reading_of columns line ≡ Bad NotElement
 no_element_reading columns line n = unskipped columns line n.0 ∙ go n.1
@@ -284,45 +284,45 @@ only_reading columns line (Bad (Closed n)) r = absurd r
 
 -- ---- what is computed is what the grammar says
 
-tuple_outcome : (columns : List Column) (line : List ℕ) (cells : List (List ℕ)) → IsTagged 116 line cells → length cells ≡ length columns → (r : Result (List Value) Reject) → Outcome value_in SpellsIn SpellsValue HasKind values_agree 1 columns cells r → ReadsAs columns line (read_row r)
+tuple_outcome : (columns : List Column) (line : List ℕ) (cells : List (List ℕ)) → IsTagged (codes "t") line cells → length cells ≡ length columns → (r : Result (List Value) Reject) → Outcome value_in SpellsIn SpellsValue HasKind values_agree 1 columns cells r → ReadsAs columns line (read_row r)
 tuple_outcome columns line cells t same _ (all_fit row each) = (cells, t, each)
 tuple_outcome columns line cells t same _ (has_fault why fault) = fault_reads SpellsValue HasKind columns line 1 columns cells why fault (cells, same, inl (t, fault))
 
-punct_outcome : (columns : List Column) (line : List ℕ) (cells : List (List ℕ)) → IsTagged 112 line cells → length cells ≡ length columns → (r : Result (List Pattern) Reject) → Outcome pattern_in SpellsPattern SpellsForm HasFormKind forms_agree 1 columns cells r → ReadsAs columns line (read_punct r)
+punct_outcome : (columns : List Column) (line : List ℕ) (cells : List (List ℕ)) → IsTagged (codes "p") line cells → length cells ≡ length columns → (r : Result (List Pattern) Reject) → Outcome pattern_in SpellsPattern SpellsForm HasFormKind forms_agree 1 columns cells r → ReadsAs columns line (read_punct r)
 punct_outcome columns line cells t same _ (all_fit punct each) = (cells, t, each)
 punct_outcome columns line cells t same _ (has_fault why fault) = fault_reads SpellsForm HasFormKind columns line 1 columns cells why fault (cells, same, inr (t, fault))
 
-tuple_line : (columns : List Column) (line : List ℕ) (cells : List (List ℕ)) → IsTagged 116 line cells → ReadsAs columns line (read_row (items_in value_in columns cells))
+tuple_line : (columns : List Column) (line : List ℕ) (cells : List (List ℕ)) → IsTagged (codes "t") line cells → ReadsAs columns line (read_row (items_in value_in columns cells))
 tuple_line columns line cells t = go (eqb (length cells) (length columns)) refl
   where
     go : (b : Bool) → eqb (length cells) (length columns) ≡ b → ReadsAs columns line (read_row (items_in value_in columns cells))
     go true h =
         let same : length cells ≡ length columns = grind (arith, nat_tests) in
         rw h (tuple_outcome columns line cells t same (items_from value_in 1 columns cells) (outcome value_in SpellsIn SpellsValue HasKind values_agree 1 columns cells same))
-    go false h = rw h (116, cells, inl refl, t, λ same. grind (arith, nat_tests), refl, refl)
+    go false h = rw h (codes "t", cells, inl refl, t, λ same. grind (arith, nat_tests), refl, refl)
 
-punct_line_reads : (columns : List Column) (line : List ℕ) (cells : List (List ℕ)) → IsTagged 112 line cells → ReadsAs columns line (read_punct (items_in pattern_in columns cells))
+punct_line_reads : (columns : List Column) (line : List ℕ) (cells : List (List ℕ)) → IsTagged (codes "p") line cells → ReadsAs columns line (read_punct (items_in pattern_in columns cells))
 punct_line_reads columns line cells t = go (eqb (length cells) (length columns)) refl
   where
     go : (b : Bool) → eqb (length cells) (length columns) ≡ b → ReadsAs columns line (read_punct (items_in pattern_in columns cells))
     go true h =
         let same : length cells ≡ length columns = grind (arith, nat_tests) in
         rw h (punct_outcome columns line cells t same (items_from pattern_in 1 columns cells) (outcome pattern_in SpellsPattern SpellsForm HasFormKind forms_agree 1 columns cells same))
-    go false h = rw h (112, cells, inr refl, t, λ same. grind (arith, nat_tests), refl, refl)
+    go false h = rw h (codes "p", cells, inr refl, t, λ same. grind (arith, nat_tests), refl, refl)
 
 by_tag : (columns : List Column) (line tag : List ℕ) (cells : List (List ℕ)) → is_skipped line ≡ false → AreCells line (tag ∷ cells) → length cells < 128 → ReadsAs columns line (tagged columns (tag ∷ cells))
-by_tag columns line tag cells e c few = go (bytes_eq tag (116 ∷ [])) refl (bytes_eq tag (112 ∷ [])) refl
+by_tag columns line tag cells e c few = go (bytes_eq tag (codes "t")) refl (bytes_eq tag (codes "p")) refl
   where
-    go : (t : Bool) → bytes_eq tag (116 ∷ []) ≡ t → (p : Bool) → bytes_eq tag (112 ∷ []) ≡ p → ReadsAs columns line (tagged columns (tag ∷ cells))
+    go : (t : Bool) → bytes_eq tag (codes "t") ≡ t → (p : Bool) → bytes_eq tag (codes "p") ≡ p → ReadsAs columns line (tagged columns (tag ∷ cells))
     go true h p hp =
-        let same = same_bytes tag (116 ∷ []) h in
+        let same = same_bytes tag (codes "t") h in
         subst (λ (x : List ℕ). ReadsAs columns line (tagged columns (x ∷ cells))) (sym same) (tuple_line columns line cells (e, subst (λ (x : List ℕ). AreCells line (x ∷ cells)) same c, few))
     go false h true hp =
-        let same = same_bytes tag (112 ∷ []) hp in
+        let same = same_bytes tag (codes "p") hp in
         subst (λ (x : List ℕ). ReadsAs columns line (tagged columns (x ∷ cells))) (sym same) (punct_line_reads columns line cells (e, subst (λ (x : List ℕ). AreCells line (x ∷ cells)) same c, few))
     go false h false hp =
-        let no_t : tag ≢ 116 ∷ [] = λ is. absurd (cc) in
-        let no_p : tag ≢ 112 ∷ [] = λ is. absurd (cc) in
+        let no_t : tag ≢ codes "t" = λ is. absurd (cc) in
+        let no_p : tag ≢ codes "p" = λ is. absurd (cc) in
         subst (ReadsAs columns line) (sym (tag_other columns tag cells h hp)) (e, inr (tag ∷ cells, c, inr (no_t, no_p)))
 
 by_cells : (columns : List Column) (line : List ℕ) (cells : List (List ℕ)) → is_skipped line ≡ false → AreCells line cells → ReadsAs columns line (judged columns (Some cells))

@@ -106,7 +106,7 @@ end_spelling (Some v) = value_spelling v
 -- values behind a vertical bar each
 abbrev pub more_members : List Value → List ℕ
 more_members [] = []
-more_members (v ∷ vs) = 124 ∷ value_spelling v ++ more_members vs
+more_members (v ∷ vs) = codes "|" ++ value_spelling v ++ more_members vs
 
 -- the members of a list, parted by vertical bars
 abbrev pub members_spelling : List Value → List ℕ
@@ -118,13 +118,13 @@ abbrev pub pattern_spelling : Pattern → List ℕ
 pattern_spelling Wild = codes "*"
 pattern_spelling Empty = codes "{}"
 pattern_spelling (Constant v) = value_spelling v
-pattern_spelling (Range low high) = 91 ∷ end_spelling low ++ 46 ∷ 46 ∷ end_spelling high ++ 93 ∷ []
-pattern_spelling (Members vs) = 123 ∷ members_spelling vs ++ 125 ∷ []
+pattern_spelling (Range low high) = codes "[" ++ (end_spelling low ++ (codes ".." ++ end_spelling high)) ++ codes "]"
+pattern_spelling (Members vs) = codes "{" ++ members_spelling vs ++ codes "}"
 
 -- the canonical line of a row, without its line feed
 abbrev pub row_line : List Value → List ℕ
-row_line row = 116 ∷ flat_map (λ v. 32 ∷ value_spelling v) row
+row_line row = codes "t" ++ flat_map (λ v. codes " " ++ value_spelling v) row
 
 -- the canonical line of a punctuation, without its line feed
 abbrev pub punct_line : List Pattern → List ℕ
-punct_line punct = 112 ∷ flat_map (λ p. 32 ∷ pattern_spelling p) punct
+punct_line punct = codes "p" ++ flat_map (λ p. codes " " ++ pattern_spelling p) punct

@@ -20,22 +20,22 @@ use Rattle.pj_element.specs.Elements.{width}
 
 -- the rest of a quoted part: a backslash takes the next byte with it, and the next quote that is not taken so ends the part
 pub data EndsQuoted : List ℕ → Type 0 where
-  end_quote : EndsQuoted (34 ∷ [])
-  taken_byte : (b : ℕ) {bytes : List ℕ} → EndsQuoted bytes → EndsQuoted (92 ∷ b ∷ bytes)
+  end_quote : EndsQuoted (codes "\"")
+  taken_byte : (b : ℕ) {bytes : List ℕ} → EndsQuoted bytes → EndsQuoted (codes "\\" ++ b ∷ bytes)
   quoted_byte : (b : ℕ) {bytes : List ℕ} → b ≢ 34 → b ≢ 92 → EndsQuoted bytes → EndsQuoted (b ∷ bytes)
 
 -- bytes behind an opening quote that no quote ends
 pub data StaysQuoted : List ℕ → Type 0 where
   no_more : StaysQuoted []
-  takes_none : StaysQuoted (92 ∷ [])
-  taken_open : (b : ℕ) {bytes : List ℕ} → StaysQuoted bytes → StaysQuoted (92 ∷ b ∷ bytes)
+  takes_none : StaysQuoted (codes "\\")
+  taken_open : (b : ℕ) {bytes : List ℕ} → StaysQuoted bytes → StaysQuoted (codes "\\" ++ b ∷ bytes)
   quoted_open : (b : ℕ) {bytes : List ℕ} → b ≢ 34 → b ≢ 92 → StaysQuoted bytes → StaysQuoted (b ∷ bytes)
 
 -- plain bytes, which are no blanks and no quotes, and quoted parts
 pub data AreParts : List ℕ → Type 0 where
   no_part : AreParts []
   plain_byte : (b : ℕ) {bytes : List ℕ} → IsFalse (is_blank b) → b ≢ 34 → AreParts bytes → AreParts (b ∷ bytes)
-  quoted_part : (part : List ℕ) {bytes : List ℕ} → EndsQuoted part → AreParts bytes → AreParts (34 ∷ part ++ bytes)
+  quoted_part : (part : List ℕ) {bytes : List ℕ} → EndsQuoted part → AreParts bytes → AreParts (codes "\"" ++ part ++ bytes)
 
 -- a cell is one or more of these
 abbrev pub IsCell : List ℕ → Type 0
@@ -50,9 +50,9 @@ pub data AreCells : List ℕ → List (List ℕ) → Type 0 where
 
 -- a line that ends inside a quoted part
 pub data IsUnclosed : List ℕ → Type 0 where
-  open_part : {bytes : List ℕ} → StaysQuoted bytes → IsUnclosed (34 ∷ bytes)
+  open_part : {bytes : List ℕ} → StaysQuoted bytes → IsUnclosed (codes "\"" ++ bytes)
   behind_byte : (b : ℕ) {line : List ℕ} → b ≢ 34 → IsUnclosed line → IsUnclosed (b ∷ line)
-  behind_part : (part : List ℕ) {line : List ℕ} → EndsQuoted part → IsUnclosed line → IsUnclosed (34 ∷ part ++ line)
+  behind_part : (part : List ℕ) {line : List ℕ} → EndsQuoted part → IsUnclosed line → IsUnclosed (codes "\"" ++ part ++ line)
 
 -- ---- values
 
@@ -68,7 +68,7 @@ pub data SpellsNumber : List ℕ → ℕ → Type 0 where
 -- an int is a number, or one behind a minus, from -2^63 to 2^63 - 1
 pub data SpellsInt : List ℕ → ℤ → Type 0 where
   plain_int : {cell : List ℕ} {n : ℕ} → SpellsNumber cell n → n ≤ 2 ^ 63 - 1 → SpellsInt cell (pos n)
-  minus_int : {digits : List ℕ} {n : ℕ} → SpellsNumber digits n → n ≤ 2 ^ 63 → SpellsInt (45 ∷ digits) (neg_ℤ (pos n))
+  minus_int : {digits : List ℕ} {n : ℕ} → SpellsNumber digits n → n ≤ 2 ^ 63 → SpellsInt (codes "-" ++ digits) (neg_ℤ (pos n))
 
 -- the byte that a backslash and this one stand for
 pub data EscapesTo : ℕ → ℕ → Type 0 where
@@ -86,22 +86,22 @@ pub data IsHexDigit : ℕ → ℕ → Type 0 where
 
 -- the text that parts and a closing quote spell: a byte other than quote and backslash stands for itself
 pub data SpellsParts : List ℕ → List ℕ → Type 0 where
-  closing_quote : SpellsParts (34 ∷ []) []
+  closing_quote : SpellsParts (codes "\"") []
   byte_itself : (b : ℕ) {bytes text : List ℕ} → b ≢ 34 → b ≢ 92 → SpellsParts bytes text → SpellsParts (b ∷ bytes) (b ∷ text)
-  escaped_byte : (e b : ℕ) {bytes text : List ℕ} → EscapesTo e b → SpellsParts bytes text → SpellsParts (92 ∷ e ∷ bytes) (b ∷ text)
-  hex_byte : (h l high low : ℕ) {bytes text : List ℕ} → IsHexDigit h high → IsHexDigit l low → SpellsParts bytes text → SpellsParts (92 ∷ 120 ∷ h ∷ l ∷ bytes) ((16 * high + low) ∷ text)
+  escaped_byte : (e b : ℕ) {bytes text : List ℕ} → EscapesTo e b → SpellsParts bytes text → SpellsParts (codes "\\" ++ e ∷ bytes) (b ∷ text)
+  hex_byte : (h l high low : ℕ) {bytes text : List ℕ} → IsHexDigit h high → IsHexDigit l low → SpellsParts bytes text → SpellsParts (codes "\\x" ++ h ∷ l ∷ bytes) ((16 * high + low) ∷ text)
 
 -- the value that a cell spells
 pub data SpellsValue : List ℕ → Value → Type 0 where
   spells_int : {cell : List ℕ} {n : ℤ} → SpellsInt cell n → SpellsValue cell (Int n)
-  spells_text : {parts text : List ℕ} → SpellsParts parts text → SpellsValue (34 ∷ parts) (Text text)
+  spells_text : {parts text : List ℕ} → SpellsParts parts text → SpellsValue (codes "\"" ++ parts) (Text text)
 
 -- ---- patterns
 
 -- one or more values, parted by vertical bars
 pub data SpellsMembers : List ℕ → List Value → Type 0 where
   one_member : {cell : List ℕ} {value : Value} → SpellsValue cell value → SpellsMembers cell (value ∷ [])
-  more_members : {cell cells : List ℕ} {value : Value} {values : List Value} → SpellsValue cell value → SpellsMembers cells values → SpellsMembers (cell ++ 124 ∷ cells) (value ∷ values)
+  more_members : {cell cells : List ℕ} {value : Value} {values : List Value} → SpellsValue cell value → SpellsMembers cells values → SpellsMembers (cell ++ (codes "|" ++ cells)) (value ∷ values)
 
 -- an end of a range: a value, or nothing
 pub data SpellsEnd : List ℕ → Option Value → Type 0 where
@@ -112,8 +112,8 @@ pub data SpellsEnd : List ℕ → Option Value → Type 0 where
 pub data SpellsForm : List ℕ → Form → Type 0 where
   spells_star : SpellsForm (codes "*") Wild
   spells_empty : SpellsForm (codes "{}") (Members [])
-  spells_list : {cells : List ℕ} {values : List Value} → SpellsMembers cells values → SpellsForm (123 ∷ cells ++ 125 ∷ []) (Members values)
-  spells_range : {low high : List ℕ} {from to : Option Value} → SpellsEnd low from → SpellsEnd high to → SpellsForm (91 ∷ low ++ 46 ∷ 46 ∷ high ++ 93 ∷ []) (Range from to)
+  spells_list : {cells : List ℕ} {values : List Value} → SpellsMembers cells values → SpellsForm (codes "{" ++ cells ++ codes "}") (Members values)
+  spells_range : {low high : List ℕ} {from to : Option Value} → SpellsEnd low from → SpellsEnd high to → SpellsForm (codes "[" ++ (low ++ (codes ".." ++ high)) ++ codes "]") (Range from to)
   spells_constant : {cell : List ℕ} {value : Value} → SpellsValue cell value → SpellsForm cell (Constant value)
 
 -- ---- elements
@@ -147,16 +147,16 @@ pub data IsFirstFault {A : Type 0} (Spells : List ℕ → A → Type 0) (IsOf : 
   behind_column : (n : ℕ) (column : Column) (columns : List Column) (cell : List ℕ) (cells : List (List ℕ)) (item : A) (why : Reject) → Spells cell item → IsOf item column.kind → IsFirstFault Spells IsOf (n + 1) columns cells why → IsFirstFault Spells IsOf n (column ∷ columns) (cell ∷ cells) why
 
 -- the line is not skipped, has at most 128 cells, the first of which is this tag, and these others
-abbrev pub IsTagged : ℕ → List ℕ → List (List ℕ) → Type 0
-IsTagged tag line cells = IsFalse (is_skipped line) × AreCells line ((tag ∷ []) ∷ cells) × (length cells < 128)
+abbrev pub IsTagged : List ℕ → List ℕ → List (List ℕ) → Type 0
+IsTagged tag line cells = IsFalse (is_skipped line) × AreCells line (tag ∷ cells) × (length cells < 128)
 
 -- the tag is `t`, and the cells spell the row's values
 abbrev pub IsTupleLine : List Column → List ℕ → List Value → Type 0
-IsTupleLine columns line row = (cells : List (List ℕ)) × IsTagged 116 line cells × EachSpells SpellsIn columns cells row
+IsTupleLine columns line row = (cells : List (List ℕ)) × IsTagged (codes "t") line cells × EachSpells SpellsIn columns cells row
 
 -- the tag is `p`, and the cells spell the punctuation's patterns
 abbrev pub IsPunctLine : List Column → List ℕ → List Pattern → Type 0
-IsPunctLine columns line punct = (cells : List (List ℕ)) × IsTagged 112 line cells × EachSpells SpellsPattern columns cells punct
+IsPunctLine columns line punct = (cells : List (List ℕ)) × IsTagged (codes "p") line cells × EachSpells SpellsPattern columns cells punct
 
 -- the first cell is neither `t` nor `p`
 abbrev pub IsUntagged : List (List ℕ) → Type 0
@@ -172,15 +172,15 @@ IsNoElement line =
 -- the line has a tag, and behind it not as many cells as there are columns
 abbrev pub HasOtherWidth : List Column → List ℕ → ℕ → ℕ → Type 0
 HasOtherWidth columns line want got =
-    (tag : ℕ) × (cells : List (List ℕ)) × ((tag ≡ 116) ⊎ (tag ≡ 112)) × IsTagged tag line cells
+    (tag : List ℕ) × (cells : List (List ℕ)) × ((tag ≡ codes "t") ⊎ (tag ≡ codes "p")) × IsTagged tag line cells
     × (length cells ≢ length columns) × (want ≡ width columns) × (got ≡ length cells)
 
 -- the line has a tag and a cell for each column, and this is its first fault
 abbrev pub HasFault : List Column → List ℕ → Reject → Type 0
 HasFault columns line why =
     (cells : List (List ℕ)) × (length cells ≡ length columns)
-    × ((IsTagged 116 line cells × IsFirstFault SpellsValue HasKind 1 columns cells why)
-    ⊎ (IsTagged 112 line cells × IsFirstFault SpellsForm HasFormKind 1 columns cells why))
+    × ((IsTagged (codes "t") line cells × IsFirstFault SpellsValue HasKind 1 columns cells why)
+    ⊎ (IsTagged (codes "p") line cells × IsFirstFault SpellsForm HasFormKind 1 columns cells why))
 
 -- what a line says of a stream with these columns
 abbrev pub ReadsAs : List Column → List ℕ → Read → Type 0

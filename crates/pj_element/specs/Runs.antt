@@ -1,5 +1,5 @@
 -- Lists of elements: their closing and their text.
-use Rattle.std.specs.Prelude.{ℕ, List, [], ◌∷◌, ◌++◌, map, length}
+use Rattle.std.specs.Prelude.{ℕ, List, [], ◌∷◌, ◌++◌, map, length, codes}
 use Rattle.pj_shape.specs.declared.columns.Column.{Column}
 use Rattle.pj_pattern.specs.declared.element.Element.{Element}
 use Rattle.pj_pattern.specs.declared.element.Element.TheVariants.{Tuple, Punct}
@@ -18,7 +18,7 @@ element_line (Tuple row) = row_line row
 element_line (Punct punct) = punct_line punct
 
 abbrev pub fed : List ℕ → List ℕ
-fed line = line ++ 10 ∷ []
+fed line = line ++ codes "\n"
 
 -- the lines of elements, each with its line feed
 abbrev pub element_lines : List Element → List (List ℕ)

@@ -1,12 +1,12 @@
 -- A join of three inputs, for the tests.
-use Rattle.std.specs.Prelude.{ℕ, Bool, true, false, List, [], ◌∷◌}
+use Rattle.std.specs.Prelude.{ℕ, Bool, true, false, List, [], ◌∷◌, codes}
 use Rattle.pj_value.specs.declared.values.Kind.TheVariants.{Int}
 use Rattle.pj_shape.specs.declared.columns.Column.{Column}
 use Rattle.pj_shape.specs.declared.joins.ClassCol.{ClassCol}
 use Rattle.pj_shape.specs.declared.joins.JoinSpec.{JoinSpec}
 
 abbrev pub number : Column
-number = record { name = 110 ∷ []; kind = Int }
+number = record { name = codes "n"; kind = Int }
 
 abbrev pub pair : List Column
 pair = number ∷ number ∷ []

@@ -39,7 +39,7 @@ kind_word Text = codes "text"
 
 -- `COL:KIND`
 abbrev pub column_cell : ColumnWord → List ℕ
-column_cell column = column.name ++ 58 ∷ kind_word column.kind
+column_cell column = column.name ++ (codes ":" ++ kind_word column.kind)
 
 -- `+` or `_`
 abbrev pub mark_cell : Bool → List ℕ
@@ -57,7 +57,7 @@ test_cells (word ∷ words) = word.column ∷ test_cell word.test ∷ test_cells
 
 -- `OLD` where the name stays, else `NEW=OLD`
 abbrev pub renamed_cell : Renamed → List ℕ
-renamed_cell word = if bytes_eq word.new word.old then word.old else word.new ++ 61 ∷ word.old
+renamed_cell word = if bytes_eq word.new word.old then word.old else word.new ++ (codes "=" ++ word.old)
 
 -- names, parted by `=`
 abbrev pub class_cell : List (List ℕ) → List ℕ
@@ -71,7 +71,7 @@ agg_cell (Max column) = codes "max:" ++ column
 
 -- `NEW=AGG`
 abbrev pub named_agg_cell : NamedAgg → List ℕ
-named_agg_cell word = word.name ++ 61 ∷ agg_cell word.agg
+named_agg_cell word = word.name ++ (codes "=" ++ agg_cell word.agg)
 
 -- ---- lines
 
@@ -94,7 +94,7 @@ spell statement = parted 32 (cells_in statement)
 
 -- the line with its line feed
 abbrev pub fed : Statement → List ℕ
-fed statement = spell statement ++ 10 ∷ []
+fed statement = spell statement ++ codes "\n"
 
 -- the lines of these statements
 abbrev pub lines_of : List Statement → List ℕ

@@ -23,11 +23,11 @@ spelled_byte b =
 -- an integer in decimals, a text in quotes
 abbrev pub value_spelling : Value → List ℕ
 value_spelling (Int n) = signed_decimal n
-value_spelling (Text bytes) = 34 ∷ flat_map spelled_byte bytes ++ 34 ∷ []
+value_spelling (Text bytes) = codes "\"" ++ flat_map spelled_byte bytes ++ codes "\""
 
 -- the spellings of values, each behind a space
 abbrev pub values_spelling : List Value → List ℕ
-values_spelling values = flat_map (λ v. 32 ∷ value_spelling v) values
+values_spelling values = flat_map (λ v. codes " " ++ value_spelling v) values
 
 -- the byte stands for itself inside quotes
 abbrev pub plain : ℕ → Bool
