@@ -114,7 +114,7 @@ climb-nothing (suc d) limit [] = refl
 climb-nothing (suc d) limit (level ∷ levels) = refl
 
 -- the level after elements that went up into it
-abbrev passed_all : Level → List Element → Level
+abbrev pub passed_all : Level → List Element → Level
 passed_all level es = record level { operator = after_all level.operator (map (Comes level.input) es); count = level.count + length es }
 
 -- where elements stay below the limit, the levels above take what the level hands up
@@ -123,7 +123,7 @@ pub record StaysBelow (d limit : ℕ) (level : Level) (levels : List Level) (es 
   pub is : hs ≡ passed_all level es ∷ above
   pub climbs : climb d limit levels (hands_all level.operator (map (Comes level.input) es)) ≡ Below above
 
-each-below : (d limit : ℕ) (level : Level) (levels : List Level) (es : List Element) (hs : List Level) → climb_each (climb d limit) limit level levels es ≡ Below hs → StaysBelow d limit level levels es hs
+pub each-below : (d limit : ℕ) (level : Level) (levels : List Level) (es : List Element) (hs : List Level) → climb_each (climb d limit) limit level levels es ≡ Below hs → StaysBelow d limit level levels es hs
 each-below d limit level levels [] hs e =
     let same : level ∷ levels ≡ hs = cc e in
     let z : level.count + 0 ≡ level.count = omega arith in

@@ -108,7 +108,7 @@ from_input k (Comes i e ∷ ls) = cond (eqb i k) (e ∷ from_input k ls) (from_i
 from_input k (Fed e ∷ ls) = from_input k ls
 from_input k (Own s ∷ ls) = from_input k ls
 
-from-append : (k : ℕ) (ls ks : List Local) → from_input k (ls ++ ks) ≡ from_input k ls ++ from_input k ks
+pub from-append : (k : ℕ) (ls ks : List Local) → from_input k (ls ++ ks) ≡ from_input k ls ++ from_input k ks
 from-append k [] ks = refl
 from-append k (Comes i e ∷ ls) ks = go (eqb i k) (from-append k ls ks)
   where
@@ -145,7 +145,7 @@ from-later k j (m ∷ ms) done lt =
     from-append k (map (Comes j) (get_or done m [])) (brought_from (j + 1) ms done)
     ∙ ap₂ (λ (xs ys : List Element). xs ++ ys) (from-other k j (get_or done m []) (ne_eqb j k (λ q. let l : k < k = omega (arith, lt, q) in omega arith))) (from-later k (j + 1) ms done (omega arith))
 
-from-brought : (j i : ℕ) (ms : List ℕ) (done : List (List Element)) → i < length ms → from_input (j + i) (brought_from j ms done) ≡ get_or done (get_or ms i 0) []
+pub from-brought : (j i : ℕ) (ms : List ℕ) (done : List (List Element)) → i < length ms → from_input (j + i) (brought_from j ms done) ≡ get_or done (get_or ms i 0) []
 from-brought j i [] done lt = absurd (omega arith)
 from-brought j zero (m ∷ ms) done lt =
     let z : j + 0 ≡ j = omega arith in

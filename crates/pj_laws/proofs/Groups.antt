@@ -24,7 +24,7 @@ use Rattle.pj_laws.proofs.Order.{least-same, greatest-same}
 use Rattle.pj_value.proofs.Members.{In-filter, In-filter_from, any_at, none_at, filter-agree, filter-filter, filter-all, map-same}
 
 -- no list of the list stands in it again
-abbrev AreApart : List (List Value) → Type 0
+abbrev pub AreApart : List (List Value) → Type 0
 AreApart [] = Unit {0}
 AreApart (x ∷ xs) = (In x xs → ⊥) × AreApart xs
 
@@ -74,7 +74,7 @@ weigh-members f (x ∷ xs) ys a b to from =
 
 -- ---- keys
 
-abbrev key_of : GroupSpec → List Value → List Value
+abbrev pub key_of : GroupSpec → List Value → List Value
 key_of spec row = picked_cells spec.keys row
 
 key-to : (seen : List (List Value)) (spec : GroupSpec) (rows : List (List Value)) (row : List Value) → In row rows → In (key_of spec row) seen ⊎ In (key_of spec row) (keys_from seen spec rows)
@@ -101,7 +101,7 @@ keys-fresh seen spec (r ∷ rows) key h m = go (list_any (row_eq (key_of spec r)
     go false e (inl q) f g = none_at (row_eq (key_of spec r)) seen key e m (ap (row_eq (key_of spec r)) (sym q) ∙ row_equal_itself (key_of spec r))
     go false e (inr k) f g = g k
 
-keys-apart : (seen : List (List Value)) (spec : GroupSpec) (rows : List (List Value)) → AreApart (keys_from seen spec rows)
+pub keys-apart : (seen : List (List Value)) (spec : GroupSpec) (rows : List (List Value)) → AreApart (keys_from seen spec rows)
 keys-apart seen spec [] = tt
 keys-apart seen spec (r ∷ rows) = go (list_any (row_eq (key_of spec r)) seen) (keys-apart seen spec rows) (keys-apart (key_of spec r ∷ seen) spec rows)
   where
@@ -195,11 +195,11 @@ abbrev pub group_end : GroupSpec → List (List Value) → List Element → List
 group_end spec rows [] = rows
 group_end spec rows (e ∷ es) = group_end spec (group_after spec rows e) es
 
-rows-map : (rows : List (List Value)) → rows_of (map Tuple rows) ≡ rows
+pub rows-map : (rows : List (List Value)) → rows_of (map Tuple rows) ≡ rows
 rows-map [] = refl
 rows-map (row ∷ rows) = ap (λ rs. row ∷ rs) (rows-map rows)
 
-row-in : (row : List Value) (es : List Element) → In row (rows_of es) → In (Tuple row) es
+pub row-in : (row : List Value) (es : List Element) → In row (rows_of es) → In (Tuple row) es
 row-in row [] h = absurd h
 row-in row (Tuple r ∷ es) (inl q) = inl (ap Tuple q)
 row-in row (Tuple r ∷ es) (inr h) = inr (row-in row es h)

@@ -8,11 +8,12 @@ use Rattle.pj_shape.specs.declared.columns.Column.{Column}
 use Rattle.pj_laws.specs.Patterns.{all_wild}
 use Rattle.pj_value.specs.Bags.{weigh}
 use Rattle.pj_laws.specs.Join.{In, Element, Tuple, Punct, AllGiven, IsSettled, has, rows_of}
-use Rattle.pj_laws.specs.Plan.{Operator, Stream, Select, Project, Union, Join, Group, Node, Local, Comes, Fed, Own, after, after_all, plan_run, fed_to, answers, HasGiven, IsClosedBy, IsDone, IsCompleteRun, ArePlanned, operator_at}
+use Rattle.pj_laws.specs.Plan.{Operator, Stream, Select, Project, Union, Join, Group, Node, Local, Comes, Fed, Own, after, after_all, fed_to, answers, HasGiven, IsClosedBy, IsDone, IsCompleteRun, ArePlanned, operator_at}
 use Rattle.pj_laws.specs.History.{reached_of, Entry, Event, Arrive, Taken, Given, Swept, Drain, Halt, Look, Stopped, Idle, Out, Stop, is_stream, streams_from, streams_of, stream_node, root_of, state_in, nodes_by, gained, Reached, begun, closed_after, undrained_after, halted_after, stop_after, next, reached_from, nodes_from, steps_from, Closes, IsMarked, IsEntryAllowed, AreEntriesLegal, IsLegal, IsComplete}
 use Rattle.pj_laws.specs.Outcomes.{Arrival, arrivals_by, arrivals_at, stored_at, peak_of, outputs_of, drained_by, drained_from, element_at, elements_of, place_in, list_at, answers_of, lists_of}
 use Rattle.pj_laws.specs.OneThread.{schema_of}
 use Rattle.pj_laws.specs.HistoryLaws.{HandsOutLawfully, IsNoGroup, HasNoGroup, GivenIsAnswer, Propagates, AllPropagate, CompleteIsAnswer, AddsEntry, AreMadeBy, DrainsHandOutAll, GrowsLegally, FrontsAreLegal, TraceAddsNotes}
+use Rattle.pj_laws.specs.Finality.{EmptiedIsAnswer}
 use Rattle.pj_pattern.specs.Elements.{IsLawful}
 use Rattle.pj_laws.proofs.Whole.{plan-lawful}
 use Rattle.pj_laws.proofs.WholeAnswers.{rows-are-answers}
@@ -65,18 +66,19 @@ has-given (Union n u) g a = tt
 has-given (Join spec s) g a = a
 has-given (Group spec rows) g a = absurd g
 
-pub given-is-answer : (plan : List Node) → ArePlanned [] plan → 0 < length plan → HasNoGroup plan → GivenIsAnswer plan
-given-is-answer plan planned lt groups trace h l given =
-    (λ f.
+pub emptied-is-answer : (plan : List Node) → ArePlanned [] plan → 0 < length plan → EmptiedIsAnswer plan
+emptied-is-answer plan planned lt trace h l given f =
     ap (λ es. weigh f (rows_of es)) (outputs-handed trace plan h)
-    ∙ rows-are-answers plan planned (steps_from plan h) (legal-steps (begun plan) h l) all (root_of plan) (root-there plan lt) f
-    ∙ ap (λ evs. weigh f (get_or evs (root_of plan) [])) (answers-are plan h l))
+    ∙ rows-are-answers plan planned (steps_from plan h) (legal-steps (begun plan) h l) (λ n k. subst (λ (nodes : List Node). HasGiven (operator_at nodes n)) (nodes-run plan h) (given n k)) (root_of plan) (root-there plan lt) f
+    ∙ ap (λ evs. weigh f (get_or evs (root_of plan) [])) (answers-are plan h l)
+
+pub given-is-answer : (plan : List Node) → ArePlanned [] plan → 0 < length plan → HasNoGroup plan → GivenIsAnswer plan
+given-is-answer plan planned lt groups trace h l given = emptied-is-answer plan planned lt trace h l all
   where
-    all : (n : ℕ) → n < length plan → HasGiven (operator_at (plan_run plan (steps_from plan h)) n)
+    all : (n : ℕ) → n < length plan → HasGiven (operator_at (nodes_from plan h) n)
     all n k =
         let o = operator-from plan h n k in
-        subst (λ (nodes : List Node). HasGiven (operator_at nodes n)) (nodes-run plan h)
-        (has-given (operator_at (nodes_from plan h) n) (subst IsNoGroup (sym o.1) (no_group-all (operator_at plan n) o.0 (groups n k))) (given n k))
+        has-given (operator_at (nodes_from plan h) n) (subst IsNoGroup (sym o.1) (no_group-all (operator_at plan n) o.0 (groups n k))) (given n k)
 
 -- ---- complete histories
 

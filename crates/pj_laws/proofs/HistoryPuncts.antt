@@ -50,7 +50,7 @@ puncts-agree f g n done (node ∷ nodes) long same =
     here : is_stream node.operator ≡ true → f (length done) ≡ g (length done)
     here e = ap f long ∙ same n (first (is_stream node.operator) e) ∙ ap g (sym long)
 
-puncts-are : (plan : List Node) (h : List Entry) → IsLegal plan h → puncts_from (λ n. puncts_of (fed_to n (steps_from plan h))) [] plan ≡ puncts_answers plan (puncts_lists plan h)
+pub puncts-are : (plan : List Node) (h : List Entry) → IsLegal plan h → puncts_from (λ n. puncts_of (fed_to n (steps_from plan h))) [] plan ≡ puncts_answers plan (puncts_lists plan h)
 puncts-are plan h l = puncts-agree f g 0 [] plan refl same
   where
     S : List ℕ

@@ -37,9 +37,11 @@ pub mod Follow
 pub mod JoinRuns
 pub mod NextProbe
 pub mod Passes
+pub mod Idle
 pub mod SettledRun
 pub mod LastTurn
 pub mod SweptRun
+pub mod SettlingHistories
 pub mod JoinSteps
 pub mod HistoryPuncts
 pub mod KeepsJoins
@@ -57,3 +59,6 @@ pub mod JoinedClimb
 pub mod JoinedMoves
 pub mod ClimbExample
 pub mod Example
+pub mod Reaching
+pub mod Extensions
+pub mod FinalRows

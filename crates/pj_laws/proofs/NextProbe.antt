@@ -12,6 +12,7 @@ use Rattle.pj_laws.specs.HistoryLaws.{probe_of, ProbesGoOn, NoneIsPending}
 use Rattle.pj_laws.proofs.Bags.{AreDistinct}
 use Rattle.pj_laws.proofs.Stand.{lacking-cons}
 use Rattle.pj_laws.proofs.Glue.{length-moved}
+use Rattle.pj_laws.proofs.Histories.{nodes-append}
 use Rattle.pj_laws.proofs.Nodes.{AreEmpty, empty-none, empty-push, brought-none}
 use Rattle.pj_laws.proofs.Probes.{AllOperators, all-at, steady-tuple, lacking-distinct, own-other}
 
@@ -230,3 +231,12 @@ none-from front (node ∷ nodes) =
 
 pub none-is-pending : (nodes : List Node) → NoneIsPending nodes
 none-is-pending nodes = none-from [] nodes
+
+-- ---- what one probe leaves
+
+-- behind the probe of its least ticket the others of a join are pending
+pub pending-left : (plan : List Node) → ArePlanned [] plan → (history : List Entry) (join ticket : ℕ) (others : List ℕ) → pending_at (nodes_from plan history) join ≡ ticket ∷ others
+    → pending_at (nodes_from plan (history ++ probes_at join (ticket ∷ []))) join ≡ others
+pending-left plan planned history join ticket others e =
+    ap (λ (nodes : List Node). pending_at nodes join) (nodes-append plan history (probes_at join (ticket ∷ [])))
+    ∙ probed-here (nodes_from plan history) join ticket others (ticketed-from plan history (planned-ticketed [] plan planned)) e

@@ -37,7 +37,7 @@ sweeps-append nodes (p ∷ xs) ys =
     ∙ sym (append_assoc here (sweeps_at (nodes_from nodes here) xs) (sweeps_at (nodes_from (nodes_from nodes here) (sweeps_at (nodes_from nodes here) xs)) ys))
     ∙ ap (λ (last : List Node). (here ++ sweeps_at (nodes_from nodes here) xs) ++ sweeps_at last ys) (sym (nodes-append nodes here (sweeps_at (nodes_from nodes here) xs)))
 
-steps-both : (nodes : List Node) (xs ys : List Entry) → steps_from nodes (xs ++ ys) ≡ steps_from nodes xs ++ steps_from (nodes_from nodes xs) ys
+pub steps-both : (nodes : List Node) (xs ys : List Entry) → steps_from nodes (xs ++ ys) ≡ steps_from nodes xs ++ steps_from (nodes_from nodes xs) ys
 steps-both nodes [] ys = refl
 steps-both nodes (x ∷ xs) ys = ap (λ (es : List PlanStep). step_of nodes x.event ∷ es) (steps-both (nodes_by nodes x.event) xs ys)
 
@@ -47,7 +47,7 @@ handed-both n nodes (x ∷ xs) ys =
     ap (λ (es : List Element). get_or (batches x [] nodes) n [] ++ es) (handed-both n (moved x [] nodes) xs ys)
     ∙ sym (append_assoc (get_or (batches x [] nodes) n []) (handed n (moved x [] nodes) xs) (handed n (plan_run (moved x [] nodes) xs) ys))
 
-fed-both : (n : ℕ) (xs ys : List PlanStep) → fed_to n (xs ++ ys) ≡ fed_to n xs ++ fed_to n ys
+pub fed-both : (n : ℕ) (xs ys : List PlanStep) → fed_to n (xs ++ ys) ≡ fed_to n xs ++ fed_to n ys
 fed-both n [] ys = refl
 fed-both n (Feed s e ∷ xs) ys = go (eqb s n) (fed-both n xs ys)
   where
@@ -79,7 +79,7 @@ late-on plan h es i a r = record {
     still : IsStill (reached_of false plan h) es
     still = acts-still (reached_of false plan h) es i.on (subst (λ (nodes : List Node). AreActsLegal nodes es) (sym (reached-nodes false (begun plan) h)) a)
 
-wild-on : (front : List Node) (ws : List ℕ) (plan : List Node) (h es : List Entry) → AreWild front ws (steps_from plan h) → AreWild front ws (steps_from plan (h ++ es))
+pub wild-on : (front : List Node) (ws : List ℕ) (plan : List Node) (h es : List Entry) → AreWild front ws (steps_from plan h) → AreWild front ws (steps_from plan (h ++ es))
 wild-on front ws plan h es w n lt =
     subst (HasWild (get_or ws n 0)) (sym (ap (handed n front) (steps-both plan h es) ∙ handed-both n front (steps_from plan h) (steps_from (nodes_from plan h) es)))
     (In-append_left (Punct (all_wild (get_or ws n 0))) (handed n front (steps_from plan h)) (handed n (plan_run front (steps_from plan h)) (steps_from (nodes_from plan h) es)) (w n lt))
@@ -91,7 +91,7 @@ abbrev pub NoneWaits : Operator → Type 0
 NoneWaits m = (state_in m).waiting ≡ []
 
 -- it is no join
-abbrev IsNoJoin : Operator → Type 0
+abbrev pub IsNoJoin : Operator → Type 0
 IsNoJoin (Join spec s) = ⊥
 IsNoJoin _ = Unit {0}
 
@@ -109,11 +109,11 @@ no_join-after (Group spec rows) (Comes k e) g = tt
 no_join-after (Group spec rows) (Fed e) g = tt
 no_join-after (Group spec rows) (Own s) g = tt
 
-no_join-all : (m : Operator) (ls : List Local) → IsNoJoin m → IsNoJoin (after_all m ls)
+pub no_join-all : (m : Operator) (ls : List Local) → IsNoJoin m → IsNoJoin (after_all m ls)
 no_join-all m [] g = g
 no_join-all m (l ∷ ls) g = no_join-all (after m l) ls (no_join-after m l g)
 
-no_join-waits : (m : Operator) → IsNoJoin m → NoneWaits m
+pub no_join-waits : (m : Operator) → IsNoJoin m → NoneWaits m
 no_join-waits (Stream schema sent) g = refl
 no_join-waits (Select test) g = refl
 no_join-waits (Project columns) g = refl

@@ -43,7 +43,7 @@ places-moved n e done [] = refl
 places-moved n e done (node ∷ nodes) =
     ap₂ (λ (xs ys : List Place). xs ++ ys) (places-all n node.operator (locals e done node)) (places-moved (n + 1) e (done ++ handed_at e done node ∷ []) nodes)
 
-places-same : (nodes : List Node) (h : List Entry) → places_from 0 (nodes_from nodes h) ≡ places_from 0 nodes
+pub places-same : (nodes : List Node) (h : List Entry) → places_from 0 (nodes_from nodes h) ≡ places_from 0 nodes
 places-same nodes [] = refl
 places-same nodes (entry ∷ h) = places-same (nodes_by nodes entry.event) h ∙ places-moved 0 (step_of nodes entry.event) [] nodes
 

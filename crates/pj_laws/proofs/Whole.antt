@@ -39,7 +39,7 @@ abbrev pub AreLocalsAllowed : Operator → List Local → Type 0
 AreLocalsAllowed m [] = Unit {0}
 AreLocalsAllowed m (l ∷ ls) = IsLocalAllowed m l × AreLocalsAllowed (after m l) ls
 
-allowed-append : (m : Operator) (ls ks : List Local) → AreLocalsAllowed m ls → AreLocalsAllowed (after_all m ls) ks → AreLocalsAllowed m (ls ++ ks)
+pub allowed-append : (m : Operator) (ls ks : List Local) → AreLocalsAllowed m ls → AreLocalsAllowed (after_all m ls) ks → AreLocalsAllowed m (ls ++ ks)
 allowed-append m [] ks a b = b
 allowed-append m (l ∷ ls) ks a b = (a.0, allowed-append (after m l) ls ks a.1 b)
 
@@ -55,7 +55,7 @@ all-come : (m : Operator) (k : ℕ) (xs : List Element) → AreLocalsAllowed m (
 all-come m k [] = tt
 all-come m k (x ∷ xs) = (comes-allowed m k x, all-come (after m (Comes k x)) k xs)
 
-brought-allowed : (m : Operator) (k : ℕ) (ms : List ℕ) (done : List (List Element)) → AreLocalsAllowed m (brought_from k ms done)
+pub brought-allowed : (m : Operator) (k : ℕ) (ms : List ℕ) (done : List (List Element)) → AreLocalsAllowed m (brought_from k ms done)
 brought-allowed m k [] done = tt
 brought-allowed m k (i ∷ ms) done = allowed-append m (map (Comes k) (get_or done i [])) (brought_from (k + 1) ms done) (all-come m k (get_or done i [])) (brought-allowed (after_all m (map (Comes k) (get_or done i []))) (k + 1) ms done)
 
@@ -110,13 +110,13 @@ locals-allowed front node back (e ∷ es) l =
 
 -- ---- what comes to a place
 
-within-append : (n : ℕ) (ls ks : List Local) → AreWithin n ls → AreWithin n ks → AreWithin n (ls ++ ks)
+pub within-append : (n : ℕ) (ls ks : List Local) → AreWithin n ls → AreWithin n ks → AreWithin n (ls ++ ks)
 within-append n [] ks a b = b
 within-append n (Comes k e ∷ ls) ks a b = (a.0, within-append n ls ks a.1 b)
 within-append n (Fed e ∷ ls) ks a b = within-append n ls ks a b
 within-append n (Own s ∷ ls) ks a b = within-append n ls ks a b
 
-within-brought : (n k : ℕ) (ms : List ℕ) (done : List (List Element)) → k + length ms ≤ n → AreWithin n (brought_from k ms done)
+pub within-brought : (n k : ℕ) (ms : List ℕ) (done : List (List Element)) → k + length ms ≤ n → AreWithin n (brought_from k ms done)
 within-brought n k [] done l = tt
 within-brought n k (m ∷ ms) done l = within-append n (map (Comes k) (get_or done m [])) (brought_from (k + 1) ms done) (same (get_or done m [])) (within-brought n (k + 1) ms done (omega arith))
   where
@@ -150,7 +150,7 @@ abbrev pub IsGood : ℕ → List Element → Type 0
 IsGood width es = IsLawful es × AllFit width es
 
 -- what is clear of lawful elements is lawful behind them
-clear-lawful : (sent : List Element) (e : Element) → IsLawful sent → IsClearOf sent e → IsLawful (sent ++ e ∷ [])
+pub clear-lawful : (sent : List Element) (e : Element) → IsLawful sent → IsClearOf sent e → IsLawful (sent ++ e ∷ [])
 clear-lawful sent (Tuple row) l c = lawful_append sent (Tuple row ∷ []) l tt (λ ps h. (c ps h, tt))
 clear-lawful sent (Punct patterns) l c = lawful_append sent (Punct patterns ∷ []) l (tt, tt) (λ ps h. tt)
 

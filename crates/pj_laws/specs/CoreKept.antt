@@ -1,6 +1,5 @@
 -- What a core has to keep of a history.
 use Rattle.std.specs.Prelude.{ℕ, ◌≡◌, Bool, List, [], ◌∷◌, map, length, Option}
-use Rattle.pj_value.specs.declared.values.Value.{Value}
 use Rattle.std.specs.Prelude.{Some, None, ◌++◌, ◌<◌, ◌≤◌, slice_index_or}
 use Rattle.pj_shape.specs.declared.columns.Column.{Column}
 use Rattle.pj_shape.specs.Sound.{IsSoundSpec}
@@ -10,13 +9,14 @@ use Rattle.pj_laws.specs.Operators.{UnionState}
 use Rattle.pj_laws.specs.Plan.{Operator, Stream, Select, Project, Union, Join, Group, Node}
 use Rattle.pj_laws.specs.History.{Entry, Out, Stop, reached_of, nodes_from}
 use Rattle.pj_laws.specs.Outcomes.{arrivals_at, peak_of}
+use Rattle.pj_laws.specs.Tables.{GroupTable, table_of}
 
 -- what is kept of an operator
 pub data KeptOperator : Type 0 where
   NothingKept : KeptOperator
   UnionKept : UnionState → KeptOperator
   JoinKept : KeptState → KeptOperator
-  GroupKept : List (List Value) → KeptOperator
+  GroupKept : GroupTable → KeptOperator
 
 abbrev pub kept_in : Operator → KeptOperator
 kept_in (Stream schema sent) = NothingKept
@@ -24,7 +24,7 @@ kept_in (Select test) = NothingKept
 kept_in (Project columns) = NothingKept
 kept_in (Union n u) = UnionKept u
 kept_in (Join spec s) = JoinKept (kept_of s)
-kept_in (Group spec rows) = GroupKept rows
+kept_in (Group spec rows) = GroupKept (table_of spec rows)
 
 -- what each node keeps, how many elements have reached it, the greatest number of tuples stored there,
 -- the streams that are closed, the outputs that are not drained, whether a halt came, and the stop

@@ -3,6 +3,7 @@ pub mod Join
 pub mod KeptState
 pub mod Laws
 pub mod Operators
+pub mod Tables
 pub mod Plan
 pub mod History
 pub mod Outcomes
@@ -15,3 +16,6 @@ pub mod ClimbKept
 pub mod Punctuations
 pub mod HistoryLaws
 pub mod StreamsJoined
+pub mod Reaching
+pub mod Finality
+pub mod SettlingHistories

@@ -7,6 +7,7 @@ ghost use Rattle.pj_laws.specs.Plan.{Node, ArePlanned};
 ghost use Rattle.pj_pattern.specs.declared.element.Element.{Element};
 ghost use Rattle.pj_laws.specs.History.{Entry, nodes_from};
 ghost use Rattle.pj_laws.specs.HistoryLaws.{AddsEntry, AllAreCertified, AllPropagate, CompleteIsAnswer, CompleteIsPuncts, DrainsHandOutAll, FrontsAreLegal, GivenIsAnswer, GrowsLegally, HandsOutLawfully, HasNoGroup, AreAcceptedLists, IsWholeRun, JoinAnswer, JoinFollows, JoinOfStreams, JoinPuncts, JoinRuns, KeepsJoin, NeverRetracts, NoneIsPending, OneThreadIsAnswer, ProbesGoOn, RoundsGoOn, StreamAlone, StreamAnswer, StreamPuncts, StreamsHold, SweptIsComplete, SweptIsPuncts, TicketsCount, TraceAddsNotes, TurnsGoOn};
+ghost use Rattle.pj_laws.specs.Finality.{AnswerGoesOn, EmptiedIsAnswer, IsAmongArrived, IsFinal, IsFinalWhereAccepted};
 ghost use Rattle.pj_laws.specs.CoreKept.{IsJoinOf, IsStreamsPlan, nodes_of_streams};
 
 /// No row that a legal history hands out matches a punctuation that was handed out before it.
@@ -15,9 +16,11 @@ pub fn history_lawfulness()
 {}
 
 /// Once every tuple is given, the rows handed out are the plan's nested-loop answer over all that arrived, as a bag:
-/// in a plan without groups whether or not sweeps were made, and in any plan once the history is complete.
+/// in a plan without groups whether or not sweeps were made, in any plan where its groups hold no row, and once the history
+/// is complete.
 pub fn history_answers()
     ensures given { (plan : List Node) → ArePlanned [] plan → 0 < length plan → HasNoGroup plan → GivenIsAnswer plan }
+    ensures emptied { (plan : List Node) → ArePlanned [] plan → 0 < length plan → EmptiedIsAnswer plan }
     ensures complete { (plan : List Node) → ArePlanned [] plan → 0 < length plan → AllPropagate plan → CompleteIsAnswer plan }
 {}
 
@@ -40,9 +43,19 @@ pub fn history_steps()
     ensures drains { (plan : List Node) → DrainsHandOutAll plan }
 {}
 
-/// At any moment the rows handed out are among those of the answer over all that the streams will bring, as bags.
+/// In a plan without groups, at any moment the rows handed out are among those of the answer over all that the streams will
+/// bring, as bags, whatever that is.
 pub fn never_retracted()
     ensures { (plan : List Node) → ArePlanned [] plan → 0 < length plan → HasNoGroup plan → NeverRetracts plan }
+{}
+
+/// In any plan, at any moment, and however the streams go on lawfully: the rows handed out are among those of the answer over
+/// the whole, as bags, so a group's row is final too. The rows still to come match no punctuation that was handed out.
+pub fn finality()
+    ensures rows { (plan : List Node) → ArePlanned [] plan → 0 < length plan → IsFinal plan }
+    ensures goes_on { (plan : List Node) → ArePlanned [] plan → 0 < length plan → AnswerGoesOn plan }
+    ensures accepted { (plan : List Node) → ArePlanned [] plan → 0 < length plan → IsFinalWhereAccepted plan }
+    ensures arrived { (plan : List Node) → ArePlanned [] plan → 0 < length plan → IsAmongArrived plan }
 {}
 
 /// What an event makes of each join of a plan, what a history makes of it, and how its tickets count what has reached it.
