@@ -27,8 +27,9 @@ fn picked(alloc: Global, columns: &[u32], row: &Row) -> Result<List<Value>, NoMe
     Ok(values)
 }
 
+/// The value of a column of a row.
 #[tactic(auto, using(crate::proofs::Cells::cell_is))]
-fn cell(row: &Row, column: u32) -> &Value
+pub fn cell(row: &Row, column: u32) -> &Value
     requires { column < length row.now }
     ensures { result.now ≡ value_at row.now column }
 {

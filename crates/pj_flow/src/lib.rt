@@ -10,6 +10,6 @@ mod select;
 mod tests;
 mod union;
 
-pub use columns::{project_punct, project_tuple};
+pub use columns::{cell, project_punct, project_tuple};
 pub use select::select_tuple;
 pub use union::Union;

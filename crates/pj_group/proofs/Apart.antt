@@ -1,38 +1,13 @@
--- The keys of rows: each stands once, and is the key of a row.
+-- The keys of rows, one row further.
 use Rattle.std.proofs.Common.{Bool, true, false, cond, ◌||◌, inl, inr, List, [], ◌∷◌, ◌++◌, ◌≡◌, filter, refl, sym, ap, ◌∙◌}
 use Rattle.std.specs.List.{list_any}
 use Rattle.pj_value.specs.declared.values.Value.{Value}
 use Rattle.pj_value.specs.Lists.{In}
 use Rattle.pj_value.specs.Values.{row_eq}
 use Rattle.pj_value.proofs.Members.{any_at, none_at}
-use Rattle.pj_value.proofs.Orders.{row_equal_if_same, row_equal_itself, row_same_if_equal}
-use Rattle.pj_laws.specs.Operators.{GroupSpec, keys_from, picked_cells}
-
-abbrev pub key_of : GroupSpec → List Value → List Value
-key_of spec row = picked_cells spec.keys row
-
--- no list of the list stands in it again
-abbrev pub AreApart : List (List Value) → Type 0
-AreApart [] = Unit {0}
-AreApart (x ∷ xs) = (In x xs → ⊥) × AreApart xs
-
-fresh : (seen : List (List Value)) (spec : GroupSpec) (rows : List (List Value)) (key : List Value) → In key (keys_from seen spec rows) → In key seen → ⊥
-fresh seen spec [] key h m = h
-fresh seen spec (r ∷ rows) key h m = go (list_any (row_eq (key_of spec r)) seen) refl h (λ k. fresh seen spec rows key k m) (λ k. fresh (key_of spec r ∷ seen) spec rows key k (inr m))
-  where
-    go : (b : Bool) → list_any (row_eq (key_of spec r)) seen ≡ b → In key (cond b (keys_from seen spec rows) (key_of spec r ∷ keys_from (key_of spec r ∷ seen) spec rows))
-        → (In key (keys_from seen spec rows) → ⊥) → (In key (keys_from (key_of spec r ∷ seen) spec rows) → ⊥) → ⊥
-    go true e k f g = f k
-    go false e (inl q) f g = none_at (row_eq (key_of spec r)) seen key e m (ap (row_eq (key_of spec r)) (sym q) ∙ row_equal_itself (key_of spec r))
-    go false e (inr k) f g = g k
-
-pub keys_apart : (seen : List (List Value)) (spec : GroupSpec) (rows : List (List Value)) → AreApart (keys_from seen spec rows)
-keys_apart seen spec [] = tt
-keys_apart seen spec (r ∷ rows) = go (list_any (row_eq (key_of spec r)) seen) (keys_apart seen spec rows) (keys_apart (key_of spec r ∷ seen) spec rows)
-  where
-    go : (b : Bool) → AreApart (keys_from seen spec rows) → AreApart (keys_from (key_of spec r ∷ seen) spec rows) → AreApart (cond b (keys_from seen spec rows) (key_of spec r ∷ keys_from (key_of spec r ∷ seen) spec rows))
-    go true f g = f
-    go false f g = (λ h. fresh (key_of spec r ∷ seen) spec rows (key_of spec r) h (inl refl), g)
+use Rattle.pj_value.proofs.Orders.{row_equal_if_same, row_same_if_equal}
+use Rattle.pj_laws.specs.Operators.{GroupSpec, keys_from}
+use Rattle.pj_laws.proofs.Groups.{key_of}
 
 swap : (a b c : Bool) → ((a || b) || c) ≡ (b || (a || c))
 swap true true c = refl

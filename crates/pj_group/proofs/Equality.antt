@@ -6,11 +6,7 @@ use Rattle.std.proofs.lemmas.Option.{get_or_from_slice_get, slice_get_within}
 use Rattle.pj_value.specs.declared.values.Value.{Value}
 use Rattle.pj_value.specs.Values.{row_eq}
 use Rattle.pj_value.proofs.Orders.{row_equal_if_same, row_same_if_equal}
-use Rattle.pj_shape.specs.Joining.{no_value, value_at}
 use Rattle.pj_group.specs.Prints.{with_value, with_values}
-
-pub cell_is : (row : List Value) (column : ℕ) (v : Value) → slice_get row column ≡ Some v → value_at row column ≡ v
-cell_is row column v e = get_or_from_slice_get row column v no_value e
 
 pub same_is : (r : Bool) (x y : List Value) → IsTrue r ↔ (x ≡ y) → r ≡ row_eq x y
 same_is r x y h = one_answer r (row_eq x y) h (row_same_if_equal x y, row_equal_if_same x y)

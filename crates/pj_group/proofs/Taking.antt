@@ -1,7 +1,9 @@
 -- A table after one row more.
 use Rattle.std.proofs.Common.{ℕ, Bool, true, false, cond, ◌||◌, inl, inr, List, [], ◌∷◌, ◌++◌, Option, Some, None, ◌≡◌, map, refl, sym, ap, ap₂, ◌∙◌, subst, append-nil}
 use Rattle.std.specs.List.{list_any}
-use Rattle.std.specs.Map.{lookup}
+use Rattle.std.specs.Map.{lookup, set_value}
+use Rattle.std.specs.Option.{option_map}
+use Rattle.std.proofs.lemmas.Map.Steps.{set_value_same}
 use Rattle.std.proofs.lemmas.Bool.{false≢true, false_from_ne_true}
 use Rattle.std.proofs.lemmas.List.Elements.{filter-append}
 use Rattle.indexmap.specs.IndexMap.{insert_entry}
@@ -12,10 +14,12 @@ use Rattle.pj_value.proofs.Members.{map-same}
 use Rattle.pj_value.proofs.Orders.{row_equal_if_same, row_same_if_equal}
 use Rattle.pj_laws.specs.Operators.{Agg, GroupSpec, keys_from, picked_cells}
 use Rattle.pj_laws.proofs.UnionsAndGroups.{key-from}
-use Rattle.pj_group.specs.declared.tally.Tally.{Tally}
-use Rattle.pj_group.specs.Steps.{next_tallies, tallies_after}
-use Rattle.pj_group.specs.Tables.{GroupKept, kept_for, rows_with_key, table_of, tally}
-use Rattle.pj_group.proofs.Apart.{AreApart, key_of, keys_apart, keys_more, none_with, some_with}
+use Rattle.pj_laws.specs.Tables.{GroupEntry, Tally, kept_for, rows_with_key, table_of, tally}
+use Rattle.pj_group.specs.Slots.{GroupSlot, IsReady, open_groups, states_in}
+use Rattle.pj_group.specs.Steps.{first_tally, next_tallies, tallies_after}
+use Rattle.pj_group.proofs.OpenGroups.{open_found, open_put, set_put}
+use Rattle.pj_laws.proofs.Groups.{AreApart, key_of, keys-apart}
+use Rattle.pj_group.proofs.Apart.{keys_more, none_with, some_with}
 use Rattle.pj_group.proofs.States.{tallies_first, tallies_more}
 
 rows_more : (spec : GroupSpec) (rows : List (List Value)) (row key : List Value) → rows_with_key spec (rows ++ row ∷ []) key ≡ rows_with_key spec rows key ++ cond (row_eq key (key_of spec row)) (row ∷ []) []
@@ -62,13 +66,13 @@ module _ (spec : GroupSpec) (rows : List (List Value)) (row : List Value) where
       → (list_any (row_eq (key_of spec row)) ks ≡ false → kept_for spec (rows ++ row ∷ []) (key_of spec row) ≡ (key_of spec row, tallies_after row spec.aggs None))
       → insert_entry row_eq (map (kept_for spec rows) ks) (key_of spec row) (tallies_after row spec.aggs (lookup (row_eq (key_of spec row)) (map (kept_for spec rows) ks)))
       ≡ map (kept_for spec (rows ++ row ∷ [])) (ks ++ cond (list_any (row_eq (key_of spec row)) ks) [] (key_of spec row ∷ []))
-  put_in [] apart there fresh = ap (λ (e : GroupKept). e ∷ []) (sym (fresh refl))
+  put_in [] apart there fresh = ap (λ (e : GroupEntry). e ∷ []) (sym (fresh refl))
   put_in (k ∷ ks) apart there fresh = go (row_eq (key_of spec row) k) refl (put_in ks apart.1 (λ j h. there j (inr h))) fresh
     where
       key : List Value
       key = key_of spec row
 
-      Was : List GroupKept
+      Was : List GroupEntry
       Was = map (kept_for spec rows) ks
 
       go : (b : Bool) → row_eq key k ≡ b
@@ -79,23 +83,23 @@ module _ (spec : GroupSpec) (rows : List (List Value)) (row : List Value) where
           ≡ map (kept_for spec (rows ++ row ∷ [])) (k ∷ (ks ++ cond (b || list_any (row_eq key) ks) [] (key ∷ [])))
       go true t ih fr =
           let same : key ≡ k = row_same_if_equal key k t in
-          ap₂ (λ (e : GroupKept) (es : List GroupKept). e ∷ es) (sym (kept_same spec rows row k (row_equal_if_same k key (sym same)) (there k (inl refl))))
+          ap₂ (λ (e : GroupEntry) (es : List GroupEntry). e ∷ es) (sym (kept_same spec rows row k (row_equal_if_same k key (sym same)) (there k (inl refl))))
           (sym (kept_others spec rows row ks (λ h. apart.0 (subst (λ (j : List Value). In j ks) same h))) ∙ ap (map (kept_for spec (rows ++ row ∷ []))) (sym (append-nil ks)))
       go false t ih fr =
-          ap₂ (λ (e : GroupKept) (es : List GroupKept). e ∷ es)
+          ap₂ (λ (e : GroupEntry) (es : List GroupEntry). e ∷ es)
           (sym (kept_other spec rows row k (false_from_ne_true (row_eq k key) (λ u. false≢true (sym t ∙ row_equal_if_same key k (sym (row_same_if_equal k key u)))))))
           (ih fr)
 
 -- the table of the rows with one more
-pub taken : (spec : GroupSpec) (rows : List (List Value)) (row : List Value) (table : List GroupKept) → table ≡ table_of spec rows
+pub taken : (spec : GroupSpec) (rows : List (List Value)) (row : List Value) (table : List GroupEntry) → table ≡ table_of spec rows
     → insert_entry row_eq table (key_of spec row) (tallies_after row spec.aggs (lookup (row_eq (key_of spec row)) table)) ≡ table_of spec (rows ++ row ∷ [])
 taken spec rows row table e =
-    ap (λ (es : List GroupKept). insert_entry row_eq es (key_of spec row) (tallies_after row spec.aggs (lookup (row_eq (key_of spec row)) es))) e
-    ∙ (put_in spec rows row (keys_from [] spec rows) (keys_apart [] spec rows) (λ k h. h) (kept_new spec rows row)
+    ap (λ (es : List GroupEntry). insert_entry row_eq es (key_of spec row) (tallies_after row spec.aggs (lookup (row_eq (key_of spec row)) es))) e
+    ∙ (put_in spec rows row (keys_from [] spec rows) (keys-apart [] spec rows) (λ k h. h) (kept_new spec rows row)
     ∙ ap (map (kept_for spec (rows ++ row ∷ []))) (sym (keys_more [] spec rows row)))
 
 -- what is put where a key's states were looked for
-pub taken_by : (spec : GroupSpec) (rows : List (List Value)) (row : List Value) (table new : List GroupKept) (key : List Value) (ts : List Tally) (keys : List ℕ) (aggs : List Agg) (found : Option (List Tally))
+pub taken_by : (spec : GroupSpec) (rows : List (List Value)) (row : List Value) (table new : List GroupEntry) (key : List Value) (ts : List Tally) (keys : List ℕ) (aggs : List Agg) (found : Option (List Tally))
     → key ≡ picked_cells keys row → keys ≡ spec.keys → aggs ≡ spec.aggs → found ≡ lookup (row_eq key) table → ts ≡ tallies_after row aggs found → new ≡ insert_entry row_eq table key ts
     → table ≡ table_of spec rows → new ≡ table_of spec (rows ++ row ∷ [])
 taken_by spec rows row table new key ts keys aggs found k ks a f t n e =
@@ -103,3 +107,27 @@ taken_by spec rows row table new key ts keys aggs found k ks a f t n e =
     n
     ∙ (ap (insert_entry row_eq table key) (t ∙ ap₂ (tallies_after row) a f)
     ∙ (ap (λ (j : List Value). insert_entry row_eq table j (tallies_after row spec.aggs (lookup (row_eq j) table))) is ∙ taken spec rows row table e))
+
+-- ---- in memory
+
+-- the states of a key that is new
+pub added_by : (spec : GroupSpec) (rows : List (List Value)) (row : List Value) (old slots new : List GroupSlot) (key : List Value) (ts : List Tally) (keys : List ℕ) (aggs : List Agg)
+    → key ≡ picked_cells keys row → keys ≡ spec.keys → aggs ≡ spec.aggs → IsReady (lookup (row_eq key) slots) → open_groups slots ≡ open_groups old
+    → None ≡ lookup (row_eq key) slots → ts ≡ map (first_tally row) aggs → new ≡ insert_entry row_eq slots key (Some ts)
+    → open_groups old ≡ table_of spec rows → open_groups new ≡ table_of spec (rows ++ row ∷ [])
+added_by spec rows row old slots new key ts keys aggs k ks a ready same f t n e =
+    taken_by spec rows row (open_groups slots) (open_groups new) key ts keys aggs None k ks a (ap states_in f ∙ sym (open_found key slots ready)) t (ap open_groups n ∙ open_put key ts slots ready) (same ∙ e)
+
+-- the states of a key that is there
+pub renewed_by : (spec : GroupSpec) (rows : List (List Value)) (row : List Value) (old slots new : List GroupSlot) (key : List Value) (was next : Option (List Tally)) (keys : List ℕ) (aggs : List Agg)
+    → key ≡ picked_cells keys row → keys ≡ spec.keys → aggs ≡ spec.aggs → IsReady (lookup (row_eq key) slots) → open_groups slots ≡ open_groups old
+    → Some was ≡ lookup (row_eq key) slots → next ≡ option_map (next_tallies row aggs) was → new ≡ set_value (row_eq key) slots next
+    → open_groups old ≡ table_of spec rows → open_groups new ≡ table_of spec (rows ++ row ∷ [])
+renewed_by spec rows row old slots new key None next keys aggs k ks a ready same f t n e = absurd (subst IsReady (sym f) ready)
+renewed_by spec rows row old slots new key (Some was) next keys aggs k ks a ready same f t n e =
+    taken_by spec rows row (open_groups slots) (open_groups new) key (next_tallies row aggs was) keys aggs (Some was) k ks a (ap states_in f ∙ sym (open_found key slots ready)) refl
+    (ap open_groups (n ∙ ap (set_value (row_eq key) slots) t ∙ set_put key (Some was) (Some (next_tallies row aggs was)) slots (sym f)) ∙ open_put key (next_tallies row aggs was) slots ready) (same ∙ e)
+
+-- to write back what was there changes nothing
+pub kept_by : (slots new : List GroupSlot) (key : List Value) (was next : Option (List Tally)) → Some was ≡ lookup (row_eq key) slots → next ≡ was → new ≡ set_value (row_eq key) slots next → new ≡ slots
+kept_by slots new key was next f t n = n ∙ ap (set_value (row_eq key) slots) t ∙ set_value_same (row_eq key) slots was (sym f)

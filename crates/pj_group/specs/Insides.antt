@@ -1,9 +1,8 @@
 -- How large what a group keeps may be.
-use Rattle.std.specs.Prelude.{ℕ, ◌*◌, ◌^◌, ◌≤◌, ◌≡◌, List, length, pos, neg_ℤ, ◌≤ℤ◌, All}
+use Rattle.std.specs.Prelude.{ℕ, ◌*◌, ◌^◌, ◌≤◌, ◌≡◌, List, length, pos, neg_ℤ, IfSome, ◌≤ℤ◌, All}
 use Rattle.pj_shape.specs.declared.groups.GroupSpec.{GroupSpec}
-use Rattle.pj_group.specs.declared.tally.Tally.{Tally}
-use Rattle.pj_group.specs.declared.tally.Tally.TheVariants.{Rows, Total, Least, Greatest}
-use Rattle.pj_group.specs.Tables.{GroupKept}
+use Rattle.pj_laws.specs.Tables.{Greatest, Least, Rows, Tally, Total}
+use Rattle.pj_group.specs.Slots.{GroupSlot}
 
 -- what so many rows may come to
 abbrev pub IsBounded : ℕ → Tally → Type 0
@@ -17,11 +16,11 @@ pub record AreStates (count aggs : ℕ) (tallies : List Tally) : Type 0 where
   pub each : length tallies ≡ aggs
   pub bounded : All (IsBounded count) tallies
 
-abbrev pub AllStates : ℕ → GroupSpec → List GroupKept → Type 0
-AllStates count spec table = All (λ e. AreStates count (length spec.aggs) e.1) table
+abbrev pub AllStates : ℕ → GroupSpec → List GroupSlot → Type 0
+AllStates count spec slots = All (λ slot. IfSome slot.1 (AreStates count (length spec.aggs))) slots
 
--- the entries are of at most as many rows as came, and no more came than may
-pub record IsHeld (spec : GroupSpec) (limit count : ℕ) (table : List GroupKept) : Type 0 where
+-- the open groups are of at most as many rows as came, and no more came than may
+pub record IsHeld (spec : GroupSpec) (limit count : ℕ) (slots : List GroupSlot) : Type 0 where
   pub few : limit ≤ 2 ^ 40
   pub within : count ≤ limit
-  pub states : AllStates count spec table
+  pub states : AllStates count spec slots

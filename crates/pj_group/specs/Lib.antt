@@ -1,4 +1,6 @@
 pub mod Insides
 pub mod Prints
+pub mod Slots
+pub mod States
 pub mod Steps
 pub mod Tables

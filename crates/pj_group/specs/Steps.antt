@@ -8,9 +8,8 @@ use Rattle.pj_pattern.specs.declared.element.Element.{Element}
 use Rattle.pj_pattern.specs.declared.element.Element.TheVariants.{Tuple, Punct}
 use Rattle.pj_pattern.specs.Columns.{others_wild}
 use Rattle.pj_laws.specs.Patterns.{Pattern, all_wild, matches_row}
-use Rattle.pj_group.specs.Tables.{GroupKept, rows_of_table}
-use Rattle.pj_group.specs.declared.tally.Tally.{Tally}
-use Rattle.pj_group.specs.declared.tally.Tally.TheVariants.{Rows, Total, Least, Greatest}
+use Rattle.pj_group.specs.Slots.{GroupSlot, open_groups}
+use Rattle.pj_laws.specs.Tables.{Greatest, GroupEntry, Least, Rows, Tally, Total, row_of}
 
 -- the integer; a text counts as 0
 abbrev pub number_of : Value → ℤ
@@ -74,22 +73,26 @@ pub record Fits (spec : GroupSpec) (width : ℕ) : Type 0 where
   pub keys : All (λ column. column < width) spec.keys
   pub aggs : All (IsInRange width) spec.aggs
 
--- the rows of those keys that match
-abbrev pub closed_rows : List Pattern → List GroupKept → List Element
-closed_rows patterns table = map Tuple (rows_of_table (filter (λ e. matches_row patterns e.0) table))
+-- the row of a group, as an element
+abbrev pub row_tuple : GroupEntry → Element
+row_tuple entry = Tuple (row_of entry)
 
--- the row of an entry, where there is one and its key matches
-abbrev pub closed_at : List Pattern → Option GroupKept → List Element
+-- the rows of those keys that match
+abbrev pub closed_rows : List Pattern → List GroupEntry → List Element
+closed_rows patterns table = map row_tuple (filter (λ e. matches_row patterns e.0) table)
+
+-- the row of a group, where there is one that is open and its key matches
+abbrev pub closed_at : List Pattern → Option GroupSlot → List Element
 closed_at patterns None = []
-closed_at patterns (Some e) = closed_rows patterns (e ∷ [])
+closed_at patterns (Some slot) = closed_rows patterns (open_groups (slot ∷ []))
 
 -- what stays at a punctuation
-abbrev pub table_after : GroupSpec → List GroupKept → List Pattern → List GroupKept
+abbrev pub table_after : GroupSpec → List GroupEntry → List Pattern → List GroupEntry
 table_after spec table patterns =
     if others_wild spec.keys 0 patterns then filter (λ e. not (matches_row (picked_patterns spec.keys patterns) e.0)) table else table
 
 -- what it makes of a table
-abbrev pub table_hands : GroupSpec → List GroupKept → List Pattern → List Element
+abbrev pub table_hands : GroupSpec → List GroupEntry → List Pattern → List Element
 table_hands spec table patterns =
     if others_wild spec.keys 0 patterns
     then (closed_rows (picked_patterns spec.keys patterns) table ++ Punct (picked_patterns spec.keys patterns ++ all_wild (length spec.aggs)) ∷ [])

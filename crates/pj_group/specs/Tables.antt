@@ -1,16 +1,8 @@
--- What a group keeps of its rows: for each key the state of its aggregates.
-use Rattle.std.specs.Prelude.{◌≡◌, ℕ, List, [], ◌++◌, map, filter, length, pos}
-use Rattle.std.specs.Int.{saturate_signed, w64}
+-- What a group is seen as.
+use Rattle.std.specs.Prelude.{◌≡◌, ℕ, List}
 use Rattle.pj_value.specs.declared.values.Value.{Value}
-use Rattle.pj_value.specs.declared.values.Value.TheVariants.{Int}
-use Rattle.pj_value.specs.Values.{row_eq}
-use Rattle.pj_laws.specs.Operators.{Agg, Count, Sum, Min, Max, GroupSpec, column_of, greatest_of, keys_from, least_of, picked_cells, sum_of}
-use Rattle.pj_group.specs.declared.tally.Tally.{Tally}
-use Rattle.pj_group.specs.declared.tally.Tally.TheVariants.{Rows, Total, Least, Greatest}
-
--- a key, and the state of each aggregate of its rows
-abbrev pub GroupKept : Type 0
-GroupKept = List Value × List Tally
+use Rattle.pj_laws.specs.Operators.{GroupSpec}
+use Rattle.pj_laws.specs.Tables.{GroupTable, table_of}
 
 -- what it groups by and makes, how many elements may come, how many came, and an entry for each distinct key, in the
 -- order of their first rows
@@ -18,42 +10,8 @@ pub record GroupView : Type 0 where
   pub spec : GroupSpec
   pub limit : ℕ
   pub count : ℕ
-  pub table : List GroupKept
-
--- the state of an aggregate of these rows; the sum is exact
-abbrev pub tally : List (List Value) → Agg → Tally
-tally rows Count = Rows (length rows)
-tally rows (Sum column) = Total (sum_of (column_of column rows))
-tally rows (Min column) = Least (least_of (column_of column rows))
-tally rows (Max column) = Greatest (greatest_of (column_of column rows))
-
--- the rows that have this key
-abbrev pub rows_with_key : GroupSpec → List (List Value) → List Value → List (List Value)
-rows_with_key spec rows key = filter (λ row. row_eq key (picked_cells spec.keys row)) rows
-
--- the entry of a key
-abbrev pub kept_for : GroupSpec → List (List Value) → List Value → GroupKept
-kept_for spec rows key = (key, map (tally (rows_with_key spec rows key)) spec.aggs)
-
--- what is kept of these rows
-abbrev pub table_of : GroupSpec → List (List Value) → List GroupKept
-table_of spec rows = map (kept_for spec rows) (keys_from [] spec rows)
+  pub table : GroupTable
 
 -- it keeps what comes of these rows
 abbrev pub StandsFor : GroupView → List (List Value) → Type 0
 StandsFor group rows = group.table ≡ table_of group.spec rows
-
--- what an aggregate comes to, where a sum is clamped to 64 bits
-abbrev pub value_of : Tally → Value
-value_of (Rows n) = Int (pos n)
-value_of (Total n) = Int (saturate_signed w64 n)
-value_of (Least v) = v
-value_of (Greatest v) = v
-
--- the row of a key
-abbrev pub row_of : GroupKept → List Value
-row_of kept = kept.0 ++ map value_of kept.1
-
--- the rows of all keys
-abbrev pub rows_of_table : List GroupKept → List (List Value)
-rows_of_table table = map row_of table

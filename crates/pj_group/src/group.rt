@@ -1,23 +1,26 @@
 // Groups.
 ghost use Rattle.std.specs.Prelude.{◌≡◌, ◌<◌, ◌≤◌, ◌+◌, ◌^◌, ◌↔◌, List, [], ◌∷◌, ◌++◌, All, length, map, filter, OnOk, OnErr, IfOk, IsErrOf, IsTrue, IfSome};
-ghost use Rattle.indexmap.specs.IndexMap.{insert_entry};
-ghost use Rattle.std.specs.Option.{option_copied};
+ghost use Rattle.std.specs.Option.{option_copied, option_map};
 ghost use Rattle.pj_value.specs.declared.values.Value.{Value};
-ghost use Rattle.pj_value.specs.Values.{row_eq};
 ghost use Rattle.pj_laws.specs.Operators.{group_after, group_hands};
 ghost use Rattle.pj_group.specs.Insides.{AllStates, AreStates, IsBounded};
-ghost use Rattle.pj_group.specs.Steps.{Fits, IsInRange, cell_of, next_tallies, first_tally, tallies_after};
-ghost use Rattle.pj_group.specs.Tables.{StandsFor, table_of};
+ghost use Rattle.pj_group.specs.Slots.{open_groups};
+ghost use Rattle.pj_group.specs.Steps.{Fits, IsInRange, cell_of, next_tallies, first_tally};
+ghost use Rattle.pj_group.specs.Tables.{StandsFor};
+ghost use Rattle.pj_laws.specs.Tables.{table_of};
 
 use crate::closing::close;
-use crate::keys::{Key, cell};
+use crate::keys::Key;
+use crate::slots::{Slots, reopen};
 use crate::tally::Tally;
 use indexmap::IndexMap;
+use pj_flow::cell;
 use pj_pattern::{Element, Punct};
 use pj_shape::{Agg, GroupSpec};
 use pj_value::{List, NoMemory, Row, Value};
 use std::alloc::Global;
 use std::marker::Model;
+use std::mem;
 
 /// Why a group takes no element: as many have reached it as may, or memory could not be had.
 #[derive(Clone, Copy, Debug, PartialEq, Eq)]
@@ -44,18 +47,23 @@ pub struct Group {
     spec: GroupSpec,
     limit: u64,
     count: u64,
-    table: IndexMap<Key, List<Tally>>,
+    slots: Slots,
+    // How many punctuations for one key came since groups were cleared away.
+    closings: usize,
+    // Room in which the next states of a group are made.
+    room: List<Tally>,
 }
 
 impl Model for Group {
     ghost use Rattle.pj_group.specs.Tables.{GroupView};
     ghost use Rattle.pj_group.specs.Insides.{IsHeld};
+    ghost use Rattle.pj_group.specs.Slots.{open_groups};
 
     ghost Value = { GroupView };
 
-    ghost view = { λ g. record { spec = g.spec; limit = g.limit; count = g.count; table = g.table.entries } };
+    ghost view = { λ g. record { spec = g.spec; limit = g.limit; count = g.count; table = open_groups g.slots.entries } };
 
-    ghost invariant = { λ g. IsHeld g.spec g.limit g.count g.table.entries };
+    ghost invariant = { λ g. IsHeld g.spec g.limit g.count g.slots.entries };
 }
 
 impl Group {
@@ -69,7 +77,9 @@ impl Group {
             spec,
             limit,
             count: 0,
-            table: IndexMap::new(alloc),
+            slots: IndexMap::new(alloc),
+            closings: 0,
+            room: List::new(alloc),
         })
     }
 
@@ -86,7 +96,14 @@ impl Group {
         if is_full(self.count, self.limit) {
             return Err(GroupStop::Limit);
         }
-        take_row(self.alloc, self.count, &self.spec, &mut self.table, &row)?;
+        take_row(
+            self.alloc,
+            self.count,
+            &self.spec,
+            &mut self.slots,
+            &row,
+            &mut self.room,
+        )?;
         self.count += 1;
         Ok(())
     }
@@ -112,7 +129,8 @@ impl Group {
             self.alloc,
             self.count,
             &self.spec,
-            &mut self.table,
+            &mut self.slots,
+            &mut self.closings,
             &punct,
             out,
         )?;
@@ -132,41 +150,56 @@ fn take_row(
     alloc: Global,
     count: u64,
     spec: &GroupSpec,
-    table: &mut IndexMap<Key, List<Tally>>,
+    slots: &mut Slots,
     row: &Row,
+    room: &mut List<Tally>,
 ) -> Result<(), NoMemory>
     requires few { count < 2 ^ 40 }
     requires fits { Fits spec.now (length row.now) }
-    requires states { AllStates count spec.now table.old.entries }
-    ensures keeps { OnOk result ((rows : List (List Value)) → table.old.entries ≡ table_of spec.now rows → table.new.entries ≡ table_of spec.now (rows ++ row.now ∷ [])) }
-    ensures states { OnOk result (AllStates (count + 1) spec.now table.new.entries) }
-    ensures err { OnErr result (table.new.entries ≡ table.old.entries) }
+    requires states { AllStates count spec.now slots.old.entries }
+    ensures keeps { OnOk result ((rows : List (List Value)) → open_groups slots.old.entries ≡ table_of spec.now rows → open_groups slots.new.entries ≡ table_of spec.now (rows ++ row.now ∷ [])) }
+    ensures states { OnOk result (AllStates (count + 1) spec.now slots.new.entries) }
+    ensures err { OnErr result (open_groups slots.new.entries ≡ open_groups slots.old.entries) }
+    ensures left { OnErr result (AllStates count spec.now slots.new.entries) }
 {
     let key = Key::of(alloc, spec.keys.as_slice(), row)?;
-    let old = table.get(&key);
-    let tallies = tallies_after(alloc, count, spec.aggs.as_slice(), old, row)?;
-    put(table, key, tallies)?;
-    Ok(())
+    reopen(slots, &key);
+    match slots.get_mut(&key) {
+        Some(states) => {
+            renew(alloc, count, spec.aggs.as_slice(), states, row, room)?;
+            Ok(())
+        }
+        None => {
+            let tallies = first_tallies(alloc, spec.aggs.as_slice(), row)?;
+            slots.insert(key, Some(tallies))?;
+            Ok(())
+        }
+    }
 }
 
-// The states after a row of a key, from those that stood there.
-#[tactic(auto, using(crate::proofs::Bounds::first_states))]
-fn tallies_after(
+// The states of an open group after a row.
+fn renew(
     alloc: Global,
     count: u64,
     aggs: &[Agg],
-    old: Option<&List<Tally>>,
+    states: &mut Option<List<Tally>>,
     row: &Row,
-) -> Result<List<Tally>, NoMemory>
+    room: &mut List<Tally>,
+) -> Result<(), NoMemory>
     requires few { count < 2 ^ 40 }
     requires fits { All (IsInRange (length row.now)) aggs.now }
-    requires states { IfSome (option_copied old) (AreStates count (length aggs.now)) }
-    ensures is { IfOk result (λ tallies. tallies ≡ tallies_after row.now aggs.now (option_copied old.entry)) }
-    ensures states { IfOk result (AreStates (count + 1) (length aggs.now)) }
+    requires states { IfSome states.old (AreStates count (length aggs.now)) }
+    ensures ok { OnOk result (states.new ≡ option_map (next_tallies row.now aggs.now) states.old) }
+    ensures states { OnOk result (IfSome states.new (AreStates (count + 1) (length aggs.now))) }
+    ensures err { OnErr result (states.new ≡ states.old) }
 {
-    match old {
-        None => Ok(first_tallies(alloc, aggs, row)?),
-        Some(tallies) => Ok(next_tallies(alloc, count, aggs, tallies.as_slice(), row)?),
+    match states {
+        None => Ok(()),
+        Some(tallies) => {
+            next_tallies(alloc, count, aggs, tallies.as_slice(), row, room)?;
+            mem::swap(tallies, room);
+            Ok(())
+        }
     }
 }
 
@@ -182,24 +215,26 @@ fn first_tallies(alloc: Global, aggs: &[Agg], row: &Row) -> Result<List<Tally>, 
     Ok(made)
 }
 
+// Makes the next states in this room.
 fn next_tallies(
     alloc: Global,
     count: u64,
     aggs: &[Agg],
     tallies: &[Tally],
     row: &Row,
-) -> Result<List<Tally>, NoMemory>
+    made: &mut List<Tally>,
+) -> Result<(), NoMemory>
     requires few { count < 2 ^ 40 }
     requires fits { All (IsInRange (length row.now)) aggs.now }
     requires states { AreStates count (length aggs.now) tallies.now }
-    ensures is { IfOk result (λ made. made ≡ next_tallies row.now aggs.now tallies.now) }
-    ensures states { IfOk result (AreStates (count + 1) (length aggs.now)) }
+    ensures is { OnOk result (made.new ≡ next_tallies row.now aggs.now tallies.now) }
+    ensures states { OnOk result (AreStates (count + 1) (length aggs.now) made.new) }
 {
-    let mut made = List::with_room(alloc, aggs.len())?;
+    made.truncate(0);
     for at in 0..aggs.len() {
         made.push(tallies[at].next(alloc, count, read(aggs[at], row))?)?;
     }
-    Ok(made)
+    Ok(())
 }
 
 // The value that an aggregate reads of a row.
@@ -213,17 +248,4 @@ fn read(agg: Agg, row: &Row) -> Option<&Value>
         Agg::Min(column) => Some(cell(row, column)),
         Agg::Max(column) => Some(cell(row, column)),
     }
-}
-
-// Puts a key at the end, or writes the states of one that is there.
-fn put(
-    table: &mut IndexMap<Key, List<Tally>>,
-    key: Key,
-    tallies: List<Tally>,
-) -> Result<(), NoMemory>
-    ensures ok { OnOk result (table.new.entries ≡ insert_entry row_eq table.old.entries key tallies) }
-    ensures err { OnErr result (table.new.entries ≡ table.old.entries) }
-{
-    table.insert(key, tallies)?;
-    Ok(())
 }

@@ -1,34 +1,43 @@
 // Rows of groups that are handed out.
-ghost use Rattle.std.specs.Prelude.{◌≡◌, ◌≤◌, ◌+◌, ◌^◌, ◌∷◌, [], ◌++◌, All, map, length, slice_get, OnOk, OnErr, IfOk};
+ghost use Rattle.std.specs.Prelude.{◌≡◌, ◌≤◌, ◌+◌, ◌^◌, ◌∷◌, [], ◌++◌, All, IfSome, map, length, slice_get, OnOk, OnErr, IfOk};
+ghost use Rattle.std.specs.List.{IsDistinct};
+ghost use Rattle.std.specs.Map.{keys_of, lookup};
+ghost use Rattle.std.specs.Option.{option_copied};
 ghost use Rattle.pj_value.specs.Texts.{IsFront};
+ghost use Rattle.pj_value.specs.Values.{row_eq};
 ghost use Rattle.pj_laws.specs.Patterns.{all_wild};
-ghost use Rattle.pj_group.specs.Insides.{AllStates, IsBounded};
+ghost use Rattle.pj_group.specs.Insides.{AllStates, AreStates, IsBounded};
+ghost use Rattle.pj_group.specs.Slots.{MatchesOnly, open_groups, state_rows, states_in};
 ghost use Rattle.pj_group.specs.Steps.{closed_at, closed_rows};
-ghost use Rattle.pj_group.specs.Tables.{row_of, value_of};
+ghost use Rattle.pj_laws.specs.Tables.{row_of, value_of};
 
 use crate::keys::Key;
+use crate::slots::Slots;
 use crate::tally::Tally;
-use indexmap::IndexMap;
 use pj_pattern::{Element, Punct};
 use pj_shape::GroupSpec;
 use pj_value::{List, NoMemory, Row, Value};
 use std::alloc::Global;
 
-/// Puts the rows of the groups whose keys match at the end of `out`, and then the punctuation; on a refusal nothing.
+/// Puts the rows of the groups whose keys match at the end of `out`, and then the punctuation; on a refusal nothing. Where it
+/// matches one key alone, that is `only`.
 pub fn hand_out(
     alloc: Global,
     spec: &GroupSpec,
-    table: &IndexMap<Key, List<Tally>>,
+    slots: &Slots,
     kept: &Punct,
+    only: Option<&Key>,
     out: &mut List<Element>,
 ) -> Result<(), NoMemory>
     requires few { length kept.now + length spec.now.aggs ≤ 120 }
-    requires states { AllStates (2 ^ 40) spec.now table.now.entries }
-    ensures ok { OnOk result (out.new ≡ out.old ++ (closed_rows kept.now table.now.entries ++ Element.Punct (kept.now ++ all_wild (length spec.now.aggs)) ∷ [])) }
+    requires states { AllStates (2 ^ 40) spec.now slots.now.entries }
+    requires only { IfSome (option_copied only) (MatchesOnly kept.now) }
+    requires apart { IsDistinct row_eq (keys_of slots.now.entries) }
+    ensures ok { OnOk result (out.new ≡ out.old ++ (closed_rows kept.now (open_groups slots.now.entries) ++ Element.Punct (kept.now ++ all_wild (length spec.now.aggs)) ∷ [])) }
     ensures err { OnErr result (out.new ≡ out.old) }
 {
     let count = out.len();
-    match append_all(alloc, spec, table, kept, out) {
+    match append_all(alloc, spec, slots, kept, only, out) {
         Ok(()) => Ok(()),
         Err(stop) => {
             out.truncate(count);
@@ -40,73 +49,143 @@ pub fn hand_out(
 fn append_all(
     alloc: Global,
     spec: &GroupSpec,
-    table: &IndexMap<Key, List<Tally>>,
+    slots: &Slots,
     kept: &Punct,
+    only: Option<&Key>,
     out: &mut List<Element>,
 ) -> Result<(), NoMemory>
     requires few { length kept.now + length spec.now.aggs ≤ 120 }
-    requires states { AllStates (2 ^ 40) spec.now table.now.entries }
-    ensures ok { OnOk result (out.new ≡ out.old ++ (closed_rows kept.now table.now.entries ++ Element.Punct (kept.now ++ all_wild (length spec.now.aggs)) ∷ [])) }
+    requires states { AllStates (2 ^ 40) spec.now slots.now.entries }
+    requires only { IfSome (option_copied only) (MatchesOnly kept.now) }
+    requires apart { IsDistinct row_eq (keys_of slots.now.entries) }
+    ensures ok { OnOk result (out.new ≡ out.old ++ (closed_rows kept.now (open_groups slots.now.entries) ++ Element.Punct (kept.now ++ all_wild (length spec.now.aggs)) ∷ [])) }
     ensures err { OnErr result (IsFront out.old out.new) }
 {
-    append_rows(alloc, spec, table, kept, out)?;
+    append_closed(alloc, spec, slots, kept, only, out)?;
     let punct = kept.widen(alloc, 0, spec.aggs.len() as u32)?;
     out.push(Element::Punct(punct))
 }
 
-fn append_rows(
+// The rows of the groups whose keys match: of one key that is looked up, or of all that do.
+fn append_closed(
     alloc: Global,
     spec: &GroupSpec,
-    table: &IndexMap<Key, List<Tally>>,
+    slots: &Slots,
     kept: &Punct,
+    only: Option<&Key>,
     out: &mut List<Element>,
 ) -> Result<(), NoMemory>
-    requires { AllStates (2 ^ 40) spec.now table.now.entries }
-    ensures ok { OnOk result (out.new ≡ out.old ++ closed_rows kept.now table.now.entries) }
+    requires states { AllStates (2 ^ 40) spec.now slots.now.entries }
+    requires only { IfSome (option_copied only) (MatchesOnly kept.now) }
+    requires apart { IsDistinct row_eq (keys_of slots.now.entries) }
+    ensures ok { OnOk result (out.new ≡ out.old ++ closed_rows kept.now (open_groups slots.now.entries)) }
     ensures err { OnErr result (IsFront out.old out.new) }
 {
-    for at in 0..table.len() {
-        append_at(alloc, spec, table, at, kept, out)?;
-    }
-    Ok(())
-}
-
-// Puts the row of the group at a place at the end, where there is one and its key matches.
-fn append_at(
-    alloc: Global,
-    spec: &GroupSpec,
-    table: &IndexMap<Key, List<Tally>>,
-    at: usize,
-    kept: &Punct,
-    out: &mut List<Element>,
-) -> Result<(), NoMemory>
-    requires { AllStates (2 ^ 40) spec.now table.now.entries }
-    ensures ok { OnOk result (out.new ≡ out.old ++ closed_at kept.now (slice_get table.now.entries at)) }
-    ensures err { OnErr result (out.new ≡ out.old) }
-{
-    match table.get_index(at) {
-        None => Ok(()),
-        Some((key, tallies)) => {
-            append_row(alloc, key, tallies.as_slice(), kept, out)?;
+    match only {
+        None => {
+            append_rows(alloc, spec, slots, kept, out)?;
+            Ok(())
+        }
+        Some(key) => {
+            append_one(alloc, spec, slots, key, out)?;
             Ok(())
         }
     }
 }
 
-// Puts the row of a group at the end, where its key matches.
-fn append_row(
+// Puts the row of the group of a key at the end, where it is open.
+fn append_one(
     alloc: Global,
+    spec: &GroupSpec,
+    slots: &Slots,
     key: &Key,
-    tallies: &[Tally],
+    out: &mut List<Element>,
+) -> Result<(), NoMemory>
+    requires { AllStates (2 ^ 40) spec.now slots.now.entries }
+    ensures ok { OnOk result (out.new ≡ out.old ++ state_rows key.now (states_in (lookup (row_eq key.now) slots.now.entries))) }
+    ensures err { OnErr result (out.new ≡ out.old) }
+{
+    match slots.get(key) {
+        None => Ok(()),
+        Some(states) => {
+            append_states(alloc, spec, key, states, out)?;
+            Ok(())
+        }
+    }
+}
+
+// Puts the row of a group at the end, where it is open.
+fn append_states(
+    alloc: Global,
+    spec: &GroupSpec,
+    key: &Key,
+    states: &Option<List<Tally>>,
+    out: &mut List<Element>,
+) -> Result<(), NoMemory>
+    requires { IfSome states.now (AreStates (2 ^ 40) (length spec.now.aggs)) }
+    ensures ok { OnOk result (out.new ≡ out.old ++ state_rows key.now states.now) }
+    ensures err { OnErr result (out.new ≡ out.old) }
+{
+    match states {
+        None => Ok(()),
+        Some(tallies) => out.push(Element::Tuple(group_row(alloc, key, tallies.as_slice())?)),
+    }
+}
+
+fn append_rows(
+    alloc: Global,
+    spec: &GroupSpec,
+    slots: &Slots,
     kept: &Punct,
     out: &mut List<Element>,
 ) -> Result<(), NoMemory>
-    requires { All (IsBounded (2 ^ 40)) tallies.now }
-    ensures ok { OnOk result (out.new ≡ out.old ++ closed_rows kept.now ((key.now, tallies.now) ∷ [])) }
+    requires { AllStates (2 ^ 40) spec.now slots.now.entries }
+    ensures ok { OnOk result (out.new ≡ out.old ++ closed_rows kept.now (open_groups slots.now.entries)) }
+    ensures err { OnErr result (IsFront out.old out.new) }
+{
+    for at in 0..slots.len() {
+        append_at(alloc, spec, slots, at, kept, out)?;
+    }
+    Ok(())
+}
+
+// Puts the row of the group at a place at the end, where there is one that is open and its key matches.
+fn append_at(
+    alloc: Global,
+    spec: &GroupSpec,
+    slots: &Slots,
+    at: usize,
+    kept: &Punct,
+    out: &mut List<Element>,
+) -> Result<(), NoMemory>
+    requires { AllStates (2 ^ 40) spec.now slots.now.entries }
+    ensures ok { OnOk result (out.new ≡ out.old ++ closed_at kept.now (slice_get slots.now.entries at)) }
+    ensures err { OnErr result (out.new ≡ out.old) }
+{
+    match slots.get_index(at) {
+        None => Ok(()),
+        Some((key, states)) => {
+            append_slot(alloc, spec, key, states, kept, out)?;
+            Ok(())
+        }
+    }
+}
+
+// Puts the row of a group at the end, where it is open and its key matches.
+fn append_slot(
+    alloc: Global,
+    spec: &GroupSpec,
+    key: &Key,
+    states: &Option<List<Tally>>,
+    kept: &Punct,
+    out: &mut List<Element>,
+) -> Result<(), NoMemory>
+    requires { IfSome states.now (AreStates (2 ^ 40) (length spec.now.aggs)) }
+    ensures ok { OnOk result (out.new ≡ out.old ++ closed_rows kept.now (open_groups ((key.now, states.now) ∷ []))) }
     ensures err { OnErr result (out.new ≡ out.old) }
 {
     if kept.matches(key.row()) {
-        out.push(Element::Tuple(group_row(alloc, key, tallies)?))
+        append_states(alloc, spec, key, states, out)
     } else {
         Ok(())
     }

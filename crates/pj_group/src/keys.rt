@@ -1,15 +1,16 @@
 // Keys of groups.
-ghost use Rattle.std.specs.Prelude.{◌≡◌, ◌<◌, All, IfOk, length};
-ghost use Rattle.pj_value.specs.declared.values.Value.{Value};
+ghost use Rattle.std.specs.Prelude.{◌≡◌, ◌<◌, All, IfOk, IfSome, length};
 ghost use Rattle.pj_value.specs.Values.{row_eq};
-ghost use Rattle.pj_shape.specs.Joining.{value_at};
 ghost use Rattle.pj_laws.specs.Operators.{picked_cells};
+ghost use Rattle.pj_group.specs.Slots.{MatchesOnly};
 ghost use Rattle.pj_group.specs.Prints.{next_print, print_of, with_bytes, with_value};
 ghost use Rattle.std.specs.Cmp.{decided, partial_equiv_from_equiv};
 ghost use Rattle.std.proofs.Common.{ap};
 ghost use Rattle.pj_value.proofs.Orders.{row_equal_if_same, row_same_if_equal};
 ghost use Rattle.std.specs.Hash as fed;
 
+use pj_flow::project_tuple;
+use pj_pattern::{Punct, Shape};
 use pj_value::{List, NoMemory, Row, Value};
 use std::alloc::Global;
 use std::hash::{Hash, Hasher};
@@ -37,8 +38,24 @@ impl Key {
         ensures { IfOk result (λ key. key ≡ picked_cells columns.now row.now) }
     {
         Ok(Key {
-            row: Row::of(picked(alloc, columns, row)?),
+            row: project_tuple(alloc, columns, row)?,
         })
+    }
+
+    /// The key that a punctuation of constants matches; `None` where it has another pattern.
+    pub fn of_constants(alloc: Global, punct: &Punct) -> Result<Option<Key>, NoMemory>
+        ensures { IfOk result (λ key. IfSome key (MatchesOnly punct.now)) }
+    {
+        let mut values = List::new(alloc);
+        for pattern in punct.as_slice() {
+            match pattern.shape() {
+                Shape::Constant(value) => values.push(value.copy(alloc)?)?,
+                _ => return Ok(None),
+            }
+        }
+        Ok(Some(Key {
+            row: Row::of(values),
+        }))
     }
 
     /// Its values.
@@ -71,26 +88,6 @@ impl Hash for Key {
     fn hash<H: Hasher>(&self, state: &mut H) {
         state.write_u64(print(&self.row));
     }
-}
-
-fn picked(alloc: Global, columns: &[u32], row: &Row) -> Result<List<Value>, NoMemory>
-    requires { All (λ column. column < length row.now) columns.now }
-    ensures { IfOk result (λ values. values ≡ picked_cells columns.now row.now) }
-{
-    let mut values = List::with_room(alloc, columns.len())?;
-    for column in columns {
-        values.push(cell(row, *column).copy(alloc)?)?;
-    }
-    Ok(values)
-}
-
-/// The value of a column.
-#[tactic(auto, using(crate::proofs::Equality::cell_is))]
-pub fn cell(row: &Row, column: u32) -> &Value
-    requires { column < length row.now }
-    ensures { result.now ≡ value_at row.now column }
-{
-    row.at(column as usize)
 }
 
 fn print(row: &Row) -> u64

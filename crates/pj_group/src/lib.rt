@@ -7,6 +7,7 @@ mod closing;
 mod group;
 mod handing;
 mod keys;
+mod slots;
 mod tally;
 #[cfg(test)]
 mod tests;

@@ -4,20 +4,35 @@ ghost use Rattle.std.specs.Option.{option_copied};
 ghost use Rattle.std.specs.Int.{saturate_signed, w64};
 ghost use Rattle.pj_group.specs.Insides.{IsBounded};
 ghost use Rattle.pj_group.specs.Steps.{IsInRange, first_tally, greater_with, lesser_with, next_tally, number_of, sum_with};
-ghost use Rattle.pj_group.specs.Tables.{value_of};
+ghost use Rattle.pj_laws.specs.Tables.{Total, value_of};
 
-use crate::keys::cell;
+use pj_flow::cell;
 use pj_shape::Agg;
 use pj_value::{NoMemory, Row, Value};
 use std::alloc::Global;
+use std::marker::Model;
 
 /// The state of an aggregate of the rows that came: how many they are, their exact sum, or the least or the greatest value.
 #[derive(Drop)]
-pub enum Tally {
+pub struct Tally {
+    state: State,
+}
+
+#[derive(Drop)]
+enum State {
     Rows(u64),
     Total(i128),
     Least(Value),
     Greatest(Value),
+}
+
+impl Model for Tally {
+    ghost use Rattle.pj_group.specs.States.{tally_in};
+    ghost use Rattle.pj_laws.specs.Tables.{Tally as KeptTally};
+
+    ghost Value = { KeptTally };
+
+    ghost view = { λ t. tally_in t.state };
 }
 
 impl Tally {
@@ -27,12 +42,13 @@ impl Tally {
         ensures is { IfOk result (λ tally. tally ≡ first_tally row.now agg) }
         ensures bounded { IfOk result (IsBounded 1) }
     {
-        match agg {
-            Agg::Count => Ok(Tally::Rows(1)),
-            Agg::Sum(column) => Ok(Tally::Total(i128::from(number_of(cell(row, column))))),
-            Agg::Min(column) => Ok(Tally::Least(cell(row, column).copy(alloc)?)),
-            Agg::Max(column) => Ok(Tally::Greatest(cell(row, column).copy(alloc)?)),
-        }
+        let state = match agg {
+            Agg::Count => State::Rows(1),
+            Agg::Sum(column) => State::Total(i128::from(number_of(cell(row, column)))),
+            Agg::Min(column) => State::Least(cell(row, column).copy(alloc)?),
+            Agg::Max(column) => State::Greatest(cell(row, column).copy(alloc)?),
+        };
+        Ok(Tally { state })
     }
 
     /// The state after one row more, of which this value is read; so many came before.
@@ -42,12 +58,13 @@ impl Tally {
         ensures is { IfOk result (λ tally. tally ≡ next_tally self.now (option_copied cell.entry)) }
         ensures bounded { IfOk result (IsBounded (count + 1)) }
     {
-        match self {
-            Tally::Rows(rows) => Ok(Tally::Rows(*rows + 1)),
-            Tally::Total(sum) => Ok(Tally::Total(with_number(*sum, count, cell))),
-            Tally::Least(value) => Ok(Tally::Least(lesser(alloc, value, cell)?)),
-            Tally::Greatest(value) => Ok(Tally::Greatest(greater(alloc, value, cell)?)),
-        }
+        let state = match &self.state {
+            State::Rows(rows) => State::Rows(*rows + 1),
+            State::Total(sum) => State::Total(with_number(*sum, count, cell)),
+            State::Least(value) => State::Least(lesser(alloc, value, cell)?),
+            State::Greatest(value) => State::Greatest(greater(alloc, value, cell)?),
+        };
+        Ok(Tally { state })
     }
 
     /// What the aggregate comes to: a sum is clamped to 64 bits.
@@ -55,11 +72,11 @@ impl Tally {
         requires { IsBounded (2 ^ 40) self.now }
         ensures { IfOk result (λ value. value ≡ value_of self.now) }
     {
-        match self {
-            Tally::Rows(rows) => Ok(Value::Int(*rows as i64)),
-            Tally::Total(sum) => Ok(Value::Int(clamped(*sum))),
-            Tally::Least(value) => value.copy(alloc),
-            Tally::Greatest(value) => value.copy(alloc),
+        match &self.state {
+            State::Rows(rows) => Ok(Value::Int(*rows as i64)),
+            State::Total(sum) => Ok(Value::Int(clamped(*sum))),
+            State::Least(value) => value.copy(alloc),
+            State::Greatest(value) => value.copy(alloc),
         }
     }
 }
@@ -67,9 +84,9 @@ impl Tally {
 // A sum with the value that is read, where so many values came before.
 fn with_number(sum: i128, count: u64, cell: Option<&Value>) -> i128
     requires few { count < 2 ^ 40 }
-    requires bounded { IsBounded count (Tally.Total sum) }
+    requires bounded { IsBounded count (Total sum) }
     ensures is { result ≡ sum_with sum (option_copied cell.entry) }
-    ensures bounded { IsBounded (count + 1) (Tally.Total result) }
+    ensures bounded { IsBounded (count + 1) (Total result) }
 {
     match cell {
         None => sum,

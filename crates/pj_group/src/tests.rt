@@ -156,6 +156,28 @@ fn groups_close_where_keys_match(rt: HostRuntime) {
     assert!(rt; agrees(&made, &want));
 }
 
+// Groups that are closed one by one, and one whose key comes again.
+#[test]
+fn closed_groups_leave_the_order(rt: HostRuntime) {
+    let said = [
+        Said::Row(1, 0),
+        Said::Row(2, 0),
+        Said::Row(3, 0),
+        Said::Row(2, 0),
+        Said::Close(Some(2), None),
+        Said::Row(4, 0),
+        Said::Row(2, 0),
+        Said::Close(Some(5), None),
+        Said::Close(Some(3), None),
+        Said::Close(Some(1), None),
+        Said::Close(None, None),
+    ];
+    let want = [
+        2, 2, 2, -7, 5, -7, 3, 1, 3, -7, 1, 1, 1, -7, 4, 1, 2, 1, -7, -7,
+    ];
+    assert!(rt; agrees(&run(rt.alloc(), &[Agg::Count], &said), &want));
+}
+
 #[test]
 fn sums_are_exact_and_clamped(rt: HostRuntime) {
     let (least, greatest) = (-9223372036854775807, 9223372036854775807);

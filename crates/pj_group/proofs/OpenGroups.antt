@@ -1,0 +1,187 @@
+-- Groups in memory: what clearing away, closing and renewing make of the open ones.
+use Rattle.std.proofs.Common.{ℕ, Bool, true, false, cond, not, ◌&&◌, List, [], ◌∷◌, Option, Some, None, is_some, ◌≡◌, map, filter, length, refl, sym, ap, ◌∙◌}
+use Rattle.std.specs.List.{AllByRecursion, IsDistinct}
+use Rattle.std.specs.Map.{keys_of, lookup, set_value}
+use Rattle.std.specs.Option.{IfSome}
+use Rattle.std.proofs.lemmas.List.Elements.{All-cons, All-filter, All-head, All-tail}
+use Rattle.indexmap.specs.IndexMap.{insert_entry}
+use Rattle.pj_value.specs.declared.values.Value.{Value}
+use Rattle.pj_value.specs.Values.{row_eq}
+use Rattle.pj_value.proofs.Orders.{row_same_if_equal}
+use Rattle.pj_laws.specs.Patterns.{Pattern, matches_row}
+use Rattle.pj_laws.specs.Operators.{GroupSpec}
+use Rattle.pj_laws.specs.Tables.{GroupEntry, GroupTable, Tally}
+use Rattle.pj_group.specs.Slots.{GroupSlot, IsReady, MatchesOnly, is_open, open_groups, state_rows, states_in, with_open}
+use Rattle.pj_group.specs.Steps.{closed_rows, row_tuple}
+use Rattle.pj_group.specs.Insides.{AllStates, AreStates}
+
+-- ---- clearing away
+
+-- those that are open and whose keys do not pass
+pub open_left : (p : List Value → Bool) (slots : List GroupSlot) → open_groups (filter (λ s. is_open s && not (p s.0)) slots) ≡ filter (λ e. not (p e.0)) (open_groups slots)
+open_left p [] = refl
+open_left p (s ∷ slots) = go s.0 s.1 (open_left p slots)
+  where
+    R : List GroupSlot
+    R = filter (λ s. is_open s && not (p s.0)) slots
+
+    T : GroupTable
+    T = open_groups slots
+
+    go : (k : List Value) (o : Option (List Tally)) → open_groups R ≡ filter (λ (e : GroupEntry). not (p e.0)) T
+        → open_groups (cond (is_some o && not (p k)) ((k, o) ∷ R) R) ≡ filter (λ (e : GroupEntry). not (p e.0)) (with_open k o T)
+    go k None ih = ih
+    go k (Some ts) ih = at (p k)
+      where
+        at : (b : Bool) → open_groups (cond (not b) ((k, Some ts) ∷ R) R) ≡ cond (not b) ((k, ts) ∷ filter (λ (e : GroupEntry). not (p e.0)) T) (filter (λ (e : GroupEntry). not (p e.0)) T)
+        at true = ih
+        at false = ap (λ (es : GroupTable). (k, ts) ∷ es) ih
+
+pub open_filter : (slots : List GroupSlot) → open_groups (filter is_open slots) ≡ open_groups slots
+open_filter [] = refl
+open_filter (s ∷ slots) = go s.0 s.1 (open_filter slots)
+  where
+    go : (k : List Value) (o : Option (List Tally)) → open_groups (filter is_open slots) ≡ open_groups slots
+        → open_groups (cond (is_some o) ((k, o) ∷ filter is_open slots) (filter is_open slots)) ≡ with_open k o (open_groups slots)
+    go k None ih = ih
+    go k (Some ts) ih = ap (λ (es : GroupTable). (k, ts) ∷ es) ih
+
+-- what is left is ready
+pub ready_filter : (test : List Value → Bool) (slots : List GroupSlot) → IsReady (lookup test (filter is_open slots))
+ready_filter test [] = tt
+ready_filter test (s ∷ slots) = go s.0 s.1 (ready_filter test slots)
+  where
+    go : (k : List Value) (o : Option (List Tally)) → IsReady (lookup test (filter is_open slots)) → IsReady (lookup test (cond (is_some o) ((k, o) ∷ filter is_open slots) (filter is_open slots)))
+    go k None ih = ih
+    go k (Some ts) ih = at (test k)
+      where
+        at : (b : Bool) → IsReady (cond b (Some (Some ts)) (lookup test (filter is_open slots)))
+        at true = tt
+        at false = ih
+
+pub states_filter : (count : ℕ) (spec : GroupSpec) (p : GroupSlot → Bool) (slots : List GroupSlot) → AllStates count spec slots → AllStates count spec (filter p slots)
+states_filter count spec p slots h = All-filter p (λ (s : GroupSlot). IfSome s.1 (AreStates count (length spec.aggs))) slots h
+
+-- ---- the group of one key
+
+-- what was looked up
+pub open_found : (key : List Value) (slots : List GroupSlot) → IsReady (lookup (row_eq key) slots) → lookup (row_eq key) (open_groups slots) ≡ states_in (lookup (row_eq key) slots)
+open_found key [] r = refl
+open_found key (s ∷ slots) r = go s.0 s.1 (row_eq key s.0) refl r (open_found key slots)
+  where
+    L : Option (Option (List Tally))
+    L = lookup (row_eq key) slots
+
+    go : (k : List Value) (o : Option (List Tally)) (b : Bool) → row_eq key k ≡ b → IsReady (cond b (Some o) L) → (IsReady L → lookup (row_eq key) (open_groups slots) ≡ states_in L)
+        → lookup (row_eq key) (with_open k o (open_groups slots)) ≡ states_in (cond b (Some o) L)
+    go k None true e r ih = absurd r
+    go k None false e r ih = ih r
+    go k (Some ts) true e r ih = ap (λ (b : Bool). cond b (Some ts) (lookup (row_eq key) (open_groups slots))) e
+    go k (Some ts) false e r ih = ap (λ (b : Bool). cond b (Some ts) (lookup (row_eq key) (open_groups slots))) e ∙ ih r
+
+-- the states of a key that is new or open
+pub open_put : (key : List Value) (ts : List Tally) (slots : List GroupSlot) → IsReady (lookup (row_eq key) slots) → open_groups (insert_entry row_eq slots key (Some ts)) ≡ insert_entry row_eq (open_groups slots) key ts
+open_put key ts [] r = refl
+open_put key ts (s ∷ slots) r = go s.0 s.1 (row_eq key s.0) refl r (open_put key ts slots)
+  where
+    L : Option (Option (List Tally))
+    L = lookup (row_eq key) slots
+
+    more : List GroupSlot
+    more = insert_entry row_eq slots key (Some ts)
+
+    T : GroupTable
+    T = open_groups slots
+
+    go : (k : List Value) (o : Option (List Tally)) (b : Bool) → row_eq key k ≡ b → IsReady (cond b (Some o) L) → (IsReady L → open_groups more ≡ insert_entry row_eq T key ts)
+        → open_groups (cond b ((k, Some ts) ∷ slots) ((k, o) ∷ more)) ≡ insert_entry row_eq (with_open k o T) key ts
+    go k None true e r ih = absurd r
+    go k None false e r ih = ih r
+    go k (Some old) true e r ih = ap (λ (b : Bool). cond b ((k, ts) ∷ T) ((k, old) ∷ insert_entry row_eq T key ts)) (sym e)
+    go k (Some old) false e r ih = ap (λ (es : GroupTable). (k, old) ∷ es) (ih r) ∙ ap (λ (b : Bool). cond b ((k, ts) ∷ T) ((k, old) ∷ insert_entry row_eq T key ts)) (sym e)
+
+-- to write what was found is to put it in
+pub set_put : (key : List Value) (o w : Option (List Tally)) (slots : List GroupSlot) → lookup (row_eq key) slots ≡ Some o → set_value (row_eq key) slots w ≡ insert_entry row_eq slots key w
+set_put key o w [] e = cc
+set_put key o w (s ∷ slots) e = go (row_eq key s.0) e (set_put key o w slots)
+  where
+    go : (b : Bool) → cond b (Some s.1) (lookup (row_eq key) slots) ≡ Some o → (lookup (row_eq key) slots ≡ Some o → set_value (row_eq key) slots w ≡ insert_entry row_eq slots key w)
+        → cond b ((s.0, w) ∷ slots) (s ∷ set_value (row_eq key) slots w) ≡ cond b ((s.0, w) ∷ slots) (s ∷ insert_entry row_eq slots key w)
+    go true e f = refl
+    go false e f = ap (λ (ss : List GroupSlot). s ∷ ss) (f e)
+
+pub set_none : (key : List Value) (w : Option (List Tally)) (slots : List GroupSlot) → lookup (row_eq key) slots ≡ None → set_value (row_eq key) slots w ≡ slots
+set_none key w [] e = refl
+set_none key w (s ∷ slots) e = go (row_eq key s.0) e (set_none key w slots)
+  where
+    go : (b : Bool) → cond b (Some s.1) (lookup (row_eq key) slots) ≡ None → (lookup (row_eq key) slots ≡ None → set_value (row_eq key) slots w ≡ slots)
+        → cond b ((s.0, w) ∷ slots) (s ∷ set_value (row_eq key) slots w) ≡ s ∷ slots
+    go true e f = cc
+    go false e f = ap (λ (ss : List GroupSlot). s ∷ ss) (f e)
+
+pub states_set : (count : ℕ) (spec : GroupSpec) (test : List Value → Bool) (w : Option (List Tally)) (slots : List GroupSlot) → IfSome w (AreStates count (length spec.aggs)) → AllStates count spec slots → AllStates count spec (set_value test slots w)
+states_set count spec test w [] s h = h
+states_set count spec test w (e ∷ slots) s h = go (test e.0) (states_set count spec test w slots s (All-tail P e slots h))
+  where
+    P : GroupSlot → Type 0
+    P k = IfSome k.1 (AreStates count (length spec.aggs))
+
+    go : (b : Bool) → AllStates count spec (set_value test slots w) → AllStates count spec (cond b ((e.0, w) ∷ slots) (e ∷ set_value test slots w))
+    go true ih = All-cons P (e.0, w) slots s (All-tail P e slots h)
+    go false ih = All-cons P e (set_value test slots w) (All-head P e slots h) ih
+
+-- ---- patterns that match one key alone
+
+-- where the key is none of these, no group matches
+none_match : (patterns : List Pattern) (key k : List Value) (slots : List GroupSlot) → MatchesOnly patterns key → key ≡ k → AllByRecursion (λ y. row_eq k y ≡ false) (keys_of slots)
+    → (filter (λ (e : GroupEntry). matches_row patterns e.0) (open_groups slots) ≡ []) × (filter (λ (e : GroupEntry). not (matches_row patterns e.0)) (open_groups slots) ≡ open_groups slots)
+none_match patterns key k [] only q a = (refl, refl)
+none_match patterns key k (s ∷ slots) only q a = go s.0 s.1 (only s.0 ∙ ap (λ (j : List Value). row_eq j s.0) q ∙ a.0) (none_match patterns key k slots only q a.1)
+  where
+    T : GroupTable
+    T = open_groups slots
+
+    go : (j : List Value) (o : Option (List Tally)) → matches_row patterns j ≡ false
+        → (filter (λ (e : GroupEntry). matches_row patterns e.0) T ≡ []) × (filter (λ (e : GroupEntry). not (matches_row patterns e.0)) T ≡ T)
+        → (filter (λ (e : GroupEntry). matches_row patterns e.0) (with_open j o T) ≡ []) × (filter (λ (e : GroupEntry). not (matches_row patterns e.0)) (with_open j o T) ≡ with_open j o T)
+    go j None f ih = ih
+    go j (Some ts) f ih = (
+      ap (λ (b : Bool). cond b ((j, ts) ∷ filter (λ (e : GroupEntry). matches_row patterns e.0) T) (filter (λ (e : GroupEntry). matches_row patterns e.0) T)) f ∙ ih.0,
+      ap (λ (b : Bool). cond (not b) ((j, ts) ∷ filter (λ (e : GroupEntry). not (matches_row patterns e.0)) T) (filter (λ (e : GroupEntry). not (matches_row patterns e.0)) T)) f ∙ ap (λ (es : GroupTable). (j, ts) ∷ es) ih.1,
+    )
+
+pub only_closed : (patterns : List Pattern) (key : List Value) (slots : List GroupSlot) → MatchesOnly patterns key → IsDistinct row_eq (keys_of slots)
+    → (closed_rows patterns (open_groups slots) ≡ state_rows key (states_in (lookup (row_eq key) slots)))
+    × (open_groups (set_value (row_eq key) slots None) ≡ filter (λ (e : GroupEntry). not (matches_row patterns e.0)) (open_groups slots))
+unfolding IsDistinct
+only_closed patterns key [] only d = (refl, refl)
+only_closed patterns key (s ∷ slots) only d = go s.0 s.1 (row_eq key s.0) refl (only s.0) d.0 (only_closed patterns key slots only d.1)
+  where
+    T : GroupTable
+    T = open_groups slots
+
+    L : Option (Option (List Tally))
+    L = lookup (row_eq key) slots
+
+    left : GroupTable → GroupTable
+    left es = filter (λ (e : GroupEntry). not (matches_row patterns e.0)) es
+
+    go : (k : List Value) (o : Option (List Tally)) (b : Bool) → row_eq key k ≡ b → matches_row patterns k ≡ row_eq key k → AllByRecursion (λ y. row_eq k y ≡ false) (keys_of slots)
+        → (closed_rows patterns T ≡ state_rows key (states_in L)) × (open_groups (set_value (row_eq key) slots None) ≡ left T)
+        → (closed_rows patterns (with_open k o T) ≡ state_rows key (states_in (cond b (Some o) L)))
+        × (open_groups (cond b ((k, None) ∷ slots) ((k, o) ∷ set_value (row_eq key) slots None)) ≡ left (with_open k o T))
+    go k None true e m a ih =
+        let n = none_match patterns key k slots only (row_same_if_equal key k e) a in
+        (ap (λ (es : GroupTable). map row_tuple es) n.0, sym n.1)
+    go k None false e m a ih = ih
+    go k (Some ts) true e m a ih =
+        let q = row_same_if_equal key k e in
+        let n = none_match patterns key k slots only q a in (
+          ap (λ (b : Bool). map row_tuple (cond b ((k, ts) ∷ filter (λ (e : GroupEntry). matches_row patterns e.0) T) (filter (λ (e : GroupEntry). matches_row patterns e.0) T))) (m ∙ e)
+              ∙ ap (λ (es : GroupTable). map row_tuple ((k, ts) ∷ es)) n.0 ∙ ap (λ (j : List Value). state_rows j (Some ts)) (sym q),
+          sym (ap (λ (b : Bool). cond (not b) ((k, ts) ∷ left T) (left T)) (m ∙ e) ∙ n.1),
+        )
+    go k (Some ts) false e m a ih = (
+      ap (λ (b : Bool). map row_tuple (cond b ((k, ts) ∷ filter (λ (e : GroupEntry). matches_row patterns e.0) T) (filter (λ (e : GroupEntry). matches_row patterns e.0) T))) (m ∙ e) ∙ ih.0,
+      ap (λ (es : GroupTable). (k, ts) ∷ es) ih.1 ∙ sym (ap (λ (b : Bool). cond (not b) ((k, ts) ∷ left T) (left T)) (m ∙ e)),
+    )

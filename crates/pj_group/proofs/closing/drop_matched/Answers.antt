@@ -1,7 +1,0 @@
-use Rattle.std.proofs.Common.{not, rules}
-use Rattle.indexmap.proofs.CallerLemmas.{filter-RetainsPairs}
-use Rattle.pj_laws.specs.Patterns.{matches_row}
-use Rattle.pj_group.proofs.closing.drop_matched.Goals as goal
-
-pub returns : goal.returns
-returns c = filter-RetainsPairs _ (λ e. not (matches_row c.args.kept.now e.0)) _ (λ k v b w g call. search rules) _ _ c.retain.ensures.filtered
