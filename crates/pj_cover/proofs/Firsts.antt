@@ -1,5 +1,5 @@
 -- The first punctuation that a row matches has the least number, and numbers go on rising.
-use Rattle.std.proofs.Common.{◌≡◌, ◌<◌, ◌≤◌, ℕ, Bool, true, false, cond, List, [], ◌∷◌, ◌++◌, Option, Some, None, refl, sym, ◌∙◌, inl, inr, arith}
+use Rattle.std.proofs.Common.{◌≡◌, ◌+◌, ◌<◌, ◌≤◌, ℕ, Bool, true, false, cond, List, [], ◌∷◌, ◌++◌, Option, Some, None, refl, sym, ◌∙◌, inl, inr, arith}
 use Rattle.std.proofs.lemmas.Bool.{false≢true}
 use Rattle.pj_value.specs.declared.values.Value.{Value}
 use Rattle.pj_pattern.specs.Columns.{matches_row}
@@ -14,6 +14,11 @@ all-above-push n (x ∷ ks) k all lt = (all.0, all-above-push n ks k all.1 lt)
 pub rising-push : (ks : List NumberedPunct) (k : NumberedPunct) → AreRising ks → IsAbove k.number ks → AreRising (ks ++ k ∷ [])
 rising-push [] k rises above = (tt, tt)
 rising-push (x ∷ ks) k rises above = (all-above-push x.number ks k rises.0 above.0, rising-push ks k rises.1 above.1)
+
+-- the next number is above one more
+pub above_push : (n : ℕ) (ks : List NumberedPunct) (k : NumberedPunct) → IsAbove n ks → k.number ≡ n → IsAbove (n + 1) (ks ++ k ∷ [])
+above_push n [] k above e = (omega (arith, e), tt)
+above_push n (x ∷ ks) k above e = (omega (arith, above.0), above_push n ks k above.1 e)
 
 -- what is matched among these has a number above
 matched-above : (n m : ℕ) (ks : List NumberedPunct) (row : List Value) → AllAbove n ks → IsMatched ks row m → n < m

@@ -1,4 +1,8 @@
-pub mod Cells
+pub mod CellValues
+pub mod Cellwise
+pub mod Chains
+pub mod Lookups
+pub mod Filing
 pub mod Classes
 pub mod Constants
 pub mod Covering

@@ -1,5 +1,5 @@
 -- A join of three inputs in a chain, for the tests.
-use Rattle.std.specs.Prelude.{ℕ, true, false, ◌==◌, if◌then◌else◌, List, [], ◌∷◌, Bool}
+use Rattle.std.specs.Prelude.{ℕ, true, false, ◌==◌, if◌then◌else◌, List, [], ◌∷◌, Bool, codes}
 use Rattle.pj_value.specs.declared.values.Value.{Value}
 use Rattle.pj_value.specs.declared.values.Kind.TheVariants.{Int}
 use Rattle.pj_shape.specs.declared.columns.Column.{Column}
@@ -8,7 +8,7 @@ use Rattle.pj_shape.specs.declared.joins.CertStep.{CertStep}
 use Rattle.pj_shape.specs.declared.joins.JoinSpec.{JoinSpec}
 
 abbrev pub number : Column
-number = record { name = 110 ∷ []; kind = Int }
+number = record { name = codes "n"; kind = Int }
 
 abbrev pub pair : List Column
 pair = number ∷ number ∷ []

@@ -3,7 +3,10 @@
 #![tactic(auto)]
 
 mod asked;
+mod cells;
 mod given;
+mod index;
+mod prints;
 mod ripeness;
 mod rows;
 mod store;

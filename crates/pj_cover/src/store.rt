@@ -1,17 +1,15 @@
 // A store of punctuations with numbers.
 ghost use Rattle.std.specs.Prelude.{◌≡◌, [], ◌∷◌, ◌++◌, length, IfOk, OnOk, OnErr};
-ghost use Rattle.std.specs.Prelude.{◌+◌, ◌≤◌, ◌<◌, ◌&&◌, nat_lt, Option, drop, if◌then◌else◌};
-ghost use Rattle.std.specs.List.{list_any, slice_get};
-ghost use Rattle.std.specs.Option.{option_copied};
-ghost use Rattle.pj_value.specs.declared.values.Value.{Value as AnyValue};
-ghost use Rattle.pj_laws.specs.Patterns.{covers, is_wild};
-ghost use Rattle.pj_cover.specs.Givens.{cell_of, covers_cell, instance_of, marked};
+ghost use Rattle.pj_cover.specs.Givens.{instance_of, marked};
+ghost use Rattle.pj_cover.specs.Indexed.{is_below};
 ghost use Rattle.pj_cover.specs.Stores.{covered_below, first_match_of, IsAbove, IsLeastMatch};
 
 use crate::Given;
-use pj_pattern::{Pattern, Punct, Shape};
+use crate::cells::Instance;
+use crate::index::Index;
+use pj_pattern::Punct;
 use pj_shape::Scheme;
-use pj_value::{List, NoMemory, Row, Value};
+use pj_value::{List, NoMemory, Row};
 use std::alloc::Global;
 use std::marker::Model;
 
@@ -26,18 +24,21 @@ pub struct NumberedPunct {
 /// of a file or the tickets of a join. A tuple that matches one of them breaks its promise.
 #[derive(Drop)]
 pub struct PunctStore {
+    alloc: Global,
     arity: u32,
     kept: List<NumberedPunct>,
+    index: Index,
 }
 
 impl Model for PunctStore {
-    ghost use Rattle.pj_cover.specs.Stores.{Store, AreRising};
+    ghost use Rattle.pj_cover.specs.Stores.{Store};
+    ghost use Rattle.pj_cover.specs.Indexed.{IsIndexed};
 
     ghost Value = { Store };
 
     ghost view = { λ s. record { arity = s.arity; kept = s.kept } };
 
-    ghost invariant = { λ s. AreRising s.kept };
+    ghost invariant = { λ s. IsIndexed s.kept s.index };
 }
 
 impl PunctStore {
@@ -46,8 +47,10 @@ impl PunctStore {
         ensures { IfOk result (λ store. (store.arity ≡ arity) × (store.kept ≡ [])) }
     {
         Ok(PunctStore {
+            alloc,
             arity,
             kept: List::new(alloc),
+            index: Index::new(alloc),
         })
     }
 
@@ -60,8 +63,15 @@ impl PunctStore {
         ensures ok { OnOk result (self.new.kept ≡ self.old.kept ++ record { punct = punct; number = number } ∷ []) }
         ensures err { OnErr result (self.new.kept ≡ self.old.kept) }
     {
+        let at = self.kept.len();
         self.kept.push(NumberedPunct { punct, number })?;
-        Ok(())
+        match self.index.file(self.alloc, self.kept.as_slice(), at) {
+            Ok(()) => Ok(()),
+            Err(stop) => {
+                self.kept.truncate(at);
+                Err(stop)
+            }
+        }
     }
 
     /// The least number of a punctuation that the row matches; `None` exactly where there is none. It asks one punctuation
@@ -70,7 +80,7 @@ impl PunctStore {
         ensures first { result ≡ first_match_of self.now.kept row.now }
         ensures least { IsLeastMatch self.now.kept row.now result }
     {
-        first_in(self.kept.as_slice(), row)
+        self.index.first(self.kept.as_slice(), row)
     }
 
     /// Whether a punctuation with a number below this one covers the instance of the scheme with these constants: it has a
@@ -81,74 +91,21 @@ impl PunctStore {
         requires constants { length given.now ≡ marked scheme.now }
         ensures { result ≡ covered_below self.now.kept below (instance_of scheme.now given.now) }
     {
-        any_covers(self.kept.as_slice(), scheme, given, below)
-    }
-}
-
-fn any_covers(kept: &[NumberedPunct], scheme: &Scheme, given: &Given<'_>, below: u64) -> bool
-    ensures { result ≡ covered_below kept.now below (instance_of scheme.now given.now) }
-{
-    kept.iter().any(|one| one.number < below && covers(one.punct.as_slice(), scheme, given))
-}
-
-// Whether the patterns cover the instance of the scheme with these constants.
-fn covers(patterns: &[Pattern], scheme: &Scheme, given: &Given<'_>) -> bool
-    ensures { result ≡ covers patterns.now (instance_of scheme.now given.now) }
-{
-    if patterns.len() != scheme.len() {
-        return false;
-    }
-    let mut taken = 0;
-    for column in 0..patterns.len() {
-        let is_marked = *scheme.at(column);
-        if !covers_cell(&patterns[column], is_marked, given.get(taken)) {
-            return false;
+        let instance = Instance { scheme, given };
+        let kept = self.kept.as_slice();
+        if is_below(self.index.first_with(scheme, kept, &instance), below) {
+            return true;
         }
-        taken += one_if(is_marked);
-    }
-    true
-}
-
-fn one_if(test: bool) -> usize
-    ensures { result ≡ (if test then 1 else 0) }
-{
-    if test { 1 } else { 0 }
-}
-
-// Whether the pattern matches the constant of a marked column, or is a wildcard in another one.
-fn covers_cell(pattern: &Pattern, is_marked: bool, constant: Option<&Value>) -> bool
-    ensures { result ≡ covers_cell pattern.now (cell_of is_marked (option_copied constant.entry)) }
-{
-    if !is_marked {
-        return is_wild(pattern);
-    }
-    match constant {
-        None => is_wild(pattern),
-        Some(v) => pattern.matches(v),
+        is_below(self.index.first(kept, &instance), below)
     }
 }
 
-fn is_wild(pattern: &Pattern) -> bool
-    ensures { result ≡ is_wild pattern.now }
+// Whether a number is there and below the bound.
+fn is_below(found: Option<u64>, below: u64) -> bool
+    ensures { result ≡ is_below found below }
 {
-    match pattern.shape() {
-        Shape::Wild => true,
-        Shape::Empty => false,
-        Shape::Constant(_) => false,
-        Shape::Range(_, _) => false,
-        Shape::Members(_) => false,
+    match found {
+        None => false,
+        Some(number) => number < below,
     }
-}
-
-// The number of the first of these punctuations that the row matches.
-fn first_in(kept: &[NumberedPunct], row: &Row) -> Option<u64>
-    ensures { result ≡ first_match_of kept.now row.now }
-{
-    for at in 0..kept.len() {
-        let one = &kept[at];
-        if one.punct.matches(row) {
-            return Some(one.number);
-        }
-    }
-    None
 }

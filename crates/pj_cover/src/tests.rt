@@ -1,8 +1,11 @@
 // What no clause says: that the calls succeed with ample memory, on worked punctuations.
-ghost use Rattle.std.specs.Prelude.{◌≡◌, ◌∷◌, [], ℕ, map, true, false, not, length, IfOk};
+ghost use Rattle.std.specs.Prelude.{◌≡◌, ◌<◌, ◌+◌, ◌∷◌, [], ℕ, map, true, false, not, length, IfOk, OnOk};
+ghost use Rattle.pj_cover.specs.Givens.{marked};
+ghost use Rattle.pj_cover.specs.Stores.{IsAbove};
 ghost use Rattle.pj_cover.specs.Chain.{at, chain, chain_cert, chain_schemes, firsts, number, pair, pairs, seconds, two_rows};
 
 use super::*;
+use crate::cells::{Cells, Instance};
 use pj_pattern::{Pattern, Punct};
 use pj_shape::{Cert, CertStep, ClassCol, Column, JoinSpec, Schema, Scheme, Schemes};
 use pj_value::{Kind, List, NoMemory, Row, Value};
@@ -123,6 +126,191 @@ fn lists_cover_their_members(rt: HostRuntime) {
     match five_or_six(alloc) {
         Err(_) => assert!(rt; false),
         Ok(pattern) => assert!(rt; covers_five(alloc, pattern, true, 4) == Ok(true)),
+    }
+}
+
+// A store of two columns, and its punctuations once more in a plain list.
+#[derive(Drop)]
+struct Both {
+    store: PunctStore,
+    plain: List<NumberedPunct>,
+}
+
+// A pattern of one of six forms about this value.
+fn pattern_of(alloc: Global, form: u64, value: u8) -> Result<Pattern, NoMemory> {
+    let value = i64::from(value);
+    match form {
+        0 => Ok(Pattern::wild()),
+        1 => Ok(Pattern::constant(Value::Int(value))),
+        2 => Ok(Pattern::range(None, Some(Value::Int(value)))),
+        3 => Ok(Pattern::range(Some(Value::Int(value)), None)),
+        4 => Ok(Pattern::range(Some(Value::Int(value)), Some(Value::Int(value + 2)))),
+        _ => two_values(alloc, value, value + 3),
+    }
+}
+
+fn two_values(alloc: Global, one: i64, other: i64) -> Result<Pattern, NoMemory> {
+    let mut values = List::new(alloc);
+    values.push(Value::Int(one))?;
+    values.push(Value::Int(other))?;
+    Pattern::list(alloc, values)
+}
+
+// The punctuations of two columns of all forms, by numbers below 72.
+fn punct_of(alloc: Global, n: u64) -> Result<Punct, NoMemory>
+    requires { n < 72 }
+    ensures { IfOk result (λ punct. length punct ≡ 2) }
+{
+    let mut patterns = List::new(alloc);
+    patterns.push(pattern_of(alloc, n % 6, (n * 7 % 11) as u8)?)?;
+    patterns.push(pattern_of(alloc, n / 6 % 6, (n * 5 % 11) as u8)?)?;
+    Ok(Punct::of(patterns))
+}
+
+// One punctuation more, with this number.
+fn add(alloc: Global, both: &mut Both, number: u64) -> Result<(), NoMemory>
+    requires number { number < 72 }
+    requires above { IsAbove number both.old.store.kept }
+    requires arity { both.old.store.arity ≡ 2 }
+    ensures above { OnOk result (IsAbove (number + 1) both.new.store.kept) }
+    ensures arity { both.new.store.arity ≡ 2 }
+{
+    both.store.push(punct_of(alloc, 71 - number)?, number)?;
+    both.plain.push(NumberedPunct {
+        punct: punct_of(alloc, 71 - number)?,
+        number,
+    })?;
+    Ok(())
+}
+
+fn all_forms(alloc: Global) -> Result<Both, NoMemory>
+    ensures { IfOk result (λ both. both.store.arity ≡ 2) }
+{
+    let mut both = Both {
+        store: PunctStore::new(alloc, 2)?,
+        plain: List::new(alloc),
+    };
+    for number in 0..72 {
+        add(alloc, &mut both, number)?;
+    }
+    Ok(both)
+}
+
+// The number of the first punctuation that the row matches, by a walk over all.
+fn first_by_walk(kept: &[NumberedPunct], row: &Row) -> Option<u64> {
+    for one in kept {
+        if one.punct.matches(row) {
+            return Some(one.number);
+        }
+    }
+    None
+}
+
+fn agrees_on_row(alloc: Global, both: &Both, one: i64, other: i64) -> Result<bool, NoMemory> {
+    let row = pair_row(alloc, one, other)?;
+    Ok(both.store.first_match(&row) == first_by_walk(both.plain.as_slice(), &row))
+}
+
+fn agrees_on_rows(alloc: Global) -> Result<bool, NoMemory> {
+    let both = all_forms(alloc)?;
+    for n in 0..196 {
+        if !agrees_on_row(alloc, &both, n % 14, n / 14)? {
+            return Ok(false);
+        }
+    }
+    Ok(true)
+}
+
+#[test]
+fn the_first_match_is_that_of_a_walk(rt: HostRuntime) {
+    assert!(rt; agrees_on_rows(rt.alloc()) == Ok(true));
+}
+
+// Whether one with a number below the bound covers the instance, by a walk over all.
+fn covered_by_walk(kept: &[NumberedPunct], instance: &Instance<'_, '_>, below: u64) -> bool {
+    for one in kept {
+        if one.number < below && instance.are_covered_by(&one.punct) {
+            return true;
+        }
+    }
+    false
+}
+
+fn two_marks(alloc: Global, one: bool, other: bool) -> Result<Scheme, NoMemory>
+    ensures { IfOk result (λ marks. marks ≡ one ∷ other ∷ []) }
+{
+    let mut marks = List::new(alloc);
+    marks.push(one)?;
+    marks.push(other)?;
+    Ok(Scheme::of(marks))
+}
+
+// The constants of the marked ones of two columns.
+fn given_for<'a>(marks: (bool, bool), one: &'a Value, other: &'a Value) -> Given<'a>
+    ensures { length result ≡ marked (marks.0 ∷ marks.1 ∷ []) }
+{
+    let mut given = Given::new();
+    match marks {
+        (true, true) => {
+            given.push(one);
+            given.push(other);
+            given
+        }
+        (true, false) => {
+            given.push(one);
+            given
+        }
+        (false, true) => {
+            given.push(other);
+            given
+        }
+        (false, false) => given,
+    }
+}
+
+fn agrees_on_instance(
+    alloc: Global,
+    both: &Both,
+    marks: (bool, bool),
+    n: i64,
+    below: u64,
+) -> Result<bool, NoMemory>
+    requires { both.now.store.arity ≡ 2 }
+{
+    let scheme = two_marks(alloc, marks.0, marks.1)?;
+    let one = Value::Int(n % 14);
+    let other = Value::Int(n / 14);
+    let given = given_for(marks, &one, &other);
+    let instance = Instance {
+        scheme: &scheme,
+        given: &given,
+    };
+    let by_walk = covered_by_walk(both.plain.as_slice(), &instance, below);
+    Ok(both.store.covers(&scheme, &given, below) == by_walk)
+}
+
+fn agrees_on_instances(alloc: Global, marks: (bool, bool), below: u64) -> Result<bool, NoMemory> {
+    let both = all_forms(alloc)?;
+    for n in 0..196 {
+        if !agrees_on_instance(alloc, &both, marks, n, below)? {
+            return Ok(false);
+        }
+    }
+    Ok(true)
+}
+
+#[test]
+fn cover_is_that_of_a_walk(rt: HostRuntime) {
+    let table = [
+        (true, true, 20),
+        (true, false, 40),
+        (false, true, 60),
+        (false, false, 72),
+        (true, true, 0),
+        (true, false, 72),
+    ];
+    for (one, other, below) in table {
+        assert!(rt; agrees_on_instances(rt.alloc(), (one, other), below) == Ok(true));
     }
 }
 

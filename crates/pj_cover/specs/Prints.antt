@@ -1,0 +1,48 @@
+-- Prints of constants, by which punctuations with constants are found.
+use Rattle.std.specs.Prelude.{ℕ, ◌+◌, ◌*◌, ◌%◌, ◌^◌, Bool, true, false, List, [], ◌∷◌, Option, Some, None, length, map, nat_eq, if◌then◌else◌, unsigned_abs, int_lt, pos}
+use Rattle.pj_value.specs.declared.values.Value.{Value}
+use Rattle.pj_value.specs.declared.values.Value.TheVariants.{Int, Text}
+use Rattle.pj_pattern.specs.declared.pattern.Form.TheVariants.{Wild, Empty, Constant, Range, Members}
+use Rattle.pj_laws.specs.Patterns.{Pattern}
+
+abbrev pub next_print : ℕ → ℕ → ℕ
+next_print print n = ((print * 1099511628211) % 2 ^ 64 + n) % 2 ^ 64
+
+abbrev pub with_bytes : ℕ → List ℕ → ℕ
+with_bytes print [] = print
+with_bytes print (byte ∷ bytes) = with_bytes (next_print print byte) bytes
+
+-- numbers and their negatives have different ones
+abbrev pub with_value : ℕ → Value → ℕ
+with_value print (Int n) = next_print (if int_lt n (pos 0) then next_print print 1 else print) (unsigned_abs n)
+with_value print (Text bytes) = with_bytes print bytes
+
+-- one cell more, where it is marked and has a value
+abbrev pub with_cell : ℕ → Bool → Option Value → ℕ
+with_cell print false cell = print
+with_cell print true None = print
+with_cell print true (Some v) = with_value print v
+
+abbrev pub print_from : ℕ → List Bool → List (Option Value) → ℕ
+print_from print [] cells = print
+print_from print (mark ∷ marks) [] = print
+print_from print (mark ∷ marks) (cell ∷ cells) = print_from (with_cell print mark cell) marks cells
+
+-- a number of 64 bits: cells with the same values in the marked columns have the same
+abbrev pub print_of : List Bool → List (Option Value) → ℕ
+print_of marks cells = if nat_eq (length marks) (length cells) then print_from 0 marks cells else 0
+
+-- the cells of a row
+abbrev pub row_cells : List Value → List (Option Value)
+row_cells row = map Some row
+
+abbrev pub constant_in : Pattern → Option Value
+constant_in Wild = None
+constant_in Empty = None
+constant_in (Constant c) = Some c
+constant_in (Range low high) = None
+constant_in (Members ms) = None
+
+-- the constants of a punctuation, each in its column
+abbrev pub constants_of : List Pattern → List (Option Value)
+constants_of ps = map constant_in ps

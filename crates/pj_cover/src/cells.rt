@@ -1,0 +1,168 @@
+// The cells that punctuations are asked to cover: those of a row, or of an instance of a scheme.
+ghost use Rattle.std.specs.Prelude.{◌≡◌, ◌<◌, List, Option, length, if◌then◌else◌};
+ghost use Rattle.std.specs.Option.{option_copied};
+ghost use Rattle.pj_value.specs.declared.values.Value.{Value as AnyValue};
+ghost use Rattle.pj_laws.specs.Patterns.{covers, is_wild};
+ghost use Rattle.pj_cover.specs.Givens.{cell_of, covers_cell, instance_of, marked};
+ghost use Rattle.pj_cover.specs.Prints.{constant_in, constants_of, print_of, row_cells};
+
+use crate::Given;
+use crate::prints::with_cell;
+use pj_pattern::{Pattern, Punct, Shape};
+use pj_shape::Scheme;
+use pj_value::{Row, Value};
+
+/// Cells, each with a value or with none.
+pub trait Cells {
+    ghost cells: { Self → List (Option AnyValue) };
+
+    /// The print of the values in the marked columns.
+    fn print(&self, marks: &[bool]) -> u64
+        ensures { result ≡ print_of marks.now (cells self.now) };
+
+    /// Whether the punctuation has a wildcard in each column without a value, and matches the value of each other one.
+    fn are_covered_by(&self, punct: &Punct) -> bool
+        ensures { result ≡ covers punct.now (cells self.now) };
+}
+
+/// An instance of a scheme with these constants, lent.
+#[derive(Drop)]
+pub struct Instance<'a, 'b> {
+    pub scheme: &'a Scheme,
+    pub given: &'a Given<'b>,
+}
+
+impl Cells for Row {
+    ghost cells = { row_cells };
+
+    fn print(&self, marks: &[bool]) -> u64 {
+        if marks.len() != self.len() {
+            return 0;
+        }
+        let mut print = 0;
+        for column in 0..marks.len() {
+            print = with_cell(print, marks[column], self.get(column));
+        }
+        print
+    }
+
+    #[tactic(auto, using(crate::proofs::Cellwise::row_covered))]
+    fn are_covered_by(&self, punct: &Punct) -> bool {
+        punct.matches(self)
+    }
+}
+
+impl<'a, 'b> Cells for Instance<'a, 'b> {
+    ghost use Rattle.pj_cover.specs.Givens.{instance_of};
+
+    ghost cells = { λ i. instance_of i.scheme.now i.given.now };
+
+    fn print(&self, marks: &[bool]) -> u64 {
+        instance_print(marks, self.scheme, self.given)
+    }
+
+    fn are_covered_by(&self, punct: &Punct) -> bool {
+        covers(punct.as_slice(), self.scheme, self.given)
+    }
+}
+
+fn instance_print(marks: &[bool], scheme: &Scheme, given: &Given<'_>) -> u64
+    ensures { result ≡ print_of marks.now (instance_of scheme.now given.now) }
+{
+    if marks.len() != scheme.len() {
+        return 0;
+    }
+    let mut print = 0;
+    let mut taken = 0;
+    for column in 0..marks.len() {
+        let is_given = *scheme.at(column);
+        let cell = cell_of(is_given, given.get(taken));
+        print = with_cell(print, marks[column], cell);
+        taken += one_if(is_given);
+    }
+    print
+}
+
+// The cell of a column: the next constant where it is marked.
+fn cell_of<'a>(is_marked: bool, constant: Option<&'a Value>) -> Option<&'a Value>
+    ensures { option_copied result ≡ cell_of is_marked (option_copied constant.entry) }
+{
+    if is_marked { constant } else { None }
+}
+
+/// The print of a punctuation's constants in the marked columns.
+pub fn constants_print(marks: &[bool], patterns: &[Pattern]) -> u64
+    ensures { result ≡ print_of marks.now (constants_of patterns.now) }
+{
+    if marks.len() != patterns.len() {
+        return 0;
+    }
+    let mut print = 0;
+    for column in 0..marks.len() {
+        print = with_cell(print, marks[column], constant_in(&patterns[column]));
+    }
+    print
+}
+
+/// The value of a constant.
+pub fn constant_in(pattern: &Pattern) -> Option<&Value>
+    ensures { option_copied result ≡ constant_in pattern.now }
+{
+    match pattern.shape() {
+        Shape::Wild => None,
+        Shape::Empty => None,
+        Shape::Constant(value) => Some(value),
+        Shape::Range(_, _) => None,
+        Shape::Members(_) => None,
+    }
+}
+
+// Whether the patterns cover the instance of the scheme with these constants.
+fn covers(patterns: &[Pattern], scheme: &Scheme, given: &Given<'_>) -> bool
+    ensures { result ≡ covers patterns.now (instance_of scheme.now given.now) }
+{
+    if patterns.len() != scheme.len() {
+        return false;
+    }
+    let mut taken = 0;
+    for column in 0..patterns.len() {
+        let is_marked = *scheme.at(column);
+        if !covers_cell(&patterns[column], is_marked, given.get(taken)) {
+            return false;
+        }
+        taken += one_if(is_marked);
+    }
+    true
+}
+
+fn one_if(test: bool) -> usize
+    ensures { result ≡ (if test then 1 else 0) }
+{
+    if test { 1 } else { 0 }
+}
+
+// Whether the pattern matches the constant of a marked column, or is a wildcard in another one.
+fn covers_cell(pattern: &Pattern, is_marked: bool, constant: Option<&Value>) -> bool
+    ensures { result ≡ covers_cell pattern.now (cell_of is_marked (option_copied constant.entry)) }
+{
+    if !is_marked {
+        return is_wild(pattern);
+    }
+    match constant {
+        None => is_wild(pattern),
+        Some(v) => pattern.matches(v),
+    }
+}
+
+/// Whether it matches every value.
+pub fn is_wild(pattern: &Pattern) -> bool
+    ensures { result ≡ is_wild pattern.now }
+{
+    match pattern.shape() {
+        Shape::Wild => true,
+        Shape::Empty => false,
+        Shape::Constant(_) => false,
+        Shape::Range(_, _) => false,
+        Shape::Members(_) => false,
+    }
+}
