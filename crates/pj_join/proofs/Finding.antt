@@ -1,10 +1,10 @@
 -- The choices of a tuple give all its results.
-use Rattle.std.proofs.Common.{ℕ, zero, suc, ◌+◌, ◌<◌, ◌≤◌, Bool, true, false, cond, ◌&&◌, ◌||◌, List, [], ◌∷◌, ◌≡◌, map, filter, flat_map, length, get_or, refl, sym, ap, ◌∙◌, subst, inl, inr, eqb, ltb, arith, append-nil}
+use Rattle.std.proofs.Common.{ℕ, zero, suc, ◌+◌, ◌-◌, ◌<◌, ◌≤◌, Bool, true, false, cond, ◌&&◌, ◌||◌, List, [], ◌∷◌, ◌≡◌, map, filter, flat_map, length, get_or, refl, sym, ap, ap₂, ◌∙◌, subst, inl, inr, eqb, ltb, arith, append-nil}
 use Rattle.std.specs.List.{list_all}
 use Rattle.std.proofs.lemmas.Bool.{eqb-true, eq-eqb, false≢true, or_right}
 use Rattle.std.proofs.lemmas.List.{length-map}
 use Rattle.pj_laws.specs.Join.{In, JoinData, TupleAt, ClassCol, agree, product, joined, of_input, older, upto_from, candidates, combinations, results}
-use Rattle.pj_join.specs.Walks.{suits, choice, choices}
+use Rattle.pj_join.specs.Walks.{AreNarrowed, may_join, suits, choice, choices}
 use Rattle.pj_join.specs.Insides.{IsOrdered}
 use Rattle.pj_value.proofs.Members.{In-flat_map, In-map, all_from, filter-agree, filter-filter}
 use Rattle.pj_join.proofs.Agreeing.{pair-suits}
@@ -115,6 +115,64 @@ choices-combinations spec x log sides lt e =
 
     all-pass : (c : List TupleAt) → agree spec.shape.classes (x ∷ c) ≡ true → list_all (λ y. eqb y.input x.input || suits spec.shape.classes (x ∷ []) y) c ≡ true
     all-pass c t = all_from (λ y. eqb y.input x.input || suits spec.shape.classes (x ∷ []) y) c (λ y h. or_right (eqb y.input x.input) (suits spec.shape.classes (x ∷ []) y) (pair-suits spec.shape.classes (x ∷ c) x y t (inl refl) (inr h)))
+
+-- ---- lists among which the choices are
+
+as-upto : {A : Type 0} (d : A) (base : ℕ) (xs : List A) → xs ≡ map (λ k. get_or xs (k - base) d) (upto_from base (length xs))
+as-upto d base [] = refl
+as-upto {A} d base (x ∷ xs) =
+    ap₂ (λ (y : A) (ys : List A). y ∷ ys) (ap (λ k. get_or (x ∷ xs) k d) (same base)) (as-upto d (base + 1) xs ∙ shift (base + 1) (length xs) (omega arith))
+  where
+    same : (n : ℕ) → 0 ≡ n - n
+    same n = omega arith
+
+    shift : (from n : ℕ) → base < from → map (λ k. get_or xs (k - (base + 1)) d) (upto_from from n) ≡ map (λ k. get_or (x ∷ xs) (k - base) d) (upto_from from n)
+    shift from zero lt = refl
+    shift from (suc n) lt = ap₂ (λ (y : A) (ys : List A). y ∷ ys) (ap (λ k. get_or (x ∷ xs) k d) (less from base lt)) (shift (from + 1) n (omega (arith, lt)))
+      where
+        less : (a b : ℕ) → b < a → suc (a - (b + 1)) ≡ a - b
+        less a b l = omega (arith, l)
+
+-- lists among which the choices are give the same combinations
+pub narrowed-finds : (classes : List (List ClassCol)) (x : TupleAt) (sides lists : List (List TupleAt)) → AreNarrowed classes x sides lists → x.input < length sides
+    → filter (agree classes) (product lists) ≡ filter (agree classes) (product (choices classes x sides))
+narrowed-finds classes x sides lists n lt =
+    own-first lists (as-upto [] 0 lists) own-alone
+    ∙ product-filter (may_join classes x) (λ c. agree classes (x ∷ c)) lists all-pass
+    ∙ ap (λ (ls : List (List TupleAt)). filter (λ c. agree classes (x ∷ c)) (product ls)) filtered
+    ∙ sym (own-choices)
+  where
+    at : ℕ → List TupleAt
+    at k = get_or lists (k - 0) []
+
+    minus-none : (k : ℕ) → k - 0 ≡ k
+    minus-none k = omega arith
+
+    own-alone : at x.input ≡ x ∷ []
+    own-alone = ap (λ k. get_or lists k []) (minus-none x.input) ∙ (n.each x.input (omega (arith, lt, n.count))).alone refl
+
+    first-of : (m : ℕ) (f : ℕ → List TupleAt) → x.input < m → f x.input ≡ x ∷ [] → filter (agree classes) (product (map f (upto_from 0 m))) ≡ filter (λ c. agree classes (x ∷ c)) (product (map f (upto_from 0 m)))
+    first-of m f l own =
+        sym (filter-agree (λ c. agree classes (x ∷ c)) (agree classes) (product (map f (upto_from 0 m))) (λ c h. agree-own classes x c (product-has x f x.input 0 m own (omega arith) (omega (arith, l)) c h)))
+
+    own-first : (ls : List (List TupleAt)) → ls ≡ map at (upto_from 0 (length lists)) → at x.input ≡ x ∷ [] → filter (agree classes) (product ls) ≡ filter (λ c. agree classes (x ∷ c)) (product ls)
+    own-first ls e own =
+        ap (λ (qs : List (List TupleAt)). filter (agree classes) (product qs)) e
+        ∙ first-of (length lists) at (omega (arith, lt, n.count)) own
+        ∙ sym (ap (λ (qs : List (List TupleAt)). filter (λ c. agree classes (x ∷ c)) (product qs)) e)
+
+    own-choices : filter (agree classes) (product (choices classes x sides)) ≡ filter (λ c. agree classes (x ∷ c)) (product (choices classes x sides))
+    own-choices = first-of (length sides) (choice classes x sides) lt (ap (λ b. cond b (x ∷ []) (filter (λ y. ltb y.ticket x.ticket && suits classes (x ∷ []) y) (get_or sides x.input []))) (eq-eqb x.input x.input refl))
+
+    filtered : map (filter (may_join classes x)) lists ≡ choices classes x sides
+    filtered =
+        ap (map (filter (may_join classes x))) (as-upto [] 0 lists)
+        ∙ map-map_upto (filter (may_join classes x)) at 0 (length lists)
+        ∙ map-upto (λ k. filter (may_join classes x) (at k)) (choice classes x sides) 0 (length lists) (λ k l. ap (λ i. filter (may_join classes x) (get_or lists i [])) (minus-none k) ∙ (n.each k (omega (arith, l))).among)
+        ∙ ap (λ m. map (choice classes x sides) (upto_from 0 m)) n.count
+
+    all-pass : (c : List TupleAt) → agree classes (x ∷ c) ≡ true → list_all (may_join classes x) c ≡ true
+    all-pass c t = all_from (may_join classes x) c (λ y h. or_right (eqb y.input x.input) (suits classes (x ∷ []) y) (pair-suits classes (x ∷ c) x y t (inl refl) (inr h)))
 
 -- what a tuple's choices give is the results of its ticket
 pub choices-results : (spec : JoinData) (limit next done : ℕ) (log : List TupleAt) (sides : List (List TupleAt)) (taken : List ℕ) (d : TupleAt) → IsOrdered spec limit next done log sides taken → done < length log

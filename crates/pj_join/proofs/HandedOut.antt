@@ -7,6 +7,12 @@ use Rattle.pj_join.specs.Handed.{found_out, pair_of, pairs_out}
 use Rattle.pj_join.specs.Walks.{AllJoin, choice, choices, older_joins, pair, pairs}
 use Rattle.pj_join.proofs.Calling.{same-at}
 use Rattle.pj_join.proofs.Pairs.{pairs-found}
+use Rattle.std.proofs.Common.{Option, Some, None, IfSome}
+use Rattle.pj_state.specs.declared.shared.Stored.{Stored}
+use Rattle.pj_state.specs.States.{StateView}
+use Rattle.pj_join.specs.Sides.{tuple_in, tuples_in}
+use Rattle.pj_join.proofs.Kept.{tuples-length}
+use Rattle.pj_join.proofs.Looped.{side_at}
 
 own-choice : (classes : List (List ClassCol)) (own : TupleAt) (sides : List (List TupleAt)) (k : ℕ) → k ≡ own.input → choice classes own sides k ≡ own ∷ []
 own-choice classes own sides k e = ap (λ (b : Bool). cond b (own ∷ []) (filter (older_joins classes own) (get_or sides k []))) (eq-eqb k own.input e)
@@ -66,3 +72,13 @@ pub pairs-are-found : (classes : List (List ClassCol)) (own : TupleAt) (sides : 
 pairs-are-found classes own sides input side among lt two all is here same =
     ap (λ (ys : List TupleAt). map Tuple (map (pair_of own) ys)) (same ∙ ap (filter (older_joins classes own)) (here ∙ same-at sides input side [] (omega (arith, is, two))))
     ∙ ap (map Tuple) (both-found classes own sides input lt two all is)
+
+-- the same of what a call answers
+pub partners_found : (classes : List (List ClassCol)) (own : TupleAt) (states : List StateView) (input : ℕ) (state : StateView) (found : Option (List Stored)) → own.input < 2 → length states ≡ 2 → AllJoin classes (choices classes own (tuples_in 0 states))
+    → input ≡ 1 - own.input → state ≡ get_or states input state → IfSome found (λ f. filter (older_joins classes own) (map (tuple_in input) f) ≡ filter (older_joins classes own) (map (tuple_in input) state.rows))
+    → IfSome found (λ f. pairs_out classes own (map (tuple_in (1 - own.input)) f) ≡ found_out classes own (tuples_in 0 states))
+partners_found classes own states input state None lt two all is here same = tt
+partners_found classes own states input state (Some f) lt two all is here same =
+    ap (λ n. pairs_out classes own (map (tuple_in n) f)) (sym is)
+    ∙ pairs-are-found classes own (tuples_in 0 states) input (map (tuple_in input) state.rows) (map (tuple_in input) f) lt (tuples-length 0 states ∙ two) all is
+    (sym (side_at states input state (omega (arith, is, two)) here) ∙ same-at (tuples_in 0 states) input [] (map (tuple_in input) state.rows) (omega (arith, is, two, tuples-length 0 states))) same

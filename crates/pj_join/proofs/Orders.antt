@@ -26,7 +26,7 @@ pub rise-lower : (low from : ℕ) (ts : List ℕ) (end : ℕ) → low ≤ from �
 rise-lower low from [] end le r = omega (arith, le, r)
 rise-lower low from (t ∷ ts) end le r = (omega (arith, le, r.0), r.1)
 
-rise-end : (from : ℕ) (ts : List ℕ) (end : ℕ) → Rise from ts end → from ≤ end
+pub rise-end : (from : ℕ) (ts : List ℕ) (end : ℕ) → Rise from ts end → from ≤ end
 rise-end from [] end r = r
 rise-end from (t ∷ ts) end r = omega (arith, r.0, rise-end (t + 1) ts end r.1)
 
@@ -55,7 +55,7 @@ pub rise-length : (from : ℕ) (ts : List ℕ) (end : ℕ) → Rise from ts end 
 rise-length from [] end r = omega (arith, r)
 rise-length from (t ∷ ts) end r = omega (arith, r.0, rise-length (t + 1) ts end r.1)
 
-rise-in : (from : ℕ) (ts : List ℕ) (end u : ℕ) → Rise from ts end → In u ts → from ≤ u
+pub rise-in : (from : ℕ) (ts : List ℕ) (end u : ℕ) → Rise from ts end → In u ts → from ≤ u
 rise-in from [] end u r h = absurd h
 rise-in from (t ∷ ts) end u r (inl e) = omega (arith, r.0, e)
 rise-in from (t ∷ ts) end u r (inr h) = omega (arith, r.0, rise-in (t + 1) ts end u r.1 h)
@@ -85,7 +85,7 @@ opened-without taken pending u f = filter-append (λ t. not (eqb t u)) taken pen
 
 -- ---- tickets of the log
 
-drop-more_end : (done : ℕ) (log : List TupleAt) (x : TupleAt) → done ≤ length log → drop done (log ++ x ∷ []) ≡ drop done log ++ x ∷ []
+pub drop-more_end : (done : ℕ) (log : List TupleAt) (x : TupleAt) → done ≤ length log → drop done (log ++ x ∷ []) ≡ drop done log ++ x ∷ []
 drop-more_end zero log x le = refl
 drop-more_end (suc done) [] x le = absurd (omega (arith, le))
 drop-more_end (suc done) (y ∷ log) x le = drop-more_end done log x (omega (arith, le))

@@ -6,7 +6,10 @@ use Rattle.pj_value.proofs.Members.{In-filter, In-flat_map, In-map, filter-all}
 use Rattle.pj_laws.specs.Join.{In, TupleAt, ClassCol, Value, agree, joined, product, upto_from}
 use Rattle.pj_laws.proofs.Matching.{agree-mono}
 use Rattle.pj_join.specs.Walks.{AllJoin, choice, choices, pair, pairs, suits}
+use Rattle.pj_state.specs.States.{StateView}
+use Rattle.pj_join.specs.Sides.{tuples_in}
 use Rattle.pj_join.proofs.Agreeing.{agree-none, suits-agree}
+use Rattle.pj_join.proofs.Kept.{tuples-length}
 
 one-each : (x : TupleAt) (ys : List TupleAt) → map joined (map (λ (c : List TupleAt). x ∷ c) (product (ys ∷ []))) ≡ pairs ys x
 one-each x [] = refl
@@ -99,3 +102,7 @@ both-lists [] xs ys l e f = absurd (omega (arith, l))
 both-lists (a ∷ []) xs ys l e f = absurd (omega (arith, l))
 both-lists (a ∷ b ∷ []) xs ys l e f = ap₂ (λ (u v : List TupleAt). u ∷ v ∷ []) (sym e) (sym f)
 both-lists (a ∷ b ∷ c ∷ more) xs ys l e f = absurd (omega (arith, l))
+
+-- the same over states
+pub two_states : (classes : List (List ClassCol)) (own : TupleAt) (states : List StateView) → own.input < 2 → length states ≡ 2 → suits classes [] own ≡ true → AllJoin classes (choices classes own (tuples_in 0 states))
+two_states classes own states lt two alone = two_choices classes own (tuples_in 0 states) lt (tuples-length 0 states ∙ two) alone

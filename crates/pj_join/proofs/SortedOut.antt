@@ -1,31 +1,14 @@
 -- Lists that are gone through one element after the other.
-use Rattle.std.proofs.Common.{Option, Some, None, ℕ, zero, suc, ◌+◌, ◌<◌, ◌≤◌, Bool, true, false, cond, not, List, [], ◌∷◌, ◌++◌, ◌≡◌, map, filter, take, drop, length, get_or, sum, refl, sym, ap, ◌∙◌, eqb, arith, append_assoc}
+use Rattle.std.proofs.Common.{Some, ℕ, zero, suc, ◌+◌, ◌<◌, List, [], ◌∷◌, ◌++◌, ◌≡◌, map, take, drop, length, get_or, sum, refl, sym, ap, ◌∙◌, arith, append_assoc}
 use Rattle.std.proofs.lemmas.List.{map-append, take_more, take-map, replicate-append-replicate}
 use Rattle.std.specs.List.{slice_get}
 use Rattle.std.proofs.lemmas.Option.{get_or_from_slice_get}
-use Rattle.std.proofs.lemmas.List.Elements.{filter_more}
-use Rattle.std.proofs.lemmas.List.Filters.{length-filter_both}
 use Rattle.std.proofs.lemmas.List.Sums.{sum_by-cons}
 use Rattle.pj_shape.specs.declared.columns.Column.{Column}
 use Rattle.pj_shape.specs.Sound.{arities_of}
 use Rattle.pj_laws.specs.Patterns.{Pattern, all_wild, wild}
-use Rattle.pj_laws.specs.Join.{PunctAt, TupleAt, of_input}
-use Rattle.pj_join.specs.Judging.{marks_or, widened_among}
-
--- where no fewer stay all do
-stay-all : {A : Type 0} (p : A → Bool) (xs : List A) → length (filter p xs) ≡ length xs → filter p xs ≡ xs
-stay-all p [] e = refl
-stay-all {A} p (x ∷ xs) e = go (p x) e (stay-all p xs)
-  where
-    few : length (filter p xs) ≤ length xs
-    few = omega (arith, length-filter_both p (λ z. not (p z)) (λ z. refl) xs)
-
-    go : (b : Bool) → length (cond b (x ∷ filter p xs) (filter p xs)) ≡ length (x ∷ xs) → (length (filter p xs) ≡ length xs → filter p xs ≡ xs) → cond b (x ∷ filter p xs) (filter p xs) ≡ x ∷ xs
-    go true k ih = ap (λ (ys : List A). x ∷ ys) (ih (omega (arith, k)))
-    go false k ih = absurd (omega (arith, k, few))
-
-pub all_stay : {A : Type 0} (p : A → Bool) (xs ys : List A) → ys ≡ filter p xs → length ys ≡ length xs → ys ≡ xs
-all_stay {A} p xs ys e l = e ∙ stay-all p xs (ap (λ (zs : List A). length zs) (sym e) ∙ l)
+use Rattle.pj_laws.specs.Join.{PunctAt}
+use Rattle.pj_join.specs.Judging.{widened_among}
 
 -- ---- copies
 
@@ -37,29 +20,6 @@ copied_more {A} xs i x ys ys' lt at e p =
 pub mapped_more : {A B : Type 0} (f : A → B) (xs : List A) (i : ℕ) (x : A) (ys ys' : List B) → i < length xs → slice_get xs i ≡ Some x → ys ≡ map f (take i xs) → ys' ≡ ys ++ f x ∷ [] → ys' ≡ map f (take (i + 1) xs)
 mapped_more {A} {B} f xs i x ys ys' lt at e p =
     p ∙ ap (λ (zs : List B). zs ++ f x ∷ []) e ∙ sym (map-append f (take i xs) (x ∷ [])) ∙ ap (map f) (copied_more xs i x (take i xs) (take i xs ++ x ∷ []) lt at refl refl)
-
-none-there : (xs : List (List Bool)) (i : ℕ) → None ≡ slice_get xs i → [] ≡ get_or xs i []
-none-there [] i e = refl
-none-there (x ∷ xs) zero e = absurd (cc)
-none-there (x ∷ xs) (suc i) e = none-there xs i e
-
-marks-read : (list : List (List Bool)) (place : ℕ) (o : Option (List Bool)) → o ≡ slice_get list place → marks_or o ≡ get_or list place []
-marks-read list place None e = none-there list place e
-marks-read list place (Some marks) e = sym (get_or_from_slice_get list place marks [] (sym e))
-
--- the marks of a scheme that is there
-pub marks_there : (schemes : List (List (List Bool))) (input place : ℕ) (list : List (List Bool)) (o : Option (List Bool)) → slice_get schemes input ≡ Some list → o ≡ slice_get list place
-    → marks_or o ≡ get_or (get_or schemes input []) place []
-marks_there schemes input place list o at e = marks-read list place o e ∙ ap (λ (l : List (List Bool)). get_or l place []) (sym (get_or_from_slice_get schemes input list [] at))
-
--- ---- sides
-
-pub side_more : (input : ℕ) (xs : List TupleAt) (i : ℕ) (x : TupleAt) (side side' : List TupleAt) → i < length xs → x ≡ get_or xs i x → side ≡ of_input input (take i xs) → side' ≡ side ++ of_input input (x ∷ [])
-    → side' ≡ of_input input (take (i + 1) xs)
-side_more input xs i x side side' lt at s e =
-    e ∙ ap (λ (ys : List TupleAt). ys ++ of_input input (x ∷ [])) s
-    ∙ ap (λ (z : TupleAt). of_input input (take i xs) ++ of_input input (z ∷ [])) at
-    ∙ sym (filter_more (λ y. eqb y.input input) xs i x lt)
 
 -- ---- wildcards
 

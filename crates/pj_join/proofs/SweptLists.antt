@@ -1,5 +1,5 @@
 -- The inside of a join that is swept.
-use Rattle.std.proofs.Common.{ℕ, zero, suc, ◌+◌, ◌-◌, ◌<◌, ◌≤◌, ◌≢◌, Bool, true, false, cond, ◌&&◌, not, List, [], ◌∷◌, ◌++◌, ◌≡◌, Option, Some, None, IfSome, map, filter, take, drop, length, get_or, set, refl, sym, ap, ap₂, ◌∙◌, subst, inl, inr, eqb, ltb, arith}
+use Rattle.std.proofs.Common.{ℕ, zero, suc, ◌+◌, ◌-◌, ◌<◌, ◌≤◌, ◌≢◌, Bool, true, false, cond, ◌&&◌, not, List, [], ◌∷◌, ◌++◌, ◌≡◌, map, filter, take, drop, length, set, refl, sym, ap, ap₂, ◌∙◌, subst, inl, inr, eqb, ltb, arith}
 use Rattle.std.proofs.Math.Seq.{drop-append_seam}
 use Rattle.std.proofs.lemmas.Bool.{eqb-true, and_parts, ltb-true, false_from_ne_true}
 use Rattle.std.proofs.lemmas.List.{take-append-drop, length-append, length-take-le, length-map}
@@ -8,12 +8,11 @@ use Rattle.std.proofs.lemmas.List.Filters.{length-filter_both}
 use Rattle.pj_shape.specs.declared.columns.Column.{Column}
 use Rattle.pj_laws.specs.Join.{In, JoinData, TupleAt, PunctAt, Sweep, inputs, of_input, upto_from}
 use Rattle.pj_laws.specs.KeptState.{KeptState, kept_low, kept_ripe, least, swept}
-use Rattle.pj_laws.proofs.Upto.{get_or-upto}
 use Rattle.pj_value.proofs.Members.{In-append_right, In-filter, In-map_from, filter-all, filter-agree, filter-filter}
 use Rattle.pj_join.specs.Joins.{JoinView, after}
 use Rattle.pj_join.specs.Sweeping.{swept_off}
 use Rattle.pj_join.specs.Insides.{IsOrdered, Rise, made_with, seen, tickets}
-use Rattle.pj_join.specs.Judging.{IsRenewed, waiting_on}
+use Rattle.pj_join.specs.Judging.{waiting_on}
 use Rattle.pj_join.proofs.Orders.{rise-lower}
 
 -- the number of those that go
@@ -69,7 +68,7 @@ split done log stay q le e all = record {
     whole : length log ≡ length (take done log) + length (drop done log)
     whole = ap (λ (xs : List TupleAt). length xs) (sym (take-append-drop done log)) ∙ length-append (take done log) (drop done log)
 
-rise-filter : (from : ℕ) (q : TupleAt → Bool) (xs : List TupleAt) (end : ℕ) → Rise from (tickets xs) end → Rise from (tickets (filter q xs)) end
+pub rise-filter : (from : ℕ) (q : TupleAt → Bool) (xs : List TupleAt) (end : ℕ) → Rise from (tickets xs) end → Rise from (tickets (filter q xs)) end
 rise-filter from q [] end r = r
 rise-filter from q (x ∷ xs) end r = go (q x) (rise-filter (x.ticket + 1) q xs end r.1)
   where
@@ -101,10 +100,6 @@ other-side log p input own k ne =
     go x true t false e = refl
     go x false t c e = refl
 
-pub renewed_side : (input : ℕ) (log stay side new : List TupleAt) (o : Option (List TupleAt)) → IsRenewed input log stay o → (o ≡ None → new ≡ side) → IfSome o (λ tuples. new ≡ tuples) → side ≡ of_input input log → new ≡ of_input input stay
-renewed_side input log stay side new None r same other e = same refl ∙ e ∙ ap (of_input input) (sym r)
-renewed_side input log stay side new (Some tuples) r same other e = other ∙ r
-
 -- ---- the join
 
 -- the tuples that go are of the input, and below the low-water ticket
@@ -112,7 +107,7 @@ pub record GoOnly (p : TupleAt → Bool) (input low : ℕ) : Type 0 where
   pub own : (x : TupleAt) → p x ≡ true → x.input ≡ input
   pub below : (x : TupleAt) → p x ≡ true → x.ticket < low
 
-sweeps-only : (spec : JoinData) (k : KeptState) (input : ℕ) → GoOnly (λ x. eqb x.input input && kept_ripe spec k x) input (kept_low k)
+pub sweeps-only : (spec : JoinData) (k : KeptState) (input : ℕ) → GoOnly (λ x. eqb x.input input && kept_ripe spec k x) input (kept_low k)
 sweeps-only spec k input = record {
   own = λ x t. eqb-true x.input input (and_parts (eqb x.input input) (kept_ripe spec k x) t).0;
   below = λ x t. ltb-true x.ticket (kept_low k) (and_parts (ltb x.ticket (kept_low k)) _ (and_parts (eqb x.input input) (kept_ripe spec k x) t).1).0;
@@ -179,15 +174,18 @@ module _ (node : ℕ) (spec : JoinData) (limit next done : ℕ) (log : List Tupl
       seen-sweep node spec limit next done log stay puncts waiting on taken (λ x. eqb x.input input && kept_ripe spec (seen (made_with node spec limit) next done log puncts waiting taken).kept x) input o.within
       (sweeps-only spec (seen (made_with node spec limit) next done log puncts waiting taken).kept input) e e w
 
-  pub swept_ordered : input < inputs spec → (side old : List TupleAt) (new : Option (List TupleAt)) → old ≡ get_or sides input [] → IsRenewed input log stay new → (new ≡ None → side ≡ old) → IfSome new (λ tuples. side ≡ tuples)
-      → IsOrdered spec limit next (done - (length log - length stay)) stay (set sides input side) taken
-  swept_ordered lt side old new is r same other =
+  pub swept_ordered : input < inputs spec → (side : List TupleAt) → side ≡ of_input input stay → IsOrdered spec limit next (done - (length log - length stay)) stay (set sides input side) taken
+  swept_ordered lt side at =
       ordered-sweep spec limit next done log stay sides taken (λ x. eqb x.input input && kept_ripe spec (seen (made_with node spec limit) next done log puncts waiting taken).kept x) input side o
-      (sweeps-only spec (seen (made_with node spec limit) next done log puncts waiting taken).kept input) e there
-      (renewed_side input log stay old side new r same other (is ∙ at))
+      (sweeps-only spec (seen (made_with node spec limit) next done log puncts waiting taken).kept input) e there at
     where
       there : input < length spec.shape.inputs
       there = omega (arith, lt, length-map spec.shape.inputs (λ (schema : List Column). length schema))
 
-      at : get_or sides input [] ≡ of_input input log
-      at = ap (λ (ss : List (List TupleAt)). get_or ss input []) o.by_input ∙ get_or-upto (λ k. of_input k log) 0 (length spec.shape.inputs) input [] there ∙ ap (λ k. of_input k log) (omega arith)
+  -- what is pending is so afterwards
+  pub still_pending : drop (done - (length log - length stay)) stay ≡ drop done log
+  still_pending = ap (λ n. drop n stay) parts.is_place ∙ parts.pending
+    where
+      parts : IsSplit done log stay
+      parts = split done log stay (λ x. not (eqb x.input input && kept_ripe spec (seen (made_with node spec limit) next done log puncts waiting taken).kept x)) o.within e
+          (none-pending next done log taken (λ x. eqb x.input input && kept_ripe spec (seen (made_with node spec limit) next done log puncts waiting taken).kept x) (sweeps-only spec (seen (made_with node spec limit) next done log puncts waiting taken).kept input).below)

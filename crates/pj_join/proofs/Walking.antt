@@ -1,15 +1,8 @@
--- What the code of a walk cites.
-use Rattle.std.proofs.Common.{ℕ, ◌+◌, List, [], ◌∷◌, ◌++◌, ◌≡◌, map, filter, true, arith, ap, sym, ◌∙◌, add-one}
+-- Lists that are made one number after the other.
+use Rattle.std.proofs.Common.{ℕ, ◌+◌, List, [], ◌∷◌, ◌++◌, ◌≡◌, map, arith, ap, sym, ◌∙◌, add-one}
 use Rattle.std.proofs.lemmas.List.{map-append}
-use Rattle.pj_laws.specs.Join.{TupleAt, ClassCol, agree, product, upto_from}
-use Rattle.pj_join.specs.Walks.{completed}
-use Rattle.pj_join.proofs.Agreeing.{agree-none}
-use Rattle.pj_join.proofs.Combining.{completed-all}
+use Rattle.pj_laws.specs.Join.{upto_from}
 use Rattle.pj_laws.proofs.Upto.{upto-push}
-
--- a walk that begins with nothing may begin, and finds all combinations that join
-pub whole_walk : (classes : List (List ClassCol)) (lists : List (List TupleAt)) → (completed classes [] lists ≡ filter (agree classes) (product lists)) × (agree classes [] ≡ true)
-whole_walk classes lists = (completed-all classes lists, agree-none classes)
 
 -- one more number
 pub more-choices : {A : Type 0} (f : ℕ → A) (i : ℕ) (found new : List A) (x : A) → found ≡ map f (upto_from 0 i) → x ≡ f i → new ≡ found ++ x ∷ [] → new ≡ map f (upto_from 0 (i + 1))

@@ -1,15 +1,22 @@
 -- What is wanted of tuples that join with one.
-use Rattle.std.proofs.Common.{◌≡◌, ℕ, ◌<◌, Bool, true, false, not, ◌==◌, ◌&&◌, ◌||◌, ltb, List, [], ◌∷◌, filter, ltb, length, get_or, inl, refl, ap, sym, ◌∙◌, subst, arith}
-use Rattle.std.specs.List.{list_all}
-use Rattle.std.proofs.lemmas.Bool.{and_parts, false≢true}
+use Rattle.std.proofs.Common.{◌≡◌, ℕ, suc, ◌<◌, Bool, true, false, cond, not, ◌==◌, ◌&&◌, ◌||◌, ltb, List, [], ◌∷◌, filter, map, length, get_or, inl, inr, refl, ap, ap₂, sym, ◌∙◌, subst, arith}
+use Rattle.std.proofs.lemmas.Option.{slice_get-get_or}
+use Rattle.pj_value.specs.declared.values.Value.{Value}
+use Rattle.pj_state.specs.declared.shared.Stored.{Stored}
+use Rattle.pj_state.specs.States.{StateView, has_value, is_below, is_value, pairs, rows_below, rows_with}
+use Rattle.pj_probe.specs.Walks.{tuple_at}
+use Rattle.pj_join.specs.Sides.{IsWide, tuple_in}
+use Rattle.std.specs.List.{list_all, list_any}
+use Rattle.std.specs.Prelude.{IfOk, Result, Ok, Err}
+use Rattle.std.proofs.lemmas.Bool.{and_parts, eqb-true, false≢true}
 use Rattle.std.proofs.lemmas.Bool.Decides.{nat_tests}
 use Rattle.pj_value.specs.Values.{value_eq}
-use Rattle.pj_value.proofs.Members.{all_at, in-place}
-use Rattle.pj_value.proofs.Orders.{same_if_equal}
-use Rattle.pj_laws.specs.Join.{ClassCol, In, TupleAt, value_at}
+use Rattle.pj_value.proofs.Members.{all_at, any_at, in-place}
+use Rattle.pj_value.proofs.Orders.{equal_itself, same_if_equal}
+use Rattle.pj_laws.specs.Join.{ClassCol, In, TupleAt, no_value, value_at}
 use Rattle.pj_join.specs.Walks.{all_have, has_there, older_joins, suits, suits_class}
-use Rattle.pj_join.specs.Prints.{ClassWants, IsWanted, cell_print, value_print}
-use Rattle.pj_join.specs.Sides.{HoldsAll}
+use Rattle.pj_join.specs.Lookups.{ClassWants, IsWanted}
+use Rattle.pj_join.proofs.Cells.{cell_there}
 
 pub found_column : (class : List ClassCol) (i : ℕ) (d : ClassCol) (input : ℕ) → i < length class → (get_or class i d).input ≡ input → In (record { input = input; column = (get_or class i d).column }) class
 found_column class i d input lt same =
@@ -22,9 +29,9 @@ past : (b c : Bool) → b ≡ true → (not b || c) ≡ true → c ≡ true
 past true c e h = h
 past false c e h = absurd (false≢true e)
 
--- a tuple of the input that joins with this one has the print that the class wants
-class_print : (class : List ClassCol) (x y : TupleAt) (input column print : ℕ) → ClassWants class x input column print → y.input ≡ input → suits_class (x ∷ []) y class ≡ true → cell_print y.row column ≡ print
-class_print class x y input column print wants is suited =
+-- a tuple of the input that joins with this one has the value that the class wants
+class_value : (class : List ClassCol) (x y : TupleAt) (input column : ℕ) (value : Value) → ClassWants class x input column value → y.input ≡ input → suits_class (x ∷ []) y class ≡ true → value_at y.row column ≡ value
+class_value class x y input column value wants is suited =
     let at : ClassCol = record { input = input; column = column } in
     let there : ClassCol = record { input = x.input; column = wants.1 } in
     let v = value_at y.row column in
@@ -34,15 +41,91 @@ class_print class x y input column print wants is suited =
     let both : (has_there v there y && list_all (has_there v there) (x ∷ [])) ≡ true = all_at (λ a. has_there v a y && list_all (has_there v a) (x ∷ [])) class there have wants.2 in
     let it : has_there v there x ≡ true = all_at (has_there v there) (x ∷ []) x (and_parts (has_there v there y) (list_all (has_there v there) (x ∷ [])) both).1 (inl refl) in
     let equal : value_eq v (value_at x.row wants.1) ≡ true = past (x.input == x.input) (value_eq v (value_at x.row wants.1)) (same_number x.input) it in
-    ap value_print (same_if_equal v (value_at x.row wants.1) equal) ∙ sym wants.3
+    same_if_equal v (value_at x.row wants.1) equal ∙ cell_there x.row wants.1 value (sym wants.3)
 
-pub wanted_by_class : (classes : List (List ClassCol)) (x : TupleAt) (class : List ClassCol) (i input column print : ℕ) → i < length classes → class ≡ get_or classes i class → ClassWants class x input column print → IsWanted classes (x ∷ []) input column print
-wanted_by_class classes x class i input column print lt is wants = λ y of suited.
-    class_print class x y input column print wants of
+pub wanted_by_class : (classes : List (List ClassCol)) (x : TupleAt) (class : List ClassCol) (i input column : ℕ) (value : Value) → i < length classes → class ≡ get_or classes i class → ClassWants class x input column value → IsWanted classes (x ∷ []) input column value
+wanted_by_class classes x class i input column value lt is wants = λ y of suited.
+    class_value class x y input column value wants of
     (all_at (suits_class (x ∷ []) y) classes class suited (subst (λ (c : List ClassCol). In c classes) (sym is) (in-place classes class i lt)))
 
--- older tuples that join are found among those that hold all that is wanted
-pub candidates_hold : (classes : List (List ClassCol)) (x : TupleAt) (side found : List TupleAt) (input column print : ℕ) → IsWanted classes (x ∷ []) input column print → HoldsAll input column print side found
-    → filter (older_joins classes x) found ≡ filter (older_joins classes x) side
-candidates_hold classes x side found input column print wants holds =
-    holds (older_joins classes x) (λ y of passed. wants y of (and_parts (ltb y.ticket x.ticket) (suits classes (x ∷ []) y) passed).1)
+-- ---- rows that are looked up
+
+all-in : (P : ℕ → Type 0) (cs : List ℕ) → ((k d : ℕ) → k < length cs → P (get_or cs k d)) → (c : ℕ) → In c cs → P c
+all-in P [] all c h = absurd h
+all-in P (d ∷ cs) all c (inl e) = subst P e (all 0 d (omega arith))
+all-in P (d ∷ cs) all c (inr h) = all-in P cs (λ k e lt. all (suc k) e (omega (arith, lt))) c h
+
+-- a row that may join has the value that is wanted
+has-wanted : (classes : List (List ClassCol)) (x : TupleAt) (input column : ℕ) (value : Value) (state : StateView) → IsWanted classes (x ∷ []) input column value → IsWide state → In column state.columns
+    → (s : Stored) → In s state.rows → suits classes (x ∷ []) (tuple_in input s) ≡ true → has_value column value s ≡ true
+has-wanted classes x input column value state wants wide indexed s h t =
+    ap (is_value value) (slice_get-get_or s.row column no_value (all-in (λ c. c < length s.row) state.columns (wide s h) column indexed))
+    ∙ ap (λ (v : Value). value_eq v value) (wants (tuple_in input s) refl t)
+    ∙ equal_itself value
+
+-- what passes a test behind an image is left where what fails before does not pass
+passing : {A B : Type 0} (f : A → B) (q : A → Bool) (p r : B → Bool) (xs : List A) → ((x : A) → In x xs → (q x && p (f x)) ≡ r (f x)) → filter p (map f (filter q xs)) ≡ filter r (map f xs)
+passing f q p r [] same = refl
+passing {A} {B} f q p r (x ∷ xs) same = go (q x) (p (f x)) refl refl (passing f q p r xs (λ y h. same y (inr h)))
+  where
+    rest : List B
+    rest = filter r (map f xs)
+
+    go : (a b : Bool) → q x ≡ a → p (f x) ≡ b → filter p (map f (filter q xs)) ≡ rest → filter p (map f (cond a (x ∷ filter q xs) (filter q xs))) ≡ cond (r (f x)) (f x ∷ rest) rest
+    go true true e g ih = ap (λ c. cond c (f x ∷ filter p (map f (filter q xs))) (filter p (map f (filter q xs)))) g ∙ ap (λ (ys : List B). f x ∷ ys) ih ∙ ap (λ c. cond c (f x ∷ rest) rest) (sym (sym (same x (inl refl)) ∙ ap₂ (λ a b. a && b) e g))
+    go true false e g ih = ap (λ c. cond c (f x ∷ filter p (map f (filter q xs))) (filter p (map f (filter q xs)))) g ∙ ih ∙ ap (λ c. cond c (f x ∷ rest) rest) (sym (sym (same x (inl refl)) ∙ ap₂ (λ a b. a && b) e g))
+    go false b e g ih = ih ∙ ap (λ c. cond c (f x ∷ rest) rest) (sym (sym (same x (inl refl)) ∙ ap (λ a. a && p (f x)) e))
+
+map-pairs : (input : ℕ) (rows : List Stored) → map (tuple_at input) (pairs rows) ≡ map (tuple_in input) rows
+map-pairs input [] = refl
+map-pairs input (s ∷ rows) = ap (λ (xs : List TupleAt). tuple_in input s ∷ xs) (map-pairs input rows)
+
+below-pairs : (classes : List (List ClassCol)) (x : TupleAt) (input : ℕ) (rows : List Stored) → filter (suits classes (x ∷ [])) (map (tuple_at input) (pairs (rows_below x.ticket rows))) ≡ filter (older_joins classes x) (map (tuple_in input) rows)
+below-pairs classes x input rows =
+    ap (filter (suits classes (x ∷ []))) (map-pairs input (rows_below x.ticket rows))
+    ∙ passing (tuple_in input) (is_below x.ticket) (suits classes (x ∷ [])) (older_joins classes x) rows (λ s h. refl)
+
+-- older tuples that join are found among the rows with the value that is wanted
+pub candidates_hold : (classes : List (List ClassCol)) (x : TupleAt) (state : StateView) (found : List Stored) (input column : ℕ) (value : Value) → IsWide state → IsWanted classes (x ∷ []) input column value → In column state.columns
+    → found ≡ rows_with column value state.rows → filter (older_joins classes x) (map (tuple_in input) found) ≡ filter (older_joins classes x) (map (tuple_in input) state.rows)
+candidates_hold classes x state found input column value wide wants indexed is =
+    ap (λ (rows : List Stored). filter (older_joins classes x) (map (tuple_in input) rows)) is
+    ∙ passing (tuple_in input) (has_value column value) (older_joins classes x) (older_joins classes x) state.rows (λ s h. only s h (has_value column value s) refl (suits classes (x ∷ []) (tuple_in input s)) refl (ltb s.ticket x.ticket))
+  where
+    only : (s : Stored) → In s state.rows → (a : Bool) → has_value column value s ≡ a → (b : Bool) → suits classes (x ∷ []) (tuple_in input s) ≡ b → (c : Bool) → (a && (c && b)) ≡ (c && b)
+    only s h true e b g c = refl
+    only s h false e true g c = absurd (false≢true (sym e ∙ has-wanted classes x input column value state wants wide indexed s h g))
+    only s h false e false g true = refl
+    only s h false e false g false = refl
+
+-- the same where those with smaller tickets alone were taken
+pub narrowed_holds : (classes : List (List ClassCol)) (x : TupleAt) (state : StateView) (found : List (ℕ × List Value)) (input column : ℕ) (value : Value) → IsWide state → IsWanted classes (x ∷ []) input column value → In column state.columns
+    → found ≡ pairs (rows_below x.ticket (rows_with column value state.rows)) → filter (suits classes (x ∷ [])) (map (tuple_at input) found) ≡ filter (older_joins classes x) (map (tuple_in input) state.rows)
+narrowed_holds classes x state found input column value wide wants indexed is =
+    ap (λ (rows : List (ℕ × List Value)). filter (suits classes (x ∷ [])) (map (tuple_at input) rows)) is
+    ∙ below-pairs classes x input (rows_with column value state.rows)
+    ∙ candidates_hold classes x state (rows_with column value state.rows) input column value wide wants indexed refl
+
+-- all with smaller tickets
+pub all_hold : (classes : List (List ClassCol)) (x : TupleAt) (rows : List Stored) (found : List (ℕ × List Value)) (input : ℕ) → found ≡ pairs (rows_below x.ticket rows)
+    → filter (suits classes (x ∷ [])) (map (tuple_at input) found) ≡ filter (older_joins classes x) (map (tuple_in input) rows)
+all_hold classes x rows found input is =
+    ap (λ (rs : List (ℕ × List Value)). filter (suits classes (x ∷ [])) (map (tuple_at input) rs)) is ∙ below-pairs classes x input rows
+
+-- the column is one of those that are indexed
+pub indexed-in : (column : ℕ) (columns : List ℕ) → list_any (λ own. column == own) columns ≡ true → In column columns
+indexed-in column columns t =
+    let at = any_at (λ own. column == own) columns t in
+    subst (λ n. In n columns) (sym (eqb-true column at.0 at.2)) at.1
+
+-- the same of what a call answers
+pub all_hold_ok : {E : Type 0} (classes : List (List ClassCol)) (x : TupleAt) (rows : List Stored) (found : Result (List (ℕ × List Value)) E) (input ticket : ℕ) → ticket ≡ x.ticket → IfOk found (λ f. f ≡ pairs (rows_below ticket rows))
+    → IfOk found (λ f. filter (suits classes (x ∷ [])) (map (tuple_at input) f) ≡ filter (older_joins classes x) (map (tuple_in input) rows))
+all_hold_ok classes x rows (Ok f) input ticket same is = all_hold classes x rows f input (is ∙ ap (λ n. pairs (rows_below n rows)) same)
+all_hold_ok classes x rows (Err e) input ticket same is = tt
+
+pub narrowed_holds_ok : {E : Type 0} (classes : List (List ClassCol)) (x : TupleAt) (state : StateView) (found : Result (List (ℕ × List Value)) E) (input column : ℕ) (value : Value) (ticket : ℕ) → ticket ≡ x.ticket → IsWide state → IsWanted classes (x ∷ []) input column value → In column state.columns
+    → IfOk found (λ f. f ≡ pairs (rows_below ticket (rows_with column value state.rows)))
+    → IfOk found (λ f. filter (suits classes (x ∷ [])) (map (tuple_at input) f) ≡ filter (older_joins classes x) (map (tuple_in input) state.rows))
+narrowed_holds_ok classes x state (Ok f) input column value ticket same wide wants indexed is = narrowed_holds classes x state f input column value wide wants indexed (is ∙ ap (λ n. pairs (rows_below n (rows_with column value state.rows))) same)
+narrowed_holds_ok classes x state (Err e) input column value ticket same wide wants indexed is = tt

@@ -1,8 +1,12 @@
 -- What stands inside a join, and how it is seen.
 use Rattle.std.specs.Prelude.{ℕ, ◌+◌, ◌<◌, ◌^◌, ◌≤◌, ◌≡◌, List, [], ◌∷◌, ◌++◌, map, drop, length}
+use Rattle.pj_state.specs.States.{StateView}
+use Rattle.pj_cover.specs.Stores.{Store}
 use Rattle.pj_shape.specs.Sound.{IsSoundSpec}
-use Rattle.pj_laws.specs.Join.{In, JoinData, TupleAt, PunctAt, AreCertified, of_input, upto_from}
+use Rattle.pj_laws.specs.Join.{In, JoinData, TupleAt, PunctAt, AreCertified, arities, inputs, of_input, upto_from}
 use Rattle.pj_join.specs.Joins.{JoinView}
+use Rattle.pj_join.specs.Sides.{AreAllShaped, heard_in, heard_of, log_of, place_of, puncts_of, tuples_in}
+use Rattle.pj_join.specs.declared.queue.Place.{Place}
 
 abbrev pub tickets : List TupleAt → List ℕ
 tickets xs = map (λ x. x.ticket) xs
@@ -49,3 +53,30 @@ pub record IsOrdered (spec : JoinData) (limit next done : ℕ) (log : List Tuple
   pub open_rising : Rise 0 (taken ++ tickets (drop done log)) next
   pub placed : (x : TupleAt) → In x log → x.input < length spec.shape.inputs
   pub by_input : sides ≡ map (λ k. of_input k log) (upto_from 0 (length spec.shape.inputs))
+
+-- the tickets of the punctuations rise, and the stores hold them by their inputs
+pub record AreHeard (spec : JoinData) (next : ℕ) (puncts : List PunctAt) (stores : List Store) : Type 0 where
+  pub rising : Rise 0 (map (λ p. p.ticket) puncts) next
+  pub placed : (p : PunctAt) → In p puncts → p.input < inputs spec
+  pub by_input : heard_in 0 stores ≡ map (λ k. heard_of k puncts) (upto_from 0 (inputs spec))
+  pub arities : map (λ s. s.arity) stores ≡ arities spec
+
+-- what a join keeps its rows and punctuations in: the next ticket, how many of the stored tuples are taken, a state and a
+-- store for each input, where the pending tuples stand, and the tickets that are taken and not given
+pub record Inside : Type 0 where
+  pub next : ℕ
+  pub done : ℕ
+  pub states : List StateView
+  pub stores : List Store
+  pub pending : List Place
+  pub taken : List ℕ
+
+abbrev pub inside : ℕ → ℕ → List StateView → List Store → List Place → List ℕ → Inside
+inside next done states stores pending taken = record { next = next; done = done; states = states; stores = stores; pending = pending; taken = taken }
+
+-- all fits together
+pub record IsJoin (spec : JoinData) (limit : ℕ) (i : Inside) : Type 0 where
+  pub ordered : IsOrdered spec limit i.next i.done (log_of i.states) (tuples_in 0 i.states) i.taken
+  pub shaped : AreAllShaped (arities spec) i.states
+  pub heard : AreHeard spec i.next (puncts_of i.stores) i.stores
+  pub queued : i.pending ≡ map place_of (drop i.done (log_of i.states))

@@ -1,6 +1,6 @@
 pub mod Joins
 pub mod Decided
-pub mod Prints
+pub mod Lookups
 pub mod Sides
 pub mod Walks
 pub mod Insides

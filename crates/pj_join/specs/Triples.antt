@@ -1,5 +1,5 @@
 -- Joins of three and of two inputs, for the tests.
-use Rattle.std.specs.Prelude.{ℕ, Bool, true, false, List, [], ◌∷◌}
+use Rattle.std.specs.Prelude.{ℕ, Bool, true, false, List, [], ◌∷◌, codes}
 use Rattle.pj_value.specs.declared.values.Kind.TheVariants.{Int, Text}
 use Rattle.pj_shape.specs.declared.columns.Column.{Column}
 use Rattle.pj_shape.specs.declared.joins.CertStep.{CertStep}
@@ -9,10 +9,10 @@ use Rattle.pj_laws.specs.Join.{JoinData}
 use Rattle.pj_join.specs.Joins.{join_data}
 
 abbrev pub number : Column
-number = record { name = 110 ∷ []; kind = Int }
+number = record { name = codes "n"; kind = Int }
 
 abbrev pub word : Column
-word = record { name = 119 ∷ []; kind = Text }
+word = record { name = codes "w"; kind = Text }
 
 abbrev pub pair : List Column
 pair = number ∷ number ∷ []

@@ -1,8 +1,9 @@
 -- How combinations that join are found one tuple after the other.
-use Rattle.std.specs.Prelude.{◌≡◌, true, ℕ, Bool, not, ◌==◌, nat_lt, ◌&&◌, ◌||◌, if◌then◌else◌, List, [], ◌∷◌, ◌++◌, map, filter, slice_index_or, length, Option, Some, None}
+use Rattle.std.specs.Prelude.{◌≡◌, ◌<◌, true, ℕ, Bool, not, ◌==◌, nat_lt, ◌&&◌, ◌||◌, if◌then◌else◌, List, [], ◌∷◌, map, filter, slice_index_or, length, Option, Some, None}
 use Rattle.std.specs.List.{list_all}
 use Rattle.pj_value.specs.Values.{value_eq}
 use Rattle.pj_join.specs.declared.found.Found.{Found}
+use Rattle.pj_probe.specs.declared.probe.Found.{Found as ProbeFound}
 use Rattle.pj_laws.specs.Join.{ClassCol, In, TupleAt, Value, agree, joined, no_value, product, upto_from, value_at}
 
 -- the value of a cell, where one that is not there has the empty text
@@ -25,10 +26,6 @@ suits_class xs more class = list_all (λ at. not (more.input == at.input) || all
 -- whether the tuple joins with these, which join with each other
 abbrev pub suits : List (List ClassCol) → List TupleAt → TupleAt → Bool
 suits classes xs more = list_all (suits_class xs more) classes
-
--- these tuples with one of each list, where they join
-abbrev pub completed : List (List ClassCol) → List TupleAt → List (List TupleAt) → List (List TupleAt)
-completed classes xs lists = filter (agree classes) (map (λ c. xs ++ c) (product lists))
 
 -- whether a tuple is older than this one and joins with it
 abbrev pub older_joins : List (List ClassCol) → TupleAt → TupleAt → Bool
@@ -58,3 +55,21 @@ pairs ys x = map (pair x) ys
 -- what the work of a ticket finds over the choice of each input: the ways to take one of each that join, as rows
 abbrev pub found_in : ℕ → ℕ → List (List ClassCol) → List (List TupleAt) → Found
 found_in join ticket classes lists = record { join = join; ticket = ticket; rows = map joined (filter (agree classes) (product lists)) }
+
+-- the same as another crate has it
+abbrev pub found_as : ProbeFound → Found
+found_as f = record { join = f.join; ticket = f.ticket; rows = f.rows }
+
+-- the tuple is of this one's input, or joins with it
+abbrev pub may_join : List (List ClassCol) → TupleAt → TupleAt → Bool
+may_join classes own y = (y.input == own.input) || suits classes (own ∷ []) y
+
+-- of the tuple's own input itself alone; of another input tuples among which its choice is all that may join
+pub record IsNarrowed (classes : List (List ClassCol)) (own : TupleAt) (sides : List (List TupleAt)) (input : ℕ) (found : List TupleAt) : Type 0 where
+  pub alone : input ≡ own.input → found ≡ own ∷ []
+  pub among : filter (may_join classes own) found ≡ choice classes own sides input
+
+-- those of each input
+pub record AreNarrowed (classes : List (List ClassCol)) (own : TupleAt) (sides lists : List (List TupleAt)) : Type 0 where
+  pub count : length lists ≡ length sides
+  pub each : (k : ℕ) → k < length lists → IsNarrowed classes own sides k (slice_index_or lists k [])

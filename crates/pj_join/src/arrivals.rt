@@ -2,33 +2,35 @@
 ghost use Rattle.std.specs.Prelude.{◌≡◌, IfOk};
 
 use pj_pattern::Punct;
-use pj_value::{List, NoMemory, Row};
+use pj_value::{NoMemory, Row};
 use std::alloc::Global;
 use std::marker::Model;
 use std::sync::Arc;
 
-/// A tuple that has come, with its ticket and its input. Its row shares its values, so that a probe copies none.
+/// A tuple that has come, with its ticket and its input. Its row is lent.
 #[derive(Drop)]
-pub struct Arrived {
+pub struct Arrived<'a> {
     ticket: u64,
     input: u32,
-    row: Row,
+    row: &'a Row,
 }
 
-impl Model for Arrived {
+impl<'a> Model for Arrived<'a> {
     ghost use Rattle.pj_laws.specs.Join.{TupleAt};
 
     ghost Value = { TupleAt };
 
-    ghost view = { λ a. record { ticket = a.ticket; input = a.input; row = a.row } };
+    ghost view = { λ a. record { ticket = a.ticket; input = a.input; row = a.row.now } };
 }
 
-/// A punctuation that has come, with its ticket and its input. Its patterns are shared.
+/// A punctuation that waits, with its ticket and its input. Its patterns are shared. Beside it stands the ticket of a stored
+/// tuple that matched it when it was looked at last.
 #[derive(Drop)]
 pub struct Heard {
     ticket: u64,
     input: u32,
     punct: Arc<Punct, Global>,
+    witness: u64,
 }
 
 impl Model for Heard {
@@ -40,40 +42,12 @@ impl Model for Heard {
     ghost view = { λ p. record { ticket = p.ticket; input = p.input; patterns = arc_value p.punct } };
 }
 
-/// An entry of a certificate: an input, and the marks of one of its schemes.
-#[derive(Drop)]
-pub struct Entry {
-    pub input: u32,
-    pub marks: List<bool>,
-}
-
-impl Model for Entry {
-    ghost use Rattle.pj_laws.specs.Join.{CertEntry};
-
-    ghost Value = { CertEntry };
-
-    ghost view = { λ e. record { input = e.input; marks = e.marks } };
-}
-
-impl Arrived {
+impl<'a> Arrived<'a> {
     /// A tuple with its ticket and its input.
-    pub fn new(alloc: Global, ticket: u64, input: u32, row: Row) -> Result<Arrived, NoMemory>
-        ensures { IfOk result (λ a. a ≡ record { ticket = ticket; input = input; row = row }) }
+    pub fn of(ticket: u64, input: u32, row: &'a Row) -> Arrived<'a>
+        ensures { result ≡ record { ticket = ticket; input = input; row = row.now } }
     {
-        let row = row.share(alloc)?;
-        Ok(Arrived { ticket, input, row })
-    }
-
-    /// A second handle of the same tuple; its values are not copied.
-    pub fn share(&self, alloc: Global) -> Result<Arrived, NoMemory>
-        ensures { IfOk result (λ a. a ≡ self.now) }
-    {
-        let row = self.row.copy(alloc)?;
-        Ok(Arrived {
-            ticket: self.ticket,
-            input: self.input,
-            row,
-        })
+        Arrived { ticket, input, row }
     }
 
     /// Its ticket.
@@ -91,28 +65,36 @@ impl Arrived {
     }
 
     /// Its row.
-    pub fn row(&self) -> &Row
+    pub fn row(&self) -> &'a Row
         ensures { result.now ≡ self.now.row }
     {
-        &self.row
+        self.row
     }
 }
 
 impl Heard {
-    /// A punctuation with its ticket and its input.
-    pub fn new(alloc: Global, ticket: u64, input: u32, punct: Punct) -> Result<Heard, NoMemory>
-        ensures { IfOk result (λ p. p ≡ record { ticket = ticket; input = input; patterns = punct }) }
+    /// A copy of a punctuation with its ticket and its input.
+    pub fn new(
+        alloc: Global,
+        ticket: u64,
+        input: u32,
+        punct: &Punct,
+        witness: u64,
+    ) -> Result<Heard, NoMemory>
+        ensures { IfOk result (λ p. p ≡ record { ticket = ticket; input = input; patterns = punct.now }) }
     {
+        let punct = punct.copy(alloc)?;
         let punct = Arc::new(alloc, punct)?;
         Ok(Heard {
             ticket,
             input,
             punct,
+            witness,
         })
     }
 
-    /// A second handle of the same punctuation; its patterns are not copied.
-    pub fn share(&self) -> Result<Heard, NoMemory>
+    /// A second handle of the same punctuation, beside another stored tuple; its patterns are not copied.
+    pub fn share(&self, witness: u64) -> Result<Heard, NoMemory>
         ensures { IfOk result (λ p. p ≡ self.now) }
     {
         let punct = Arc::try_clone(&self.punct)?;
@@ -120,14 +102,8 @@ impl Heard {
             ticket: self.ticket,
             input: self.input,
             punct,
+            witness,
         })
-    }
-
-    /// Its ticket.
-    pub fn ticket(&self) -> u64
-        ensures { result ≡ self.now.ticket }
-    {
-        self.ticket
     }
 
     /// The input at which it came.
@@ -142,5 +118,10 @@ impl Heard {
         ensures { result.now ≡ self.now.patterns }
     {
         &self.punct
+    }
+
+    /// The ticket of the stored tuple beside it.
+    pub fn witness(&self) -> u64 {
+        self.witness
     }
 }

@@ -1,17 +1,22 @@
 // What a join hands out.
-ghost use Rattle.std.specs.Prelude.{◌≡◌, ◌<◌, ◌++◌, map, length, take, filter, OnOk, OnErr, IfOk};
+ghost use Rattle.std.specs.Prelude.{◌≡◌, ◌<◌, ◌≤◌, ◌-◌, ◌++◌, ◌∷◌, [], map, length, slice_get, take, OnOk, OnErr, IfOk, IfSome};
+ghost use Rattle.std.specs.Arc.{arc_value};
+ghost use Rattle.std.specs.Option.{option_copied};
+ghost use Rattle.pj_join.specs.Decided.{ColumnsDecide};
 ghost use Rattle.pj_join.specs.Handed.{found_out, pair_of, pairs_out};
-ghost use Rattle.pj_join.specs.Walks.{AllJoin, choices};
+ghost use Rattle.pj_join.specs.Sides.{AreWide, tuple_in, tuples_in};
 
+use crate::Probe;
 use crate::arrivals::Arrived;
-use crate::side::Side;
 use crate::walk::{
-    FEW, candidates, choices, choices_join, equal_columns, found_rows, joins_with, own_cell,
+    EqualColumns, FEW, candidates, choices_join, equal_columns, joins_with, own_cell,
 };
 use pj_laws::Out;
-use pj_shape::ClassCol;
-use pj_value::{List, NoMemory, Row};
+use pj_shape::{ClassCol, JoinSpec};
+use pj_state::{Matching, State};
+use pj_value::{List, NoMemory, Row, Value};
 use std::alloc::Global;
+use std::sync::Arc;
 
 /// Puts rows at the end; on a refusal the list is as before.
 pub fn hand_out_rows(alloc: Global, outs: &mut List<Out>, rows: List<Row>) -> Result<(), NoMemory>
@@ -49,44 +54,76 @@ fn append_rows(outs: &mut List<Out>, rows: List<Row>) -> Result<(), NoMemory>
     Ok(())
 }
 
+// The rows of the other one of two inputs among which all are that the tuple is joined with; `None` where an index does not
+// tell, or it is not known that they join.
+fn partners<'a>(
+    classes: &[List<ClassCol>],
+    own: &Arrived<'a>,
+    sides: &'a [State],
+) -> Option<Matching<'a>>
+    requires { AreWide sides.now }
+    ensures { IfSome result (λ found. pairs_out classes.now own.now (map (tuple_in (1 - own.now.input)) found) ≡ found_out classes.now own.now (tuples_in 0 sides.now)) }
+{
+    if !choices_join(classes, own, sides) {
+        return None;
+    }
+    let input = 1 - own.input() as usize;
+    candidates(classes, own, &sides[input], input)
+}
+
 /// Puts the results of a tuple at the end, over the stored tuples of each input; on a refusal the list is as before.
 pub fn hand_out_found(
     alloc: Global,
-    classes: &[List<ClassCol>],
-    own: &Arrived,
-    sides: &[Side],
+    spec: &Arc<JoinSpec, Global>,
+    own: &Arrived<'_>,
+    sides: &[State],
     outs: &mut List<Out>,
 ) -> Result<(), NoMemory>
-    ensures ok { OnOk result (outs.new ≡ outs.old ++ found_out classes.now own.now sides.now) }
+    requires few { length sides.now ≤ 16 }
+    requires there { own.now.input < length sides.now }
+    requires wide { AreWide sides.now }
+    ensures ok { OnOk result (outs.new ≡ outs.old ++ found_out (arc_value spec.now).classes own.now (tuples_in 0 sides.now)) }
     ensures err { OnErr result (outs.new ≡ outs.old) }
 {
-    if choices_join(classes, own, sides) {
-        return hand_out_pairs(alloc, classes, own, sides, outs);
+    match partners(spec.classes.as_slice(), own, sides) {
+        Some(among) => hand_out_pairs(alloc, spec.classes.as_slice(), own, &among, outs),
+        None => hand_out_probed(alloc, spec, own, sides, outs),
     }
-    let lists = choices(alloc, classes, own, sides)?;
-    let rows = found_rows(alloc, classes, lists.as_slice(), false)?;
-    hand_out_rows(alloc, outs, rows)
 }
 
-// The same of two inputs, where it is known that the choices of the tuple join.
-fn hand_out_pairs(
+// The same for any number of inputs.
+fn hand_out_probed(
     alloc: Global,
-    classes: &[List<ClassCol>],
-    own: &Arrived,
-    sides: &[Side],
+    spec: &Arc<JoinSpec, Global>,
+    own: &Arrived<'_>,
+    sides: &[State],
     outs: &mut List<Out>,
 ) -> Result<(), NoMemory>
-    requires own { own.now.input < 2 }
-    requires two { length sides.now ≡ 2 }
-    requires all { AllJoin classes.now (choices classes.now own.now sides.now) }
-    ensures ok { OnOk result (outs.new ≡ outs.old ++ found_out classes.now own.now sides.now) }
+    requires few { length sides.now ≤ 16 }
+    requires there { own.now.input < length sides.now }
+    requires wide { AreWide sides.now }
+    ensures ok { OnOk result (outs.new ≡ outs.old ++ found_out (arc_value spec.now).classes own.now (tuples_in 0 sides.now)) }
     ensures err { OnErr result (outs.new ≡ outs.old) }
 {
-    let input = 1 - own.input() as usize;
-    let among = candidates(classes, own, &sides[input], input);
+    let probe = Probe::new(alloc, 0, spec, own, sides)?;
+    let found = probe.work(alloc)?;
+    hand_out_rows(alloc, outs, found.rows)
+}
+
+// Puts the row of the tuple with each of these at the end that is older and joins with it; on a refusal the list is as before.
+fn hand_out_pairs<'a>(
+    alloc: Global,
+    classes: &[List<ClassCol>],
+    own: &Arrived<'a>,
+    among: &Matching<'a>,
+    outs: &mut List<Out>,
+) -> Result<(), NoMemory>
+    ensures ok { OnOk result (outs.new ≡ outs.old ++ pairs_out classes.now own.now (map (tuple_in (1 - own.now.input)) among.now)) }
+    ensures err { OnErr result (outs.new ≡ outs.old) }
+{
     make_room(alloc, outs, among.len().min(FEW))?;
     let before = outs.len();
-    match append_pairs(alloc, classes, own, input, among, outs) {
+    match append_pairs(alloc, classes, own, among, outs) {
         Ok(()) => Ok(()),
         Err(stop) => {
             outs.truncate(before);
@@ -95,33 +132,56 @@ fn hand_out_pairs(
     }
 }
 
-// Puts the row of the tuple with each of these at the end that is older and joins with it.
-fn append_pairs(
+fn append_pairs<'a>(
     alloc: Global,
     classes: &[List<ClassCol>],
-    own: &Arrived,
-    input: usize,
-    side: &[Arrived],
+    own: &Arrived<'a>,
+    among: &Matching<'a>,
     outs: &mut List<Out>,
 ) -> Result<(), NoMemory>
-    ensures ok { OnOk result (outs.new ≡ outs.old ++ pairs_out classes.now own.now side.now) }
+    ensures ok { OnOk result (outs.new ≡ outs.old ++ pairs_out classes.now own.now (map (tuple_in (1 - own.now.input)) among.now)) }
     ensures err { OnErr result (take (length outs.old) outs.new ≡ outs.old) }
 {
-    let columns = equal_columns(classes, own, input);
+    let input = 1u32.saturating_sub(own.input());
+    let columns = equal_columns(classes, own, input as usize);
     let cell = own_cell(own, columns);
-    let ticket = own.ticket();
-    for other in side {
-        if other.ticket() < ticket && joins_with(classes, own, input, columns, cell, other) {
-            let (first, second) = in_order(own, other);
-            outs.push(Out::Tuple(Row::pair(alloc, first, second)?))?;
+    for at in 0..among.len() {
+        let (ticket, row) = among.nth(at);
+        if ticket >= own.ticket() {
+            return Ok(());
         }
+        let other = Arrived::of(ticket, input, row);
+        append_pair(alloc, classes, own, columns, cell, &other, outs)?;
+    }
+    Ok(())
+}
+
+// Puts the row of the tuple with the other one at the end, where that joins with it.
+fn append_pair<'a>(
+    alloc: Global,
+    classes: &[List<ClassCol>],
+    own: &Arrived<'a>,
+    columns: Option<EqualColumns>,
+    cell: Option<&Value>,
+    other: &Arrived<'a>,
+    outs: &mut List<Out>,
+) -> Result<(), NoMemory>
+    requires older { other.now.ticket < own.now.ticket }
+    requires cell { IfSome columns (λ columns. option_copied cell ≡ slice_get own.now.row columns.mine) }
+    requires decide { IfSome columns (λ columns. ColumnsDecide classes.now own.now other.now.input columns.mine columns.theirs) }
+    ensures ok { OnOk result (outs.new ≡ outs.old ++ pairs_out classes.now own.now (other.now ∷ [])) }
+    ensures err { OnErr result (outs.new ≡ outs.old) }
+{
+    if joins_with(classes, own, other.input() as usize, columns, cell, other) {
+        let (first, second) = in_order(own, other);
+        outs.push(Out::Tuple(Row::pair(alloc, first, second)?))?;
     }
     Ok(())
 }
 
 // The rows of two tuples, that of the first input first.
 #[inline(always)]
-fn in_order<'a>(own: &'a Arrived, other: &'a Arrived) -> (&'a Row, &'a Row)
+fn in_order<'a>(own: &Arrived<'a>, other: &Arrived<'a>) -> (&'a Row, &'a Row)
     ensures { result.0.now ++ result.1.now ≡ pair_of own.now other.now }
 {
     if own.input() == 0 {

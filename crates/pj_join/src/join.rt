@@ -1,26 +1,29 @@
 // A join over plain lists.
-ghost use Rattle.std.specs.Prelude.{◌≡◌, ◌<◌, ◌≤◌, ◌+◌, ◌^◌, ◌↔◌, List, [], ◌∷◌, ◌++◌, length, OnOk, OnErr, IfOk, IsErrOf, IsTrue, Err, map, take, ◌==◌};
+ghost use Rattle.std.specs.Prelude.{◌≡◌, ◌<◌, ◌≤◌, ◌+◌, ◌^◌, ◌↔◌, All, List, [], ◌∷◌, ◌++◌, length, OnOk, OnErr, IfOk, IsErrOf, IsTrue, Err, map, slice_index_or, take, ◌==◌};
+ghost use Rattle.pj_state.specs.States.{state_of, stored};
 ghost use Rattle.pj_shape.specs.Sound.{IsSoundSpec};
-ghost use Rattle.pj_laws.specs.Join.{AreCertified, Step, TupleComes, PunctComes, Take, Give, Sweep, IsNew, start, run, low, inputs, arity, of_input, upto_from};
+ghost use Rattle.pj_laws.specs.Join.{AreCertified, Step, TupleComes, PunctComes, Take, Give, Sweep, IsNew, start, run, low, inputs, arity};
 ghost use Rattle.pj_laws.specs.KeptState.{kept_of, kept_low, swept, without};
 ghost use Rattle.std.specs.List.{position};
 ghost use Rattle.pj_join.specs.Handed.{JoinProbes, StandsProbed, rows_probed};
-ghost use Rattle.pj_join.specs.Insides.{Rise};
-ghost use Rattle.pj_join.specs.Judging.{IsRenewed, waiting_on};
+ghost use Rattle.pj_join.specs.Insides.{Rise, tickets};
+ghost use Rattle.pj_join.specs.Judging.{waiting_on};
 ghost use Rattle.pj_join.specs.Joins.{IsTaken, StandsFor, JoinTakes, StandsTaken, after, join_data};
 ghost use Rattle.pj_join.specs.Sweeping.{GoesWhereCovered, HandsUp, HasBeenLawful, IsForgotten, puncts_up, rows_off, swept_off};
 
-use crate::arrivals::{Arrived, Heard};
-use crate::certs::entries_of;
+use crate::arrivals::Heard;
 use crate::handing::hand_out_found;
-use crate::prints::key_column;
-use crate::side::Side;
-use crate::sweeping::{Left, renew, sweep_lists};
+use crate::queue::{Place, Queue};
+use crate::starting::{empty_states, empty_stores};
+use crate::stored::first_pending;
+use crate::sweeping::{Left, remove_all, sweep_input};
 use crate::widening::hear;
 use crate::{JoinStop, Probe};
+use pj_cover::PunctStore;
 use pj_laws::{Out, forgetting_is_safe, lawfulness, ripeness, standing};
 use pj_pattern::Punct;
 use pj_shape::{Cert, JoinSpec, Schemes};
+use pj_state::{Shared, State};
 use pj_value::{List, NoMemory, Row};
 use std::alloc::Global;
 use std::marker::Model;
@@ -38,10 +41,10 @@ pub struct Join {
     certs: List<Cert>,
     limit: u64,
     next: u64,
-    log: List<Arrived>,
-    sides: Vec<Side>,
-    puncts: List<Heard>,
+    states: Vec<State>,
+    stores: Vec<PunctStore>,
     waiting: List<Heard>,
+    pending: Queue,
     done: usize,
     taken: Vec<u64>,
 }
@@ -49,13 +52,14 @@ pub struct Join {
 impl Model for Join {
     ghost use Rattle.std.specs.Arc.{arc_value};
     ghost use Rattle.pj_join.specs.Joins.{JoinView, join_data};
-    ghost use Rattle.pj_join.specs.Insides.{IsOrdered, made_with, seen};
+    ghost use Rattle.pj_join.specs.Insides.{IsJoin, inside, made_with, seen};
+    ghost use Rattle.pj_join.specs.Sides.{log_of, puncts_of};
 
     ghost Value = { JoinView };
 
-    ghost view = { λ j. seen (made_with j.node (join_data (arc_value j.spec) j.schemes j.certs) j.limit) j.next j.done j.log j.puncts j.waiting j.taken.items };
+    ghost view = { λ j. seen (made_with j.node (join_data (arc_value j.spec) j.schemes j.certs) j.limit) j.next j.done (log_of j.states.items) (puncts_of j.stores.items) j.waiting j.taken.items };
 
-    ghost invariant = { λ j. IsOrdered (join_data (arc_value j.spec) j.schemes j.certs) j.limit j.next j.done j.log j.sides.items j.taken.items };
+    ghost invariant = { λ j. IsJoin (join_data (arc_value j.spec) j.schemes j.certs) j.limit (inside j.next j.done j.states.items j.stores.items j.pending j.taken.items) };
 }
 
 impl Join {
@@ -74,7 +78,8 @@ impl Join {
         requires limit { (1 ≤ limit) × (limit ≤ 2 ^ 40) }
         ensures { IfOk result (λ join. join ≡ record { node = node; spec = join_data spec schemes certs; limit = limit; kept = kept_of start }) }
     {
-        let sides = empty_sides(alloc, &spec)?;
+        let states = empty_states(alloc, &spec)?;
+        let stores = empty_stores(alloc, spec.inputs.as_slice())?;
         Ok(Join {
             alloc,
             node,
@@ -83,10 +88,10 @@ impl Join {
             certs,
             limit,
             next: 0,
-            log: List::new(alloc),
-            sides,
-            puncts: List::new(alloc),
+            states,
+            stores,
             waiting: List::new(alloc),
+            pending: Queue::new(alloc),
             done: 0,
             taken: Vec::new(alloc),
         })
@@ -108,12 +113,12 @@ impl Join {
             return Err(JoinStop::Limit);
         }
         let ticket = self.next;
-        let arrived = Arrived::new(self.alloc, ticket, input, row)?;
+        let row = Shared::new(self.alloc, row)?;
         store(
-            self.alloc,
-            &mut self.log,
-            &mut self.sides[input as usize],
-            arrived,
+            &mut self.pending,
+            &mut self.states[input as usize],
+            Place { ticket, input },
+            row,
         )?;
         self.next = ticket + 1;
         Ok(ticket)
@@ -143,14 +148,15 @@ impl Join {
             return Err(JoinStop::Limit);
         }
         let ticket = self.next;
-        let heard = Heard::new(self.alloc, ticket, input, punct)?;
         hear(
             self.alloc,
             self.spec.inputs.as_slice(),
-            self.log.as_slice(),
-            &mut self.puncts,
+            &self.states[input as usize],
+            &mut self.stores[input as usize],
             &mut self.waiting,
-            heard,
+            ticket,
+            input,
+            punct,
             out,
         )?;
         self.next += 1;
@@ -165,18 +171,18 @@ impl Join {
     {
         standing();
         forgetting_is_safe();
-        let place = self.done;
-        match self.log.get(place) {
+        match first_pending(self.states.as_slice(), &self.pending) {
             None => Ok(None),
             Some(own) => {
                 let probe = Probe::new(
                     self.alloc,
                     self.node,
                     &self.spec,
-                    own,
-                    self.sides.as_slice(),
+                    &own,
+                    self.states.as_slice(),
                 )?;
                 self.taken.push(probe.ticket())?;
+                self.pending.pop_first();
                 self.done += 1;
                 Ok(Some(probe))
             }
@@ -204,12 +210,12 @@ impl Join {
     {
         standing();
         forgetting_is_safe();
-        match self.log.get(self.done) {
+        match first_pending(self.states.as_slice(), &self.pending) {
             None => Ok(None),
             Some(own) => {
                 let ticket = own.ticket();
-                let classes = self.spec.classes.as_slice();
-                hand_out_found(self.alloc, classes, own, self.sides.as_slice(), outs)?;
+                hand_out_found(self.alloc, &self.spec, &own, self.states.as_slice(), outs)?;
+                self.pending.pop_first();
                 self.done += 1;
                 Ok(Some(ticket))
             }
@@ -266,25 +272,25 @@ impl Join {
     ) -> Result<Left, NoMemory>
         requires there { input < inputs self.now.spec }
         ensures certified { OnOk result (AreCertified self.now.spec) }
-        ensures log { IfOk result (λ left. left.log ≡ swept self.now.spec self.now.kept input) }
-        ensures side { IfOk result (λ left. IsRenewed input self.now.kept.stored left.log left.side) }
-        ensures waiting { IfOk result (λ left. left.waiting ≡ waiting_on left.log input self.now.kept.waiting) }
+        ensures gone { IfOk result (λ left. left.gone ≡ tickets (swept_off self.now input)) }
+        ensures waiting { IfOk result (λ left. left.waiting ≡ waiting_on (swept self.now.spec self.now.kept input) input self.now.kept.waiting) }
         ensures removed { OnOk result (removed.new ≡ removed.old ++ rows_off self.now input) }
         ensures out { OnOk result (out.new ≡ out.old ++ puncts_up self.now (Sweep input)) }
         ensures err { OnErr result ((take (length removed.old) removed.new ≡ removed.old) × (take (length out.old) out.new ≡ out.old)) }
     {
-        let cert = entries_of(self.alloc, &self.schemes, self.certs.as_slice(), input)?;
+        let none = Cert::of(List::new(self.alloc));
+        let cert = cert_of(self.certs.as_slice(), &none, input);
         let low = self.low();
-        let stored = self.log.as_slice();
-        let left = sweep_lists(
+        let left = sweep_input(
             self.alloc,
             &self.spec,
-            cert.as_slice(),
-            stored,
-            self.puncts.as_slice(),
+            &self.schemes,
+            cert,
+            input,
+            self.states.as_slice(),
+            self.stores.as_slice(),
             self.waiting.as_slice(),
             low,
-            input,
             removed,
             out,
         )?;
@@ -294,19 +300,17 @@ impl Join {
     // Takes over what a sweep of the input leaves, and answers how many tuples went.
     fn settle(&mut self, input: u32, left: Left) -> u64
         requires there { input < inputs self.old.spec }
-        requires log { left.log ≡ swept self.old.spec self.old.kept input }
-        requires side { IsRenewed input self.old.kept.stored left.log left.side }
-        requires waiting { left.waiting ≡ waiting_on left.log input self.old.kept.waiting }
+        requires gone { left.gone ≡ tickets (swept_off self.old input) }
+        requires waiting { left.waiting ≡ waiting_on (swept self.old.spec self.old.kept input) input self.old.kept.waiting }
         ensures sweeps { self.new ≡ after self.old (Sweep input) }
         ensures count { result ≡ length (swept_off self.old input) }
     {
-        let Left { log, side, waiting } = left;
-        let gone = self.log.len() - log.len();
-        self.done -= gone;
-        self.log = log;
+        let Left { gone, waiting } = left;
+        let count = gone.len();
+        self.done -= count;
         self.waiting = waiting;
-        renew(&mut self.sides[input as usize], side);
-        gone as u64
+        remove_all(&mut self.states[input as usize], gone.as_slice());
+        count as u64
     }
 
     /// The low-water ticket: the least that is not given, else the next.
@@ -316,8 +320,8 @@ impl Join {
     {
         match self.taken.first() {
             Some(ticket) => *ticket,
-            None => match self.log.get(self.done) {
-                Some(first) => first.ticket(),
+            None => match self.pending.as_slice().first() {
+                Some(first) => first.ticket,
                 None => self.next,
             },
         }
@@ -327,7 +331,7 @@ impl Join {
     pub fn stored(&self) -> u64
         ensures { result ≡ length self.now.kept.stored }
     {
-        self.log.len() as u64
+        (self.done + self.pending.as_slice().len()) as u64
     }
 
     /// How many punctuations wait.
@@ -341,7 +345,7 @@ impl Join {
     pub fn pending(&self) -> u64
         ensures { result ≡ length self.now.kept.pending }
     {
-        (self.log.len() - self.done) as u64
+        self.pending.as_slice().len() as u64
     }
 
     /// How many tickets are taken and not given.
@@ -358,37 +362,32 @@ fn is_full(next: u64, limit: u64) -> bool
     next == limit
 }
 
-/// A side with no tuple for each input, whose key is the first column that a class has of it.
-fn empty_sides(alloc: Global, spec: &JoinSpec) -> Result<Vec<Side>, NoMemory>
-    ensures { IfOk result (λ sides. sides.items ≡ map (λ k. of_input k []) (upto_from 0 (length spec.now.inputs))) }
+/// Stores a row at a place of its input, and puts the place at the end of those that are pending; or neither.
+fn store(pending: &mut Queue, state: &mut State, place: Place, row: Shared) -> Result<(), NoMemory>
+    requires later { All (λ s. s.ticket < place.ticket) state.old.rows }
+    requires wide { All (λ column. column < length row) state.old.columns }
+    ensures pending { OnOk result (pending.new ≡ pending.old ++ place ∷ []) }
+    ensures state { OnOk result (state.new ≡ state_of state.old.columns (state.old.rows ++ stored place.ticket row ∷ [])) }
+    ensures err { OnErr result ((pending.new ≡ pending.old) × (state.new ≡ state.old)) }
 {
-    let mut sides = Vec::new(alloc);
-    for input in 0..spec.inputs.len() {
-        let key = key_column(spec.classes.as_slice(), input);
-        let number = input.min(u32::MAX as usize) as u32;
-        sides.push(Side::new(alloc, number, key)?)?;
-    }
-    Ok(sides)
-}
-
-/// Puts a tuple at the end of the log and of its side, or of neither.
-fn store(
-    alloc: Global,
-    log: &mut List<Arrived>,
-    side: &mut Side,
-    arrived: Arrived,
-) -> Result<(), NoMemory>
-    ensures ok { OnOk result ((log.new ≡ log.old ++ arrived ∷ []) × (side.new ≡ side.old ++ arrived ∷ [])) }
-    ensures err { OnErr result ((log.new ≡ log.old) × (side.new ≡ side.old)) }
-{
-    let count = log.len();
-    log.push(arrived.share(alloc)?)?;
-    match side.push(alloc, arrived) {
+    pending.push(place)?;
+    match state.insert(place.ticket, row) {
         Ok(()) => Ok(()),
         Err(stop) => {
-            log.truncate(count);
+            pending.pop_last();
             Err(stop)
         }
+    }
+}
+
+// The certificate of an input; none where it has none.
+fn cert_of<'a>(certs: &'a [Cert], none: &'a Cert, input: u32) -> &'a Cert
+    requires { none.now ≡ [] }
+    ensures { result.now ≡ slice_index_or certs.now input [] }
+{
+    match certs.get(input as usize) {
+        None => none,
+        Some(cert) => cert,
     }
 }
 

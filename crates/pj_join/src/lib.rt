@@ -1,16 +1,16 @@
-//! A join of two and more inputs over plain lists of rows: the probes that find its results, and sweeps that forget rows.
+//! A join of two and more inputs: the probes that find its results by indexes, and sweeps that forget rows.
 #![tactic(auto)]
 
 mod arrivals;
-mod asking;
-mod certs;
+mod choosing;
 mod found;
 mod handing;
 mod join;
-mod judge;
-mod prints;
+mod lookups;
 mod probe;
-mod side;
+mod queue;
+mod starting;
+mod stored;
 mod sweeping;
 mod walk;
 mod widening;

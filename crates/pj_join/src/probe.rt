@@ -1,13 +1,14 @@
 // A tuple on its way through the work of a join.
-ghost use Rattle.std.specs.Prelude.{◌≡◌, IfOk};
+ghost use Rattle.std.specs.Prelude.{◌≡◌, ◌<◌, ◌≤◌, length, IfOk};
 ghost use Rattle.std.specs.Arc.{arc_value};
+ghost use Rattle.pj_join.specs.Sides.{AreWide, tuples_in};
 ghost use Rattle.pj_join.specs.Walks.{choices, found_in};
 
 use crate::Found;
 use crate::arrivals::Arrived;
-use crate::side::Side;
-use crate::walk::{choices, choices_join, found_rows};
+use crate::choosing::choices;
 use pj_shape::JoinSpec;
+use pj_state::State;
 use pj_value::{List, NoMemory};
 use std::alloc::Global;
 use std::marker::Model;
@@ -16,24 +17,16 @@ use std::sync::Arc;
 /// A tuple that was taken, with the stored rows that may join with it. It is seen as what its work finds.
 #[derive(Drop)]
 pub struct Probe {
-    join: u32,
-    ticket: u64,
-    spec: Arc<JoinSpec, Global>,
-    sides: List<List<Arrived>>,
-    all_join: bool,
+    probe: pj_probe::Probe,
 }
 
 impl Model for Probe {
-    ghost use Rattle.std.specs.Prelude.{IsTrue};
-    ghost use Rattle.std.specs.Arc.{arc_value};
     ghost use Rattle.pj_join.specs.declared.found.Found.{Found};
-    ghost use Rattle.pj_join.specs.Walks.{AllJoin, found_in};
+    ghost use Rattle.pj_join.specs.Walks.{found_as};
 
     ghost Value = { Found };
 
-    ghost view = { λ p. found_in p.join p.ticket (arc_value p.spec).classes p.sides };
-
-    ghost invariant = { λ p. IsTrue p.all_join → AllJoin (arc_value p.spec).classes p.sides };
+    ghost view = { λ p. found_as p.probe };
 }
 
 impl Probe {
@@ -42,20 +35,18 @@ impl Probe {
         alloc: Global,
         join: u32,
         spec: &Arc<JoinSpec, Global>,
-        own: &Arrived,
-        sides: &[Side],
+        own: &Arrived<'_>,
+        sides: &[State],
     ) -> Result<Probe, NoMemory>
-        ensures { let classes = (arc_value spec.now).classes in IfOk result (λ probe. probe ≡ found_in join own.now.ticket classes (choices classes own.now sides.now)) }
+        requires few { length sides.now ≤ 16 }
+        requires there { own.now.input < length sides.now }
+        requires wide { AreWide sides.now }
+        ensures { let classes = (arc_value spec.now).classes in IfOk result (λ probe. probe ≡ found_in join own.now.ticket classes (choices classes own.now (tuples_in 0 sides.now))) }
     {
         let spec = share_spec(spec)?;
-        let all_join = choices_join(spec.classes.as_slice(), own, sides);
         let sides = choices(alloc, spec.classes.as_slice(), own, sides)?;
         Ok(Probe {
-            join,
-            ticket: own.ticket(),
-            spec,
-            sides,
-            all_join,
+            probe: pj_probe::Probe::new(join, own.ticket(), spec, sides),
         })
     }
 
@@ -63,14 +54,14 @@ impl Probe {
     pub fn join(&self) -> u32
         ensures { result ≡ self.now.join }
     {
-        self.join
+        self.probe.join()
     }
 
     /// Its ticket there.
     pub fn ticket(&self) -> u64
         ensures { result ≡ self.now.ticket }
     {
-        self.ticket
+        self.probe.ticket()
     }
 
     /// Finds its results: each combination with one older tuple of each other input in which all classes agree, joined
@@ -78,16 +69,11 @@ impl Probe {
     pub fn work(&self, alloc: Global) -> Result<Found, NoMemory>
         ensures { IfOk result (λ found. found ≡ self.now) }
     {
-        let rows = found_rows(
-            alloc,
-            self.spec.classes.as_slice(),
-            self.sides.as_slice(),
-            self.all_join,
-        )?;
+        let found = self.probe.work(alloc)?;
         Ok(Found {
-            join: self.join,
-            ticket: self.ticket,
-            rows,
+            join: found.join,
+            ticket: found.ticket,
+            rows: found.rows,
         })
     }
 }

@@ -1,201 +1,137 @@
 // Which tuples a sweep removes, and what is left.
-ghost use Rattle.std.specs.Prelude.{◌≡◌, ◌<◌, ◌≤◌, ◌++◌, ◌∷◌, [], length, map, take, OnOk, OnErr, IfOk, IfSome};
-ghost use Rattle.pj_shape.specs.Sound.{IsSoundSpec};
-ghost use Rattle.pj_laws.specs.Join.{of_input};
-ghost use Rattle.pj_join.specs.Judging.{IsRenewed, IsSortedOut, going_up, goes, judged, rows_going, staying, waiting_on};
+ghost use Rattle.std.specs.Prelude.{◌≡◌, ◌<◌, ◌++◌, length, slice_get, take, Some, OnOk, OnErr, IfOk};
+ghost use Rattle.pj_state.specs.States.{state_of, stored};
+ghost use Rattle.pj_join.specs.Judging.{BothMore, MayJudge, judge, letting_go, one_if, ripe_at, ripe_rows, ripe_tickets, rows_without, staying_on};
+ghost use Rattle.pj_join.specs.Sides.{state_at};
 
-use crate::arrivals::{Arrived, Entry, Heard};
-use crate::judge::is_ripe;
-use crate::prints::key_column;
-use crate::side::Side;
+use crate::arrivals::Heard;
+use crate::stored::Inputs;
 use crate::widening::let_go;
+use pj_cover::{PunctStore, ripe};
 use pj_pattern::Punct;
-use pj_shape::{ClassCol, JoinSpec};
-use pj_value::{List, NoMemory, Row, SharedText, Value};
+use pj_shape::{Cert, JoinSpec, Schemes};
+use pj_state::State;
+use pj_value::{List, NoMemory, Row};
 use std::alloc::Global;
 
-/// What a sweep leaves: the stored tuples, the new side of its input where any went, and the punctuations that wait.
+/// What a sweep leaves: the tickets of the tuples that go, and the punctuations that wait.
 #[derive(Drop)]
 pub struct Left {
-    pub log: List<Arrived>,
-    pub side: Option<Side>,
+    pub gone: List<u64>,
     pub waiting: List<Heard>,
 }
 
-fn goes(
-    alloc: Global,
-    none: &Value,
+// Whether a row that is stored is ripe.
+fn is_ripe(
     spec: &JoinSpec,
-    cert: &[Entry],
-    stored: &[Arrived],
-    puncts: &[Heard],
-    low: u64,
+    schemes: &Schemes,
+    cert: &Cert,
     input: u32,
-    tuple: &Arrived,
-) -> Result<bool, NoMemory>
-    requires none { none.now ≡ Value.Text [] }
-    requires sound { IsSoundSpec spec.now }
-    ensures { IfOk result (λ b. b ≡ goes (judged spec.now.classes stored.now puncts.now low) cert.now input tuple.now) }
+    states: &[State],
+    stores: &[PunctStore],
+    low: u64,
+    ticket: u64,
+    row: &Row,
+) -> bool
+    requires may { MayJudge (judge spec.now schemes.now states.now stores.now low) cert.now input }
+    requires there { (at : _) × (slice_get (state_at states.now input).rows at ≡ Some (stored ticket row.now)) }
+    ensures { result ≡ ripe_at (judge spec.now schemes.now states.now stores.now low) cert.now input (stored ticket row.now) }
 {
-    if tuple.input() != input {
-        return Ok(false);
-    }
-    let ripe = is_ripe(alloc, none, spec, cert, stored, puncts, low, tuple)?;
-    Ok(ripe)
+    let rows = Inputs { states };
+    ripe(spec, schemes, cert, input, ticket, row, &rows, stores, low)
 }
 
-// Puts the row of the tuple at the end of those that go, or the tuple at the end of those that stay.
+// Puts the row at the end of those that go, and its ticket to theirs, where it is ripe; or neither.
 fn sort_out(
     alloc: Global,
-    none: &Value,
-    spec: &JoinSpec,
-    cert: &[Entry],
-    stored: &[Arrived],
-    puncts: &[Heard],
-    low: u64,
-    input: u32,
-    tuple: &Arrived,
-    stay: &mut List<Arrived>,
-    rows: &mut List<Row>,
+    goes: bool,
+    ticket: u64,
+    row: &Row,
+    gone: &mut List<u64>,
+    removed: &mut List<Row>,
 ) -> Result<(), NoMemory>
-    requires none { none.now ≡ Value.Text [] }
-    requires sound { IsSoundSpec spec.now }
-    ensures ok { OnOk result (IsSortedOut (goes (judged spec.now.classes stored.now puncts.now low) cert.now input tuple.now) tuple.now tuple.now.row stay.old stay.new rows.old rows.new) }
-    ensures err { OnErr result (rows.new ≡ rows.old) }
+    ensures ok { OnOk result (BothMore gone.old gone.new (one_if goes ticket) removed.old removed.new (one_if goes row.now)) }
+    ensures err { OnErr result (removed.new ≡ removed.old) }
 {
-    if goes(alloc, none, spec, cert, stored, puncts, low, input, tuple)? {
-        rows.push(tuple.row().copy(alloc)?)?;
-        return Ok(());
+    if goes {
+        gone.push(ticket)?;
+        removed.push(row.copy(alloc)?)?;
     }
-    stay.push(tuple.share(alloc)?)?;
     Ok(())
 }
 
-// Puts the rows of the tuples that go at the end of `rows`, and answers those that stay.
-fn sort_all(
+// Puts the rows of the tuples of an input that are ripe at the end of `removed`, and answers their tickets.
+fn ripe_ones(
     alloc: Global,
-    none: &Value,
     spec: &JoinSpec,
-    cert: &[Entry],
-    stored: &[Arrived],
-    puncts: &[Heard],
+    schemes: &Schemes,
+    cert: &Cert,
+    input: u32,
+    states: &[State],
+    stores: &[PunctStore],
     low: u64,
-    input: u32,
-    rows: &mut List<Row>,
-) -> Result<List<Arrived>, NoMemory>
-    requires none { none.now ≡ Value.Text [] }
-    requires sound { IsSoundSpec spec.now }
-    ensures stay { IfOk result (λ stay. stay ≡ staying (judged spec.now.classes stored.now puncts.now low) cert.now input stored.now) }
-    ensures ok { OnOk result (rows.new ≡ rows.old ++ rows_going (judged spec.now.classes stored.now puncts.now low) cert.now input stored.now) }
-    ensures err { OnErr result (take (length rows.old) rows.new ≡ rows.old) }
+    removed: &mut List<Row>,
+) -> Result<List<u64>, NoMemory>
+    requires { MayJudge (judge spec.now schemes.now states.now stores.now low) cert.now input }
+    ensures gone { let j = judge spec.now schemes.now states.now stores.now low in IfOk result (λ gone. gone ≡ ripe_tickets j cert.now input (state_at states.now input).rows) }
+    ensures removed { let j = judge spec.now schemes.now states.now stores.now low in OnOk result (removed.new ≡ removed.old ++ ripe_rows j cert.now input (state_at states.now input).rows) }
+    ensures err { OnErr result (take (length removed.old) removed.new ≡ removed.old) }
 {
-    let mut stay = List::with_room(alloc, stored.len())?;
-    for tuple in stored {
-        sort_out(
-            alloc, none, spec, cert, stored, puncts, low, input, tuple, &mut stay, rows,
-        )?;
+    let mut gone = List::new(alloc);
+    let state = &states[input as usize];
+    for at in 0..state.len() {
+        let (ticket, row) = state.nth(at);
+        if ticket >= low {
+            return Ok(gone);
+        }
+        let goes = is_ripe(spec, schemes, cert, input, states, stores, low, ticket, row);
+        sort_out(alloc, goes, ticket, row, &mut gone, removed)?;
     }
-    Ok(stay)
-}
-
-// Puts the tuple at the end of the side, where it is of the input.
-fn put_to_side(alloc: Global, input: u32, tuple: &Arrived, side: &mut Side) -> Result<(), NoMemory>
-    ensures { OnOk result (side.new ≡ side.old ++ of_input input (tuple.now ∷ [])) }
-{
-    if tuple.input() != input {
-        return Ok(());
-    }
-    side.push(alloc, tuple.share(alloc)?)?;
-    Ok(())
-}
-
-// The side of the input's tuples among these.
-#[tactic(auto, using(crate::proofs::SortedOut::side_more))]
-fn side_of(
-    alloc: Global,
-    classes: &[List<ClassCol>],
-    input: u32,
-    stored: &[Arrived],
-) -> Result<Side, NoMemory>
-    ensures { IfOk result (λ side. side ≡ of_input input stored.now) }
-{
-    let mut side = Side::new(alloc, input, key_column(classes, input as usize))?;
-    for tuple in stored {
-        put_to_side(alloc, input, tuple, &mut side)?;
-    }
-    Ok(side)
-}
-
-// The new side of an input where not all tuples stay.
-fn renewed(
-    alloc: Global,
-    classes: &[List<ClassCol>],
-    input: u32,
-    stored: &[Arrived],
-    stay: &[Arrived],
-) -> Result<Option<Side>, NoMemory>
-    requires { length stay.now ≡ length stored.now → stay.now ≡ stored.now }
-    ensures { IfOk result (λ side. IsRenewed input stored.now stay.now side) }
-{
-    if stay.len() == stored.len() {
-        return Ok(None);
-    }
-    let side = side_of(alloc, classes, input, stay)?;
-    Ok(Some(side))
+    Ok(gone)
 }
 
 /// Judges the stored tuples of an input. The rows of those that go are put at the end of `removed`, and the punctuations that
 /// are let go at the end of `out`. After a refusal both begin as before.
-pub fn sweep_lists(
+pub fn sweep_input(
     alloc: Global,
     spec: &JoinSpec,
-    cert: &[Entry],
-    stored: &[Arrived],
-    puncts: &[Heard],
+    schemes: &Schemes,
+    cert: &Cert,
+    input: u32,
+    states: &[State],
+    stores: &[PunctStore],
     waiting: &[Heard],
     low: u64,
-    input: u32,
     removed: &mut List<Row>,
     out: &mut List<Punct>,
 ) -> Result<Left, NoMemory>
-    requires sound { IsSoundSpec spec.now }
-    requires there { input < length spec.now.inputs }
-    ensures log { let j = judged spec.now.classes stored.now puncts.now low in IfOk result (λ left. left.log ≡ staying j cert.now input stored.now) }
-    ensures side { IfOk result (λ left. IsRenewed input stored.now left.log left.side) }
-    ensures waiting { IfOk result (λ left. left.waiting ≡ waiting_on left.log input waiting.now) }
-    ensures removed { let j = judged spec.now.classes stored.now puncts.now low in OnOk result (removed.new ≡ removed.old ++ rows_going j cert.now input stored.now) }
-    ensures out { IfOk result (λ left. out.new ≡ out.old ++ going_up spec.now.inputs left.log input waiting.now) }
+    requires { MayJudge (judge spec.now schemes.now states.now stores.now low) cert.now input }
+    ensures gone { let j = judge spec.now schemes.now states.now stores.now low in IfOk result (λ left. left.gone ≡ ripe_tickets j cert.now input (state_at states.now input).rows) }
+    ensures waiting { IfOk result (λ left. left.waiting ≡ staying_on (state_at states.now input).rows left.gone input waiting.now) }
+    ensures removed { let j = judge spec.now schemes.now states.now stores.now low in OnOk result (removed.new ≡ removed.old ++ ripe_rows j cert.now input (state_at states.now input).rows) }
+    ensures out { IfOk result (λ left. out.new ≡ out.old ++ letting_go spec.now.inputs (state_at states.now input).rows left.gone input waiting.now) }
     ensures err { OnErr result ((take (length removed.old) removed.new ≡ removed.old) × (take (length out.old) out.new ≡ out.old)) }
 {
-    let none = Value::Text(SharedText::copy_of(alloc, &[])?);
-    let log = sort_all(
-        alloc, &none, spec, cert, stored, puncts, low, input, removed,
-    )?;
-    let side = renewed(
-        alloc,
-        spec.classes.as_slice(),
-        input,
-        stored,
-        log.as_slice(),
+    let gone = ripe_ones(
+        alloc, spec, schemes, cert, input, states, stores, low, removed,
     )?;
     let waiting = let_go(
         alloc,
         spec.inputs.as_slice(),
-        log.as_slice(),
+        &states[input as usize],
+        gone.as_slice(),
         input,
         waiting,
         out,
     )?;
-    Ok(Left { log, side, waiting })
+    Ok(Left { gone, waiting })
 }
 
-/// Puts the new side in the place of the old one, where there is one.
-pub fn renew(side: &mut Side, new: Option<Side>)
-    ensures same { new ≡ None → side.new ≡ side.old }
-    ensures other { IfSome new (λ tuples. side.new ≡ tuples) }
+/// Takes the rows with these tickets out.
+pub fn remove_all(state: &mut State, gone: &[u64])
+    ensures { state.new ≡ state_of state.old.columns (rows_without gone.now state.old.rows) }
 {
-    match new {
-        None => {}
-        Some(tuples) => *side = tuples,
+    for ticket in gone {
+        state.remove(*ticket);
     }
 }

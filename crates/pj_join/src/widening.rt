@@ -1,14 +1,21 @@
 // Punctuations that a join hands up, or that wait.
-ghost use Rattle.std.specs.Prelude.{◌≡◌, ◌<◌, ◌++◌, ◌∷◌, [], ◌==◌, ◌&&◌, not, true, false, if◌then◌else◌, length, map, sum, take, OnOk, OnErr, IfOk};
-ghost use Rattle.pj_laws.specs.Join.{is_held};
-ghost use Rattle.pj_laws.specs.Patterns.{all_wild, matches_row};
+ghost use Rattle.std.specs.Prelude.{◌≡◌, ◌<◌, ◌++◌, ◌∷◌, [], ℕ, not, true, false, is_some, length, map, sum, take, OnOk, OnErr, IfOk, IfSome};
+ghost use Rattle.pj_laws.specs.Join.{has};
+ghost use Rattle.pj_laws.specs.Patterns.{all_wild};
 ghost use Rattle.pj_shape.specs.Sound.{arities_of};
-ghost use Rattle.pj_join.specs.Judging.{IsSortedOut, going_at_once, going_up, is_let_go, waiting_on, waiting_with, widened_among};
+ghost use Rattle.pj_state.specs.States.{stored};
+ghost use Rattle.pj_cover.specs.Stores.{IsAbove};
+ghost use Rattle.pj_join.specs.Judging.{IsSortedOut, going_at_once, letting_go, lets_go, staying_on, waiting_with, widened_among};
+ghost use Rattle.pj_pattern.specs.declared.pattern.Form.TheVariants.{Constant};
+ghost use Rattle.pj_join.specs.Sides.{IsLookup, stays, still_held};
 
-use crate::arrivals::{Arrived, Heard};
-use pj_pattern::{Pattern, Punct};
+use crate::arrivals::Heard;
+use crate::lookups::Lookup;
+use pj_cover::PunctStore;
+use pj_pattern::{Pattern, Punct, Shape};
 use pj_shape::Schema;
-use pj_value::{List, NoMemory};
+use pj_state::{Matching, State};
+use pj_value::{List, NoMemory, Row, Value};
 use std::alloc::Global;
 
 fn append_wild(count: usize, patterns: &mut List<Pattern>) -> Result<(), NoMemory>
@@ -44,95 +51,220 @@ fn append_copies(
     Ok(())
 }
 
-// The punctuation with wildcards for the columns of the other inputs.
-fn widened(alloc: Global, schemas: &[Schema], punct: &Heard) -> Result<Punct, NoMemory>
-    requires { punct.now.input < length schemas.now }
-    ensures { IfOk result (λ p. p ≡ widened_among schemas.now punct.now) }
+// The patterns of a punctuation of an input with wildcards for the columns of the other inputs.
+fn widened(
+    alloc: Global,
+    schemas: &[Schema],
+    input: u32,
+    own: &[Pattern],
+) -> Result<Punct, NoMemory>
+    requires { input < length schemas.now }
+    ensures { IfOk result (λ p. (ticket : ℕ) → p ≡ widened_among schemas.now (record { ticket = ticket; input = input; patterns = own.now })) }
 {
-    let (before, from) = schemas.split_at(punct.input() as usize);
+    let (before, from) = schemas.split_at(input as usize);
     let (_, behind) = from.split_at(1);
     let mut patterns = List::new(alloc);
     append_wilds(before, &mut patterns)?;
-    append_copies(alloc, punct.punct().as_slice(), &mut patterns)?;
+    append_copies(alloc, own, &mut patterns)?;
     append_wilds(behind, &mut patterns)?;
     Ok(Punct::of(patterns))
 }
 
-fn holds(stored: &Arrived, punct: &Heard) -> bool
-    ensures { result ≡ ((stored.now.input == punct.now.input) && matches_row punct.now.patterns stored.now.row) }
+fn is_gone(gone: &[u64], ticket: u64) -> bool
+    ensures { result ≡ has gone.now ticket }
 {
-    stored.input() == punct.input() && punct.punct().matches(stored.row())
+    gone.iter().any(|t| *t == ticket)
 }
 
-/// Whether a stored tuple of its input matches the punctuation.
-pub fn is_held(stored: &[Arrived], punct: &Heard) -> bool
-    ensures { result ≡ is_held stored.now punct.now }
+// Whether the row matches the punctuation, and is not among those that go.
+fn stays(gone: &[u64], ticket: u64, row: &Row, punct: &Punct) -> bool
+    ensures { result ≡ stays gone.now punct.now (stored ticket row.now) }
 {
-    stored.iter().any(|tuple| holds(tuple, punct))
+    punct.matches(row) && !is_gone(gone, ticket)
 }
 
-fn is_let_go(stored: &[Arrived], input: u32, punct: &Heard) -> bool
-    ensures { result ≡ is_let_go stored.now input punct.now }
+// The constant that a pattern is; `None` where it is none.
+fn constant_of(pattern: &Pattern) -> Option<&Value>
+    ensures { IfSome result (λ value. pattern.now ≡ Constant value.now) }
 {
-    punct.input() == input && !is_held(stored, punct)
+    match pattern.shape() {
+        Shape::Wild => None,
+        Shape::Empty => None,
+        Shape::Constant(value) => Some(value),
+        Shape::Range(_, _) => None,
+        Shape::Members(_) => None,
+    }
+}
+
+// The constant of the punctuation in a column, where that is indexed.
+fn lookup_in<'a>(state: &State, punct: &'a Punct, column: usize) -> Option<Lookup<'a>>
+    requires { column < length punct.now }
+    ensures { IfSome result (λ at. IsLookup state.now punct.now at.column at.value.now) }
+{
+    if column > u32::MAX as usize {
+        return None;
+    }
+    let number = column as u32;
+    if !state.is_indexed(number) {
+        return None;
+    }
+    match constant_of(punct.at(column)) {
+        None => None,
+        Some(value) => Some(Lookup {
+            column: number,
+            value,
+        }),
+    }
+}
+
+// The first column that is indexed and in which the punctuation has a constant.
+fn lookup<'a>(state: &State, punct: &'a Punct) -> Option<Lookup<'a>>
+    ensures { IfSome result (λ at. IsLookup state.now punct.now at.column at.value.now) }
+{
+    for column in 0..punct.len() {
+        match lookup_in(state, punct, column) {
+            Some(at) => return Some(at),
+            None => {}
+        }
+    }
+    None
+}
+
+// The ticket of one of these rows that stays and matches the punctuation.
+fn find_matching(among: &Matching<'_>, gone: &[u64], punct: &Punct) -> Option<u64>
+    ensures { is_some result ≡ still_held among.now gone.now punct.now }
+{
+    for at in 0..among.len() {
+        let (ticket, row) = among.nth(at);
+        if stays(gone, ticket, row, punct) {
+            return Some(ticket);
+        }
+    }
+    None
+}
+
+// The ticket of a row that stays and matches the punctuation, where each is looked at.
+fn find_among_all(state: &State, gone: &[u64], punct: &Punct) -> Option<u64>
+    ensures { is_some result ≡ still_held state.now.rows gone.now punct.now }
+{
+    for at in 0..state.len() {
+        let (ticket, row) = state.nth(at);
+        if stays(gone, ticket, row, punct) {
+            return Some(ticket);
+        }
+    }
+    None
+}
+
+// The ticket of a row that stays and matches the punctuation: by an index where one tells.
+fn find(state: &State, gone: &[u64], punct: &Punct) -> Option<u64>
+    ensures { is_some result ≡ still_held state.now.rows gone.now punct.now }
+{
+    match lookup(state, punct) {
+        None => find_among_all(state, gone, punct),
+        Some(at) => find_matching(&state.matching(at.column, at.value), gone, punct),
+    }
+}
+
+// Whether the row with this ticket is there, stays and matches the punctuation.
+fn is_witness(state: &State, gone: &[u64], ticket: u64, punct: &Punct) -> bool
+    ensures { result ≡ true → still_held state.now.rows gone.now punct.now ≡ true }
+{
+    match state.get(ticket) {
+        None => false,
+        Some(row) => stays(gone, ticket, row, punct),
+    }
+}
+
+// The same, where that with this ticket is looked at first.
+fn witness(state: &State, gone: &[u64], first: u64, punct: &Punct) -> Option<u64>
+    ensures { is_some result ≡ still_held state.now.rows gone.now punct.now }
+{
+    if is_witness(state, gone, first, punct) {
+        return Some(first);
+    }
+    find(state, gone, punct)
+}
+
+// The ticket of a row for which the punctuation waits on: one of another input than the swept one does in any case.
+fn waits_for(state: &State, gone: &[u64], input: u32, punct: &Heard) -> Option<u64>
+    ensures { not (is_some result) ≡ lets_go state.now.rows gone.now input punct.now }
+{
+    if punct.input() != input {
+        return Some(punct.witness());
+    }
+    witness(state, gone, punct.witness(), punct.punct())
 }
 
 // Puts the punctuation at the end of those that go up, widened, or of those that wait on.
 fn let_one_go(
     alloc: Global,
     schemas: &[Schema],
-    stored: &[Arrived],
+    state: &State,
+    gone: &[u64],
     input: u32,
     punct: &Heard,
     stay: &mut List<Heard>,
     out: &mut List<Punct>,
 ) -> Result<(), NoMemory>
     requires { input < length schemas.now }
-    ensures ok { OnOk result (IsSortedOut (is_let_go stored.now input punct.now) punct.now (widened_among schemas.now punct.now) stay.old stay.new out.old out.new) }
+    ensures ok { OnOk result (IsSortedOut (lets_go state.now.rows gone.now input punct.now) punct.now (widened_among schemas.now punct.now) stay.old stay.new out.old out.new) }
     ensures err { OnErr result (out.new ≡ out.old) }
 {
-    if is_let_go(stored, input, punct) {
-        out.push(widened(alloc, schemas, punct)?)?;
-        return Ok(());
+    match waits_for(state, gone, input, punct) {
+        None => {
+            out.push(widened(alloc, schemas, input, punct.punct().as_slice())?)?;
+        }
+        Some(found) => {
+            stay.push(punct.share(found)?)?;
+        }
     }
-    stay.push(punct.share()?)?;
     Ok(())
 }
 
-/// Puts the waiting punctuations of an input that none of these tuples matches at the end of `out`, widened, and answers those
-/// that wait on.
+/// Puts the waiting punctuations of an input that none of its rows but those that go matches at the end of `out`, widened, and
+/// answers those that wait on.
 pub fn let_go(
     alloc: Global,
     schemas: &[Schema],
-    stored: &[Arrived],
+    state: &State,
+    gone: &[u64],
     input: u32,
     waiting: &[Heard],
     out: &mut List<Punct>,
 ) -> Result<List<Heard>, NoMemory>
     requires { input < length schemas.now }
-    ensures waiting { IfOk result (λ stay. stay ≡ waiting_on stored.now input waiting.now) }
-    ensures ok { OnOk result (out.new ≡ out.old ++ going_up schemas.now stored.now input waiting.now) }
+    ensures waiting { IfOk result (λ stay. stay ≡ staying_on state.now.rows gone.now input waiting.now) }
+    ensures ok { OnOk result (out.new ≡ out.old ++ letting_go schemas.now state.now.rows gone.now input waiting.now) }
     ensures err { OnErr result (take (length out.old) out.new ≡ out.old) }
 {
     let mut stay = List::new(alloc);
     for punct in waiting {
-        let_one_go(alloc, schemas, stored, input, punct, &mut stay, out)?;
+        let_one_go(alloc, schemas, state, gone, input, punct, &mut stay, out)?;
     }
     Ok(stay)
 }
 
-// Keeps a punctuation among all, and among those that wait; or neither.
+// Keeps a punctuation among all, and a copy among those that wait; or neither.
 fn keep_waiting(
-    puncts: &mut List<Heard>,
+    alloc: Global,
+    store: &mut PunctStore,
     waiting: &mut List<Heard>,
-    punct: Heard,
+    ticket: u64,
+    input: u32,
+    punct: Punct,
+    witness: u64,
 ) -> Result<(), NoMemory>
-    ensures ok { OnOk result ((puncts.new ≡ puncts.old ++ punct ∷ []) × (waiting.new ≡ waiting.old ++ punct ∷ [])) }
-    ensures err { OnErr result ((puncts.new ≡ puncts.old) × (waiting.new ≡ waiting.old)) }
+    requires fits { length punct ≡ store.old.arity }
+    requires rises { IsAbove ticket store.old.kept }
+    ensures arity { store.new.arity ≡ store.old.arity }
+    ensures store { OnOk result (store.new.kept ≡ store.old.kept ++ record { punct = punct; number = ticket } ∷ []) }
+    ensures waiting { OnOk result (waiting.new ≡ waiting.old ++ record { ticket = ticket; input = input; patterns = punct } ∷ []) }
+    ensures err { OnErr result ((store.new.kept ≡ store.old.kept) × (waiting.new ≡ waiting.old)) }
 {
     let count = waiting.len();
-    waiting.push(punct.share()?)?;
-    match puncts.push(punct) {
+    waiting.push(Heard::new(alloc, ticket, input, &punct, witness)?)?;
+    match store.push(punct, ticket) {
         Ok(()) => Ok(()),
         Err(stop) => {
             waiting.truncate(count);
@@ -145,17 +277,23 @@ fn keep_waiting(
 fn hand_up(
     alloc: Global,
     schemas: &[Schema],
-    puncts: &mut List<Heard>,
-    punct: Heard,
+    store: &mut PunctStore,
+    ticket: u64,
+    input: u32,
+    punct: Punct,
     out: &mut List<Punct>,
 ) -> Result<(), NoMemory>
-    requires { punct.input < length schemas.now }
-    ensures ok { OnOk result ((puncts.new ≡ puncts.old ++ punct ∷ []) × (out.new ≡ out.old ++ widened_among schemas.now punct ∷ [])) }
-    ensures err { OnErr result ((puncts.new ≡ puncts.old) × (out.new ≡ out.old)) }
+    requires there { input < length schemas.now }
+    requires fits { length punct ≡ store.old.arity }
+    requires rises { IsAbove ticket store.old.kept }
+    ensures arity { store.new.arity ≡ store.old.arity }
+    ensures store { OnOk result (store.new.kept ≡ store.old.kept ++ record { punct = punct; number = ticket } ∷ []) }
+    ensures out { OnOk result (out.new ≡ out.old ++ widened_among schemas.now (record { ticket = ticket; input = input; patterns = punct }) ∷ []) }
+    ensures err { OnErr result ((store.new.kept ≡ store.old.kept) × (out.new ≡ out.old)) }
 {
     let count = out.len();
-    out.push(widened(alloc, schemas, &punct)?)?;
-    match puncts.push(punct) {
+    out.push(widened(alloc, schemas, input, punct.as_slice())?)?;
+    match store.push(punct, ticket) {
         Ok(()) => Ok(()),
         Err(stop) => {
             out.truncate(count);
@@ -164,26 +302,30 @@ fn hand_up(
     }
 }
 
-/// Keeps a punctuation: it waits where a stored tuple matches it, and is put at the end of `out` where none does, widened. On
-/// a refusal all is as before.
+/// Keeps a punctuation of an input with these rows: it waits where a row matches it, and is put at the end of `out` where none
+/// does, widened. On a refusal all is as before.
 pub fn hear(
     alloc: Global,
     schemas: &[Schema],
-    stored: &[Arrived],
-    puncts: &mut List<Heard>,
+    state: &State,
+    store: &mut PunctStore,
     waiting: &mut List<Heard>,
-    punct: Heard,
+    ticket: u64,
+    input: u32,
+    punct: Punct,
     out: &mut List<Punct>,
 ) -> Result<(), NoMemory>
-    requires { punct.input < length schemas.now }
-    ensures puncts { OnOk result (puncts.new ≡ puncts.old ++ punct ∷ []) }
-    ensures waiting { OnOk result (waiting.new ≡ waiting_with stored.now waiting.old punct) }
-    ensures out { OnOk result (out.new ≡ out.old ++ going_at_once schemas.now stored.now punct) }
-    ensures err { OnErr result ((puncts.new ≡ puncts.old) × (waiting.new ≡ waiting.old) × (out.new ≡ out.old)) }
+    requires there { input < length schemas.now }
+    requires fits { length punct ≡ store.old.arity }
+    requires rises { IsAbove ticket store.old.kept }
+    ensures arity { store.new.arity ≡ store.old.arity }
+    ensures store { OnOk result (store.new.kept ≡ store.old.kept ++ record { punct = punct; number = ticket } ∷ []) }
+    ensures waiting { let held = still_held state.now.rows [] punct in OnOk result (waiting.new ≡ waiting_with held waiting.old (record { ticket = ticket; input = input; patterns = punct })) }
+    ensures out { let held = still_held state.now.rows [] punct in OnOk result (out.new ≡ out.old ++ going_at_once schemas.now held (record { ticket = ticket; input = input; patterns = punct })) }
+    ensures err { OnErr result ((store.new.kept ≡ store.old.kept) × (waiting.new ≡ waiting.old) × (out.new ≡ out.old)) }
 {
-    if is_held(stored, &punct) {
-        keep_waiting(puncts, waiting, punct)
-    } else {
-        hand_up(alloc, schemas, puncts, punct, out)
+    match find(state, &[], &punct) {
+        Some(found) => keep_waiting(alloc, store, waiting, ticket, input, punct, found),
+        None => hand_up(alloc, schemas, store, ticket, input, punct, out),
     }
 }

@@ -6,6 +6,8 @@ use Rattle.pj_value.specs.declared.values.Value.{Value}
 use Rattle.pj_state.specs.Rising.{AllAbove, IsRising, first_with}
 use Rattle.pj_state.specs.States.{pairs, rows_below, rows_with, has_value, ticket_of, tickets_of}
 use Rattle.pj_state.specs.declared.shared.Stored.{Stored}
+use Rattle.pj_state.specs.Indexes.{IsMatching}
+use Rattle.std.specs.List.{slice_get}
 use Rattle.pj_state.proofs.Rising.{eqb-apart, rising-filter}
 
 -- a ticket with its row, where there is one, and others behind it
@@ -97,3 +99,17 @@ looked-is rows below (s ∷ xs) h rising = go (ltb s.ticket below) refl (looked-
 pub candidates-are : (rows : List Stored) (below column : ℕ) (value : Value) → IsRising ticket_of rows → looked_up rows below (tickets_of (rows_with column value rows)) ≡ pairs (rows_below below (rows_with column value rows))
 candidates-are rows below column value rising =
     looked-is rows below (rows_with column value rows) (first-filter (has_value column value) rows rows (are-first rows rising)) (rising-filter ticket_of (has_value column value) rows rising)
+
+-- ---- one row after the other
+
+first-at : (rows xs : List Stored) (at : ℕ) → AreFirst rows xs → at < length xs → first_with ticket_of (get_or (tickets_of xs) at 0) rows ≡ slice_get xs at
+first-at rows [] at h lt = absurd (omega (arith, lt))
+first-at rows (s ∷ xs) zero h lt = h.0
+first-at rows (s ∷ xs) (suc at) h lt = first-at rows xs at h.1 (omega (arith, lt))
+
+-- the row under the ticket at a place of those that match
+pub matching-at : (rows : List Stored) (column : ℕ) (value : Value) (ts : List ℕ) (at : ℕ) → IsMatching column value rows ts → at < length (rows_with column value rows)
+    → first_with ticket_of (get_or ts at 0) rows ≡ slice_get (rows_with column value rows) at
+matching-at rows column value ts at is lt =
+    ap (λ (us : List ℕ). first_with ticket_of (get_or us at 0) rows) is.0
+    ∙ first-at rows (rows_with column value rows) at (first-filter (has_value column value) rows rows (are-first rows is.1)) lt

@@ -95,3 +95,7 @@ IndexesFewer columns old new count s =
 -- from a place on all indexes are the same
 abbrev pub SameBehind : List ValueIndex → List ValueIndex → ℕ → Type 0
 SameBehind old new at = (k : ℕ) (d : ValueIndex) → at ≤ k → slice_index_or new k d ≡ slice_index_or old k d
+
+-- the tickets are those of the rows with this value in this column, which stand in order
+abbrev pub IsMatching : ℕ → Value → List Stored → List ℕ → Type 0
+IsMatching column value rows tickets = (tickets ≡ tickets_of (rows_with column value rows)) × IsRising ticket_of rows

@@ -4,6 +4,7 @@
 mod groups;
 mod halving;
 mod index;
+mod matching;
 mod places;
 mod prints;
 mod shared;
@@ -11,6 +12,7 @@ mod state;
 mod store;
 mod tickets;
 
+pub use matching::Matching;
 pub use shared::{Shared, Stored};
 pub use state::State;
 

@@ -1,11 +1,14 @@
 // The stored rows of an input of a join.
 ghost use Rattle.std.specs.Prelude.{◌≡◌, ◌<◌, ◌≤◌, [], ◌∷◌, ◌++◌, length, slice_get, All, Some, IfOk, IfNone, OnOk, OnErr};
+ghost use Rattle.std.specs.Prelude.{◌==◌};
+ghost use Rattle.std.specs.List.{list_any};
 ghost use Rattle.std.specs.Option.{option_copied};
 ghost use Rattle.pj_value.specs.Lists.{In};
 ghost use Rattle.pj_state.specs.Rising.{IsRising, without};
 ghost use Rattle.pj_state.specs.States.{pairs, row_under, rows_below, rows_with, state_of, stored, ticket_of, tickets_of};
 ghost use Rattle.pj_state.specs.Indexes.{IndexesFewer, IndexesMore, IndexesSame, IsKept, SameBehind};
 
+use crate::Matching;
 use crate::index::ValueIndex;
 use crate::shared::{Shared, Stored};
 use crate::store::Store;
@@ -146,6 +149,21 @@ impl State {
             }
         }
         &[]
+    }
+
+    /// Whether the column was named to `new`.
+    pub fn is_indexed(&self, column: u32) -> bool
+        ensures { result ≡ list_any (λ own. column == own) self.now.columns }
+    {
+        self.columns.as_slice().iter().any(|own| column == *own)
+    }
+
+    /// The rows that have this value in this column, which was named to `new`, in order of tickets. Takes no memory.
+    pub fn matching<'a>(&'a self, column: u32, value: &'a Value) -> Matching<'a>
+        requires { In column self.now.columns }
+        ensures { result ≡ rows_with column value.now self.now.rows }
+    {
+        Matching::of(&self.store, self.tickets(column, value), column, value)
     }
 
     /// The row with a ticket; `None` exactly where there is none.

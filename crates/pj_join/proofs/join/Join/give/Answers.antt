@@ -1,29 +1,31 @@
-use Rattle.std.proofs.Common.{◌≡◌, ◌<◌, false, arith, drop, arith}
+use Rattle.std.proofs.Common.{◌≡◌, ◌<◌, false, arith, drop}
 use Rattle.std.specs.Arc.{arc_value}
 use Rattle.pj_laws.specs.Join.{has, inputs}
 use Rattle.pj_join.specs.Joins.{join_data, IsTaken}
 use Rattle.pj_join.specs.Insides.{tickets}
-use Rattle.pj_join.proofs.Orders.{ordered-give, seen-give}
+use Rattle.pj_join.specs.Sides.{log_of, puncts_of, tuples_in}
+use Rattle.pj_join.proofs.Orders.{seen-give}
 use Rattle.pj_join.proofs.Standing.{stands-give}
 use Rattle.pj_join.proofs.Calling.{may-forget, several}
+use Rattle.pj_join.proofs.Kept.{join-gives}
 use Rattle.pj_join.proofs.join.Join.give.Goals as goal
 
 pub forget-requires : goal.forget-requires
-forget-requires c = may-forget (join_data (arc_value c.self.inside.spec) c.self.inside.schemes c.self.inside.certs) c.self.inside.limit c.self.inside.next c.self.inside.done c.self.inside.log c.self.inside.sides.items c.self.inside.taken.items c.self.invariant
+forget-requires c = may-forget (join_data (arc_value c.self.inside.spec) c.self.inside.schemes c.self.inside.certs) c.self.inside.limit c.self.inside.next c.self.inside.done (log_of c.self.inside.states.items) (tuples_in 0 c.self.inside.states.items) c.self.inside.taken.items c.self.invariant.ordered
 
 pub invariant_of-self : goal.invariant_of-self
 invariant_of-self c =
     let r : IsTaken c.args.self.now.kept c.args.probe.ticket = c.requires in
-    let f : has (tickets (drop c.self.inside.done c.self.inside.log)) c.args.probe.ticket ≡ false = (rw (← c.self.view_is) at r).1 in
-    rw (c.forget.ensures, c.ticket.ensures) (ordered-give (join_data (arc_value c.self.inside.spec) c.self.inside.schemes c.self.inside.certs) c.self.inside.limit c.self.inside.next c.self.inside.done c.self.inside.log c.self.inside.sides.items c.self.inside.taken.items c.args.probe.ticket c.self.invariant f)
+    let f : has (tickets (drop c.self.inside.done (log_of c.self.inside.states.items))) c.args.probe.ticket ≡ false = (rw (← c.self.view_is) at r).1 in
+    rw (c.forget.ensures, c.ticket.ensures) (join-gives (join_data (arc_value c.self.inside.spec) c.self.inside.schemes c.self.inside.certs) c.self.inside.limit c.self.inside.next c.self.inside.done c.self.inside.states.items c.self.inside.stores.items c.self.inside.pending c.self.inside.taken.items c.self.invariant c.args.probe.ticket f)
 
 pub returns-clause-gives : goal.returns-clause-gives
 returns-clause-gives c =
     let r : IsTaken c.args.self.now.kept c.args.probe.ticket = c.requires in
-    let f : has (tickets (drop c.self.inside.done c.self.inside.log)) c.args.probe.ticket ≡ false = (rw (← c.self.view_is) at r).1 in
-    rw (← c.self.view_is, c.forget.ensures, c.ticket.ensures) (seen-give c.self.inside.node (join_data (arc_value c.self.inside.spec) c.self.inside.schemes c.self.inside.certs) c.self.inside.limit c.self.inside.next c.self.inside.done c.self.inside.log c.self.inside.puncts c.self.inside.waiting c.self.inside.taken.items c.args.probe.ticket f)
+    let f : has (tickets (drop c.self.inside.done (log_of c.self.inside.states.items))) c.args.probe.ticket ≡ false = (rw (← c.self.view_is) at r).1 in
+    rw (← c.self.view_is, c.forget.ensures, c.ticket.ensures) (seen-give c.self.inside.node (join_data (arc_value c.self.inside.spec) c.self.inside.schemes c.self.inside.certs) c.self.inside.limit c.self.inside.next c.self.inside.done (log_of c.self.inside.states.items) (puncts_of c.self.inside.stores.items) c.self.inside.waiting c.self.inside.taken.items c.args.probe.ticket f)
 
 pub returns-clause-stands : goal.returns-clause-stands
 returns-clause-stands c =
-    let few : 0 < inputs c.args.self.now.spec = rw (← c.self.view_is) (omega (arith, several (join_data (arc_value c.self.inside.spec) c.self.inside.schemes c.self.inside.certs) c.self.inside.limit c.self.inside.next c.self.inside.done c.self.inside.log c.self.inside.sides.items c.self.inside.taken.items c.self.invariant)) in
+    let few : 0 < inputs c.args.self.now.spec = rw (← c.self.view_is) (omega (arith, several (join_data (arc_value c.self.inside.spec) c.self.inside.schemes c.self.inside.certs) c.self.inside.limit c.self.inside.next c.self.inside.done (log_of c.self.inside.states.items) (tuples_in 0 c.self.inside.states.items) c.self.inside.taken.items c.self.invariant.ordered)) in
     stands-give c.args.self.now _ c.args.probe.ticket (c.standing.ensures c.args.self.now.spec few) c.requires (returns-clause-gives c)

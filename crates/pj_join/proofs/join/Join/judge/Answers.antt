@@ -1,34 +1,78 @@
-use Rattle.std.proofs.Common.{◌≡◌, ◌∙◌, [], List, ap, get_or, map}
+use Rattle.std.proofs.Common.{◌≡◌, ◌<◌, ◌∙◌, ◌++◌, [], List, ap, get_or, sym, subst}
+use Rattle.std.specs.Arc.{arc_value}
 use Rattle.pj_shape.specs.declared.joins.CertStep.{CertStep}
-use Rattle.pj_laws.specs.Join.{cert_of, entry_of}
-use Rattle.pj_join.proofs.Sweeps.{judge-log, judge-out, judge-rows}
+use Rattle.pj_shape.specs.declared.joins.JoinSpec.{JoinSpec}
+use Rattle.pj_state.specs.States.{StateView}
+use Rattle.pj_laws.specs.Join.{PunctAt, inputs, steps_of}
+use Rattle.pj_laws.specs.KeptState.{kept_low}
+use Rattle.pj_join.specs.Insides.{made_with, seen}
+use Rattle.pj_join.specs.Joins.{join_data}
+use Rattle.pj_join.specs.Judging.{Judge, MayJudge, judge, letting_go, staying_on}
+use Rattle.pj_join.specs.Sides.{log_of, puncts_of, state_at}
+use Rattle.pj_join.proofs.Judged.{may-judge}
+use Rattle.pj_join.proofs.Swept.{going-are, gone-are, rows-are, same-judge, same-rows, same-tickets, waiting-are}
 use Rattle.pj_join.proofs.join.Join.judge.Goals as goal
 
-pub returns-clause-log : goal.returns-clause-log
-returns-clause-log c =
-    let shape : c.deref.result.now ≡ c.args.self.now.spec.shape = rw (← c.self.view_is) c.deref.ensures in
-    let stored : c.as_slice-stored.result.now ≡ c.args.self.now.kept.stored = rw (← c.self.view_is) c.as_slice-stored.ensures in
-    let puncts : c.as_slice-3.result.now ≡ c.args.self.now.kept.puncts = rw (← c.self.view_is) c.as_slice-3.ensures in
-    let certs : c.as_slice.result.now ≡ c.self.inside.certs = c.as_slice.ensures in
-    let cert : c.as_slice-2.result.now ≡ cert_of c.args.self.now.spec c.args.input = rw (← c.self.view_is) (c.as_slice-2.ensures ∙ c.in_ok-cert.ensures ∙ ap (λ (cs : List (List CertStep)). map (entry_of c.self.inside.schemes) (get_or cs c.args.input [])) certs) in
-    judge-log c.args.self.now c.deref.result.now c.as_slice-stored.result.now c.in_ok-left.left.log c.as_slice-3.result.now c.low-low.result c.as_slice-2.result.now c.args.input
-    (record { shape_is = shape; stored_is = stored; puncts_are = puncts; low_is = c.low-low.ensures.kept; cert_is = cert }) c.in_ok-left.ensures.log
+pub sweep_input-requires : goal.sweep_input-requires
+sweep_input-requires c =
+    let lt : c.args.input < inputs c.args.self.now.spec = c.requires.there in
+    let there : c.args.input < inputs (join_data (arc_value c.self.inside.spec) c.self.inside.schemes c.self.inside.certs) = rw (← c.self.view_is) at lt in
+    let kept : c.low-low.result ≡ kept_low c.args.self.now.kept = c.low-low.ensures.kept in
+    let low : c.low-low.result ≡ kept_low (seen (made_with c.self.inside.node (join_data (arc_value c.self.inside.spec) c.self.inside.schemes c.self.inside.certs) c.self.inside.limit) c.self.inside.next c.self.inside.done (log_of c.self.inside.states.items) (puncts_of c.self.inside.stores.items) c.self.inside.waiting c.self.inside.taken.items).kept = rw (← c.self.view_is) at kept in
+    let cert : c.cert_of-cert.result.now ≡ steps_of (join_data (arc_value c.self.inside.spec) c.self.inside.schemes c.self.inside.certs) c.args.input = c.cert_of-cert.ensures ∙ ap (λ (cs : List (List CertStep)). get_or cs c.args.input []) c.as_slice.ensures in
+    let looks : judge c.deref.result.now c.self.inside.schemes c.as_slice-2.result.now c.as_slice-3.result.now c.low-low.result ≡ judge (arc_value c.self.inside.spec) c.self.inside.schemes c.self.inside.states.items c.self.inside.stores.items c.low-low.result =
+    same-judge c.self.inside.schemes c.low-low.result c.deref.result.now (arc_value c.self.inside.spec) c.as_slice-2.result.now c.self.inside.states.items c.as_slice-3.result.now c.self.inside.stores.items c.deref.ensures c.as_slice-2.ensures.value c.as_slice-3.ensures.value in
+    subst (λ (j : Judge). MayJudge j c.cert_of-cert.result.now c.args.input) (sym looks) (subst (λ (cs : List CertStep). MayJudge (judge (arc_value c.self.inside.spec) c.self.inside.schemes c.self.inside.states.items c.self.inside.stores.items c.low-low.result) cs c.args.input) (sym cert)
+    (may-judge (join_data (arc_value c.self.inside.spec) c.self.inside.schemes c.self.inside.certs) c.self.inside.limit c.self.inside.next c.self.inside.done c.self.inside.states.items c.self.inside.stores.items c.self.inside.pending c.self.inside.taken.items c.self.invariant c.low-low.result c.args.input there))
+
+pub returns-clause-certified : goal.returns-clause-certified
+returns-clause-certified c = rw (← c.self.view_is) c.self.invariant.ordered.certified
+
+pub returns-clause-gone : goal.returns-clause-gone
+returns-clause-gone c =
+    let lt : c.args.input < inputs c.args.self.now.spec = c.requires.there in
+    let there : c.args.input < inputs (join_data (arc_value c.self.inside.spec) c.self.inside.schemes c.self.inside.certs) = rw (← c.self.view_is) at lt in
+    let kept : c.low-low.result ≡ kept_low c.args.self.now.kept = c.low-low.ensures.kept in
+    let low : c.low-low.result ≡ kept_low (seen (made_with c.self.inside.node (join_data (arc_value c.self.inside.spec) c.self.inside.schemes c.self.inside.certs) c.self.inside.limit) c.self.inside.next c.self.inside.done (log_of c.self.inside.states.items) (puncts_of c.self.inside.stores.items) c.self.inside.waiting c.self.inside.taken.items).kept = rw (← c.self.view_is) at kept in
+    let cert : c.cert_of-cert.result.now ≡ steps_of (join_data (arc_value c.self.inside.spec) c.self.inside.schemes c.self.inside.certs) c.args.input = c.cert_of-cert.ensures ∙ ap (λ (cs : List (List CertStep)). get_or cs c.args.input []) c.as_slice.ensures in
+    let looks : judge c.deref.result.now c.self.inside.schemes c.as_slice-2.result.now c.as_slice-3.result.now c.low-low.result ≡ judge (arc_value c.self.inside.spec) c.self.inside.schemes c.self.inside.states.items c.self.inside.stores.items c.low-low.result =
+    same-judge c.self.inside.schemes c.low-low.result c.deref.result.now (arc_value c.self.inside.spec) c.as_slice-2.result.now c.self.inside.states.items c.as_slice-3.result.now c.self.inside.stores.items c.deref.ensures c.as_slice-2.ensures.value c.as_slice-3.ensures.value in
+    rw (← c.self.view_is) (gone-are c.self.inside.node (join_data (arc_value c.self.inside.spec) c.self.inside.schemes c.self.inside.certs) c.self.inside.limit c.self.inside.next c.self.inside.done c.self.inside.states.items c.self.inside.stores.items c.self.inside.pending c.self.inside.taken.items c.self.inside.waiting c.args.input c.self.invariant there c.low-low.result c.in_ok-left.left.gone low (c.in_ok-left.ensures.gone ∙ same-tickets c.args.input _ _ _ _ _ _ looks cert c.as_slice-2.ensures.value))
 
 pub returns-clause-removed : goal.returns-clause-removed
 returns-clause-removed c =
-    let shape : c.deref.result.now ≡ c.args.self.now.spec.shape = rw (← c.self.view_is) c.deref.ensures in
-    let stored : c.as_slice-stored.result.now ≡ c.args.self.now.kept.stored = rw (← c.self.view_is) c.as_slice-stored.ensures in
-    let puncts : c.as_slice-3.result.now ≡ c.args.self.now.kept.puncts = rw (← c.self.view_is) c.as_slice-3.ensures in
-    let certs : c.as_slice.result.now ≡ c.self.inside.certs = c.as_slice.ensures in
-    let cert : c.as_slice-2.result.now ≡ cert_of c.args.self.now.spec c.args.input = rw (← c.self.view_is) (c.as_slice-2.ensures ∙ c.in_ok-cert.ensures ∙ ap (λ (cs : List (List CertStep)). map (entry_of c.self.inside.schemes) (get_or cs c.args.input [])) certs) in
-    judge-rows c.args.self.now c.deref.result.now c.as_slice-stored.result.now c.as_slice-3.result.now c.low-low.result c.as_slice-2.result.now c.args.input
-    (record { shape_is = shape; stored_is = stored; puncts_are = puncts; low_is = c.low-low.ensures.kept; cert_is = cert }) c.args.removed.now c.sweep_lists.new.removed c.in_ok-left.ensures.removed
+    let lt : c.args.input < inputs c.args.self.now.spec = c.requires.there in
+    let there : c.args.input < inputs (join_data (arc_value c.self.inside.spec) c.self.inside.schemes c.self.inside.certs) = rw (← c.self.view_is) at lt in
+    let kept : c.low-low.result ≡ kept_low c.args.self.now.kept = c.low-low.ensures.kept in
+    let low : c.low-low.result ≡ kept_low (seen (made_with c.self.inside.node (join_data (arc_value c.self.inside.spec) c.self.inside.schemes c.self.inside.certs) c.self.inside.limit) c.self.inside.next c.self.inside.done (log_of c.self.inside.states.items) (puncts_of c.self.inside.stores.items) c.self.inside.waiting c.self.inside.taken.items).kept = rw (← c.self.view_is) at kept in
+    let cert : c.cert_of-cert.result.now ≡ steps_of (join_data (arc_value c.self.inside.spec) c.self.inside.schemes c.self.inside.certs) c.args.input = c.cert_of-cert.ensures ∙ ap (λ (cs : List (List CertStep)). get_or cs c.args.input []) c.as_slice.ensures in
+    let looks : judge c.deref.result.now c.self.inside.schemes c.as_slice-2.result.now c.as_slice-3.result.now c.low-low.result ≡ judge (arc_value c.self.inside.spec) c.self.inside.schemes c.self.inside.states.items c.self.inside.stores.items c.low-low.result =
+    same-judge c.self.inside.schemes c.low-low.result c.deref.result.now (arc_value c.self.inside.spec) c.as_slice-2.result.now c.self.inside.states.items c.as_slice-3.result.now c.self.inside.stores.items c.deref.ensures c.as_slice-2.ensures.value c.as_slice-3.ensures.value in
+    rw (← c.self.view_is) (rows-are c.self.inside.node (join_data (arc_value c.self.inside.spec) c.self.inside.schemes c.self.inside.certs) c.self.inside.limit c.self.inside.next c.self.inside.done c.self.inside.states.items c.self.inside.stores.items c.self.inside.pending c.self.inside.taken.items c.self.inside.waiting c.args.input c.self.invariant there c.low-low.result c.args.removed.now c.sweep_input.new.removed low (c.in_ok-left.ensures.removed ∙ ap (λ rows. c.args.removed.now ++ rows) (same-rows c.args.input _ _ _ _ _ _ looks cert c.as_slice-2.ensures.value)))
+
+pub returns-clause-waiting : goal.returns-clause-waiting
+returns-clause-waiting c =
+    let lt : c.args.input < inputs c.args.self.now.spec = c.requires.there in
+    let there : c.args.input < inputs (join_data (arc_value c.self.inside.spec) c.self.inside.schemes c.self.inside.certs) = rw (← c.self.view_is) at lt in
+    let kept : c.low-low.result ≡ kept_low c.args.self.now.kept = c.low-low.ensures.kept in
+    let low : c.low-low.result ≡ kept_low (seen (made_with c.self.inside.node (join_data (arc_value c.self.inside.spec) c.self.inside.schemes c.self.inside.certs) c.self.inside.limit) c.self.inside.next c.self.inside.done (log_of c.self.inside.states.items) (puncts_of c.self.inside.stores.items) c.self.inside.waiting c.self.inside.taken.items).kept = rw (← c.self.view_is) at kept in
+    let cert : c.cert_of-cert.result.now ≡ steps_of (join_data (arc_value c.self.inside.spec) c.self.inside.schemes c.self.inside.certs) c.args.input = c.cert_of-cert.ensures ∙ ap (λ (cs : List (List CertStep)). get_or cs c.args.input []) c.as_slice.ensures in
+    let looks : judge c.deref.result.now c.self.inside.schemes c.as_slice-2.result.now c.as_slice-3.result.now c.low-low.result ≡ judge (arc_value c.self.inside.spec) c.self.inside.schemes c.self.inside.states.items c.self.inside.stores.items c.low-low.result =
+    same-judge c.self.inside.schemes c.low-low.result c.deref.result.now (arc_value c.self.inside.spec) c.as_slice-2.result.now c.self.inside.states.items c.as_slice-3.result.now c.self.inside.stores.items c.deref.ensures c.as_slice-2.ensures.value c.as_slice-3.ensures.value in
+    rw (← c.self.view_is) (waiting-are c.self.inside.node (join_data (arc_value c.self.inside.spec) c.self.inside.schemes c.self.inside.certs) c.self.inside.limit c.self.inside.next c.self.inside.done c.self.inside.states.items c.self.inside.stores.items c.self.inside.pending c.self.inside.taken.items c.self.inside.waiting c.args.input c.self.invariant there c.in_ok-left.left.gone (gone-are c.self.inside.node (join_data (arc_value c.self.inside.spec) c.self.inside.schemes c.self.inside.certs) c.self.inside.limit c.self.inside.next c.self.inside.done c.self.inside.states.items c.self.inside.stores.items c.self.inside.pending c.self.inside.taken.items c.self.inside.waiting c.args.input c.self.invariant there c.low-low.result c.in_ok-left.left.gone low (c.in_ok-left.ensures.gone ∙ same-tickets c.args.input _ _ _ _ _ _ looks cert c.as_slice-2.ensures.value)) c.in_ok-left.left.waiting
+    (c.in_ok-left.ensures.waiting ∙ ap (λ (ss : List StateView). staying_on (state_at ss c.args.input).rows c.in_ok-left.left.gone c.args.input c.as_slice-4.result.now) c.as_slice-2.ensures.value
+    ∙ ap (λ (ws : List PunctAt). staying_on (state_at c.self.inside.states.items c.args.input).rows c.in_ok-left.left.gone c.args.input ws) c.as_slice-4.ensures))
 
 pub returns-clause-out : goal.returns-clause-out
 returns-clause-out c =
-    let shape : c.deref.result.now ≡ c.args.self.now.spec.shape = rw (← c.self.view_is) c.deref.ensures in
-    let waiting : c.as_slice-4.result.now ≡ c.args.self.now.kept.waiting = rw (← c.self.view_is) c.as_slice-4.ensures in
-    judge-out c.args.self.now c.deref.result.now c.in_ok-left.left.log c.as_slice-4.result.now c.args.input c.args.out.now c.sweep_lists.new.out shape waiting (returns-clause-log c) c.in_ok-left.ensures.out
-
-pub returns-clause-certified : goal.returns-clause-certified
-returns-clause-certified c = rw (← c.self.view_is) c.self.invariant.certified
+    let lt : c.args.input < inputs c.args.self.now.spec = c.requires.there in
+    let there : c.args.input < inputs (join_data (arc_value c.self.inside.spec) c.self.inside.schemes c.self.inside.certs) = rw (← c.self.view_is) at lt in
+    let kept : c.low-low.result ≡ kept_low c.args.self.now.kept = c.low-low.ensures.kept in
+    let low : c.low-low.result ≡ kept_low (seen (made_with c.self.inside.node (join_data (arc_value c.self.inside.spec) c.self.inside.schemes c.self.inside.certs) c.self.inside.limit) c.self.inside.next c.self.inside.done (log_of c.self.inside.states.items) (puncts_of c.self.inside.stores.items) c.self.inside.waiting c.self.inside.taken.items).kept = rw (← c.self.view_is) at kept in
+    let cert : c.cert_of-cert.result.now ≡ steps_of (join_data (arc_value c.self.inside.spec) c.self.inside.schemes c.self.inside.certs) c.args.input = c.cert_of-cert.ensures ∙ ap (λ (cs : List (List CertStep)). get_or cs c.args.input []) c.as_slice.ensures in
+    let looks : judge c.deref.result.now c.self.inside.schemes c.as_slice-2.result.now c.as_slice-3.result.now c.low-low.result ≡ judge (arc_value c.self.inside.spec) c.self.inside.schemes c.self.inside.states.items c.self.inside.stores.items c.low-low.result =
+    same-judge c.self.inside.schemes c.low-low.result c.deref.result.now (arc_value c.self.inside.spec) c.as_slice-2.result.now c.self.inside.states.items c.as_slice-3.result.now c.self.inside.stores.items c.deref.ensures c.as_slice-2.ensures.value c.as_slice-3.ensures.value in
+    rw (← c.self.view_is) (going-are c.self.inside.node (join_data (arc_value c.self.inside.spec) c.self.inside.schemes c.self.inside.certs) c.self.inside.limit c.self.inside.next c.self.inside.done c.self.inside.states.items c.self.inside.stores.items c.self.inside.pending c.self.inside.taken.items c.self.inside.waiting c.args.input c.self.invariant there c.in_ok-left.left.gone (gone-are c.self.inside.node (join_data (arc_value c.self.inside.spec) c.self.inside.schemes c.self.inside.certs) c.self.inside.limit c.self.inside.next c.self.inside.done c.self.inside.states.items c.self.inside.stores.items c.self.inside.pending c.self.inside.taken.items c.self.inside.waiting c.args.input c.self.invariant there c.low-low.result c.in_ok-left.left.gone low (c.in_ok-left.ensures.gone ∙ same-tickets c.args.input _ _ _ _ _ _ looks cert c.as_slice-2.ensures.value)) c.args.out.now c.sweep_input.new.out
+    (c.in_ok-left.ensures.out ∙ ap (λ (s : JoinSpec). c.args.out.now ++ letting_go s.inputs (state_at c.as_slice-2.result.now c.args.input).rows c.in_ok-left.left.gone c.args.input c.as_slice-4.result.now) c.deref.ensures
+    ∙ ap (λ (ss : List StateView). c.args.out.now ++ letting_go (arc_value c.self.inside.spec).inputs (state_at ss c.args.input).rows c.in_ok-left.left.gone c.args.input c.as_slice-4.result.now) c.as_slice-2.ensures.value
+    ∙ ap (λ (ws : List PunctAt). c.args.out.now ++ letting_go (arc_value c.self.inside.spec).inputs (state_at c.self.inside.states.items c.args.input).rows c.in_ok-left.left.gone c.args.input ws) c.as_slice-4.ensures))

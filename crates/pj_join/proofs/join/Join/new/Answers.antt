@@ -1,8 +1,22 @@
+use Rattle.std.proofs.Common.{◌∙◌, [], List, map, length, ap, ap₂}
+use Rattle.pj_shape.specs.declared.columns.Column.{Column}
+use Rattle.pj_shape.specs.Sound.{arities_of}
+use Rattle.pj_laws.specs.Join.{PunctAt, TupleAt, upto_from}
+use Rattle.pj_join.specs.Insides.{made_with, seen}
 use Rattle.pj_join.specs.Joins.{join_data}
-use Rattle.pj_join.proofs.Orders.{ordered-start}
+use Rattle.pj_join.specs.Sides.{heard_of}
+use Rattle.pj_join.proofs.Kept.{join-starts, log-none, puncts-none}
 use Rattle.pj_join.proofs.join.Join.new.Goals as goal
 
 pub invariant_of-result : goal.invariant_of-result
 invariant_of-result c =
-    rw (c.new-2.ensures, c.new-5.ensures.items, c.in_ok-new.ensures.ok)
-    (ordered-start (join_data c.args.spec c.args.schemes c.args.certs) c.args.limit c.in_ok-sides.sides.items c.requires.sound c.requires.certified c.requires.limit.1 c.in_ok-sides.ensures)
+    rw (c.new-3.ensures, c.new-4.ensures.items, c.in_ok-new.ensures.ok)
+    (join-starts (join_data c.args.spec c.args.schemes c.args.certs) c.args.limit c.in_ok-states.states.items c.in_ok-stores.stores.items c.in_ok-states.ensures.rows (c.in_ok-stores.ensures.heard ∙ ap (λ (ss : List (List Column)). map (λ k. heard_of k []) (upto_from 0 (length ss))) c.as_slice.ensures) c.requires.sound c.requires.certified c.requires.limit.1 c.in_ok-states.ensures.shaped
+    (c.in_ok-stores.ensures.arities ∙ ap arities_of c.as_slice.ensures))
+
+pub returns : goal.returns
+returns c =
+    rw (c.new-2.ensures, c.new-4.ensures.items, c.in_ok-new.ensures.ok)
+    (ap₂ (λ (xs : List TupleAt) (ps : List PunctAt). seen (made_with c.args.node (join_data c.args.spec c.args.schemes c.args.certs) c.args.limit) 0 0 xs ps [] [])
+    (log-none (join_data c.args.spec c.args.schemes c.args.certs) c.args.limit c.in_ok-states.states.items c.in_ok-stores.stores.items c.in_ok-states.ensures.rows (c.in_ok-stores.ensures.heard ∙ ap (λ (ss : List (List Column)). map (λ k. heard_of k []) (upto_from 0 (length ss))) c.as_slice.ensures))
+    (puncts-none (join_data c.args.spec c.args.schemes c.args.certs) c.args.limit c.in_ok-states.states.items c.in_ok-stores.stores.items c.in_ok-states.ensures.rows (c.in_ok-stores.ensures.heard ∙ ap (λ (ss : List (List Column)). map (λ k. heard_of k []) (upto_from 0 (length ss))) c.as_slice.ensures)))

@@ -1,41 +1,79 @@
-use Rattle.std.proofs.Common.{◌≡◌, ◌<◌, ◌++◌, ◌∙◌, List, true, ap, arith, refl}
+use Rattle.std.proofs.Common.{◌<◌, ◌∙◌, ◌++◌, [], List, ap, ap₂, arith, refl, sym, subst}
 use Rattle.std.proofs.lemmas.Bool.{false≢true}
 use Rattle.std.specs.Arc.{arc_value}
+use Rattle.pj_cover.specs.Stores.{IsAbove, Store}
+use Rattle.pj_shape.specs.declared.joins.JoinSpec.{JoinSpec}
+use Rattle.pj_laws.specs.Join.{PunctAt, inputs}
+use Rattle.pj_join.specs.Insides.{IsJoin, inside, made_with, seen}
 use Rattle.pj_join.specs.Joins.{join_data}
-use Rattle.pj_laws.specs.Join.{inputs}
-use Rattle.pj_join.proofs.Orders.{ordered-punct}
-use Rattle.pj_shape.specs.declared.columns.Column.{Column}
 use Rattle.pj_join.specs.Judging.{going_at_once}
-use Rattle.pj_join.specs.Sweeping.{next_punct}
-use Rattle.pj_join.proofs.Sweeps.{hands-punct, punct_out, punct_view}
+use Rattle.pj_join.specs.Sides.{log_of, puncts_of, still_held, tuples_in}
 use Rattle.pj_join.proofs.Standing.{stands-punct}
-use Rattle.pj_join.proofs.Calling.{several}
+use Rattle.pj_join.proofs.Calling.{same-at, several}
+use Rattle.pj_join.proofs.Sweeps.{hands-punct, punct_out, punct_view}
+use Rattle.pj_join.proofs.Swept.{held-at-first}
+use Rattle.pj_join.proofs.Kept.{above-all, all-states, all-stores, join-hears, on-err, puncts-more, same-stores}
+use Rattle.pj_join.proofs.Looped.{state_is}
 use Rattle.pj_join.proofs.join.Join.punct.Goals as goal
+
+pub index-requires : goal.index-requires
+index-requires c =
+    let lt : c.args.input < inputs c.args.self.now.spec = c.requires.fits.0 in
+    let there : c.args.input < inputs (join_data (arc_value c.self.inside.spec) c.self.inside.schemes c.self.inside.certs) = rw (← c.self.view_is) at lt in
+    omega (arith, there, all-states (join_data (arc_value c.self.inside.spec) c.self.inside.schemes c.self.inside.certs) c.self.inside.limit c.self.inside.next c.self.inside.done c.self.inside.states.items c.self.inside.stores.items c.self.inside.pending c.self.inside.taken.items c.self.invariant, c.self.inside.states.ok)
+
+pub hear-requires-clause-rises : goal.hear-requires-clause-rises
+hear-requires-clause-rises c =
+    let lt : c.args.input < inputs c.args.self.now.spec = c.requires.fits.0 in
+    let there : c.args.input < inputs (join_data (arc_value c.self.inside.spec) c.self.inside.schemes c.self.inside.certs) = rw (← c.self.view_is) at lt in
+    subst (λ (s : Store). IsAbove c.self.inside.next s.kept) (sym c.index_mut.ensures.value) (above-all (join_data (arc_value c.self.inside.spec) c.self.inside.schemes c.self.inside.certs) c.self.inside.limit c.self.inside.next c.self.inside.done c.self.inside.states.items c.self.inside.stores.items c.self.inside.pending c.self.inside.taken.items c.self.invariant c.args.input c.index_mut.result.now there)
+
+pub invariant_of-self : goal.invariant_of-self
+invariant_of-self c =
+    let lt : c.args.input < inputs c.args.self.now.spec = c.requires.fits.0 in
+    let there : c.args.input < inputs (join_data (arc_value c.self.inside.spec) c.self.inside.schemes c.self.inside.certs) = rw (← c.self.view_is) at lt in
+    subst (λ (ss : List Store). IsJoin (join_data (arc_value c.self.inside.spec) c.self.inside.schemes c.self.inside.certs) c.self.inside.limit (inside c.self.inside.next c.self.inside.done c.self.inside.states.items ss c.self.inside.pending c.self.inside.taken.items))
+    (sym (same-stores (join_data (arc_value c.self.inside.spec) c.self.inside.schemes c.self.inside.certs) c.self.inside.limit c.self.inside.next c.self.inside.done c.self.inside.states.items c.self.inside.stores.items c.self.inside.pending c.self.inside.taken.items c.self.invariant c.args.input c.index_mut.result.now c.hear.new.store there c.index_mut.ensures.value c.in_err-hear.ensures.arity c.in_err-hear.ensures.err.0)) c.self.invariant
 
 pub invariant_of-self-2 : goal.invariant_of-self-2
 invariant_of-self-2 c =
-    ordered-punct (join_data (arc_value c.self.inside.spec) c.self.inside.schemes c.self.inside.certs) c.self.inside.limit c.self.inside.next c.self.inside.done c.self.inside.log c.self.inside.sides.items c.self.inside.taken.items c.self.invariant (λ e. false≢true (c.if-is_full.ensures.1 e))
+    let lt : c.args.input < inputs c.args.self.now.spec = c.requires.fits.0 in
+    let there : c.args.input < inputs (join_data (arc_value c.self.inside.spec) c.self.inside.schemes c.self.inside.certs) = rw (← c.self.view_is) at lt in
+    join-hears (join_data (arc_value c.self.inside.spec) c.self.inside.schemes c.self.inside.certs) c.self.inside.limit c.self.inside.next c.self.inside.done c.self.inside.states.items c.self.inside.stores.items c.self.inside.pending c.self.inside.taken.items c.self.invariant c.args.input c.args.punct c.index_mut.result.now c.hear.new.store there (λ d. c.index_mut.ensures.value ∙ same-at c.self.inside.stores.items c.args.input c.index_mut.result.now d (omega (arith, there, all-stores (join_data (arc_value c.self.inside.spec) c.self.inside.schemes c.self.inside.certs) c.self.inside.limit c.self.inside.next c.self.inside.done c.self.inside.states.items c.self.inside.stores.items c.self.inside.pending c.self.inside.taken.items c.self.invariant))) c.in_ok-hear.ensures.arity c.in_ok-hear.ensures.store (λ e. false≢true (c.if-is_full.ensures.1 e))
 
 pub returns-clause-keeps : goal.returns-clause-keeps
 returns-clause-keeps c =
-    let stored : c.as_slice-2.result.now ≡ c.self.inside.log = c.as_slice-2.ensures in
+    let lt : c.args.input < inputs c.args.self.now.spec = c.requires.fits.0 in
+    let there : c.args.input < inputs (join_data (arc_value c.self.inside.spec) c.self.inside.schemes c.self.inside.certs) = rw (← c.self.view_is) at lt in
     rw (← c.self.view_is)
-    (punct_view c.self.inside.node (join_data (arc_value c.self.inside.spec) c.self.inside.schemes c.self.inside.certs) c.self.inside.limit c.self.inside.next c.self.inside.done c.self.inside.log c.as_slice-2.result.now c.self.inside.puncts c.hear.new.puncts c.self.inside.waiting c.hear.new.waiting c.self.inside.taken.items
-    c.args.input c.args.punct c.in_ok-heard.heard refl c.in_ok-heard.ensures stored c.in_ok-hear.ensures.puncts c.in_ok-hear.ensures.waiting)
+    (punct_view c.self.inside.node (join_data (arc_value c.self.inside.spec) c.self.inside.schemes c.self.inside.certs) c.self.inside.limit c.self.inside.next c.self.inside.done (log_of c.self.inside.states.items) (puncts_of c.self.inside.stores.items) _ c.self.inside.waiting c.hear.new.waiting c.self.inside.taken.items _ (record { ticket = c.self.inside.next; input = c.args.input; patterns = c.args.punct })
+    refl (held-at-first (join_data (arc_value c.self.inside.spec) c.self.inside.schemes c.self.inside.certs) c.self.inside.limit c.self.inside.next c.self.inside.done c.self.inside.states.items c.self.inside.stores.items c.self.inside.pending c.self.inside.taken.items c.self.invariant c.index.result.now (record { ticket = c.self.inside.next; input = c.args.input; patterns = c.args.punct }) there (state_is c.self.inside.states.items c.args.input c.index.result.now (inputs (join_data (arc_value c.self.inside.spec) c.self.inside.schemes c.self.inside.certs)) (all-states (join_data (arc_value c.self.inside.spec) c.self.inside.schemes c.self.inside.certs) c.self.inside.limit c.self.inside.next c.self.inside.done c.self.inside.states.items c.self.inside.stores.items c.self.inside.pending c.self.inside.taken.items c.self.invariant) there c.index.ensures)) refl
+    (puncts-more (join_data (arc_value c.self.inside.spec) c.self.inside.schemes c.self.inside.certs) c.self.inside.limit c.self.inside.next c.self.inside.done c.self.inside.states.items c.self.inside.stores.items c.self.inside.pending c.self.inside.taken.items c.self.invariant c.args.input c.args.punct c.index_mut.result.now c.hear.new.store there (λ d. c.index_mut.ensures.value ∙ same-at c.self.inside.stores.items c.args.input c.index_mut.result.now d (omega (arith, there, all-stores (join_data (arc_value c.self.inside.spec) c.self.inside.schemes c.self.inside.certs) c.self.inside.limit c.self.inside.next c.self.inside.done c.self.inside.states.items c.self.inside.stores.items c.self.inside.pending c.self.inside.taken.items c.self.invariant))) c.in_ok-hear.ensures.arity c.in_ok-hear.ensures.store) c.in_ok-hear.ensures.waiting)
 
 pub returns-clause-stands : goal.returns-clause-stands
 returns-clause-stands c =
-    let few : 0 < inputs c.args.self.now.spec = rw (← c.self.view_is) (omega (arith, several (join_data (arc_value c.self.inside.spec) c.self.inside.schemes c.self.inside.certs) c.self.inside.limit c.self.inside.next c.self.inside.done c.self.inside.log c.self.inside.sides.items c.self.inside.taken.items c.self.invariant)) in
+    let few : 0 < inputs c.args.self.now.spec = rw (← c.self.view_is) (omega (arith, several (join_data (arc_value c.self.inside.spec) c.self.inside.schemes c.self.inside.certs) c.self.inside.limit c.self.inside.next c.self.inside.done (log_of c.self.inside.states.items) (tuples_in 0 c.self.inside.states.items) c.self.inside.taken.items c.self.invariant.ordered)) in
     stands-punct c.args.self.now _ c.args.input c.args.punct (c.standing.ensures c.args.self.now.spec few) c.requires.fits.0 c.requires.fits.1 (returns-clause-keeps c)
 
 pub returns-clause-out : goal.returns-clause-out
 returns-clause-out c =
-    let up : c.args.self.now.spec.propagates ≡ true = rw (← c.self.view_is) refl in
-    let shape : c.deref.result.now ≡ c.args.self.now.spec.shape = rw (← c.self.view_is) c.deref.ensures in
-    let stored : c.as_slice-2.result.now ≡ c.args.self.now.kept.stored = rw (← c.self.view_is) c.as_slice-2.ensures in
-    let heard : c.in_ok-heard.heard ≡ next_punct c.args.self.now c.args.input c.args.punct = rw (← c.self.view_is) c.in_ok-heard.ensures in
-    punct_out c.args.self.now c.deref.result.now c.as_slice-2.result.now c.args.input c.args.punct c.in_ok-heard.heard c.args.out.now c.hear.new.out up shape stored heard
-    (c.in_ok-hear.ensures.out ∙ ap (λ (ss : List (List Column)). c.args.out.now ++ going_at_once ss c.as_slice-2.result.now c.in_ok-heard.heard) c.as_slice.ensures)
+    let lt : c.args.input < inputs c.args.self.now.spec = c.requires.fits.0 in
+    let there : c.args.input < inputs (join_data (arc_value c.self.inside.spec) c.self.inside.schemes c.self.inside.certs) = rw (← c.self.view_is) at lt in
+    rw (← c.self.view_is)
+    (punct_out (seen (made_with c.self.inside.node (join_data (arc_value c.self.inside.spec) c.self.inside.schemes c.self.inside.certs) c.self.inside.limit) c.self.inside.next c.self.inside.done (log_of c.self.inside.states.items) (puncts_of c.self.inside.stores.items) c.self.inside.waiting c.self.inside.taken.items) c.args.input c.args.punct
+    (still_held c.index.result.now.rows [] c.args.punct) (record { ticket = c.self.inside.next; input = c.args.input; patterns = c.args.punct }) c.args.out.now c.hear.new.out refl (held-at-first (join_data (arc_value c.self.inside.spec) c.self.inside.schemes c.self.inside.certs) c.self.inside.limit c.self.inside.next c.self.inside.done c.self.inside.states.items c.self.inside.stores.items c.self.inside.pending c.self.inside.taken.items c.self.invariant c.index.result.now (record { ticket = c.self.inside.next; input = c.args.input; patterns = c.args.punct }) there (state_is c.self.inside.states.items c.args.input c.index.result.now (inputs (join_data (arc_value c.self.inside.spec) c.self.inside.schemes c.self.inside.certs)) (all-states (join_data (arc_value c.self.inside.spec) c.self.inside.schemes c.self.inside.certs) c.self.inside.limit c.self.inside.next c.self.inside.done c.self.inside.states.items c.self.inside.stores.items c.self.inside.pending c.self.inside.taken.items c.self.invariant) there c.index.ensures)) refl
+    (c.in_ok-hear.ensures.out ∙ ap (λ schemas. c.args.out.now ++ going_at_once schemas (still_held c.index.result.now.rows [] c.args.punct) (record { ticket = c.self.inside.next; input = c.args.input; patterns = c.args.punct })) (c.as_slice.ensures ∙ ap (λ (s : JoinSpec). s.inputs) c.deref.ensures)))
 
 pub returns-clause-hands : goal.returns-clause-hands
 returns-clause-hands c = hands-punct c.args.self.now c.args.input c.args.punct
+
+pub returns-in_err-hear-clause-refused : goal.returns-in_err-hear-clause-refused
+returns-in_err-hear-clause-refused c =
+    let lt : c.args.input < inputs c.args.self.now.spec = c.requires.fits.0 in
+    let there : c.args.input < inputs (join_data (arc_value c.self.inside.spec) c.self.inside.schemes c.self.inside.certs) = rw (← c.self.view_is) at lt in
+    on-err c.from_residual.result (
+      rw (← c.self.view_is)
+          (ap₂ (λ (ss : List Store) (ws : List PunctAt). seen (made_with c.self.inside.node (join_data (arc_value c.self.inside.spec) c.self.inside.schemes c.self.inside.certs) c.self.inside.limit) c.self.inside.next c.self.inside.done (log_of c.self.inside.states.items) (puncts_of ss) ws c.self.inside.taken.items)
+          (same-stores (join_data (arc_value c.self.inside.spec) c.self.inside.schemes c.self.inside.certs) c.self.inside.limit c.self.inside.next c.self.inside.done c.self.inside.states.items c.self.inside.stores.items c.self.inside.pending c.self.inside.taken.items c.self.invariant c.args.input c.index_mut.result.now c.hear.new.store there c.index_mut.ensures.value c.in_err-hear.ensures.arity c.in_err-hear.ensures.err.0) c.in_err-hear.ensures.err.1),
+      c.in_err-hear.ensures.err.2,
+    )

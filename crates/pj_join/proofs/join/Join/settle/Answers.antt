@@ -1,51 +1,48 @@
-use Rattle.std.proofs.Common.{◌≡◌, ◌<◌, ◌≤◌, ◌-◌, ◌∙◌, [], arith, length}
+use Rattle.std.proofs.Common.{◌≡◌, ◌<◌, ◌∙◌, ap, arith, length}
+use Rattle.std.proofs.lemmas.List.{length-map}
 use Rattle.std.specs.Arc.{arc_value}
-use Rattle.pj_laws.specs.Join.{inputs}
+use Rattle.pj_laws.specs.Join.{TupleAt, inputs}
 use Rattle.pj_laws.specs.KeptState.{swept}
+use Rattle.pj_join.specs.Insides.{made_with, seen, tickets}
 use Rattle.pj_join.specs.Joins.{join_data}
-use Rattle.pj_join.specs.Judging.{IsRenewed, waiting_on}
-use Rattle.pj_join.proofs.Calling.{has-side, same-at}
-use Rattle.pj_join.proofs.SweptLists.{count_gone, gone_taken, stay_few, swept_ordered, swept_view}
+use Rattle.pj_join.specs.Judging.{waiting_on}
+use Rattle.pj_join.specs.Sides.{log_of, puncts_of}
+use Rattle.pj_join.specs.Sweeping.{swept_off}
+use Rattle.pj_join.proofs.Kept.{all-states}
+use Rattle.pj_join.proofs.Looped.{state_is}
+use Rattle.pj_join.proofs.Swept.{few-gone, join-swept, view-left}
 use Rattle.pj_join.proofs.join.Join.settle.Goals as goal
-
-pub overflow_sub-gone : goal.overflow_sub-gone
-overflow_sub-gone c =
-    let log : c.args.left.log ≡ swept c.args.self.now.spec c.args.self.now.kept c.args.input = c.requires.log in
-    let few : length c.args.left.log ≤ length c.self.inside.log = rw (← c.self.view_is) at (stay_few c.args.self.now.spec c.args.self.now.kept c.args.input c.args.left.log log) in
-    omega (arith, few, c.len.ensures, c.len-2.ensures)
 
 pub overflow_sub-self : goal.overflow_sub-self
 overflow_sub-self c =
-    let log : c.args.left.log ≡ swept c.args.self.now.spec c.args.self.now.kept c.args.input = c.requires.log in
-    let taken : length c.self.inside.log - length c.args.left.log ≤ c.self.inside.done =
-    gone_taken c.self.inside.node (join_data (arc_value c.self.inside.spec) c.self.inside.schemes c.self.inside.certs) c.self.inside.limit c.self.inside.next c.self.inside.done c.self.inside.log c.self.inside.sides.items c.self.inside.puncts c.self.inside.waiting c.self.inside.taken.items c.args.input c.args.left.log c.self.invariant (rw (← c.self.view_is) at log) in
-    omega (arith, taken, c.len.ensures, c.len-2.ensures)
+    let lt : c.args.input < inputs c.args.self.now.spec = c.requires.there in
+    let there : c.args.input < inputs (join_data (arc_value c.self.inside.spec) c.self.inside.schemes c.self.inside.certs) = rw (← c.self.view_is) at lt in
+    let goes : c.args.left.gone ≡ tickets (swept_off c.args.self.now c.args.input) = c.requires.gone in
+    let gone : c.args.left.gone ≡ tickets (swept_off (seen (made_with c.self.inside.node (join_data (arc_value c.self.inside.spec) c.self.inside.schemes c.self.inside.certs) c.self.inside.limit) c.self.inside.next c.self.inside.done (log_of c.self.inside.states.items) (puncts_of c.self.inside.stores.items) c.self.inside.waiting c.self.inside.taken.items) c.args.input) = rw (← c.self.view_is) at goes in
+    omega (arith, few-gone c.self.inside.node (join_data (arc_value c.self.inside.spec) c.self.inside.schemes c.self.inside.certs) c.self.inside.limit c.self.inside.next c.self.inside.done c.self.inside.states.items c.self.inside.stores.items c.self.inside.pending c.self.inside.taken.items c.self.inside.waiting c.args.input c.self.invariant there c.args.left.gone gone, c.len-count.ensures)
 
 pub index_mut-requires : goal.index_mut-requires
 index_mut-requires c =
     let lt : c.args.input < inputs c.args.self.now.spec = c.requires.there in
-    let side : c.args.input < length c.self.inside.sides.items = has-side (join_data (arc_value c.self.inside.spec) c.self.inside.schemes c.self.inside.certs) c.self.inside.limit c.self.inside.next c.self.inside.done c.self.inside.log c.self.inside.sides.items c.self.inside.taken.items c.args.input c.self.invariant (rw (← c.self.view_is) at lt) in
-    omega (arith, side, c.self.inside.sides.ok)
+    let there : c.args.input < inputs (join_data (arc_value c.self.inside.spec) c.self.inside.schemes c.self.inside.certs) = rw (← c.self.view_is) at lt in
+    omega (arith, there, all-states (join_data (arc_value c.self.inside.spec) c.self.inside.schemes c.self.inside.certs) c.self.inside.limit c.self.inside.next c.self.inside.done c.self.inside.states.items c.self.inside.stores.items c.self.inside.pending c.self.inside.taken.items c.self.invariant, c.self.inside.states.ok)
 
 pub invariant_of-self : goal.invariant_of-self
 invariant_of-self c =
-    let log : c.args.left.log ≡ swept c.args.self.now.spec c.args.self.now.kept c.args.input = c.requires.log in
     let lt : c.args.input < inputs c.args.self.now.spec = c.requires.there in
-    let renewed : IsRenewed c.args.input c.args.self.now.kept.stored c.args.left.log c.args.left.side = c.requires.side in
-    let side : c.args.input < length c.self.inside.sides.items = has-side (join_data (arc_value c.self.inside.spec) c.self.inside.schemes c.self.inside.certs) c.self.inside.limit c.self.inside.next c.self.inside.done c.self.inside.log c.self.inside.sides.items c.self.inside.taken.items c.args.input c.self.invariant (rw (← c.self.view_is) at lt) in
-    rw (c.len.ensures, c.len-2.ensures)
-    (swept_ordered c.self.inside.node (join_data (arc_value c.self.inside.spec) c.self.inside.schemes c.self.inside.certs) c.self.inside.limit c.self.inside.next c.self.inside.done c.self.inside.log c.self.inside.sides.items c.self.inside.puncts c.self.inside.waiting c.self.inside.taken.items c.args.input c.args.left.log c.self.invariant (rw (← c.self.view_is) at log)
-    (rw (← c.self.view_is) at lt) c.renew.new.side c.index_mut.result.now c.args.left.side (c.index_mut.ensures.value ∙ same-at c.self.inside.sides.items c.args.input c.index_mut.result.now [] side) (rw (← c.self.view_is) at renewed) c.renew.ensures.same c.renew.ensures.other)
+    let there : c.args.input < inputs (join_data (arc_value c.self.inside.spec) c.self.inside.schemes c.self.inside.certs) = rw (← c.self.view_is) at lt in
+    let goes : c.args.left.gone ≡ tickets (swept_off c.args.self.now c.args.input) = c.requires.gone in
+    let gone : c.args.left.gone ≡ tickets (swept_off (seen (made_with c.self.inside.node (join_data (arc_value c.self.inside.spec) c.self.inside.schemes c.self.inside.certs) c.self.inside.limit) c.self.inside.next c.self.inside.done (log_of c.self.inside.states.items) (puncts_of c.self.inside.stores.items) c.self.inside.waiting c.self.inside.taken.items) c.args.input) = rw (← c.self.view_is) at goes in
+    rw (c.len-count.ensures) (join-swept c.self.inside.node (join_data (arc_value c.self.inside.spec) c.self.inside.schemes c.self.inside.certs) c.self.inside.limit c.self.inside.next c.self.inside.done c.self.inside.states.items c.self.inside.stores.items c.self.inside.pending c.self.inside.taken.items c.self.inside.waiting c.args.input c.self.invariant there c.args.left.gone gone c.index_mut.result.now c.remove_all.new.state (state_is c.self.inside.states.items c.args.input c.index_mut.result.now (inputs (join_data (arc_value c.self.inside.spec) c.self.inside.schemes c.self.inside.certs)) (all-states (join_data (arc_value c.self.inside.spec) c.self.inside.schemes c.self.inside.certs) c.self.inside.limit c.self.inside.next c.self.inside.done c.self.inside.states.items c.self.inside.stores.items c.self.inside.pending c.self.inside.taken.items c.self.invariant) there c.index_mut.ensures.value) (rw (← c.as_slice.ensures) c.remove_all.ensures))
 
 pub returns-clause-sweeps : goal.returns-clause-sweeps
 returns-clause-sweeps c =
-    let log : c.args.left.log ≡ swept c.args.self.now.spec c.args.self.now.kept c.args.input = c.requires.log in
-    let waiting : c.args.left.waiting ≡ waiting_on c.args.left.log c.args.input c.args.self.now.kept.waiting = c.requires.waiting in
-    rw (c.len.ensures, c.len-2.ensures, ← c.self.view_is)
-    (swept_view c.self.inside.node (join_data (arc_value c.self.inside.spec) c.self.inside.schemes c.self.inside.certs) c.self.inside.limit c.self.inside.next c.self.inside.done c.self.inside.log c.self.inside.sides.items c.self.inside.puncts c.self.inside.waiting c.self.inside.taken.items c.args.input c.args.left.log c.self.invariant (rw (← c.self.view_is) at log)
-    c.args.left.waiting (rw (← c.self.view_is) at waiting))
+    let waits : c.args.left.waiting ≡ waiting_on (swept c.args.self.now.spec c.args.self.now.kept c.args.input) c.args.input c.args.self.now.kept.waiting = c.requires.waiting in
+    let lt : c.args.input < inputs c.args.self.now.spec = c.requires.there in
+    let there : c.args.input < inputs (join_data (arc_value c.self.inside.spec) c.self.inside.schemes c.self.inside.certs) = rw (← c.self.view_is) at lt in
+    let goes : c.args.left.gone ≡ tickets (swept_off c.args.self.now c.args.input) = c.requires.gone in
+    let gone : c.args.left.gone ≡ tickets (swept_off (seen (made_with c.self.inside.node (join_data (arc_value c.self.inside.spec) c.self.inside.schemes c.self.inside.certs) c.self.inside.limit) c.self.inside.next c.self.inside.done (log_of c.self.inside.states.items) (puncts_of c.self.inside.stores.items) c.self.inside.waiting c.self.inside.taken.items) c.args.input) = rw (← c.self.view_is) at goes in
+    rw (c.len-count.ensures, ← c.self.view_is) (view-left c.self.inside.node (join_data (arc_value c.self.inside.spec) c.self.inside.schemes c.self.inside.certs) c.self.inside.limit c.self.inside.next c.self.inside.done c.self.inside.states.items c.self.inside.stores.items c.self.inside.pending c.self.inside.taken.items c.self.inside.waiting c.args.input c.self.invariant there c.args.left.gone gone c.index_mut.result.now c.remove_all.new.state (state_is c.self.inside.states.items c.args.input c.index_mut.result.now (inputs (join_data (arc_value c.self.inside.spec) c.self.inside.schemes c.self.inside.certs)) (all-states (join_data (arc_value c.self.inside.spec) c.self.inside.schemes c.self.inside.certs) c.self.inside.limit c.self.inside.next c.self.inside.done c.self.inside.states.items c.self.inside.stores.items c.self.inside.pending c.self.inside.taken.items c.self.invariant) there c.index_mut.ensures.value) (rw (← c.as_slice.ensures) c.remove_all.ensures) c.args.left.waiting (rw (← c.self.view_is) at waits))
 
 pub returns-clause-count : goal.returns-clause-count
-returns-clause-count c =
-    let log : c.args.left.log ≡ swept c.args.self.now.spec c.args.self.now.kept c.args.input = c.requires.log in
-    rw (c.len.ensures, c.len-2.ensures, ← c.self.view_is) (rw (← c.self.view_is) at (count_gone c.args.self.now c.args.input c.args.left.log log))
+returns-clause-count c = c.len-count.ensures ∙ ap (λ ts. length ts) c.requires.gone ∙ length-map (swept_off c.args.self.now c.args.input) (λ (x : TupleAt). x.ticket)

@@ -1,0 +1,300 @@
+-- What the loops of a join cite.
+use Rattle.std.proofs.Common.{ℕ, zero, suc, ◌+◌, ◌<◌, ◌≤◌, Bool, true, false, cond, not, ◌&&◌, ◌||◌, List, [], ◌∷◌, ◌++◌, ◌≡◌, Some, map, filter, sum, take, length, get_or, refl, sym, ap, ap₂, ◌∙◌, subst, eqb, ltb, arith, append_assoc}
+use Rattle.std.specs.List.{list_any, slice_get}
+use Rattle.std.proofs.lemmas.Bool.{and_parts, eq-eqb, eqb-true, false_from_ne_true, false≢true, ltb-true}
+use Rattle.std.proofs.lemmas.List.{length-append, map-append, take_all, take_more}
+use Rattle.std.proofs.lemmas.List.Elements.{filter-append}
+use Rattle.std.proofs.lemmas.Option.{get_or_from_slice_get, slice_get_within}
+use Rattle.pj_value.proofs.Members.{In-map_from, any_from, filter-agree, filter-all, filter-filter, in-place}
+use Rattle.pj_state.specs.declared.shared.Stored.{Stored}
+use Rattle.pj_state.specs.States.{StateView, pair_of as pair_stored, row_in, row_under, stored, ticket_of}
+use Rattle.pj_state.specs.Rising.{AllAbove, IsRising, first_with, is_other, without}
+use Rattle.pj_cover.specs.Stores.{Store}
+use Rattle.pj_shape.specs.Sound.{arities_of}
+use Rattle.pj_laws.specs.declared.events.Out.{Out}
+use Rattle.pj_laws.specs.declared.events.Out.TheVariants.{Tuple}
+use Rattle.pj_laws.specs.Patterns.{Pattern}
+use Rattle.pj_laws.specs.Join.{CertStep, ClassCol, In, PunctAt, TupleAt, Value, has, of_input, upto_from}
+use Rattle.pj_probe.specs.Walks.{sides_at, tuple_at}
+use Rattle.pj_join.specs.Handed.{pair_of, pairs_out}
+use Rattle.pj_join.specs.Judging.{IsSortedOut, Judge, MayJudge, lets_go, one_if, ripe_at, rows_without, widened_among}
+use Rattle.pj_join.specs.Sides.{AreAllShaped, AreWide, IsShaped, IsWide, heard_of, no_state, heard_in, heard_with, state_at, stays, still_held, tuple_in, tuples_in}
+use Rattle.pj_join.specs.Walks.{IsNarrowed, may_join, older_joins, suits}
+use Rattle.pj_join.proofs.Combining.{filter-map}
+use Rattle.pj_join.proofs.Calling.{same-at}
+use Rattle.pj_shape.specs.declared.columns.Column.{Column}
+use Rattle.std.proofs.lemmas.List.Sums.{sum_by-cons}
+use Rattle.pj_join.proofs.Walking.{more-choices}
+use Rattle.pj_join.proofs.Kept.{shaped-push, tuples-at}
+
+-- ---- items that are picked one after the other
+
+-- one more is looked at
+pub picked_more : {A B : Type 0} (p : A → Bool) (f : A → B) (xs : List A) (i : ℕ) (x : A) (b : Bool) (first ys ys' : List B) → slice_get xs i ≡ Some x → b ≡ p x → ys ≡ first ++ map f (filter p (take i xs)) → ys' ≡ ys ++ one_if b (f x)
+    → ys' ≡ first ++ map f (filter p (take (i + 1) xs))
+picked_more {A} {B} p f xs i x b first ys ys' at is e n =
+    n ∙ ap₂ (λ (zs : List B) c. zs ++ one_if c (f x)) e is
+    ∙ append_assoc first (map f (filter p (take i xs))) (one_if (p x) (f x))
+    ∙ ap (λ (zs : List B). first ++ zs)
+    (ap (λ (zs : List B). map f (filter p (take i xs)) ++ zs) (one (p x))
+    ∙ sym (map-append f (filter p (take i xs)) (filter p (x ∷ [])))
+    ∙ ap (map f) (sym (filter-append p (take i xs) (x ∷ [])) ∙ ap (filter p) (ap (λ (z : A). take i xs ++ z ∷ []) (sym (get_or_from_slice_get xs i x x at)) ∙ sym (take_more xs i x (slice_get_within xs i x at)))))
+  where
+    one : (c : Bool) → one_if c (f x) ≡ map f (cond c (x ∷ []) [])
+    one true = refl
+    one false = refl
+
+-- behind one that has at least this number none passes
+pub picked_stop : {A : Type 0} (p : A → Bool) (number : A → ℕ) (low : ℕ) (xs : List A) (i : ℕ) (x : A) → IsRising number xs → ((y : A) → p y ≡ true → number y < low) → slice_get xs i ≡ Some x → low ≤ number x → filter p (take i xs) ≡ filter p xs
+picked_stop {A} p number low xs i x rising below at le = go xs i rising at
+  where
+    none : (n : ℕ) (ys : List A) → low ≤ n → AllAbove number n ys → filter p ys ≡ []
+    none n [] l above = refl
+    none n (y ∷ ys) l above = ap (λ b. cond b (y ∷ filter p ys) (filter p ys)) (false_from_ne_true (p y) (λ t. let b = below y t in omega (arith, b, l, above.0))) ∙ none n ys l above.1
+
+    go : (ys : List A) (k : ℕ) → IsRising number ys → slice_get ys k ≡ Some x → filter p (take k ys) ≡ filter p ys
+    go [] zero r e = refl
+    go [] (suc k) r e = refl
+    go (y ∷ ys) zero r e =
+        let same : y ≡ x = get_or_from_slice_get (y ∷ ys) 0 x x e in
+        let l : low ≤ number y = subst (λ (z : A). low ≤ number z) (sym same) le in
+        sym (ap (λ b. cond b (y ∷ filter p ys) (filter p ys)) (false_from_ne_true (p y) (λ t. let b = below y t in omega (arith, b, l))) ∙ none (number y) ys l r.0)
+    go (y ∷ ys) (suc k) r e = pick (p y) (go ys k r.1 e)
+      where
+        pick : (b : Bool) → filter p (take k ys) ≡ filter p ys → cond b (y ∷ filter p (take k ys)) (filter p (take k ys)) ≡ cond b (y ∷ filter p ys) (filter p ys)
+        pick true ih = ap (λ (zs : List A). y ∷ zs) ih
+        pick false ih = ih
+
+-- ---- ripe rows
+
+pub ripe-below : (j : Judge) (cert : List CertStep) (input : ℕ) (s : Stored) → ripe_at j cert input s ≡ true → s.ticket < j.low
+ripe-below j cert input s t = ltb-true s.ticket j.low (and_parts (ltb s.ticket j.low) _ t).0
+
+-- a row that is stored fits its input
+pub row_fits : (j : Judge) (cert : List CertStep) (input ticket : ℕ) (row : List Value) → MayJudge j cert input → (at : ℕ) × (slice_get (state_at j.states input).rows at ≡ Some (stored ticket row)) → length row ≡ get_or (arities_of j.spec.inputs) input 0
+row_fits j cert input ticket row may (at, e) =
+    may.parts.fit input may.there (ticket, row) (In-map_from pair_stored (stored ticket row) (state_at j.states input).rows
+    (subst (λ (s : Stored). In s (state_at j.states input).rows) (get_or_from_slice_get (state_at j.states input).rows at (stored ticket row) (stored ticket row) e)
+    (in-place (state_at j.states input).rows (stored ticket row) at (slice_get_within (state_at j.states input).rows at (stored ticket row) e))))
+
+-- ---- rows that match
+
+any-append : {A : Type 0} (p : A → Bool) (xs ys : List A) → list_any p (xs ++ ys) ≡ (list_any p xs || list_any p ys)
+any-append p [] ys = refl
+any-append p (x ∷ xs) ys = go (p x) (any-append p xs ys)
+  where
+    go : (b : Bool) → list_any p (xs ++ ys) ≡ (list_any p xs || list_any p ys) → (b || list_any p (xs ++ ys)) ≡ ((b || list_any p xs) || list_any p ys)
+    go true ih = refl
+    go false ih = ih
+
+pub not_held_more : (rows : List Stored) (gone : List ℕ) (patterns : List Pattern) (i : ℕ) (s : Stored) → slice_get rows i ≡ Some s → still_held (take i rows) gone patterns ≡ false → stays gone patterns s ≡ false
+    → still_held (take (i + 1) rows) gone patterns ≡ false
+not_held_more rows gone patterns i s at before none =
+    ap (λ (xs : List Stored). still_held xs gone patterns) (take_more rows i s (slice_get_within rows i s at) ∙ ap (λ (t : Stored). take i rows ++ t ∷ []) (get_or_from_slice_get rows i s s at))
+    ∙ any-append (stays gone patterns) (take i rows) (s ∷ [])
+    ∙ ap₂ (λ a b. a || (b || false)) before none
+
+pub held_here : (rows : List Stored) (gone : List ℕ) (patterns : List Pattern) (i : ℕ) (s : Stored) → slice_get rows i ≡ Some s → stays gone patterns s ≡ true → still_held rows gone patterns ≡ true
+held_here rows gone patterns i s at t =
+    any_from (stays gone patterns) rows s (subst (λ (x : Stored). In x rows) (get_or_from_slice_get rows i s s at) (in-place rows s i (slice_get_within rows i s at))) t
+
+pub held_under : (rows : List Stored) (gone : List ℕ) (patterns : List Pattern) (ticket : ℕ) (row : List Value) → Some row ≡ row_under ticket rows → stays gone patterns (stored ticket row) ≡ true → still_held rows gone patterns ≡ true
+held_under [] gone patterns ticket row at t = absurd (cc)
+held_under (s ∷ rows) gone patterns ticket row at t = go (eqb s.ticket ticket) refl at (λ k. held_under rows gone patterns ticket row k t)
+  where
+    go : (b : Bool) → eqb s.ticket ticket ≡ b → Some row ≡ row_in (cond b (Some s) (first_with ticket_of ticket rows)) → (Some row ≡ row_under ticket rows → still_held rows gone patterns ≡ true) → (stays gone patterns s || still_held rows gone patterns) ≡ true
+    go true e k ih = ap (λ b. b || still_held rows gone patterns) (ap₂ (λ n (r : List Value). stays gone patterns (stored n r)) (eqb-true s.ticket ticket e) (same k) ∙ t)
+      where
+        same : Some row ≡ Some s.row → s.row ≡ row
+        same q = cc
+    go false e k ih = or-right (stays gone patterns s) (ih k)
+      where
+        or-right : (a : Bool) → still_held rows gone patterns ≡ true → (a || still_held rows gone patterns) ≡ true
+        or-right true q = refl
+        or-right false q = q
+
+-- ---- rows that are taken out
+
+eqb-turned : (m n : ℕ) → eqb m n ≡ eqb n m
+eqb-turned m n = go (eqb m n) refl (eqb n m) refl
+  where
+    go : (a : Bool) → eqb m n ≡ a → (b : Bool) → eqb n m ≡ b → a ≡ b
+    go true e true f = refl
+    go true e false f = absurd (false≢true (sym f ∙ eq-eqb n m (sym (eqb-true m n e))))
+    go false e true f = absurd (false≢true (sym e ∙ eq-eqb m n (sym (eqb-true n m f))))
+    go false e false f = refl
+
+pub without_none : (rows : List Stored) → rows_without [] rows ≡ rows
+without_none rows = filter-all (λ (s : Stored). not (has [] s.ticket)) rows (λ s h. refl)
+
+pub without_more : (gone : List ℕ) (i t d : ℕ) (rows : List Stored) → i < length gone → t ≡ get_or gone i d → without ticket_of t (rows_without (take i gone) rows) ≡ rows_without (take (i + 1) gone) rows
+without_more gone i t d rows lt is =
+    filter-filter (λ (s : Stored). not (has (take i gone) s.ticket)) (is_other ticket_of t) rows
+    ∙ filter-agree (λ (s : Stored). not (has (take i gone) s.ticket) && is_other ticket_of t s) (λ s. not (has (take i gone ++ t ∷ []) s.ticket)) rows (λ s h. each (has (take i gone) s.ticket) s)
+    ∙ ap (λ ts. rows_without ts rows) (ap (λ n. take i gone ++ n ∷ []) is ∙ sym (take_more gone i d lt))
+  where
+    each : (b : Bool) (s : Stored) → (not (has (take i gone) s.ticket) && not (eqb s.ticket t)) ≡ not (has (take i gone ++ t ∷ []) s.ticket)
+    each b s =
+        ap (λ c. not (has (take i gone) s.ticket) && not c) (eqb-turned s.ticket t)
+        ∙ parts (has (take i gone) s.ticket) (eqb t s.ticket)
+        ∙ ap not (sym (any-append (λ m. eqb m s.ticket) (take i gone) (t ∷ [])))
+      where
+        parts : (a c : Bool) → (not a && not c) ≡ not (a || (c || false))
+        parts true c = refl
+        parts false true = refl
+        parts false false = refl
+
+-- ---- pairs
+
+pub pairs_more : (classes : List (List ClassCol)) (own : TupleAt) (input : ℕ) (rows : List Stored) (i : ℕ) (s : Stored) (first outs outs' : List Out) → slice_get rows i ≡ Some s
+    → outs ≡ first ++ pairs_out classes own (map (tuple_in input) (take i rows)) → outs' ≡ outs ++ pairs_out classes own (tuple_in input s ∷ []) → outs' ≡ first ++ pairs_out classes own (map (tuple_in input) (take (i + 1) rows))
+pairs_more classes own input rows i s first outs outs' at e n =
+    n ∙ ap (λ (xs : List Out). xs ++ pairs_out classes own (tuple_in input s ∷ [])) e
+    ∙ append_assoc first (pairs_out classes own (map (tuple_in input) (take i rows))) (pairs_out classes own (tuple_in input s ∷ []))
+    ∙ ap (λ (xs : List Out). first ++ xs)
+    (sym (out-append (map (tuple_in input) (take i rows)) (tuple_in input s ∷ []))
+    ∙ ap (pairs_out classes own) (sym (map-append (tuple_in input) (take i rows) (s ∷ [])) ∙ ap (map (tuple_in input)) (ap (λ (t : Stored). take i rows ++ t ∷ []) (sym (get_or_from_slice_get rows i s s at)) ∙ sym (take_more rows i s (slice_get_within rows i s at)))))
+  where
+    out-append : (xs ys : List TupleAt) → pairs_out classes own (xs ++ ys) ≡ pairs_out classes own xs ++ pairs_out classes own ys
+    out-append xs ys =
+        ap (λ (zs : List TupleAt). map Tuple (map (pair_of own) zs)) (filter-append (older_joins classes own) xs ys)
+        ∙ ap (map Tuple) (map-append (pair_of own) (filter (older_joins classes own) xs) (filter (older_joins classes own) ys))
+        ∙ map-append Tuple (map (pair_of own) (filter (older_joins classes own) xs)) (map (pair_of own) (filter (older_joins classes own) ys))
+
+pub pairs_stop : (classes : List (List ClassCol)) (own : TupleAt) (input : ℕ) (rows : List Stored) (i : ℕ) (s : Stored) → IsRising ticket_of rows → slice_get rows i ≡ Some s → own.ticket ≤ s.ticket
+    → pairs_out classes own (map (tuple_in input) (take i rows)) ≡ pairs_out classes own (map (tuple_in input) rows)
+pairs_stop classes own input rows i s rising at le =
+    ap (λ (zs : List TupleAt). map Tuple (map (pair_of own) zs))
+    (filter-map (older_joins classes own) (tuple_in input) (take i rows)
+    ∙ ap (map (tuple_in input)) (picked_stop (λ t. older_joins classes own (tuple_in input t)) ticket_of own.ticket rows i s rising (λ t k. ltb-true t.ticket own.ticket (and_parts (ltb t.ticket own.ticket) _ k).0) at le)
+    ∙ sym (filter-map (older_joins classes own) (tuple_in input) rows))
+
+pub pairs_end : (classes : List (List ClassCol)) (own : TupleAt) (input i : ℕ) (rows : List Stored) → length rows ≤ i → pairs_out classes own (map (tuple_in input) (take i rows)) ≡ pairs_out classes own (map (tuple_in input) rows)
+pairs_end classes own input i rows le = ap (λ (xs : List Stored). pairs_out classes own (map (tuple_in input) xs)) (take_all i rows le)
+
+-- ---- lists of each input
+
+pub sides-length : (base : ℕ) (lists : List (List (ℕ × List Value))) → length (sides_at base lists) ≡ length lists
+sides-length base [] = refl
+sides-length base (x ∷ xs) = ap suc (sides-length (base + 1) xs)
+
+sides-front : (base : ℕ) (lists : List (List (ℕ × List Value))) (last : List (ℕ × List Value)) (k : ℕ) → k < length lists → get_or (sides_at base (lists ++ last ∷ [])) k [] ≡ get_or (sides_at base lists) k []
+sides-front base [] last k lt = absurd (omega (arith, lt))
+sides-front base (x ∷ xs) last zero lt = refl
+sides-front base (x ∷ xs) last (suc k) lt = sides-front (base + 1) xs last k (omega (arith, lt))
+
+sides-last : (base : ℕ) (lists : List (List (ℕ × List Value))) (last : List (ℕ × List Value)) → get_or (sides_at base (lists ++ last ∷ [])) (length lists) [] ≡ map (tuple_at (base + length lists)) last
+sides-last base [] last = ap (λ n. map (tuple_at n) last) (omega arith)
+sides-last base (x ∷ xs) last = sides-last (base + 1) xs last ∙ ap (λ n. map (tuple_at n) last) (omega arith)
+
+pub narrowed_more : (classes : List (List ClassCol)) (own : TupleAt) (sides : List (List TupleAt)) (lists new : List (List (ℕ × List Value))) (last : List (ℕ × List Value)) (i : ℕ) → new ≡ lists ++ last ∷ [] → length lists ≡ i
+    → IsNarrowed classes own sides i (map (tuple_at i) last) → ((k : ℕ) → k < length lists → IsNarrowed classes own sides k (get_or (sides_at 0 lists) k []))
+    → (length new ≡ i + 1) × ((k : ℕ) → k < length new → IsNarrowed classes own sides k (get_or (sides_at 0 new) k []))
+narrowed_more classes own sides lists new last i e count is before = (count-now, λ k lt. each k lt (eqb k i) refl)
+  where
+    count-now : length new ≡ i + 1
+    count-now = omega (arith, ap (λ (ls : List (List (ℕ × List Value))). length ls) e, length-append lists (last ∷ []), count)
+
+    at-end : get_or (sides_at 0 (lists ++ last ∷ [])) i [] ≡ map (tuple_at i) last
+    at-end = ap (λ n. get_or (sides_at 0 (lists ++ last ∷ [])) n []) (sym count) ∙ sides-last 0 lists last ∙ ap (λ n. map (tuple_at n) last) (omega (arith, count))
+
+    each : (k : ℕ) → k < length new → (b : Bool) → eqb k i ≡ b → IsNarrowed classes own sides k (get_or (sides_at 0 new) k [])
+    each k lt true q =
+        subst (λ (ls : List (List (ℕ × List Value))). IsNarrowed classes own sides k (get_or (sides_at 0 ls) k [])) (sym e)
+        (subst (λ n. IsNarrowed classes own sides n (get_or (sides_at 0 (lists ++ last ∷ [])) n [])) (sym (eqb-true k i q)) (subst (λ (xs : List TupleAt). IsNarrowed classes own sides i xs) (sym at-end) is))
+    each k lt false q =
+        let l : k < length lists = omega (arith, lt, count-now, count, apart) in
+        subst (λ (ls : List (List (ℕ × List Value))). IsNarrowed classes own sides k (get_or (sides_at 0 ls) k [])) (sym e)
+        (subst (λ (xs : List TupleAt). IsNarrowed classes own sides k xs) (sym (sides-front 0 lists last k l)) (before k l))
+      where
+        apart : k ≡ i → ⊥
+        apart m = false≢true (sym q ∙ eq-eqb k i m)
+
+-- a choice of another input's tuples
+pub narrowed_choice : (classes : List (List ClassCol)) (own : TupleAt) (sides : List (List TupleAt)) (input : ℕ) (rows : List (ℕ × List Value)) (side : List TupleAt) → (input ≡ own.input → ⊥) → get_or sides input [] ≡ side
+    → filter (suits classes (own ∷ [])) (map (tuple_at input) rows) ≡ filter (older_joins classes own) side → IsNarrowed classes own sides input (map (tuple_at input) rows)
+narrowed_choice classes own sides input rows side ne at e = record {
+  alone = λ q. absurd (ne q);
+  among = suit rows ∙ e ∙ sym (ap (λ b. cond b (own ∷ []) (filter (older_joins classes own) (get_or sides input []))) apart ∙ ap (filter (older_joins classes own)) at);
+}
+  where
+    apart : eqb input own.input ≡ false
+    apart = false_from_ne_true (eqb input own.input) (λ t. ne (eqb-true input own.input t))
+
+    suit : (rs : List (ℕ × List Value)) → filter (may_join classes own) (map (tuple_at input) rs) ≡ filter (suits classes (own ∷ [])) (map (tuple_at input) rs)
+    suit [] = refl
+    suit (r ∷ rs) =
+        ap (λ b. cond (b || suits classes (own ∷ []) (tuple_at input r)) (tuple_at input r ∷ filter (may_join classes own) (map (tuple_at input) rs)) (filter (may_join classes own) (map (tuple_at input) rs))) apart
+        ∙ ap (λ (xs : List TupleAt). cond (suits classes (own ∷ []) (tuple_at input r)) (tuple_at input r ∷ xs) xs) (suit rs)
+
+pub own_choice : (classes : List (List ClassCol)) (own : TupleAt) (sides : List (List TupleAt)) (input : ℕ) (found : List TupleAt) → input ≡ own.input → found ≡ own ∷ [] → IsNarrowed classes own sides input found
+own_choice classes own sides input found is e = record {
+  alone = λ q. e;
+  among =
+      ap (filter (may_join classes own)) e
+      ∙ ap (λ b. cond (b || suits classes (own ∷ []) own) (own ∷ []) []) (eq-eqb own.input own.input refl)
+      ∙ sym (ap (λ b. cond b (own ∷ []) (filter (older_joins classes own) (get_or sides input []))) (eq-eqb input own.input is));
+}
+
+-- ---- a new join
+
+pub tuples_push : (base : ℕ) (states : List StateView) (s : StateView) → s.rows ≡ [] → tuples_in base (states ++ s ∷ []) ≡ tuples_in base states ++ [] ∷ []
+tuples_push base [] s e = ap (λ (rs : List Stored). map (tuple_in base) rs ∷ []) e
+tuples_push base (r ∷ rs) s e = ap (λ (xs : List (List TupleAt)). map (tuple_in base) r.rows ∷ xs) (tuples_push (base + 1) rs s e)
+
+pub heard_push : (base : ℕ) (stores : List Store) (s : Store) → s.kept ≡ [] → heard_in base (stores ++ s ∷ []) ≡ heard_in base stores ++ [] ∷ []
+heard_push base [] s e = ap (λ ks. map (heard_with base) ks ∷ []) e
+heard_push base (r ∷ rs) s e = ap (λ (xs : List (List PunctAt)). map (heard_with base) r.kept ∷ xs) (heard_push (base + 1) rs s e)
+
+-- ---- states in their places
+
+pub side_at : (states : List StateView) (k : ℕ) (s : StateView) → k < length states → s ≡ get_or states k s → get_or (tuples_in 0 states) k [] ≡ map (tuple_in k) s.rows
+side_at states k s lt is = tuples-at 0 states k lt ∙ ap₂ (λ n (t : StateView). map (tuple_in n) t.rows) (plain k) (same-at states k no_state s lt ∙ sym is)
+  where
+    plain : (n : ℕ) → 0 + n ≡ n
+    plain n = omega arith
+
+pub wide_at : (states : List StateView) (k : ℕ) (s : StateView) → AreWide states → k < length states → s ≡ get_or states k s → IsWide s
+wide_at states k s wide lt is = subst (λ (t : StateView). IsWide t) (same-at states k no_state s lt ∙ sym is) (wide k lt)
+
+pub state_is : (states : List StateView) (k : ℕ) (s : StateView) (n : ℕ) → length states ≡ n → k < n → s ≡ get_or states k s → s ≡ state_at states k
+state_is states k s n count lt is = is ∙ same-at states k s no_state (omega (arith, count, lt))
+
+-- ---- one state or store more
+
+pub states_more : (states new : List StateView) (s : StateView) (i : ℕ) (ns : List ℕ) → new ≡ states ++ s ∷ [] → s.rows ≡ [] → tuples_in 0 states ≡ map (λ k. of_input k []) (upto_from 0 i) → tuples_in 0 new ≡ map (λ k. of_input k []) (upto_from 0 (i + 1))
+states_more states new s i ns e none before =
+    more-choices (λ k. of_input k []) i (tuples_in 0 states) (tuples_in 0 new) [] before refl (ap (tuples_in 0) e ∙ tuples_push 0 states s none)
+
+arities_more : (i : ℕ) (schemas : List (List Column)) (schema : List Column) → i < length schemas → schema ≡ get_or schemas i schema → arities_of (take (i + 1) schemas) ≡ arities_of (take i schemas) ++ length schema ∷ []
+arities_more i schemas schema lt at =
+    ap arities_of (take_more schemas i schema lt ∙ ap (λ (c : List Column). take i schemas ++ c ∷ []) (sym at)) ∙ map-append (λ (c : List Column). length c) (take i schemas) (schema ∷ [])
+
+pub shaped_more : (states new : List StateView) (s : StateView) (i n : ℕ) (schemas : List (List Column)) (schema : List Column) → new ≡ states ++ s ∷ [] → i < length schemas → schema ≡ get_or schemas i schema → n ≡ length schema → IsShaped n s
+    → AreAllShaped (arities_of (take i schemas)) states → AreAllShaped (arities_of (take (i + 1) schemas)) new
+shaped_more states new s i n schemas schema e lt at long is before =
+    subst (λ (ss : List StateView). AreAllShaped (arities_of (take (i + 1) schemas)) ss) (sym e)
+    (subst (λ ns. AreAllShaped ns (states ++ s ∷ [])) (sym (arities_more i schemas schema lt at)) (shaped-push (arities_of (take i schemas)) states (length schema) s before (subst (λ m. IsShaped m s) long is)))
+
+pub stores_more : (stores new : List Store) (s : Store) (i : ℕ) (schemas : List (List Column)) (schema : List Column) → new ≡ stores ++ s ∷ [] → s.kept ≡ [] → s.arity ≡ length schema → i < length schemas → schema ≡ get_or schemas i schema
+    → (heard_in 0 stores ≡ map (λ k. heard_of k []) (upto_from 0 i)) × (map (λ t. t.arity) stores ≡ arities_of (take i schemas))
+    → (heard_in 0 new ≡ map (λ k. heard_of k []) (upto_from 0 (i + 1))) × (map (λ t. t.arity) new ≡ arities_of (take (i + 1) schemas))
+stores_more stores new s i schemas schema e none width lt at before = (
+  more-choices (λ k. heard_of k []) i (heard_in 0 stores) (heard_in 0 new) [] before.0 refl (ap (heard_in 0) e ∙ heard_push 0 stores s none),
+  ap (map (λ (t : Store). t.arity)) e ∙ map-append (λ (t : Store). t.arity) stores (s ∷ []) ∙ ap₂ (λ ns n. ns ++ n ∷ []) before.1 width ∙ sym (arities_more i schemas schema lt at),
+)
+
+pub small_schema : (schemas : List (List Column)) (i : ℕ) (schema : List Column) → sum (arities_of schemas) ≤ 120 → i < length schemas → schema ≡ get_or schemas i schema → length schema ≤ 120
+small_schema schemas i schema few lt at = let m = member schemas i lt in omega (arith, few, m, ap (λ (c : List Column). length c) at)
+  where
+    member : (ss : List (List Column)) (k : ℕ) → k < length ss → length (get_or ss k schema) ≤ sum (arities_of ss)
+    member [] k l = absurd (omega (arith, l))
+    member (c ∷ ss) zero l = omega (arith, sum_by-cons (λ (n : ℕ). n) (length c) (arities_of ss))
+    member (c ∷ ss) (suc k) l = let m = member ss k (omega (arith, l)) in omega (arith, m, sum_by-cons (λ (n : ℕ). n) (length c) (arities_of ss))
+
+-- a punctuation that is let go
+pub let_go_is : (schemas : List (List Column)) (rows : List Stored) (gone : List ℕ) (input : ℕ) (p : PunctAt) (patterns w : List Pattern) (stay : List PunctAt) (out out' : List (List Pattern)) → lets_go rows gone input p ≡ true → patterns ≡ p.patterns
+    → ((ticket : ℕ) → w ≡ widened_among schemas (record { ticket = ticket; input = input; patterns = patterns })) → out' ≡ out ++ w ∷ [] → IsSortedOut (lets_go rows gone input p) p (widened_among schemas p) stay stay out out'
+let_go_is schemas rows gone input p patterns w stay out out' goes same wide more =
+    subst (λ b. IsSortedOut b p (widened_among schemas p) stay stay out out') (sym goes)
+    (refl, more ∙ ap (λ (v : List Pattern). out ++ v ∷ []) (wide p.ticket ∙ ap₂ (λ n (ps : List Pattern). widened_among schemas (record { ticket = p.ticket; input = n; patterns = ps })) (sym (eqb-true p.input input (and_parts (eqb p.input input) _ goes).0)) same))

@@ -1,0 +1,24 @@
+use Rattle.std.proofs.Common.{◌≤◌, ◌^◌, List, length, ap, arith}
+use Rattle.std.proofs.lemmas.List.{length-map}
+use Rattle.std.specs.Arc.{arc_value}
+use Rattle.pj_laws.specs.Join.{TupleAt}
+use Rattle.pj_join.specs.declared.queue.Place.{Place}
+use Rattle.pj_join.specs.Insides.{tickets}
+use Rattle.pj_join.specs.Joins.{JoinView, join_data}
+use Rattle.pj_join.specs.Sides.{log_of}
+use Rattle.pj_join.proofs.Kept.{pending-length}
+use Rattle.pj_join.proofs.Orders.{rise-length}
+use Rattle.pj_join.proofs.join.Join.stored.Goals as goal
+
+pub overflow_add-result : goal.overflow_add-result
+overflow_add-result c =
+    let o = c.self.invariant.ordered in
+    let count = pending-length (join_data (arc_value c.self.inside.spec) c.self.inside.schemes c.self.inside.certs) c.self.inside.limit c.self.inside.next c.self.inside.done c.self.inside.states.items c.self.inside.stores.items c.self.inside.pending c.self.inside.taken.items c.self.invariant in
+    let few : length (log_of c.self.inside.states.items) ≤ 2 ^ 40 = omega (arith, o.small, o.below, rise-length 0 (tickets (log_of c.self.inside.states.items)) c.self.inside.next o.rising, length-map (log_of c.self.inside.states.items) (λ (x : TupleAt). x.ticket)) in
+    omega (arith, count, few, o.within, ap (λ (ps : List Place). length ps) c.as_slice.ensures)
+
+pub returns : goal.returns
+returns c =
+    let o = c.self.invariant.ordered in
+    let count = pending-length (join_data (arc_value c.self.inside.spec) c.self.inside.schemes c.self.inside.certs) c.self.inside.limit c.self.inside.next c.self.inside.done c.self.inside.states.items c.self.inside.stores.items c.self.inside.pending c.self.inside.taken.items c.self.invariant in
+    omega (arith, count, o.within, ap (λ (ps : List Place). length ps) c.as_slice.ensures, ap (λ (v : JoinView). length v.kept.stored) c.self.view_is)

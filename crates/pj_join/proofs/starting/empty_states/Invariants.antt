@@ -1,0 +1,8 @@
+use Rattle.std.proofs.Common.{◌≡◌, [], map, take}
+use Rattle.pj_shape.specs.Sound.{arities_of}
+use Rattle.pj_laws.specs.Join.{of_input, upto_from}
+use Rattle.pj_join.specs.Sides.{AreAllShaped, tuples_in}
+use Rattle.pj_join.proofs.starting.empty_states.Given as goal
+
+abbrev pub invariant-loop-input : goal.invariant-loop-input
+invariant-loop-input l = (tuples_in 0 l.states.items ≡ map (λ k. of_input k []) (upto_from 0 l.input)) × AreAllShaped (arities_of (take l.input l.spec.inputs)) l.states.items

@@ -1,0 +1,52 @@
+// A join with no rows and no punctuations.
+ghost use Rattle.std.specs.Prelude.{◌≡◌, ◌<◌, ◌≤◌, [], length, map, slice_index, sum, IfOk};
+ghost use Rattle.pj_shape.specs.Sound.{arities_of};
+ghost use Rattle.pj_laws.specs.Join.{of_input, upto_from};
+ghost use Rattle.pj_join.specs.Sides.{AreAllShaped, IsShaped, heard_in, heard_of, tuples_in};
+
+use crate::lookups::class_columns;
+use pj_cover::PunctStore;
+use pj_shape::{ClassCol, JoinSpec, Schema};
+use pj_state::State;
+use pj_value::{List, NoMemory};
+use std::alloc::Global;
+
+// A state with no rows for an input of so many columns.
+fn empty_state(
+    alloc: Global,
+    classes: &[List<ClassCol>],
+    input: usize,
+    arity: usize,
+) -> Result<State, NoMemory>
+    ensures rows { IfOk result (λ state. state.rows ≡ []) }
+    ensures shaped { IfOk result (λ state. IsShaped arity state) }
+{
+    let columns = class_columns(alloc, classes, input, arity)?;
+    State::new(alloc, columns.as_slice())
+}
+
+/// A state with no rows for each input.
+pub fn empty_states(alloc: Global, spec: &JoinSpec) -> Result<Vec<State>, NoMemory>
+    ensures rows { IfOk result (λ states. tuples_in 0 states.items ≡ map (λ k. of_input k []) (upto_from 0 (length spec.now.inputs))) }
+    ensures shaped { IfOk result (λ states. AreAllShaped (arities_of spec.now.inputs) states.items) }
+{
+    let mut states = Vec::new(alloc);
+    for input in 0..spec.inputs.len() {
+        let arity = spec.inputs.as_slice()[input].len();
+        states.push(empty_state(alloc, spec.classes.as_slice(), input, arity)?)?;
+    }
+    Ok(states)
+}
+
+/// A store with no punctuations for each input.
+pub fn empty_stores(alloc: Global, schemas: &[Schema]) -> Result<Vec<PunctStore>, NoMemory>
+    requires { sum (arities_of schemas.now) ≤ 120 }
+    ensures heard { IfOk result (λ stores. heard_in 0 stores.items ≡ map (λ k. heard_of k []) (upto_from 0 (length schemas.now))) }
+    ensures arities { IfOk result (λ stores. map (λ s. s.arity) stores.items ≡ arities_of schemas.now) }
+{
+    let mut stores = Vec::new(alloc);
+    for schema in schemas {
+        stores.push(PunctStore::new(alloc, schema.len() as u32)?)?;
+    }
+    Ok(stores)
+}

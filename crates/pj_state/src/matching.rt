@@ -1,0 +1,78 @@
+// Rows that have one value in a column, lent.
+ghost use Rattle.std.specs.Prelude.{◌≡◌, ◌<◌, Some, length, slice_get};
+ghost use Rattle.std.specs.Option.{option_copied};
+ghost use Rattle.pj_state.specs.Rising.{IsRising};
+ghost use Rattle.pj_state.specs.States.{rows_with, stored, ticket_of};
+ghost use Rattle.pj_state.specs.Indexes.{IsMatching};
+
+use crate::shared::Stored;
+use crate::store::Store;
+use pj_value::{Row, Value};
+use std::marker::Model;
+
+/// The rows that have one value in a column, lent, in order of tickets; seen as their list.
+#[derive(Drop)]
+pub struct Matching<'a> {
+    store: &'a Store,
+    tickets: &'a [u64],
+    column: u32,
+    value: &'a Value,
+}
+
+impl<'a> Model for Matching<'a> {
+    ghost use Rattle.std.specs.Prelude.{List};
+    ghost use Rattle.pj_state.specs.declared.shared.Stored.{Stored as AnyStored};
+    ghost use Rattle.pj_state.specs.States.{rows_with};
+    ghost use Rattle.pj_state.specs.Indexes.{IsMatching};
+
+    ghost Value = { List AnyStored };
+
+    ghost view = { λ m. rows_with m.column m.value.now m.store.now };
+
+    ghost invariant = { λ m. IsMatching m.column m.value.now m.store.now m.tickets.now };
+}
+
+impl<'a> Matching<'a> {
+    /// The rows of the store with this value in this column, which have these tickets.
+    pub(crate) fn of(
+        store: &'a Store,
+        tickets: &'a [u64],
+        column: u32,
+        value: &'a Value,
+    ) -> Matching<'a>
+        requires { IsMatching column value.now store.now tickets.now }
+        ensures { result ≡ rows_with column value.now store.now }
+    {
+        Matching {
+            store,
+            tickets,
+            column,
+            value,
+        }
+    }
+
+    /// How many rows there are.
+    pub fn len(&self) -> usize
+        ensures len { result ≡ length self.now }
+        ensures rising { IsRising ticket_of self.now }
+    {
+        self.tickets.len()
+    }
+
+    /// The row at a position, counted from 0, with its ticket.
+    pub fn nth(&self, at: usize) -> (u64, &'a Row)
+        requires { at < length self.now }
+        ensures { slice_get self.now at ≡ Some (stored result.0 result.1.now) }
+    {
+        let stored = self.stored(at).unwrap();
+        (stored.ticket, stored.row.row())
+    }
+
+    // What stands at a position.
+    fn stored(&self, at: usize) -> Option<&'a Stored>
+        requires { at < length self.now }
+        ensures { option_copied result ≡ slice_get self.now at }
+    {
+        self.store.get(self.tickets[at])
+    }
+}
