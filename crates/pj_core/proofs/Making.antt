@@ -1,23 +1,21 @@
--- Entries that a core makes one after the other.
-use Rattle.std.proofs.Common.{ℕ, zero, suc, ◌+◌, ◌-◌, ◌<◌, Bool, true, false, cond, List, [], ◌∷◌, ◌++◌, ◌≡◌, map, length, None, refl, sym, ap, ◌∙◌, subst, append_assoc, arith}
-use Rattle.std.proofs.lemmas.List.{append-nil, map-append}
-use Rattle.pj_plan.specs.Nodes.{streams_of}
+-- Entries that a core makes one after the other, and how it stops among them.
+use Rattle.std.proofs.Common.{ℕ, Bool, true, false, cond, List, [], ◌∷◌, ◌++◌, ◌≡◌, None, refl, sym, ap, ◌∙◌, subst, append_assoc}
+use Rattle.std.proofs.lemmas.List.{append-nil}
 use Rattle.pj_laws.specs.declared.events.Entry.{Entry}
 use Rattle.pj_laws.specs.declared.events.Event.TheVariants.{Stopped, Sweep as Swept}
 use Rattle.pj_laws.specs.declared.events.Stop.{Stop}
-use Rattle.pj_laws.specs.declared.events.Stop.TheVariants.{NoMemory}
-use Rattle.pj_laws.specs.Join.{upto_from}
+use Rattle.pj_laws.specs.declared.events.Stop.TheVariants.{Limit, NoMemory}
 use Rattle.pj_laws.specs.Plan.{Node}
 use Rattle.pj_laws.specs.History.{nodes_from}
-use Rattle.pj_laws.specs.Limits.{StaysWithin}
-use Rattle.pj_laws.specs.OneThread.{Place, places_from, plain, probes, sweeps_at}
+use Rattle.pj_laws.specs.Limits.{BeginsBeyond, StaysWithin, StopsAt}
+use Rattle.pj_laws.specs.Outcomes.{goes_beyond}
+use Rattle.pj_laws.specs.OneThread.{places_from, plain, probes, sweeps_at}
 use Rattle.pj_laws.proofs.Histories.{nodes-append}
-use Rattle.pj_laws.proofs.Limits.{within-append, within-front}
-use Rattle.pj_laws.proofs.SettledRun.{sweeps-append}
+use Rattle.pj_laws.proofs.Limits.{within-append}
 use Rattle.pj_core.specs.Plans.{RunPlan, nodes_of}
 use Rattle.pj_core.specs.Cores.{CoreState, StandsFor, nodes_after, nodes_in}
-use Rattle.pj_core.specs.Calls.{HasSwept, IsJoinInput, StopsNow}
-use Rattle.pj_core.specs.Turns.{HasPlaces, ListsProbes, Makes, MakesSome, ProbesAll, StopsMaking, StopsProbing, place, places_upto, probing, sweeping, sweeping_all, sweeping_upto, swept_where, working}
+use Rattle.pj_core.specs.Calls.{HasSwept, IsCause, StopsNow}
+use Rattle.pj_core.specs.Turns.{Makes, MakesSome, StopsMaking, probing, sweeping, sweeping_all, swept_where, working}
 
 -- ---- in general
 
@@ -27,6 +25,18 @@ nodes-on a b h es p = ap (λ (plan : RunPlan). nodes_from (nodes_of plan) (h ++ 
 
 pub within-as : (a b : CoreState) (h es : List Entry) → b.plan ≡ a.plan → b.limit ≡ a.limit → StaysWithin b.limit (nodes_in b) h es → StaysWithin a.limit (nodes_in a) h es
 within-as a b h es p l w = subst (λ (n : ℕ). StaysWithin n (nodes_in a) h es) l (subst (λ (plan : RunPlan). StaysWithin b.limit (nodes_of plan) h es) p w)
+
+pub stops-at-as : (a b : CoreState) (h es : List Entry) (stop : Stop) → b.plan ≡ a.plan → b.limit ≡ a.limit → StopsAt b.limit (nodes_in b) h es stop → StopsAt a.limit (nodes_in a) h es stop
+stops-at-as a b h es stop p l w = subst (λ (n : ℕ). StopsAt n (nodes_in a) h es stop) l (subst (λ (plan : RunPlan). StopsAt b.limit (nodes_of plan) h es stop) p w)
+
+begins-longer : (l : ℕ) (nodes : List Node) (h back more : List Entry) (node : ℕ) → BeginsBeyond l nodes h back node → BeginsBeyond l nodes h (back ++ more) node
+begins-longer l nodes h [] more node s = absurd s
+begins-longer l nodes h (entry ∷ back) more node s = s
+
+-- a stop before entries is one before these and more
+pub stops-longer : (l : ℕ) (nodes : List Node) (h back more : List Entry) (stop : Stop) → StopsAt l nodes h back stop → StopsAt l nodes h (back ++ more) stop
+stops-longer l nodes h back more (Limit node) s = begins-longer l nodes h back more node s
+stops-longer l nodes h back more NoMemory s = tt
 
 -- these entries, and behind them those
 abbrev pub then : (List Entry → List Entry) → (List Entry → List Entry) → List Entry → List Entry
@@ -58,8 +68,30 @@ stops-as a b f g stop e m = record {
   plan = m.plan;
   limit = m.limit;
   stopped = m.stopped;
-  memory = m.memory;
   stops = λ h S. subst (λ (es : List Entry). MakesSome a b h es stop) (e h S) (m.stops h S);
+}
+
+-- a stop among the entries behind those that were made
+pub some-behind : (a b c : CoreState) (h front es : List Entry) (stop : Stop) → b.plan ≡ a.plan → b.limit ≡ a.limit → StaysWithin a.limit (nodes_in a) h front → MakesSome b c (h ++ front) es stop
+    → MakesSome a c h (front ++ es) stop
+some-behind a b c h front es stop p l w z = record {
+  front = front ++ z.front;
+  back = z.back;
+  parts = ap (λ (xs : List Entry). front ++ xs) z.parts ∙ sym (append_assoc front z.front z.back);
+  within = within-append a.limit (nodes_in a) h front z.front w (within-as a b (h ++ front) z.front p l z.within);
+  stops = subst (λ (g : List Entry). StopsAt a.limit (nodes_in a) g z.back stop) (append_assoc h front z.front) (stops-at-as a b ((h ++ front) ++ z.front) z.back stop p l z.stops);
+  stands = subst (λ (xs : List Entry). StandsFor c (xs ++ plain (Stopped stop) ∷ [])) (append_assoc h front z.front) z.stands;
+}
+
+-- more entries were to come
+pub some-more : (a b : CoreState) (h es more : List Entry) (stop : Stop) → MakesSome a b h es stop → MakesSome a b h (es ++ more) stop
+some-more a b h es more stop z = record {
+  front = z.front;
+  back = z.back ++ more;
+  parts = ap (λ (xs : List Entry). xs ++ more) z.parts ∙ append_assoc z.front z.back more;
+  within = z.within;
+  stops = stops-longer a.limit (nodes_in a) (h ++ z.front) z.back more stop z.stops;
+  stands = z.stands;
 }
 
 pub stops-then : (a b c : CoreState) (f g : List Entry → List Entry) (stop : Stop) → Makes a b f → StopsMaking b c g stop → StopsMaking a c (then f g) stop
@@ -67,16 +99,7 @@ stops-then a b c f g stop m n = record {
   plan = n.plan ∙ m.plan;
   limit = n.limit ∙ m.limit;
   stopped = n.stopped;
-  memory = n.memory;
-  stops = λ h S.
-      let z = n.stops (h ++ f h) (m.stands h S) in
-      record {
-        front = f h ++ z.front;
-        back = z.back;
-        parts = ap (λ (es : List Entry). f h ++ es) z.parts ∙ sym (append_assoc (f h) z.front z.back);
-        within = within-append a.limit (nodes_in a) h (f h) z.front (m.within h S) (within-as a b (h ++ f h) z.front m.plan m.limit z.within);
-        stands = subst (λ (es : List Entry). StandsFor c (es ++ plain (Stopped stop) ∷ [])) (append_assoc h (f h) z.front) z.stands;
-      };
+  stops = λ h S. some-behind a b c h (f h) (g (h ++ f h)) stop m.plan m.limit (m.within h S) (n.stops (h ++ f h) (m.stands h S));
 }
 
 pub stops-more : (a b : CoreState) (f g : List Entry → List Entry) (stop : Stop) → StopsMaking a b f stop → StopsMaking a b (λ h. f h ++ g h) stop
@@ -84,60 +107,7 @@ stops-more a b f g stop m = record {
   plan = m.plan;
   limit = m.limit;
   stopped = m.stopped;
-  memory = m.memory;
-  stops = λ h S.
-      let z = m.stops h S in
-      record {
-        front = z.front;
-        back = z.back ++ g h;
-        parts = ap (λ (es : List Entry). es ++ g h) z.parts ∙ append_assoc z.front z.back (g h);
-        within = z.within;
-        stands = z.stands;
-      };
-}
-
-pub stops-first : (a b : CoreState) (f : List Entry → List Entry) (stop : Stop) → StopsNow a b stop → stop ≡ NoMemory → StopsMaking a b f stop
-stops-first a b f stop s m = record {
-  plan = s.notes.plan;
-  limit = s.notes.limit;
-  stopped = s.stopped;
-  memory = m;
-  stops = λ h S. record {
-    front = [];
-    back = f h;
-    parts = refl;
-    within = tt;
-    stands = subst (λ (es : List Entry). StandsFor b (es ++ plain (Stopped stop) ∷ [])) (sym (append-nil h)) (s.notes.stands h S);
-  };
-}
-
--- ---- all probes
-
-pub makes-probes : (a b : CoreState) → ListsProbes a → a.kept.stop ≡ None → ProbesAll a b → Makes a b (probing a)
-makes-probes a b ls on p = record {
-  plan = p.plan;
-  limit = p.limit;
-  on = p.on;
-  within = ls.within on;
-  stands = λ h S. subst (λ (es : List Entry). StandsFor b (h ++ es)) (sym (ls.all on h S)) (p.stands h S);
-}
-
-pub stops-probes : (a b : CoreState) (stop : Stop) → ListsProbes a → a.kept.stop ≡ None → StopsProbing a b stop → StopsMaking a b (probing a) stop
-stops-probes a b stop ls on s = record {
-  plan = s.plan;
-  limit = s.limit;
-  stopped = s.stopped;
-  memory = s.memory;
-  stops = λ h S.
-      let z = s.stops h S in
-      let parts : probing a h ≡ z.front ++ z.back = ls.all on h S ∙ z.parts in
-      record {
-        front = z.front;
-        back = z.back;
-        parts = parts;
-        within = within-front a.limit (nodes_in a) h z.front z.back (subst (StaysWithin a.limit (nodes_in a) h) parts (ls.within on h S));
-        stands = z.stands;
-      };
+  stops = λ h S. some-more a b h (f h) (g h) stop (m.stops h S);
 }
 
 -- ---- a sweep, and all probes
@@ -169,67 +139,25 @@ stops-sweeping a b c join input count stop s m =
     stops-as a c (then (λ h. sweep_at join input) (probing b)) (sweeping a join input) stop (λ h S. sweeping-is a b join input h s.notes.plan)
     (stops-then a b c (λ h. sweep_at join input) (probing b) stop (makes-sweep a b join input count s) m)
 
--- ---- sweeps of so many inputs
+-- a limit stops the sweep
+first-beyond : (a : CoreState) (join input : ℕ) (h : List Entry) (stop : Stop) → IsCause a (Swept join input) stop → StandsFor a h → StopsAt a.limit (nodes_in a) (h ++ []) (sweeping a join input h) stop
+first-beyond a join input h (Limit node) c S = ap (λ (g : List Entry). goes_beyond a.limit (nodes_in a) g (Swept join input)) (append-nil h) ∙ c h S
+first-beyond a join input h NoMemory c S = tt
 
-upto-split : (base m n : ℕ) → upto_from base (m + n) ≡ upto_from base m ++ upto_from (base + m) n
-upto-split base zero n = let z : base ≡ base + 0 = omega arith in let y : 0 + n ≡ n = omega arith in ap (upto_from base) y ∙ ap (λ (k : ℕ). upto_from k n) z
-upto-split base (suc m) n =
-    let z : base + 1 + m ≡ base + suc m = omega arith in
-    let y : suc m + n ≡ suc (m + n) = omega arith in
-    ap (upto_from base) y ∙ ap (λ (ks : List ℕ). base ∷ ks) (upto-split (base + 1) m n ∙ ap (λ (k : ℕ). upto_from (base + 1) m ++ upto_from k n) z)
-
--- so many places, and those behind them
-abbrev places_behind : ℕ → ℕ → ℕ → List Place
-places_behind join m n = map (place join) (upto_from m n)
-
-places-split : (join m n : ℕ) → places_upto join (m + n) ≡ places_upto join m ++ places_behind join m n
-places-split join m n =
-    let z : 0 + m ≡ m = omega arith in
-    ap (map (place join)) (upto-split 0 m n ∙ ap (λ (k : ℕ). upto_from 0 m ++ upto_from k n) z) ∙ map-append (place join) (upto_from 0 m) (upto_from m n)
-
--- sweeps of so many places, and of those behind them
-upto-then : (a : CoreState) (join m n : ℕ) (h : List Entry)
-    → sweeping_upto a join (m + n) h ≡ sweeping_upto a join m h ++ sweeps_at (nodes_from (nodes_after a h) (sweeping_upto a join m h)) (places_behind join m n)
-upto-then a join m n h = ap (sweeps_at (nodes_after a h)) (places-split join m n) ∙ sweeps-append (nodes_after a h) (places_upto join m) (places_behind join m n)
-
-upto-next : (a b : CoreState) (join m : ℕ) (h : List Entry) → b.plan ≡ a.plan → then (sweeping_upto a join m) (sweeping b join m) h ≡ sweeping_upto a join (m + 1) h
-upto-next a b join m h p =
-    ap (λ (ns : List Node). sweeping_upto a join m h ++ sweeps_at ns (place join m ∷ [])) (nodes-on a b h (sweeping_upto a join m h) p) ∙ sym (upto-then a join m 1 h)
-
-pub sweeps-begin : (a : CoreState) (join : ℕ) → a.kept.stop ≡ None → Makes a a (sweeping_upto a join 0)
-sweeps-begin a join on = makes-none a on
-
-pub sweeps-more : (a b c : CoreState) (join m : ℕ) → Makes a b (sweeping_upto a join m) → Makes b c (sweeping b join m) → Makes a c (sweeping_upto a join (m + 1))
-sweeps-more a b c join m x y =
-    makes-as a c (then (sweeping_upto a join m) (sweeping b join m)) (sweeping_upto a join (m + 1)) (λ h S. upto-next a b join m h x.plan)
-    (makes-then a b c (sweeping_upto a join m) (sweeping b join m) x y)
-
--- the join behind the streams
-abbrev IsBehind : CoreState → ℕ → Type 0
-IsBehind core join = join ≡ length (streams_of core.plan.nodes)
-
-all-are : (a : CoreState) (join count : ℕ) → HasPlaces a count → IsBehind a join → a.kept.stop ≡ None → (h : List Entry) → StandsFor a h → sweeping_upto a join count h ≡ sweeping_all a h
-all-are a join count p e on h S = ap (λ (n : ℕ). sweeping_upto a n count h) e ∙ ap (sweeps_at (nodes_after a h)) (sym (p.all on h S))
-
-pub sweeps-end : (a b : CoreState) (join count : ℕ) → HasPlaces a count → IsBehind a join → a.kept.stop ≡ None → Makes a b (sweeping_upto a join count) → Makes a b (sweeping_all a)
-sweeps-end a b join count p e on x = makes-as a b (sweeping_upto a join count) (sweeping_all a) (all-are a join count p e on) x
-
-pub sweeps-stop : (a b c : CoreState) (join m count : ℕ) (stop : Stop) → HasPlaces a count → IsBehind a join → a.kept.stop ≡ None → m < count
-    → Makes a b (sweeping_upto a join m) → StopsMaking b c (sweeping b join m) stop → StopsMaking a c (sweeping_all a) stop
-sweeps-stop a b c join m count stop p e on lt x y =
-    let rest = count - (m + 1) in
-    let total : m + 1 + rest ≡ count = omega (arith, lt) in
-    let more : List Entry → List Entry = λ h. sweeps_at (nodes_from (nodes_after a h) (sweeping_upto a join (m + 1) h)) (places_behind join (m + 1) rest) in
-    stops-as a c (λ h. sweeping_upto a join (m + 1) h ++ more h) (sweeping_all a) stop
-    (λ h S. sym (upto-then a join (m + 1) rest h) ∙ ap (λ (n : ℕ). sweeping_upto a join n h) total ∙ all-are a join count p e on h S)
-    (stops-more a c (sweeping_upto a join (m + 1)) more stop
-    (stops-as a c (then (sweeping_upto a join m) (sweeping b join m)) (sweeping_upto a join (m + 1)) stop (λ h S. upto-next a b join m h x.plan)
-    (stops-then a b c (sweeping_upto a join m) (sweeping b join m) stop x y)))
-
--- the next place is one of the plan's
-pub next-there : (a b : CoreState) (join m count : ℕ) → HasPlaces a count → IsBehind a join → b.plan ≡ a.plan → m < count → IsJoinInput b join m
-next-there a b join m count p e q lt =
-    subst (λ (plan : RunPlan). IsJoinInput (record b { plan = plan }) join m) (sym q) (subst (λ (n : ℕ). IsJoinInput a n m) (sym e) (p.there m lt))
+pub stops-at-sweep : (a b : CoreState) (join input : ℕ) (stop : Stop) → StopsNow a b stop → IsCause a (Swept join input) stop → StopsMaking a b (sweeping a join input) stop
+stops-at-sweep a b join input stop s c = record {
+  plan = s.notes.plan;
+  limit = s.notes.limit;
+  stopped = s.stopped;
+  stops = λ h S. record {
+    front = [];
+    back = sweeping a join input h;
+    parts = refl;
+    within = tt;
+    stops = first-beyond a join input h stop c S;
+    stands = subst (λ (es : List Entry). StandsFor b (es ++ plain (Stopped stop) ∷ [])) (sym (append-nil h)) (s.notes.stands h S);
+  };
+}
 
 -- ---- probes and sweeps
 

@@ -15,7 +15,7 @@ use Rattle.pj_plan.specs.Built.{built}
 use Rattle.pj_laws.specs.Join.{AreCertified, CertEntry, ClassCol, JoinData, entry_of}
 use Rattle.pj_laws.specs.HistoryLaws.{AllAreCertified}
 use Rattle.pj_join.specs.Joins.{join_data}
-use Rattle.pj_core.specs.Plans.{IsRun, nodes_of, run_plan}
+use Rattle.pj_core.specs.Plans.{nodes_of, run_plan}
 use Rattle.pj_core.specs.Samples.{IsSample, chain_certs, chain_statements, lone_statements, pair_certs, pair_statements, step}
 
 -- ---- plans
@@ -176,28 +176,15 @@ chain-all trace (suc (suc zero)) lt = tt
 chain-all trace (suc (suc (suc zero))) lt = chain_certified
 chain-all trace (suc (suc (suc (suc n)))) lt = absurd (omega (arith, lt))
 
-sample-of : (statements : List Stated) (certs : List (List (List CertStep))) (nodes : List PlanNode) → built statements 9 ≡ Ok (outline nodes) → IsRun nodes → ((trace : Bool) → AllAreCertified (nodes_of (run_plan nodes certs trace)))
-    → (plan : Outline) → built statements 9 ≡ Ok plan → IsRun plan.nodes × ((trace : Bool) → AllAreCertified (nodes_of (run_plan plan.nodes certs trace)))
-sample-of statements certs nodes is run all plan e =
-    only-plan statements nodes is (λ ns. IsRun ns × ((trace : Bool) → AllAreCertified (nodes_of (run_plan ns certs trace)))) (run, all) plan e
+sample-of : (statements : List Stated) (certs : List (List (List CertStep))) (nodes : List PlanNode) → built statements 9 ≡ Ok (outline nodes) → ((trace : Bool) → AllAreCertified (nodes_of (run_plan nodes certs trace)))
+    → (plan : Outline) → built statements 9 ≡ Ok plan → (trace : Bool) → AllAreCertified (nodes_of (run_plan plan.nodes certs trace))
+sample-of statements certs nodes is all plan e = only-plan statements nodes is (λ ns. (trace : Bool) → AllAreCertified (nodes_of (run_plan ns certs trace))) all plan e
 
 pub lone_sample : IsSample lone_statements []
-lone_sample = record {
-  spelled = refl;
-  run = λ plan e. (sample-of lone_statements [] lone_nodes refl refl lone-all plan e).0;
-  certified = λ plan e. (sample-of lone_statements [] lone_nodes refl refl lone-all plan e).1;
-}
+lone_sample = record { spelled = refl; certified = sample-of lone_statements [] lone_nodes refl lone-all }
 
 pub pair_sample : IsSample pair_statements pair_certs
-pair_sample = record {
-  spelled = refl;
-  run = λ plan e. (sample-of pair_statements pair_certs pair_nodes refl refl pair-all plan e).0;
-  certified = λ plan e. (sample-of pair_statements pair_certs pair_nodes refl refl pair-all plan e).1;
-}
+pair_sample = record { spelled = refl; certified = sample-of pair_statements pair_certs pair_nodes refl pair-all }
 
 pub chain_sample : IsSample chain_statements chain_certs
-chain_sample = record {
-  spelled = refl;
-  run = λ plan e. (sample-of chain_statements chain_certs chain_nodes refl refl chain-all plan e).0;
-  certified = λ plan e. (sample-of chain_statements chain_certs chain_nodes refl refl chain-all plan e).1;
-}
+chain_sample = record { spelled = refl; certified = sample-of chain_statements chain_certs chain_nodes refl chain-all }

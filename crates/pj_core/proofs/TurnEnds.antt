@@ -12,14 +12,14 @@ use Rattle.pj_laws.specs.Limits.{StaysWithin, StopsAt}
 use Rattle.pj_laws.specs.Outcomes.{goes_beyond, outputs_of}
 use Rattle.pj_laws.specs.OneThread.{Place, Turn, arrival_of, is_punct, pending_at, places_from, plain, probes, probes_at, probes_from, sweeps_at}
 use Rattle.pj_laws.proofs.Drains.{AreNoDrains, front-no-drains, kept-outs, probes-no-drains, push-no-drains}
-use Rattle.pj_laws.proofs.Nodes.{drain-silent, stopped-silent}
+use Rattle.pj_laws.proofs.Nodes.{drain-silent}
+use Rattle.pj_laws.proofs.Idle.{drain-within, stop-silent}
 use Rattle.pj_laws.proofs.Histories.{nodes-append, outputs-append, reached-append, reached-nodes}
 use Rattle.pj_core.specs.Plans.{RunPlan, nodes_of}
 use Rattle.pj_core.specs.Cores.{CoreState, Notes, StandsFor, nodes_after, nodes_in}
 use Rattle.pj_core.specs.Calls.{HasArrived, IsCause, IsRefused, IsTurnRefused, MakesTurn, StopsInTurn, StopsNow, turn_behind}
-use Rattle.pj_core.specs.Turns.{Finishes, ListsProbes, Makes, StopsMaking, finishing, probing, swept_where, working}
-use Rattle.pj_core.proofs.Holding.{gained-silent}
-use Rattle.pj_core.proofs.Making.{makes-then, nodes-on, within-as}
+use Rattle.pj_core.specs.Turns.{Finishes, Makes, StopsMaking, finishing, probing, swept_where, working}
+use Rattle.pj_core.proofs.Making.{makes-then, nodes-on, stops-at-as, stops-longer, within-as}
 
 -- ---- work has no drains
 
@@ -73,25 +73,24 @@ drain-last trace nodes es =
 stop-last : (trace : Bool) (nodes : List Node) (es : List Entry) (stop : Stop) → outputs_of trace nodes (es ++ plain (Stopped stop) ∷ []) ≡ outputs_of trace nodes es
 stop-last trace nodes es stop =
     outputs-append trace nodes es (plain (Stopped stop) ∷ [])
-    ∙ ap (λ (outs : List Out). outputs_of trace nodes es ++ (outs ++ []))
-    (gained-silent trace (nodes_from nodes es) (Stopped stop) refl ∙ stopped-silent (nodes_from nodes es) stop)
+    ∙ ap (λ (outs : List Out). outputs_of trace nodes es ++ (outs ++ [])) (stop-silent trace (nodes_from nodes es) stop)
     ∙ append-nil (outputs_of trace nodes es)
 
 -- ---- the end of a turn
 
-makes-drain : (mid new : CoreState) → ListsProbes mid → mid.kept.stop ≡ None → new ≡ record mid { kept = record mid.kept { undrained = [] } } → Notes mid new (plain Drain) → Makes mid new (λ h. plain Drain ∷ [])
-makes-drain mid new ls on e n = record {
+makes-drain : (mid new : CoreState) → mid.kept.stop ≡ None → new ≡ record mid { kept = record mid.kept { undrained = [] } } → Notes mid new (plain Drain) → Makes mid new (λ h. plain Drain ∷ [])
+makes-drain mid new on e n = record {
   plan = n.plan;
   limit = n.limit;
   on = ap (λ (c : CoreState). c.kept.stop) e ∙ on;
-  within = λ h S. (ls.drains on h S, tt);
+  within = λ h S. (drain-within mid.limit (nodes_in mid) h, tt);
   stands = n.stands;
 }
 
-pub finishes : (sweeps : Bool) (old mid new : CoreState) (outs : List Out) → Makes old mid (working sweeps old) → ListsProbes mid → outs ≡ mid.kept.undrained
+pub finishes : (sweeps : Bool) (old mid new : CoreState) (outs : List Out) → Makes old mid (working sweeps old) → outs ≡ mid.kept.undrained
     → new ≡ record mid { kept = record mid.kept { undrained = [] } } → Notes mid new (plain Drain) → Finishes sweeps old new outs
-finishes sweeps old mid new outs m ls o e n = record {
-  makes = makes-then old mid new (working sweeps old) (λ h. plain Drain ∷ []) m (makes-drain mid new ls m.on e n);
+finishes sweeps old mid new outs m o e n = record {
+  makes = makes-then old mid new (working sweeps old) (λ h. plain Drain ∷ []) m (makes-drain mid new m.on e n);
   undrained = ap (λ (c : CoreState). c.kept.undrained) e;
   hands = λ h S. o ∙ grown old mid h (working sweeps old h) m.plan S (m.stands h S) (working-quiet old sweeps h);
 }
@@ -164,7 +163,6 @@ stops-in-turn old a new turn stop q f = record {
   plan = plans;
   limit = f.limit ∙ q.notes.limit;
   stopped = f.stopped;
-  cause = subst (IsCause old (Arrive turn.stream turn.element)) (sym f.memory) tt;
   takes = λ h S m.
       let A = q.notes.stands h S m in
       let s = f.stops (h ++ here turn) A in
@@ -176,7 +174,8 @@ stops-in-turn old a new turn stop q f = record {
             ∙ ap (λ (es : List Entry). arrival_of turn ∷ (es ++ plain Drain ∷ [])) s.parts
             ∙ ap (λ (es : List Entry). arrival_of turn ∷ es) (append_assoc s.front s.back (plain Drain ∷ []));
         within = both-within old a h s.front turn q S s.within;
-        stops = subst (StopsAt old.limit (nodes_in old) (h ++ arrival_of turn ∷ s.front) (s.back ++ plain Drain ∷ [])) (sym f.memory) tt;
+        stops = stops-longer old.limit (nodes_in old) (h ++ arrival_of turn ∷ s.front) s.back (plain Drain ∷ []) stop
+            (subst (λ (g : List Entry). StopsAt old.limit (nodes_in old) g s.back stop) (append_assoc h (here turn) s.front) (stops-at-as old a ((h ++ here turn) ++ s.front) s.back stop q.notes.plan q.notes.limit s.stops));
         stands = subst (λ (es : List Entry). StandsFor new (es ++ plain (Stopped stop) ∷ [])) (append_assoc h (here turn) s.front) s.stands;
         undrained =
             both-outs old new h (s.front ++ plain (Stopped stop) ∷ []) turn plans S (subst (StandsFor new) (append_assoc (h ++ here turn) s.front (plain (Stopped stop) ∷ [])) s.stands)
@@ -207,7 +206,6 @@ stops-at-arrival old new turn stop s c = record {
   plan = s.notes.plan;
   limit = s.notes.limit;
   stopped = s.stopped;
-  cause = c;
   takes = λ h S m. record {
     front = [];
     back = turn_behind old h turn;

@@ -1,199 +1,139 @@
--- What is pending at a core, one probe after the other, and the places of its sweeps.
-use Rattle.std.proofs.Common.{ℕ, ◌-◌, ◌<◌, Bool, List, [], ◌∷◌, ◌++◌, ◌≡◌, length, replicate, Option, Some, None, refl, sym, ap, ◌∙◌, subst, append_assoc, arith}
-use Rattle.std.proofs.lemmas.List.{append-nil, length-map}
-use Rattle.pj_shape.specs.declared.columns.Column.{Column}
-use Rattle.pj_plan.specs.Nodes.{inputs_of, is_join, streams_of}
-use Rattle.pj_plan.specs.Canonical.{node_at}
+-- All probes of a core, one node after the other, and at each node one after the other.
+use Rattle.std.proofs.Common.{ℕ, zero, suc, ◌+◌, ◌-◌, ◌<◌, List, [], ◌∷◌, ◌++◌, ◌≡◌, length, sym, ap, ap₂, ◌∙◌, subst, append_assoc, arith}
+use Rattle.std.proofs.lemmas.List.{append-nil}
 use Rattle.pj_laws.specs.declared.events.Entry.{Entry}
-use Rattle.pj_laws.specs.declared.events.Event.TheVariants.{Drain, Stopped}
-use Rattle.pj_laws.specs.declared.events.Out.{Out}
 use Rattle.pj_laws.specs.declared.events.Stop.{Stop}
-use Rattle.pj_laws.specs.declared.events.Stop.TheVariants.{NoMemory}
-use Rattle.pj_laws.specs.Join.{inputs}
 use Rattle.pj_laws.specs.Plan.{Node}
 use Rattle.pj_laws.specs.History.{nodes_from}
 use Rattle.pj_laws.specs.Limits.{StaysWithin}
-use Rattle.pj_laws.specs.Outcomes.{goes_beyond}
-use Rattle.pj_laws.specs.OneThread.{places_from, plain, probes, probes_at}
-use Rattle.pj_laws.specs.CoreKept.{IsJoinOf, NothingKept, OneJoin, columns_of}
-use Rattle.pj_core.specs.declared.joined.Joined.{Joined}
-use Rattle.pj_core.specs.Known.{AreKnown}
+use Rattle.pj_laws.specs.OneThread.{pending_at, probes_at, probes_from}
+use Rattle.pj_laws.proofs.Drains.{probes-append}
+use Rattle.pj_laws.proofs.Histories.{nodes-append}
+use Rattle.pj_laws.proofs.Limits.{within-append}
+use Rattle.pj_laws.proofs.NextProbe.{pending-left}
+use Rattle.pj_laws.proofs.Probes.{length-from}
 use Rattle.pj_core.specs.Plans.{RunPlan, nodes_of}
-use Rattle.pj_core.specs.Forms.{columns_in, stream_total}
-use Rattle.pj_core.specs.Cores.{CoreState, StandsFor}
-use Rattle.pj_core.specs.Calls.{IsJoinInput, StopsNow}
-use Rattle.pj_core.specs.Parts.{HasInput, IsMadeOf, core_of, inputs_total, operators_kept, part_in}
-use Rattle.pj_core.specs.Turns.{HasPlaces, ListsProbes, ProbesAll, ProbesOne, SoFar, StopsProbing, places_upto, probes_in, probes_kept}
-use Rattle.pj_core.proofs.Holding.{Holds, IsPlaced, held, kept_for, nodes_for, nodes-for, placed}
-use Rattle.pj_core.proofs.PlanForms.{inputs-last, join-behind, joins-last}
-use Rattle.pj_core.proofs.Streams.{streams_total}
-use Rattle.pj_core.proofs.Entries as entries
-use Rattle.pj_core.proofs.Alone as alone
-use Rattle.pj_core.proofs.Arriving.{join_seen, part}
-use Rattle.pj_core.proofs.Probing.{probes-joined, probes-of}
-use Rattle.pj_core.proofs.Standing.{node-is}
+use Rattle.pj_core.specs.Cores.{CoreState, StandsFor, nodes_after, nodes_in}
+use Rattle.pj_core.specs.Turns.{GoesTo, IsSoundCore, Makes, MakesSome, ProbesAt, SoFar, StopsMaking, StopsProbe, probing, probing_at, probing_upto}
+use Rattle.pj_core.proofs.Making.{makes-as, makes-then, nodes-on, some-behind, some-more, stops-as, stops-more, stops-then, then, within-as}
+use Rattle.pj_core.proofs.Planned.{nodes-long, planned}
 
-behind : (xs ys zs : List Entry) → (xs ++ ys) ++ zs ≡ xs ++ (ys ++ zs)
-behind xs ys zs = append_assoc xs ys zs
+-- a core of the same plan is sound too
+pub sound-on : (a b : CoreState) → b.plan ≡ a.plan → IsSoundCore a → IsSoundCore b
+sound-on a b p s = subst (λ (plan : RunPlan). IsSoundCore (record a { plan = plan })) (sym p) s
 
--- ---- what is listed
+-- ---- at one node
 
--- the probes that are listed, while nothing stopped
-record Listed (nodes : List Node) (n l : ℕ) (joined : Option Joined) (history : List Entry) : Type 0 where
-  all : probes (nodes_from nodes history) ≡ probes_kept 0 (replicate n NothingKept ++ operators_kept (part_in joined))
-  within : StaysWithin l nodes history (probes (nodes_from nodes history))
-  drains : goes_beyond l nodes history Drain ≡ None
+abbrev one : ℕ → ℕ → List Entry
+one node ticket = probes_at node (ticket ∷ [])
 
-listed-alone : (k : AreKnown) (trace : Bool) (streams : List (List Column)) (l : ℕ) (c : List ℕ) (u : List Out) → IsPlaced streams l None → (history : List Entry)
-    → Holds trace (nodes_for streams None) (kept_for (length streams) None c u None) history → Listed (nodes_for streams None) (length streams) l None history
-listed-alone k trace [] l c u made history S = absurd (let z = made.0 in omega (arith, z))
-listed-alone k trace (sa ∷ []) l c u made history S = record {
-  all = alone.none-probed k trace sa c u history S;
-  within = alone.probes-stay-within k trace sa c u history S l;
-  drains = alone.drain-stays-within k trace sa c u history S l;
-}
-listed-alone k trace (sa ∷ sb ∷ rest) l c u made history S = absurd (let z = made.0 in omega (arith, z))
+-- the tickets that are done, and one more
+done-more : (h : List Entry) (node ticket : ℕ) (done : List ℕ) → (h ++ probes_at node done) ++ one node ticket ≡ h ++ probes_at node (done ++ ticket ∷ [])
+done-more h node ticket done = append_assoc h (probes_at node done) (one node ticket) ∙ ap (λ (es : List Entry). h ++ es) (sym (probes-append node done (ticket ∷ [])))
 
-listed : (k : AreKnown) (plan : RunPlan) (l : ℕ) (joined : Option Joined) (c : List ℕ) (u : List Out) → IsMadeOf plan l joined → (history : List Entry)
-    → StandsFor (core_of plan l joined c u None) history → Listed (nodes_of plan) (stream_total plan) l joined history
-listed k plan l None c u made history S =
-    subst (λ (ns : List Node). Holds plan.trace ns (kept_for (stream_total plan) None c u None) history → Listed ns (stream_total plan) l None history) (nodes-for plan l None made)
-    (listed-alone k plan.trace (columns_in plan) l c u (placed plan l None made) history) (held _ _ S)
-listed k plan l (Some j) c u made history S =
-    let p = probes-of k plan.trace history l c u plan j made (held _ _ S) in
-    record { all = p.all ∙ sym (probes-joined (stream_total plan) j.join.kept); within = p.within l; drains = p.drains l }
+-- the nodes of a core of the same plan
+nodes-same : (a b : CoreState) (h : List Entry) → b.plan ≡ a.plan → nodes_after b h ≡ nodes_after a h
+nodes-same a b h p = ap (λ (plan : RunPlan). nodes_from (nodes_of plan) h) p
 
-listed-on : (k : AreKnown) (plan : RunPlan) (l : ℕ) (joined : Option Joined) (c : List ℕ) (u : List Out) (t : Option Stop) → IsMadeOf plan l joined → t ≡ None → (history : List Entry)
-    → StandsFor (core_of plan l joined c u t) history → Listed (nodes_of plan) (stream_total plan) l joined history
-listed-on k plan l joined c u None made e history S = listed k plan l joined c u made history S
-listed-on k plan l joined c u (Some s) made e history S = cc
+goes-more : (a b c : CoreState) (node : ℕ) → IsSoundCore a → SoFar a b node → ProbesAt b c node → (h : List Entry) → StandsFor a h → GoesTo a c h node
+goes-more a b c node sound f p h S =
+    let g = f.goes h S in
+    let q = p.probes (h ++ probes_at node g.done) g.stands in
+    let same = nodes-same a b (h ++ probes_at node g.done) f.plan in
+    let split : g.others ≡ q.ticket ∷ q.others = sym g.pending ∙ ap (λ (ns : List Node). pending_at ns node) (sym same) ∙ q.first in
+    let there : pending_at (nodes_after a (h ++ probes_at node g.done)) node ≡ q.ticket ∷ q.others = g.pending ∙ split in
+    record {
+      done = g.done ++ q.ticket ∷ [];
+      others = q.others;
+      all = g.all ∙ ap (λ (ts : List ℕ). g.done ++ ts) split ∙ sym (append_assoc g.done (q.ticket ∷ []) q.others);
+      pending = ap (λ (es : List Entry). pending_at (nodes_after a es) node) (sym (done-more h node q.ticket g.done))
+          ∙ pending-left (nodes_in a) (planned a.plan sound) (h ++ probes_at node g.done) node q.ticket q.others there;
+      within = subst (StaysWithin a.limit (nodes_in a) h) (sym (probes-append node g.done (q.ticket ∷ [])))
+          (within-append a.limit (nodes_in a) h (probes_at node g.done) (one node q.ticket) g.within (within-as a b (h ++ probes_at node g.done) (one node q.ticket) f.plan f.limit q.within));
+      stands = subst (StandsFor c) (done-more h node q.ticket g.done) q.stands;
+    }
 
-pub lists-probes : (k : AreKnown) (plan : RunPlan) (l : ℕ) (joined : Option Joined) (c : List ℕ) (u : List Out) (t : Option Stop) (core : CoreState)
-    → core_of plan l joined c u t ≡ core → IsMadeOf plan l joined → ListsProbes core
-lists-probes k plan l joined c u t core v made =
-    subst ListsProbes v (record {
-      all = λ e history S. (listed-on k plan l joined c u t made e history S).all;
-      within = λ e history S. (listed-on k plan l joined c u t made e history S).within;
-      drains = λ e history S. (listed-on k plan l joined c u t made e history S).drains;
-    })
+pub so-far-more : (a b c : CoreState) (node : ℕ) → IsSoundCore a → SoFar a b node → ProbesAt b c node → SoFar a c node
+so-far-more a b c node sound f p = record { plan = p.plan ∙ f.plan; limit = p.limit ∙ f.limit; on = p.on; goes = goes-more a b c node sound f p }
 
--- ---- places
+-- nothing more is pending
+all-done : (a b : CoreState) (node : ℕ) → SoFar a b node → ((h : List Entry) → StandsFor b h → pending_at (nodes_after b h) node ≡ []) → Makes a b (probing_at a node)
+all-done a b node f none =
+    record { plan = f.plan; limit = f.limit; on = f.on; within = λ h S. subst (StaysWithin a.limit (nodes_in a) h) (is h S) (f.goes h S).within; stands = λ h S. subst (λ (es : List Entry). StandsFor b (h ++ es)) (is h S) (f.goes h S).stands }
+  where
+    is : (h : List Entry) (S : StandsFor a h) → probes_at node (f.goes h S).done ≡ probing_at a node h
+    is h S =
+        let g = f.goes h S in
+        let end : g.others ≡ [] = sym g.pending ∙ ap (λ (ns : List Node). pending_at ns node) (sym (nodes-same a b (h ++ probes_at node g.done) f.plan)) ∙ none (h ++ probes_at node g.done) g.stands in
+        ap (probes_at node) (sym (g.all ∙ ap (λ (ts : List ℕ). g.done ++ ts) end ∙ append-nil g.done))
 
--- as many inputs as the join's shape has
-pub inputs-count : (streams : List (List Column)) (j : OneJoin) → IsJoinOf streams j → inputs j.spec ≡ length j.inputs
-inputs-count streams j is = length-map j.spec.shape.inputs (λ schema. length schema) ∙ ap length is.columns ∙ length-map j.inputs (columns_of streams)
+pub node-done : (a b c : CoreState) (node : ℕ) → SoFar a b node → (c ≡ b) × ((h : List Entry) → StandsFor b h → pending_at (nodes_after b h) node ≡ []) → Makes a c (probing_at a node)
+node-done a b c node f p = subst (λ (x : CoreState). Makes a x (probing_at a node)) (sym p.0) (all-done a b node f p.1)
 
-places-for : (k : AreKnown) (trace : Bool) (streams : List (List Column)) (l : ℕ) (joined : Option Joined) (c : List ℕ) (u : List Out) → IsPlaced streams l joined → (history : List Entry)
-    → Holds trace (nodes_for streams joined) (kept_for (length streams) joined c u None) history
-    → places_from 0 (nodes_from (nodes_for streams joined) history) ≡ places_upto (length streams) (inputs_total joined)
-places-for k trace [] l None c u made history S = absurd (let z = made.0 in omega (arith, z))
-places-for k trace (sa ∷ []) l None c u made history S = alone.no-places k trace sa c u history S
-places-for k trace (sa ∷ sb ∷ rest) l None c u made history S = absurd (let z = made.0 in omega (arith, z))
-places-for k trace streams l (Some j) c u made history S =
-    entries.all-places k trace streams (join_seen j) made.0.2 (part j) c u history S ∙ ap (places_upto (length streams)) (inputs-count streams (join_seen j) made.0.2)
+-- a stop in a probe
+pub node-stops : (a b c : CoreState) (node : ℕ) (stop : Stop) → SoFar a b node → StopsProbe b c node stop → StopsMaking a c (probing_at a node) stop
+node-stops a b c node stop f s = record { plan = s.plan ∙ f.plan; limit = s.limit ∙ f.limit; stopped = s.stopped; stops = some }
+  where
+    some : (h : List Entry) → StandsFor a h → MakesSome a c h (probing_at a node h) stop
+    some h S =
+        let g = f.goes h S in
+        let z = s.stops (h ++ probes_at node g.done) g.stands in
+        let split : g.others ≡ z.ticket ∷ z.others = sym g.pending ∙ ap (λ (ns : List Node). pending_at ns node) (sym (nodes-same a b (h ++ probes_at node g.done) f.plan)) ∙ z.first in
+        let here : MakesSome b c (h ++ probes_at node g.done) (one node z.ticket) stop = record { front = z.front; back = z.back; parts = z.parts; within = z.within; stops = z.stops; stands = z.stands } in
+        let all : probes_at node g.done ++ (one node z.ticket ++ probes_at node z.others) ≡ probing_at a node h =
+        sym (probes-append node g.done (z.ticket ∷ z.others)) ∙ ap (probes_at node) (sym (g.all ∙ ap (λ (ts : List ℕ). g.done ++ ts) split)) in
+        subst (λ (es : List Entry). MakesSome a c h es stop) all
+        (some-behind a b c h (probes_at node g.done) (one node z.ticket ++ probes_at node z.others) stop f.plan f.limit g.within
+        (some-more b c (h ++ probes_at node g.done) (one node z.ticket) (probes_at node z.others) stop here))
 
-places-on : (k : AreKnown) (plan : RunPlan) (l : ℕ) (joined : Option Joined) (c : List ℕ) (u : List Out) (t : Option Stop) → IsMadeOf plan l joined → t ≡ None → (history : List Entry)
-    → StandsFor (core_of plan l joined c u t) history → places_from 0 (nodes_from (nodes_of plan) history) ≡ places_upto (length (streams_of plan.nodes)) (inputs_total joined)
-places-on k plan l joined c u (Some s) made e history S = cc
-places-on k plan l joined c u None made e history S =
-    subst (λ (ns : List Node). Holds plan.trace ns (kept_for (stream_total plan) joined c u None) history → places_from 0 (nodes_from ns history) ≡ places_upto (stream_total plan) (inputs_total joined)) (nodes-for plan l joined made)
-    (places-for k plan.trace (columns_in plan) l joined c u (placed plan l joined made) history) (held _ _ S)
-    ∙ ap (λ (n : ℕ). places_upto n (inputs_total joined)) (sym (streams_total plan))
+-- ---- at so many nodes
 
--- the join behind the streams
-last-is : (plan : RunPlan) (l : ℕ) (j : Joined) → IsMadeOf plan l (Some j) → (n : ℕ) → n ≡ stream_total plan → n ≡ length plan.nodes - 1
-last-is plan l j made n e = e ∙ sym (join-behind plan made.0 made.1 (join_seen j) (sym made.2))
+-- probes at so many nodes, and at those behind them
+from-split : (nodes : List Node) (k m n : ℕ) → probes_from nodes k (m + n) ≡ probes_from nodes k m ++ probes_from (nodes_from nodes (probes_from nodes k m)) (k + m) n
+from-split nodes k zero n = let z : k ≡ k + 0 = omega arith in let y : 0 + n ≡ n = omega arith in ap (probes_from nodes k) y ∙ ap (λ (i : ℕ). probes_from nodes i n) z
+from-split nodes k (suc m) n =
+    let here = probes_at k (pending_at nodes k) in
+    let after = nodes_from nodes here in
+    let done = probes_from after (k + 1) m in
+    let y : suc m + n ≡ suc (m + n) = omega arith in
+    let z : k + 1 + m ≡ k + suc m = omega arith in
+    ap (probes_from nodes k) y
+    ∙ ap (λ (es : List Entry). here ++ es) (from-split after (k + 1) m n)
+    ∙ sym (append_assoc here done (probes_from (nodes_from after done) (k + 1 + m) n))
+    ∙ ap₂ (λ (ns : List Node) (i : ℕ). (here ++ done) ++ probes_from ns i n) (sym (nodes-append nodes here done)) z
 
-inputs-here : (plan : RunPlan) (l : ℕ) (j : Joined) → IsMadeOf plan l (Some j) → (n : ℕ) → n ≡ stream_total plan → length (inputs_of (node_at plan.nodes n)) ≡ length j.inputs
-inputs-here plan l j made n e =
-    ap (λ (m : ℕ). length (inputs_of (node_at plan.nodes m))) (last-is plan l j made n e) ∙ ap length (sym (inputs-last plan (join_seen j) (sym made.2)))
+upto-next : (a b : CoreState) (m : ℕ) (h : List Entry) → b.plan ≡ a.plan → then (probing_upto a m) (probing_at b m) h ≡ probing_upto a (m + 1) h
+upto-next a b m h p =
+    let z : 0 + m ≡ m = omega arith in
+    let front = probing_upto a m h in
+    ap (λ (ns : List Node). front ++ probes_at m (pending_at ns m)) (nodes-on a b h front p)
+    ∙ ap (λ (es : List Entry). front ++ es) (sym (append-nil (probes_at m (pending_at (nodes_from (nodes_after a h) front) m))))
+    ∙ ap (λ (i : ℕ). front ++ probes_from (nodes_from (nodes_after a h) front) i 1) (sym z)
+    ∙ sym (from-split (nodes_after a h) 0 m 1)
 
-places-there : (plan : RunPlan) (l : ℕ) (joined : Option Joined) (c : List ℕ) (u : List Out) (t : Option Stop) → IsMadeOf plan l joined → (input : ℕ) → input < inputs_total joined
-    → IsJoinInput (core_of plan l joined c u t) (length (streams_of plan.nodes)) input
-places-there plan l None c u t made input lt = absurd (omega (arith, lt))
-places-there plan l (Some j) c u t made input lt =
-    let last = last-is plan l j made (length (streams_of plan.nodes)) (streams_total plan) in
-    let some = made.0.some in
-    let same = inputs-here plan l j made (length (streams_of plan.nodes)) (streams_total plan) in (
-      (omega (arith, last, some), ap (λ (m : ℕ). is_join (node_at plan.nodes m)) last ∙ joins-last plan (join_seen j) (sym made.2)),
-      omega (arith, same, lt),
-    )
+pub probes-more : (a b c : CoreState) (m : ℕ) → Makes a b (probing_upto a m) → Makes b c (probing_at b m) → Makes a c (probing_upto a (m + 1))
+probes-more a b c m x y =
+    makes-as a c (then (probing_upto a m) (probing_at b m)) (probing_upto a (m + 1)) (λ h S. upto-next a b m h x.plan)
+    (makes-then a b c (probing_upto a m) (probing_at b m) x y)
 
-pub has-places : (k : AreKnown) (plan : RunPlan) (l : ℕ) (joined : Option Joined) (c : List ℕ) (u : List Out) (t : Option Stop) (core : CoreState)
-    → core_of plan l joined c u t ≡ core → IsMadeOf plan l joined → (count : ℕ) → count ≡ inputs_total joined → HasPlaces core count
-has-places k plan l joined c u t core v made count e =
-    subst (λ (n : ℕ). HasPlaces core n) (sym e) (subst (λ (o : CoreState). HasPlaces o (inputs_total joined)) v (record {
-      there = places-there plan l joined c u t made;
-      all = λ on history S. places-on k plan l joined c u t made on history S;
-    }))
+-- as many nodes after any history
+long-after : (a : CoreState) (h : List Entry) → length (nodes_after a h) ≡ length a.plan.nodes
+long-after a h = length-from (nodes_in a) h ∙ nodes-long a.plan
 
--- an input that is swept is one of the join's
-pub has-input : (plan : RunPlan) (l : ℕ) (joined : Option Joined) (c : List ℕ) (u : List Out) (t : Option Stop) → IsMadeOf plan l joined → (join input : ℕ)
-    → IsJoinInput (core_of plan l joined c u t) join input → HasInput joined input
-has-input plan l None c u t made join input at = tt
-has-input plan l (Some j) c u t made join input at =
-    let same = inputs-here plan l j made join (node-is plan l (Some j) join made at.0).0 in
-    let count = inputs-count (columns_in plan) (join_seen j) (placed plan l (Some j) made).0.2 in
-    let lt = at.1 in omega (arith, same, count, lt)
+all-are : (a : CoreState) (count : ℕ) (h : List Entry) → count ≡ length a.plan.nodes → probing_upto a count h ≡ probing a h
+all-are a count h e = ap (probes_from (nodes_after a h) 0) (e ∙ sym (long-after a h))
 
--- ---- all probes
+pub probes-end : (a b : CoreState) (count : ℕ) → count ≡ length a.plan.nodes → Makes a b (probing_upto a count) → Makes a b (probing a)
+probes-end a b count e x = makes-as a b (probing_upto a count) (probing a) (λ h S. all-are a count h e) x
 
--- memory was wanting for the next
-pub stops-before : (old new : CoreState) (stop : Stop) → StopsNow old new stop → stop ≡ NoMemory → StopsProbing old new stop
-stops-before old new stop s m = record {
-  plan = s.notes.plan;
-  limit = s.notes.limit;
-  stopped = s.stopped;
-  memory = m;
-  stops = λ history S. record {
-    front = [];
-    back = probes_in old;
-    parts = refl;
-    stands = subst (λ (es : List Entry). StandsFor new (es ++ plain (Stopped stop) ∷ [])) (sym (append-nil history)) (s.notes.stands history S);
-  };
-}
-
-pub so-far-more : (old now new : CoreState) → SoFar old now → ProbesOne now new → SoFar old new
-so-far-more old now new f p = record {
-  plan = p.plan ∙ f.plan;
-  limit = p.limit ∙ f.limit;
-  on = p.on;
-  goes = λ history S.
-      let g = f.goes history S in
-      let q = p.probes (history ++ g.front) g.stands in
-      let one = probes_at q.join (q.ticket ∷ []) in
-      record {
-        front = g.front ++ one;
-        parts = g.parts ∙ ap (λ (es : List Entry). g.front ++ es) q.first ∙ sym (behind g.front one (probes_in new));
-        stands = subst (StandsFor new) (behind history g.front one) q.stands;
-      };
-}
-
-pub all-probed : (old now new : CoreState) → SoFar old now → (new ≡ now) × (probes_in now ≡ []) → ProbesAll old new
-all-probed old now new f p =
-    subst (ProbesAll old) (sym p.0) (record {
-      plan = f.plan;
-      limit = f.limit;
-      on = f.on;
-      stands = λ history S.
-          let g = f.goes history S in
-          let e : probes_in old ≡ g.front = g.parts ∙ ap (λ (es : List Entry). g.front ++ es) p.1 ∙ append-nil g.front in
-          subst (λ (es : List Entry). StandsFor now (history ++ es)) (sym e) g.stands;
-    })
-
-pub stops-later : (old now new : CoreState) (stop : Stop) → SoFar old now → StopsProbing now new stop → StopsProbing old new stop
-stops-later old now new stop f s = record {
-  plan = s.plan ∙ f.plan;
-  limit = s.limit ∙ f.limit;
-  stopped = s.stopped;
-  memory = s.memory;
-  stops = λ history S.
-      let g = f.goes history S in
-      let a = s.stops (history ++ g.front) g.stands in
-      record {
-        front = g.front ++ a.front;
-        back = a.back;
-        parts = g.parts ∙ ap (λ (es : List Entry). g.front ++ es) a.parts ∙ sym (behind g.front a.front a.back);
-        stands = subst (λ (es : List Entry). StandsFor new (es ++ plain (Stopped stop) ∷ [])) (behind history g.front a.front) a.stands;
-      };
-}
+pub probes-stop : (a b c : CoreState) (m count : ℕ) (stop : Stop) → count ≡ length a.plan.nodes → m < count → Makes a b (probing_upto a m) → StopsMaking b c (probing_at b m) stop
+    → StopsMaking a c (probing a) stop
+probes-stop a b c m count stop e lt x y =
+    let rest = count - (m + 1) in
+    let total : m + 1 + rest ≡ count = omega (arith, lt) in
+    let more : List Entry → List Entry = λ h. probes_from (nodes_from (nodes_after a h) (probing_upto a (m + 1) h)) (0 + (m + 1)) rest in
+    stops-as a c (λ h. probing_upto a (m + 1) h ++ more h) (probing a) stop
+    (λ h S. sym (from-split (nodes_after a h) 0 (m + 1) rest) ∙ ap (probes_from (nodes_after a h) 0) total ∙ all-are a count h e)
+    (stops-more a c (probing_upto a (m + 1)) more stop
+    (stops-as a c (then (probing_upto a m) (probing_at b m)) (probing_upto a (m + 1)) stop (λ h S. upto-next a b m h x.plan)
+    (stops-then a b c (probing_upto a m) (probing_at b m) stop x y)))

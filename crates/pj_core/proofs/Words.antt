@@ -1,174 +1,159 @@
--- The words of the calls' clauses, over what a core is seen as.
-use Rattle.std.proofs.Common.{ℕ, ◌<◌, List, [], ◌∷◌, ◌++◌, ◌≡◌, map, length, reverse, Option, Some, None, sym, ap, ◌∙◌, subst}
-use Rattle.std.proofs.lemmas.List.{reverse-append}
-use Rattle.pj_shape.specs.declared.columns.Column.{Column}
-use Rattle.pj_shape.specs.Columns.{kinds_of}
-use Rattle.pj_core.specs.Plans.{RunPlan, stream_columns, streams_in}
+-- What the calls of a core answer, as its parts are seen.
+use Rattle.std.proofs.Common.{ℕ, max, ◌<◌, ◌≤◌, ◌++◌, ◌∷◌, [], List, ◌≡◌, Option, Some, None, length, get_or, refl, sym, ap, ◌∙◌, subst, arith}
+use Rattle.std.proofs.lemmas.List.{get_or_default, length-map}
 use Rattle.pj_plan.specs.Nodes.{streams_of}
-use Rattle.pj_pattern.specs.Fitting.{FitsKinds}
-use Rattle.pj_pattern.specs.declared.element.Element.{Element}
-use Rattle.pj_pattern.specs.declared.element.Element.TheVariants.{Punct}
-use Rattle.pj_laws.specs.Patterns.{all_wild}
-use Rattle.pj_laws.proofs.OneThreadAnswer.{wilds-fit}
-use Rattle.pj_laws.specs.declared.events.Event.TheVariants.{Arrive, Drain}
-use Rattle.pj_laws.specs.declared.events.Look.{Look as TheLook}
 use Rattle.pj_laws.specs.declared.events.Out.{Out}
-use Rattle.pj_laws.specs.declared.events.Out.TheVariants.{Tuple as RowOut}
 use Rattle.pj_laws.specs.declared.events.Stop.{Stop}
-use Rattle.pj_laws.specs.OneThread.{arrival_of, plain}
+use Rattle.pj_laws.specs.OneThread.{Turn, arrival_of, plain}
+use Rattle.pj_laws.specs.History.{closed_after}
+use Rattle.pj_laws.specs.declared.events.Event.TheVariants.{Arrive, Drain}
+use Rattle.pj_pattern.specs.declared.element.Element.{Element}
 use Rattle.pj_join.specs.declared.found.Found.{Found}
-use Rattle.pj_join.specs.declared.found.JoinStop.{JoinStop}
-use Rattle.pj_join.specs.declared.found.JoinStop.TheVariants.{Limit as JoinFull}
-use Rattle.pj_core.specs.declared.joined.Joined.{Joined}
-use Rattle.pj_core.specs.Known.{AreKnown}
-use Rattle.pj_core.specs.Forms.{columns_in, plan_join, stream_total}
+use Rattle.pj_laws.specs.declared.events.Look.{Look as TheLook}
+use Rattle.pj_core.specs.declared.look.Sums.{Sums}
+use Rattle.pj_core.specs.Looks.{AreFew, AreWith}
+use Rattle.pj_core.specs.declared.cell.Cell.{Cell}
+use Rattle.pj_core.specs.Calls.{HasArrived, IsCause, IsOpen, IsJoinNode, IsLookAt, IsPeak, IsRefused, IsTakenIn, StopsNow, closing_of}
+use Rattle.pj_core.specs.Cells.{AreLinked, cell_at, frame_of, frames_in, kept_seen, no_cell, peak_seen, stored_kept}
+use Rattle.pj_core.specs.Climbing.{AreOrderly, Climbs, IsClimbStop, StayOpen, StaysAs}
 use Rattle.pj_core.specs.Cores.{CoreState, Notes}
-use Rattle.pj_core.specs.Calls.{closing_of, HasArrived, HasGiven, IsCause, IsFresh, IsJoinNode, IsLookAt, IsOpen, IsPeak, IsRefused, StopsNow, CoreTakes}
-use Rattle.pj_core.specs.Parts.{FitsAny, HasRoom, IsFull, IsMadeOf, IsTakenOf, TakesAny, any_entered, any_fresh, core_of, given, join_stop, outs_after, part_in, peak_kept}
-use Rattle.pj_core.proofs.Arriving.{arrival, has-arrived, is-cause}
-use Rattle.pj_core.proofs.Fitting.{fits-any, stop-of}
-use Rattle.pj_core.proofs.Holding.{placed}
-use Rattle.pj_core.proofs.Probing.{has-given, taken-at, takes}
-use Rattle.pj_core.proofs.Standing.{HasNumbers, fresh, is-look, is-peak, notes-drain, stays-stopped, stops-now}
-use Rattle.pj_core.proofs.Streams.{streams_total}
+use Rattle.pj_core.specs.Parts.{IsMadeOf, closing_in, core_of, frames_of}
+use Rattle.pj_core.specs.Plans.{RunPlan}
+use Rattle.pj_core.proofs.Arrivals.{arrival-stop, arrived}
+use Rattle.pj_core.proofs.Frames.{links-of, long-of}
+use Rattle.pj_core.proofs.Looking.{HasNumbers, are_few, is-look, is-peak}
+use Rattle.pj_core.proofs.Streams.{streams-few}
+use Rattle.pj_core.proofs.Stops.{notes-drain, stays-stopped, stops-now}
+use Rattle.pj_core.proofs.Takes.{open-kept, open-there}
 
--- a punctuation of wildcards alone, for these columns
-abbrev pub wilds : List Column → Element
-wilds columns = Punct (all_wild (length columns))
+-- a core with these parts
+module _ (plan : RunPlan) (limit : ℕ) (cells : List Cell) (c : List ℕ) (u : List Out) (t : Option Stop) (old : CoreState) (is : core_of plan limit cells c u t ≡ old) (made : IsMadeOf plan limit cells) where
+  pub long : length cells ≡ length plan.nodes
+  long = sym (length-map cells frame_of) ∙ ap length made.2 ∙ long-of plan limit
 
-module _ (k : AreKnown) (plan : RunPlan) (l : ℕ) (joined : Option Joined) (c : List ℕ) (u : List Out) (t : Option Stop) (old : CoreState)
-    (v : core_of plan l joined c u t ≡ old) (made : IsMadeOf plan l joined) where
-  -- a core that has not stopped is the old one
-  on-is : t ≡ None → core_of plan l joined c u None ≡ old
-  on-is n = ap (core_of plan l joined c u) (sym n) ∙ v
+  pub linked : AreLinked (frames_in cells)
+  linked = subst AreLinked (sym made.2) (links-of plan limit made.0)
 
+  -- the stop that was answered before
   pub refused-again : (s : Stop) (cause : Type 0) → t ≡ Some s → IsRefused old.kept.stop old old s cause
   refused-again s cause e =
-      subst (λ (o : CoreState). IsRefused o.kept.stop o o s cause) (ap (core_of plan l joined c u) (sym e) ∙ v) (stays-stopped k plan l joined c u s made)
+      subst (λ (o : CoreState). IsRefused o.kept.stop o o s cause) (ap (core_of plan limit cells c u) (sym e) ∙ is) (stays-stopped plan limit cells c u s)
 
-  pub refused-now : (joined' : Option Joined) (c' : List ℕ) (u' : List Out) (s : Stop) (cause : Type 0) → t ≡ None → u' ≡ u → cause
-      → IsRefused old.kept.stop old (core_of plan l joined' c' u' (Some s)) s cause
-  refused-now joined' c' u' s cause e q why =
-      subst (λ (o : CoreState). IsRefused o.kept.stop o (core_of plan l joined' c' u' (Some s)) s cause) (on-is e)
-      (subst (λ (w : List Out). IsRefused None (core_of plan l joined c u None) (core_of plan l joined' c' w (Some s)) s cause) (sym q)
-      (stops-now k plan l joined joined' c c' u s made, why))
+  -- a stop now
+  pub refused-now : (cells' : List Cell) (c' : List ℕ) (u' : List Out) (s : Stop) (cause : CoreState → Type 0) → t ≡ None → u' ≡ u → cause (core_of plan limit cells c u None) → IsRefused old.kept.stop old (core_of plan limit cells' c' u' (Some s)) s (cause old)
+  refused-now cells' c' u' s cause e outs why =
+      subst (λ (v : List Out). IsRefused old.kept.stop old (core_of plan limit cells' c' v (Some s)) s (cause old)) (sym outs)
+      (subst (λ (o : CoreState). IsRefused o.kept.stop o (core_of plan limit cells' c' u (Some s)) s (cause o)) (ap (core_of plan limit cells c u) (sym e) ∙ is)
+      (stops-now plan limit cells cells' c c' u s, why))
 
-  pub stopped-now : t ≡ None → (s : Stop) → StopsNow old (core_of plan l joined c u (Some s)) s
-  stopped-now e s = subst (λ (o : CoreState). StopsNow o (core_of plan l joined c u (Some s)) s) (on-is e) (stops-now k plan l joined joined c c u s made)
+  -- the node of a stream is among the cells
+  pub below-cells : (m : ℕ) → m < length plan.nodes → (xs : List Cell) → xs ≡ cells → m < length xs
+  below-cells m lt xs e = let l = long in omega (arith, lt, l, ap length e)
 
-  pub stopped-on : t ≡ None → (joined' : Option Joined) (u' : List Out) (s : Stop) → u' ≡ u → StopsNow old (core_of plan l joined' c u' (Some s)) s
-  stopped-on e joined' u' s q =
-      subst (λ (o : CoreState). StopsNow o (core_of plan l joined' c u' (Some s)) s) (on-is e)
-      (subst (λ (w : List Out). StopsNow (core_of plan l joined c u None) (core_of plan l joined' c w (Some s)) s) (sym q) (stops-now k plan l joined joined' c c u s made))
+  pub linked-cells : (xs : List Cell) → xs ≡ cells → AreLinked (frames_in xs)
+  linked-cells xs e = subst (λ (ys : List Cell). AreLinked (frames_in ys)) (sym e) linked
 
-  -- ---- arrivals
+  -- an element has arrived
+  pub arrived-now : t ≡ None → (turn : Turn) → turn.stream < length (streams_of old.plan.nodes) → (xs new new' : List Cell) (from : ℕ) (c' : List ℕ) (u' : List Out) → xs ≡ cells → new' ≡ new → from ≡ get_or (streams_of plan.nodes) turn.stream 0
+      → Climbs (record { cells = xs; outs = u }) (record { cells = new; outs = u' }) from (turn.element ∷ []) → StaysAs xs new → c' ≡ closed_after c turn.closing (Arrive turn.stream turn.element)
+      → HasArrived old (core_of plan limit new' c' u' t) (arrival_of turn)
+  arrived-now e turn there xs new new' from c' u' same same' at C stays closed =
+      subst (λ (o : Option Stop). HasArrived old (core_of plan limit new' c' u' o) (arrival_of turn)) (sym e)
+      (subst (λ (ys : List Cell). HasArrived old (core_of plan limit ys c' u' None) (arrival_of turn)) (sym same')
+      (subst (λ (o : CoreState). HasArrived o (core_of plan limit new c' u' None) (arrival_of turn)) (ap (core_of plan limit cells c u) (sym e) ∙ is)
+      (arrived plan limit cells new c c' u u' turn made (subst (λ (o : CoreState). turn.stream < length (streams_of o.plan.nodes)) (sym is) there)
+      (subst (λ (ys : List Cell). Climbs (record { cells = ys; outs = u }) (record { cells = new; outs = u' }) (get_or (streams_of plan.nodes) turn.stream 0) (turn.element ∷ [])) same
+      (subst (λ (m : ℕ). Climbs (record { cells = xs; outs = u }) (record { cells = new; outs = u' }) m (turn.element ∷ [])) at C))
+      (subst (λ (ys : List Cell). StaysAs ys new) same stays) closed)))
 
-  abbrev IsThere : ℕ → Type 0
-  IsThere stream = stream < length (streams_of old.plan.nodes)
+  -- why an arrival stops
+  pub arrival-cause : (stream : ℕ) (x : Element) (xs : List Cell) (from : ℕ) (s : Stop) → stream < length (streams_of old.plan.nodes) → xs ≡ cells → from ≡ get_or (streams_of plan.nodes) stream 0
+      → IsClimbStop xs from (x ∷ []) s → IsCause (core_of plan limit cells c u None) (Arrive stream x) s
+  arrival-cause stream x xs from s there same at g =
+      arrival-stop plan limit cells c u stream x s made (subst (λ (o : CoreState). stream < length (streams_of o.plan.nodes)) (sym is) there)
+      (subst (λ (ys : List Cell). IsClimbStop ys (get_or (streams_of plan.nodes) stream 0) (x ∷ []) s) same
+      (subst (λ (m : ℕ). IsClimbStop xs m (x ∷ []) s) at g))
 
-  there : (stream : ℕ) → IsThere stream → stream < stream_total plan
-  there stream lt = subst (λ (n : ℕ). stream < n) (ap (λ (o : CoreState). length (streams_of o.plan.nodes)) (sym v) ∙ streams_total plan) lt
+  -- what was taken and not given stays so
+  pub opens-now : (xs new new' : List Cell) (c' : List ℕ) (u' : List Out) (t' : Option Stop) → xs ≡ cells → new' ≡ new → StayOpen xs new → (probe : Found) → IsOpen old probe → IsOpen (core_of plan limit new' c' u' t') probe
+  opens-now xs new new' c' u' t' same same' stays probe was-open =
+      let was = open-there cells probe.join probe.ticket (subst (λ (o : CoreState). IsOpen o probe) (sym is) was-open) in
+      let keeps = (subst (λ (ys : List Cell). StayOpen ys new) same stays) made.3 in
+      subst (λ (ys : List Cell). IsOpen (core_of plan limit ys c' u' t') probe) (sym same')
+      (open-kept new probe.join probe.ticket (keeps.1 probe.join probe.ticket was.1))
 
-  pub fits-now : (stream : ℕ) → IsThere stream → (e : Element) → FitsKinds (kinds_of (stream_columns (streams_in old.plan.nodes) stream)) e → FitsAny joined stream e
-  fits-now stream lt e f =
-      fits-any (columns_in plan) l joined (placed plan l joined made) stream (there stream lt) e
-      (subst (λ (o : CoreState). FitsKinds (kinds_of (stream_columns (streams_in o.plan.nodes) stream)) e) (sym v) f)
+  -- what a core is made of stays
+  pub made-now : (xs new new' : List Cell) → xs ≡ cells → new' ≡ new → frames_in new ≡ frames_in xs → (AreOrderly xs → AreOrderly new) → IsMadeOf plan limit new'
+  made-now xs new new' same same' frames orderly =
+      subst (IsMadeOf plan limit) (sym same') (made.0, made.1, frames ∙ ap frames_in same ∙ made.2, orderly (subst AreOrderly (sym same) made.3))
 
-  -- where the join takes no more
-  pub cause-is : t ≡ None → (stream : ℕ) → IsThere stream → (e : Element) (streams : ℕ) (stop : JoinStop) → streams ≡ length (streams_of plan.nodes) → (stop ≡ JoinFull → IsFull joined)
-      → IsCause old (Arrive stream e) (join_stop streams stop)
-  cause-is n stream lt e streams stop q full =
-      subst (λ (m : ℕ). IsCause old (Arrive stream e) (join_stop m stop)) (sym (q ∙ streams_total plan))
-      (subst (λ (o : CoreState). IsCause o (Arrive stream e) (join_stop (stream_total plan) stop)) (on-is n)
-      (is-cause k plan l joined c u made stream (there stream lt) e (join_stop (stream_total plan) stop) (stop-of (stream_total plan) joined stop full)))
+  -- what holds of the parts holds of the core
+  pub holds-now : (P : CoreState → CoreState → Type 0) → t ≡ None → (new new' : List Cell) (c' : List ℕ) (u' : List Out) → new' ≡ new
+      → P (core_of plan limit cells c u None) (core_of plan limit new c' u' None) → P old (core_of plan limit new' c' u' t)
+  holds-now P e new new' c' u' same p =
+      subst (λ (o : Option Stop). P old (core_of plan limit new' c' u' o)) (sym e)
+      (subst (λ (ys : List Cell). P old (core_of plan limit ys c' u' None)) (sym same)
+      (subst (λ (o : CoreState). P o (core_of plan limit new c' u' None)) (ap (core_of plan limit cells c u) (sym e) ∙ is) p))
 
-  pub arrived-plain : t ≡ None → (stream : ℕ) → IsThere stream → (e : Element) (joined' : Option Joined) (u' : List Out)
-      → joined' ≡ any_entered joined stream e → u' ≡ outs_after joined u stream e → HasRoom joined
-      → HasArrived old (core_of plan l joined' c u' t) (arrival stream e 0)
-  arrived-plain n stream lt e joined' u' j q room =
-      subst (λ (o : CoreState). HasArrived o (core_of plan l joined' c u' t) (arrival stream e 0)) (on-is n)
-      (subst (λ (w : CoreState). HasArrived (core_of plan l joined c u None) w (arrival stream e 0))
-      (ap (λ (z : Option Joined). core_of plan l z c (outs_after joined u stream e) None) (sym j) ∙ ap (λ (z : List Out). core_of plan l joined' c z None) (sym q) ∙ ap (core_of plan l joined' c u') (sym n))
-      (has-arrived k plan l joined c u made stream (there stream lt) e 0 room))
+  -- the parts of an open probe
+  pub open-parts : (probe : Found) → IsOpen old probe → (xs : List Cell) → xs ≡ cells → (probe.join < length xs) × IsTakenIn (kept_seen (cell_at xs probe.join).work) probe.ticket
+  open-parts probe o xs same =
+      subst (λ (ys : List Cell). (probe.join < length ys) × IsTakenIn (kept_seen (cell_at ys probe.join).work) probe.ticket) (sym same)
+      (open-there cells probe.join probe.ticket (subst (λ (s : CoreState). IsOpen s probe) (sym is) o))
 
-  arrived-closing : t ≡ None → (stream : ℕ) → IsThere stream → (e : Element) (joined' : Option Joined) (c' : List ℕ) (u' : List Out)
-      → joined' ≡ any_entered joined stream e → c' ≡ stream ∷ c → u' ≡ outs_after joined u stream e → HasRoom joined
-      → HasArrived old (core_of plan l joined' c' u' t) (arrival stream e 1)
-  arrived-closing n stream lt e joined' c' u' j p q room =
-      subst (λ (o : CoreState). HasArrived o (core_of plan l joined' c' u' t) (arrival stream e 1)) (on-is n)
-      (subst (λ (w : CoreState). HasArrived (core_of plan l joined c u None) w (arrival stream e 1))
-      (ap (λ (z : Option Joined). core_of plan l z (stream ∷ c) (outs_after joined u stream e) None) (sym j)
-      ∙ ap (λ (z : List ℕ). core_of plan l joined' z (outs_after joined u stream e) None) (sym p)
-      ∙ ap (λ (z : List Out). core_of plan l joined' c' z None) (sym q) ∙ ap (core_of plan l joined' c' u') (sym n))
-      (has-arrived k plan l joined c u made stream (there stream lt) e 1 room))
+  pub drains-now : Notes old (core_of plan limit cells c [] t) (plain Drain)
+  drains-now = subst (λ (o : CoreState). Notes o (core_of plan limit cells c [] t) (plain Drain)) is (notes-drain plan limit cells c u t made)
 
-  -- ---- the closing of a stream, of these columns
+  pub few-cells : (xs : List Cell) → xs ≡ cells → length xs ≤ 64
+  few-cells xs e = let l = long in let f = made.0.few in omega (arith, l, f, ap length e)
 
-  abbrev AreOf : List Column → ℕ → Type 0
-  AreOf columns stream = columns ≡ stream_columns (streams_in plan.nodes) stream
+  pub stop-none : old.kept.stop ≡ None → t ≡ None
+  stop-none e = ap (λ (o : CoreState). o.kept.stop) is ∙ e
 
-  wilds-are : (columns : List Column) (stream : ℕ) → AreOf columns stream → wilds columns ≡ wilds (stream_columns (streams_in old.plan.nodes) stream)
-  wilds-are columns stream e = ap wilds e ∙ ap (λ (o : CoreState). wilds (stream_columns (streams_in o.plan.nodes) stream)) v
+  pub on-now : t ≡ None → old.kept.stop ≡ None
+  on-now e = sym (ap (λ (o : CoreState). o.kept.stop) is) ∙ e
 
-  pub closing-fits : (columns : List Column) (stream : ℕ) → AreOf columns stream → IsThere stream → FitsAny joined stream (wilds columns)
-  closing-fits columns stream e lt =
-      subst (λ (z : List Column). FitsAny joined stream (wilds z)) (sym e)
-      (fits-any (columns_in plan) l joined (placed plan l joined made) stream (there stream lt) (wilds (stream_columns (streams_in plan.nodes) stream))
-      (wilds-fit (stream_columns (streams_in plan.nodes) stream)))
+  -- a stop of a core that goes on
+  pub stopped-now : (cells' : List Cell) (c' : List ℕ) (u' : List Out) (s : Stop) (cause : CoreState → Type 0) → t ≡ None → u' ≡ u → cause (core_of plan limit cells c u None) → StopsNow old (core_of plan limit cells' c' u' (Some s)) s × cause old
+  stopped-now cells' c' u' s cause e outs why =
+      subst (λ (v : List Out). StopsNow old (core_of plan limit cells' c' v (Some s)) s × cause old) (sym outs)
+      (subst (λ (o : CoreState). StopsNow o (core_of plan limit cells' c' u (Some s)) s × cause o) (ap (core_of plan limit cells c u) (sym e) ∙ is) (stops-now plan limit cells cells' c c' u s, why))
 
-  pub arrived-closed : (columns : List Column) (stream : ℕ) → AreOf columns stream → t ≡ None → IsThere stream → (closed : List ℕ) (joined' : Option Joined) (closed' : List ℕ) (u' : List Out)
-      → c ≡ reverse closed → joined' ≡ any_entered joined stream (wilds columns) → closed' ≡ closed ++ stream ∷ [] → u' ≡ outs_after joined u stream (wilds columns) → HasRoom joined
-      → HasArrived old (core_of plan l joined' (reverse closed') u' t) (arrival_of (closing_of old stream))
-  arrived-closed columns stream e n lt closed joined' closed' u' r j p q room =
-      subst (λ (z : Element). HasArrived old (core_of plan l joined' (reverse closed') u' t) (arrival stream z 1)) (wilds-are columns stream e)
-      (arrived-closing n stream lt (wilds columns) joined' (reverse closed') u' j
-      (ap reverse p ∙ reverse-append closed (stream ∷ []) ∙ ap (λ (z : List ℕ). stream ∷ z) (sym r)) q room)
+  -- what the core is said to have, of its parts
+  pub of-parts : (P : CoreState → Type 0) → t ≡ None → P old → P (core_of plan limit cells c u None)
+  of-parts P e p = subst P (sym is ∙ ap (core_of plan limit cells c u) e) p
 
-  -- ---- probes
+  pub streams-here : (stream : ℕ) → stream < length (streams_of old.plan.nodes) → stream < length (streams_of plan.nodes)
+  streams-here stream there = subst (λ (o : CoreState). stream < length (streams_of o.plan.nodes)) (sym is) there
 
-  pub took : t ≡ None → (joined' : Option Joined) (answer : Option Found) → TakesAny joined joined' answer → CoreTakes old (core_of plan l joined' c u t) answer
-  took n joined' answer a =
-      subst (λ (o : CoreState). CoreTakes o (core_of plan l joined' c u t) answer) (on-is n)
-      (subst (λ (w : CoreState). CoreTakes (core_of plan l joined c u None) w answer) (ap (core_of plan l joined' c u) (sym n))
-      (takes k plan l joined joined' c u answer made a))
+  pub long-cells : (xs : List Cell) → xs ≡ cells → length xs ≡ length plan.nodes
+  long-cells xs e = ap length e ∙ long
 
-  open-now : t ≡ None → (probe : Found) → (old.kept.stop ≡ None → IsOpen old probe) → IsOpen (core_of plan l joined c u None) probe
-  open-now n probe o =
-      let w : old ≡ core_of plan l joined c u None = sym (on-is n) in
-      subst (λ (z : CoreState). IsOpen z probe) w (o (ap (λ (z : CoreState). z.kept.stop) w))
+  -- a look
+  pub is-look-now : (sums : Sums) (look : TheLook) (xs : List Cell) → xs ≡ cells → AreWith sums [] xs → HasNumbers plan c u t sums look → IsLookAt old look
+  is-look-now sums look xs e w n = subst (λ (o : CoreState). IsLookAt o look) is (is-look plan limit cells c u t sums look made (subst (AreWith sums []) e w) n)
 
-  pub taken-now : t ≡ None → (probe : Found) → (old.kept.stop ≡ None → IsOpen old probe) → IsTakenOf joined probe.ticket
-  taken-now n probe o = (taken-at (stream_total plan) probe.join joined probe.ticket (open-now n probe o)).1
+  pub few-now : (xs : List Cell) → xs ≡ cells → AreFew xs
+  few-now xs e = are_few xs (few-cells xs e) (subst AreOrderly (sym e) made.3)
 
-  pub gave : t ≡ None → (probe found : Found) (joined' : Option Joined) (u' : List Out) → (old.kept.stop ≡ None → IsOpen old probe)
-      → joined' ≡ given joined probe.ticket → u' ≡ u ++ map RowOut found.rows → HasGiven old (core_of plan l joined' c u' t) probe found
-  gave n probe found joined' u' o j q =
-      subst (λ (z : CoreState). HasGiven z (core_of plan l joined' c u' t) probe found) (on-is n)
-      (subst (λ (w : CoreState). HasGiven (core_of plan l joined c u None) w probe found)
-      (ap (λ (z : Option Joined). core_of plan l z c (u ++ map RowOut found.rows) None) (sym j) ∙ ap (λ (z : List Out). core_of plan l joined' c z None) (sym q) ∙ ap (core_of plan l joined' c u') (sym n))
-      (has-given k plan l joined c u probe found made (open-now n probe o)))
+  pub peak-there : (join : ℕ) → IsJoinNode old join → join < length cells
+  peak-there join j = let a = (subst (λ (o : CoreState). IsJoinNode o join) (sym is) j).0 in omega (arith, a, long)
 
-  -- ---- drains, looks and peaks
+  pub is-peak-now : (join : ℕ) (x : Cell) (stored : ℕ) → IsJoinNode old join → x ≡ get_or cells join x → stored ≡ stored_kept (kept_seen x.work) → (peak : ℕ) → peak ≡ max x.peak stored → IsPeak old join peak
+  is-peak-now join x stored j at e peak p =
+      let lt = peak-there join j in
+      subst (λ (o : CoreState). IsPeak o join peak) is
+      (subst (IsPeak (core_of plan limit cells c u t) join) (sym (p ∙ ap (max x.peak) e ∙ ap peak_seen (at ∙ get_or_default cells join x no_cell lt)))
+      (is-peak plan limit cells c u t join made lt))
 
-  pub drained : (u' : List Out) → u' ≡ [] → Notes old (core_of plan l joined c u' t) (plain Drain)
-  drained u' q =
-      subst (λ (o : CoreState). Notes o (core_of plan l joined c u' t) (plain Drain)) v
-      (subst (λ (w : List Out). Notes (core_of plan l joined c u t) (core_of plan l joined c w t) (plain Drain)) (sym q) (notes-drain k plan l joined c u t made))
+  -- at most 16 streams
+  pub few-streams : length (streams_of plan.nodes) ≤ length plan.nodes
+  few-streams = streams-few 0 plan.nodes
 
-  pub looked : (look : TheLook) → HasNumbers plan joined c u t look → IsLookAt old look
-  looked look n = subst (λ (o : CoreState). IsLookAt o look) v (is-look k plan l joined c u t look made n)
-
-pub peaked : (plan : RunPlan) (l : ℕ) (joined : Option Joined) (c : List ℕ) (u : List Out) (t : Option Stop) (old : CoreState) → core_of plan l joined c u t ≡ old → IsMadeOf plan l joined
-    → (join peak : ℕ) → IsJoinNode old join → peak ≡ peak_kept (part_in joined) → IsPeak old join peak
-peaked plan l joined c u t old v made join peak n p =
-    subst (λ (o : CoreState). IsPeak o join peak) v
-    (subst (IsPeak (core_of plan l joined c u t) join) (sym p) (is-peak plan l joined c u t join made (subst (λ (o : CoreState). IsJoinNode o join) (sym v) n)))
-
--- ---- a new core
-
-pub fresh-core : (plan : RunPlan) (n l : ℕ) (joined : Option Joined) → IsMadeOf plan l joined → joined ≡ any_fresh n l (plan_join plan) → (c : List ℕ) → c ≡ [] → (u : List Out) → u ≡ []
-    → IsFresh (core_of plan l joined (reverse c) u None) plan l
-fresh-core plan n l joined made j c q u r =
-    subst (λ (z : CoreState). IsFresh z plan l)
-    (ap (λ (z : List ℕ). core_of plan l joined (reverse z) [] None) (sym q) ∙ ap (λ (z : List Out). core_of plan l joined (reverse c) z None) (sym r))
-    (fresh plan n l joined made j)
+  -- a stream is closed
+  pub closed-now : t ≡ None → (stream : ℕ) → stream < length (streams_of old.plan.nodes) → (xs new new' : List Cell) (from : ℕ) (c' : List ℕ) (u' : List Out) → xs ≡ cells → new' ≡ new → from ≡ get_or (streams_of plan.nodes) stream 0
+      → Climbs (record { cells = xs; outs = u }) (record { cells = new; outs = u' }) from (closing_in plan.nodes stream ∷ []) → StaysAs xs new → c' ≡ stream ∷ c
+      → HasArrived old (core_of plan limit new' c' u' t) (arrival_of (closing_of old stream))
+  closed-now e stream there xs new new' from c' u' same same' at C stays closed =
+      subst (λ (o : CoreState). HasArrived old (core_of plan limit new' c' u' t) (arrival_of (closing_of o stream))) is
+      (arrived-now e (record { stream = stream; element = closing_in plan.nodes stream; closing = 1 }) there xs new new' from c' u' same same' at C stays closed)

@@ -121,14 +121,27 @@ abbrev pub CoreTakes : CoreState → CoreState → Option Found → Type 0
 CoreTakes old new None = FindsNone old new
 CoreTakes old new (Some probe) = TakesNext old new probe
 
--- where the rows are the results of the ticket, the ticket is given, and what its join hands up went as far as it goes
+-- the rows are the results of the probe's ticket
+abbrev pub AreResults : CoreState → List Entry → Found → Found → Type 0
+AreResults core history probe found = found.rows ≡ results_of (nodes_in core) history probe.join probe.ticket
+
+-- where the rows are the results of the ticket, the ticket is given, and what its join hands up went as far as it goes, within
+-- the limit
 pub record HasGiven (old new : CoreState) (probe found : Found) : Type 0 where
   pub on : (old.kept.stop ≡ None) × (new.kept.stop ≡ None)
   pub plan : new.plan ≡ old.plan
   pub limit : new.limit ≡ old.limit
-  pub stands : (history : List Entry) → StandsFor old history
-      → found.rows ≡ results_of (nodes_in old) history probe.join probe.ticket
+  pub within : (history : List Entry) → StandsFor old history → AreResults old history probe found
+      → goes_beyond old.limit (nodes_in old) history (Given probe.join probe.ticket) ≡ None
+  pub stands : (history : List Entry) → StandsFor old history → AreResults old history probe found
       → StandsFor new (history ++ plain (Given probe.join probe.ticket) ∷ [])
+
+-- a limit stops the give that brings one element beyond it, at that node, where the rows are the results
+abbrev pub IsGiveCause : CoreState → Found → Found → Stop → Type 0
+IsGiveCause core probe found (Limit node) =
+    (history : List Entry) → StandsFor core history → AreResults core history probe found
+    → goes_beyond core.limit (nodes_in core) history (Given probe.join probe.ticket) ≡ Some node
+IsGiveCause core probe found NoMemory = Unit {0}
 
 -- ---- sweeps
 
@@ -237,7 +250,6 @@ pub record StopsInTurn (old new : CoreState) (turn : Turn) (stop : Stop) : Type 
   pub plan : new.plan ≡ old.plan
   pub limit : new.limit ≡ old.limit
   pub stopped : new.kept.stop ≡ Some stop
-  pub cause : IsCause old (Arrive turn.stream turn.element) stop
   pub takes : (history : List Entry) → StandsFor old history → MayFollow old history (arrival_of turn) → MakesFront old new history turn stop
 
 -- the answer is the stop that was answered before; where there was none the core stops in the turn

@@ -1,8 +1,12 @@
 pub mod Plans
-pub mod Forms
 pub mod Cores
 pub mod Calls
+pub mod Cells
+pub mod Climbing
+pub mod Handed
 pub mod Parts
-pub mod Known
+pub mod Fresh
+pub mod Acts
+pub mod Looks
 pub mod Turns
 pub mod Samples

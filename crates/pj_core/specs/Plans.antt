@@ -1,10 +1,10 @@
 -- The nodes of a plan as histories speak of them, its streams, and which plans a core runs.
-use Rattle.std.specs.Prelude.{ℕ, ◌+◌, ◌≡◌, Bool, true, ◌&&◌, ◌==◌, nat_le, if◌then◌else◌, List, [], ◌∷◌, map, filter, drop, length, slice_index_or}
+use Rattle.std.specs.Prelude.{ℕ, ◌+◌, Bool, if◌then◌else◌, List, [], ◌∷◌, map, filter, drop, length, slice_index_or}
 use Rattle.pj_shape.specs.declared.columns.Column.{Column}
 use Rattle.pj_plan.specs.declared.node.Node.{Node as Operation}
 use Rattle.pj_plan.specs.declared.node.Node.TheVariants.{Stream as StreamNode, Select as SelectNode, Project as ProjectNode, Union as UnionNode, Join as JoinNode, Group as GroupNode}
 use Rattle.pj_plan.specs.declared.node.PlanNode.{PlanNode}
-use Rattle.pj_plan.specs.Nodes.{inputs_of, is_stream, is_join, streams_of, joins_of}
+use Rattle.pj_plan.specs.Nodes.{inputs_of, is_stream, is_join}
 use Rattle.pj_shape.specs.declared.joins.CertStep.{CertStep}
 use Rattle.pj_shape.specs.declared.joins.JoinSpec.{JoinSpec}
 use Rattle.pj_scheme.specs.Derived.{schemes_of, inputs_schemes}
@@ -66,13 +66,3 @@ nodes_with schemes certs (node ∷ nodes) =
 -- the nodes of a plan at their starts
 abbrev pub nodes_of : RunPlan → List Node
 nodes_of plan = nodes_with (schemes_of plan.nodes) plan.certs plan.nodes
-
--- ---- plans that are run
-
--- whether the nodes are streams, but for at most one join
-abbrev pub are_run : List PlanNode → Bool
-are_run nodes = nat_le (length (joins_of nodes)) 1 && (length (streams_of nodes) + length (joins_of nodes) == length nodes)
-
--- there is no node but streams and one join of them
-abbrev pub IsRun : List PlanNode → Type 0
-IsRun nodes = are_run nodes ≡ true

@@ -12,7 +12,7 @@ use Rattle.pj_plan.specs.Names.{AreSpelled}
 use Rattle.pj_plan.specs.Built.{built}
 use Rattle.pj_plan.specs.Laws.{what_of}
 use Rattle.pj_laws.specs.HistoryLaws.{AllAreCertified}
-use Rattle.pj_core.specs.Plans.{IsRun, nodes_of, run_plan}
+use Rattle.pj_core.specs.Plans.{nodes_of, run_plan}
 
 -- ---- rows of one number, or of two where they are wide
 
@@ -88,8 +88,7 @@ chain_certs = ((step 1 0 ∷ step 2 0 ∷ []) ∷ (step 0 0 ∷ step 2 0 ∷ [])
 
 -- ---- what is asked of a sample
 
--- the statements are spelled, and the plan that they make is run with these certificates
+-- the statements are spelled, and these are certificates of the plan that they make
 pub record IsSample (statements : List Stated) (certs : List (List (List CertStep))) : Type 0 where
   pub spelled : AreSpelled (map what_of statements)
-  pub run : (plan : Outline) → built statements 9 ≡ Ok plan → IsRun plan.nodes
   pub certified : (plan : Outline) → built statements 9 ≡ Ok plan → (trace : Bool) → AllAreCertified (nodes_of (run_plan plan.nodes certs trace))

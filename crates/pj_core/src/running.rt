@@ -1,38 +1,40 @@
 // The core of a run.
-ghost use Rattle.std.specs.Prelude.{◌≡◌, ◌<◌, ◌≤◌, ◌^◌, [], ◌∷◌, ◌++◌, None, length, IfErr, IfOk, OnErr, OnOk, IsErrOf};
-ghost use Rattle.pj_pattern.specs.declared.element.Element.TheVariants.{Punct as PunctOf};
+ghost use Rattle.std.specs.Prelude.{◌≡◌, ◌<◌, ◌≤◌, ◌^◌, [], ◌∷◌, ◌++◌, None, length, slice_index_or, IfErr, IfOk, OnErr, OnOk};
 ghost use Rattle.pj_laws.specs.declared.events.Event.TheVariants.{Arrive as Arrives, Drain as Drains, Sweep as Sweeps};
-ghost use Rattle.pj_join.specs.declared.found.Found.{Found};
 ghost use Rattle.pj_laws.specs.HistoryLaws.{AllAreCertified};
 ghost use Rattle.pj_laws.specs.Patterns.{all_wild};
 ghost use Rattle.pj_laws.specs.Join.{has};
+ghost use Rattle.pj_laws.specs.OneThread.{arrival_of, plain};
+ghost use Rattle.pj_join.specs.declared.found.Found.{Found};
 ghost use Rattle.pj_pattern.specs.Fitting.{FitsKinds};
 ghost use Rattle.pj_shape.specs.Columns.{kinds_of};
-ghost use Rattle.pj_laws.specs.OneThread.{arrival_of, plain};
 ghost use Rattle.pj_plan.specs.Nodes.{streams_of};
-ghost use Rattle.pj_core.specs.Plans.{IsRun, nodes_of, run_plan, stream_columns, streams_in};
+ghost use Rattle.pj_core.specs.Plans.{nodes_of, run_plan, stream_columns, streams_in};
+ghost use Rattle.pj_core.specs.Cells.{AreLinked, frames_in};
+ghost use Rattle.pj_core.specs.Climbing.{Climbs, IsClimbStop, StaysAs};
 ghost use Rattle.pj_core.specs.Cores.{Notes};
-ghost use Rattle.pj_core.specs.Calls.{arriving_of, closing_of, ended_of, HasArrived, HasGiven, HasSwept, IsCause, IsFresh, IsJoinInput, IsJoinNode, IsLookAt, IsOpen, IsPeak, IsRefused, StopsNow, CoreTakes};
-ghost use Rattle.pj_core.specs.Turns.{HasPlaces, ListsProbes, MayProbe};
-ghost use Rattle.pj_core.specs.Parts.{FitsAny, HasRoom, IsFull, any_entered, join_stop, outs_after, shape_in};
+ghost use Rattle.pj_core.specs.Parts.{closing_in};
+ghost use Rattle.pj_core.specs.Turns.{MayProbeAt, StopsProbe, places_total};
+ghost use Rattle.pj_plan.specs.Canonical.{node_at};
+ghost use Rattle.pj_core.specs.Calls.{CoreTakes, HasArrived, HasGiven, HasSwept, IsCause, IsFresh, IsGiveCause, IsJoinInput, IsJoinNode, IsLookAt, IsOpen, IsPeak, IsRefused, StopsNow, arriving_of, closing_of, ended_of};
 
-use crate::joined::{
-    Joined, enter, give_to, inputs_in, new_joined, peak_in, pending_in, probe_next, stored_in,
-    sweep, take_next, taken_in, waiting_in,
-};
-use crate::known::known;
-use pj_join::{Found, JoinStop, Probe, hand_out_rows};
+use crate::act::{give_found, probe_on, sweep_at, take_first};
+use crate::build::new_cells;
+use crate::cell::Cell;
+use crate::climb::lift;
+use crate::look::sums_of;
+use pj_join::{Found, Probe};
 use pj_laws::{Look, Out, Stop};
 use pj_pattern::{Element, Pattern, Punct};
-use pj_plan::Plan;
+use pj_plan::{Node, Plan};
 use pj_shape::{Cert, Column};
 use pj_value::{List, NoMemory};
 use std::alloc::Global;
 use std::marker::Model;
 
-/// The core of a plan of streams and at most one join of them: of one stream, or of 2 to 16 streams and a join of them all.
+/// The core of a plan of streams, selects, projects, unions, groups and joins.
 ///
-/// A contract sees its plan with the certificates of its join, its limit, and what it keeps. It stands for a history of its
+/// A contract sees its plan with the certificates of its joins, its limit, and what it keeps. It stands for a history of its
 /// plan where that is what the history leaves, and each call takes it from a history to the same with the entry of the call
 /// behind it.
 #[derive(Drop)]
@@ -42,7 +44,7 @@ pub struct Core {
     certs: List<List<Cert>>,
     trace: bool,
     limit: u64,
-    joined: Option<Joined>,
+    cells: Vec<Cell>,
     closed: List<u32>,
     undrained: List<Out>,
     stop: Option<Stop>,
@@ -57,15 +59,15 @@ impl Model for Core {
     ghost use Rattle.pj_core.specs.Plans.{run_plan};
     ghost use Rattle.pj_core.specs.Parts.{IsMadeOf, core_of};
 
-    ghost view = { λ c. core_of (run_plan c.plan.nodes c.certs c.trace) c.limit c.joined (reverse c.closed) c.undrained c.stop };
+    ghost view = { λ c. core_of (run_plan c.plan.nodes c.certs c.trace) c.limit c.cells.items (reverse c.closed) c.undrained c.stop };
 
-    ghost invariant = { λ c. IsMadeOf (run_plan c.plan.nodes c.certs c.trace) c.limit c.joined };
+    ghost invariant = { λ c. IsMadeOf (run_plan c.plan.nodes c.certs c.trace) c.limit c.cells.items };
 }
 
 impl Core {
-    /// A core of this plan, at whose join at most `limit` elements may arrive, from 1 to 2^40. It stands for the empty
-    /// history. `certs` has a list for each join, in order, with a certificate of each of its inputs for the schemes that are
-    /// derived for them. With `trace` the rows that sweeps remove are noted among what is handed out.
+    /// A core of this plan, at each of whose joins and groups at most `limit` elements may arrive, from 1 to 2^40. It stands for
+    /// the empty history. `certs` has a list for each join, in order, with a certificate of each of its inputs for the schemes
+    /// that are derived for them. With `trace` the rows that sweeps remove are noted among what is handed out.
     pub fn new(
         alloc: Global,
         plan: Plan,
@@ -73,20 +75,18 @@ impl Core {
         limit: u64,
         trace: bool,
     ) -> Result<Core, NoMemory>
-        requires plan { IsRun plan.nodes }
         requires certified { AllAreCertified (nodes_of (run_plan plan.nodes certs trace)) }
         requires limit { (1 ≤ limit) × (limit ≤ 2 ^ 40) }
         ensures { IfOk result (λ core. IsFresh core (run_plan plan.nodes certs trace) limit) }
     {
-        known();
-        let joined = new_joined(alloc, &plan, certs.as_slice(), limit)?;
+        let cells = new_cells(alloc, &plan, certs.as_slice(), limit)?;
         Ok(Core {
             alloc,
             plan,
             certs,
             trace,
             limit,
-            joined,
+            cells,
             closed: List::new(alloc),
             undrained: List::new(alloc),
             stop: None,
@@ -95,31 +95,33 @@ impl Core {
 
     /// An element arrives at a stream, counted from 0. It fits the stream's columns.
     ///
-    /// `Limit` comes exactly where as many elements as may have arrived at the join and this is one more; `NoMemory`
-    /// where memory could not be had. After a stop the core answers the same stop and changes nothing.
+    /// `Limit` comes exactly where as many elements as may have arrived at a join or a group and this brings one more;
+    /// `NoMemory` where memory could not be had. After a stop the core answers the same stop and changes nothing.
     pub fn arrive(&mut self, stream: u32, element: Element) -> Result<(), Stop>
         requires there { stream < length (streams_of self.old.plan.nodes) }
         requires fits { FitsKinds (kinds_of (stream_columns (streams_in self.old.plan.nodes) stream)) element }
         ensures ok { OnOk result (HasArrived self.old self.new (arrival_of (arriving_of stream element))) }
+        ensures open { OnOk result ((probe : Found) → IsOpen self.old probe → IsOpen self.new probe) }
         ensures err { IfErr result (λ stop. IsRefused self.old.kept.stop self.old self.new stop (IsCause self.old (Arrives stream element) stop)) }
     {
-        known();
         match self.stop {
             Some(stop) => Err(stop),
-            None => match enter(
-                self.alloc,
-                &mut self.joined,
-                &mut self.undrained,
-                stream,
-                element,
-            ) {
-                Ok(()) => Ok(()),
-                Err(stop) => {
-                    let met = stop_at_join(self.plan.streams().len() as u32, stop);
-                    self.stop = Some(met);
-                    Err(met)
+            None => {
+                let from = number_of(&self.plan, stream);
+                match lift(
+                    self.alloc,
+                    self.cells.as_mut_slice(),
+                    from,
+                    element,
+                    &mut self.undrained,
+                ) {
+                    Ok(()) => Ok(()),
+                    Err(stop) => {
+                        self.stop = Some(stop);
+                        Err(stop)
+                    }
                 }
-            },
+            }
         }
     }
 
@@ -129,22 +131,21 @@ impl Core {
     pub fn close_stream(&mut self, stream: u32) -> Result<(), Stop>
         requires there { stream < length (streams_of self.old.plan.nodes) }
         ensures ok { OnOk result (HasArrived self.old self.new (arrival_of (closing_of self.old stream))) }
+        ensures open { OnOk result ((probe : Found) → IsOpen self.old probe → IsOpen self.new probe) }
         ensures err { IfErr result (λ stop. IsRefused self.old.kept.stop self.old self.new stop (IsCause self.old (Arrives stream (closing_of self.old stream).element) stop)) }
     {
-        known();
         match self.stop {
             Some(stop) => Err(stop),
             None => match close(
                 self.alloc,
-                columns_at(&self.plan, stream),
-                &mut self.closed,
-                &mut self.joined,
-                &mut self.undrained,
+                &self.plan,
                 stream,
+                &mut self.closed,
+                self.cells.as_mut_slice(),
+                &mut self.undrained,
             ) {
                 Ok(()) => Ok(()),
                 Err(stop) => {
-                    let stop = stop_at_join(self.plan.streams().len() as u32, stop);
                     self.stop = Some(stop);
                     Err(stop)
                 }
@@ -152,7 +153,7 @@ impl Core {
         }
     }
 
-    /// Takes the least ticket that is pending at the join; `None` exactly where none is.
+    /// Takes a ticket: from the first join in order that has one pending, its least; `None` exactly where none is.
     ///
     /// `NoMemory` comes where memory could not be had, any other stop only where it was answered before.
     pub fn take(&mut self) -> Result<Option<Probe>, Stop>
@@ -160,10 +161,9 @@ impl Core {
         ensures ok { IfOk result (λ answer. CoreTakes self.old self.new answer) }
         ensures err { IfErr result (λ stop. IsRefused self.old.kept.stop self.old self.new stop (stop ≡ Stop.NoMemory)) }
     {
-        known();
         match self.stop {
             Some(stop) => Err(stop),
-            None => match take_next(&mut self.joined) {
+            None => match take_first(self.cells.as_mut_slice()) {
                 Ok(answer) => Ok(answer),
                 Err(NoMemory) => {
                     self.stop = Some(Stop::NoMemory);
@@ -173,27 +173,29 @@ impl Core {
         }
     }
 
-    /// Hands out what the work of a probe found, and gives its ticket. The probe was taken from this core and is not
-    /// given yet, and `found` is of its join and ticket.
+    /// Hands up what the work of a probe found, as far as it goes, and gives its ticket. The probe was taken from this core and
+    /// is not given yet, and `found` is of its join and ticket.
     ///
-    /// `NoMemory` comes where memory could not be had, any other stop only where it was answered before.
+    /// The stops are those of an arrival.
     pub fn give(&mut self, probe: Probe, found: Found) -> Result<(), Stop>
         requires open { self.old.kept.stop ≡ None → IsOpen self.old probe }
         requires same { (found.join ≡ probe.join) × (found.ticket ≡ probe.ticket) }
         ensures ok { OnOk result (HasGiven self.old self.new probe found) }
-        ensures err { IfErr result (λ stop. IsRefused self.old.kept.stop self.old self.new stop (stop ≡ Stop.NoMemory)) }
+        ensures err { IfErr result (λ stop. IsRefused self.old.kept.stop self.old self.new stop (IsGiveCause self.old probe found stop)) }
     {
-        known();
         match self.stop {
             Some(stop) => Err(stop),
-            None => match hand_out_rows(self.alloc, &mut self.undrained, found.rows) {
-                Ok(()) => {
-                    give_to(&mut self.joined, probe);
-                    Ok(())
-                }
-                Err(NoMemory) => {
-                    self.stop = Some(Stop::NoMemory);
-                    Err(Stop::NoMemory)
+            None => match give_found(
+                self.alloc,
+                self.cells.as_mut_slice(),
+                probe,
+                found.rows,
+                &mut self.undrained,
+            ) {
+                Ok(()) => Ok(()),
+                Err(stop) => {
+                    self.stop = Some(stop);
+                    Err(stop)
                 }
             },
         }
@@ -209,7 +211,6 @@ impl Core {
         ensures open { OnOk result ((probe : Found) → IsOpen self.old probe → IsOpen self.new probe) }
         ensures err { IfErr result (λ stop. IsRefused self.old.kept.stop self.old self.new stop (IsCause self.old (Sweeps join input) stop)) }
     {
-        known();
         match self.stop {
             Some(stop) => Err(stop),
             None => self.sweep_one(join, input),
@@ -222,88 +223,47 @@ impl Core {
         ensures left { self.new ≡ record self.old { kept = record self.old.kept { undrained = [] } } }
         ensures notes { Notes self.old self.new (plain Drains) }
     {
-        known();
         let empty = List::new(self.alloc);
         std::mem::replace(&mut self.undrained, empty)
     }
 
-    // One probe, where one is pending: its ticket is taken and given, and what its work finds is to be drained.
-    pub(crate) fn probe_one(&mut self) -> Result<bool, Stop>
-        requires { self.old.kept.stop ≡ None }
-        ensures ok { IfOk result (λ more. MayProbe more self.old self.new) }
-        ensures err { IfErr result (λ stop. StopsNow self.old self.new stop × (stop ≡ Stop.NoMemory)) }
-    {
-        known();
-        match probe_next(&mut self.joined, &mut self.undrained) {
-            Ok(more) => Ok(more),
-            Err(NoMemory) => {
-                self.stop = Some(Stop::NoMemory);
-                Err(Stop::NoMemory)
-            }
-        }
-    }
-
-    // One sweep of an input of the join.
+    // One sweep of an input of a join.
     pub(crate) fn sweep_one(&mut self, join: u32, input: u32) -> Result<u64, Stop>
         requires on { self.old.kept.stop ≡ None }
         requires there { IsJoinInput self.old join input }
         ensures ok { IfOk result (λ count. HasSwept self.old self.new join input count) }
         ensures open { OnOk result ((probe : Found) → IsOpen self.old probe → IsOpen self.new probe) }
-        ensures err { IfErr result (λ stop. StopsNow self.old self.new stop × (stop ≡ Stop.NoMemory)) }
+        ensures err { IfErr result (λ stop. StopsNow self.old self.new stop × IsCause self.old (Sweeps join input) stop) }
     {
-        known();
-        match sweep(
+        match sweep_at(
             self.alloc,
-            &mut self.joined,
-            &mut self.undrained,
-            self.trace,
+            self.cells.as_mut_slice(),
             join,
             input,
+            self.trace,
+            &mut self.undrained,
         ) {
             Ok(count) => Ok(count),
-            Err(NoMemory) => {
-                self.stop = Some(Stop::NoMemory);
-                Err(Stop::NoMemory)
+            Err(stop) => {
+                self.stop = Some(stop);
+                Err(stop)
             }
         }
-    }
-
-    // The node behind the streams.
-    pub(crate) fn behind_streams(&self) -> u32
-        ensures { result ≡ length (streams_of self.now.plan.nodes) }
-    {
-        self.plan.streams().len() as u32
-    }
-
-    // How many inputs the join has that stands behind the streams: these are all places of the plan. 0 where there is none.
-    pub(crate) fn places(&self) -> u32
-        ensures { HasPlaces self.now result }
-    {
-        known();
-        inputs_in(&self.joined) as u32
-    }
-
-    // What is pending are all probes that are to be done.
-    pub(crate) fn lists_probes(&self)
-        ensures { ListsProbes self.now }
-    {
-        known();
-        let _stop = self.stop;
     }
 
     /// How the run stands. After a stop only the streams, the outputs that are not drained and the stop are told.
     pub fn look(&self) -> Look
         ensures { IsLookAt self.now result }
     {
-        known();
         let streams = self.plan.streams().len() as u32;
+        let sums = sums_of(self.cells.as_slice());
         Look {
-            pending: pending_in(&self.joined),
-            taken: taken_in(&self.joined),
+            pending: sums.pending,
+            taken: sums.taken,
             streams,
             ended: count_ended(self.closed.as_slice(), streams),
-            stored: stored_in(&self.joined),
-            waiting: waiting_in(&self.joined),
+            stored: sums.stored,
+            waiting: sums.waiting,
             outputs: self.undrained.len() as u64,
             halted: false,
             stop: self.stop,
@@ -317,57 +277,87 @@ impl Core {
         &self.plan
     }
 
-    /// The greatest number of tuples that was stored at the join, which is the node of this number, after any entry so
-    /// far. After a stop nothing is said of it.
+    /// The greatest number of tuples that was stored at the join, which is the node of this number, after any entry so far.
+    /// After a stop nothing is said of it.
     pub fn peak(&self, join: u32) -> u64
         requires { IsJoinNode self.now join }
         ensures { IsPeak self.now join result }
     {
-        peak_in(&self.joined)
+        let cell = &self.cells[join as usize];
+        cell.peak.max(cell.work.stored())
+    }
+
+    // One probe of a join, where one is pending there: its least pending ticket is taken and given.
+    pub(crate) fn probe_at(&mut self, join: u32) -> Result<bool, Stop>
+        requires on { self.old.kept.stop ≡ None }
+        ensures ok { IfOk result (λ more. MayProbeAt more self.old self.new join) }
+        ensures err { IfErr result (λ stop. StopsProbe self.old self.new join stop) }
+    {
+        match probe_on(
+            self.alloc,
+            self.cells.as_mut_slice(),
+            join,
+            &mut self.undrained,
+        ) {
+            Ok(more) => Ok(more),
+            Err(stop) => {
+                self.stop = Some(stop);
+                Err(stop)
+            }
+        }
+    }
+
+    // How many inputs a node has where it is a join, else none.
+    pub(crate) fn places(&self, node: u32) -> u32
+        ensures { result ≡ places_total (node_at self.now.plan.nodes node) }
+    {
+        places_at(&self.plan, node)
+    }
+
+    // How many nodes the plan has.
+    pub(crate) fn nodes(&self) -> u32
+        ensures { result ≡ length self.now.plan.nodes }
+    {
+        self.plan.nodes()
     }
 }
 
-// The stop of a core of so many streams whose join, the node behind them, takes no more.
-fn stop_at_join(streams: u32, stop: JoinStop) -> Stop
-    ensures { result ≡ join_stop streams stop }
-{
-    match stop {
-        JoinStop::Limit => Stop::Limit { node: streams },
-        JoinStop::NoMemory => Stop::NoMemory,
-    }
-}
-
-// The columns of a stream, by its number among the streams.
-#[tactic(auto, using(crate::proofs::Streams::number_below, crate::proofs::Streams::columns_there))]
-pub(crate) fn columns_at(plan: &Plan, stream: u32) -> &[Column]
+// The node of a stream, by its number among the streams.
+#[tactic(auto, using(crate::proofs::Streams::number_below))]
+fn number_of(plan: &Plan, stream: u32) -> u32
     requires { stream < length (streams_of plan.now.nodes) }
-    ensures { result.now ≡ stream_columns (streams_in plan.now.nodes) stream }
+    ensures is { result ≡ slice_index_or (streams_of plan.now.nodes) stream 0 }
+    ensures there { result < length plan.now.nodes }
 {
-    let node = plan.streams()[stream as usize];
-    plan.schema(node).columns()
+    plan.streams()[stream as usize]
 }
 
-// Marks the stream of these columns as closed, and hands a punctuation of wildcards alone to the join; where there is none it
-// is handed out. On a refusal the outputs are as before.
+// Marks the stream as closed, and lets a punctuation with a wildcard for each of its columns arrive. On a refusal the outputs are
+// as before.
 fn close(
     alloc: Global,
-    columns: &[Column],
-    closed: &mut List<u32>,
-    joined: &mut Option<Joined>,
-    outs: &mut List<Out>,
+    plan: &Plan,
     stream: u32,
-) -> Result<(), JoinStop>
-    requires fits { FitsAny joined.old stream (PunctOf (all_wild (length columns.now))) }
+    closed: &mut List<u32>,
+    cells: &mut [Cell],
+    outs: &mut List<Out>,
+) -> Result<(), Stop>
+    requires there { stream < length (streams_of plan.now.nodes) }
+    requires long { length cells.old ≡ length plan.now.nodes }
+    requires linked { AreLinked (frames_in cells.old) }
     ensures closed { OnOk result (closed.new ≡ closed.old ++ stream ∷ []) }
-    ensures joined { OnOk result (joined.new ≡ any_entered joined.old stream (PunctOf (all_wild (length columns.now)))) }
-    ensures outs { OnOk result (outs.new ≡ outs_after joined.old outs.old stream (PunctOf (all_wild (length columns.now)))) }
-    ensures room { OnOk result (HasRoom joined.old) }
-    ensures full { IsErrOf result JoinStop.Limit → IsFull joined.old }
-    ensures refused { OnErr result ((shape_in joined.new ≡ shape_in joined.old) × (outs.new ≡ outs.old)) }
+    ensures ok { OnOk result (Climbs (record { cells = cells.old; outs = outs.old }) (record { cells = cells.new; outs = outs.new }) (slice_index_or (streams_of plan.now.nodes) stream 0) (closing_in plan.now.nodes stream ∷ [])) }
+    ensures err { IfErr result (λ stop. IsClimbStop cells.old (slice_index_or (streams_of plan.now.nodes) stream 0) (closing_in plan.now.nodes stream ∷ []) stop) }
+    ensures stays { StaysAs cells.old cells.new }
+    ensures refused { OnErr result (outs.new ≡ outs.old) }
 {
-    match mark(alloc, columns, closed, stream) {
-        Ok(punct) => enter(alloc, joined, outs, stream, Element::Punct(punct)),
-        Err(NoMemory) => Err(JoinStop::NoMemory),
+    let from = number_of(plan, stream);
+    match mark(alloc, plan.schema(from).columns(), closed, stream) {
+        Ok(punct) => match lift(alloc, cells, from, Element::Punct(punct), outs) {
+            Ok(()) => Ok(()),
+            Err(stop) => Err(stop),
+        },
+        Err(NoMemory) => Err(Stop::NoMemory),
     }
 }
 
@@ -415,4 +405,24 @@ fn is_closed(closed: &[u32], stream: u32) -> bool
     ensures { result ≡ has closed.now stream }
 {
     closed.iter().any(|other| *other == stream)
+}
+
+// How many inputs a node has where it is a join, else none.
+fn places_at(plan: &Plan, node: u32) -> u32
+    ensures { result ≡ places_total (node_at plan.now.nodes node) }
+{
+    if node >= plan.nodes() {
+        return 0;
+    }
+    match plan.node(node) {
+        Node::Stream { schemes: _ } => 0,
+        Node::Select { input: _, test: _ } => 0,
+        Node::Project {
+            input: _,
+            columns: _,
+        } => 0,
+        Node::Union { inputs: _ } => 0,
+        Node::Join { inputs, spec: _ } => inputs.len() as u32,
+        Node::Group { input: _, spec: _ } => 0,
+    }
 }

@@ -10,7 +10,6 @@ ghost use Rattle.pj_core.specs.Plans.{stream_columns, streams_in};
 ghost use Rattle.pj_core.specs.Samples.{IsSample, begun as beginning, chain_certs as certs_of_chain, chain_statements, join as join_of, kinds, lone_statements, number_column, output as output_of, pair_certs as certs_of_pair, pair_statements, scheme as scheme_of, step as step_of, stream as stream_of};
 
 use super::*;
-use crate::running::columns_at;
 use pj_pattern::{Element, Pattern, Punct, Shape};
 use pj_plan::{ColumnWord, Node, Plan, Stated, Statement};
 use pj_shape::{Cert, CertStep, Column};
@@ -253,6 +252,16 @@ fn are_numbers(columns: &[Column], wide: bool) -> bool
     } else {
         columns.len() == 1 && columns[0].kind == Kind::Int
     }
+}
+
+// The columns of a stream, by its number among the streams.
+#[tactic(auto, using(crate::proofs::Streams::number_below, crate::proofs::Streams::columns_there))]
+fn columns_at(plan: &Plan, stream: u32) -> &[Column]
+    requires { stream < length (streams_of plan.now.nodes) }
+    ensures { result.now ≡ stream_columns (streams_in plan.now.nodes) stream }
+{
+    let node = plan.streams()[stream as usize];
+    plan.schema(node).columns()
 }
 
 fn takes(plan: &Plan, stream: u32, wide: bool) -> bool

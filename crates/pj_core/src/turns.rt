@@ -6,7 +6,7 @@ ghost use Rattle.pj_plan.specs.Nodes.{streams_of};
 ghost use Rattle.pj_laws.specs.OneThread.{is_punct as brings_punct};
 ghost use Rattle.pj_core.specs.Plans.{stream_columns, streams_in};
 ghost use Rattle.pj_core.specs.Calls.{IsJoinInput, IsTurnRefused, MakesTurn, arriving_of, closing_of};
-ghost use Rattle.pj_core.specs.Turns.{Finishes, Makes, ProbesAll, StopsMaking, StopsProbing, probing, sweeping, sweeping_all, swept_where, working};
+ghost use Rattle.pj_core.specs.Turns.{Finishes, IsSoundCore, Makes, StopsMaking, probing, probing_at, sweeping, sweeping_all, sweeping_at, swept_where, working};
 
 use crate::Core;
 use pj_laws::{Out, Stop};
@@ -18,7 +18,9 @@ impl Core {
     /// is a punctuation, each join is then swept, input by input, and all that is pending after each sweep is done. At the end
     /// all that was not drained is handed out.
     ///
-    /// The stops are those of an arrival. Where the core stops in the turn, what it gained before stays to be drained.
+    /// `Limit` comes exactly where an entry of the turn brings one element more to a join or a group than may reach it; `NoMemory`
+    /// where memory could not be had. What the turn gained before stays to be drained. After a stop the core answers the same
+    /// stop and changes nothing.
     pub fn turn(&mut self, stream: u32, element: Element) -> Result<List<Out>, Stop>
         requires there { stream < length (streams_of self.old.plan.nodes) }
         requires fits { FitsKinds (kinds_of (stream_columns (streams_in self.old.plan.nodes) stream)) element }
@@ -50,22 +52,19 @@ impl Core {
         }
     }
 
-    // All probes, where `sweeps` a sweep of each input of the join with all probes after each, and a drain.
+    // All probes, where `sweeps` a sweep of each input of each join with all probes after each, and a drain.
     fn finish_turn(&mut self, sweeps: bool) -> Result<List<Out>, Stop>
         requires { self.old.kept.stop ≡ None }
         ensures ok { IfOk result (λ outs. Finishes sweeps self.old self.new outs) }
         ensures err { IfErr result (λ stop. StopsMaking self.old self.new (working sweeps self.old) stop) }
     {
         match self.work(sweeps) {
-            Ok(()) => {
-                self.lists_probes();
-                Ok(self.drain())
-            }
+            Ok(()) => Ok(self.drain()),
             Err(stop) => Err(stop),
         }
     }
 
-    // All probes, and where `sweeps` a sweep of each input of the join with all probes after each.
+    // All probes, and where `sweeps` a sweep of each input of each join with all probes after each.
     fn work(&mut self, sweeps: bool) -> Result<(), Stop>
         requires { self.old.kept.stop ≡ None }
         ensures ok { OnOk result (Makes self.old self.new (working sweeps self.old)) }
@@ -95,16 +94,15 @@ impl Core {
         }
     }
 
-    // A sweep of each input of the join in order, and all probes after each.
+    // A sweep of each input of each join in order, and all probes after each.
     fn sweep_all(&mut self) -> Result<(), Stop>
         requires { self.old.kept.stop ≡ None }
         ensures ok { OnOk result (Makes self.old self.new (sweeping_all self.old)) }
         ensures err { IfErr result (λ stop. StopsMaking self.old self.new (sweeping_all self.old) stop) }
     {
-        let join = self.behind_streams();
-        let inputs = self.places();
-        for input in 0..inputs {
-            match self.sweep_and_probe(join, input) {
+        let nodes = self.node_count();
+        for node in 0..nodes {
+            match self.sweep_node(node) {
                 Ok(()) => {}
                 Err(stop) => return Err(stop),
             }
@@ -112,7 +110,24 @@ impl Core {
         Ok(())
     }
 
-    // A sweep of an input of the join, and all probes.
+    // Where the node is a join, a sweep of each of its inputs in order, and all probes after each.
+    fn sweep_node(&mut self, node: u32) -> Result<(), Stop>
+        requires on { self.old.kept.stop ≡ None }
+        requires there { node < length self.old.plan.nodes }
+        ensures ok { OnOk result (Makes self.old self.new (sweeping_at self.old node)) }
+        ensures err { IfErr result (λ stop. StopsMaking self.old self.new (sweeping_at self.old node) stop) }
+    {
+        let inputs = self.places(node);
+        for input in 0..inputs {
+            match self.sweep_and_probe(node, input) {
+                Ok(()) => {}
+                Err(stop) => return Err(stop),
+            }
+        }
+        Ok(())
+    }
+
+    // A sweep of an input of a join, and all probes.
     fn sweep_and_probe(&mut self, join: u32, input: u32) -> Result<(), Stop>
         requires on { self.old.kept.stop ≡ None }
         requires there { IsJoinInput self.old join input }
@@ -128,32 +143,44 @@ impl Core {
         }
     }
 
-    // Takes and gives every pending ticket, in order: these are all probes.
+    // Takes and gives every pending ticket, node by node.
     fn probe_all(&mut self) -> Result<(), Stop>
         requires { self.old.kept.stop ≡ None }
         ensures ok { OnOk result (Makes self.old self.new (probing self.old)) }
         ensures err { IfErr result (λ stop. StopsMaking self.old self.new (probing self.old) stop) }
     {
-        self.lists_probes();
-        match self.probe_each() {
-            Ok(()) => Ok(()),
-            Err(stop) => Err(stop),
+        let nodes = self.node_count();
+        for node in 0..nodes {
+            match self.probe_node(node) {
+                Ok(()) => {}
+                Err(stop) => return Err(stop),
+            }
         }
+        Ok(())
     }
 
-    // Takes and gives every pending ticket, in order.
-    fn probe_each(&mut self) -> Result<(), Stop>
-        requires { self.old.kept.stop ≡ None }
-        ensures ok { OnOk result (ProbesAll self.old self.new) }
-        ensures err { IfErr result (λ stop. StopsProbing self.old self.new stop) }
+    // Takes and gives every ticket that is pending at a node, in order.
+    fn probe_node(&mut self, node: u32) -> Result<(), Stop>
+        requires on { self.old.kept.stop ≡ None }
+        requires sound { IsSoundCore self.old }
+        ensures ok { OnOk result (Makes self.old self.new (probing_at self.old node)) }
+        ensures err { IfErr result (λ stop. StopsMaking self.old self.new (probing_at self.old node) stop) }
     {
         'probing: loop {
-            match self.probe_one() {
+            match self.probe_at(node) {
                 Ok(true) => {}
                 Ok(false) => return Ok(()),
                 Err(stop) => return Err(stop),
             }
         }
+    }
+
+    // The number of nodes of the plan, which is sound.
+    fn node_count(&self) -> u32
+        ensures count { result ≡ length self.now.plan.nodes }
+        ensures sound { IsSoundCore self.now }
+    {
+        self.plan().nodes()
     }
 }
 

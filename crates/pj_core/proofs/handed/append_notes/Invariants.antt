@@ -1,5 +1,5 @@
 use Rattle.std.proofs.Common.{◌≡◌, ◌++◌, true}
-use Rattle.pj_core.specs.Parts.{notes_out}
+use Rattle.pj_core.specs.Handed.{notes_out}
 use Rattle.pj_core.proofs.handed.append_notes.Given as goal
 
 abbrev pub invariant-loop-row : goal.invariant-loop-row

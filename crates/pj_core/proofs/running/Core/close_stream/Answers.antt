@@ -1,33 +1,40 @@
-use Rattle.std.proofs.Common.{ap, length, refl, reverse}
-use Rattle.std.specs.Prelude.{Err}
-use Rattle.pj_core.proofs.Fresh.{made-entered, made-same}
-use Rattle.pj_core.proofs.Words.{arrived-closed, cause-is, closing-fits, refused-again, refused-now}
+use Rattle.std.proofs.Common.{◌++◌, [], ◌∷◌, ap, length, refl, reverse, rules, subst, sym, ◌∙◌}
+use Rattle.std.proofs.lemmas.List.{places, reverse-append, with_items_is}
+use Rattle.pj_plan.specs.Nodes.{streams_of}
+use Rattle.pj_laws.specs.declared.events.Event.TheVariants.{Arrive}
+use Rattle.pj_laws.specs.OneThread.{arrival_of}
+use Rattle.pj_core.specs.Calls.{HasArrived, IsCause, closing_of}
+use Rattle.pj_core.specs.Parts.{closing_in}
 use Rattle.pj_core.specs.Plans.{run_plan}
+use Rattle.pj_core.proofs.Words.{arrival-cause, closed-now, linked-cells, long-cells, opens-now, refused-again, refused-now, streams-here}
 use Rattle.pj_core.proofs.running.Core.close_stream.Goals as goal
 
-pub close-requires : goal.close-requires
-close-requires c = record { fits = closing-fits c.known.ensures (run_plan c.self.inside.plan.nodes c.self.inside.certs c.self.inside.trace) c.self.inside.limit c.self.inside.joined (reverse c.self.inside.closed) c.self.inside.undrained c.self.inside.stop c.args.self.now c.self.view_is c.self.invariant c.columns_at.result.now c.args.stream c.columns_at.ensures c.requires.there }
+pub close-requires-clause-there : goal.close-requires-clause-there
+close-requires-clause-there c = streams-here (run_plan c.self.inside.plan.nodes c.self.inside.certs c.self.inside.trace) c.self.inside.limit c.self.inside.cells.items (reverse c.self.inside.closed) c.self.inside.undrained c.self.inside.stop c.args.self.now c.self.view_is c.self.invariant c.args.stream c.requires.there
+
+pub close-requires-clause-long : goal.close-requires-clause-long
+close-requires-clause-long c = long-cells (run_plan c.self.inside.plan.nodes c.self.inside.certs c.self.inside.trace) c.self.inside.limit c.self.inside.cells.items (reverse c.self.inside.closed) c.self.inside.undrained c.self.inside.stop c.args.self.now c.self.view_is c.self.invariant c.as_mut_slice.result.now c.as_mut_slice.ensures.value
+
+pub close-requires-clause-linked : goal.close-requires-clause-linked
+close-requires-clause-linked c = linked-cells (run_plan c.self.inside.plan.nodes c.self.inside.certs c.self.inside.trace) c.self.inside.limit c.self.inside.cells.items (reverse c.self.inside.closed) c.self.inside.undrained c.self.inside.stop c.args.self.now c.self.view_is c.self.invariant c.as_mut_slice.result.now c.as_mut_slice.ensures.value
 
 pub returns-in-Some-clause-err : goal.returns-in-Some-clause-err
-returns-in-Some-clause-err c = refused-again c.known.ensures (run_plan c.self.inside.plan.nodes c.self.inside.certs c.self.inside.trace) c.self.inside.limit c.self.inside.joined (reverse c.self.inside.closed) c.self.inside.undrained c.self.inside.stop c.args.self.now c.self.view_is c.self.invariant c.in-Some.stop _ c.in-Some.is
+returns-in-Some-clause-err c = refused-again (run_plan c.self.inside.plan.nodes c.self.inside.certs c.self.inside.trace) c.self.inside.limit c.self.inside.cells.items (reverse c.self.inside.closed) c.self.inside.undrained c.self.inside.stop c.args.self.now c.self.view_is c.self.invariant c.in-Some.stop _ c.in-Some.is
 
 pub returns-in-Ok-clause-ok : goal.returns-in-Ok-clause-ok
 returns-in-Ok-clause-ok c =
-    arrived-closed c.known.ensures (run_plan c.self.inside.plan.nodes c.self.inside.certs c.self.inside.trace) c.self.inside.limit c.self.inside.joined (reverse c.self.inside.closed) c.self.inside.undrained c.self.inside.stop c.args.self.now c.self.view_is c.self.invariant
-    c.columns_at.result.now c.args.stream c.columns_at.ensures c.in-None.is c.requires.there
-    c.self.inside.closed c.close.new.joined c.close.new.closed c.close.new.outs refl
-    c.in-Ok.ensures.joined c.in-Ok.ensures.closed c.in-Ok.ensures.outs c.in-Ok.ensures.room
+    closed-now (run_plan c.self.inside.plan.nodes c.self.inside.certs c.self.inside.trace) c.self.inside.limit c.self.inside.cells.items (reverse c.self.inside.closed) c.self.inside.undrained c.self.inside.stop c.args.self.now c.self.view_is c.self.invariant
+    c.in-None.is c.args.stream c.requires.there c.as_mut_slice.result.now c.close.new.cells _ _ _ c.close.new.outs c.as_mut_slice.ensures.value (with_items_is c.self.inside.cells c.close.new.cells (search (rules, places))) refl
+    c.in-Ok.ensures.ok c.close.ensures.stays (ap reverse c.in-Ok.ensures.closed ∙ reverse-append c.self.inside.closed (c.args.stream ∷ []))
+
+pub returns-in-Ok-clause-open : goal.returns-in-Ok-clause-open
+returns-in-Ok-clause-open c =
+    opens-now (run_plan c.self.inside.plan.nodes c.self.inside.certs c.self.inside.trace) c.self.inside.limit c.self.inside.cells.items (reverse c.self.inside.closed) c.self.inside.undrained c.self.inside.stop c.args.self.now c.self.view_is c.self.invariant
+    c.as_mut_slice.result.now c.close.new.cells _ (reverse c.close.new.closed) c.close.new.outs c.self.inside.stop c.as_mut_slice.ensures.value (with_items_is c.self.inside.cells c.close.new.cells (search (rules, places))) c.close.ensures.stays.opens
 
 pub returns-in-Err-clause-err : goal.returns-in-Err-clause-err
 returns-in-Err-clause-err c =
-    refused-now c.known.ensures (run_plan c.self.inside.plan.nodes c.self.inside.certs c.self.inside.trace) c.self.inside.limit c.self.inside.joined (reverse c.self.inside.closed) c.self.inside.undrained c.self.inside.stop c.args.self.now c.self.view_is c.self.invariant
-    c.close.new.joined _ c.close.new.outs _ _ c.in-None.is c.in-Err.ensures.refused.1
-    (rw c.stop_at_join-stop.ensures
-    (cause-is c.known.ensures (run_plan c.self.inside.plan.nodes c.self.inside.certs c.self.inside.trace) c.self.inside.limit c.self.inside.joined (reverse c.self.inside.closed) c.self.inside.undrained c.self.inside.stop c.args.self.now c.self.view_is c.self.invariant
-    c.in-None.is c.args.stream c.requires.there _ _ c.in-Err.stop (ap length c.streams.ensures) (λ e. c.in-Err.ensures.full (ap Err e))))
-
-pub invariant_of-self : goal.invariant_of-self
-invariant_of-self c = made-entered (run_plan c.self.inside.plan.nodes c.self.inside.certs c.self.inside.trace) c.self.inside.limit c.self.inside.joined c.close.new.joined c.args.stream _ c.self.invariant c.in-Ok.ensures.joined
-
-pub invariant_of-self-in-Err : goal.invariant_of-self-in-Err
-invariant_of-self-in-Err c = made-same (run_plan c.self.inside.plan.nodes c.self.inside.certs c.self.inside.trace) c.self.inside.limit c.self.inside.joined c.close.new.joined c.self.invariant c.in-Err.ensures.refused.0
+    refused-now (run_plan c.self.inside.plan.nodes c.self.inside.certs c.self.inside.trace) c.self.inside.limit c.self.inside.cells.items (reverse c.self.inside.closed) c.self.inside.undrained c.self.inside.stop c.args.self.now c.self.view_is c.self.invariant
+    _ _ c.close.new.outs c.in-Err.stop (λ o. IsCause o (Arrive c.args.stream (closing_of o c.args.stream).element) c.in-Err.stop) c.in-None.is c.in-Err.ensures.refused
+    (arrival-cause (run_plan c.self.inside.plan.nodes c.self.inside.certs c.self.inside.trace) c.self.inside.limit c.self.inside.cells.items (reverse c.self.inside.closed) c.self.inside.undrained c.self.inside.stop c.args.self.now c.self.view_is c.self.invariant
+    c.args.stream (closing_in c.self.inside.plan.nodes c.args.stream) c.as_mut_slice.result.now _ c.in-Err.stop c.requires.there c.as_mut_slice.ensures.value refl c.in-Err.ensures.err)

@@ -1,7 +1,14 @@
-use Rattle.std.proofs.Common.{◌∙◌, reverse}
-use Rattle.pj_core.proofs.Words.{drained}
+use Rattle.std.proofs.Common.{reverse, subst, sym, ◌∙◌}
+use Rattle.pj_laws.specs.declared.events.Event.TheVariants.{Drain}
+use Rattle.pj_laws.specs.OneThread.{plain}
+use Rattle.pj_core.specs.Cores.{Notes}
+use Rattle.pj_core.specs.Parts.{core_of}
 use Rattle.pj_core.specs.Plans.{run_plan}
+use Rattle.pj_core.proofs.Words.{drains-now}
 use Rattle.pj_core.proofs.running.Core.drain.Goals as goal
 
 pub returns-clause-notes : goal.returns-clause-notes
-returns-clause-notes c = drained c.known.ensures (run_plan c.self.inside.plan.nodes c.self.inside.certs c.self.inside.trace) c.self.inside.limit c.self.inside.joined (reverse c.self.inside.closed) c.self.inside.undrained c.self.inside.stop c.args.self.now c.self.view_is c.self.invariant c.replace.new.dest (c.replace.ensures.after ∙ c.new-empty.ensures)
+returns-clause-notes c =
+    subst (λ u. Notes c.args.self.now (core_of (run_plan c.self.inside.plan.nodes c.self.inside.certs c.self.inside.trace) c.self.inside.limit c.self.inside.cells.items (reverse c.self.inside.closed) u c.self.inside.stop) (plain Drain))
+    (sym (c.replace.ensures.after ∙ c.new-empty.ensures))
+    (drains-now (run_plan c.self.inside.plan.nodes c.self.inside.certs c.self.inside.trace) c.self.inside.limit c.self.inside.cells.items (reverse c.self.inside.closed) c.self.inside.undrained c.self.inside.stop c.args.self.now c.self.view_is c.self.invariant)

@@ -1,7 +1,8 @@
-use Rattle.std.proofs.Common.{reverse}
-use Rattle.pj_core.proofs.Words.{refused-again}
+use Rattle.std.proofs.Common.{None, refl, reverse, rules, subst}
+use Rattle.std.proofs.lemmas.List.{places, with_items_is}
 use Rattle.pj_core.specs.Plans.{run_plan}
+use Rattle.pj_core.proofs.Words.{refused-again}
 use Rattle.pj_core.proofs.running.Core.sweep.Goals as goal
 
 pub returns-in-Some-clause-err : goal.returns-in-Some-clause-err
-returns-in-Some-clause-err c = refused-again c.known.ensures (run_plan c.self.inside.plan.nodes c.self.inside.certs c.self.inside.trace) c.self.inside.limit c.self.inside.joined (reverse c.self.inside.closed) c.self.inside.undrained c.self.inside.stop c.args.self.now c.self.view_is c.self.invariant c.in-Some.stop _ c.in-Some.is
+returns-in-Some-clause-err c = refused-again (run_plan c.self.inside.plan.nodes c.self.inside.certs c.self.inside.trace) c.self.inside.limit c.self.inside.cells.items (reverse c.self.inside.closed) c.self.inside.undrained c.self.inside.stop c.args.self.now c.self.view_is c.self.invariant c.in-Some.stop _ c.in-Some.is

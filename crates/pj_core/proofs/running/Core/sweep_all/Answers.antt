@@ -1,11 +1,19 @@
-use Rattle.pj_core.proofs.Making.{sweeps-more, sweeps-stop}
+use Rattle.std.proofs.Common.{arith}
+use Rattle.pj_core.proofs.Places.{sweeps-end, sweeps-more, sweeps-stop}
 use Rattle.pj_core.proofs.running.Core.sweep_all.Goals as goal
 
-pub loop-input-preserved : goal.loop-input-preserved
-loop-input-preserved c =
-    sweeps-more c.args.self.now c.loop-input.self c.sweep_and_probe.new.self c.behind_streams-join.result c.loop-input.input c.loop-input.invariant c.in-Ok.ensures.ok
+pub loop-node-preserved : goal.loop-node-preserved
+loop-node-preserved c =
+    sweeps-more c.args.self.now c.loop-node.self c.sweep_node.new.self c.loop-node.node c.node_count-nodes.result c.node_count-nodes.ensures.count c.loop-node-test.true c.loop-node.invariant c.in-Ok.ensures.ok
 
 pub returns-in-Err-clause-err : goal.returns-in-Err-clause-err
 returns-in-Err-clause-err c =
-    sweeps-stop c.args.self.now c.loop-input.self c.sweep_and_probe.new.self c.behind_streams-join.result c.loop-input.input c.places-inputs.result c.in-Err.stop
-    c.places-inputs.ensures c.behind_streams-join.ensures c.requires c.loop-input-test.true c.loop-input.invariant c.in-Err.ensures.err
+    sweeps-stop c.args.self.now c.loop-node.self c.sweep_node.new.self c.loop-node.node c.node_count-nodes.result c.in-Err.stop c.node_count-nodes.ensures.sound c.node_count-nodes.ensures.count c.loop-node-test.true
+    c.loop-node.invariant c.in-Err.ensures.err
+
+pub returns-clause-ok : goal.returns-clause-ok
+returns-clause-ok c =
+    let most = c.loop-node.auto.node-end in
+    let all = c.loop-node-test.false in
+    let count = c.node_count-nodes.ensures.count in
+    sweeps-end c.args.self.now c.loop-node.self c.loop-node.node c.node_count-nodes.ensures.sound (omega (arith, most, all, count)) c.loop-node.invariant

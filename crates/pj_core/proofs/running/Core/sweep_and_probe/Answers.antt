@@ -1,5 +1,4 @@
-use Rattle.pj_core.proofs.Making.{makes-sweeping, stops-first, stops-sweeping}
-use Rattle.pj_core.specs.Turns.{sweeping}
+use Rattle.pj_core.proofs.Making.{makes-sweeping, stops-at-sweep, stops-sweeping}
 use Rattle.pj_core.proofs.running.Core.sweep_and_probe.Goals as goal
 
 pub returns-in-Ok-probe_all-clause-ok : goal.returns-in-Ok-probe_all-clause-ok
@@ -12,4 +11,4 @@ returns-in-Err-probe_all-clause-err c =
 
 pub returns-in-Err-clause-err : goal.returns-in-Err-clause-err
 returns-in-Err-clause-err c =
-    stops-first c.args.self.now c.sweep_one.new.self (sweeping c.args.self.now c.args.join c.args.input) c.in-Err.stop c.in-Err.ensures.err.0 c.in-Err.ensures.err.1
+    stops-at-sweep c.args.self.now c.sweep_one.new.self c.args.join c.args.input c.in-Err.stop c.in-Err.ensures.err.0 c.in-Err.ensures.err.1

@@ -1,0 +1,130 @@
+-- An element arrives at a core.
+use Rattle.std.proofs.Common.{ℕ, ◌+◌, ◌<◌, ◌≤◌, Bool, true, false, cond, List, [], ◌∷◌, ◌++◌, ◌≡◌, ◌⊎◌, Option, Some, None, length, get_or, reverse, set, refl, sym, ap, ap₂, ◌∙◌, subst, inl, inr, arith, append-nil}
+use Rattle.std.proofs.lemmas.Bool.{false≢true}
+use Rattle.std.proofs.lemmas.List.{set-get_or}
+use Rattle.pj_plan.specs.declared.node.Node.{Node as Operation}
+use Rattle.pj_plan.specs.declared.node.Node.TheVariants.{Stream as StreamNode, Select as SelectNode, Project as ProjectNode, Union as UnionNode, Join as JoinNode, Group as GroupNode}
+use Rattle.pj_core.specs.Parts.{plan_node}
+use Rattle.pj_plan.specs.Nodes.{is_stream, streams_of}
+use Rattle.pj_scheme.specs.Derived.{schemes_of}
+use Rattle.pj_pattern.specs.declared.element.Element.{Element}
+use Rattle.pj_laws.specs.declared.events.Entry.{Entry}
+use Rattle.pj_laws.specs.declared.events.Event.TheVariants.{Arrive}
+use Rattle.pj_laws.specs.declared.events.Out.{Out}
+use Rattle.pj_laws.specs.declared.events.Stop.{Stop}
+use Rattle.pj_laws.specs.declared.events.Stop.TheVariants.{Limit, NoMemory}
+use Rattle.pj_laws.specs.Plan.{Operator, Stream, Select, Project, Union, Join, Group, Node, Fed, after, hands, nowhere, operator_at}
+use Rattle.pj_laws.specs.History.{IsEntryAllowed, closed_after, nodes_from, reached_of, stream_node}
+use Rattle.pj_laws.specs.OneThread.{Turn, arrival_of}
+use Rattle.pj_laws.specs.Climb.{stepped}
+use Rattle.pj_laws.specs.Outcomes.{goes_beyond}
+use Rattle.pj_core.specs.declared.cell.Cell.{Cell}
+use Rattle.pj_core.specs.declared.cell.Work.{Work}
+use Rattle.pj_core.specs.Cells.{AreAs, Frame, IsAs, IsKind, Kind, StreamKind, cell_at, frame_at, frame_of, frames_in, kind_of, no_cell}
+use Rattle.pj_core.specs.Climbing.{Climbs, GoBeyond, IsClimbStop, StaysAs}
+use Rattle.pj_core.specs.Cores.{StandsFor}
+use Rattle.pj_core.specs.Calls.{HasArrived, IsCause}
+use Rattle.pj_core.specs.Parts.{IsMadeOf, core_of, kind_for}
+use Rattle.pj_core.specs.Plans.{RunPlan, nodes_of}
+use Rattle.pj_core.proofs.Climbs.{frame-at}
+use Rattle.pj_core.proofs.Events.{Steps, beyond-is, note, steps-still, stored_of}
+use Rattle.pj_core.proofs.Frames.{certs_at, frame-is, kind-after}
+use Rattle.pj_core.proofs.Stands.{are, long-now}
+use Rattle.pj_core.proofs.Streams.{number_below, stream-number, stream-there}
+
+-- ---- at the stream
+
+stream-kind : (schemes : List (List (List Bool))) (limit n : ℕ) (certs : List (List _)) (columns : List _) (operation : Operation) → is_stream operation ≡ true → kind_for schemes limit n certs columns operation ≡ StreamKind
+stream-kind schemes limit n certs columns (StreamNode stated) t = refl
+stream-kind schemes limit n certs columns (SelectNode input test) t = absurd (false≢true t)
+stream-kind schemes limit n certs columns (ProjectNode input kept) t = absurd (false≢true t)
+stream-kind schemes limit n certs columns (UnionNode inputs) t = absurd (false≢true t)
+stream-kind schemes limit n certs columns (JoinNode inputs spec) t = absurd (false≢true t)
+stream-kind schemes limit n certs columns (GroupNode input spec) t = absurd (false≢true t)
+
+hands-fed : (operator : Operator) (e : Element) → IsKind StreamKind operator → hands operator (Fed e) ≡ e ∷ []
+hands-fed (Stream schema sent) e k = refl
+hands-fed (Select test) e k = absurd k
+hands-fed (Project columns) e k = absurd k
+hands-fed (Union n u) e k = absurd k
+hands-fed (Join spec s) e k = absurd k
+hands-fed (Group spec rows) e k = absurd k
+
+as-fed : (work : Work) (operator : Operator) (e : Element) → IsAs work operator → IsAs work (after operator (Fed e))
+as-fed work (Stream schema sent) e a = record { kind = kind-after (kind_of work) (Stream schema sent) (Fed e) a.kind; kept = a.kept; below = tt }
+as-fed work (Select test) e a = a
+as-fed work (Project columns) e a = a
+as-fed work (Union n u) e a = a
+as-fed work (Join spec s) e a = a
+as-fed work (Group spec rows) e a = a
+
+stored-fed : (operator : Operator) (e : Element) → stored_of operator ≤ stored_of (after operator (Fed e))
+stored-fed (Stream schema sent) e = omega arith
+stored-fed (Select test) e = omega arith
+stored-fed (Project columns) e = omega arith
+stored-fed (Union n u) e = omega arith
+stored-fed (Join spec s) e = omega arith
+stored-fed (Group spec rows) e = omega arith
+
+module _ (plan : RunPlan) (limit : ℕ) (cells : List Cell) (made : IsMadeOf plan limit cells) (c : List ℕ) (u : List Out) (history : List Entry) (S : StandsFor (core_of plan limit cells c u None) history)
+    (stream : ℕ) (there : stream < length (streams_of plan.nodes)) (e : Element) where
+  abbrev number : ℕ
+  number = get_or (streams_of plan.nodes) stream 0
+
+  abbrev nodes : List Node
+  nodes = nodes_from (nodes_of plan) history
+
+  A : AreAs cells nodes
+  A = are plan limit cells made c u history S
+
+  within : number < length cells
+  within = omega (arith, number_below plan.nodes stream there, A.long, long-now plan limit history made.0 S.legal)
+
+  stream-is : (kind_of (cell_at cells number).work) ≡ StreamKind
+  stream-is =
+      ap (λ (f : Frame). f.kind) (sym (frame-at cells number) ∙ ap (λ (fs : List Frame). frame_at fs number) made.2 ∙ frame-is plan limit number (number_below plan.nodes stream there))
+      ∙ stream-kind (schemes_of plan.nodes) limit number (certs_at plan.nodes plan.certs number) (plan_node plan.nodes number).schema (plan_node plan.nodes number).node (stream-there plan.nodes stream there)
+
+  handed : hands (operator_at nodes number) (Fed e) ≡ e ∷ []
+  handed = hands-fed (operator_at nodes number) e (subst (λ (k : Kind). IsKind k (operator_at nodes number)) stream-is (A.each number within).kind)
+
+  step : Steps cells cells nodes number (Fed e)
+  step = steps-still cells nodes number (Fed e) A within (as-fed (cell_at cells number).work (operator_at nodes number) e (A.each number within)) (stored-fed (operator_at nodes number) e)
+
+  begins : stream_node nodes stream ≡ number
+  begins = stream-number plan history stream there
+
+  arrives : (closing : ℕ) (new : List Cell) (c' : List ℕ) (u' : List Out) → Climbs (record { cells = cells; outs = u }) (record { cells = new; outs = u' }) number (e ∷ []) → StaysAs cells new
+      → c' ≡ closed_after c closing (Arrive stream e) → IsEntryAllowed (reached_of false (nodes_of plan) history) (record { event = Arrive stream e; seat = 0; closing = closing })
+      → StandsFor (core_of plan limit new c' u' None) (history ++ record { event = Arrive stream e; seat = 0; closing = closing } ∷ [])
+  arrives closing new c' u' C stays closed allowed =
+      note plan limit cells made c u history S (Arrive stream e) number (Fed e) refl begins cells step new c' u u' closing allowed (silent plan.trace)
+      (subst (λ (es : List Element). Climbs (record { cells = cells; outs = u }) (record { cells = new; outs = u' }) number es) (sym handed) C) stays closed (λ old more. refl) refl refl
+    where
+      silent : (trace : Bool) → u ≡ u ++ cond trace [] []
+      silent true = sym (append-nil u)
+      silent false = sym (append-nil u)
+
+  goes : (o : Option ℕ) → GoBeyond cells number (e ∷ []) o → goes_beyond limit (nodes_of plan) history (Arrive stream e) ≡ o
+  goes o G =
+      beyond-is plan limit cells made c u history S (Arrive stream e) number (Fed e) refl begins cells step o (subst (λ (es : List Element). GoBeyond cells number es o) (sym handed) G)
+
+-- an element has arrived
+pub arrived : (plan : RunPlan) (limit : ℕ) (cells new : List Cell) (c c' : List ℕ) (u u' : List Out) (turn : Turn) → IsMadeOf plan limit cells → turn.stream < length (streams_of plan.nodes)
+    → Climbs (record { cells = cells; outs = u }) (record { cells = new; outs = u' }) (get_or (streams_of plan.nodes) turn.stream 0) (turn.element ∷ []) → StaysAs cells new
+    → c' ≡ closed_after c turn.closing (Arrive turn.stream turn.element) → HasArrived (core_of plan limit cells c u None) (core_of plan limit new c' u' None) (arrival_of turn)
+arrived plan limit cells new c c' u u' turn made there C stays closed = record {
+  on = (refl, refl);
+  notes = record {
+    plan = refl;
+    limit = refl;
+    stands = λ history S may. arrives plan limit cells made c u history S turn.stream there turn.element turn.closing new c' u' C stays closed may;
+  };
+  within = λ history S. goes plan limit cells made c u history S turn.stream there turn.element None C.within;
+}
+
+-- why an arrival stops
+pub arrival-stop : (plan : RunPlan) (limit : ℕ) (cells : List Cell) (c : List ℕ) (u : List Out) (stream : ℕ) (e : Element) (stop : Stop) → IsMadeOf plan limit cells → stream < length (streams_of plan.nodes)
+    → IsClimbStop cells (get_or (streams_of plan.nodes) stream 0) (e ∷ []) stop → IsCause (core_of plan limit cells c u None) (Arrive stream e) stop
+arrival-stop plan limit cells c u stream e (Limit node) made there g = λ history S. goes plan limit cells made c u history S stream there e (Some node) g
+arrival-stop plan limit cells c u stream e NoMemory made there g = tt

@@ -1,0 +1,193 @@
+-- An event at a core: a local step at one node, and the climb of what it hands up.
+use Rattle.std.proofs.Common.{ℕ, zero, suc, ◌+◌, ◌<◌, ◌≤◌, ◌≢◌, max, Bool, true, false, cond, List, [], ◌∷◌, ◌++◌, ◌≡◌, ◌⊎◌, Option, Some, None, map, length, get_or, set, refl, sym, ap, ap₂, ◌∙◌, subst, inl, inr, arith, append_assoc}
+use Rattle.std.proofs.Math.Seq.{map-set_same}
+use Rattle.std.proofs.lemmas.Bool.{cases_eq}
+use Rattle.std.proofs.lemmas.List.{get_or-map, get_or-set_other, get_or-set_same, set-get_or}
+use Rattle.std.proofs.Math.ListN as lists
+use Rattle.pj_pattern.specs.declared.element.Element.{Element}
+use Rattle.pj_laws.specs.declared.events.Entry.{Entry}
+use Rattle.pj_laws.specs.declared.events.Event.{Event}
+use Rattle.pj_laws.specs.declared.events.Out.{Out}
+use Rattle.pj_laws.specs.Join.{upto_from}
+use Rattle.pj_laws.specs.Plan.{Operator, Node, Local, after, hands, nowhere, operator_at}
+use Rattle.pj_laws.specs.History.{IsEntryAllowed, closed_after, halted_after, nodes_from, notes_of, out_of, reached_of, state_in, stop_after}
+use Rattle.pj_laws.specs.Outcomes.{Level, arrivals_at, beyond_of, climb, goes_beyond, origin_of, stored_at, way_up}
+use Rattle.pj_laws.specs.CoreKept.{CoreKept}
+use Rattle.pj_laws.specs.Climb.{Climbed, climb_of, climbed_by, climbed_where, local_of, stepped}
+use Rattle.pj_laws.specs.ClimbKept.{handed_by, undrained_with}
+use Rattle.pj_laws.specs.ClimbLimits.{begun_by, begun_where}
+use Rattle.pj_laws.proofs.ClimbingKept.{stores-grow}
+use Rattle.pj_laws.proofs.ClimbingLimits.{beyond-is-climbed, levels-climb}
+use Rattle.pj_laws.proofs.Probes.{length-from}
+use Rattle.pj_laws.proofs.Upto.{get_or-upto}
+use Rattle.pj_core.specs.declared.cell.Cell.{Cell}
+use Rattle.pj_core.specs.Cells.{AreAs, HaveLimit, IsAs, cell_at, count_seen, frame_of, frames_in, kept_seen, no_cell, peak_seen, stored_kept}
+use Rattle.pj_core.specs.Climbing.{AreCounted, Climbs, GoBeyond, Leaves, Scene, StaysAs, beyond_in, count_at}
+use Rattle.pj_core.specs.Cores.{StandsFor}
+use Rattle.pj_core.specs.Parts.{IsMadeOf, all_kept, core_of}
+use Rattle.pj_core.specs.Plans.{RunPlan, nodes_of}
+use Rattle.pj_core.proofs.Climbs.{as-set, long-frames}
+use Rattle.pj_core.proofs.Frames.{limits-of}
+use Rattle.pj_core.proofs.Planned.{nodes-long, tree}
+use Rattle.pj_core.proofs.Stands.{Goes, are, kept-is, long-now, noted, stored-is}
+use Rattle.pj_core.proofs.Ways.{ins, way-long, way-past, way-same}
+
+-- ---- a local step
+
+pub stepped-set : (nodes : List Node) (n : ℕ) (l : Local) → stepped nodes n l ≡ set nodes n (record { inputs = (get_or nodes n nowhere).inputs; operator = after (operator_at nodes n) l })
+stepped-set [] n l = refl
+stepped-set (node ∷ nodes) zero l = refl
+stepped-set (node ∷ nodes) (suc n) l = ap (λ (ns : List Node). node ∷ ns) (stepped-set nodes n l)
+
+-- the nodes after a local step of one of them, and what is counted as before
+pub record Steps (cells mid : List Cell) (nodes : List Node) (n : ℕ) (l : Local) : Type 0 where
+  pub stands : AreAs mid (stepped nodes n l)
+  pub counts : (m : ℕ) → m < length cells → count_at mid m ≡ count_at cells m
+  pub frames : frames_in mid ≡ frames_in cells
+  pub peaks : (m : ℕ) → m < length cells
+      → (((cell_at mid m).peak ≡ (cell_at cells m).peak) × (stored_at nodes m ≤ stored_at (stepped nodes n l) m)) ⊎ ((cell_at mid m).peak ≡ peak_seen (cell_at cells m))
+
+abbrev pub stored_of : Operator → ℕ
+stored_of operator = length (state_in operator).stored
+
+-- the peak stays where the step removes nothing, or it is raised before
+abbrev pub KeepsPeak : ℕ → Cell → Operator → Operator → Type 0
+KeepsPeak peak cell before behind = ((peak ≡ cell.peak) × (stored_of before ≤ stored_of behind)) ⊎ (peak ≡ peak_seen cell)
+
+pub steps-at : (cells : List Cell) (nodes : List Node) (n : ℕ) (l : Local) (cell : Cell) → AreAs cells nodes → n < length cells → IsAs cell.work (after (operator_at nodes n) l)
+    → frame_of cell ≡ frame_of (cell_at cells n) → count_seen cell ≡ count_at cells n → KeepsPeak cell.peak (cell_at cells n) (operator_at nodes n) (after (operator_at nodes n) l)
+    → Steps cells (set cells n cell) nodes n l
+steps-at cells nodes n l cell A lt is frame count peak = record {
+  stands = subst (λ (ns : List Node). AreAs (set cells n cell) ns) (sym (stepped-set nodes n l)) (as-set cells nodes n cell next A lt refl is frame);
+  counts = λ m l'. elim (cases_eq m n) [
+    | inl q ↦ subst (λ (k : ℕ). count_at (set cells n cell) k ≡ count_at cells k) (sym q) (ap count_seen (get_or-set_same cells n cell no_cell lt) ∙ count)
+    | inr ne ↦ ap count_seen (get_or-set_other cells n m cell no_cell ne)
+  ];
+  frames = map-set_same frame_of cells n cell no_cell frame;
+  peaks = λ m l'. elim (cases_eq m n) [
+    | inl q ↦ subst (Peaks (set cells n cell)) (sym q) (here peak)
+    | inr ne ↦ inl (
+      ap (λ (c : Cell). c.peak) (get_or-set_other cells n m cell no_cell ne),
+      (let e = ap (λ (x : Node). stored_of x.operator) (sym (get_or-set_other nodes n m next nowhere ne)) ∙ ap (λ (ns : List Node). stored_at ns m) (sym (stepped-set nodes n l)) in omega (arith, e)),
+    )
+  ];
+}
+  where
+    next : Node
+    next = record { inputs = (get_or nodes n nowhere).inputs; operator = after (operator_at nodes n) l }
+
+    Peaks : List Cell → ℕ → Type 0
+    Peaks mid m = (((cell_at mid m).peak ≡ (cell_at cells m).peak) × (stored_at nodes m ≤ stored_at (stepped nodes n l) m)) ⊎ ((cell_at mid m).peak ≡ peak_seen (cell_at cells m))
+
+    stored : stored_of (after (operator_at nodes n) l) ≡ stored_at (stepped nodes n l) n
+    stored = ap (λ (x : Node). stored_of x.operator) (sym (get_or-set_same nodes n next nowhere (omega (arith, lt, A.long)))) ∙ ap (λ (ns : List Node). stored_at ns n) (sym (stepped-set nodes n l))
+
+    at : (cell_at (set cells n cell) n).peak ≡ cell.peak
+    at = ap (λ (c : Cell). c.peak) (get_or-set_same cells n cell no_cell lt)
+
+    here : KeepsPeak cell.peak (cell_at cells n) (operator_at nodes n) (after (operator_at nodes n) l) → Peaks (set cells n cell) n
+    here (inl p) = inl (at ∙ p.0, let le = p.1 in omega (arith, le, stored))
+    here (inr p) = inr (at ∙ p)
+
+-- a step that leaves a cell as it is
+pub steps-still : (cells : List Cell) (nodes : List Node) (n : ℕ) (l : Local) → AreAs cells nodes → n < length cells → IsAs (cell_at cells n).work (after (operator_at nodes n) l)
+    → stored_of (operator_at nodes n) ≤ stored_of (after (operator_at nodes n) l) → Steps cells cells nodes n l
+steps-still cells nodes n l A lt is le =
+    subst (λ (mid : List Cell). Steps cells mid nodes n l) (set-get_or cells n no_cell) (steps-at cells nodes n l (cell_at cells n) A lt is refl refl (inl (refl, le)))
+
+module _ (plan : RunPlan) (limit : ℕ) (cells : List Cell) (made : IsMadeOf plan limit cells) (c : List ℕ) (u : List Out) (history : List Entry) (S : StandsFor (core_of plan limit cells c u None) history)
+    (event : Event) (n : ℕ) (l : Local) (local : local_of event ≡ Some l) (at : origin_of (nodes_from (nodes_of plan) history) event ≡ n)
+    (mid : List Cell) (step : Steps cells mid (nodes_from (nodes_of plan) history) n l) where
+  abbrev nodes : List Node
+  nodes = nodes_from (nodes_of plan) history
+
+  abbrev up : List Element
+  up = hands (operator_at nodes n) l
+
+  pub climb-is : climb_of nodes event ≡ climbed_by nodes n l
+  climb-is = ap₂ (climbed_where nodes) at local
+
+  -- the number of elements that reached a node
+  counted-is : (m : ℕ) → m < length plan.nodes → length (arrivals_at (nodes_of plan) history m) ≡ count_at cells m
+  counted-is m lt =
+      let z : 0 + m ≡ m = omega arith in
+      let long = nodes-long plan in
+      ap (λ (i : ℕ). length (arrivals_at (nodes_of plan) history i)) (sym z)
+      ∙ sym (get_or-upto (λ i. length (arrivals_at (nodes_of plan) history i)) 0 (length (nodes_of plan)) m 0 (omega (arith, lt, long)))
+      ∙ ap (λ (ns : List ℕ). get_or ns m 0) (sym (ap (λ (k : CoreKept). k.counts) (kept-is plan limit cells made c u history S)))
+      ∙ get_or-map count_seen cells m no_cell 0 (let a = (are plan limit cells made c u history S).long in omega (arith, lt, a, long-now plan limit history made.0 S.legal))
+
+  -- where the event goes beyond the limit
+  pub beyond-is : (o : Option ℕ) → GoBeyond mid n up o → goes_beyond limit (nodes_of plan) history event ≡ o
+  beyond-is o G =
+      beyond-is-climbed limit (nodes_of plan) (tree plan made.0) history event
+      ∙ ap (λ (i : ℕ). beyond_of (climb (length nodes) limit (way_up (λ m. length (arrivals_at (nodes_of plan) history m)) 0 i nodes) (begun_by nodes event))) at
+      ∙ ap₂ (λ (levels : List Level) (es : List Element). beyond_of (climb (length nodes) limit levels es)) ways begun
+      ∙ G limit (subst (HaveLimit limit) (sym (step.frames ∙ made.2)) (limits-of plan limit)) (stepped nodes n l) step.stands (length nodes) fits
+    where
+      A : AreAs cells nodes
+      A = are plan limit cells made c u history S
+
+      long : length nodes ≡ length plan.nodes
+      long = long-now plan limit history made.0 S.legal
+
+      begun : begun_by nodes event ≡ up
+      begun = ap₂ (λ (i : ℕ) (o : Option Local). begun_where (operator_at nodes i) o) at local
+
+      ways : way_up (λ m. length (arrivals_at (nodes_of plan) history m)) 0 n nodes ≡ way_up (count_at mid) 0 n (stepped nodes n l)
+      ways =
+          way-past (λ m. length (arrivals_at (nodes_of plan) history m)) (count_at mid) 0 n n nodes (record { inputs = (get_or nodes n nowhere).inputs; operator = after (operator_at nodes n) l })
+          A.tree.behind (omega arith) refl
+          (λ m gt lt. counted-is m (omega (arith, lt, long)) ∙ sym (step.counts m (omega (arith, lt, A.long))))
+          ∙ ap (way_up (count_at mid) 0 n) (sym (stepped-set nodes n l))
+
+      fits : length (way_up (count_at mid) 0 n (stepped nodes n l)) ≤ length nodes
+      fits = let f = (levels-climb (stepped nodes n l) step.stands.tree (count_at mid) limit).fits n in let a = step.stands.long in let b = long-frames cells mid step.frames in omega (arith, f, a, b, A.long)
+
+  -- the peaks behind the event
+  peaks-are : (new : List Cell) → StaysAs mid new → AreAs new (climbed_by nodes n l).nodes → (m : ℕ) → m < length cells
+      → peak_seen (cell_at new m) ≡ max (peak_seen (cell_at cells m)) (stored_at (climbed_by nodes n l).nodes m)
+  peaks-are new stays B m lt = go (step.peaks m lt)
+    where
+      raw : (cell_at new m).peak ≡ (cell_at mid m).peak
+      raw = sym (lists.get_or-map (λ (cell : Cell). cell.peak) new m no_cell) ∙ ap (λ (ps : List ℕ). get_or ps m 0) stays.peaks ∙ lists.get_or-map (λ (cell : Cell). cell.peak) mid m no_cell
+
+      now : stored_kept (kept_seen (cell_at new m).work) ≡ stored_at (climbed_by nodes n l).nodes m
+      now = stored-is new (climbed_by nodes n l).nodes m B (let a = long-frames mid new stays.frames in let b = long-frames cells mid step.frames in omega (arith, lt, a, b))
+
+      before : stored_kept (kept_seen (cell_at cells m).work) ≡ stored_at nodes m
+      before = stored-is cells nodes m (are plan limit cells made c u history S) lt
+
+      grown : stored_at (stepped nodes n l) m ≤ stored_at (climbed_by nodes n l).nodes m
+      grown = stores-grow (stepped nodes n l) n up m
+
+      go : (((cell_at mid m).peak ≡ (cell_at cells m).peak) × (stored_at nodes m ≤ stored_at (stepped nodes n l) m)) ⊎ ((cell_at mid m).peak ≡ peak_seen (cell_at cells m))
+          → peak_seen (cell_at new m) ≡ max (peak_seen (cell_at cells m)) (stored_at (climbed_by nodes n l).nodes m)
+      go (inl same) = let e = same.0 in let le = same.1 in omega (arith, raw, now, before, grown, e, le)
+      go (inr raised) = omega (arith, raw, now, raised)
+
+  -- the event is noted
+  pub note : (new : List Cell) (c' : List ℕ) (outs u' : List Out) (closing : ℕ)
+      → IsEntryAllowed (reached_of false (nodes_of plan) history) (record { event = event; seat = 0; closing = closing })
+      → outs ≡ u ++ cond plan.trace (notes_of nodes event) [] → Climbs (record { cells = mid; outs = outs }) (record { cells = new; outs = u' }) n up → StaysAs mid new
+      → c' ≡ closed_after c closing event → ((old more : List Out) → undrained_with old more event ≡ old ++ more) → halted_after false event ≡ false → stop_after None event ≡ None
+      → StandsFor (core_of plan limit new c' u' None) (history ++ record { event = event; seat = 0; closing = closing } ∷ [])
+  note new c' outs u' closing allowed begun C stays closed hands halts stops =
+      noted plan limit cells made c u history S (record { event = event; seat = 0; closing = closing }) new c' u' allowed
+      (record {
+        long = long-frames mid new stays.frames ∙ long-frames cells mid step.frames;
+        stands = subst (λ (k : Climbed). AreAs new k.nodes) (sym climb-is) L.stands;
+        counts = λ m lt.
+            L.counts m (let a = long-frames cells mid step.frames in omega (arith, lt, a)) ∙ ap₂ (λ (i : ℕ) (k : Climbed). i + length (get_or k.brought m [])) (step.counts m lt) (sym climb-is);
+        peaks = λ m lt. peaks-are new stays L.stands m lt ∙ ap (λ (k : Climbed). max (peak_seen (cell_at cells m)) (stored_at k.nodes m)) (sym climb-is);
+        closed = closed;
+        undrained = L.hands ∙ ap (λ (outs : List Out). outs ++ map out_of (climbed_by nodes n l).left.elements) begun
+            ∙ append_assoc u (cond plan.trace (notes_of nodes event) []) (map out_of (climbed_by nodes n l).left.elements)
+            ∙ ap (λ (k : Climbed). u ++ (cond plan.trace (notes_of nodes event) [] ++ map out_of k.left.elements)) (sym climb-is)
+            ∙ sym (hands u (handed_by plan.trace nodes event));
+        halts = halts;
+        stops = stops;
+      })
+    where
+      L : Leaves (record { cells = mid; outs = outs }) (record { cells = new; outs = u' }) (climbed_by nodes n l)
+      L = C.climbs (stepped nodes n l) step.stands

@@ -1,0 +1,180 @@
+-- The steps of its own that a join of a core makes.
+use Rattle.std.proofs.Common.{ℕ, zero, suc, ◌+◌, ◌<◌, ◌≤◌, Bool, true, false, cond, not, ◌&&◌, ◌||◌, List, [], ◌∷◌, ◌++◌, ◌≡◌, ◌⊎◌, Option, Some, None, map, filter, length, get_or, set, eqb, ltb, refl, sym, ap, ap₂, ◌∙◌, subst, inl, inr, arith, append-nil}
+use Rattle.std.specs.List.{list_all}
+use Rattle.pj_value.specs.declared.values.Value.{Value}
+use Rattle.pj_pattern.specs.declared.element.Element.{Element}
+use Rattle.pj_pattern.specs.declared.element.Element.TheVariants.{Tuple, Punct}
+use Rattle.pj_laws.specs.declared.events.Entry.{Entry}
+use Rattle.pj_laws.specs.declared.events.Event.{Event}
+use Rattle.pj_laws.specs.declared.events.Out.{Out}
+use Rattle.pj_laws.specs.Join.{AreCertified, AreLegalSteps, IsAllowed, JoinData, JoinState, PunctAt, Step, Sweep, Take, TupleAt, Give, covered, hands_up, has, inputs, is_held, joined, kept, need_of, older, older_puncts, results, ripe, run, start, step}
+use Rattle.pj_laws.specs.KeptState.{KeptState, kept_of, kept_ripe, kept_step, lacking, swept}
+use Rattle.pj_laws.specs.Plan.{Act, IsOwn, IsStepAllowed, MayAct, Operator, Stream, Select, Project, Union, Join, Group, Node, Own, after as after_local, hands, operator_at}
+use Rattle.pj_laws.specs.declared.events.Event.TheVariants.{Take as Taken, Give as Given, Sweep as Swept}
+use Rattle.pj_laws.specs.History.{IsEntryAllowed, IsLegal, IsOn, data_in, nodes_from, reached_of, state_in}
+use Rattle.pj_laws.specs.HistoryLaws.{Certified}
+use Rattle.pj_laws.specs.OneThread.{plain}
+use Rattle.pj_laws.proofs.Tickets.{lacking-come, lacking-none}
+use Rattle.pj_join.specs.Joins.{IsTaken}
+use Rattle.pj_core.specs.Acts.{with_work}
+use Rattle.pj_core.proofs.Planned.{nodes-long}
+use Rattle.pj_laws.specs.CoreKept.{JoinKept, kept_in}
+use Rattle.pj_laws.specs.Climb.{Climbed, climbed_where, local_of}
+use Rattle.pj_laws.specs.Outcomes.{origin_of, results_of}
+use Rattle.pj_laws.proofs.ClimbingEvents.{events-climb, leaves-nodes}
+use Rattle.pj_laws.proofs.HistoryAnswers.{adds-entry, grows-legally, trace-adds-notes}
+use Rattle.pj_laws.proofs.Stand.{lacking-cons, low-kept}
+use Rattle.pj_laws.proofs.Trees.{tree-from}
+use Rattle.pj_join.specs.Joins.{JoinView, StandsFor as JoinStandsFor, after}
+use Rattle.pj_core.specs.declared.cell.Cell.{Cell}
+use Rattle.pj_core.specs.declared.cell.Work.{Work}
+use Rattle.pj_core.specs.declared.cell.Work.TheVariants.{Join as JoinCell}
+use Rattle.pj_core.specs.Cells.{AreAs, IsAs, IsBelowIn, IsKind, JoinKind, cell_at, count_in, kind_of, peak_seen}
+use Rattle.pj_core.specs.Cores.{StandsFor}
+use Rattle.pj_core.specs.Parts.{IsMadeOf, core_of}
+use Rattle.pj_core.specs.Plans.{RunPlan, nodes_of}
+use Rattle.pj_core.proofs.Events.{KeepsPeak, Steps, steps-at, stored_of}
+use Rattle.pj_core.proofs.Stands.{are, below-at, join-start, join-steps, long-now}
+
+-- ---- on what is kept
+
+swept-same : (spec : JoinData) (s : JoinState) (input : ℕ) → swept spec (kept_of s) input ≡ kept spec s input
+swept-same spec s input = ap (λ (l : ℕ). filter (λ x. not (eqb x.input input && (ltb x.ticket l && list_all (covered (older_puncts l s.puncts)) (need_of spec (older l s.stored) x)))) s.stored) (low-kept s)
+
+-- a step of its own on what is kept keeps what is to be kept after it
+pub kept-own : (spec : JoinData) (s : JoinState) (e : Step) → IsOwn e → kept_step spec (kept_of s) e ≡ kept_of (step spec s e)
+kept-own spec s (Take u) o =
+    λ i. record { next = s.next; stored = s.stored; puncts = s.puncts; pending = sym (lacking-cons u s.taken s.tuples) i; opened = lacking s.given s.tuples; waiting = s.waiting }
+kept-own spec s (Give u) o =
+    λ i. record { next = s.next; stored = s.stored; puncts = s.puncts; pending = lacking s.taken s.tuples; opened = sym (lacking-cons u s.given s.tuples) i; waiting = s.waiting }
+kept-own spec s (Sweep input) o =
+    ap (λ (xs : List TupleAt). record {
+      next = s.next;
+      stored = xs;
+      puncts = s.puncts;
+      pending = lacking s.taken s.tuples;
+      opened = lacking s.given s.tuples;
+      waiting = filter (λ p. not (eqb p.input input) || is_held xs p) s.waiting;
+    }) (swept-same spec s input)
+kept-own spec s e o = absurd o
+
+-- the operator of a join
+pub record IsJoinWith (join : JoinView) (operator : Operator) : Type 0 where
+  pub state : JoinState
+  pub is : operator ≡ Join join.spec state
+  pub kept : join.kept ≡ kept_of state
+
+pub join-with : (join : JoinView) (operator : Operator) → IsAs (JoinCell join) operator → IsJoinWith join operator
+join-with join (Join spec s) a =
+    record { state = s; is = ap (λ (d : JoinData). Join d s) (sym a.kind); kept = (let e : JoinKept join.kept ≡ JoinKept (kept_of s) = a.kept in cc) }
+join-with join operator a = absurd a.kind
+
+-- ---- behind a history
+
+module _ (plan : RunPlan) (limit : ℕ) (cells : List Cell) (made : IsMadeOf plan limit cells) (c : List ℕ) (u : List Out) (history : List Entry) (S : StandsFor (core_of plan limit cells c u None) history)
+    (place : ℕ) (there : place < length cells) (join : JoinView) (at : (cell_at cells place).work ≡ JoinCell join) where
+  abbrev nodes : List Node
+  nodes = nodes_from (nodes_of plan) history
+
+  pub A : AreAs cells nodes
+  A = are plan limit cells made c u history S
+
+  pub within : place < length plan.nodes
+  within = omega (arith, there, A.long, long-now plan limit history made.0 S.legal)
+
+  pub J : IsJoinWith join (operator_at nodes place)
+  J = join-with join (operator_at nodes place) (subst (λ (w : Work). IsAs w (operator_at nodes place)) at (A.each place there))
+
+  pub start-is : operator_at (nodes_of plan) place ≡ Join join.spec start
+  start-is = (join-start plan limit history made.0 S.legal place within join.spec J.state J.is).0
+
+  -- legal steps that the join stands for
+  pub steps : (es : List Step) × AreLegalSteps join.spec start es × (J.state ≡ run join.spec start es)
+  steps = join-steps plan limit history made.0 S.legal place within join.spec J.state J.is
+
+  pub stands : JoinStandsFor join steps.0
+  stands = (steps.1, J.kept ∙ ap kept_of steps.2)
+
+  -- the results of a ticket
+  pub results-are : (t : ℕ) → results_of (nodes_of plan) history place t ≡ map joined (results join.spec J.state.tuples J.state.tuples t)
+  results-are t =
+      ap₂ (λ (m o : Operator). map joined (results (data_in m) (state_in o).tuples (state_in o).tuples t)) start-is J.is
+
+  on : IsOn (reached_of false (nodes_of plan) history)
+  on = go plan.trace S.stands.3
+    where
+      go : (trace : Bool) → None ≡ (reached_of trace (nodes_of plan) history).stop → (reached_of false (nodes_of plan) history).stop ≡ None
+      go true e = sym ((trace-adds-notes (nodes_of plan) history).stop) ∙ sym e
+      go false e = sym e
+
+  -- a step of the join's own that is allowed may be made
+  step-allowed : (e : Step) → IsOwn e → IsAllowed join.spec J.state e → IsStepAllowed (reached_of false (nodes_of plan) history).nodes (Act place e)
+  step-allowed e own may =
+      subst (λ (ns : List Node). IsStepAllowed ns (Act place e)) (sym ((trace-adds-notes (nodes_of plan) history).nodes false))
+      ((let a = A.long in omega (arith, there, a)), subst (λ (o : Operator). MayAct o e) (sym J.is) (own, may))
+
+  pub take-allowed : (t : ℕ) → has join.kept.pending t ≡ true → IsEntryAllowed (reached_of false (nodes_of plan) history) (plain (Taken place t))
+  take-allowed t p =
+      ((on, step-allowed (Take t) tt (lacking-come J.state.taken J.state.tuples t (subst (λ (k : KeptState). has k.pending t ≡ true) J.kept p))), inl refl)
+
+  pub give-allowed : (t : ℕ) → IsTaken join.kept t → IsEntryAllowed (reached_of false (nodes_of plan) history) (plain (Given place t))
+  give-allowed t p =
+      let come = lacking-come J.state.given J.state.tuples t (subst (λ (k : KeptState). has k.opened t ≡ true) J.kept p.0) in
+      ((on, step-allowed (Give t) tt (lacking-none J.state.taken J.state.tuples t come.0 (subst (λ (k : KeptState). has k.pending t ≡ false) J.kept p.1), come.1)), inl refl)
+
+  certified : AreCertified join.spec
+  certified = subst Certified start-is (made.1 place (let l = nodes-long plan in omega (arith, within, l)))
+
+  pub sweep-allowed : (input : ℕ) → input < inputs join.spec → IsEntryAllowed (reached_of false (nodes_of plan) history) (plain (Swept place input))
+  sweep-allowed input lt = ((on, step-allowed (Sweep input) tt (lt, certified)), inl refl)
+
+  legal-then : (event : Event) → IsEntryAllowed (reached_of false (nodes_of plan) history) (plain event) → IsLegal (nodes_of plan) (history ++ plain event ∷ [])
+  legal-then event may = (grows-legally (nodes_of plan) history (plain event)).1 (S.legal, may)
+
+  -- the join behind an allowed step of its own
+  pub later : (event : Event) (e : Step) → local_of event ≡ Some (Own e) → origin_of nodes event ≡ place → IsEntryAllowed (reached_of false (nodes_of plan) history) (plain event)
+      → operator_at (nodes_from (nodes_of plan) (history ++ plain event ∷ [])) place ≡ after_local (operator_at nodes place) (Own e)
+  later event e local begins may =
+      ap (λ (ns : List Node). operator_at ns place)
+      ((adds-entry (nodes_of plan) history (plain event)).nodes ∙ (events-climb nodes A.tree event).moves
+      ∙ ap (λ (k : Climbed). k.nodes) (ap₂ (climbed_where nodes) begins local))
+      ∙ (leaves-nodes nodes A.tree place (Own e)).first (let a = A.long in omega (arith, there, a))
+
+  -- an allowed step of the join's own, with the cell behind it
+  pub own-steps : (event : Event) (e : Step) (peak : ℕ) → local_of event ≡ Some (Own e) → origin_of nodes event ≡ place → IsOwn e → IsEntryAllowed (reached_of false (nodes_of plan) history) (plain event)
+      → KeepsPeak peak (cell_at cells place) (operator_at nodes place) (after_local (operator_at nodes place) (Own e))
+      → Steps cells (with_work cells place (JoinCell (after join e)) peak) nodes place (Own e)
+  own-steps event e peak local begins own may keeps =
+      steps-at cells nodes place (Own e) (record (cell_at cells place) { work = JoinCell (after join e); peak = peak }) A there
+      (record { kind = kind; kept = kept-is; below = below })
+      (ap (λ (w : Work). record { kind = kind_of w; above = (cell_at cells place).above; width = (cell_at cells place).width }) (sym at))
+      (next join.kept e own ∙ ap (λ (w : Work). count_in w (cell_at cells place).passed) (sym at))
+      keeps
+    where
+      behind : after_local (operator_at nodes place) (Own e) ≡ Join join.spec (step join.spec J.state e)
+      behind = ap (λ (o : Operator). after_local o (Own e)) J.is
+
+      kind : IsKind (JoinKind join.node join.spec join.limit) (after_local (operator_at nodes place) (Own e))
+      kind = subst (IsKind (JoinKind join.node join.spec join.limit)) (sym behind) refl
+
+      kept-is : JoinKept (kept_step join.spec join.kept e) ≡ kept_in (after_local (operator_at nodes place) (Own e))
+      kept-is = ap (λ (k : KeptState). JoinKept (kept_step join.spec k e)) J.kept ∙ ap JoinKept (kept-own join.spec J.state e own) ∙ ap kept_in (sym behind)
+
+      below : IsBelowIn (after_local (operator_at nodes place) (Own e))
+      below = subst IsBelowIn (later event e local begins may) (below-at plan limit (history ++ plain event ∷ []) made.0 (legal-then event may) place within)
+
+      next : (k : KeptState) (st : Step) → IsOwn st → (kept_step join.spec k st).next ≡ k.next
+      next k (Take t) o = refl
+      next k (Give t) o = refl
+      next k (Sweep input) o = refl
+      next k st o = absurd o
+
+  -- what the join hands up at a step of its own
+  pub handed-own : (e : Step) → hands (operator_at nodes place) (Own e) ≡ hands_up join.spec J.state e
+  handed-own e = ap (λ (o : Operator). hands o (Own e)) J.is ∙ append-nil (hands_up join.spec J.state e)
+
+  pub stored-own : (e : Step) → stored_of (after_local (operator_at nodes place) (Own e)) ≡ length (step join.spec J.state e).stored
+  stored-own e = ap (λ (o : Operator). stored_of (after_local o (Own e))) J.is
+
+  pub stored-before : stored_of (operator_at nodes place) ≡ length J.state.stored
+  stored-before = ap stored_of J.is

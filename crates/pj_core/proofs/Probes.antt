@@ -1,0 +1,264 @@
+-- A probe at a join of a core: a take and a give at once.
+use Rattle.std.proofs.Common.{ℕ, zero, suc, inl, inr, ◌⊎◌, ◌+◌, ◌<◌, ◌≤◌, Bool, true, false, List, [], ◌∷◌, ◌++◌, ◌≡◌, Option, Some, None, map, length, get_or, set, refl, sym, ap, ◌∙◌, subst, arith, append-nil, append_assoc}
+use Rattle.std.proofs.lemmas.Bool.{cases_lt}
+use Rattle.std.proofs.lemmas.List.{get_or-set_same, get_or-map, length-set}
+use Rattle.pj_value.specs.declared.values.Value.{Value}
+use Rattle.pj_pattern.specs.declared.element.Element.{Element}
+use Rattle.pj_pattern.specs.declared.element.Element.TheVariants.{Tuple}
+use Rattle.pj_laws.specs.declared.events.Entry.{Entry}
+use Rattle.pj_laws.specs.declared.events.Event.TheVariants.{Take as Taken, Give as Given, Stopped}
+use Rattle.pj_laws.specs.declared.events.Out.{Out}
+use Rattle.pj_laws.specs.declared.events.Stop.{Stop}
+use Rattle.pj_laws.specs.declared.events.Stop.TheVariants.{Limit, NoMemory}
+use Rattle.pj_laws.specs.Join.{Give, JoinState, Take, has, joined, results}
+use Rattle.pj_laws.specs.KeptState.{KeptState, kept_of, lacking, without}
+use Rattle.pj_laws.specs.Plan.{Node, Operator, operator_at}
+use Rattle.pj_laws.specs.History.{nodes_from, state_in}
+use Rattle.pj_laws.specs.Limits.{StopsAt}
+use Rattle.pj_laws.specs.Outcomes.{elements_out, goes_beyond, results_of}
+use Rattle.pj_laws.specs.OneThread.{Pending, first_of, pending_at, plain, probes_at}
+use Rattle.pj_laws.specs.CoreKept.{NothingKept}
+use Rattle.pj_laws.proofs.Probes.{has-in}
+use Rattle.pj_laws.proofs.Tickets.{AreAscending, first-least, pending-ascends}
+use Rattle.pj_join.specs.declared.found.Found.{Found}
+use Rattle.pj_join.specs.Handed.{behind_probe}
+use Rattle.pj_join.specs.Joins.{IsTaken, JoinView, TakesLeast, after, found_of}
+use Rattle.pj_core.specs.declared.cell.Cell.{Cell}
+use Rattle.pj_core.specs.declared.cell.Work.{Work}
+use Rattle.pj_core.specs.declared.cell.Work.TheVariants.{Join as JoinCell}
+use Rattle.pj_core.specs.Acts.{FindsResults, HasProbed, IsProbeStop, JoinProbed, ProbesBeyond, ProbesOn, found_outs, with_work}
+use Rattle.pj_core.specs.Calls.{IsTakenIn, StopsNow, pending_kept}
+use Rattle.pj_core.specs.Cells.{AreAs, cell_at, frames_in, kept_seen, kind_of, no_cell}
+use Rattle.pj_core.specs.Climbing.{AreOrderly, Climbs, GoBeyond, Scene, StaysAs}
+use Rattle.pj_core.specs.Cores.{CoreState, StandsFor}
+use Rattle.pj_core.specs.Parts.{IsMadeOf, core_of}
+use Rattle.pj_core.specs.Plans.{RunPlan, nodes_of}
+use Rattle.pj_core.specs.Turns.{MayProbeAt, ProbesAt, StopsAtProbe, StopsProbe, kept_pending}
+use Rattle.pj_core.proofs.Changes.{frames-work, opens-work}
+use Rattle.pj_core.proofs.Climbs.{outs-rows}
+use Rattle.pj_core.proofs.Joins.{took_keeps}
+use Rattle.pj_core.proofs.Own as own
+use Rattle.pj_core.proofs.Stands.{are}
+use Rattle.pj_core.proofs.Stops.{stop-entered, stops-now}
+use Rattle.pj_core.proofs.Takes.{fewer-without, fewer-there, give-beyond, gives, pending-long, results-stay, take-within, takes, tickets, tickets-are}
+
+set-twice : {X : Type 0} (xs : List X) (n : ℕ) (x y : X) → set (set xs n x) n y ≡ set xs n y
+set-twice [] n x y = refl
+set-twice (z ∷ xs) zero x y = refl
+set-twice (z ∷ xs) (suc n) x y = ap (λ (ys : List _). z ∷ ys) (set-twice xs n x y)
+
+-- the list starts with this ticket
+pub record StartsWith (ts : List ℕ) (t : ℕ) : Type 0 where
+  pub others : List ℕ
+  pub is : ts ≡ t ∷ others
+
+pub record HasSome (ts : List ℕ) : Type 0 where
+  pub ticket : ℕ
+  pub others : List ℕ
+  pub is : ts ≡ ticket ∷ others
+
+headed : (n t : ℕ) (ts : List ℕ) → first_of n ts None ≡ Some (record { join = n; ticket = t }) → StartsWith ts t
+headed n t [] e = cc
+headed n t (v ∷ ts) e = record { others = ts; is = ap (λ (m : ℕ). m ∷ ts) (ap (λ (o : Option Pending). ticket_in o) e) }
+  where
+    ticket_in : Option Pending → ℕ
+    ticket_in None = 0
+    ticket_in (Some p) = p.ticket
+
+-- the join at this place works on its least pending ticket
+module _ (plan : RunPlan) (limit : ℕ) (cells : List Cell) (made : IsMadeOf plan limit cells) (c : List ℕ) (u : List Out)
+    (place : ℕ) (there : place < length cells) (work : Work) (ticket : ℕ) (P : JoinProbed (cell_at cells place).work work [] (found_outs (cell_at cells place).work ticket) ticket) where
+  abbrev pub join : JoinView
+  join = P.join
+
+  abbrev pub rows : List (List Value)
+  rows = (found_of join ticket).rows
+
+  abbrev pub taken : JoinView
+  taken = after join (Take ticket)
+
+  abbrev pub peak : ℕ
+  peak = (cell_at cells place).peak
+
+  abbrev pub cell : Cell
+  cell = record (cell_at cells place) { work = JoinCell taken }
+
+  abbrev pub mid : List Cell
+  mid = with_work cells place (JoinCell taken) peak
+
+  at-mid : cell_at mid place ≡ cell
+  at-mid = get_or-set_same cells place cell no_cell there
+
+  there-mid : place < length mid
+  there-mid = let l = length-set cells place cell in omega (arith, there, l)
+
+  made-mid : IsMadeOf plan limit mid
+  made-mid = (
+    made.0,
+    made.1,
+    frames-work cells place no_cell (JoinCell taken) (ap kind_of (sym P.was)) ∙ made.2,
+    (opens-work cells place no_cell (JoinCell taken) there
+        (subst (λ (w : Work). Rattle.pj_core.specs.Cells.KeepsOpen w (JoinCell taken)) (sym P.was) (took_keeps (Some (found_of join ticket)) join taken P.takes)) made.3).0,
+  )
+
+  -- the cells behind the give
+  behind-is : with_work cells place work peak ≡ with_work mid place (JoinCell (after taken (Give ticket))) (cell_at mid place).peak
+  behind-is =
+      ap (λ (w : Work). with_work cells place w peak) P.is
+      ∙ sym (ap (λ (x : Cell). set mid place (record x { work = JoinCell (after taken (Give ticket)) })) at-mid
+      ∙ set-twice cells place cell (record (cell_at cells place) { work = JoinCell (after taken (Give ticket)) }))
+
+  elements-are : elements_out (found_outs (cell_at cells place).work ticket) ≡ map Tuple rows
+  elements-are = ap (λ (w : Work). elements_out (found_outs w ticket)) P.was ∙ outs-rows rows
+
+  module _ (history : List Entry) (S : StandsFor (core_of plan limit cells c u None) history) where
+    abbrev pub late : List Entry
+    late = history ++ plain (Taken place ticket) ∷ []
+
+    S-mid : StandsFor (core_of plan limit mid c u None) late
+    S-mid = takes plan limit cells made c u history S place there join P.was ticket P.takes.pending
+
+    are-rows : rows ≡ results_of (nodes_of plan) late place ticket
+    are-rows =
+        let steps = own.steps plan limit cells made c u history S place there join P.was in
+        P.finds steps.0 (own.stands plan limit cells made c u history S place there join P.was)
+        ∙ ap (λ (s : JoinState). map joined (results join.spec s.tuples s.tuples ticket)) (sym steps.2)
+        ∙ sym (own.results-are plan limit cells made c u history S place there join P.was ticket)
+        ∙ sym (results-stay plan limit cells made c u history S place there join P.was ticket P.takes.pending)
+
+    pub ways : (o : Option ℕ) → GoBeyond (with_work cells place work peak) place (elements_out (found_outs (cell_at cells place).work ticket)) o → goes_beyond limit (nodes_of plan) late (Given place ticket) ≡ o
+    ways o G =
+        give-beyond plan limit mid made-mid c u late S-mid place there-mid taken (ap (λ (x : Cell). x.work) at-mid) ticket P.takes.taken rows are-rows o
+        (subst (λ (xs : List Cell). GoBeyond xs place (map Tuple rows) o) behind-is (subst (λ (es : List Element). GoBeyond (with_work cells place work peak) place es o) elements-are G))
+
+    within-take : goes_beyond limit (nodes_of plan) history (Taken place ticket) ≡ None
+    within-take = take-within plan limit cells made c u history S place there join P.was ticket P.takes.pending
+
+    pub starts : StartsWith (pending_at (nodes_from (nodes_of plan) history) place) ticket
+    starts =
+        let J = own.J plan limit cells made c u history S place there join P.was in
+        let steps = own.steps plan limit cells made c u history S place there join P.was in
+        let kept = J.kept ∙ ap kept_of steps.2 in
+        let pending : pending_at (nodes_from (nodes_of plan) history) place ≡ join.kept.pending =
+        tickets-are cells (nodes_from (nodes_of plan) history) place (are plan limit cells made c u history S) there ∙ ap (λ (w : Work). tickets (kept_seen w)) P.was in
+        headed place ticket (pending_at (nodes_from (nodes_of plan) history) place)
+        (ap (λ (us : List ℕ). first_of place us None) pending
+        ∙ first-least place join.kept.pending ticket (subst (λ (k : KeptState). AreAscending k.pending) (sym kept) (pending-ascends join.spec steps.0))
+        (has-in join.kept.pending ticket P.takes.pending) P.takes.least)
+
+    pub stands : (new : List Cell) (u' : List Out) → Climbs (record { cells = with_work cells place work peak; outs = u }) (record { cells = new; outs = u' }) place (elements_out (found_outs (cell_at cells place).work ticket))
+        → StaysAs (with_work cells place work peak) new → StandsFor (core_of plan limit new c u' None) (history ++ probes_at place (ticket ∷ []))
+    stands new u' C stays =
+        subst (StandsFor (core_of plan limit new c u' None)) (append_assoc history (plain (Taken place ticket) ∷ []) (plain (Given place ticket) ∷ []))
+        (gives plan limit mid made-mid c u late S-mid place there-mid taken (ap (λ (x : Cell). x.work) at-mid) ticket P.takes.taken rows are-rows new u'
+        (subst (λ (xs : List Cell). Climbs (record { cells = xs; outs = u }) (record { cells = new; outs = u' }) place (map Tuple rows)) behind-is
+        (subst (λ (es : List Element). Climbs (record { cells = with_work cells place work peak; outs = u }) (record { cells = new; outs = u' }) place es) elements-are C))
+        (subst (λ (xs : List Cell). StaysAs xs new) behind-is stays))
+
+    pub stops : (cells' : List Cell) (node : ℕ) → GoBeyond (with_work cells place work peak) place (elements_out (found_outs (cell_at cells place).work ticket)) (Some node)
+        → StopsAtProbe (core_of plan limit cells c u None) (core_of plan limit cells' c u (Some (Limit node))) history place (Limit node)
+    stops cells' node G = record {
+      ticket = ticket;
+      others = starts.others;
+      front = plain (Taken place ticket) ∷ [];
+      back = plain (Given place ticket) ∷ [];
+      first = starts.is;
+      parts = refl;
+      within = (within-take, tt);
+      stops = ways (Some node) G;
+      stands = (stops-now plan limit mid cells' c c u (Limit node)).notes.stands late S-mid;
+    }
+
+  pub probes-at : (new : List Cell) (u' : List Out) → Climbs (record { cells = with_work cells place work peak; outs = u }) (record { cells = new; outs = u' }) place (elements_out (found_outs (cell_at cells place).work ticket))
+      → StaysAs (with_work cells place work peak) new → kept_pending (core_of plan limit new c u' None) place < kept_pending (core_of plan limit cells c u None) place
+      → ProbesAt (core_of plan limit cells c u None) (core_of plan limit new c u' None) place
+  probes-at new u' C stays fewer = record {
+    plan = refl;
+    limit = refl;
+    on = refl;
+    fewer = fewer;
+    probes = λ history S. record {
+      ticket = ticket;
+      others = (starts history S).others;
+      first = (starts history S).is;
+      within = (within-take history S, (ways history S None C.within, tt));
+      stands = stands history S new u' C stays;
+    };
+  }
+
+-- ---- the call
+
+kept-at : (cells : List Cell) (n : ℕ) → pending_kept (get_or (map (λ (x : Cell). kept_seen x.work) cells) n NothingKept) ≡ pending_kept (kept_seen (cell_at cells n).work)
+kept-at [] n = refl
+kept-at (x ∷ cells) zero = refl
+kept-at (x ∷ cells) (suc n) = kept-at cells n
+
+none-in : (ts : List ℕ) → length ts ≡ 0 → ts ≡ []
+none-in [] e = refl
+none-in (t ∷ ts) e = absurd (omega (arith, e))
+
+module _ (plan : RunPlan) (limit : ℕ) (cells : List Cell) (c : List ℕ) (u : List Out) (made : IsMadeOf plan limit cells) where
+  -- none is pending at the node
+  none-at : (place : ℕ) → pending_kept (kept_seen (cell_at cells place).work) ≡ 0 → (history : List Entry) → StandsFor (core_of plan limit cells c u None) history → pending_at (nodes_from (nodes_of plan) history) place ≡ []
+  none-at place e history S = go (cases_lt place (length cells))
+    where
+      A : AreAs cells (nodes_from (nodes_of plan) history)
+      A = are plan limit cells made c u history S
+
+      go : (place < length cells) ⊎ (length cells ≤ place) → pending_at (nodes_from (nodes_of plan) history) place ≡ []
+      go (inl lt) = tickets-are cells (nodes_from (nodes_of plan) history) place A lt ∙ none-in (tickets (kept_seen (cell_at cells place).work)) (sym (pending-long (kept_seen (cell_at cells place).work)) ∙ e)
+      go (inr ge) = beyond (nodes_from (nodes_of plan) history) place (let l = A.long in omega (arith, ge, l))
+        where
+          beyond : (nodes : List Node) (n : ℕ) → length nodes ≤ n → pending_at nodes n ≡ []
+          beyond [] n g = refl
+          beyond (node ∷ nodes) zero g = absurd (omega (arith, g))
+          beyond (node ∷ nodes) (suc n) g = beyond nodes n (omega (arith, g))
+
+  pub may-probe : (place : ℕ) (more : Bool) (new : List Cell) (u' : List Out) → ProbesOn more (record { cells = cells; outs = u }) (record { cells = new; outs = u' }) place
+      → MayProbeAt more (core_of plan limit cells c u None) (core_of plan limit new c u' None) place
+  may-probe place true new u' H =
+      probes-at plan limit cells made c u place H.there H.work H.ticket H.probed new u' H.climbs H.stays
+      (let f = H.fewer in let a = kept-at cells place in let b = kept-at new place in omega (arith, f, a, b))
+  may-probe place false new u' H = (ap (λ (s : Scene). core_of plan limit s.cells c s.outs None) H.0, λ history S. none-at place H.1 history S)
+
+  pub probe-stops : (place : ℕ) (cells' : List Cell) (stop : Stop) → IsProbeStop cells place stop → StopsProbe (core_of plan limit cells c u None) (core_of plan limit cells' c u (Some stop)) place stop
+  probe-stops place cells' (Limit node) b = record {
+    plan = refl;
+    limit = refl;
+    stopped = refl;
+    undrained = refl;
+    stops = λ history S. stops plan limit cells made c u place b.there b.work b.ticket b.probed history S cells' node b.beyond;
+  }
+  probe-stops place cells' NoMemory b = record {
+    plan = refl;
+    limit = refl;
+    stopped = refl;
+    undrained = refl;
+    stops = λ history S.
+        let T = some-in (pending_at (nodes_from (nodes_of plan) history) place)
+        (let p = b.1 in let l = pending-long (kept_seen (cell_at cells place).work) in
+        let e = ap length (tickets-are cells (nodes_from (nodes_of plan) history) place (are plan limit cells made c u history S) b.0) in omega (arith, p, l, e)) in
+        record {
+          ticket = T.ticket;
+          others = T.others;
+          front = [];
+          back = probes_at place (T.ticket ∷ []);
+          first = T.is;
+          parts = refl;
+          within = tt;
+          stops = tt;
+          stands =
+              subst (λ (h : List Entry). StandsFor (core_of plan limit cells' c u (Some NoMemory)) (h ++ plain (Stopped NoMemory) ∷ [])) (sym (append-nil history))
+              ((stops-now plan limit cells cells' c c u NoMemory).notes.stands history S);
+        };
+  }
+    where
+      some-in : (ts : List ℕ) → 0 < length ts → HasSome ts
+      some-in [] l = absurd (omega (arith, l))
+      some-in (t ∷ ts) l = record { ticket = t; others = ts; is = refl }
+
+  pub probe-stops-now : (t : Option Stop) (old : CoreState) → core_of plan limit cells c u t ≡ old → t ≡ None → (place : ℕ) (cells' : List Cell) (u' : List Out) (stop : Stop) → u' ≡ u → IsProbeStop cells place stop
+      → StopsProbe old (core_of plan limit cells' c u' (Some stop)) place stop
+  probe-stops-now t old is e place cells' u' stop outs b =
+      subst (λ (v : List Out). StopsProbe old (core_of plan limit cells' c v (Some stop)) place stop) (sym outs)
+      (subst (λ (o : CoreState). StopsProbe o (core_of plan limit cells' c u (Some stop)) place stop) (ap (core_of plan limit cells c u) (sym e) ∙ is) (probe-stops place cells' stop b))

@@ -1,0 +1,228 @@
+-- The nodes of a core stand for those of a history, and one more entry is noted.
+use Rattle.std.proofs.Common.{ℕ, zero, suc, ◌+◌, ◌<◌, ◌≤◌, max, Bool, true, false, cond, List, [], ◌∷◌, ◌++◌, ◌≡◌, Option, Some, None, map, length, get_or, set, refl, sym, ap, ap₂, ◌∙◌, subst, inl, inr, arith, append-nil}
+use Rattle.std.proofs.lemmas.Bool.{false≢true}
+use Rattle.std.proofs.lemmas.List.{ext_get_or, get_or-map, length-map}
+use Rattle.pj_shape.specs.declared.columns.Column.{Column}
+use Rattle.pj_shape.specs.declared.joins.CertStep.{CertStep}
+use Rattle.pj_plan.specs.declared.node.Node.{Node as Operation}
+use Rattle.pj_plan.specs.declared.node.Node.TheVariants.{Stream as StreamNode, Select as SelectNode, Project as ProjectNode, Union as UnionNode, Join as JoinNode, Group as GroupNode}
+use Rattle.pj_plan.specs.declared.node.PlanNode.{PlanNode}
+use Rattle.pj_core.specs.Parts.{plan_node}
+use Rattle.pj_plan.specs.Sound.{IsSoundOperator, IsSoundPlan}
+use Rattle.pj_scheme.specs.Derived.{inputs_schemes, schemes_of}
+use Rattle.pj_pattern.specs.declared.element.Element.{Element}
+use Rattle.pj_laws.specs.declared.events.Entry.{Entry}
+use Rattle.pj_laws.specs.declared.events.Event.{Event}
+use Rattle.pj_laws.specs.declared.events.Out.{Out}
+use Rattle.pj_laws.specs.declared.events.Stop.{Stop}
+use Rattle.pj_laws.specs.Join.{AreLegalSteps, JoinData, JoinState, Step, inputs, run, start, upto_from}
+use Rattle.pj_laws.specs.Plan.{Operator, Stream, Select, Project, Union, Join, Group, Node, Local, after, hands, nowhere, operator_at}
+use Rattle.pj_laws.specs.History.{IsEntryAllowed, IsLegal, closed_after, halted_after, nodes_from, out_of, reached_of, state_in, stop_after}
+use Rattle.pj_laws.specs.Outcomes.{Arrival, arrivals_at, beyond_of, climb, goes_beyond, join_steps_of, origin_of, stored_at, way_up}
+use Rattle.pj_laws.specs.CoreKept.{CoreKept, KeptOperator, NothingKept, core_kept, kept_in}
+use Rattle.pj_laws.specs.KeptState.{kept_of}
+use Rattle.pj_laws.specs.Climb.{Climbed, HasOneTop, IsTree, above, climb_of, climbed, climbed_by, climbed_where, local_of, stepped}
+use Rattle.pj_laws.specs.ClimbKept.{counted, handed_by, kept_with, raised, undrained_with}
+use Rattle.pj_laws.proofs.ClimbingKept.{adds-climb}
+use Rattle.pj_laws.proofs.ClimbingLimits.{beyond-is-climbed}
+use Rattle.pj_laws.proofs.Complete.{IsCounted, counted-run, counted-start}
+use Rattle.pj_laws.proofs.HistoryAnswers.{grows-legally}
+use Rattle.pj_laws.proofs.JoinRuns.{join-runs}
+use Rattle.pj_laws.proofs.Probes.{length-from}
+use Rattle.pj_laws.proofs.Sound.{sound-start}
+use Rattle.pj_laws.proofs.Trees.{above-from, tree-from}
+use Rattle.pj_laws.proofs.Upto.{get_or-upto, length-upto}
+use Rattle.pj_join.specs.Joins.{join_data}
+use Rattle.pj_core.specs.declared.cell.Cell.{Cell}
+use Rattle.pj_core.specs.declared.cell.Work.{Work}
+use Rattle.pj_core.specs.Cells.{AreAs, Frame, GroupKind, IsAs, IsBelow, IsBelowIn, IsKind, JoinKind, Kind, ProjectKind, SelectKind, StreamKind, UnionKind, above_pair, cell_at, count_seen, frame_at, frame_of, frames_in, kept_seen, kind_of, no_cell, peak_seen, stored_kept}
+use Rattle.pj_core.specs.Climbing.{AreCounted, GoBeyond, count_at}
+use Rattle.pj_core.specs.Cores.{CoreState, StandsFor}
+use Rattle.pj_core.specs.Parts.{IsMadeOf, all_kept, core_of, frame_for, frames_of, kind_for}
+use Rattle.pj_core.specs.Plans.{RunPlan, nodes_of, operator_of}
+use Rattle.pj_core.proofs.Climbs.{frame-at}
+use Rattle.pj_core.proofs.Frames.{above-of, certs_at, frame-is, kind-is, limits-of, long-of, operator-is}
+use Rattle.pj_core.proofs.Planned.{nodes-long, one-top, planned, tree}
+use Rattle.pj_core.proofs.Ways.{way-past, way-same}
+
+-- ---- what is below
+
+below-of : (spec : JoinData) (s : JoinState) → IsCounted spec s → IsBelow s
+below-of spec s c = (c.taken_below, λ u h. c.taken_below u (c.given_taken u h))
+
+-- ---- the nodes of a core
+
+module _ (plan : RunPlan) (limit : ℕ) (history : List Entry) (sound : IsSoundPlan plan.nodes) (legal : IsLegal (nodes_of plan) history) where
+  abbrev now : List Node
+  now = nodes_from (nodes_of plan) history
+
+  pub long-now : length now ≡ length plan.nodes
+  long-now = length-from (nodes_of plan) history ∙ nodes-long plan
+
+  -- a join was one at its start
+  pub join-start : (n : ℕ) → n < length plan.nodes → (spec : JoinData) (s : JoinState) → operator_at now n ≡ Join spec s → (operator_at (nodes_of plan) n ≡ Join spec start) × (0 < inputs spec)
+  join-start n lt spec s is = go (plan_node plan.nodes n).node refl
+    where
+      certs : List (List CertStep)
+      certs = certs_at plan.nodes plan.certs n
+
+      schema : List Column
+      schema = (plan_node plan.nodes n).schema
+
+      kind : (op : Operation) → (plan_node plan.nodes n).node ≡ op → IsKind (kind_for (schemes_of plan.nodes) limit n certs schema op) (Join spec s)
+      kind op e =
+          subst (λ (x : Operation). IsKind (kind_for (schemes_of plan.nodes) limit n certs schema x) (Join spec s)) e
+          (subst (λ (o : Operator). IsKind (kind_for (schemes_of plan.nodes) limit n certs schema (plan_node plan.nodes n).node) o) is
+          (subst (λ (f : Frame). IsKind f.kind (operator_at now n)) (frame-is plan limit n lt) (kind-is plan limit history n lt (nodes-long plan))))
+
+      go : (op : Operation) → (plan_node plan.nodes n).node ≡ op → (operator_at (nodes_of plan) n ≡ Join spec start) × (0 < inputs spec)
+      go (StreamNode stated) e = absurd (kind (StreamNode stated) e)
+      go (SelectNode input test) e = absurd (kind (SelectNode input test) e)
+      go (ProjectNode input columns) e = absurd (kind (ProjectNode input columns) e)
+      go (UnionNode ins) e = absurd (kind (UnionNode ins) e)
+      go (JoinNode ins shape) e =
+          let whole : JoinData = join_data shape (inputs_schemes (schemes_of plan.nodes) ins) certs in
+          let same : whole ≡ spec = kind (JoinNode ins shape) e in
+          let sound-here : IsSoundOperator plan.nodes schema (JoinNode ins shape) = subst (IsSoundOperator plan.nodes schema) e (sound.each n lt).operator in (
+            operator-is (schemes_of plan.nodes) plan.certs plan.nodes n lt ∙ ap (operator_of (schemes_of plan.nodes) certs schema) e ∙ ap (λ (d : JoinData). Join d start) same,
+            subst (λ (d : JoinData). 0 < inputs d) same (let few = sound-here.0.few_inputs.0 in omega (arith, few, length-map shape.inputs length)),
+          )
+      go (GroupNode input group) e = absurd (kind (GroupNode input group) e)
+
+  -- and legal steps made it what it is
+  pub join-steps : (n : ℕ) → n < length plan.nodes → (spec : JoinData) (s : JoinState) → operator_at now n ≡ Join spec s → (steps : List Step) × AreLegalSteps spec start steps × (s ≡ run spec start steps)
+  join-steps n lt spec s is =
+      let at = (join-start n lt spec s is).0 in
+      let there : n < length (nodes_of plan) = omega (arith, lt, nodes-long plan) in
+      let runs = join-runs (nodes_of plan) (planned plan sound) in
+      let state : Join spec s ≡ Join spec (run spec start (join_steps_of (nodes_of plan) history n)) = sym is ∙ runs.state history n spec there at in
+      (join_steps_of (nodes_of plan) history n, runs.legal history n spec legal there at, ap state_in state)
+
+  pub below-at : (n : ℕ) → n < length plan.nodes → IsBelowIn (operator_at now n)
+  below-at n lt = go (operator_at now n) refl
+    where
+      go : (o : Operator) → operator_at now n ≡ o → IsBelowIn o
+      go (Stream schema sent) e = tt
+      go (Select test) e = tt
+      go (Project columns) e = tt
+      go (Union m u) e = tt
+      go (Join spec s) e =
+          let some = (join-start n lt spec s e).1 in
+          let steps = join-steps n lt spec s e in
+          subst IsBelow (sym steps.2) (below-of spec (run spec start steps.0) (counted-run spec start steps.0 (sound-start spec) (counted-start spec some) steps.1))
+      go (Group spec rows) e = tt
+
+  -- what is kept of the nodes is what the history leaves
+  pub are-as : (cells : List Cell) → frames_in cells ≡ frames_of plan limit → map (λ (cell : Cell). kept_seen cell.work) cells ≡ map (λ (node : Node). kept_in node.operator) now → AreAs cells now
+  are-as cells frames kept = record {
+    tree = tree-from (nodes_of plan) history (tree plan sound);
+    long = long ∙ sym long-now;
+    links = λ n lt.
+        above-from (nodes_of plan) history n ∙ above-of plan n
+        ∙ ap (λ (f : Frame). above_pair f.above) (sym (frame-is plan limit n (omega (arith, lt, long))) ∙ ap (λ (fs : List Frame). frame_at fs n) (sym frames) ∙ frame-at cells n);
+    each = λ n lt. record {
+      kind = subst (λ (f : Frame). IsKind f.kind (operator_at now n)) (ap (λ (fs : List Frame). frame_at fs n) (sym frames) ∙ frame-at cells n)
+          (kind-is plan limit history n (omega (arith, lt, long)) (nodes-long plan));
+      kept = sym (get_or-map (λ (cell : Cell). kept_seen cell.work) cells n no_cell NothingKept lt)
+          ∙ ap (λ (ks : List KeptOperator). get_or ks n NothingKept) kept
+          ∙ get_or-map (λ (node : Node). kept_in node.operator) now n nowhere NothingKept (omega (arith, lt, long, long-now));
+      below = below-at n (omega (arith, lt, long));
+    };
+  }
+    where
+      long : length cells ≡ length plan.nodes
+      long = sym (length-map cells frame_of) ∙ ap length frames ∙ long-of plan limit
+
+-- ---- lists, place by place
+
+pub same-kept : (cells : List Cell) (nodes : List Node) → AreAs cells nodes → map (λ (cell : Cell). kept_seen cell.work) cells ≡ map (λ (node : Node). kept_in node.operator) nodes
+same-kept cells nodes A =
+    ext_get_or NothingKept (map (λ (cell : Cell). kept_seen cell.work) cells) (map (λ (node : Node). kept_in node.operator) nodes)
+    (length-map cells (λ (cell : Cell). kept_seen cell.work) ∙ A.long ∙ sym (length-map nodes (λ (node : Node). kept_in node.operator)))
+    (λ n lt.
+    let l : n < length cells = omega (arith, lt, length-map cells (λ (cell : Cell). kept_seen cell.work)) in
+    get_or-map (λ (cell : Cell). kept_seen cell.work) cells n no_cell NothingKept l ∙ (A.each n l).kept
+    ∙ sym (get_or-map (λ (node : Node). kept_in node.operator) nodes n nowhere NothingKept (omega (arith, l, A.long))))
+
+counted-same : (f g : Cell → ℕ) (old new : List Cell) (brought : List (List Arrival)) → length old ≡ length new
+    → ((n : ℕ) → n < length old → g (get_or new n no_cell) ≡ f (get_or old n no_cell) + length (get_or brought n [])) → map g new ≡ counted (map f old) brought
+counted-same f g [] [] brought e s = refl
+counted-same f g [] (y ∷ ys) brought e s = cc
+counted-same f g (x ∷ xs) [] brought e s = cc
+counted-same f g (x ∷ xs) (y ∷ ys) [] e s =
+    ap₂ (λ (n : ℕ) (ns : List ℕ). n ∷ ns) (s 0 (omega arith) ∙ plus (f x)) (counted-same f g xs ys [] (omega (arith, e)) (λ n lt. s (suc n) (omega (arith, lt))) ∙ nothing (map f xs))
+  where
+    plus : (n : ℕ) → n + 0 ≡ n
+    plus n = omega arith
+
+    nothing : (ns : List ℕ) → counted ns [] ≡ ns
+    nothing [] = refl
+    nothing (n ∷ ns) = refl
+counted-same f g (x ∷ xs) (y ∷ ys) (came ∷ brought) e s =
+    ap₂ (λ (n : ℕ) (ns : List ℕ). n ∷ ns) (s 0 (omega arith)) (counted-same f g xs ys brought (omega (arith, e)) (λ n lt. s (suc n) (omega (arith, lt))))
+
+raised-same : (f g : Cell → ℕ) (old new : List Cell) (nodes : List Node) → length old ≡ length new → length old ≡ length nodes
+    → ((n : ℕ) → n < length old → g (get_or new n no_cell) ≡ max (f (get_or old n no_cell)) (stored_at nodes n)) → map g new ≡ raised (map f old) nodes
+raised-same f g [] [] nodes e l s = refl
+raised-same f g [] (y ∷ ys) nodes e l s = cc
+raised-same f g (x ∷ xs) [] nodes e l s = cc
+raised-same f g (x ∷ xs) (y ∷ ys) [] e l s = absurd (omega (arith, l))
+raised-same f g (x ∷ xs) (y ∷ ys) (node ∷ nodes) e l s =
+    ap₂ (λ (n : ℕ) (ns : List ℕ). n ∷ ns) (s 0 (omega arith)) (raised-same f g xs ys nodes (omega (arith, e)) (omega (arith, l)) (λ n lt. s (suc n) (omega (arith, lt))))
+
+-- what is stored at a node
+pub stored-is : (cells : List Cell) (nodes : List Node) (n : ℕ) → AreAs cells nodes → n < length cells → stored_kept (kept_seen (cell_at cells n).work) ≡ stored_at nodes n
+stored-is cells nodes n A lt = ap stored_kept (A.each n lt).kept ∙ of (operator_at nodes n)
+  where
+    of : (o : Operator) → stored_kept (kept_in o) ≡ length (state_in o).stored
+    of (Stream schema sent) = refl
+    of (Select test) = refl
+    of (Project columns) = refl
+    of (Union m u) = refl
+    of (Join spec s) = refl
+    of (Group spec rows) = refl
+
+-- ---- one more entry
+
+-- what one more entry does to the parts of a core that goes on
+pub record Goes (trace : Bool) (old new : CoreKept) (cells cells' : List Cell) (nodes : List Node) (entry : Entry) : Type 0 where
+  pub long : length cells' ≡ length cells
+  pub stands : AreAs cells' (climb_of nodes entry.event).nodes
+  pub counts : AreCounted cells cells' (climb_of nodes entry.event).brought
+  pub peaks : (n : ℕ) → n < length cells → peak_seen (cell_at cells' n) ≡ max (peak_seen (cell_at cells n)) (stored_at (climb_of nodes entry.event).nodes n)
+  pub closed : new.closed ≡ closed_after old.closed entry.closing entry.event
+  pub undrained : new.undrained ≡ undrained_with old.undrained (handed_by trace nodes entry.event) entry.event
+  pub halts : halted_after false entry.event ≡ false
+  pub stops : stop_after None entry.event ≡ None
+
+module _ (plan : RunPlan) (limit : ℕ) (cells : List Cell) (made : IsMadeOf plan limit cells) (c : List ℕ) (u : List Out) (history : List Entry) (S : StandsFor (core_of plan limit cells c u None) history) where
+  abbrev nodes : List Node
+  nodes = nodes_from (nodes_of plan) history
+
+  pub kept-is : all_kept cells c u None ≡ core_kept plan.trace (nodes_of plan) history
+  kept-is = S.stands.0 (sym S.stands.3)
+
+  pub are : AreAs cells nodes
+  are = are-as plan limit history made.0 S.legal cells made.2 (ap (λ (k : CoreKept). k.nodes) kept-is)
+
+  pub noted : (entry : Entry) (new : List Cell) (c' : List ℕ) (u' : List Out) → IsEntryAllowed (reached_of false (nodes_of plan) history) entry
+      → Goes plan.trace (all_kept cells c u None) (all_kept new c' u' None) cells new nodes entry → StandsFor (core_of plan limit new c' u' None) (history ++ entry ∷ [])
+  noted entry new c' u' allowed G = record {
+    legal = (grows-legally (nodes_of plan) history entry).1 (S.legal, allowed);
+    stands = (λ _. K, ap (λ (k : CoreKept). k.undrained) K, ap (λ (k : CoreKept). k.halted) K, ap (λ (k : CoreKept). k.stop) K);
+  }
+    where
+      after-entry : all_kept new c' u' None ≡ kept_with plan.trace (all_kept cells c u None) nodes entry
+      after-entry = λ i. record {
+        nodes = same-kept new (climb_of nodes entry.event).nodes G.stands i;
+        counts = counted-same count_seen count_seen cells new (climb_of nodes entry.event).brought (sym G.long) G.counts i;
+        peaks = raised-same peak_seen peak_seen cells new (climb_of nodes entry.event).nodes (sym G.long) (sym G.long ∙ G.stands.long) G.peaks i;
+        closed = G.closed i;
+        undrained = G.undrained i;
+        halted = (sym G.halts) i;
+        stop = (sym G.stops) i;
+      }
+
+      K : all_kept new c' u' None ≡ core_kept plan.trace (nodes_of plan) (history ++ entry ∷ [])
+      K = after-entry ∙ ap (λ (k : CoreKept). kept_with plan.trace k nodes entry) kept-is
+          ∙ sym ((adds-climb (nodes_of plan) (tree plan made.0) history entry).kept plan.trace (one-top plan made.0))

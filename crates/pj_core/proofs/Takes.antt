@@ -1,0 +1,344 @@
+-- Takes and gives at a core.
+use Rattle.std.proofs.Common.{ℕ, zero, suc, ◌+◌, ◌<◌, ◌≤◌, ◌≢◌, Bool, true, false, cond, not, ◌||◌, List, [], ◌∷◌, ◌++◌, ◌≡◌, ◌⊎◌, Option, Some, None, map, length, sum, get_or, set, eqb, refl, sym, ap, ap₂, ◌∙◌, subst, inl, inr, arith, append-nil}
+use Rattle.std.proofs.lemmas.Bool.{cases_lt, eq-eqb, false≢true, ne_eqb}
+use Rattle.std.proofs.lemmas.List.{get_or-map, get_or-set_same, length-map, length-set}
+use Rattle.std.proofs.lemmas.List.Sums.{sum-map, sum_by-cons}
+use Rattle.pj_value.specs.declared.values.Value.{Value}
+use Rattle.pj_pattern.specs.declared.element.Element.{Element}
+use Rattle.pj_pattern.specs.declared.element.Element.TheVariants.{Tuple}
+use Rattle.pj_laws.specs.declared.events.Entry.{Entry}
+use Rattle.pj_laws.specs.declared.events.Event.TheVariants.{Take as Taken, Give as Given, Idle}
+use Rattle.pj_laws.specs.declared.events.Out.{Out}
+use Rattle.pj_laws.specs.declared.events.Stop.{Stop}
+use Rattle.pj_laws.specs.declared.events.Stop.TheVariants.{Limit, NoMemory}
+use Rattle.pj_laws.specs.Join.{Give, In, JoinData, JoinState, Step, Take, TupleAt, has, joined, results, run, start, step}
+use Rattle.pj_laws.specs.KeptState.{KeptState, kept_of, lacking, without}
+use Rattle.pj_laws.specs.Plan.{after as after_local, Node, Operator, Stream, Select, Project, Union, Join, Group, Own, hands, operator_at}
+use Rattle.pj_laws.specs.History.{data_at, nodes_from, state_in}
+use Rattle.pj_laws.specs.Outcomes.{goes_beyond, results_of}
+use Rattle.pj_laws.specs.OneThread.{Pending, first_of, next_from, next_probe, pending_at, plain}
+use Rattle.pj_laws.specs.CoreKept.{JoinKept, KeptOperator, NothingKept, UnionKept, GroupKept, kept_in}
+use Rattle.pj_laws.proofs.Probes.{has-in}
+use Rattle.pj_laws.proofs.Tickets.{AreAscending, first-least, pending-ascends}
+use Rattle.pj_join.specs.declared.found.Found.{Found}
+use Rattle.pj_join.specs.Joins.{IsTaken, JoinView, after}
+use Rattle.pj_core.specs.declared.cell.Cell.{Cell}
+use Rattle.pj_core.specs.declared.cell.Work.{Work}
+use Rattle.pj_core.specs.declared.cell.Work.TheVariants.{Join as JoinCell}
+use Rattle.pj_core.specs.Acts.{FirstTook, JoinActs, JoinTook, first_pending, with_work}
+use Rattle.pj_core.specs.Calls.{AreResults, HasGiven, IsGiveCause, IsOpen, IsTakenIn, TakesNext, all_pending, pending_kept}
+use Rattle.pj_core.specs.Cells.{AreAs, Frame, JoinKind, Kind, cell_at, frame_at, frame_of, frames_in, kept_seen, kind_of, no_cell}
+use Rattle.pj_core.specs.Climbing.{Climbs, GoBeyond, IsClimbStop, StaysAs}
+use Rattle.pj_core.specs.Cores.{CoreState, StandsFor}
+use Rattle.pj_core.specs.Parts.{IsMadeOf, core_of}
+use Rattle.pj_core.specs.Plans.{RunPlan, nodes_of}
+use Rattle.pj_core.proofs.Climbs.{climbs-none, frame-at, stays-none}
+use Rattle.pj_core.proofs.Events.{Steps, beyond-is, note}
+use Rattle.pj_core.proofs.Frames.{join-number, long-of}
+use Rattle.pj_core.proofs.Own as own
+use Rattle.pj_core.proofs.Own.{IsJoinWith}
+use Rattle.pj_core.proofs.Stands.{are, long-now, noted}
+
+-- ---- what is pending
+
+abbrev pub tickets : KeptOperator → List ℕ
+tickets NothingKept = []
+tickets (UnionKept union) = []
+tickets (JoinKept kept) = kept.pending
+tickets (GroupKept table) = []
+
+pub pending-long : (k : KeptOperator) → pending_kept k ≡ length (tickets k)
+pending-long NothingKept = refl
+pending-long (UnionKept union) = refl
+pending-long (JoinKept kept) = refl
+pending-long (GroupKept table) = refl
+
+pub tickets-are : (cells : List Cell) (nodes : List Node) (n : ℕ) → AreAs cells nodes → n < length cells → pending_at nodes n ≡ tickets (kept_seen (cell_at cells n).work)
+tickets-are cells nodes n A lt = of (operator_at nodes n) ∙ ap tickets (sym (A.each n lt).kept)
+  where
+    of : (o : Operator) → lacking (state_in o).taken (state_in o).tuples ≡ tickets (kept_in o)
+    of (Stream schema sent) = refl
+    of (Select test) = refl
+    of (Project columns) = refl
+    of (Union m u) = refl
+    of (Join spec s) = refl
+    of (Group spec rows) = refl
+
+-- the first pending ticket of a node
+abbrev pub first_there : List Node → Option ℕ → Option Pending
+first_there nodes None = None
+first_there nodes (Some place) = first_of place (pending_at nodes place) None
+
+next-there : (nodes : List Node) (k : ℕ) (cells : List Cell) → ((i : ℕ) → i < length cells → pending_at nodes (k + i) ≡ tickets (kept_seen (cell_at cells i).work))
+    → next_from nodes k (length cells) ≡ first_there nodes (first_pending k cells)
+next-there nodes k [] f = refl
+next-there nodes k (cell ∷ cells) f =
+    go (tickets (kept_seen cell.work)) here (pending-long (kept_seen cell.work))
+    (next-there nodes (k + 1) cells (λ i lt. let z : k + 1 + i ≡ k + suc i = omega arith in ap (pending_at nodes) z ∙ f (suc i) (omega (arith, lt))))
+  where
+    here : pending_at nodes k ≡ tickets (kept_seen cell.work)
+    here = let z : k ≡ k + 0 = omega arith in ap (pending_at nodes) z ∙ f 0 (omega arith)
+
+    go : (ts : List ℕ) → pending_at nodes k ≡ ts → pending_kept (kept_seen cell.work) ≡ length ts → next_from nodes (k + 1) (length cells) ≡ first_there nodes (first_pending (k + 1) cells)
+        → first_of k (pending_at nodes k) (next_from nodes (k + 1) (length cells)) ≡ first_there nodes (cond (eqb (pending_kept (kept_seen cell.work)) 0) (first_pending (k + 1) cells) (Some k))
+    go [] p e ih =
+        ap (λ (us : List ℕ). first_of k us (next_from nodes (k + 1) (length cells))) p ∙ ih
+        ∙ ap (λ (b : Bool). first_there nodes (cond b (first_pending (k + 1) cells) (Some k))) (sym (eq-eqb (pending_kept (kept_seen cell.work)) 0 e))
+    go (t ∷ ts) p e ih =
+        ap (λ (us : List ℕ). first_of k us (next_from nodes (k + 1) (length cells))) p
+        ∙ sym (ap (λ (us : List ℕ). first_of k us None) p)
+        ∙ ap (λ (b : Bool). first_there nodes (cond b (first_pending (k + 1) cells) (Some k))) (sym (ne_eqb (pending_kept (kept_seen cell.work)) 0 (λ q. omega (arith, e, q))))
+
+pub next-is : (cells : List Cell) (nodes : List Node) → AreAs cells nodes → next_probe nodes ≡ first_there nodes (first_pending 0 cells)
+next-is cells nodes A =
+    ap (next_from nodes 0) (sym A.long)
+    ∙ next-there nodes 0 cells (λ i lt. let z : 0 + i ≡ i = omega arith in ap (pending_at nodes) z ∙ tickets-are cells nodes i A lt)
+
+-- ---- fewer are pending
+
+pub fewer-without : (ts : List ℕ) (t : ℕ) → has ts t ≡ true → length (without ts t) < length ts
+fewer-without [] t h = absurd (false≢true h)
+fewer-without (v ∷ ts) t h = go (eqb v t) h (fewer-without ts t)
+  where
+    at-most : (us : List ℕ) → length (without us t) ≤ length us
+    at-most [] = omega arith
+    at-most (x ∷ us) = keep (eqb x t) (at-most us)
+      where
+        keep : (b : Bool) → length (without us t) ≤ length us → length (cond (not b) (x ∷ without us t) (without us t)) ≤ suc (length us)
+        keep true l = omega (arith, l)
+        keep false l = omega (arith, l)
+
+    go : (b : Bool) → (b || has ts t) ≡ true → (has ts t ≡ true → length (without ts t) < length ts) → length (cond (not b) (v ∷ without ts t) (without ts t)) < length (v ∷ ts)
+    go true e ih = let l = at-most ts in omega (arith, l)
+    go false e ih = let l = ih e in omega (arith, l)
+
+cons-sum : (k : KeptOperator) (ks : List KeptOperator) → sum (map pending_kept (k ∷ ks)) ≡ pending_kept k + sum (map pending_kept ks)
+cons-sum k ks = sum-map pending_kept (k ∷ ks) ∙ sum_by-cons pending_kept k ks ∙ ap (λ (n : ℕ). pending_kept k + n) (sym (sum-map pending_kept ks))
+
+pub sum-none : (k : KeptOperator) (ks : List KeptOperator) → pending_kept k ≡ 0 → sum (map pending_kept ks) ≡ 0 → sum (map pending_kept (k ∷ ks)) ≡ 0
+sum-none k ks a b = let s = cons-sum k ks in omega (arith, s, a, b)
+
+pub fewer-there : (cells : List Cell) (n : ℕ) (cell : Cell) → n < length cells → pending_kept (kept_seen cell.work) < pending_kept (kept_seen (cell_at cells n).work)
+    → sum (map pending_kept (map (λ (x : Cell). kept_seen x.work) (set cells n cell))) < sum (map pending_kept (map (λ (x : Cell). kept_seen x.work) cells))
+fewer-there [] n cell lt less = absurd (omega (arith, lt))
+fewer-there (x ∷ cells) zero cell lt less =
+    omega (arith, less, cons-sum (kept_seen cell.work) (map (λ (y : Cell). kept_seen y.work) cells), cons-sum (kept_seen x.work) (map (λ (y : Cell). kept_seen y.work) cells))
+fewer-there (x ∷ cells) (suc n) cell lt less = let ih = fewer-there cells n cell (omega (arith, lt)) less in
+    omega (arith, ih, cons-sum (kept_seen x.work) (map (λ (y : Cell). kept_seen y.work) (set cells n cell)), cons-sum (kept_seen x.work) (map (λ (y : Cell). kept_seen y.work) cells))
+
+-- ---- takes
+
+kept-there : (cells : List Cell) (n : ℕ) → n < length cells → get_or (map (λ (x : Cell). kept_seen x.work) cells) n NothingKept ≡ kept_seen (cell_at cells n).work
+kept-there cells n lt = get_or-map (λ (x : Cell). kept_seen x.work) cells n no_cell NothingKept lt
+
+pub join-here : (plan : RunPlan) (limit : ℕ) (cells : List Cell) → IsMadeOf plan limit cells → (place : ℕ) → place < length cells → (join : JoinView) → (cell_at cells place).work ≡ JoinCell join → join.node ≡ place
+join-here plan limit cells made place lt join at =
+    join-number plan limit place join.node join.spec join.limit
+    (let l = sym (length-map cells frame_of) ∙ ap length made.2 ∙ long-of plan limit in omega (arith, lt, l))
+    (ap (λ (fs : List Frame). (frame_at fs place).kind) (sym made.2) ∙ ap (λ (f : Frame). f.kind) (frame-at cells place) ∙ ap kind_of at)
+
+module _ (plan : RunPlan) (limit : ℕ) (cells : List Cell) (made : IsMadeOf plan limit cells) (c : List ℕ) (u : List Out) (history : List Entry) (S : StandsFor (core_of plan limit cells c u None) history)
+    (place : ℕ) (there : place < length cells) (join : JoinView) (at : (cell_at cells place).work ≡ JoinCell join) where
+  abbrev nodes : List Node
+  nodes = nodes_from (nodes_of plan) history
+
+  abbrev peak : ℕ
+  peak = (cell_at cells place).peak
+
+  abbrev state-of : IsJoinWith join (operator_at nodes place)
+  state-of = own.J plan limit cells made c u history S place there join at
+
+  take-steps : (t : ℕ) → has join.kept.pending t ≡ true → Steps cells (with_work cells place (JoinCell (after join (Take t))) peak) nodes place (Own (Take t))
+  take-steps t p =
+      own.own-steps plan limit cells made c u history S place there join at (Taken place t) (Take t) peak refl refl tt
+      (own.take-allowed plan limit cells made c u history S place there join at t p)
+      (inl (refl, let a = own.stored-before plan limit cells made c u history S place there join at in let b = own.stored-own plan limit cells made c u history S place there join at (Take t) in omega (arith, a, b)))
+
+  pub takes : (t : ℕ) → has join.kept.pending t ≡ true → StandsFor (core_of plan limit (with_work cells place (JoinCell (after join (Take t))) peak) c u None) (history ++ plain (Taken place t) ∷ [])
+  takes t p =
+      note plan limit cells made c u history S (Taken place t) place (Own (Take t)) refl refl mid (take-steps t p) mid c u u 0
+      (own.take-allowed plan limit cells made c u history S place there join at t p) (silent plan.trace)
+      (subst (λ (es : List Element). Climbs (record { cells = mid; outs = u }) (record { cells = mid; outs = u }) place es)
+      (sym (own.handed-own plan limit cells made c u history S place there join at (Take t))) (climbs-none (record { cells = mid; outs = u }) place))
+      (stays-none mid) refl (λ old more. refl) refl refl
+    where
+      mid : List Cell
+      mid = with_work cells place (JoinCell (after join (Take t))) peak
+
+      silent : (trace : Bool) → u ≡ u ++ cond trace [] []
+      silent true = sym (append-nil u)
+      silent false = sym (append-nil u)
+
+  pub take-within : (t : ℕ) → has join.kept.pending t ≡ true → goes_beyond limit (nodes_of plan) history (Taken place t) ≡ None
+  take-within t p =
+      beyond-is plan limit cells made c u history S (Taken place t) place (Own (Take t)) refl refl mid (take-steps t p) None
+      (subst (λ (es : List Element). GoBeyond mid place es None) (sym (own.handed-own plan limit cells made c u history S place there join at (Take t)))
+      (climbs-none (record { cells = mid; outs = u }) place).within)
+    where
+      mid : List Cell
+      mid = with_work cells place (JoinCell (after join (Take t))) peak
+
+  -- the results of a ticket that is taken stay
+  pub results-stay : (t : ℕ) → has join.kept.pending t ≡ true → results_of (nodes_of plan) (history ++ plain (Taken place t) ∷ []) place t ≡ results_of (nodes_of plan) history place t
+  results-stay t p =
+      ap (λ (o : Operator). map joined (results (data_at (nodes_of plan) place) (state_in o).tuples (state_in o).tuples t))
+      (own.later plan limit cells made c u history S place there join at (Taken place t) (Take t) refl refl (own.take-allowed plan limit cells made c u history S place there join at t p)
+      ∙ ap (λ (o : Operator). after_local o (Own (Take t))) state-of.is)
+      ∙ sym (ap (λ (o : Operator). map joined (results (data_at (nodes_of plan) place) (state_in o).tuples (state_in o).tuples t)) state-of.is)
+
+  give-steps : (t : ℕ) → IsTaken join.kept t → Steps cells (with_work cells place (JoinCell (after join (Give t))) peak) nodes place (Own (Give t))
+  give-steps t p =
+      own.own-steps plan limit cells made c u history S place there join at (Given place t) (Give t) peak refl refl tt
+      (own.give-allowed plan limit cells made c u history S place there join at t p)
+      (inl (refl, let a = own.stored-before plan limit cells made c u history S place there join at in let b = own.stored-own plan limit cells made c u history S place there join at (Give t) in omega (arith, a, b)))
+
+  module _ (t : ℕ) (p : IsTaken join.kept t) (rows : List (List Value)) (are : rows ≡ results_of (nodes_of plan) history place t) where
+    abbrev mid : List Cell
+    mid = with_work cells place (JoinCell (after join (Give t))) peak
+
+    handed : hands (operator_at nodes place) (Own (Give t)) ≡ map Tuple rows
+    handed =
+        own.handed-own plan limit cells made c u history S place there join at (Give t)
+        ∙ both (results join.spec state-of.state.tuples state-of.state.tuples t)
+        ∙ ap (map Tuple) (sym (are ∙ own.results-are plan limit cells made c u history S place there join at t))
+      where
+        both : (cs : List (List TupleAt)) → map (λ c. Tuple (joined c)) cs ≡ map Tuple (map joined cs)
+        both [] = refl
+        both (x ∷ cs) = ap (λ (es : List Element). Tuple (joined x) ∷ es) (both cs)
+
+    pub gives : (new : List Cell) (u' : List Out) → Climbs (record { cells = mid; outs = u }) (record { cells = new; outs = u' }) place (map Tuple rows) → StaysAs mid new
+        → StandsFor (core_of plan limit new c u' None) (history ++ plain (Given place t) ∷ [])
+    gives new u' C stays =
+        note plan limit cells made c u history S (Given place t) place (Own (Give t)) refl refl mid (give-steps t p) new c u u' 0
+        (own.give-allowed plan limit cells made c u history S place there join at t p) (silent plan.trace)
+        (subst (λ (es : List Element). Climbs (record { cells = mid; outs = u }) (record { cells = new; outs = u' }) place es) (sym handed) C)
+        stays refl (λ old more. refl) refl refl
+      where
+        silent : (trace : Bool) → u ≡ u ++ cond trace [] []
+        silent true = sym (append-nil u)
+        silent false = sym (append-nil u)
+
+    pub give-beyond : (o : Option ℕ) → GoBeyond mid place (map Tuple rows) o → goes_beyond limit (nodes_of plan) history (Given place t) ≡ o
+    give-beyond o G =
+        beyond-is plan limit cells made c u history S (Given place t) place (Own (Give t)) refl refl mid (give-steps t p) o
+        (subst (λ (es : List Element). GoBeyond mid place es o) (sym handed) G)
+
+-- ---- calls
+
+-- a ticket was taken at the first node that has one pending
+pub takes-next : (plan : RunPlan) (limit : ℕ) (cells new : List Cell) (c : List ℕ) (u : List Out) (found : Found) → IsMadeOf plan limit cells → FirstTook cells new found
+    → TakesNext (core_of plan limit cells c u None) (core_of plan limit new c u None) found
+takes-next plan limit cells new c u found made F =
+    subst (λ (cells' : List Cell). TakesNext (core_of plan limit cells c u None) (core_of plan limit cells' c u None) found) (sym changes)
+    (record {
+      next = λ history S. next history S;
+      finds = λ history S. finds history S;
+      keeps = λ history S.
+          finds history S
+          ∙ sym (ap (λ (n : ℕ). results_of (nodes_of plan) (history ++ plain (Taken n found.ticket) ∷ []) n found.ticket) joins
+          ∙ results-stay plan limit cells made c u history S F.place F.there join F.took.was found.ticket F.took.takes.pending
+          ∙ ap (λ (n : ℕ). results_of (nodes_of plan) history n found.ticket) (sym joins));
+      opens = opens;
+      notes = record {
+        plan = refl;
+        limit = refl;
+        stands = λ history S.
+            subst (λ (n : ℕ). StandsFor (core_of plan limit mid c u None) (history ++ plain (Taken n found.ticket) ∷ [])) (sym joins)
+            (takes plan limit cells made c u history S F.place F.there join F.took.was found.ticket F.took.takes.pending);
+      };
+      on = refl;
+      undrained = refl;
+      fewer = fewer-there cells F.place (record (cell_at cells F.place) { work = JoinCell (after join (Take found.ticket)) }) F.there fewer;
+    })
+  where
+    join : JoinView
+    join = F.took.join
+
+    mid : List Cell
+    mid = with_work cells F.place (JoinCell (after join (Take found.ticket))) (cell_at cells F.place).peak
+
+    changes : new ≡ mid
+    changes = F.changes ∙ ap (λ (w : Work). with_work cells F.place w (cell_at cells F.place).peak) F.took.is
+
+    joins : found.join ≡ F.place
+    joins = ap (λ (f : Found). f.join) F.took.takes.finds ∙ join-here plan limit cells made F.place F.there join F.took.was
+
+    fewer : pending_kept (kept_seen (JoinCell (after join (Take found.ticket)))) < pending_kept (kept_seen (cell_at cells F.place).work)
+    fewer = subst (λ (w : Work). length (without join.kept.pending found.ticket) < pending_kept (kept_seen w)) (sym F.took.was) (fewer-without join.kept.pending found.ticket F.took.takes.pending)
+
+    opens : IsOpen (core_of plan limit mid c u None) found
+    opens =
+        subst (λ (n : ℕ). IsTakenIn (get_or (map (λ (x : Cell). kept_seen x.work) mid) n NothingKept) found.ticket) (sym joins)
+        (subst (λ (k : KeptOperator). IsTakenIn k found.ticket)
+        (sym (kept-there mid F.place (let l = F.there in omega (arith, l, length-set cells F.place cell)) ∙ ap (λ (x : Cell). kept_seen x.work) (get_or-set_same cells F.place cell no_cell F.there)))
+        F.took.takes.taken)
+      where
+        cell : Cell
+        cell = record (cell_at cells F.place) { work = JoinCell (after join (Take found.ticket)) }
+
+    finds : (history : List Entry) → StandsFor (core_of plan limit cells c u None) history → found.rows ≡ results_of (nodes_of plan) history found.join found.ticket
+    finds history S =
+        let J = own.J plan limit cells made c u history S F.place F.there join F.took.was in
+        let steps = own.steps plan limit cells made c u history S F.place F.there join F.took.was in
+        F.took.finds steps.0 (own.stands plan limit cells made c u history S F.place F.there join F.took.was)
+        ∙ ap (λ (s : JoinState). map joined (results join.spec s.tuples s.tuples found.ticket)) (sym steps.2)
+        ∙ sym (own.results-are plan limit cells made c u history S F.place F.there join F.took.was found.ticket)
+        ∙ ap (λ (n : ℕ). results_of (nodes_of plan) history n found.ticket) (sym joins)
+
+    next : (history : List Entry) → StandsFor (core_of plan limit cells c u None) history → next_probe (nodes_from (nodes_of plan) history) ≡ Some (record { join = found.join; ticket = found.ticket })
+    next history S =
+        let A = are plan limit cells made c u history S in
+        let J = own.J plan limit cells made c u history S F.place F.there join F.took.was in
+        let steps = own.steps plan limit cells made c u history S F.place F.there join F.took.was in
+        let pending : pending_at (nodes_from (nodes_of plan) history) F.place ≡ join.kept.pending =
+        tickets-are cells (nodes_from (nodes_of plan) history) F.place A F.there ∙ ap (λ (w : Work). tickets (kept_seen w)) F.took.was in
+        let kept = J.kept ∙ ap kept_of steps.2 in
+        next-is cells (nodes_from (nodes_of plan) history) A ∙ ap (first_there (nodes_from (nodes_of plan) history)) F.first
+        ∙ ap (λ (us : List ℕ). first_of F.place us None) pending
+        ∙ first-least F.place join.kept.pending found.ticket (subst (λ (k : KeptState). AreAscending k.pending) (sym kept) (pending-ascends join.spec steps.0))
+        (has-in join.kept.pending found.ticket F.took.takes.pending) F.took.takes.least
+        ∙ ap (λ (n : ℕ). Some (record { join = n; ticket = found.ticket })) (sym joins)
+
+-- what is open is taken at a join that is there
+pub open-there : (cells : List Cell) (n t : ℕ) → IsTakenIn (get_or (map (λ (x : Cell). kept_seen x.work) cells) n NothingKept) t → (n < length cells) × IsTakenIn (kept_seen (cell_at cells n).work) t
+open-there [] n t h = absurd h
+open-there (x ∷ cells) zero t h = (omega arith, h)
+open-there (x ∷ cells) (suc n) t h = let r = open-there cells n t h in (let l = r.0 in omega (arith, l), r.1)
+
+pub open-kept : (cells : List Cell) (n t : ℕ) → IsTakenIn (kept_seen (cell_at cells n).work) t → IsTakenIn (get_or (map (λ (x : Cell). kept_seen x.work) cells) n NothingKept) t
+open-kept [] n t h = h
+open-kept (x ∷ cells) zero t h = h
+open-kept (x ∷ cells) (suc n) t h = open-kept cells n t h
+
+module _ (plan : RunPlan) (limit : ℕ) (cells : List Cell) (c : List ℕ) (u : List Out) (probe found : Found) (work : Work) (made : IsMadeOf plan limit cells)
+    (there : probe.join < length cells) (taken : IsTakenIn (kept_seen (cell_at cells probe.join).work) probe.ticket) (acts : JoinActs (cell_at cells probe.join).work work (Give probe.ticket)) where
+  abbrev given : List Cell
+  given = with_work cells probe.join work (cell_at cells probe.join).peak
+
+  same : given ≡ with_work cells probe.join (JoinCell (after acts.join (Give probe.ticket))) (cell_at cells probe.join).peak
+  same = ap (λ (w : Work). with_work cells probe.join w (cell_at cells probe.join).peak) acts.is
+
+  taken-there : IsTaken acts.join.kept probe.ticket
+  taken-there = subst (λ (w : Work). IsTakenIn (kept_seen w) probe.ticket) acts.was taken
+
+  -- the ticket was given, and the rows climbed
+  pub has-given : (new : List Cell) (u' : List Out) → Climbs (record { cells = given; outs = u }) (record { cells = new; outs = u' }) probe.join (map Tuple found.rows) → StaysAs given new
+      → HasGiven (core_of plan limit cells c u None) (core_of plan limit new c u' None) probe found
+  has-given new u' C stays = record {
+    on = (refl, refl);
+    plan = refl;
+    limit = refl;
+    within = λ history S are.
+        give-beyond plan limit cells made c u history S probe.join there acts.join acts.was probe.ticket taken-there found.rows are None
+        (subst (λ (cells' : List Cell). GoBeyond cells' probe.join (map Tuple found.rows) None) same C.within);
+    stands = λ history S are.
+        gives plan limit cells made c u history S probe.join there acts.join acts.was probe.ticket taken-there found.rows are new u'
+        (subst (λ (cells' : List Cell). Climbs (record { cells = cells'; outs = u }) (record { cells = new; outs = u' }) probe.join (map Tuple found.rows)) same C)
+        (subst (λ (cells' : List Cell). StaysAs cells' new) same stays);
+  }
+
+  pub give-stop : (stop : Stop) → IsClimbStop given probe.join (map Tuple found.rows) stop → IsGiveCause (core_of plan limit cells c u None) probe found stop
+  give-stop (Limit node) g = λ history S are.
+      give-beyond plan limit cells made c u history S probe.join there acts.join acts.was probe.ticket taken-there found.rows are (Some node)
+      (subst (λ (cells' : List Cell). GoBeyond cells' probe.join (map Tuple found.rows) (Some node)) same g)
+  give-stop NoMemory g = tt

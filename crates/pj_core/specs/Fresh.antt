@@ -1,0 +1,36 @@
+-- The nodes of a core to which nothing has come.
+use Rattle.std.specs.Prelude.{ℕ, ◌+◌, ◌≡◌, if◌then◌else◌, List, []}
+use Rattle.pj_plan.specs.declared.node.Node.{Node as Operation}
+use Rattle.pj_plan.specs.Nodes.{is_join}
+use Rattle.pj_laws.specs.Join.{AreCertified, start}
+use Rattle.pj_laws.specs.KeptState.{kept_of}
+use Rattle.pj_laws.specs.Tables.{table_of}
+use Rattle.pj_flow.specs.Unions.{start as no_puncts}
+use Rattle.pj_core.specs.declared.cell.Cell.{Cell}
+use Rattle.pj_core.specs.declared.cell.Work.{Work}
+use Rattle.pj_core.specs.declared.cell.Work.TheVariants.{Stream as StreamCell, Select as SelectCell, Project as ProjectCell, Union as UnionCell, Join as JoinCell, Group as GroupCell}
+use Rattle.pj_core.specs.Cells.{Frame, GroupKind, JoinKind, Kind, ProjectKind, SelectKind, StreamKind, UnionKind}
+
+abbrev pub fresh_work : Kind → Work
+fresh_work StreamKind = StreamCell
+fresh_work (SelectKind test) = SelectCell test
+fresh_work (ProjectKind columns) = ProjectCell columns
+fresh_work (UnionKind n arity) = UnionCell (record { inputs = n; arity = arity; state = no_puncts })
+fresh_work (JoinKind node spec limit) = JoinCell (record { node = node; spec = spec; limit = limit; kept = kept_of start })
+fresh_work (GroupKind spec limit) = GroupCell (record { spec = spec; limit = limit; count = 0; table = table_of spec [] })
+
+abbrev pub fresh_cell : Frame → Cell
+fresh_cell frame = record { work = fresh_work frame.kind; above = frame.above; width = frame.width; passed = 0; peak = 0 }
+
+-- each input of a join has a certificate
+abbrev pub IsCertifiedKind : Kind → Type 0
+IsCertifiedKind StreamKind = Unit {0}
+IsCertifiedKind (SelectKind test) = Unit {0}
+IsCertifiedKind (ProjectKind columns) = Unit {0}
+IsCertifiedKind (UnionKind n arity) = Unit {0}
+IsCertifiedKind (JoinKind node spec limit) = AreCertified spec
+IsCertifiedKind (GroupKind spec limit) = Unit {0}
+
+-- how many joins there are with this node, where so many stand before it
+abbrev pub joins_with : Operation → ℕ → ℕ
+joins_with node joins = if is_join node then joins + 1 else joins
