@@ -31,7 +31,8 @@ use Rattle.pj_laws.specs.Join.{AreBound, AreCertified, AreListedOnce, CertEntry,
 use Rattle.pj_laws.specs.Plan.{operator_at}
 use Rattle.pj_laws.specs.HistoryLaws.{AllAreCertified, Certified}
 use Rattle.pj_join.specs.Joins.{join_data}
-use Rattle.pj_core.specs.Plans.{certs_behind, join_at_start, nodes_of, nodes_with, operator_of, run_plan}
+use Rattle.pj_core.specs.Plans.{join_at_start, nodes_of, nodes_with, operator_of, run_plan}
+use Rattle.pj_core.proofs.Planned.{with-long}
 
 -- ---- the class of a column
 
@@ -197,10 +198,6 @@ operator_is schemes certs k (node ∷ nodes) (suc n) lt =
     behind true = refl
     behind false = refl
 
-pub nodes_long : (schemes : List (List (List Bool))) (certs : List (List (List CertStep))) (nodes : List PlanNode) → length (nodes_with schemes certs nodes) ≡ length nodes
-nodes_long schemes certs [] = refl
-nodes_long schemes certs (node ∷ nodes) = ap suc (nodes_long schemes (certs_behind node certs) nodes)
-
 -- a node that is a join has its number among those of the joins
 number_in : (k : ℕ) (nodes : List PlanNode) (n : ℕ) → n < length nodes → is_join (node_at nodes n) ≡ true → In (k + n) (numbers_from is_join k nodes)
 number_in k [] n lt is = absurd (omega (arith, lt))
@@ -250,5 +247,5 @@ run_operator nodes n lt =
 
 pub run_certified : (nodes : List PlanNode) → IsSoundPlan nodes → AreCertificates nodes → AllAreCertified (nodes_of (run_plan nodes (certificates_of nodes) false))
 run_certified nodes sound are = λ n lt.
-    let there : n < length nodes = let long = nodes_long (schemes_of nodes) (certificates_of nodes) nodes in omega (arith, lt, long) in
+    let there : n < length nodes = let long = with-long (schemes_of nodes) (certificates_of nodes) nodes in omega (arith, lt, long) in
     subst Certified (sym (run_operator nodes n there)) (node_certified nodes sound are n there (node_at nodes n) refl)

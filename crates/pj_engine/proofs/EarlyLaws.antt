@@ -11,9 +11,8 @@ use Rattle.pj_plan.specs.declared.node.Outline.{Outline}
 use Rattle.pj_plan.specs.Nodes.{streams_of}
 use Rattle.pj_plan_text.specs.PlanRead.{plan_read}
 use Rattle.pj_alone.specs.Safety.{IsFirstStuck, IsSafeJoin, IsSafePlan}
-use Rattle.pj_core.specs.Plans.{are_run}
 use Rattle.pj_engine.specs.declared.status.Status.{Status}
-use Rattle.pj_engine.specs.declared.status.Status.TheVariants.{Done, Usage, NotBuilt, OpenFault, ReadFault, PlanRefused, FileCount, Unsafe, WriteFault, NoMemory, Limit}
+use Rattle.pj_engine.specs.declared.status.Status.TheVariants.{Done, Usage, OpenFault, ReadFault, PlanRefused, FileCount, Unsafe, WriteFault, NoMemory, Limit}
 use Rattle.pj_engine.specs.declared.status.LimitOf.TheVariants.{Plan, Node, File}
 use Rattle.pj_engine.specs.declared.stops.FilesStop.{FilesStop}
 use Rattle.pj_engine.specs.declared.stops.FilesStop.TheVariants.{Opening, Run}
@@ -21,7 +20,7 @@ use Rattle.pj_engine.specs.declared.stops.OpeningStop.TheVariants.{Fault, NoMemo
 use Rattle.pj_engine.specs.declared.stops.RunStop.TheVariants.{ReadFault as RunFault, TooLarge, Limit as RunLimit, WriteFailed, NoMemory as RunMemory}
 use Rattle.pj_engine.specs.declared.stops.FileStop.TheVariants.{OpenFault as NotOpened, ReadFault as NotRead, TooLong, NoMemory as FileMemory}
 use Rattle.pj_engine.specs.declared.stops.PlanStop.{PlanStop}
-use Rattle.pj_engine.specs.declared.stops.PlanStop.TheVariants.{Usage as NoWords, File as PlanFile, Refused, FileCount as OtherCount, Unsafe as Stuck, NotBuilt as NoPlan, NoMemory as PlanMemory}
+use Rattle.pj_engine.specs.declared.stops.PlanStop.TheVariants.{Usage as NoWords, File as PlanFile, Refused, FileCount as OtherCount, Unsafe as Stuck, NoMemory as PlanMemory}
 use Rattle.pj_engine.specs.Commands.{Command, HasToldPlan, command_of, is_run, operands, operand, file_names, plan_bytes}
 use Rattle.pj_engine.specs.Opened.{OpensFirst, OpensAtMost}
 use Rattle.pj_engine.specs.Refusals.{HasLines, IsRefused, Refuses, RefusesBytes, RefusesPlan, RefusesRead, Unprepared}
@@ -29,7 +28,7 @@ use Rattle.pj_engine.specs.Stops.{files_status, plan_status, refusal_text}
 use Rattle.pj_engine.specs.Top.{AnswersRefusal, EarlyEnd, HasFault, IsBuilt, IsPlanOf, IsUnopened, OpensInOrder, StopLeaves}
 use Rattle.pj_engine.specs.Written.{Delivered}
 use Rattle.pj_engine.proofs.CallLaws.{operands_are}
-use Rattle.pj_engine.proofs.Refusing.{IsReadAs, read_as}
+use Rattle.pj_engine.proofs.Refusing.{read_as}
 
 -- ---- what is opened
 
@@ -62,7 +61,6 @@ module _ (words : List (String Global)) (old new : FolderState) where
   opened_early (Refused fault) most u = (1, first_alone u.0 u.1.0, refl, alone 1 (omega arith))
   opened_early (OtherCount want got) most u = (1, first_alone u.0 u.1.0, refl, alone 1 (omega arith))
   opened_early (Stuck found) most u = (1, first_alone u.0 u.1.0.0, refl, alone 1 (omega arith))
-  opened_early NoPlan most u = (1, first_alone u.0 u.1.0, refl, alone 1 (omega arith))
   opened_early PlanMemory most u = memory_opened u most
 
   -- ---- what is written
@@ -76,7 +74,6 @@ module _ (words : List (String Global)) (old new : FolderState) where
   stopped_early (Refused fault) first after u line = tt
   stopped_early (OtherCount want got) first after u line = tt
   stopped_early (Stuck found) first after u line = tt
-  stopped_early NoPlan first after u line = tt
   stopped_early PlanMemory first after u line = (first.written, inl refl, line)
 
   pub early_early : (stop : PlanStop) (first after : SinkState) → Unprepared stop asked new → Delivered (refusal_text stop) first after → EarlyEnd (plan_status stop) asked new first after
@@ -88,7 +85,6 @@ module _ (words : List (String Global)) (old new : FolderState) where
   early_early (Refused fault) first after u line = line
   early_early (OtherCount want got) first after u line = line
   early_early (Stuck found) first after u line = (u.1.0.1, found.lines, λ told. (u.1.0.3 told).1, u.1.0.2.1, line)
-  early_early NoPlan first after u line = line
   early_early PlanMemory first after u line = tt
 
   -- ---- causes
@@ -105,7 +101,6 @@ module _ (words : List (String Global)) (old new : FolderState) where
   fault_early (Refused fault) n u e = absurd (cc)
   fault_early (OtherCount want got) n u e = absurd (cc)
   fault_early (Stuck found) n u e = absurd (cc)
-  fault_early NoPlan n u e = absurd (cc)
   fault_early PlanMemory n u e = absurd (cc)
 
   pub unopened_early : (stop : PlanStop) (n : ℕ) → Unprepared stop asked new → plan_status stop ≡ OpenFault n → IsUnopened asked new n
@@ -119,7 +114,6 @@ module _ (words : List (String Global)) (old new : FolderState) where
   unopened_early (Refused fault) n u e = absurd (cc)
   unopened_early (OtherCount want got) n u e = absurd (cc)
   unopened_early (Stuck found) n u e = absurd (cc)
-  unopened_early NoPlan n u e = absurd (cc)
   unopened_early PlanMemory n u e = absurd (cc)
 
 -- ---- words
@@ -130,7 +124,6 @@ form_or_not (PlanFile stop) command after u = inr u.0
 form_or_not (Refused fault) command after u = inr u.0
 form_or_not (OtherCount want got) command after u = inr u.0
 form_or_not (Stuck found) command after u = inr u.0
-form_or_not NoPlan command after u = inr u.0
 form_or_not PlanMemory command after u = inr u
 
 pub usage_early : (stop : PlanStop) (command : Command) (after : FolderState) → Unprepared stop command after → command.is_run ≡ false → plan_status stop ≡ Usage
@@ -145,7 +138,6 @@ no_words (PlanFile FileMemory) command after u e = absurd (cc)
 no_words (Refused fault) command after u e = absurd (cc)
 no_words (OtherCount want got) command after u e = absurd (cc)
 no_words (Stuck found) command after u e = absurd (cc)
-no_words NoPlan command after u e = absurd (cc)
 no_words PlanMemory command after u e = absurd (cc)
 
 pub memory_early : (stop : PlanStop) (command : Command) (after : FolderState) → Unprepared stop command after → plan_status stop ≡ NoMemory → command.is_run ≡ true
@@ -161,7 +153,6 @@ early_lines (PlanFile stop) command after u = tt
 early_lines (Refused fault) command after u = tt
 early_lines (OtherCount want got) command after u = tt
 early_lines (Stuck found) command after u = u.1.1
-early_lines NoPlan command after u = tt
 early_lines PlanMemory command after u = tt
 
 -- ---- what is refused is refused with one status
@@ -218,7 +209,6 @@ module _ (files : ℕ) (plan : Outline) where
   count_alone want got (PlanRefused line why) a b = absurd b
   count_alone want got (FileCount w g) a b = ap₂ FileCount (a.1 ∙ sym b.1) (a.2 ∙ sym b.2)
   count_alone want got (Unsafe join input missing) a b = absurd (a.0 b.0)
-  count_alone want got NotBuilt a b = absurd (a.0 b.0)
   count_alone want got (OpenFault n) a b = absurd b
   count_alone want got (ReadFault n) a b = absurd b
   count_alone want got WriteFault a b = absurd b
@@ -231,25 +221,11 @@ module _ (files : ℕ) (plan : Outline) where
   unsafe_alone join input missing (PlanRefused line why) a b = absurd b
   unsafe_alone join input missing (FileCount w g) a b = absurd (b.0 a.0)
   unsafe_alone join input missing (Unsafe j i m) a b = same_stuck plan.nodes join input missing a.1 j i m b.1
-  unsafe_alone join input missing NotBuilt a b = absurd (not_safe plan.nodes join input missing a.1 b.1)
   unsafe_alone join input missing (OpenFault n) a b = absurd b
   unsafe_alone join input missing (ReadFault n) a b = absurd b
   unsafe_alone join input missing WriteFault a b = absurd b
   unsafe_alone join input missing NoMemory a b = absurd b
   unsafe_alone join input missing (Limit what) a b = absurd b
-
-  not_built_alone : (other : Status) → RefusesPlan NotBuilt files plan → RefusesPlan other files plan → NotBuilt ≡ other
-  not_built_alone Done a b = absurd b
-  not_built_alone Usage a b = absurd b
-  not_built_alone (PlanRefused line why) a b = absurd b
-  not_built_alone (FileCount w g) a b = absurd (b.0 a.0)
-  not_built_alone (Unsafe join input missing) a b = absurd (not_safe plan.nodes join input missing b.1 a.1)
-  not_built_alone NotBuilt a b = refl
-  not_built_alone (OpenFault n) a b = absurd b
-  not_built_alone (ReadFault n) a b = absurd b
-  not_built_alone WriteFault a b = absurd b
-  not_built_alone NoMemory a b = absurd b
-  not_built_alone (Limit what) a b = absurd b
 
   plan_alone : (one other : Status) → RefusesPlan one files plan → RefusesPlan other files plan → one ≡ other
   plan_alone Done other a b = absurd a
@@ -257,26 +233,24 @@ module _ (files : ℕ) (plan : Outline) where
   plan_alone (PlanRefused line why) other a b = absurd a
   plan_alone (FileCount want got) other a b = count_alone want got other a b
   plan_alone (Unsafe join input missing) other a b = unsafe_alone join input missing other a b
-  plan_alone NotBuilt other a b = not_built_alone other a b
   plan_alone (OpenFault n) other a b = absurd a
   plan_alone (ReadFault n) other a b = absurd a
   plan_alone WriteFault other a b = absurd a
   plan_alone NoMemory other a b = absurd a
   plan_alone (Limit what) other a b = absurd a
 
-  -- a safe plan of the right number of streams that is run is not refused
-  never_fit : (status : Status) → length (streams_of plan.nodes) ≡ files → IsSafePlan plan.nodes → are_run plan.nodes ≡ true → RefusesPlan status files plan → ⊥
-  never_fit Done count safe run a = a
-  never_fit Usage count safe run a = a
-  never_fit (PlanRefused line why) count safe run a = a
-  never_fit (FileCount want got) count safe run a = a.0 count
-  never_fit (Unsafe join input missing) count safe run a = not_safe plan.nodes join input missing a.1 safe
-  never_fit NotBuilt count safe run a = false≢true (sym a.2 ∙ run)
-  never_fit (OpenFault n) count safe run a = a
-  never_fit (ReadFault n) count safe run a = a
-  never_fit WriteFault count safe run a = a
-  never_fit NoMemory count safe run a = a
-  never_fit (Limit what) count safe run a = a
+  -- a safe plan of the right number of streams is not refused
+  never_fit : (status : Status) → length (streams_of plan.nodes) ≡ files → IsSafePlan plan.nodes → RefusesPlan status files plan → ⊥
+  never_fit Done count safe a = a
+  never_fit Usage count safe a = a
+  never_fit (PlanRefused line why) count safe a = a
+  never_fit (FileCount want got) count safe a = a.0 count
+  never_fit (Unsafe join input missing) count safe a = not_safe plan.nodes join input missing a.1 safe
+  never_fit (OpenFault n) count safe a = a
+  never_fit (ReadFault n) count safe a = a
+  never_fit WriteFault count safe a = a
+  never_fit NoMemory count safe a = a
+  never_fit (Limit what) count safe a = a
 
 read_alone : (files : ℕ) (result : Result Outline PlanFault) (one other : Status) → RefusesRead one files result → RefusesRead other files result → one ≡ other
 read_alone files (Ok plan) one other a b = plan_alone files plan one other a b
@@ -300,7 +274,6 @@ refused_alone command one other (inr a) (inr b) = bytes_alone (length (file_name
 abbrev pub IsOfPlan : Status → Type 0
 IsOfPlan Done = ⊥
 IsOfPlan Usage = ⊥
-IsOfPlan NotBuilt = Unit {0}
 IsOfPlan (OpenFault n) = ⊥
 IsOfPlan (ReadFault n) = ⊥
 IsOfPlan (PlanRefused line why) = Unit {0}
@@ -343,8 +316,33 @@ refused_early (Refused fault) command after status u e p = refused_so command u.
 refused_early (OtherCount want got) command after status u e p = refused_so command u.0 (FileCount want got) status (λ told. is_unfit (FileCount want got) (length (file_names command)) (plan_bytes command) u.1.1 u.1.2 (u.1.3 told)) e
 refused_early (Stuck found) command after status u e p =
     refused_so command u.0 (Unsafe found.join found.input found.missing) status (λ told. is_unfit (Unsafe found.join found.input found.missing) (length (file_names command)) (plan_bytes command) u.1.0.1 u.1.0.2.0 (u.1.0.3 told)) e
-refused_early NoPlan command after status u e p = refused_so command u.0 NotBuilt status (λ told. is_unfit NotBuilt (length (file_names command)) (plan_bytes command) u.1.1 u.1.2 (u.1.3 told)) e
 refused_early PlanMemory command after status u e p = absurd (subst IsOfPlan (sym e) p)
+
+-- a status that a run alone has
+abbrev pub IsOfRun : Status → Type 0
+IsOfRun Done = ⊥
+IsOfRun Usage = ⊥
+IsOfRun (OpenFault n) = ⊥
+IsOfRun (ReadFault n) = ⊥
+IsOfRun (PlanRefused line why) = ⊥
+IsOfRun (FileCount want got) = ⊥
+IsOfRun (Unsafe join input missing) = ⊥
+IsOfRun WriteFault = Unit {0}
+IsOfRun NoMemory = ⊥
+IsOfRun (Limit Plan) = ⊥
+IsOfRun (Limit (Node node)) = Unit {0}
+IsOfRun (Limit (File stream)) = Unit {0}
+
+pub run_never : (stop : PlanStop) (status : Status) → plan_status stop ≡ status → IsOfRun status → ⊥
+run_never NoWords status e p = subst IsOfRun (sym e) p
+run_never (PlanFile NotOpened) status e p = subst IsOfRun (sym e) p
+run_never (PlanFile NotRead) status e p = subst IsOfRun (sym e) p
+run_never (PlanFile TooLong) status e p = subst IsOfRun (sym e) p
+run_never (PlanFile FileMemory) status e p = subst IsOfRun (sym e) p
+run_never (Refused fault) status e p = subst IsOfRun (sym e) p
+run_never (OtherCount want got) status e p = subst IsOfRun (sym e) p
+run_never (Stuck found) status e p = subst IsOfRun (sym e) p
+run_never PlanMemory status e p = subst IsOfRun (sym e) p
 
 pub refused_never : (stop : FilesStop) (status : Status) → files_status stop ≡ status → IsOfPlan status → ⊥
 refused_never (Opening (Fault stream)) status e p = subst IsOfPlan (sym e) p
@@ -374,7 +372,6 @@ answers_early (Refused fault) command after u = answers_so command u.0 (PlanRefu
 answers_early (OtherCount want got) command after u = answers_so command u.0 (FileCount want got) (λ told. is_unfit (FileCount want got) (length (file_names command)) (plan_bytes command) u.1.1 u.1.2 (u.1.3 told))
 answers_early (Stuck found) command after u =
     answers_so command u.0 (Unsafe found.join found.input found.missing) (λ told. is_unfit (Unsafe found.join found.input found.missing) (length (file_names command)) (plan_bytes command) u.1.0.1 u.1.0.2.0 (u.1.0.3 told))
-answers_early NoPlan command after u = answers_so command u.0 NotBuilt (λ told. is_unfit NotBuilt (length (file_names command)) (plan_bytes command) u.1.1 u.1.2 (u.1.3 told))
 answers_early PlanMemory command after u = λ told status refuses. inr (inl refl)
 
 -- where there is something to run, nothing is refused
@@ -382,10 +379,9 @@ bytes_never : (files : ℕ) (bytes : List ℕ) (status : Status) → IsPlanOf fi
 bytes_never files bytes status is (inl long) = let few = is.0 in let more = long.0 in omega (arith, few, more)
 bytes_never files bytes status is (inr read) =
     let plan = is.1.0 in
-    let got : IsReadAs bytes plan = read_as bytes plan is.1.1 in
-    never_fit files plan status is.1.2 is.1.3 got.run (subst (RefusesRead status files) got.read read.1)
+    never_fit files plan status is.1.2 is.1.3 (subst (RefusesRead status files) (read_as bytes plan is.1.1) read.1)
 
-refuses_never : (command : Command) (status : Status) → IsBuilt command → HasToldPlan command → Refuses command status → ⊥
+pub refuses_never : (command : Command) (status : Status) → IsBuilt command → HasToldPlan command → Refuses command status → ⊥
 refuses_never command status built told (inl not) = false≢true (sym not.0 ∙ built.form)
 refuses_never command status built told (inr refuses) = bytes_never (length (file_names command)) (plan_bytes command) status (built.plan told) refuses.1
 

@@ -1,29 +1,37 @@
 -- First outputs of a plan's run stay right.
 use Rattle.pj_plan.specs.declared.node.Outline.{Outline}
-use Rattle.pj_core.specs.Plans.{streams_in}
+use Rattle.pj_plan.specs.declared.node.PlanNode.{PlanNode}
+use Rattle.pj_shape.specs.declared.columns.Column.{Column}
+use Rattle.pj_core.specs.Plans.{stream_columns, streams_in}
 use Rattle.std.proofs.Common.{◌≡◌, ◌<◌, ◌≤◌, ◌+◌, ℕ, zero, suc, false, ◌⊎◌, inl, inr, List, [], ◌∷◌, ◌++◌, length, map, get_or, refl, ap, sym, ◌∙◌, subst, append_assoc, append-nil, arith}
 use Rattle.std.proofs.lemmas.Bool.{cases_lt}
-use Rattle.std.proofs.lemmas.List.{length-append}
-use Rattle.std.proofs.Math.ListN.{get_or-map}
+use Rattle.std.proofs.lemmas.List.{get_or-map, length-append, length-map}
 use Rattle.pj_value.specs.Bags.{weigh, SubBag}
+use Rattle.pj_value.specs.Lists.{In}
+use Rattle.pj_value.specs.declared.values.Value.{Value}
 use Rattle.pj_value.proofs.Bags.{sub-front}
+use Rattle.pj_value.proofs.Members.{In-append_right}
 use Rattle.pj_pattern.specs.declared.element.Element.{Element}
-use Rattle.pj_pattern.specs.Elements.{rows_of}
+use Rattle.pj_pattern.specs.Elements.{IsLawful, rows_of}
 use Rattle.pj_pattern.proofs.Elements.{rows_of-append}
+use Rattle.pj_pattern.proofs.Lawful.{none_at}
 use Rattle.pj_laws.specs.Join.{upto_from}
 use Rattle.pj_laws.specs.Plan.{Node}
 use Rattle.pj_laws.specs.declared.events.Entry.{Entry}
-use Rattle.pj_laws.specs.History.{nodes_from, streams_of, IsLegal}
+use Rattle.pj_laws.specs.History.{nodes_from, IsLegal}
 use Rattle.pj_laws.specs.Outcomes.{elements_out}
 use Rattle.pj_laws.specs.Outcomes.{outputs_of as handed_out, elements_of as arrived_at}
-use Rattle.pj_laws.specs.HistoryLaws.{GoOn}
+use Rattle.pj_laws.specs.Finality.{GoOnLawfully}
 use Rattle.pj_laws.proofs.Histories.{outputs-append}
 use Rattle.pj_laws.proofs.HistoryAnswers.{fronts-are-legal}
-use Rattle.pj_laws.proofs.Retract.{never-retracts}
+use Rattle.pj_laws.proofs.Extensions.{none-behind}
+use Rattle.pj_laws.proofs.Groups.{row-in}
+use Rattle.pj_laws.proofs.FinalRows.{is-final}
+use Rattle.pj_laws.proofs.Upto.{length-upto}
 use Rattle.pj_laws.proofs.Steps.{elements-append}
-use Rattle.pj_engine.specs.Runs.{history_of, outputs_of, answer_of, run_nodes}
-use Rattle.pj_engine.specs.Top.{arrived_in, gone_on, StaysRight}
-use Rattle.pj_engine.proofs.Accepting.{count-streams}
+use Rattle.pj_engine.specs.Runs.{history_of, outputs_of, run_nodes}
+use Rattle.pj_engine.specs.Top.{AllLawful, AreOfWidth, answer_after, arrived_in, gone_on, streams_after, StaysRight}
+use Rattle.pj_engine.proofs.Accepting.{count-streams, schema-is}
 use Rattle.pj_engine.proofs.OutputLaws.{whole_run}
 use Rattle.pj_engine.proofs.Planned.{IsPlanned}
 
@@ -80,14 +88,60 @@ goes-on f k (suc n) (m ∷ more) (suc s) lt =
     let z : k + 1 + s ≡ k + suc s = omega arith in
     subst (λ (i : ℕ). (rest : List Element) × (get_or (gone_on (map f (upto_from (k + 1) n)) more) s [] ≡ f i ++ rest)) z (goes-on f (k + 1) n more s (omega arith))
 
-go_on : (plan : List Node) (n : ℕ) (h : List Entry) (more : List (List Element)) → length (streams_of plan) ≡ n → GoOn plan h (map rows_of (gone_on (arrived_in n h) more))
-go_on plan n h more l s lt =
-    let g = goes-on (λ (stream : ℕ). arrived_at stream h) 0 n more s (omega (arith, lt, l)) in
-    let z : 0 + s ≡ s = omega arith in (
-      rows_of g.0,
-      get_or-map rows_of (gone_on (arrived_in n h) more) s []
-          ∙ (ap rows_of (g.1 ∙ ap (λ (i : ℕ). arrived_at i h ++ g.0) z) ∙ rows_of-append (arrived_at s h) g.0),
-    )
+gone-long : (fs more : List (List Element)) → length (gone_on fs more) ≡ length fs
+gone-long [] more = refl
+gone-long (f ∷ fs) [] = ap suc (gone-long fs [])
+gone-long (f ∷ fs) (m ∷ more) = ap suc (gone-long fs more)
+
+arrived-long : (n : ℕ) (h : List Entry) (more : List (List Element)) → length (gone_on (arrived_in n h) more) ≡ n
+arrived-long n h more =
+    gone-long (arrived_in n h) more ∙ (length-map (upto_from 0 n) (λ stream. arrived_at stream h) ∙ length-upto 0 n)
+
+-- what is so of the elements of a stream
+record IsLawfulStream (columns : List Column) (es : List Element) : Type 0 where
+  lawful : IsLawful es
+  wide : AreOfWidth (length columns) (rows_of es)
+
+lawful-at : (streams : List PlanNode) (lists : List (List Element)) (k : ℕ) → AllLawful streams lists → k < length streams → k < length lists → IsLawfulStream (stream_columns streams k) (get_or lists k [])
+lawful-at [] lists k all lt there = absurd (omega (arith, lt))
+lawful-at (stream ∷ streams) [] k all lt there = absurd (omega (arith, there))
+lawful-at (stream ∷ streams) (es ∷ lists) zero all lt there = record { lawful = all.0; wide = all.1 }
+lawful-at (stream ∷ streams) (es ∷ lists) (suc k) all lt there = lawful-at streams lists k all.2 (omega (arith, lt)) (omega (arith, there))
+
+go_on : (plan : Outline) (h : List Entry) (more : List (List Element)) → AllLawful (streams_in plan.nodes) (streams_after plan h more) → GoOnLawfully (run_nodes plan) h (map rows_of (streams_after plan h more))
+go_on plan h more all s lt = record {
+  later = rows_of g.0;
+  whole = get_or-map rows_of lists s [] [] inside ∙ rows;
+  fit = λ row m. a.wide row (subst (λ (rs : List (List Value)). In row rs) (sym rows) (In-append_right row (rows_of came) (rows_of g.0) m)) ∙ ap length (sym (schema-is plan s (length (run_nodes plan)) there));
+  clear = λ row m ps p. none_at ps g.0 (none-behind came g.0 (subst IsLawful parts a.lawful) ps p) row (row-in row g.0 m);
+}
+  where
+    n : ℕ
+    n = length (streams_in plan.nodes)
+
+    lists : List (List Element)
+    lists = streams_after plan h more
+
+    came : List Element
+    came = arrived_at s h
+
+    there : s < n
+    there = omega (arith, lt, count-streams plan)
+
+    inside : s < length lists
+    inside = let long = arrived-long n h more in omega (arith, there, long)
+
+    g : (rest : List Element) × (get_or lists s [] ≡ arrived_at (0 + s) h ++ rest)
+    g = goes-on (λ (stream : ℕ). arrived_at stream h) 0 n more s there
+
+    parts : get_or lists s [] ≡ came ++ g.0
+    parts = let z : 0 + s ≡ s = omega arith in g.1 ∙ ap (λ (i : ℕ). arrived_at i h ++ g.0) z
+
+    rows : rows_of (get_or lists s []) ≡ rows_of came ++ rows_of g.0
+    rows = ap rows_of parts ∙ rows_of-append came g.0
+
+    a : IsLawfulStream (stream_columns (streams_in plan.nodes) s) (get_or lists s [])
+    a = lawful-at (streams_in plan.nodes) lists s all there inside
 
 -- ---- first outputs stay right
 
@@ -101,11 +155,10 @@ rows_front xs ys zs e f =
 
 right_front : (plan : Outline) (files : List (List ℕ)) (first others : List Element) (front back : List Entry) → IsPlanned plan → front ++ back ≡ history_of plan files
     → first ++ others ≡ given_out (run_nodes plan) front
-    → (more : List (List Element)) → SubBag (rows_of first) (answer_of plan (map rows_of (gone_on (arrived_in (length (streams_in plan.nodes)) front) more)))
-right_front plan files first others front back p run among more f =
+    → (more : List (List Element)) → AllLawful (streams_in plan.nodes) (streams_after plan front more) → SubBag (rows_of first) (answer_after plan front more)
+right_front plan files first others front back p run among more lawful f =
     let legal = fronts-are-legal (run_nodes plan) front back (subst (IsLegal (run_nodes plan)) (sym run) (whole_run plan files p).legal) in
-    let sub = never-retracts (run_nodes plan) p.well_made p.some p.no_groups false front legal
-    (map rows_of (gone_on (arrived_in (length (streams_in plan.nodes)) front) more)) (go_on (run_nodes plan) (length (streams_in plan.nodes)) front more (count-streams plan)) f in
+    let sub = is-final (run_nodes plan) p.well_made p.some false front legal (map rows_of (streams_after plan front more)) (go_on plan front more lawful) f in
     omega (arith, sub, rows_front first others (given_out (run_nodes plan) front) among f)
 
 stays_by : (plan : Outline) (files : List (List ℕ)) (first others : List Element) → IsPlanned plan → first ++ others ≡ outputs_of plan files
@@ -121,7 +174,7 @@ stays_by plan files first others p e cut =
       others = part.0;
       among = part.1;
       shortest = inr (cut.front, cut.last, refl, cut.before);
-      right = λ more lawful. right_front plan files first part.0 now cut.back p cut.run part.1 more;
+      right = right_front plan files first part.0 now cut.back p cut.run part.1;
     }
 
 pub stays : (plan : Outline) (files : List (List ℕ)) (first others : List Element) → IsPlanned plan → first ++ others ≡ outputs_of plan files → (first ≡ []) ⊎ StaysRight plan files first

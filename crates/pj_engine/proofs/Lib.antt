@@ -6,6 +6,7 @@ pub mod CallLaws
 pub mod Carried
 pub mod Certified
 pub mod Closing
+pub mod Completing
 pub mod Counting
 pub mod EarlyLaws
 pub mod Ending

@@ -5,7 +5,7 @@ use Rattle.pj_value.specs.Bags.{SameBag}
 use Rattle.pj_shape.specs.declared.columns.Column.{Column}
 use Rattle.pj_pattern.specs.declared.element.Element.{Element}
 use Rattle.pj_pattern.specs.declared.element.Element.TheVariants.{Punct}
-use Rattle.pj_pattern.specs.Elements.{IsLawful, puncts_of}
+use Rattle.pj_pattern.specs.Elements.{IsLawful, puncts_of, rows_of}
 use Rattle.pj_element.specs.Runs.{closing}
 use Rattle.pj_plan.specs.declared.node.Outline.{Outline}
 use Rattle.pj_plan.specs.declared.node.PlanNode.{PlanNode}
@@ -13,14 +13,17 @@ use Rattle.pj_laws.specs.Join.{upto_from}
 use Rattle.pj_laws.specs.Plan.{Node}
 use Rattle.pj_laws.specs.History.{streams_of}
 use Rattle.pj_laws.specs.HistoryLaws.{IsWholeRun, closed_list, closed_lists}
+use Rattle.pj_laws.specs.Limits.{ReachesLimit}
 use Rattle.pj_laws.specs.Punctuations.{puncts_answer}
+use Rattle.pj_laws.specs.Reaching.{elements_to as coming_to}
 use Rattle.pj_laws.proofs.HistoryAnswers.{hands_out-lawfully}
 use Rattle.pj_laws.proofs.HistoryPuncts.{swept-is-puncts}
 use Rattle.pj_laws.proofs.OneThreadAnswer.{swept-whole}
+use Rattle.pj_laws.proofs.Reaching.{limits-tell}
 use Rattle.pj_laws.proofs.SweptRun.{swept-groups}
 use Rattle.pj_laws.proofs.Upto.{get_or-upto, length-upto}
 use Rattle.pj_core.specs.Plans.{stream_columns, streams_in}
-use Rattle.pj_engine.specs.Runs.{accepted_of, elements_of, history_of, outputs_of, run_nodes, with_closings, IsAnswer, ArePunctuations}
+use Rattle.pj_engine.specs.Runs.{accepted_of, elements_of, history_of, most_arrivals, outputs_of, run_nodes, with_closings, GoesBeyond, IsAnswer, ArePunctuations}
 use Rattle.pj_engine.proofs.Accepting.{accepted_lists, count-streams, schema-is}
 use Rattle.pj_engine.proofs.Planned.{IsPlanned}
 
@@ -82,3 +85,16 @@ pub outputs_puncts : (plan : Outline) (files : List (List ℕ)) → IsPlanned pl
 outputs_puncts plan files p report =
     subst (λ (ls : List (List Element)). SameBag (puncts_of (outputs_of plan files)) (puncts_answer (run_nodes plan) (map puncts_of ls))) (closed_so plan files)
     (swept-is-puncts (run_nodes plan) p.well_made p.some p.certified p.propagates (accepted_of (streams_in plan.nodes) files) (accepted_lists plan files) false)
+
+-- ---- limits
+
+-- a step that brings the first element beyond the limit does so at a join or a group, to which more elements come in all
+pub goes_beyond : (plan : Outline) (files : List (List ℕ)) → IsPlanned plan → (node : ℕ) → ReachesLimit most_arrivals (run_nodes plan) (history_of plan files) node → GoesBeyond plan files node
+goes_beyond plan files p node r =
+    let lists : List (List Element) = accepted_of (streams_in plan.nodes) files in
+    let t = limits-tell (run_nodes plan) p.well_made p.tree p.some p.certified p.propagates lists (accepted_lists plan files) most_arrivals node r in
+    record {
+      reaches = r;
+      counted = t.0;
+      many = subst (λ (ls : List (List Element)). most_arrivals < coming_to (run_nodes plan) (map rows_of lists) (map puncts_of ls) node) (closed_so plan files) t.1;
+    }

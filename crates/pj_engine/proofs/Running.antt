@@ -50,7 +50,7 @@ use Rattle.pj_engine.specs.Written.{flat, Cut, Leaves}
 use Rattle.pj_engine.proofs.LinesWritten.{stop_among, written_then}
 use Rattle.pj_engine.proofs.Counting.{out_lines-append}
 use Rattle.pj_engine.proofs.Accepting.{count-streams, schema-is}
-use Rattle.pj_engine.proofs.OutputLaws.{whole_run}
+use Rattle.pj_engine.proofs.OutputLaws.{goes_beyond, whole_run}
 use Rattle.pj_engine.proofs.Planned.{IsPlanned}
 use Rattle.pj_engine.proofs.AllFeeds.{all_same, all_same_then, told_at, told_still, files_still, IsOneOf, one_of, feeds_long, first_left, left_tagged, tagged_parts, accepted_of_feed}
 use Rattle.pj_engine.proofs.Arrivals.{elements-turns, brought-left, arrived-is}
@@ -214,7 +214,7 @@ module _ (plan : Outline) (files : List (List ℕ)) (planned : IsPlanned plan) (
       (subst (λ (n : ℕ). BeginsBeyond n (run_nodes plan) (history ++ ends.front) ends.back node) ran.limit (subst (λ (p : RunPlan). BeginsBeyond core.limit (nodes_of p) (history ++ ends.front) ends.back node) ran.of_plan ends.beyond))
 
   pub goes_beyond_here : (node : ℕ) (old new : SinkState) → EndsTurn core history t node old new → GoesBeyond plan files node
-  goes_beyond_here node old new ends = (limit_reached node old new ends).0
+  goes_beyond_here node old new ends = goes_beyond plan files planned node (limit_reached node old new ends).0
 
   -- exactly the lines of what came before it were written
   pub ends_at_limit : (node : ℕ) (before : List ℕ) (old new : SinkState) → old.written ≡ before ++ flat (out_lines (handed_out false (run_nodes plan) history)) → IsTrue new.told → EndsTurn core history t node old new

@@ -21,12 +21,12 @@ use Rattle.pj_alone.specs.Safety.{IsNote}
 use Rattle.pj_engine.specs.declared.status.Status.{Status}
 use Rattle.pj_engine.specs.declared.status.LimitOf.{LimitOf}
 use Rattle.pj_engine.specs.declared.status.LimitOf.TheVariants.{Plan, Node, File}
-use Rattle.pj_engine.specs.declared.status.Status.TheVariants.{Done, Usage, NotBuilt, OpenFault, ReadFault, PlanRefused, FileCount, Unsafe, WriteFault, NoMemory, Limit}
+use Rattle.pj_engine.specs.declared.status.Status.TheVariants.{Done, Usage, OpenFault, ReadFault, PlanRefused, FileCount, Unsafe, WriteFault, NoMemory, Limit}
 use Rattle.pj_engine.specs.declared.stops.FilesStop.{FilesStop}
 use Rattle.pj_engine.specs.declared.stops.FilesStop.TheVariants.{Opening, Run}
 use Rattle.pj_engine.specs.declared.stops.OpeningStop.TheVariants.{Fault, NoMemory as OpeningMemory}
 use Rattle.pj_engine.specs.declared.stops.PlanStop.{PlanStop}
-use Rattle.pj_engine.specs.declared.stops.PlanStop.TheVariants.{Usage as NoWords, File as PlanFile, Refused, FileCount as OtherCount, Unsafe as Stuck, NotBuilt as NoPlan, NoMemory as PlanMemory}
+use Rattle.pj_engine.specs.declared.stops.PlanStop.TheVariants.{Usage as NoWords, File as PlanFile, Refused, FileCount as OtherCount, Unsafe as Stuck, NoMemory as PlanMemory}
 use Rattle.pj_engine.specs.declared.stops.FileStop.TheVariants.{OpenFault as NotOpened, ReadFault as NotRead, TooLong, NoMemory as FileMemory}
 use Rattle.pj_engine.specs.declared.stops.RunStop.TheVariants.{ReadFault as RunFault, TooLarge, Limit as RunLimit, WriteFailed, NoMemory as RunMemory}
 use Rattle.pj_engine.specs.Commands.{Command, plan_bytes, stream_files}
@@ -47,7 +47,7 @@ use Rattle.pj_engine.proofs.Planned.{IsPlanned}
 use Rattle.pj_engine.proofs.RunLaws.{plan_refused_note, file_count_note, no_feeds, name_no_feed, name_short, report_notes, same_after}
 use Rattle.pj_pattern.proofs.Lawful.{lawful_front}
 
--- the plan's bytes spell a plan that is run, whose names are plain
+-- the plan's bytes spell this plan, whose names are plain
 pub record IsReady (plan : Outline) (command : Command) : Type 0 where
   pub read : plan_of (plan_bytes command) ≡ Some plan
   pub planned : IsPlanned plan
@@ -84,9 +84,6 @@ notes_never : (command : Command) (lines : List (List ℕ)) (front others before
 notes_never command lines front others before after notes is written = (front, written, [], notes_spell lines front others notes is, tt, inl refl)
 
 -- ---- the lines of the statuses
-
-not_built_note : IsNoteLine (status_line [] NotBuilt)
-not_built_note = record { words = codes "# refused not built"; is = refl; note = refl; whole = no_feeds (codes "# refused not built") refl }
 
 usage_note : IsNoteLine (status_line [] Usage)
 usage_note = record { words = codes "# usage: run PLAN FILE.. | replay PLAN SCRIPT FILE.. | check PLAN | make SEED N"; is = refl; note = refl; whole = no_feeds (codes "# usage: run PLAN FILE.. | replay PLAN SCRIPT FILE.. | check PLAN | make SEED N") refl }
@@ -159,7 +156,6 @@ name_at_short nodes n plain = name_short (node_name nodes n) (name_plain nodes n
 pub stop_name_short : (plan : Outline) (status : Status) → HasPlainNames plan.nodes → length (stop_name plan status) ≤ 32
 stop_name_short plan Done plain = omega arith
 stop_name_short plan Usage plain = omega arith
-stop_name_short plan NotBuilt plain = omega arith
 stop_name_short plan (PlanRefused line why) plain = omega arith
 stop_name_short plan (FileCount want got) plain = omega arith
 stop_name_short plan (Unsafe join input missing) plain = omega arith
@@ -175,7 +171,6 @@ stop_name_short plan (Limit (File stream)) plain = name_at_short (streams_in pla
 pub stop_name_by : (plan other : Outline) (status : Status) → plan.nodes ≡ other.nodes → stop_name plan status ≡ stop_name other status
 stop_name_by plan other Done same = refl
 stop_name_by plan other Usage same = refl
-stop_name_by plan other NotBuilt same = refl
 stop_name_by plan other (PlanRefused line why) same = refl
 stop_name_by plan other (FileCount want got) same = refl
 stop_name_by plan other (Unsafe join input missing) same = refl
@@ -220,7 +215,6 @@ never_early (PlanFile FileMemory) command old new told lines delivered = early_n
 never_early (Refused fault) command old new told lines delivered = early_note command (status_line [] (PlanRefused fault.line fault.why)) old new told (plan_refused_note fault.line fault.why) delivered
 never_early (OtherCount want got) command old new told lines delivered = early_note command (status_line [] (FileCount want got)) old new told (file_count_note want got) delivered
 never_early (Stuck found) command old new told lines delivered = early_notes command found.lines old new told (note_lines found.lines lines) delivered
-never_early NoPlan command old new told lines delivered = early_note command (status_line [] NotBuilt) old new told not_built_note delivered
 never_early PlanMemory command old new told lines delivered = early_note command (status_line [] NoMemory) old new told (no_memory_note []) delivered
 
 -- whole first lines of the run, and then a front of the line of the status

@@ -56,7 +56,6 @@ turn_plan old new turn (Err stop) made refused = refused_plan old.kept.stop old 
 
 stops_now : (old mid : CoreState) (turn : Turn) (stop : Stop) (outs : List Out) → old.kept.undrained ≡ [] → StopsInTurn old mid turn stop → outs ≡ mid.kept.undrained → StopsBehind old turn outs stop
 stops_now old mid turn stop outs drained s handed = record {
-  cause = s.cause;
   hands = λ history stands may.
       let f = s.takes history stands may in
       record {

@@ -1,4 +1,5 @@
 pub mod Commands
+pub mod Completeness
 pub mod Ends
 pub mod Feeds
 pub mod Opened

@@ -8,16 +8,15 @@ use Rattle.pj_plan.specs.declared.node.Outline.{Outline}
 use Rattle.pj_plan.specs.Nodes.{streams_of}
 use Rattle.pj_plan_text.specs.PlanRead.{plan_read}
 use Rattle.pj_engine.specs.declared.status.Status.{Status}
-use Rattle.pj_engine.specs.declared.status.Status.TheVariants.{Done, Usage, NotBuilt, OpenFault, ReadFault, PlanRefused, FileCount, Unsafe, WriteFault, NoMemory, Limit}
+use Rattle.pj_engine.specs.declared.status.Status.TheVariants.{Done, Usage, OpenFault, ReadFault, PlanRefused, FileCount, Unsafe, WriteFault, NoMemory, Limit}
 use Rattle.pj_engine.specs.declared.status.LimitOf.TheVariants.{Plan}
 use Rattle.pj_engine.specs.declared.stops.FileStop.{FileStop}
 use Rattle.pj_engine.specs.declared.stops.FileStop.TheVariants.{OpenFault, ReadFault, TooLong, NoMemory as FileMemory}
 use Rattle.pj_engine.specs.declared.stops.PlanStop.{PlanStop}
-use Rattle.pj_engine.specs.declared.stops.PlanStop.TheVariants.{Usage as NoWords, File, Refused, FileCount as OtherCount, Unsafe as Stuck, NotBuilt as NoPlan, NoMemory as PlanMemory}
+use Rattle.pj_engine.specs.declared.stops.PlanStop.TheVariants.{Usage as NoWords, File, Refused, FileCount as OtherCount, Unsafe as Stuck, NoMemory as PlanMemory}
 use Rattle.pj_engine.specs.Commands.{Command, HasToldPlan, file_names, operand, plan_bytes}
 use Rattle.pj_engine.specs.Opened.{OpensFirst}
-use Rattle.pj_core.specs.Plans.{are_run}
-use Rattle.pj_alone.specs.Safety.{IsFirstStuck, IsSafePlan, AreUnsafeLines, HasUnsafeLines}
+use Rattle.pj_alone.specs.Safety.{IsFirstStuck, AreUnsafeLines, HasUnsafeLines}
 
 -- ---- what is refused
 
@@ -26,13 +25,11 @@ abbrev pub counted_files : ℕ → ℕ
 counted_files n = min n (2 ^ 32 - 1)
 
 -- What a plan without fault is refused with, where there are so many files: it has another number of streams; or else an input of
--- a join does not reach all, and these are the first such join, its first such input and the least that it does not reach; or else
--- the plan is safe, and is not one that is run
+-- a join does not reach all, and these are the first such join, its first such input and the least that it does not reach
 abbrev pub RefusesPlan : Status → ℕ → Outline → Type 0
 RefusesPlan (FileCount want got) files plan =
     (length (streams_of plan.nodes) ≢ files) × (want ≡ length (streams_of plan.nodes)) × (got ≡ counted_files files)
 RefusesPlan (Unsafe join input missing) files plan = (length (streams_of plan.nodes) ≡ files) × IsFirstStuck plan.nodes join input missing
-RefusesPlan NotBuilt files plan = (length (streams_of plan.nodes) ≡ files) × IsSafePlan plan.nodes × (are_run plan.nodes ≡ false)
 RefusesPlan Done files plan = ⊥
 RefusesPlan Usage files plan = ⊥
 RefusesPlan (PlanRefused line why) files plan = ⊥
@@ -83,18 +80,7 @@ PlanUnfit (Refused fault) files plan = ⊥
 PlanUnfit (OtherCount want got) files plan = RefusesPlan (FileCount want got) files plan
 PlanUnfit (Stuck found) files plan =
     RefusesPlan (Unsafe found.join found.input found.missing) files plan × AreUnsafeLines plan.nodes found.join found.input found.missing found.lines
-PlanUnfit NoPlan files plan = RefusesPlan NotBuilt files plan
 PlanUnfit PlanMemory files plan = ⊤
-
--- a safe plan of the right number of streams is not run: it has other nodes than streams and one join; or memory was wanting
-abbrev pub IsUnrun : PlanStop → Outline → Type 0
-IsUnrun NoWords plan = ⊥
-IsUnrun (File stop) plan = ⊥
-IsUnrun (Refused fault) plan = ⊥
-IsUnrun (OtherCount want got) plan = ⊥
-IsUnrun (Stuck found) plan = ⊥
-IsUnrun NoPlan plan = are_run plan.nodes ≡ false
-IsUnrun PlanMemory plan = ⊤
 
 -- the lines of an unsafe plan are such as spell no element
 abbrev pub HasLines : PlanStop → Type 0
@@ -103,7 +89,6 @@ HasLines NoWords = ⊤
 HasLines (File stop) = ⊤
 HasLines (Refused fault) = ⊤
 HasLines (OtherCount want got) = ⊤
-HasLines NoPlan = ⊤
 HasLines PlanMemory = ⊤
 
 -- the bytes spell a plan without fault, which is refused so
@@ -117,7 +102,6 @@ BytesRefused (File stop) files bytes = ⊥
 BytesRefused (Refused fault) files bytes = plan_read bytes ≡ Err fault
 BytesRefused (OtherCount want got) files bytes = ReadUnfit (OtherCount want got) files bytes
 BytesRefused (Stuck found) files bytes = ReadUnfit (Stuck found) files bytes
-BytesRefused NoPlan files bytes = ReadUnfit NoPlan files bytes
 BytesRefused PlanMemory files bytes = ⊤
 
 -- why the file of this name was not read: its faults rose, at its opening or later, or it is too long
@@ -155,7 +139,6 @@ PlanCause (File FileMemory) files name old new = ⊤
 PlanCause (Refused fault) files name old new = OpenedWithFault fault name old new
 PlanCause (OtherCount want got) files name old new = OpenedAndUnfit (OtherCount want got) files name old new
 PlanCause (Stuck found) files name old new = OpenedAndUnfit (Stuck found) files name old new × HasUnsafeLines found
-PlanCause NoPlan files name old new = OpenedAndUnfit NoPlan files name old new
 PlanCause PlanMemory files name old new = ⊤
 
 -- why a command has no plan to run: its words have not the form, and nothing was done; or they name a file with no such plan
@@ -166,5 +149,4 @@ Unprepared (Refused fault) command after = (command.is_run ≡ true) × PlanCaus
 Unprepared (OtherCount want got) command after =
     (command.is_run ≡ true) × PlanCause (OtherCount want got) (length (file_names command)) (operand command.names 1) command.folder after
 Unprepared (Stuck found) command after = (command.is_run ≡ true) × PlanCause (Stuck found) (length (file_names command)) (operand command.names 1) command.folder after
-Unprepared NoPlan command after = (command.is_run ≡ true) × PlanCause NoPlan (length (file_names command)) (operand command.names 1) command.folder after
 Unprepared PlanMemory command after = (command.is_run ≡ true)

@@ -10,7 +10,7 @@ use Rattle.pj_plan.specs.declared.fault.PlanWhy.{PlanWhy}
 use Rattle.pj_plan.specs.declared.fault.PlanWhy.TheVariants.{NotAPlan, UnknownStatement, BadShape, NameTwice, UnknownName, UnknownColumn, ColumnTwice, KindsDiffer, BadClass, BadScheme, UsedTwiceOrNever, TooMany, Output, Unreadable}
 use Rattle.pj_engine.specs.declared.status.Status.{Status}
 use Rattle.pj_engine.specs.declared.status.LimitOf.TheVariants.{Plan, Node, File}
-use Rattle.pj_engine.specs.declared.status.Status.TheVariants.{Done, Usage, NotBuilt, OpenFault, ReadFault, PlanRefused, FileCount, Unsafe, WriteFault, NoMemory, Limit}
+use Rattle.pj_engine.specs.declared.status.Status.TheVariants.{Done, Usage, OpenFault, ReadFault, PlanRefused, FileCount, Unsafe, WriteFault, NoMemory, Limit}
 
 abbrev pub reject_words : Reject → List ℕ
 reject_words TooLong = codes "too long"
@@ -70,7 +70,6 @@ fault_words Unreadable = codes " P14 unreadable line"
 abbrev pub status_line : List ℕ → Status → List ℕ
 status_line name Done = []
 status_line name Usage = fed (codes "# usage: run PLAN FILE.. | replay PLAN SCRIPT FILE.. | check PLAN | make SEED N")
-status_line name NotBuilt = fed (codes "# refused not built")
 status_line name (PlanRefused line why) = fed (codes "# refused plan line " ++ decimal line ++ fault_words why)
 status_line name (FileCount want got) = fed (codes "# refused files want " ++ decimal want ++ codes " got " ++ decimal got)
 status_line name (Unsafe join input missing) = []
@@ -93,5 +92,4 @@ status_number WriteFault = 4
 status_number NoMemory = 5
 status_number (Limit what) = 6
 status_number (FileCount want got) = 8
-status_number NotBuilt = 9
 status_number Usage = 64

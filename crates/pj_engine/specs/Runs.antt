@@ -1,10 +1,10 @@
 -- What a plan's run over files hands out, and the lines that it writes. There is one file for each stream.
-use Rattle.std.specs.Prelude.{◌≡◌, false, true, ℕ, ◌^◌, List, [], ◌∷◌, ◌++◌, map}
+use Rattle.std.specs.Prelude.{◌≡◌, ◌<◌, false, true, ℕ, ◌^◌, List, [], ◌∷◌, ◌++◌, map}
 use Rattle.pj_plan.specs.declared.node.Outline.{Outline}
 use Rattle.pj_plan.specs.declared.node.PlanNode.{PlanNode}
 use Rattle.pj_plan.specs.Nodes.{joins_of}
 use Rattle.pj_plan.specs.Canonical.{node_name}
-use Rattle.pj_core.specs.Plans.{IsRun, RunPlan, nodes_of, run_plan, streams_in}
+use Rattle.pj_core.specs.Plans.{RunPlan, nodes_of, run_plan, streams_in}
 use Rattle.pj_value.specs.declared.values.Value.{Value}
 use Rattle.pj_value.specs.Bags.{SameBag}
 use Rattle.pj_pattern.specs.declared.element.Element.{Element}
@@ -16,6 +16,8 @@ use Rattle.pj_laws.specs.HistoryLaws.{AllAreCertified}
 use Rattle.pj_laws.specs.Punctuations.{puncts_answer}
 use Rattle.pj_laws.specs.declared.events.Entry.{Entry}
 use Rattle.pj_laws.specs.Limits.{ReachesLimit}
+use Rattle.pj_laws.specs.Reaching.{IsCounted}
+use Rattle.pj_laws.specs.Reaching.{elements_to as coming_to}
 use Rattle.pj_laws.specs.Outcomes.{elements_out, peak_of}
 use Rattle.pj_laws.specs.Outcomes.{outputs_of as handed_out, answer_of as plan_answer}
 use Rattle.pj_laws.specs.OneThread.{one_thread_of}
@@ -105,13 +107,13 @@ ArePunctuations plan files outputs report = SameBag (puncts_of outputs) (puncts_
 abbrev pub AreLawful : Outline → List (List ℕ) → List Element → List (List ℕ) → Type 0
 AreLawful plan files outputs report = IsLawful outputs
 
--- the counts, the listed rejects and the peak are those of the files, and the counts of results those of the outputs
+-- the counts, the listed rejects and the peaks are those of the files, and the counts of results those of the outputs
 abbrev pub AreTallies : Outline → List (List ℕ) → List Element → List (List ℕ) → Type 0
 AreTallies plan files outputs report = report ≡ report_of plan files outputs
 
 -- ---- limits
 
--- how many elements may arrive at a join
+-- how many elements may arrive at a join or a group
 abbrev pub most_arrivals : ℕ
 most_arrivals = 2 ^ 40
 
@@ -119,14 +121,21 @@ most_arrivals = 2 ^ 40
 abbrev pub outline_in : CoreState → Outline
 outline_in core = record { version = 1; nodes = core.plan.nodes }
 
--- a new core of a sound plan as it is run, whose certificates hold and at whose join so many may arrive
+-- a new core of a sound plan as it is run, whose certificates hold and at each of whose joins and groups so many may arrive
 pub record IsNewCore (core : CoreState) : Type 0 where
   pub fresh : IsFresh core (plan_run (outline_in core)) most_arrivals
   pub certified : AllAreCertified (run_nodes (outline_in core))
-  pub form : IsRun core.plan.nodes
   pub names : HasPlainNames core.plan.nodes
   pub sound : IsSoundPlan core.plan.nodes
 
--- a step of the run on one thread is the first that brings an element beyond the limit, and this is its node
-abbrev pub GoesBeyond : Outline → List (List ℕ) → ℕ → Type 0
-GoesBeyond plan files node = ReachesLimit most_arrivals (run_nodes plan) (history_of plan files) node
+-- how many elements come to a node in all: the rows of its inputs' answers over the accepted rows, and its inputs' punctuations
+abbrev pub elements_to : Outline → List (List ℕ) → ℕ → ℕ
+elements_to plan files node =
+    coming_to (run_nodes plan) (map rows_of (accepted_of (streams_in plan.nodes) files)) (map puncts_of (elements_of plan files)) node
+
+-- a step of the run on one thread is the first that brings an element beyond the limit, and this is its node: a join or a group,
+-- to which more elements come in all than may
+pub record GoesBeyond (plan : Outline) (files : List (List ℕ)) (node : ℕ) : Type 0 where
+  pub reaches : ReachesLimit most_arrivals (run_nodes plan) (history_of plan files) node
+  pub counted : IsCounted (run_nodes plan) node
+  pub many : most_arrivals < elements_to plan files node

@@ -19,11 +19,11 @@ use Rattle.pj_engine.specs.declared.stops.FilesStop.TheVariants.{Opening, Run}
 use Rattle.pj_engine.specs.declared.stops.FileStop.{FileStop}
 use Rattle.pj_engine.specs.declared.stops.FileStop.TheVariants.{OpenFault as NotOpened, ReadFault as NotRead, TooLong, NoMemory as FileMemory}
 use Rattle.pj_engine.specs.declared.stops.PlanStop.{PlanStop}
-use Rattle.pj_engine.specs.declared.stops.PlanStop.TheVariants.{Usage as NoWords, File as PlanFile, Refused, FileCount as OtherCount, Unsafe as Stuck, NotBuilt as NoPlan, NoMemory as PlanMemory}
+use Rattle.pj_engine.specs.declared.stops.PlanStop.TheVariants.{Usage as NoWords, File as PlanFile, Refused, FileCount as OtherCount, Unsafe as Stuck, NoMemory as PlanMemory}
 use Rattle.pj_engine.specs.declared.status.Status.{Status}
 use Rattle.pj_engine.specs.Report.{status_line}
 use Rattle.pj_engine.specs.Written.{flat}
-use Rattle.pj_engine.specs.declared.status.Status.TheVariants.{Usage, NotBuilt, OpenFault, ReadFault as StatusFault, PlanRefused, FileCount, Unsafe, WriteFault, NoMemory as StatusMemory, Limit as StatusLimit}
+use Rattle.pj_engine.specs.declared.status.Status.TheVariants.{Usage, OpenFault, ReadFault as StatusFault, PlanRefused, FileCount, Unsafe, WriteFault, NoMemory as StatusMemory, Limit as StatusLimit}
 use Rattle.pj_engine.specs.declared.status.LimitOf.TheVariants.{Plan, Node, File}
 
 abbrev pub of_core : Stop → TurnStop
@@ -62,7 +62,6 @@ plan_status (PlanFile stop) = file_status stop
 plan_status (Refused fault) = PlanRefused fault.line fault.why
 plan_status (OtherCount want got) = FileCount want got
 plan_status (Stuck found) = Unsafe found.join found.input found.missing
-plan_status NoPlan = NotBuilt
 plan_status PlanMemory = StatusMemory
 
 -- what is written where there is no plan to run: the two lines of an unsafe plan, or the line of the status
@@ -72,7 +71,6 @@ refusal_text NoWords = status_line [] Usage
 refusal_text (PlanFile stop) = status_line [] (file_status stop)
 refusal_text (Refused fault) = status_line [] (PlanRefused fault.line fault.why)
 refusal_text (OtherCount want got) = status_line [] (FileCount want got)
-refusal_text NoPlan = status_line [] NotBuilt
 refusal_text PlanMemory = status_line [] StatusMemory
 
 -- the status of a run that ended; the plan is operand 1, and the streams' files follow

@@ -13,12 +13,14 @@ use Rattle.pj_pattern.specs.declared.element.Element.{Element}
 use Rattle.pj_pattern.specs.Elements.{rows_of, IsLawful}
 use Rattle.pj_element.specs.Runs.{element_lines}
 use Rattle.pj_value.specs.Bags.{SubBag}
+use Rattle.pj_value.specs.Lists.{In}
+use Rattle.pj_value.specs.declared.values.Value.{Value}
 use Rattle.pj_laws.specs.declared.events.Entry.{Entry}
 use Rattle.pj_laws.specs.Outcomes.{elements_out}
 use Rattle.pj_laws.specs.Outcomes.{outputs_of as handed_out, elements_of as arrived_at}
 use Rattle.pj_laws.specs.Join.{upto_from}
 use Rattle.pj_engine.specs.declared.status.Status.{Status}
-use Rattle.pj_engine.specs.declared.status.Status.TheVariants.{Done, Usage, NotBuilt, OpenFault, ReadFault, PlanRefused, FileCount, Unsafe, WriteFault, NoMemory, Limit}
+use Rattle.pj_engine.specs.declared.status.Status.TheVariants.{Done, Usage, OpenFault, ReadFault, PlanRefused, FileCount, Unsafe, WriteFault, NoMemory, Limit}
 use Rattle.pj_engine.specs.declared.status.LimitOf.{LimitOf}
 use Rattle.pj_engine.specs.declared.status.LimitOf.TheVariants.{Plan, Node, File}
 use Rattle.pj_engine.specs.Commands.{Command, IsTold, HasToldPlan, operand, file_names, plan_bytes, stream_files}
@@ -61,7 +63,6 @@ pub record IsBuilt (command : Command) : Type 0 where
 abbrev pub MayOpen : Status → Command → ℕ → Type 0
 MayOpen Done command count = count ≡ length command.names
 MayOpen Usage command count = count ≡ 0
-MayOpen NotBuilt command count = count ≡ 1
 MayOpen (PlanRefused line why) command count = count ≡ 1
 MayOpen (FileCount want got) command count = count ≡ 1
 MayOpen (Unsafe join input missing) command count = count ≡ 1
@@ -99,7 +100,6 @@ limit_name plan (File stream) = stream_name (streams_in plan.nodes) stream
 abbrev pub stop_name : Outline → Status → List ℕ
 stop_name plan Done = []
 stop_name plan Usage = []
-stop_name plan NotBuilt = []
 stop_name plan (PlanRefused line why) = []
 stop_name plan (FileCount want got) = []
 stop_name plan (Unsafe join input missing) = []
@@ -133,7 +133,6 @@ LimitStops what command old new =
 abbrev pub StopLeaves : Status → Command → FolderState → SinkState → SinkState → Type 0
 StopLeaves Done command after old new = ⊤
 StopLeaves Usage command after old new = ⊤
-StopLeaves NotBuilt command after old new = ⊤
 StopLeaves (PlanRefused line why) command after old new = ⊤
 StopLeaves (FileCount want got) command after old new = ⊤
 StopLeaves (Unsafe join input missing) command after old new = ⊤
@@ -162,7 +161,6 @@ TellsUnsafe join input missing command old new =
 abbrev pub EarlyEnd : Status → Command → FolderState → SinkState → SinkState → Type 0
 EarlyEnd Done command after old new = ⊤
 EarlyEnd Usage command after old new = Delivered (status_line [] Usage) old new
-EarlyEnd NotBuilt command after old new = Delivered (status_line [] NotBuilt) old new
 EarlyEnd (PlanRefused line why) command after old new = Delivered (status_line [] (PlanRefused line why)) old new
 EarlyEnd (FileCount want got) command after old new = Delivered (status_line [] (FileCount want got)) old new
 EarlyEnd (Unsafe join input missing) command after old new = TellsUnsafe join input missing command old new
@@ -188,9 +186,19 @@ gone_on (f ∷ fs) (m ∷ ms) = (f ++ m) ∷ gone_on fs ms
 abbrev pub streams_after : Outline → List Entry → List (List Element) → List (List Element)
 streams_after plan front more = gone_on (arrived_in (length (streams_in plan.nodes)) front) more
 
-abbrev pub AllLawful : List (List Element) → Type 0
-AllLawful [] = ⊤
-AllLawful (es ∷ ess) = IsLawful es × AllLawful ess
+-- each of these rows has so many values
+abbrev pub AreOfWidth : ℕ → List (List Value) → Type 0
+AreOfWidth width rows = (row : List Value) → In row rows → length row ≡ width
+
+-- the elements of each of these streams are lawful, and its rows have a value for each of its columns
+abbrev pub AllLawful : List PlanNode → List (List Element) → Type 0
+AllLawful [] lists = ⊤
+AllLawful (stream ∷ streams) [] = ⊤
+AllLawful (stream ∷ streams) (es ∷ lists) = IsLawful es × AreOfWidth (length stream.schema) (rows_of es) × AllLawful streams lists
+
+-- the rows of the plan's answer, where its streams go on with more elements
+abbrev pub answer_after : Outline → List Entry → List (List Element) → List (List Value)
+answer_after plan front more = answer_of plan (map rows_of (streams_after plan front more))
 
 -- the history is as long as it must be to hand out this many elements: with one entry less it hands out fewer
 abbrev pub IsShortest : Outline → List Entry → ℕ → Type 0
@@ -206,7 +214,7 @@ pub record StaysRight (plan : Outline) (files : List (List ℕ)) (outputs : List
   pub others : List Element
   pub among : outputs ++ others ≡ elements_out (handed_out false (run_nodes plan) front)
   pub shortest : IsShortest plan front (length outputs)
-  pub right : (more : List (List Element)) → AllLawful (streams_after plan front more) → SubBag (rows_of outputs) (answer_of plan (map rows_of (streams_after plan front more)))
+  pub right : (more : List (List Element)) → AllLawful (streams_in plan.nodes) (streams_after plan front more) → SubBag (rows_of outputs) (answer_after plan front more)
 
 -- where the command and the sink are told: what was written spells lawful outputs, and there are none or they stay right
 abbrev pub NeverRetracted : Command → SinkState → SinkState → Type 0
@@ -216,7 +224,7 @@ NeverRetracted command old new =
 
 -- ---- causes
 
--- there is something to run, and more elements come to this node than may
+-- there is something to run, and a limit is gone beyond at this node, to which more elements come than may
 pub record BeyondLimit (command : Command) (node : ℕ) : Type 0 where
   pub built : IsBuilt command
   pub beyond : IsTold command → (plan : Outline) × (plan_of (plan_bytes command) ≡ Some plan) × GoesBeyond plan (stream_files command) node

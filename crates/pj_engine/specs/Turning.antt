@@ -5,7 +5,6 @@ use Rattle.pj_plan.specs.declared.node.PlanNode.{PlanNode}
 use Rattle.pj_core.specs.Plans.{stream_columns}
 use Rattle.pj_pattern.specs.declared.element.Element.{Element}
 use Rattle.pj_laws.specs.declared.events.Entry.{Entry}
-use Rattle.pj_laws.specs.declared.events.Event.TheVariants.{Arrive}
 use Rattle.pj_laws.specs.declared.events.Out.{Out}
 use Rattle.pj_laws.specs.declared.events.Stop.{Stop}
 use Rattle.pj_pattern.specs.Fitting.{FitsKinds}
@@ -14,7 +13,7 @@ use Rattle.pj_laws.specs.Outcomes.{elements_out, outputs_of, elements_of as arri
 use Rattle.pj_laws.specs.Limits.{StaysWithin, BeginsBeyond, StopsAt}
 use Rattle.pj_laws.specs.OneThread.{Turn, arrival_of}
 use Rattle.pj_core.specs.Cores.{CoreState, StandsFor, MayFollow, nodes_after, nodes_in}
-use Rattle.pj_core.specs.Calls.{IsCause, MakesTurn, turn_behind}
+use Rattle.pj_core.specs.Calls.{MakesTurn, turn_behind}
 use Rattle.pj_engine.specs.declared.results.Counts.{Counts}
 use Rattle.pj_engine.specs.declared.stops.TurnStop.{TurnStop}
 use Rattle.pj_engine.specs.declared.stops.TurnStop.TheVariants.{Limit as TurnLimit, WriteFailed as TurnFailed, NoMemory as TurnMemory}
@@ -46,7 +45,6 @@ pub record HandsFront (core : CoreState) (history : List Entry) (turn : Turn) (o
 -- the core stopped in the turn, and handed out what it had until then: exactly the outputs of the front of the turn's entries
 -- that were made
 pub record StopsBehind (old : CoreState) (turn : Turn) (outs : List Out) (stop : Stop) : Type 0 where
-  pub cause : IsCause old (Arrive turn.stream turn.element) stop
   pub hands : (history : List Entry) → StandsFor old history → MayFollow old history (arrival_of turn) → HandsFront old history turn outs stop
 
 -- the whole turn was made, or the core stopped in it

@@ -3,12 +3,11 @@ ghost use Rattle.std.specs.Prelude.{◌≡◌, ◌≤◌, ◌+◌, ◌∷◌, []
 ghost use Rattle.pj_io.specs.Folders.{NoneFalls, SameElsewhere};
 ghost use Rattle.pj_plan.specs.Nodes.{streams_of};
 ghost use Rattle.pj_plan_text.specs.PlanRead.{plan_read};
-ghost use Rattle.pj_core.specs.Plans.{are_run};
 ghost use Rattle.pj_alone.specs.Safety.{AreCertificates, IsSafePlan, certificates_of};
 ghost use Rattle.pj_engine.specs.Commands.{is_run as run_form, is_option as option_form, no_options as none_is_option, operands, operand, command_of, plan_bytes, HasToldPlan};
 ghost use Rattle.pj_engine.specs.Opened.{OpensFirst, OpensAtMost, IsReadToEnd};
 ghost use Rattle.pj_engine.specs.Plans.{plan_of, SpellsPlan};
-ghost use Rattle.pj_engine.specs.Refusals.{BytesRefused, HasLines, IsUnrun, PlanCause, PlanUnfit, Unprepared, counted_files};
+ghost use Rattle.pj_engine.specs.Refusals.{BytesRefused, HasLines, PlanCause, PlanUnfit, Unprepared, counted_files};
 ghost use Rattle.pj_engine.specs.Runs.{IsNewCore, outline_in};
 
 use crate::files::read_file;
@@ -19,13 +18,13 @@ use pj_io::Folder;
 use pj_plan::{Plan, PlanStop as ReadStop};
 use pj_plan_text::read_plan;
 use pj_shape::Cert;
-use pj_value::List;
+use pj_value::{List, NoMemory};
 use std::alloc::Global;
 
-// The most elements that may arrive at a join.
+// The most elements that may arrive at a join or a group.
 const MOST_ARRIVALS: u64 = 1 << 40;
 
-/// A core of the plan that the words name, if that is safe, is one that is run, and there is a file for each of its streams.
+/// A core of the plan that the words name, if that is safe and there is a file for each of its streams.
 pub fn prepare<F: Folder>(alloc: Global, words: &[String], folder: &mut F) -> Result<Core, PlanStop>
     ensures fresh { IfOk result (λ core. IsNewCore core) }
     ensures safe { IfOk result (λ core. IsSafePlan core.plan.nodes) }
@@ -89,8 +88,7 @@ fn core_in(alloc: Global, bytes: &[u8], files: usize) -> Result<Core, PlanStop>
     }
 }
 
-// A core of the plan, if that has so many streams, is safe, and is one that is run.
-#[tactic(auto, using(crate::proofs::Refusing::unrun_unfit, crate::proofs::Refusing::unrun_lines))]
+// A core of the plan, if that has so many streams and is safe.
 fn core_for(alloc: Global, plan: Plan, files: usize) -> Result<Core, PlanStop>
     ensures fresh { IfOk result (λ core. IsNewCore core) }
     ensures safe { OnOk result (IsSafePlan plan.nodes) }
@@ -110,28 +108,16 @@ fn core_for(alloc: Global, plan: Plan, files: usize) -> Result<Core, PlanStop>
     }
 }
 
-// A core of the plan with the certificates of its joins, if it is one that is run.
+// A core of the plan with the certificates of its joins.
 #[tactic(auto, using(crate::proofs::Refusing::new_core))]
-fn run_core(alloc: Global, plan: Plan, certs: List<List<Cert>>) -> Result<Core, PlanStop>
+fn run_core(alloc: Global, plan: Plan, certs: List<List<Cert>>) -> Result<Core, NoMemory>
     requires certs { certs ≡ certificates_of plan.nodes }
     requires certified { AreCertificates plan.nodes }
     ensures fresh { IfOk result (λ core. IsNewCore core) }
     ensures same { IfOk result (λ core. outline_in core ≡ plan) }
-    ensures cause { IfErr result (λ stop. IsUnrun stop plan) }
 {
     let _nodes = plan.nodes();
-    if !is_run_plan(&plan) {
-        return Err(PlanStop::NotBuilt);
-    }
     Ok(Core::new(alloc, plan, certs, MOST_ARRIVALS, false)?)
-}
-
-// Whether the plan's nodes are streams, but for at most one join.
-fn is_run_plan(plan: &Plan) -> bool
-    ensures { result ≡ are_run plan.now.nodes }
-{
-    let joins = plan.joins().len();
-    joins <= 1 && plan.streams().len() + joins == plan.nodes() as usize
 }
 
 // The number of the plan's streams.

@@ -19,8 +19,6 @@ pub enum Status {
     FileCount { want: u32, got: u32 },
     /// An input of a join does not reach another: the join's node, and its inputs, counted from 0.
     Unsafe { join: u32, input: u32, missing: u32 },
-    /// The plan is safe, but is neither one stream, nor 2 to 16 streams and a join of them all.
-    NotBuilt,
     /// A file could not be opened; operands are counted from 1, the plan being 1.
     OpenFault { operand: u32 },
     /// A file could not be read.
@@ -38,7 +36,7 @@ pub enum Status {
 pub enum LimitOf {
     /// The bytes of the plan.
     Plan,
-    /// The arrivals at a join, by the number of its node.
+    /// The arrivals at a join or a group, by the number of its node.
     Node(u32),
     /// The bytes of a stream's file, by the number of the stream.
     File(u32),
@@ -59,7 +57,6 @@ impl Status {
             Status::NoMemory => 5,
             Status::Limit { .. } => 6,
             Status::FileCount { .. } => 8,
-            Status::NotBuilt => 9,
             Status::Usage => 64,
         }
     }
@@ -86,7 +83,6 @@ impl PlanStop {
                 input: found.input,
                 missing: found.missing,
             },
-            PlanStop::NotBuilt => Status::NotBuilt,
             PlanStop::NoMemory => Status::NoMemory,
         }
     }

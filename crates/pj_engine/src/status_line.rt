@@ -36,7 +36,6 @@ pub fn write_status<K: Sink>(name: &[u8], status: Status, out: &mut K)
         Status::PlanRefused { line, why } => write_fault(line, why, out),
         Status::FileCount { want, got } => write_counts(want, got, out),
         Status::Unsafe { .. } => Ok(()),
-        Status::NotBuilt => deliver(out, b"# refused not built", b""),
         Status::OpenFault { operand } => {
             let text = digits.format(operand);
             deliver(out, b"# stopped open fault operand ", text.as_bytes())
@@ -70,7 +69,6 @@ pub fn write_refusal<K: Sink>(stop: &PlanStop, out: &mut K)
         PlanStop::File { .. } => write_status(b"", stop.status(), out),
         PlanStop::Refused { .. } => write_status(b"", stop.status(), out),
         PlanStop::FileCount { .. } => write_status(b"", stop.status(), out),
-        PlanStop::NotBuilt => write_status(b"", stop.status(), out),
         PlanStop::NoMemory => write_status(b"", stop.status(), out),
     }
 }

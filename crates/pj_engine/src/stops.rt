@@ -33,8 +33,6 @@ pub enum PlanStop {
     FileCount { want: u32, got: u32 },
     /// An input of a join of the plan does not reach all.
     Unsafe { found: Unsafe },
-    /// The plan is safe, but is neither one stream, nor 2 to 16 streams and a join of them all.
-    NotBuilt,
     /// Memory could not be had.
     NoMemory,
 }

@@ -4,6 +4,7 @@ ghost use Rattle.pj_engine.specs.declared.status.LimitOf.TheVariants.{Plan as Pl
 ghost use Rattle.pj_plan.specs.Canonical.{node_name as name_of_node};
 ghost use Rattle.pj_core.specs.Plans.{streams_in};
 ghost use Rattle.pj_engine.specs.Commands.{command_of, operands, is_run as run_form};
+ghost use Rattle.pj_engine.specs.Completeness.{Completes};
 ghost use Rattle.pj_engine.specs.Refusals.{IsRefused, IsRightFault, IsRightCount, IsRightlyUnsafe};
 ghost use Rattle.pj_engine.specs.Runs.{IsAnswer, ArePunctuations, AreLawful, AreTallies};
 ghost use Rattle.pj_engine.specs.Top.{Ran, AreReadToEnd, OpensInOrder, StoppedRun, EarlyEnd, NeverRetracted, AnswersRefusal, IsBuilt, IsUnopened, WriteFails, BeyondLimit, IsTooLarge, HasFault, stream_name as name_of_stream, stop_name as stop_name_of};
@@ -15,12 +16,12 @@ use crate::{LimitOf, Status};
 use pj_io::{Folder, Sink};
 use pj_plan::Plan;
 
-/// Runs the command that the words spell: `run PLAN FILE ..` reads a plan of one stream, or of 2 to 16 streams and a
-/// join of them all, and a file for each stream, and writes what the plan's run on one thread hands out, and the report.
-/// A plan of which an input of a join does not reach all is refused with `Unsafe` before a file of a stream is opened.
+/// Runs the command that the words spell: `run PLAN FILE ..` reads a plan, and a file for each of its streams, and writes
+/// what the plan's run on one thread hands out, and the report. A plan of which an input of a join does not reach all is
+/// refused with `Unsafe` before a file of a stream is opened; every other plan is run.
 ///
-/// Sweeps keep the join finite: after each punctuation the run removes the stored rows that nothing which still comes can
-/// join, and hands out each punctuation, widened, as soon as no stored row of its input matches it.
+/// Sweeps keep each join finite: after each punctuation the run removes the stored rows that nothing which still comes can
+/// join, and the join hands up each punctuation, widened, as soon as no stored row of its input matches it.
 pub fn run_words<R: AllocGlobal, F: Folder, K: Sink>(
     rt: &R,
     words: &[String],
@@ -48,7 +49,6 @@ pub fn run_words<R: AllocGlobal, F: Folder, K: Sink>(
     ensures cause_of_plan_refused { IsRightFault result (command_of words.now (F.state folder.old)) }
     ensures cause_of_file_count { IsRightCount result (command_of words.now (F.state folder.old)) }
     ensures cause_of_unsafe { IsRightlyUnsafe result (command_of words.now (F.state folder.old)) }
-    ensures cause_of_not_built { result ≡ Status.NotBuilt → IsRefused (command_of words.now (F.state folder.old)) Status.NotBuilt }
     ensures refused { AnswersRefusal result (command_of words.now (F.state folder.old)) }
     ensures cause_of_open_fault { (n : ℕ) → result ≡ Status.OpenFault n → IsUnopened (command_of words.now (F.state folder.old)) (F.state folder.new) n }
     ensures cause_of_read_fault { (n : ℕ) → result ≡ Status.ReadFault n → HasFault (command_of words.now (F.state folder.old)) (F.state folder.new) n }
@@ -56,6 +56,7 @@ pub fn run_words<R: AllocGlobal, F: Folder, K: Sink>(
     ensures cause_of_no_memory { result ≡ Status.NoMemory → run_form words.now ≡ true }
     ensures cause_of_limit { (node : ℕ) → result ≡ Status.Limit (Node node) → BeyondLimit (command_of words.now (F.state folder.old)) node }
     ensures cause_of_file_limit { (stream : ℕ) → result ≡ Status.Limit (File stream) → IsTooLarge (command_of words.now (F.state folder.old)) stream }
+    ensures completes { Completes result (command_of words.now (F.state folder.old)) (F.state folder.new) (K.state out.old) (K.state out.new) }
 {
     match prepare(rt.alloc(), words, folder) {
         Ok(mut core) => match run_files(rt.alloc(), &mut core, &words[2..], folder, out) {
@@ -88,7 +89,6 @@ fn stop_name(plan: &Plan, status: Status) -> &[u8]
         Status::PlanRefused { .. } => b"",
         Status::FileCount { .. } => b"",
         Status::Unsafe { .. } => b"",
-        Status::NotBuilt => b"",
         Status::OpenFault { .. } => b"",
         Status::ReadFault { .. } => b"",
         Status::WriteFault => b"",

@@ -1,9 +1,9 @@
 use Rattle.std.proofs.Common.{List, false, subst, sym}
 use Rattle.pj_shape.specs.declared.joins.CertStep.{CertStep}
 use Rattle.pj_laws.specs.HistoryLaws.{AllAreCertified}
-use Rattle.pj_core.specs.Plans.{are_run, nodes_of, run_plan}
+use Rattle.pj_core.specs.Plans.{nodes_of, run_plan}
 use Rattle.pj_engine.proofs.Certified.{run_certified}
-use Rattle.pj_engine.proofs.Refusing.{is_so, new_core}
+use Rattle.pj_engine.proofs.Refusing.{new_core}
 use Rattle.pj_engine.proofs.commands.run_core.Goals as goal
 
 pub new-requires-clause-certified : goal.new-requires-clause-certified
@@ -12,4 +12,4 @@ new-requires-clause-certified c =
     subst (λ (certs : List (List (List CertStep))). AllAreCertified (nodes_of (run_plan nodes certs false))) (sym c.requires.certs) (run_certified nodes c.nodes-nodes.ensures.sound c.requires.certified)
 
 pub returns-clause-fresh : goal.returns-clause-fresh
-returns-clause-fresh c = new_core c.in_ok-new.field-0 c.args.plan c.args.certs c.in_ok-new.ensures (is_so c.is_run_plan.result (are_run c.args.plan.nodes) c.is_run_plan.ensures c.if-not-is_run_plan.false) c.nodes-nodes.ensures.sound c.nodes-nodes.ensures.made c.requires.certs c.requires.certified
+returns-clause-fresh c = new_core c.in_ok-new.field-0 c.args.plan c.args.certs c.in_ok-new.ensures c.nodes-nodes.ensures.sound c.nodes-nodes.ensures.made c.requires.certs c.requires.certified

@@ -1,13 +1,14 @@
 use Rattle.pj_core.specs.Plans.{RunPlan}
-use Rattle.std.proofs.Common.{refl, ap, sym, ◌∙◌, ◌++◌, subst, Err, arith, IsTrue, List, ℕ, length}
-use Rattle.pj_engine.specs.declared.status.Status.TheVariants.{Done, NotBuilt, PlanRefused, FileCount, Unsafe, Limit}
-use Rattle.pj_engine.specs.declared.status.LimitOf.TheVariants.{Plan}
+use Rattle.std.proofs.Common.{refl, ap, sym, inl, ◌∙◌, ◌++◌, subst, Err, arith, IsTrue, List, ℕ, length}
+use Rattle.pj_engine.specs.declared.status.Status.TheVariants.{Done, PlanRefused, FileCount, Unsafe, WriteFault, Limit}
+use Rattle.pj_engine.specs.declared.status.LimitOf.TheVariants.{Plan, Node, File}
 use Rattle.pj_engine.specs.Commands.{command_of, files_named, operand, operands}
 use Rattle.pj_engine.specs.PlanNames.{HasPlainNames}
 use Rattle.pj_engine.specs.Runs.{IsAnswer, ArePunctuations, AreLawful, AreTallies, outline_in, report_of, outputs_of, run_lines}
 use Rattle.pj_engine.specs.Written.{Leaves, files_cut, flat}
 use Rattle.pj_engine.proofs.CallLaws.{names_in, files_told, files_same, all_read, built, opened_done, opened_stop, stopped, early, faulted, unopened, write_failed, beyond, too_large, of_few, names_of_streams, files_of_streams}
-use Rattle.pj_engine.proofs.EarlyLaws.{answers_built, answers_early, early_early, early_lines, fault_early, memory_early, no_words, opened_early, refused_early, refused_never, stopped_early, unopened_early, usage_early, usage_never}
+use Rattle.pj_engine.proofs.Completing.{completes_by}
+use Rattle.pj_engine.proofs.EarlyLaws.{answers_built, answers_early, early_early, early_lines, fault_early, memory_early, no_words, opened_early, refused_early, refused_never, run_never, stopped_early, unopened_early, usage_early, usage_never}
 use Rattle.pj_engine.proofs.OutputLaws.{outputs_lawful, outputs_answer, outputs_puncts}
 use Rattle.pj_engine.proofs.Planned.{new_planned}
 use Rattle.pj_engine.proofs.RunLaws.{ran}
@@ -258,10 +259,6 @@ pub returns-clause-cause_of_unsafe : goal.returns-clause-cause_of_unsafe
 returns-clause-cause_of_unsafe g c = λ join input missing is.
     refused_early c.in-Err.stop (command_of c.args.words.now (g.F.Folder.state c.args.folder.now)) (g.F.Folder.state c.prepare.new.folder) (Unsafe join input missing) c.in-Err.ensures.cause (sym c.status.ensures ∙ is) tt
 
-pub returns-clause-cause_of_not_built : goal.returns-clause-cause_of_not_built
-returns-clause-cause_of_not_built g c = λ is.
-    refused_early c.in-Err.stop (command_of c.args.words.now (g.F.Folder.state c.args.folder.now)) (g.F.Folder.state c.prepare.new.folder) NotBuilt c.in-Err.ensures.cause (sym c.status.ensures ∙ is) tt
-
 -- ---- refusals, where there is a plan to run
 
 pub returns-in-Ok-run_files-clause-refused : goal.returns-in-Ok-run_files-clause-refused
@@ -291,9 +288,6 @@ returns-in-Ok-clause-cause_of_file_count g c = λ want got is. absurd (refused_n
 pub returns-in-Ok-clause-cause_of_unsafe : goal.returns-in-Ok-clause-cause_of_unsafe
 returns-in-Ok-clause-cause_of_unsafe g c = λ join input missing is. absurd (refused_never c.in-Err-run_files.stop (Unsafe join input missing) (sym c.status-status.ensures ∙ is) tt)
 
-pub returns-in-Ok-clause-cause_of_not_built : goal.returns-in-Ok-clause-cause_of_not_built
-returns-in-Ok-clause-cause_of_not_built g c = λ is. absurd (refused_never c.in-Err-run_files.stop NotBuilt (sym c.status-status.ensures ∙ is) tt)
-
 pub returns-in-Ok-clause-cause_of_open_fault : goal.returns-in-Ok-clause-cause_of_open_fault
 returns-in-Ok-clause-cause_of_open_fault g c = λ n is.
     let e = c.in-Ok.ensures in
@@ -304,3 +298,34 @@ returns-in-Ok-clause-cause_of_open_fault g c = λ n is.
     let is_built = built words old mid e.form e.told e.contents (outline_in c.in-Ok.core) e.count e.safe e.read in
     unopened words old mid new e.form e.told e.contents e.other_last e.later c.in-Err-run_files.stop (outline_in c.in-Ok.core) (g.K.Sink.state c.args.out.now) (g.K.Sink.state c.run_files.new.out) n
     is_built c.in-Err-run_files.ensures.causes (opened_stop words old mid new e.form e.was_opened is_built c.in-Err-run_files.stop c.in-Err-run_files.ensures.opened) (sym c.status-status.ensures ∙ is)
+
+-- ---- what nothing hinders
+
+pub returns-in-Ok-run_files-clause-completes : goal.returns-in-Ok-run_files-clause-completes
+returns-in-Ok-run_files-clause-completes g c = λ told built none room. inl refl
+
+pub returns-in-Ok-clause-completes : goal.returns-in-Ok-clause-completes
+returns-in-Ok-clause-completes g c =
+    completes_by c.status-status.result (command_of c.args.words.now (g.F.Folder.state c.args.folder.now)) (g.F.Folder.state c.run_files.new.folder) (g.K.Sink.state c.args.out.now) (g.K.Sink.state c.write_status.new.out)
+    (record {
+      usage = returns-in-Ok-clause-cause_of_usage g c;
+      refused = λ status is of. absurd (refused_never c.in-Err-run_files.stop status (sym c.status-status.ensures ∙ is) of);
+      open_fault = returns-in-Ok-clause-cause_of_open_fault g c;
+      read_fault = returns-in-Ok-clause-cause_of_read_fault g c;
+      write_fault = returns-in-Ok-clause-cause_of_write_fault g c;
+      limit = returns-in-Ok-clause-cause_of_limit g c;
+      file_limit = returns-in-Ok-clause-cause_of_file_limit g c;
+    })
+
+pub returns-clause-completes : goal.returns-clause-completes
+returns-clause-completes g c =
+    completes_by c.status.result (command_of c.args.words.now (g.F.Folder.state c.args.folder.now)) (g.F.Folder.state c.prepare.new.folder) (g.K.Sink.state c.args.out.now) (g.K.Sink.state c.write_refusal.new.out)
+    (record {
+      usage = returns-clause-cause_of_usage g c;
+      refused = λ status is of. refused_early c.in-Err.stop (command_of c.args.words.now (g.F.Folder.state c.args.folder.now)) (g.F.Folder.state c.prepare.new.folder) status c.in-Err.ensures.cause (sym c.status.ensures ∙ is) of;
+      open_fault = returns-clause-cause_of_open_fault g c;
+      read_fault = returns-clause-cause_of_read_fault g c;
+      write_fault = λ is. absurd (run_never c.in-Err.stop WriteFault (sym c.status.ensures ∙ is) tt);
+      limit = λ node is. absurd (run_never c.in-Err.stop (Limit (Node node)) (sym c.status.ensures ∙ is) tt);
+      file_limit = λ stream is. absurd (run_never c.in-Err.stop (Limit (File stream)) (sym c.status.ensures ∙ is) tt);
+    })

@@ -1,0 +1,33 @@
+-- When a command is run to its end.
+use Rattle.std.specs.Prelude.{ℕ, ◌≡◌, ◌<◌, ◌≤◌, ◌^◌, ◌⊎◌, List, [], length, Some, slice_index_or}
+use Rattle.pj_io.specs.Causes.{Rose}
+use Rattle.pj_io.specs.States.{FolderState, SinkState}
+use Rattle.pj_plan.specs.declared.node.Outline.{Outline}
+use Rattle.pj_laws.specs.Reaching.{IsCounted}
+use Rattle.pj_engine.specs.declared.status.Status.{Status}
+use Rattle.pj_engine.specs.declared.status.Status.TheVariants.{Done, NoMemory}
+use Rattle.pj_engine.specs.Commands.{Command, IsTold, operand, plan_bytes, stream_files}
+use Rattle.pj_engine.specs.Plans.{plan_of}
+use Rattle.pj_engine.specs.Runs.{elements_to, most_arrivals, run_nodes}
+use Rattle.pj_engine.specs.Top.{IsBuilt}
+
+-- no count of faults rose: not that of an operand's name, and not the sink's
+pub record NoneRose (command : Command) (after : FolderState) (old new : SinkState) : Type 0 where
+  pub files : (n : ℕ) → 1 ≤ n → n ≤ length command.names → Rose (command.folder.faults (operand command.names n)) (after.faults (operand command.names n)) → ⊥
+  pub sink : Rose old.faults new.faults → ⊥
+
+-- no limit is gone beyond: each file has fewer bytes than would be too many, and to no join or group more elements come in all
+-- than may
+pub record IsWithinLimits (plan : Outline) (files : List (List ℕ)) : Type 0 where
+  pub bytes : (stream : ℕ) → stream < length files → length (slice_index_or files stream []) < 2 ^ 40
+  pub elements : (node : ℕ) → IsCounted (run_nodes plan) node → elements_to plan files node ≤ most_arrivals
+
+-- where the command is told, its plan and its files go beyond no limit
+abbrev pub HasRoom : Command → Type 0
+HasRoom command = (plan : Outline) → plan_of (plan_bytes command) ≡ Some plan → IsWithinLimits plan (stream_files command)
+
+-- Where the command is told: words of a run, a safe plan of few enough bytes with a stream for each file, counts of faults that do not
+-- rise and limits that are not gone beyond give a run that is done, or want of memory
+abbrev pub Completes : Status → Command → FolderState → SinkState → SinkState → Type 0
+Completes answer command after old new =
+    IsTold command → IsBuilt command → NoneRose command after old new → HasRoom command → (answer ≡ Done) ⊎ (answer ≡ NoMemory)
