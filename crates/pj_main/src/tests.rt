@@ -316,42 +316,6 @@ fn groups_run(rt: HostRuntime) -> Result<(), Fail> {
     Ok(())
 }
 
-// Appends a select of the node of this number, and the number of the node that it is.
-fn append_select(plan: &mut List<u8>, number: u8) -> Result<(), NoMemory>
-    requires { number < 63 }
-{
-    plan.append(b"select n")?;
-    plan.push(b'a' + (number + 1) / 8)?;
-    plan.push(b'a' + (number + 1) % 8)?;
-    plan.append(b" n")?;
-    plan.push(b'a' + number / 8)?;
-    plan.push(b'a' + number % 8)?;
-    plan.append(b" where k [0..]\n")?;
-    Ok(())
-}
-
-#[test]
-fn a_plan_of_64_nodes_runs(rt: HostRuntime) -> Result<(), Fail> {
-    let alloc = rt.alloc();
-    let mut plan = List::copy_of(alloc, b"plan 1\nstream naa k:int\n")?;
-    for number in 0..63_u8 {
-        append_select(&mut plan, number)?;
-    }
-    plan.append(b"output nhh\n")?;
-    let want =
-        b"t 1\np 1\np *\n# stream naa tuples 2 punctuations 1 rejected 0\n# results 1 punctuations 2\n";
-    assert!(rt;
-        runs(
-            &rt,
-            "run plan a",
-            plan.as_slice(),
-            [b"t 1\nt -1\np 1\n", b"", b""],
-            want
-        )?
-    );
-    Ok(())
-}
-
 // A join over a join, and a join over a select below a project and a group.
 #[test]
 fn trees_of_operators_run(rt: HostRuntime) -> Result<(), Fail> {
