@@ -8,16 +8,16 @@ use Rattle.pj_core.specs.Parts.{plan_node}
 use Rattle.pj_plan.specs.Nodes.{is_stream, streams_of}
 use Rattle.pj_scheme.specs.Derived.{schemes_of}
 use Rattle.pj_pattern.specs.declared.element.Element.{Element}
-use Rattle.pj_laws.specs.declared.events.Entry.{Entry}
-use Rattle.pj_laws.specs.declared.events.Event.TheVariants.{Arrive}
-use Rattle.pj_laws.specs.declared.events.Out.{Out}
-use Rattle.pj_laws.specs.declared.events.Stop.{Stop}
-use Rattle.pj_laws.specs.declared.events.Stop.TheVariants.{Limit, NoMemory}
-use Rattle.pj_laws.specs.Plan.{Operator, Stream, Select, Project, Union, Join, Group, Node, Fed, after, hands, nowhere, operator_at}
-use Rattle.pj_laws.specs.History.{IsEntryAllowed, closed_after, nodes_from, reached_of, stream_node}
-use Rattle.pj_laws.specs.OneThread.{Turn, arrival_of}
+use Rattle.pj_events.specs.declared.events.Entry.{Entry}
+use Rattle.pj_events.specs.declared.events.Event.TheVariants.{Arrive}
+use Rattle.pj_events.specs.declared.events.Out.{Out}
+use Rattle.pj_events.specs.declared.events.Stop.{Stop}
+use Rattle.pj_events.specs.declared.events.Stop.TheVariants.{Limit, NoMemory}
+use Rattle.pj_events.specs.Plan.{Operator, Stream, Select, Project, Union, Join, Group, Node, Fed, after, hands, nowhere, operator_at}
+use Rattle.pj_events.specs.History.{IsEntryAllowed, closed_after, nodes_from, reached_of, stream_node}
+use Rattle.pj_events.specs.OneThread.{Turn, arrival_of}
 use Rattle.pj_laws.specs.Climb.{stepped}
-use Rattle.pj_laws.specs.Outcomes.{goes_beyond}
+use Rattle.pj_events.specs.Outcomes.{goes_beyond}
 use Rattle.pj_core.specs.declared.cell.Cell.{Cell}
 use Rattle.pj_core.specs.declared.cell.Work.{Work}
 use Rattle.pj_core.specs.Cells.{AreAs, Frame, IsAs, IsKind, Kind, StreamKind, cell_at, frame_at, frame_of, frames_in, kind_of, no_cell}

@@ -9,14 +9,14 @@ use Rattle.pj_plan.specs.Nodes.{inputs_of, is_join}
 use Rattle.pj_plan.specs.Sound.{IsSoundOperator}
 use Rattle.pj_scheme.specs.Derived.{inputs_schemes, schemes_of}
 use Rattle.pj_pattern.specs.declared.element.Element.TheVariants.{Tuple}
-use Rattle.pj_laws.specs.declared.events.Entry.{Entry}
-use Rattle.pj_laws.specs.declared.events.Event.TheVariants.{Idle, Sweep as Swept}
-use Rattle.pj_laws.specs.declared.events.Out.{Out}
-use Rattle.pj_laws.specs.declared.events.Stop.{Stop}
-use Rattle.pj_laws.specs.declared.events.Stop.TheVariants.{Limit, NoMemory}
-use Rattle.pj_laws.specs.Join.{JoinData, inputs}
-use Rattle.pj_laws.specs.History.{nodes_from, pending_in}
-use Rattle.pj_laws.specs.OneThread.{next_probe, plain}
+use Rattle.pj_events.specs.declared.events.Entry.{Entry}
+use Rattle.pj_events.specs.declared.events.Event.TheVariants.{Idle, Sweep as Swept}
+use Rattle.pj_events.specs.declared.events.Out.{Out}
+use Rattle.pj_events.specs.declared.events.Stop.{Stop}
+use Rattle.pj_events.specs.declared.events.Stop.TheVariants.{Limit, NoMemory}
+use Rattle.pj_events.specs.Join.{JoinData, inputs}
+use Rattle.pj_events.specs.History.{nodes_from, pending_in}
+use Rattle.pj_events.specs.OneThread.{next_probe, plain}
 use Rattle.pj_laws.proofs.NextProbe.{none-is-pending}
 use Rattle.pj_join.specs.declared.found.Found.{Found}
 use Rattle.pj_join.specs.Joins.{JoinView, join_data}

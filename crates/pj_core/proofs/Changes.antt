@@ -8,10 +8,10 @@ use Rattle.pj_core.specs.declared.cell.Cell.{Cell}
 use Rattle.pj_core.specs.declared.cell.Work.{Work}
 use Rattle.pj_value.specs.declared.values.Value.{Value}
 use Rattle.pj_pattern.specs.declared.element.Element.TheVariants.{Tuple}
-use Rattle.pj_laws.specs.declared.events.Stop.{Stop}
-use Rattle.pj_laws.specs.declared.events.Stop.TheVariants.{Limit, NoMemory}
-use Rattle.pj_laws.specs.declared.events.Out.{Out}
-use Rattle.pj_laws.specs.Outcomes.{elements_out}
+use Rattle.pj_events.specs.declared.events.Stop.{Stop}
+use Rattle.pj_events.specs.declared.events.Stop.TheVariants.{Limit, NoMemory}
+use Rattle.pj_events.specs.declared.events.Out.{Out}
+use Rattle.pj_events.specs.Outcomes.{elements_out}
 use Rattle.pj_join.specs.Joins.{found_of}
 use Rattle.pj_core.specs.Acts.{HasGivenAt, HasProbed, IsGiveStop, IsProbeStop, JoinProbed, JoinTook, TakesFirst, WorkTakes, first_pending, found_outs, with_work}
 use Rattle.pj_core.specs.Calls.{pending_kept}

@@ -7,14 +7,14 @@ use Rattle.std.proofs.Math.Seq.{map-set_same, take-length}
 use Rattle.pj_pattern.specs.declared.element.Element.{Element}
 use Rattle.pj_value.specs.declared.values.Value.{Value}
 use Rattle.pj_pattern.specs.declared.element.Element.TheVariants.{Tuple, Punct}
-use Rattle.pj_laws.specs.Outcomes.{elements_out}
-use Rattle.pj_laws.specs.declared.events.Out.TheVariants.{Tuple as RowOut, Punct as PunctOut, Purged}
-use Rattle.pj_laws.specs.declared.events.Out.{Out}
-use Rattle.pj_laws.specs.declared.events.Stop.{Stop}
-use Rattle.pj_laws.specs.declared.events.Stop.TheVariants.{Limit, NoMemory}
-use Rattle.pj_laws.specs.Plan.{Operator, Stream, Select, Project, Union, Join, Group, Node, Comes, after, hands, nowhere, operator_at}
-use Rattle.pj_laws.specs.History.{out_of}
-use Rattle.pj_laws.specs.Outcomes.{Arrival, Climb, Beyond, Below, Level, arriving, beyond_of, climb, climb_each, counts, is_full, passed, way_up}
+use Rattle.pj_events.specs.Outcomes.{elements_out}
+use Rattle.pj_events.specs.declared.events.Out.TheVariants.{Tuple as RowOut, Punct as PunctOut, Purged}
+use Rattle.pj_events.specs.declared.events.Out.{Out}
+use Rattle.pj_events.specs.declared.events.Stop.{Stop}
+use Rattle.pj_events.specs.declared.events.Stop.TheVariants.{Limit, NoMemory}
+use Rattle.pj_events.specs.Plan.{Operator, Stream, Select, Project, Union, Join, Group, Node, Comes, after, hands, nowhere, operator_at}
+use Rattle.pj_events.specs.History.{out_of}
+use Rattle.pj_events.specs.Outcomes.{Arrival, Climb, Beyond, Below, Level, arriving, beyond_of, climb, climb_each, counts, is_full, passed, way_up}
 use Rattle.pj_laws.specs.Climb.{Above, Climbed, ClimbsOn, IsTree, above, climbed, climbed_none, in_two, node_after, node_hands, with_brought}
 use Rattle.pj_laws.specs.ClimbLimits.{LevelsClimb, climb_then, level_at, reached_with}
 use Rattle.pj_laws.proofs.ClimbingParts.{climbs-on}

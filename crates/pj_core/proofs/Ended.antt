@@ -2,7 +2,7 @@
 use Rattle.std.proofs.Common.{ℕ, suc, ◌+◌, Bool, true, false, cond, ◌||◌, List, [], ◌∷◌, ◌++◌, ◌≡◌, filter, length, reverse, eqb, refl, sym, ap, ◌∙◌, arith, length-append}
 use Rattle.std.proofs.lemmas.List.{reverse-append}
 use Rattle.std.proofs.lemmas.List.Elements.{filter-append}
-use Rattle.pj_laws.specs.Join.{has, upto_from}
+use Rattle.pj_events.specs.Join.{has, upto_from}
 use Rattle.pj_core.specs.Calls.{ended_of}
 use Rattle.pj_laws.proofs.Upto.{upto-push}
 

@@ -5,14 +5,14 @@ use Rattle.std.proofs.lemmas.Bool.{cases_eq}
 use Rattle.std.proofs.lemmas.List.{get_or-map, get_or-set_other, get_or-set_same, set-get_or}
 use Rattle.std.proofs.Math.ListN as lists
 use Rattle.pj_pattern.specs.declared.element.Element.{Element}
-use Rattle.pj_laws.specs.declared.events.Entry.{Entry}
-use Rattle.pj_laws.specs.declared.events.Event.{Event}
-use Rattle.pj_laws.specs.declared.events.Out.{Out}
-use Rattle.pj_laws.specs.Join.{upto_from}
-use Rattle.pj_laws.specs.Plan.{Operator, Node, Local, after, hands, nowhere, operator_at}
-use Rattle.pj_laws.specs.History.{IsEntryAllowed, closed_after, halted_after, nodes_from, notes_of, out_of, reached_of, state_in, stop_after}
-use Rattle.pj_laws.specs.Outcomes.{Level, arrivals_at, beyond_of, climb, goes_beyond, origin_of, stored_at, way_up}
-use Rattle.pj_laws.specs.CoreKept.{CoreKept}
+use Rattle.pj_events.specs.declared.events.Entry.{Entry}
+use Rattle.pj_events.specs.declared.events.Event.{Event}
+use Rattle.pj_events.specs.declared.events.Out.{Out}
+use Rattle.pj_events.specs.Join.{upto_from}
+use Rattle.pj_events.specs.Plan.{Operator, Node, Local, after, hands, nowhere, operator_at}
+use Rattle.pj_events.specs.History.{IsEntryAllowed, closed_after, halted_after, nodes_from, notes_of, out_of, reached_of, state_in, stop_after}
+use Rattle.pj_events.specs.Outcomes.{Level, arrivals_at, beyond_of, climb, goes_beyond, origin_of, stored_at, way_up}
+use Rattle.pj_events.specs.CoreKept.{CoreKept}
 use Rattle.pj_laws.specs.Climb.{Climbed, climb_of, climbed_by, climbed_where, local_of, stepped}
 use Rattle.pj_laws.specs.ClimbKept.{handed_by, undrained_with}
 use Rattle.pj_laws.specs.ClimbLimits.{begun_by, begun_where}

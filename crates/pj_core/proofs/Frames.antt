@@ -19,10 +19,10 @@ use Rattle.pj_shape.specs.declared.groups.Agg.{Agg}
 use Rattle.pj_shape.specs.declared.groups.Agg.TheVariants.{Count, Sum, Min, Max}
 use Rattle.pj_group.specs.Steps.{Fits, IsInRange}
 use Rattle.pj_scheme.specs.Derived.{schemes_of}
-use Rattle.pj_laws.specs.Join.{JoinData, JoinState, start}
-use Rattle.pj_laws.specs.Plan.{Operator, Stream, Select, Project, Union, Join, Group, Node, Local, Comes, Fed, Own, after, after_all, operator_at}
-use Rattle.pj_laws.specs.declared.events.Entry.{Entry}
-use Rattle.pj_laws.specs.History.{nodes_from}
+use Rattle.pj_events.specs.Join.{JoinData, JoinState, start}
+use Rattle.pj_events.specs.Plan.{Operator, Stream, Select, Project, Union, Join, Group, Node, Local, Comes, Fed, Own, after, after_all, operator_at}
+use Rattle.pj_events.specs.declared.events.Entry.{Entry}
+use Rattle.pj_events.specs.History.{nodes_from}
 use Rattle.pj_laws.specs.Climb.{Above, above}
 use Rattle.pj_laws.proofs.Nodes.{operator-from}
 use Rattle.pj_core.specs.declared.cell.Cell.{Cell}

@@ -2,9 +2,9 @@
 use Rattle.std.proofs.Common.{ℕ, zero, suc, ◌+◌, ◌<◌, ◌≤◌, Bool, true, false, cond, not, ◌&&◌, ◌||◌, List, [], ◌∷◌, ◌++◌, ◌≡◌, Option, Some, None, map, filter, length, eqb, refl, sym, ap, ◌∙◌, subst, arith, append-nil}
 use Rattle.std.proofs.lemmas.Bool.{eqb-true, false≢true}
 use Rattle.pj_value.specs.declared.values.Value.{Value}
-use Rattle.pj_laws.specs.declared.events.Out.{Out}
-use Rattle.pj_laws.specs.Join.{Give, PunctAt, Step, Sweep, Take, TupleAt, has, is_held, joined, results, run, start}
-use Rattle.pj_laws.specs.KeptState.{kept_ripe, swept, without}
+use Rattle.pj_events.specs.declared.events.Out.{Out}
+use Rattle.pj_events.specs.Join.{Give, PunctAt, Step, Sweep, Take, TupleAt, has, is_held, joined, results, run, start}
+use Rattle.pj_events.specs.KeptState.{kept_ripe, swept, without}
 use Rattle.pj_join.specs.declared.found.Found.{Found}
 use Rattle.pj_join.specs.Handed.{JoinProbes, StandsProbed, behind_probe, rows_probed}
 use Rattle.pj_join.specs.Joins.{IsTaken, JoinTakes, JoinView, StandsFor as JoinStandsFor, StandsTaken, after}

@@ -3,18 +3,18 @@ use Rattle.std.proofs.Common.{ℕ, zero, suc, ◌+◌, ◌*◌, ◌^◌, ◌<◌
 use Rattle.std.proofs.lemmas.List.Sums.{sum-map, sum_by-cons}
 use Rattle.std.proofs.lemmas.List.{get_or-map, length-map}
 use Rattle.pj_plan.specs.Nodes.{streams_of}
-use Rattle.pj_laws.specs.declared.events.Entry.{Entry}
-use Rattle.pj_laws.specs.declared.events.Event.TheVariants.{Look}
-use Rattle.pj_laws.specs.declared.events.Look.{Look as TheLook}
-use Rattle.pj_laws.specs.declared.events.Out.{Out}
-use Rattle.pj_laws.specs.declared.events.Stop.{Stop}
-use Rattle.pj_laws.specs.Join.{upto_from}
-use Rattle.pj_laws.specs.KeptState.{lacking}
-use Rattle.pj_laws.specs.Plan.{Node, Operator, Stream, Select, Project, Union, Join, Group, operator_at}
-use Rattle.pj_laws.specs.History.{nodes_from, pending_in, reached_of, state_in}
-use Rattle.pj_laws.specs.Outcomes.{peak_of}
-use Rattle.pj_laws.specs.OneThread.{plain}
-use Rattle.pj_laws.specs.CoreKept.{CoreKept, KeptOperator, NothingKept, UnionKept, JoinKept, GroupKept, kept_in}
+use Rattle.pj_events.specs.declared.events.Entry.{Entry}
+use Rattle.pj_events.specs.declared.events.Event.TheVariants.{Look}
+use Rattle.pj_events.specs.declared.events.Look.{Look as TheLook}
+use Rattle.pj_events.specs.declared.events.Out.{Out}
+use Rattle.pj_events.specs.declared.events.Stop.{Stop}
+use Rattle.pj_events.specs.Join.{upto_from}
+use Rattle.pj_events.specs.KeptState.{lacking}
+use Rattle.pj_events.specs.Plan.{Node, Operator, Stream, Select, Project, Union, Join, Group, operator_at}
+use Rattle.pj_events.specs.History.{nodes_from, pending_in, reached_of, state_in}
+use Rattle.pj_events.specs.Outcomes.{peak_of}
+use Rattle.pj_events.specs.OneThread.{plain}
+use Rattle.pj_events.specs.CoreKept.{CoreKept, KeptOperator, NothingKept, UnionKept, JoinKept, GroupKept, kept_in}
 use Rattle.pj_laws.proofs.Upto.{get_or-upto}
 use Rattle.pj_core.specs.declared.cell.Cell.{Cell}
 use Rattle.pj_core.specs.declared.cell.Work.{Work}

@@ -2,11 +2,11 @@
 use Rattle.std.proofs.Common.{ℕ, zero, suc, ◌+◌, ◌^◌, ◌<◌, ◌≤◌, Bool, true, false, cond, List, [], ◌∷◌, ◌++◌, ◌≡◌, None, map, length, get_or, drop, refl, sym, ap, ap₂, ◌∙◌, subst, inl, inr, arith, append_assoc, append-nil}
 use Rattle.std.proofs.lemmas.Bool.{cases_lt, false≢true}
 use Rattle.std.proofs.lemmas.List.{drop-drop, drop_all, drop_more, ext_get_or, get_or-drop, get_or-map, get_or_at, length-map, length_push}
-use Rattle.pj_laws.specs.declared.events.Out.{Out}
-use Rattle.pj_laws.specs.Join.{upto_from}
-use Rattle.pj_laws.specs.Plan.{Node}
-use Rattle.pj_laws.specs.CoreKept.{KeptOperator, kept_in}
-use Rattle.pj_laws.specs.Outcomes.{stored_at}
+use Rattle.pj_events.specs.declared.events.Out.{Out}
+use Rattle.pj_events.specs.Join.{upto_from}
+use Rattle.pj_events.specs.Plan.{Node}
+use Rattle.pj_events.specs.CoreKept.{KeptOperator, kept_in}
+use Rattle.pj_events.specs.Outcomes.{stored_at}
 use Rattle.pj_laws.proofs.Upto.{get_or-upto, length-upto}
 use Rattle.pj_plan.specs.Nodes.{is_join}
 use Rattle.pj_core.specs.Calls.{IsFresh}
@@ -21,8 +21,8 @@ use Rattle.pj_plan.specs.declared.node.PlanNode.{PlanNode}
 use Rattle.pj_plan.specs.Canonical.{no_node, node_at, node_schema}
 use Rattle.pj_plan.specs.Sound.{IsSoundOperator, IsSoundPlan}
 use Rattle.pj_scheme.specs.Derived.{inputs_schemes, schemes_of}
-use Rattle.pj_laws.specs.Join.{AreCertified, JoinData}
-use Rattle.pj_laws.specs.Plan.{operator_at}
+use Rattle.pj_events.specs.Join.{AreCertified, JoinData}
+use Rattle.pj_events.specs.Plan.{operator_at}
 use Rattle.pj_laws.specs.HistoryLaws.{AllAreCertified, Certified}
 use Rattle.pj_join.specs.Joins.{join_data}
 use Rattle.pj_core.specs.declared.cell.Cell.{Cell}

@@ -1,15 +1,15 @@
 -- Entries that a core makes one after the other, and how it stops among them.
 use Rattle.std.proofs.Common.{ℕ, Bool, true, false, cond, List, [], ◌∷◌, ◌++◌, ◌≡◌, None, refl, sym, ap, ◌∙◌, subst, append_assoc}
 use Rattle.std.proofs.lemmas.List.{append-nil}
-use Rattle.pj_laws.specs.declared.events.Entry.{Entry}
-use Rattle.pj_laws.specs.declared.events.Event.TheVariants.{Stopped, Sweep as Swept}
-use Rattle.pj_laws.specs.declared.events.Stop.{Stop}
-use Rattle.pj_laws.specs.declared.events.Stop.TheVariants.{Limit, NoMemory}
-use Rattle.pj_laws.specs.Plan.{Node}
-use Rattle.pj_laws.specs.History.{nodes_from}
-use Rattle.pj_laws.specs.Limits.{BeginsBeyond, StaysWithin, StopsAt}
-use Rattle.pj_laws.specs.Outcomes.{goes_beyond}
-use Rattle.pj_laws.specs.OneThread.{places_from, plain, probes, sweeps_at}
+use Rattle.pj_events.specs.declared.events.Entry.{Entry}
+use Rattle.pj_events.specs.declared.events.Event.TheVariants.{Stopped, Sweep as Swept}
+use Rattle.pj_events.specs.declared.events.Stop.{Stop}
+use Rattle.pj_events.specs.declared.events.Stop.TheVariants.{Limit, NoMemory}
+use Rattle.pj_events.specs.Plan.{Node}
+use Rattle.pj_events.specs.History.{nodes_from}
+use Rattle.pj_events.specs.Limits.{BeginsBeyond, StaysWithin, StopsAt}
+use Rattle.pj_events.specs.Outcomes.{goes_beyond}
+use Rattle.pj_events.specs.OneThread.{places_from, plain, probes, sweeps_at}
 use Rattle.pj_laws.proofs.Histories.{nodes-append}
 use Rattle.pj_laws.proofs.Limits.{within-append}
 use Rattle.pj_core.specs.Plans.{RunPlan, nodes_of}

@@ -7,12 +7,12 @@ use Rattle.pj_value.specs.declared.values.Value.{Value}
 use Rattle.pj_pattern.specs.Patterns.{Pattern}
 use Rattle.pj_pattern.specs.declared.element.Element.{Element}
 use Rattle.pj_pattern.specs.declared.element.Element.TheVariants.{Tuple, Punct}
-use Rattle.pj_laws.specs.Join.{JoinData, JoinState, PunctAt, TupleAt, goes_out, hands_up, has, is_held, new_punct, new_tuple, step, widened}
-use Rattle.pj_laws.specs.KeptState.{KeptState, kept_of, kept_step, lacking}
-use Rattle.pj_laws.specs.Operators.{UnionState, group_after, group_hands, project_hands, select_hands, union_after, union_hands}
-use Rattle.pj_laws.specs.Plan.{Comes, Group, Join, Operator, Project, Select, Stream, Union, after as after_local, hands, join_step}
-use Rattle.pj_laws.specs.CoreKept.{GroupKept, JoinKept, UnionKept}
-use Rattle.pj_laws.specs.Tables.{table_of}
+use Rattle.pj_events.specs.Join.{JoinData, JoinState, PunctAt, TupleAt, goes_out, hands_up, has, is_held, new_punct, new_tuple, step, widened}
+use Rattle.pj_events.specs.KeptState.{KeptState, kept_of, kept_step, lacking}
+use Rattle.pj_events.specs.Operators.{UnionState, group_after, group_hands, project_hands, select_hands, union_after, union_hands}
+use Rattle.pj_events.specs.Plan.{Comes, Group, Join, Operator, Project, Select, Stream, Union, after as after_local, hands, join_step}
+use Rattle.pj_events.specs.CoreKept.{GroupKept, JoinKept, UnionKept}
+use Rattle.pj_events.specs.Tables.{table_of}
 use Rattle.pj_flow.specs.Unions.{UnionView}
 use Rattle.pj_group.specs.Tables.{GroupView, StandsFor as HoldsGroup}
 use Rattle.pj_join.specs.Joins.{JoinView, after}

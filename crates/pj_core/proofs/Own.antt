@@ -4,23 +4,23 @@ use Rattle.std.specs.List.{list_all}
 use Rattle.pj_value.specs.declared.values.Value.{Value}
 use Rattle.pj_pattern.specs.declared.element.Element.{Element}
 use Rattle.pj_pattern.specs.declared.element.Element.TheVariants.{Tuple, Punct}
-use Rattle.pj_laws.specs.declared.events.Entry.{Entry}
-use Rattle.pj_laws.specs.declared.events.Event.{Event}
-use Rattle.pj_laws.specs.declared.events.Out.{Out}
-use Rattle.pj_laws.specs.Join.{AreCertified, AreLegalSteps, IsAllowed, JoinData, JoinState, PunctAt, Step, Sweep, Take, TupleAt, Give, covered, hands_up, has, inputs, is_held, joined, kept, need_of, older, older_puncts, results, ripe, run, start, step}
-use Rattle.pj_laws.specs.KeptState.{KeptState, kept_of, kept_ripe, kept_step, lacking, swept}
-use Rattle.pj_laws.specs.Plan.{Act, IsOwn, IsStepAllowed, MayAct, Operator, Stream, Select, Project, Union, Join, Group, Node, Own, after as after_local, hands, operator_at}
-use Rattle.pj_laws.specs.declared.events.Event.TheVariants.{Take as Taken, Give as Given, Sweep as Swept}
-use Rattle.pj_laws.specs.History.{IsEntryAllowed, IsLegal, IsOn, data_in, nodes_from, reached_of, state_in}
+use Rattle.pj_events.specs.declared.events.Entry.{Entry}
+use Rattle.pj_events.specs.declared.events.Event.{Event}
+use Rattle.pj_events.specs.declared.events.Out.{Out}
+use Rattle.pj_events.specs.Join.{AreCertified, AreLegalSteps, IsAllowed, JoinData, JoinState, PunctAt, Step, Sweep, Take, TupleAt, Give, covered, hands_up, has, inputs, is_held, joined, kept, need_of, older, older_puncts, results, ripe, run, start, step}
+use Rattle.pj_events.specs.KeptState.{KeptState, kept_of, kept_ripe, kept_step, lacking, swept}
+use Rattle.pj_events.specs.Plan.{Act, IsOwn, IsStepAllowed, MayAct, Operator, Stream, Select, Project, Union, Join, Group, Node, Own, after as after_local, hands, operator_at}
+use Rattle.pj_events.specs.declared.events.Event.TheVariants.{Take as Taken, Give as Given, Sweep as Swept}
+use Rattle.pj_events.specs.History.{IsEntryAllowed, IsLegal, IsOn, data_in, nodes_from, reached_of, state_in}
 use Rattle.pj_laws.specs.HistoryLaws.{Certified}
-use Rattle.pj_laws.specs.OneThread.{plain}
+use Rattle.pj_events.specs.OneThread.{plain}
 use Rattle.pj_laws.proofs.Tickets.{lacking-come, lacking-none}
 use Rattle.pj_join.specs.Joins.{IsTaken}
 use Rattle.pj_core.specs.Acts.{with_work}
 use Rattle.pj_core.proofs.Planned.{nodes-long}
-use Rattle.pj_laws.specs.CoreKept.{JoinKept, kept_in}
+use Rattle.pj_events.specs.CoreKept.{JoinKept, kept_in}
 use Rattle.pj_laws.specs.Climb.{Climbed, climbed_where, local_of}
-use Rattle.pj_laws.specs.Outcomes.{origin_of, results_of}
+use Rattle.pj_events.specs.Outcomes.{origin_of, results_of}
 use Rattle.pj_laws.proofs.ClimbingEvents.{events-climb, leaves-nodes}
 use Rattle.pj_laws.proofs.HistoryAnswers.{adds-entry, grows-legally, trace-adds-notes}
 use Rattle.pj_laws.proofs.Stand.{lacking-cons, low-kept}

@@ -10,12 +10,12 @@ use Rattle.pj_plan.specs.declared.node.PlanNode.{PlanNode}
 use Rattle.pj_plan.specs.Nodes.{inputs_of, is_join}
 use Rattle.pj_plan.specs.Canonical.{node_at}
 use Rattle.pj_scheme.specs.Derived.{schemes_of}
-use Rattle.pj_laws.specs.declared.events.Entry.{Entry}
-use Rattle.pj_laws.specs.declared.events.Stop.{Stop}
-use Rattle.pj_laws.specs.Join.{upto_from}
-use Rattle.pj_laws.specs.Plan.{ArePlanned, IsWellMade, Node, node_width}
-use Rattle.pj_laws.specs.History.{nodes_from}
-use Rattle.pj_laws.specs.OneThread.{Place, places_from, places_in, sweeps_at}
+use Rattle.pj_events.specs.declared.events.Entry.{Entry}
+use Rattle.pj_events.specs.declared.events.Stop.{Stop}
+use Rattle.pj_events.specs.Join.{upto_from}
+use Rattle.pj_events.specs.Plan.{ArePlanned, IsWellMade, Node, node_width}
+use Rattle.pj_events.specs.History.{nodes_from}
+use Rattle.pj_events.specs.OneThread.{Place, places_from, places_in, sweeps_at}
 use Rattle.pj_laws.proofs.SettledRun.{sweeps-append}
 use Rattle.pj_laws.proofs.SweptRun.{places-same}
 use Rattle.pj_core.specs.Plans.{RunPlan, certs_behind, node_of, nodes_with, operator_of}

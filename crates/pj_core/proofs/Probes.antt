@@ -5,19 +5,19 @@ use Rattle.std.proofs.lemmas.List.{get_or-set_same, get_or-map, length-set}
 use Rattle.pj_value.specs.declared.values.Value.{Value}
 use Rattle.pj_pattern.specs.declared.element.Element.{Element}
 use Rattle.pj_pattern.specs.declared.element.Element.TheVariants.{Tuple}
-use Rattle.pj_laws.specs.declared.events.Entry.{Entry}
-use Rattle.pj_laws.specs.declared.events.Event.TheVariants.{Take as Taken, Give as Given, Stopped}
-use Rattle.pj_laws.specs.declared.events.Out.{Out}
-use Rattle.pj_laws.specs.declared.events.Stop.{Stop}
-use Rattle.pj_laws.specs.declared.events.Stop.TheVariants.{Limit, NoMemory}
-use Rattle.pj_laws.specs.Join.{Give, JoinState, Take, has, joined, results}
-use Rattle.pj_laws.specs.KeptState.{KeptState, kept_of, lacking, without}
-use Rattle.pj_laws.specs.Plan.{Node, Operator, operator_at}
-use Rattle.pj_laws.specs.History.{nodes_from, state_in}
-use Rattle.pj_laws.specs.Limits.{StopsAt}
-use Rattle.pj_laws.specs.Outcomes.{elements_out, goes_beyond, results_of}
-use Rattle.pj_laws.specs.OneThread.{Pending, first_of, pending_at, plain, probes_at}
-use Rattle.pj_laws.specs.CoreKept.{NothingKept}
+use Rattle.pj_events.specs.declared.events.Entry.{Entry}
+use Rattle.pj_events.specs.declared.events.Event.TheVariants.{Take as Taken, Give as Given, Stopped}
+use Rattle.pj_events.specs.declared.events.Out.{Out}
+use Rattle.pj_events.specs.declared.events.Stop.{Stop}
+use Rattle.pj_events.specs.declared.events.Stop.TheVariants.{Limit, NoMemory}
+use Rattle.pj_events.specs.Join.{Give, JoinState, Take, has, joined, results}
+use Rattle.pj_events.specs.KeptState.{KeptState, kept_of, lacking, without}
+use Rattle.pj_events.specs.Plan.{Node, Operator, operator_at}
+use Rattle.pj_events.specs.History.{nodes_from, state_in}
+use Rattle.pj_events.specs.Limits.{StopsAt}
+use Rattle.pj_events.specs.Outcomes.{elements_out, goes_beyond, results_of}
+use Rattle.pj_events.specs.OneThread.{Pending, first_of, pending_at, plain, probes_at}
+use Rattle.pj_events.specs.CoreKept.{NothingKept}
 use Rattle.pj_laws.proofs.Probes.{has-in}
 use Rattle.pj_laws.proofs.Tickets.{AreAscending, first-least, pending-ascends}
 use Rattle.pj_join.specs.declared.found.Found.{Found}

@@ -12,7 +12,7 @@ use Rattle.pj_plan.specs.declared.node.Outline.{Outline}
 use Rattle.pj_plan.specs.declared.node.PlanNode.{PlanNode}
 use Rattle.pj_plan.specs.declared.statement.Stated.{Stated}
 use Rattle.pj_plan.specs.Built.{built}
-use Rattle.pj_laws.specs.Join.{AreCertified, CertEntry, ClassCol, JoinData, entry_of}
+use Rattle.pj_events.specs.Join.{AreCertified, CertEntry, ClassCol, JoinData, entry_of}
 use Rattle.pj_laws.specs.HistoryLaws.{AllAreCertified}
 use Rattle.pj_join.specs.Joins.{join_data}
 use Rattle.pj_core.specs.Plans.{nodes_of, run_plan}

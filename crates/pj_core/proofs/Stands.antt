@@ -11,16 +11,16 @@ use Rattle.pj_core.specs.Parts.{plan_node}
 use Rattle.pj_plan.specs.Sound.{IsSoundOperator, IsSoundPlan}
 use Rattle.pj_scheme.specs.Derived.{inputs_schemes, schemes_of}
 use Rattle.pj_pattern.specs.declared.element.Element.{Element}
-use Rattle.pj_laws.specs.declared.events.Entry.{Entry}
-use Rattle.pj_laws.specs.declared.events.Event.{Event}
-use Rattle.pj_laws.specs.declared.events.Out.{Out}
-use Rattle.pj_laws.specs.declared.events.Stop.{Stop}
-use Rattle.pj_laws.specs.Join.{AreLegalSteps, JoinData, JoinState, Step, inputs, run, start, upto_from}
-use Rattle.pj_laws.specs.Plan.{Operator, Stream, Select, Project, Union, Join, Group, Node, Local, after, hands, nowhere, operator_at}
-use Rattle.pj_laws.specs.History.{IsEntryAllowed, IsLegal, closed_after, halted_after, nodes_from, out_of, reached_of, state_in, stop_after}
-use Rattle.pj_laws.specs.Outcomes.{Arrival, arrivals_at, beyond_of, climb, goes_beyond, join_steps_of, origin_of, stored_at, way_up}
-use Rattle.pj_laws.specs.CoreKept.{CoreKept, KeptOperator, NothingKept, core_kept, kept_in}
-use Rattle.pj_laws.specs.KeptState.{kept_of}
+use Rattle.pj_events.specs.declared.events.Entry.{Entry}
+use Rattle.pj_events.specs.declared.events.Event.{Event}
+use Rattle.pj_events.specs.declared.events.Out.{Out}
+use Rattle.pj_events.specs.declared.events.Stop.{Stop}
+use Rattle.pj_events.specs.Join.{AreLegalSteps, JoinData, JoinState, Step, inputs, run, start, upto_from}
+use Rattle.pj_events.specs.Plan.{Operator, Stream, Select, Project, Union, Join, Group, Node, Local, after, hands, nowhere, operator_at}
+use Rattle.pj_events.specs.History.{IsEntryAllowed, IsLegal, closed_after, halted_after, nodes_from, out_of, reached_of, state_in, stop_after}
+use Rattle.pj_events.specs.Outcomes.{Arrival, arrivals_at, beyond_of, climb, goes_beyond, join_steps_of, origin_of, stored_at, way_up}
+use Rattle.pj_events.specs.CoreKept.{CoreKept, KeptOperator, NothingKept, core_kept, kept_in}
+use Rattle.pj_events.specs.KeptState.{kept_of}
 use Rattle.pj_laws.specs.Climb.{Climbed, HasOneTop, IsTree, above, climb_of, climbed, climbed_by, climbed_where, local_of, stepped}
 use Rattle.pj_laws.specs.ClimbKept.{counted, handed_by, kept_with, raised, undrained_with}
 use Rattle.pj_laws.proofs.ClimbingKept.{adds-climb}

@@ -2,21 +2,21 @@
 use Rattle.std.proofs.Common.{ℕ, zero, suc, ◌+◌, ◌<◌, max, Bool, true, false, cond, List, [], ◌∷◌, ◌++◌, ◌≡◌, map, length, sum, get_or, Option, Some, None, refl, sym, ap, ap₂, ◌∙◌, subst, inl, arith, append-nil}
 use Rattle.std.proofs.lemmas.List.{length-map, map-append}
 use Rattle.pj_plan.specs.Nodes.{is_join, streams_of}
-use Rattle.pj_laws.specs.declared.events.Entry.{Entry}
-use Rattle.pj_laws.specs.declared.events.Event.{Event}
-use Rattle.pj_laws.specs.declared.events.Event.TheVariants.{Drain, Look, Stopped, Idle}
-use Rattle.pj_laws.specs.declared.events.Look.{Look as TheLook}
-use Rattle.pj_laws.specs.declared.events.Out.{Out}
-use Rattle.pj_laws.specs.declared.events.Stop.{Stop}
-use Rattle.pj_laws.specs.Join.{start}
-use Rattle.pj_laws.specs.Plan.{Node, Operator, Stream, Select, Project, Union, Join, Group, Pass, operator_at}
-use Rattle.pj_laws.specs.History.{IsEntryAllowed, IsOn, Reached, closed_after, gained, halted_after, next, nodes_from, notes_of, out_of, pending_in, reached_of, root_of, state_in, step_of, stop_after, undrained_after}
-use Rattle.pj_laws.specs.Outcomes.{peak_of, stored_at}
-use Rattle.pj_laws.specs.OneThread.{next_probe, plain}
-use Rattle.pj_laws.specs.CoreKept.{CoreKept, KeptOperator, NothingKept, UnionKept, JoinKept, GroupKept, core_kept, kept_in}
+use Rattle.pj_events.specs.declared.events.Entry.{Entry}
+use Rattle.pj_events.specs.declared.events.Event.{Event}
+use Rattle.pj_events.specs.declared.events.Event.TheVariants.{Drain, Look, Stopped, Idle}
+use Rattle.pj_events.specs.declared.events.Look.{Look as TheLook}
+use Rattle.pj_events.specs.declared.events.Out.{Out}
+use Rattle.pj_events.specs.declared.events.Stop.{Stop}
+use Rattle.pj_events.specs.Join.{start}
+use Rattle.pj_events.specs.Plan.{Node, Operator, Stream, Select, Project, Union, Join, Group, Pass, operator_at}
+use Rattle.pj_events.specs.History.{IsEntryAllowed, IsOn, Reached, closed_after, gained, halted_after, next, nodes_from, notes_of, out_of, pending_in, reached_of, root_of, state_in, step_of, stop_after, undrained_after}
+use Rattle.pj_events.specs.Outcomes.{peak_of, stored_at}
+use Rattle.pj_events.specs.OneThread.{next_probe, plain}
+use Rattle.pj_events.specs.CoreKept.{CoreKept, KeptOperator, NothingKept, UnionKept, JoinKept, GroupKept, core_kept, kept_in}
 use Rattle.pj_laws.specs.Climb.{Climbed, climb_of, local_of}
 use Rattle.pj_laws.specs.ClimbKept.{handed_by, undrained_with}
-use Rattle.pj_laws.specs.KeptState.{lacking}
+use Rattle.pj_events.specs.KeptState.{lacking}
 use Rattle.pj_laws.proofs.HistoryAnswers.{adds-entry, grows-legally, trace-adds-notes}
 use Rattle.pj_laws.proofs.Nodes.{empty-none, quiet}
 use Rattle.pj_core.specs.declared.cell.Cell.{Cell}
@@ -33,7 +33,7 @@ use Rattle.pj_core.proofs.Stands.{Goes, are, kept-is, noted, stored-is}
 pub silent : (trace : Bool) (nodes : List Node) (event : Event) → step_of nodes event ≡ Pass → notes_of nodes event ≡ [] → gained trace nodes event ≡ []
 silent trace nodes event e n =
     ap₂ (λ (notes : List Out) (es : List _). cond trace notes [] ++ map out_of es) n
-    (ap (λ (s : _). get_or (Rattle.pj_laws.specs.Plan.batches s [] nodes) (root_of nodes) []) e ∙ (quiet Pass [] nodes empty-none (λ k le lt. refl)).1 (root_of nodes))
+    (ap (λ (s : _). get_or (Rattle.pj_events.specs.Plan.batches s [] nodes) (root_of nodes) []) e ∙ (quiet Pass [] nodes empty-none (λ k le lt. refl)).1 (root_of nodes))
     ∙ none trace
   where
     none : (b : Bool) → (cond b [] [] ++ map out_of []) ≡ []
@@ -136,10 +136,10 @@ module _ (plan : RunPlan) (limit : ℕ) (cells : List Cell) (made : IsMadeOf pla
       })
     where
       still : Climbed
-      still = record { nodes = nodes; brought = []; left = record { from = Rattle.pj_laws.specs.Outcomes.origin_of nodes event; elements = [] } }
+      still = record { nodes = nodes; brought = []; left = record { from = Rattle.pj_events.specs.Outcomes.origin_of nodes event; elements = [] } }
 
       climb-is : climb_of nodes event ≡ still
-      climb-is = ap (Rattle.pj_laws.specs.Climb.climbed_where nodes (Rattle.pj_laws.specs.Outcomes.origin_of nodes event)) local
+      climb-is = ap (Rattle.pj_laws.specs.Climb.climbed_where nodes (Rattle.pj_events.specs.Outcomes.origin_of nodes event)) local
 
       plus : (n : ℕ) → n ≡ n + 0
       plus n = omega arith
@@ -151,7 +151,7 @@ module _ (plan : RunPlan) (limit : ℕ) (cells : List Cell) (made : IsMadeOf pla
   pub nothing-out : (event : Event) → notes_of nodes event ≡ [] → local_of event ≡ None → handed_by plan.trace nodes event ≡ []
   nothing-out event none local =
       ap₂ (λ (notes : List Out) (k : Climbed). cond plan.trace notes [] ++ map out_of k.left.elements) none
-      (ap (Rattle.pj_laws.specs.Climb.climbed_where nodes (Rattle.pj_laws.specs.Outcomes.origin_of nodes event)) local)
+      (ap (Rattle.pj_laws.specs.Climb.climbed_where nodes (Rattle.pj_events.specs.Outcomes.origin_of nodes event)) local)
       ∙ empty plan.trace
     where
       empty : (b : Bool) → (cond b [] [] ++ map out_of []) ≡ []

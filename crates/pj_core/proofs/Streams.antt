@@ -10,12 +10,12 @@ use Rattle.pj_plan.specs.Nodes.{is_stream, numbers_from, streams_of}
 use Rattle.pj_plan.specs.Canonical.{no_node, node_schema}
 use Rattle.pj_pattern.specs.Patterns.{Pattern}
 use Rattle.pj_pattern.specs.declared.element.Element.TheVariants.{Punct}
-use Rattle.pj_laws.specs.Patterns.{all_wild}
+use Rattle.pj_events.specs.Patterns.{all_wild}
 use Rattle.pj_core.specs.Parts.{closing_in, plan_node}
 use Rattle.pj_scheme.specs.Derived.{schemes_of}
-use Rattle.pj_laws.specs.declared.events.Entry.{Entry}
-use Rattle.pj_laws.specs.Plan.{Node}
-use Rattle.pj_laws.specs.History.{is_stream as is_stream_in, nodes_by, nodes_from, stream_node, streams_from, streams_of as streams_among}
+use Rattle.pj_events.specs.declared.events.Entry.{Entry}
+use Rattle.pj_events.specs.Plan.{Node}
+use Rattle.pj_events.specs.History.{is_stream as is_stream_in, nodes_by, nodes_from, stream_node, streams_from, streams_of as streams_among}
 use Rattle.pj_laws.proofs.Steps.{streams-same}
 use Rattle.pj_core.specs.Plans.{RunPlan, certs_behind, nodes_of, nodes_with, operator_of, schema_in, stream_columns, streams_in}
 

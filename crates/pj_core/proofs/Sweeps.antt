@@ -7,18 +7,18 @@ use Rattle.pj_pattern.specs.declared.element.Element.{Element}
 use Rattle.pj_pattern.specs.declared.element.Element.TheVariants.{Punct}
 use Rattle.pj_plan.specs.Canonical.{node_at}
 use Rattle.pj_plan.specs.Nodes.{inputs_of, is_join}
-use Rattle.pj_laws.specs.declared.events.Entry.{Entry}
-use Rattle.pj_laws.specs.declared.events.Event.TheVariants.{Sweep as Swept}
-use Rattle.pj_laws.specs.declared.events.Out.{Out}
-use Rattle.pj_laws.specs.declared.events.Out.TheVariants.{Purged}
-use Rattle.pj_laws.specs.declared.events.Stop.{Stop}
-use Rattle.pj_laws.specs.declared.events.Stop.TheVariants.{Limit, NoMemory}
-use Rattle.pj_laws.specs.Join.{JoinData, JoinState, PunctAt, Step, Sweep, TupleAt, covered, hands_up, inputs, is_held, kept, need_of, older, older_puncts, removed, ripe, step, widened}
-use Rattle.pj_laws.specs.KeptState.{KeptState, kept_of, kept_ripe, swept}
-use Rattle.pj_laws.specs.Plan.{Node, Operator, Own, after as after_local, hands, operator_at}
-use Rattle.pj_laws.specs.History.{data_at, data_in, join_at, nodes_by, nodes_from, notes_of, state_in}
-use Rattle.pj_laws.specs.Outcomes.{goes_beyond, stored_at}
-use Rattle.pj_laws.specs.OneThread.{plain}
+use Rattle.pj_events.specs.declared.events.Entry.{Entry}
+use Rattle.pj_events.specs.declared.events.Event.TheVariants.{Sweep as Swept}
+use Rattle.pj_events.specs.declared.events.Out.{Out}
+use Rattle.pj_events.specs.declared.events.Out.TheVariants.{Purged}
+use Rattle.pj_events.specs.declared.events.Stop.{Stop}
+use Rattle.pj_events.specs.declared.events.Stop.TheVariants.{Limit, NoMemory}
+use Rattle.pj_events.specs.Join.{JoinData, JoinState, PunctAt, Step, Sweep, TupleAt, covered, hands_up, inputs, is_held, kept, need_of, older, older_puncts, removed, ripe, step, widened}
+use Rattle.pj_events.specs.KeptState.{KeptState, kept_of, kept_ripe, swept}
+use Rattle.pj_events.specs.Plan.{Node, Operator, Own, after as after_local, hands, operator_at}
+use Rattle.pj_events.specs.History.{data_at, data_in, join_at, nodes_by, nodes_from, notes_of, state_in}
+use Rattle.pj_events.specs.Outcomes.{goes_beyond, stored_at}
+use Rattle.pj_events.specs.OneThread.{plain}
 use Rattle.pj_laws.specs.Climb.{Climbed, climbed_where}
 use Rattle.pj_laws.proofs.ClimbingEvents.{events-climb, leaves-nodes}
 use Rattle.pj_laws.proofs.Stand.{low-kept}

@@ -6,18 +6,18 @@ use Rattle.std.proofs.lemmas.List.Sums.{sum-map, sum_by-cons}
 use Rattle.pj_value.specs.declared.values.Value.{Value}
 use Rattle.pj_pattern.specs.declared.element.Element.{Element}
 use Rattle.pj_pattern.specs.declared.element.Element.TheVariants.{Tuple}
-use Rattle.pj_laws.specs.declared.events.Entry.{Entry}
-use Rattle.pj_laws.specs.declared.events.Event.TheVariants.{Take as Taken, Give as Given, Idle}
-use Rattle.pj_laws.specs.declared.events.Out.{Out}
-use Rattle.pj_laws.specs.declared.events.Stop.{Stop}
-use Rattle.pj_laws.specs.declared.events.Stop.TheVariants.{Limit, NoMemory}
-use Rattle.pj_laws.specs.Join.{Give, In, JoinData, JoinState, Step, Take, TupleAt, has, joined, results, run, start, step}
-use Rattle.pj_laws.specs.KeptState.{KeptState, kept_of, lacking, without}
-use Rattle.pj_laws.specs.Plan.{after as after_local, Node, Operator, Stream, Select, Project, Union, Join, Group, Own, hands, operator_at}
-use Rattle.pj_laws.specs.History.{data_at, nodes_from, state_in}
-use Rattle.pj_laws.specs.Outcomes.{goes_beyond, results_of}
-use Rattle.pj_laws.specs.OneThread.{Pending, first_of, next_from, next_probe, pending_at, plain}
-use Rattle.pj_laws.specs.CoreKept.{JoinKept, KeptOperator, NothingKept, UnionKept, GroupKept, kept_in}
+use Rattle.pj_events.specs.declared.events.Entry.{Entry}
+use Rattle.pj_events.specs.declared.events.Event.TheVariants.{Take as Taken, Give as Given, Idle}
+use Rattle.pj_events.specs.declared.events.Out.{Out}
+use Rattle.pj_events.specs.declared.events.Stop.{Stop}
+use Rattle.pj_events.specs.declared.events.Stop.TheVariants.{Limit, NoMemory}
+use Rattle.pj_events.specs.Join.{Give, In, JoinData, JoinState, Step, Take, TupleAt, has, joined, results, run, start, step}
+use Rattle.pj_events.specs.KeptState.{KeptState, kept_of, lacking, without}
+use Rattle.pj_events.specs.Plan.{after as after_local, Node, Operator, Stream, Select, Project, Union, Join, Group, Own, hands, operator_at}
+use Rattle.pj_events.specs.History.{data_at, nodes_from, state_in}
+use Rattle.pj_events.specs.Outcomes.{goes_beyond, results_of}
+use Rattle.pj_events.specs.OneThread.{Pending, first_of, next_from, next_probe, pending_at, plain}
+use Rattle.pj_events.specs.CoreKept.{JoinKept, KeptOperator, NothingKept, UnionKept, GroupKept, kept_in}
 use Rattle.pj_laws.proofs.Probes.{has-in}
 use Rattle.pj_laws.proofs.Tickets.{AreAscending, first-least, pending-ascends}
 use Rattle.pj_join.specs.declared.found.Found.{Found}

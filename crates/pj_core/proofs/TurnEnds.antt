@@ -1,16 +1,16 @@
 -- Whole turns.
 use Rattle.std.proofs.Common.{ℕ, zero, suc, ◌+◌, Bool, true, false, cond, List, [], ◌∷◌, ◌++◌, ◌≡◌, Option, Some, None, refl, sym, ap, ap₂, ◌∙◌, subst, append_assoc}
 use Rattle.std.proofs.lemmas.List.{append-nil}
-use Rattle.pj_laws.specs.declared.events.Entry.{Entry}
-use Rattle.pj_laws.specs.declared.events.Event.TheVariants.{Arrive, Drain, Stopped, Sweep as Swept}
-use Rattle.pj_laws.specs.declared.events.Out.{Out}
-use Rattle.pj_laws.specs.declared.events.Stop.{Stop}
-use Rattle.pj_laws.specs.declared.events.Stop.TheVariants.{Limit, NoMemory}
-use Rattle.pj_laws.specs.Plan.{Node}
-use Rattle.pj_laws.specs.History.{Reached, reached_of, begun, nodes_from}
-use Rattle.pj_laws.specs.Limits.{StaysWithin, StopsAt}
-use Rattle.pj_laws.specs.Outcomes.{goes_beyond, outputs_of}
-use Rattle.pj_laws.specs.OneThread.{Place, Turn, arrival_of, is_punct, pending_at, places_from, plain, probes, probes_at, probes_from, sweeps_at}
+use Rattle.pj_events.specs.declared.events.Entry.{Entry}
+use Rattle.pj_events.specs.declared.events.Event.TheVariants.{Arrive, Drain, Stopped, Sweep as Swept}
+use Rattle.pj_events.specs.declared.events.Out.{Out}
+use Rattle.pj_events.specs.declared.events.Stop.{Stop}
+use Rattle.pj_events.specs.declared.events.Stop.TheVariants.{Limit, NoMemory}
+use Rattle.pj_events.specs.Plan.{Node}
+use Rattle.pj_events.specs.History.{Reached, reached_of, begun, nodes_from}
+use Rattle.pj_events.specs.Limits.{StaysWithin, StopsAt}
+use Rattle.pj_events.specs.Outcomes.{goes_beyond, outputs_of}
+use Rattle.pj_events.specs.OneThread.{Place, Turn, arrival_of, is_punct, pending_at, places_from, plain, probes, probes_at, probes_from, sweeps_at}
 use Rattle.pj_laws.proofs.Drains.{AreNoDrains, front-no-drains, kept-outs, probes-no-drains, push-no-drains}
 use Rattle.pj_laws.proofs.Nodes.{drain-silent}
 use Rattle.pj_laws.proofs.Idle.{drain-within, stop-silent}

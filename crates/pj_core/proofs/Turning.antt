@@ -1,12 +1,12 @@
 -- All probes of a core, one node after the other, and at each node one after the other.
 use Rattle.std.proofs.Common.{ℕ, zero, suc, ◌+◌, ◌-◌, ◌<◌, List, [], ◌∷◌, ◌++◌, ◌≡◌, length, sym, ap, ap₂, ◌∙◌, subst, append_assoc, arith}
 use Rattle.std.proofs.lemmas.List.{append-nil}
-use Rattle.pj_laws.specs.declared.events.Entry.{Entry}
-use Rattle.pj_laws.specs.declared.events.Stop.{Stop}
-use Rattle.pj_laws.specs.Plan.{Node}
-use Rattle.pj_laws.specs.History.{nodes_from}
-use Rattle.pj_laws.specs.Limits.{StaysWithin}
-use Rattle.pj_laws.specs.OneThread.{pending_at, probes_at, probes_from}
+use Rattle.pj_events.specs.declared.events.Entry.{Entry}
+use Rattle.pj_events.specs.declared.events.Stop.{Stop}
+use Rattle.pj_events.specs.Plan.{Node}
+use Rattle.pj_events.specs.History.{nodes_from}
+use Rattle.pj_events.specs.Limits.{StaysWithin}
+use Rattle.pj_events.specs.OneThread.{pending_at, probes_at, probes_from}
 use Rattle.pj_laws.proofs.Drains.{probes-append}
 use Rattle.pj_laws.proofs.Histories.{nodes-append}
 use Rattle.pj_laws.proofs.Limits.{within-append}

@@ -2,14 +2,14 @@
 use Rattle.std.proofs.Common.{ℕ, max, ◌<◌, ◌≤◌, ◌++◌, ◌∷◌, [], List, ◌≡◌, Option, Some, None, length, get_or, refl, sym, ap, ◌∙◌, subst, arith}
 use Rattle.std.proofs.lemmas.List.{get_or_default, length-map}
 use Rattle.pj_plan.specs.Nodes.{streams_of}
-use Rattle.pj_laws.specs.declared.events.Out.{Out}
-use Rattle.pj_laws.specs.declared.events.Stop.{Stop}
-use Rattle.pj_laws.specs.OneThread.{Turn, arrival_of, plain}
-use Rattle.pj_laws.specs.History.{closed_after}
-use Rattle.pj_laws.specs.declared.events.Event.TheVariants.{Arrive, Drain}
+use Rattle.pj_events.specs.declared.events.Out.{Out}
+use Rattle.pj_events.specs.declared.events.Stop.{Stop}
+use Rattle.pj_events.specs.OneThread.{Turn, arrival_of, plain}
+use Rattle.pj_events.specs.History.{closed_after}
+use Rattle.pj_events.specs.declared.events.Event.TheVariants.{Arrive, Drain}
 use Rattle.pj_pattern.specs.declared.element.Element.{Element}
 use Rattle.pj_join.specs.declared.found.Found.{Found}
-use Rattle.pj_laws.specs.declared.events.Look.{Look as TheLook}
+use Rattle.pj_events.specs.declared.events.Look.{Look as TheLook}
 use Rattle.pj_core.specs.declared.look.Sums.{Sums}
 use Rattle.pj_core.specs.Looks.{AreFew, AreWith}
 use Rattle.pj_core.specs.declared.cell.Cell.{Cell}

@@ -1,15 +1,15 @@
 -- What a join of a core does of its own: takes, gives and sweeps.
 use Rattle.std.specs.Prelude.{ℕ, ◌+◌, ◌≡◌, ◌<◌, ◌==◌, if◌then◌else◌, Bool, true, false, List, [], ◌∷◌, ◌++◌, map, length, slice_set, Option, Some, None}
 use Rattle.pj_value.specs.declared.values.Value.{Value}
-use Rattle.pj_laws.specs.declared.events.Out.{Out}
-use Rattle.pj_laws.specs.Join.{Step, Take, Give, Sweep, inputs, joined, results, run, start}
-use Rattle.pj_laws.specs.Outcomes.{elements_out}
+use Rattle.pj_events.specs.declared.events.Out.{Out}
+use Rattle.pj_events.specs.Join.{Step, Take, Give, Sweep, inputs, joined, results, run, start}
+use Rattle.pj_events.specs.Outcomes.{elements_out}
 use Rattle.pj_join.specs.declared.found.Found.{Found}
 use Rattle.pj_join.specs.Handed.{behind_probe}
 use Rattle.pj_join.specs.Joins.{IsTaken, JoinView, StandsFor as JoinStandsFor, TakesLeast, after, found_of}
 use Rattle.pj_pattern.specs.declared.element.Element.TheVariants.{Punct, Tuple}
-use Rattle.pj_laws.specs.declared.events.Stop.{Stop}
-use Rattle.pj_laws.specs.declared.events.Stop.TheVariants.{Limit, NoMemory}
+use Rattle.pj_events.specs.declared.events.Stop.{Stop}
+use Rattle.pj_events.specs.declared.events.Stop.TheVariants.{Limit, NoMemory}
 use Rattle.pj_join.specs.Sweeping.{puncts_up, rows_off, swept_off}
 use Rattle.pj_core.specs.declared.act.Swept.{Swept}
 use Rattle.pj_core.specs.Climbing.{Climbs, GoBeyond, Scene, StaysAs}

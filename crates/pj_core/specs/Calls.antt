@@ -4,22 +4,22 @@ use Rattle.pj_plan.specs.Nodes.{inputs_of, is_join, streams_of}
 use Rattle.pj_plan.specs.Canonical.{node_at}
 use Rattle.pj_pattern.specs.declared.element.Element.{Element}
 use Rattle.pj_pattern.specs.declared.element.Element.TheVariants.{Punct}
-use Rattle.pj_laws.specs.Patterns.{all_wild}
-use Rattle.pj_laws.specs.CoreKept.{KeptOperator, NothingKept, UnionKept, JoinKept, GroupKept}
-use Rattle.pj_laws.specs.declared.events.Entry.{Entry}
-use Rattle.pj_laws.specs.declared.events.Event.{Event}
-use Rattle.pj_laws.specs.declared.events.Event.TheVariants.{Arrive, Take as Taken, Give as Given, Sweep as Swept, Look as Looked, Stopped, Idle}
-use Rattle.pj_laws.specs.declared.events.Look.{Look}
-use Rattle.pj_laws.specs.declared.events.Out.{Out}
-use Rattle.pj_laws.specs.declared.events.Stop.{Stop}
-use Rattle.pj_laws.specs.declared.events.Stop.TheVariants.{Limit, NoMemory}
-use Rattle.pj_laws.specs.Join.{has, upto_from}
-use Rattle.pj_laws.specs.KeptState.{lacking}
-use Rattle.pj_laws.specs.Plan.{Node}
-use Rattle.pj_laws.specs.History.{nodes_by, pending_in, reached_of, state_in}
-use Rattle.pj_laws.specs.Outcomes.{goes_beyond, outputs_of, peak_of, results_of, stored_at}
-use Rattle.pj_laws.specs.Limits.{StaysWithin, StopsAt}
-use Rattle.pj_laws.specs.OneThread.{Turn, arrival_of, next_probe, plain, turn_entries}
+use Rattle.pj_events.specs.Patterns.{all_wild}
+use Rattle.pj_events.specs.CoreKept.{KeptOperator, NothingKept, UnionKept, JoinKept, GroupKept}
+use Rattle.pj_events.specs.declared.events.Entry.{Entry}
+use Rattle.pj_events.specs.declared.events.Event.{Event}
+use Rattle.pj_events.specs.declared.events.Event.TheVariants.{Arrive, Take as Taken, Give as Given, Sweep as Swept, Look as Looked, Stopped, Idle}
+use Rattle.pj_events.specs.declared.events.Look.{Look}
+use Rattle.pj_events.specs.declared.events.Out.{Out}
+use Rattle.pj_events.specs.declared.events.Stop.{Stop}
+use Rattle.pj_events.specs.declared.events.Stop.TheVariants.{Limit, NoMemory}
+use Rattle.pj_events.specs.Join.{has, upto_from}
+use Rattle.pj_events.specs.KeptState.{lacking}
+use Rattle.pj_events.specs.Plan.{Node}
+use Rattle.pj_events.specs.History.{nodes_by, pending_in, reached_of, state_in}
+use Rattle.pj_events.specs.Outcomes.{goes_beyond, outputs_of, peak_of, results_of, stored_at}
+use Rattle.pj_events.specs.Limits.{StaysWithin, StopsAt}
+use Rattle.pj_events.specs.OneThread.{Turn, arrival_of, next_probe, plain, turn_entries}
 use Rattle.pj_join.specs.declared.found.Found.{Found}
 use Rattle.pj_join.specs.Joins.{IsTaken}
 use Rattle.pj_core.specs.Cores.{CoreState, MayFollow, Notes, NotesAllowed, StandsFor, nodes_after, nodes_in}

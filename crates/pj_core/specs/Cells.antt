@@ -4,12 +4,12 @@ use Rattle.pj_value.specs.declared.values.Value.{Value}
 use Rattle.pj_pattern.specs.Patterns.{Pattern}
 use Rattle.pj_pattern.specs.declared.element.Element.{Element}
 use Rattle.pj_pattern.specs.declared.element.Element.TheVariants.{Tuple, Punct}
-use Rattle.pj_laws.specs.Join.{JoinData, JoinState, has, inputs, arity}
-use Rattle.pj_laws.specs.Operators.{GroupSpec}
+use Rattle.pj_events.specs.Join.{JoinData, JoinState, has, inputs, arity}
+use Rattle.pj_events.specs.Operators.{GroupSpec}
 use Rattle.pj_core.specs.Calls.{IsTakenIn}
 use Rattle.pj_group.specs.Steps.{Fits}
-use Rattle.pj_laws.specs.Plan.{Operator, Stream, Select, Project, Union, Join, Group, Node, Comes, after, hands, operator_at}
-use Rattle.pj_laws.specs.CoreKept.{KeptOperator, NothingKept, UnionKept, JoinKept, GroupKept, kept_in}
+use Rattle.pj_events.specs.Plan.{Operator, Stream, Select, Project, Union, Join, Group, Node, Comes, after, hands, operator_at}
+use Rattle.pj_events.specs.CoreKept.{KeptOperator, NothingKept, UnionKept, JoinKept, GroupKept, kept_in}
 use Rattle.pj_laws.specs.Climb.{Above, above, IsTree}
 use Rattle.pj_group.specs.declared.group.GroupStop.{GroupStop}
 use Rattle.pj_group.specs.declared.group.GroupStop.TheVariants.{Limit as GroupFull, NoMemory as GroupWants}

@@ -1,12 +1,12 @@
 -- How what a node of a core hands up climbs.
 use Rattle.std.specs.Prelude.{ℕ, ◌+◌, ◌<◌, ◌≤◌, ◌≡◌, ◌↔◌, List, [], ◌∷◌, ◌++◌, map, length, slice_index_or, slice_set, Option, Some, None}
 use Rattle.pj_pattern.specs.declared.element.Element.{Element}
-use Rattle.pj_laws.specs.declared.events.Out.{Out}
-use Rattle.pj_laws.specs.declared.events.Stop.{Stop}
-use Rattle.pj_laws.specs.declared.events.Stop.TheVariants.{Limit, NoMemory}
-use Rattle.pj_laws.specs.History.{out_of}
-use Rattle.pj_laws.specs.Plan.{Operator, Node}
-use Rattle.pj_laws.specs.Outcomes.{Arrival, beyond_of, climb, way_up}
+use Rattle.pj_events.specs.declared.events.Out.{Out}
+use Rattle.pj_events.specs.declared.events.Stop.{Stop}
+use Rattle.pj_events.specs.declared.events.Stop.TheVariants.{Limit, NoMemory}
+use Rattle.pj_events.specs.History.{out_of}
+use Rattle.pj_events.specs.Plan.{Operator, Node}
+use Rattle.pj_events.specs.Outcomes.{Arrival, beyond_of, climb, way_up}
 use Rattle.pj_laws.specs.Climb.{Climbed, climbed}
 use Rattle.pj_core.specs.declared.cell.Cell.{Cell}
 use Rattle.pj_core.specs.declared.cell.Handed.{Handed}

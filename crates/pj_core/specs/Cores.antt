@@ -1,9 +1,9 @@
 -- What contracts see of a core, and the histories that it stands for.
 use Rattle.std.specs.Prelude.{ℕ, ◌≡◌, false, List, [], ◌∷◌, ◌++◌}
-use Rattle.pj_laws.specs.Plan.{Node}
-use Rattle.pj_laws.specs.declared.events.Entry.{Entry}
-use Rattle.pj_laws.specs.History.{IsEntryAllowed, IsLegal, reached_of, nodes_from}
-use Rattle.pj_laws.specs.CoreKept.{CoreKept, Stands}
+use Rattle.pj_events.specs.Plan.{Node}
+use Rattle.pj_events.specs.declared.events.Entry.{Entry}
+use Rattle.pj_events.specs.History.{IsEntryAllowed, IsLegal, reached_of, nodes_from}
+use Rattle.pj_events.specs.CoreKept.{CoreKept, Stands}
 use Rattle.pj_core.specs.Plans.{RunPlan, nodes_of}
 
 -- the plan as it is run, how many elements may reach a join of it, and what is kept: of each node, and of the run

@@ -2,9 +2,9 @@
 use Rattle.std.specs.Prelude.{ℕ, ◌+◌, ◌≡◌, if◌then◌else◌, List, []}
 use Rattle.pj_plan.specs.declared.node.Node.{Node as Operation}
 use Rattle.pj_plan.specs.Nodes.{is_join}
-use Rattle.pj_laws.specs.Join.{AreCertified, start}
-use Rattle.pj_laws.specs.KeptState.{kept_of}
-use Rattle.pj_laws.specs.Tables.{table_of}
+use Rattle.pj_events.specs.Join.{AreCertified, start}
+use Rattle.pj_events.specs.KeptState.{kept_of}
+use Rattle.pj_events.specs.Tables.{table_of}
 use Rattle.pj_flow.specs.Unions.{start as no_puncts}
 use Rattle.pj_core.specs.declared.cell.Cell.{Cell}
 use Rattle.pj_core.specs.declared.cell.Work.{Work}

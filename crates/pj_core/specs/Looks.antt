@@ -1,6 +1,6 @@
 -- Numbers of all nodes of a core.
 use Rattle.std.specs.Prelude.{ℕ, ◌+◌, ◌^◌, ◌≤◌, ◌≡◌, List, map, length, sum}
-use Rattle.pj_laws.specs.CoreKept.{KeptOperator, NothingKept, UnionKept, JoinKept, GroupKept}
+use Rattle.pj_events.specs.CoreKept.{KeptOperator, NothingKept, UnionKept, JoinKept, GroupKept}
 use Rattle.pj_core.specs.declared.cell.Cell.{Cell}
 use Rattle.pj_core.specs.declared.cell.Work.{Work}
 use Rattle.pj_core.specs.declared.look.Sums.{Sums}

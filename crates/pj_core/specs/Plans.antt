@@ -8,8 +8,8 @@ use Rattle.pj_plan.specs.Nodes.{inputs_of, is_stream, is_join}
 use Rattle.pj_shape.specs.declared.joins.CertStep.{CertStep}
 use Rattle.pj_shape.specs.declared.joins.JoinSpec.{JoinSpec}
 use Rattle.pj_scheme.specs.Derived.{schemes_of, inputs_schemes}
-use Rattle.pj_laws.specs.Join.{start}
-use Rattle.pj_laws.specs.Plan.{Operator, Stream, Select, Project, Union, Join, Group, Node}
+use Rattle.pj_events.specs.Join.{start}
+use Rattle.pj_events.specs.Plan.{Operator, Stream, Select, Project, Union, Join, Group, Node}
 use Rattle.pj_join.specs.Joins.{join_data}
 
 -- ---- streams

@@ -5,15 +5,15 @@ use Rattle.pj_plan.specs.declared.node.PlanNode.{PlanNode}
 use Rattle.pj_plan.specs.Nodes.{inputs_of, is_join}
 use Rattle.pj_plan.specs.Canonical.{node_at}
 use Rattle.pj_plan.specs.Sound.{IsSoundPlan}
-use Rattle.pj_laws.specs.declared.events.Entry.{Entry}
-use Rattle.pj_laws.specs.declared.events.Event.TheVariants.{Drain, Stopped}
-use Rattle.pj_laws.specs.declared.events.Stop.{Stop}
-use Rattle.pj_laws.specs.declared.events.Out.{Out}
-use Rattle.pj_laws.specs.Join.{upto_from}
-use Rattle.pj_laws.specs.Outcomes.{outputs_of}
-use Rattle.pj_laws.specs.Limits.{StaysWithin, StopsAt}
-use Rattle.pj_laws.specs.OneThread.{Place, pending_at, places_from, plain, probes, probes_at, probes_from, sweeps_at}
-use Rattle.pj_laws.specs.CoreKept.{NothingKept}
+use Rattle.pj_events.specs.declared.events.Entry.{Entry}
+use Rattle.pj_events.specs.declared.events.Event.TheVariants.{Drain, Stopped}
+use Rattle.pj_events.specs.declared.events.Stop.{Stop}
+use Rattle.pj_events.specs.declared.events.Out.{Out}
+use Rattle.pj_events.specs.Join.{upto_from}
+use Rattle.pj_events.specs.Outcomes.{outputs_of}
+use Rattle.pj_events.specs.Limits.{StaysWithin, StopsAt}
+use Rattle.pj_events.specs.OneThread.{Place, pending_at, places_from, plain, probes, probes_at, probes_from, sweeps_at}
+use Rattle.pj_events.specs.CoreKept.{NothingKept}
 use Rattle.pj_core.specs.Cores.{CoreState, StandsFor, nodes_after, nodes_in}
 use Rattle.pj_core.specs.Calls.{pending_kept}
 

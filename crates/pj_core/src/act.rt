@@ -1,6 +1,6 @@
 // What the joins of a core do of their own.
 ghost use Rattle.std.specs.Prelude.{◌≡◌, ◌<◌, ◌≤◌, ◌++◌, ◌^◌, max, map, length, take, slice_set, IfOk, IfErr, OnOk, OnErr};
-ghost use Rattle.pj_laws.specs.Join.{Give};
+ghost use Rattle.pj_events.specs.Join.{Give};
 ghost use Rattle.pj_core.specs.Calls.{IsTakenIn, pending_kept};
 ghost use Rattle.pj_core.specs.Cells.{AreLinked, IsOrderly, KeepsOpen, cell_at, frame_of, frames_in, kept_seen, kind_of, stored_kept};
 ghost use Rattle.pj_core.specs.Climbing.{AreOrderly, StayOpen};
@@ -10,7 +10,7 @@ use crate::cell::{Cell, Work};
 use crate::climb::{climb_found, climb_puncts, climb_rows};
 use crate::handed::hand_out_notes;
 use pj_join::Probe;
-use pj_laws::{Out, Stop};
+use pj_events::{Out, Stop};
 use pj_pattern::Punct;
 use pj_value::{List, NoMemory, Row};
 use std::alloc::Global;

@@ -1,8 +1,8 @@
 // A node of a core.
 ghost use Rattle.std.specs.Prelude.{◌≡◌, ◌↔◌, ◌<◌, ◌+◌, ℕ, ◌≤◌, List, All, IfOk, OnOk, OnErr, IsErrOf, length, map};
-ghost use Rattle.pj_laws.specs.Join.{arity, inputs};
-ghost use Rattle.pj_laws.specs.Operators.{group_after, group_hands, project_hands, select_hands, union_after, union_hands};
-ghost use Rattle.pj_laws.specs.Plan.{Operator, join_step};
+ghost use Rattle.pj_events.specs.Join.{arity, inputs};
+ghost use Rattle.pj_events.specs.Operators.{group_after, group_hands, project_hands, select_hands, union_after, union_hands};
+ghost use Rattle.pj_events.specs.Plan.{Operator, join_step};
 ghost use Rattle.pj_value.specs.declared.values.Value.{Value};
 ghost use Rattle.pj_group.specs.Steps.{Fits};
 ghost use Rattle.pj_group.specs.Tables.{StandsFor as HoldsGroup};

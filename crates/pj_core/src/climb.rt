@@ -1,14 +1,14 @@
 // What a node hands up climbs to the nodes above it.
 ghost use Rattle.std.specs.Prelude.{◌≡◌, ◌<◌, ◌++◌, [], ◌∷◌, IfOk, IfErr, OnOk, OnErr, length, take, map};
-ghost use Rattle.pj_laws.specs.History.{out_of};
-ghost use Rattle.pj_laws.specs.Outcomes.{elements_out};
+ghost use Rattle.pj_events.specs.History.{out_of};
+ghost use Rattle.pj_events.specs.Outcomes.{elements_out};
 ghost use Rattle.pj_core.specs.Cells.{AreLinked, FitsKind, cell_at, frame_at, frames_in, handed_list, width_of};
 ghost use Rattle.pj_core.specs.Climbing.{Climbs, HasEntered, IsClimbStop, IsEntryStop, StaysAs};
 
 use crate::cell::{Cell, Handed};
 use crate::handed::hand_out;
 use pj_join::JoinStop;
-use pj_laws::{Out, Stop};
+use pj_events::{Out, Stop};
 use pj_pattern::{Element, Punct};
 use pj_value::{List, NoMemory, Row};
 use std::alloc::Global;

@@ -1,9 +1,9 @@
 // What a core hands out.
 ghost use Rattle.std.specs.Prelude.{◌≡◌, true, [], ◌∷◌, ◌++◌, OnOk, OnErr, length, take};
-ghost use Rattle.pj_laws.specs.History.{out_of};
+ghost use Rattle.pj_events.specs.History.{out_of};
 ghost use Rattle.pj_core.specs.Handed.{notes_out};
 
-use pj_laws::Out;
+use pj_events::Out;
 use pj_pattern::Element;
 use pj_value::{List, NoMemory, Row};
 

@@ -16,5 +16,5 @@ mod turns;
 
 pub use laws::settling;
 pub use pj_join::{Found, Probe};
-pub use pj_laws::{Entry, Event, Look, Out, Stop};
+pub use pj_events::{Entry, Event, Look, Out, Stop};
 pub use running::Core;

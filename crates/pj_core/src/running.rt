@@ -1,10 +1,10 @@
 // The core of a run.
 ghost use Rattle.std.specs.Prelude.{◌≡◌, ◌<◌, ◌≤◌, ◌^◌, [], ◌∷◌, ◌++◌, None, length, slice_index_or, IfErr, IfOk, OnErr, OnOk};
-ghost use Rattle.pj_laws.specs.declared.events.Event.TheVariants.{Arrive as Arrives, Drain as Drains, Sweep as Sweeps};
+ghost use Rattle.pj_events.specs.declared.events.Event.TheVariants.{Arrive as Arrives, Drain as Drains, Sweep as Sweeps};
 ghost use Rattle.pj_laws.specs.HistoryLaws.{AllAreCertified};
-ghost use Rattle.pj_laws.specs.Patterns.{all_wild};
-ghost use Rattle.pj_laws.specs.Join.{has};
-ghost use Rattle.pj_laws.specs.OneThread.{arrival_of, plain};
+ghost use Rattle.pj_events.specs.Patterns.{all_wild};
+ghost use Rattle.pj_events.specs.Join.{has};
+ghost use Rattle.pj_events.specs.OneThread.{arrival_of, plain};
 ghost use Rattle.pj_join.specs.declared.found.Found.{Found};
 ghost use Rattle.pj_pattern.specs.Fitting.{FitsKinds};
 ghost use Rattle.pj_shape.specs.Columns.{kinds_of};
@@ -24,7 +24,7 @@ use crate::cell::Cell;
 use crate::climb::lift;
 use crate::look::sums_of;
 use pj_join::{Found, Probe};
-use pj_laws::{Look, Out, Stop};
+use pj_events::{Look, Out, Stop};
 use pj_pattern::{Element, Pattern, Punct};
 use pj_plan::{Node, Plan};
 use pj_shape::{Cert, Column};

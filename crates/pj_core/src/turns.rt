@@ -3,13 +3,13 @@ ghost use Rattle.std.specs.Prelude.{◌≡◌, ◌<◌, None, length, IfErr, IfO
 ghost use Rattle.pj_pattern.specs.Fitting.{FitsKinds};
 ghost use Rattle.pj_shape.specs.Columns.{kinds_of};
 ghost use Rattle.pj_plan.specs.Nodes.{streams_of};
-ghost use Rattle.pj_laws.specs.OneThread.{is_punct as brings_punct};
+ghost use Rattle.pj_events.specs.OneThread.{is_punct as brings_punct};
 ghost use Rattle.pj_core.specs.Plans.{stream_columns, streams_in};
 ghost use Rattle.pj_core.specs.Calls.{IsJoinInput, IsTurnRefused, MakesTurn, arriving_of, closing_of};
 ghost use Rattle.pj_core.specs.Turns.{Finishes, IsSoundCore, Makes, StopsMaking, probing, probing_at, sweeping, sweeping_all, sweeping_at, swept_where, working};
 
 use crate::Core;
-use pj_laws::{Out, Stop};
+use pj_events::{Out, Stop};
 use pj_pattern::Element;
 use pj_value::List;
 

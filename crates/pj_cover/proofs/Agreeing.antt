@@ -6,7 +6,7 @@ use Rattle.pj_value.specs.Values.{value_eq}
 use Rattle.pj_shape.specs.Joining.{values_in, all_equal}
 use Rattle.pj_shape.specs.declared.joins.JoinSpec.{JoinSpec}
 use Rattle.pj_shape.specs.Sound.{AreOfOtherInputs, IsSoundSpec}
-use Rattle.pj_laws.specs.Join.{In, TupleAt, ClassCol, Value, Part, no_value, values, part_of, agree}
+use Rattle.pj_events.specs.Join.{In, TupleAt, ClassCol, Value, Part, no_value, values, part_of, agree}
 use Rattle.pj_cover.specs.Suits.{has_there, all_have, suits_class, suits}
 use Rattle.pj_shape.proofs.Joining.{all_equal-from}
 use Rattle.pj_value.proofs.Orders.{same_if_equal, equal_if_same}

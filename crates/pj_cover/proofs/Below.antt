@@ -4,8 +4,8 @@ use Rattle.std.specs.List.{list_any}
 use Rattle.std.proofs.lemmas.Bool.{eqb-true, eq-eqb, false_from_ne_true, and_parts}
 use Rattle.pj_value.specs.declared.values.Value.{Value}
 use Rattle.pj_value.proofs.Members.{In-append_cases, In-map, none_from}
-use Rattle.pj_laws.specs.Patterns.{covers}
-use Rattle.pj_laws.specs.Join.{In, PunctAt, covered, older_puncts}
+use Rattle.pj_events.specs.Patterns.{covers}
+use Rattle.pj_events.specs.Join.{In, PunctAt, covered, older_puncts}
 use Rattle.pj_cover.specs.declared.store.NumberedPunct.{NumberedPunct}
 use Rattle.pj_cover.specs.Stores.{Store, covered_below}
 use Rattle.pj_cover.specs.Asking.{punct_of, puncts_from}

@@ -2,7 +2,7 @@
 use Rattle.std.proofs.Common.{◌≡◌, ℕ, zero, suc, List, [], ◌∷◌, Option, Some, None, sym, refl}
 use Rattle.std.specs.List.{slice_get}
 use Rattle.std.proofs.lemmas.Option.{get_or_from_slice_get}
-use Rattle.pj_laws.specs.Join.{Value, no_value, value_at}
+use Rattle.pj_events.specs.Join.{Value, no_value, value_at}
 use Rattle.pj_cover.specs.Suits.{cell_value}
 
 cell_missing : (row : List Value) (column : ℕ) → None ≡ slice_get row column → value_at row column ≡ no_value

@@ -9,7 +9,7 @@ use Rattle.pj_value.proofs.Orders.{same_if_equal}
 use Rattle.pj_pattern.specs.declared.pattern.Form.TheVariants.{Wild, Empty, Constant, Range, Members}
 use Rattle.pj_pattern.specs.Patterns.{covers_pattern}
 use Rattle.pj_pattern.proofs.Covering.{covered}
-use Rattle.pj_laws.specs.Patterns.{Pattern, covers, covers_punct, is_wild, matches_row, matches_value}
+use Rattle.pj_events.specs.Patterns.{Pattern, covers, covers_punct, is_wild, matches_row, matches_value}
 use Rattle.pj_cover.specs.Givens.{cell_of, instance_of}
 use Rattle.pj_cover.specs.Prints.{constant_in, constants_of, print_from, print_of, row_cells, with_cell}
 use Rattle.pj_cover.specs.Indexed.{fits_mark, fits_marks, is_constant}

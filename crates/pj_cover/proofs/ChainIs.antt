@@ -6,7 +6,7 @@ use Rattle.pj_value.specs.declared.values.Kind.TheVariants.{Int}
 use Rattle.pj_shape.specs.declared.joins.ClassCol.{ClassCol}
 use Rattle.pj_value.specs.Lists.{In}
 use Rattle.pj_shape.specs.Sound.{IsSoundSpec, IsSoundClass, IsOfKind, arities_of}
-use Rattle.pj_laws.specs.Join.{CertEntry, IsCertified, entry_of}
+use Rattle.pj_events.specs.Join.{CertEntry, IsCertified, entry_of}
 use Rattle.pj_cover.specs.Stores.{Store}
 use Rattle.pj_cover.specs.Asking.{AreParts, HaveLength, data_of}
 use Rattle.pj_cover.specs.Chain.{number, pair, pairs, at, firsts, seconds, chain, chain_schemes, chain_cert, two_rows}

@@ -1,7 +1,7 @@
 -- What the code that makes an instance cites.
 use Rattle.std.proofs.Common.{ℕ, suc, ◌+◌, Bool, true, false, cond, List, [], ◌∷◌, ◌≡◌, Some, get_or, refl, sym, ap, ◌∙◌, arith}
 use Rattle.pj_shape.specs.Joining.{has_column, class_from}
-use Rattle.pj_laws.specs.Join.{ClassCol, class_at, class_with}
+use Rattle.pj_events.specs.Join.{ClassCol, class_at, class_with}
 use Rattle.pj_cover.specs.Asking.{first_class}
 
 abbrev at_or : List (List ClassCol) → ℕ → List ClassCol

@@ -3,7 +3,7 @@ use Rattle.std.proofs.Common.{◌≡◌, ◌+◌, ◌≤◌, ℕ, suc, zero, Boo
 use Rattle.std.specs.List.{slice_get}
 use Rattle.std.proofs.lemmas.Option.{get_or_from_slice_get}
 use Rattle.pj_value.specs.declared.values.Value.{Value}
-use Rattle.pj_laws.specs.Join.{TupleAt, ClassCol, class_with, constant, instance_from}
+use Rattle.pj_events.specs.Join.{TupleAt, ClassCol, class_with, constant, instance_from}
 use Rattle.pj_cover.specs.Givens.{instance_of, marked}
 use Rattle.pj_cover.specs.Asking.{constant_if, constants_in}
 

@@ -4,7 +4,7 @@ use Rattle.std.specs.List.{slice_get}
 use Rattle.pj_value.specs.declared.values.Value.{Value}
 use Rattle.std.proofs.Math.Bool.{and-false}
 use Rattle.std.proofs.lemmas.Option.{get_or_from_slice_get}
-use Rattle.pj_laws.specs.Patterns.{Pattern, covers, is_wild, matches_value}
+use Rattle.pj_events.specs.Patterns.{Pattern, covers, is_wild, matches_value}
 use Rattle.pj_cover.specs.Givens.{instance_of, cell_of, covers_cell}
 
 pub instance_length : (marks : List Bool) (vs : List Value) → length (instance_of marks vs) ≡ length marks

@@ -8,7 +8,7 @@ use Rattle.indexmap.specs.IndexMap.{get}
 use Rattle.pj_value.specs.Lists.{In}
 use Rattle.pj_value.specs.declared.values.Value.{Value}
 use Rattle.pj_value.proofs.Members.{In-append_cases, In-append_left, In-append_right}
-use Rattle.pj_laws.specs.Patterns.{Pattern, covers, covers_punct}
+use Rattle.pj_events.specs.Patterns.{Pattern, covers, covers_punct}
 use Rattle.pj_cover.specs.declared.store.NumberedPunct.{NumberedPunct}
 use Rattle.pj_cover.specs.declared.index.Chain.{Chain}
 use Rattle.pj_cover.specs.declared.index.ConstantSet.{ConstantSet}

@@ -5,7 +5,7 @@ use Rattle.std.proofs.lemmas.Bool.{false≢true, and_from, and_right, eqb-true, 
 use Rattle.std.proofs.lemmas.List.{take_more}
 use Rattle.std.proofs.lemmas.Option.{slice_get_within, get_or_from_slice_get}
 use Rattle.pj_value.proofs.Members.{In-append_cases, In-filter, In-filter_from, In-map, In-map_from, In-flat_map, In-flat_map_from, all_at, all_from}
-use Rattle.pj_laws.specs.Join.{In, TupleAt, ClassCol, CertEntry, Demand, agree, demand, need, grown, of_input, older}
+use Rattle.pj_events.specs.Join.{In, TupleAt, ClassCol, CertEntry, Demand, agree, demand, need, grown, of_input, older}
 use Rattle.pj_cover.specs.declared.rows.Uncovered.{Uncovered}
 use Rattle.pj_cover.specs.Asking.{Known, IsAsked, IsOpen, IsJudged, IsJudgedWith, IsJudgedThrough, IsFirstUncovered, MayStand, AreDone, all_covered, is_covered, is_ripe, with_ticket}
 

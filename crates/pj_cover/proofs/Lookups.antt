@@ -4,7 +4,7 @@ use Rattle.std.specs.List.{slice_get}
 use Rattle.std.proofs.lemmas.Bool.{false_from_ne_true, lt-ltb, ltb-false, ltb-true}
 use Rattle.pj_value.specs.Lists.{In}
 use Rattle.pj_value.specs.declared.values.Value.{Value}
-use Rattle.pj_laws.specs.Patterns.{covers, matches_row}
+use Rattle.pj_events.specs.Patterns.{covers, matches_row}
 use Rattle.pj_cover.specs.declared.store.NumberedPunct.{NumberedPunct}
 use Rattle.pj_cover.specs.declared.index.Chain.{Chain}
 use Rattle.pj_cover.specs.declared.index.ConstantSet.{ConstantSet}

@@ -7,7 +7,7 @@ use Rattle.std.proofs.lemmas.Option.{get_or_from_slice_get}
 use Rattle.pj_value.specs.declared.values.Value.{Value}
 use Rattle.pj_shape.specs.declared.joins.JoinSpec.{JoinSpec}
 use Rattle.pj_shape.specs.Sound.{arities_of}
-use Rattle.pj_laws.specs.Join.{In, TupleAt, CertEntry, CertStep, demand, entry_of}
+use Rattle.pj_events.specs.Join.{In, TupleAt, CertEntry, CertStep, demand, entry_of}
 use Rattle.pj_cover.specs.declared.rows.Uncovered.{Uncovered}
 use Rattle.pj_cover.specs.Stores.{Store}
 use Rattle.pj_cover.specs.Suits.{suits}

@@ -10,7 +10,7 @@ use Rattle.pj_value.specs.declared.values.Value.{Value}
 use Rattle.pj_value.proofs.Members.{any_at, any_from}
 use Rattle.pj_shape.specs.declared.joins.JoinSpec.{JoinSpec}
 use Rattle.pj_shape.specs.Sound.{arities_of}
-use Rattle.pj_laws.specs.Join.{In, TupleAt, CertStep, AreListedOnce, IsCertified, IsWalk, agree}
+use Rattle.pj_events.specs.Join.{In, TupleAt, CertStep, AreListedOnce, IsCertified, IsWalk, agree}
 use Rattle.pj_cover.specs.Stores.{Store}
 use Rattle.pj_cover.specs.Asking.{AreParts, IsOnWalk, IsStep, data_of, entries, inputs_of, marks_of}
 use Rattle.pj_cover.proofs.Agreeing.{alone_agree}

@@ -3,7 +3,7 @@ use Rattle.std.proofs.Common.{ℕ, zero, suc, ◌<◌, List, ◌≡◌, map, ap,
 use Rattle.std.proofs.lemmas.Bool.{cases_lt}
 use Rattle.pj_value.specs.declared.values.Value.{Value}
 use Rattle.pj_value.proofs.Members.{In-append_cases, In-append_left, In-append_right, In-map, In-map_from}
-use Rattle.pj_laws.specs.Join.{In, TupleAt}
+use Rattle.pj_events.specs.Join.{In, TupleAt}
 use Rattle.pj_cover.specs.Asking.{tuple_of, tuples_of}
 
 -- those of one input are its own

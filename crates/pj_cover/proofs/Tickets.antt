@@ -2,7 +2,7 @@
 use Rattle.std.proofs.Common.{ℕ, ◌+◌, Bool, true, false, cond, List, [], ◌∷◌, ◌++◌, ◌≡◌, Option, Some, None, map, filter, flat_map, refl, sym, ap, ap₂, ◌∙◌}
 use Rattle.std.specs.List.{list_all}
 use Rattle.pj_value.specs.declared.values.Value.{Value}
-use Rattle.pj_laws.specs.Join.{TupleAt, ClassCol, CertEntry, Demand, Part, part_of, joins, agree, demand, need, of_input, older, instance_from, class_with, values, value_at}
+use Rattle.pj_events.specs.Join.{TupleAt, ClassCol, CertEntry, Demand, Part, part_of, joins, agree, demand, need, of_input, older, instance_from, class_with, values, value_at}
 use Rattle.pj_cover.specs.declared.rows.Uncovered.{Uncovered}
 use Rattle.pj_cover.specs.Asking.{Known, IsAsked, IsFirstUncovered, all_covered, is_covered}
 

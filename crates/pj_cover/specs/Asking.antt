@@ -6,7 +6,7 @@ use Rattle.pj_value.specs.Lists.{In}
 use Rattle.pj_shape.specs.declared.joins.JoinSpec.{JoinSpec}
 use Rattle.pj_shape.specs.Joining.{has_column}
 use Rattle.pj_shape.specs.Sound.{IsSoundSpec, arities_of}
-use Rattle.pj_laws.specs.Join.{TupleAt, PunctAt, ClassCol, CertStep, CertEntry, JoinData, Demand, AreListedOnce, IsWalk, agree, constant, class_with, covered, demand, entry_of, need, older, older_puncts}
+use Rattle.pj_events.specs.Join.{TupleAt, PunctAt, ClassCol, CertStep, CertEntry, JoinData, Demand, AreListedOnce, IsWalk, agree, constant, class_with, covered, demand, entry_of, need, older, older_puncts}
 use Rattle.pj_cover.specs.Stores.{Store}
 use Rattle.pj_cover.specs.declared.store.NumberedPunct.{NumberedPunct}
 use Rattle.pj_cover.specs.declared.rows.Uncovered.{Uncovered}

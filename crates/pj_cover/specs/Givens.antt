@@ -1,6 +1,6 @@
 -- Values that are lent, and the instances that they make.
 use Rattle.std.specs.Prelude.{ℕ, ◌+◌, Bool, true, false, List, [], ◌∷◌, Option, Some, None, if◌then◌else◌}
-use Rattle.pj_laws.specs.Patterns.{Pattern, is_wild, matches_value}
+use Rattle.pj_events.specs.Patterns.{Pattern, is_wild, matches_value}
 use Rattle.pj_value.specs.declared.values.Value.{Value}
 
 -- the values in those of these places that hold one

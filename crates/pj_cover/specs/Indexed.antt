@@ -4,7 +4,7 @@ use Rattle.indexmap.specs.IndexMap.{get}
 use Rattle.pj_value.specs.Lists.{In}
 use Rattle.pj_value.specs.declared.values.Value.{Value}
 use Rattle.pj_pattern.specs.declared.pattern.Form.TheVariants.{Wild, Empty, Constant, Range, Members}
-use Rattle.pj_laws.specs.Patterns.{Pattern, covers, covers_punct, is_wild}
+use Rattle.pj_events.specs.Patterns.{Pattern, covers, covers_punct, is_wild}
 use Rattle.pj_cover.specs.Prints.{print_of}
 use Rattle.pj_cover.specs.Stores.{AreRising, IsAbove}
 use Rattle.pj_cover.specs.declared.store.NumberedPunct.{NumberedPunct}

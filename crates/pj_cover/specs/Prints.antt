@@ -3,7 +3,7 @@ use Rattle.std.specs.Prelude.{ℕ, ◌+◌, ◌*◌, ◌%◌, ◌^◌, Bool, tru
 use Rattle.pj_value.specs.declared.values.Value.{Value}
 use Rattle.pj_value.specs.declared.values.Value.TheVariants.{Int, Text}
 use Rattle.pj_pattern.specs.declared.pattern.Form.TheVariants.{Wild, Empty, Constant, Range, Members}
-use Rattle.pj_laws.specs.Patterns.{Pattern}
+use Rattle.pj_events.specs.Patterns.{Pattern}
 
 abbrev pub next_print : ℕ → ℕ → ℕ
 next_print print n = ((print * 1099511628211) % 2 ^ 64 + n) % 2 ^ 64

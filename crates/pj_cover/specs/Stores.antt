@@ -3,7 +3,7 @@ use Rattle.std.specs.Prelude.{◌≡◌, ◌≤◌, ◌<◌, ◌⊎◌, ℕ, ⊤
 use Rattle.std.specs.List.{list_any}
 use Rattle.pj_value.specs.declared.values.Value.{Value}
 use Rattle.pj_pattern.specs.Columns.{matches_row}
-use Rattle.pj_laws.specs.Patterns.{covers}
+use Rattle.pj_events.specs.Patterns.{covers}
 use Rattle.pj_cover.specs.declared.store.NumberedPunct.{NumberedPunct}
 
 -- the number of columns, and the punctuations in order of their numbers

@@ -2,7 +2,7 @@
 use Rattle.std.specs.Prelude.{Bool, not, ◌==◌, ◌&&◌, ◌||◌, List, [], Option, Some, None}
 use Rattle.std.specs.List.{list_all}
 use Rattle.pj_value.specs.Values.{value_eq}
-use Rattle.pj_laws.specs.Join.{ClassCol, TupleAt, Value, no_value, value_at}
+use Rattle.pj_events.specs.Join.{ClassCol, TupleAt, Value, no_value, value_at}
 
 -- the value of a cell, where one that is not there has the empty text
 abbrev pub cell_value : Option Value → Value

@@ -5,7 +5,7 @@ ghost use Rattle.std.specs.Option.{option_copied};
 ghost use Rattle.pj_value.specs.declared.values.Value.{Value as AnyValue};
 ghost use Rattle.pj_value.specs.Values.{value_eq};
 ghost use Rattle.pj_shape.specs.Joining.{has_column};
-ghost use Rattle.pj_laws.specs.Join.{class_with, no_value, value_at};
+ghost use Rattle.pj_events.specs.Join.{class_with, no_value, value_at};
 ghost use Rattle.pj_cover.specs.Asking.{AreFound, IsFound, constant_if, constants_in, first_class, first_there, there};
 ghost use Rattle.pj_cover.specs.Suits.{all_have, cell_value, has_there, suits, suits_class};
 
@@ -24,7 +24,7 @@ pub struct Lent<'a> {
 
 impl<'a> Model for Lent<'a> {
     ghost use Rattle.std.specs.Option.{option_copied};
-    ghost use Rattle.pj_laws.specs.Join.{TupleAt};
+    ghost use Rattle.pj_events.specs.Join.{TupleAt};
     ghost use Rattle.pj_cover.specs.Suits.{row_or_none};
 
     ghost Value = { TupleAt };

@@ -2,7 +2,7 @@
 ghost use Rattle.std.specs.Prelude.{◌≡◌, ◌<◌, List, Option, length, if◌then◌else◌};
 ghost use Rattle.std.specs.Option.{option_copied};
 ghost use Rattle.pj_value.specs.declared.values.Value.{Value as AnyValue};
-ghost use Rattle.pj_laws.specs.Patterns.{covers, is_wild};
+ghost use Rattle.pj_events.specs.Patterns.{covers, is_wild};
 ghost use Rattle.pj_cover.specs.Givens.{cell_of, covers_cell, instance_of, marked};
 ghost use Rattle.pj_cover.specs.Prints.{constant_in, constants_of, print_of, row_cells};
 

@@ -2,7 +2,7 @@
 ghost use Rattle.std.specs.Prelude.{◌≡◌, ◌<◌, ◌≤◌, ◌+◌, ◌^◌, ◌∷◌, [], ℕ, drop, length, slice_get, slice_index, slice_index_or, Some, IfSome};
 ghost use Rattle.pj_value.specs.Lists.{In};
 ghost use Rattle.pj_shape.specs.Sound.{IsSoundSpec, arities_of};
-ghost use Rattle.pj_laws.specs.Join.{IsCertified, agree, demand, entry_of};
+ghost use Rattle.pj_events.specs.Join.{IsCertified, agree, demand, entry_of};
 ghost use Rattle.pj_cover.specs.Asking.{AreParts, HaveLength, IsFirstUncovered, IsJudged, IsJudgedThrough, IsJudgedWith, IsOnWalk, IsStep, data_of, entries, is_covered, is_ripe, known_of, marks_of, tuple_of, tuples_at, with_ticket};
 
 use crate::asked::{Lent, lend_constants, suits};

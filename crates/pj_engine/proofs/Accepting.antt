@@ -11,9 +11,9 @@ use Rattle.pj_plan.specs.declared.node.Outline.{Outline}
 use Rattle.pj_plan.specs.declared.node.PlanNode.{PlanNode}
 use Rattle.pj_plan.specs.Nodes.{is_stream, streams_of as numbers_of}
 use Rattle.pj_plan.specs.Canonical.{no_node}
-use Rattle.pj_laws.specs.Plan.{operator_at}
-use Rattle.pj_laws.specs.History.{streams_of}
-use Rattle.pj_laws.specs.OneThread.{schema_of}
+use Rattle.pj_events.specs.Plan.{operator_at}
+use Rattle.pj_events.specs.History.{streams_of}
+use Rattle.pj_events.specs.OneThread.{schema_of}
 use Rattle.pj_laws.specs.HistoryLaws.{AreAccepted, AreAcceptedLists}
 use Rattle.pj_core.specs.Plans.{operator_of, schema_in, stream_columns, streams_in}
 use Rattle.pj_engine.specs.Runs.{accepted_of, run_nodes}

@@ -7,7 +7,7 @@ use Rattle.pj_value.specs.Lists.{In}
 use Rattle.pj_shape.specs.declared.columns.Column.{Column}
 use Rattle.pj_element.specs.declared.tally.Tally.{Tally}
 use Rattle.pj_element.specs.Accepted.{taken_of, fates_of, tally_of}
-use Rattle.pj_laws.specs.OneThread.{Turn}
+use Rattle.pj_events.specs.OneThread.{Turn}
 use Rattle.pj_laws.proofs.Rounds.{AreTagged}
 use Rattle.pj_pattern.specs.declared.element.Element.{Element}
 use Rattle.pj_engine.specs.Feeds.{FeedState, bytes_of, all_accepted, count_of, work_of, work_in, IsFed, IsSameFeed, AreFeeds, AreNew, AreSameFeeds, AllTold, AllClosed, AreAllTaken, files_of, tallies_in, tallies_of, feed_left, brought, closes}

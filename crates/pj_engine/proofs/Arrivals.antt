@@ -4,12 +4,12 @@ use Rattle.std.proofs.lemmas.Bool.{cases_lt}
 use Rattle.std.proofs.lemmas.List.{append_cancel_right, length-append, take-append-drop, get_or_append_left, get_or-append_right}
 use Rattle.std.proofs.lemmas.List.Elements.{filter-append}
 use Rattle.pj_pattern.specs.declared.element.Element.{Element}
-use Rattle.pj_laws.specs.declared.events.Entry.{Entry}
-use Rattle.pj_laws.specs.declared.events.Event.TheVariants.{Drain, Sweep as Swept}
-use Rattle.pj_laws.specs.Plan.{Node}
-use Rattle.pj_laws.specs.History.{nodes_from}
-use Rattle.pj_laws.specs.Outcomes.{elements_of}
-use Rattle.pj_laws.specs.OneThread.{Place, Turn, heads, tails, in_rounds, arrival_of, is_punct, places_from, probes_at, probes_from, probes, pending_at, follow_up, sweeps_at, turn_entries, turns_entries, plain}
+use Rattle.pj_events.specs.declared.events.Entry.{Entry}
+use Rattle.pj_events.specs.declared.events.Event.TheVariants.{Drain, Sweep as Swept}
+use Rattle.pj_events.specs.Plan.{Node}
+use Rattle.pj_events.specs.History.{nodes_from}
+use Rattle.pj_events.specs.Outcomes.{elements_of}
+use Rattle.pj_events.specs.OneThread.{Place, Turn, heads, tails, in_rounds, arrival_of, is_punct, places_from, probes_at, probes_from, probes, pending_at, follow_up, sweeps_at, turn_entries, turns_entries, plain}
 use Rattle.pj_laws.proofs.Rounds.{mine, AreTagged, tails-tagged, length-tails, none-below, mine-heads, mine-in_rounds}
 use Rattle.pj_engine.specs.Feeds.{round_left}
 use Rattle.pj_laws.proofs.OneRun.{elements-append}

@@ -27,8 +27,8 @@ use Rattle.pj_graph.specs.Saturation.{certificate_of}
 use Rattle.pj_graph.proofs.Saturations.{among_in}
 use Rattle.pj_graph.proofs.Certified.{in_or_none}
 use Rattle.pj_alone.specs.Safety.{AreCertificates, certificates_at, certificates_of, schemes_at, spec_at, spec_in}
-use Rattle.pj_laws.specs.Join.{AreBound, AreCertified, AreListedOnce, CertEntry, IsCertified, IsWalk, class_at, class_with, entry_of}
-use Rattle.pj_laws.specs.Plan.{operator_at}
+use Rattle.pj_events.specs.Join.{AreBound, AreCertified, AreListedOnce, CertEntry, IsCertified, IsWalk, class_at, class_with, entry_of}
+use Rattle.pj_events.specs.Plan.{operator_at}
 use Rattle.pj_laws.specs.HistoryLaws.{AllAreCertified, Certified}
 use Rattle.pj_join.specs.Joins.{join_data}
 use Rattle.pj_core.specs.Plans.{join_at_start, nodes_of, nodes_with, operator_of, run_plan}

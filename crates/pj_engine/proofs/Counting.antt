@@ -3,8 +3,8 @@ use Rattle.std.proofs.Common.{◌≡◌, ℕ, ◌+◌, ◌-◌, ◌<◌, ◌^◌
 use Rattle.std.proofs.lemmas.List.{length-append, take_more, take-append-drop, map-append}
 use Rattle.pj_pattern.specs.declared.element.Element.{Element}
 use Rattle.pj_element.specs.Runs.{rows_of, puncts_of, element_lines}
-use Rattle.pj_laws.specs.declared.events.Out.{Out}
-use Rattle.pj_laws.specs.Outcomes.{elements_out}
+use Rattle.pj_events.specs.declared.events.Out.{Out}
+use Rattle.pj_events.specs.Outcomes.{elements_out}
 use Rattle.pj_laws.proofs.Steps.{elements-append}
 use Rattle.pj_engine.specs.declared.results.Counts.{Counts}
 use Rattle.pj_engine.specs.Report.{counted_to}

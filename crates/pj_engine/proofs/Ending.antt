@@ -10,11 +10,11 @@ use Rattle.pj_io.specs.Causes.{Rose}
 use Rattle.pj_io.specs.States.{SinkState}
 use Rattle.pj_element.specs.declared.tally.Tally.{Tally}
 use Rattle.pj_intake.specs.declared.intake.IntakeStop.TheVariants.{ReadFault as IntakeFault, ByteLimit, NoMemory as IntakeMemory}
-use Rattle.pj_laws.specs.declared.events.Entry.{Entry}
-use Rattle.pj_laws.specs.Plan.{Node}
-use Rattle.pj_laws.specs.History.{nodes_from}
-use Rattle.pj_laws.specs.Outcomes.{outputs_of as handed_out}
-use Rattle.pj_laws.specs.OneThread.{Turn, turns_entries}
+use Rattle.pj_events.specs.declared.events.Entry.{Entry}
+use Rattle.pj_events.specs.Plan.{Node}
+use Rattle.pj_events.specs.History.{nodes_from}
+use Rattle.pj_events.specs.Outcomes.{outputs_of as handed_out}
+use Rattle.pj_events.specs.OneThread.{Turn, turns_entries}
 use Rattle.pj_laws.proofs.Histories.{outputs-append}
 use Rattle.pj_core.specs.Cores.{CoreState}
 use Rattle.pj_engine.specs.declared.feeds.Arrival.{Arrival}

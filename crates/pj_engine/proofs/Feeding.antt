@@ -7,7 +7,7 @@ use Rattle.std.proofs.lemmas.List.{take_more, take_more_set, drop-set-lt, drop_m
 use Rattle.std.proofs.lemmas.Option.{slice_get_within, get_or_from_slice_get}
 use Rattle.pj_value.specs.Lists.{In}
 use Rattle.pj_value.proofs.Members.{In-append_left, In-append_right}
-use Rattle.pj_laws.specs.OneThread.{Turn, heads, tails, rounds, longest, in_rounds}
+use Rattle.pj_events.specs.OneThread.{Turn, heads, tails, rounds, longest, in_rounds}
 use Rattle.pj_laws.proofs.OneThreadAnswer.{rounds-go-on}
 use Rattle.pj_engine.specs.Feeds.{FeedState, feed_left, round_left, feeds_left, AllClosed, IsFirstOpen, HasTurn}
 

@@ -15,12 +15,12 @@ use Rattle.pj_pattern.specs.declared.element.Element.{Element}
 use Rattle.pj_pattern.specs.Elements.{IsLawful, rows_of}
 use Rattle.pj_pattern.proofs.Elements.{rows_of-append}
 use Rattle.pj_pattern.proofs.Lawful.{none_at}
-use Rattle.pj_laws.specs.Join.{upto_from}
-use Rattle.pj_laws.specs.Plan.{Node}
-use Rattle.pj_laws.specs.declared.events.Entry.{Entry}
-use Rattle.pj_laws.specs.History.{nodes_from, IsLegal}
-use Rattle.pj_laws.specs.Outcomes.{elements_out}
-use Rattle.pj_laws.specs.Outcomes.{outputs_of as handed_out, elements_of as arrived_at}
+use Rattle.pj_events.specs.Join.{upto_from}
+use Rattle.pj_events.specs.Plan.{Node}
+use Rattle.pj_events.specs.declared.events.Entry.{Entry}
+use Rattle.pj_events.specs.History.{nodes_from, IsLegal}
+use Rattle.pj_events.specs.Outcomes.{elements_out}
+use Rattle.pj_events.specs.Outcomes.{outputs_of as handed_out, elements_of as arrived_at}
 use Rattle.pj_laws.specs.Finality.{GoOnLawfully}
 use Rattle.pj_laws.proofs.Histories.{outputs-append}
 use Rattle.pj_laws.proofs.HistoryAnswers.{fronts-are-legal}

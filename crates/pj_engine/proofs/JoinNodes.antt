@@ -4,7 +4,7 @@ use Rattle.pj_plan.specs.declared.node.PlanNode.{PlanNode}
 use Rattle.pj_plan.specs.declared.node.Outline.{Outline}
 use Rattle.pj_plan.specs.Nodes.{is_join, joins_of, numbers_from}
 use Rattle.pj_plan.specs.Canonical.{node_at, node_name}
-use Rattle.pj_laws.specs.declared.events.Entry.{Entry}
+use Rattle.pj_events.specs.declared.events.Entry.{Entry}
 use Rattle.pj_core.specs.Cores.{CoreState, StandsFor}
 use Rattle.pj_core.specs.Calls.{IsJoinNode, IsPeak}
 use Rattle.pj_engine.specs.Report.{peak_line}

@@ -9,12 +9,12 @@ use Rattle.pj_pattern.specs.Elements.{IsLawful, puncts_of, rows_of}
 use Rattle.pj_element.specs.Runs.{closing}
 use Rattle.pj_plan.specs.declared.node.Outline.{Outline}
 use Rattle.pj_plan.specs.declared.node.PlanNode.{PlanNode}
-use Rattle.pj_laws.specs.Join.{upto_from}
-use Rattle.pj_laws.specs.Plan.{Node}
-use Rattle.pj_laws.specs.History.{streams_of}
+use Rattle.pj_events.specs.Join.{upto_from}
+use Rattle.pj_events.specs.Plan.{Node}
+use Rattle.pj_events.specs.History.{streams_of}
 use Rattle.pj_laws.specs.HistoryLaws.{IsWholeRun, closed_list, closed_lists}
-use Rattle.pj_laws.specs.Limits.{ReachesLimit}
-use Rattle.pj_laws.specs.Punctuations.{puncts_answer}
+use Rattle.pj_events.specs.Limits.{ReachesLimit}
+use Rattle.pj_events.specs.Punctuations.{puncts_answer}
 use Rattle.pj_laws.specs.Reaching.{elements_to as coming_to}
 use Rattle.pj_laws.proofs.HistoryAnswers.{hands_out-lawfully}
 use Rattle.pj_laws.proofs.HistoryPuncts.{swept-is-puncts}

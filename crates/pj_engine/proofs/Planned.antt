@@ -9,7 +9,7 @@ use Rattle.pj_plan.specs.declared.node.PlanNode.{PlanNode}
 use Rattle.pj_plan.specs.Canonical.{node_at, node_schema}
 use Rattle.pj_scheme.specs.Derived.{schemes_of}
 use Rattle.pj_laws.specs.Climb.{IsTree}
-use Rattle.pj_laws.specs.Plan.{ArePlanned}
+use Rattle.pj_events.specs.Plan.{ArePlanned}
 use Rattle.pj_laws.specs.HistoryLaws.{AllAreCertified, AllPropagate, Propagates}
 use Rattle.pj_core.specs.Plans.{operator_of}
 use Rattle.pj_core.proofs.Planned.{nodes-long, not-empty, planned, tree as is_tree}

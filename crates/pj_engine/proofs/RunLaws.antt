@@ -19,8 +19,8 @@ use Rattle.pj_element.specs.Runs.{element_lines}
 use Rattle.pj_element.specs.Accepted.{fates_of, tally_of}
 use Rattle.pj_line.proofs.Feeds.{has_no_both}
 use Rattle.pj_element.proofs.Feeds.{decimal_no_feed}
-use Rattle.pj_laws.specs.declared.events.Entry.{Entry}
-use Rattle.pj_laws.specs.Outcomes.{peak_of}
+use Rattle.pj_events.specs.declared.events.Entry.{Entry}
+use Rattle.pj_events.specs.Outcomes.{peak_of}
 use Rattle.pj_engine.specs.Commands.{Command, plan_bytes, stream_files}
 use Rattle.pj_plan.specs.Canonical.{node_name}
 use Rattle.pj_plan.specs.Names.{is_name_byte}

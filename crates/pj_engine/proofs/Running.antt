@@ -11,18 +11,18 @@ use Rattle.pj_shape.specs.declared.columns.Column.{Column}
 use Rattle.pj_pattern.specs.declared.element.Element.{Element}
 use Rattle.pj_pattern.specs.declared.element.Element.TheVariants.{Punct}
 use Rattle.pj_element.specs.declared.tally.Tally.{Tally}
-use Rattle.pj_laws.specs.declared.events.Entry.{Entry}
-use Rattle.pj_laws.specs.declared.events.Event.TheVariants.{Arrive}
-use Rattle.pj_laws.specs.declared.events.Out.{Out}
+use Rattle.pj_events.specs.declared.events.Entry.{Entry}
+use Rattle.pj_events.specs.declared.events.Event.TheVariants.{Arrive}
+use Rattle.pj_events.specs.declared.events.Out.{Out}
 use Rattle.pj_pattern.specs.Columns.{all_wild}
 use Rattle.pj_pattern.specs.Fitting.{FitsKinds}
 use Rattle.pj_shape.specs.Columns.{kinds_of}
-use Rattle.pj_laws.specs.Plan.{Node, operator_at}
-use Rattle.pj_laws.specs.History.{nodes_from, reached_of, streams_of, IsLegal, IsEntryAllowed}
-use Rattle.pj_laws.specs.Limits.{StaysWithin, BeginsBeyond, ReachesLimit}
-use Rattle.pj_laws.specs.Outcomes.{elements_out}
-use Rattle.pj_laws.specs.Outcomes.{outputs_of as handed_out, elements_of as arrived_at}
-use Rattle.pj_laws.specs.OneThread.{Turn, follow_up, turns_of, in_rounds, arrival_of, turn_entries, turns_entries, all_turns, schema_of}
+use Rattle.pj_events.specs.Plan.{Node, operator_at}
+use Rattle.pj_events.specs.History.{nodes_from, reached_of, streams_of, IsLegal, IsEntryAllowed}
+use Rattle.pj_events.specs.Limits.{StaysWithin, BeginsBeyond, ReachesLimit}
+use Rattle.pj_events.specs.Outcomes.{elements_out}
+use Rattle.pj_events.specs.Outcomes.{outputs_of as handed_out, elements_of as arrived_at}
+use Rattle.pj_events.specs.OneThread.{Turn, follow_up, turns_of, in_rounds, arrival_of, turn_entries, turns_entries, all_turns, schema_of}
 use Rattle.pj_laws.proofs.Rounds.{AreTagged, length-all, all-at}
 use Rattle.pj_laws.proofs.Steps.{elements-append}
 use Rattle.pj_laws.proofs.HistoryAnswers.{grows-legally, fronts-are-legal}

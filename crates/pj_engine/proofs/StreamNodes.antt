@@ -10,7 +10,7 @@ use Rattle.pj_plan.specs.declared.node.Outline.{Outline}
 use Rattle.pj_plan.specs.Nodes.{is_stream, numbers_from, streams_of}
 use Rattle.pj_plan.specs.Canonical.{no_node, node_name, node_schema}
 use Rattle.pj_plan.specs.Sound.{IsSoundPlan}
-use Rattle.pj_laws.specs.History.{is_stream as is_fed, streams_from, streams_of as streams_among}
+use Rattle.pj_events.specs.History.{is_stream as is_fed, streams_from, streams_of as streams_among}
 use Rattle.pj_core.specs.Plans.{certs_behind, nodes_with, operator_of, streams_in}
 use Rattle.pj_alone.specs.Safety.{certificates_of}
 use Rattle.pj_engine.specs.Runs.{run_nodes}

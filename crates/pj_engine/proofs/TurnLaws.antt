@@ -5,14 +5,14 @@ use Rattle.pj_pattern.specs.declared.element.Element.{Element}
 use Rattle.pj_core.specs.Plans.{nodes_of, streams_in}
 use Rattle.std.proofs.Common.{◌≡◌, ◌<◌, ℕ, List, [], ◌++◌, length, Option, Some, None, Result, Ok, Err, IfOk, IfErr, IsTrue, ap, sym, ◌∙◌, append-nil, subst, arith}
 use Rattle.pj_io.specs.States.{SinkState}
-use Rattle.pj_laws.specs.declared.events.Entry.{Entry}
-use Rattle.pj_laws.specs.declared.events.Out.{Out}
-use Rattle.pj_laws.specs.declared.events.Stop.{Stop}
-use Rattle.pj_laws.specs.declared.events.Stop.TheVariants.{Limit, NoMemory}
-use Rattle.pj_laws.specs.Plan.{Node}
-use Rattle.pj_laws.specs.History.{nodes_from}
-use Rattle.pj_laws.specs.Outcomes.{outputs_of}
-use Rattle.pj_laws.specs.OneThread.{Turn, arrival_of}
+use Rattle.pj_events.specs.declared.events.Entry.{Entry}
+use Rattle.pj_events.specs.declared.events.Out.{Out}
+use Rattle.pj_events.specs.declared.events.Stop.{Stop}
+use Rattle.pj_events.specs.declared.events.Stop.TheVariants.{Limit, NoMemory}
+use Rattle.pj_events.specs.Plan.{Node}
+use Rattle.pj_events.specs.History.{nodes_from}
+use Rattle.pj_events.specs.Outcomes.{outputs_of}
+use Rattle.pj_events.specs.OneThread.{Turn, arrival_of}
 use Rattle.pj_laws.proofs.Histories.{outputs-append}
 use Rattle.pj_core.specs.Cores.{CoreState, StandsFor, MayFollow}
 use Rattle.pj_core.specs.Calls.{IsTurnRefused, MakesTurn, StopsInTurn}

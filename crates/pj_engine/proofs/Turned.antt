@@ -6,7 +6,7 @@ use Rattle.std.proofs.lemmas.Option.{slice_get_within, get_or_from_slice_get}
 use Rattle.pj_pattern.specs.declared.element.Element.{Element}
 use Rattle.pj_io.specs.States.{SinkState}
 use Rattle.pj_engine.specs.declared.stops.FeedWhy.{FeedWhy}
-use Rattle.pj_laws.specs.OneThread.{Turn}
+use Rattle.pj_events.specs.OneThread.{Turn}
 use Rattle.pj_engine.specs.declared.feeds.Arrival.{Arrival}
 use Rattle.pj_engine.specs.declared.feeds.Arrival.TheVariants.{Brought, Closing}
 use Rattle.pj_engine.specs.Feeds.{FeedState, all_accepted, count_of, IsFed, FeedEnds, AreFeeds, AllTold, AllClosed, HasTurn, StopsIn, turn_in, feed_left, feeds_left, brought, closes}

@@ -4,11 +4,11 @@ use Rattle.pj_plan.specs.declared.node.Outline.{Outline}
 use Rattle.pj_core.specs.Plans.{stream_columns, streams_in}
 use Rattle.pj_pattern.specs.declared.element.Element.{Element}
 use Rattle.pj_element.specs.Runs.{element_lines}
-use Rattle.pj_laws.specs.declared.events.Entry.{Entry}
-use Rattle.pj_laws.specs.declared.events.Event.TheVariants.{Arrive}
-use Rattle.pj_laws.specs.Limits.{ReachesLimit}
-use Rattle.pj_laws.specs.Outcomes.{elements_out}
-use Rattle.pj_laws.specs.Outcomes.{outputs_of as handed_out, elements_of as arrived_at}
+use Rattle.pj_events.specs.declared.events.Entry.{Entry}
+use Rattle.pj_events.specs.declared.events.Event.TheVariants.{Arrive}
+use Rattle.pj_events.specs.Limits.{ReachesLimit}
+use Rattle.pj_events.specs.Outcomes.{elements_out}
+use Rattle.pj_events.specs.Outcomes.{outputs_of as handed_out, elements_of as arrived_at}
 use Rattle.pj_engine.specs.Feeds.{fed_elements}
 use Rattle.pj_engine.specs.Runs.{history_of, most_arrivals, run_nodes}
 use Rattle.pj_engine.specs.Written.{flat}

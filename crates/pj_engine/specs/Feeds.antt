@@ -15,7 +15,7 @@ use Rattle.pj_intake.specs.Taking.{IntakeState, Taking, IsOpen}
 use Rattle.pj_pattern.specs.Columns.{all_wild}
 use Rattle.pj_pattern.specs.Fitting.{FitsKinds}
 use Rattle.pj_shape.specs.Columns.{kinds_of}
-use Rattle.pj_laws.specs.OneThread.{Turn, heads, tails, in_rounds}
+use Rattle.pj_events.specs.OneThread.{Turn, heads, tails, in_rounds}
 use Rattle.pj_engine.specs.declared.feeds.Arrival.{Arrival}
 use Rattle.pj_engine.specs.declared.feeds.Arrival.TheVariants.{Brought, Closing}
 use Rattle.pj_engine.specs.declared.stops.FeedStop.{FeedStop}

@@ -8,7 +8,7 @@ use Rattle.pj_element.specs.declared.tally.Tally.{Tally}
 use Rattle.pj_core.specs.Cores.{CoreState, StandsFor}
 use Rattle.pj_engine.specs.declared.stops.WriteStop.{WriteStop}
 use Rattle.pj_engine.specs.Written.{WritesBy, write_cut}
-use Rattle.pj_laws.specs.declared.events.Entry.{Entry}
+use Rattle.pj_events.specs.declared.events.Entry.{Entry}
 use Rattle.pj_engine.specs.declared.results.Counts.{Counts}
 use Rattle.pj_engine.specs.Feeds.{tallies_of}
 use Rattle.pj_engine.specs.Results.{counts_of}

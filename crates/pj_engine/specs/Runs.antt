@@ -11,16 +11,16 @@ use Rattle.pj_pattern.specs.declared.element.Element.{Element}
 use Rattle.pj_pattern.specs.declared.element.Element.TheVariants.{Punct}
 use Rattle.pj_element.specs.Runs.{rows_of, puncts_of, IsLawful, element_lines, closing}
 use Rattle.pj_element.specs.Accepted.{taken_of, fates_of, tally_of}
-use Rattle.pj_laws.specs.Plan.{Node}
+use Rattle.pj_events.specs.Plan.{Node}
 use Rattle.pj_laws.specs.HistoryLaws.{AllAreCertified}
-use Rattle.pj_laws.specs.Punctuations.{puncts_answer}
-use Rattle.pj_laws.specs.declared.events.Entry.{Entry}
-use Rattle.pj_laws.specs.Limits.{ReachesLimit}
+use Rattle.pj_events.specs.Punctuations.{puncts_answer}
+use Rattle.pj_events.specs.declared.events.Entry.{Entry}
+use Rattle.pj_events.specs.Limits.{ReachesLimit}
 use Rattle.pj_laws.specs.Reaching.{IsCounted}
 use Rattle.pj_laws.specs.Reaching.{elements_to as coming_to}
-use Rattle.pj_laws.specs.Outcomes.{elements_out, peak_of}
-use Rattle.pj_laws.specs.Outcomes.{outputs_of as handed_out, answer_of as plan_answer}
-use Rattle.pj_laws.specs.OneThread.{one_thread_of}
+use Rattle.pj_events.specs.Outcomes.{elements_out, peak_of}
+use Rattle.pj_events.specs.Outcomes.{outputs_of as handed_out, answer_of as plan_answer}
+use Rattle.pj_events.specs.OneThread.{one_thread_of}
 use Rattle.pj_core.specs.Cores.{CoreState}
 use Rattle.pj_core.specs.Calls.{IsFresh}
 use Rattle.pj_plan.specs.Sound.{IsSoundPlan}

@@ -15,10 +15,10 @@ use Rattle.pj_element.specs.Runs.{element_lines}
 use Rattle.pj_value.specs.Bags.{SubBag}
 use Rattle.pj_value.specs.Lists.{In}
 use Rattle.pj_value.specs.declared.values.Value.{Value}
-use Rattle.pj_laws.specs.declared.events.Entry.{Entry}
-use Rattle.pj_laws.specs.Outcomes.{elements_out}
-use Rattle.pj_laws.specs.Outcomes.{outputs_of as handed_out, elements_of as arrived_at}
-use Rattle.pj_laws.specs.Join.{upto_from}
+use Rattle.pj_events.specs.declared.events.Entry.{Entry}
+use Rattle.pj_events.specs.Outcomes.{elements_out}
+use Rattle.pj_events.specs.Outcomes.{outputs_of as handed_out, elements_of as arrived_at}
+use Rattle.pj_events.specs.Join.{upto_from}
 use Rattle.pj_engine.specs.declared.status.Status.{Status}
 use Rattle.pj_engine.specs.declared.status.Status.TheVariants.{Done, Usage, OpenFault, ReadFault, PlanRefused, FileCount, Unsafe, WriteFault, NoMemory, Limit}
 use Rattle.pj_engine.specs.declared.status.LimitOf.{LimitOf}

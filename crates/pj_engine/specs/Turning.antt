@@ -4,14 +4,14 @@ use Rattle.pj_plan.specs.declared.node.Outline.{Outline}
 use Rattle.pj_plan.specs.declared.node.PlanNode.{PlanNode}
 use Rattle.pj_core.specs.Plans.{stream_columns}
 use Rattle.pj_pattern.specs.declared.element.Element.{Element}
-use Rattle.pj_laws.specs.declared.events.Entry.{Entry}
-use Rattle.pj_laws.specs.declared.events.Out.{Out}
-use Rattle.pj_laws.specs.declared.events.Stop.{Stop}
+use Rattle.pj_events.specs.declared.events.Entry.{Entry}
+use Rattle.pj_events.specs.declared.events.Out.{Out}
+use Rattle.pj_events.specs.declared.events.Stop.{Stop}
 use Rattle.pj_pattern.specs.Fitting.{FitsKinds}
 use Rattle.pj_shape.specs.Columns.{kinds_of}
-use Rattle.pj_laws.specs.Outcomes.{elements_out, outputs_of, elements_of as arrived_at}
-use Rattle.pj_laws.specs.Limits.{StaysWithin, BeginsBeyond, StopsAt}
-use Rattle.pj_laws.specs.OneThread.{Turn, arrival_of}
+use Rattle.pj_events.specs.Outcomes.{elements_out, outputs_of, elements_of as arrived_at}
+use Rattle.pj_events.specs.Limits.{StaysWithin, BeginsBeyond, StopsAt}
+use Rattle.pj_events.specs.OneThread.{Turn, arrival_of}
 use Rattle.pj_core.specs.Cores.{CoreState, StandsFor, MayFollow, nodes_after, nodes_in}
 use Rattle.pj_core.specs.Calls.{MakesTurn, turn_behind}
 use Rattle.pj_engine.specs.declared.results.Counts.{Counts}

@@ -3,7 +3,7 @@ ghost use Rattle.std.specs.Prelude.{◌≡◌, ◌≤◌, ◌++◌, ◌∷◌, [
 ghost use Rattle.pj_pattern.specs.declared.element.Element.{Element};
 ghost use Rattle.pj_pattern.specs.Elements.{rows_of, puncts_of};
 ghost use Rattle.pj_io.specs.Causes.{Rose};
-ghost use Rattle.pj_laws.specs.Outcomes.{elements_out};
+ghost use Rattle.pj_events.specs.Outcomes.{elements_out};
 ghost use Rattle.pj_engine.specs.Results.{out_lines, counts_of};
 ghost use Rattle.pj_engine.specs.Written.{flat, WritesBy, write_cut};
 
@@ -11,7 +11,7 @@ use crate::lines::write_piece;
 use crate::stops::WriteStop;
 use pj_element::{punct_text, row_text};
 use pj_io::Sink;
-use pj_laws::Out;
+use pj_events::Out;
 use pj_value::{List as Items, NoMemory};
 use std::alloc::Global;
 

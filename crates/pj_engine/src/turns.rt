@@ -12,7 +12,7 @@ use crate::results::{Counts, write_outs};
 use crate::stops::TurnStop;
 use pj_core::Core;
 use pj_io::Sink;
-use pj_laws::{Out, Stop};
+use pj_events::{Out, Stop};
 use pj_value::List as Items;
 use std::alloc::Global;
 

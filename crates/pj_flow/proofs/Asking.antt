@@ -2,8 +2,8 @@
 use Rattle.std.proofs.Common.{ℕ, zero, suc, ◌+◌, ◌-◌, ◌<◌, ◌≤◌, Bool, true, false, ◌&&◌, ◌||◌, not, List, [], ◌∷◌, ◌++◌, ◌≡◌, refl, sym, ap, ap₂, ◌∙◌, subst, eqb, arith}
 use Rattle.std.proofs.lemmas.Bool.{eqb-true}
 use Rattle.std.proofs.lemmas.List.Folds.{list_any-append}
-use Rattle.pj_laws.specs.Patterns.{covers_punct}
-use Rattle.pj_laws.specs.Operators.{Sent, all_sent_from}
+use Rattle.pj_events.specs.Patterns.{covers_punct}
+use Rattle.pj_events.specs.Operators.{Sent, all_sent_from}
 use Rattle.pj_flow.specs.Unions.{bears_on}
 use Rattle.pj_flow.specs.Insides.{SentFrom, has_covering}
 

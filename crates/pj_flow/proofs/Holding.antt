@@ -5,8 +5,8 @@ use Rattle.std.proofs.lemmas.List.{map-append, get_or_append_left, get_or-append
 use Rattle.std.proofs.lemmas.List.Elements.{All-head, All-tail, All-push, All-weaker, All-filter, filter_passes}
 use Rattle.pj_pattern.specs.declared.element.Element.{Element}
 use Rattle.pj_pattern.specs.declared.element.Element.TheVariants.{Punct}
-use Rattle.pj_laws.specs.Patterns.{Pattern}
-use Rattle.pj_laws.specs.Operators.{Sent, all_sent_from, union_after}
+use Rattle.pj_events.specs.Patterns.{Pattern}
+use Rattle.pj_events.specs.Operators.{Sent, all_sent_from, union_after}
 use Rattle.pj_flow.specs.Unions.{UnionView, bears_on, puncts}
 use Rattle.pj_flow.specs.Insides.{AreAsked, AreHeld, IsAsked, IsHeld, is_ready, newest, nobody, patterns_at, seen, sent_at, with_newest}
 use Rattle.pj_flow.proofs.Asking.{unaffected}

@@ -3,7 +3,7 @@ use Rattle.std.specs.Prelude.{List, [], ◌∷◌, Option, Some, None}
 use Rattle.pj_value.specs.declared.values.Value.{Value}
 use Rattle.pj_pattern.specs.declared.element.Element.{Element}
 use Rattle.pj_pattern.specs.declared.element.Element.TheVariants.{Tuple, Punct}
-use Rattle.pj_laws.specs.Patterns.{Pattern}
+use Rattle.pj_events.specs.Patterns.{Pattern}
 
 -- a tuple, or nothing
 abbrev pub row_handed : Option (List Value) → List Element

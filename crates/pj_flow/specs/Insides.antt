@@ -1,8 +1,8 @@
 -- How a union keeps the punctuations that wait: by their places among those that came.
 use Rattle.std.specs.Prelude.{ℕ, ◌+◌, ◌-◌, ◌<◌, ◌≡◌, Bool, false, ◌==◌, ◌&&◌, List, [], ◌∷◌, ◌++◌, map, length, slice_index_or, All}
 use Rattle.std.specs.List.{list_any}
-use Rattle.pj_laws.specs.Patterns.{Pattern, covers_punct}
-use Rattle.pj_laws.specs.Operators.{Sent, all_sent_from}
+use Rattle.pj_events.specs.Patterns.{Pattern, covers_punct}
+use Rattle.pj_events.specs.Operators.{Sent, all_sent_from}
 use Rattle.pj_flow.specs.Unions.{UnionView, bears_on}
 
 -- stands for a punctuation where there is none

@@ -2,8 +2,8 @@
 use Rattle.std.specs.Prelude.{ℕ, Bool, not, ◌==◌, ◌&&◌, List, [], map}
 use Rattle.pj_pattern.specs.declared.element.Element.{Element}
 use Rattle.pj_pattern.specs.declared.element.Element.TheVariants.{Punct}
-use Rattle.pj_laws.specs.Patterns.{Pattern, covers_punct}
-use Rattle.pj_laws.specs.Operators.{Sent, UnionState}
+use Rattle.pj_events.specs.Patterns.{Pattern, covers_punct}
+use Rattle.pj_events.specs.Operators.{Sent, UnionState}
 
 -- how many inputs and columns it has, all punctuations that came, and those that wait
 pub record UnionView : Type 0 where

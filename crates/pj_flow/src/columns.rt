@@ -1,7 +1,7 @@
 // Projects.
 ghost use Rattle.std.specs.Prelude.{◌≡◌, ◌<◌, All, IfOk, Some, length};
 ghost use Rattle.pj_shape.specs.Joining.{value_at};
-ghost use Rattle.pj_laws.specs.Operators.{picked_cells, project_hands};
+ghost use Rattle.pj_events.specs.Operators.{picked_cells, project_hands};
 ghost use Rattle.pj_flow.specs.Handed.{punct_handed, row_handed};
 
 use pj_pattern::{Element, Punct};

@@ -1,6 +1,6 @@
 // Punctuations that have come to a union.
 ghost use Rattle.std.specs.Prelude.{◌≡◌, ◌&&◌, ◌==◌, not};
-ghost use Rattle.pj_laws.specs.Patterns.{covers_punct};
+ghost use Rattle.pj_events.specs.Patterns.{covers_punct};
 ghost use Rattle.pj_flow.specs.Unions.{bears_on};
 
 use pj_pattern::Punct;
@@ -14,7 +14,7 @@ pub struct Heard {
 }
 
 impl Model for Heard {
-    ghost use Rattle.pj_laws.specs.Operators.{Sent};
+    ghost use Rattle.pj_events.specs.Operators.{Sent};
 
     ghost Value = { Sent };
 

@@ -1,6 +1,6 @@
 // Selects.
 ghost use Rattle.std.specs.Prelude.{◌≡◌};
-ghost use Rattle.pj_laws.specs.Operators.{select_hands};
+ghost use Rattle.pj_events.specs.Operators.{select_hands};
 ghost use Rattle.pj_flow.specs.Handed.{row_handed};
 
 use pj_pattern::{Element, Punct};

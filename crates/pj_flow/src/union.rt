@@ -1,7 +1,7 @@
 // Unions.
 ghost use Rattle.std.specs.Prelude.{◌≡◌, ◌<◌, ◌+◌, ◌++◌, ◌||◌, ◌==◌, ◌&&◌, [], All, not, filter, false, map, length, OnOk, OnErr, IfOk};
 ghost use Rattle.pj_value.specs.Texts.{IsFront};
-ghost use Rattle.pj_laws.specs.Operators.{all_sent_from, union_after, union_hands};
+ghost use Rattle.pj_events.specs.Operators.{all_sent_from, union_after, union_hands};
 ghost use Rattle.pj_flow.specs.Unions.{start, puncts};
 ghost use Rattle.pj_flow.specs.Insides.{AreAsked, IsAsked, has_covering, is_ready, patterns_at, with_newest};
 

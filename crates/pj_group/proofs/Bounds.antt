@@ -11,12 +11,12 @@ use Rattle.std.proofs.lemmas.List.Elements.{All-cons, All-head, All-nil, All-tai
 use Rattle.indexmap.specs.IndexMap.{insert_entry}
 use Rattle.pj_value.specs.declared.values.Value.{Value}
 use Rattle.pj_value.specs.Values.{row_eq}
-use Rattle.pj_laws.specs.Tables.{Greatest, Least, Rows, Tally, Total}
+use Rattle.pj_events.specs.Tables.{Greatest, Least, Rows, Tally, Total}
 use Rattle.pj_group.specs.Slots.{GroupSlot}
 use Rattle.pj_group.proofs.OpenGroups.{states_set}
 use Rattle.pj_group.specs.Insides.{AllStates, AreStates, IsBounded}
 use Rattle.pj_group.specs.Steps.{first_tally}
-use Rattle.pj_laws.specs.Operators.{Agg, GroupSpec}
+use Rattle.pj_events.specs.Operators.{Agg, GroupSpec}
 
 bounded_weaker : (m n : ℕ) (t : Tally) → m ≤ n → IsBounded m t → IsBounded n t
 bounded_weaker m n (Rows k) le h = omega (arith, le, h)

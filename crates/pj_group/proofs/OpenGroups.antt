@@ -8,9 +8,9 @@ use Rattle.indexmap.specs.IndexMap.{insert_entry}
 use Rattle.pj_value.specs.declared.values.Value.{Value}
 use Rattle.pj_value.specs.Values.{row_eq}
 use Rattle.pj_value.proofs.Orders.{row_same_if_equal}
-use Rattle.pj_laws.specs.Patterns.{Pattern, matches_row}
-use Rattle.pj_laws.specs.Operators.{GroupSpec}
-use Rattle.pj_laws.specs.Tables.{GroupEntry, GroupTable, Tally}
+use Rattle.pj_events.specs.Patterns.{Pattern, matches_row}
+use Rattle.pj_events.specs.Operators.{GroupSpec}
+use Rattle.pj_events.specs.Tables.{GroupEntry, GroupTable, Tally}
 use Rattle.pj_group.specs.Slots.{GroupSlot, IsReady, MatchesOnly, is_open, open_groups, state_rows, states_in, with_open}
 use Rattle.pj_group.specs.Steps.{closed_rows, row_tuple}
 use Rattle.pj_group.specs.Insides.{AllStates, AreStates}

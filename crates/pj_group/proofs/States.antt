@@ -7,8 +7,8 @@ use Rattle.pj_value.specs.Bags.{weigh}
 use Rattle.pj_value.specs.declared.values.Value.{Value}
 use Rattle.pj_value.specs.declared.values.Value.TheVariants.{Int, Text}
 use Rattle.pj_shape.specs.Joining.{value_at}
-use Rattle.pj_laws.specs.Operators.{Agg, Count, Sum, Min, Max, above_zero, below_zero, column_of, greater, greatest_from, least_from, lesser, sum_of}
-use Rattle.pj_laws.specs.Tables.{Greatest, Least, Rows, Tally, Total, tally}
+use Rattle.pj_events.specs.Operators.{Agg, Count, Sum, Min, Max, above_zero, below_zero, column_of, greater, greatest_from, least_from, lesser, sum_of}
+use Rattle.pj_events.specs.Tables.{Greatest, Least, Rows, Tally, Total, tally}
 use Rattle.pj_group.specs.Steps.{cell_of, first_tally, next_tallies, next_tally, number_of}
 
 number_is : (v : Value) → pos (above_zero v) -ℤ pos (below_zero v) ≡ number_of v

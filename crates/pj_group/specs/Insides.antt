@@ -1,7 +1,7 @@
 -- How large what a group keeps may be.
 use Rattle.std.specs.Prelude.{ℕ, ◌*◌, ◌^◌, ◌≤◌, ◌≡◌, List, length, pos, neg_ℤ, IfSome, ◌≤ℤ◌, All}
 use Rattle.pj_shape.specs.declared.groups.GroupSpec.{GroupSpec}
-use Rattle.pj_laws.specs.Tables.{Greatest, Least, Rows, Tally, Total}
+use Rattle.pj_events.specs.Tables.{Greatest, Least, Rows, Tally, Total}
 use Rattle.pj_group.specs.Slots.{GroupSlot}
 
 -- what so many rows may come to

@@ -4,8 +4,8 @@ use Rattle.pj_value.specs.declared.values.Value.{Value}
 use Rattle.pj_value.specs.Values.{row_eq}
 use Rattle.pj_pattern.specs.declared.element.Element.{Element}
 use Rattle.pj_pattern.specs.declared.element.Element.TheVariants.{Tuple}
-use Rattle.pj_laws.specs.Patterns.{Pattern, matches_row}
-use Rattle.pj_laws.specs.Tables.{GroupTable, Tally, row_of}
+use Rattle.pj_events.specs.Patterns.{Pattern, matches_row}
+use Rattle.pj_events.specs.Tables.{GroupTable, Tally, row_of}
 
 -- a key, and the states of its group while it is open
 abbrev pub GroupSlot : Type 0

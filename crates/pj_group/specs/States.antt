@@ -1,5 +1,5 @@
 -- The states of aggregates.
-use Rattle.pj_laws.specs.Tables.{Tally, Rows, Total, Least, Greatest}
+use Rattle.pj_events.specs.Tables.{Tally, Rows, Total, Least, Greatest}
 use Rattle.pj_group.specs.declared.tally.State.{State}
 use Rattle.pj_group.specs.declared.tally.State.TheVariants.{Rows as KeptRows, Total as KeptTotal, Least as KeptLeast, Greatest as KeptGreatest}
 

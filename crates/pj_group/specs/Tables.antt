@@ -1,8 +1,8 @@
 -- What a group is seen as.
 use Rattle.std.specs.Prelude.{◌≡◌, ℕ, List}
 use Rattle.pj_value.specs.declared.values.Value.{Value}
-use Rattle.pj_laws.specs.Operators.{GroupSpec}
-use Rattle.pj_laws.specs.Tables.{GroupTable, table_of}
+use Rattle.pj_events.specs.Operators.{GroupSpec}
+use Rattle.pj_events.specs.Tables.{GroupTable, table_of}
 
 -- what it groups by and makes, how many elements may come, how many came, and an entry for each distinct key, in the
 -- order of their first rows

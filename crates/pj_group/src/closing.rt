@@ -5,7 +5,7 @@ ghost use Rattle.std.specs.Map.{keys_of};
 ghost use Rattle.std.specs.Option.{option_copied};
 ghost use Rattle.pj_shape.specs.declared.groups.GroupSpec.{GroupSpec as AnySpec};
 ghost use Rattle.pj_value.specs.Values.{row_eq};
-ghost use Rattle.pj_laws.specs.Patterns.{all_wild, matches_row};
+ghost use Rattle.pj_events.specs.Patterns.{all_wild, matches_row};
 ghost use Rattle.pj_group.specs.Insides.{AllStates};
 ghost use Rattle.pj_group.specs.Slots.{MatchesOnly, open_groups};
 ghost use Rattle.pj_group.specs.Steps.{closed_rows, table_after, table_hands};

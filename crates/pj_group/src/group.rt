@@ -2,12 +2,12 @@
 ghost use Rattle.std.specs.Prelude.{◌≡◌, ◌<◌, ◌≤◌, ◌+◌, ◌^◌, ◌↔◌, List, [], ◌∷◌, ◌++◌, All, length, map, filter, OnOk, OnErr, IfOk, IsErrOf, IsTrue, IfSome};
 ghost use Rattle.std.specs.Option.{option_copied, option_map};
 ghost use Rattle.pj_value.specs.declared.values.Value.{Value};
-ghost use Rattle.pj_laws.specs.Operators.{group_after, group_hands};
+ghost use Rattle.pj_events.specs.Operators.{group_after, group_hands};
 ghost use Rattle.pj_group.specs.Insides.{AllStates, AreStates, IsBounded};
 ghost use Rattle.pj_group.specs.Slots.{open_groups};
 ghost use Rattle.pj_group.specs.Steps.{Fits, IsInRange, cell_of, next_tallies, first_tally};
 ghost use Rattle.pj_group.specs.Tables.{StandsFor};
-ghost use Rattle.pj_laws.specs.Tables.{table_of};
+ghost use Rattle.pj_events.specs.Tables.{table_of};
 
 use crate::closing::close;
 use crate::keys::Key;

@@ -5,11 +5,11 @@ ghost use Rattle.std.specs.Map.{keys_of, lookup};
 ghost use Rattle.std.specs.Option.{option_copied};
 ghost use Rattle.pj_value.specs.Texts.{IsFront};
 ghost use Rattle.pj_value.specs.Values.{row_eq};
-ghost use Rattle.pj_laws.specs.Patterns.{all_wild};
+ghost use Rattle.pj_events.specs.Patterns.{all_wild};
 ghost use Rattle.pj_group.specs.Insides.{AllStates, AreStates, IsBounded};
 ghost use Rattle.pj_group.specs.Slots.{MatchesOnly, open_groups, state_rows, states_in};
 ghost use Rattle.pj_group.specs.Steps.{closed_at, closed_rows};
-ghost use Rattle.pj_laws.specs.Tables.{row_of, value_of};
+ghost use Rattle.pj_events.specs.Tables.{row_of, value_of};
 
 use crate::keys::Key;
 use crate::slots::Slots;

@@ -1,7 +1,7 @@
 // Keys of groups.
 ghost use Rattle.std.specs.Prelude.{◌≡◌, ◌<◌, All, IfOk, IfSome, length};
 ghost use Rattle.pj_value.specs.Values.{row_eq};
-ghost use Rattle.pj_laws.specs.Operators.{picked_cells};
+ghost use Rattle.pj_events.specs.Operators.{picked_cells};
 ghost use Rattle.pj_group.specs.Slots.{MatchesOnly};
 ghost use Rattle.pj_group.specs.Prints.{next_print, print_of, with_bytes, with_value};
 ghost use Rattle.std.specs.Cmp.{decided, partial_equiv_from_equiv};

@@ -3,7 +3,7 @@ ghost use Rattle.std.specs.Prelude.{ℕ, ◌≡◌, ◌&&◌, false, not, Some, 
 ghost use Rattle.std.specs.Map.{lookup, set_value};
 ghost use Rattle.pj_shape.specs.declared.groups.GroupSpec.{GroupSpec as AnySpec};
 ghost use Rattle.pj_value.specs.Values.{row_eq};
-ghost use Rattle.pj_laws.specs.Patterns.{matches_row};
+ghost use Rattle.pj_events.specs.Patterns.{matches_row};
 ghost use Rattle.pj_group.specs.Insides.{AllStates};
 ghost use Rattle.pj_group.specs.Slots.{IsReady, is_open, open_groups};
 

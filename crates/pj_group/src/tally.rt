@@ -4,7 +4,7 @@ ghost use Rattle.std.specs.Option.{option_copied};
 ghost use Rattle.std.specs.Int.{saturate_signed, w64};
 ghost use Rattle.pj_group.specs.Insides.{IsBounded};
 ghost use Rattle.pj_group.specs.Steps.{IsInRange, first_tally, greater_with, lesser_with, next_tally, number_of, sum_with};
-ghost use Rattle.pj_laws.specs.Tables.{Total, value_of};
+ghost use Rattle.pj_events.specs.Tables.{Total, value_of};
 
 use pj_flow::cell;
 use pj_shape::Agg;
@@ -28,7 +28,7 @@ enum State {
 
 impl Model for Tally {
     ghost use Rattle.pj_group.specs.States.{tally_in};
-    ghost use Rattle.pj_laws.specs.Tables.{Tally as KeptTally};
+    ghost use Rattle.pj_events.specs.Tables.{Tally as KeptTally};
 
     ghost Value = { KeptTally };
 

@@ -4,7 +4,7 @@ use Rattle.std.specs.List.{list_all}
 use Rattle.std.proofs.lemmas.Bool.{and_parts, and_from, eqb-true, eq-eqb}
 use Rattle.pj_value.specs.Values.{value_eq}
 use Rattle.pj_shape.specs.Joining.{values_in, all_equal}
-use Rattle.pj_laws.specs.Join.{In, TupleAt, ClassCol, Value, Part, no_value, values, part_of, agree}
+use Rattle.pj_events.specs.Join.{In, TupleAt, ClassCol, Value, Part, no_value, values, part_of, agree}
 use Rattle.pj_join.specs.Walks.{has_there, all_have, suits_class, suits}
 use Rattle.pj_shape.proofs.Joining.{all_equal-from}
 use Rattle.pj_value.proofs.Orders.{same_if_equal, equal_if_same}

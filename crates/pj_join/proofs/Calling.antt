@@ -7,11 +7,11 @@ use Rattle.std.proofs.lemmas.List.{length-map}
 use Rattle.std.proofs.lemmas.List.Quantifiers.{position-Some}
 use Rattle.std.proofs.lemmas.Option.{slice_get_within, get_or_from_slice_get}
 use Rattle.pj_shape.specs.declared.columns.Column.{Column}
-use Rattle.pj_laws.specs.Join.{JoinData, Value, TupleAt, PunctAt, Take, TupleComes, results, agree, product, joined, has, inputs, of_input, upto_from}
-use Rattle.pj_laws.specs.KeptState.{least, without}
+use Rattle.pj_events.specs.Join.{JoinData, Value, TupleAt, PunctAt, Take, TupleComes, results, agree, product, joined, has, inputs, of_input, upto_from}
+use Rattle.pj_events.specs.KeptState.{least, without}
 use Rattle.pj_join.specs.Joins.{Found, JoinView, TakesLeast, after, found_of}
-use Rattle.pj_laws.specs.declared.events.Out.{Out}
-use Rattle.pj_laws.specs.declared.events.Out.TheVariants.{Tuple}
+use Rattle.pj_events.specs.declared.events.Out.{Out}
+use Rattle.pj_events.specs.declared.events.Out.TheVariants.{Tuple}
 use Rattle.pj_join.specs.Handed.{JoinProbes, behind_probe, found_out, rows_probed}
 use Rattle.pj_join.specs.Walks.{choices}
 use Rattle.pj_join.specs.Insides.{tickets, seen, Rise, IsOrdered, made_with}

@@ -4,7 +4,7 @@ use Rattle.std.specs.List.{slice_get}
 use Rattle.std.proofs.lemmas.Option.{get_or_from_slice_get}
 use Rattle.pj_value.specs.declared.values.Value.TheVariants.{Int, Text}
 use Rattle.pj_value.specs.Values.{value_eq}
-use Rattle.pj_laws.specs.Join.{ClassCol, TupleAt, Value, no_value, value_at}
+use Rattle.pj_events.specs.Join.{ClassCol, TupleAt, Value, no_value, value_at}
 use Rattle.pj_join.specs.Decided.{ColumnsDecide}
 use Rattle.pj_join.specs.Walks.{cell_value, suits}
 

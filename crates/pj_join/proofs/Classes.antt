@@ -2,7 +2,7 @@
 use Rattle.std.proofs.Common.{◌≡◌, ℕ, zero, suc, ◌+◌, ◌<◌, List, [], ◌∷◌, ◌++◌, false, cond, filter, map, set, get_or, eqb, refl, ap, ap₂, sym, ◌∙◌, arith, append-nil}
 use Rattle.std.proofs.lemmas.Bool.{eqb-true, eq-eqb, false_from_ne_true}
 use Rattle.std.proofs.lemmas.List.Elements.{filter-append}
-use Rattle.pj_laws.specs.Join.{upto_from}
+use Rattle.pj_events.specs.Join.{upto_from}
 
 pub eqb-below : (t u : ℕ) → t < u → eqb t u ≡ false
 eqb-below t u lt = false_from_ne_true (eqb t u) (λ e. omega (arith, eqb-true t u e, lt))

@@ -3,7 +3,7 @@ use Rattle.std.proofs.Common.{Bool, true, false, cond, List, [], ◌∷◌, ◌+
 use Rattle.std.specs.List.{list_all}
 use Rattle.std.proofs.lemmas.Bool.{and_parts, false≢true, false_from_ne_true}
 use Rattle.std.proofs.lemmas.List.Elements.{filter-append}
-use Rattle.pj_laws.specs.Join.{product}
+use Rattle.pj_events.specs.Join.{product}
 
 -- ---- lists that were looked through before
 

@@ -3,7 +3,7 @@ use Rattle.std.proofs.Common.{◌≡◌, ℕ, Bool, true, false, not, ◌==◌, 
 use Rattle.std.proofs.lemmas.Bool.{eq-eqb, eqb-true, false_from_ne_true}
 use Rattle.pj_value.specs.Values.{value_eq}
 use Rattle.pj_value.proofs.Orders.{equal_itself}
-use Rattle.pj_laws.specs.Join.{ClassCol, TupleAt, value_at}
+use Rattle.pj_events.specs.Join.{ClassCol, TupleAt, value_at}
 use Rattle.pj_join.specs.Walks.{all_have, suits_class}
 use Rattle.pj_join.specs.Decided.{ClassDecides, ColumnsDecide}
 

@@ -3,7 +3,7 @@ use Rattle.std.proofs.Common.{ℕ, zero, suc, ◌+◌, ◌-◌, ◌<◌, ◌≤�
 use Rattle.std.specs.List.{list_all}
 use Rattle.std.proofs.lemmas.Bool.{eqb-true, eq-eqb, false≢true, or_right}
 use Rattle.std.proofs.lemmas.List.{length-map}
-use Rattle.pj_laws.specs.Join.{In, JoinData, TupleAt, ClassCol, agree, product, joined, of_input, older, upto_from, candidates, combinations, results}
+use Rattle.pj_events.specs.Join.{In, JoinData, TupleAt, ClassCol, agree, product, joined, of_input, older, upto_from, candidates, combinations, results}
 use Rattle.pj_join.specs.Walks.{AreNarrowed, may_join, suits, choice, choices}
 use Rattle.pj_join.specs.Insides.{IsOrdered}
 use Rattle.pj_value.proofs.Members.{In-flat_map, In-map, all_from, filter-agree, filter-filter}

@@ -1,8 +1,8 @@
 -- The rows that a tuple of two inputs is joined to.
 use Rattle.std.proofs.Common.{ℕ, zero, suc, ◌-◌, ◌<◌, Bool, true, false, cond, List, [], ◌∷◌, ◌≡◌, map, filter, flat_map, length, get_or, refl, sym, ap, ap₂, ◌∙◌, eqb, arith, append-nil}
 use Rattle.std.proofs.lemmas.Bool.{eq-eqb, false_from_ne_true, false≢true, eqb-true}
-use Rattle.pj_laws.specs.declared.events.Out.TheVariants.{Tuple}
-use Rattle.pj_laws.specs.Join.{TupleAt, ClassCol, Value, agree, joined, product, upto_from}
+use Rattle.pj_events.specs.declared.events.Out.TheVariants.{Tuple}
+use Rattle.pj_events.specs.Join.{TupleAt, ClassCol, Value, agree, joined, product, upto_from}
 use Rattle.pj_join.specs.Handed.{found_out, pair_of, pairs_out}
 use Rattle.pj_join.specs.Walks.{AllJoin, choice, choices, older_joins, pair, pairs}
 use Rattle.pj_join.proofs.Calling.{same-at}

@@ -9,9 +9,9 @@ use Rattle.pj_state.specs.declared.shared.Stored.{Stored}
 use Rattle.pj_state.specs.States.{StateView, pair_of, pairs}
 use Rattle.pj_cover.specs.Stores.{Store}
 use Rattle.pj_cover.specs.Asking.{HaveLength, Known, data_of, entries, is_covered, known_of, punct_of, puncts_from, tuple_of, tuples_of}
-use Rattle.pj_laws.specs.Join.{In, CertEntry, ClassCol, Demand, IsWalk, JoinData, PunctAt, TupleAt, Value, agree, arities, covered, demand, grown, inputs, need, of_input, older, older_puncts, steps_of}
-use Rattle.pj_laws.specs.Patterns.{covers}
-use Rattle.pj_laws.specs.KeptState.{KeptState, kept_low, kept_ripe}
+use Rattle.pj_events.specs.Join.{In, CertEntry, ClassCol, Demand, IsWalk, JoinData, PunctAt, TupleAt, Value, agree, arities, covered, demand, grown, inputs, need, of_input, older, older_puncts, steps_of}
+use Rattle.pj_events.specs.Patterns.{covers}
+use Rattle.pj_events.specs.KeptState.{KeptState, kept_low, kept_ripe}
 use Rattle.pj_laws.proofs.Upto.{get_or-upto}
 use Rattle.pj_join.specs.declared.queue.Place.{Place}
 use Rattle.pj_join.specs.Insides.{IsJoin, inside}

@@ -8,8 +8,8 @@ use Rattle.pj_value.proofs.Orders.{equal_itself, same_if_equal}
 use Rattle.pj_pattern.specs.declared.pattern.Form.TheVariants.{Constant}
 use Rattle.pj_state.specs.declared.shared.Stored.{Stored}
 use Rattle.pj_state.specs.States.{StateView, has_value, is_value, rows_with}
-use Rattle.pj_laws.specs.Patterns.{Pattern, matches_row, matches_value}
-use Rattle.pj_laws.specs.Join.{has}
+use Rattle.pj_events.specs.Patterns.{Pattern, matches_row, matches_value}
+use Rattle.pj_events.specs.Join.{has}
 use Rattle.pj_join.specs.Sides.{IsLookup, stays, still_held}
 
 -- a row that matches has the constant

@@ -11,10 +11,10 @@ use Rattle.pj_state.specs.States.{StateView, pair_of as pair_stored, row_in, row
 use Rattle.pj_state.specs.Rising.{AllAbove, IsRising, first_with, is_other, without}
 use Rattle.pj_cover.specs.Stores.{Store}
 use Rattle.pj_shape.specs.Sound.{arities_of}
-use Rattle.pj_laws.specs.declared.events.Out.{Out}
-use Rattle.pj_laws.specs.declared.events.Out.TheVariants.{Tuple}
-use Rattle.pj_laws.specs.Patterns.{Pattern}
-use Rattle.pj_laws.specs.Join.{CertStep, ClassCol, In, PunctAt, TupleAt, Value, has, of_input, upto_from}
+use Rattle.pj_events.specs.declared.events.Out.{Out}
+use Rattle.pj_events.specs.declared.events.Out.TheVariants.{Tuple}
+use Rattle.pj_events.specs.Patterns.{Pattern}
+use Rattle.pj_events.specs.Join.{CertStep, ClassCol, In, PunctAt, TupleAt, Value, has, of_input, upto_from}
 use Rattle.pj_probe.specs.Walks.{sides_at, tuple_at}
 use Rattle.pj_join.specs.Handed.{pair_of, pairs_out}
 use Rattle.pj_join.specs.Judging.{IsSortedOut, Judge, MayJudge, lets_go, one_if, ripe_at, rows_without, widened_among}

@@ -2,7 +2,7 @@
 use Rattle.std.proofs.Common.{ℕ, zero, suc, ◌+◌, ◌<◌, ◌≤◌, Bool, true, false, cond, not, List, [], ◌∷◌, ◌≡◌, map, filter, refl, sym, ap, ◌∙◌, subst, inl, inr, eqb, ltb, arith}
 use Rattle.std.proofs.lemmas.Bool.{eq-eqb, eqb-true, false≢true, le-ltb, lt-ltb, ltb-false, ltb-true}
 use Rattle.pj_value.proofs.Members.{In-filter, filter-all}
-use Rattle.pj_laws.specs.Join.{In, upto_from}
+use Rattle.pj_events.specs.Join.{In, upto_from}
 use Rattle.pj_join.specs.Insides.{Rise}
 use Rattle.pj_join.specs.Sides.{merged, put, put_all}
 

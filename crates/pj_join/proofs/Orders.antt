@@ -4,8 +4,8 @@ use Rattle.std.proofs.lemmas.Bool.{eq-eqb, or_right}
 use Rattle.std.proofs.lemmas.List.{map-append, length-append, drop_more}
 use Rattle.std.proofs.lemmas.List.Elements.{filter-append}
 use Rattle.pj_shape.specs.Sound.{IsSoundSpec}
-use Rattle.pj_laws.specs.Join.{In, AreCertified, JoinData, Value, TupleAt, PunctAt, TupleComes, Take, Give, of_input, upto_from, has}
-use Rattle.pj_laws.specs.KeptState.{least, without}
+use Rattle.pj_events.specs.Join.{In, AreCertified, JoinData, Value, TupleAt, PunctAt, TupleComes, Take, Give, of_input, upto_from, has}
+use Rattle.pj_events.specs.KeptState.{least, without}
 use Rattle.pj_join.specs.Joins.{JoinView, after}
 use Rattle.pj_join.specs.Insides.{tickets, seen, Rise, IsOrdered, made_with}
 use Rattle.pj_value.proofs.Members.{In-append_cases}

@@ -1,7 +1,7 @@
 -- What a probe over narrowed lists finds.
 use Rattle.std.proofs.Common.{ℕ, ◌<◌, List, ◌≡◌, filter, map, length, ap, ◌∙◌, subst}
 use Rattle.pj_shape.specs.declared.joins.JoinSpec.{JoinSpec}
-use Rattle.pj_laws.specs.Join.{ClassCol, TupleAt, agree, joined, product}
+use Rattle.pj_events.specs.Join.{ClassCol, TupleAt, agree, joined, product}
 use Rattle.pj_probe.specs.declared.probe.Found.{Found as ProbeFound}
 use Rattle.pj_probe.specs.Walks.{found_in as probe_finds}
 use Rattle.pj_join.specs.Walks.{AreNarrowed, choices, found_as, found_in}

@@ -5,7 +5,7 @@ use Rattle.pj_state.specs.declared.shared.Stored.{Stored}
 use Rattle.pj_state.specs.Rising.{AllAbove, IsRising}
 use Rattle.pj_state.specs.States.{StateView, pair_of, pairs, stored, ticket_of}
 use Rattle.pj_cover.specs.Rising.{AreAbove, AreRisingRows}
-use Rattle.pj_laws.specs.Join.{Value}
+use Rattle.pj_events.specs.Join.{Value}
 use Rattle.pj_join.specs.Sides.{no_state, row_pairs, state_at}
 use Rattle.pj_join.proofs.Calling.{same-at}
 

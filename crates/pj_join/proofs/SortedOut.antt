@@ -6,8 +6,8 @@ use Rattle.std.proofs.lemmas.Option.{get_or_from_slice_get}
 use Rattle.std.proofs.lemmas.List.Sums.{sum_by-cons}
 use Rattle.pj_shape.specs.declared.columns.Column.{Column}
 use Rattle.pj_shape.specs.Sound.{arities_of}
-use Rattle.pj_laws.specs.Patterns.{Pattern, all_wild, wild}
-use Rattle.pj_laws.specs.Join.{PunctAt}
+use Rattle.pj_events.specs.Patterns.{Pattern, all_wild, wild}
+use Rattle.pj_events.specs.Join.{PunctAt}
 use Rattle.pj_join.specs.Judging.{widened_among}
 
 -- ---- copies

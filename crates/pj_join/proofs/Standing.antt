@@ -1,12 +1,12 @@
 -- What a join keeps follows its legal steps.
 use Rattle.std.proofs.Common.{ℕ, ◌<◌, Bool, true, false, cond, ◌||◌, ◌&&◌, not, List, [], ◌∷◌, ◌++◌, ◌≡◌, map, filter, flat_map, length, Option, Some, None, refl, sym, ap, ◌∙◌, subst, inl, inr, eqb, append_assoc}
 use Rattle.std.proofs.lemmas.Bool.{eq-eqb, eqb-true, false≢true, or_left}
-use Rattle.pj_laws.specs.Join.{In, Value, JoinData, JoinState, TupleAt, Step, TupleComes, PunctComes, Take, Give, Sweep, start, run, has, low, inputs, arity, combinations, joined, results, AreCertified, IsAllowed, IsNew}
-use Rattle.pj_laws.specs.KeptState.{KeptState, kept_low, lacking}
+use Rattle.pj_events.specs.Join.{In, Value, JoinData, JoinState, TupleAt, Step, TupleComes, PunctComes, Take, Give, Sweep, start, run, has, low, inputs, arity, combinations, joined, results, AreCertified, IsAllowed, IsNew}
+use Rattle.pj_events.specs.KeptState.{KeptState, kept_low, lacking}
 use Rattle.pj_laws.specs.Laws.{StepsStand, StoredSuffice}
 use Rattle.pj_join.specs.Joins.{JoinView, JoinTakes, StandsFor, StandsTaken, IsTaken, Found, after, found_of}
 use Rattle.pj_join.specs.Handed.{JoinProbes, StandsProbed}
-use Rattle.pj_laws.specs.Patterns.{Pattern}
+use Rattle.pj_events.specs.Patterns.{Pattern}
 use Rattle.pj_laws.proofs.Tickets.{lacking-come}
 use Rattle.pj_laws.proofs.Stand.{least-lacking}
 use Rattle.pj_laws.proofs.Forget.{IsSound}

@@ -2,9 +2,9 @@
 use Rattle.std.proofs.Common.{ℕ, ◌+◌, ◌<◌, Bool, true, false, cond, ◌&&◌, not, List, [], ◌∷◌, ◌++◌, ◌≡◌, map, filter, refl, sym, ap, ap₂, ◌∙◌, subst, eqb, ltb}
 use Rattle.std.specs.List.{list_all}
 use Rattle.std.proofs.lemmas.Bool.{and_from, eq-eqb, false≢true}
-use Rattle.pj_laws.specs.Patterns.{Pattern}
-use Rattle.pj_laws.specs.Join.{In, JoinData, JoinState, TupleAt, PunctAt, Punct, Step, PunctComes, Sweep, AreLegalSteps, covered, inputs, is_held, kept, low, need_of, older, older_puncts, ripe, run, start, widened}
-use Rattle.pj_laws.specs.KeptState.{KeptState, kept_low, kept_of, kept_ripe, swept}
+use Rattle.pj_events.specs.Patterns.{Pattern}
+use Rattle.pj_events.specs.Join.{In, JoinData, JoinState, TupleAt, PunctAt, Punct, Step, PunctComes, Sweep, AreLegalSteps, covered, inputs, is_held, kept, low, need_of, older, older_puncts, ripe, run, start, widened}
+use Rattle.pj_events.specs.KeptState.{KeptState, kept_low, kept_of, kept_ripe, swept}
 use Rattle.pj_laws.specs.Laws.{NeverNeeded, RipeWhenCovered}
 use Rattle.pj_laws.proofs.Forget.{stored-in}
 use Rattle.pj_laws.proofs.Sound.{run-append, sound-run, sound-start}

@@ -6,9 +6,9 @@ use Rattle.std.proofs.lemmas.List.{length-map}
 use Rattle.pj_state.specs.declared.shared.Stored.{Stored}
 use Rattle.pj_state.specs.States.{StateView, state_of}
 use Rattle.pj_cover.specs.Stores.{Store}
-use Rattle.pj_laws.specs.Patterns.{Pattern, matches_row}
-use Rattle.pj_laws.specs.Join.{CertStep, In, JoinData, JoinSpec, PunctAt, Sweep, TupleAt, Value, arities, has, inputs, is_held, of_input, steps_of, widened}
-use Rattle.pj_laws.specs.KeptState.{kept_low, kept_ripe, swept}
+use Rattle.pj_events.specs.Patterns.{Pattern, matches_row}
+use Rattle.pj_events.specs.Join.{CertStep, In, JoinData, JoinSpec, PunctAt, Sweep, TupleAt, Value, arities, has, inputs, is_held, of_input, steps_of, widened}
+use Rattle.pj_events.specs.KeptState.{kept_low, kept_ripe, swept}
 use Rattle.pj_value.proofs.Members.{In-filter, In-map_from, filter-agree, filter-filter}
 use Rattle.pj_join.specs.declared.queue.Place.{Place}
 use Rattle.pj_join.specs.Joins.{JoinView, after}

@@ -6,8 +6,8 @@ use Rattle.std.proofs.lemmas.List.{take-append-drop, length-append, length-take-
 use Rattle.std.proofs.lemmas.List.Elements.{filter-append}
 use Rattle.std.proofs.lemmas.List.Filters.{length-filter_both}
 use Rattle.pj_shape.specs.declared.columns.Column.{Column}
-use Rattle.pj_laws.specs.Join.{In, JoinData, TupleAt, PunctAt, Sweep, inputs, of_input, upto_from}
-use Rattle.pj_laws.specs.KeptState.{KeptState, kept_low, kept_ripe, least, swept}
+use Rattle.pj_events.specs.Join.{In, JoinData, TupleAt, PunctAt, Sweep, inputs, of_input, upto_from}
+use Rattle.pj_events.specs.KeptState.{KeptState, kept_low, kept_ripe, least, swept}
 use Rattle.pj_value.proofs.Members.{In-append_right, In-filter, In-map_from, filter-all, filter-agree, filter-filter}
 use Rattle.pj_join.specs.Joins.{JoinView, after}
 use Rattle.pj_join.specs.Sweeping.{swept_off}

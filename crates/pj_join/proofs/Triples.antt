@@ -5,7 +5,7 @@ use Rattle.pj_shape.specs.declared.columns.Column.{Column}
 use Rattle.pj_shape.specs.declared.joins.CertStep.{CertStep}
 use Rattle.pj_shape.specs.declared.joins.ClassCol.{ClassCol}
 use Rattle.pj_shape.specs.declared.joins.JoinSpec.{JoinSpec}
-use Rattle.pj_laws.specs.Join.{CertEntry, AreCertified, entry_of, steps_of}
+use Rattle.pj_events.specs.Join.{CertEntry, AreCertified, entry_of, steps_of}
 use Rattle.pj_value.specs.Lists.{In}
 use Rattle.pj_shape.specs.Sound.{IsSoundSpec, IsSoundClass, IsOfKind}
 use Rattle.pj_join.specs.Joins.{join_data}

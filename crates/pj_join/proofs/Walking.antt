@@ -1,7 +1,7 @@
 -- Lists that are made one number after the other.
 use Rattle.std.proofs.Common.{ℕ, ◌+◌, List, [], ◌∷◌, ◌++◌, ◌≡◌, map, arith, ap, sym, ◌∙◌, add-one}
 use Rattle.std.proofs.lemmas.List.{map-append}
-use Rattle.pj_laws.specs.Join.{upto_from}
+use Rattle.pj_events.specs.Join.{upto_from}
 use Rattle.pj_laws.proofs.Upto.{upto-push}
 
 -- one more number

@@ -13,7 +13,7 @@ use Rattle.std.proofs.lemmas.Bool.Decides.{nat_tests}
 use Rattle.pj_value.specs.Values.{value_eq}
 use Rattle.pj_value.proofs.Members.{all_at, any_at, in-place}
 use Rattle.pj_value.proofs.Orders.{equal_itself, same_if_equal}
-use Rattle.pj_laws.specs.Join.{ClassCol, In, TupleAt, no_value, value_at}
+use Rattle.pj_events.specs.Join.{ClassCol, In, TupleAt, no_value, value_at}
 use Rattle.pj_join.specs.Walks.{all_have, has_there, older_joins, suits, suits_class}
 use Rattle.pj_join.specs.Lookups.{ClassWants, IsWanted}
 use Rattle.pj_join.proofs.Cells.{cell_there}

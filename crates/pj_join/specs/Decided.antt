@@ -1,7 +1,7 @@
 -- Joins in which two columns decide.
 use Rattle.std.specs.Prelude.{◌≡◌, ℕ, List, [], ◌∷◌}
 use Rattle.pj_value.specs.Values.{value_eq}
-use Rattle.pj_laws.specs.Join.{ClassCol, TupleAt, value_at}
+use Rattle.pj_events.specs.Join.{ClassCol, TupleAt, value_at}
 use Rattle.pj_join.specs.Walks.{suits, suits_class}
 
 -- tuples of these inputs join by the class exactly where their values in these columns are equal

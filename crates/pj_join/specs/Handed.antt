@@ -1,7 +1,7 @@
 -- What a join hands out where it takes, works on and gives a ticket at once.
 use Rattle.std.specs.Prelude.{ℕ, ◌≡◌, ◌==◌, if◌then◌else◌, List, [], ◌∷◌, ◌++◌, map, filter, Option, Some, None}
-use Rattle.pj_laws.specs.declared.events.Out.{Out}
-use Rattle.pj_laws.specs.Join.{ClassCol, Step, TupleAt, Value, Take, Give, agree, joined, product, results, run, start}
+use Rattle.pj_events.specs.declared.events.Out.{Out}
+use Rattle.pj_events.specs.Join.{ClassCol, Step, TupleAt, Value, Take, Give, agree, joined, product, results, run, start}
 use Rattle.pj_join.specs.Joins.{JoinView, StandsFor, TakesLeast, after, found_of}
 use Rattle.pj_join.specs.Walks.{choices, older_joins, pair}
 

@@ -3,8 +3,8 @@ use Rattle.std.specs.Prelude.{ℕ, ◌≤◌, ◌≡◌, Bool, true, false, List
 use Rattle.pj_shape.specs.declared.joins.CertStep.{CertStep}
 use Rattle.pj_shape.specs.declared.joins.JoinSpec.{JoinSpec}
 pub use Rattle.pj_join.specs.declared.found.Found.{Found}
-use Rattle.pj_laws.specs.Join.{In, JoinData, Step, Take, start, run, has, joined, results, AreLegalSteps}
-use Rattle.pj_laws.specs.KeptState.{KeptState, kept_step, JoinStands}
+use Rattle.pj_events.specs.Join.{In, JoinData, Step, Take, start, run, has, joined, results, AreLegalSteps}
+use Rattle.pj_events.specs.KeptState.{KeptState, kept_step, JoinStands}
 
 -- its number among the nodes, what it joins by, how many elements may reach it, and what it keeps of those that did
 pub record JoinView : Type 0 where

@@ -7,8 +7,8 @@ use Rattle.pj_state.specs.declared.shared.Stored.{Stored}
 use Rattle.pj_state.specs.States.{StateView, pair_of, tickets_of}
 use Rattle.pj_cover.specs.Stores.{Store}
 use Rattle.pj_cover.specs.Asking.{AreParts, data_of, entries, is_ripe, known_of, tuple_of}
-use Rattle.pj_laws.specs.Patterns.{Pattern, all_wild}
-use Rattle.pj_laws.specs.Join.{CertStep, IsCertified, JoinSpec, PunctAt, TupleAt, has, is_held}
+use Rattle.pj_events.specs.Patterns.{Pattern, all_wild}
+use Rattle.pj_events.specs.Join.{CertStep, IsCertified, JoinSpec, PunctAt, TupleAt, has, is_held}
 use Rattle.pj_join.specs.Sides.{row_pairs, still_held}
 
 -- what a judge looks at: the join's shape, its schemes, the stored rows, the punctuations, and the low-water ticket

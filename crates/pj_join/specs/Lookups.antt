@@ -1,7 +1,7 @@
 -- What is wanted of tuples that join with others.
 use Rattle.std.specs.Prelude.{◌≡◌, ℕ, true, List, Some, slice_get}
 use Rattle.pj_value.specs.declared.values.Value.{Value}
-use Rattle.pj_laws.specs.Join.{ClassCol, In, TupleAt, value_at}
+use Rattle.pj_events.specs.Join.{ClassCol, In, TupleAt, value_at}
 use Rattle.pj_join.specs.Walks.{suits}
 
 -- this column of an input has this value in each tuple that joins with these

@@ -5,8 +5,8 @@ use Rattle.pj_state.specs.declared.shared.Stored.{Stored}
 use Rattle.pj_state.specs.States.{StateView, is_value, pairs, row_under, state_of}
 use Rattle.pj_cover.specs.Stores.{Store}
 use Rattle.pj_cover.specs.declared.store.NumberedPunct.{NumberedPunct}
-use Rattle.pj_laws.specs.Patterns.{Pattern, matches_row}
-use Rattle.pj_laws.specs.Join.{In, PunctAt, TupleAt, Value, has}
+use Rattle.pj_events.specs.Patterns.{Pattern, matches_row}
+use Rattle.pj_events.specs.Join.{In, PunctAt, TupleAt, Value, has}
 use Rattle.pj_join.specs.declared.queue.Place.{Place}
 
 -- ---- one list of several, in order of numbers

@@ -3,8 +3,8 @@ use Rattle.std.specs.Prelude.{ℕ, ◌<◌, ◌≡◌, ◌==◌, ◌&&◌, not, 
 use Rattle.std.specs.List.{list_all}
 use Rattle.pj_value.specs.declared.values.Value.{Value}
 use Rattle.pj_pattern.specs.Patterns.{Pattern}
-use Rattle.pj_laws.specs.Join.{In, TupleAt, PunctAt, Step, TupleComes, PunctComes, Take, Give, Sweep, Punct, JoinState, run, start, low, is_held, widened, hands_up, outputs, AreLegalSteps, IsCombination, older, older_puncts, need_of, covered}
-use Rattle.pj_laws.specs.KeptState.{kept_low, kept_ripe, swept}
+use Rattle.pj_events.specs.Join.{In, TupleAt, PunctAt, Step, TupleComes, PunctComes, Take, Give, Sweep, Punct, JoinState, run, start, low, is_held, widened, hands_up, outputs, AreLegalSteps, IsCombination, older, older_puncts, need_of, covered}
+use Rattle.pj_events.specs.KeptState.{kept_low, kept_ripe, swept}
 use Rattle.pj_pattern.specs.Elements.{IsLawful}
 use Rattle.pj_join.specs.Joins.{JoinView}
 

@@ -5,7 +5,7 @@ use Rattle.pj_shape.specs.declared.columns.Column.{Column}
 use Rattle.pj_shape.specs.declared.joins.CertStep.{CertStep}
 use Rattle.pj_shape.specs.declared.joins.ClassCol.{ClassCol}
 use Rattle.pj_shape.specs.declared.joins.JoinSpec.{JoinSpec}
-use Rattle.pj_laws.specs.Join.{JoinData}
+use Rattle.pj_events.specs.Join.{JoinData}
 use Rattle.pj_join.specs.Joins.{join_data}
 
 abbrev pub number : Column

@@ -4,7 +4,7 @@ use Rattle.std.specs.List.{list_all}
 use Rattle.pj_value.specs.Values.{value_eq}
 use Rattle.pj_join.specs.declared.found.Found.{Found}
 use Rattle.pj_probe.specs.declared.probe.Found.{Found as ProbeFound}
-use Rattle.pj_laws.specs.Join.{ClassCol, In, TupleAt, Value, agree, joined, no_value, product, upto_from, value_at}
+use Rattle.pj_events.specs.Join.{ClassCol, In, TupleAt, Value, agree, joined, no_value, product, upto_from, value_at}
 
 -- the value of a cell, where one that is not there has the empty text
 abbrev pub cell_value : Option Value → Value

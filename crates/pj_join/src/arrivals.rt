@@ -16,7 +16,7 @@ pub struct Arrived<'a> {
 }
 
 impl<'a> Model for Arrived<'a> {
-    ghost use Rattle.pj_laws.specs.Join.{TupleAt};
+    ghost use Rattle.pj_events.specs.Join.{TupleAt};
 
     ghost Value = { TupleAt };
 
@@ -35,7 +35,7 @@ pub struct Heard {
 
 impl Model for Heard {
     ghost use Rattle.std.specs.Arc.{arc_value};
-    ghost use Rattle.pj_laws.specs.Join.{PunctAt};
+    ghost use Rattle.pj_events.specs.Join.{PunctAt};
 
     ghost Value = { PunctAt };
 

@@ -11,7 +11,7 @@ use crate::arrivals::Arrived;
 use crate::walk::{
     EqualColumns, FEW, candidates, choices_join, equal_columns, joins_with, own_cell,
 };
-use pj_laws::Out;
+use pj_events::Out;
 use pj_shape::{ClassCol, JoinSpec};
 use pj_state::{Matching, State};
 use pj_value::{List, NoMemory, Row, Value};

@@ -1,6 +1,6 @@
 // What is wanted of tuples that join with one, and where it is looked up.
 ghost use Rattle.std.specs.Prelude.{◌≡◌, ◌<◌, ◌∷◌, [], All, IfOk, IfSome, OnOk};
-ghost use Rattle.pj_laws.specs.Join.{In};
+ghost use Rattle.pj_events.specs.Join.{In};
 ghost use Rattle.pj_join.specs.Lookups.{ClassWants, IsWanted};
 
 use crate::arrivals::Arrived;

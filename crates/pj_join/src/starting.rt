@@ -1,7 +1,7 @@
 // A join with no rows and no punctuations.
 ghost use Rattle.std.specs.Prelude.{◌≡◌, ◌<◌, ◌≤◌, [], length, map, slice_index, sum, IfOk};
 ghost use Rattle.pj_shape.specs.Sound.{arities_of};
-ghost use Rattle.pj_laws.specs.Join.{of_input, upto_from};
+ghost use Rattle.pj_events.specs.Join.{of_input, upto_from};
 ghost use Rattle.pj_join.specs.Sides.{AreAllShaped, IsShaped, heard_in, heard_of, tuples_in};
 
 use crate::lookups::class_columns;

@@ -1,10 +1,10 @@
 // What no clause says: that the calls succeed with ample memory, and what the definitions mean on runs by hand.
 ghost use Rattle.std.specs.Prelude.{◌≡◌, ◌<◌, ◌≤◌, ◌^◌, ◌∷◌, [], if◌then◌else◌, length, IfOk};
-ghost use Rattle.pj_laws.specs.Join.{arity, inputs};
+ghost use Rattle.pj_events.specs.Join.{arity, inputs};
 ghost use Rattle.pj_join.specs.Triples.{at, by, double, double_certs, double_join, double_schemes, first_marked, named, number, pair, second_marked, triple_certs, triple_join, triple_schemes};
 
 use super::*;
-use pj_laws::Out;
+use pj_events::Out;
 use pj_pattern::{Pattern, Punct, Shape};
 use pj_shape::{Cert, CertStep, ClassCol, Column, JoinSpec, Schema, Scheme, Schemes};
 use pj_value::{Kind, List, NoMemory, Row, SharedText, Value};

@@ -4,7 +4,7 @@ ghost use Rattle.std.specs.List.{list_all, slice_get};
 ghost use Rattle.std.specs.Option.{option_copied};
 ghost use Rattle.pj_value.specs.declared.values.Value.{Value};
 ghost use Rattle.pj_value.specs.Values.{value_eq};
-ghost use Rattle.pj_laws.specs.Join.{agree, value_at};
+ghost use Rattle.pj_events.specs.Join.{agree, value_at};
 ghost use Rattle.pj_join.specs.Decided.{ClassDecides, ColumnsDecide};
 ghost use Rattle.pj_join.specs.Sides.{IsWide, tuple_in, tuples_in};
 ghost use Rattle.pj_join.specs.Walks.{AllJoin, all_have, cell_value, choices, has_there, older_joins, suits, suits_class};

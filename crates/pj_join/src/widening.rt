@@ -1,7 +1,7 @@
 // Punctuations that a join hands up, or that wait.
 ghost use Rattle.std.specs.Prelude.{◌≡◌, ◌<◌, ◌++◌, ◌∷◌, [], ℕ, not, true, false, is_some, length, map, sum, take, OnOk, OnErr, IfOk, IfSome};
-ghost use Rattle.pj_laws.specs.Join.{has};
-ghost use Rattle.pj_laws.specs.Patterns.{all_wild};
+ghost use Rattle.pj_events.specs.Join.{has};
+ghost use Rattle.pj_events.specs.Patterns.{all_wild};
 ghost use Rattle.pj_shape.specs.Sound.{arities_of};
 ghost use Rattle.pj_state.specs.States.{stored};
 ghost use Rattle.pj_cover.specs.Stores.{IsAbove};

@@ -1,8 +1,8 @@
 -- The weight of products, and of one number among distinct ones.
 use Rattle.std.proofs.Common.{ℕ, ◌+◌, ◌≤◌, Bool, true, false, cond, ◌||◌, List, [], ◌∷◌, ◌≡◌, map, refl, sym, ◌∙◌, subst, eqb, arith}
 use Rattle.std.proofs.lemmas.Bool.{false≢true, eqb-true}
-pub use Rattle.pj_laws.specs.Join.{AreDistinct}
-use Rattle.pj_laws.specs.Join.{has, product}
+pub use Rattle.pj_events.specs.Join.{AreDistinct}
+use Rattle.pj_events.specs.Join.{has, product}
 use Rattle.pj_value.specs.Bags.{weigh}
 use Rattle.pj_value.proofs.Bags.{weigh-map, weigh-flat_map, weigh-agree}
 

@@ -6,11 +6,11 @@ use Rattle.pj_value.specs.declared.values.Value.TheVariants.{Int}
 use Rattle.pj_value.specs.declared.values.Kind.TheVariants.{Int as IntKind}
 use Rattle.pj_shape.specs.declared.columns.Column.{Column}
 use Rattle.pj_pattern.specs.declared.pattern.Form.TheVariants.{Constant}
-use Rattle.pj_laws.specs.Patterns.{wild}
-use Rattle.pj_laws.specs.Join.{Element, Tuple}
-use Rattle.pj_laws.specs.Plan.{Stream, Select, Project, Union, Node}
-use Rattle.pj_laws.specs.History.{Arrive, Drain}
-use Rattle.pj_laws.specs.Outcomes.{arriving}
+use Rattle.pj_events.specs.Patterns.{wild}
+use Rattle.pj_events.specs.Join.{Element, Tuple}
+use Rattle.pj_events.specs.Plan.{Stream, Select, Project, Union, Node}
+use Rattle.pj_events.specs.declared.events.Event.TheVariants.{Arrive, Drain}
+use Rattle.pj_events.specs.Outcomes.{arriving}
 use Rattle.pj_laws.specs.Climb.{above, climb_of}
 
 abbrev int : ℕ → Value

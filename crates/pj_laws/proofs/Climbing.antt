@@ -2,9 +2,9 @@
 use Rattle.std.proofs.Common.{ℕ, zero, suc, ◌+◌, ◌<◌, ◌≤◌, ◌≢◌, Bool, true, false, cond, ◌||◌, List, [], ◌∷◌, ◌++◌, ◌≡◌, Option, Some, None, map, length, get_or, refl, sym, ap, ap₂, ◌∙◌, subst, inl, inr, eqb, arith, append-nil}
 use Rattle.std.proofs.lemmas.Bool.{eq-eqb, ne_eqb, eqb-true, cases_eq, or_parts, false≢true}
 use Rattle.std.proofs.lemmas.List.{length_push, map-append, get_or_at, get_or_append_left}
-use Rattle.pj_laws.specs.Join.{In, has, AreDistinct, Element}
-use Rattle.pj_laws.specs.Plan.{Operator, Select, Node, Local, Comes, Fed, Own, PlanStep, Feed, Act, after, hands, after_all, hands_all, own, brought_from, locals, handed_at, batches, moved, nowhere, operator_at}
-use Rattle.pj_laws.specs.Outcomes.{Arrival, arriving, arrivals_in, place_in}
+use Rattle.pj_events.specs.Join.{In, has, AreDistinct, Element}
+use Rattle.pj_events.specs.Plan.{Operator, Select, Node, Local, Comes, Fed, Own, PlanStep, Feed, Act, after, hands, after_all, hands_all, own, brought_from, locals, handed_at, batches, moved, nowhere, operator_at}
+use Rattle.pj_events.specs.Outcomes.{Arrival, arriving, arrivals_in, place_in}
 use Rattle.pj_laws.specs.Climb.{all_inputs, StandBehind, IsTree, local_at, node_after, node_hands, stepped, Load, coming, going_on, Climbed, behind_node, climbed_from, ClimbsFrom, StepsClimb}
 use Rattle.pj_laws.proofs.Complete.{eqb-sym}
 use Rattle.pj_laws.proofs.Glue.{batches-keep}

@@ -2,10 +2,12 @@
 use Rattle.std.proofs.Common.{ℕ, zero, suc, ◌+◌, ◌<◌, ◌≤◌, ◌≢◌, map, Bool, cond, List, [], ◌∷◌, ◌++◌, ◌≡◌, length, get_or, refl, sym, ap, ◌∙◌, subst, inl, inr, eqb, arith}
 use Rattle.std.specs.Prelude.{pred}
 use Rattle.std.proofs.lemmas.Bool.{ne_eqb, cases_lt}
-use Rattle.pj_laws.specs.Join.{AreDistinct, Take, Give, Sweep}
-use Rattle.pj_laws.specs.Plan.{Operator, after, after_all, Select, Node, Local, Fed, Own, PlanStep, Feed, Act, Pass, hands, own, batches, moved, nowhere, operator_at}
-use Rattle.pj_laws.specs.History.{Event, Arrive, Taken, Given, Swept, Drain, Halt, Look, Stopped, Idle, stream_node, root_of, step_of}
-use Rattle.pj_laws.specs.Outcomes.{Arrival, arrivals_in, place_in}
+use Rattle.pj_events.specs.Join.{AreDistinct, Take, Give, Sweep}
+use Rattle.pj_events.specs.Plan.{Operator, after, after_all, Select, Node, Local, Fed, Own, PlanStep, Feed, Act, Pass, hands, own, batches, moved, nowhere, operator_at}
+use Rattle.pj_events.specs.declared.events.Event.{Event}
+use Rattle.pj_events.specs.declared.events.Event.TheVariants.{Arrive, Take as Taken, Give as Given, Sweep as Swept, Drain, Halt, Look, Stopped, Idle}
+use Rattle.pj_events.specs.History.{stream_node, root_of, step_of}
+use Rattle.pj_events.specs.Outcomes.{Arrival, arrivals_in, place_in}
 use Rattle.pj_laws.specs.Climb.{all_inputs, StandBehind, IsTree, first_above, above_from, HasOneTop, stepped, Load, Climbed, climbed_by, climb_of, local_at, LeavesNodes, ClimbsFrom, EventClimbs}
 use Rattle.pj_laws.proofs.Climbing.{climbs-from, arrivals-empty}
 use Rattle.pj_laws.proofs.Nodes.{AreEmpty, empty-none, quiet}

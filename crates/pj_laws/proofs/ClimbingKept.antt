@@ -1,11 +1,15 @@
 -- One more entry behind a history of a tree.
 use Rattle.std.proofs.Common.{ℕ, subst, ◌≤◌, zero, suc, ◌+◌, ◌<◌, max, Bool, List, [], ◌∷◌, ◌++◌, ◌≡◌, cond, map, length, get_or, refl, sym, ap, ap₂, ◌∙◌, arith, length-append}
 use Rattle.std.proofs.lemmas.List.{length_push}
-use Rattle.pj_laws.specs.Join.{start, AreLegalSteps, Tuple, Punct, new_tuple, Element, upto_from}
-use Rattle.pj_laws.specs.Plan.{ArePlanned, Operator, Stream, Select, Project, Union, Join, Group, Comes, after, after_all, Node}
-use Rattle.pj_laws.specs.History.{state_in, Entry, Event, Arrive, Taken, Given, Swept, Drain, Halt, Look, Stopped, Idle, Out, out_of, notes_of, gained, Reached, next, reached_of, undrained_after, nodes_from}
-use Rattle.pj_laws.specs.Outcomes.{step_at, own_step, join_steps_of, place_in, Arrival, arrivals_at, peak_of, stored_at, outputs_of}
-use Rattle.pj_laws.specs.CoreKept.{core_kept, kept_in}
+use Rattle.pj_events.specs.Join.{start, AreLegalSteps, Tuple, Punct, new_tuple, Element, upto_from}
+use Rattle.pj_events.specs.Plan.{ArePlanned, Operator, Stream, Select, Project, Union, Join, Group, Comes, after, after_all, Node}
+use Rattle.pj_events.specs.declared.events.Entry.{Entry}
+use Rattle.pj_events.specs.declared.events.Event.{Event}
+use Rattle.pj_events.specs.declared.events.Out.{Out}
+use Rattle.pj_events.specs.declared.events.Event.TheVariants.{Arrive, Take as Taken, Give as Given, Sweep as Swept, Drain, Halt, Look, Stopped, Idle}
+use Rattle.pj_events.specs.History.{state_in, out_of, notes_of, gained, Reached, next, reached_of, undrained_after, nodes_from}
+use Rattle.pj_events.specs.Outcomes.{step_at, own_step, join_steps_of, place_in, Arrival, arrivals_at, peak_of, stored_at, outputs_of}
+use Rattle.pj_events.specs.CoreKept.{core_kept, kept_in}
 use Rattle.pj_laws.specs.Climb.{local_at, Load, coming, going_on, climbed_from, IsTree, HasOneTop, Climbed, climb_of, EventClimbs}
 use Rattle.pj_laws.specs.ClimbKept.{handed_by, counted, raised, undrained_with, kept_with, StoresGrow, JoinsClimb, AddsClimb}
 use Rattle.pj_laws.specs.HistoryLaws.{AddsEntry}

@@ -1,10 +1,13 @@
 -- The levels above a node, and how elements climb through them under a limit.
 use Rattle.std.proofs.Common.{ℕ, zero, suc, ◌+◌, ◌<◌, ◌≤◌, Bool, true, false, cond, List, [], ◌∷◌, ◌++◌, ◌≡◌, Option, Some, None, map, length, get_or, refl, sym, ap, ap₂, ◌∙◌, subst, arith}
 use Rattle.std.proofs.lemmas.List.{length-map}
-use Rattle.pj_laws.specs.Join.{Element, Take, Give, Sweep}
-use Rattle.pj_laws.specs.Plan.{Node, Local, Comes, Pass, after, hands, after_all, hands_all, batches, operator_at}
-use Rattle.pj_laws.specs.History.{Entry, Event, Arrive, Taken, Given, Swept, Drain, Halt, Look, Stopped, Idle, stream_node, step_of, nodes_from}
-use Rattle.pj_laws.specs.Outcomes.{Arrival, arriving, arrivals_at, place_in, Level, is_full, passed, Climb, Beyond, Below, climb_each, climb, way_up, beyond_of, origin_of}
+use Rattle.pj_events.specs.Join.{Element, Take, Give, Sweep}
+use Rattle.pj_events.specs.Plan.{Node, Local, Comes, Pass, after, hands, after_all, hands_all, batches, operator_at}
+use Rattle.pj_events.specs.declared.events.Entry.{Entry}
+use Rattle.pj_events.specs.declared.events.Event.{Event}
+use Rattle.pj_events.specs.declared.events.Event.TheVariants.{Arrive, Take as Taken, Give as Given, Sweep as Swept, Drain, Halt, Look, Stopped, Idle}
+use Rattle.pj_events.specs.History.{stream_node, step_of, nodes_from}
+use Rattle.pj_events.specs.Outcomes.{Arrival, arriving, arrivals_at, place_in, Level, is_full, passed, Climb, Beyond, Below, climb_each, climb, way_up, beyond_of, origin_of}
 use Rattle.pj_laws.specs.Climb.{StandBehind, IsTree, Above, first_above, above_from, above, node_after, node_hands, Load, coming, going_on, climbed_from, climbed, StepsClimb}
 use Rattle.pj_laws.specs.ClimbLimits.{level_at, climb_then, reached_with, LevelsClimb, begun_by, BeyondIsClimbed}
 use Rattle.pj_laws.proofs.Climbing.{placed-none, came-local, steps-climb}

@@ -1,9 +1,9 @@
 -- A climb goes from a node to the one above it, and elements climb one after the other.
 use Rattle.std.proofs.Common.{ℕ, suc, ◌+◌, ◌<◌, ◌≤◌, List, [], ◌∷◌, ◌++◌, ◌≡◌, Option, Some, None, map, get_or, set, refl, sym, ap, ap₂, ◌∙◌, subst, arith}
 use Rattle.std.proofs.lemmas.List.{map-append}
-use Rattle.pj_laws.specs.Join.{In, Element}
-use Rattle.pj_laws.specs.Plan.{Operator, Node, hands_all, after_all, nowhere}
-use Rattle.pj_laws.specs.Outcomes.{Arrival, arriving, place_in}
+use Rattle.pj_events.specs.Join.{In, Element}
+use Rattle.pj_events.specs.Plan.{Operator, Node, hands_all, after_all, nowhere}
+use Rattle.pj_events.specs.Outcomes.{Arrival, arriving, place_in}
 use Rattle.pj_laws.specs.Climb.{StandBehind, IsTree, Above, first_above, above_from, above, local_at, node_after, node_hands, Load, coming, going_on, Climbed, behind_node, climbed_from, climbed, with_brought, climbed_above, climbed_none, in_two, ClimbsOn}
 use Rattle.pj_laws.proofs.Climbing.{placed-none, climbs-by}
 use Rattle.pj_laws.proofs.Glue.{after-append, hands-append}

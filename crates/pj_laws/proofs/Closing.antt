@@ -6,10 +6,10 @@ use Rattle.std.specs.List.{list_any}
 use Rattle.std.proofs.lemmas.Bool.{and_from, or_right, false≢true, eqb-true, eq-eqb, cases_Bool, not-true}
 use Rattle.std.proofs.lemmas.List.{replicate-append-replicate, length-map}
 use Rattle.std.proofs.lemmas.List.Sums.{sum_by-take-drop, sum_by-drop_more}
-use Rattle.pj_laws.specs.Patterns.{Pattern, wild, all_wild, matches_row, covers_punct}
-use Rattle.pj_laws.specs.Join.{In, Value, no_value, arities, must_wait, PunctAt, JoinData, JoinState, Step, TupleComes, PunctComes, Take, Give, Sweep, start, step, run, inputs, arity, is_held, kept, new_punct, Element, Tuple, Punct, widened, hands_up, outputs}
-use Rattle.pj_laws.specs.Operators.{picked_cells, picked_patterns, GroupSpec, group_rows, group_after, group_hands, Sent, UnionState, all_sent_from, union_after, union_hands}
-use Rattle.pj_laws.specs.Plan.{Union, Join, Local, Comes, Fed, Own, join_step, hands_all}
+use Rattle.pj_events.specs.Patterns.{Pattern, wild, all_wild, matches_row, covers_punct}
+use Rattle.pj_events.specs.Join.{In, Value, no_value, arities, must_wait, PunctAt, JoinData, JoinState, Step, TupleComes, PunctComes, Take, Give, Sweep, start, step, run, inputs, arity, is_held, kept, new_punct, Element, Tuple, Punct, widened, hands_up, outputs}
+use Rattle.pj_events.specs.Operators.{picked_cells, picked_patterns, GroupSpec, group_rows, group_after, group_hands, Sent, UnionState, all_sent_from, union_after, union_hands}
+use Rattle.pj_events.specs.Plan.{Union, Join, Local, Comes, Fed, Own, join_step, hands_all}
 use Rattle.pj_pattern.proofs.Rows.{wilds-match, wilds-cover_punct}
 use Rattle.pj_pattern.specs.Elements.{IsLawful}
 use Rattle.pj_pattern.proofs.Lawful.{none_at as clear_at}

@@ -4,9 +4,9 @@ use Rattle.pj_value.proofs.Bags.{weigh-append, weigh-map, weigh-flat_map, weigh-
 use Rattle.std.proofs.lemmas.Bool.{or_cases, or_right, false≢true, eqb-true, eq-eqb, ne_eqb, cases_eq, lt-ltb, le-ltb}
 use Rattle.std.proofs.lemmas.List.{append-nil}
 use Rattle.std.proofs.lemmas.List.Elements.{filter-append}
-use Rattle.pj_laws.specs.Patterns.{Pattern}
+use Rattle.pj_events.specs.Patterns.{Pattern}
 use Rattle.pj_value.specs.Bags.{weigh, SameBag, SubBag}
-use Rattle.pj_laws.specs.Join.{In, Value, goes_out, TupleAt, PunctAt, JoinData, JoinState, Step, TupleComes, PunctComes, Take, Give, Sweep, start, inputs, of_input, older, agree, has, kept, is_held, new_tuple, new_punct, step, run, IsAllowed, AreLegalSteps, product, upto_from, candidates, combinations, results, Element, Tuple, Punct, joined, widened, hands_up, outputs, rows_of, puncts_of, all_combinations}
+use Rattle.pj_events.specs.Join.{In, Value, goes_out, TupleAt, PunctAt, JoinData, JoinState, Step, TupleComes, PunctComes, Take, Give, Sweep, start, inputs, of_input, older, agree, has, kept, is_held, new_tuple, new_punct, step, run, IsAllowed, AreLegalSteps, product, upto_from, candidates, combinations, results, Element, Tuple, Punct, joined, widened, hands_up, outputs, rows_of, puncts_of, all_combinations}
 use Rattle.pj_laws.specs.Laws.{HandsUpAllRows, HandsUpAllPuncts, HandsUpNoPuncts}
 use Rattle.pj_value.proofs.Members.{In-filter, filter-agree, filter-all, map-same}
 use Rattle.pj_laws.proofs.Bags.{weigh-product, AreDistinct, weigh-once, weigh-at_most}

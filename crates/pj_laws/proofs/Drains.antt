@@ -1,9 +1,13 @@
 -- Entries without drains: what they hand out stays to be drained.
 use Rattle.std.proofs.Common.{ℕ, Bool, List, [], ◌∷◌, ◌++◌, ◌≡◌, refl, sym, ap, ◌∙◌, append_assoc}
 use Rattle.std.proofs.lemmas.List.{append-nil}
-use Rattle.pj_laws.specs.History.{Entry, Event, Arrive, Taken, Given, Swept, Drain, Halt, Look, Stopped, Idle, Out, Reached, next, nodes_by, gained, undrained_after, reached_from}
-use Rattle.pj_laws.specs.Outcomes.{outputs_of}
-use Rattle.pj_laws.specs.OneThread.{plain, probes_at}
+use Rattle.pj_events.specs.declared.events.Entry.{Entry}
+use Rattle.pj_events.specs.declared.events.Event.{Event}
+use Rattle.pj_events.specs.declared.events.Out.{Out}
+use Rattle.pj_events.specs.declared.events.Event.TheVariants.{Arrive, Take as Taken, Give as Given, Sweep as Swept, Drain, Halt, Look, Stopped, Idle}
+use Rattle.pj_events.specs.History.{Reached, next, nodes_by, gained, undrained_after, reached_from}
+use Rattle.pj_events.specs.Outcomes.{outputs_of}
+use Rattle.pj_events.specs.OneThread.{plain, probes_at}
 
 abbrev pub IsNoDrain : Event → Type 0
 IsNoDrain Drain = ⊥

@@ -6,14 +6,16 @@ use Rattle.pj_value.specs.declared.values.Value.{Value}
 use Rattle.pj_value.specs.declared.values.Value.TheVariants.{Int, Text}
 use Rattle.pj_shape.specs.declared.columns.Column.{Column}
 use Rattle.pj_pattern.specs.declared.pattern.Form.TheVariants.{Constant}
-use Rattle.pj_laws.specs.Patterns.{wild}
-use Rattle.pj_laws.specs.Join.{AreCertified, Element, Tuple, Punct, JoinData, start, puncts_of}
-use Rattle.pj_laws.specs.Operators.{Count, Sum, Min, Max}
-use Rattle.pj_laws.specs.Plan.{ArePlanned, Stream, Select, Project, Union, Join, Group, Node}
-use Rattle.pj_laws.specs.History.{Entry, Arrive, Taken, Given, Swept, RowOut, PunctOut, Purged}
-use Rattle.pj_laws.specs.Outcomes.{low_of, peak_of, outputs_of, answer_of, goes_beyond}
-use Rattle.pj_laws.specs.OneThread.{plain, one_thread_of}
-use Rattle.pj_laws.specs.Punctuations.{puncts_answer, puncts_answers}
+use Rattle.pj_events.specs.Patterns.{wild}
+use Rattle.pj_events.specs.Join.{AreCertified, Element, Tuple, Punct, JoinData, start, puncts_of}
+use Rattle.pj_events.specs.Operators.{Count, Sum, Min, Max}
+use Rattle.pj_events.specs.Plan.{ArePlanned, Stream, Select, Project, Union, Join, Group, Node}
+use Rattle.pj_events.specs.declared.events.Entry.{Entry}
+use Rattle.pj_events.specs.declared.events.Event.TheVariants.{Arrive, Take as Taken, Give as Given, Sweep as Swept}
+use Rattle.pj_events.specs.declared.events.Out.TheVariants.{Tuple as RowOut, Punct as PunctOut, Purged}
+use Rattle.pj_events.specs.Outcomes.{low_of, peak_of, outputs_of, answer_of, goes_beyond}
+use Rattle.pj_events.specs.OneThread.{plain, one_thread_of}
+use Rattle.pj_events.specs.Punctuations.{puncts_answer, puncts_answers}
 use Rattle.pj_laws.specs.HistoryLaws.{closed_lists}
 
 abbrev int : ℕ → Value

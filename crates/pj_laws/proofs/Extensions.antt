@@ -9,12 +9,12 @@ use Rattle.pj_pattern.specs.Elements.{IsLawful, NoneMatches}
 use Rattle.pj_pattern.proofs.Elements.{rows_of-append}
 use Rattle.pj_pattern.proofs.Lawful.{lawful_append, lawful_front, none_at, none_from, rows_lawful}
 use Rattle.pj_pattern.proofs.Rows.{wilds-length}
-use Rattle.pj_laws.specs.Patterns.{Pattern, all_wild}
-use Rattle.pj_laws.specs.Join.{In, Element, Tuple, Punct, TupleAt, JoinData, JoinState, Take, Give, step, run, upto_from, has, rows_of}
-use Rattle.pj_laws.specs.Operators.{UnionState, union_after}
-use Rattle.pj_laws.specs.Plan.{Operator, Stream, Select, Project, Union, Join, Group, Local, Comes, Fed, Own, Fits, after_all, brought_from, hands_all, operator_answer, operator_width, HasGiven, IsWellMade}
-use Rattle.pj_laws.specs.History.{is_stream}
-use Rattle.pj_laws.specs.OneThread.{schema_of}
+use Rattle.pj_events.specs.Patterns.{Pattern, all_wild}
+use Rattle.pj_events.specs.Join.{In, Element, Tuple, Punct, TupleAt, JoinData, JoinState, Take, Give, step, run, upto_from, has, rows_of}
+use Rattle.pj_events.specs.Operators.{UnionState, union_after}
+use Rattle.pj_events.specs.Plan.{Operator, Stream, Select, Project, Union, Join, Group, Local, Comes, Fed, Own, Fits, after_all, brought_from, hands_all, operator_answer, operator_width, HasGiven, IsWellMade}
+use Rattle.pj_events.specs.History.{is_stream}
+use Rattle.pj_events.specs.OneThread.{schema_of}
 use Rattle.pj_laws.specs.Finality.{GoesOnLawfully}
 use Rattle.pj_laws.proofs.Glue.{from_input, hands-append, after-append, from-append, from-brought}
 use Rattle.pj_laws.proofs.Operators.{AreWithin, join_steps, join-after}

@@ -9,11 +9,11 @@ use Rattle.pj_value.proofs.Members.{In-append_right, In-map_from, in-place, map-
 use Rattle.pj_pattern.specs.Elements.{IsLawful}
 use Rattle.pj_pattern.proofs.Elements.{rows_of-append}
 use Rattle.pj_pattern.proofs.Lawful.{none_at}
-use Rattle.pj_laws.specs.Join.{In, Element, Tuple, Punct, rows_of}
-use Rattle.pj_laws.specs.Plan.{Node, Local, PlanStep, hands_all, nowhere, handed, fed_to, inputs_of, operator_answer, answers_from, IsWellMade, node_width, ArePlanned, AreStepsLegal, operator_at}
-use Rattle.pj_laws.specs.History.{is_stream, streams_of, stream_node, root_of, begun, steps_from}
-use Rattle.pj_laws.specs.Outcomes.{answer_of, elements_of, elements_out, outputs_of, place_in, list_at, lists_of}
-use Rattle.pj_laws.specs.OneThread.{schema_of}
+use Rattle.pj_events.specs.Join.{In, Element, Tuple, Punct, rows_of}
+use Rattle.pj_events.specs.Plan.{Node, Local, PlanStep, hands_all, nowhere, handed, fed_to, inputs_of, operator_answer, answers_from, IsWellMade, node_width, ArePlanned, AreStepsLegal, operator_at}
+use Rattle.pj_events.specs.History.{is_stream, streams_of, stream_node, root_of, begun, steps_from}
+use Rattle.pj_events.specs.Outcomes.{answer_of, elements_of, elements_out, outputs_of, place_in, list_at, lists_of}
+use Rattle.pj_events.specs.OneThread.{schema_of}
 use Rattle.pj_laws.specs.HistoryLaws.{AreAccepted, schema_at}
 use Rattle.pj_laws.specs.Finality.{AnswerGoesOn, GoesOnLawfully, GoOnLawfully, IsAmongArrived, IsFinal, IsFinalWhereAccepted}
 use Rattle.pj_laws.proofs.Glue.{from_input, locals_all, handed-is, handed-front, from-is}

@@ -1,10 +1,13 @@
 -- What events make of the joins of a plan.
 use Rattle.std.proofs.Common.{ℕ, zero, suc, ◌+◌, ◌<◌, inl, inr, Bool, true, false, cond, List, [], ◌∷◌, ◌++◌, ◌≡◌, map, length, get_or, refl, sym, ap, ap₂, ◌∙◌, subst, eqb, arith, length-append}
 use Rattle.std.proofs.lemmas.List.{map-append, length_push, get_or_append_left, get_or_at}
-use Rattle.pj_laws.specs.Join.{In, Element, Tuple, Punct, Step, Take, Give, Sweep, JoinData, JoinState, start, step, run, outputs}
-use Rattle.pj_laws.specs.Plan.{Operator, Stream, Select, Project, Union, Join, Group, Node, Local, Comes, Fed, Own, PlanStep, join_step, after_all, hands_all, own, brought_from, locals, handed_at, batches, moved, operator_at, nowhere, IsWellMade, node_width, ArePlanned}
-use Rattle.pj_laws.specs.History.{Entry, Event, Arrive, Taken, Given, Swept, Drain, Halt, Look, Stopped, Idle, state_in, stream_node, step_of, nodes_by, nodes_from}
-use Rattle.pj_laws.specs.Outcomes.{Arrival, arriving, arrivals_in, arrivals_by, arrivals_at, step_at, own_step, join_steps_by}
+use Rattle.pj_events.specs.Join.{In, Element, Tuple, Punct, Step, Take, Give, Sweep, JoinData, JoinState, start, step, run, outputs}
+use Rattle.pj_events.specs.Plan.{Operator, Stream, Select, Project, Union, Join, Group, Node, Local, Comes, Fed, Own, PlanStep, join_step, after_all, hands_all, own, brought_from, locals, handed_at, batches, moved, operator_at, nowhere, IsWellMade, node_width, ArePlanned}
+use Rattle.pj_events.specs.declared.events.Entry.{Entry}
+use Rattle.pj_events.specs.declared.events.Event.{Event}
+use Rattle.pj_events.specs.declared.events.Event.TheVariants.{Arrive, Take as Taken, Give as Given, Sweep as Swept, Drain, Halt, Look, Stopped, Idle}
+use Rattle.pj_events.specs.History.{state_in, stream_node, step_of, nodes_by, nodes_from}
+use Rattle.pj_events.specs.Outcomes.{Arrival, arriving, arrivals_in, arrivals_by, arrivals_at, step_at, own_step, join_steps_by}
 use Rattle.pj_laws.specs.Climb.{StandBehind}
 use Rattle.pj_laws.specs.HistoryLaws.{JoinFollows, Joined, TicketsCount}
 use Rattle.pj_laws.proofs.Glue.{batches-keep, length-moved}

@@ -2,8 +2,8 @@
 use Rattle.std.proofs.Common.{ℕ, ◌<◌, ◌≤◌, min, Bool, true, false, cond, ◌&&◌, List, [], ◌∷◌, ◌≡◌, ◌⊎◌, map, filter, flat_map, length, refl, sym, ap, ◌∙◌, subst, inl, inr, eqb, ltb, arith}
 use Rattle.std.specs.List.{list_all}
 use Rattle.std.proofs.lemmas.Bool.{and_parts, false≢true, eqb-true, eq-eqb, cases_Bool, cases_lt, cases_eq, ltb-true, lt-ltb}
-use Rattle.pj_laws.specs.Patterns.{Pattern, matches_row, covers}
-use Rattle.pj_laws.specs.Join.{In, TupleAt, PunctAt, ClassCol, CertEntry, JoinData, JoinState, Demand, inputs, arity, cert_of, steps_of, need_of, of_input, older, older_puncts, agree, demand, grown, need, covered, has, least_open, low, ripe, IsNew, MayCome, IsCombination, IsWalk, IsCertified, AreCertified}
+use Rattle.pj_events.specs.Patterns.{Pattern, matches_row, covers}
+use Rattle.pj_events.specs.Join.{In, TupleAt, PunctAt, ClassCol, CertEntry, JoinData, JoinState, Demand, inputs, arity, cert_of, steps_of, need_of, of_input, older, older_puncts, agree, demand, grown, need, covered, has, least_open, low, ripe, IsNew, MayCome, IsCombination, IsWalk, IsCertified, AreCertified}
 use Rattle.pj_value.proofs.Members.{In-filter, In-filter_from, In-map_from, In-flat_map_from, all_at, all_from, any_at}
 use Rattle.pj_laws.proofs.Matching.{agree-mono, AreInputs, asked-matches}
 

@@ -2,8 +2,8 @@
 use Rattle.std.proofs.Common.{ℕ, zero, suc, ◌+◌, ◌<◌, Bool, true, false, cond, List, [], ◌∷◌, ◌++◌, ◌≡◌, map, length, get_or, refl, sym, ap, ap₂, ◌∙◌, eqb, arith, append_assoc, append-nil}
 use Rattle.std.proofs.lemmas.Bool.{eq-eqb, ne_eqb}
 use Rattle.std.proofs.lemmas.List.{get_or_append_left, get_or_at, length_push}
-use Rattle.pj_laws.specs.Join.{Element}
-use Rattle.pj_laws.specs.Plan.{Operator, Node, Local, Comes, Fed, Own, after, hands, after_all, hands_all, PlanStep, Feed, Act, Pass, own, brought_from, locals, handed_at, batches, moved, plan_run, handed}
+use Rattle.pj_events.specs.Join.{Element}
+use Rattle.pj_events.specs.Plan.{Operator, Node, Local, Comes, Fed, Own, after, hands, after_all, hands_all, PlanStep, Feed, Act, Pass, own, brought_from, locals, handed_at, batches, moved, plan_run, handed}
 
 -- ---- the nodes before a place do not see it
 

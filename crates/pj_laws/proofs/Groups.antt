@@ -8,12 +8,12 @@ use Rattle.std.proofs.lemmas.List.Elements.{filter-append}
 use Rattle.std.specs.Prelude.{pos, ◌-ℤ◌}
 use Rattle.std.specs.Int.{saturate_signed, w64}
 use Rattle.pj_value.specs.declared.values.Value.TheVariants.{Int}
-use Rattle.pj_laws.specs.Patterns.{Pattern, all_wild, matches_row}
+use Rattle.pj_events.specs.Patterns.{Pattern, all_wild, matches_row}
 use Rattle.pj_value.specs.Bags.{weigh, SameBag}
-use Rattle.pj_laws.specs.Join.{In, Value, value_at, Element, Tuple, Punct, rows_of}
+use Rattle.pj_events.specs.Join.{In, Value, value_at, Element, Tuple, Punct, rows_of}
 use Rattle.pj_pattern.specs.Elements.{IsLawful}
 use Rattle.pj_pattern.proofs.Lawful.{none_at as clear_at}
-use Rattle.pj_laws.specs.Operators.{column_of, above_zero, below_zero, Sum, Min, Max, picked_cells, picked_patterns, Agg, Count, GroupSpec, aggregate, keys_from, group_row, group_rows, group_after}
+use Rattle.pj_events.specs.Operators.{column_of, above_zero, below_zero, Sum, Min, Max, picked_cells, picked_patterns, Agg, Count, GroupSpec, aggregate, keys_from, group_row, group_rows, group_after}
 use Rattle.pj_value.specs.Values.{row_eq}
 use Rattle.pj_pattern.specs.Columns.{others_wild}
 use Rattle.pj_laws.proofs.UnionsAndGroups.{group_all, key-from}

@@ -1,8 +1,10 @@
 -- Histories in two parts.
 use Rattle.std.proofs.Common.{ℕ, Bool, false, List, [], ◌∷◌, ◌++◌, ◌≡◌, refl, sym, ap, ◌∙◌, append_assoc}
-use Rattle.pj_laws.specs.Plan.{Node}
-use Rattle.pj_laws.specs.History.{Entry, Out, Reached, next, nodes_by, nodes_from, gained, reached_from, AreEntriesLegal}
-use Rattle.pj_laws.specs.Outcomes.{Arrival, arrivals_at, arrivals_by, outputs_of}
+use Rattle.pj_events.specs.Plan.{Node}
+use Rattle.pj_events.specs.declared.events.Entry.{Entry}
+use Rattle.pj_events.specs.declared.events.Out.{Out}
+use Rattle.pj_events.specs.History.{Reached, next, nodes_by, nodes_from, gained, reached_from, AreEntriesLegal}
+use Rattle.pj_events.specs.Outcomes.{Arrival, arrivals_at, arrivals_by, outputs_of}
 
 pub nodes-append : (nodes : List Node) (xs ys : List Entry) → nodes_from nodes (xs ++ ys) ≡ nodes_from (nodes_from nodes xs) ys
 nodes-append nodes [] ys = refl

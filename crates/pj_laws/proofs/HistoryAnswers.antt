@@ -5,13 +5,18 @@ use Rattle.pj_value.proofs.Members.{In-append_left, In-append_right}
 use Rattle.std.proofs.lemmas.Bool.{or_cases, eqb-true, eq-eqb, false≢true}
 use Rattle.pj_value.specs.declared.values.Value.{Value}
 use Rattle.pj_shape.specs.declared.columns.Column.{Column}
-use Rattle.pj_laws.specs.Patterns.{all_wild}
+use Rattle.pj_events.specs.Patterns.{all_wild}
 use Rattle.pj_value.specs.Bags.{weigh}
-use Rattle.pj_laws.specs.Join.{In, Element, Tuple, Punct, AllGiven, IsSettled, has, rows_of}
-use Rattle.pj_laws.specs.Plan.{Operator, Stream, Select, Project, Union, Join, Group, Node, Local, Comes, Fed, Own, after, after_all, fed_to, answers, HasGiven, IsClosedBy, IsDone, IsCompleteRun, ArePlanned, operator_at}
-use Rattle.pj_laws.specs.History.{reached_of, Entry, Event, Arrive, Taken, Given, Swept, Drain, Halt, Look, Stopped, Idle, Out, Stop, is_stream, streams_from, streams_of, stream_node, root_of, state_in, nodes_by, gained, Reached, begun, closed_after, undrained_after, halted_after, stop_after, next, reached_from, nodes_from, steps_from, Closes, IsMarked, IsEntryAllowed, AreEntriesLegal, IsLegal, IsComplete}
-use Rattle.pj_laws.specs.Outcomes.{Arrival, arrivals_by, arrivals_at, stored_at, peak_of, outputs_of, drained_by, drained_from, element_at, elements_of, place_in, list_at, answers_of, lists_of}
-use Rattle.pj_laws.specs.OneThread.{schema_of}
+use Rattle.pj_events.specs.Join.{In, Element, Tuple, Punct, AllGiven, IsSettled, has, rows_of}
+use Rattle.pj_events.specs.Plan.{Operator, Stream, Select, Project, Union, Join, Group, Node, Local, Comes, Fed, Own, after, after_all, fed_to, answers, HasGiven, IsClosedBy, IsDone, IsCompleteRun, ArePlanned, operator_at}
+use Rattle.pj_events.specs.declared.events.Entry.{Entry}
+use Rattle.pj_events.specs.declared.events.Event.{Event}
+use Rattle.pj_events.specs.declared.events.Out.{Out}
+use Rattle.pj_events.specs.declared.events.Stop.{Stop}
+use Rattle.pj_events.specs.declared.events.Event.TheVariants.{Arrive, Take as Taken, Give as Given, Sweep as Swept, Drain, Halt, Look, Stopped, Idle}
+use Rattle.pj_events.specs.History.{reached_of, is_stream, streams_from, streams_of, stream_node, root_of, state_in, nodes_by, gained, Reached, begun, closed_after, undrained_after, halted_after, stop_after, next, reached_from, nodes_from, steps_from, Closes, IsMarked, IsEntryAllowed, AreEntriesLegal, IsLegal, IsComplete}
+use Rattle.pj_events.specs.Outcomes.{Arrival, arrivals_by, arrivals_at, stored_at, peak_of, outputs_of, drained_by, drained_from, element_at, elements_of, place_in, list_at, answers_of, lists_of}
+use Rattle.pj_events.specs.OneThread.{schema_of}
 use Rattle.pj_laws.specs.HistoryLaws.{HandsOutLawfully, IsNoGroup, HasNoGroup, GivenIsAnswer, Propagates, AllPropagate, CompleteIsAnswer, AddsEntry, AreMadeBy, DrainsHandOutAll, GrowsLegally, FrontsAreLegal, TraceAddsNotes}
 use Rattle.pj_laws.specs.Finality.{EmptiedIsAnswer}
 use Rattle.pj_pattern.specs.Elements.{IsLawful}

@@ -1,27 +1,24 @@
 -- The punctuations that complete histories hand out.
-use Rattle.std.proofs.Common.{ℕ, ◌+◌, ◌<◌, Bool, true, false, cond, List, [], ◌∷◌, ◌++◌, ◌≡◌, map, length, get_or, refl, sym, ap, ap₂, ◌∙◌, subst, inl, inr, arith, append_assoc, append-nil}
+use Rattle.std.proofs.Common.{ℕ, ◌+◌, ◌<◌, Bool, true, false, cond, List, [], ◌∷◌, ◌++◌, ◌≡◌, map, length, get_or, refl, sym, ap, ◌∙◌, subst, inl, inr, arith}
 use Rattle.std.proofs.lemmas.Bool.{false≢true}
-use Rattle.std.proofs.lemmas.List.{length-map, length_push, get_or_at}
+use Rattle.std.proofs.lemmas.List.{length_push}
 use Rattle.pj_value.specs.Bags.{weigh, SameBag}
-use Rattle.pj_value.proofs.Members.{map-same}
-use Rattle.pj_shape.specs.declared.columns.Column.{Column}
-use Rattle.pj_laws.specs.Patterns.{Pattern}
-use Rattle.pj_laws.specs.Join.{In, puncts_of, upto_from}
-use Rattle.pj_laws.specs.Plan.{Operator, Stream, Select, Project, Union, Join, Group, Node, fed_to, ArePlanned}
-use Rattle.pj_laws.specs.History.{Entry, is_stream, streams_from, streams_of, root_of, begun, steps_from, IsLegal}
-use Rattle.pj_laws.specs.Outcomes.{elements_out, elements_of, outputs_of, place_in}
-use Rattle.pj_laws.specs.OneThread.{one_thread_of}
-use Rattle.pj_laws.specs.CoreKept.{OneJoin, stream_of, join_of}
-use Rattle.pj_laws.specs.Punctuations.{join_puncts, operator_puncts, puncts_in, puncts_from, puncts_at, puncts_answers, puncts_answer, puncts_lists}
-use Rattle.pj_laws.specs.HistoryLaws.{AllPropagate, AllAreCertified, closed_list, closed_lists, joined_plan, CompleteIsPuncts, SweptIsPuncts, StreamPuncts, JoinPuncts}
-use Rattle.pj_laws.proofs.Upto.{get_or-upto, length-upto, map-upto}
+use Rattle.pj_events.specs.Patterns.{Pattern}
+use Rattle.pj_events.specs.Join.{In, puncts_of, upto_from}
+use Rattle.pj_events.specs.Plan.{Operator, Stream, Select, Project, Union, Join, Group, Node, fed_to, ArePlanned}
+use Rattle.pj_events.specs.declared.events.Entry.{Entry}
+use Rattle.pj_events.specs.History.{is_stream, streams_from, streams_of, root_of, begun, steps_from, IsLegal}
+use Rattle.pj_events.specs.Outcomes.{elements_out, elements_of, outputs_of, place_in}
+use Rattle.pj_events.specs.OneThread.{one_thread_of}
+use Rattle.pj_events.specs.Punctuations.{operator_puncts, puncts_in, puncts_from, puncts_at, puncts_answers, puncts_answer, puncts_lists}
+use Rattle.pj_laws.specs.HistoryLaws.{AllPropagate, AllAreCertified, closed_list, closed_lists, CompleteIsPuncts, SweptIsPuncts}
+use Rattle.pj_laws.proofs.Upto.{get_or-upto, map-upto}
 use Rattle.pj_laws.proofs.Steps.{legal-steps, outputs-handed, all-rise, rising-place, member-place, fed-elements}
 use Rattle.pj_laws.proofs.Answers.{map-twice}
 use Rattle.pj_laws.proofs.Puncts.{complete-puncts}
 use Rattle.pj_laws.proofs.HistoryAnswers.{root-there, complete-run}
 use Rattle.pj_laws.proofs.OneThreadAnswer.{swept-whole}
 use Rattle.pj_laws.proofs.SweptRun.{swept-complete}
-use Rattle.pj_laws.proofs.JoinSteps.{HasForm, joined-form, root-last, numbers, number-at}
 
 -- ---- the punctuations look at what arrived at the streams alone
 
@@ -96,57 +93,3 @@ swept-is-puncts plan planned lt certs props lists accepted trace =
         map-upto (λ s. puncts_of (elements_of s h)) (λ s. puncts_of (closed_list plan lists s)) 0 (length (streams_of plan))
         (λ s l. ap puncts_of ((swept-whole plan planned certs lists accepted).elements s (omega (arith, l))))
         ∙ sym (map-twice puncts_of (closed_list plan lists) (upto_from 0 (length (streams_of plan))))
-
--- ---- plans of streams and a join of them
-
-pub stream-puncts : (streams : List (List Column)) → StreamPuncts streams
-stream-puncts [] l lists = absurd (omega arith)
-stream-puncts (stream ∷ []) l lists = refl
-stream-puncts (a ∷ b ∷ streams) l lists = absurd (omega arith)
-
--- the punctuations of streams are those that arrived
-streams-first : (g : ℕ → List (List Pattern)) (done : List (List (List Pattern))) (streams : List (List Column)) (rest : List Node)
-    → puncts_from g done (map stream_of streams ++ rest) ≡ puncts_from g (done ++ map g (upto_from (length done) (length streams))) rest
-streams-first g done [] rest = ap (λ (evs : List (List (List Pattern))). puncts_from g evs rest) (sym (append-nil done))
-streams-first g done (stream ∷ streams) rest =
-    streams-first g (done ++ g (length done) ∷ []) streams rest
-    ∙ ap (λ (n : ℕ). puncts_from g ((done ++ g (length done) ∷ []) ++ map g (upto_from n (length streams))) rest) (length_push done (g (length done)))
-    ∙ ap (λ (evs : List (List (List Pattern))). puncts_from g evs rest) (append_assoc done (g (length done) ∷ []) (map g (upto_from (length done + 1) (length streams))))
-
-pub join-puncts : (streams : List (List Column)) (join : OneJoin) → JoinPuncts streams join
-join-puncts streams join j lists =
-    ap₂ (λ (evs : List (List (List Pattern))) (n : ℕ). get_or evs n []) (streams-first g [] streams (join_of join ∷ [])) root
-    ∙ get_or_at A (join_puncts join.spec 0 (map (λ m. get_or A m []) join.inputs)) [] [] count long
-    ∙ ap (join_puncts join.spec 0) (map-same (λ m. get_or A m []) (λ m. get_or lists m []) join.inputs (λ m h. arrived m (j.there m h)))
-  where
-    count : ℕ
-    count = length streams
-
-    plan : List Node
-    plan = joined_plan streams join
-
-    f : HasForm count join.inputs plan
-    f = joined-form streams join
-
-    g : ℕ → List (List Pattern)
-    g n = puncts_at lists (place_in 0 (streams_of plan) n)
-
-    A : List (List (List Pattern))
-    A = map g (upto_from 0 count)
-
-    root : root_of plan ≡ count
-    root = root-last count join.inputs plan f
-
-    long : length A ≡ count
-    long = length-map (upto_from 0 count) g ∙ length-upto 0 count
-
-    arrived : (m : ℕ) → m < count → get_or A m [] ≡ get_or lists m []
-    arrived m lt =
-        let z : 0 + m ≡ m = omega arith in
-        let q = numbers count join.inputs plan f in
-        let there : m < length (streams_of plan) = omega (arith, lt, ap length q, length-upto 0 count) in
-        let at : get_or (streams_of plan) m 0 ≡ m = ap (λ (ns : List ℕ). get_or ns m 0) q ∙ number-at 0 count m 0 lt ∙ z in
-        get_or-upto g 0 count m [] lt
-        ∙ ap g (z ∙ sym at)
-        ∙ ap (puncts_at lists) (rising-place 0 0 (streams_of plan) 0 m (all-rise plan) there)
-        ∙ ap (λ (k : ℕ). get_or lists k []) z

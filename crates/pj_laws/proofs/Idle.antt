@@ -1,9 +1,12 @@
 -- Entries that do nothing at the nodes: they stay within any limit, and hand out nothing.
 use Rattle.std.proofs.Common.{ℕ, zero, suc, Bool, true, false, List, [], ◌∷◌, ◌≡◌, None, map, length, refl, ap, ◌∙◌}
-use Rattle.pj_laws.specs.Join.{Element}
-use Rattle.pj_laws.specs.Plan.{Node, Pass}
-use Rattle.pj_laws.specs.History.{Entry, Drain, Stopped, Stop, out_of, root_of, gained, nodes_from}
-use Rattle.pj_laws.specs.Outcomes.{Level, arrivals_at, beyond_of, climb, goes_beyond, way_up}
+use Rattle.pj_events.specs.Join.{Element}
+use Rattle.pj_events.specs.Plan.{Node, Pass}
+use Rattle.pj_events.specs.declared.events.Entry.{Entry}
+use Rattle.pj_events.specs.declared.events.Stop.{Stop}
+use Rattle.pj_events.specs.declared.events.Event.TheVariants.{Drain, Stopped}
+use Rattle.pj_events.specs.History.{out_of, root_of, gained, nodes_from}
+use Rattle.pj_events.specs.Outcomes.{Level, arrivals_at, beyond_of, climb, goes_beyond, way_up}
 use Rattle.pj_laws.proofs.Nodes.{empty-none, quiet}
 
 -- where nothing goes up, nothing goes beyond

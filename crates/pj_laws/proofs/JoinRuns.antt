@@ -1,10 +1,11 @@
 -- What a legal history makes of each join of a plan.
 use Rattle.std.proofs.Common.{ℕ, zero, suc, ◌+◌, ◌<◌, List, [], ◌∷◌, ◌++◌, ◌≡◌, map, length, get_or, refl, sym, ap, ap₂, ◌∙◌, subst, arith, append_assoc, append-nil}
 use Rattle.std.proofs.lemmas.List.{length-map, length_push, get_or_at}
-use Rattle.pj_laws.specs.Join.{In, Element, Step, JoinData, JoinState, inputs, arities, arity, start, run, AreLegalSteps}
-use Rattle.pj_laws.specs.Plan.{Operator, Join, Node, Local, PlanStep, after_all, own, brought_from, locals, handed_at, batches, moved, operator_at, nowhere, IsWellMade, node_width, ArePlanned, AreStepsLegal}
-use Rattle.pj_laws.specs.History.{Entry, step_of, nodes_by, begun, nodes_from, steps_from}
-use Rattle.pj_laws.specs.Outcomes.{arrivals_in, step_at, join_steps_by, join_steps_of}
+use Rattle.pj_events.specs.Join.{In, Element, Step, JoinData, JoinState, inputs, arities, arity, start, run, AreLegalSteps}
+use Rattle.pj_events.specs.Plan.{Operator, Join, Node, Local, PlanStep, after_all, own, brought_from, locals, handed_at, batches, moved, operator_at, nowhere, IsWellMade, node_width, ArePlanned, AreStepsLegal}
+use Rattle.pj_events.specs.declared.events.Entry.{Entry}
+use Rattle.pj_events.specs.History.{step_of, nodes_by, begun, nodes_from, steps_from}
+use Rattle.pj_events.specs.Outcomes.{arrivals_in, step_at, join_steps_by, join_steps_of}
 use Rattle.pj_laws.specs.Climb.{StandBehind}
 use Rattle.pj_laws.specs.HistoryLaws.{JoinRuns}
 use Rattle.pj_laws.proofs.Glue.{from_input, locals_all, locals-inputs, from-is, moved-append, batches-append, batches-keep, length-batches, length-moved}

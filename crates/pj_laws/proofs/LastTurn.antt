@@ -1,9 +1,9 @@
 -- The last turn of a run on one thread closes a stream.
 use Rattle.std.proofs.Common.{ℕ, zero, suc, ◌+◌, ◌<◌, ◌≤◌, true, List, [], ◌∷◌, ◌++◌, ◌≡◌, length, refl, sym, ap, ◌∙◌, subst, arith, append_assoc, append-nil}
 use Rattle.pj_shape.specs.declared.columns.Column.{Column}
-use Rattle.pj_laws.specs.Join.{Element}
-use Rattle.pj_laws.specs.Plan.{Node, operator_at}
-use Rattle.pj_laws.specs.OneThread.{Turn, is_punct, turns_of, heads, tails, rounds, longest, in_rounds, schema_of, all_turns}
+use Rattle.pj_events.specs.Join.{Element}
+use Rattle.pj_events.specs.Plan.{Node, operator_at}
+use Rattle.pj_events.specs.OneThread.{Turn, is_punct, turns_of, heads, tails, rounds, longest, in_rounds, schema_of, all_turns}
 use Rattle.pj_laws.proofs.OneThreadAnswer.{shorter}
 
 -- turns whose last is that of a punctuation

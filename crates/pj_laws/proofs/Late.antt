@@ -2,8 +2,8 @@
 use Rattle.std.proofs.Common.{ℕ, zero, suc, ◌+◌, ◌<◌, ◌≤◌, ◌≢◌, Bool, true, false, ◌&&◌, ◌||◌, not, List, [], ◌∷◌, ◌≡◌, flat_map, length, refl, sym, ap, ◌∙◌, subst, inl, inr, eqb, ltb, arith}
 use Rattle.std.specs.List.{list_all}
 use Rattle.std.proofs.lemmas.Bool.{and_parts, and_from, false≢true, eqb-true, eq-eqb, cases_eq, lt-ltb, not-true, false_from_ne_true}
-use Rattle.pj_laws.specs.Patterns.{Pattern, all_wild, matches_row, covers}
-use Rattle.pj_laws.specs.Join.{In, need_of, AllGiven, TupleAt, PunctAt, ClassCol, CertEntry, JoinData, JoinState, Demand, Sweep, start, inputs, arity, cert_of, older, older_puncts, instance_from, demand, grown, need, covered, low, ripe, kept, is_held, step, run, IsSettled, IsWalk, AreCertified}
+use Rattle.pj_events.specs.Patterns.{Pattern, all_wild, matches_row, covers}
+use Rattle.pj_events.specs.Join.{In, need_of, AllGiven, TupleAt, PunctAt, ClassCol, CertEntry, JoinData, JoinState, Demand, Sweep, start, inputs, arity, cert_of, older, older_puncts, instance_from, demand, grown, need, covered, low, ripe, kept, is_held, step, run, IsSettled, IsWalk, AreCertified}
 use Rattle.pj_laws.specs.Laws.{Settles, sweeps_from}
 use Rattle.pj_laws.proofs.PatternFacts.{wilds-cover}
 use Rattle.pj_value.proofs.Members.{In-filter, In-filter_from, In-flat_map, all_from, any_from, none_from}

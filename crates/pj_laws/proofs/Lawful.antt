@@ -2,8 +2,8 @@
 use Rattle.std.proofs.Common.{ℕ, ◌+◌, ◌<◌, Bool, true, false, cond, ◌&&◌, not, List, [], ◌∷◌, ◌++◌, ◌≡◌, ◌⊎◌, map, filter, length, take, drop, sum, get_or, refl, sym, ap, ◌∙◌, subst, inl, inr, eqb, arith, add-one}
 use Rattle.pj_value.proofs.Members.{In-append_left, In-append_right, In-append_cases, In-filter, In-filter_from, In-map, In-flat_map, all_at, none_from, none_at}
 use Rattle.std.proofs.lemmas.Bool.{and_parts, and_from, false≢true, eqb-true, eq-eqb, not-true, false_from_ne_true}
-use Rattle.pj_laws.specs.Patterns.{Pattern, all_wild, matches_row}
-use Rattle.pj_laws.specs.Join.{In, Value, arities, goes_out, TupleAt, PunctAt, JoinData, JoinState, Step, TupleComes, PunctComes, Take, Give, Sweep, start, inputs, arity, agree, has, ripe, kept, is_held, new_tuple, new_punct, step, IsAllowed, AreLegalSteps, IsCombination, product, upto_from, candidates, combinations, results, Tuple, Punct, joined, widened, hands_up, outputs}
+use Rattle.pj_events.specs.Patterns.{Pattern, all_wild, matches_row}
+use Rattle.pj_events.specs.Join.{In, Value, arities, goes_out, TupleAt, PunctAt, JoinData, JoinState, Step, TupleComes, PunctComes, Take, Give, Sweep, start, inputs, arity, agree, has, ripe, kept, is_held, new_tuple, new_punct, step, IsAllowed, AreLegalSteps, IsCombination, product, upto_from, candidates, combinations, results, Tuple, Punct, joined, widened, hands_up, outputs}
 use Rattle.pj_laws.specs.Laws.{HandsUpLawfully}
 use Rattle.pj_pattern.specs.Elements.{IsLawful, NoneMatches}
 use Rattle.pj_pattern.proofs.Lawful.{lawful_append, no_punct, no_row, rows_lawful, puncts_lawful, none_from as none_matches}

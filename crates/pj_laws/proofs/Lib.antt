@@ -32,7 +32,6 @@ pub mod Probes
 pub mod OneRun
 pub mod OneThreadAnswer
 pub mod Retract
-pub mod StreamsPlans
 pub mod Follow
 pub mod JoinRuns
 pub mod NextProbe
@@ -42,9 +41,7 @@ pub mod SettledRun
 pub mod LastTurn
 pub mod SweptRun
 pub mod SettlingHistories
-pub mod JoinSteps
 pub mod HistoryPuncts
-pub mod KeepsJoins
 pub mod Limits
 pub mod Drains
 pub mod Tickets
@@ -54,9 +51,6 @@ pub mod ClimbingEvents
 pub mod ClimbingKept
 pub mod ClimbingParts
 pub mod ClimbingLimits
-pub mod StreamsJoined
-pub mod JoinedClimb
-pub mod JoinedMoves
 pub mod ClimbExample
 pub mod Example
 pub mod Reaching

@@ -1,9 +1,9 @@
 -- Fronts of histories that stay within a limit.
 use Rattle.std.proofs.Common.{ℕ, List, [], ◌∷◌, ◌++◌, ◌≡◌, sym, ap, ◌∙◌, subst, append_assoc}
 use Rattle.std.proofs.lemmas.List.{append-nil}
-use Rattle.pj_laws.specs.declared.events.Entry.{Entry}
-use Rattle.pj_laws.specs.Plan.{Node}
-use Rattle.pj_laws.specs.Limits.{BeginsBeyond, ReachesLimit, StaysWithin}
+use Rattle.pj_events.specs.declared.events.Entry.{Entry}
+use Rattle.pj_events.specs.Plan.{Node}
+use Rattle.pj_events.specs.Limits.{BeginsBeyond, ReachesLimit, StaysWithin}
 
 module _ (limit : ℕ) (nodes : List Node) where
   -- entries stay within where a front does, and the others do behind it

@@ -3,11 +3,12 @@ use Rattle.std.proofs.Common.{ℕ, zero, suc, ◌+◌, ◌<◌, ◌≤◌, Bool,
 use Rattle.std.proofs.lemmas.Bool.{eq-eqb, false≢true}
 use Rattle.std.proofs.lemmas.List.{length_push, get_or_at}
 use Rattle.std.proofs.lemmas.List.Sums.{sum_by-cons}
-use Rattle.pj_laws.specs.Join.{In, Element, Step, Take, Give, TupleAt, JoinData, JoinState, TupleComes, PunctComes, Sweep, has, step, run}
-use Rattle.pj_laws.specs.KeptState.{lacking, without}
-use Rattle.pj_laws.specs.Plan.{Operator, Stream, Select, Project, Union, Join, Group, Node, Local, Comes, Fed, Own, PlanStep, Act, join_local, after, after_all, hands_all, own, locals, handed_at, moved, operator_at, nowhere, IsWellMade, node_width, ArePlanned}
-use Rattle.pj_laws.specs.History.{Entry, state_in, pending_in, step_of, nodes_by, nodes_from}
-use Rattle.pj_laws.specs.OneThread.{Pending, probes_at, pending_at, probes_from, first_of, next_from}
+use Rattle.pj_events.specs.Join.{In, Element, Step, Take, Give, TupleAt, JoinData, JoinState, TupleComes, PunctComes, Sweep, has, step, run}
+use Rattle.pj_events.specs.KeptState.{lacking, without}
+use Rattle.pj_events.specs.Plan.{Operator, Stream, Select, Project, Union, Join, Group, Node, Local, Comes, Fed, Own, PlanStep, Act, join_local, after, after_all, hands_all, own, locals, handed_at, moved, operator_at, nowhere, IsWellMade, node_width, ArePlanned}
+use Rattle.pj_events.specs.declared.events.Entry.{Entry}
+use Rattle.pj_events.specs.History.{state_in, pending_in, step_of, nodes_by, nodes_from}
+use Rattle.pj_events.specs.OneThread.{Pending, probes_at, pending_at, probes_from, first_of, next_from}
 use Rattle.pj_laws.specs.HistoryLaws.{probe_of, ProbesGoOn, NoneIsPending}
 use Rattle.pj_laws.proofs.Bags.{AreDistinct}
 use Rattle.pj_laws.proofs.Stand.{lacking-cons}

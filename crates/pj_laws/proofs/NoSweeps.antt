@@ -1,6 +1,6 @@
 -- Joins that are never swept.
 use Rattle.std.proofs.Common.{◌<◌, ◌++◌, List, [], ◌∷◌, ◌≡◌, map, get_or, refl, ap, subst, arith}
-use Rattle.pj_laws.specs.Join.{In, Step, TupleComes, PunctComes, Take, Give, Sweep, JoinData, JoinState, CertStep, CertEntry, entry_of, inputs, new_tuple, step, run, start, AreCertified, AreLegalSteps, TupleAt}
+use Rattle.pj_events.specs.Join.{In, Step, TupleComes, PunctComes, Take, Give, Sweep, JoinData, JoinState, CertStep, CertEntry, entry_of, inputs, new_tuple, step, run, start, AreCertified, AreLegalSteps, TupleAt}
 use Rattle.pj_laws.specs.Laws.{AreNoSweeps, AllIsStored, IsNeverSwept}
 
 stored-run : (spec : JoinData) (s : JoinState) (es : List Step) → s.stored ≡ s.tuples → AreNoSweeps es → (run spec s es).stored ≡ (run spec s es).tuples

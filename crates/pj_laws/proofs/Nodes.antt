@@ -1,10 +1,12 @@
 -- The nodes of a plan under steps: what stays as it is, and what only receives.
 use Rattle.std.proofs.Common.{ℕ, zero, suc, ◌+◌, ◌<◌, ◌≤◌, Bool, true, false, List, [], ◌∷◌, ◌++◌, ◌≡◌, map, length, get_or, refl, sym, ap, ap₂, ◌∙◌, arith}
 use Rattle.std.proofs.lemmas.List.{length_push}
-use Rattle.pj_laws.specs.Join.{Element}
-use Rattle.pj_laws.specs.Plan.{Operator, Stream, Select, Project, Union, Join, Group, Node, Local, Comes, Fed, Own, PlanStep, Pass, after, after_all, hands_all, own, brought_from, locals, handed_at, batches, moved, operator_at}
-use Rattle.pj_laws.specs.History.{Entry, Stop, Stopped, Drain, root_of, step_of, nodes_by, out_of, gained, nodes_from, data_in}
-use Rattle.pj_laws.specs.OneThread.{schema_of}
+use Rattle.pj_events.specs.Join.{Element}
+use Rattle.pj_events.specs.Plan.{Operator, Stream, Select, Project, Union, Join, Group, Node, Local, Comes, Fed, Own, PlanStep, Pass, after, after_all, hands_all, own, brought_from, locals, handed_at, batches, moved, operator_at}
+use Rattle.pj_events.specs.declared.events.Entry.{Entry}
+use Rattle.pj_events.specs.declared.events.Event.TheVariants.{Drain}
+use Rattle.pj_events.specs.History.{root_of, step_of, nodes_by, out_of, gained, nodes_from, data_in}
+use Rattle.pj_events.specs.OneThread.{schema_of}
 use Rattle.pj_laws.specs.HistoryLaws.{IsNoGroup}
 use Rattle.pj_laws.proofs.Glue.{length-moved, after-append}
 
@@ -118,6 +120,3 @@ drain-still nodes = (quiet Pass [] nodes empty-none (λ n le lt. refl)).0
 pub drain-silent : (trace : Bool) (nodes : List Node) → gained trace nodes Drain ≡ []
 drain-silent true nodes = ap (λ (es : List Element). map out_of es) ((quiet Pass [] nodes empty-none (λ n le lt. refl)).1 (root_of nodes))
 drain-silent false nodes = ap (λ (es : List Element). map out_of es) ((quiet Pass [] nodes empty-none (λ n le lt. refl)).1 (root_of nodes))
-
-pub stopped-silent : (nodes : List Node) (stop : Stop) → gained false nodes (Stopped stop) ≡ []
-stopped-silent nodes stop = ap (λ (es : List Element). map out_of es) ((quiet Pass [] nodes empty-none (λ n le lt. refl)).1 (root_of nodes))

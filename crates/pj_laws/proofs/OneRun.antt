@@ -5,12 +5,15 @@ use Rattle.pj_value.proofs.Members.{In-append_cases, In-map}
 use Rattle.std.proofs.lemmas.List.{length_push, get_or_at}
 use Rattle.std.proofs.lemmas.Bool.{and_parts, or_cases, or_left, or_right, eqb-true, eq-eqb, cases_Bool}
 use Rattle.pj_shape.specs.declared.columns.Column.{Column}
-use Rattle.pj_laws.specs.Patterns.{all_wild}
-use Rattle.pj_laws.specs.Join.{In, JoinData, inputs, upto_from, Step, Take, Give, Sweep, Element, Punct, has}
-use Rattle.pj_laws.specs.Plan.{Operator, Stream, Select, Project, Union, Join, Group, Node, Local, Comes, Fed, Own, PlanStep, Feed, Act, after, after_all, own, brought_from, locals, handed_at, moved, nowhere, operator_at, MayArrive, MayAct, IsClearOf, IsStepAllowed}
-use Rattle.pj_laws.specs.History.{Entry, Event, Arrive, Taken, Given, Swept, Drain, Halt, Look, Stopped, Idle, is_stream, streams_from, streams_of, stream_node, step_of, nodes_by, data_in, Reached, begun, closed_after, stop_after, next, reached_from, nodes_from, Closes, IsOn, IsEventAllowed, IsEntryAllowed, AreEntriesLegal, IsLegal}
-use Rattle.pj_laws.specs.Outcomes.{element_at, elements_of}
-use Rattle.pj_laws.specs.OneThread.{Place, places_in, places_from, sweeps_at, is_punct, Turn, plain, arrival_of, probes, follow_up, turn_entries, turns_entries}
+use Rattle.pj_events.specs.Patterns.{all_wild}
+use Rattle.pj_events.specs.Join.{In, JoinData, inputs, upto_from, Step, Take, Give, Sweep, Element, Punct, has}
+use Rattle.pj_events.specs.Plan.{Operator, Stream, Select, Project, Union, Join, Group, Node, Local, Comes, Fed, Own, PlanStep, Feed, Act, after, after_all, own, brought_from, locals, handed_at, moved, nowhere, operator_at, MayArrive, MayAct, IsClearOf, IsStepAllowed}
+use Rattle.pj_events.specs.declared.events.Entry.{Entry}
+use Rattle.pj_events.specs.declared.events.Event.{Event}
+use Rattle.pj_events.specs.declared.events.Event.TheVariants.{Arrive, Take as Taken, Give as Given, Sweep as Swept, Drain, Halt, Look, Stopped, Idle}
+use Rattle.pj_events.specs.History.{is_stream, streams_from, streams_of, stream_node, step_of, nodes_by, data_in, Reached, begun, closed_after, stop_after, next, reached_from, nodes_from, Closes, IsOn, IsEventAllowed, IsEntryAllowed, AreEntriesLegal, IsLegal}
+use Rattle.pj_events.specs.Outcomes.{element_at, elements_of}
+use Rattle.pj_events.specs.OneThread.{Place, places_in, places_from, sweeps_at, is_punct, Turn, plain, arrival_of, probes, follow_up, turn_entries, turns_entries}
 use Rattle.pj_laws.specs.HistoryLaws.{Certified, schema_at}
 use Rattle.pj_laws.proofs.Glue.{length-moved, after-append}
 use Rattle.pj_laws.proofs.Steps.{streams-same, all-rise, rising-apart, stream-there, stream_node-same}

@@ -6,13 +6,14 @@ use Rattle.pj_pattern.specs.Fitting.{FitsKinds, punct_fits}
 use Rattle.std.proofs.lemmas.Bool.{false≢true}
 use Rattle.pj_value.specs.declared.values.Value.{Value}
 use Rattle.pj_shape.specs.declared.columns.Column.{Column}
-use Rattle.pj_laws.specs.Patterns.{Pattern, all_wild, matches_row}
+use Rattle.pj_events.specs.Patterns.{Pattern, all_wild, matches_row}
 use Rattle.pj_value.specs.Bags.{SameBag}
-use Rattle.pj_laws.specs.Join.{In, Element, Tuple, Punct, JoinState, AllGiven, start, rows_of, upto_from}
-use Rattle.pj_laws.specs.Plan.{Operator, Stream, Select, Project, Union, Join, Group, Node, operator_at, IsClearOf, IsWellMade, node_width, ArePlanned}
-use Rattle.pj_laws.specs.History.{Entry, is_stream, streams_of, stream_node, state_in, begun, reached_of, nodes_from}
-use Rattle.pj_laws.specs.Outcomes.{elements_of, outputs_of, rows_out, answer_of, lists_of}
-use Rattle.pj_laws.specs.OneThread.{Turn, heads, tails, rounds, longest, turn_entries, turns_of, in_rounds, turns_entries, schema_of, all_turns, one_thread_of}
+use Rattle.pj_events.specs.Join.{In, Element, Tuple, Punct, JoinState, AllGiven, start, rows_of, upto_from}
+use Rattle.pj_events.specs.Plan.{Operator, Stream, Select, Project, Union, Join, Group, Node, operator_at, IsClearOf, IsWellMade, node_width, ArePlanned}
+use Rattle.pj_events.specs.declared.events.Entry.{Entry}
+use Rattle.pj_events.specs.History.{is_stream, streams_of, stream_node, state_in, begun, reached_of, nodes_from}
+use Rattle.pj_events.specs.Outcomes.{elements_of, outputs_of, rows_out, answer_of, lists_of}
+use Rattle.pj_events.specs.OneThread.{Turn, heads, tails, rounds, longest, turn_entries, turns_of, in_rounds, turns_entries, schema_of, all_turns, one_thread_of}
 use Rattle.pj_laws.specs.HistoryLaws.{AllAreCertified, Certified, HasNoGroup, schema_at, AreAcceptedLists, IsWholeRun, OneThreadIsAnswer, StreamsHold, TurnsGoOn, RoundsGoOn}
 use Rattle.pj_pattern.specs.Elements.{IsLawful}
 use Rattle.pj_pattern.proofs.Lawful.{none_at}

@@ -6,10 +6,10 @@ use Rattle.pj_pattern.specs.Columns.{others_wild}
 use Rattle.std.specs.List.{list_any}
 use Rattle.std.proofs.lemmas.Bool.{and_parts, and_from, or_cases, false≢true, eqb-true, eq-eqb, false_from_ne_true}
 use Rattle.std.proofs.lemmas.List.Sums.{sum_by-take-drop, sum_by-drop_more}
-use Rattle.pj_laws.specs.Patterns.{Pattern, wild, all_wild, is_wild, matches_value, matches_row}
-use Rattle.pj_laws.specs.Join.{In, Value, no_value, arities, goes_out, TupleAt, PunctAt, JoinData, JoinState, Step, TupleComes, PunctComes, Take, Give, Sweep, start, step, run, inputs, arity, agree, is_held, kept, new_punct, IsAllowed, AreLegalSteps, IsCombination, product, upto_from, candidates, combinations, results, Element, Tuple, Punct, joined, widened, hands_up, outputs}
-use Rattle.pj_laws.specs.Operators.{picked_cells, picked_patterns, select_hands, project_hands}
-use Rattle.pj_laws.specs.Plan.{Join, Local, Comes, Fed, Own, join_step, join_local, after_all, hands_all, IsOwn, Fits}
+use Rattle.pj_events.specs.Patterns.{Pattern, wild, all_wild, is_wild, matches_value, matches_row}
+use Rattle.pj_events.specs.Join.{In, Value, no_value, arities, goes_out, TupleAt, PunctAt, JoinData, JoinState, Step, TupleComes, PunctComes, Take, Give, Sweep, start, step, run, inputs, arity, agree, is_held, kept, new_punct, IsAllowed, AreLegalSteps, IsCombination, product, upto_from, candidates, combinations, results, Element, Tuple, Punct, joined, widened, hands_up, outputs}
+use Rattle.pj_events.specs.Operators.{picked_cells, picked_patterns, select_hands, project_hands}
+use Rattle.pj_events.specs.Plan.{Join, Local, Comes, Fed, Own, join_step, join_local, after_all, hands_all, IsOwn, Fits}
 use Rattle.pj_pattern.specs.Elements.{IsLawful}
 use Rattle.pj_pattern.proofs.Covering.{wild_matches}
 use Rattle.pj_pattern.proofs.Rows.{wilds-length}

@@ -6,7 +6,7 @@ use Rattle.pj_value.specs.declared.values.Value.{Value}
 use Rattle.pj_value.specs.Values.{value_eq, value_cmp}
 use Rattle.pj_value.specs.Lists.{In}
 use Rattle.pj_value.specs.Bags.{SameBag}
-use Rattle.pj_laws.specs.Operators.{lesser, greater, least_from, greatest_from, least_of, greatest_of}
+use Rattle.pj_events.specs.Operators.{lesser, greater, least_from, greatest_from, least_of, greatest_of}
 use Rattle.pj_value.proofs.Orders.{equal_itself, not_above_both, not_above_itself, not_above_turned, same_if_equal, total}
 use Rattle.pj_value.proofs.Bags.{member-of}
 

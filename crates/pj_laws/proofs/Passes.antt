@@ -2,12 +2,14 @@
 use Rattle.std.proofs.Common.{ℕ, zero, suc, ◌+◌, ◌<◌, ◌≤◌, ◌⊎◌, Bool, true, cond, not, List, [], ◌∷◌, ◌++◌, ◌≡◌, map, filter, length, refl, sym, ap, ◌∙◌, subst, inl, inr, arith}
 use Rattle.pj_laws.proofs.Histories.{nodes-append}
 use Rattle.std.proofs.lemmas.Bool.{cases_lt}
-use Rattle.pj_laws.specs.Join.{In, TupleAt, JoinData, JoinState, Take, Give, Sweep, has, step, run, upto_from}
-use Rattle.pj_laws.specs.KeptState.{lacking}
+use Rattle.pj_events.specs.Join.{In, TupleAt, JoinData, JoinState, Take, Give, Sweep, has, step, run, upto_from}
+use Rattle.pj_events.specs.KeptState.{lacking}
 use Rattle.pj_laws.specs.Laws.{sweeps_from}
-use Rattle.pj_laws.specs.Plan.{Operator, Stream, Select, Project, Union, Join, Group, Node, Own, Act, after, moved, operator_at}
-use Rattle.pj_laws.specs.History.{Entry, Swept, state_in, nodes_by, nodes_from}
-use Rattle.pj_laws.specs.OneThread.{Place, plain, probes_at, pending_at, probes_from, probes, sweeps_at}
+use Rattle.pj_events.specs.Plan.{Operator, Stream, Select, Project, Union, Join, Group, Node, Own, Act, after, moved, operator_at}
+use Rattle.pj_events.specs.declared.events.Entry.{Entry}
+use Rattle.pj_events.specs.declared.events.Event.TheVariants.{Sweep as Swept}
+use Rattle.pj_events.specs.History.{state_in, nodes_by, nodes_from}
+use Rattle.pj_events.specs.OneThread.{Place, plain, probes_at, pending_at, probes_from, probes, sweeps_at}
 use Rattle.pj_laws.proofs.Glue.{length-moved}
 use Rattle.pj_laws.proofs.NextProbe.{act-before, act-here}
 use Rattle.pj_laws.proofs.Probes.{Rested, AllOperators, all-at, length-from}

@@ -4,11 +4,14 @@ use Rattle.std.proofs.lemmas.Bool.{or_cases, or_right, or_parts, eqb-true, eq-eq
 use Rattle.std.proofs.lemmas.List.{get_or_at, length_push}
 use Rattle.pj_value.specs.declared.values.Value.{Value}
 use Rattle.pj_shape.specs.declared.columns.Column.{Column}
-use Rattle.pj_laws.specs.Join.{In, Element, Tuple, Punct, TupleAt, JoinData, JoinState, Step, Take, Give, TupleComes, AllGiven, has, new_tuple, step, HasCome, IsAllowed}
-use Rattle.pj_laws.specs.KeptState.{lacking}
-use Rattle.pj_laws.specs.Plan.{Operator, Stream, Select, Project, Union, Join, Group, Node, Local, Comes, Fed, Own, PlanStep, Act, after, after_all, own, brought_from, locals, handed_at, batches, moved, operator_at, nowhere, IsOwn, MayAct, IsStepAllowed}
-use Rattle.pj_laws.specs.History.{Entry, Event, Taken, Given, Swept, Drain, state_in, step_of, nodes_by, nodes_from}
-use Rattle.pj_laws.specs.OneThread.{probes_at, probes_from, probes}
+use Rattle.pj_events.specs.Join.{In, Element, Tuple, Punct, TupleAt, JoinData, JoinState, Step, Take, Give, TupleComes, AllGiven, has, new_tuple, step, HasCome, IsAllowed}
+use Rattle.pj_events.specs.KeptState.{lacking}
+use Rattle.pj_events.specs.Plan.{Operator, Stream, Select, Project, Union, Join, Group, Node, Local, Comes, Fed, Own, PlanStep, Act, after, after_all, own, brought_from, locals, handed_at, batches, moved, operator_at, nowhere, IsOwn, MayAct, IsStepAllowed}
+use Rattle.pj_events.specs.declared.events.Entry.{Entry}
+use Rattle.pj_events.specs.declared.events.Event.{Event}
+use Rattle.pj_events.specs.declared.events.Event.TheVariants.{Take as Taken, Give as Given, Sweep as Swept, Drain}
+use Rattle.pj_events.specs.History.{state_in, step_of, nodes_by, nodes_from}
+use Rattle.pj_events.specs.OneThread.{probes_at, probes_from, probes}
 use Rattle.pj_value.proofs.Members.{In-append_cases, In-filter, In-filter_from, In-map, In-map_from}
 use Rattle.pj_laws.proofs.Bags.{AreDistinct}
 use Rattle.pj_laws.proofs.Glue.{moved-append, length-batches, length-moved, after-append}

@@ -5,12 +5,12 @@ use Rattle.pj_value.proofs.Members.{In-filter, In-append_cases, in-place, map-at
 use Rattle.pj_pattern.specs.Columns.{others_wild}
 use Rattle.std.proofs.lemmas.Bool.{eq-eqb, ne_eqb, cases_eq, false≢true, not-true}
 use Rattle.std.proofs.lemmas.List.{length-map, length_push, get_or_append_left, get_or_at}
-use Rattle.pj_laws.specs.Patterns.{Pattern, all_wild, matches_row}
+use Rattle.pj_events.specs.Patterns.{Pattern, all_wild, matches_row}
 use Rattle.pj_value.specs.Bags.{weigh, SameBag}
-use Rattle.pj_laws.specs.Join.{In, Value, PunctAt, JoinData, JoinState, Step, TupleComes, PunctComes, Take, Give, Sweep, start, step, run, inputs, arity, AreLegalSteps, Element, Tuple, Punct, widened, puncts_of}
-use Rattle.pj_laws.specs.Operators.{picked_patterns, select_hands, project_hands, GroupSpec, group_rows, picked_cells, Sent, UnionState, all_sent_from, union_after}
-use Rattle.pj_laws.specs.Plan.{Operator, Stream, Select, Project, Union, Join, Group, Node, Local, Comes, Fed, Own, after_all, hands_all, IsOwn, PlanStep, plan_run, handed, fed_to, IsDone, IsClosedBy, IsCompleteRun, IsWellMade, node_width, ArePlanned, AreStepsLegal, nowhere}
-use Rattle.pj_laws.specs.Punctuations.{widened_at, join_puncts, project_puncts, group_punct, group_puncts, operator_puncts, puncts_in, puncts_from}
+use Rattle.pj_events.specs.Join.{In, Value, PunctAt, JoinData, JoinState, Step, TupleComes, PunctComes, Take, Give, Sweep, start, step, run, inputs, arity, AreLegalSteps, Element, Tuple, Punct, widened, puncts_of}
+use Rattle.pj_events.specs.Operators.{picked_patterns, select_hands, project_hands, GroupSpec, group_rows, picked_cells, Sent, UnionState, all_sent_from, union_after}
+use Rattle.pj_events.specs.Plan.{Operator, Stream, Select, Project, Union, Join, Group, Node, Local, Comes, Fed, Own, after_all, hands_all, IsOwn, PlanStep, plan_run, handed, fed_to, IsDone, IsClosedBy, IsCompleteRun, IsWellMade, node_width, ArePlanned, AreStepsLegal, nowhere}
+use Rattle.pj_events.specs.Punctuations.{widened_at, join_puncts, project_puncts, group_punct, group_puncts, operator_puncts, puncts_in, puncts_from}
 use Rattle.pj_laws.proofs.Glue.{from_input, locals_all, handed-is, handed-front, from-is, operator-is}
 use Rattle.pj_laws.proofs.Operators.{AllFit, AreWithin, AreOwnAllowed, join_steps, join-hands, join-after, join-legal}
 use Rattle.pj_laws.proofs.Complete.{hands_up-all_puncts}

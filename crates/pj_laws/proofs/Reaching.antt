@@ -4,15 +4,17 @@ use Rattle.std.proofs.lemmas.Bool.{and_parts, eqb-true}
 use Rattle.std.proofs.lemmas.List.{length-append, length-map, map-append}
 use Rattle.pj_value.specs.declared.values.Value.{Value}
 use Rattle.pj_value.specs.Bags.{SameBag, weigh}
-use Rattle.pj_laws.specs.Patterns.{Pattern}
-use Rattle.pj_laws.specs.Join.{In, Element, Tuple, Punct, rows_of, puncts_of, upto_from}
-use Rattle.pj_laws.specs.Plan.{Operator, Stream, Select, Project, Union, Join, Group, Node, Local, Comes, Fed, Own, PlanStep, ArePlanned, after, hands, after_all, hands_all, answers, batches, fed_to, handed, handed_at, moved, nowhere, operator_at}
-use Rattle.pj_laws.specs.History.{Entry, Event, IsComplete, IsLegal, begun, nodes_by, nodes_from, step_of, steps_from, streams_of}
-use Rattle.pj_laws.specs.Outcomes.{Arrival, arriving, arrivals_in, arrivals_by, arrivals_at, elements_of, place_in, Level, counts, is_full, passed, Climb, Beyond, Below, climb_each, climb, way_up, beyond_of, origin_of, goes_beyond, answers_of, lists_of}
-use Rattle.pj_laws.specs.OneThread.{one_thread_of}
+use Rattle.pj_events.specs.Patterns.{Pattern}
+use Rattle.pj_events.specs.Join.{In, Element, Tuple, Punct, rows_of, puncts_of, upto_from}
+use Rattle.pj_events.specs.Plan.{Operator, Stream, Select, Project, Union, Join, Group, Node, Local, Comes, Fed, Own, PlanStep, ArePlanned, after, hands, after_all, hands_all, answers, batches, fed_to, handed, handed_at, moved, nowhere, operator_at}
+use Rattle.pj_events.specs.declared.events.Entry.{Entry}
+use Rattle.pj_events.specs.declared.events.Event.{Event}
+use Rattle.pj_events.specs.History.{IsComplete, IsLegal, begun, nodes_by, nodes_from, step_of, steps_from, streams_of}
+use Rattle.pj_events.specs.Outcomes.{Arrival, arriving, arrivals_in, arrivals_by, arrivals_at, elements_of, place_in, Level, counts, is_full, passed, Climb, Beyond, Below, climb_each, climb, way_up, beyond_of, origin_of, goes_beyond, answers_of, lists_of}
+use Rattle.pj_events.specs.OneThread.{one_thread_of}
 use Rattle.pj_laws.specs.Climb.{StandBehind, IsTree, node_hands, stepped, coming, going_on, climbed_from, climbed, climbed_where, local_of}
 use Rattle.pj_laws.specs.ClimbLimits.{begun_by, begun_where}
-use Rattle.pj_laws.specs.Punctuations.{puncts_answers, puncts_from, puncts_lists}
+use Rattle.pj_events.specs.Punctuations.{puncts_answers, puncts_from, puncts_lists}
 use Rattle.pj_laws.specs.HistoryLaws.{AllAreCertified, AllPropagate, closed_list, closed_lists}
 use Rattle.pj_laws.specs.Reaching.{counted_in, elements_to, LimitsTell}
 use Rattle.pj_laws.proofs.Glue.{hands-append}

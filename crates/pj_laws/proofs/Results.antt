@@ -3,7 +3,7 @@ use Rattle.std.proofs.Common.{ℕ, zero, suc, ◌+◌, ◌<◌, ◌≤◌, Bool,
 use Rattle.std.specs.List.{list_all}
 use Rattle.std.proofs.lemmas.Bool.{false≢true, eqb-true, eq-eqb, cases_Bool, cases_eq}
 use Rattle.std.proofs.lemmas.List.Elements.{filter-append}
-use Rattle.pj_laws.specs.Join.{In, TupleAt, JoinData, JoinState, start, inputs, of_input, older, agree, has, run, IsCombination, product, upto_from, candidates, combinations, results}
+use Rattle.pj_events.specs.Join.{In, TupleAt, JoinData, JoinState, start, inputs, of_input, older, agree, has, run, IsCombination, product, upto_from, candidates, combinations, results}
 use Rattle.pj_laws.specs.Laws.{StoredSuffice}
 use Rattle.pj_value.proofs.Members.{In-filter, In-map, In-flat_map, all_from, filter-agree, filter-filter, map-same}
 use Rattle.pj_laws.proofs.Forget.{least_open-below, IsSound}

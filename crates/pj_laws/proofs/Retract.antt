@@ -6,13 +6,13 @@ use Rattle.std.proofs.lemmas.List.{length-map, length_push, get_or_append_left, 
 use Rattle.pj_value.specs.declared.values.Value.{Value}
 use Rattle.pj_shape.specs.Joining.{Part, parts_from, join_answer}
 use Rattle.pj_shape.specs.Lists.{product}
-use Rattle.pj_laws.specs.Patterns.{matches_row}
+use Rattle.pj_events.specs.Patterns.{matches_row}
 use Rattle.pj_value.specs.Bags.{weigh, SubBag}
-use Rattle.pj_laws.specs.Join.{In, Element, TupleAt, JoinData, JoinState, start, run, arity, inputs, of_input, part_of, upto_from, AreLegalSteps, rows_of}
-use Rattle.pj_laws.specs.Operators.{picked_cells}
-use Rattle.pj_laws.specs.Plan.{Operator, Stream, Select, Project, Union, Join, Group, Node, Local, Own, PlanStep, nowhere, hands_all, IsOwn, handed, fed_to, inputs_of, operator_answer, answers_from, IsWellMade, node_width, ArePlanned, AreStepsLegal, operator_at}
-use Rattle.pj_laws.specs.History.{is_stream, streams_of, stream_node, root_of, begun, steps_from}
-use Rattle.pj_laws.specs.Outcomes.{elements_of, place_in, list_at}
+use Rattle.pj_events.specs.Join.{In, Element, TupleAt, JoinData, JoinState, start, run, arity, inputs, of_input, part_of, upto_from, AreLegalSteps, rows_of}
+use Rattle.pj_events.specs.Operators.{picked_cells}
+use Rattle.pj_events.specs.Plan.{Operator, Stream, Select, Project, Union, Join, Group, Node, Local, Own, PlanStep, nowhere, hands_all, IsOwn, handed, fed_to, inputs_of, operator_answer, answers_from, IsWellMade, node_width, ArePlanned, AreStepsLegal, operator_at}
+use Rattle.pj_events.specs.History.{is_stream, streams_of, stream_node, root_of, begun, steps_from}
+use Rattle.pj_events.specs.Outcomes.{elements_of, place_in, list_at}
 use Rattle.pj_laws.specs.HistoryLaws.{IsNoGroup, HasNoGroup, NeverRetracts}
 use Rattle.pj_laws.proofs.Bags.{weigh-product}
 use Rattle.pj_laws.proofs.Complete.{some-rows-given}

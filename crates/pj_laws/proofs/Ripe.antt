@@ -2,8 +2,8 @@
 use Rattle.std.proofs.Common.{ℕ, ◌≤◌, Bool, true, ◌&&◌, not, List, [], ◌∷◌, ◌≡◌, ◌⊎◌, map, flat_map, length, refl, sym, ap, ◌∙◌, subst, inl, inr, eqb, ltb, arith}
 use Rattle.std.specs.List.{list_all}
 use Rattle.std.proofs.lemmas.Bool.{and_parts, and_from, false≢true, eqb-true, cases_lt, ltb-true, lt-ltb}
-use Rattle.pj_laws.specs.Patterns.{matches_row, covers}
-use Rattle.pj_laws.specs.Join.{need_of, In, TupleAt, PunctAt, CertEntry, JoinData, JoinState, Demand, Step, TupleComes, PunctComes, Take, Give, Sweep, start, arity, cert_of, of_input, older, older_puncts, agree, demand, grown, need, covered, low, ripe, new_tuple, new_punct, step, run, IsNew, AreLegalSteps, IsWalk, AreCertified}
+use Rattle.pj_events.specs.Patterns.{matches_row, covers}
+use Rattle.pj_events.specs.Join.{need_of, In, TupleAt, PunctAt, CertEntry, JoinData, JoinState, Demand, Step, TupleComes, PunctComes, Take, Give, Sweep, start, arity, cert_of, of_input, older, older_puncts, agree, demand, grown, need, covered, low, ripe, new_tuple, new_punct, step, run, IsNew, AreLegalSteps, IsWalk, AreCertified}
 use Rattle.pj_laws.specs.Laws.{StaysRipe, RipeWhenCovered}
 use Rattle.pj_value.proofs.Members.{In-append_left, In-append_cases, In-filter, In-filter_from, In-map, In-flat_map, all_at, all_from, any_at, any_from}
 use Rattle.pj_laws.proofs.Matching.{AreInputs, asked-matches}

@@ -3,10 +3,10 @@ use Rattle.std.proofs.Common.{ℕ, zero, suc, ◌+◌, ◌<◌, ◌≤◌, Bool,
 use Rattle.std.proofs.lemmas.Bool.{eq-eqb, ne_eqb}
 use Rattle.std.proofs.lemmas.List.Elements.{filter-append}
 use Rattle.pj_shape.specs.declared.columns.Column.{Column}
-use Rattle.pj_laws.specs.Patterns.{all_wild}
-use Rattle.pj_laws.specs.Join.{In, Element, Punct}
-use Rattle.pj_laws.specs.Plan.{Node, operator_at}
-use Rattle.pj_laws.specs.OneThread.{Turn, turns_of, heads, tails, rounds, longest, in_rounds, schema_of, all_turns}
+use Rattle.pj_events.specs.Patterns.{all_wild}
+use Rattle.pj_events.specs.Join.{In, Element, Punct}
+use Rattle.pj_events.specs.Plan.{Node, operator_at}
+use Rattle.pj_events.specs.OneThread.{Turn, turns_of, heads, tails, rounds, longest, in_rounds, schema_of, all_turns}
 use Rattle.pj_value.proofs.Members.{In-append_cases, In-map}
 
 -- the turns of one stream

@@ -2,10 +2,10 @@
 use Rattle.std.proofs.Common.{ℕ, ◌+◌, ◌<◌, Bool, cond, List, [], ◌∷◌, ◌++◌, ◌≡◌, map, length, get_or, sum, refl, sym, ap, ◌∙◌, subst, inl, inr, arith, append_assoc, append-nil, length-append}
 use Rattle.std.proofs.lemmas.Bool.{cases_eq}
 use Rattle.std.proofs.lemmas.List.{length-map, length_push, get_or_append_left, get_or_at}
-use Rattle.pj_laws.specs.Patterns.{all_wild}
-use Rattle.pj_laws.specs.Join.{In, Value, run, arities, JoinState, start, Element, Punct, rows_of}
-use Rattle.pj_laws.specs.Operators.{Sent, UnionState, union_after, select_hands, project_hands, picked_patterns}
-use Rattle.pj_laws.specs.Plan.{Operator, Stream, Select, Project, Union, Join, Group, Node, Local, Comes, Fed, Own, after_all, hands_all, PlanStep, plan_run, handed, inputs_of, operator_answer, answers_from, fed_to, HasGiven, IsDone, IsClosedBy, IsCompleteRun, CompleteAnswers, operator_width, IsWellMade, node_width, ArePlanned, AreStepsLegal, nowhere}
+use Rattle.pj_events.specs.Patterns.{all_wild}
+use Rattle.pj_events.specs.Join.{In, Value, run, arities, JoinState, start, Element, Punct, rows_of}
+use Rattle.pj_events.specs.Operators.{Sent, UnionState, union_after, select_hands, project_hands, picked_patterns}
+use Rattle.pj_events.specs.Plan.{Operator, Stream, Select, Project, Union, Join, Group, Node, Local, Comes, Fed, Own, after_all, hands_all, PlanStep, plan_run, handed, inputs_of, operator_answer, answers_from, fed_to, HasGiven, IsDone, IsClosedBy, IsCompleteRun, CompleteAnswers, operator_width, IsWellMade, node_width, ArePlanned, AreStepsLegal, nowhere}
 use Rattle.pj_value.proofs.Members.{In-flat_map_from, in-place, map-at}
 use Rattle.pj_laws.proofs.Glue.{from_input, locals_all, handed-is, handed-front, from-is, operator-is}
 use Rattle.pj_laws.proofs.Operators.{AreWithin, join_steps, join-after}

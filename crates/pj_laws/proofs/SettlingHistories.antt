@@ -3,12 +3,15 @@ use Rattle.std.proofs.Common.{ℕ, zero, suc, ◌+◌, ◌<◌, ◌≤◌, Bool,
 use Rattle.std.proofs.lemmas.Bool.{cases_eq, cases_lt, eqb-true, false≢true, or_cases, or_right}
 use Rattle.std.proofs.lemmas.List.{length-map, length_push, get_or_at}
 use Rattle.pj_value.proofs.Members.{In-append_left, in-place, map-at}
-use Rattle.pj_laws.specs.Patterns.{all_wild}
-use Rattle.pj_laws.specs.Join.{In, Element, Punct, PunctAt, JoinData, JoinState, Step, TupleComes, PunctComes, Take, Give, Sweep, AllGiven, AreCertified, AreLegalSteps, HasCome, IsAllowed, has, inputs, arities, arity, new_tuple, start, step, run, upto_from}
+use Rattle.pj_events.specs.Patterns.{all_wild}
+use Rattle.pj_events.specs.Join.{In, Element, Punct, PunctAt, JoinData, JoinState, Step, TupleComes, PunctComes, Take, Give, Sweep, AllGiven, AreCertified, AreLegalSteps, HasCome, IsAllowed, has, inputs, arities, arity, new_tuple, start, step, run, upto_from}
 use Rattle.pj_laws.specs.Laws.{sweeps_from}
-use Rattle.pj_laws.specs.Plan.{Operator, Stream, Select, Project, Union, Join, Group, Node, Local, Own, PlanStep, Act, after, after_all, moved, plan_run, handed, fed_to, operator_at, nowhere, IsStepAllowed, IsWellMade, MayAct, node_width, ArePlanned, AreStepsLegal, IsClosedBy, IsDone}
-use Rattle.pj_laws.specs.History.{Entry, Event, Arrive, Taken, Given, Swept, Drain, Halt, Look, Stopped, Idle, Reached, state_in, nodes_by, begun, next, reached_from, reached_of, nodes_from, steps_from, closed_after, IsEntryAllowed, IsEventAllowed, IsOn, IsLegal, IsComplete}
-use Rattle.pj_laws.specs.OneThread.{Place, first_of, next_from, pending_at, places_in, places_from, schema_of}
+use Rattle.pj_events.specs.Plan.{Operator, Stream, Select, Project, Union, Join, Group, Node, Local, Own, PlanStep, Act, after, after_all, moved, plan_run, handed, fed_to, operator_at, nowhere, IsStepAllowed, IsWellMade, MayAct, node_width, ArePlanned, AreStepsLegal, IsClosedBy, IsDone}
+use Rattle.pj_events.specs.declared.events.Entry.{Entry}
+use Rattle.pj_events.specs.declared.events.Event.{Event}
+use Rattle.pj_events.specs.declared.events.Event.TheVariants.{Arrive, Take as Taken, Give as Given, Sweep as Swept, Drain, Halt, Look, Stopped, Idle}
+use Rattle.pj_events.specs.History.{Reached, state_in, nodes_by, begun, next, reached_from, reached_of, nodes_from, steps_from, closed_after, IsEntryAllowed, IsEventAllowed, IsOn, IsLegal, IsComplete}
+use Rattle.pj_events.specs.OneThread.{Place, first_of, next_from, pending_at, places_in, places_from, schema_of}
 use Rattle.pj_laws.specs.HistoryLaws.{AllAreGiven, AllPropagate, AllAreCertified, Certified, JoinRuns, Propagates}
 use Rattle.pj_laws.specs.SettlingHistories.{AreProbing, IsProbing, IsSettling, NoneIsLeft, SettlingIsComplete, SweepsEach}
 use Rattle.pj_laws.proofs.Histories.{nodes-append, reached-append, reached-nodes}

@@ -2,8 +2,8 @@
 use Rattle.std.proofs.Common.{ℕ, ◌+◌, ◌<◌, ◌≤◌, Bool, true, false, cond, ◌&&◌, ◌||◌, not, List, [], ◌∷◌, ◌++◌, ◌≡◌, ◌⊎◌, filter, length, refl, sym, ap, ◌∙◌, subst, inl, inr, eqb, arith}
 use Rattle.std.proofs.lemmas.Bool.{and_parts, and_cases, or_parts, or_right, false≢true, eq-eqb, ne_eqb, cases_Bool, not-false}
 use Rattle.std.proofs.lemmas.List.Elements.{filter-append}
-use Rattle.pj_laws.specs.Patterns.{matches_row}
-use Rattle.pj_laws.specs.Join.{In, TupleAt, PunctAt, JoinData, JoinState, Step, TupleComes, PunctComes, Take, Give, Sweep, start, inputs, arity, has, low, ripe, kept, is_held, must_wait, new_tuple, new_punct, step, run, IsAllowed, AreLegalSteps, MayCome, AreCertified}
+use Rattle.pj_events.specs.Patterns.{matches_row}
+use Rattle.pj_events.specs.Join.{In, TupleAt, PunctAt, JoinData, JoinState, Step, TupleComes, PunctComes, Take, Give, Sweep, start, inputs, arity, has, low, ripe, kept, is_held, must_wait, new_tuple, new_punct, step, run, IsAllowed, AreLegalSteps, MayCome, AreCertified}
 use Rattle.pj_laws.specs.Laws.{NeverNeeded}
 use Rattle.pj_value.proofs.Members.{In-append_left, In-append_right, In-append_cases, In-filter, In-filter_from, filter-agree, filter-filter}
 use Rattle.pj_laws.proofs.Forget.{least_open-le, least_open-below, least_open-from, Reached, WasForgotten, IsSound, ripe-low, stored-in, ripe-forgotten}

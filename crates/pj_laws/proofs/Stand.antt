@@ -4,8 +4,8 @@ use Rattle.std.specs.List.{list_all}
 use Rattle.std.proofs.lemmas.Bool.{false_from_ne_true}
 use Rattle.std.proofs.lemmas.List.{map-append}
 use Rattle.std.proofs.lemmas.List.Elements.{filter-append}
-use Rattle.pj_laws.specs.Join.{need_of, TupleAt, JoinData, JoinState, Step, TupleComes, PunctComes, Take, Give, Sweep, start, inputs, older, older_puncts, covered, has, least_open, low, kept, is_held, new_tuple, step, run}
-use Rattle.pj_laws.specs.KeptState.{KeptState, lacking, kept_of, least, kept_low, swept, without, kept_step}
+use Rattle.pj_events.specs.Join.{need_of, TupleAt, JoinData, JoinState, Step, TupleComes, PunctComes, Take, Give, Sweep, start, inputs, older, older_puncts, covered, has, least_open, low, kept, is_held, new_tuple, step, run}
+use Rattle.pj_events.specs.KeptState.{KeptState, lacking, kept_of, least, kept_low, swept, without, kept_step}
 use Rattle.pj_laws.specs.Laws.{StepsStand}
 use Rattle.pj_laws.proofs.Sound.{sound-start, run-append}
 use Rattle.pj_laws.proofs.Complete.{IsCounted, counted-start, counted-run, eqb-sym}

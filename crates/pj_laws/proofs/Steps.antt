@@ -4,10 +4,15 @@ use Rattle.std.specs.Prelude.{pred}
 use Rattle.std.proofs.lemmas.Bool.{eq-eqb, ne_eqb, cases_eq, cases_lt, false≢true}
 use Rattle.pj_value.specs.declared.values.Value.{Value}
 use Rattle.std.proofs.lemmas.List.{length_push}
-use Rattle.pj_laws.specs.Join.{In, Element, Tuple, Punct, TupleAt, removed}
-use Rattle.pj_laws.specs.Plan.{Operator, Stream, Select, Project, Union, Join, Group, Node, Local, Comes, Fed, Own, PlanStep, after, after_all, locals, handed_at, moved, plan_run, handed, fed_to, inputs_of, operator_answer, answers_from, IsStepAllowed, AreStepsLegal}
-use Rattle.pj_laws.specs.History.{Entry, Event, Arrive, Taken, Given, Swept, Drain, Halt, Look, Stopped, Idle, Out, RowOut, PunctOut, Purged, is_stream, streams_from, streams_of, stream_node, root_of, join_at, data_at, step_of, nodes_by, out_of, notes_of, root_hands, gained, Reached, next, nodes_from, steps_from, IsEventAllowed, AreEntriesLegal}
-use Rattle.pj_laws.specs.Outcomes.{elements_out, outputs_of, element_at, elements_of, place_in}
+use Rattle.pj_events.specs.Join.{In, Element, Tuple, Punct, TupleAt, removed}
+use Rattle.pj_events.specs.Plan.{Operator, Stream, Select, Project, Union, Join, Group, Node, Local, Comes, Fed, Own, PlanStep, after, after_all, locals, handed_at, moved, plan_run, handed, fed_to, inputs_of, operator_answer, answers_from, IsStepAllowed, AreStepsLegal}
+use Rattle.pj_events.specs.declared.events.Entry.{Entry}
+use Rattle.pj_events.specs.declared.events.Event.{Event}
+use Rattle.pj_events.specs.declared.events.Out.{Out}
+use Rattle.pj_events.specs.declared.events.Event.TheVariants.{Arrive, Take as Taken, Give as Given, Sweep as Swept, Drain, Halt, Look, Stopped, Idle}
+use Rattle.pj_events.specs.declared.events.Out.TheVariants.{Tuple as RowOut, Punct as PunctOut, Purged}
+use Rattle.pj_events.specs.History.{is_stream, streams_from, streams_of, stream_node, root_of, join_at, data_at, step_of, nodes_by, out_of, notes_of, root_hands, gained, Reached, next, nodes_from, steps_from, IsEventAllowed, AreEntriesLegal}
+use Rattle.pj_events.specs.Outcomes.{elements_out, outputs_of, element_at, elements_of, place_in}
 use Rattle.pj_laws.proofs.Glue.{length-moved}
 
 -- ---- legal histories make legal steps

@@ -1,13 +1,17 @@
 -- The run on one thread with sweeps is complete.
 use Rattle.std.proofs.Common.{cond, map, get_or, inl, ℕ, ◌+◌, ◌<◌, Bool, true, false, Option, Some, None, List, [], ◌∷◌, ◌++◌, ◌≡◌, length, refl, sym, ap, ap₂, ◌∙◌, subst, arith, append_assoc, append-nil}
 use Rattle.std.proofs.lemmas.Bool.{false≢true}
-use Rattle.pj_laws.specs.Join.{In, Tuple, Punct, Element, has}
+use Rattle.pj_events.specs.Join.{In, Tuple, Punct, Element, has}
 use Rattle.pj_value.specs.declared.values.Value.{Value}
 use Rattle.pj_value.specs.Bags.{SameBag}
-use Rattle.pj_laws.specs.Outcomes.{rows_out, outputs_of, answer_of}
-use Rattle.pj_laws.specs.Plan.{IsWellMade, Operator, Stream, Select, Project, Union, Join, Group, Node, Local, Comes, Fed, Own, PlanStep, after, after_all, moved, locals, handed_at, operator_at, ArePlanned}
-use Rattle.pj_laws.specs.History.{is_stream, streams_from, Entry, Event, Arrive, Taken, Given, Swept, Drain, Halt, Look, Stopped, Idle, Stop, Reached, begun, next, stop_after, reached_of, reached_from, nodes_from, nodes_by, step_of, streams_of, IsOn, AreEntriesLegal, IsLegal, IsComplete}
-use Rattle.pj_laws.specs.OneThread.{Place, Turn, is_punct, plain, arrival_of, probes, sweeps_at, places_in, places_from, follow_up, turn_entries, turns_entries, one_thread_of}
+use Rattle.pj_events.specs.Outcomes.{rows_out, outputs_of, answer_of}
+use Rattle.pj_events.specs.Plan.{IsWellMade, Operator, Stream, Select, Project, Union, Join, Group, Node, Local, Comes, Fed, Own, PlanStep, after, after_all, moved, locals, handed_at, operator_at, ArePlanned}
+use Rattle.pj_events.specs.declared.events.Entry.{Entry}
+use Rattle.pj_events.specs.declared.events.Event.{Event}
+use Rattle.pj_events.specs.declared.events.Stop.{Stop}
+use Rattle.pj_events.specs.declared.events.Event.TheVariants.{Arrive, Take as Taken, Give as Given, Sweep as Swept, Drain, Halt, Look, Stopped, Idle}
+use Rattle.pj_events.specs.History.{is_stream, streams_from, Reached, begun, next, stop_after, reached_of, reached_from, nodes_from, nodes_by, step_of, streams_of, IsOn, AreEntriesLegal, IsLegal, IsComplete}
+use Rattle.pj_events.specs.OneThread.{Place, Turn, is_punct, plain, arrival_of, probes, sweeps_at, places_in, places_from, follow_up, turn_entries, turns_entries, one_thread_of}
 use Rattle.pj_laws.specs.HistoryLaws.{OneThreadIsAnswer, AllAreCertified, AllPropagate, AreAcceptedLists, IsWholeRun, Certified}
 use Rattle.pj_laws.proofs.Histories.{reached-nodes, nodes-append, reached-append}
 use Rattle.pj_laws.proofs.Nodes.{drain-still}

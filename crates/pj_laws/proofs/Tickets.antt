@@ -2,9 +2,9 @@
 use Rattle.std.proofs.Common.{ℕ, ◌<◌, ◌≤◌, Bool, true, false, cond, not, ◌||◌, List, [], ◌∷◌, ◌++◌, ◌≡◌, ◌⊎◌, map, filter, eqb, Some, None, refl, sym, ap, ◌∙◌, inl, inr, arith}
 use Rattle.std.proofs.lemmas.Bool.{false≢true, eqb-true, eq-eqb, ne_eqb, or_cases}
 use Rattle.pj_value.specs.Lists.{In}
-use Rattle.pj_laws.specs.Join.{TupleAt, JoinData, JoinState, Step, TupleComes, PunctComes, Take, Give, Sweep, start, run, step, has, new_tuple}
-use Rattle.pj_laws.specs.KeptState.{lacking, without}
-use Rattle.pj_laws.specs.OneThread.{first_of}
+use Rattle.pj_events.specs.Join.{TupleAt, JoinData, JoinState, Step, TupleComes, PunctComes, Take, Give, Sweep, start, run, step, has, new_tuple}
+use Rattle.pj_events.specs.KeptState.{lacking, without}
+use Rattle.pj_events.specs.OneThread.{first_of}
 
 -- a ticket that is not among these is one of a tuple that came
 pub lacking-come : (ns : List ℕ) (xs : List TupleAt) (t : ℕ) → has (lacking ns xs) t ≡ true → ((x : TupleAt) × In x xs × (x.ticket ≡ t)) × (has ns t ≡ false)
@@ -114,12 +114,3 @@ without-none [] t f = refl
 without-none (v ∷ ts) t f =
     ap (λ (b : Bool). cond (not b) (v ∷ without ts t) (without ts t)) (ne_eqb v t (λ e. let lt = f v (inl refl) in omega (arith, lt, e)))
     ∙ ap (λ (us : List ℕ). v ∷ us) (without-none ts t (λ u h. f u (inr h)))
-
--- the least of ascending tickets stands before the others
-pub first-split : (ts : List ℕ) (t : ℕ) → AreAscending ts → In t ts → ((v : ℕ) → In v ts → t ≤ v) → ts ≡ t ∷ without ts t
-first-split [] t a i l = absurd i
-first-split (v ∷ ts) t a (inl e) l =
-    let here : without (v ∷ ts) t ≡ without ts t = ap (λ (b : Bool). cond (not b) (v ∷ without ts t) (without ts t)) (eq-eqb v t e) in
-    let rest : without ts t ≡ ts = without-none ts t (λ u h. let lt = a.0 u h in omega (arith, lt, e)) in
-    ap (λ (n : ℕ). n ∷ ts) e ∙ ap (λ (us : List ℕ). t ∷ us) (sym (here ∙ rest))
-first-split (v ∷ ts) t a (inr i) l = absurd (let m = a.0 t i in let n = l v (inl refl) in omega (arith, m, n))

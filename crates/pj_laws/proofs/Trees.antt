@@ -2,10 +2,11 @@
 use Rattle.std.proofs.Common.{ℕ, zero, suc, ◌+◌, ◌<◌, ◌≤◌, List, [], ◌∷◌, ◌++◌, ◌≡◌, ◌⊎◌, Option, Some, None, length, get_or, refl, sym, ap, ap₂, ◌∙◌, subst, inl, inr, arith}
 use Rattle.std.specs.Prelude.{pred}
 use Rattle.std.proofs.lemmas.Bool.{cases_lt}
-use Rattle.pj_laws.specs.Join.{AreDistinct, Element}
-use Rattle.pj_laws.specs.Plan.{Node, PlanStep, handed_at, moved, nowhere, ArePlanned}
-use Rattle.pj_laws.specs.History.{Entry, root_of, step_of, nodes_by, nodes_from}
-use Rattle.pj_laws.specs.Outcomes.{place_in}
+use Rattle.pj_events.specs.Join.{AreDistinct, Element}
+use Rattle.pj_events.specs.Plan.{Node, PlanStep, handed_at, moved, nowhere, ArePlanned}
+use Rattle.pj_events.specs.declared.events.Entry.{Entry}
+use Rattle.pj_events.specs.History.{root_of, step_of, nodes_by, nodes_from}
+use Rattle.pj_events.specs.Outcomes.{place_in}
 use Rattle.pj_laws.specs.Climb.{all_inputs, StandBehind, IsTree, Above, first_above, above_from, above, HasOneTop, node_after, Load, coming, going_on, climbed_from, climbed}
 use Rattle.pj_laws.proofs.Climbing.{placed-none}
 use Rattle.pj_laws.proofs.Follow.{planned-behind, behind-moved}

@@ -6,11 +6,11 @@ use Rattle.std.specs.List.{list_any}
 use Rattle.std.proofs.lemmas.Bool.{and_parts, or_cases, false≢true, eqb-true, eq-eqb, cases_eq, false_from_ne_true, not-true}
 use Rattle.std.proofs.lemmas.List.{length-map}
 use Rattle.pj_pattern.proofs.Covering.{row_covered}
-use Rattle.pj_laws.specs.Patterns.{Pattern, wild, all_wild, matches_row, covers_punct}
-use Rattle.pj_laws.specs.Join.{In, Value, no_value, Element, Tuple, Punct}
+use Rattle.pj_events.specs.Patterns.{Pattern, wild, all_wild, matches_row, covers_punct}
+use Rattle.pj_events.specs.Join.{In, Value, no_value, Element, Tuple, Punct}
 use Rattle.pj_pattern.specs.Elements.{IsLawful}
-use Rattle.pj_laws.specs.Operators.{picked_cells, picked_patterns, aggregate, keys_from, group_row, group_rows, GroupSpec, Sent, UnionState, all_sent_from, union_after, union_hands, group_after, group_hands}
-use Rattle.pj_laws.specs.Plan.{Union, Group, Local, Comes, Fed, Own, hands_all}
+use Rattle.pj_events.specs.Operators.{picked_cells, picked_patterns, aggregate, keys_from, group_row, group_rows, GroupSpec, Sent, UnionState, all_sent_from, union_after, union_hands, group_after, group_hands}
+use Rattle.pj_events.specs.Plan.{Union, Group, Local, Comes, Fed, Own, hands_all}
 use Rattle.pj_value.specs.Values.{row_eq}
 use Rattle.pj_pattern.proofs.Rows.{matches-append}
 use Rattle.pj_pattern.specs.Columns.{others_wild}

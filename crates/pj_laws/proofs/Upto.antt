@@ -1,6 +1,6 @@
 -- Numbers in a row, from one on.
 use Rattle.std.proofs.Common.{◌≡◌, ◌<◌, ◌+◌, ℕ, zero, suc, List, [], ◌∷◌, ◌++◌, length, map, get_or, refl, ap, ap₂, ◌∙◌, arith}
-use Rattle.pj_laws.specs.Join.{upto_from}
+use Rattle.pj_events.specs.Join.{upto_from}
 
 pub length-upto : (base n : ℕ) → length (upto_from base n) ≡ n
 length-upto base zero = refl

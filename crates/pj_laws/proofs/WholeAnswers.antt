@@ -5,11 +5,11 @@ use Rattle.std.proofs.lemmas.List.{length-map, length_push, get_or_append_left, 
 use Rattle.std.proofs.lemmas.Bool.{eq-eqb}
 use Rattle.pj_shape.specs.declared.columns.Column.{Column}
 use Rattle.pj_shape.specs.Joining.{join_answer}
-use Rattle.pj_laws.specs.Patterns.{matches_row}
+use Rattle.pj_events.specs.Patterns.{matches_row}
 use Rattle.pj_value.specs.Bags.{weigh, SameBag}
-use Rattle.pj_laws.specs.Join.{In, Value, JoinData, JoinState, Step, start, step, arity, AreLegalSteps, Element, rows_of}
-use Rattle.pj_laws.specs.Operators.{picked_cells, GroupSpec, group_rows, group_after}
-use Rattle.pj_laws.specs.Plan.{Operator, Stream, Select, Project, Union, Join, Group, Node, Local, Comes, Fed, Own, join_step, after_all, hands_all, IsOwn, PlanStep, Feed, Act, Pass, own, brought_from, locals, batches, moved, plan_run, handed, inputs_of, operator_answer, answers_from, fed_to, HasGiven, RowsAreAnswers, IsWellMade, node_width, ArePlanned, AreStepsLegal, nowhere}
+use Rattle.pj_events.specs.Join.{In, Value, JoinData, JoinState, Step, start, step, arity, AreLegalSteps, Element, rows_of}
+use Rattle.pj_events.specs.Operators.{picked_cells, GroupSpec, group_rows, group_after}
+use Rattle.pj_events.specs.Plan.{Operator, Stream, Select, Project, Union, Join, Group, Node, Local, Comes, Fed, Own, join_step, after_all, hands_all, IsOwn, PlanStep, Feed, Act, Pass, own, brought_from, locals, batches, moved, plan_run, handed, inputs_of, operator_answer, answers_from, fed_to, HasGiven, RowsAreAnswers, IsWellMade, node_width, ArePlanned, AreStepsLegal, nowhere}
 use Rattle.pj_laws.proofs.Glue.{from_input, locals_all, handed-is, handed-front, from-is, operator-is, length-batches, length-moved}
 use Rattle.pj_laws.proofs.Operators.{AreWithin, AreOwnAllowed, join_steps, join-legal, join-after}
 use Rattle.pj_laws.proofs.Whole.{IsGood, AreLocalsAllowed, AreGood, locals-allowed, within-all, select-hands, project-hands, fed-join, node-good, front-good}

@@ -2,8 +2,8 @@
 use Rattle.std.proofs.Common.{ℕ, zero, suc, ◌+◌, Bool, true, false, ◌&&◌, List, [], ◌∷◌, ◌++◌, ◌≡◌, take, drop, length, get_or, sum, refl, sym, ap, ◌∙◌, inl, inr, arith, append_assoc}
 use Rattle.std.proofs.lemmas.List.{replicate-append-replicate, length-append}
 use Rattle.std.proofs.lemmas.List.Sums.{sum_by-cons}
-use Rattle.pj_laws.specs.Patterns.{Pattern, wild, all_wild, matches_row}
-use Rattle.pj_laws.specs.Join.{In, TupleAt, joined}
+use Rattle.pj_events.specs.Patterns.{Pattern, wild, all_wild, matches_row}
+use Rattle.pj_events.specs.Join.{In, TupleAt, joined}
 use Rattle.pj_pattern.proofs.Rows.{matches-append, wilds-match, wilds-length}
 use Rattle.pj_laws.proofs.Results.{AreInOrder, order-within}
 

@@ -1,10 +1,12 @@
 -- How what a node hands up climbs through a plan that is a tree.
 use Rattle.std.specs.Prelude.{ℕ, zero, suc, ◌+◌, ◌<◌, ◌≡◌, ◌≢◌, List, [], ◌∷◌, ◌++◌, map, length, slice_index_or, slice_set, Option, Some, None}
 use Rattle.pj_pattern.specs.declared.element.Element.{Element}
-use Rattle.pj_laws.specs.Join.{In, AreDistinct, Step, Take, Give, Sweep}
-use Rattle.pj_laws.specs.Plan.{Node, Local, Comes, Fed, Own, PlanStep, Feed, Act, nowhere, batches, moved, after, hands, after_all, hands_all, operator_at}
-use Rattle.pj_laws.specs.History.{Event, Arrive, Taken, Given, Swept, step_of, nodes_by, root_hands}
-use Rattle.pj_laws.specs.Outcomes.{Arrival, arriving, arrivals_in, arrivals_by, place_in, origin_of}
+use Rattle.pj_events.specs.Join.{In, AreDistinct, Step, Take, Give, Sweep}
+use Rattle.pj_events.specs.Plan.{Node, Local, Comes, Fed, Own, PlanStep, Feed, Act, nowhere, batches, moved, after, hands, after_all, hands_all, operator_at}
+use Rattle.pj_events.specs.declared.events.Event.{Event}
+use Rattle.pj_events.specs.declared.events.Event.TheVariants.{Arrive, Take as Taken, Give as Given, Sweep as Swept}
+use Rattle.pj_events.specs.History.{step_of, nodes_by, root_hands}
+use Rattle.pj_events.specs.Outcomes.{Arrival, arriving, arrivals_in, arrivals_by, place_in, origin_of}
 
 -- ---- trees
 

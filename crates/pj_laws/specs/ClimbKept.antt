@@ -1,11 +1,15 @@
 -- What one more entry adds to what is kept of a history of a tree.
 use Rattle.std.specs.Prelude.{ℕ, ◌+◌, ◌<◌, ◌≤◌, ◌≡◌, Bool, if◌then◌else◌, List, [], ◌∷◌, ◌++◌, map, length, max, slice_index_or}
 use Rattle.pj_pattern.specs.declared.element.Element.{Element}
-use Rattle.pj_laws.specs.Join.{JoinData, start, AreLegalSteps}
-use Rattle.pj_laws.specs.Plan.{Join, Node, operator_at}
-use Rattle.pj_laws.specs.History.{Entry, Event, Drain, Out, out_of, notes_of, state_in, closed_after, halted_after, stop_after, nodes_from, IsLegal}
-use Rattle.pj_laws.specs.Outcomes.{Arrival, step_at, own_step, join_steps_of, arrivals_at, peak_of, stored_at, outputs_of}
-use Rattle.pj_laws.specs.CoreKept.{CoreKept, core_kept, kept_in}
+use Rattle.pj_events.specs.Join.{JoinData, start, AreLegalSteps}
+use Rattle.pj_events.specs.Plan.{Join, Node, operator_at}
+use Rattle.pj_events.specs.declared.events.Entry.{Entry}
+use Rattle.pj_events.specs.declared.events.Event.{Event}
+use Rattle.pj_events.specs.declared.events.Out.{Out}
+use Rattle.pj_events.specs.declared.events.Event.TheVariants.{Drain}
+use Rattle.pj_events.specs.History.{out_of, notes_of, state_in, closed_after, halted_after, stop_after, nodes_from, IsLegal}
+use Rattle.pj_events.specs.Outcomes.{Arrival, step_at, own_step, join_steps_of, arrivals_at, peak_of, stored_at, outputs_of}
+use Rattle.pj_events.specs.CoreKept.{CoreKept, core_kept, kept_in}
 use Rattle.pj_laws.specs.Climb.{HasOneTop, climbed, climb_of}
 
 -- what an event hands out: with a trace the notes of removed rows first, and then what is left of its climb

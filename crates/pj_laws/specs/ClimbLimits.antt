@@ -1,9 +1,11 @@
 -- How a climb goes through the levels above a node, under a limit on the number of elements that reach a node.
 use Rattle.std.specs.Prelude.{ℕ, ◌+◌, ◌≤◌, ◌≡◌, List, [], ◌∷◌, ◌++◌, length, slice_index_or, Option, Some, None}
 use Rattle.pj_pattern.specs.declared.element.Element.{Element}
-use Rattle.pj_laws.specs.Plan.{Operator, Node, Local, hands, operator_at}
-use Rattle.pj_laws.specs.History.{Entry, Event, nodes_from}
-use Rattle.pj_laws.specs.Outcomes.{Arrival, arrivals_at, Level, Climb, Beyond, Below, climb, way_up, beyond_of, origin_of, goes_beyond}
+use Rattle.pj_events.specs.Plan.{Operator, Node, Local, hands, operator_at}
+use Rattle.pj_events.specs.declared.events.Entry.{Entry}
+use Rattle.pj_events.specs.declared.events.Event.{Event}
+use Rattle.pj_events.specs.History.{nodes_from}
+use Rattle.pj_events.specs.Outcomes.{Arrival, arrivals_at, Level, Climb, Beyond, Below, climb, way_up, beyond_of, origin_of, goes_beyond}
 use Rattle.pj_laws.specs.Climb.{Above, above, climbed, local_of}
 
 -- the level of a node, where so many elements have reached each

@@ -7,9 +7,10 @@ use Rattle.pj_shape.specs.declared.columns.Column.{Column}
 use Rattle.pj_value.specs.Bags.{SameBag, SubBag}
 use Rattle.pj_value.specs.Lists.{In}
 use Rattle.pj_value.specs.declared.values.Value.{Value}
-use Rattle.pj_laws.specs.Plan.{Node, HasGiven, IsClearOf, operator_at}
-use Rattle.pj_laws.specs.History.{Entry, IsLegal, nodes_from, streams_of}
-use Rattle.pj_laws.specs.Outcomes.{answer_of, elements_of, elements_out, lists_of, outputs_of, rows_out}
+use Rattle.pj_events.specs.Plan.{Node, HasGiven, IsClearOf, operator_at}
+use Rattle.pj_events.specs.declared.events.Entry.{Entry}
+use Rattle.pj_events.specs.History.{IsLegal, nodes_from, streams_of}
+use Rattle.pj_events.specs.Outcomes.{answer_of, elements_of, elements_out, lists_of, outputs_of, rows_out}
 use Rattle.pj_laws.specs.HistoryLaws.{AreAcceptedLists, schema_at}
 
 -- These rows begin with those that arrived at a stream of these columns. Each that comes later has as many columns, and

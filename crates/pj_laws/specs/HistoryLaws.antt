@@ -1,22 +1,21 @@
 -- What holds of every legal history of a plan.
-use Rattle.pj_laws.specs.CoreKept.{OneJoin}
-use Rattle.std.specs.Prelude.{◌==◌, if◌then◌else◌, ℕ, ◌<◌, ◌≡◌, Bool, true, false, List, [], ◌∷◌, ◌++◌, map, length, max, replicate, slice_index_or, ◌↔◌, Some, None}
+use Rattle.std.specs.Prelude.{◌==◌, if◌then◌else◌, ℕ, ◌<◌, ◌≡◌, Bool, true, false, List, [], ◌∷◌, ◌++◌, map, length, max, slice_index_or, ◌↔◌, Some, None}
 use Rattle.pj_shape.specs.Columns.{kinds_of}
 use Rattle.pj_pattern.specs.Fitting.{FitsKinds}
 use Rattle.pj_pattern.specs.Elements.{IsLawful}
-use Rattle.pj_shape.specs.Joining.{join_answer}
-use Rattle.pj_laws.specs.CoreKept.{NothingKept, JoinKept, core_kept, nodes_of_streams, IsJoinOf}
-use Rattle.pj_laws.specs.KeptState.{kept_of}
 use Rattle.pj_value.specs.Bags.{SameBag, SubBag}
 use Rattle.pj_value.specs.declared.values.Value.{Value}
 use Rattle.pj_shape.specs.declared.columns.Column.{Column}
-use Rattle.pj_laws.specs.Patterns.{Pattern, all_wild}
-use Rattle.pj_laws.specs.Join.{AreCertified, AreLegalSteps, start, In, Take, Give, JoinData, JoinState, Element, run, outputs, Punct, AllGiven, has, rows_of, puncts_of, upto_from}
-use Rattle.pj_laws.specs.Plan.{Operator, Stream, Join, Group, Node, join_step, batches, operator_at}
-use Rattle.pj_laws.specs.History.{Entry, Event, Arrive, Taken, Given, root_of, root_hands, pending_in, streams_of, stream_node, IsOn, join_at, step_of, nodes_by, gained, next, reached_of, nodes_from, IsEntryAllowed, IsLegal, IsComplete}
-use Rattle.pj_laws.specs.Outcomes.{place_in, goes_beyond, arrivals_by, join_steps_by, join_steps_of, arrivals_at, stored_at, peak_of, elements_out, rows_out, outputs_of, elements_of, drained_of, answer_of, lists_of}
-use Rattle.pj_laws.specs.Punctuations.{join_puncts, puncts_answer, puncts_lists}
-use Rattle.pj_laws.specs.OneThread.{Turn, heads, tails, in_rounds, turns_entries, Pending, plain, probes, next_probe, schema_of, one_thread_of}
+use Rattle.pj_events.specs.Patterns.{all_wild}
+use Rattle.pj_events.specs.Join.{AreCertified, AreLegalSteps, start, In, JoinData, JoinState, Element, run, outputs, Punct, AllGiven, has, rows_of, puncts_of, upto_from}
+use Rattle.pj_events.specs.Plan.{Operator, Stream, Join, Group, Node, batches, operator_at}
+use Rattle.pj_events.specs.declared.events.Entry.{Entry}
+use Rattle.pj_events.specs.declared.events.Event.{Event}
+use Rattle.pj_events.specs.declared.events.Event.TheVariants.{Take as Taken, Give as Given}
+use Rattle.pj_events.specs.History.{pending_in, streams_of, stream_node, IsOn, join_at, step_of, nodes_by, gained, next, reached_of, nodes_from, IsEntryAllowed, IsLegal, IsComplete}
+use Rattle.pj_events.specs.Outcomes.{arrivals_by, join_steps_by, join_steps_of, arrivals_at, stored_at, peak_of, elements_out, rows_out, outputs_of, elements_of, drained_of, answer_of, lists_of}
+use Rattle.pj_events.specs.Punctuations.{puncts_answer, puncts_lists}
+use Rattle.pj_events.specs.OneThread.{Turn, heads, tails, in_rounds, turns_entries, Pending, plain, probes, next_probe, schema_of, one_thread_of}
 
 -- What is handed out is lawful: no row matches a punctuation before it
 abbrev pub HandsOutLawfully : List Node → Type 0
@@ -205,49 +204,6 @@ ProbesGoOn nodes =
 abbrev pub NoneIsPending : List Node → Type 0
 NoneIsPending nodes = (next_probe nodes ≡ None) ↔ (pending_in nodes ≡ 0)
 
--- ---- plans of streams and a join of them
-
--- the plan of these streams and a join of them
-abbrev pub joined_plan : List (List Column) → OneJoin → List Node
-joined_plan streams join = nodes_of_streams (record { streams = streams; join = Some join })
-
--- What events bring to the join of such a plan: an element of a stream comes in at the stream's input, and nothing else does.
--- The join hands out what it hands up, and an element goes beyond the limit where as many have reached the join.
-pub record JoinOfStreams (streams : List (List Column)) (join : OneJoin) (history : List Entry) : Type 0 where
-  pub arrive : (stream input : ℕ) (e : Element) → stream < length streams → place_in 0 join.inputs stream ≡ Some input
-      → join_steps_by (nodes_from (joined_plan streams join) history) (Arrive stream e) (length streams) ≡ join_step input e ∷ []
-  pub take : (ticket : ℕ) → join_steps_by (nodes_from (joined_plan streams join) history) (Taken (length streams) ticket) (length streams) ≡ Take ticket ∷ []
-  pub give : (ticket : ℕ) → join_steps_by (nodes_from (joined_plan streams join) history) (Given (length streams) ticket) (length streams) ≡ Give ticket ∷ []
-  pub root : root_of (nodes_from (joined_plan streams join) history) ≡ length streams
-  pub beyond : (limit stream input : ℕ) (e : Element) → stream < length streams → place_in 0 join.inputs stream ≡ Some input
-      → goes_beyond limit (joined_plan streams join) history (Arrive stream e)
-      ≡ (if length (arrivals_at (joined_plan streams join) history (length streams)) == limit then Some (length streams) else None)
-
--- The answer of a plan of one stream are its rows, and that of a plan with a join the join's answer over the streams that it names
-abbrev pub StreamAnswer : List (List Column) → Type 0
-StreamAnswer streams =
-    length streams ≡ 1 → (lists : List (List (List Value))) → answer_of (nodes_of_streams (record { streams = streams; join = None })) lists ≡ slice_index_or lists 0 []
-
-abbrev pub JoinAnswer : List (List Column) → OneJoin → Type 0
-JoinAnswer streams join =
-    IsJoinOf streams join → (lists : List (List (List Value)))
-    → answer_of (joined_plan streams join) lists ≡ join_answer join.spec.shape.classes (map (λ k. slice_index_or lists k []) join.inputs)
-
--- The punctuations of a plan of one stream are its own, and those of a plan with a join those of each input in order, each widened
-abbrev pub StreamPuncts : List (List Column) → Type 0
-StreamPuncts streams =
-    length streams ≡ 1 → (lists : List (List (List Pattern))) → puncts_answer (nodes_of_streams (record { streams = streams; join = None })) lists ≡ slice_index_or lists 0 []
-
-abbrev pub JoinPuncts : List (List Column) → OneJoin → Type 0
-JoinPuncts streams join =
-    IsJoinOf streams join → (lists : List (List (List Pattern)))
-    → puncts_answer (joined_plan streams join) lists ≡ join_puncts join.spec 0 (map (λ k. slice_index_or lists k []) join.inputs)
-
--- What events make of a plan of one stream: it hands out what arrives, and no limit is met
-pub record StreamAlone (streams : List (List Column)) (history : List Entry) : Type 0 where
-  pub hands : (e : Element) → root_hands (nodes_from (nodes_of_streams (record { streams = streams; join = None })) history) (Arrive 0 e) ≡ e ∷ []
-  pub beyond : (limit : ℕ) (e : Element) → goes_beyond limit (nodes_of_streams (record { streams = streams; join = None })) history (Arrive 0 e) ≡ None
-
 -- ---- streams
 
 -- A stream has been fed the elements that arrived at it
@@ -277,12 +233,3 @@ pub record JoinRuns (plan : List Node) : Type 0 where
       → operator_at (nodes_from plan history) n ≡ Join spec (run spec start (join_steps_of plan history n))
   pub more : (history : List Entry) (entry : Entry) (n : ℕ)
       → join_steps_of plan (history ++ entry ∷ []) n ≡ join_steps_of plan history n ++ join_steps_by (nodes_from plan history) entry.event n
-
--- What a core keeps of a plan of streams and a join is what its join keeps, with the join's count and peak
-pub record KeepsJoin (streams : List (List Column)) (join : OneJoin) (history : List Entry) (trace : Bool) : Type 0 where
-  pub nodes : (core_kept trace (joined_plan streams join) history).nodes
-      ≡ replicate (length streams) NothingKept ++ JoinKept (kept_of (join_at (nodes_from (joined_plan streams join) history) (length streams))) ∷ []
-  pub counts : (core_kept trace (joined_plan streams join) history).counts
-      ≡ replicate (length streams) 0 ++ (join_at (nodes_from (joined_plan streams join) history) (length streams)).next ∷ []
-  pub peaks : (core_kept trace (joined_plan streams join) history).peaks
-      ≡ replicate (length streams) 0 ++ peak_of (joined_plan streams join) history (length streams) ∷ []

@@ -2,10 +2,10 @@
 use Rattle.std.specs.Prelude.{ℕ, zero, suc, ◌+◌, ◌<◌, ◌≡◌, true, false, List, [], ◌∷◌, ◌++◌, map}
 use Rattle.pj_pattern.specs.Elements.{IsLawful}
 use Rattle.std.specs.List.{list_all}
-use Rattle.pj_laws.specs.KeptState.{KeptState, kept_step, JoinStands}
+use Rattle.pj_events.specs.KeptState.{KeptState, kept_step, JoinStands}
 use Rattle.pj_value.specs.Bags.{SameBag}
-use Rattle.pj_laws.specs.Patterns.{all_wild}
-use Rattle.pj_laws.specs.Join.{In, PunctAt, arity, JoinData, TupleAt, Step, TupleComes, PunctComes, Take, Give, Sweep, start, step, run, AreLegalSteps, IsAllowed, IsCombination, inputs, kept, low, ripe, has, results, outputs, AllGiven, IsSettled, rows_of, puncts_of, joined, widened, all_combinations, covered, need_of, older, older_puncts}
+use Rattle.pj_events.specs.Patterns.{all_wild}
+use Rattle.pj_events.specs.Join.{In, PunctAt, arity, JoinData, TupleAt, Step, TupleComes, PunctComes, Take, Give, Sweep, start, step, run, AreLegalSteps, IsAllowed, IsCombination, inputs, kept, low, ripe, has, results, outputs, AllGiven, IsSettled, rows_of, puncts_of, joined, widened, all_combinations, covered, need_of, older, older_puncts}
 
 -- A row that a sweep removes stands in no combination that joins and has a ticket from the low-water ticket on,
 -- whatever legal steps follow

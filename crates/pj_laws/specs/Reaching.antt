@@ -1,13 +1,13 @@
 -- How many elements come to a node of a plan in all, and what a limit on their number tells that is gone beyond.
 use Rattle.std.specs.Prelude.{ℕ, ◌+◌, ◌<◌, ◌≡◌, true, List, [], ◌∷◌, map, length, slice_index_or}
 use Rattle.pj_value.specs.declared.values.Value.{Value}
-use Rattle.pj_laws.specs.Patterns.{Pattern}
-use Rattle.pj_laws.specs.Join.{Element, rows_of, puncts_of}
-use Rattle.pj_laws.specs.Plan.{Node, nowhere, operator_at}
-use Rattle.pj_laws.specs.Outcomes.{answers_of, counts}
-use Rattle.pj_laws.specs.Limits.{ReachesLimit}
-use Rattle.pj_laws.specs.OneThread.{one_thread_of}
-use Rattle.pj_laws.specs.Punctuations.{puncts_answers}
+use Rattle.pj_events.specs.Patterns.{Pattern}
+use Rattle.pj_events.specs.Join.{Element, rows_of, puncts_of}
+use Rattle.pj_events.specs.Plan.{Node, nowhere, operator_at}
+use Rattle.pj_events.specs.Outcomes.{answers_of, counts}
+use Rattle.pj_events.specs.Limits.{ReachesLimit}
+use Rattle.pj_events.specs.OneThread.{one_thread_of}
+use Rattle.pj_events.specs.Punctuations.{puncts_answers}
 use Rattle.pj_laws.specs.HistoryLaws.{AreAcceptedLists, closed_lists}
 
 -- how many rows and punctuations these nodes have, by their numbers

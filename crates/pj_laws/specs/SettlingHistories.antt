@@ -1,9 +1,12 @@
 -- Histories that settle: all probes, and then a sweep of each input of each join in order, with all probes after each.
 use Rattle.std.specs.Prelude.{ℕ, ◌<◌, ◌≡◌, true, false, List, [], ◌∷◌, ◌++◌, length, None}
-use Rattle.pj_laws.specs.Join.{has}
-use Rattle.pj_laws.specs.Plan.{Node}
-use Rattle.pj_laws.specs.History.{Entry, Event, Arrive, Swept, Stopped, streams_of, join_at, reached_of, nodes_from, IsOn, IsLegal, IsComplete}
-use Rattle.pj_laws.specs.OneThread.{Place, next_probe, places_from}
+use Rattle.pj_events.specs.Join.{has}
+use Rattle.pj_events.specs.Plan.{Node}
+use Rattle.pj_events.specs.declared.events.Entry.{Entry}
+use Rattle.pj_events.specs.declared.events.Event.{Event}
+use Rattle.pj_events.specs.declared.events.Event.TheVariants.{Arrive, Sweep as Swept, Stopped}
+use Rattle.pj_events.specs.History.{streams_of, join_at, reached_of, nodes_from, IsOn, IsLegal, IsComplete}
+use Rattle.pj_events.specs.OneThread.{Place, next_probe, places_from}
 use Rattle.pj_laws.specs.HistoryLaws.{AllAreGiven}
 
 -- a take or a give, or an event that hands nothing up; no arrival, no sweep and no stop

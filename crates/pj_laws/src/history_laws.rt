@@ -1,14 +1,11 @@
 // Laws of whole histories of a plan.
-ghost use Rattle.pj_laws.specs.CoreKept.{StreamsPlan};
-ghost use Rattle.pj_laws.specs.CoreKept.{OneJoin};
-ghost use Rattle.pj_shape.specs.declared.columns.Column.{Column};
-ghost use Rattle.std.specs.Prelude.{Bool, ◌<◌, ◌≡◌, true, false, List, [], length};
-ghost use Rattle.pj_laws.specs.Plan.{Node, ArePlanned};
+ghost use Rattle.std.specs.Prelude.{◌<◌, ◌≡◌, true, false, List, [], length};
+ghost use Rattle.pj_events.specs.Plan.{Node, ArePlanned};
 ghost use Rattle.pj_pattern.specs.declared.element.Element.{Element};
-ghost use Rattle.pj_laws.specs.History.{Entry, nodes_from};
-ghost use Rattle.pj_laws.specs.HistoryLaws.{AddsEntry, AllAreCertified, AllPropagate, CompleteIsAnswer, CompleteIsPuncts, DrainsHandOutAll, FrontsAreLegal, GivenIsAnswer, GrowsLegally, HandsOutLawfully, HasNoGroup, AreAcceptedLists, IsWholeRun, JoinAnswer, JoinFollows, JoinOfStreams, JoinPuncts, JoinRuns, KeepsJoin, NeverRetracts, NoneIsPending, OneThreadIsAnswer, ProbesGoOn, RoundsGoOn, StreamAlone, StreamAnswer, StreamPuncts, StreamsHold, SweptIsComplete, SweptIsPuncts, TicketsCount, TraceAddsNotes, TurnsGoOn};
+ghost use Rattle.pj_events.specs.declared.events.Entry.{Entry};
+ghost use Rattle.pj_events.specs.History.{nodes_from};
+ghost use Rattle.pj_laws.specs.HistoryLaws.{AddsEntry, AllAreCertified, AllPropagate, CompleteIsAnswer, CompleteIsPuncts, DrainsHandOutAll, FrontsAreLegal, GivenIsAnswer, GrowsLegally, HandsOutLawfully, HasNoGroup, AreAcceptedLists, IsWholeRun, JoinFollows, JoinRuns, NeverRetracts, NoneIsPending, OneThreadIsAnswer, ProbesGoOn, RoundsGoOn, StreamsHold, SweptIsComplete, SweptIsPuncts, TicketsCount, TraceAddsNotes, TurnsGoOn};
 ghost use Rattle.pj_laws.specs.Finality.{AnswerGoesOn, EmptiedIsAnswer, IsAmongArrived, IsFinal, IsFinalWhereAccepted};
-ghost use Rattle.pj_laws.specs.CoreKept.{IsJoinOf, IsStreamsPlan, nodes_of_streams};
 
 /// No row that a legal history hands out matches a punctuation that was handed out before it.
 pub fn history_lawfulness()
@@ -25,13 +22,10 @@ pub fn history_answers()
 {}
 
 /// The punctuations that a complete history hands out are those of the plan over all that arrived at its streams, as a bag,
-/// and so are those of the run on one thread with sweeps over accepted elements. A plan of one stream hands out the
-/// stream's own, and a plan with a join those of each input, widened.
+/// and so are those of the run on one thread with sweeps over accepted elements.
 pub fn history_punctuations()
     ensures complete { (plan : List Node) → ArePlanned [] plan → 0 < length plan → AllPropagate plan → CompleteIsPuncts plan }
     ensures swept { (plan : List Node) → ArePlanned [] plan → 0 < length plan → AllAreCertified plan → AllPropagate plan → SweptIsPuncts plan }
-    ensures stream { (streams : List (List Column)) → StreamPuncts streams }
-    ensures join { (streams : List (List Column)) (join : OneJoin) → JoinPuncts streams join }
 {}
 
 /// What one more entry adds to a history and when it may come, what the drains of one seat hand out, and what a trace adds.
@@ -75,22 +69,6 @@ pub fn one_thread()
     ensures swept_answer { (plan : List Node) → ArePlanned [] plan → 0 < length plan → HasNoGroup plan → AllAreCertified plan → OneThreadIsAnswer true plan }
     ensures swept_complete { (plan : List Node) → ArePlanned [] plan → 0 < length plan → AllAreCertified plan → AllPropagate plan → SweptIsComplete plan }
     ensures swept_groups { (plan : List Node) → ArePlanned [] plan → 0 < length plan → AllAreCertified plan → AllPropagate plan → OneThreadIsAnswer true plan }
-{}
-
-/// A plan of one stream, or of 2 to 16 streams and a join of them, is well made and has no group.
-pub fn streams_plans()
-    ensures planned { (plan : StreamsPlan) → IsStreamsPlan plan → ArePlanned [] (nodes_of_streams plan) }
-    ensures some { (plan : StreamsPlan) → IsStreamsPlan plan → 0 < length (nodes_of_streams plan) }
-    ensures groups { (plan : StreamsPlan) → HasNoGroup (nodes_of_streams plan) }
-{}
-
-/// In a plan of one stream, or of streams and a join of them: what events bring to the join, what a core keeps of it, and the answer.
-pub fn joins_of_streams()
-    ensures events { (streams : List (List Column)) (join : OneJoin) → IsJoinOf streams join → (history : List Entry) → JoinOfStreams streams join history }
-    ensures keeps { (streams : List (List Column)) (join : OneJoin) → IsJoinOf streams join → (history : List Entry) (trace : Bool) → KeepsJoin streams join history trace }
-    ensures alone { (streams : List (List Column)) → length streams ≡ 1 → (history : List Entry) → StreamAlone streams history }
-    ensures stream_answer { (streams : List (List Column)) → StreamAnswer streams }
-    ensures join_answer { (streams : List (List Column)) (join : OneJoin) → JoinAnswer streams join }
 {}
 
 /// At any moment all probes are the next one and then all probes, and there is a next one where a ticket is pending.

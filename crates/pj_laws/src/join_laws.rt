@@ -1,6 +1,6 @@
 // Laws of one join, over its definitions alone.
 ghost use Rattle.std.specs.Prelude.{◌<◌};
-ghost use Rattle.pj_laws.specs.Join.{AreCertified, JoinData, inputs};
+ghost use Rattle.pj_events.specs.Join.{AreCertified, JoinData, inputs};
 ghost use Rattle.pj_laws.specs.Laws.{AllIsStored, HandsUpAllPuncts, HandsUpAllRows, HandsUpLawfully, HandsUpNoPuncts, IsNeverSwept, NeverNeeded, RipeWhenCovered, Settles, StaysRipe, StepsStand, StoredSuffice};
 
 /// A row that a sweep removes is never needed again, and what is stored gives all results of a tuple that is not given.

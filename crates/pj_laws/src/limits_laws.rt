@@ -2,7 +2,7 @@
 ghost use Rattle.std.specs.Prelude.{◌<◌, List, [], length};
 ghost use Rattle.pj_laws.specs.Climb.{IsTree};
 ghost use Rattle.pj_laws.specs.HistoryLaws.{AllAreCertified, AllPropagate};
-ghost use Rattle.pj_laws.specs.Plan.{ArePlanned, Node};
+ghost use Rattle.pj_events.specs.Plan.{ArePlanned, Node};
 ghost use Rattle.pj_laws.specs.Reaching.{LimitsTell};
 
 /// Where the run on one thread with sweeps goes beyond a limit, it does so at a join or a group, and more elements come to

@@ -1,7 +1,6 @@
 // Laws of whole plans, over lists of their steps.
-ghost use Rattle.std.specs.Prelude.{◌≡◌, ◌↔◌, true, List, []};
-ghost use Rattle.pj_value.specs.declared.values.Value.{Value};
-ghost use Rattle.pj_laws.specs.Plan.{Node, ArePlanned, CompleteAnswers, PlanIsLawful, RowsAreAnswers};
+ghost use Rattle.std.specs.Prelude.{◌≡◌, ◌↔◌, List, []};
+ghost use Rattle.pj_events.specs.Plan.{Node, ArePlanned, CompleteAnswers, PlanIsLawful, RowsAreAnswers};
 
 /// No node of a well-made plan hands up a row that matches a punctuation that it handed up before.
 pub fn plan_lawfulness()

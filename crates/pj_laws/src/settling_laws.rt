@@ -1,6 +1,6 @@
 // The law of the end of a history.
 ghost use Rattle.std.specs.Prelude.{List, []};
-ghost use Rattle.pj_laws.specs.Plan.{ArePlanned, Node};
+ghost use Rattle.pj_events.specs.Plan.{ArePlanned, Node};
 ghost use Rattle.pj_laws.specs.HistoryLaws.{AllAreCertified, AllPropagate};
 ghost use Rattle.pj_laws.specs.SettlingHistories.{NoneIsLeft, SettlingIsComplete};
 

@@ -9,7 +9,7 @@ use Rattle.pj_value.proofs.Members.{In-append_cases, In-append_left, In-append_r
 use Rattle.pj_value.proofs.Orders.{same_if_equal, equal_if_same}
 use Rattle.pj_shape.specs.Joining.{Part, all_equal, values, values_in}
 use Rattle.pj_shape.proofs.Joining.{all_equal-at, all_equal-from}
-use Rattle.pj_laws.specs.Join.{ClassCol, Value, value_at}
+use Rattle.pj_events.specs.Join.{ClassCol, Value, value_at}
 use Rattle.pj_probe.specs.Walks.{numbered}
 use Rattle.pj_probe.specs.Cells.{cell_in}
 

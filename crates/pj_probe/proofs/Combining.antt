@@ -3,7 +3,7 @@ use Rattle.std.proofs.Common.{◌≡◌, ℕ, zero, suc, ◌+◌, ◌-◌, ◌<�
 use Rattle.std.proofs.lemmas.Bool.{false_from_ne_true, false≢true}
 use Rattle.std.proofs.lemmas.List.{map-append, take_more, take_all}
 use Rattle.std.proofs.lemmas.List.Elements.{filter-append}
-use Rattle.pj_laws.specs.Join.{Value, TupleAt, ClassCol, Part, agree, joined, joins, part_of, product}
+use Rattle.pj_events.specs.Join.{Value, TupleAt, ClassCol, Part, agree, joined, joins, part_of, product}
 use Rattle.pj_laws.proofs.Matching.{agree-mono}
 use Rattle.pj_value.proofs.Members.{In-append_left}
 use Rattle.pj_probe.specs.Walks.{end_to_end, no_row, numbered, rows_at, sides_at, tuple_at}

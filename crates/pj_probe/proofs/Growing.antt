@@ -1,6 +1,6 @@
 -- How the list of a visitor grows along a walk.
 use Rattle.std.proofs.Common.{◌≡◌, Bool, IsTrue, List, [], ◌++◌, refl, sym, ap, ◌∙◌, append_assoc, append-nil}
-use Rattle.pj_laws.specs.Join.{Value}
+use Rattle.pj_events.specs.Join.{Value}
 use Rattle.pj_probe.specs.Visits.{Grows, GrowsByFront}
 
 -- first by some rows, and then by others

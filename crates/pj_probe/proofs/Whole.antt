@@ -4,7 +4,7 @@ use Rattle.std.specs.List.{slice_get}
 use Rattle.std.proofs.lemmas.Option.{get_or_from_slice_get}
 use Rattle.pj_value.proofs.Slices.{flat_more}
 use Rattle.pj_shape.specs.Joining.{all_equal, values}
-use Rattle.pj_laws.specs.Join.{ClassCol, Value, joins}
+use Rattle.pj_events.specs.Join.{ClassCol, Value, joins}
 use Rattle.pj_probe.specs.Walks.{end_to_end, itself}
 
 values-none : (class : List ClassCol) → values [] class ≡ []

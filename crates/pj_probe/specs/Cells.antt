@@ -1,6 +1,6 @@
 -- The values of a combination in columns.
 use Rattle.std.specs.Prelude.{List, [], slice_index_or, Option, Some, None}
-use Rattle.pj_laws.specs.Join.{ClassCol, Value, no_value, value_at}
+use Rattle.pj_events.specs.Join.{ClassCol, Value, no_value, value_at}
 
 -- the value of a cell, where one that is not there has the empty text
 abbrev pub cell_value : Option Value → Value

@@ -1,6 +1,6 @@
 -- How the list of a visitor grows.
 use Rattle.std.specs.Prelude.{◌≡◌, Bool, IsTrue, List, ◌++◌}
-use Rattle.pj_laws.specs.Join.{Value}
+use Rattle.pj_events.specs.Join.{Value}
 
 -- where it is told, the list grew by these rows
 abbrev pub Grows : Bool → List (List Value) → List (List Value) → List (List Value) → Type 0

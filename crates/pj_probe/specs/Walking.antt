@@ -1,6 +1,6 @@
 -- How the combinations that join are found one row after the other.
 use Rattle.std.specs.Prelude.{ℕ, zero, suc, ◌+◌, List, [], ◌∷◌, ◌++◌, map, filter, slice_index_or}
-use Rattle.pj_laws.specs.Join.{ClassCol, TupleAt, Value, agree, joined, product}
+use Rattle.pj_events.specs.Join.{ClassCol, TupleAt, Value, agree, joined, product}
 use Rattle.pj_probe.specs.Walks.{no_row, sides_at, tuple_at}
 
 -- these tuples with one of each list, where they join

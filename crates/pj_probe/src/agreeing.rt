@@ -3,7 +3,7 @@ ghost use Rattle.std.specs.Prelude.{◌≡◌, ◌<◌, [], length};
 ghost use Rattle.std.specs.Option.{option_copied};
 ghost use Rattle.pj_value.specs.declared.values.Value.{Value};
 ghost use Rattle.pj_value.specs.Values.{value_eq};
-ghost use Rattle.pj_laws.specs.Join.{joins, value_at};
+ghost use Rattle.pj_events.specs.Join.{joins, value_at};
 ghost use Rattle.pj_shape.specs.Joining.{all_equal, values};
 ghost use Rattle.pj_probe.specs.Walks.{numbered};
 ghost use Rattle.pj_probe.specs.Cells.{cell_in, cell_value};

@@ -1,6 +1,6 @@
 // A walk through the combinations that join, one row after the other.
 ghost use Rattle.std.specs.Prelude.{◌≡◌, ◌<◌, ◌≤◌, ◌++◌, ◌∷◌, [], true, length, IsTrue, OnOk, OnErr};
-ghost use Rattle.pj_laws.specs.Join.{joins};
+ghost use Rattle.pj_events.specs.Join.{joins};
 ghost use Rattle.pj_probe.specs.Walks.{AreAt, numbered, rows_at};
 ghost use Rattle.pj_probe.specs.Walking.{walked};
 ghost use Rattle.pj_probe.specs.Visits.{Grows, GrowsByFront};

@@ -1,7 +1,7 @@
 use Rattle.std.proofs.Common.{[], ◌∷◌, List, ap, subst, sym, ◌∙◌}
 use Rattle.std.specs.Vec.Iter.{into_iter_items}
 use Rattle.pj_pattern.specs.declared.element.Element.{Element}
-use Rattle.pj_laws.specs.Outcomes.{elements_out}
+use Rattle.pj_events.specs.Outcomes.{elements_out}
 use Rattle.pj_core.specs.Cells.{AreLinked}
 use Rattle.pj_core.proofs.Climbs.{Rose, outs-append, rose-none, rose-stop-these, rose-these}
 use Rattle.pj_core.proofs.climb.climb_found.Goals as goal

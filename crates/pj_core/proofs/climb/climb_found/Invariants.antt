@@ -1,5 +1,5 @@
 use Rattle.std.specs.Vec.Iter.{into_iter_items}
-use Rattle.pj_laws.specs.Outcomes.{elements_out}
+use Rattle.pj_events.specs.Outcomes.{elements_out}
 use Rattle.pj_core.proofs.Climbs.{Rose}
 use Rattle.pj_core.proofs.climb.climb_found.Given as goal
 

@@ -1,7 +1,7 @@
 use Rattle.std.proofs.Common.{[], ◌∷◌, List, ◌≡◌, ap, subst, sym}
 use Rattle.pj_pattern.specs.declared.element.Element.{Element}
-use Rattle.pj_laws.specs.declared.events.Out.{Out}
-use Rattle.pj_laws.specs.Outcomes.{elements_out}
+use Rattle.pj_events.specs.declared.events.Out.{Out}
+use Rattle.pj_events.specs.Outcomes.{elements_out}
 use Rattle.pj_core.specs.Climbing.{Climbs}
 use Rattle.pj_core.proofs.Climbs.{climbs-none}
 use Rattle.pj_core.proofs.climb.climb_out.Goals as goal

@@ -1,5 +1,5 @@
 use Rattle.std.proofs.Common.{◌≡◌, ◌≤◌, drop}
-use Rattle.pj_laws.specs.Patterns.{covers}
+use Rattle.pj_events.specs.Patterns.{covers}
 use Rattle.pj_cover.specs.Givens.{instance_of}
 use Rattle.pj_cover.proofs.cells.covers.Given as goal
 

@@ -1,5 +1,5 @@
 use Rattle.std.proofs.Common.{rules, ◌≡◌, ◌^◌, drop, ◌<◌, ◌≤◌, ◌+◌, ◌∷◌, refl, sym, ap, ◌∙◌, subst, true, Option, length, map, List, arith}
-use Rattle.pj_laws.specs.Join.{TupleAt}
+use Rattle.pj_events.specs.Join.{TupleAt}
 use Rattle.pj_cover.specs.declared.rows.Uncovered.{Uncovered}
 use Rattle.pj_cover.specs.Suits.{suits}
 use Rattle.pj_cover.specs.Asking.{IsJudgedWith, IsOnWalk, entries, known_of, tuple_of}

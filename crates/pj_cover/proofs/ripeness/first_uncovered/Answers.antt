@@ -1,5 +1,5 @@
 use Rattle.std.proofs.Common.{◌∷◌, [], ap, sym, subst}
-use Rattle.pj_laws.specs.Join.{TupleAt, part_of}
+use Rattle.pj_events.specs.Join.{TupleAt, part_of}
 use Rattle.pj_cover.specs.Asking.{IsOnWalk, entries, known_of, tuple_of}
 use Rattle.pj_cover.proofs.Tickets.{any_ticket}
 use Rattle.pj_cover.proofs.Steps.{walk_starts}

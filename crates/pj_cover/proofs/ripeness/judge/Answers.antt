@@ -1,5 +1,5 @@
 use Rattle.std.proofs.Common.{◌≡◌, ◌∷◌, ◌++◌, [], ◌∙◌, sym, subst, List, ap}
-use Rattle.pj_laws.specs.Join.{TupleAt}
+use Rattle.pj_events.specs.Join.{TupleAt}
 use Rattle.pj_cover.specs.Asking.{IsJudged, IsOnWalk, entries, known_of}
 use Rattle.pj_cover.proofs.Judged.{judged_whole}
 use Rattle.pj_cover.proofs.ripeness.judge.Goals as goal

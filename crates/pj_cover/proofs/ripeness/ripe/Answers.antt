@@ -1,5 +1,5 @@
 use Rattle.std.proofs.Common.{◌∷◌, [], sym, subst}
-use Rattle.pj_laws.specs.Join.{TupleAt}
+use Rattle.pj_events.specs.Join.{TupleAt}
 use Rattle.pj_cover.specs.Asking.{IsOnWalk, entries, known_of, tuple_of}
 use Rattle.pj_cover.proofs.Judged.{ripe_none, ripe_some}
 use Rattle.pj_cover.proofs.Steps.{walk_starts}

@@ -1,6 +1,6 @@
 use Rattle.std.proofs.Common.{◌≡◌, List, Bool, ap, ◌∙◌, sym, get_or, Option}
 use Rattle.pj_value.specs.declared.values.Value.{Value}
-use Rattle.pj_laws.specs.Join.{ClassCol, instance_from}
+use Rattle.pj_events.specs.Join.{ClassCol, instance_from}
 use Rattle.pj_cover.specs.Stores.{Store, covered_below}
 use Rattle.pj_cover.specs.Givens.{instance_of}
 use Rattle.pj_cover.specs.Asking.{constants_in, marks_of}

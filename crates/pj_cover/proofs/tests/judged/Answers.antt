@@ -1,7 +1,7 @@
 use Rattle.std.proofs.Common.{◌≡◌, List, Bool, sym, subst}
 use Rattle.pj_shape.specs.declared.joins.CertStep.{CertStep}
 use Rattle.pj_shape.specs.declared.joins.JoinSpec.{JoinSpec}
-use Rattle.pj_laws.specs.Join.{IsCertified}
+use Rattle.pj_events.specs.Join.{IsCertified}
 use Rattle.pj_cover.specs.Asking.{data_of}
 use Rattle.pj_cover.specs.Chain.{chain, chain_schemes, chain_cert}
 use Rattle.pj_cover.proofs.ChainIs.{chain_certified}

@@ -1,6 +1,6 @@
 use Rattle.std.proofs.Common.{◌≡◌, ◌≤◌, ◌++◌, IsTrue, List, map, take}
 use Rattle.pj_plan.specs.Nodes.{joins_of}
-use Rattle.pj_laws.specs.declared.events.Entry.{Entry}
+use Rattle.pj_events.specs.declared.events.Entry.{Entry}
 use Rattle.pj_core.specs.Cores.{StandsFor}
 use Rattle.pj_engine.specs.Runs.{peak_report}
 use Rattle.pj_engine.specs.Written.{flat}

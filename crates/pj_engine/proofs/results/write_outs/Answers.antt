@@ -1,5 +1,5 @@
 use Rattle.std.proofs.Common.{[], ◌∷◌, ◌++◌, ◌≡◌, ◌+◌, take, drop, ◌∙◌, ap, sym, arith, subst, List, ℕ}
-use Rattle.pj_laws.specs.Outcomes.{elements_out}
+use Rattle.pj_events.specs.Outcomes.{elements_out}
 use Rattle.pj_engine.specs.Results.{out_lines}
 use Rattle.pj_engine.specs.Written.{flat, write_cut}
 use Rattle.pj_engine.proofs.LinesWritten.{stopped_none, stopped_then, written_then}

@@ -1,6 +1,6 @@
 use Rattle.std.proofs.Common.{◌≡◌, ◌≤◌, ◌++◌, IsTrue, List, take}
 use Rattle.pj_pattern.specs.declared.element.Element.{Element}
-use Rattle.pj_laws.specs.Outcomes.{elements_out}
+use Rattle.pj_events.specs.Outcomes.{elements_out}
 use Rattle.pj_engine.specs.Results.{out_lines, counts_of}
 use Rattle.pj_engine.specs.Written.{flat}
 use Rattle.pj_engine.proofs.results.write_outs.Given as goal

@@ -1,6 +1,6 @@
 use Rattle.pj_core.specs.Plans.{streams_in}
 use Rattle.std.proofs.Common.{[], ◌++◌, refl, sym, append-nil, ap, ◌∙◌, subst, arith, Err, List, ℕ, false}
-use Rattle.pj_laws.specs.Outcomes.{outputs_of as handed_out}
+use Rattle.pj_events.specs.Outcomes.{outputs_of as handed_out}
 use Rattle.pj_core.specs.Calls.{turn_behind}
 use Rattle.pj_engine.specs.Feeds.{turn_in, feeds_left, files_of, tallies_in, tallies_of, AreAllTaken}
 use Rattle.pj_engine.specs.Results.{out_lines}

@@ -1,6 +1,6 @@
 use Rattle.std.proofs.Common.{◌≡◌, ◌≤◌, ◌++◌, false, IsTrue, List}
-use Rattle.pj_laws.specs.declared.events.Entry.{Entry}
-use Rattle.pj_laws.specs.Outcomes.{outputs_of}
+use Rattle.pj_events.specs.declared.events.Entry.{Entry}
+use Rattle.pj_events.specs.Outcomes.{outputs_of}
 use Rattle.pj_engine.specs.Feeds.{work_in, AllTold}
 use Rattle.pj_engine.specs.Results.{out_lines}
 use Rattle.pj_engine.specs.Runs.{outline_in, run_nodes}

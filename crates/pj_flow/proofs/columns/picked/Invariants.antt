@@ -1,5 +1,5 @@
 use Rattle.std.proofs.Common.{◌≡◌, take}
-use Rattle.pj_laws.specs.Operators.{picked_cells}
+use Rattle.pj_events.specs.Operators.{picked_cells}
 use Rattle.pj_flow.proofs.columns.picked.Given as goal
 
 abbrev pub invariant-loop-column : goal.invariant-loop-column

@@ -1,6 +1,6 @@
 use Rattle.std.proofs.Common.{None, not, ◌&&◌, ap, sym, ◌∙◌, subst, rules}
 use Rattle.pj_value.specs.Values.{row_eq}
-use Rattle.pj_laws.specs.Patterns.{matches_row}
+use Rattle.pj_events.specs.Patterns.{matches_row}
 use Rattle.pj_group.specs.Insides.{AllStates}
 use Rattle.pj_group.specs.Slots.{is_open, open_groups}
 use Rattle.pj_group.proofs.OpenGroups.{only_closed, open_left, states_filter, states_set}

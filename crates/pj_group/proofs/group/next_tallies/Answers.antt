@@ -1,6 +1,6 @@
 use Rattle.std.proofs.Common.{◌+◌, [], ◌∷◌, ap, length, length-append, arith}
 use Rattle.std.proofs.lemmas.List.Elements.{All-push, All-same}
-use Rattle.pj_laws.specs.Operators.{Count}
+use Rattle.pj_events.specs.Operators.{Count}
 use Rattle.pj_group.specs.Insides.{IsBounded}
 use Rattle.pj_group.proofs.States.{next_by}
 use Rattle.pj_group.proofs.group.next_tallies.Goals as goal

@@ -1,5 +1,5 @@
 use Rattle.std.proofs.Common.{◌≡◌, ◌++◌, map, take}
-use Rattle.pj_laws.specs.Tables.{value_of}
+use Rattle.pj_events.specs.Tables.{value_of}
 use Rattle.pj_group.proofs.handing.append_values.Given as goal
 
 abbrev pub invariant-loop-tally : goal.invariant-loop-tally

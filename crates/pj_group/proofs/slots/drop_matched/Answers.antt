@@ -1,6 +1,6 @@
 use Rattle.std.proofs.Common.{◌&&◌, not, rules}
 use Rattle.indexmap.proofs.CallerLemmas.{filter-RetainsPairs}
-use Rattle.pj_laws.specs.Patterns.{matches_row}
+use Rattle.pj_events.specs.Patterns.{matches_row}
 use Rattle.pj_group.specs.Slots.{is_open}
 use Rattle.pj_group.proofs.slots.drop_matched.Goals as goal
 

@@ -1,6 +1,6 @@
 use Rattle.std.proofs.Common.{◌∙◌, ◌-◌, ◌++◌, ◌∷◌, [], List, ap, arith}
-use Rattle.pj_laws.specs.declared.events.Out.{Out}
-use Rattle.pj_laws.specs.Join.{TupleAt}
+use Rattle.pj_events.specs.declared.events.Out.{Out}
+use Rattle.pj_events.specs.Join.{TupleAt}
 use Rattle.pj_state.specs.States.{stored}
 use Rattle.pj_join.specs.Handed.{pairs_out}
 use Rattle.pj_join.proofs.Looped.{pairs_more, pairs_stop}

@@ -1,5 +1,5 @@
 use Rattle.std.proofs.Common.{◌≡◌, ◌++◌, map}
-use Rattle.pj_laws.specs.declared.events.Out.TheVariants.{Tuple}
+use Rattle.pj_events.specs.declared.events.Out.TheVariants.{Tuple}
 use Rattle.pj_join.proofs.handing.append_rows.Given as goal
 
 abbrev pub invariant-loop-row : goal.invariant-loop-row

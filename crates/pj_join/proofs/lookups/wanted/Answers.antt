@@ -1,5 +1,5 @@
 use Rattle.std.proofs.Common.{List, subst}
-use Rattle.pj_laws.specs.Join.{ClassCol}
+use Rattle.pj_events.specs.Join.{ClassCol}
 use Rattle.pj_join.specs.Lookups.{ClassWants}
 use Rattle.pj_join.proofs.Wanted.{wanted_by_class}
 use Rattle.pj_join.proofs.lookups.wanted.Goals as goal

@@ -1,6 +1,6 @@
 use Rattle.std.proofs.Common.{◌≡◌, [], map, take}
 use Rattle.pj_shape.specs.Sound.{arities_of}
-use Rattle.pj_laws.specs.Join.{of_input, upto_from}
+use Rattle.pj_events.specs.Join.{of_input, upto_from}
 use Rattle.pj_join.specs.Sides.{AreAllShaped, tuples_in}
 use Rattle.pj_join.proofs.starting.empty_states.Given as goal
 

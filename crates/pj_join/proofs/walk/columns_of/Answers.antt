@@ -1,5 +1,5 @@
 use Rattle.std.proofs.Common.{List, get_or, sym, subst}
-use Rattle.pj_laws.specs.Join.{ClassCol}
+use Rattle.pj_events.specs.Join.{ClassCol}
 use Rattle.pj_join.specs.Decided.{ClassDecides}
 use Rattle.pj_join.proofs.Decided.{first_decides, second_decides, two_columns}
 use Rattle.pj_join.proofs.walk.columns_of.Goals as goal

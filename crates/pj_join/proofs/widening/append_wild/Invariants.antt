@@ -1,5 +1,5 @@
 use Rattle.std.proofs.Common.{◌≡◌, ◌++◌}
-use Rattle.pj_laws.specs.Patterns.{all_wild}
+use Rattle.pj_events.specs.Patterns.{all_wild}
 use Rattle.pj_join.proofs.widening.append_wild.Given as goal
 
 abbrev pub invariant-loop-column : goal.invariant-loop-column

@@ -1,5 +1,5 @@
 use Rattle.std.proofs.Common.{◌∙◌, ◌++◌, ap}
-use Rattle.pj_laws.specs.Patterns.{all_wild}
+use Rattle.pj_events.specs.Patterns.{all_wild}
 use Rattle.pj_join.proofs.SortedOut.{wilds_more}
 use Rattle.pj_join.proofs.widening.append_wilds.Goals as goal
 

@@ -1,5 +1,5 @@
 use Rattle.std.proofs.Common.{◌≡◌, ◌++◌, sum, take}
-use Rattle.pj_laws.specs.Patterns.{all_wild}
+use Rattle.pj_events.specs.Patterns.{all_wild}
 use Rattle.pj_shape.specs.Sound.{arities_of}
 use Rattle.pj_join.proofs.widening.append_wilds.Given as goal
 

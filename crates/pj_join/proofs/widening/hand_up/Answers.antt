@@ -1,5 +1,5 @@
 use Rattle.std.proofs.Common.{◌∙◌, ◌++◌, ◌∷◌, [], List, ap}
-use Rattle.pj_laws.specs.Patterns.{Pattern}
+use Rattle.pj_events.specs.Patterns.{Pattern}
 use Rattle.pj_join.specs.Judging.{widened_among}
 use Rattle.pj_join.proofs.widening.hand_up.Goals as goal
 

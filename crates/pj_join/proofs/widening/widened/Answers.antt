@@ -1,5 +1,5 @@
 use Rattle.std.proofs.Common.{◌∙◌, ◌++◌, ap, List, sum}
-use Rattle.pj_laws.specs.Patterns.{Pattern, all_wild}
+use Rattle.pj_events.specs.Patterns.{Pattern, all_wild}
 use Rattle.pj_shape.specs.Sound.{arities_of}
 use Rattle.pj_join.proofs.SortedOut.{widened_is}
 use Rattle.pj_join.proofs.widening.widened.Goals as goal

@@ -2,7 +2,6 @@ use Rattle.pj_laws.proofs.Trees.{planned-tree, tree-from}
 use Rattle.pj_laws.proofs.ClimbingKept.{top-from, adds-climb, joins-climb, stores-grow}
 use Rattle.pj_laws.proofs.ClimbingEvents.{events-climb}
 use Rattle.pj_laws.proofs.ClimbingLimits.{beyond-is-climbed}
-use Rattle.pj_laws.proofs.JoinedMoves.{top-is-within}
 use Rattle.pj_laws.proofs.climb_laws.climbs_of_histories.Goals as goal
 
 pub returns-clause-trees : goal.returns-clause-trees
@@ -22,9 +21,6 @@ returns-clause-adds c = adds-climb
 
 pub returns-clause-beyond : goal.returns-clause-beyond
 returns-clause-beyond c = beyond-is-climbed
-
-pub returns-clause-within : goal.returns-clause-within
-returns-clause-within c = top-is-within
 
 pub returns-clause-stores : goal.returns-clause-stores
 returns-clause-stores c = stores-grow

@@ -1,4 +1,4 @@
-use Rattle.pj_laws.proofs.HistoryPuncts.{complete-is-puncts, join-puncts, stream-puncts, swept-is-puncts}
+use Rattle.pj_laws.proofs.HistoryPuncts.{complete-is-puncts, swept-is-puncts}
 use Rattle.pj_laws.proofs.history_laws.history_punctuations.Goals as goal
 
 pub returns-clause-complete : goal.returns-clause-complete
@@ -6,9 +6,3 @@ returns-clause-complete c = complete-is-puncts
 
 pub returns-clause-swept : goal.returns-clause-swept
 returns-clause-swept c = swept-is-puncts
-
-pub returns-clause-stream : goal.returns-clause-stream
-returns-clause-stream c = stream-puncts
-
-pub returns-clause-join : goal.returns-clause-join
-returns-clause-join c = join-puncts

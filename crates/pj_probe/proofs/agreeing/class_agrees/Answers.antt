@@ -1,6 +1,6 @@
 use Rattle.std.proofs.Common.{rules, ◌≡◌, ◌<◌, ◌≤◌, ◌∙◌, false, refl, sym, subst, get_or, length, Option, Some, None, ◌+◌}
 use Rattle.pj_value.specs.Values.{value_eq}
-use Rattle.pj_laws.specs.Join.{ClassCol}
+use Rattle.pj_events.specs.Join.{ClassCol}
 use Rattle.pj_probe.specs.Cells.{cell_in}
 use Rattle.pj_probe.proofs.Classes.{SeenTo, seen_all, seen_first, seen_other, seen_outside, seen_same}
 use Rattle.pj_probe.proofs.agreeing.class_agrees.Goals.{then-at-parts+in-None, then-at-parts+in-Some+else-not-same_columns, else-at-parts}

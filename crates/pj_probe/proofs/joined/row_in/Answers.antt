@@ -1,5 +1,5 @@
 use Rattle.std.proofs.Common.{rules, ◌<◌, ◌∙◌, refl, ap, sym, subst, Some, length, get_or, ℕ, List}
-use Rattle.pj_laws.specs.Join.{Value}
+use Rattle.pj_events.specs.Join.{Value}
 use Rattle.pj_probe.specs.Walks.{row_at, rows_at}
 use Rattle.pj_probe.proofs.Placing.{has-place, has-side, place-within, row-there}
 use Rattle.pj_probe.proofs.joined.row_in.Goals as goal

@@ -1,5 +1,5 @@
 use Rattle.std.proofs.Common.{rules, arith, ◌≡◌, ◌<◌, ◌≤◌, ◌+◌, ◌++◌, ◌∷◌, [], ◌∙◌, true, ℕ, List, length, get_or, sym, ap}
-use Rattle.pj_laws.specs.Join.{Value, joins}
+use Rattle.pj_events.specs.Join.{Value, joins}
 use Rattle.pj_probe.specs.Walks.{end_to_end, numbered, rows_at}
 use Rattle.pj_probe.specs.Walking.{walked, walked_upto}
 use Rattle.pj_probe.proofs.Combining.{upto-all, upto-front, upto-more, walked-end, walked-none}

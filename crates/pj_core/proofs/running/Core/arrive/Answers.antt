@@ -2,7 +2,7 @@ use Rattle.std.proofs.Common.{refl, reverse, rules}
 use Rattle.std.proofs.lemmas.List.{places, with_items_is}
 use Rattle.pj_core.specs.Calls.{IsCause, arriving_of}
 use Rattle.pj_core.specs.Plans.{run_plan}
-use Rattle.pj_laws.specs.declared.events.Event.TheVariants.{Arrive}
+use Rattle.pj_events.specs.declared.events.Event.TheVariants.{Arrive}
 use Rattle.pj_core.proofs.Words.{arrival-cause, arrived-now, below-cells, linked-cells, opens-now, refused-again, refused-now}
 use Rattle.pj_core.proofs.running.Core.arrive.Goals as goal
 

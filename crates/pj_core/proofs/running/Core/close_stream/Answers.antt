@@ -1,8 +1,8 @@
 use Rattle.std.proofs.Common.{◌++◌, [], ◌∷◌, ap, length, refl, reverse, rules, subst, sym, ◌∙◌}
 use Rattle.std.proofs.lemmas.List.{places, reverse-append, with_items_is}
 use Rattle.pj_plan.specs.Nodes.{streams_of}
-use Rattle.pj_laws.specs.declared.events.Event.TheVariants.{Arrive}
-use Rattle.pj_laws.specs.OneThread.{arrival_of}
+use Rattle.pj_events.specs.declared.events.Event.TheVariants.{Arrive}
+use Rattle.pj_events.specs.OneThread.{arrival_of}
 use Rattle.pj_core.specs.Calls.{HasArrived, IsCause, closing_of}
 use Rattle.pj_core.specs.Parts.{closing_in}
 use Rattle.pj_core.specs.Plans.{run_plan}

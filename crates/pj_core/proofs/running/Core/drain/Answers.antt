@@ -1,6 +1,6 @@
 use Rattle.std.proofs.Common.{reverse, subst, sym, ◌∙◌}
-use Rattle.pj_laws.specs.declared.events.Event.TheVariants.{Drain}
-use Rattle.pj_laws.specs.OneThread.{plain}
+use Rattle.pj_events.specs.declared.events.Event.TheVariants.{Drain}
+use Rattle.pj_events.specs.OneThread.{plain}
 use Rattle.pj_core.specs.Cores.{Notes}
 use Rattle.pj_core.specs.Parts.{core_of}
 use Rattle.pj_core.specs.Plans.{run_plan}

@@ -1,7 +1,7 @@
 use Rattle.std.proofs.Common.{◌<◌, length, refl, reverse, rules, subst, sym}
 use Rattle.std.proofs.lemmas.List.{places, with_items_is}
 use Rattle.pj_core.specs.Plans.{run_plan}
-use Rattle.pj_laws.specs.declared.events.Event.TheVariants.{Sweep as Swept}
+use Rattle.pj_events.specs.declared.events.Event.TheVariants.{Sweep as Swept}
 use Rattle.pj_core.specs.Acts.{HasJoinInput, HasSweptAt, IsSweepStop}
 use Rattle.pj_core.specs.Calls.{HasSwept, IsCause, IsJoinInput}
 use Rattle.pj_core.specs.Cells.{cell_at}

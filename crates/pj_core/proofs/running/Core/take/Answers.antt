@@ -1,7 +1,7 @@
 use Rattle.std.proofs.Common.{◌≡◌, None, refl, reverse, rules, subst}
 use Rattle.std.proofs.lemmas.List.{places, with_items_is}
 use Rattle.pj_core.specs.Plans.{run_plan}
-use Rattle.pj_laws.specs.declared.events.Stop.TheVariants.{NoMemory}
+use Rattle.pj_events.specs.declared.events.Stop.TheVariants.{NoMemory}
 use Rattle.pj_core.specs.Acts.{TakesFirst}
 use Rattle.pj_core.specs.Calls.{CoreTakes}
 use Rattle.pj_core.proofs.Calls.{core-takes}

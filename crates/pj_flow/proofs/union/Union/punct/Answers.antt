@@ -1,5 +1,5 @@
 use Rattle.std.proofs.Common.{List, [], ◌∷◌, ◌++◌, ◌≡◌, ap, ◌∙◌, sym, subst}
-use Rattle.pj_laws.specs.Operators.{Sent}
+use Rattle.pj_events.specs.Operators.{Sent}
 use Rattle.pj_flow.specs.Insides.{AreHeld, seen}
 use Rattle.pj_flow.proofs.Holding.{asked_again, held_again, union_seen}
 use Rattle.pj_flow.proofs.union.Union.punct.Goals as goal

@@ -1,6 +1,6 @@
 use Rattle.std.proofs.Common.{◌≡◌, ◌<◌, false, arith, drop}
 use Rattle.std.specs.Arc.{arc_value}
-use Rattle.pj_laws.specs.Join.{has, inputs}
+use Rattle.pj_events.specs.Join.{has, inputs}
 use Rattle.pj_join.specs.Joins.{join_data, IsTaken}
 use Rattle.pj_join.specs.Insides.{tickets}
 use Rattle.pj_join.specs.Sides.{log_of, puncts_of, tuples_in}

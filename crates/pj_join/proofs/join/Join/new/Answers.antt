@@ -1,7 +1,7 @@
 use Rattle.std.proofs.Common.{◌∙◌, [], List, map, length, ap, ap₂}
 use Rattle.pj_shape.specs.declared.columns.Column.{Column}
 use Rattle.pj_shape.specs.Sound.{arities_of}
-use Rattle.pj_laws.specs.Join.{PunctAt, TupleAt, upto_from}
+use Rattle.pj_events.specs.Join.{PunctAt, TupleAt, upto_from}
 use Rattle.pj_join.specs.Insides.{made_with, seen}
 use Rattle.pj_join.specs.Joins.{join_data}
 use Rattle.pj_join.specs.Sides.{heard_of}

@@ -1,7 +1,7 @@
 use Rattle.std.proofs.Common.{◌<◌, ◌^◌, ◌+◌, ◌∙◌, arith, length, refl, Some, List, ap, sym, subst}
 use Rattle.std.specs.Arc.{arc_value}
 use Rattle.pj_state.specs.States.{StateView}
-use Rattle.pj_laws.specs.Join.{inputs}
+use Rattle.pj_events.specs.Join.{inputs}
 use Rattle.pj_join.specs.Joins.{join_data}
 use Rattle.pj_join.specs.Sides.{AreWide, first_of, log_of, puncts_of, tuples_in}
 use Rattle.pj_join.proofs.Standing.{stands-probed}

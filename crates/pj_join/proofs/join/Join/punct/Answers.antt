@@ -3,7 +3,7 @@ use Rattle.std.proofs.lemmas.Bool.{false≢true}
 use Rattle.std.specs.Arc.{arc_value}
 use Rattle.pj_cover.specs.Stores.{IsAbove, Store}
 use Rattle.pj_shape.specs.declared.joins.JoinSpec.{JoinSpec}
-use Rattle.pj_laws.specs.Join.{PunctAt, inputs}
+use Rattle.pj_events.specs.Join.{PunctAt, inputs}
 use Rattle.pj_join.specs.Insides.{IsJoin, inside, made_with, seen}
 use Rattle.pj_join.specs.Joins.{join_data}
 use Rattle.pj_join.specs.Judging.{going_at_once}

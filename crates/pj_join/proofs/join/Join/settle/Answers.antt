@@ -1,8 +1,8 @@
 use Rattle.std.proofs.Common.{◌≡◌, ◌<◌, ◌∙◌, ap, arith, length}
 use Rattle.std.proofs.lemmas.List.{length-map}
 use Rattle.std.specs.Arc.{arc_value}
-use Rattle.pj_laws.specs.Join.{TupleAt, inputs}
-use Rattle.pj_laws.specs.KeptState.{swept}
+use Rattle.pj_events.specs.Join.{TupleAt, inputs}
+use Rattle.pj_events.specs.KeptState.{swept}
 use Rattle.pj_join.specs.Insides.{made_with, seen, tickets}
 use Rattle.pj_join.specs.Joins.{join_data}
 use Rattle.pj_join.specs.Judging.{waiting_on}

@@ -1,5 +1,5 @@
 use Rattle.std.proofs.Common.{◌<◌, arith}
-use Rattle.pj_laws.specs.Join.{inputs}
+use Rattle.pj_events.specs.Join.{inputs}
 use Rattle.pj_join.proofs.Standing.{stands-sweep}
 use Rattle.pj_join.proofs.Sweeps.{forgets, goes-where-covered, hands-sweep}
 use Rattle.pj_join.proofs.join.Join.sweep.Goals as goal

@@ -1,7 +1,7 @@
 use Rattle.std.proofs.Common.{◌≡◌, ◌<◌, ◌∙◌, List, length, ap, arith, refl}
 use Rattle.std.proofs.lemmas.Bool.{false≢true}
 use Rattle.std.specs.Arc.{arc_value}
-use Rattle.pj_laws.specs.Join.{Value, arity, inputs}
+use Rattle.pj_events.specs.Join.{Value, arity, inputs}
 use Rattle.pj_join.specs.Joins.{join_data}
 use Rattle.pj_join.specs.Sides.{log_of, puncts_of, tuples_in}
 use Rattle.pj_join.proofs.Standing.{stands-tuple}

@@ -1,5 +1,5 @@
 use Rattle.std.proofs.Common.{◌∙◌, ap, sym, length, List}
-use Rattle.pj_laws.specs.Join.{Value}
+use Rattle.pj_events.specs.Join.{Value}
 use Rattle.pj_probe.proofs.Placing.{rows-length}
 use Rattle.pj_probe.proofs.joined.Joined.parts.Goals as goal
 

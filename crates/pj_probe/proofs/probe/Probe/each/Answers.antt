@@ -1,7 +1,7 @@
 use Rattle.std.proofs.Common.{◌≡◌, List, subst}
 use Rattle.std.specs.Prelude.{OnOk, OnErr}
 use Rattle.std.specs.Arc.{arc_value}
-use Rattle.pj_laws.specs.Join.{Value}
+use Rattle.pj_events.specs.Join.{Value}
 use Rattle.pj_probe.specs.Visits.{Grows, GrowsByFront}
 use Rattle.pj_probe.specs.Walking.{walked}
 use Rattle.pj_probe.proofs.Combining.{walked-whole}

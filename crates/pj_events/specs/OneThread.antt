@@ -3,11 +3,11 @@ use Rattle.std.specs.Prelude.{ℕ, zero, suc, ◌+◌, Bool, true, false, ◌&&�
 use Rattle.pj_pattern.specs.declared.element.Element.{Element}
 use Rattle.pj_pattern.specs.declared.element.Element.TheVariants.{Tuple, Punct}
 use Rattle.pj_shape.specs.declared.columns.Column.{Column}
-use Rattle.pj_laws.specs.Patterns.{all_wild}
-use Rattle.pj_laws.specs.Join.{inputs, upto_from}
-use Rattle.pj_laws.specs.KeptState.{lacking}
-use Rattle.pj_laws.specs.Plan.{Operator, Stream, Join, Node, operator_at}
-use Rattle.pj_laws.specs.History.{Entry, Event, Arrive, Taken, Given, Swept, Drain, streams_of, join_at, nodes_from}
+use Rattle.pj_events.specs.Patterns.{all_wild}
+use Rattle.pj_events.specs.Join.{inputs, upto_from}
+use Rattle.pj_events.specs.KeptState.{lacking}
+use Rattle.pj_events.specs.Plan.{Operator, Stream, Join, Node, operator_at}
+use Rattle.pj_events.specs.History.{Entry, Event, Arrive, Taken, Given, Swept, Drain, streams_of, join_at, nodes_from}
 
 -- an entry that closes no stream, made where there are no seats
 abbrev pub plain : Event → Entry

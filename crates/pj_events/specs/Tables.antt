@@ -4,7 +4,7 @@ use Rattle.std.specs.Int.{saturate_signed, w64}
 use Rattle.pj_value.specs.declared.values.Value.{Value}
 use Rattle.pj_value.specs.declared.values.Value.TheVariants.{Int}
 use Rattle.pj_value.specs.Values.{row_eq}
-use Rattle.pj_laws.specs.Operators.{Agg, Count, Sum, Min, Max, GroupSpec, column_of, greatest_of, keys_from, least_of, picked_cells, sum_of}
+use Rattle.pj_events.specs.Operators.{Agg, Count, Sum, Min, Max, GroupSpec, column_of, greatest_of, keys_from, least_of, picked_cells, sum_of}
 
 -- the state of an aggregate: how many rows came, their exact sum, their least or their greatest value
 pub data Tally : Type 0 where

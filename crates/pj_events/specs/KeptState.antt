@@ -2,7 +2,7 @@
 use Rattle.std.specs.Prelude.{ℕ, ◌+◌, ◌≡◌, Bool, not, ◌==◌, nat_lt, ◌&&◌, ◌||◌, if◌then◌else◌, List, [], ◌∷◌, ◌++◌, map, filter, min}
 use Rattle.std.specs.List.{list_all}
 use Rattle.pj_value.specs.declared.values.Value.{Value}
-use Rattle.pj_laws.specs.Join.{TupleAt, PunctAt, JoinData, JoinState, Step, TupleComes, PunctComes, Take, Give, Sweep, start, run, older, older_puncts, need_of, covered, has, is_held}
+use Rattle.pj_events.specs.Join.{TupleAt, PunctAt, JoinData, JoinState, Step, TupleComes, PunctComes, Take, Give, Sweep, start, run, older, older_puncts, need_of, covered, has, is_held}
 
 -- the next ticket, the stored tuples, all punctuations, the tickets that are not taken, those that are not given, the punctuations that wait
 pub record KeptState : Type 0 where

@@ -9,9 +9,9 @@ use Rattle.pj_pattern.specs.declared.element.Element.TheVariants.{Tuple, Punct}
 use Rattle.pj_value.specs.Bags.{SameBag}
 use Rattle.pj_pattern.specs.Fitting.{FitsKinds}
 use Rattle.pj_shape.specs.Columns.{kinds_of}
-use Rattle.pj_laws.specs.Patterns.{Pattern, all_wild, matches_row}
-use Rattle.pj_laws.specs.Join.{In, JoinData, JoinState, Step, TupleComes, PunctComes, Take, Give, Sweep, start, run, outputs, IsAllowed, AllGiven, IsSettled, arities, inputs, rows_of}
-use Rattle.pj_laws.specs.Operators.{GroupSpec, UnionState, picked_cells, select_hands, project_hands, union_after, union_hands, group_after, group_hands, group_rows}
+use Rattle.pj_events.specs.Patterns.{Pattern, all_wild, matches_row}
+use Rattle.pj_events.specs.Join.{In, JoinData, JoinState, Step, TupleComes, PunctComes, Take, Give, Sweep, start, run, outputs, IsAllowed, AllGiven, IsSettled, arities, inputs, rows_of}
+use Rattle.pj_events.specs.Operators.{GroupSpec, UnionState, picked_cells, select_hands, project_hands, union_after, union_hands, group_after, group_hands, group_rows}
 
 -- ---- what a node is, with what it holds
 

@@ -1,10 +1,10 @@
 -- How far a history goes under a limit on the number of elements that reach a node.
 use Rattle.std.specs.Prelude.{ℕ, ◌≡◌, List, [], ◌∷◌, ◌++◌, Some, None}
-use Rattle.pj_laws.specs.declared.events.Entry.{Entry}
-use Rattle.pj_laws.specs.declared.events.Stop.{Stop}
-use Rattle.pj_laws.specs.declared.events.Stop.TheVariants.{Limit, NoMemory}
-use Rattle.pj_laws.specs.Plan.{Node}
-use Rattle.pj_laws.specs.Outcomes.{goes_beyond}
+use Rattle.pj_events.specs.declared.events.Entry.{Entry}
+use Rattle.pj_events.specs.declared.events.Stop.{Stop}
+use Rattle.pj_events.specs.declared.events.Stop.TheVariants.{Limit, NoMemory}
+use Rattle.pj_events.specs.Plan.{Node}
+use Rattle.pj_events.specs.Outcomes.{goes_beyond}
 
 -- none of these entries behind a history brings an element beyond the limit
 abbrev pub StaysWithin : ℕ → List Node → List Entry → List Entry → Type 0

@@ -12,7 +12,7 @@ use Rattle.pj_shape.specs.Sound.{arities_of}
 pub use Rattle.pj_pattern.specs.declared.element.Element.{Element}
 pub use Rattle.pj_pattern.specs.declared.element.Element.TheVariants.{Tuple, Punct}
 pub use Rattle.pj_pattern.specs.Elements.{rows_of, puncts_of}
-use Rattle.pj_laws.specs.Patterns.{Pattern, all_wild, matches_row, covers}
+use Rattle.pj_events.specs.Patterns.{Pattern, all_wild, matches_row, covers}
 
 -- ---- what a join is
 

@@ -3,9 +3,9 @@ use Rattle.std.specs.Prelude.{ℕ, zero, suc, ◌+◌, Bool, true, false, ◌==�
 use Rattle.pj_value.specs.declared.values.Value.{Value}
 use Rattle.pj_pattern.specs.declared.element.Element.{Element}
 use Rattle.pj_pattern.specs.declared.element.Element.TheVariants.{Tuple, Punct}
-use Rattle.pj_laws.specs.Join.{Step, Take, Give, Sweep, low, results, joined, rows_of, upto_from}
-use Rattle.pj_laws.specs.Plan.{Operator, Join, Group, Node, Comes, join_step, batches, after, hands, nowhere, answers_from}
-use Rattle.pj_laws.specs.History.{Entry, Event, Arrive, Taken, Given, Swept, Drain, Out, RowOut, PunctOut, Purged, streams_of, stream_node, root_of, join_at, data_at, step_of, nodes_by, gained, Reached, begun, next, nodes_from}
+use Rattle.pj_events.specs.Join.{Step, Take, Give, Sweep, low, results, joined, rows_of, upto_from}
+use Rattle.pj_events.specs.Plan.{Operator, Join, Group, Node, Comes, join_step, batches, after, hands, nowhere, answers_from}
+use Rattle.pj_events.specs.History.{Entry, Event, Arrive, Taken, Given, Swept, Drain, Out, RowOut, PunctOut, Purged, streams_of, stream_node, root_of, join_at, data_at, step_of, nodes_by, gained, Reached, begun, next, nodes_from}
 
 -- ---- arrivals
 

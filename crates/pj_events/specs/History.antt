@@ -2,16 +2,16 @@
 use Rattle.std.specs.Prelude.{ℕ, ◌+◌, ◌<◌, ◌≡◌, ◌⊎◌, Bool, true, false, ◌==◌, if◌then◌else◌, List, [], ◌∷◌, ◌++◌, map, length, pred, slice_index_or, sum, Option, Some, None}
 use Rattle.pj_pattern.specs.declared.element.Element.{Element}
 use Rattle.pj_pattern.specs.declared.element.Element.TheVariants.{Tuple, Punct}
-pub use Rattle.pj_laws.specs.declared.events.Entry.{Entry}
-pub use Rattle.pj_laws.specs.declared.events.Event.{Event}
-pub use Rattle.pj_laws.specs.declared.events.Event.TheVariants.{Arrive, Take as Taken, Give as Given, Sweep as Swept, Drain, Halt, Look, Stopped, Idle}
-pub use Rattle.pj_laws.specs.declared.events.Stop.{Stop}
-pub use Rattle.pj_laws.specs.declared.events.Out.{Out}
-pub use Rattle.pj_laws.specs.declared.events.Out.TheVariants.{Tuple as RowOut, Punct as PunctOut, Purged}
-use Rattle.pj_laws.specs.Patterns.{all_wild}
-use Rattle.pj_laws.specs.Join.{JoinData, JoinState, Take, Give, Sweep, start, has, removed, IsSettled}
-use Rattle.pj_laws.specs.KeptState.{lacking}
-use Rattle.pj_laws.specs.Plan.{Operator, Stream, Join, Node, PlanStep, Feed, Act, Pass, batches, moved, operator_at, IsStepAllowed}
+pub use Rattle.pj_events.specs.declared.events.Entry.{Entry}
+pub use Rattle.pj_events.specs.declared.events.Event.{Event}
+pub use Rattle.pj_events.specs.declared.events.Event.TheVariants.{Arrive, Take as Taken, Give as Given, Sweep as Swept, Drain, Halt, Look, Stopped, Idle}
+pub use Rattle.pj_events.specs.declared.events.Stop.{Stop}
+pub use Rattle.pj_events.specs.declared.events.Out.{Out}
+pub use Rattle.pj_events.specs.declared.events.Out.TheVariants.{Tuple as RowOut, Punct as PunctOut, Purged}
+use Rattle.pj_events.specs.Patterns.{all_wild}
+use Rattle.pj_events.specs.Join.{JoinData, JoinState, Take, Give, Sweep, start, has, removed, IsSettled}
+use Rattle.pj_events.specs.KeptState.{lacking}
+use Rattle.pj_events.specs.Plan.{Operator, Stream, Join, Node, PlanStep, Feed, Act, Pass, batches, moved, operator_at, IsStepAllowed}
 
 -- ---- the streams and the joins of a plan
 

@@ -1,0 +1,12 @@
+pub mod Patterns
+pub mod Join
+pub mod KeptState
+pub mod Operators
+pub mod Tables
+pub mod Plan
+pub mod History
+pub mod Outcomes
+pub mod Limits
+pub mod OneThread
+pub mod CoreKept
+pub mod Punctuations
