@@ -66,7 +66,7 @@ stored-fed (Union n u) e = omega arith
 stored-fed (Join spec s) e = omega arith
 stored-fed (Group spec rows) e = omega arith
 
-module _ (plan : RunPlan) (limit : ℕ) (cells : List Cell) (made : IsMadeOf plan limit cells) (c : List ℕ) (u : List Out) (history : List Entry) (S : StandsFor (core_of plan limit cells c u None) history)
+module _ (plan : RunPlan) (limit : ℕ) (cells : List Cell) (made : IsMadeOf plan limit cells) (c : List ℕ) (halt : Bool) (u : List Out) (history : List Entry) (S : StandsFor (core_of plan limit cells c halt u None) history)
     (stream : ℕ) (there : stream < length (streams_of plan.nodes)) (e : Element) where
   abbrev number : ℕ
   number = get_or (streams_of plan.nodes) stream 0
@@ -75,7 +75,7 @@ module _ (plan : RunPlan) (limit : ℕ) (cells : List Cell) (made : IsMadeOf pla
   nodes = nodes_from (nodes_of plan) history
 
   A : AreAs cells nodes
-  A = are plan limit cells made c u history S
+  A = are plan limit cells made c halt u history S
 
   within : number < length cells
   within = omega (arith, number_below plan.nodes stream there, A.long, long-now plan limit history made.0 S.legal)
@@ -96,9 +96,9 @@ module _ (plan : RunPlan) (limit : ℕ) (cells : List Cell) (made : IsMadeOf pla
 
   arrives : (closing : ℕ) (new : List Cell) (c' : List ℕ) (u' : List Out) → Climbs (record { cells = cells; outs = u }) (record { cells = new; outs = u' }) number (e ∷ []) → StaysAs cells new
       → c' ≡ closed_after c closing (Arrive stream e) → IsEntryAllowed (reached_of false (nodes_of plan) history) (record { event = Arrive stream e; seat = 0; closing = closing })
-      → StandsFor (core_of plan limit new c' u' None) (history ++ record { event = Arrive stream e; seat = 0; closing = closing } ∷ [])
+      → StandsFor (core_of plan limit new c' halt u' None) (history ++ record { event = Arrive stream e; seat = 0; closing = closing } ∷ [])
   arrives closing new c' u' C stays closed allowed =
-      note plan limit cells made c u history S (Arrive stream e) number (Fed e) refl begins cells step new c' u u' closing allowed (silent plan.trace)
+      note plan limit cells made c halt u history S (Arrive stream e) number (Fed e) refl begins cells step new c' u u' closing allowed (silent plan.trace)
       (subst (λ (es : List Element). Climbs (record { cells = cells; outs = u }) (record { cells = new; outs = u' }) number es) (sym handed) C) stays closed (λ old more. refl) refl refl
     where
       silent : (trace : Bool) → u ≡ u ++ cond trace [] []
@@ -107,24 +107,24 @@ module _ (plan : RunPlan) (limit : ℕ) (cells : List Cell) (made : IsMadeOf pla
 
   goes : (o : Option ℕ) → GoBeyond cells number (e ∷ []) o → goes_beyond limit (nodes_of plan) history (Arrive stream e) ≡ o
   goes o G =
-      beyond-is plan limit cells made c u history S (Arrive stream e) number (Fed e) refl begins cells step o (subst (λ (es : List Element). GoBeyond cells number es o) (sym handed) G)
+      beyond-is plan limit cells made c halt u history S (Arrive stream e) number (Fed e) refl begins cells step o (subst (λ (es : List Element). GoBeyond cells number es o) (sym handed) G)
 
 -- an element has arrived
-pub arrived : (plan : RunPlan) (limit : ℕ) (cells new : List Cell) (c c' : List ℕ) (u u' : List Out) (turn : Turn) → IsMadeOf plan limit cells → turn.stream < length (streams_of plan.nodes)
+pub arrived : (plan : RunPlan) (limit : ℕ) (cells new : List Cell) (c c' : List ℕ) (halt : Bool) (u u' : List Out) (turn : Turn) → IsMadeOf plan limit cells → turn.stream < length (streams_of plan.nodes)
     → Climbs (record { cells = cells; outs = u }) (record { cells = new; outs = u' }) (get_or (streams_of plan.nodes) turn.stream 0) (turn.element ∷ []) → StaysAs cells new
-    → c' ≡ closed_after c turn.closing (Arrive turn.stream turn.element) → HasArrived (core_of plan limit cells c u None) (core_of plan limit new c' u' None) (arrival_of turn)
-arrived plan limit cells new c c' u u' turn made there C stays closed = record {
+    → c' ≡ closed_after c turn.closing (Arrive turn.stream turn.element) → HasArrived (core_of plan limit cells c halt u None) (core_of plan limit new c' halt u' None) (arrival_of turn)
+arrived plan limit cells new c c' halt u u' turn made there C stays closed = record {
   on = (refl, refl);
   notes = record {
     plan = refl;
     limit = refl;
-    stands = λ history S may. arrives plan limit cells made c u history S turn.stream there turn.element turn.closing new c' u' C stays closed may;
+    stands = λ history S may. arrives plan limit cells made c halt u history S turn.stream there turn.element turn.closing new c' u' C stays closed may;
   };
-  within = λ history S. goes plan limit cells made c u history S turn.stream there turn.element None C.within;
+  within = λ history S. goes plan limit cells made c halt u history S turn.stream there turn.element None C.within;
 }
 
 -- why an arrival stops
-pub arrival-stop : (plan : RunPlan) (limit : ℕ) (cells : List Cell) (c : List ℕ) (u : List Out) (stream : ℕ) (e : Element) (stop : Stop) → IsMadeOf plan limit cells → stream < length (streams_of plan.nodes)
-    → IsClimbStop cells (get_or (streams_of plan.nodes) stream 0) (e ∷ []) stop → IsCause (core_of plan limit cells c u None) (Arrive stream e) stop
-arrival-stop plan limit cells c u stream e (Limit node) made there g = λ history S. goes plan limit cells made c u history S stream there e (Some node) g
-arrival-stop plan limit cells c u stream e NoMemory made there g = tt
+pub arrival-stop : (plan : RunPlan) (limit : ℕ) (cells : List Cell) (c : List ℕ) (halt : Bool) (u : List Out) (stream : ℕ) (e : Element) (stop : Stop) → IsMadeOf plan limit cells → stream < length (streams_of plan.nodes)
+    → IsClimbStop cells (get_or (streams_of plan.nodes) stream 0) (e ∷ []) stop → IsCause (core_of plan limit cells c halt u None) (Arrive stream e) stop
+arrival-stop plan limit cells c halt u stream e (Limit node) made there g = λ history S. goes plan limit cells made c halt u history S stream there e (Some node) g
+arrival-stop plan limit cells c halt u stream e NoMemory made there g = tt

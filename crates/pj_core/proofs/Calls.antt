@@ -49,8 +49,8 @@ none-pending k (cell ∷ cells) e = go (eqb (pending_kept (kept_seen cell.work))
     go true q r ih = sum-none (kept_seen cell.work) (map (λ (x : Cell). kept_seen x.work) cells) (eqb-true (pending_kept (kept_seen cell.work)) 0 q) (ih r)
     go false q r ih = cc
 
-finds-none : (plan : RunPlan) (limit : ℕ) (cells : List Cell) (c : List ℕ) (u : List Out) → IsMadeOf plan limit cells → first_pending 0 cells ≡ None → FindsNone (core_of plan limit cells c u None) (core_of plan limit cells c u None)
-finds-none plan limit cells c u made first = record {
+finds-none : (plan : RunPlan) (limit : ℕ) (cells : List Cell) (c : List ℕ) (halt : Bool) (u : List Out) → IsMadeOf plan limit cells → first_pending 0 cells ≡ None → FindsNone (core_of plan limit cells c halt u None) (core_of plan limit cells c halt u None)
+finds-none plan limit cells c halt u made first = record {
   none = λ history S. none history S;
   pending = none-pending 0 cells first;
   stays = refl;
@@ -58,20 +58,20 @@ finds-none plan limit cells c u made first = record {
     plan = refl;
     limit = refl;
     stands = λ history S.
-        quiet-noted plan limit cells made c u history S Idle u refl
-        ((λ o. ap pending_in (same-nodes plan limit cells made c u history S) ∙ (none-is-pending (nodes_from (nodes_of plan) history)).0 (none history S)), inl refl)
-        refl (sym (ap (λ (outs : List Out). u ++ outs) (nothing-out plan limit cells made c u history S Idle refl refl) ∙ append-nil u)) refl refl;
+        quiet-noted plan limit cells made c halt u history S Idle halt u refl
+        ((λ o. ap pending_in (same-nodes plan limit cells made c halt u history S) ∙ (none-is-pending (nodes_from (nodes_of plan) history)).0 (none history S)), inl refl)
+        refl (sym (ap (λ (outs : List Out). u ++ outs) (nothing-out plan limit cells made c halt u history S Idle refl refl) ∙ append-nil u)) refl refl;
   };
 }
   where
-    none : (history : List Entry) → StandsFor (core_of plan limit cells c u None) history → next_probe (nodes_from (nodes_of plan) history) ≡ None
-    none history S = next-is cells (nodes_from (nodes_of plan) history) (are plan limit cells made c u history S) ∙ ap (first_there (nodes_from (nodes_of plan) history)) first
+    none : (history : List Entry) → StandsFor (core_of plan limit cells c halt u None) history → next_probe (nodes_from (nodes_of plan) history) ≡ None
+    none history S = next-is cells (nodes_from (nodes_of plan) history) (are plan limit cells made c halt u history S) ∙ ap (first_there (nodes_from (nodes_of plan) history)) first
 
-pub core-takes : (plan : RunPlan) (limit : ℕ) (cells new : List Cell) (c : List ℕ) (u : List Out) (answer : Option Found) → IsMadeOf plan limit cells → TakesFirst cells new answer
-    → CoreTakes (core_of plan limit cells c u None) (core_of plan limit new c u None) answer
-core-takes plan limit cells new c u None made t =
-    subst (λ (xs : List Cell). FindsNone (core_of plan limit cells c u None) (core_of plan limit xs c u None)) (sym t.0) (finds-none plan limit cells c u made t.1)
-core-takes plan limit cells new c u (Some found) made t = takes-next plan limit cells new c u found made t
+pub core-takes : (plan : RunPlan) (limit : ℕ) (cells new : List Cell) (c : List ℕ) (halt : Bool) (u : List Out) (answer : Option Found) → IsMadeOf plan limit cells → TakesFirst cells new answer
+    → CoreTakes (core_of plan limit cells c halt u None) (core_of plan limit new c halt u None) answer
+core-takes plan limit cells new c halt u None made t =
+    subst (λ (xs : List Cell). FindsNone (core_of plan limit cells c halt u None) (core_of plan limit xs c halt u None)) (sym t.0) (finds-none plan limit cells c halt u made t.1)
+core-takes plan limit cells new c halt u (Some found) made t = takes-next plan limit cells new c halt u found made t
 
 -- ---- joins of the plan
 
@@ -94,14 +94,14 @@ join-kind schemes limit n certs columns (JoinNode ins spec) input (GroupCell gro
 join-kind schemes limit n certs columns (GroupNode i spec) input work t lt nodes s k = absurd (false≢true t)
 
 -- the join at a place of the plan, as its node is seen
-module _ (plan : RunPlan) (limit : ℕ) (cells : List Cell) (c : List ℕ) (u : List Out) (made : IsMadeOf plan limit cells) where
+module _ (plan : RunPlan) (limit : ℕ) (cells : List Cell) (c : List ℕ) (halt : Bool) (u : List Out) (made : IsMadeOf plan limit cells) where
   cells-long : length cells ≡ length plan.nodes
-  cells-long = long plan limit cells c u None (core_of plan limit cells c u None) refl made
+  cells-long = long plan limit cells c halt u None (core_of plan limit cells c halt u None) refl made
 
   kind-here : (n : ℕ) → n < length plan.nodes → kind_of (cell_at cells n).work ≡ kind_for (schemes_of plan.nodes) limit n (certs_at plan.nodes plan.certs n) (plan_node plan.nodes n).schema (plan_node plan.nodes n).node
   kind-here n lt = ap (λ (f : Frame). f.kind) (sym (frame-at cells n) ∙ ap (λ (fs : List Frame). frame_at fs n) made.2 ∙ frame-is plan limit n lt)
 
-  pub input-there : (join input : ℕ) → IsJoinInput (core_of plan limit cells c u None) join input → (join < length cells) × HasJoinInput (cell_at cells join).work input
+  pub input-there : (join input : ℕ) → IsJoinInput (core_of plan limit cells c halt u None) join input → (join < length cells) × HasJoinInput (cell_at cells join).work input
   input-there join input at = (
     (let l = at.0.0 in omega (arith, l, cells-long)),
     join-kind (schemes_of plan.nodes) limit join (certs_at plan.nodes plan.certs join) (plan_node plan.nodes join).schema (plan_node plan.nodes join).node input (cell_at cells join).work at.0.1 at.1 plan.nodes
@@ -111,23 +111,23 @@ module _ (plan : RunPlan) (limit : ℕ) (cells : List Cell) (c : List ℕ) (u : 
   input-of : (join input : ℕ) → HasJoinInput (cell_at cells join).work input → (view : JoinView) → (cell_at cells join).work ≡ JoinCell view → input < inputs view.spec
   input-of join input has view e = subst (λ (w : Work). HasJoinInput w input) e has
 
-  pub swept-core : (new : List Cell) (u' : List Out) (join input count : ℕ) → IsJoinInput (core_of plan limit cells c u None) join input
-      → HasSweptAt plan.trace (record { cells = cells; outs = u }) (record { cells = new; outs = u' }) join input count → HasSwept (core_of plan limit cells c u None) (core_of plan limit new c u' None) join input count
+  pub swept-core : (new : List Cell) (u' : List Out) (join input count : ℕ) → IsJoinInput (core_of plan limit cells c halt u None) join input
+      → HasSweptAt plan.trace (record { cells = cells; outs = u }) (record { cells = new; outs = u' }) join input count → HasSwept (core_of plan limit cells c halt u None) (core_of plan limit new c halt u' None) join input count
   swept-core new u' join input count at H =
       let t = input-there join input at in
-      has-swept plan limit cells c u join input made t.0 (input-of join input t.1) new u' count H
+      has-swept plan limit cells c halt u join input made t.0 (input-of join input t.1) new u' count H
 
-  pub swept-cause : (join input : ℕ) (stop : Stop) → IsJoinInput (core_of plan limit cells c u None) join input → IsSweepStop plan.trace (record { cells = cells; outs = u }) join input stop
-      → IsCause (core_of plan limit cells c u None) (Swept join input) stop
+  pub swept-cause : (join input : ℕ) (stop : Stop) → IsJoinInput (core_of plan limit cells c halt u None) join input → IsSweepStop plan.trace (record { cells = cells; outs = u }) join input stop
+      → IsCause (core_of plan limit cells c halt u None) (Swept join input) stop
   swept-cause join input stop at s =
       let t = input-there join input at in
-      sweep-stop plan limit cells c u join input made t.0 (input-of join input t.1) stop s
+      sweep-stop plan limit cells c halt u join input made t.0 (input-of join input t.1) stop s
 
   pub given-core : (new : List Cell) (u' : List Out) (probe found : Found) → (probe.join < length cells) × IsTakenIn (kept_seen (cell_at cells probe.join).work) probe.ticket
-      → HasGivenOn (record { cells = cells; outs = u }) (record { cells = new; outs = u' }) probe found.rows → HasGiven (core_of plan limit cells c u None) (core_of plan limit new c u' None) probe found
-  given-core new u' probe found taken H = has-given plan limit cells c u probe found H.work made taken.0 taken.1 H.acts new u' H.climbs H.stays
+      → HasGivenOn (record { cells = cells; outs = u }) (record { cells = new; outs = u' }) probe found.rows → HasGiven (core_of plan limit cells c halt u None) (core_of plan limit new c halt u' None) probe found
+  given-core new u' probe found taken H = has-given plan limit cells c halt u probe found H.work made taken.0 taken.1 H.acts new u' H.climbs H.stays
 
   pub given-cause : (probe found : Found) (stop : Stop) → (probe.join < length cells) × IsTakenIn (kept_seen (cell_at cells probe.join).work) probe.ticket
-      → IsGiveStop cells probe found.rows stop → IsGiveCause (core_of plan limit cells c u None) probe found stop
-  given-cause probe found (Limit at) taken b = give-stop plan limit cells c u probe found b.work made taken.0 taken.1 b.acts (Limit at) b.beyond
+      → IsGiveStop cells probe found.rows stop → IsGiveCause (core_of plan limit cells c halt u None) probe found stop
+  given-cause probe found (Limit at) taken b = give-stop plan limit cells c halt u probe found b.work made taken.0 taken.1 b.acts (Limit at) b.beyond
   given-cause probe found NoMemory taken b = tt

@@ -95,7 +95,7 @@ pub steps-still : (cells : List Cell) (nodes : List Node) (n : ℕ) (l : Local) 
 steps-still cells nodes n l A lt is le =
     subst (λ (mid : List Cell). Steps cells mid nodes n l) (set-get_or cells n no_cell) (steps-at cells nodes n l (cell_at cells n) A lt is refl refl (inl (refl, le)))
 
-module _ (plan : RunPlan) (limit : ℕ) (cells : List Cell) (made : IsMadeOf plan limit cells) (c : List ℕ) (u : List Out) (history : List Entry) (S : StandsFor (core_of plan limit cells c u None) history)
+module _ (plan : RunPlan) (limit : ℕ) (cells : List Cell) (made : IsMadeOf plan limit cells) (c : List ℕ) (halt : Bool) (u : List Out) (history : List Entry) (S : StandsFor (core_of plan limit cells c halt u None) history)
     (event : Event) (n : ℕ) (l : Local) (local : local_of event ≡ Some l) (at : origin_of (nodes_from (nodes_of plan) history) event ≡ n)
     (mid : List Cell) (step : Steps cells mid (nodes_from (nodes_of plan) history) n l) where
   abbrev nodes : List Node
@@ -114,8 +114,8 @@ module _ (plan : RunPlan) (limit : ℕ) (cells : List Cell) (made : IsMadeOf pla
       let long = nodes-long plan in
       ap (λ (i : ℕ). length (arrivals_at (nodes_of plan) history i)) (sym z)
       ∙ sym (get_or-upto (λ i. length (arrivals_at (nodes_of plan) history i)) 0 (length (nodes_of plan)) m 0 (omega (arith, lt, long)))
-      ∙ ap (λ (ns : List ℕ). get_or ns m 0) (sym (ap (λ (k : CoreKept). k.counts) (kept-is plan limit cells made c u history S)))
-      ∙ get_or-map count_seen cells m no_cell 0 (let a = (are plan limit cells made c u history S).long in omega (arith, lt, a, long-now plan limit history made.0 S.legal))
+      ∙ ap (λ (ns : List ℕ). get_or ns m 0) (sym (ap (λ (k : CoreKept). k.counts) (kept-is plan limit cells made c halt u history S)))
+      ∙ get_or-map count_seen cells m no_cell 0 (let a = (are plan limit cells made c halt u history S).long in omega (arith, lt, a, long-now plan limit history made.0 S.legal))
 
   -- where the event goes beyond the limit
   pub beyond-is : (o : Option ℕ) → GoBeyond mid n up o → goes_beyond limit (nodes_of plan) history event ≡ o
@@ -126,7 +126,7 @@ module _ (plan : RunPlan) (limit : ℕ) (cells : List Cell) (made : IsMadeOf pla
       ∙ G limit (subst (HaveLimit limit) (sym (step.frames ∙ made.2)) (limits-of plan limit)) (stepped nodes n l) step.stands (length nodes) fits
     where
       A : AreAs cells nodes
-      A = are plan limit cells made c u history S
+      A = are plan limit cells made c halt u history S
 
       long : length nodes ≡ length plan.nodes
       long = long-now plan limit history made.0 S.legal
@@ -156,7 +156,7 @@ module _ (plan : RunPlan) (limit : ℕ) (cells : List Cell) (made : IsMadeOf pla
       now = stored-is new (climbed_by nodes n l).nodes m B (let a = long-frames mid new stays.frames in let b = long-frames cells mid step.frames in omega (arith, lt, a, b))
 
       before : stored_kept (kept_seen (cell_at cells m).work) ≡ stored_at nodes m
-      before = stored-is cells nodes m (are plan limit cells made c u history S) lt
+      before = stored-is cells nodes m (are plan limit cells made c halt u history S) lt
 
       grown : stored_at (stepped nodes n l) m ≤ stored_at (climbed_by nodes n l).nodes m
       grown = stores-grow (stepped nodes n l) n up m
@@ -170,10 +170,10 @@ module _ (plan : RunPlan) (limit : ℕ) (cells : List Cell) (made : IsMadeOf pla
   pub note : (new : List Cell) (c' : List ℕ) (outs u' : List Out) (closing : ℕ)
       → IsEntryAllowed (reached_of false (nodes_of plan) history) (record { event = event; seat = 0; closing = closing })
       → outs ≡ u ++ cond plan.trace (notes_of nodes event) [] → Climbs (record { cells = mid; outs = outs }) (record { cells = new; outs = u' }) n up → StaysAs mid new
-      → c' ≡ closed_after c closing event → ((old more : List Out) → undrained_with old more event ≡ old ++ more) → halted_after false event ≡ false → stop_after None event ≡ None
-      → StandsFor (core_of plan limit new c' u' None) (history ++ record { event = event; seat = 0; closing = closing } ∷ [])
+      → c' ≡ closed_after c closing event → ((old more : List Out) → undrained_with old more event ≡ old ++ more) → halted_after halt event ≡ halt → stop_after None event ≡ None
+      → StandsFor (core_of plan limit new c' halt u' None) (history ++ record { event = event; seat = 0; closing = closing } ∷ [])
   note new c' outs u' closing allowed begun C stays closed hands halts stops =
-      noted plan limit cells made c u history S (record { event = event; seat = 0; closing = closing }) new c' u' allowed
+      noted plan limit cells made c halt u history S (record { event = event; seat = 0; closing = closing }) new c' halt u' allowed
       (record {
         long = long-frames mid new stays.frames ∙ long-frames cells mid step.frames;
         stands = subst (λ (k : Climbed). AreAs new k.nodes) (sym climb-is) L.stands;
@@ -185,7 +185,7 @@ module _ (plan : RunPlan) (limit : ℕ) (cells : List Cell) (made : IsMadeOf pla
             ∙ append_assoc u (cond plan.trace (notes_of nodes event) []) (map out_of (climbed_by nodes n l).left.elements)
             ∙ ap (λ (k : Climbed). u ++ (cond plan.trace (notes_of nodes event) [] ++ map out_of k.left.elements)) (sym climb-is)
             ∙ sym (hands u (handed_by plan.trace nodes event));
-        halts = halts;
+        halts = sym halts;
         stops = stops;
       })
     where

@@ -127,12 +127,12 @@ waiting-same (Union n u) = refl
 waiting-same (Join spec s) = refl
 waiting-same (Group spec rows) = refl
 
-module _ (plan : RunPlan) (limit : ℕ) (cells : List Cell) (made : IsMadeOf plan limit cells) (c : List ℕ) (u : List Out) (sums : Sums) (w : AreWith sums [] cells) (history : List Entry) (S : StandsFor (core_of plan limit cells c u None) history) where
+module _ (plan : RunPlan) (limit : ℕ) (cells : List Cell) (made : IsMadeOf plan limit cells) (c : List ℕ) (halt : Bool) (u : List Out) (sums : Sums) (w : AreWith sums [] cells) (history : List Entry) (S : StandsFor (core_of plan limit cells c halt u None) history) where
   abbrev nodes : List Node
   nodes = nodes_from (nodes_of plan) history
 
   kept-same : map (λ (x : Cell). kept_seen x.work) cells ≡ map (λ (x : Node). kept_in x.operator) nodes
-  kept-same = ap (λ (k : CoreKept). k.nodes) (kept-is plan limit cells made c u history S)
+  kept-same = ap (λ (k : CoreKept). k.nodes) (kept-is plan limit cells made c halt u history S)
 
   pub pending-told : sums.pending ≡ pending_in nodes
   pending-told = let p = w.pending in omega (arith, p, total-is pending_kept (λ o. length (lacking (state_in o).taken (state_in o).tuples)) cells nodes pending-same kept-same)
@@ -147,7 +147,7 @@ module _ (plan : RunPlan) (limit : ℕ) (cells : List Cell) (made : IsMadeOf pla
   waiting-told = let p = w.waiting in omega (arith, p, total-is waiting_kept (λ o. length (state_in o).waiting) cells nodes waiting-same kept-same)
 
 -- the numbers of a look
-pub record HasNumbers (plan : RunPlan) (c : List ℕ) (u : List Out) (t : Option Stop) (sums : Sums) (look : TheLook) : Type 0 where
+pub record HasNumbers (plan : RunPlan) (c : List ℕ) (halt : Bool) (u : List Out) (t : Option Stop) (sums : Sums) (look : TheLook) : Type 0 where
   pub pending : look.pending ≡ sums.pending
   pub taken : look.taken ≡ sums.taken
   pub stored : look.stored ≡ sums.stored
@@ -155,53 +155,53 @@ pub record HasNumbers (plan : RunPlan) (c : List ℕ) (u : List Out) (t : Option
   pub streams_are : look.streams ≡ length (streams_of plan.nodes)
   pub ended : look.ended ≡ ended_of (length (streams_of plan.nodes)) c
   pub outputs : look.outputs ≡ length u
-  pub halted : look.halted ≡ false
+  pub halted : look.halted ≡ halt
   pub stop : look.stop ≡ t
 
-looks : (plan : RunPlan) (limit : ℕ) (cells : List Cell) (c : List ℕ) (u : List Out) (t : Option Stop) (sums : Sums) → IsMadeOf plan limit cells → AreWith sums [] cells → (history : List Entry)
-    → StandsFor (core_of plan limit cells c u t) history → StandsFor (core_of plan limit cells c u t) (history ++ plain (Look sums.pending) ∷ [])
-looks plan limit cells c u None sums made w history S =
-    quiet-noted plan limit cells made c u history S (Look sums.pending) u refl
-    ((λ o. pending-told plan limit cells made c u sums w history S ∙ ap pending_in (sym (same-nodes plan limit cells made c u history S))), inl refl)
-    refl (sym (ap (λ (outs : List Out). u ++ outs) (nothing-out plan limit cells made c u history S (Look sums.pending) refl refl) ∙ append-nil u)) refl refl
-looks plan limit cells c u (Some s) sums made w history S =
-    stop-entered plan limit limit cells cells c c u u (Some s) s history (Look sums.pending) S
+looks : (plan : RunPlan) (limit : ℕ) (cells : List Cell) (c : List ℕ) (halt : Bool) (u : List Out) (t : Option Stop) (sums : Sums) → IsMadeOf plan limit cells → AreWith sums [] cells → (history : List Entry)
+    → StandsFor (core_of plan limit cells c halt u t) history → StandsFor (core_of plan limit cells c halt u t) (history ++ plain (Look sums.pending) ∷ [])
+looks plan limit cells c halt u None sums made w history S =
+    quiet-noted plan limit cells made c halt u history S (Look sums.pending) halt u refl
+    ((λ o. pending-told plan limit cells made c halt u sums w history S ∙ ap pending_in (sym (same-nodes plan limit cells made c halt u history S))), inl refl)
+    refl (sym (ap (λ (outs : List Out). u ++ outs) (nothing-out plan limit cells made c halt u history S (Look sums.pending) refl refl) ∙ append-nil u)) refl refl
+looks plan limit cells c halt u (Some s) sums made w history S =
+    stop-entered plan limit limit cells cells c c halt halt u u (Some s) s history (Look sums.pending) S
     ((λ o. absurd (off s _ S.stands.3 (stop-same plan.trace (nodes_of plan) history ∙ o))), inl refl)
-    (same-outs plan limit cells c u (Some s) history (Look sums.pending) S (λ ns. refl) (λ ns. refl)) refl refl
+    (same-outs plan limit cells c halt u (Some s) history (Look sums.pending) S (λ ns. refl) (λ ns. refl)) refl refl
 
-tells : (plan : RunPlan) (limit : ℕ) (cells : List Cell) (c : List ℕ) (u : List Out) (t : Option Stop) (sums : Sums) (look : TheLook) → IsMadeOf plan limit cells → AreWith sums [] cells → HasNumbers plan c u t sums look
-    → t ≡ None → (history : List Entry) → StandsFor (core_of plan limit cells c u t) history → Tells (core_of plan limit cells c u t) history look
-tells plan limit cells c u (Some s) sums look made w n e history S = cc
-tells plan limit cells c u None sums look made w n e history S = record {
-  pending = n.pending ∙ pending-told plan limit cells made c u sums w history S;
-  taken = ap₂ (λ (a b : ℕ). a + b) n.taken n.pending ∙ opened-told plan limit cells made c u sums w history S;
-  stored = n.stored ∙ stored-told plan limit cells made c u sums w history S;
-  waiting = n.waiting ∙ waiting-told plan limit cells made c u sums w history S;
-  ended = n.ended ∙ ap (ended_of (length (streams_of plan.nodes))) (ap (λ (k : CoreKept). k.closed) (kept-is plan limit cells made c u history S) ∙ closed-same plan.trace (nodes_of plan) history);
+tells : (plan : RunPlan) (limit : ℕ) (cells : List Cell) (c : List ℕ) (halt : Bool) (u : List Out) (t : Option Stop) (sums : Sums) (look : TheLook) → IsMadeOf plan limit cells → AreWith sums [] cells → HasNumbers plan c halt u t sums look
+    → t ≡ None → (history : List Entry) → StandsFor (core_of plan limit cells c halt u t) history → Tells (core_of plan limit cells c halt u t) history look
+tells plan limit cells c halt u (Some s) sums look made w n e history S = cc
+tells plan limit cells c halt u None sums look made w n e history S = record {
+  pending = n.pending ∙ pending-told plan limit cells made c halt u sums w history S;
+  taken = ap₂ (λ (a b : ℕ). a + b) n.taken n.pending ∙ opened-told plan limit cells made c halt u sums w history S;
+  stored = n.stored ∙ stored-told plan limit cells made c halt u sums w history S;
+  waiting = n.waiting ∙ waiting-told plan limit cells made c halt u sums w history S;
+  ended = n.ended ∙ ap (ended_of (length (streams_of plan.nodes))) (ap (λ (k : CoreKept). k.closed) (kept-is plan limit cells made c halt u history S) ∙ closed-same plan.trace (nodes_of plan) history);
 }
 
-pub is-look : (plan : RunPlan) (limit : ℕ) (cells : List Cell) (c : List ℕ) (u : List Out) (t : Option Stop) (sums : Sums) (look : TheLook) → IsMadeOf plan limit cells → AreWith sums [] cells → HasNumbers plan c u t sums look
-    → IsLookAt (core_of plan limit cells c u t) look
-is-look plan limit cells c u t sums look made w n = record {
+pub is-look : (plan : RunPlan) (limit : ℕ) (cells : List Cell) (c : List ℕ) (halt : Bool) (u : List Out) (t : Option Stop) (sums : Sums) (look : TheLook) → IsMadeOf plan limit cells → AreWith sums [] cells → HasNumbers plan c halt u t sums look
+    → IsLookAt (core_of plan limit cells c halt u t) look
+is-look plan limit cells c halt u t sums look made w n = record {
   outputs = n.outputs;
   halted = n.halted;
   stop = n.stop;
   streams = n.streams_are;
-  tells = λ e history S. tells plan limit cells c u t sums look made w n e history S;
+  tells = λ e history S. tells plan limit cells c halt u t sums look made w n e history S;
   notes = record {
     plan = refl;
     limit = refl;
-    stands = λ history S. subst (λ (m : ℕ). StandsFor (core_of plan limit cells c u t) (history ++ plain (Look m) ∷ [])) (sym n.pending) (looks plan limit cells c u t sums made w history S);
+    stands = λ history S. subst (λ (m : ℕ). StandsFor (core_of plan limit cells c halt u t) (history ++ plain (Look m) ∷ [])) (sym n.pending) (looks plan limit cells c halt u t sums made w history S);
   };
 }
 
 -- ---- peaks
 
-pub is-peak : (plan : RunPlan) (limit : ℕ) (cells : List Cell) (c : List ℕ) (u : List Out) (t : Option Stop) (join : ℕ) → IsMadeOf plan limit cells → join < length cells → IsPeak (core_of plan limit cells c u t) join (peak_seen (cell_at cells join))
-is-peak plan limit cells c u (Some s) join made lt e history S = cc
-is-peak plan limit cells c u None join made lt e history S =
+pub is-peak : (plan : RunPlan) (limit : ℕ) (cells : List Cell) (c : List ℕ) (halt : Bool) (u : List Out) (t : Option Stop) (join : ℕ) → IsMadeOf plan limit cells → join < length cells → IsPeak (core_of plan limit cells c halt u t) join (peak_seen (cell_at cells join))
+is-peak plan limit cells c halt u (Some s) join made lt e history S = cc
+is-peak plan limit cells c halt u None join made lt e history S =
     let z : 0 + join ≡ join = omega arith in
-    sym (get_or-map peak_seen cells join no_cell 0 lt) ∙ ap (λ (ns : List ℕ). get_or ns join 0) (ap (λ (k : CoreKept). k.peaks) (kept-is plan limit cells made c u history S))
+    sym (get_or-map peak_seen cells join no_cell 0 lt) ∙ ap (λ (ns : List ℕ). get_or ns join 0) (ap (λ (k : CoreKept). k.peaks) (kept-is plan limit cells made c halt u history S))
     ∙ get_or-upto (peak_of (nodes_of plan) history) 0 (length (nodes_of plan)) join 0
-    (let a = (are plan limit cells made c u history S).long in let b = long-now plan limit history made.0 S.legal in let d = nodes-long plan in omega (arith, lt, a, b, d))
+    (let a = (are plan limit cells made c halt u history S).long in let b = long-now plan limit history made.0 S.legal in let d = nodes-long plan in omega (arith, lt, a, b, d))
     ∙ ap (peak_of (nodes_of plan) history) z

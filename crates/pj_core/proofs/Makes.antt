@@ -203,8 +203,8 @@ counts-fresh (f ∷ frames) k = ap₂ (λ (x : ℕ) (xs : List ℕ). x ∷ xs) (
     of (JoinKind at spec limit) = refl
     of (GroupKind spec limit) = refl
 
-pub is-fresh : (plan : RunPlan) (limit : ℕ) (cells : List Cell) → IsMadeOf plan limit cells → cells ≡ map fresh_cell (frames_of plan limit) → IsFresh (core_of plan limit cells [] [] None) plan limit
-is-fresh plan limit cells made e = record { of_plan = refl; with_limit = refl; undrained = refl; on = refl; stands = record { legal = tt; stands = (λ o i. record { nodes = nodes i; counts = counts i; peaks = peaks i; closed = []; undrained = []; halted = false; stop = None }, refl, refl, refl) } }
+pub is-fresh : (plan : RunPlan) (limit : ℕ) (cells : List Cell) → IsMadeOf plan limit cells → cells ≡ map fresh_cell (frames_of plan limit) → IsFresh (core_of plan limit cells [] false [] None) plan limit
+is-fresh plan limit cells made e = record { of_plan = refl; with_limit = refl; undrained = refl; halted = refl; on = refl; stands = record { legal = tt; stands = (λ o i. record { nodes = nodes i; counts = counts i; peaks = peaks i; closed = []; undrained = []; halted = false; stop = None }, refl, refl, refl) } }
   where
     nodes : map (λ (x : Cell). kept_seen x.work) cells ≡ map (λ (x : Node). kept_in x.operator) (nodes_of plan)
     nodes = ap (map (λ (x : Cell). kept_seen x.work)) e ∙ kept-fresh-all plan.nodes limit 0 plan.certs plan.nodes
@@ -230,7 +230,7 @@ is-fresh plan limit cells made e = record { of_plan = refl; with_limit = refl; u
             let raw = ap (λ (x : Cell). x.peak) (ap (λ (cs : List Cell). cell_at cs n) e ∙ get_or-map fresh_cell (frames_of plan limit) n no_frame no_cell (let q = ap length e ∙ length-map (frames_of plan limit) fresh_cell in omega (arith, l, q))) in
             omega (arith, raw, stored-is cells (nodes_of plan) n A l)
 
-pub is-fresh-now : (plan : RunPlan) (limit : ℕ) (cells : List Cell) (c : List ℕ) (u : List Out) → IsMadeOf plan limit cells → cells ≡ map fresh_cell (frames_of plan limit) → c ≡ [] → u ≡ [] → IsFresh (core_of plan limit cells c u None) plan limit
+pub is-fresh-now : (plan : RunPlan) (limit : ℕ) (cells : List Cell) (c : List ℕ) (u : List Out) → IsMadeOf plan limit cells → cells ≡ map fresh_cell (frames_of plan limit) → c ≡ [] → u ≡ [] → IsFresh (core_of plan limit cells c false u None) plan limit
 is-fresh-now plan limit cells c u made e ec eu =
-    subst (λ (x : List ℕ). IsFresh (core_of plan limit cells x u None) plan limit) (sym ec)
-    (subst (λ (x : List Out). IsFresh (core_of plan limit cells [] x None) plan limit) (sym eu) (is-fresh plan limit cells made e))
+    subst (λ (x : List ℕ). IsFresh (core_of plan limit cells x false u None) plan limit) (sym ec)
+    (subst (λ (x : List Out). IsFresh (core_of plan limit cells [] false x None) plan limit) (sym eu) (is-fresh plan limit cells made e))

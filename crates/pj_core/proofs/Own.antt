@@ -71,13 +71,13 @@ join-with join operator a = absurd a.kind
 
 -- ---- behind a history
 
-module _ (plan : RunPlan) (limit : ℕ) (cells : List Cell) (made : IsMadeOf plan limit cells) (c : List ℕ) (u : List Out) (history : List Entry) (S : StandsFor (core_of plan limit cells c u None) history)
+module _ (plan : RunPlan) (limit : ℕ) (cells : List Cell) (made : IsMadeOf plan limit cells) (c : List ℕ) (halt : Bool) (u : List Out) (history : List Entry) (S : StandsFor (core_of plan limit cells c halt u None) history)
     (place : ℕ) (there : place < length cells) (join : JoinView) (at : (cell_at cells place).work ≡ JoinCell join) where
   abbrev nodes : List Node
   nodes = nodes_from (nodes_of plan) history
 
   pub A : AreAs cells nodes
-  A = are plan limit cells made c u history S
+  A = are plan limit cells made c halt u history S
 
   pub within : place < length plan.nodes
   within = omega (arith, there, A.long, long-now plan limit history made.0 S.legal)

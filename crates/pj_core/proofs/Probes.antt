@@ -66,7 +66,7 @@ headed n t (v ∷ ts) e = record { others = ts; is = ap (λ (m : ℕ). m ∷ ts)
     ticket_in (Some p) = p.ticket
 
 -- the join at this place works on its least pending ticket
-module _ (plan : RunPlan) (limit : ℕ) (cells : List Cell) (made : IsMadeOf plan limit cells) (c : List ℕ) (u : List Out)
+module _ (plan : RunPlan) (limit : ℕ) (cells : List Cell) (made : IsMadeOf plan limit cells) (c : List ℕ) (halt : Bool) (u : List Out)
     (place : ℕ) (there : place < length cells) (work : Work) (ticket : ℕ) (P : JoinProbed (cell_at cells place).work work [] (found_outs (cell_at cells place).work ticket) ticket) where
   abbrev pub join : JoinView
   join = P.join
@@ -111,52 +111,52 @@ module _ (plan : RunPlan) (limit : ℕ) (cells : List Cell) (made : IsMadeOf pla
   elements-are : elements_out (found_outs (cell_at cells place).work ticket) ≡ map Tuple rows
   elements-are = ap (λ (w : Work). elements_out (found_outs w ticket)) P.was ∙ outs-rows rows
 
-  module _ (history : List Entry) (S : StandsFor (core_of plan limit cells c u None) history) where
+  module _ (history : List Entry) (S : StandsFor (core_of plan limit cells c halt u None) history) where
     abbrev pub late : List Entry
     late = history ++ plain (Taken place ticket) ∷ []
 
-    S-mid : StandsFor (core_of plan limit mid c u None) late
-    S-mid = takes plan limit cells made c u history S place there join P.was ticket P.takes.pending
+    S-mid : StandsFor (core_of plan limit mid c halt u None) late
+    S-mid = takes plan limit cells made c halt u history S place there join P.was ticket P.takes.pending
 
     are-rows : rows ≡ results_of (nodes_of plan) late place ticket
     are-rows =
-        let steps = own.steps plan limit cells made c u history S place there join P.was in
-        P.finds steps.0 (own.stands plan limit cells made c u history S place there join P.was)
+        let steps = own.steps plan limit cells made c halt u history S place there join P.was in
+        P.finds steps.0 (own.stands plan limit cells made c halt u history S place there join P.was)
         ∙ ap (λ (s : JoinState). map joined (results join.spec s.tuples s.tuples ticket)) (sym steps.2)
-        ∙ sym (own.results-are plan limit cells made c u history S place there join P.was ticket)
-        ∙ sym (results-stay plan limit cells made c u history S place there join P.was ticket P.takes.pending)
+        ∙ sym (own.results-are plan limit cells made c halt u history S place there join P.was ticket)
+        ∙ sym (results-stay plan limit cells made c halt u history S place there join P.was ticket P.takes.pending)
 
     pub ways : (o : Option ℕ) → GoBeyond (with_work cells place work peak) place (elements_out (found_outs (cell_at cells place).work ticket)) o → goes_beyond limit (nodes_of plan) late (Given place ticket) ≡ o
     ways o G =
-        give-beyond plan limit mid made-mid c u late S-mid place there-mid taken (ap (λ (x : Cell). x.work) at-mid) ticket P.takes.taken rows are-rows o
+        give-beyond plan limit mid made-mid c halt u late S-mid place there-mid taken (ap (λ (x : Cell). x.work) at-mid) ticket P.takes.taken rows are-rows o
         (subst (λ (xs : List Cell). GoBeyond xs place (map Tuple rows) o) behind-is (subst (λ (es : List Element). GoBeyond (with_work cells place work peak) place es o) elements-are G))
 
     within-take : goes_beyond limit (nodes_of plan) history (Taken place ticket) ≡ None
-    within-take = take-within plan limit cells made c u history S place there join P.was ticket P.takes.pending
+    within-take = take-within plan limit cells made c halt u history S place there join P.was ticket P.takes.pending
 
     pub starts : StartsWith (pending_at (nodes_from (nodes_of plan) history) place) ticket
     starts =
-        let J = own.J plan limit cells made c u history S place there join P.was in
-        let steps = own.steps plan limit cells made c u history S place there join P.was in
+        let J = own.J plan limit cells made c halt u history S place there join P.was in
+        let steps = own.steps plan limit cells made c halt u history S place there join P.was in
         let kept = J.kept ∙ ap kept_of steps.2 in
         let pending : pending_at (nodes_from (nodes_of plan) history) place ≡ join.kept.pending =
-        tickets-are cells (nodes_from (nodes_of plan) history) place (are plan limit cells made c u history S) there ∙ ap (λ (w : Work). tickets (kept_seen w)) P.was in
+        tickets-are cells (nodes_from (nodes_of plan) history) place (are plan limit cells made c halt u history S) there ∙ ap (λ (w : Work). tickets (kept_seen w)) P.was in
         headed place ticket (pending_at (nodes_from (nodes_of plan) history) place)
         (ap (λ (us : List ℕ). first_of place us None) pending
         ∙ first-least place join.kept.pending ticket (subst (λ (k : KeptState). AreAscending k.pending) (sym kept) (pending-ascends join.spec steps.0))
         (has-in join.kept.pending ticket P.takes.pending) P.takes.least)
 
     pub stands : (new : List Cell) (u' : List Out) → Climbs (record { cells = with_work cells place work peak; outs = u }) (record { cells = new; outs = u' }) place (elements_out (found_outs (cell_at cells place).work ticket))
-        → StaysAs (with_work cells place work peak) new → StandsFor (core_of plan limit new c u' None) (history ++ probes_at place (ticket ∷ []))
+        → StaysAs (with_work cells place work peak) new → StandsFor (core_of plan limit new c halt u' None) (history ++ probes_at place (ticket ∷ []))
     stands new u' C stays =
-        subst (StandsFor (core_of plan limit new c u' None)) (append_assoc history (plain (Taken place ticket) ∷ []) (plain (Given place ticket) ∷ []))
-        (gives plan limit mid made-mid c u late S-mid place there-mid taken (ap (λ (x : Cell). x.work) at-mid) ticket P.takes.taken rows are-rows new u'
+        subst (StandsFor (core_of plan limit new c halt u' None)) (append_assoc history (plain (Taken place ticket) ∷ []) (plain (Given place ticket) ∷ []))
+        (gives plan limit mid made-mid c halt u late S-mid place there-mid taken (ap (λ (x : Cell). x.work) at-mid) ticket P.takes.taken rows are-rows new u'
         (subst (λ (xs : List Cell). Climbs (record { cells = xs; outs = u }) (record { cells = new; outs = u' }) place (map Tuple rows)) behind-is
         (subst (λ (es : List Element). Climbs (record { cells = with_work cells place work peak; outs = u }) (record { cells = new; outs = u' }) place es) elements-are C))
         (subst (λ (xs : List Cell). StaysAs xs new) behind-is stays))
 
     pub stops : (cells' : List Cell) (node : ℕ) → GoBeyond (with_work cells place work peak) place (elements_out (found_outs (cell_at cells place).work ticket)) (Some node)
-        → StopsAtProbe (core_of plan limit cells c u None) (core_of plan limit cells' c u (Some (Limit node))) history place (Limit node)
+        → StopsAtProbe (core_of plan limit cells c halt u None) (core_of plan limit cells' c halt u (Some (Limit node))) history place (Limit node)
     stops cells' node G = record {
       ticket = ticket;
       others = starts.others;
@@ -166,12 +166,12 @@ module _ (plan : RunPlan) (limit : ℕ) (cells : List Cell) (made : IsMadeOf pla
       parts = refl;
       within = (within-take, tt);
       stops = ways (Some node) G;
-      stands = (stops-now plan limit mid cells' c c u (Limit node)).notes.stands late S-mid;
+      stands = (stops-now plan limit mid cells' c c halt u (Limit node)).notes.stands late S-mid;
     }
 
   pub probes-at : (new : List Cell) (u' : List Out) → Climbs (record { cells = with_work cells place work peak; outs = u }) (record { cells = new; outs = u' }) place (elements_out (found_outs (cell_at cells place).work ticket))
-      → StaysAs (with_work cells place work peak) new → kept_pending (core_of plan limit new c u' None) place < kept_pending (core_of plan limit cells c u None) place
-      → ProbesAt (core_of plan limit cells c u None) (core_of plan limit new c u' None) place
+      → StaysAs (with_work cells place work peak) new → kept_pending (core_of plan limit new c halt u' None) place < kept_pending (core_of plan limit cells c halt u None) place
+      → ProbesAt (core_of plan limit cells c halt u None) (core_of plan limit new c halt u' None) place
   probes-at new u' C stays fewer = record {
     plan = refl;
     limit = refl;
@@ -197,13 +197,13 @@ none-in : (ts : List ℕ) → length ts ≡ 0 → ts ≡ []
 none-in [] e = refl
 none-in (t ∷ ts) e = absurd (omega (arith, e))
 
-module _ (plan : RunPlan) (limit : ℕ) (cells : List Cell) (c : List ℕ) (u : List Out) (made : IsMadeOf plan limit cells) where
+module _ (plan : RunPlan) (limit : ℕ) (cells : List Cell) (c : List ℕ) (halt : Bool) (u : List Out) (made : IsMadeOf plan limit cells) where
   -- none is pending at the node
-  none-at : (place : ℕ) → pending_kept (kept_seen (cell_at cells place).work) ≡ 0 → (history : List Entry) → StandsFor (core_of plan limit cells c u None) history → pending_at (nodes_from (nodes_of plan) history) place ≡ []
+  none-at : (place : ℕ) → pending_kept (kept_seen (cell_at cells place).work) ≡ 0 → (history : List Entry) → StandsFor (core_of plan limit cells c halt u None) history → pending_at (nodes_from (nodes_of plan) history) place ≡ []
   none-at place e history S = go (cases_lt place (length cells))
     where
       A : AreAs cells (nodes_from (nodes_of plan) history)
-      A = are plan limit cells made c u history S
+      A = are plan limit cells made c halt u history S
 
       go : (place < length cells) ⊎ (length cells ≤ place) → pending_at (nodes_from (nodes_of plan) history) place ≡ []
       go (inl lt) = tickets-are cells (nodes_from (nodes_of plan) history) place A lt ∙ none-in (tickets (kept_seen (cell_at cells place).work)) (sym (pending-long (kept_seen (cell_at cells place).work)) ∙ e)
@@ -215,19 +215,19 @@ module _ (plan : RunPlan) (limit : ℕ) (cells : List Cell) (c : List ℕ) (u : 
           beyond (node ∷ nodes) (suc n) g = beyond nodes n (omega (arith, g))
 
   pub may-probe : (place : ℕ) (more : Bool) (new : List Cell) (u' : List Out) → ProbesOn more (record { cells = cells; outs = u }) (record { cells = new; outs = u' }) place
-      → MayProbeAt more (core_of plan limit cells c u None) (core_of plan limit new c u' None) place
+      → MayProbeAt more (core_of plan limit cells c halt u None) (core_of plan limit new c halt u' None) place
   may-probe place true new u' H =
-      probes-at plan limit cells made c u place H.there H.work H.ticket H.probed new u' H.climbs H.stays
+      probes-at plan limit cells made c halt u place H.there H.work H.ticket H.probed new u' H.climbs H.stays
       (let f = H.fewer in let a = kept-at cells place in let b = kept-at new place in omega (arith, f, a, b))
-  may-probe place false new u' H = (ap (λ (s : Scene). core_of plan limit s.cells c s.outs None) H.0, λ history S. none-at place H.1 history S)
+  may-probe place false new u' H = (ap (λ (s : Scene). core_of plan limit s.cells c halt s.outs None) H.0, λ history S. none-at place H.1 history S)
 
-  pub probe-stops : (place : ℕ) (cells' : List Cell) (stop : Stop) → IsProbeStop cells place stop → StopsProbe (core_of plan limit cells c u None) (core_of plan limit cells' c u (Some stop)) place stop
+  pub probe-stops : (place : ℕ) (cells' : List Cell) (stop : Stop) → IsProbeStop cells place stop → StopsProbe (core_of plan limit cells c halt u None) (core_of plan limit cells' c halt u (Some stop)) place stop
   probe-stops place cells' (Limit node) b = record {
     plan = refl;
     limit = refl;
     stopped = refl;
     undrained = refl;
-    stops = λ history S. stops plan limit cells made c u place b.there b.work b.ticket b.probed history S cells' node b.beyond;
+    stops = λ history S. stops plan limit cells made c halt u place b.there b.work b.ticket b.probed history S cells' node b.beyond;
   }
   probe-stops place cells' NoMemory b = record {
     plan = refl;
@@ -237,7 +237,7 @@ module _ (plan : RunPlan) (limit : ℕ) (cells : List Cell) (c : List ℕ) (u : 
     stops = λ history S.
         let T = some-in (pending_at (nodes_from (nodes_of plan) history) place)
         (let p = b.1 in let l = pending-long (kept_seen (cell_at cells place).work) in
-        let e = ap length (tickets-are cells (nodes_from (nodes_of plan) history) place (are plan limit cells made c u history S) b.0) in omega (arith, p, l, e)) in
+        let e = ap length (tickets-are cells (nodes_from (nodes_of plan) history) place (are plan limit cells made c halt u history S) b.0) in omega (arith, p, l, e)) in
         record {
           ticket = T.ticket;
           others = T.others;
@@ -248,8 +248,8 @@ module _ (plan : RunPlan) (limit : ℕ) (cells : List Cell) (c : List ℕ) (u : 
           within = tt;
           stops = tt;
           stands =
-              subst (λ (h : List Entry). StandsFor (core_of plan limit cells' c u (Some NoMemory)) (h ++ plain (Stopped NoMemory) ∷ [])) (sym (append-nil history))
-              ((stops-now plan limit cells cells' c c u NoMemory).notes.stands history S);
+              subst (λ (h : List Entry). StandsFor (core_of plan limit cells' c halt u (Some NoMemory)) (h ++ plain (Stopped NoMemory) ∷ [])) (sym (append-nil history))
+              ((stops-now plan limit cells cells' c c halt u NoMemory).notes.stands history S);
         };
   }
     where
@@ -257,8 +257,8 @@ module _ (plan : RunPlan) (limit : ℕ) (cells : List Cell) (c : List ℕ) (u : 
       some-in [] l = absurd (omega (arith, l))
       some-in (t ∷ ts) l = record { ticket = t; others = ts; is = refl }
 
-  pub probe-stops-now : (t : Option Stop) (old : CoreState) → core_of plan limit cells c u t ≡ old → t ≡ None → (place : ℕ) (cells' : List Cell) (u' : List Out) (stop : Stop) → u' ≡ u → IsProbeStop cells place stop
-      → StopsProbe old (core_of plan limit cells' c u' (Some stop)) place stop
+  pub probe-stops-now : (t : Option Stop) (old : CoreState) → core_of plan limit cells c halt u t ≡ old → t ≡ None → (place : ℕ) (cells' : List Cell) (u' : List Out) (stop : Stop) → u' ≡ u → IsProbeStop cells place stop
+      → StopsProbe old (core_of plan limit cells' c halt u' (Some stop)) place stop
   probe-stops-now t old is e place cells' u' stop outs b =
-      subst (λ (v : List Out). StopsProbe old (core_of plan limit cells' c v (Some stop)) place stop) (sym outs)
-      (subst (λ (o : CoreState). StopsProbe o (core_of plan limit cells' c u (Some stop)) place stop) (ap (core_of plan limit cells c u) (sym e) ∙ is) (probe-stops place cells' stop b))
+      subst (λ (v : List Out). StopsProbe old (core_of plan limit cells' c halt v (Some stop)) place stop) (sym outs)
+      (subst (λ (o : CoreState). StopsProbe o (core_of plan limit cells' c halt u (Some stop)) place stop) (ap (core_of plan limit cells c halt u) (sym e) ∙ is) (probe-stops place cells' stop b))

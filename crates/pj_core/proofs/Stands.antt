@@ -192,37 +192,37 @@ pub record Goes (trace : Bool) (old new : CoreKept) (cells cells' : List Cell) (
   pub peaks : (n : ℕ) → n < length cells → peak_seen (cell_at cells' n) ≡ max (peak_seen (cell_at cells n)) (stored_at (climb_of nodes entry.event).nodes n)
   pub closed : new.closed ≡ closed_after old.closed entry.closing entry.event
   pub undrained : new.undrained ≡ undrained_with old.undrained (handed_by trace nodes entry.event) entry.event
-  pub halts : halted_after false entry.event ≡ false
+  pub halts : new.halted ≡ halted_after old.halted entry.event
   pub stops : stop_after None entry.event ≡ None
 
-module _ (plan : RunPlan) (limit : ℕ) (cells : List Cell) (made : IsMadeOf plan limit cells) (c : List ℕ) (u : List Out) (history : List Entry) (S : StandsFor (core_of plan limit cells c u None) history) where
+module _ (plan : RunPlan) (limit : ℕ) (cells : List Cell) (made : IsMadeOf plan limit cells) (c : List ℕ) (halt : Bool) (u : List Out) (history : List Entry) (S : StandsFor (core_of plan limit cells c halt u None) history) where
   abbrev nodes : List Node
   nodes = nodes_from (nodes_of plan) history
 
-  pub kept-is : all_kept cells c u None ≡ core_kept plan.trace (nodes_of plan) history
+  pub kept-is : all_kept cells c halt u None ≡ core_kept plan.trace (nodes_of plan) history
   kept-is = S.stands.0 (sym S.stands.3)
 
   pub are : AreAs cells nodes
   are = are-as plan limit history made.0 S.legal cells made.2 (ap (λ (k : CoreKept). k.nodes) kept-is)
 
-  pub noted : (entry : Entry) (new : List Cell) (c' : List ℕ) (u' : List Out) → IsEntryAllowed (reached_of false (nodes_of plan) history) entry
-      → Goes plan.trace (all_kept cells c u None) (all_kept new c' u' None) cells new nodes entry → StandsFor (core_of plan limit new c' u' None) (history ++ entry ∷ [])
-  noted entry new c' u' allowed G = record {
+  pub noted : (entry : Entry) (new : List Cell) (c' : List ℕ) (halt' : Bool) (u' : List Out) → IsEntryAllowed (reached_of false (nodes_of plan) history) entry
+      → Goes plan.trace (all_kept cells c halt u None) (all_kept new c' halt' u' None) cells new nodes entry → StandsFor (core_of plan limit new c' halt' u' None) (history ++ entry ∷ [])
+  noted entry new c' halt' u' allowed G = record {
     legal = (grows-legally (nodes_of plan) history entry).1 (S.legal, allowed);
     stands = (λ _. K, ap (λ (k : CoreKept). k.undrained) K, ap (λ (k : CoreKept). k.halted) K, ap (λ (k : CoreKept). k.stop) K);
   }
     where
-      after-entry : all_kept new c' u' None ≡ kept_with plan.trace (all_kept cells c u None) nodes entry
+      after-entry : all_kept new c' halt' u' None ≡ kept_with plan.trace (all_kept cells c halt u None) nodes entry
       after-entry = λ i. record {
         nodes = same-kept new (climb_of nodes entry.event).nodes G.stands i;
         counts = counted-same count_seen count_seen cells new (climb_of nodes entry.event).brought (sym G.long) G.counts i;
         peaks = raised-same peak_seen peak_seen cells new (climb_of nodes entry.event).nodes (sym G.long) (sym G.long ∙ G.stands.long) G.peaks i;
         closed = G.closed i;
         undrained = G.undrained i;
-        halted = (sym G.halts) i;
+        halted = G.halts i;
         stop = (sym G.stops) i;
       }
 
-      K : all_kept new c' u' None ≡ core_kept plan.trace (nodes_of plan) (history ++ entry ∷ [])
+      K : all_kept new c' halt' u' None ≡ core_kept plan.trace (nodes_of plan) (history ++ entry ∷ [])
       K = after-entry ∙ ap (λ (k : CoreKept). kept_with plan.trace k nodes entry) kept-is
           ∙ sym ((adds-climb (nodes_of plan) (tree plan made.0) history entry).kept plan.trace (one-top plan made.0))

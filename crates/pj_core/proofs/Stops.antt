@@ -4,7 +4,7 @@ use Rattle.std.proofs.lemmas.List.{length-map, map-append}
 use Rattle.pj_plan.specs.Nodes.{is_join, streams_of}
 use Rattle.pj_events.specs.declared.events.Entry.{Entry}
 use Rattle.pj_events.specs.declared.events.Event.{Event}
-use Rattle.pj_events.specs.declared.events.Event.TheVariants.{Drain, Look, Stopped, Idle}
+use Rattle.pj_events.specs.declared.events.Event.TheVariants.{Drain, Halt, Look, Stopped, Idle}
 use Rattle.pj_events.specs.declared.events.Look.{Look as TheLook}
 use Rattle.pj_events.specs.declared.events.Out.{Out}
 use Rattle.pj_events.specs.declared.events.Stop.{Stop}
@@ -51,11 +51,11 @@ closed-same false nodes history = refl
 -- ---- behind a stop
 
 -- an entry that leaves a stop, and changes the outputs and the halt alone
-pub stop-entered : (plan : RunPlan) (l l' : ℕ) (cells cells' : List Cell) (c c' : List ℕ) (u u' : List Out) (t : Option Stop) (s : Stop) (history : List Entry) (event : Event)
-    → StandsFor (core_of plan l cells c u t) history → IsEntryAllowed (reached_of false (nodes_of plan) history) (plain event)
-    → u' ≡ undrained_after plan.trace (reached_of plan.trace (nodes_of plan) history) event → false ≡ halted_after false event → Some s ≡ stop_after t event
-    → StandsFor (core_of plan l' cells' c' u' (Some s)) (history ++ plain event ∷ [])
-stop-entered plan l l' cells cells' c c' u u' t s history event S m hu hh ht =
+pub stop-entered : (plan : RunPlan) (l l' : ℕ) (cells cells' : List Cell) (c c' : List ℕ) (halt halt' : Bool) (u u' : List Out) (t : Option Stop) (s : Stop) (history : List Entry) (event : Event)
+    → StandsFor (core_of plan l cells c halt u t) history → IsEntryAllowed (reached_of false (nodes_of plan) history) (plain event)
+    → u' ≡ undrained_after plan.trace (reached_of plan.trace (nodes_of plan) history) event → halt' ≡ halted_after halt event → Some s ≡ stop_after t event
+    → StandsFor (core_of plan l' cells' c' halt' u' (Some s)) (history ++ plain event ∷ [])
+stop-entered plan l l' cells cells' c c' halt halt' u u' t s history event S m hu hh ht =
     let r : reached_of plan.trace (nodes_of plan) (history ++ plain event ∷ []) ≡ next plan.trace (reached_of plan.trace (nodes_of plan) history) (plain event) = (adds-entry (nodes_of plan) history (plain event)).reached plan.trace in
     let stop : Some s ≡ (reached_of plan.trace (nodes_of plan) (history ++ plain event ∷ [])).stop =
     ht ∙ ap (λ (z : Option Stop). stop_after z event) S.stands.3 ∙ sym (ap (λ (z : Reached). z.stop) r) in
@@ -70,23 +70,23 @@ stop-entered plan l l' cells cells' c c' u u' t s history event S m hu hh ht =
     }
 
 -- the outputs behind an event that hands out nothing
-pub same-outs : (plan : RunPlan) (l : ℕ) (cells : List Cell) (c : List ℕ) (u : List Out) (t : Option Stop) (history : List Entry) (event : Event) → StandsFor (core_of plan l cells c u t) history
+pub same-outs : (plan : RunPlan) (l : ℕ) (cells : List Cell) (c : List ℕ) (halt : Bool) (u : List Out) (t : Option Stop) (history : List Entry) (event : Event) → StandsFor (core_of plan l cells c halt u t) history
     → ((ns : List Node) → step_of ns event ≡ Pass) → ((ns : List Node) → notes_of ns event ≡ [])
     → u ≡ (reached_of plan.trace (nodes_of plan) history).undrained ++ gained plan.trace (reached_of plan.trace (nodes_of plan) history).nodes event
-same-outs plan l cells c u t history event S pass none =
+same-outs plan l cells c halt u t history event S pass none =
     let ns = (reached_of plan.trace (nodes_of plan) history).nodes in
     sym (append-nil u) ∙ ap₂ (λ (xs ys : List Out). xs ++ ys) S.stands.1 (sym (silent plan.trace ns event (pass ns) (none ns)))
 
 -- the core stops now
-pub stops-now : (plan : RunPlan) (l : ℕ) (cells cells' : List Cell) (c c' : List ℕ) (u : List Out) (s : Stop) → StopsNow (core_of plan l cells c u None) (core_of plan l cells' c' u (Some s)) s
-stops-now plan l cells cells' c c' u s = record {
+pub stops-now : (plan : RunPlan) (l : ℕ) (cells cells' : List Cell) (c c' : List ℕ) (halt : Bool) (u : List Out) (s : Stop) → StopsNow (core_of plan l cells c halt u None) (core_of plan l cells' c' halt u (Some s)) s
+stops-now plan l cells cells' c c' halt u s = record {
   notes = record {
     plan = refl;
     limit = refl;
     stands = λ history S.
-        stop-entered plan l l cells cells' c c' u u None s history (Stopped s) S
+        stop-entered plan l l cells cells' c c' halt halt u u None s history (Stopped s) S
         (sym (stop-same plan.trace (nodes_of plan) history) ∙ sym S.stands.3, inl refl)
-        (same-outs plan l cells c u None history (Stopped s) S (λ ns. refl) (λ ns. refl)) refl refl;
+        (same-outs plan l cells c halt u None history (Stopped s) S (λ ns. refl) (λ ns. refl)) refl refl;
   };
   stopped = refl;
   undrained = refl;
@@ -96,34 +96,34 @@ pub off : (s : Stop) (r : Option Stop) → Some s ≡ r → r ≡ None → ⊥
 off s r p q = let e : Some s ≡ None = p ∙ q in cc
 
 -- a core that stopped stays as it is
-pub stays-stopped : (plan : RunPlan) (l : ℕ) (cells : List Cell) (c : List ℕ) (u : List Out) (s : Stop) → StaysStopped (core_of plan l cells c u (Some s)) (core_of plan l cells c u (Some s)) s s
-stays-stopped plan l cells c u s = record {
+pub stays-stopped : (plan : RunPlan) (l : ℕ) (cells : List Cell) (c : List ℕ) (halt : Bool) (u : List Out) (s : Stop) → StaysStopped (core_of plan l cells c halt u (Some s)) (core_of plan l cells c halt u (Some s)) s s
+stays-stopped plan l cells c halt u s = record {
   again = refl;
   stays = refl;
   notes = record {
     plan = refl;
     limit = refl;
     stands = λ history S.
-        stop-entered plan l l cells cells c c u u (Some s) s history Idle S
+        stop-entered plan l l cells cells c c halt halt u u (Some s) s history Idle S
         ((λ on. absurd (off s _ S.stands.3 (stop-same plan.trace (nodes_of plan) history ∙ on))), inl refl)
-        (same-outs plan l cells c u (Some s) history Idle S (λ ns. refl) (λ ns. refl)) refl refl;
+        (same-outs plan l cells c halt u (Some s) history Idle S (λ ns. refl) (λ ns. refl)) refl refl;
   };
 }
 
 -- ---- entries that leave the nodes as they are
 
-module _ (plan : RunPlan) (limit : ℕ) (cells : List Cell) (made : IsMadeOf plan limit cells) (c : List ℕ) (u : List Out) (history : List Entry) (S : StandsFor (core_of plan limit cells c u None) history) where
+module _ (plan : RunPlan) (limit : ℕ) (cells : List Cell) (made : IsMadeOf plan limit cells) (c : List ℕ) (halt : Bool) (u : List Out) (history : List Entry) (S : StandsFor (core_of plan limit cells c halt u None) history) where
   abbrev nodes : List Node
   nodes = nodes_from (nodes_of plan) history
 
   A : AreAs cells nodes
-  A = are plan limit cells made c u history S
+  A = are plan limit cells made c halt u history S
 
-  pub quiet-noted : (event : Event) (u' : List Out) → local_of event ≡ None → IsEntryAllowed (reached_of false (nodes_of plan) history) (plain event)
-      → c ≡ closed_after c 0 event → u' ≡ undrained_with u (handed_by plan.trace nodes event) event → halted_after false event ≡ false → stop_after None event ≡ None
-      → StandsFor (core_of plan limit cells c u' None) (history ++ plain event ∷ [])
-  quiet-noted event u' local may closed outs halts stops =
-      noted plan limit cells made c u history S (plain event) cells c u' may
+  pub quiet-noted : (event : Event) (halt' : Bool) (u' : List Out) → local_of event ≡ None → IsEntryAllowed (reached_of false (nodes_of plan) history) (plain event)
+      → c ≡ closed_after c 0 event → u' ≡ undrained_with u (handed_by plan.trace nodes event) event → halt' ≡ halted_after halt event → stop_after None event ≡ None
+      → StandsFor (core_of plan limit cells c halt' u' None) (history ++ plain event ∷ [])
+  quiet-noted event halt' u' local may closed outs halts stops =
+      noted plan limit cells made c halt u history S (plain event) cells c halt' u' may
       (record {
         long = refl;
         stands = subst (λ (k : Climbed). AreAs cells k.nodes) (sym climb-is) A;
@@ -166,9 +166,20 @@ module _ (plan : RunPlan) (limit : ℕ) (cells : List Cell) (made : IsMadeOf pla
 
 -- ---- drains
 
-pub notes-drain : (plan : RunPlan) (l : ℕ) (cells : List Cell) (c : List ℕ) (u : List Out) (t : Option Stop) → IsMadeOf plan l cells → Notes (core_of plan l cells c u t) (core_of plan l cells c [] t) (plain Drain)
-notes-drain plan l cells c u t made = record { plan = refl; limit = refl; stands = λ history S. go t history S }
+pub notes-drain : (plan : RunPlan) (l : ℕ) (cells : List Cell) (c : List ℕ) (halt : Bool) (u : List Out) (t : Option Stop) → IsMadeOf plan l cells → Notes (core_of plan l cells c halt u t) (core_of plan l cells c halt [] t) (plain Drain)
+notes-drain plan l cells c halt u t made = record { plan = refl; limit = refl; stands = λ history S. go t history S }
   where
-    go : (o : Option Stop) (history : List Entry) → StandsFor (core_of plan l cells c u o) history → StandsFor (core_of plan l cells c [] o) (history ++ plain Drain ∷ [])
-    go None history S = quiet-noted plan l cells made c u history S Drain [] refl (tt, inl refl) refl refl refl refl
-    go (Some s) history S = stop-entered plan l l cells cells c c u [] (Some s) s history Drain S (tt, inl refl) refl refl refl
+    go : (o : Option Stop) (history : List Entry) → StandsFor (core_of plan l cells c halt u o) history → StandsFor (core_of plan l cells c halt [] o) (history ++ plain Drain ∷ [])
+    go None history S = quiet-noted plan l cells made c halt u history S Drain halt [] refl (tt, inl refl) refl refl refl refl
+    go (Some s) history S = stop-entered plan l l cells cells c c halt halt u [] (Some s) s history Drain S (tt, inl refl) refl refl refl
+
+-- ---- halts
+
+pub notes-halt : (plan : RunPlan) (l : ℕ) (cells : List Cell) (c : List ℕ) (halt : Bool) (u : List Out) (t : Option Stop) → IsMadeOf plan l cells → Notes (core_of plan l cells c halt u t) (core_of plan l cells c true u t) (plain Halt)
+notes-halt plan l cells c halt u t made = record { plan = refl; limit = refl; stands = λ history S. go t history S }
+  where
+    go : (o : Option Stop) (history : List Entry) → StandsFor (core_of plan l cells c halt u o) history → StandsFor (core_of plan l cells c true u o) (history ++ plain Halt ∷ [])
+    go None history S = quiet-noted plan l cells made c halt u history S Halt true u refl (tt, inl refl) refl
+        (sym (ap (λ (outs : List Out). u ++ outs) (nothing-out plan l cells made c halt u history S Halt refl refl) ∙ append-nil u)) refl refl
+    go (Some s) history S = stop-entered plan l l cells cells c c halt true u u (Some s) s history Halt S (tt, inl refl)
+        (same-outs plan l cells c halt u (Some s) history Halt S (λ ns. refl) (λ ns. refl)) refl refl

@@ -88,7 +88,7 @@ up-same join s input k =
 
 -- ---- behind a history
 
-module _ (plan : RunPlan) (limit : ℕ) (cells : List Cell) (made : IsMadeOf plan limit cells) (c : List ℕ) (u : List Out) (history : List Entry) (S : StandsFor (core_of plan limit cells c u None) history)
+module _ (plan : RunPlan) (limit : ℕ) (cells : List Cell) (made : IsMadeOf plan limit cells) (c : List ℕ) (halt : Bool) (u : List Out) (history : List Entry) (S : StandsFor (core_of plan limit cells c halt u None) history)
     (place : ℕ) (there : place < length cells) (join : JoinView) (at : (cell_at cells place).work ≡ JoinCell join) (input : ℕ) (lt : input < inputs join.spec) where
   abbrev nodes : List Node
   nodes = nodes_from (nodes_of plan) history
@@ -97,15 +97,15 @@ module _ (plan : RunPlan) (limit : ℕ) (cells : List Cell) (made : IsMadeOf pla
   mid = with_work cells place (JoinCell (after join (Sweep input))) (peak_seen (cell_at cells place))
 
   abbrev state-of : IsJoinWith join (operator_at nodes place)
-  state-of = own.J plan limit cells made c u history S place there join at
+  state-of = own.J plan limit cells made c halt u history S place there join at
 
   sweep-steps : Steps cells mid nodes place (Own (Sweep input))
   sweep-steps =
-      own.own-steps plan limit cells made c u history S place there join at (Swept place input) (Sweep input) (peak_seen (cell_at cells place)) refl refl tt
-      (own.sweep-allowed plan limit cells made c u history S place there join at input lt) (inr refl)
+      own.own-steps plan limit cells made c halt u history S place there join at (Swept place input) (Sweep input) (peak_seen (cell_at cells place)) refl refl tt
+      (own.sweep-allowed plan limit cells made c halt u history S place there join at input lt) (inr refl)
 
   handed : hands (operator_at nodes place) (Own (Sweep input)) ≡ map Punct (puncts_up join (Sweep input))
-  handed = own.handed-own plan limit cells made c u history S place there join at (Sweep input) ∙ up-same join state-of.state input state-of.kept
+  handed = own.handed-own plan limit cells made c halt u history S place there join at (Sweep input) ∙ up-same join state-of.state input state-of.kept
 
   noted-rows : notes_of nodes (Swept place input) ≡ map (Purged place input) (rows_off join input)
   noted-rows =
@@ -115,10 +115,10 @@ module _ (plan : RunPlan) (limit : ℕ) (cells : List Cell) (made : IsMadeOf pla
       (sym (off-same join.spec state-of.state input) ∙ ap (λ (q : KeptState). off join.spec q input) (sym state-of.kept))
 
   pub sweeps : (new : List Cell) (u' : List Out) → Climbs (record { cells = mid; outs = u ++ notes_out plan.trace place input (rows_off join input) }) (record { cells = new; outs = u' }) place (map Punct (puncts_up join (Sweep input)))
-      → StaysAs mid new → StandsFor (core_of plan limit new c u' None) (history ++ plain (Swept place input) ∷ [])
+      → StaysAs mid new → StandsFor (core_of plan limit new c halt u' None) (history ++ plain (Swept place input) ∷ [])
   sweeps new u' C stays =
-      note plan limit cells made c u history S (Swept place input) place (Own (Sweep input)) refl refl mid sweep-steps new c (u ++ notes_out plan.trace place input (rows_off join input)) u' 0
-      (own.sweep-allowed plan limit cells made c u history S place there join at input lt) (ap (λ (outs : List Out). u ++ outs) (traced plan.trace))
+      note plan limit cells made c halt u history S (Swept place input) place (Own (Sweep input)) refl refl mid sweep-steps new c (u ++ notes_out plan.trace place input (rows_off join input)) u' 0
+      (own.sweep-allowed plan limit cells made c halt u history S place there join at input lt) (ap (λ (outs : List Out). u ++ outs) (traced plan.trace))
       (subst (λ (es : List Element). Climbs (record { cells = mid; outs = u ++ notes_out plan.trace place input (rows_off join input) }) (record { cells = new; outs = u' }) place es) (sym handed) C)
       stays refl (λ old more. refl) refl refl
     where
@@ -128,7 +128,7 @@ module _ (plan : RunPlan) (limit : ℕ) (cells : List Cell) (made : IsMadeOf pla
 
   pub sweep-beyond : (o : Option ℕ) → GoBeyond mid place (map Punct (puncts_up join (Sweep input))) o → goes_beyond limit (nodes_of plan) history (Swept place input) ≡ o
   sweep-beyond o G =
-      beyond-is plan limit cells made c u history S (Swept place input) place (Own (Sweep input)) refl refl mid sweep-steps o
+      beyond-is plan limit cells made c halt u history S (Swept place input) place (Own (Sweep input)) refl refl mid sweep-steps o
       (subst (λ (es : List Element). GoBeyond mid place es o) (sym handed) G)
 
   pub removes : length (swept_off join input) + stored_at (nodes_by nodes (Swept place input)) place ≡ stored_at nodes place
@@ -142,11 +142,11 @@ module _ (plan : RunPlan) (limit : ℕ) (cells : List Cell) (made : IsMadeOf pla
       omega (arith, h, before, behind)
     where
       A : AreAs cells nodes
-      A = own.A plan limit cells made c u history S place there join at
+      A = own.A plan limit cells made c halt u history S place there join at
 
 -- ---- calls
 
-module _ (plan : RunPlan) (limit : ℕ) (cells : List Cell) (c : List ℕ) (u : List Out) (place input : ℕ) (made : IsMadeOf plan limit cells) (there : place < length cells)
+module _ (plan : RunPlan) (limit : ℕ) (cells : List Cell) (c : List ℕ) (halt : Bool) (u : List Out) (place input : ℕ) (made : IsMadeOf plan limit cells) (there : place < length cells)
     (lt : (join : JoinView) → (cell_at cells place).work ≡ JoinCell join → input < inputs join.spec) where
   abbrev scene : List Cell → List Out → Scene
   scene xs outs = record { cells = xs; outs = outs }
@@ -155,19 +155,19 @@ module _ (plan : RunPlan) (limit : ℕ) (cells : List Cell) (c : List ℕ) (u : 
   at-place cell off W = ap (set cells place) W.is
 
   pub has-swept : (new : List Cell) (u' : List Out) (count : ℕ) → HasSweptAt plan.trace (scene cells u) (scene new u') place input count
-      → HasSwept (core_of plan limit cells c u None) (core_of plan limit new c u' None) place input count
+      → HasSwept (core_of plan limit cells c halt u None) (core_of plan limit new c halt u' None) place input count
   has-swept new u' count H = record {
     on = (refl, refl);
     notes = record {
       plan = refl;
       limit = refl;
       stands = λ history S.
-          sweeps plan limit cells made c u history S place there W.join W.was input (lt W.join W.was) new u' climbs (subst (λ (xs : List Cell). StaysAs xs new) mid-is H.stays);
+          sweeps plan limit cells made c halt u history S place there W.join W.was input (lt W.join W.was) new u' climbs (subst (λ (xs : List Cell). StaysAs xs new) mid-is H.stays);
     };
     within = λ history S.
-        sweep-beyond plan limit cells made c u history S place there W.join W.was input (lt W.join W.was) None climbs.within;
+        sweep-beyond plan limit cells made c halt u history S place there W.join W.was input (lt W.join W.was) None climbs.within;
     removes = λ history S.
-        let r = removes plan limit cells made c u history S place there W.join W.was input (lt W.join W.was) in
+        let r = removes plan limit cells made c halt u history S place there W.join W.was input (lt W.join W.was) in
         let e = H.counts ∙ W.count in
         omega (arith, r, e);
   }
@@ -184,9 +184,9 @@ module _ (plan : RunPlan) (limit : ℕ) (cells : List Cell) (c : List ℕ) (u : 
           (subst (λ (rows : List (List Value)). Climbs (scene (with_work cells place (JoinCell (after W.join (Sweep input))) (peak_seen (cell_at cells place))) (u ++ notes_out plan.trace place input rows)) (scene new u') place (map Punct H.swept.puncts)) W.removed
           (subst (λ (xs : List Cell). Climbs (scene xs (u ++ notes_out plan.trace place input H.swept.removed)) (scene new u') place (map Punct H.swept.puncts)) mid-is H.climbs))
 
-  pub sweep-stop : (stop : Stop) → IsSweepStop plan.trace (scene cells u) place input stop → IsCause (core_of plan limit cells c u None) (Swept place input) stop
+  pub sweep-stop : (stop : Stop) → IsSweepStop plan.trace (scene cells u) place input stop → IsCause (core_of plan limit cells c halt u None) (Swept place input) stop
   sweep-stop (Limit node) b = λ history S.
-      sweep-beyond plan limit cells made c u history S place there b.sweeps.join b.sweeps.was input (lt b.sweeps.join b.sweeps.was) (Some node)
+      sweep-beyond plan limit cells made c halt u history S place there b.sweeps.join b.sweeps.was input (lt b.sweeps.join b.sweeps.was) (Some node)
       (subst (λ (ps : List (List Pattern)). GoBeyond (with_work cells place (JoinCell (after b.sweeps.join (Sweep input))) (peak_seen (cell_at cells place))) place (map Punct ps) (Some node)) b.sweeps.puncts
       (subst (λ (xs : List Cell). GoBeyond xs place (map Punct b.swept.puncts) (Some node)) (at-place b.cell b.swept b.sweeps) b.beyond))
   sweep-stop NoMemory b = tt

@@ -137,7 +137,7 @@ join-here plan limit cells made place lt join at =
     (let l = sym (length-map cells frame_of) ∙ ap length made.2 ∙ long-of plan limit in omega (arith, lt, l))
     (ap (λ (fs : List Frame). (frame_at fs place).kind) (sym made.2) ∙ ap (λ (f : Frame). f.kind) (frame-at cells place) ∙ ap kind_of at)
 
-module _ (plan : RunPlan) (limit : ℕ) (cells : List Cell) (made : IsMadeOf plan limit cells) (c : List ℕ) (u : List Out) (history : List Entry) (S : StandsFor (core_of plan limit cells c u None) history)
+module _ (plan : RunPlan) (limit : ℕ) (cells : List Cell) (made : IsMadeOf plan limit cells) (c : List ℕ) (halt : Bool) (u : List Out) (history : List Entry) (S : StandsFor (core_of plan limit cells c halt u None) history)
     (place : ℕ) (there : place < length cells) (join : JoinView) (at : (cell_at cells place).work ≡ JoinCell join) where
   abbrev nodes : List Node
   nodes = nodes_from (nodes_of plan) history
@@ -146,20 +146,20 @@ module _ (plan : RunPlan) (limit : ℕ) (cells : List Cell) (made : IsMadeOf pla
   peak = (cell_at cells place).peak
 
   abbrev state-of : IsJoinWith join (operator_at nodes place)
-  state-of = own.J plan limit cells made c u history S place there join at
+  state-of = own.J plan limit cells made c halt u history S place there join at
 
   take-steps : (t : ℕ) → has join.kept.pending t ≡ true → Steps cells (with_work cells place (JoinCell (after join (Take t))) peak) nodes place (Own (Take t))
   take-steps t p =
-      own.own-steps plan limit cells made c u history S place there join at (Taken place t) (Take t) peak refl refl tt
-      (own.take-allowed plan limit cells made c u history S place there join at t p)
-      (inl (refl, let a = own.stored-before plan limit cells made c u history S place there join at in let b = own.stored-own plan limit cells made c u history S place there join at (Take t) in omega (arith, a, b)))
+      own.own-steps plan limit cells made c halt u history S place there join at (Taken place t) (Take t) peak refl refl tt
+      (own.take-allowed plan limit cells made c halt u history S place there join at t p)
+      (inl (refl, let a = own.stored-before plan limit cells made c halt u history S place there join at in let b = own.stored-own plan limit cells made c halt u history S place there join at (Take t) in omega (arith, a, b)))
 
-  pub takes : (t : ℕ) → has join.kept.pending t ≡ true → StandsFor (core_of plan limit (with_work cells place (JoinCell (after join (Take t))) peak) c u None) (history ++ plain (Taken place t) ∷ [])
+  pub takes : (t : ℕ) → has join.kept.pending t ≡ true → StandsFor (core_of plan limit (with_work cells place (JoinCell (after join (Take t))) peak) c halt u None) (history ++ plain (Taken place t) ∷ [])
   takes t p =
-      note plan limit cells made c u history S (Taken place t) place (Own (Take t)) refl refl mid (take-steps t p) mid c u u 0
-      (own.take-allowed plan limit cells made c u history S place there join at t p) (silent plan.trace)
+      note plan limit cells made c halt u history S (Taken place t) place (Own (Take t)) refl refl mid (take-steps t p) mid c u u 0
+      (own.take-allowed plan limit cells made c halt u history S place there join at t p) (silent plan.trace)
       (subst (λ (es : List Element). Climbs (record { cells = mid; outs = u }) (record { cells = mid; outs = u }) place es)
-      (sym (own.handed-own plan limit cells made c u history S place there join at (Take t))) (climbs-none (record { cells = mid; outs = u }) place))
+      (sym (own.handed-own plan limit cells made c halt u history S place there join at (Take t))) (climbs-none (record { cells = mid; outs = u }) place))
       (stays-none mid) refl (λ old more. refl) refl refl
     where
       mid : List Cell
@@ -171,8 +171,8 @@ module _ (plan : RunPlan) (limit : ℕ) (cells : List Cell) (made : IsMadeOf pla
 
   pub take-within : (t : ℕ) → has join.kept.pending t ≡ true → goes_beyond limit (nodes_of plan) history (Taken place t) ≡ None
   take-within t p =
-      beyond-is plan limit cells made c u history S (Taken place t) place (Own (Take t)) refl refl mid (take-steps t p) None
-      (subst (λ (es : List Element). GoBeyond mid place es None) (sym (own.handed-own plan limit cells made c u history S place there join at (Take t)))
+      beyond-is plan limit cells made c halt u history S (Taken place t) place (Own (Take t)) refl refl mid (take-steps t p) None
+      (subst (λ (es : List Element). GoBeyond mid place es None) (sym (own.handed-own plan limit cells made c halt u history S place there join at (Take t)))
       (climbs-none (record { cells = mid; outs = u }) place).within)
     where
       mid : List Cell
@@ -182,15 +182,15 @@ module _ (plan : RunPlan) (limit : ℕ) (cells : List Cell) (made : IsMadeOf pla
   pub results-stay : (t : ℕ) → has join.kept.pending t ≡ true → results_of (nodes_of plan) (history ++ plain (Taken place t) ∷ []) place t ≡ results_of (nodes_of plan) history place t
   results-stay t p =
       ap (λ (o : Operator). map joined (results (data_at (nodes_of plan) place) (state_in o).tuples (state_in o).tuples t))
-      (own.later plan limit cells made c u history S place there join at (Taken place t) (Take t) refl refl (own.take-allowed plan limit cells made c u history S place there join at t p)
+      (own.later plan limit cells made c halt u history S place there join at (Taken place t) (Take t) refl refl (own.take-allowed plan limit cells made c halt u history S place there join at t p)
       ∙ ap (λ (o : Operator). after_local o (Own (Take t))) state-of.is)
       ∙ sym (ap (λ (o : Operator). map joined (results (data_at (nodes_of plan) place) (state_in o).tuples (state_in o).tuples t)) state-of.is)
 
   give-steps : (t : ℕ) → IsTaken join.kept t → Steps cells (with_work cells place (JoinCell (after join (Give t))) peak) nodes place (Own (Give t))
   give-steps t p =
-      own.own-steps plan limit cells made c u history S place there join at (Given place t) (Give t) peak refl refl tt
-      (own.give-allowed plan limit cells made c u history S place there join at t p)
-      (inl (refl, let a = own.stored-before plan limit cells made c u history S place there join at in let b = own.stored-own plan limit cells made c u history S place there join at (Give t) in omega (arith, a, b)))
+      own.own-steps plan limit cells made c halt u history S place there join at (Given place t) (Give t) peak refl refl tt
+      (own.give-allowed plan limit cells made c halt u history S place there join at t p)
+      (inl (refl, let a = own.stored-before plan limit cells made c halt u history S place there join at in let b = own.stored-own plan limit cells made c halt u history S place there join at (Give t) in omega (arith, a, b)))
 
   module _ (t : ℕ) (p : IsTaken join.kept t) (rows : List (List Value)) (are : rows ≡ results_of (nodes_of plan) history place t) where
     abbrev mid : List Cell
@@ -198,19 +198,19 @@ module _ (plan : RunPlan) (limit : ℕ) (cells : List Cell) (made : IsMadeOf pla
 
     handed : hands (operator_at nodes place) (Own (Give t)) ≡ map Tuple rows
     handed =
-        own.handed-own plan limit cells made c u history S place there join at (Give t)
+        own.handed-own plan limit cells made c halt u history S place there join at (Give t)
         ∙ both (results join.spec state-of.state.tuples state-of.state.tuples t)
-        ∙ ap (map Tuple) (sym (are ∙ own.results-are plan limit cells made c u history S place there join at t))
+        ∙ ap (map Tuple) (sym (are ∙ own.results-are plan limit cells made c halt u history S place there join at t))
       where
         both : (cs : List (List TupleAt)) → map (λ c. Tuple (joined c)) cs ≡ map Tuple (map joined cs)
         both [] = refl
         both (x ∷ cs) = ap (λ (es : List Element). Tuple (joined x) ∷ es) (both cs)
 
     pub gives : (new : List Cell) (u' : List Out) → Climbs (record { cells = mid; outs = u }) (record { cells = new; outs = u' }) place (map Tuple rows) → StaysAs mid new
-        → StandsFor (core_of plan limit new c u' None) (history ++ plain (Given place t) ∷ [])
+        → StandsFor (core_of plan limit new c halt u' None) (history ++ plain (Given place t) ∷ [])
     gives new u' C stays =
-        note plan limit cells made c u history S (Given place t) place (Own (Give t)) refl refl mid (give-steps t p) new c u u' 0
-        (own.give-allowed plan limit cells made c u history S place there join at t p) (silent plan.trace)
+        note plan limit cells made c halt u history S (Given place t) place (Own (Give t)) refl refl mid (give-steps t p) new c u u' 0
+        (own.give-allowed plan limit cells made c halt u history S place there join at t p) (silent plan.trace)
         (subst (λ (es : List Element). Climbs (record { cells = mid; outs = u }) (record { cells = new; outs = u' }) place es) (sym handed) C)
         stays refl (λ old more. refl) refl refl
       where
@@ -220,31 +220,31 @@ module _ (plan : RunPlan) (limit : ℕ) (cells : List Cell) (made : IsMadeOf pla
 
     pub give-beyond : (o : Option ℕ) → GoBeyond mid place (map Tuple rows) o → goes_beyond limit (nodes_of plan) history (Given place t) ≡ o
     give-beyond o G =
-        beyond-is plan limit cells made c u history S (Given place t) place (Own (Give t)) refl refl mid (give-steps t p) o
+        beyond-is plan limit cells made c halt u history S (Given place t) place (Own (Give t)) refl refl mid (give-steps t p) o
         (subst (λ (es : List Element). GoBeyond mid place es o) (sym handed) G)
 
 -- ---- calls
 
 -- a ticket was taken at the first node that has one pending
-pub takes-next : (plan : RunPlan) (limit : ℕ) (cells new : List Cell) (c : List ℕ) (u : List Out) (found : Found) → IsMadeOf plan limit cells → FirstTook cells new found
-    → TakesNext (core_of plan limit cells c u None) (core_of plan limit new c u None) found
-takes-next plan limit cells new c u found made F =
-    subst (λ (cells' : List Cell). TakesNext (core_of plan limit cells c u None) (core_of plan limit cells' c u None) found) (sym changes)
+pub takes-next : (plan : RunPlan) (limit : ℕ) (cells new : List Cell) (c : List ℕ) (halt : Bool) (u : List Out) (found : Found) → IsMadeOf plan limit cells → FirstTook cells new found
+    → TakesNext (core_of plan limit cells c halt u None) (core_of plan limit new c halt u None) found
+takes-next plan limit cells new c halt u found made F =
+    subst (λ (cells' : List Cell). TakesNext (core_of plan limit cells c halt u None) (core_of plan limit cells' c halt u None) found) (sym changes)
     (record {
       next = λ history S. next history S;
       finds = λ history S. finds history S;
       keeps = λ history S.
           finds history S
           ∙ sym (ap (λ (n : ℕ). results_of (nodes_of plan) (history ++ plain (Taken n found.ticket) ∷ []) n found.ticket) joins
-          ∙ results-stay plan limit cells made c u history S F.place F.there join F.took.was found.ticket F.took.takes.pending
+          ∙ results-stay plan limit cells made c halt u history S F.place F.there join F.took.was found.ticket F.took.takes.pending
           ∙ ap (λ (n : ℕ). results_of (nodes_of plan) history n found.ticket) (sym joins));
       opens = opens;
       notes = record {
         plan = refl;
         limit = refl;
         stands = λ history S.
-            subst (λ (n : ℕ). StandsFor (core_of plan limit mid c u None) (history ++ plain (Taken n found.ticket) ∷ [])) (sym joins)
-            (takes plan limit cells made c u history S F.place F.there join F.took.was found.ticket F.took.takes.pending);
+            subst (λ (n : ℕ). StandsFor (core_of plan limit mid c halt u None) (history ++ plain (Taken n found.ticket) ∷ [])) (sym joins)
+            (takes plan limit cells made c halt u history S F.place F.there join F.took.was found.ticket F.took.takes.pending);
       };
       on = refl;
       undrained = refl;
@@ -266,7 +266,7 @@ takes-next plan limit cells new c u found made F =
     fewer : pending_kept (kept_seen (JoinCell (after join (Take found.ticket)))) < pending_kept (kept_seen (cell_at cells F.place).work)
     fewer = subst (λ (w : Work). length (without join.kept.pending found.ticket) < pending_kept (kept_seen w)) (sym F.took.was) (fewer-without join.kept.pending found.ticket F.took.takes.pending)
 
-    opens : IsOpen (core_of plan limit mid c u None) found
+    opens : IsOpen (core_of plan limit mid c halt u None) found
     opens =
         subst (λ (n : ℕ). IsTakenIn (get_or (map (λ (x : Cell). kept_seen x.work) mid) n NothingKept) found.ticket) (sym joins)
         (subst (λ (k : KeptOperator). IsTakenIn k found.ticket)
@@ -276,20 +276,20 @@ takes-next plan limit cells new c u found made F =
         cell : Cell
         cell = record (cell_at cells F.place) { work = JoinCell (after join (Take found.ticket)) }
 
-    finds : (history : List Entry) → StandsFor (core_of plan limit cells c u None) history → found.rows ≡ results_of (nodes_of plan) history found.join found.ticket
+    finds : (history : List Entry) → StandsFor (core_of plan limit cells c halt u None) history → found.rows ≡ results_of (nodes_of plan) history found.join found.ticket
     finds history S =
-        let J = own.J plan limit cells made c u history S F.place F.there join F.took.was in
-        let steps = own.steps plan limit cells made c u history S F.place F.there join F.took.was in
-        F.took.finds steps.0 (own.stands plan limit cells made c u history S F.place F.there join F.took.was)
+        let J = own.J plan limit cells made c halt u history S F.place F.there join F.took.was in
+        let steps = own.steps plan limit cells made c halt u history S F.place F.there join F.took.was in
+        F.took.finds steps.0 (own.stands plan limit cells made c halt u history S F.place F.there join F.took.was)
         ∙ ap (λ (s : JoinState). map joined (results join.spec s.tuples s.tuples found.ticket)) (sym steps.2)
-        ∙ sym (own.results-are plan limit cells made c u history S F.place F.there join F.took.was found.ticket)
+        ∙ sym (own.results-are plan limit cells made c halt u history S F.place F.there join F.took.was found.ticket)
         ∙ ap (λ (n : ℕ). results_of (nodes_of plan) history n found.ticket) (sym joins)
 
-    next : (history : List Entry) → StandsFor (core_of plan limit cells c u None) history → next_probe (nodes_from (nodes_of plan) history) ≡ Some (record { join = found.join; ticket = found.ticket })
+    next : (history : List Entry) → StandsFor (core_of plan limit cells c halt u None) history → next_probe (nodes_from (nodes_of plan) history) ≡ Some (record { join = found.join; ticket = found.ticket })
     next history S =
-        let A = are plan limit cells made c u history S in
-        let J = own.J plan limit cells made c u history S F.place F.there join F.took.was in
-        let steps = own.steps plan limit cells made c u history S F.place F.there join F.took.was in
+        let A = are plan limit cells made c halt u history S in
+        let J = own.J plan limit cells made c halt u history S F.place F.there join F.took.was in
+        let steps = own.steps plan limit cells made c halt u history S F.place F.there join F.took.was in
         let pending : pending_at (nodes_from (nodes_of plan) history) F.place ≡ join.kept.pending =
         tickets-are cells (nodes_from (nodes_of plan) history) F.place A F.there ∙ ap (λ (w : Work). tickets (kept_seen w)) F.took.was in
         let kept = J.kept ∙ ap kept_of steps.2 in
@@ -310,7 +310,7 @@ open-kept [] n t h = h
 open-kept (x ∷ cells) zero t h = h
 open-kept (x ∷ cells) (suc n) t h = open-kept cells n t h
 
-module _ (plan : RunPlan) (limit : ℕ) (cells : List Cell) (c : List ℕ) (u : List Out) (probe found : Found) (work : Work) (made : IsMadeOf plan limit cells)
+module _ (plan : RunPlan) (limit : ℕ) (cells : List Cell) (c : List ℕ) (halt : Bool) (u : List Out) (probe found : Found) (work : Work) (made : IsMadeOf plan limit cells)
     (there : probe.join < length cells) (taken : IsTakenIn (kept_seen (cell_at cells probe.join).work) probe.ticket) (acts : JoinActs (cell_at cells probe.join).work work (Give probe.ticket)) where
   abbrev given : List Cell
   given = with_work cells probe.join work (cell_at cells probe.join).peak
@@ -323,22 +323,22 @@ module _ (plan : RunPlan) (limit : ℕ) (cells : List Cell) (c : List ℕ) (u : 
 
   -- the ticket was given, and the rows climbed
   pub has-given : (new : List Cell) (u' : List Out) → Climbs (record { cells = given; outs = u }) (record { cells = new; outs = u' }) probe.join (map Tuple found.rows) → StaysAs given new
-      → HasGiven (core_of plan limit cells c u None) (core_of plan limit new c u' None) probe found
+      → HasGiven (core_of plan limit cells c halt u None) (core_of plan limit new c halt u' None) probe found
   has-given new u' C stays = record {
     on = (refl, refl);
     plan = refl;
     limit = refl;
     within = λ history S are.
-        give-beyond plan limit cells made c u history S probe.join there acts.join acts.was probe.ticket taken-there found.rows are None
+        give-beyond plan limit cells made c halt u history S probe.join there acts.join acts.was probe.ticket taken-there found.rows are None
         (subst (λ (cells' : List Cell). GoBeyond cells' probe.join (map Tuple found.rows) None) same C.within);
     stands = λ history S are.
-        gives plan limit cells made c u history S probe.join there acts.join acts.was probe.ticket taken-there found.rows are new u'
+        gives plan limit cells made c halt u history S probe.join there acts.join acts.was probe.ticket taken-there found.rows are new u'
         (subst (λ (cells' : List Cell). Climbs (record { cells = cells'; outs = u }) (record { cells = new; outs = u' }) probe.join (map Tuple found.rows)) same C)
         (subst (λ (cells' : List Cell). StaysAs cells' new) same stays);
   }
 
-  pub give-stop : (stop : Stop) → IsClimbStop given probe.join (map Tuple found.rows) stop → IsGiveCause (core_of plan limit cells c u None) probe found stop
+  pub give-stop : (stop : Stop) → IsClimbStop given probe.join (map Tuple found.rows) stop → IsGiveCause (core_of plan limit cells c halt u None) probe found stop
   give-stop (Limit node) g = λ history S are.
-      give-beyond plan limit cells made c u history S probe.join there acts.join acts.was probe.ticket taken-there found.rows are (Some node)
+      give-beyond plan limit cells made c halt u history S probe.join there acts.join acts.was probe.ticket taken-there found.rows are (Some node)
       (subst (λ (cells' : List Cell). GoBeyond cells' probe.join (map Tuple found.rows) (Some node)) same g)
   give-stop NoMemory g = tt

@@ -1,12 +1,12 @@
 -- What the calls of a core answer, as its parts are seen.
-use Rattle.std.proofs.Common.{ℕ, max, ◌<◌, ◌≤◌, ◌++◌, ◌∷◌, [], List, ◌≡◌, Option, Some, None, length, get_or, refl, sym, ap, ◌∙◌, subst, arith}
+use Rattle.std.proofs.Common.{true, Bool, ℕ, max, ◌<◌, ◌≤◌, ◌++◌, ◌∷◌, [], List, ◌≡◌, Option, Some, None, length, get_or, refl, sym, ap, ◌∙◌, subst, arith}
 use Rattle.std.proofs.lemmas.List.{get_or_default, length-map}
 use Rattle.pj_plan.specs.Nodes.{streams_of}
 use Rattle.pj_events.specs.declared.events.Out.{Out}
 use Rattle.pj_events.specs.declared.events.Stop.{Stop}
 use Rattle.pj_events.specs.OneThread.{Turn, arrival_of, plain}
 use Rattle.pj_events.specs.History.{closed_after}
-use Rattle.pj_events.specs.declared.events.Event.TheVariants.{Arrive, Drain}
+use Rattle.pj_events.specs.declared.events.Event.TheVariants.{Arrive, Drain, Halt}
 use Rattle.pj_pattern.specs.declared.element.Element.{Element}
 use Rattle.pj_join.specs.declared.found.Found.{Found}
 use Rattle.pj_events.specs.declared.events.Look.{Look as TheLook}
@@ -23,11 +23,11 @@ use Rattle.pj_core.proofs.Arrivals.{arrival-stop, arrived}
 use Rattle.pj_core.proofs.Frames.{links-of, long-of}
 use Rattle.pj_core.proofs.Looking.{HasNumbers, are_few, is-look, is-peak}
 use Rattle.pj_core.proofs.Streams.{streams-few}
-use Rattle.pj_core.proofs.Stops.{notes-drain, stays-stopped, stops-now}
+use Rattle.pj_core.proofs.Stops.{notes-drain, notes-halt, stays-stopped, stops-now}
 use Rattle.pj_core.proofs.Takes.{open-kept, open-there}
 
 -- a core with these parts
-module _ (plan : RunPlan) (limit : ℕ) (cells : List Cell) (c : List ℕ) (u : List Out) (t : Option Stop) (old : CoreState) (is : core_of plan limit cells c u t ≡ old) (made : IsMadeOf plan limit cells) where
+module _ (plan : RunPlan) (limit : ℕ) (cells : List Cell) (c : List ℕ) (halt : Bool) (u : List Out) (t : Option Stop) (old : CoreState) (is : core_of plan limit cells c halt u t ≡ old) (made : IsMadeOf plan limit cells) where
   pub long : length cells ≡ length plan.nodes
   long = sym (length-map cells frame_of) ∙ ap length made.2 ∙ long-of plan limit
 
@@ -37,14 +37,14 @@ module _ (plan : RunPlan) (limit : ℕ) (cells : List Cell) (c : List ℕ) (u : 
   -- the stop that was answered before
   pub refused-again : (s : Stop) (cause : Type 0) → t ≡ Some s → IsRefused old.kept.stop old old s cause
   refused-again s cause e =
-      subst (λ (o : CoreState). IsRefused o.kept.stop o o s cause) (ap (core_of plan limit cells c u) (sym e) ∙ is) (stays-stopped plan limit cells c u s)
+      subst (λ (o : CoreState). IsRefused o.kept.stop o o s cause) (ap (core_of plan limit cells c halt u) (sym e) ∙ is) (stays-stopped plan limit cells c halt u s)
 
   -- a stop now
-  pub refused-now : (cells' : List Cell) (c' : List ℕ) (u' : List Out) (s : Stop) (cause : CoreState → Type 0) → t ≡ None → u' ≡ u → cause (core_of plan limit cells c u None) → IsRefused old.kept.stop old (core_of plan limit cells' c' u' (Some s)) s (cause old)
+  pub refused-now : (cells' : List Cell) (c' : List ℕ) (u' : List Out) (s : Stop) (cause : CoreState → Type 0) → t ≡ None → u' ≡ u → cause (core_of plan limit cells c halt u None) → IsRefused old.kept.stop old (core_of plan limit cells' c' halt u' (Some s)) s (cause old)
   refused-now cells' c' u' s cause e outs why =
-      subst (λ (v : List Out). IsRefused old.kept.stop old (core_of plan limit cells' c' v (Some s)) s (cause old)) (sym outs)
-      (subst (λ (o : CoreState). IsRefused o.kept.stop o (core_of plan limit cells' c' u (Some s)) s (cause o)) (ap (core_of plan limit cells c u) (sym e) ∙ is)
-      (stops-now plan limit cells cells' c c' u s, why))
+      subst (λ (v : List Out). IsRefused old.kept.stop old (core_of plan limit cells' c' halt v (Some s)) s (cause old)) (sym outs)
+      (subst (λ (o : CoreState). IsRefused o.kept.stop o (core_of plan limit cells' c' halt u (Some s)) s (cause o)) (ap (core_of plan limit cells c halt u) (sym e) ∙ is)
+      (stops-now plan limit cells cells' c c' halt u s, why))
 
   -- the node of a stream is among the cells
   pub below-cells : (m : ℕ) → m < length plan.nodes → (xs : List Cell) → xs ≡ cells → m < length xs
@@ -56,30 +56,30 @@ module _ (plan : RunPlan) (limit : ℕ) (cells : List Cell) (c : List ℕ) (u : 
   -- an element has arrived
   pub arrived-now : t ≡ None → (turn : Turn) → turn.stream < length (streams_of old.plan.nodes) → (xs new new' : List Cell) (from : ℕ) (c' : List ℕ) (u' : List Out) → xs ≡ cells → new' ≡ new → from ≡ get_or (streams_of plan.nodes) turn.stream 0
       → Climbs (record { cells = xs; outs = u }) (record { cells = new; outs = u' }) from (turn.element ∷ []) → StaysAs xs new → c' ≡ closed_after c turn.closing (Arrive turn.stream turn.element)
-      → HasArrived old (core_of plan limit new' c' u' t) (arrival_of turn)
+      → HasArrived old (core_of plan limit new' c' halt u' t) (arrival_of turn)
   arrived-now e turn there xs new new' from c' u' same same' at C stays closed =
-      subst (λ (o : Option Stop). HasArrived old (core_of plan limit new' c' u' o) (arrival_of turn)) (sym e)
-      (subst (λ (ys : List Cell). HasArrived old (core_of plan limit ys c' u' None) (arrival_of turn)) (sym same')
-      (subst (λ (o : CoreState). HasArrived o (core_of plan limit new c' u' None) (arrival_of turn)) (ap (core_of plan limit cells c u) (sym e) ∙ is)
-      (arrived plan limit cells new c c' u u' turn made (subst (λ (o : CoreState). turn.stream < length (streams_of o.plan.nodes)) (sym is) there)
+      subst (λ (o : Option Stop). HasArrived old (core_of plan limit new' c' halt u' o) (arrival_of turn)) (sym e)
+      (subst (λ (ys : List Cell). HasArrived old (core_of plan limit ys c' halt u' None) (arrival_of turn)) (sym same')
+      (subst (λ (o : CoreState). HasArrived o (core_of plan limit new c' halt u' None) (arrival_of turn)) (ap (core_of plan limit cells c halt u) (sym e) ∙ is)
+      (arrived plan limit cells new c c' halt u u' turn made (subst (λ (o : CoreState). turn.stream < length (streams_of o.plan.nodes)) (sym is) there)
       (subst (λ (ys : List Cell). Climbs (record { cells = ys; outs = u }) (record { cells = new; outs = u' }) (get_or (streams_of plan.nodes) turn.stream 0) (turn.element ∷ [])) same
       (subst (λ (m : ℕ). Climbs (record { cells = xs; outs = u }) (record { cells = new; outs = u' }) m (turn.element ∷ [])) at C))
       (subst (λ (ys : List Cell). StaysAs ys new) same stays) closed)))
 
   -- why an arrival stops
   pub arrival-cause : (stream : ℕ) (x : Element) (xs : List Cell) (from : ℕ) (s : Stop) → stream < length (streams_of old.plan.nodes) → xs ≡ cells → from ≡ get_or (streams_of plan.nodes) stream 0
-      → IsClimbStop xs from (x ∷ []) s → IsCause (core_of plan limit cells c u None) (Arrive stream x) s
+      → IsClimbStop xs from (x ∷ []) s → IsCause (core_of plan limit cells c halt u None) (Arrive stream x) s
   arrival-cause stream x xs from s there same at g =
-      arrival-stop plan limit cells c u stream x s made (subst (λ (o : CoreState). stream < length (streams_of o.plan.nodes)) (sym is) there)
+      arrival-stop plan limit cells c halt u stream x s made (subst (λ (o : CoreState). stream < length (streams_of o.plan.nodes)) (sym is) there)
       (subst (λ (ys : List Cell). IsClimbStop ys (get_or (streams_of plan.nodes) stream 0) (x ∷ []) s) same
       (subst (λ (m : ℕ). IsClimbStop xs m (x ∷ []) s) at g))
 
   -- what was taken and not given stays so
-  pub opens-now : (xs new new' : List Cell) (c' : List ℕ) (u' : List Out) (t' : Option Stop) → xs ≡ cells → new' ≡ new → StayOpen xs new → (probe : Found) → IsOpen old probe → IsOpen (core_of plan limit new' c' u' t') probe
+  pub opens-now : (xs new new' : List Cell) (c' : List ℕ) (u' : List Out) (t' : Option Stop) → xs ≡ cells → new' ≡ new → StayOpen xs new → (probe : Found) → IsOpen old probe → IsOpen (core_of plan limit new' c' halt u' t') probe
   opens-now xs new new' c' u' t' same same' stays probe was-open =
       let was = open-there cells probe.join probe.ticket (subst (λ (o : CoreState). IsOpen o probe) (sym is) was-open) in
       let keeps = (subst (λ (ys : List Cell). StayOpen ys new) same stays) made.3 in
-      subst (λ (ys : List Cell). IsOpen (core_of plan limit ys c' u' t') probe) (sym same')
+      subst (λ (ys : List Cell). IsOpen (core_of plan limit ys c' halt u' t') probe) (sym same')
       (open-kept new probe.join probe.ticket (keeps.1 probe.join probe.ticket was.1))
 
   -- what a core is made of stays
@@ -89,11 +89,11 @@ module _ (plan : RunPlan) (limit : ℕ) (cells : List Cell) (c : List ℕ) (u : 
 
   -- what holds of the parts holds of the core
   pub holds-now : (P : CoreState → CoreState → Type 0) → t ≡ None → (new new' : List Cell) (c' : List ℕ) (u' : List Out) → new' ≡ new
-      → P (core_of plan limit cells c u None) (core_of plan limit new c' u' None) → P old (core_of plan limit new' c' u' t)
+      → P (core_of plan limit cells c halt u None) (core_of plan limit new c' halt u' None) → P old (core_of plan limit new' c' halt u' t)
   holds-now P e new new' c' u' same p =
-      subst (λ (o : Option Stop). P old (core_of plan limit new' c' u' o)) (sym e)
-      (subst (λ (ys : List Cell). P old (core_of plan limit ys c' u' None)) (sym same)
-      (subst (λ (o : CoreState). P o (core_of plan limit new c' u' None)) (ap (core_of plan limit cells c u) (sym e) ∙ is) p))
+      subst (λ (o : Option Stop). P old (core_of plan limit new' c' halt u' o)) (sym e)
+      (subst (λ (ys : List Cell). P old (core_of plan limit ys c' halt u' None)) (sym same)
+      (subst (λ (o : CoreState). P o (core_of plan limit new c' halt u' None)) (ap (core_of plan limit cells c halt u) (sym e) ∙ is) p))
 
   -- the parts of an open probe
   pub open-parts : (probe : Found) → IsOpen old probe → (xs : List Cell) → xs ≡ cells → (probe.join < length xs) × IsTakenIn (kept_seen (cell_at xs probe.join).work) probe.ticket
@@ -101,8 +101,11 @@ module _ (plan : RunPlan) (limit : ℕ) (cells : List Cell) (c : List ℕ) (u : 
       subst (λ (ys : List Cell). (probe.join < length ys) × IsTakenIn (kept_seen (cell_at ys probe.join).work) probe.ticket) (sym same)
       (open-there cells probe.join probe.ticket (subst (λ (s : CoreState). IsOpen s probe) (sym is) o))
 
-  pub drains-now : Notes old (core_of plan limit cells c [] t) (plain Drain)
-  drains-now = subst (λ (o : CoreState). Notes o (core_of plan limit cells c [] t) (plain Drain)) is (notes-drain plan limit cells c u t made)
+  pub drains-now : Notes old (core_of plan limit cells c halt [] t) (plain Drain)
+  drains-now = subst (λ (o : CoreState). Notes o (core_of plan limit cells c halt [] t) (plain Drain)) is (notes-drain plan limit cells c halt u t made)
+
+  pub halts-now : Notes old (core_of plan limit cells c true u t) (plain Halt)
+  halts-now = subst (λ (o : CoreState). Notes o (core_of plan limit cells c true u t) (plain Halt)) is (notes-halt plan limit cells c halt u t made)
 
   pub few-cells : (xs : List Cell) → xs ≡ cells → length xs ≤ 64
   few-cells xs e = let l = long in let f = made.0.few in omega (arith, l, f, ap length e)
@@ -114,14 +117,14 @@ module _ (plan : RunPlan) (limit : ℕ) (cells : List Cell) (c : List ℕ) (u : 
   on-now e = sym (ap (λ (o : CoreState). o.kept.stop) is) ∙ e
 
   -- a stop of a core that goes on
-  pub stopped-now : (cells' : List Cell) (c' : List ℕ) (u' : List Out) (s : Stop) (cause : CoreState → Type 0) → t ≡ None → u' ≡ u → cause (core_of plan limit cells c u None) → StopsNow old (core_of plan limit cells' c' u' (Some s)) s × cause old
+  pub stopped-now : (cells' : List Cell) (c' : List ℕ) (u' : List Out) (s : Stop) (cause : CoreState → Type 0) → t ≡ None → u' ≡ u → cause (core_of plan limit cells c halt u None) → StopsNow old (core_of plan limit cells' c' halt u' (Some s)) s × cause old
   stopped-now cells' c' u' s cause e outs why =
-      subst (λ (v : List Out). StopsNow old (core_of plan limit cells' c' v (Some s)) s × cause old) (sym outs)
-      (subst (λ (o : CoreState). StopsNow o (core_of plan limit cells' c' u (Some s)) s × cause o) (ap (core_of plan limit cells c u) (sym e) ∙ is) (stops-now plan limit cells cells' c c' u s, why))
+      subst (λ (v : List Out). StopsNow old (core_of plan limit cells' c' halt v (Some s)) s × cause old) (sym outs)
+      (subst (λ (o : CoreState). StopsNow o (core_of plan limit cells' c' halt u (Some s)) s × cause o) (ap (core_of plan limit cells c halt u) (sym e) ∙ is) (stops-now plan limit cells cells' c c' halt u s, why))
 
   -- what the core is said to have, of its parts
-  pub of-parts : (P : CoreState → Type 0) → t ≡ None → P old → P (core_of plan limit cells c u None)
-  of-parts P e p = subst P (sym is ∙ ap (core_of plan limit cells c u) e) p
+  pub of-parts : (P : CoreState → Type 0) → t ≡ None → P old → P (core_of plan limit cells c halt u None)
+  of-parts P e p = subst P (sym is ∙ ap (core_of plan limit cells c halt u) e) p
 
   pub streams-here : (stream : ℕ) → stream < length (streams_of old.plan.nodes) → stream < length (streams_of plan.nodes)
   streams-here stream there = subst (λ (o : CoreState). stream < length (streams_of o.plan.nodes)) (sym is) there
@@ -130,8 +133,8 @@ module _ (plan : RunPlan) (limit : ℕ) (cells : List Cell) (c : List ℕ) (u : 
   long-cells xs e = ap length e ∙ long
 
   -- a look
-  pub is-look-now : (sums : Sums) (look : TheLook) (xs : List Cell) → xs ≡ cells → AreWith sums [] xs → HasNumbers plan c u t sums look → IsLookAt old look
-  is-look-now sums look xs e w n = subst (λ (o : CoreState). IsLookAt o look) is (is-look plan limit cells c u t sums look made (subst (AreWith sums []) e w) n)
+  pub is-look-now : (sums : Sums) (look : TheLook) (xs : List Cell) → xs ≡ cells → AreWith sums [] xs → HasNumbers plan c halt u t sums look → IsLookAt old look
+  is-look-now sums look xs e w n = subst (λ (o : CoreState). IsLookAt o look) is (is-look plan limit cells c halt u t sums look made (subst (AreWith sums []) e w) n)
 
   pub few-now : (xs : List Cell) → xs ≡ cells → AreFew xs
   few-now xs e = are_few xs (few-cells xs e) (subst AreOrderly (sym e) made.3)
@@ -143,8 +146,8 @@ module _ (plan : RunPlan) (limit : ℕ) (cells : List Cell) (c : List ℕ) (u : 
   is-peak-now join x stored j at e peak p =
       let lt = peak-there join j in
       subst (λ (o : CoreState). IsPeak o join peak) is
-      (subst (IsPeak (core_of plan limit cells c u t) join) (sym (p ∙ ap (max x.peak) e ∙ ap peak_seen (at ∙ get_or_default cells join x no_cell lt)))
-      (is-peak plan limit cells c u t join made lt))
+      (subst (IsPeak (core_of plan limit cells c halt u t) join) (sym (p ∙ ap (max x.peak) e ∙ ap peak_seen (at ∙ get_or_default cells join x no_cell lt)))
+      (is-peak plan limit cells c halt u t join made lt))
 
   -- at most 16 streams
   pub few-streams : length (streams_of plan.nodes) ≤ length plan.nodes
@@ -153,7 +156,7 @@ module _ (plan : RunPlan) (limit : ℕ) (cells : List Cell) (c : List ℕ) (u : 
   -- a stream is closed
   pub closed-now : t ≡ None → (stream : ℕ) → stream < length (streams_of old.plan.nodes) → (xs new new' : List Cell) (from : ℕ) (c' : List ℕ) (u' : List Out) → xs ≡ cells → new' ≡ new → from ≡ get_or (streams_of plan.nodes) stream 0
       → Climbs (record { cells = xs; outs = u }) (record { cells = new; outs = u' }) from (closing_in plan.nodes stream ∷ []) → StaysAs xs new → c' ≡ stream ∷ c
-      → HasArrived old (core_of plan limit new' c' u' t) (arrival_of (closing_of old stream))
+      → HasArrived old (core_of plan limit new' c' halt u' t) (arrival_of (closing_of old stream))
   closed-now e stream there xs new new' from c' u' same same' at C stays closed =
-      subst (λ (o : CoreState). HasArrived old (core_of plan limit new' c' u' t) (arrival_of (closing_of o stream))) is
+      subst (λ (o : CoreState). HasArrived old (core_of plan limit new' c' halt u' t) (arrival_of (closing_of o stream))) is
       (arrived-now e (record { stream = stream; element = closing_in plan.nodes stream; closing = 1 }) there xs new new' from c' u' same same' at C stays closed)

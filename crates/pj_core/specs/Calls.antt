@@ -32,6 +32,7 @@ pub record IsFresh (core : CoreState) (plan : RunPlan) (limit : ℕ) : Type 0 wh
   pub of_plan : core.plan ≡ plan
   pub with_limit : core.limit ≡ limit
   pub undrained : core.kept.undrained ≡ []
+  pub halted : core.kept.halted ≡ false
   pub on : core.kept.stop ≡ None
   pub stands : StandsFor core []
 
@@ -194,7 +195,7 @@ pub record Tells (core : CoreState) (history : List Entry) (look : Look) : Type 
 -- the outputs, the streams and the stop are always told, the other numbers while nothing stopped
 pub record IsLookAt (core : CoreState) (look : Look) : Type 0 where
   pub outputs : look.outputs ≡ length core.kept.undrained
-  pub halted : look.halted ≡ false
+  pub halted : look.halted ≡ core.kept.halted
   pub stop : look.stop ≡ core.kept.stop
   pub streams : look.streams ≡ length (streams_of core.plan.nodes)
   pub tells : core.kept.stop ≡ None → (history : List Entry) → StandsFor core history → Tells core history look

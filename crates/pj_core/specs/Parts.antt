@@ -6,7 +6,7 @@ use Rattle.pj_plan.specs.declared.node.Node.{Node as Operation}
 use Rattle.pj_plan.specs.declared.node.Node.TheVariants.{Stream as StreamNode, Select as SelectNode, Project as ProjectNode, Union as UnionNode, Join as JoinNode, Group as GroupNode}
 use Rattle.pj_plan.specs.declared.node.PlanNode.{PlanNode}
 use Rattle.pj_plan.specs.Canonical.{no_node}
-use Rattle.pj_plan.specs.Nodes.{parent_of}
+use Rattle.pj_plan.specs.Nodes.{parent_of, streams_of}
 use Rattle.pj_plan.specs.Sound.{IsSoundPlan}
 use Rattle.pj_scheme.specs.Derived.{inputs_schemes, schemes_of}
 use Rattle.pj_pattern.specs.declared.element.Element.{Element}
@@ -19,27 +19,27 @@ use Rattle.pj_laws.specs.HistoryLaws.{AllAreCertified}
 use Rattle.pj_join.specs.Joins.{join_data}
 use Rattle.pj_core.specs.declared.cell.Cell.{Cell}
 use Rattle.pj_core.specs.Cells.{Frame, GroupKind, JoinKind, Kind, ProjectKind, SelectKind, StreamKind, UnionKind, count_seen, frames_in, kept_seen, peak_seen}
-use Rattle.pj_core.specs.Climbing.{AreOrderly}
+use Rattle.pj_core.specs.Climbing.{AreOrderly, Climbs, Scene}
 use Rattle.pj_core.specs.Cores.{CoreState}
 use Rattle.pj_core.specs.Plans.{RunPlan, certs_behind, nodes_of, stream_columns, streams_in}
 
 -- ---- what is seen
 
 -- all that a core with these nodes keeps
-abbrev pub all_kept : List Cell → List ℕ → List Out → Option Stop → CoreKept
-all_kept cells closed undrained stop = record {
+abbrev pub all_kept : List Cell → List ℕ → Bool → List Out → Option Stop → CoreKept
+all_kept cells closed halted undrained stop = record {
   nodes = map (λ cell. kept_seen cell.work) cells;
   counts = map count_seen cells;
   peaks = map peak_seen cells;
   closed = closed;
   undrained = undrained;
-  halted = false;
+  halted = halted;
   stop = stop;
 }
 
 -- what a core with these parts is seen as
-abbrev pub core_of : RunPlan → ℕ → List Cell → List ℕ → List Out → Option Stop → CoreState
-core_of plan limit cells closed undrained stop = record { plan = plan; limit = limit; kept = all_kept cells closed undrained stop }
+abbrev pub core_of : RunPlan → ℕ → List Cell → List ℕ → Bool → List Out → Option Stop → CoreState
+core_of plan limit cells closed halted undrained stop = record { plan = plan; limit = limit; kept = all_kept cells closed halted undrained stop }
 
 -- ---- the nodes of a plan
 
@@ -81,3 +81,7 @@ IsMadeOf plan limit cells = IsSoundPlan plan.nodes × AllAreCertified (nodes_of 
 -- the punctuation that closes a stream: a wildcard for each of its columns
 abbrev pub closing_in : List PlanNode → ℕ → Element
 closing_in nodes stream = Punct (all_wild (length (stream_columns (streams_in nodes) stream)))
+
+-- a stream of the plan closes: a punctuation with a wildcard for each of its columns climbs from its node
+abbrev pub StreamCloses : List PlanNode → ℕ → Scene → Scene → Type 0
+StreamCloses nodes stream old new = Climbs old new (slice_index_or (streams_of nodes) stream 0) (closing_in nodes stream ∷ [])

@@ -9,8 +9,8 @@ ghost use Rattle.pj_core.specs.Acts.{CellSwept, HasGivenAt, HasGivenOn, HasJoinI
 use crate::cell::{Cell, Work};
 use crate::climb::{climb_found, climb_puncts, climb_rows};
 use crate::handed::hand_out_notes;
-use pj_join::Probe;
 use pj_events::{Out, Stop};
+use pj_join::Probe;
 use pj_pattern::Punct;
 use pj_value::{List, NoMemory, Row};
 use std::alloc::Global;

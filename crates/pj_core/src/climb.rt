@@ -7,8 +7,8 @@ ghost use Rattle.pj_core.specs.Climbing.{Climbs, HasEntered, IsClimbStop, IsEntr
 
 use crate::cell::{Cell, Handed};
 use crate::handed::hand_out;
-use pj_join::JoinStop;
 use pj_events::{Out, Stop};
+use pj_join::JoinStop;
 use pj_pattern::{Element, Punct};
 use pj_value::{List, NoMemory, Row};
 use std::alloc::Global;

@@ -15,6 +15,6 @@ mod tests;
 mod turns;
 
 pub use laws::settling;
-pub use pj_join::{Found, Probe};
 pub use pj_events::{Entry, Event, Look, Out, Stop};
+pub use pj_join::{Found, Probe};
 pub use running::Core;

@@ -1,6 +1,6 @@
 // The core of a run.
-ghost use Rattle.std.specs.Prelude.{◌≡◌, ◌<◌, ◌≤◌, ◌^◌, [], ◌∷◌, ◌++◌, None, length, slice_index_or, IfErr, IfOk, OnErr, OnOk};
-ghost use Rattle.pj_events.specs.declared.events.Event.TheVariants.{Arrive as Arrives, Drain as Drains, Sweep as Sweeps};
+ghost use Rattle.std.specs.Prelude.{true, ◌≡◌, ◌<◌, ◌≤◌, ◌^◌, [], ◌∷◌, ◌++◌, None, length, slice_index_or, IfErr, IfOk, OnErr, OnOk};
+ghost use Rattle.pj_events.specs.declared.events.Event.TheVariants.{Arrive as Arrives, Drain as Drains, Halt as Halts, Sweep as Sweeps};
 ghost use Rattle.pj_laws.specs.HistoryLaws.{AllAreCertified};
 ghost use Rattle.pj_events.specs.Patterns.{all_wild};
 ghost use Rattle.pj_events.specs.Join.{has};
@@ -11,9 +11,9 @@ ghost use Rattle.pj_shape.specs.Columns.{kinds_of};
 ghost use Rattle.pj_plan.specs.Nodes.{streams_of};
 ghost use Rattle.pj_core.specs.Plans.{nodes_of, run_plan, stream_columns, streams_in};
 ghost use Rattle.pj_core.specs.Cells.{AreLinked, frames_in};
-ghost use Rattle.pj_core.specs.Climbing.{Climbs, IsClimbStop, StaysAs};
+ghost use Rattle.pj_core.specs.Climbing.{IsClimbStop, StaysAs};
 ghost use Rattle.pj_core.specs.Cores.{Notes};
-ghost use Rattle.pj_core.specs.Parts.{closing_in};
+ghost use Rattle.pj_core.specs.Parts.{closing_in, StreamCloses};
 ghost use Rattle.pj_core.specs.Turns.{MayProbeAt, StopsProbe, places_total};
 ghost use Rattle.pj_plan.specs.Canonical.{node_at};
 ghost use Rattle.pj_core.specs.Calls.{CoreTakes, HasArrived, HasGiven, HasSwept, IsCause, IsFresh, IsGiveCause, IsJoinInput, IsJoinNode, IsLookAt, IsOpen, IsPeak, IsRefused, StopsNow, arriving_of, closing_of, ended_of};
@@ -23,8 +23,8 @@ use crate::build::new_cells;
 use crate::cell::Cell;
 use crate::climb::lift;
 use crate::look::sums_of;
-use pj_join::{Found, Probe};
 use pj_events::{Look, Out, Stop};
+use pj_join::{Found, Probe};
 use pj_pattern::{Element, Pattern, Punct};
 use pj_plan::{Node, Plan};
 use pj_shape::{Cert, Column};
@@ -47,6 +47,7 @@ pub struct Core {
     cells: Vec<Cell>,
     closed: List<u32>,
     undrained: List<Out>,
+    halted: bool,
     stop: Option<Stop>,
 }
 
@@ -59,7 +60,7 @@ impl Model for Core {
     ghost use Rattle.pj_core.specs.Plans.{run_plan};
     ghost use Rattle.pj_core.specs.Parts.{IsMadeOf, core_of};
 
-    ghost view = { λ c. core_of (run_plan c.plan.nodes c.certs c.trace) c.limit c.cells.items (reverse c.closed) c.undrained c.stop };
+    ghost view = { λ c. core_of (run_plan c.plan.nodes c.certs c.trace) c.limit c.cells.items (reverse c.closed) c.halted c.undrained c.stop };
 
     ghost invariant = { λ c. IsMadeOf (run_plan c.plan.nodes c.certs c.trace) c.limit c.cells.items };
 }
@@ -89,6 +90,7 @@ impl Core {
             cells,
             closed: List::new(alloc),
             undrained: List::new(alloc),
+            halted: false,
             stop: None,
         })
     }
@@ -227,6 +229,14 @@ impl Core {
         std::mem::replace(&mut self.undrained, empty)
     }
 
+    /// Halts the run: a look tells it from now on, and nothing else changes. It takes no memory, and goes on after a stop.
+    pub fn halt(&mut self)
+        ensures left { self.new ≡ record self.old { kept = record self.old.kept { halted = true } } }
+        ensures notes { Notes self.old self.new (plain Halts) }
+    {
+        self.halted = true;
+    }
+
     // One sweep of an input of a join.
     pub(crate) fn sweep_one(&mut self, join: u32, input: u32) -> Result<u64, Stop>
         requires on { self.old.kept.stop ≡ None }
@@ -265,7 +275,7 @@ impl Core {
             stored: sums.stored,
             waiting: sums.waiting,
             outputs: self.undrained.len() as u64,
-            halted: false,
+            halted: self.halted,
             stop: self.stop,
         }
     }
@@ -346,7 +356,7 @@ fn close(
     requires long { length cells.old ≡ length plan.now.nodes }
     requires linked { AreLinked (frames_in cells.old) }
     ensures closed { OnOk result (closed.new ≡ closed.old ++ stream ∷ []) }
-    ensures ok { OnOk result (Climbs (record { cells = cells.old; outs = outs.old }) (record { cells = cells.new; outs = outs.new }) (slice_index_or (streams_of plan.now.nodes) stream 0) (closing_in plan.now.nodes stream ∷ [])) }
+    ensures ok { OnOk result (StreamCloses plan.now.nodes stream (record { cells = cells.old; outs = outs.old }) (record { cells = cells.new; outs = outs.new })) }
     ensures err { IfErr result (λ stop. IsClimbStop cells.old (slice_index_or (streams_of plan.now.nodes) stream 0) (closing_in plan.now.nodes stream ∷ []) stop) }
     ensures stays { StaysAs cells.old cells.new }
     ensures refused { OnErr result (outs.new ≡ outs.old) }

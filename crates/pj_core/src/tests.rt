@@ -379,6 +379,8 @@ fn the_limit_stops_the_fourth_arrival(rt: HostRuntime) {
             let counts = bring_all(alloc, &mut core, [item, bid, item, bid, item]);
             assert_eq!(rt; counts, [0, 1, 1, -2, -2]);
             assert_eq!(rt; core.look().stop, Some(Stop::Limit { node: 2 }));
+            core.halt();
+            assert_eq!(rt; core.look().halted, true);
         }
         None => assert!(rt; false),
     }

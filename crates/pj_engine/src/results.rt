@@ -10,8 +10,8 @@ ghost use Rattle.pj_engine.specs.Written.{flat, WritesBy, write_cut};
 use crate::lines::write_piece;
 use crate::stops::WriteStop;
 use pj_element::{punct_text, row_text};
-use pj_io::Sink;
 use pj_events::Out;
+use pj_io::Sink;
 use pj_value::{List as Items, NoMemory};
 use std::alloc::Global;
 

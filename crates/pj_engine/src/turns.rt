@@ -11,8 +11,8 @@ use crate::feeds::Arrival;
 use crate::results::{Counts, write_outs};
 use crate::stops::TurnStop;
 use pj_core::Core;
-use pj_io::Sink;
 use pj_events::{Out, Stop};
+use pj_io::Sink;
 use pj_value::List as Items;
 use std::alloc::Global;
 

@@ -8,33 +8,33 @@ use Rattle.pj_core.proofs.running.Core.arrive.Goals as goal
 
 pub lift-requires-clause-there : goal.lift-requires-clause-there
 lift-requires-clause-there c =
-    below-cells (run_plan c.self.inside.plan.nodes c.self.inside.certs c.self.inside.trace) c.self.inside.limit c.self.inside.cells.items (reverse c.self.inside.closed) c.self.inside.undrained c.self.inside.stop c.args.self.now c.self.view_is c.self.invariant
+    below-cells (run_plan c.self.inside.plan.nodes c.self.inside.certs c.self.inside.trace) c.self.inside.limit c.self.inside.cells.items (reverse c.self.inside.closed) c.self.inside.halted c.self.inside.undrained c.self.inside.stop c.args.self.now c.self.view_is c.self.invariant
     c.number_of-from.result c.number_of-from.ensures.there c.as_mut_slice.result.now c.as_mut_slice.ensures.value
 
 pub lift-requires-clause-linked : goal.lift-requires-clause-linked
 lift-requires-clause-linked c =
-    linked-cells (run_plan c.self.inside.plan.nodes c.self.inside.certs c.self.inside.trace) c.self.inside.limit c.self.inside.cells.items (reverse c.self.inside.closed) c.self.inside.undrained c.self.inside.stop c.args.self.now c.self.view_is c.self.invariant
+    linked-cells (run_plan c.self.inside.plan.nodes c.self.inside.certs c.self.inside.trace) c.self.inside.limit c.self.inside.cells.items (reverse c.self.inside.closed) c.self.inside.halted c.self.inside.undrained c.self.inside.stop c.args.self.now c.self.view_is c.self.invariant
     c.as_mut_slice.result.now c.as_mut_slice.ensures.value
 
 pub returns-in-Some-clause-err : goal.returns-in-Some-clause-err
 returns-in-Some-clause-err c =
-    refused-again (run_plan c.self.inside.plan.nodes c.self.inside.certs c.self.inside.trace) c.self.inside.limit c.self.inside.cells.items (reverse c.self.inside.closed) c.self.inside.undrained c.self.inside.stop c.args.self.now c.self.view_is c.self.invariant
+    refused-again (run_plan c.self.inside.plan.nodes c.self.inside.certs c.self.inside.trace) c.self.inside.limit c.self.inside.cells.items (reverse c.self.inside.closed) c.self.inside.halted c.self.inside.undrained c.self.inside.stop c.args.self.now c.self.view_is c.self.invariant
     c.in-Some.stop _ c.in-Some.is
 
 pub returns-in-Ok-clause-ok : goal.returns-in-Ok-clause-ok
 returns-in-Ok-clause-ok c =
-    arrived-now (run_plan c.self.inside.plan.nodes c.self.inside.certs c.self.inside.trace) c.self.inside.limit c.self.inside.cells.items (reverse c.self.inside.closed) c.self.inside.undrained c.self.inside.stop c.args.self.now c.self.view_is c.self.invariant
+    arrived-now (run_plan c.self.inside.plan.nodes c.self.inside.certs c.self.inside.trace) c.self.inside.limit c.self.inside.cells.items (reverse c.self.inside.closed) c.self.inside.halted c.self.inside.undrained c.self.inside.stop c.args.self.now c.self.view_is c.self.invariant
     c.in-None.is (arriving_of c.args.stream c.args.element) c.requires.there c.as_mut_slice.result.now c.lift.new.cells _ c.number_of-from.result _ c.lift.new.outs c.as_mut_slice.ensures.value (with_items_is c.self.inside.cells c.lift.new.cells (search (rules, places))) c.number_of-from.ensures.is
     c.in-Ok.ensures.ok c.lift.ensures.stays refl
 
 pub returns-in-Ok-clause-open : goal.returns-in-Ok-clause-open
 returns-in-Ok-clause-open c =
-    opens-now (run_plan c.self.inside.plan.nodes c.self.inside.certs c.self.inside.trace) c.self.inside.limit c.self.inside.cells.items (reverse c.self.inside.closed) c.self.inside.undrained c.self.inside.stop c.args.self.now c.self.view_is c.self.invariant
+    opens-now (run_plan c.self.inside.plan.nodes c.self.inside.certs c.self.inside.trace) c.self.inside.limit c.self.inside.cells.items (reverse c.self.inside.closed) c.self.inside.halted c.self.inside.undrained c.self.inside.stop c.args.self.now c.self.view_is c.self.invariant
     c.as_mut_slice.result.now c.lift.new.cells _ (reverse c.self.inside.closed) c.lift.new.outs c.self.inside.stop c.as_mut_slice.ensures.value (with_items_is c.self.inside.cells c.lift.new.cells (search (rules, places))) c.lift.ensures.stays.opens
 
 pub returns-in-Err-clause-err : goal.returns-in-Err-clause-err
 returns-in-Err-clause-err c =
-    refused-now (run_plan c.self.inside.plan.nodes c.self.inside.certs c.self.inside.trace) c.self.inside.limit c.self.inside.cells.items (reverse c.self.inside.closed) c.self.inside.undrained c.self.inside.stop c.args.self.now c.self.view_is c.self.invariant
+    refused-now (run_plan c.self.inside.plan.nodes c.self.inside.certs c.self.inside.trace) c.self.inside.limit c.self.inside.cells.items (reverse c.self.inside.closed) c.self.inside.halted c.self.inside.undrained c.self.inside.stop c.args.self.now c.self.view_is c.self.invariant
     _ _ c.lift.new.outs c.in-Err.stop (λ o. IsCause o (Arrive c.args.stream c.args.element) c.in-Err.stop) c.in-None.is c.in-Err.ensures.refused
-    (arrival-cause (run_plan c.self.inside.plan.nodes c.self.inside.certs c.self.inside.trace) c.self.inside.limit c.self.inside.cells.items (reverse c.self.inside.closed) c.self.inside.undrained c.self.inside.stop c.args.self.now c.self.view_is c.self.invariant
+    (arrival-cause (run_plan c.self.inside.plan.nodes c.self.inside.certs c.self.inside.trace) c.self.inside.limit c.self.inside.cells.items (reverse c.self.inside.closed) c.self.inside.halted c.self.inside.undrained c.self.inside.stop c.args.self.now c.self.view_is c.self.invariant
     c.args.stream c.args.element c.as_mut_slice.result.now c.number_of-from.result c.in-Err.stop c.requires.there c.as_mut_slice.ensures.value c.number_of-from.ensures.is c.in-Err.ensures.err)

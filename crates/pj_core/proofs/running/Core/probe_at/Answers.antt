@@ -8,16 +8,16 @@ use Rattle.pj_core.proofs.Words.{holds-now, linked-cells, made-now, stop-none}
 use Rattle.pj_core.proofs.running.Core.probe_at.Goals as goal
 
 pub probe_on-requires : goal.probe_on-requires
-probe_on-requires c = linked-cells (run_plan c.self.inside.plan.nodes c.self.inside.certs c.self.inside.trace) c.self.inside.limit c.self.inside.cells.items (reverse c.self.inside.closed) c.self.inside.undrained c.self.inside.stop c.args.self.now c.self.view_is c.self.invariant c.as_mut_slice.result.now c.as_mut_slice.ensures.value
+probe_on-requires c = linked-cells (run_plan c.self.inside.plan.nodes c.self.inside.certs c.self.inside.trace) c.self.inside.limit c.self.inside.cells.items (reverse c.self.inside.closed) c.self.inside.halted c.self.inside.undrained c.self.inside.stop c.args.self.now c.self.view_is c.self.invariant c.as_mut_slice.result.now c.as_mut_slice.ensures.value
 
 pub returns-in-Ok-clause-ok : goal.returns-in-Ok-clause-ok
 returns-in-Ok-clause-ok c =
-    holds-now (run_plan c.self.inside.plan.nodes c.self.inside.certs c.self.inside.trace) c.self.inside.limit c.self.inside.cells.items (reverse c.self.inside.closed) c.self.inside.undrained c.self.inside.stop c.args.self.now c.self.view_is c.self.invariant
-    (λ a b. MayProbeAt c.in-Ok.more a b c.args.join) (stop-none (run_plan c.self.inside.plan.nodes c.self.inside.certs c.self.inside.trace) c.self.inside.limit c.self.inside.cells.items (reverse c.self.inside.closed) c.self.inside.undrained c.self.inside.stop c.args.self.now c.self.view_is c.self.invariant c.requires.on) c.probe_on.new.cells _ (reverse c.self.inside.closed) c.probe_on.new.outs (with_items_is c.self.inside.cells c.probe_on.new.cells (search (rules, places)))
-    (may-probe (run_plan c.self.inside.plan.nodes c.self.inside.certs c.self.inside.trace) c.self.inside.limit c.self.inside.cells.items (reverse c.self.inside.closed) c.self.inside.undrained c.self.invariant c.args.join c.in-Ok.more c.probe_on.new.cells c.probe_on.new.outs
+    holds-now (run_plan c.self.inside.plan.nodes c.self.inside.certs c.self.inside.trace) c.self.inside.limit c.self.inside.cells.items (reverse c.self.inside.closed) c.self.inside.halted c.self.inside.undrained c.self.inside.stop c.args.self.now c.self.view_is c.self.invariant
+    (λ a b. MayProbeAt c.in-Ok.more a b c.args.join) (stop-none (run_plan c.self.inside.plan.nodes c.self.inside.certs c.self.inside.trace) c.self.inside.limit c.self.inside.cells.items (reverse c.self.inside.closed) c.self.inside.halted c.self.inside.undrained c.self.inside.stop c.args.self.now c.self.view_is c.self.invariant c.requires.on) c.probe_on.new.cells _ (reverse c.self.inside.closed) c.probe_on.new.outs (with_items_is c.self.inside.cells c.probe_on.new.cells (search (rules, places)))
+    (may-probe (run_plan c.self.inside.plan.nodes c.self.inside.certs c.self.inside.trace) c.self.inside.limit c.self.inside.cells.items (reverse c.self.inside.closed) c.self.inside.halted c.self.inside.undrained c.self.invariant c.args.join c.in-Ok.more c.probe_on.new.cells c.probe_on.new.outs
     (subst (λ ys. ProbesOn c.in-Ok.more (record { cells = ys; outs = c.self.inside.undrained }) (record { cells = c.probe_on.new.cells; outs = c.probe_on.new.outs }) c.args.join) c.as_mut_slice.ensures.value c.in-Ok.ensures.ok))
 
 pub returns-in-Err-clause-err : goal.returns-in-Err-clause-err
 returns-in-Err-clause-err c =
-    probe-stops-now (run_plan c.self.inside.plan.nodes c.self.inside.certs c.self.inside.trace) c.self.inside.limit c.self.inside.cells.items (reverse c.self.inside.closed) c.self.inside.undrained c.self.invariant c.self.inside.stop c.args.self.now c.self.view_is (stop-none (run_plan c.self.inside.plan.nodes c.self.inside.certs c.self.inside.trace) c.self.inside.limit c.self.inside.cells.items (reverse c.self.inside.closed) c.self.inside.undrained c.self.inside.stop c.args.self.now c.self.view_is c.self.invariant c.requires.on) c.args.join _ c.probe_on.new.outs c.in-Err.stop c.in-Err.ensures.refused
+    probe-stops-now (run_plan c.self.inside.plan.nodes c.self.inside.certs c.self.inside.trace) c.self.inside.limit c.self.inside.cells.items (reverse c.self.inside.closed) c.self.inside.halted c.self.inside.undrained c.self.invariant c.self.inside.stop c.args.self.now c.self.view_is (stop-none (run_plan c.self.inside.plan.nodes c.self.inside.certs c.self.inside.trace) c.self.inside.limit c.self.inside.cells.items (reverse c.self.inside.closed) c.self.inside.halted c.self.inside.undrained c.self.inside.stop c.args.self.now c.self.view_is c.self.invariant c.requires.on) c.args.join _ c.probe_on.new.outs c.in-Err.stop c.in-Err.ensures.refused
     (subst (λ ys. IsProbeStop ys c.args.join c.in-Err.stop) c.as_mut_slice.ensures.value c.in-Err.ensures.err)

@@ -12,34 +12,34 @@ use Rattle.pj_core.proofs.running.Core.sweep_one.Goals as goal
 pub sweep_at-requires-clause-there : goal.sweep_at-requires-clause-there
 sweep_at-requires-clause-there c =
     subst (λ ys. c.args.join < length ys) (sym c.as_mut_slice.ensures.value)
-    (input-there (run_plan c.self.inside.plan.nodes c.self.inside.certs c.self.inside.trace) c.self.inside.limit c.self.inside.cells.items (reverse c.self.inside.closed) c.self.inside.undrained c.self.invariant c.args.join c.args.input (of-parts (run_plan c.self.inside.plan.nodes c.self.inside.certs c.self.inside.trace) c.self.inside.limit c.self.inside.cells.items (reverse c.self.inside.closed) c.self.inside.undrained c.self.inside.stop c.args.self.now c.self.view_is c.self.invariant (λ o. IsJoinInput o c.args.join c.args.input) (stop-none (run_plan c.self.inside.plan.nodes c.self.inside.certs c.self.inside.trace) c.self.inside.limit c.self.inside.cells.items (reverse c.self.inside.closed) c.self.inside.undrained c.self.inside.stop c.args.self.now c.self.view_is c.self.invariant c.requires.on) c.requires.there)).0
+    (input-there (run_plan c.self.inside.plan.nodes c.self.inside.certs c.self.inside.trace) c.self.inside.limit c.self.inside.cells.items (reverse c.self.inside.closed) c.self.inside.halted c.self.inside.undrained c.self.invariant c.args.join c.args.input (of-parts (run_plan c.self.inside.plan.nodes c.self.inside.certs c.self.inside.trace) c.self.inside.limit c.self.inside.cells.items (reverse c.self.inside.closed) c.self.inside.halted c.self.inside.undrained c.self.inside.stop c.args.self.now c.self.view_is c.self.invariant (λ o. IsJoinInput o c.args.join c.args.input) (stop-none (run_plan c.self.inside.plan.nodes c.self.inside.certs c.self.inside.trace) c.self.inside.limit c.self.inside.cells.items (reverse c.self.inside.closed) c.self.inside.halted c.self.inside.undrained c.self.inside.stop c.args.self.now c.self.view_is c.self.invariant c.requires.on) c.requires.there)).0
 
 pub sweep_at-requires-clause-input : goal.sweep_at-requires-clause-input
 sweep_at-requires-clause-input c =
     subst (λ ys. HasJoinInput (cell_at ys c.args.join).work c.args.input) (sym c.as_mut_slice.ensures.value)
-    (input-there (run_plan c.self.inside.plan.nodes c.self.inside.certs c.self.inside.trace) c.self.inside.limit c.self.inside.cells.items (reverse c.self.inside.closed) c.self.inside.undrained c.self.invariant c.args.join c.args.input (of-parts (run_plan c.self.inside.plan.nodes c.self.inside.certs c.self.inside.trace) c.self.inside.limit c.self.inside.cells.items (reverse c.self.inside.closed) c.self.inside.undrained c.self.inside.stop c.args.self.now c.self.view_is c.self.invariant (λ o. IsJoinInput o c.args.join c.args.input) (stop-none (run_plan c.self.inside.plan.nodes c.self.inside.certs c.self.inside.trace) c.self.inside.limit c.self.inside.cells.items (reverse c.self.inside.closed) c.self.inside.undrained c.self.inside.stop c.args.self.now c.self.view_is c.self.invariant c.requires.on) c.requires.there)).1
+    (input-there (run_plan c.self.inside.plan.nodes c.self.inside.certs c.self.inside.trace) c.self.inside.limit c.self.inside.cells.items (reverse c.self.inside.closed) c.self.inside.halted c.self.inside.undrained c.self.invariant c.args.join c.args.input (of-parts (run_plan c.self.inside.plan.nodes c.self.inside.certs c.self.inside.trace) c.self.inside.limit c.self.inside.cells.items (reverse c.self.inside.closed) c.self.inside.halted c.self.inside.undrained c.self.inside.stop c.args.self.now c.self.view_is c.self.invariant (λ o. IsJoinInput o c.args.join c.args.input) (stop-none (run_plan c.self.inside.plan.nodes c.self.inside.certs c.self.inside.trace) c.self.inside.limit c.self.inside.cells.items (reverse c.self.inside.closed) c.self.inside.halted c.self.inside.undrained c.self.inside.stop c.args.self.now c.self.view_is c.self.invariant c.requires.on) c.requires.there)).1
 
 pub sweep_at-requires-clause-linked : goal.sweep_at-requires-clause-linked
-sweep_at-requires-clause-linked c = linked-cells (run_plan c.self.inside.plan.nodes c.self.inside.certs c.self.inside.trace) c.self.inside.limit c.self.inside.cells.items (reverse c.self.inside.closed) c.self.inside.undrained c.self.inside.stop c.args.self.now c.self.view_is c.self.invariant c.as_mut_slice.result.now c.as_mut_slice.ensures.value
+sweep_at-requires-clause-linked c = linked-cells (run_plan c.self.inside.plan.nodes c.self.inside.certs c.self.inside.trace) c.self.inside.limit c.self.inside.cells.items (reverse c.self.inside.closed) c.self.inside.halted c.self.inside.undrained c.self.inside.stop c.args.self.now c.self.view_is c.self.invariant c.as_mut_slice.result.now c.as_mut_slice.ensures.value
 
 pub invariant_of-self : goal.invariant_of-self
 invariant_of-self c =
-    made-now (run_plan c.self.inside.plan.nodes c.self.inside.certs c.self.inside.trace) c.self.inside.limit c.self.inside.cells.items (reverse c.self.inside.closed) c.self.inside.undrained c.self.inside.stop c.args.self.now c.self.view_is c.self.invariant c.as_mut_slice.result.now c.sweep_at.new.cells _ c.as_mut_slice.ensures.value (with_items_is c.self.inside.cells c.sweep_at.new.cells (search (rules, places))) c.sweep_at.ensures.frames (λ o. (c.sweep_at.ensures.opens o).0)
+    made-now (run_plan c.self.inside.plan.nodes c.self.inside.certs c.self.inside.trace) c.self.inside.limit c.self.inside.cells.items (reverse c.self.inside.closed) c.self.inside.halted c.self.inside.undrained c.self.inside.stop c.args.self.now c.self.view_is c.self.invariant c.as_mut_slice.result.now c.sweep_at.new.cells _ c.as_mut_slice.ensures.value (with_items_is c.self.inside.cells c.sweep_at.new.cells (search (rules, places))) c.sweep_at.ensures.frames (λ o. (c.sweep_at.ensures.opens o).0)
 
 pub returns-in-Ok-clause-ok : goal.returns-in-Ok-clause-ok
 returns-in-Ok-clause-ok c =
-    holds-now (run_plan c.self.inside.plan.nodes c.self.inside.certs c.self.inside.trace) c.self.inside.limit c.self.inside.cells.items (reverse c.self.inside.closed) c.self.inside.undrained c.self.inside.stop c.args.self.now c.self.view_is c.self.invariant
-    (λ a b. HasSwept a b c.args.join c.args.input c.in-Ok.count) (stop-none (run_plan c.self.inside.plan.nodes c.self.inside.certs c.self.inside.trace) c.self.inside.limit c.self.inside.cells.items (reverse c.self.inside.closed) c.self.inside.undrained c.self.inside.stop c.args.self.now c.self.view_is c.self.invariant c.requires.on) c.sweep_at.new.cells _ (reverse c.self.inside.closed) c.sweep_at.new.outs (with_items_is c.self.inside.cells c.sweep_at.new.cells (search (rules, places)))
-    (swept-core (run_plan c.self.inside.plan.nodes c.self.inside.certs c.self.inside.trace) c.self.inside.limit c.self.inside.cells.items (reverse c.self.inside.closed) c.self.inside.undrained c.self.invariant c.sweep_at.new.cells c.sweep_at.new.outs c.args.join c.args.input c.in-Ok.count
-    (of-parts (run_plan c.self.inside.plan.nodes c.self.inside.certs c.self.inside.trace) c.self.inside.limit c.self.inside.cells.items (reverse c.self.inside.closed) c.self.inside.undrained c.self.inside.stop c.args.self.now c.self.view_is c.self.invariant (λ o. IsJoinInput o c.args.join c.args.input) (stop-none (run_plan c.self.inside.plan.nodes c.self.inside.certs c.self.inside.trace) c.self.inside.limit c.self.inside.cells.items (reverse c.self.inside.closed) c.self.inside.undrained c.self.inside.stop c.args.self.now c.self.view_is c.self.invariant c.requires.on) c.requires.there)
+    holds-now (run_plan c.self.inside.plan.nodes c.self.inside.certs c.self.inside.trace) c.self.inside.limit c.self.inside.cells.items (reverse c.self.inside.closed) c.self.inside.halted c.self.inside.undrained c.self.inside.stop c.args.self.now c.self.view_is c.self.invariant
+    (λ a b. HasSwept a b c.args.join c.args.input c.in-Ok.count) (stop-none (run_plan c.self.inside.plan.nodes c.self.inside.certs c.self.inside.trace) c.self.inside.limit c.self.inside.cells.items (reverse c.self.inside.closed) c.self.inside.halted c.self.inside.undrained c.self.inside.stop c.args.self.now c.self.view_is c.self.invariant c.requires.on) c.sweep_at.new.cells _ (reverse c.self.inside.closed) c.sweep_at.new.outs (with_items_is c.self.inside.cells c.sweep_at.new.cells (search (rules, places)))
+    (swept-core (run_plan c.self.inside.plan.nodes c.self.inside.certs c.self.inside.trace) c.self.inside.limit c.self.inside.cells.items (reverse c.self.inside.closed) c.self.inside.halted c.self.inside.undrained c.self.invariant c.sweep_at.new.cells c.sweep_at.new.outs c.args.join c.args.input c.in-Ok.count
+    (of-parts (run_plan c.self.inside.plan.nodes c.self.inside.certs c.self.inside.trace) c.self.inside.limit c.self.inside.cells.items (reverse c.self.inside.closed) c.self.inside.halted c.self.inside.undrained c.self.inside.stop c.args.self.now c.self.view_is c.self.invariant (λ o. IsJoinInput o c.args.join c.args.input) (stop-none (run_plan c.self.inside.plan.nodes c.self.inside.certs c.self.inside.trace) c.self.inside.limit c.self.inside.cells.items (reverse c.self.inside.closed) c.self.inside.halted c.self.inside.undrained c.self.inside.stop c.args.self.now c.self.view_is c.self.invariant c.requires.on) c.requires.there)
     (subst (λ ys. HasSweptAt c.self.inside.trace (record { cells = ys; outs = c.self.inside.undrained }) (record { cells = c.sweep_at.new.cells; outs = c.sweep_at.new.outs }) c.args.join c.args.input c.in-Ok.count) c.as_mut_slice.ensures.value c.in-Ok.ensures.ok))
 
 pub returns-in-Ok-clause-open : goal.returns-in-Ok-clause-open
 returns-in-Ok-clause-open c =
-    opens-now (run_plan c.self.inside.plan.nodes c.self.inside.certs c.self.inside.trace) c.self.inside.limit c.self.inside.cells.items (reverse c.self.inside.closed) c.self.inside.undrained c.self.inside.stop c.args.self.now c.self.view_is c.self.invariant c.as_mut_slice.result.now c.sweep_at.new.cells _ (reverse c.self.inside.closed) c.sweep_at.new.outs c.self.inside.stop c.as_mut_slice.ensures.value (with_items_is c.self.inside.cells c.sweep_at.new.cells (search (rules, places))) c.sweep_at.ensures.opens
+    opens-now (run_plan c.self.inside.plan.nodes c.self.inside.certs c.self.inside.trace) c.self.inside.limit c.self.inside.cells.items (reverse c.self.inside.closed) c.self.inside.halted c.self.inside.undrained c.self.inside.stop c.args.self.now c.self.view_is c.self.invariant c.as_mut_slice.result.now c.sweep_at.new.cells _ (reverse c.self.inside.closed) c.sweep_at.new.outs c.self.inside.stop c.as_mut_slice.ensures.value (with_items_is c.self.inside.cells c.sweep_at.new.cells (search (rules, places))) c.sweep_at.ensures.opens
 
 pub returns-in-Err-clause-err : goal.returns-in-Err-clause-err
 returns-in-Err-clause-err c =
-    stopped-now (run_plan c.self.inside.plan.nodes c.self.inside.certs c.self.inside.trace) c.self.inside.limit c.self.inside.cells.items (reverse c.self.inside.closed) c.self.inside.undrained c.self.inside.stop c.args.self.now c.self.view_is c.self.invariant _ _ c.sweep_at.new.outs c.in-Err.stop (λ o. IsCause o (Swept c.args.join c.args.input) c.in-Err.stop) (stop-none (run_plan c.self.inside.plan.nodes c.self.inside.certs c.self.inside.trace) c.self.inside.limit c.self.inside.cells.items (reverse c.self.inside.closed) c.self.inside.undrained c.self.inside.stop c.args.self.now c.self.view_is c.self.invariant c.requires.on) c.in-Err.ensures.refused
-    (swept-cause (run_plan c.self.inside.plan.nodes c.self.inside.certs c.self.inside.trace) c.self.inside.limit c.self.inside.cells.items (reverse c.self.inside.closed) c.self.inside.undrained c.self.invariant c.args.join c.args.input c.in-Err.stop (of-parts (run_plan c.self.inside.plan.nodes c.self.inside.certs c.self.inside.trace) c.self.inside.limit c.self.inside.cells.items (reverse c.self.inside.closed) c.self.inside.undrained c.self.inside.stop c.args.self.now c.self.view_is c.self.invariant (λ o. IsJoinInput o c.args.join c.args.input) (stop-none (run_plan c.self.inside.plan.nodes c.self.inside.certs c.self.inside.trace) c.self.inside.limit c.self.inside.cells.items (reverse c.self.inside.closed) c.self.inside.undrained c.self.inside.stop c.args.self.now c.self.view_is c.self.invariant c.requires.on) c.requires.there)
+    stopped-now (run_plan c.self.inside.plan.nodes c.self.inside.certs c.self.inside.trace) c.self.inside.limit c.self.inside.cells.items (reverse c.self.inside.closed) c.self.inside.halted c.self.inside.undrained c.self.inside.stop c.args.self.now c.self.view_is c.self.invariant _ _ c.sweep_at.new.outs c.in-Err.stop (λ o. IsCause o (Swept c.args.join c.args.input) c.in-Err.stop) (stop-none (run_plan c.self.inside.plan.nodes c.self.inside.certs c.self.inside.trace) c.self.inside.limit c.self.inside.cells.items (reverse c.self.inside.closed) c.self.inside.halted c.self.inside.undrained c.self.inside.stop c.args.self.now c.self.view_is c.self.invariant c.requires.on) c.in-Err.ensures.refused
+    (swept-cause (run_plan c.self.inside.plan.nodes c.self.inside.certs c.self.inside.trace) c.self.inside.limit c.self.inside.cells.items (reverse c.self.inside.closed) c.self.inside.halted c.self.inside.undrained c.self.invariant c.args.join c.args.input c.in-Err.stop (of-parts (run_plan c.self.inside.plan.nodes c.self.inside.certs c.self.inside.trace) c.self.inside.limit c.self.inside.cells.items (reverse c.self.inside.closed) c.self.inside.halted c.self.inside.undrained c.self.inside.stop c.args.self.now c.self.view_is c.self.invariant (λ o. IsJoinInput o c.args.join c.args.input) (stop-none (run_plan c.self.inside.plan.nodes c.self.inside.certs c.self.inside.trace) c.self.inside.limit c.self.inside.cells.items (reverse c.self.inside.closed) c.self.inside.halted c.self.inside.undrained c.self.inside.stop c.args.self.now c.self.view_is c.self.invariant c.requires.on) c.requires.there)
     (subst (λ ys. IsSweepStop c.self.inside.trace (record { cells = ys; outs = c.self.inside.undrained }) c.args.join c.args.input c.in-Err.stop) c.as_mut_slice.ensures.value c.in-Err.ensures.err))
