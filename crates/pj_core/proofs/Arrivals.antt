@@ -1,7 +1,6 @@
 -- An element arrives at a core.
-use Rattle.std.proofs.Common.{ℕ, ◌+◌, ◌<◌, ◌≤◌, Bool, true, false, cond, List, [], ◌∷◌, ◌++◌, ◌≡◌, ◌⊎◌, Option, Some, None, length, get_or, reverse, set, refl, sym, ap, ap₂, ◌∙◌, subst, inl, inr, arith, append-nil}
+use Rattle.std.proofs.Common.{ℕ, ◌<◌, ◌≤◌, Bool, true, false, cond, List, [], ◌∷◌, ◌++◌, ◌≡◌, Option, Some, None, length, get_or, refl, sym, ap, ◌∙◌, subst, arith, append-nil}
 use Rattle.std.proofs.lemmas.Bool.{false≢true}
-use Rattle.std.proofs.lemmas.List.{set-get_or}
 use Rattle.pj_plan.specs.declared.node.Node.{Node as Operation}
 use Rattle.pj_plan.specs.declared.node.Node.TheVariants.{Stream as StreamNode, Select as SelectNode, Project as ProjectNode, Union as UnionNode, Join as JoinNode, Group as GroupNode}
 use Rattle.pj_core.specs.Parts.{plan_node}
@@ -13,14 +12,13 @@ use Rattle.pj_events.specs.declared.events.Event.TheVariants.{Arrive}
 use Rattle.pj_events.specs.declared.events.Out.{Out}
 use Rattle.pj_events.specs.declared.events.Stop.{Stop}
 use Rattle.pj_events.specs.declared.events.Stop.TheVariants.{Limit, NoMemory}
-use Rattle.pj_events.specs.Plan.{Operator, Stream, Select, Project, Union, Join, Group, Node, Fed, after, hands, nowhere, operator_at}
+use Rattle.pj_events.specs.Plan.{Operator, Stream, Select, Project, Union, Join, Group, Node, Fed, after, hands, operator_at}
 use Rattle.pj_events.specs.History.{IsEntryAllowed, closed_after, nodes_from, reached_of, stream_node}
 use Rattle.pj_events.specs.OneThread.{Turn, arrival_of}
-use Rattle.pj_laws.specs.Climb.{stepped}
 use Rattle.pj_events.specs.Outcomes.{goes_beyond}
 use Rattle.pj_core.specs.declared.cell.Cell.{Cell}
 use Rattle.pj_core.specs.declared.cell.Work.{Work}
-use Rattle.pj_core.specs.Cells.{AreAs, Frame, IsAs, IsKind, Kind, StreamKind, cell_at, frame_at, frame_of, frames_in, kind_of, no_cell}
+use Rattle.pj_core.specs.Cells.{AreAs, Frame, IsAs, IsKind, Kind, StreamKind, cell_at, frame_at, kind_of}
 use Rattle.pj_core.specs.Climbing.{Climbs, GoBeyond, IsClimbStop, StaysAs}
 use Rattle.pj_core.specs.Cores.{StandsFor}
 use Rattle.pj_core.specs.Calls.{HasArrived, IsCause}

@@ -1,22 +1,21 @@
 -- What the takes, gives, sweeps and drains of a core answer, as its parts are seen.
-use Rattle.std.proofs.Common.{ℕ, zero, suc, ◌+◌, ◌<◌, ◌≤◌, Bool, true, false, cond, List, [], ◌∷◌, ◌++◌, ◌≡◌, Option, Some, None, map, length, sum, get_or, set, eqb, refl, sym, ap, ◌∙◌, subst, inl, arith, append-nil}
+use Rattle.std.proofs.Common.{ℕ, ◌+◌, ◌<◌, Bool, true, false, cond, List, [], ◌∷◌, ◌++◌, ◌≡◌, Option, Some, None, map, length, sum, eqb, refl, sym, ap, ◌∙◌, subst, inl, arith, append-nil}
 use Rattle.std.proofs.lemmas.List.{length-map}
-use Rattle.std.proofs.lemmas.Bool.{cases_eq, eqb-true, false≢true}
+use Rattle.std.proofs.lemmas.Bool.{eqb-true, false≢true}
 use Rattle.pj_plan.specs.declared.node.Node.{Node as Operation}
 use Rattle.pj_plan.specs.declared.node.Node.TheVariants.{Stream as StreamNode, Select as SelectNode, Project as ProjectNode, Union as UnionNode, Join as JoinNode, Group as GroupNode}
-use Rattle.pj_plan.specs.Canonical.{node_at, node_schema}
+use Rattle.pj_plan.specs.Canonical.{node_schema}
 use Rattle.pj_plan.specs.Nodes.{inputs_of, is_join}
 use Rattle.pj_plan.specs.Sound.{IsSoundOperator}
 use Rattle.pj_scheme.specs.Derived.{inputs_schemes, schemes_of}
-use Rattle.pj_pattern.specs.declared.element.Element.TheVariants.{Tuple}
 use Rattle.pj_events.specs.declared.events.Entry.{Entry}
 use Rattle.pj_events.specs.declared.events.Event.TheVariants.{Idle, Sweep as Swept}
 use Rattle.pj_events.specs.declared.events.Out.{Out}
 use Rattle.pj_events.specs.declared.events.Stop.{Stop}
 use Rattle.pj_events.specs.declared.events.Stop.TheVariants.{Limit, NoMemory}
-use Rattle.pj_events.specs.Join.{JoinData, inputs}
+use Rattle.pj_events.specs.Join.{inputs}
 use Rattle.pj_events.specs.History.{nodes_from, pending_in}
-use Rattle.pj_events.specs.OneThread.{next_probe, plain}
+use Rattle.pj_events.specs.OneThread.{next_probe}
 use Rattle.pj_laws.proofs.NextProbe.{none-is-pending}
 use Rattle.pj_join.specs.declared.found.Found.{Found}
 use Rattle.pj_join.specs.Joins.{JoinView, join_data}
@@ -24,17 +23,17 @@ use Rattle.pj_core.specs.declared.cell.Cell.{Cell}
 use Rattle.pj_core.specs.declared.cell.Work.{Work}
 use Rattle.pj_core.specs.declared.cell.Work.TheVariants.{Stream as StreamCell, Select as SelectCell, Project as ProjectCell, Union as UnionCell, Join as JoinCell, Group as GroupCell}
 use Rattle.pj_core.specs.Acts.{HasGivenOn, HasJoinInput, HasSweptAt, IsGiveStop, IsSweepStop, TakesFirst, first_pending}
-use Rattle.pj_core.specs.Calls.{CoreTakes, FindsNone, HasGiven, HasSwept, IsCause, IsGiveCause, IsJoinInput, IsOpen, IsTakenIn, StopsNow, all_pending, pending_kept}
-use Rattle.pj_core.specs.Cells.{Frame, JoinKind, Kind, cell_at, frame_at, frame_of, frames_in, kept_seen, kind_of}
-use Rattle.pj_core.specs.Cores.{CoreState, StandsFor}
-use Rattle.pj_core.specs.Parts.{IsMadeOf, core_of, frames_of, kind_for, plan_node}
+use Rattle.pj_core.specs.Calls.{CoreTakes, FindsNone, HasGiven, HasSwept, IsCause, IsGiveCause, IsJoinInput, IsTakenIn, pending_kept}
+use Rattle.pj_core.specs.Cells.{Frame, cell_at, frame_at, kept_seen, kind_of}
+use Rattle.pj_core.specs.Cores.{StandsFor}
+use Rattle.pj_core.specs.Parts.{IsMadeOf, core_of, kind_for, plan_node}
 use Rattle.pj_core.specs.Plans.{RunPlan, nodes_of}
 use Rattle.pj_core.proofs.Climbs.{frame-at}
 use Rattle.pj_core.proofs.Frames.{certs_at, frame-is}
 use Rattle.pj_core.proofs.Stands.{are}
-use Rattle.pj_core.proofs.Stops.{nothing-out, on, quiet-noted, same-nodes, stops-now}
+use Rattle.pj_core.proofs.Stops.{nothing-out, quiet-noted, same-nodes}
 use Rattle.pj_core.proofs.Sweeps.{has-swept, sweep-stop}
-use Rattle.pj_core.proofs.Takes.{first_there, give-stop, has-given, next-is, open-there, sum-none, takes-next}
+use Rattle.pj_core.proofs.Takes.{first_there, give-stop, has-given, next-is, sum-none, takes-next}
 use Rattle.pj_core.proofs.Words.{long}
 
 -- ---- takes

@@ -1,6 +1,6 @@
 -- One node of a core changes.
-use Rattle.std.proofs.Common.{ℕ, zero, suc, ◌+◌, ◌<◌, ◌≢◌, ◌++◌, Bool, true, false, cond, List, [], ◌∷◌, ◌≡◌, Option, Some, None, Result, Ok, Err, IfOk, length, map, get_or, set, eqb, refl, sym, ap, ap₂, ◌∙◌, subst, arith}
-use Rattle.std.proofs.lemmas.Bool.{eq-eqb, eqb-true, false≢true}
+use Rattle.std.proofs.Common.{ℕ, zero, suc, ◌+◌, ◌<◌, ◌++◌, Bool, true, false, cond, List, [], ◌∷◌, ◌≡◌, Option, Some, None, Result, Ok, Err, IfOk, length, map, get_or, set, eqb, refl, sym, ap, ◌∙◌, subst, arith}
+use Rattle.std.proofs.lemmas.Bool.{eq-eqb, false≢true}
 use Rattle.std.proofs.lemmas.List.{get_or_default}
 use Rattle.std.proofs.Math.Seq.{map-set_same}
 use Rattle.pj_join.specs.declared.found.Found.{Found}
@@ -15,9 +15,9 @@ use Rattle.pj_events.specs.Outcomes.{elements_out}
 use Rattle.pj_join.specs.Joins.{found_of}
 use Rattle.pj_core.specs.Acts.{HasGivenAt, HasProbed, IsGiveStop, IsProbeStop, JoinProbed, JoinTook, TakesFirst, WorkTakes, first_pending, found_outs, with_work}
 use Rattle.pj_core.specs.Calls.{pending_kept}
-use Rattle.pj_core.specs.Cells.{AreLinked, Kind, KeepsOpen, cell_at, frame_of, frames_in, kept_seen, kind_of, no_cell}
+use Rattle.pj_core.specs.Cells.{Frame, Kind, KeepsOpen, cell_at, frame_of, frames_in, kept_seen, kind_of, no_cell}
 use Rattle.pj_core.specs.Climbing.{Climbs, GoBeyond, IsClimbStop, StayOpen, StaysAs}
-use Rattle.pj_core.proofs.Climbs.{opens-set}
+use Rattle.pj_core.proofs.Climbs.{climbs-rows-out, long-frames, opens-set, same-frame, stays-none}
 use Rattle.pj_core.proofs.Firsts.{first_from}
 
 -- the cell with another work
@@ -37,9 +37,6 @@ opens-work cells n d work lt k = opens-set cells n (worked (get_or cells n d) wo
 
 pub opens-cell : (cells : List Cell) (n : ℕ) (d cell : Cell) → n < length cells → KeepsOpen (get_or cells n d).work cell.work → StayOpen cells (set cells n cell)
 opens-cell cells n d cell lt k = opens-set cells n cell lt (subst (λ (x : Cell). KeepsOpen x.work cell.work) (get_or_default cells n d no_cell lt) k)
-
-pub opens-same : (cells : List Cell) (n : ℕ) (d cell : Cell) → n < length cells → cell.work ≡ (get_or cells n d).work → StayOpen cells (set cells n cell)
-opens-same cells n d cell lt e = opens-cell cells n d cell lt (subst (λ (w : Work). KeepsOpen (get_or cells n d).work w) (sym e) (λ o. (o, λ t h. h)))
 
 pub opens-then : (old mid new : List Cell) → StayOpen old mid → StayOpen mid new → StayOpen old new
 opens-then old mid new a b = λ o. let p = a o in let q = b p.0 in (q.0, λ n t h. q.1 n t (p.1 n t h))
@@ -85,9 +82,6 @@ give_stop cells mid probe rows from (Limit at) g e s = record {
 give_stop cells mid probe rows from NoMemory g e s = tt
 
 -- ---- probes
-
-pub pending-here : (cells : List Cell) (n : ℕ) (d : Cell) (k : ℕ) → n < length cells → k ≡ pending_kept (kept_seen (get_or cells n d).work) → k ≢ 0 → 0 < pending_kept (kept_seen (cell_at cells n).work)
-pending-here cells n d k lt e z = let g = ap (λ (x : Cell). pending_kept (kept_seen x.work)) (get_or_default cells n d no_cell lt) in omega (arith, e, z, g)
 
 pub none-here : (cells : List Cell) (n : ℕ) (d : Cell) (k : ℕ) → n < length cells → k ≡ pending_kept (kept_seen (get_or cells n d).work) → k ≡ 0 → pending_kept (kept_seen (cell_at cells n).work) ≡ 0
 none-here cells n d k lt e z = ap (λ (x : Cell). pending_kept (kept_seen x.work)) (sym (get_or_default cells n d no_cell lt)) ∙ sym e ∙ z
@@ -139,6 +133,51 @@ module _ (cells : List Cell) (n : ℕ) (d : Cell) (work : Work) (before behind :
   }
   probe-stop NoMemory g p = (lt, p)
 
-pub fewer-here : (cells new : List Cell) (n : ℕ) (d : Cell) (k : ℕ) → n < length cells → k ≡ pending_kept (kept_seen (get_or cells n d).work) → pending_kept (kept_seen (cell_at new n).work) < k
-    → pending_kept (kept_seen (cell_at new n).work) < pending_kept (kept_seen (cell_at cells n).work)
-fewer-here cells new n d k lt e f = let g = ap (λ (x : Cell). pending_kept (kept_seen x.work)) (get_or_default cells n d no_cell lt) in omega (arith, e, f, g)
+-- a probe of the last node hands out what it finds
+module _ (cells : List Cell) (n : ℕ) (d : Cell) (work : Work) (u u' : List Out) (ticket : ℕ) (lt : n < length cells) (P : JoinProbed (get_or cells n d).work work u u' ticket) where
+  here : get_or cells n d ≡ cell_at cells n
+  here = get_or_default cells n d no_cell lt
+
+  abbrev rows : List (List Value)
+  rows = (found_of P.join ticket).rows
+
+  found-rows : map Out.Tuple rows ≡ found_outs (cell_at cells n).work ticket
+  found-rows = ap (λ (w : Work). found_outs w ticket) (sym P.was) ∙ ap (λ (x : Cell). found_outs x.work ticket) here
+
+  abbrev pub after-probe : List Cell
+  after-probe = set cells n (worked (get_or cells n d) work)
+
+  as-with : after-probe ≡ with_work cells n work (cell_at cells n).peak
+  as-with = ap (λ (x : Cell). set cells n (worked x work)) here
+
+  pub has-probed-out : (cell_at cells n).above ≡ None → kind_of work ≡ kind_of (get_or cells n d).work → pending_kept (kept_seen (cell_at after-probe n).work) < pending_kept (kept_seen (cell_at cells n).work)
+      → HasProbed (record { cells = cells; outs = u }) (record { cells = after-probe; outs = u' }) n
+  has-probed-out top kind fewer = record {
+    there = lt;
+    ticket = ticket;
+    work = work;
+    probed = record {
+      join = P.join;
+      was = ap (λ (x : Cell). x.work) (sym here) ∙ P.was;
+      takes = P.takes;
+      finds = P.finds;
+      is = P.is;
+      hands = sym found-rows;
+    };
+    climbs =
+        subst (λ (xs : List Cell). Climbs (record { cells = xs; outs = u }) (record { cells = after-probe; outs = u' }) n (elements_out (found_outs (cell_at cells n).work ticket))) as-with
+        (subst (λ (os : List Out). Climbs (record { cells = after-probe; outs = u }) (record { cells = after-probe; outs = u' }) n (elements_out os)) found-rows
+        (subst (λ (os : List Out). Climbs (record { cells = after-probe; outs = u }) (record { cells = after-probe; outs = os }) n (elements_out (map Out.Tuple rows))) (sym P.hands)
+        (climbs-rows-out after-probe rows u n (subst (λ (m : ℕ). n < m) (sym long) lt) (still-top frames top))));
+    stays = subst (λ (xs : List Cell). StaysAs xs after-probe) as-with (stays-none after-probe);
+    fewer = fewer;
+  }
+    where
+      frames : frames_in after-probe ≡ frames_in cells
+      frames = frames-work cells n d work kind
+
+      long : length after-probe ≡ length cells
+      long = long-frames cells after-probe frames
+
+      still-top : frames_in after-probe ≡ frames_in cells → (cell_at cells n).above ≡ None → (cell_at after-probe n).above ≡ None
+      still-top e none = ap (λ (f : Frame). f.above) (same-frame cells after-probe n e) ∙ none

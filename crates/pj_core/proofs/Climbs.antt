@@ -12,11 +12,11 @@ use Rattle.pj_events.specs.declared.events.Out.TheVariants.{Tuple as RowOut, Pun
 use Rattle.pj_events.specs.declared.events.Out.{Out}
 use Rattle.pj_events.specs.declared.events.Stop.{Stop}
 use Rattle.pj_events.specs.declared.events.Stop.TheVariants.{Limit, NoMemory}
-use Rattle.pj_events.specs.Plan.{Operator, Stream, Select, Project, Union, Join, Group, Node, Comes, after, hands, nowhere, operator_at}
+use Rattle.pj_events.specs.Plan.{Operator, Stream, Select, Project, Union, Join, Group, Node, Comes, hands, nowhere, operator_at}
 use Rattle.pj_events.specs.History.{out_of}
 use Rattle.pj_events.specs.Outcomes.{Arrival, Climb, Beyond, Below, Level, arriving, beyond_of, climb, climb_each, counts, is_full, passed, way_up}
-use Rattle.pj_laws.specs.Climb.{Above, Climbed, ClimbsOn, IsTree, above, climbed, climbed_none, in_two, node_after, node_hands, with_brought}
-use Rattle.pj_laws.specs.ClimbLimits.{LevelsClimb, climb_then, level_at, reached_with}
+use Rattle.pj_laws.specs.Climb.{Above, Climbed, above, climbed, in_two, node_after, node_hands, with_brought}
+use Rattle.pj_laws.specs.ClimbLimits.{climb_then, level_at, reached_with}
 use Rattle.pj_laws.proofs.ClimbingParts.{climbs-on}
 use Rattle.pj_laws.proofs.ClimbingLimits.{climb-parts, levels-climb}
 use Rattle.pj_laws.proofs.Trees.{length-brought, length-climbed, none-before}
@@ -26,7 +26,7 @@ use Rattle.pj_core.specs.declared.cell.Work.{Work}
 use Rattle.pj_core.specs.declared.cell.Work.TheVariants.{Stream as StreamCell, Select as SelectCell, Project as ProjectCell, Union as UnionCell, Join as JoinCell, Group as GroupCell}
 use Rattle.pj_core.specs.Calls.{IsTakenIn}
 use Rattle.pj_core.specs.Cells.{AreAs, AreLinked, Follows, FitsKind, Frame, IsLinked, HasLimit, HaveLimit, IsAs, IsFull, IsOrderly, KeepsOpen, above_pair, cell_at, count_in, count_seen, frame_at, frame_of, frames_in, handed_list, kept_seen, kind_of, no_cell, width_of}
-use Rattle.pj_core.specs.Climbing.{AreCounted, Climbs, GoBeyond, HasEntered, IsClimbStop, IsEntryStop, Leaves, Scene, StayOpen, StaysAs, beyond_in, count_at, work_at}
+use Rattle.pj_core.specs.Climbing.{AreCounted, Climbs, GoBeyond, HasEntered, IsClimbStop, IsEntryStop, Leaves, Scene, StayOpen, StaysAs, count_at, work_at}
 use Rattle.pj_core.proofs.Ways.{above-same, both-at, ins, ins-climbed, ins-set, nothing-brought, tree-same, way-long, way-past, way-same}
 
 -- ---- frames
@@ -475,3 +475,14 @@ pub entry-stop : (cells : List Cell) (from place input : ℕ) (e : Element) (sto
     → IsEntryStop cells place stop → IsClimbStop cells from (e ∷ []) stop
 entry-stop cells from place input e (Limit at) lt linked feeds s = subst (λ (n : ℕ). GoBeyond cells from (e ∷ []) (Some n)) (sym s.0) (stops-there cells from place input e lt linked feeds s.1)
 entry-stop cells from place input e NoMemory lt linked feeds s = tt
+
+-- rows that the last node hands up are handed out
+pub climbs-rows-out : (cells : List Cell) (rows : List (List Value)) (outs : List Out) (from : ℕ) → from < length cells → (cell_at cells from).above ≡ None
+    → Climbs (record { cells = cells; outs = outs }) (record { cells = cells; outs = outs ++ map RowOut rows }) from (elements_out (map RowOut rows))
+climbs-rows-out cells [] outs from lt none =
+    subst (λ (os : List Out). Climbs (record { cells = cells; outs = outs }) (record { cells = cells; outs = os }) from []) (sym (append-nil outs)) (climbs-none (record { cells = cells; outs = outs }) from)
+climbs-rows-out cells (row ∷ rows) outs from lt none =
+    climbs-then (record { cells = cells; outs = outs }) (record { cells = cells; outs = outs ++ RowOut row ∷ [] }) from (Tuple row ∷ []) (elements_out (map RowOut rows))
+    (climbs-out cells outs (outs ++ RowOut row ∷ []) from (Tuple row) lt none refl) refl (record { cells = cells; outs = outs ++ map RowOut (row ∷ rows) })
+    (subst (λ (os : List Out). Climbs (record { cells = cells; outs = outs ++ RowOut row ∷ [] }) (record { cells = cells; outs = os }) from (elements_out (map RowOut rows)))
+    (append_assoc outs (RowOut row ∷ []) (map RowOut rows)) (climbs-rows-out cells rows (outs ++ RowOut row ∷ []) from lt none))

@@ -1,5 +1,5 @@
 -- An event at a core: a local step at one node, and the climb of what it hands up.
-use Rattle.std.proofs.Common.{ℕ, zero, suc, ◌+◌, ◌<◌, ◌≤◌, ◌≢◌, max, Bool, true, false, cond, List, [], ◌∷◌, ◌++◌, ◌≡◌, ◌⊎◌, Option, Some, None, map, length, get_or, set, refl, sym, ap, ap₂, ◌∙◌, subst, inl, inr, arith, append_assoc}
+use Rattle.std.proofs.Common.{ℕ, zero, suc, ◌+◌, ◌<◌, ◌≤◌, max, Bool, false, cond, List, [], ◌∷◌, ◌++◌, ◌≡◌, ◌⊎◌, Option, Some, None, map, length, get_or, set, refl, sym, ap, ap₂, ◌∙◌, subst, inl, inr, arith, append_assoc}
 use Rattle.std.proofs.Math.Seq.{map-set_same}
 use Rattle.std.proofs.lemmas.Bool.{cases_eq}
 use Rattle.std.proofs.lemmas.List.{get_or-map, get_or-set_other, get_or-set_same, set-get_or}
@@ -8,7 +8,6 @@ use Rattle.pj_pattern.specs.declared.element.Element.{Element}
 use Rattle.pj_events.specs.declared.events.Entry.{Entry}
 use Rattle.pj_events.specs.declared.events.Event.{Event}
 use Rattle.pj_events.specs.declared.events.Out.{Out}
-use Rattle.pj_events.specs.Join.{upto_from}
 use Rattle.pj_events.specs.Plan.{Operator, Node, Local, after, hands, nowhere, operator_at}
 use Rattle.pj_events.specs.History.{IsEntryAllowed, closed_after, halted_after, nodes_from, notes_of, out_of, reached_of, state_in, stop_after}
 use Rattle.pj_events.specs.Outcomes.{Level, arrivals_at, beyond_of, climb, goes_beyond, origin_of, stored_at, way_up}
@@ -18,19 +17,18 @@ use Rattle.pj_laws.specs.ClimbKept.{handed_by, undrained_with}
 use Rattle.pj_laws.specs.ClimbLimits.{begun_by, begun_where}
 use Rattle.pj_laws.proofs.ClimbingKept.{stores-grow}
 use Rattle.pj_laws.proofs.ClimbingLimits.{beyond-is-climbed, levels-climb}
-use Rattle.pj_laws.proofs.Probes.{length-from}
 use Rattle.pj_laws.proofs.Upto.{get_or-upto}
 use Rattle.pj_core.specs.declared.cell.Cell.{Cell}
 use Rattle.pj_core.specs.Cells.{AreAs, HaveLimit, IsAs, cell_at, count_seen, frame_of, frames_in, kept_seen, no_cell, peak_seen, stored_kept}
-use Rattle.pj_core.specs.Climbing.{AreCounted, Climbs, GoBeyond, Leaves, Scene, StaysAs, beyond_in, count_at}
+use Rattle.pj_core.specs.Climbing.{Climbs, GoBeyond, Leaves, StaysAs, count_at}
 use Rattle.pj_core.specs.Cores.{StandsFor}
-use Rattle.pj_core.specs.Parts.{IsMadeOf, all_kept, core_of}
+use Rattle.pj_core.specs.Parts.{IsMadeOf, core_of}
 use Rattle.pj_core.specs.Plans.{RunPlan, nodes_of}
 use Rattle.pj_core.proofs.Climbs.{as-set, long-frames}
 use Rattle.pj_core.proofs.Frames.{limits-of}
 use Rattle.pj_core.proofs.Planned.{nodes-long, tree}
-use Rattle.pj_core.proofs.Stands.{Goes, are, kept-is, long-now, noted, stored-is}
-use Rattle.pj_core.proofs.Ways.{ins, way-long, way-past, way-same}
+use Rattle.pj_core.proofs.Stands.{are, kept-is, long-now, noted, stored-is}
+use Rattle.pj_core.proofs.Ways.{way-past}
 
 -- ---- a local step
 

@@ -1,5 +1,5 @@
 -- The nodes that a core is made of are those of its plan.
-use Rattle.std.proofs.Common.{ℕ, zero, suc, ◌+◌, ◌<◌, ◌≤◌, Bool, true, false, cond, List, [], ◌∷◌, ◌++◌, ◌≡◌, ◌⊎◌, Option, Some, None, map, length, get_or, refl, sym, ap, ap₂, ◌∙◌, subst, inl, inr, arith}
+use Rattle.std.proofs.Common.{ℕ, zero, suc, ◌+◌, ◌<◌, ◌≤◌, Bool, List, [], ◌∷◌, ◌≡◌, Option, Some, None, map, length, get_or, refl, sym, ap, ◌∙◌, subst, inl, inr, arith}
 use Rattle.std.specs.Prelude.{All, slice_get, slice_index}
 use Rattle.std.proofs.lemmas.Bool.{cases_lt}
 use Rattle.std.proofs.lemmas.List.{length-append, length-map}
@@ -12,21 +12,20 @@ use Rattle.pj_plan.specs.declared.node.Node.TheVariants.{Stream as StreamNode, S
 use Rattle.pj_plan.specs.declared.node.PlanNode.{PlanNode}
 use Rattle.pj_plan.specs.Canonical.{no_node, node_schema}
 use Rattle.pj_core.specs.Parts.{plan_node}
-use Rattle.pj_plan.specs.Nodes.{inputs_of, is_join, parent_of}
+use Rattle.pj_plan.specs.Nodes.{inputs_of, parent_of}
 use Rattle.pj_plan.specs.Sound.{IsSoundAgg, IsSoundOperator, IsSoundPlan, agg_kind_at, kind_at}
 use Rattle.pj_shape.specs.Columns.{kinds_of}
 use Rattle.pj_shape.specs.declared.groups.Agg.{Agg}
 use Rattle.pj_shape.specs.declared.groups.Agg.TheVariants.{Count, Sum, Min, Max}
 use Rattle.pj_group.specs.Steps.{Fits, IsInRange}
 use Rattle.pj_scheme.specs.Derived.{schemes_of}
-use Rattle.pj_events.specs.Join.{JoinData, JoinState, start}
-use Rattle.pj_events.specs.Plan.{Operator, Stream, Select, Project, Union, Join, Group, Node, Local, Comes, Fed, Own, after, after_all, operator_at}
+use Rattle.pj_events.specs.Join.{JoinData}
+use Rattle.pj_events.specs.Plan.{Operator, Stream, Select, Project, Union, Join, Group, Local, Comes, Fed, Own, after, after_all, operator_at}
 use Rattle.pj_events.specs.declared.events.Entry.{Entry}
 use Rattle.pj_events.specs.History.{nodes_from}
 use Rattle.pj_laws.specs.Climb.{Above, above}
 use Rattle.pj_laws.proofs.Nodes.{operator-from}
-use Rattle.pj_core.specs.declared.cell.Cell.{Cell}
-use Rattle.pj_core.specs.Cells.{AreLinked, FitsKind, Frame, GroupKind, HasLimit, HaveLimit, IsKind, IsLinked, JoinKind, Kind, ProjectKind, SelectKind, StreamKind, UnionKind, above_pair, cell_at, frame_at, frame_of, frames_in, no_frame}
+use Rattle.pj_core.specs.Cells.{AreLinked, FitsKind, Frame, GroupKind, HasLimit, HaveLimit, IsKind, IsLinked, JoinKind, Kind, ProjectKind, SelectKind, StreamKind, UnionKind, above_pair, frame_at}
 use Rattle.pj_core.specs.Parts.{frame_for, frames_from, frames_of, kind_for}
 use Rattle.pj_core.specs.Plans.{RunPlan, certs_behind, nodes_of, nodes_with, operator_of}
 use Rattle.pj_core.proofs.Planned.{above-is}

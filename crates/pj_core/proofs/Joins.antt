@@ -1,16 +1,14 @@
 -- What a join does of its own, as a node of a core.
-use Rattle.std.proofs.Common.{ℕ, zero, suc, ◌+◌, ◌<◌, ◌≤◌, Bool, true, false, cond, not, ◌&&◌, ◌||◌, List, [], ◌∷◌, ◌++◌, ◌≡◌, Option, Some, None, map, filter, length, eqb, refl, sym, ap, ◌∙◌, subst, arith, append-nil}
-use Rattle.std.proofs.lemmas.Bool.{eqb-true, false≢true}
-use Rattle.pj_value.specs.declared.values.Value.{Value}
+use Rattle.std.proofs.Common.{ℕ, suc, ◌≤◌, Bool, true, false, cond, not, ◌&&◌, ◌||◌, List, [], ◌∷◌, ◌++◌, ◌≡◌, Option, Some, None, map, filter, length, eqb, refl, sym, ap, ◌∙◌, subst, arith, append-nil}
+use Rattle.std.proofs.lemmas.Bool.{false≢true}
 use Rattle.pj_events.specs.declared.events.Out.{Out}
 use Rattle.pj_events.specs.Join.{Give, PunctAt, Step, Sweep, Take, TupleAt, has, is_held, joined, results, run, start}
 use Rattle.pj_events.specs.KeptState.{kept_ripe, swept, without}
 use Rattle.pj_join.specs.declared.found.Found.{Found}
-use Rattle.pj_join.specs.Handed.{JoinProbes, StandsProbed, behind_probe, rows_probed}
+use Rattle.pj_join.specs.Handed.{JoinProbes, StandsProbed, rows_probed}
 use Rattle.pj_join.specs.Joins.{IsTaken, JoinTakes, JoinView, StandsFor as JoinStandsFor, StandsTaken, after}
-use Rattle.pj_core.specs.declared.cell.Work.{Work}
 use Rattle.pj_core.specs.declared.cell.Work.TheVariants.{Join as JoinCell}
-use Rattle.pj_core.specs.Acts.{FindsResults, JoinProbed, WorkProbes, WorkTakes}
+use Rattle.pj_core.specs.Acts.{WorkProbes, WorkTakes}
 use Rattle.pj_core.specs.Cells.{IsOrderly, IsOrderlyJoin, KeepsOpen}
 
 -- ---- lists

@@ -1,17 +1,16 @@
 -- Looks at a core.
-use Rattle.std.proofs.Common.{ℕ, zero, suc, ◌+◌, ◌*◌, ◌^◌, ◌<◌, ◌≤◌, max, Bool, true, false, List, [], ◌∷◌, ◌++◌, ◌≡◌, Option, Some, None, map, length, sum, get_or, drop, refl, sym, ap, ap₂, ◌∙◌, subst, inl, arith, append-nil}
+use Rattle.std.proofs.Common.{ℕ, suc, ◌+◌, ◌*◌, ◌^◌, ◌<◌, ◌≤◌, Bool, List, [], ◌∷◌, ◌++◌, ◌≡◌, Option, Some, None, map, length, sum, get_or, refl, sym, ap, ap₂, ◌∙◌, subst, inl, arith, append-nil}
 use Rattle.std.proofs.lemmas.List.Sums.{sum-map, sum_by-cons}
-use Rattle.std.proofs.lemmas.List.{get_or-map, length-map}
+use Rattle.std.proofs.lemmas.List.{get_or-map}
 use Rattle.pj_plan.specs.Nodes.{streams_of}
 use Rattle.pj_events.specs.declared.events.Entry.{Entry}
 use Rattle.pj_events.specs.declared.events.Event.TheVariants.{Look}
 use Rattle.pj_events.specs.declared.events.Look.{Look as TheLook}
 use Rattle.pj_events.specs.declared.events.Out.{Out}
 use Rattle.pj_events.specs.declared.events.Stop.{Stop}
-use Rattle.pj_events.specs.Join.{upto_from}
 use Rattle.pj_events.specs.KeptState.{lacking}
-use Rattle.pj_events.specs.Plan.{Node, Operator, Stream, Select, Project, Union, Join, Group, operator_at}
-use Rattle.pj_events.specs.History.{nodes_from, pending_in, reached_of, state_in}
+use Rattle.pj_events.specs.Plan.{Node, Operator, Stream, Select, Project, Union, Join, Group}
+use Rattle.pj_events.specs.History.{nodes_from, pending_in, state_in}
 use Rattle.pj_events.specs.Outcomes.{peak_of}
 use Rattle.pj_events.specs.OneThread.{plain}
 use Rattle.pj_events.specs.CoreKept.{CoreKept, KeptOperator, NothingKept, UnionKept, JoinKept, GroupKept, kept_in}
@@ -23,12 +22,12 @@ use Rattle.pj_core.specs.declared.look.Sums.{Sums}
 use Rattle.pj_core.specs.Calls.{IsLookAt, IsPeak, Tells, ended_of, opened_in, pending_kept, stored_in, waiting_in}
 use Rattle.pj_core.specs.Cells.{IsOrderly, cell_at, kept_seen, no_cell, peak_seen, stored_kept}
 use Rattle.pj_core.specs.Climbing.{AreOrderly}
-use Rattle.pj_core.specs.Cores.{CoreState, Notes, StandsFor}
+use Rattle.pj_core.specs.Cores.{StandsFor}
 use Rattle.pj_core.specs.Looks.{AddsNode, AreAddable, AreFew, AreWith, opened_kept, total, waiting_kept}
 use Rattle.pj_core.specs.Parts.{IsMadeOf, core_of}
 use Rattle.pj_core.specs.Plans.{RunPlan, nodes_of}
 use Rattle.pj_core.proofs.Planned.{nodes-long}
-use Rattle.pj_core.proofs.Stands.{are, kept-is, long-now, same-kept}
+use Rattle.pj_core.proofs.Stands.{are, kept-is, long-now}
 use Rattle.pj_core.proofs.Stops.{closed-same, off, same-outs, nothing-out, quiet-noted, same-nodes, stop-entered, stop-same}
 
 -- ---- sums

@@ -1,7 +1,7 @@
 -- The nodes of a new core.
-use Rattle.std.proofs.Common.{ℕ, zero, suc, ◌+◌, ◌^◌, ◌<◌, ◌≤◌, Bool, true, false, cond, List, [], ◌∷◌, ◌++◌, ◌≡◌, None, map, length, get_or, drop, refl, sym, ap, ap₂, ◌∙◌, subst, inl, inr, arith, append_assoc, append-nil}
+use Rattle.std.proofs.Common.{ℕ, zero, suc, ◌+◌, ◌^◌, ◌<◌, ◌≤◌, Bool, true, false, cond, List, [], ◌∷◌, ◌++◌, ◌≡◌, None, map, length, get_or, drop, refl, sym, ap, ap₂, ◌∙◌, subst, inl, inr, arith, append_assoc}
 use Rattle.std.proofs.lemmas.Bool.{cases_lt, false≢true}
-use Rattle.std.proofs.lemmas.List.{drop-drop, drop_all, drop_more, ext_get_or, get_or-drop, get_or-map, get_or_at, length-map, length_push}
+use Rattle.std.proofs.lemmas.List.{drop-drop, drop_more, ext_get_or, get_or-drop, get_or-map, get_or_at, length-map, length_push}
 use Rattle.pj_events.specs.declared.events.Out.{Out}
 use Rattle.pj_events.specs.Join.{upto_from}
 use Rattle.pj_events.specs.Plan.{Node}
@@ -21,8 +21,7 @@ use Rattle.pj_plan.specs.declared.node.PlanNode.{PlanNode}
 use Rattle.pj_plan.specs.Canonical.{no_node, node_at, node_schema}
 use Rattle.pj_plan.specs.Sound.{IsSoundOperator, IsSoundPlan}
 use Rattle.pj_scheme.specs.Derived.{inputs_schemes, schemes_of}
-use Rattle.pj_events.specs.Join.{AreCertified, JoinData}
-use Rattle.pj_events.specs.Plan.{operator_at}
+use Rattle.pj_events.specs.Join.{AreCertified}
 use Rattle.pj_laws.specs.HistoryLaws.{AllAreCertified, Certified}
 use Rattle.pj_join.specs.Joins.{join_data}
 use Rattle.pj_core.specs.declared.cell.Cell.{Cell}
@@ -133,15 +132,6 @@ module _ (plan : RunPlan) (limit : ℕ) (cells : List Cell) (joins number : ℕ)
       step : (b : Bool) → cond b (joins + 1) joins ≤ joins + 1
       step true = omega arith
       step false = omega arith
-
-pub made-none : (plan : RunPlan) (limit : ℕ) → MadeSoFar plan limit [] 0 0
-made-none plan limit = record { parts = refl; long = refl; few = omega arith }
-
-pub made-all : (plan : RunPlan) (limit : ℕ) (cells : List Cell) (joins number : ℕ) → MadeSoFar plan limit cells joins number → number ≡ length plan.nodes → cells ≡ map fresh_cell (frames_of plan limit)
-made-all plan limit cells joins number M e =
-    sym (append-nil cells)
-    ∙ ap (λ (ns : List PlanNode). cells ++ map fresh_cell (frames_from plan.nodes limit number (drop joins plan.certs) ns)) (sym (drop_all number plan.nodes (let l = e in omega (arith, l))))
-    ∙ M.parts
 
 -- ---- a new core
 

@@ -1,5 +1,5 @@
 -- Entries that a core makes one after the other, and how it stops among them.
-use Rattle.std.proofs.Common.{ℕ, Bool, true, false, cond, List, [], ◌∷◌, ◌++◌, ◌≡◌, None, refl, sym, ap, ◌∙◌, subst, append_assoc}
+use Rattle.std.proofs.Common.{ℕ, Bool, cond, List, [], ◌∷◌, ◌++◌, ◌≡◌, None, refl, sym, ap, ◌∙◌, subst, append_assoc}
 use Rattle.std.proofs.lemmas.List.{append-nil}
 use Rattle.pj_events.specs.declared.events.Entry.{Entry}
 use Rattle.pj_events.specs.declared.events.Event.TheVariants.{Stopped, Sweep as Swept}
@@ -15,7 +15,7 @@ use Rattle.pj_laws.proofs.Limits.{within-append}
 use Rattle.pj_core.specs.Plans.{RunPlan, nodes_of}
 use Rattle.pj_core.specs.Cores.{CoreState, StandsFor, nodes_after, nodes_in}
 use Rattle.pj_core.specs.Calls.{HasSwept, IsCause, StopsNow}
-use Rattle.pj_core.specs.Turns.{Makes, MakesSome, StopsMaking, probing, sweeping, sweeping_all, swept_where, working}
+use Rattle.pj_core.specs.Turns.{Makes, MakesSome, StopsMaking, probing, sweeping, swept_where, working}
 
 -- ---- in general
 
@@ -160,15 +160,6 @@ stops-at-sweep a b join input stop s c = record {
 }
 
 -- ---- probes and sweeps
-
-pub sweeps-where : (a b : CoreState) (sweeps : Bool) → sweeps ≡ true → Makes a b (sweeping_all a) → Makes a b (swept_where sweeps a)
-sweeps-where a b sweeps e m = subst (λ (s : Bool). Makes a b (swept_where s a)) (sym e) m
-
-pub sweeps-nowhere : (a : CoreState) (sweeps : Bool) → sweeps ≡ false → a.kept.stop ≡ None → Makes a a (swept_where sweeps a)
-sweeps-nowhere a sweeps e on = subst (λ (s : Bool). Makes a a (swept_where s a)) (sym e) (makes-none a on)
-
-pub stops-where : (a b : CoreState) (sweeps : Bool) (stop : Stop) → sweeps ≡ true → StopsMaking a b (sweeping_all a) stop → StopsMaking a b (swept_where sweeps a) stop
-stops-where a b sweeps stop e m = subst (λ (s : Bool). StopsMaking a b (swept_where s a) stop) (sym e) m
 
 where-same : (a b : CoreState) (sweeps : Bool) (h : List Entry) → b.plan ≡ a.plan → swept_where sweeps b h ≡ swept_where sweeps a h
 where-same a b sweeps h p = ap (λ (plan : RunPlan). cond sweeps (sweeps_at (nodes_from (nodes_of plan) h) (places_from 0 (nodes_from (nodes_of plan) h))) []) p

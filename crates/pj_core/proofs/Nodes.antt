@@ -1,16 +1,16 @@
 -- What an element does to one node.
-use Rattle.std.proofs.Common.{ℕ, zero, suc, ◌+◌, ◌<◌, ◌≤◌, ◌≢◌, Bool, true, false, cond, not, ◌&&◌, ◌||◌, List, [], ◌∷◌, ◌++◌, ◌≡◌, map, filter, length, eqb, refl, sym, ap, ap₂, ◌∙◌, subst, inl, inr, arith}
-use Rattle.std.proofs.lemmas.Bool.{cases_eq, eqb-true, false≢true, false_from_ne_true, ne_eqb, or_parts}
+use Rattle.std.proofs.Common.{ℕ, ◌+◌, ◌<◌, ◌≤◌, ◌≢◌, Bool, true, false, cond, not, ◌&&◌, ◌||◌, List, [], ◌∷◌, ◌++◌, ◌≡◌, map, filter, length, eqb, refl, sym, ap, ap₂, ◌∙◌, subst, inl, inr, arith}
+use Rattle.std.proofs.lemmas.Bool.{cases_eq, false≢true, false_from_ne_true, ne_eqb}
 use Rattle.std.proofs.lemmas.List.{length_push, map-append}
 use Rattle.std.proofs.lemmas.List.Elements.{filter-append}
 use Rattle.pj_value.specs.declared.values.Value.{Value}
 use Rattle.pj_pattern.specs.Patterns.{Pattern}
 use Rattle.pj_pattern.specs.declared.element.Element.{Element}
 use Rattle.pj_pattern.specs.declared.element.Element.TheVariants.{Tuple, Punct}
-use Rattle.pj_events.specs.Join.{JoinData, JoinState, PunctAt, TupleAt, goes_out, hands_up, has, is_held, new_punct, new_tuple, step, widened}
+use Rattle.pj_events.specs.Join.{JoinData, JoinState, TupleAt, goes_out, hands_up, has, is_held, new_punct, new_tuple, step, widened}
 use Rattle.pj_events.specs.KeptState.{KeptState, kept_of, kept_step, lacking}
 use Rattle.pj_events.specs.Operators.{UnionState, group_after, group_hands, project_hands, select_hands, union_after, union_hands}
-use Rattle.pj_events.specs.Plan.{Comes, Group, Join, Operator, Project, Select, Stream, Union, after as after_local, hands, join_step}
+use Rattle.pj_events.specs.Plan.{Group, Join, Operator, Project, Select, Stream, Union, join_step}
 use Rattle.pj_events.specs.CoreKept.{GroupKept, JoinKept, UnionKept}
 use Rattle.pj_events.specs.Tables.{table_of}
 use Rattle.pj_flow.specs.Unions.{UnionView}
@@ -18,8 +18,6 @@ use Rattle.pj_group.specs.Tables.{GroupView, StandsFor as HoldsGroup}
 use Rattle.pj_join.specs.Joins.{JoinView, after}
 use Rattle.pj_join.specs.Sweeping.{puncts_up}
 use Rattle.pj_core.specs.declared.cell.Handed.{Handed}
-use Rattle.pj_core.specs.declared.cell.Handed.TheVariants.{Nothing}
-use Rattle.pj_core.specs.declared.cell.Work.{Work}
 use Rattle.pj_core.specs.declared.cell.Work.TheVariants.{Stream as StreamCell, Select as SelectCell, Project as ProjectCell, Union as UnionCell, Join as JoinCell, Group as GroupCell}
 use Rattle.pj_core.specs.Cells.{Follows, IsAs, IsBelow, IsOrderlyJoin, KeepsOpen, handed_list}
 use Rattle.pj_core.specs.Calls.{IsTakenIn}

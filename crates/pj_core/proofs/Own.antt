@@ -1,15 +1,12 @@
 -- The steps of its own that a join of a core makes.
-use Rattle.std.proofs.Common.{ℕ, zero, suc, ◌+◌, ◌<◌, ◌≤◌, Bool, true, false, cond, not, ◌&&◌, ◌||◌, List, [], ◌∷◌, ◌++◌, ◌≡◌, ◌⊎◌, Option, Some, None, map, filter, length, get_or, set, eqb, ltb, refl, sym, ap, ap₂, ◌∙◌, subst, inl, inr, arith, append-nil}
+use Rattle.std.proofs.Common.{ℕ, ◌<◌, Bool, true, false, not, ◌&&◌, ◌||◌, List, [], ◌∷◌, ◌++◌, ◌≡◌, Some, None, map, filter, length, eqb, ltb, refl, sym, ap, ap₂, ◌∙◌, subst, inl, arith, append-nil}
 use Rattle.std.specs.List.{list_all}
-use Rattle.pj_value.specs.declared.values.Value.{Value}
-use Rattle.pj_pattern.specs.declared.element.Element.{Element}
-use Rattle.pj_pattern.specs.declared.element.Element.TheVariants.{Tuple, Punct}
 use Rattle.pj_events.specs.declared.events.Entry.{Entry}
 use Rattle.pj_events.specs.declared.events.Event.{Event}
 use Rattle.pj_events.specs.declared.events.Out.{Out}
-use Rattle.pj_events.specs.Join.{AreCertified, AreLegalSteps, IsAllowed, JoinData, JoinState, PunctAt, Step, Sweep, Take, TupleAt, Give, covered, hands_up, has, inputs, is_held, joined, kept, need_of, older, older_puncts, results, ripe, run, start, step}
-use Rattle.pj_events.specs.KeptState.{KeptState, kept_of, kept_ripe, kept_step, lacking, swept}
-use Rattle.pj_events.specs.Plan.{Act, IsOwn, IsStepAllowed, MayAct, Operator, Stream, Select, Project, Union, Join, Group, Node, Own, after as after_local, hands, operator_at}
+use Rattle.pj_events.specs.Join.{AreCertified, AreLegalSteps, IsAllowed, JoinData, JoinState, Step, Sweep, Take, TupleAt, Give, covered, hands_up, has, inputs, is_held, joined, kept, need_of, older, older_puncts, results, run, start, step}
+use Rattle.pj_events.specs.KeptState.{KeptState, kept_of, kept_step, lacking, swept}
+use Rattle.pj_events.specs.Plan.{Act, IsOwn, IsStepAllowed, MayAct, Operator, Join, Node, Own, after as after_local, hands, operator_at}
 use Rattle.pj_events.specs.declared.events.Event.TheVariants.{Take as Taken, Give as Given, Sweep as Swept}
 use Rattle.pj_events.specs.History.{IsEntryAllowed, IsLegal, IsOn, data_in, nodes_from, reached_of, state_in}
 use Rattle.pj_laws.specs.HistoryLaws.{Certified}
@@ -24,12 +21,11 @@ use Rattle.pj_events.specs.Outcomes.{origin_of, results_of}
 use Rattle.pj_laws.proofs.ClimbingEvents.{events-climb, leaves-nodes}
 use Rattle.pj_laws.proofs.HistoryAnswers.{adds-entry, grows-legally, trace-adds-notes}
 use Rattle.pj_laws.proofs.Stand.{lacking-cons, low-kept}
-use Rattle.pj_laws.proofs.Trees.{tree-from}
 use Rattle.pj_join.specs.Joins.{JoinView, StandsFor as JoinStandsFor, after}
 use Rattle.pj_core.specs.declared.cell.Cell.{Cell}
 use Rattle.pj_core.specs.declared.cell.Work.{Work}
 use Rattle.pj_core.specs.declared.cell.Work.TheVariants.{Join as JoinCell}
-use Rattle.pj_core.specs.Cells.{AreAs, IsAs, IsBelowIn, IsKind, JoinKind, cell_at, count_in, kind_of, peak_seen}
+use Rattle.pj_core.specs.Cells.{AreAs, IsAs, IsBelowIn, IsKind, JoinKind, cell_at, count_in, kind_of}
 use Rattle.pj_core.specs.Cores.{StandsFor}
 use Rattle.pj_core.specs.Parts.{IsMadeOf, core_of}
 use Rattle.pj_core.specs.Plans.{RunPlan, nodes_of}

@@ -113,9 +113,6 @@ inputs-more a b c join m x y =
 abbrev IsTotal : CoreState → ℕ → ℕ → Type 0
 IsTotal core node count = count ≡ places_total (node_at core.plan.nodes node)
 
-pub inputs-end : (a b : CoreState) (node count : ℕ) → IsTotal a node count → Makes a b (sweeping_inputs a node count) → Makes a b (sweeping_at a node)
-inputs-end a b node count e x = makes-as a b (sweeping_inputs a node count) (sweeping_at a node) (λ h S. ap (λ (n : ℕ). sweeping_inputs a node n h) e) x
-
 pub inputs-stop : (a b c : CoreState) (node m count : ℕ) (stop : Stop) → IsTotal a node count → m < count → Makes a b (sweeping_inputs a node m) → StopsMaking b c (sweeping b node m) stop
     → StopsMaking a c (sweeping_at a node) stop
 inputs-stop a b c node m count stop e lt x y =

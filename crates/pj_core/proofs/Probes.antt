@@ -1,7 +1,7 @@
 -- A probe at a join of a core: a take and a give at once.
-use Rattle.std.proofs.Common.{ℕ, zero, suc, inl, inr, ◌⊎◌, ◌+◌, ◌<◌, ◌≤◌, Bool, true, false, List, [], ◌∷◌, ◌++◌, ◌≡◌, Option, Some, None, map, length, get_or, set, refl, sym, ap, ◌∙◌, subst, arith, append-nil, append_assoc}
+use Rattle.std.proofs.Common.{ℕ, zero, suc, inl, inr, ◌⊎◌, ◌<◌, ◌≤◌, Bool, true, false, List, [], ◌∷◌, ◌++◌, ◌≡◌, Option, Some, None, map, length, get_or, set, refl, sym, ap, ◌∙◌, subst, arith, append-nil, append_assoc}
 use Rattle.std.proofs.lemmas.Bool.{cases_lt}
-use Rattle.std.proofs.lemmas.List.{get_or-set_same, get_or-map, length-set}
+use Rattle.std.proofs.lemmas.List.{get_or-set_same, length-set}
 use Rattle.pj_value.specs.declared.values.Value.{Value}
 use Rattle.pj_pattern.specs.declared.element.Element.{Element}
 use Rattle.pj_pattern.specs.declared.element.Element.TheVariants.{Tuple}
@@ -10,26 +10,23 @@ use Rattle.pj_events.specs.declared.events.Event.TheVariants.{Take as Taken, Giv
 use Rattle.pj_events.specs.declared.events.Out.{Out}
 use Rattle.pj_events.specs.declared.events.Stop.{Stop}
 use Rattle.pj_events.specs.declared.events.Stop.TheVariants.{Limit, NoMemory}
-use Rattle.pj_events.specs.Join.{Give, JoinState, Take, has, joined, results}
-use Rattle.pj_events.specs.KeptState.{KeptState, kept_of, lacking, without}
-use Rattle.pj_events.specs.Plan.{Node, Operator, operator_at}
-use Rattle.pj_events.specs.History.{nodes_from, state_in}
-use Rattle.pj_events.specs.Limits.{StopsAt}
+use Rattle.pj_events.specs.Join.{Give, JoinState, Take, joined, results}
+use Rattle.pj_events.specs.KeptState.{KeptState, kept_of}
+use Rattle.pj_events.specs.Plan.{Node}
+use Rattle.pj_events.specs.History.{nodes_from}
 use Rattle.pj_events.specs.Outcomes.{elements_out, goes_beyond, results_of}
 use Rattle.pj_events.specs.OneThread.{Pending, first_of, pending_at, plain, probes_at}
 use Rattle.pj_events.specs.CoreKept.{NothingKept}
 use Rattle.pj_laws.proofs.Probes.{has-in}
 use Rattle.pj_laws.proofs.Tickets.{AreAscending, first-least, pending-ascends}
-use Rattle.pj_join.specs.declared.found.Found.{Found}
-use Rattle.pj_join.specs.Handed.{behind_probe}
-use Rattle.pj_join.specs.Joins.{IsTaken, JoinView, TakesLeast, after, found_of}
+use Rattle.pj_join.specs.Joins.{JoinView, after, found_of}
 use Rattle.pj_core.specs.declared.cell.Cell.{Cell}
 use Rattle.pj_core.specs.declared.cell.Work.{Work}
 use Rattle.pj_core.specs.declared.cell.Work.TheVariants.{Join as JoinCell}
-use Rattle.pj_core.specs.Acts.{FindsResults, HasProbed, IsProbeStop, JoinProbed, ProbesBeyond, ProbesOn, found_outs, with_work}
-use Rattle.pj_core.specs.Calls.{IsTakenIn, StopsNow, pending_kept}
+use Rattle.pj_core.specs.Acts.{IsProbeStop, JoinProbed, ProbesOn, found_outs, with_work}
+use Rattle.pj_core.specs.Calls.{pending_kept}
 use Rattle.pj_core.specs.Cells.{AreAs, cell_at, frames_in, kept_seen, kind_of, no_cell}
-use Rattle.pj_core.specs.Climbing.{AreOrderly, Climbs, GoBeyond, Scene, StaysAs}
+use Rattle.pj_core.specs.Climbing.{Climbs, GoBeyond, Scene, StaysAs}
 use Rattle.pj_core.specs.Cores.{CoreState, StandsFor}
 use Rattle.pj_core.specs.Parts.{IsMadeOf, core_of}
 use Rattle.pj_core.specs.Plans.{RunPlan, nodes_of}
@@ -39,8 +36,8 @@ use Rattle.pj_core.proofs.Climbs.{outs-rows}
 use Rattle.pj_core.proofs.Joins.{took_keeps}
 use Rattle.pj_core.proofs.Own as own
 use Rattle.pj_core.proofs.Stands.{are}
-use Rattle.pj_core.proofs.Stops.{stop-entered, stops-now}
-use Rattle.pj_core.proofs.Takes.{fewer-without, fewer-there, give-beyond, gives, pending-long, results-stay, take-within, takes, tickets, tickets-are}
+use Rattle.pj_core.proofs.Stops.{stops-now}
+use Rattle.pj_core.proofs.Takes.{give-beyond, gives, pending-long, results-stay, take-within, takes, tickets, tickets-are}
 
 set-twice : {X : Type 0} (xs : List X) (n : ℕ) (x y : X) → set (set xs n x) n y ≡ set xs n y
 set-twice [] n x y = refl

@@ -1,49 +1,39 @@
 -- The nodes of a core stand for those of a history, and one more entry is noted.
-use Rattle.std.proofs.Common.{ℕ, zero, suc, ◌+◌, ◌<◌, ◌≤◌, max, Bool, true, false, cond, List, [], ◌∷◌, ◌++◌, ◌≡◌, Option, Some, None, map, length, get_or, set, refl, sym, ap, ap₂, ◌∙◌, subst, inl, inr, arith, append-nil}
-use Rattle.std.proofs.lemmas.Bool.{false≢true}
+use Rattle.std.proofs.Common.{ℕ, suc, ◌+◌, ◌<◌, max, Bool, false, List, [], ◌∷◌, ◌++◌, ◌≡◌, None, map, length, get_or, refl, sym, ap, ap₂, ◌∙◌, subst, arith}
 use Rattle.std.proofs.lemmas.List.{ext_get_or, get_or-map, length-map}
 use Rattle.pj_shape.specs.declared.columns.Column.{Column}
 use Rattle.pj_shape.specs.declared.joins.CertStep.{CertStep}
 use Rattle.pj_plan.specs.declared.node.Node.{Node as Operation}
 use Rattle.pj_plan.specs.declared.node.Node.TheVariants.{Stream as StreamNode, Select as SelectNode, Project as ProjectNode, Union as UnionNode, Join as JoinNode, Group as GroupNode}
-use Rattle.pj_plan.specs.declared.node.PlanNode.{PlanNode}
 use Rattle.pj_core.specs.Parts.{plan_node}
 use Rattle.pj_plan.specs.Sound.{IsSoundOperator, IsSoundPlan}
 use Rattle.pj_scheme.specs.Derived.{inputs_schemes, schemes_of}
-use Rattle.pj_pattern.specs.declared.element.Element.{Element}
 use Rattle.pj_events.specs.declared.events.Entry.{Entry}
-use Rattle.pj_events.specs.declared.events.Event.{Event}
 use Rattle.pj_events.specs.declared.events.Out.{Out}
-use Rattle.pj_events.specs.declared.events.Stop.{Stop}
-use Rattle.pj_events.specs.Join.{AreLegalSteps, JoinData, JoinState, Step, inputs, run, start, upto_from}
-use Rattle.pj_events.specs.Plan.{Operator, Stream, Select, Project, Union, Join, Group, Node, Local, after, hands, nowhere, operator_at}
-use Rattle.pj_events.specs.History.{IsEntryAllowed, IsLegal, closed_after, halted_after, nodes_from, out_of, reached_of, state_in, stop_after}
-use Rattle.pj_events.specs.Outcomes.{Arrival, arrivals_at, beyond_of, climb, goes_beyond, join_steps_of, origin_of, stored_at, way_up}
+use Rattle.pj_events.specs.Join.{AreLegalSteps, JoinData, JoinState, Step, inputs, run, start}
+use Rattle.pj_events.specs.Plan.{Operator, Stream, Select, Project, Union, Join, Group, Node, nowhere, operator_at}
+use Rattle.pj_events.specs.History.{IsEntryAllowed, IsLegal, closed_after, halted_after, nodes_from, reached_of, state_in, stop_after}
+use Rattle.pj_events.specs.Outcomes.{Arrival, join_steps_of, stored_at}
 use Rattle.pj_events.specs.CoreKept.{CoreKept, KeptOperator, NothingKept, core_kept, kept_in}
-use Rattle.pj_events.specs.KeptState.{kept_of}
-use Rattle.pj_laws.specs.Climb.{Climbed, HasOneTop, IsTree, above, climb_of, climbed, climbed_by, climbed_where, local_of, stepped}
+use Rattle.pj_laws.specs.Climb.{climb_of}
 use Rattle.pj_laws.specs.ClimbKept.{counted, handed_by, kept_with, raised, undrained_with}
 use Rattle.pj_laws.proofs.ClimbingKept.{adds-climb}
-use Rattle.pj_laws.proofs.ClimbingLimits.{beyond-is-climbed}
 use Rattle.pj_laws.proofs.Complete.{IsCounted, counted-run, counted-start}
 use Rattle.pj_laws.proofs.HistoryAnswers.{grows-legally}
 use Rattle.pj_laws.proofs.JoinRuns.{join-runs}
 use Rattle.pj_laws.proofs.Probes.{length-from}
 use Rattle.pj_laws.proofs.Sound.{sound-start}
 use Rattle.pj_laws.proofs.Trees.{above-from, tree-from}
-use Rattle.pj_laws.proofs.Upto.{get_or-upto, length-upto}
 use Rattle.pj_join.specs.Joins.{join_data}
 use Rattle.pj_core.specs.declared.cell.Cell.{Cell}
-use Rattle.pj_core.specs.declared.cell.Work.{Work}
-use Rattle.pj_core.specs.Cells.{AreAs, Frame, GroupKind, IsAs, IsBelow, IsBelowIn, IsKind, JoinKind, Kind, ProjectKind, SelectKind, StreamKind, UnionKind, above_pair, cell_at, count_seen, frame_at, frame_of, frames_in, kept_seen, kind_of, no_cell, peak_seen, stored_kept}
-use Rattle.pj_core.specs.Climbing.{AreCounted, GoBeyond, count_at}
-use Rattle.pj_core.specs.Cores.{CoreState, StandsFor}
-use Rattle.pj_core.specs.Parts.{IsMadeOf, all_kept, core_of, frame_for, frames_of, kind_for}
+use Rattle.pj_core.specs.Cells.{AreAs, Frame, IsBelow, IsBelowIn, IsKind, above_pair, cell_at, count_seen, frame_at, frame_of, frames_in, kept_seen, no_cell, peak_seen, stored_kept}
+use Rattle.pj_core.specs.Climbing.{AreCounted}
+use Rattle.pj_core.specs.Cores.{StandsFor}
+use Rattle.pj_core.specs.Parts.{IsMadeOf, all_kept, core_of, frames_of, kind_for}
 use Rattle.pj_core.specs.Plans.{RunPlan, nodes_of, operator_of}
 use Rattle.pj_core.proofs.Climbs.{frame-at}
-use Rattle.pj_core.proofs.Frames.{above-of, certs_at, frame-is, kind-is, limits-of, long-of, operator-is}
+use Rattle.pj_core.proofs.Frames.{above-of, certs_at, frame-is, kind-is, long-of, operator-is}
 use Rattle.pj_core.proofs.Planned.{nodes-long, one-top, planned, tree}
-use Rattle.pj_core.proofs.Ways.{way-past, way-same}
 
 -- ---- what is below
 

@@ -1,32 +1,26 @@
 -- Stops, drains, idle calls and looks at a core, and a new one.
-use Rattle.std.proofs.Common.{ℕ, zero, suc, ◌+◌, ◌<◌, max, Bool, true, false, cond, List, [], ◌∷◌, ◌++◌, ◌≡◌, map, length, sum, get_or, Option, Some, None, refl, sym, ap, ap₂, ◌∙◌, subst, inl, arith, append-nil}
-use Rattle.std.proofs.lemmas.List.{length-map, map-append}
-use Rattle.pj_plan.specs.Nodes.{is_join, streams_of}
+use Rattle.std.proofs.Common.{ℕ, ◌+◌, ◌<◌, max, Bool, true, false, cond, List, [], ◌∷◌, ◌++◌, ◌≡◌, map, length, get_or, Option, Some, None, refl, sym, ap, ap₂, ◌∙◌, subst, inl, arith, append-nil}
 use Rattle.pj_events.specs.declared.events.Entry.{Entry}
 use Rattle.pj_events.specs.declared.events.Event.{Event}
-use Rattle.pj_events.specs.declared.events.Event.TheVariants.{Drain, Halt, Look, Stopped, Idle}
-use Rattle.pj_events.specs.declared.events.Look.{Look as TheLook}
+use Rattle.pj_events.specs.declared.events.Event.TheVariants.{Drain, Halt, Stopped, Idle}
 use Rattle.pj_events.specs.declared.events.Out.{Out}
 use Rattle.pj_events.specs.declared.events.Stop.{Stop}
-use Rattle.pj_events.specs.Join.{start}
 use Rattle.pj_events.specs.Plan.{Node, Operator, Stream, Select, Project, Union, Join, Group, Pass, operator_at}
-use Rattle.pj_events.specs.History.{IsEntryAllowed, IsOn, Reached, closed_after, gained, halted_after, next, nodes_from, notes_of, out_of, pending_in, reached_of, root_of, state_in, step_of, stop_after, undrained_after}
+use Rattle.pj_events.specs.History.{IsEntryAllowed, IsOn, Reached, closed_after, gained, halted_after, next, nodes_from, notes_of, out_of, reached_of, root_of, step_of, stop_after, undrained_after}
 use Rattle.pj_events.specs.Outcomes.{peak_of, stored_at}
-use Rattle.pj_events.specs.OneThread.{next_probe, plain}
-use Rattle.pj_events.specs.CoreKept.{CoreKept, KeptOperator, NothingKept, UnionKept, JoinKept, GroupKept, core_kept, kept_in}
+use Rattle.pj_events.specs.OneThread.{plain}
 use Rattle.pj_laws.specs.Climb.{Climbed, climb_of, local_of}
 use Rattle.pj_laws.specs.ClimbKept.{handed_by, undrained_with}
-use Rattle.pj_events.specs.KeptState.{lacking}
 use Rattle.pj_laws.proofs.HistoryAnswers.{adds-entry, grows-legally, trace-adds-notes}
 use Rattle.pj_laws.proofs.Nodes.{empty-none, quiet}
 use Rattle.pj_core.specs.declared.cell.Cell.{Cell}
-use Rattle.pj_core.specs.Cells.{AreAs, cell_at, kept_seen, no_cell, peak_seen, stored_kept}
+use Rattle.pj_core.specs.Cells.{AreAs, cell_at, peak_seen}
 use Rattle.pj_core.specs.Climbing.{AreCounted}
-use Rattle.pj_core.specs.Calls.{IsLookAt, IsPeak, StaysStopped, StopsNow, Tells, all_pending, ended_of, opened_in, pending_kept, stored_in, waiting_in}
+use Rattle.pj_core.specs.Calls.{StaysStopped, StopsNow}
 use Rattle.pj_core.specs.Cores.{Notes, StandsFor}
-use Rattle.pj_core.specs.Parts.{IsMadeOf, all_kept, core_of}
+use Rattle.pj_core.specs.Parts.{IsMadeOf, core_of}
 use Rattle.pj_core.specs.Plans.{RunPlan, nodes_of}
-use Rattle.pj_core.proofs.Stands.{Goes, are, kept-is, noted, stored-is}
+use Rattle.pj_core.proofs.Stands.{are, noted, stored-is}
 
 -- ---- events that do nothing
 

@@ -1,5 +1,5 @@
 -- The streams of a plan by their numbers.
-use Rattle.std.proofs.Common.{ℕ, zero, suc, ◌+◌, ◌<◌, ◌≤◌, Bool, true, false, cond, List, [], ◌∷◌, ◌≡◌, length, get_or, refl, sym, ap, ap₂, ◌∙◌, subst, arith}
+use Rattle.std.proofs.Common.{ℕ, zero, suc, ◌+◌, ◌<◌, ◌≤◌, Bool, true, false, cond, List, [], ◌∷◌, ◌≡◌, length, get_or, refl, ap, ap₂, ◌∙◌, arith}
 use Rattle.std.proofs.lemmas.List.{get_or_default}
 use Rattle.pj_shape.specs.declared.columns.Column.{Column}
 use Rattle.pj_shape.specs.declared.joins.CertStep.{CertStep}
@@ -17,7 +17,7 @@ use Rattle.pj_events.specs.declared.events.Entry.{Entry}
 use Rattle.pj_events.specs.Plan.{Node}
 use Rattle.pj_events.specs.History.{is_stream as is_stream_in, nodes_by, nodes_from, stream_node, streams_from, streams_of as streams_among}
 use Rattle.pj_laws.proofs.Steps.{streams-same}
-use Rattle.pj_core.specs.Plans.{RunPlan, certs_behind, nodes_of, nodes_with, operator_of, schema_in, stream_columns, streams_in}
+use Rattle.pj_core.specs.Plans.{RunPlan, certs_behind, nodes_of, nodes_with, operator_of, stream_columns, streams_in}
 
 -- the stream of this number stands at a place, and its columns are those of the node there
 record IsAt (n : ℕ) (nodes streams : List PlanNode) (numbers : List ℕ) (k : ℕ) : Type 0 where

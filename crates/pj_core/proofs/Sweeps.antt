@@ -1,36 +1,32 @@
 -- Sweeps at a core.
-use Rattle.std.proofs.Common.{ℕ, zero, suc, ◌+◌, ◌<◌, ◌≤◌, max, Bool, true, false, cond, not, ◌&&◌, List, [], ◌∷◌, ◌++◌, ◌≡◌, ◌⊎◌, Option, Some, None, map, filter, length, get_or, set, eqb, ltb, refl, sym, ap, ap₂, ◌∙◌, subst, inl, inr, arith}
+use Rattle.std.proofs.Common.{ℕ, suc, ◌+◌, ◌<◌, Bool, true, false, cond, not, ◌&&◌, List, [], ◌∷◌, ◌++◌, ◌≡◌, Option, Some, None, map, filter, length, set, eqb, ltb, refl, sym, ap, ap₂, ◌∙◌, subst, inr, arith}
 use Rattle.std.specs.List.{list_all}
 use Rattle.pj_value.specs.declared.values.Value.{Value}
 use Rattle.pj_pattern.specs.Patterns.{Pattern}
 use Rattle.pj_pattern.specs.declared.element.Element.{Element}
 use Rattle.pj_pattern.specs.declared.element.Element.TheVariants.{Punct}
-use Rattle.pj_plan.specs.Canonical.{node_at}
-use Rattle.pj_plan.specs.Nodes.{inputs_of, is_join}
 use Rattle.pj_events.specs.declared.events.Entry.{Entry}
 use Rattle.pj_events.specs.declared.events.Event.TheVariants.{Sweep as Swept}
 use Rattle.pj_events.specs.declared.events.Out.{Out}
 use Rattle.pj_events.specs.declared.events.Out.TheVariants.{Purged}
 use Rattle.pj_events.specs.declared.events.Stop.{Stop}
 use Rattle.pj_events.specs.declared.events.Stop.TheVariants.{Limit, NoMemory}
-use Rattle.pj_events.specs.Join.{JoinData, JoinState, PunctAt, Step, Sweep, TupleAt, covered, hands_up, inputs, is_held, kept, need_of, older, older_puncts, removed, ripe, step, widened}
+use Rattle.pj_events.specs.Join.{JoinData, JoinState, PunctAt, Sweep, TupleAt, covered, hands_up, inputs, is_held, kept, need_of, older, older_puncts, removed, ripe, widened}
 use Rattle.pj_events.specs.KeptState.{KeptState, kept_of, kept_ripe, swept}
 use Rattle.pj_events.specs.Plan.{Node, Operator, Own, after as after_local, hands, operator_at}
-use Rattle.pj_events.specs.History.{data_at, data_in, join_at, nodes_by, nodes_from, notes_of, state_in}
+use Rattle.pj_events.specs.History.{data_in, nodes_by, nodes_from, notes_of, state_in}
 use Rattle.pj_events.specs.Outcomes.{goes_beyond, stored_at}
 use Rattle.pj_events.specs.OneThread.{plain}
-use Rattle.pj_laws.specs.Climb.{Climbed, climbed_where}
 use Rattle.pj_laws.proofs.ClimbingEvents.{events-climb, leaves-nodes}
 use Rattle.pj_laws.proofs.Stand.{low-kept}
 use Rattle.pj_join.specs.Joins.{JoinView, after}
 use Rattle.pj_join.specs.Sweeping.{puncts_up, rows_off, swept_off}
 use Rattle.pj_core.specs.declared.act.Swept.{Swept as SweptOff}
 use Rattle.pj_core.specs.declared.cell.Cell.{Cell}
-use Rattle.pj_core.specs.declared.cell.Work.{Work}
 use Rattle.pj_core.specs.declared.cell.Work.TheVariants.{Join as JoinCell}
 use Rattle.pj_core.specs.Acts.{CellSwept, HasSweptAt, IsSweepStop, with_work}
 use Rattle.pj_core.specs.Calls.{HasSwept, IsCause}
-use Rattle.pj_core.specs.Cells.{AreAs, cell_at, kept_seen, peak_seen}
+use Rattle.pj_core.specs.Cells.{AreAs, cell_at, peak_seen}
 use Rattle.pj_core.specs.Climbing.{Climbs, GoBeyond, Scene, StaysAs}
 use Rattle.pj_core.specs.Cores.{StandsFor}
 use Rattle.pj_core.specs.Handed.{notes_out}

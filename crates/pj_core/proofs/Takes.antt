@@ -1,17 +1,17 @@
 -- Takes and gives at a core.
-use Rattle.std.proofs.Common.{ℕ, zero, suc, ◌+◌, ◌<◌, ◌≤◌, ◌≢◌, Bool, true, false, cond, not, ◌||◌, List, [], ◌∷◌, ◌++◌, ◌≡◌, ◌⊎◌, Option, Some, None, map, length, sum, get_or, set, eqb, refl, sym, ap, ap₂, ◌∙◌, subst, inl, inr, arith, append-nil}
-use Rattle.std.proofs.lemmas.Bool.{cases_lt, eq-eqb, false≢true, ne_eqb}
+use Rattle.std.proofs.Common.{ℕ, zero, suc, ◌+◌, ◌<◌, ◌≤◌, Bool, true, false, cond, not, ◌||◌, List, [], ◌∷◌, ◌++◌, ◌≡◌, Option, Some, None, map, length, sum, get_or, set, eqb, refl, sym, ap, ◌∙◌, subst, inl, arith, append-nil}
+use Rattle.std.proofs.lemmas.Bool.{eq-eqb, false≢true, ne_eqb}
 use Rattle.std.proofs.lemmas.List.{get_or-map, get_or-set_same, length-map, length-set}
 use Rattle.std.proofs.lemmas.List.Sums.{sum-map, sum_by-cons}
 use Rattle.pj_value.specs.declared.values.Value.{Value}
 use Rattle.pj_pattern.specs.declared.element.Element.{Element}
 use Rattle.pj_pattern.specs.declared.element.Element.TheVariants.{Tuple}
 use Rattle.pj_events.specs.declared.events.Entry.{Entry}
-use Rattle.pj_events.specs.declared.events.Event.TheVariants.{Take as Taken, Give as Given, Idle}
+use Rattle.pj_events.specs.declared.events.Event.TheVariants.{Take as Taken, Give as Given}
 use Rattle.pj_events.specs.declared.events.Out.{Out}
 use Rattle.pj_events.specs.declared.events.Stop.{Stop}
 use Rattle.pj_events.specs.declared.events.Stop.TheVariants.{Limit, NoMemory}
-use Rattle.pj_events.specs.Join.{Give, In, JoinData, JoinState, Step, Take, TupleAt, has, joined, results, run, start, step}
+use Rattle.pj_events.specs.Join.{Give, JoinState, Take, TupleAt, has, joined, results}
 use Rattle.pj_events.specs.KeptState.{KeptState, kept_of, lacking, without}
 use Rattle.pj_events.specs.Plan.{after as after_local, Node, Operator, Stream, Select, Project, Union, Join, Group, Own, hands, operator_at}
 use Rattle.pj_events.specs.History.{data_at, nodes_from, state_in}
@@ -25,11 +25,11 @@ use Rattle.pj_join.specs.Joins.{IsTaken, JoinView, after}
 use Rattle.pj_core.specs.declared.cell.Cell.{Cell}
 use Rattle.pj_core.specs.declared.cell.Work.{Work}
 use Rattle.pj_core.specs.declared.cell.Work.TheVariants.{Join as JoinCell}
-use Rattle.pj_core.specs.Acts.{FirstTook, JoinActs, JoinTook, first_pending, with_work}
-use Rattle.pj_core.specs.Calls.{AreResults, HasGiven, IsGiveCause, IsOpen, IsTakenIn, TakesNext, all_pending, pending_kept}
-use Rattle.pj_core.specs.Cells.{AreAs, Frame, JoinKind, Kind, cell_at, frame_at, frame_of, frames_in, kept_seen, kind_of, no_cell}
+use Rattle.pj_core.specs.Acts.{FirstTook, JoinActs, first_pending, with_work}
+use Rattle.pj_core.specs.Calls.{HasGiven, IsGiveCause, IsOpen, IsTakenIn, TakesNext, pending_kept}
+use Rattle.pj_core.specs.Cells.{AreAs, Frame, cell_at, frame_at, frame_of, kept_seen, kind_of, no_cell}
 use Rattle.pj_core.specs.Climbing.{Climbs, GoBeyond, IsClimbStop, StaysAs}
-use Rattle.pj_core.specs.Cores.{CoreState, StandsFor}
+use Rattle.pj_core.specs.Cores.{StandsFor}
 use Rattle.pj_core.specs.Parts.{IsMadeOf, core_of}
 use Rattle.pj_core.specs.Plans.{RunPlan, nodes_of}
 use Rattle.pj_core.proofs.Climbs.{climbs-none, frame-at, stays-none}
@@ -37,7 +37,7 @@ use Rattle.pj_core.proofs.Events.{Steps, beyond-is, note}
 use Rattle.pj_core.proofs.Frames.{join-number, long-of}
 use Rattle.pj_core.proofs.Own as own
 use Rattle.pj_core.proofs.Own.{IsJoinWith}
-use Rattle.pj_core.proofs.Stands.{are, long-now, noted}
+use Rattle.pj_core.proofs.Stands.{are}
 
 -- ---- what is pending
 

@@ -18,10 +18,6 @@ use Rattle.pj_core.specs.Turns.{GoesTo, IsSoundCore, Makes, MakesSome, ProbesAt,
 use Rattle.pj_core.proofs.Making.{makes-as, makes-then, nodes-on, some-behind, some-more, stops-as, stops-more, stops-then, then, within-as}
 use Rattle.pj_core.proofs.Planned.{nodes-long, planned}
 
--- a core of the same plan is sound too
-pub sound-on : (a b : CoreState) → b.plan ≡ a.plan → IsSoundCore a → IsSoundCore b
-sound-on a b p s = subst (λ (plan : RunPlan). IsSoundCore (record a { plan = plan })) (sym p) s
-
 -- ---- at one node
 
 abbrev one : ℕ → ℕ → List Entry

@@ -1,10 +1,9 @@
 -- What a climb keeps of the inputs of nodes, and what it brings where nothing climbs.
 use Rattle.std.proofs.Common.{ℕ, zero, suc, ◌+◌, ◌<◌, ◌≤◌, List, [], ◌∷◌, ◌++◌, ◌≡◌, Option, Some, None, map, length, get_or, set, refl, sym, ap, ap₂, ◌∙◌, subst, arith}
-use Rattle.pj_pattern.specs.declared.element.Element.{Element}
 use Rattle.pj_events.specs.Join.{In, AreDistinct}
 use Rattle.pj_events.specs.Plan.{Node, nowhere}
 use Rattle.pj_events.specs.Outcomes.{Arrival, Level, place_in, way_up}
-use Rattle.pj_laws.specs.Climb.{Above, IsTree, Load, StandBehind, above, above_from, all_inputs, both_brought, climbed, climbed_from, coming, first_above, going_on, node_after}
+use Rattle.pj_laws.specs.Climb.{Above, IsTree, Load, StandBehind, above, above_from, all_inputs, both_brought, climbed, climbed_from, coming, first_above, going_on}
 use Rattle.pj_laws.proofs.Climbing.{placed-none}
 
 -- ---- nodes with the same inputs

@@ -1,5 +1,5 @@
 -- What the calls of a core answer, as its parts are seen.
-use Rattle.std.proofs.Common.{true, Bool, ℕ, max, ◌<◌, ◌≤◌, ◌++◌, ◌∷◌, [], List, ◌≡◌, Option, Some, None, length, get_or, refl, sym, ap, ◌∙◌, subst, arith}
+use Rattle.std.proofs.Common.{true, Bool, ℕ, max, ◌<◌, ◌≤◌, ◌∷◌, [], List, ◌≡◌, Option, Some, None, length, get_or, sym, ap, ◌∙◌, subst, arith}
 use Rattle.std.proofs.lemmas.List.{get_or_default, length-map}
 use Rattle.pj_plan.specs.Nodes.{streams_of}
 use Rattle.pj_events.specs.declared.events.Out.{Out}
@@ -17,7 +17,7 @@ use Rattle.pj_core.specs.Calls.{HasArrived, IsCause, IsOpen, IsJoinNode, IsLookA
 use Rattle.pj_core.specs.Cells.{AreLinked, cell_at, frame_of, frames_in, kept_seen, no_cell, peak_seen, stored_kept}
 use Rattle.pj_core.specs.Climbing.{AreOrderly, Climbs, IsClimbStop, StayOpen, StaysAs}
 use Rattle.pj_core.specs.Cores.{CoreState, Notes}
-use Rattle.pj_core.specs.Parts.{IsMadeOf, closing_in, core_of, frames_of}
+use Rattle.pj_core.specs.Parts.{IsMadeOf, closing_in, core_of}
 use Rattle.pj_core.specs.Plans.{RunPlan}
 use Rattle.pj_core.proofs.Arrivals.{arrival-stop, arrived}
 use Rattle.pj_core.proofs.Frames.{links-of, long-of}

@@ -6,7 +6,7 @@ use Rattle.pj_events.specs.Join.{Step, Take, Give, Sweep, inputs, joined, result
 use Rattle.pj_events.specs.Outcomes.{elements_out}
 use Rattle.pj_join.specs.declared.found.Found.{Found}
 use Rattle.pj_join.specs.Handed.{behind_probe}
-use Rattle.pj_join.specs.Joins.{IsTaken, JoinView, StandsFor as JoinStandsFor, TakesLeast, after, found_of}
+use Rattle.pj_join.specs.Joins.{JoinView, StandsFor as JoinStandsFor, TakesLeast, after, found_of}
 use Rattle.pj_pattern.specs.declared.element.Element.TheVariants.{Punct, Tuple}
 use Rattle.pj_events.specs.declared.events.Stop.{Stop}
 use Rattle.pj_events.specs.declared.events.Stop.TheVariants.{Limit, NoMemory}

@@ -8,7 +8,7 @@ use Rattle.pj_events.specs.Patterns.{all_wild}
 use Rattle.pj_events.specs.CoreKept.{KeptOperator, NothingKept, UnionKept, JoinKept, GroupKept}
 use Rattle.pj_events.specs.declared.events.Entry.{Entry}
 use Rattle.pj_events.specs.declared.events.Event.{Event}
-use Rattle.pj_events.specs.declared.events.Event.TheVariants.{Arrive, Take as Taken, Give as Given, Sweep as Swept, Look as Looked, Stopped, Idle}
+use Rattle.pj_events.specs.declared.events.Event.TheVariants.{Take as Taken, Give as Given, Sweep as Swept, Look as Looked, Stopped, Idle}
 use Rattle.pj_events.specs.declared.events.Look.{Look}
 use Rattle.pj_events.specs.declared.events.Out.{Out}
 use Rattle.pj_events.specs.declared.events.Stop.{Stop}

@@ -1,5 +1,5 @@
 -- How what a node of a core hands up climbs.
-use Rattle.std.specs.Prelude.{ℕ, ◌+◌, ◌<◌, ◌≤◌, ◌≡◌, ◌↔◌, List, [], ◌∷◌, ◌++◌, map, length, slice_index_or, slice_set, Option, Some, None}
+use Rattle.std.specs.Prelude.{ℕ, ◌+◌, ◌<◌, ◌≤◌, ◌≡◌, List, [], ◌++◌, map, length, slice_index_or, slice_set, Option, Some, None}
 use Rattle.pj_pattern.specs.declared.element.Element.{Element}
 use Rattle.pj_events.specs.declared.events.Out.{Out}
 use Rattle.pj_events.specs.declared.events.Stop.{Stop}
@@ -12,7 +12,7 @@ use Rattle.pj_core.specs.declared.cell.Cell.{Cell}
 use Rattle.pj_core.specs.declared.cell.Handed.{Handed}
 use Rattle.pj_core.specs.declared.cell.Work.{Work}
 use Rattle.pj_core.specs.Calls.{IsTakenIn}
-use Rattle.pj_core.specs.Cells.{AreAs, Follows, HaveLimit, IsAs, IsFull, IsOrderly, cell_at, kept_seen, count_seen, frame_of, frames_in, handed_list}
+use Rattle.pj_core.specs.Cells.{AreAs, Follows, HaveLimit, IsAs, IsFull, IsOrderly, cell_at, kept_seen, count_seen, frame_of, frames_in}
 
 -- the nodes of a core, and what is to be drained
 pub record Scene : Type 0 where

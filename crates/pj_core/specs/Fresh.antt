@@ -1,5 +1,5 @@
 -- The nodes of a core to which nothing has come.
-use Rattle.std.specs.Prelude.{ℕ, ◌+◌, ◌≡◌, if◌then◌else◌, List, []}
+use Rattle.std.specs.Prelude.{ℕ, ◌+◌, if◌then◌else◌, []}
 use Rattle.pj_plan.specs.declared.node.Node.{Node as Operation}
 use Rattle.pj_plan.specs.Nodes.{is_join}
 use Rattle.pj_events.specs.Join.{AreCertified, start}

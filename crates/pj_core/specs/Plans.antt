@@ -1,5 +1,5 @@
 -- The nodes of a plan as histories speak of them, its streams, and which plans a core runs.
-use Rattle.std.specs.Prelude.{ℕ, ◌+◌, Bool, if◌then◌else◌, List, [], ◌∷◌, map, filter, drop, length, slice_index_or}
+use Rattle.std.specs.Prelude.{ℕ, Bool, if◌then◌else◌, List, [], ◌∷◌, map, filter, drop, length, slice_index_or}
 use Rattle.pj_shape.specs.declared.columns.Column.{Column}
 use Rattle.pj_plan.specs.declared.node.Node.{Node as Operation}
 use Rattle.pj_plan.specs.declared.node.Node.TheVariants.{Stream as StreamNode, Select as SelectNode, Project as ProjectNode, Union as UnionNode, Join as JoinNode, Group as GroupNode}

@@ -1,5 +1,5 @@
 // What the joins of a core do of their own.
-ghost use Rattle.std.specs.Prelude.{◌≡◌, ◌<◌, ◌≤◌, ◌++◌, ◌^◌, max, map, length, take, slice_set, IfOk, IfErr, OnOk, OnErr};
+ghost use Rattle.std.specs.Prelude.{None, ◌≡◌, ◌<◌, ◌≤◌, ◌++◌, ◌^◌, max, map, length, take, slice_set, IfOk, IfErr, OnOk, OnErr};
 ghost use Rattle.pj_events.specs.Join.{Give};
 ghost use Rattle.pj_core.specs.Calls.{IsTakenIn, pending_kept};
 ghost use Rattle.pj_core.specs.Cells.{AreLinked, IsOrderly, KeepsOpen, cell_at, frame_of, frames_in, kept_seen, kind_of, stored_kept};
@@ -268,6 +268,57 @@ fn probe_in(
     if pending == 0 {
         return Ok(false);
     }
+    match cells[place as usize].above {
+        None => probe_out(cells, place, pending, outs),
+        Some(_above) => probe_up(alloc, cells, place, pending, outs),
+    }
+}
+
+// A probe of a node with none above: what it finds is handed out.
+fn probe_out(
+    cells: &mut [Cell],
+    place: u32,
+    pending: u64,
+    outs: &mut List<Out>,
+) -> Result<bool, Stop>
+    requires there { place < length cells.old }
+    requires top { (cell_at cells.old place).above ≡ None }
+    requires pending { pending ≡ pending_kept (kept_seen (cell_at cells.old place).work) }
+    requires some { 0 < pending }
+    ensures ok { IfOk result (λ more. ProbesOn more (record { cells = cells.old; outs = outs.old }) (record { cells = cells.new; outs = outs.new }) place) }
+    ensures err { IfErr result (λ stop. IsProbeStop cells.old place stop) }
+    ensures frames { frames_in cells.new ≡ frames_in cells.old }
+    ensures orderly { AreOrderly cells.old → AreOrderly cells.new }
+    ensures front { take (length outs.old) outs.new ≡ outs.old }
+{
+    match cells[place as usize].work.probe(outs) {
+        Ok(None) => Ok(false),
+        Ok(Some(_ticket)) => match have_fewer(cells, place, pending) {
+            Ok(()) => Ok(true),
+            Err(NoMemory) => Err(Stop::NoMemory),
+        },
+        Err(NoMemory) => Err(Stop::NoMemory),
+    }
+}
+
+// A probe of any node: what it finds climbs.
+fn probe_up(
+    alloc: Global,
+    cells: &mut [Cell],
+    place: u32,
+    pending: u64,
+    outs: &mut List<Out>,
+) -> Result<bool, Stop>
+    requires there { place < length cells.old }
+    requires linked { AreLinked (frames_in cells.old) }
+    requires pending { pending ≡ pending_kept (kept_seen (cell_at cells.old place).work) }
+    requires some { 0 < pending }
+    ensures ok { IfOk result (λ more. ProbesOn more (record { cells = cells.old; outs = outs.old }) (record { cells = cells.new; outs = outs.new }) place) }
+    ensures err { IfErr result (λ stop. IsProbeStop cells.old place stop) }
+    ensures frames { frames_in cells.new ≡ frames_in cells.old }
+    ensures orderly { AreOrderly cells.old → AreOrderly cells.new }
+    ensures front { take (length outs.old) outs.new ≡ outs.old }
+{
     let mut found = List::new(alloc);
     match cells[place as usize].work.probe(&mut found) {
         Ok(None) => Ok(false),

@@ -1,5 +1,5 @@
 use Rattle.std.proofs.Common.{sym, ◌∙◌, arith}
-use Rattle.pj_core.proofs.Changes.{frames-work, opens-work, takes-first}
+use Rattle.pj_core.proofs.Changes.{frames-work, takes-first}
 use Rattle.pj_core.proofs.Firsts.{first_below}
 use Rattle.pj_core.proofs.act.take_first.Goals as goal
 

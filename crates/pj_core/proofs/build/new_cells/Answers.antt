@@ -1,4 +1,4 @@
-use Rattle.std.proofs.Common.{◌+◌, Bool, List, ◌++◌, [], ◌∷◌, true, subst, sym, ◌∙◌, ap, arith}
+use Rattle.std.proofs.Common.{◌+◌, List, true, subst, sym, ◌∙◌, ap, arith}
 use Rattle.pj_shape.specs.declared.joins.CertStep.{CertStep}
 use Rattle.pj_core.specs.Fresh.{IsCertifiedKind, fresh_cell, joins_with}
 use Rattle.pj_core.specs.Parts.{frame_for, plan_node}

@@ -1,4 +1,4 @@
-use Rattle.std.proofs.Common.{◌≡◌, ◌≤◌, true}
+use Rattle.std.proofs.Common.{true}
 use Rattle.pj_core.specs.Plans.{run_plan}
 use Rattle.pj_core.proofs.Makes.{MadeSoFar}
 use Rattle.pj_core.proofs.build.new_cells.Given as goal

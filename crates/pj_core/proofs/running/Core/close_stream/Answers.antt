@@ -1,9 +1,7 @@
-use Rattle.std.proofs.Common.{◌++◌, [], ◌∷◌, ap, length, refl, reverse, rules, subst, sym, ◌∙◌}
+use Rattle.std.proofs.Common.{[], ◌∷◌, ap, refl, reverse, rules, ◌∙◌}
 use Rattle.std.proofs.lemmas.List.{places, reverse-append, with_items_is}
-use Rattle.pj_plan.specs.Nodes.{streams_of}
 use Rattle.pj_events.specs.declared.events.Event.TheVariants.{Arrive}
-use Rattle.pj_events.specs.OneThread.{arrival_of}
-use Rattle.pj_core.specs.Calls.{HasArrived, IsCause, closing_of}
+use Rattle.pj_core.specs.Calls.{IsCause, closing_of}
 use Rattle.pj_core.specs.Parts.{closing_in}
 use Rattle.pj_core.specs.Plans.{run_plan}
 use Rattle.pj_core.proofs.Words.{arrival-cause, closed-now, linked-cells, long-cells, opens-now, refused-again, refused-now, streams-here}

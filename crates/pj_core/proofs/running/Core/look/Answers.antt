@@ -1,4 +1,4 @@
-use Rattle.std.proofs.Common.{ap, ap₂, length, refl, reverse, sym, ◌∙◌, arith}
+use Rattle.std.proofs.Common.{ap, ap₂, length, refl, reverse, ◌∙◌, arith}
 use Rattle.pj_plan.specs.Nodes.{streams_of}
 use Rattle.pj_core.specs.Calls.{ended_of}
 use Rattle.pj_core.specs.Plans.{run_plan}

@@ -1,5 +1,4 @@
-use Rattle.std.proofs.Common.{None, refl, reverse, rules, subst}
-use Rattle.std.proofs.lemmas.List.{places, with_items_is}
+use Rattle.std.proofs.Common.{reverse}
 use Rattle.pj_core.specs.Plans.{run_plan}
 use Rattle.pj_core.proofs.Words.{refused-again}
 use Rattle.pj_core.proofs.running.Core.sweep.Goals as goal

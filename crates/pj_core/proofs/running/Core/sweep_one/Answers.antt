@@ -1,4 +1,4 @@
-use Rattle.std.proofs.Common.{◌<◌, length, refl, reverse, rules, subst, sym}
+use Rattle.std.proofs.Common.{◌<◌, length, reverse, rules, subst, sym}
 use Rattle.std.proofs.lemmas.List.{places, with_items_is}
 use Rattle.pj_core.specs.Plans.{run_plan}
 use Rattle.pj_events.specs.declared.events.Event.TheVariants.{Sweep as Swept}

@@ -1,4 +1,4 @@
-use Rattle.std.proofs.Common.{◌≡◌, None, refl, reverse, rules, subst}
+use Rattle.std.proofs.Common.{◌≡◌, refl, reverse, rules, subst}
 use Rattle.std.proofs.lemmas.List.{places, with_items_is}
 use Rattle.pj_core.specs.Plans.{run_plan}
 use Rattle.pj_events.specs.declared.events.Stop.TheVariants.{NoMemory}
