@@ -111,7 +111,7 @@ from-at base (s ∷ ss) (suc k) =
     more n m = omega arith
 
 -- whether one of those with smaller tickets covers an instance of an input depends on those of the input alone
-covered-of : (low : ℕ) (d : Demand) (ps : List PunctAt) → covered (older_puncts low ps) d ≡ list_any (λ p. ltb p.ticket low && covers p.patterns d.instance) (heard_of d.input ps)
+pub covered-of : (low : ℕ) (d : Demand) (ps : List PunctAt) → covered (older_puncts low ps) d ≡ list_any (λ p. ltb p.ticket low && covers p.patterns d.instance) (heard_of d.input ps)
 covered-of low d [] = refl
 covered-of low d (p ∷ ps) = go (ltb p.ticket low) refl (eqb p.input d.input) refl (covered-of low d ps)
   where
@@ -156,7 +156,7 @@ module _ (spec : JoinData) (limit next done : ℕ) (states : List StateView) (st
           let le = ltb-false k (length spec.shape.inputs) e in
           tuples-past (row_pairs states) (length spec.shape.inputs) k le ∙ sym (none-past (λ (x : TupleAt). x.input) k (log_of states) (λ x h q. let lt = j.ordered.placed x h in omega (arith, lt, q, le)))
 
-  same-puncts : (k : ℕ) → heard_of k (puncts_from 0 stores) ≡ heard_of k (puncts_of stores)
+  pub same-puncts : (k : ℕ) → heard_of k (puncts_from 0 stores) ≡ heard_of k (puncts_of stores)
   same-puncts k = ap (λ m. heard_of m (puncts_from 0 stores)) (zero-plus k) ∙ from-at 0 stores k ∙ go (ltb k (inputs spec)) refl
     where
       zero-plus : (n : ℕ) → n ≡ 0 + n

@@ -109,7 +109,7 @@ rise-filter from q (x ∷ xs) end r = go (q x) (rise-filter (x.ticket + 1) q xs 
     go true k = (r.0, k)
     go false k = lower from (x.ticket + 1) (tickets (filter q xs)) (omega (arith, r.0)) k
 
-below-end : (from : ℕ) (ts : List ℕ) (end t : ℕ) → Rise from ts end → In t ts → t < end
+pub below-end : (from : ℕ) (ts : List ℕ) (end t : ℕ) → Rise from ts end → In t ts → t < end
 below-end from [] end t r h = absurd h
 below-end from (u ∷ ts) end t r (inl e) = let l = rise-end (u + 1) ts end r.1 in subst (λ v. v < end) e (omega (arith, l))
 below-end from (u ∷ ts) end t r (inr h) = below-end (u + 1) ts end t r.1 h

@@ -24,3 +24,6 @@ pub mod Queued
 pub mod RowPairs
 pub mod Probed
 pub mod Looked
+pub mod Woken
+pub mod Picked
+pub mod Watched

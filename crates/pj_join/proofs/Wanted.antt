@@ -50,7 +50,7 @@ wanted_by_class classes x class i input column value lt is wants = λ y of suite
 
 -- ---- rows that are looked up
 
-all-in : (P : ℕ → Type 0) (cs : List ℕ) → ((k d : ℕ) → k < length cs → P (get_or cs k d)) → (c : ℕ) → In c cs → P c
+pub all-in : (P : ℕ → Type 0) (cs : List ℕ) → ((k d : ℕ) → k < length cs → P (get_or cs k d)) → (c : ℕ) → In c cs → P c
 all-in P [] all c h = absurd h
 all-in P (d ∷ cs) all c (inl e) = subst P e (all 0 d (omega arith))
 all-in P (d ∷ cs) all c (inr h) = all-in P cs (λ k e lt. all (suc k) e (omega (arith, lt))) c h

@@ -8,3 +8,4 @@ pub mod Handed
 pub mod Judging
 pub mod Sweeping
 pub mod Triples
+pub mod Watching

@@ -9,14 +9,17 @@ ghost use Rattle.pj_join.specs.Handed.{JoinProbes, StandsProbed, rows_probed};
 ghost use Rattle.pj_join.specs.Insides.{Rise, tickets};
 ghost use Rattle.pj_join.specs.Judging.{waiting_on};
 ghost use Rattle.pj_join.specs.Joins.{IsTaken, StandsFor, JoinTakes, StandsTaken, after, join_data};
+ghost use Rattle.pj_join.specs.Watching.{AreOpenBut};
 ghost use Rattle.pj_join.specs.Sweeping.{GoesWhereCovered, HandsUp, HasBeenLawful, IsForgotten, puncts_up, rows_off, swept_off};
 
 use crate::arrivals::Heard;
 use crate::handing::hand_out_found;
+use crate::marks::Watches;
 use crate::queue::{Place, Queue};
-use crate::starting::{empty_states, empty_stores};
+use crate::starting::{empty_states, empty_stores, empty_watches};
 use crate::stored::first_pending;
 use crate::sweeping::{Left, remove_all, sweep_input};
+use crate::watches::wake;
 use crate::widening::hear;
 use crate::{JoinStop, Probe};
 use pj_cover::PunctStore;
@@ -44,6 +47,7 @@ pub struct Join {
     next: u64,
     states: Vec<State>,
     stores: Vec<PunctStore>,
+    watches: Vec<Watches>,
     waiting: List<Heard>,
     pending: Queue,
     done: usize,
@@ -55,12 +59,13 @@ impl Model for Join {
     ghost use Rattle.pj_join.specs.Joins.{JoinView, join_data};
     ghost use Rattle.pj_join.specs.Insides.{IsJoin, inside, made_with, seen};
     ghost use Rattle.pj_join.specs.Sides.{log_of, puncts_of};
+    ghost use Rattle.pj_join.specs.Watching.{AreWatched};
 
     ghost Value = { JoinView };
 
     ghost view = { λ j. seen (made_with j.node (join_data (arc_value j.spec) j.schemes j.certs) j.limit) j.next j.done (log_of j.states.items) (puncts_of j.stores.items) j.waiting j.taken.items };
 
-    ghost invariant = { λ j. IsJoin (join_data (arc_value j.spec) j.schemes j.certs) j.limit (inside j.next j.done j.states.items j.stores.items j.pending j.taken.items) };
+    ghost invariant = { λ j. IsJoin (join_data (arc_value j.spec) j.schemes j.certs) j.limit (inside j.next j.done j.states.items j.stores.items j.pending j.taken.items) × AreWatched (join_data (arc_value j.spec) j.schemes j.certs) j.next (log_of j.states.items) (puncts_of j.stores.items) j.watches.items };
 }
 
 impl Join {
@@ -81,6 +86,7 @@ impl Join {
     {
         let states = empty_states(alloc, &spec)?;
         let stores = empty_stores(alloc, spec.inputs.as_slice())?;
+        let watches = empty_watches(alloc, spec.inputs.len())?;
         Ok(Join {
             alloc,
             node,
@@ -91,6 +97,7 @@ impl Join {
             next: 0,
             states,
             stores,
+            watches,
             waiting: List::new(alloc),
             pending: Queue::new(alloc),
             done: 0,
@@ -149,6 +156,15 @@ impl Join {
             return Err(JoinStop::Limit);
         }
         let ticket = self.next;
+        wake(
+            &mut self.watches,
+            &self.spec,
+            &self.schemes,
+            self.certs.as_slice(),
+            self.states.as_slice(),
+            input,
+            &punct,
+        )?;
         hear(
             self.alloc,
             self.spec.inputs.as_slice(),
@@ -274,6 +290,7 @@ impl Join {
         requires there { input < inputs self.now.spec }
         ensures certified { OnOk result (AreCertified self.now.spec) }
         ensures gone { IfOk result (λ left. left.gone ≡ tickets (swept_off self.now input)) }
+        ensures marked { IfOk result (λ left. AreOpenBut self.now input left.marked) }
         ensures waiting { IfOk result (λ left. left.waiting ≡ waiting_on (swept self.now.spec self.now.kept input) input self.now.kept.waiting) }
         ensures removed { OnOk result (removed.new ≡ removed.old ++ rows_off self.now input) }
         ensures out { OnOk result (out.new ≡ out.old ++ puncts_up self.now (Sweep input)) }
@@ -291,7 +308,9 @@ impl Join {
             self.states.as_slice(),
             self.stores.as_slice(),
             self.waiting.as_slice(),
+            &self.watches[input as usize],
             low,
+            low == self.next,
             removed,
             out,
         )?;
@@ -302,15 +321,22 @@ impl Join {
     fn settle(&mut self, input: u32, left: Left) -> u64
         requires there { input < inputs self.old.spec }
         requires gone { left.gone ≡ tickets (swept_off self.old input) }
+        requires marked { AreOpenBut self.old input left.marked }
         requires waiting { left.waiting ≡ waiting_on (swept self.old.spec self.old.kept input) input self.old.kept.waiting }
         ensures sweeps { self.new ≡ after self.old (Sweep input) }
         ensures count { result ≡ length (swept_off self.old input) }
     {
-        let Left { gone, waiting } = left;
+        let Left {
+            gone,
+            marked,
+            waiting,
+        } = left;
         let count = gone.len();
+        let from = self.low();
         self.done -= count;
         self.waiting = waiting;
         remove_all(&mut self.states[input as usize], gone.as_slice());
+        self.watches[input as usize] = Watches { from, marked };
         count as u64
     }
 

@@ -7,12 +7,14 @@ mod found;
 mod handing;
 mod join;
 mod lookups;
+mod marks;
 mod probe;
 mod queue;
 mod starting;
 mod stored;
 mod sweeping;
 mod walk;
+mod watches;
 mod widening;
 
 pub use found::{Found, JoinStop};

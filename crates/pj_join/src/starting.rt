@@ -1,10 +1,12 @@
 // A join with no rows and no punctuations.
-ghost use Rattle.std.specs.Prelude.{◌≡◌, ◌<◌, ◌≤◌, [], length, map, slice_index, sum, IfOk};
+ghost use Rattle.std.specs.Prelude.{◌≡◌, ◌<◌, ◌≤◌, ℕ, [], length, map, slice_index, sum, IfOk};
 ghost use Rattle.pj_shape.specs.Sound.{arities_of};
 ghost use Rattle.pj_events.specs.Join.{of_input, upto_from};
 ghost use Rattle.pj_join.specs.Sides.{AreAllShaped, IsShaped, heard_in, heard_of, tuples_in};
+ghost use Rattle.pj_join.specs.Watching.{watches_at};
 
 use crate::lookups::class_columns;
+use crate::marks::Watches;
 use pj_cover::PunctStore;
 use pj_shape::{ClassCol, JoinSpec, Schema};
 use pj_state::State;
@@ -49,4 +51,16 @@ pub fn empty_stores(alloc: Global, schemas: &[Schema]) -> Result<Vec<PunctStore>
         stores.push(PunctStore::new(alloc, schema.len() as u32)?)?;
     }
     Ok(stores)
+}
+
+/// For each of so many inputs that all its rows are judged.
+pub fn empty_watches(alloc: Global, inputs: usize) -> Result<Vec<Watches>, NoMemory>
+    ensures count { IfOk result (λ watches. length watches.items ≡ inputs) }
+    ensures none { IfOk result (λ watches. (input : ℕ) → (watches_at watches.items input).from ≡ 0) }
+{
+    let mut watches = Vec::new(alloc);
+    for _input in 0..inputs {
+        watches.push(Watches::new(alloc))?;
+    }
+    Ok(watches)
 }

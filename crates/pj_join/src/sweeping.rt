@@ -1,28 +1,50 @@
 // Which tuples a sweep removes, and what is left.
-ghost use Rattle.std.specs.Prelude.{◌≡◌, ◌<◌, ◌++◌, length, slice_get, take, Some, OnOk, OnErr, IfOk};
-ghost use Rattle.pj_state.specs.States.{state_of, stored};
-ghost use Rattle.pj_join.specs.Judging.{BothMore, MayJudge, judge, letting_go, one_if, ripe_at, ripe_rows, ripe_tickets, rows_without, staying_on};
+ghost use Rattle.std.specs.Prelude.{◌≡◌, ◌<◌, ◌≤◌, ◌++◌, ℕ, false, length, map, slice_get, take, Some, OnOk, OnErr, IfOk};
+ghost use Rattle.pj_value.specs.Lists.{In};
+ghost use Rattle.pj_state.specs.declared.shared.Stored.{Stored};
+ghost use Rattle.pj_state.specs.Rising.{IsRising, itself};
+ghost use Rattle.pj_state.specs.States.{state_of, stored, ticket_of};
+ghost use Rattle.pj_join.specs.Judging.{BothMore, MayJudge, judge, letting_go, one_if, ripe_rows, ripe_tickets, row_in, rows_without, staying_on};
 ghost use Rattle.pj_join.specs.Sides.{state_at};
+ghost use Rattle.pj_join.specs.Watching.{AreJudged, AreLookedAt, IsOneJudged, IsVerdict, NoneIsRipe, all_picked, goes_by, is_passed, marked_by, picked, verdict_on};
 
 use crate::arrivals::Heard;
+use crate::marks::{Judged, Verdict, Watches};
 use crate::stored::Inputs;
 use crate::widening::let_go;
-use pj_cover::{PunctStore, ripe};
+use pj_cover::{PunctStore, Uncovered, first_uncovered};
 use pj_pattern::Punct;
 use pj_shape::{Cert, JoinSpec, Schemes};
 use pj_state::State;
 use pj_value::{List, NoMemory, Row};
 use std::alloc::Global;
 
-/// What a sweep leaves: the tickets of the tuples that go, and the punctuations that wait.
+/// What a sweep leaves: the tickets of the tuples that go, and of those that are judged again, and the punctuations that wait.
 #[derive(Drop)]
 pub struct Left {
     pub gone: List<u64>,
+    pub marked: List<u64>,
     pub waiting: List<Heard>,
 }
 
-// Whether a row that is stored is ripe.
-fn is_ripe(
+// What the first instance tells that a row asks for and that is not covered. Where no punctuation is at or above the low-water
+// ticket, one of the first step of the certificate stays so until a punctuation comes.
+fn verdict_on(found: Option<Uncovered>, settled: bool) -> Verdict
+    ensures { result ≡ verdict_on found settled }
+{
+    match found {
+        None => Verdict::Ripe,
+        Some(found) => {
+            if found.entry == 0 && settled {
+                return Verdict::Open;
+            }
+            Verdict::Marked
+        }
+    }
+}
+
+// What is said of a row that is stored.
+fn judge(
     spec: &JoinSpec,
     schemes: &Schemes,
     cert: &Cert,
@@ -30,15 +52,20 @@ fn is_ripe(
     states: &[State],
     stores: &[PunctStore],
     low: u64,
+    settled: bool,
     ticket: u64,
     row: &Row,
-) -> bool
+) -> Verdict
     requires may { MayJudge (judge spec.now schemes.now states.now stores.now low) cert.now input }
     requires there { (at : _) × (slice_get (state_at states.now input).rows at ≡ Some (stored ticket row.now)) }
-    ensures { result ≡ ripe_at (judge spec.now schemes.now states.now stores.now low) cert.now input (stored ticket row.now) }
+    ensures { IsVerdict (judge spec.now schemes.now states.now stores.now low) cert.now input settled (stored ticket row.now) result }
 {
+    if low <= ticket {
+        return Verdict::Open;
+    }
     let rows = Inputs { states };
-    ripe(spec, schemes, cert, input, ticket, row, &rows, stores, low)
+    let found = first_uncovered(spec, schemes, cert, input, row, &rows, stores, low);
+    verdict_on(found, settled)
 }
 
 // Puts the row at the end of those that go, and its ticket to theirs, where it is ripe; or neither.
@@ -60,8 +87,29 @@ fn sort_out(
     Ok(())
 }
 
-// Puts the rows of the tuples of an input that are ripe at the end of `removed`, and answers their tickets.
-fn ripe_ones(
+// Puts the ticket at the end of those that are marked where the row is judged again.
+fn keep_marked(verdict: Verdict, ticket: u64, marked: &mut List<u64>) -> Result<(), NoMemory>
+    ensures { OnOk result (marked.new ≡ marked.old ++ one_if (marked_by verdict) ticket) }
+{
+    match verdict {
+        Verdict::Ripe => Ok(()),
+        Verdict::Open => Ok(()),
+        Verdict::Marked => marked.push(ticket),
+    }
+}
+
+fn is_ripe(verdict: Verdict) -> bool
+    ensures { result ≡ goes_by verdict }
+{
+    match verdict {
+        Verdict::Ripe => true,
+        Verdict::Open => false,
+        Verdict::Marked => false,
+    }
+}
+
+// Judges the row of an input with a ticket, where there is one. It goes where it is ripe, or is marked where it is judged again.
+fn judge_one(
     alloc: Global,
     spec: &JoinSpec,
     schemes: &Schemes,
@@ -70,24 +118,154 @@ fn ripe_ones(
     states: &[State],
     stores: &[PunctStore],
     low: u64,
+    settled: bool,
+    ticket: u64,
+    judged: &mut Judged,
     removed: &mut List<Row>,
-) -> Result<List<u64>, NoMemory>
+) -> Result<(), NoMemory>
     requires { MayJudge (judge spec.now schemes.now states.now stores.now low) cert.now input }
-    ensures gone { let j = judge spec.now schemes.now states.now stores.now low in IfOk result (λ gone. gone ≡ ripe_tickets j cert.now input (state_at states.now input).rows) }
+    ensures ok { let j = judge spec.now schemes.now states.now stores.now low in OnOk result (IsOneJudged j cert.now input settled ticket judged.old judged.new) }
+    ensures removed { let j = judge spec.now schemes.now states.now stores.now low in OnOk result (removed.new ≡ removed.old ++ map row_in (picked j cert.now input ticket)) }
+    ensures err { OnErr result (removed.new ≡ removed.old) }
+{
+    match states[input as usize].get(ticket) {
+        None => Ok(()),
+        Some(row) => {
+            let verdict = judge(
+                spec, schemes, cert, input, states, stores, low, settled, ticket, row,
+            );
+            keep_marked(verdict, ticket, &mut judged.marked)?;
+            sort_out(
+                alloc,
+                is_ripe(verdict),
+                ticket,
+                row,
+                &mut judged.gone,
+                removed,
+            )?;
+            Ok(())
+        }
+    }
+}
+
+// The tickets of the rows from a ticket on.
+fn young(alloc: Global, state: &State, from: u64) -> Result<List<u64>, NoMemory>
+    ensures order { IsRising ticket_of state.now.rows }
+    ensures young { IfOk result (λ list. (s : Stored) → In s state.now.rows → from ≤ s.ticket → In s.ticket list) }
+{
+    let mut list = List::new(alloc);
+    let count = state.len();
+    for back in 0..count {
+        let (ticket, _) = state.nth(count - 1 - back);
+        if ticket < from {
+            return Ok(list);
+        }
+        list.push(ticket)?;
+    }
+    Ok(list)
+}
+
+// The tickets in order, each once.
+fn in_order(list: List<u64>) -> Vec<u64>
+    ensures rising { IsRising itself result.items }
+    ensures all { (n : ℕ) → In n list → In n result.items }
+{
+    let mut tickets = list.into_vec();
+    tickets.sort_unstable();
+    tickets.dedup();
+    tickets
+}
+
+// The tickets of the rows that are judged, and maybe others, in order.
+fn to_judge(alloc: Global, watches: &Watches, state: &State) -> Result<Vec<u64>, NoMemory>
+    ensures order { IsRising ticket_of state.now.rows }
+    ensures rising { IfOk result (λ tickets. IsRising itself tickets.items) }
+    ensures all { IfOk result (λ tickets. (s : Stored) → In s state.now.rows → is_passed watches.now s.ticket ≡ false → In s.ticket tickets.items) }
+{
+    let mut list = young(alloc, state, watches.from)?;
+    list.append(watches.marked.as_slice())?;
+    Ok(in_order(list))
+}
+
+// Judges the rows with these tickets.
+fn judge_all(
+    alloc: Global,
+    spec: &JoinSpec,
+    schemes: &Schemes,
+    cert: &Cert,
+    input: u32,
+    states: &[State],
+    stores: &[PunctStore],
+    low: u64,
+    settled: bool,
+    tickets: &[u64],
+    removed: &mut List<Row>,
+) -> Result<Judged, NoMemory>
+    requires { MayJudge (judge spec.now schemes.now states.now stores.now low) cert.now input }
+    ensures judged { let j = judge spec.now schemes.now states.now stores.now low in IfOk result (λ judged. AreJudged j cert.now input settled tickets.now judged) }
+    ensures removed { let j = judge spec.now schemes.now states.now stores.now low in OnOk result (removed.new ≡ removed.old ++ map row_in (all_picked j cert.now input tickets.now)) }
+    ensures err { OnErr result (take (length removed.old) removed.new ≡ removed.old) }
+{
+    let mut judged = Judged {
+        gone: List::new(alloc),
+        marked: List::new(alloc),
+    };
+    for ticket in tickets {
+        judge_one(
+            alloc,
+            spec,
+            schemes,
+            cert,
+            input,
+            states,
+            stores,
+            low,
+            settled,
+            *ticket,
+            &mut judged,
+            removed,
+        )?;
+    }
+    Ok(judged)
+}
+
+// Puts the rows of the tuples of an input that are ripe at the end of `removed`, and answers their tickets, and which others
+// are marked now. Those that are passed over are not looked at.
+fn ripe_ones(
+    alloc: Global,
+    spec: &JoinSpec,
+    schemes: &Schemes,
+    cert: &Cert,
+    input: u32,
+    states: &[State],
+    stores: &[PunctStore],
+    watches: &Watches,
+    low: u64,
+    settled: bool,
+    removed: &mut List<Row>,
+) -> Result<Judged, NoMemory>
+    requires may { MayJudge (judge spec.now schemes.now states.now stores.now low) cert.now input }
+    requires passed { NoneIsRipe (judge spec.now schemes.now states.now stores.now low) cert.now input watches.now }
+    ensures gone { let j = judge spec.now schemes.now states.now stores.now low in IfOk result (λ judged. judged.gone ≡ ripe_tickets j cert.now input (state_at states.now input).rows) }
+    ensures left { let j = judge spec.now schemes.now states.now stores.now low in IfOk result (λ judged. AreLookedAt j cert.now input settled watches.now judged.marked) }
     ensures removed { let j = judge spec.now schemes.now states.now stores.now low in OnOk result (removed.new ≡ removed.old ++ ripe_rows j cert.now input (state_at states.now input).rows) }
     ensures err { OnErr result (take (length removed.old) removed.new ≡ removed.old) }
 {
-    let mut gone = List::new(alloc);
-    let state = &states[input as usize];
-    for at in 0..state.len() {
-        let (ticket, row) = state.nth(at);
-        if ticket >= low {
-            return Ok(gone);
-        }
-        let goes = is_ripe(spec, schemes, cert, input, states, stores, low, ticket, row);
-        sort_out(alloc, goes, ticket, row, &mut gone, removed)?;
-    }
-    Ok(gone)
+    let tickets = to_judge(alloc, watches, &states[input as usize])?;
+    let judged = judge_all(
+        alloc,
+        spec,
+        schemes,
+        cert,
+        input,
+        states,
+        stores,
+        low,
+        settled,
+        tickets.as_slice(),
+        removed,
+    )?;
+    Ok(judged)
 }
 
 /// Judges the stored tuples of an input. The rows of those that go are put at the end of `removed`, and the punctuations that
@@ -101,20 +279,25 @@ pub fn sweep_input(
     states: &[State],
     stores: &[PunctStore],
     waiting: &[Heard],
+    watches: &Watches,
     low: u64,
+    settled: bool,
     removed: &mut List<Row>,
     out: &mut List<Punct>,
 ) -> Result<Left, NoMemory>
-    requires { MayJudge (judge spec.now schemes.now states.now stores.now low) cert.now input }
+    requires may { MayJudge (judge spec.now schemes.now states.now stores.now low) cert.now input }
+    requires passed { NoneIsRipe (judge spec.now schemes.now states.now stores.now low) cert.now input watches.now }
     ensures gone { let j = judge spec.now schemes.now states.now stores.now low in IfOk result (λ left. left.gone ≡ ripe_tickets j cert.now input (state_at states.now input).rows) }
+    ensures left { let j = judge spec.now schemes.now states.now stores.now low in IfOk result (λ left. AreLookedAt j cert.now input settled watches.now left.marked) }
     ensures waiting { IfOk result (λ left. left.waiting ≡ staying_on (state_at states.now input).rows left.gone input waiting.now) }
     ensures removed { let j = judge spec.now schemes.now states.now stores.now low in OnOk result (removed.new ≡ removed.old ++ ripe_rows j cert.now input (state_at states.now input).rows) }
     ensures out { IfOk result (λ left. out.new ≡ out.old ++ letting_go spec.now.inputs (state_at states.now input).rows left.gone input waiting.now) }
     ensures err { OnErr result ((take (length removed.old) removed.new ≡ removed.old) × (take (length out.old) out.new ≡ out.old)) }
 {
-    let gone = ripe_ones(
-        alloc, spec, schemes, cert, input, states, stores, low, removed,
+    let judged = ripe_ones(
+        alloc, spec, schemes, cert, input, states, stores, watches, low, settled, removed,
     )?;
+    let Judged { gone, marked } = judged;
     let waiting = let_go(
         alloc,
         spec.inputs.as_slice(),
@@ -124,7 +307,11 @@ pub fn sweep_input(
         waiting,
         out,
     )?;
-    Ok(Left { gone, waiting })
+    Ok(Left {
+        gone,
+        marked,
+        waiting,
+    })
 }
 
 /// Takes the rows with these tickets out.

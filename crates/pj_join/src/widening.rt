@@ -83,8 +83,8 @@ fn stays(gone: &[u64], ticket: u64, row: &Row, punct: &Punct) -> bool
     punct.matches(row) && !is_gone(gone, ticket)
 }
 
-// The constant that a pattern is; `None` where it is none.
-fn constant_of(pattern: &Pattern) -> Option<&Value>
+/// The constant that a pattern is; `None` where it is none.
+pub fn constant_of(pattern: &Pattern) -> Option<&Value>
     ensures { IfSome result (λ value. pattern.now ≡ Constant value.now) }
 {
     match pattern.shape() {

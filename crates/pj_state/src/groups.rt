@@ -47,7 +47,7 @@ impl Group {
     pub fn of(alloc: Global, value: &Value, ticket: u64) -> Result<Group, NoMemory>
         ensures { IfOk result (λ g. g ≡ record { value = value.now; tickets = ticket ∷ [] } ∷ []) }
     {
-        let mut entries = Vec::new(alloc);
+        let mut entries = Vec::with_capacity(alloc, 1)?;
         entries.push(Entry::of(alloc, value, ticket)?)?;
         Ok(Group { entries })
     }

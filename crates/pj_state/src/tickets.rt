@@ -29,7 +29,7 @@ impl Tickets {
     pub fn of(alloc: Global, ticket: u64) -> Result<Tickets, NoMemory>
         ensures { IfOk result (λ t. t ≡ ticket ∷ []) }
     {
-        let mut list = Vec::new(alloc);
+        let mut list = Vec::with_capacity(alloc, 1)?;
         list.push(ticket)?;
         Ok(Tickets { list, start: 0 })
     }

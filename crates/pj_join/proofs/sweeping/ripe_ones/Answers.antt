@@ -1,28 +1,29 @@
-use Rattle.std.proofs.Common.{◌≡◌, ◌∙◌, ◌++◌, List, [], length, ap, map, arith}
+use Rattle.std.proofs.Common.{◌≡◌, ◌∙◌, ◌++◌, false, ℕ, List, length, ap, map}
+use Rattle.pj_value.specs.Lists.{In}
+use Rattle.pj_value.specs.declared.values.Value.{Value}
 use Rattle.pj_state.specs.declared.shared.Stored.{Stored}
-use Rattle.pj_state.specs.States.{stored, ticket_of, tickets_of}
-use Rattle.pj_join.specs.Judging.{judge, ripe_at, row_in}
+use Rattle.pj_state.specs.Rising.{IsRising, itself}
+use Rattle.pj_state.specs.States.{ticket_of, tickets_of}
+use Rattle.pj_join.specs.Judging.{judge, row_in}
 use Rattle.pj_join.specs.Sides.{state_at}
-use Rattle.pj_join.proofs.Looped.{picked_more, picked_stop, ripe-below, state_is}
+use Rattle.pj_join.specs.Watching.{is_passed}
+use Rattle.pj_join.proofs.Looped.{state_is}
+use Rattle.pj_join.proofs.Picked.{all_looked, all_ripe}
 use Rattle.pj_join.proofs.sweeping.ripe_ones.Goals as goal
 
-pub returns-then-ticket-low-clause-gone : goal.returns-then-ticket-low-clause-gone
-returns-then-ticket-low-clause-gone c =
-    let state : c.index-states-input.result ≡ state_at c.args.states.now c.args.input = state_is c.args.states.now c.args.input c.index-states-input.result (length c.args.spec.now.inputs) c.requires.count c.requires.there c.index-states-input.is in
-    c.loop-at.invariant.0
-    ∙ ap tickets_of (picked_stop (ripe_at (judge c.args.spec.now c.args.schemes.now c.args.states.now c.args.stores.now c.args.low) c.args.cert.now c.args.input) ticket_of c.args.low (state_at c.args.states.now c.args.input).rows c.loop-at.at (stored c.nth-ticket.result.0 c.nth-ticket.result.1.now) (rw (← state) c.len-at-end.ensures.rising)
-    (ripe-below (judge c.args.spec.now c.args.schemes.now c.args.states.now c.args.stores.now c.args.low) c.args.cert.now c.args.input) (rw (← state) c.nth-ticket.ensures) (omega (arith, c.if-ticket-low.true)))
+pub returns-clause-gone : goal.returns-clause-gone
+returns-clause-gone c =
+    let state : c.index-states-input.result ≡ state_at c.args.states.now c.args.input = state_is c.args.states.now c.args.input c.index-states-input.result (length c.args.spec.now.inputs) c.requires.may.count c.requires.may.there c.index-states-input.is in
+    (rw (c.as_slice.ensures.value) at c.in_ok-judged.ensures.judged.gone)
+    ∙ ap tickets_of (all_ripe (judge c.args.spec.now c.args.schemes.now c.args.states.now c.args.stores.now c.args.low) c.args.cert.now c.args.input c.args.watches.now c.in_ok-tickets.tickets.items (rw (← state) c.in_ok-tickets.ensures.order) c.in_ok-tickets.ensures.rising c.requires.passed (rw (← state) c.in_ok-tickets.ensures.all))
 
-pub returns-then-ticket-low-clause-removed : goal.returns-then-ticket-low-clause-removed
-returns-then-ticket-low-clause-removed c =
-    let state : c.index-states-input.result ≡ state_at c.args.states.now c.args.input = state_is c.args.states.now c.args.input c.index-states-input.result (length c.args.spec.now.inputs) c.requires.count c.requires.there c.index-states-input.is in
-    c.loop-at.invariant.1
-    ∙ ap (λ (rows : List Stored). c.args.removed.now ++ map row_in rows) (picked_stop (ripe_at (judge c.args.spec.now c.args.schemes.now c.args.states.now c.args.stores.now c.args.low) c.args.cert.now c.args.input) ticket_of c.args.low (state_at c.args.states.now c.args.input).rows c.loop-at.at (stored c.nth-ticket.result.0 c.nth-ticket.result.1.now) (rw (← state) c.len-at-end.ensures.rising)
-    (ripe-below (judge c.args.spec.now c.args.schemes.now c.args.states.now c.args.stores.now c.args.low) c.args.cert.now c.args.input) (rw (← state) c.nth-ticket.ensures) (omega (arith, c.if-ticket-low.true)))
+pub returns-clause-left : goal.returns-clause-left
+returns-clause-left c =
+    let state : c.index-states-input.result ≡ state_at c.args.states.now c.args.input = state_is c.args.states.now c.args.input c.index-states-input.result (length c.args.spec.now.inputs) c.requires.may.count c.requires.may.there c.index-states-input.is in
+    all_looked (judge c.args.spec.now c.args.schemes.now c.args.states.now c.args.stores.now c.args.low) c.args.cert.now c.args.input c.args.settled c.args.watches.now c.in_ok-tickets.tickets.items c.in_ok-judged.judged (rw (← state) c.in_ok-tickets.ensures.order) (rw (← state) c.in_ok-tickets.ensures.all) (rw (← c.as_slice.ensures.value) c.in_ok-judged.ensures.judged)
 
-pub loop-at-preserved : goal.loop-at-preserved
-loop-at-preserved c =
-    let state : c.index-states-input.result ≡ state_at c.args.states.now c.args.input = state_is c.args.states.now c.args.input c.index-states-input.result (length c.args.spec.now.inputs) c.requires.count c.requires.there c.index-states-input.is in (
-      picked_more (ripe_at (judge c.args.spec.now c.args.schemes.now c.args.states.now c.args.stores.now c.args.low) c.args.cert.now c.args.input) ticket_of (state_at c.args.states.now c.args.input).rows c.loop-at.at (stored c.nth-ticket.result.0 c.nth-ticket.result.1.now) c.is_ripe-goes.result [] c.loop-at.gone c.sort_out.new.gone (rw (← state) c.nth-ticket.ensures) c.is_ripe-goes.ensures c.loop-at.invariant.0 c.in_ok-sort_out.ensures.ok.0,
-      picked_more (ripe_at (judge c.args.spec.now c.args.schemes.now c.args.states.now c.args.stores.now c.args.low) c.args.cert.now c.args.input) row_in (state_at c.args.states.now c.args.input).rows c.loop-at.at (stored c.nth-ticket.result.0 c.nth-ticket.result.1.now) c.is_ripe-goes.result c.args.removed.now c.loop-at.removed c.sort_out.new.removed (rw (← state) c.nth-ticket.ensures) c.is_ripe-goes.ensures c.loop-at.invariant.1 c.in_ok-sort_out.ensures.ok.1,
-    )
+pub returns-clause-removed : goal.returns-clause-removed
+returns-clause-removed c =
+    let state : c.index-states-input.result ≡ state_at c.args.states.now c.args.input = state_is c.args.states.now c.args.input c.index-states-input.result (length c.args.spec.now.inputs) c.requires.may.count c.requires.may.there c.index-states-input.is in
+    (rw (c.as_slice.ensures.value) at c.in_ok-judged.ensures.removed)
+    ∙ ap (λ (rows : List Stored). c.args.removed.now ++ map row_in rows) (all_ripe (judge c.args.spec.now c.args.schemes.now c.args.states.now c.args.stores.now c.args.low) c.args.cert.now c.args.input c.args.watches.now c.in_ok-tickets.tickets.items (rw (← state) c.in_ok-tickets.ensures.order) c.in_ok-tickets.ensures.rising c.requires.passed (rw (← state) c.in_ok-tickets.ensures.all))

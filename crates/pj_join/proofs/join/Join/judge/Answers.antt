@@ -1,4 +1,7 @@
-use Rattle.std.proofs.Common.{◌≡◌, ◌<◌, ◌∙◌, ◌++◌, [], List, ap, get_or, sym, subst}
+use Rattle.std.proofs.Common.{◌≡◌, ◌<◌, ◌∙◌, ◌++◌, [], List, ap, arith, get_or, refl, sym, subst}
+use Rattle.std.proofs.lemmas.Bool.{eqb-true}
+use Rattle.pj_join.specs.Watching.{watches_at}
+use Rattle.pj_join.proofs.Watched.{none_ripe, open_but, same_looked, same_none, watch_is}
 use Rattle.std.specs.Arc.{arc_value}
 use Rattle.pj_shape.specs.declared.joins.CertStep.{CertStep}
 use Rattle.pj_shape.specs.declared.joins.JoinSpec.{JoinSpec}
@@ -13,8 +16,8 @@ use Rattle.pj_join.proofs.Judged.{may-judge}
 use Rattle.pj_join.proofs.Swept.{going-are, gone-are, rows-are, same-judge, same-rows, same-tickets, waiting-are}
 use Rattle.pj_join.proofs.join.Join.judge.Goals as goal
 
-pub sweep_input-requires : goal.sweep_input-requires
-sweep_input-requires c =
+pub sweep_input-requires-clause-may : goal.sweep_input-requires-clause-may
+sweep_input-requires-clause-may c =
     let lt : c.args.input < inputs c.args.self.now.spec = c.requires.there in
     let there : c.args.input < inputs (join_data (arc_value c.self.inside.spec) c.self.inside.schemes c.self.inside.certs) = rw (← c.self.view_is) at lt in
     let kept : c.low-low.result ≡ kept_low c.args.self.now.kept = c.low-low.ensures.kept in
@@ -23,10 +26,40 @@ sweep_input-requires c =
     let looks : judge c.deref.result.now c.self.inside.schemes c.as_slice-2.result.now c.as_slice-3.result.now c.low-low.result ≡ judge (arc_value c.self.inside.spec) c.self.inside.schemes c.self.inside.states.items c.self.inside.stores.items c.low-low.result =
     same-judge c.self.inside.schemes c.low-low.result c.deref.result.now (arc_value c.self.inside.spec) c.as_slice-2.result.now c.self.inside.states.items c.as_slice-3.result.now c.self.inside.stores.items c.deref.ensures c.as_slice-2.ensures.value c.as_slice-3.ensures.value in
     subst (λ (j : Judge). MayJudge j c.cert_of-cert.result.now c.args.input) (sym looks) (subst (λ (cs : List CertStep). MayJudge (judge (arc_value c.self.inside.spec) c.self.inside.schemes c.self.inside.states.items c.self.inside.stores.items c.low-low.result) cs c.args.input) (sym cert)
-    (may-judge (join_data (arc_value c.self.inside.spec) c.self.inside.schemes c.self.inside.certs) c.self.inside.limit c.self.inside.next c.self.inside.done c.self.inside.states.items c.self.inside.stores.items c.self.inside.pending c.self.inside.taken.items c.self.invariant c.low-low.result c.args.input there))
+    (may-judge (join_data (arc_value c.self.inside.spec) c.self.inside.schemes c.self.inside.certs) c.self.inside.limit c.self.inside.next c.self.inside.done c.self.inside.states.items c.self.inside.stores.items c.self.inside.pending c.self.inside.taken.items c.self.invariant.0 c.low-low.result c.args.input there))
+
+pub sweep_input-requires-clause-passed : goal.sweep_input-requires-clause-passed
+sweep_input-requires-clause-passed c =
+    let lt : c.args.input < inputs c.args.self.now.spec = c.requires.there in
+    let there : c.args.input < inputs (join_data (arc_value c.self.inside.spec) c.self.inside.schemes c.self.inside.certs) = rw (← c.self.view_is) at lt in
+    let kept : c.low-low.result ≡ kept_low c.args.self.now.kept = c.low-low.ensures.kept in
+    let low : c.low-low.result ≡ kept_low (seen (made_with c.self.inside.node (join_data (arc_value c.self.inside.spec) c.self.inside.schemes c.self.inside.certs) c.self.inside.limit) c.self.inside.next c.self.inside.done (log_of c.self.inside.states.items) (puncts_of c.self.inside.stores.items) c.self.inside.waiting c.self.inside.taken.items).kept = rw (← c.self.view_is) at kept in
+    let cert : c.cert_of-cert.result.now ≡ steps_of (join_data (arc_value c.self.inside.spec) c.self.inside.schemes c.self.inside.certs) c.args.input = c.cert_of-cert.ensures ∙ ap (λ (cs : List (List CertStep)). get_or cs c.args.input []) c.as_slice.ensures in
+    let looks : judge c.deref.result.now c.self.inside.schemes c.as_slice-2.result.now c.as_slice-3.result.now c.low-low.result ≡ judge (arc_value c.self.inside.spec) c.self.inside.schemes c.self.inside.states.items c.self.inside.stores.items c.low-low.result =
+    same-judge c.self.inside.schemes c.low-low.result c.deref.result.now (arc_value c.self.inside.spec) c.as_slice-2.result.now c.self.inside.states.items c.as_slice-3.result.now c.self.inside.stores.items c.deref.ensures c.as_slice-2.ensures.value c.as_slice-3.ensures.value in
+    let watches : c.index.result.now ≡ watches_at c.self.inside.watches.items c.args.input = watch_is c.self.inside.watches.items c.args.input c.index.result.now (omega (arith, there, c.self.invariant.1.count)) c.index.ensures in
+    same_none c.args.input _ _ _ _ _ _ looks cert watches (none_ripe (join_data (arc_value c.self.inside.spec) c.self.inside.schemes c.self.inside.certs) c.self.inside.limit c.self.inside.next c.self.inside.done c.self.inside.states.items c.self.inside.stores.items c.self.inside.pending c.self.inside.taken.items c.self.invariant.0 (seen (made_with c.self.inside.node (join_data (arc_value c.self.inside.spec) c.self.inside.schemes c.self.inside.certs) c.self.inside.limit) c.self.inside.next c.self.inside.done (log_of c.self.inside.states.items) (puncts_of c.self.inside.stores.items) c.self.inside.waiting c.self.inside.taken.items).kept refl refl c.low-low.result low c.args.input there c.self.inside.watches.items c.self.invariant.1)
+
+pub index-requires : goal.index-requires
+index-requires c =
+    let lt : c.args.input < inputs c.args.self.now.spec = c.requires.there in
+    let there : c.args.input < inputs (join_data (arc_value c.self.inside.spec) c.self.inside.schemes c.self.inside.certs) = rw (← c.self.view_is) at lt in
+    omega (arith, there, c.self.invariant.1.count, c.self.inside.watches.ok)
+
+pub returns-clause-marked : goal.returns-clause-marked
+returns-clause-marked c =
+    let lt : c.args.input < inputs c.args.self.now.spec = c.requires.there in
+    let there : c.args.input < inputs (join_data (arc_value c.self.inside.spec) c.self.inside.schemes c.self.inside.certs) = rw (← c.self.view_is) at lt in
+    let kept : c.low-low.result ≡ kept_low c.args.self.now.kept = c.low-low.ensures.kept in
+    let low : c.low-low.result ≡ kept_low (seen (made_with c.self.inside.node (join_data (arc_value c.self.inside.spec) c.self.inside.schemes c.self.inside.certs) c.self.inside.limit) c.self.inside.next c.self.inside.done (log_of c.self.inside.states.items) (puncts_of c.self.inside.stores.items) c.self.inside.waiting c.self.inside.taken.items).kept = rw (← c.self.view_is) at kept in
+    let cert : c.cert_of-cert.result.now ≡ steps_of (join_data (arc_value c.self.inside.spec) c.self.inside.schemes c.self.inside.certs) c.args.input = c.cert_of-cert.ensures ∙ ap (λ (cs : List (List CertStep)). get_or cs c.args.input []) c.as_slice.ensures in
+    let looks : judge c.deref.result.now c.self.inside.schemes c.as_slice-2.result.now c.as_slice-3.result.now c.low-low.result ≡ judge (arc_value c.self.inside.spec) c.self.inside.schemes c.self.inside.states.items c.self.inside.stores.items c.low-low.result =
+    same-judge c.self.inside.schemes c.low-low.result c.deref.result.now (arc_value c.self.inside.spec) c.as_slice-2.result.now c.self.inside.states.items c.as_slice-3.result.now c.self.inside.stores.items c.deref.ensures c.as_slice-2.ensures.value c.as_slice-3.ensures.value in
+    let watches : c.index.result.now ≡ watches_at c.self.inside.watches.items c.args.input = watch_is c.self.inside.watches.items c.args.input c.index.result.now (omega (arith, there, c.self.invariant.1.count)) c.index.ensures in
+    rw (← c.self.view_is) (open_but (join_data (arc_value c.self.inside.spec) c.self.inside.schemes c.self.inside.certs) c.self.inside.limit c.self.inside.next c.self.inside.done c.self.inside.states.items c.self.inside.stores.items c.self.inside.pending c.self.inside.taken.items c.self.invariant.0 (seen (made_with c.self.inside.node (join_data (arc_value c.self.inside.spec) c.self.inside.schemes c.self.inside.certs) c.self.inside.limit) c.self.inside.next c.self.inside.done (log_of c.self.inside.states.items) (puncts_of c.self.inside.stores.items) c.self.inside.waiting c.self.inside.taken.items).kept refl refl c.low-low.result low c.args.input there c.self.inside.node c.self.inside.waiting c.self.inside.watches.items _ c.in_ok-left.left.marked refl c.self.invariant.1 (λ t. eqb-true c.low-low.result c.self.inside.next t) (same_looked c.args.input _ c.in_ok-left.left.marked _ _ _ _ _ _ looks cert watches c.in_ok-left.ensures.left))
 
 pub returns-clause-certified : goal.returns-clause-certified
-returns-clause-certified c = rw (← c.self.view_is) c.self.invariant.ordered.certified
+returns-clause-certified c = rw (← c.self.view_is) c.self.invariant.0.ordered.certified
 
 pub returns-clause-gone : goal.returns-clause-gone
 returns-clause-gone c =
@@ -37,7 +70,7 @@ returns-clause-gone c =
     let cert : c.cert_of-cert.result.now ≡ steps_of (join_data (arc_value c.self.inside.spec) c.self.inside.schemes c.self.inside.certs) c.args.input = c.cert_of-cert.ensures ∙ ap (λ (cs : List (List CertStep)). get_or cs c.args.input []) c.as_slice.ensures in
     let looks : judge c.deref.result.now c.self.inside.schemes c.as_slice-2.result.now c.as_slice-3.result.now c.low-low.result ≡ judge (arc_value c.self.inside.spec) c.self.inside.schemes c.self.inside.states.items c.self.inside.stores.items c.low-low.result =
     same-judge c.self.inside.schemes c.low-low.result c.deref.result.now (arc_value c.self.inside.spec) c.as_slice-2.result.now c.self.inside.states.items c.as_slice-3.result.now c.self.inside.stores.items c.deref.ensures c.as_slice-2.ensures.value c.as_slice-3.ensures.value in
-    rw (← c.self.view_is) (gone-are c.self.inside.node (join_data (arc_value c.self.inside.spec) c.self.inside.schemes c.self.inside.certs) c.self.inside.limit c.self.inside.next c.self.inside.done c.self.inside.states.items c.self.inside.stores.items c.self.inside.pending c.self.inside.taken.items c.self.inside.waiting c.args.input c.self.invariant there c.low-low.result c.in_ok-left.left.gone low (c.in_ok-left.ensures.gone ∙ same-tickets c.args.input _ _ _ _ _ _ looks cert c.as_slice-2.ensures.value))
+    rw (← c.self.view_is) (gone-are c.self.inside.node (join_data (arc_value c.self.inside.spec) c.self.inside.schemes c.self.inside.certs) c.self.inside.limit c.self.inside.next c.self.inside.done c.self.inside.states.items c.self.inside.stores.items c.self.inside.pending c.self.inside.taken.items c.self.inside.waiting c.args.input c.self.invariant.0 there c.low-low.result c.in_ok-left.left.gone low (c.in_ok-left.ensures.gone ∙ same-tickets c.args.input _ _ _ _ _ _ looks cert c.as_slice-2.ensures.value))
 
 pub returns-clause-removed : goal.returns-clause-removed
 returns-clause-removed c =
@@ -48,7 +81,7 @@ returns-clause-removed c =
     let cert : c.cert_of-cert.result.now ≡ steps_of (join_data (arc_value c.self.inside.spec) c.self.inside.schemes c.self.inside.certs) c.args.input = c.cert_of-cert.ensures ∙ ap (λ (cs : List (List CertStep)). get_or cs c.args.input []) c.as_slice.ensures in
     let looks : judge c.deref.result.now c.self.inside.schemes c.as_slice-2.result.now c.as_slice-3.result.now c.low-low.result ≡ judge (arc_value c.self.inside.spec) c.self.inside.schemes c.self.inside.states.items c.self.inside.stores.items c.low-low.result =
     same-judge c.self.inside.schemes c.low-low.result c.deref.result.now (arc_value c.self.inside.spec) c.as_slice-2.result.now c.self.inside.states.items c.as_slice-3.result.now c.self.inside.stores.items c.deref.ensures c.as_slice-2.ensures.value c.as_slice-3.ensures.value in
-    rw (← c.self.view_is) (rows-are c.self.inside.node (join_data (arc_value c.self.inside.spec) c.self.inside.schemes c.self.inside.certs) c.self.inside.limit c.self.inside.next c.self.inside.done c.self.inside.states.items c.self.inside.stores.items c.self.inside.pending c.self.inside.taken.items c.self.inside.waiting c.args.input c.self.invariant there c.low-low.result c.args.removed.now c.sweep_input.new.removed low (c.in_ok-left.ensures.removed ∙ ap (λ rows. c.args.removed.now ++ rows) (same-rows c.args.input _ _ _ _ _ _ looks cert c.as_slice-2.ensures.value)))
+    rw (← c.self.view_is) (rows-are c.self.inside.node (join_data (arc_value c.self.inside.spec) c.self.inside.schemes c.self.inside.certs) c.self.inside.limit c.self.inside.next c.self.inside.done c.self.inside.states.items c.self.inside.stores.items c.self.inside.pending c.self.inside.taken.items c.self.inside.waiting c.args.input c.self.invariant.0 there c.low-low.result c.args.removed.now c.sweep_input.new.removed low (c.in_ok-left.ensures.removed ∙ ap (λ rows. c.args.removed.now ++ rows) (same-rows c.args.input _ _ _ _ _ _ looks cert c.as_slice-2.ensures.value)))
 
 pub returns-clause-waiting : goal.returns-clause-waiting
 returns-clause-waiting c =
@@ -59,7 +92,7 @@ returns-clause-waiting c =
     let cert : c.cert_of-cert.result.now ≡ steps_of (join_data (arc_value c.self.inside.spec) c.self.inside.schemes c.self.inside.certs) c.args.input = c.cert_of-cert.ensures ∙ ap (λ (cs : List (List CertStep)). get_or cs c.args.input []) c.as_slice.ensures in
     let looks : judge c.deref.result.now c.self.inside.schemes c.as_slice-2.result.now c.as_slice-3.result.now c.low-low.result ≡ judge (arc_value c.self.inside.spec) c.self.inside.schemes c.self.inside.states.items c.self.inside.stores.items c.low-low.result =
     same-judge c.self.inside.schemes c.low-low.result c.deref.result.now (arc_value c.self.inside.spec) c.as_slice-2.result.now c.self.inside.states.items c.as_slice-3.result.now c.self.inside.stores.items c.deref.ensures c.as_slice-2.ensures.value c.as_slice-3.ensures.value in
-    rw (← c.self.view_is) (waiting-are c.self.inside.node (join_data (arc_value c.self.inside.spec) c.self.inside.schemes c.self.inside.certs) c.self.inside.limit c.self.inside.next c.self.inside.done c.self.inside.states.items c.self.inside.stores.items c.self.inside.pending c.self.inside.taken.items c.self.inside.waiting c.args.input c.self.invariant there c.in_ok-left.left.gone (gone-are c.self.inside.node (join_data (arc_value c.self.inside.spec) c.self.inside.schemes c.self.inside.certs) c.self.inside.limit c.self.inside.next c.self.inside.done c.self.inside.states.items c.self.inside.stores.items c.self.inside.pending c.self.inside.taken.items c.self.inside.waiting c.args.input c.self.invariant there c.low-low.result c.in_ok-left.left.gone low (c.in_ok-left.ensures.gone ∙ same-tickets c.args.input _ _ _ _ _ _ looks cert c.as_slice-2.ensures.value)) c.in_ok-left.left.waiting
+    rw (← c.self.view_is) (waiting-are c.self.inside.node (join_data (arc_value c.self.inside.spec) c.self.inside.schemes c.self.inside.certs) c.self.inside.limit c.self.inside.next c.self.inside.done c.self.inside.states.items c.self.inside.stores.items c.self.inside.pending c.self.inside.taken.items c.self.inside.waiting c.args.input c.self.invariant.0 there c.in_ok-left.left.gone (gone-are c.self.inside.node (join_data (arc_value c.self.inside.spec) c.self.inside.schemes c.self.inside.certs) c.self.inside.limit c.self.inside.next c.self.inside.done c.self.inside.states.items c.self.inside.stores.items c.self.inside.pending c.self.inside.taken.items c.self.inside.waiting c.args.input c.self.invariant.0 there c.low-low.result c.in_ok-left.left.gone low (c.in_ok-left.ensures.gone ∙ same-tickets c.args.input _ _ _ _ _ _ looks cert c.as_slice-2.ensures.value)) c.in_ok-left.left.waiting
     (c.in_ok-left.ensures.waiting ∙ ap (λ (ss : List StateView). staying_on (state_at ss c.args.input).rows c.in_ok-left.left.gone c.args.input c.as_slice-4.result.now) c.as_slice-2.ensures.value
     ∙ ap (λ (ws : List PunctAt). staying_on (state_at c.self.inside.states.items c.args.input).rows c.in_ok-left.left.gone c.args.input ws) c.as_slice-4.ensures))
 
@@ -72,7 +105,7 @@ returns-clause-out c =
     let cert : c.cert_of-cert.result.now ≡ steps_of (join_data (arc_value c.self.inside.spec) c.self.inside.schemes c.self.inside.certs) c.args.input = c.cert_of-cert.ensures ∙ ap (λ (cs : List (List CertStep)). get_or cs c.args.input []) c.as_slice.ensures in
     let looks : judge c.deref.result.now c.self.inside.schemes c.as_slice-2.result.now c.as_slice-3.result.now c.low-low.result ≡ judge (arc_value c.self.inside.spec) c.self.inside.schemes c.self.inside.states.items c.self.inside.stores.items c.low-low.result =
     same-judge c.self.inside.schemes c.low-low.result c.deref.result.now (arc_value c.self.inside.spec) c.as_slice-2.result.now c.self.inside.states.items c.as_slice-3.result.now c.self.inside.stores.items c.deref.ensures c.as_slice-2.ensures.value c.as_slice-3.ensures.value in
-    rw (← c.self.view_is) (going-are c.self.inside.node (join_data (arc_value c.self.inside.spec) c.self.inside.schemes c.self.inside.certs) c.self.inside.limit c.self.inside.next c.self.inside.done c.self.inside.states.items c.self.inside.stores.items c.self.inside.pending c.self.inside.taken.items c.self.inside.waiting c.args.input c.self.invariant there c.in_ok-left.left.gone (gone-are c.self.inside.node (join_data (arc_value c.self.inside.spec) c.self.inside.schemes c.self.inside.certs) c.self.inside.limit c.self.inside.next c.self.inside.done c.self.inside.states.items c.self.inside.stores.items c.self.inside.pending c.self.inside.taken.items c.self.inside.waiting c.args.input c.self.invariant there c.low-low.result c.in_ok-left.left.gone low (c.in_ok-left.ensures.gone ∙ same-tickets c.args.input _ _ _ _ _ _ looks cert c.as_slice-2.ensures.value)) c.args.out.now c.sweep_input.new.out
+    rw (← c.self.view_is) (going-are c.self.inside.node (join_data (arc_value c.self.inside.spec) c.self.inside.schemes c.self.inside.certs) c.self.inside.limit c.self.inside.next c.self.inside.done c.self.inside.states.items c.self.inside.stores.items c.self.inside.pending c.self.inside.taken.items c.self.inside.waiting c.args.input c.self.invariant.0 there c.in_ok-left.left.gone (gone-are c.self.inside.node (join_data (arc_value c.self.inside.spec) c.self.inside.schemes c.self.inside.certs) c.self.inside.limit c.self.inside.next c.self.inside.done c.self.inside.states.items c.self.inside.stores.items c.self.inside.pending c.self.inside.taken.items c.self.inside.waiting c.args.input c.self.invariant.0 there c.low-low.result c.in_ok-left.left.gone low (c.in_ok-left.ensures.gone ∙ same-tickets c.args.input _ _ _ _ _ _ looks cert c.as_slice-2.ensures.value)) c.args.out.now c.sweep_input.new.out
     (c.in_ok-left.ensures.out ∙ ap (λ (s : JoinSpec). c.args.out.now ++ letting_go s.inputs (state_at c.as_slice-2.result.now c.args.input).rows c.in_ok-left.left.gone c.args.input c.as_slice-4.result.now) c.deref.ensures
     ∙ ap (λ (ss : List StateView). c.args.out.now ++ letting_go (arc_value c.self.inside.spec).inputs (state_at ss c.args.input).rows c.in_ok-left.left.gone c.args.input c.as_slice-4.result.now) c.as_slice-2.ensures.value
     ∙ ap (λ (ws : List PunctAt). c.args.out.now ++ letting_go (arc_value c.self.inside.spec).inputs (state_at c.self.inside.states.items c.args.input).rows c.in_ok-left.left.gone c.args.input ws) c.as_slice-4.ensures))

@@ -10,36 +10,36 @@ use Rattle.pj_join.proofs.Kept.{all-states, first-is, own-there, probes-now, sha
 use Rattle.pj_join.proofs.join.Join.probe_next.Goals as goal
 
 pub hand_out_found-requires-clause-few : goal.hand_out_found-requires-clause-few
-hand_out_found-requires-clause-few c = omega (arith, ap (λ (ss : List StateView). length ss) c.as_slice-in-Some.ensures.value, all-states (join_data (arc_value c.self.inside.spec) c.self.inside.schemes c.self.inside.certs) c.self.inside.limit c.self.inside.next c.self.inside.done c.self.inside.states.items c.self.inside.stores.items c.self.inside.pending c.self.inside.taken.items c.self.invariant, c.self.invariant.ordered.sound.few_inputs.1, shapes (join_data (arc_value c.self.inside.spec) c.self.inside.schemes c.self.inside.certs) c.self.inside.limit c.self.inside.next c.self.inside.done c.self.inside.states.items c.self.inside.stores.items c.self.inside.pending c.self.inside.taken.items c.self.invariant)
+hand_out_found-requires-clause-few c = omega (arith, ap (λ (ss : List StateView). length ss) c.as_slice-in-Some.ensures.value, all-states (join_data (arc_value c.self.inside.spec) c.self.inside.schemes c.self.inside.certs) c.self.inside.limit c.self.inside.next c.self.inside.done c.self.inside.states.items c.self.inside.stores.items c.self.inside.pending c.self.inside.taken.items c.self.invariant.0, c.self.invariant.0.ordered.sound.few_inputs.1, shapes (join_data (arc_value c.self.inside.spec) c.self.inside.schemes c.self.inside.certs) c.self.inside.limit c.self.inside.next c.self.inside.done c.self.inside.states.items c.self.inside.stores.items c.self.inside.pending c.self.inside.taken.items c.self.invariant.0)
 
 pub hand_out_found-requires-clause-there : goal.hand_out_found-requires-clause-there
-hand_out_found-requires-clause-there c = subst (λ (ss : List StateView). c.in-Some.own.input < length ss) (sym c.as_slice-in-Some.ensures.value) (own-there (join_data (arc_value c.self.inside.spec) c.self.inside.schemes c.self.inside.certs) c.self.inside.limit c.self.inside.next c.self.inside.done c.self.inside.states.items c.self.inside.stores.items c.self.inside.pending c.self.inside.taken.items c.self.invariant c.in-Some.own (c.in-Some.ensures ∙ ap (λ (ss : List StateView). first_of ss c.self.inside.pending) c.as_slice.ensures.value ∙ first-is (join_data (arc_value c.self.inside.spec) c.self.inside.schemes c.self.inside.certs) c.self.inside.limit c.self.inside.next c.self.inside.done c.self.inside.states.items c.self.inside.stores.items c.self.inside.pending c.self.inside.taken.items c.self.invariant))
+hand_out_found-requires-clause-there c = subst (λ (ss : List StateView). c.in-Some.own.input < length ss) (sym c.as_slice-in-Some.ensures.value) (own-there (join_data (arc_value c.self.inside.spec) c.self.inside.schemes c.self.inside.certs) c.self.inside.limit c.self.inside.next c.self.inside.done c.self.inside.states.items c.self.inside.stores.items c.self.inside.pending c.self.inside.taken.items c.self.invariant.0 c.in-Some.own (c.in-Some.ensures ∙ ap (λ (ss : List StateView). first_of ss c.self.inside.pending) c.as_slice.ensures.value ∙ first-is (join_data (arc_value c.self.inside.spec) c.self.inside.schemes c.self.inside.certs) c.self.inside.limit c.self.inside.next c.self.inside.done c.self.inside.states.items c.self.inside.stores.items c.self.inside.pending c.self.inside.taken.items c.self.invariant.0))
 
 pub hand_out_found-requires-clause-wide : goal.hand_out_found-requires-clause-wide
-hand_out_found-requires-clause-wide c = subst (λ (ss : List StateView). AreWide ss) (sym c.as_slice-in-Some.ensures.value) (wide (join_data (arc_value c.self.inside.spec) c.self.inside.schemes c.self.inside.certs) c.self.inside.limit c.self.inside.next c.self.inside.done c.self.inside.states.items c.self.inside.stores.items c.self.inside.pending c.self.inside.taken.items c.self.invariant)
+hand_out_found-requires-clause-wide c = subst (λ (ss : List StateView). AreWide ss) (sym c.as_slice-in-Some.ensures.value) (wide (join_data (arc_value c.self.inside.spec) c.self.inside.schemes c.self.inside.certs) c.self.inside.limit c.self.inside.next c.self.inside.done c.self.inside.states.items c.self.inside.stores.items c.self.inside.pending c.self.inside.taken.items c.self.invariant.0)
 
 pub overflow_add-self : goal.overflow_add-self
-overflow_add-self c = let f : c.self.inside.done < 2 ^ 40 + 1 = done-fits (join_data (arc_value c.self.inside.spec) c.self.inside.schemes c.self.inside.certs) c.self.inside.limit c.self.inside.next c.self.inside.done (log_of c.self.inside.states.items) (tuples_in 0 c.self.inside.states.items) c.self.inside.taken.items c.self.invariant.ordered in omega (arith, f)
+overflow_add-self c = let f : c.self.inside.done < 2 ^ 40 + 1 = done-fits (join_data (arc_value c.self.inside.spec) c.self.inside.schemes c.self.inside.certs) c.self.inside.limit c.self.inside.next c.self.inside.done (log_of c.self.inside.states.items) (tuples_in 0 c.self.inside.states.items) c.self.inside.taken.items c.self.invariant.0.ordered in omega (arith, f)
 
 pub invariant_of-self : goal.invariant_of-self
-invariant_of-self c = probes-now (join_data (arc_value c.self.inside.spec) c.self.inside.schemes c.self.inside.certs) c.self.inside.limit c.self.inside.next c.self.inside.done c.self.inside.states.items c.self.inside.stores.items c.self.inside.pending c.self.inside.taken.items c.self.invariant c.in-Some.own c.pop_first.new.self (c.in-Some.ensures ∙ ap (λ (ss : List StateView). first_of ss c.self.inside.pending) c.as_slice.ensures.value ∙ first-is (join_data (arc_value c.self.inside.spec) c.self.inside.schemes c.self.inside.certs) c.self.inside.limit c.self.inside.next c.self.inside.done c.self.inside.states.items c.self.inside.stores.items c.self.inside.pending c.self.inside.taken.items c.self.invariant) c.pop_first.ensures
+invariant_of-self c = (probes-now (join_data (arc_value c.self.inside.spec) c.self.inside.schemes c.self.inside.certs) c.self.inside.limit c.self.inside.next c.self.inside.done c.self.inside.states.items c.self.inside.stores.items c.self.inside.pending c.self.inside.taken.items c.self.invariant.0 c.in-Some.own c.pop_first.new.self (c.in-Some.ensures ∙ ap (λ (ss : List StateView). first_of ss c.self.inside.pending) c.as_slice.ensures.value ∙ first-is (join_data (arc_value c.self.inside.spec) c.self.inside.schemes c.self.inside.certs) c.self.inside.limit c.self.inside.next c.self.inside.done c.self.inside.states.items c.self.inside.stores.items c.self.inside.pending c.self.inside.taken.items c.self.invariant.0) c.pop_first.ensures, c.self.invariant.1)
 
 pub returns-in-None-clause-probes : goal.returns-in-None-clause-probes
-returns-in-None-clause-probes c = rw (← c.self.view_is) (none-pending (log_of c.self.inside.states.items) c.self.inside.done (c.in-None.ensures ∙ ap (λ (ss : List StateView). first_of ss c.self.inside.pending) c.as_slice.ensures.value ∙ first-is (join_data (arc_value c.self.inside.spec) c.self.inside.schemes c.self.inside.certs) c.self.inside.limit c.self.inside.next c.self.inside.done c.self.inside.states.items c.self.inside.stores.items c.self.inside.pending c.self.inside.taken.items c.self.invariant), refl)
+returns-in-None-clause-probes c = rw (← c.self.view_is) (none-pending (log_of c.self.inside.states.items) c.self.inside.done (c.in-None.ensures ∙ ap (λ (ss : List StateView). first_of ss c.self.inside.pending) c.as_slice.ensures.value ∙ first-is (join_data (arc_value c.self.inside.spec) c.self.inside.schemes c.self.inside.certs) c.self.inside.limit c.self.inside.next c.self.inside.done c.self.inside.states.items c.self.inside.stores.items c.self.inside.pending c.self.inside.taken.items c.self.invariant.0), refl)
 
 pub returns-in_ok-hand_out_found-in-Some-clause-probes : goal.returns-in_ok-hand_out_found-in-Some-clause-probes
 returns-in_ok-hand_out_found-in-Some-clause-probes c =
     probe-does-at c.self.inside.node (join_data (arc_value c.self.inside.spec) c.self.inside.schemes c.self.inside.certs) c.self.inside.limit c.self.inside.next c.self.inside.done (log_of c.self.inside.states.items) (tuples_in 0 c.self.inside.states.items) (puncts_of c.self.inside.stores.items) c.self.inside.waiting c.self.inside.taken.items c.in-Some.own
-    c.self.invariant.ordered (c.in-Some.ensures ∙ ap (λ (ss : List StateView). first_of ss c.self.inside.pending) c.as_slice.ensures.value ∙ first-is (join_data (arc_value c.self.inside.spec) c.self.inside.schemes c.self.inside.certs) c.self.inside.limit c.self.inside.next c.self.inside.done c.self.inside.states.items c.self.inside.stores.items c.self.inside.pending c.self.inside.taken.items c.self.invariant) c.args.self.now c.self.view_is c.ticket-ticket.result c.ticket-ticket.ensures
+    c.self.invariant.0.ordered (c.in-Some.ensures ∙ ap (λ (ss : List StateView). first_of ss c.self.inside.pending) c.as_slice.ensures.value ∙ first-is (join_data (arc_value c.self.inside.spec) c.self.inside.schemes c.self.inside.certs) c.self.inside.limit c.self.inside.next c.self.inside.done c.self.inside.states.items c.self.inside.stores.items c.self.inside.pending c.self.inside.taken.items c.self.invariant.0) c.args.self.now c.self.view_is c.ticket-ticket.result c.ticket-ticket.ensures
 
 pub returns-in_ok-hand_out_found-in-Some-clause-hands : goal.returns-in_ok-hand_out_found-in-Some-clause-hands
 returns-in_ok-hand_out_found-in-Some-clause-hands c =
     probe-hands c.self.inside.node (join_data (arc_value c.self.inside.spec) c.self.inside.schemes c.self.inside.certs) c.self.inside.limit c.self.inside.next c.self.inside.done (log_of c.self.inside.states.items) (tuples_in 0 c.self.inside.states.items) (puncts_of c.self.inside.stores.items) c.self.inside.waiting c.self.inside.taken.items c.in-Some.own
-    c.self.invariant.ordered (c.in-Some.ensures ∙ ap (λ (ss : List StateView). first_of ss c.self.inside.pending) c.as_slice.ensures.value ∙ first-is (join_data (arc_value c.self.inside.spec) c.self.inside.schemes c.self.inside.certs) c.self.inside.limit c.self.inside.next c.self.inside.done c.self.inside.states.items c.self.inside.stores.items c.self.inside.pending c.self.inside.taken.items c.self.invariant) c.args.self.now c.self.view_is c.ticket-ticket.result c.ticket-ticket.ensures c.args.outs.now c.hand_out_found.new.outs
+    c.self.invariant.0.ordered (c.in-Some.ensures ∙ ap (λ (ss : List StateView). first_of ss c.self.inside.pending) c.as_slice.ensures.value ∙ first-is (join_data (arc_value c.self.inside.spec) c.self.inside.schemes c.self.inside.certs) c.self.inside.limit c.self.inside.next c.self.inside.done c.self.inside.states.items c.self.inside.stores.items c.self.inside.pending c.self.inside.taken.items c.self.invariant.0) c.args.self.now c.self.view_is c.ticket-ticket.result c.ticket-ticket.ensures c.args.outs.now c.hand_out_found.new.outs
     (rw (← c.as_slice-in-Some.ensures.value) c.in_ok-hand_out_found-in-Some.ensures.ok)
 
 pub returns-in_ok-hand_out_found-in-Some-clause-stands : goal.returns-in_ok-hand_out_found-in-Some-clause-stands
 returns-in_ok-hand_out_found-in-Some-clause-stands c =
-    let few : 1 < inputs c.args.self.now.spec = rw (← c.self.view_is) (several (join_data (arc_value c.self.inside.spec) c.self.inside.schemes c.self.inside.certs) c.self.inside.limit c.self.inside.next c.self.inside.done (log_of c.self.inside.states.items) (tuples_in 0 c.self.inside.states.items) c.self.inside.taken.items c.self.invariant.ordered) in
+    let few : 1 < inputs c.args.self.now.spec = rw (← c.self.view_is) (several (join_data (arc_value c.self.inside.spec) c.self.inside.schemes c.self.inside.certs) c.self.inside.limit c.self.inside.next c.self.inside.done (log_of c.self.inside.states.items) (tuples_in 0 c.self.inside.states.items) c.self.inside.taken.items c.self.invariant.0.ordered) in
     let some : 0 < inputs c.args.self.now.spec = omega (arith, few) in
     stands-probed c.args.self.now _ (Some c.ticket-ticket.result) (c.standing.ensures c.args.self.now.spec some) (c.forgetting_is_safe.ensures.stored_suffice c.args.self.now.spec) (returns-in_ok-hand_out_found-in-Some-clause-probes c)

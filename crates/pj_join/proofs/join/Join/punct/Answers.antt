@@ -1,4 +1,4 @@
-use Rattle.std.proofs.Common.{◌<◌, ◌∙◌, ◌++◌, [], List, ap, ap₂, arith, refl, sym, subst}
+use Rattle.std.proofs.Common.{◌<◌, ◌+◌, ◌∙◌, ◌++◌, [], List, ap, ap₂, arith, refl, sym, subst}
 use Rattle.std.proofs.lemmas.Bool.{false≢true}
 use Rattle.std.specs.Arc.{arc_value}
 use Rattle.pj_cover.specs.Stores.{IsAbove, Store}
@@ -7,12 +7,15 @@ use Rattle.pj_events.specs.Join.{PunctAt, inputs}
 use Rattle.pj_join.specs.Insides.{IsJoin, inside, made_with, seen}
 use Rattle.pj_join.specs.Joins.{join_data}
 use Rattle.pj_join.specs.Judging.{going_at_once}
-use Rattle.pj_join.specs.Sides.{log_of, puncts_of, still_held, tuples_in}
+use Rattle.pj_join.specs.Sides.{AreWide, log_of, puncts_of, still_held, tuples_in}
 use Rattle.pj_join.proofs.Standing.{stands-punct}
 use Rattle.pj_join.proofs.Calling.{same-at, several}
 use Rattle.pj_join.proofs.Sweeps.{hands-punct, punct_out, punct_view}
 use Rattle.pj_join.proofs.Swept.{held-at-first}
-use Rattle.pj_join.proofs.Kept.{above-all, all-states, all-stores, join-hears, on-err, puncts-more, same-stores}
+use Rattle.pj_join.proofs.Kept.{above-all, all-states, all-stores, join-hears, on-err, puncts-more, same-stores, wide}
+use Rattle.pj_state.specs.States.{StateView}
+use Rattle.pj_join.specs.Watching.{AreWatched}
+use Rattle.pj_join.proofs.Watched.{watched_fewer, watched_punct}
 use Rattle.pj_join.proofs.Looped.{state_is}
 use Rattle.pj_join.proofs.join.Join.punct.Goals as goal
 
@@ -20,26 +23,35 @@ pub index-requires : goal.index-requires
 index-requires c =
     let lt : c.args.input < inputs c.args.self.now.spec = c.requires.fits.0 in
     let there : c.args.input < inputs (join_data (arc_value c.self.inside.spec) c.self.inside.schemes c.self.inside.certs) = rw (← c.self.view_is) at lt in
-    omega (arith, there, all-states (join_data (arc_value c.self.inside.spec) c.self.inside.schemes c.self.inside.certs) c.self.inside.limit c.self.inside.next c.self.inside.done c.self.inside.states.items c.self.inside.stores.items c.self.inside.pending c.self.inside.taken.items c.self.invariant, c.self.inside.states.ok)
+    omega (arith, there, all-states (join_data (arc_value c.self.inside.spec) c.self.inside.schemes c.self.inside.certs) c.self.inside.limit c.self.inside.next c.self.inside.done c.self.inside.states.items c.self.inside.stores.items c.self.inside.pending c.self.inside.taken.items c.self.invariant.0, c.self.inside.states.ok)
 
 pub hear-requires-clause-rises : goal.hear-requires-clause-rises
 hear-requires-clause-rises c =
     let lt : c.args.input < inputs c.args.self.now.spec = c.requires.fits.0 in
     let there : c.args.input < inputs (join_data (arc_value c.self.inside.spec) c.self.inside.schemes c.self.inside.certs) = rw (← c.self.view_is) at lt in
-    subst (λ (s : Store). IsAbove c.self.inside.next s.kept) (sym c.index_mut.ensures.value) (above-all (join_data (arc_value c.self.inside.spec) c.self.inside.schemes c.self.inside.certs) c.self.inside.limit c.self.inside.next c.self.inside.done c.self.inside.states.items c.self.inside.stores.items c.self.inside.pending c.self.inside.taken.items c.self.invariant c.args.input c.index_mut.result.now there)
+    subst (λ (s : Store). IsAbove c.self.inside.next s.kept) (sym c.index_mut.ensures.value) (above-all (join_data (arc_value c.self.inside.spec) c.self.inside.schemes c.self.inside.certs) c.self.inside.limit c.self.inside.next c.self.inside.done c.self.inside.states.items c.self.inside.stores.items c.self.inside.pending c.self.inside.taken.items c.self.invariant.0 c.args.input c.index_mut.result.now there)
+
+pub wake-requires-clause-wide : goal.wake-requires-clause-wide
+wake-requires-clause-wide c = subst (λ (ss : List StateView). AreWide ss) (sym c.as_slice-2.ensures.value) (wide (join_data (arc_value c.self.inside.spec) c.self.inside.schemes c.self.inside.certs) c.self.inside.limit c.self.inside.next c.self.inside.done c.self.inside.states.items c.self.inside.stores.items c.self.inside.pending c.self.inside.taken.items c.self.invariant.0)
 
 pub invariant_of-self : goal.invariant_of-self
-invariant_of-self c =
+invariant_of-self c = (c.self.invariant.0, (watched_fewer (join_data (arc_value c.self.inside.spec) c.self.inside.schemes c.self.inside.certs) c.self.inside.next (log_of c.self.inside.states.items) (puncts_of c.self.inside.stores.items) c.self.inside.watches.items c.wake.new.watches.items c.wake.ensures.fewer c.self.invariant.1))
+
+pub invariant_of-self-in_err-hear : goal.invariant_of-self-in_err-hear
+invariant_of-self-in_err-hear c =
     let lt : c.args.input < inputs c.args.self.now.spec = c.requires.fits.0 in
     let there : c.args.input < inputs (join_data (arc_value c.self.inside.spec) c.self.inside.schemes c.self.inside.certs) = rw (← c.self.view_is) at lt in
-    subst (λ (ss : List Store). IsJoin (join_data (arc_value c.self.inside.spec) c.self.inside.schemes c.self.inside.certs) c.self.inside.limit (inside c.self.inside.next c.self.inside.done c.self.inside.states.items ss c.self.inside.pending c.self.inside.taken.items))
-    (sym (same-stores (join_data (arc_value c.self.inside.spec) c.self.inside.schemes c.self.inside.certs) c.self.inside.limit c.self.inside.next c.self.inside.done c.self.inside.states.items c.self.inside.stores.items c.self.inside.pending c.self.inside.taken.items c.self.invariant c.args.input c.index_mut.result.now c.hear.new.store there c.index_mut.ensures.value c.in_err-hear.ensures.arity c.in_err-hear.ensures.err.0)) c.self.invariant
+    subst (λ (ss : List Store). IsJoin (join_data (arc_value c.self.inside.spec) c.self.inside.schemes c.self.inside.certs) c.self.inside.limit (inside c.self.inside.next c.self.inside.done c.self.inside.states.items ss c.self.inside.pending c.self.inside.taken.items) × AreWatched (join_data (arc_value c.self.inside.spec) c.self.inside.schemes c.self.inside.certs) c.self.inside.next (log_of c.self.inside.states.items) (puncts_of ss) c.wake.new.watches.items)
+    (sym (same-stores (join_data (arc_value c.self.inside.spec) c.self.inside.schemes c.self.inside.certs) c.self.inside.limit c.self.inside.next c.self.inside.done c.self.inside.states.items c.self.inside.stores.items c.self.inside.pending c.self.inside.taken.items c.self.invariant.0 c.args.input c.index_mut.result.now c.hear.new.store there c.index_mut.ensures.value c.in_err-hear.ensures.arity c.in_err-hear.ensures.err.0)) (c.self.invariant.0, (watched_fewer (join_data (arc_value c.self.inside.spec) c.self.inside.schemes c.self.inside.certs) c.self.inside.next (log_of c.self.inside.states.items) (puncts_of c.self.inside.stores.items) c.self.inside.watches.items c.wake.new.watches.items c.wake.ensures.fewer c.self.invariant.1))
 
 pub invariant_of-self-2 : goal.invariant_of-self-2
 invariant_of-self-2 c =
     let lt : c.args.input < inputs c.args.self.now.spec = c.requires.fits.0 in
-    let there : c.args.input < inputs (join_data (arc_value c.self.inside.spec) c.self.inside.schemes c.self.inside.certs) = rw (← c.self.view_is) at lt in
-    join-hears (join_data (arc_value c.self.inside.spec) c.self.inside.schemes c.self.inside.certs) c.self.inside.limit c.self.inside.next c.self.inside.done c.self.inside.states.items c.self.inside.stores.items c.self.inside.pending c.self.inside.taken.items c.self.invariant c.args.input c.args.punct c.index_mut.result.now c.hear.new.store there (λ d. c.index_mut.ensures.value ∙ same-at c.self.inside.stores.items c.args.input c.index_mut.result.now d (omega (arith, there, all-stores (join_data (arc_value c.self.inside.spec) c.self.inside.schemes c.self.inside.certs) c.self.inside.limit c.self.inside.next c.self.inside.done c.self.inside.states.items c.self.inside.stores.items c.self.inside.pending c.self.inside.taken.items c.self.invariant))) c.in_ok-hear.ensures.arity c.in_ok-hear.ensures.store (λ e. false≢true (c.if-is_full.ensures.1 e))
+    let there : c.args.input < inputs (join_data (arc_value c.self.inside.spec) c.self.inside.schemes c.self.inside.certs) = rw (← c.self.view_is) at lt in (
+      join-hears (join_data (arc_value c.self.inside.spec) c.self.inside.schemes c.self.inside.certs) c.self.inside.limit c.self.inside.next c.self.inside.done c.self.inside.states.items c.self.inside.stores.items c.self.inside.pending c.self.inside.taken.items c.self.invariant.0 c.args.input c.args.punct c.index_mut.result.now c.hear.new.store there (λ d. c.index_mut.ensures.value ∙ same-at c.self.inside.stores.items c.args.input c.index_mut.result.now d (omega (arith, there, all-stores (join_data (arc_value c.self.inside.spec) c.self.inside.schemes c.self.inside.certs) c.self.inside.limit c.self.inside.next c.self.inside.done c.self.inside.states.items c.self.inside.stores.items c.self.inside.pending c.self.inside.taken.items c.self.invariant.0))) c.in_ok-hear.ensures.arity c.in_ok-hear.ensures.store (λ e. false≢true (c.if-is_full.ensures.1 e)),
+      subst (λ (ps : List PunctAt). AreWatched (join_data (arc_value c.self.inside.spec) c.self.inside.schemes c.self.inside.certs) (c.self.inside.next + 1) (log_of c.self.inside.states.items) ps c.wake.new.watches.items) (sym (puncts-more (join_data (arc_value c.self.inside.spec) c.self.inside.schemes c.self.inside.certs) c.self.inside.limit c.self.inside.next c.self.inside.done c.self.inside.states.items c.self.inside.stores.items c.self.inside.pending c.self.inside.taken.items c.self.invariant.0 c.args.input c.args.punct c.index_mut.result.now c.hear.new.store there (λ d. c.index_mut.ensures.value ∙ same-at c.self.inside.stores.items c.args.input c.index_mut.result.now d (omega (arith, there, all-stores (join_data (arc_value c.self.inside.spec) c.self.inside.schemes c.self.inside.certs) c.self.inside.limit c.self.inside.next c.self.inside.done c.self.inside.states.items c.self.inside.stores.items c.self.inside.pending c.self.inside.taken.items c.self.invariant.0))) c.in_ok-hear.ensures.arity c.in_ok-hear.ensures.store))
+          (watched_punct (join_data (arc_value c.self.inside.spec) c.self.inside.schemes c.self.inside.certs) c.self.inside.limit c.self.inside.next c.self.inside.done c.self.inside.states.items c.self.inside.stores.items c.self.inside.pending c.self.inside.taken.items c.self.invariant.0 c.self.inside.watches.items c.wake.new.watches.items (record { ticket = c.self.inside.next; input = c.args.input; patterns = c.args.punct }) c.wake.ensures.fewer (rw (c.deref.ensures, c.as_slice.ensures, c.as_slice-2.ensures.value) at (c.in_ok-wake.ensures.left c.self.inside.next)) c.self.invariant.1),
+    )
 
 pub returns-clause-keeps : goal.returns-clause-keeps
 returns-clause-keeps c =
@@ -47,12 +59,12 @@ returns-clause-keeps c =
     let there : c.args.input < inputs (join_data (arc_value c.self.inside.spec) c.self.inside.schemes c.self.inside.certs) = rw (← c.self.view_is) at lt in
     rw (← c.self.view_is)
     (punct_view c.self.inside.node (join_data (arc_value c.self.inside.spec) c.self.inside.schemes c.self.inside.certs) c.self.inside.limit c.self.inside.next c.self.inside.done (log_of c.self.inside.states.items) (puncts_of c.self.inside.stores.items) _ c.self.inside.waiting c.hear.new.waiting c.self.inside.taken.items _ (record { ticket = c.self.inside.next; input = c.args.input; patterns = c.args.punct })
-    refl (held-at-first (join_data (arc_value c.self.inside.spec) c.self.inside.schemes c.self.inside.certs) c.self.inside.limit c.self.inside.next c.self.inside.done c.self.inside.states.items c.self.inside.stores.items c.self.inside.pending c.self.inside.taken.items c.self.invariant c.index.result.now (record { ticket = c.self.inside.next; input = c.args.input; patterns = c.args.punct }) there (state_is c.self.inside.states.items c.args.input c.index.result.now (inputs (join_data (arc_value c.self.inside.spec) c.self.inside.schemes c.self.inside.certs)) (all-states (join_data (arc_value c.self.inside.spec) c.self.inside.schemes c.self.inside.certs) c.self.inside.limit c.self.inside.next c.self.inside.done c.self.inside.states.items c.self.inside.stores.items c.self.inside.pending c.self.inside.taken.items c.self.invariant) there c.index.ensures)) refl
-    (puncts-more (join_data (arc_value c.self.inside.spec) c.self.inside.schemes c.self.inside.certs) c.self.inside.limit c.self.inside.next c.self.inside.done c.self.inside.states.items c.self.inside.stores.items c.self.inside.pending c.self.inside.taken.items c.self.invariant c.args.input c.args.punct c.index_mut.result.now c.hear.new.store there (λ d. c.index_mut.ensures.value ∙ same-at c.self.inside.stores.items c.args.input c.index_mut.result.now d (omega (arith, there, all-stores (join_data (arc_value c.self.inside.spec) c.self.inside.schemes c.self.inside.certs) c.self.inside.limit c.self.inside.next c.self.inside.done c.self.inside.states.items c.self.inside.stores.items c.self.inside.pending c.self.inside.taken.items c.self.invariant))) c.in_ok-hear.ensures.arity c.in_ok-hear.ensures.store) c.in_ok-hear.ensures.waiting)
+    refl (held-at-first (join_data (arc_value c.self.inside.spec) c.self.inside.schemes c.self.inside.certs) c.self.inside.limit c.self.inside.next c.self.inside.done c.self.inside.states.items c.self.inside.stores.items c.self.inside.pending c.self.inside.taken.items c.self.invariant.0 c.index.result.now (record { ticket = c.self.inside.next; input = c.args.input; patterns = c.args.punct }) there (state_is c.self.inside.states.items c.args.input c.index.result.now (inputs (join_data (arc_value c.self.inside.spec) c.self.inside.schemes c.self.inside.certs)) (all-states (join_data (arc_value c.self.inside.spec) c.self.inside.schemes c.self.inside.certs) c.self.inside.limit c.self.inside.next c.self.inside.done c.self.inside.states.items c.self.inside.stores.items c.self.inside.pending c.self.inside.taken.items c.self.invariant.0) there c.index.ensures)) refl
+    (puncts-more (join_data (arc_value c.self.inside.spec) c.self.inside.schemes c.self.inside.certs) c.self.inside.limit c.self.inside.next c.self.inside.done c.self.inside.states.items c.self.inside.stores.items c.self.inside.pending c.self.inside.taken.items c.self.invariant.0 c.args.input c.args.punct c.index_mut.result.now c.hear.new.store there (λ d. c.index_mut.ensures.value ∙ same-at c.self.inside.stores.items c.args.input c.index_mut.result.now d (omega (arith, there, all-stores (join_data (arc_value c.self.inside.spec) c.self.inside.schemes c.self.inside.certs) c.self.inside.limit c.self.inside.next c.self.inside.done c.self.inside.states.items c.self.inside.stores.items c.self.inside.pending c.self.inside.taken.items c.self.invariant.0))) c.in_ok-hear.ensures.arity c.in_ok-hear.ensures.store) c.in_ok-hear.ensures.waiting)
 
 pub returns-clause-stands : goal.returns-clause-stands
 returns-clause-stands c =
-    let few : 0 < inputs c.args.self.now.spec = rw (← c.self.view_is) (omega (arith, several (join_data (arc_value c.self.inside.spec) c.self.inside.schemes c.self.inside.certs) c.self.inside.limit c.self.inside.next c.self.inside.done (log_of c.self.inside.states.items) (tuples_in 0 c.self.inside.states.items) c.self.inside.taken.items c.self.invariant.ordered)) in
+    let few : 0 < inputs c.args.self.now.spec = rw (← c.self.view_is) (omega (arith, several (join_data (arc_value c.self.inside.spec) c.self.inside.schemes c.self.inside.certs) c.self.inside.limit c.self.inside.next c.self.inside.done (log_of c.self.inside.states.items) (tuples_in 0 c.self.inside.states.items) c.self.inside.taken.items c.self.invariant.0.ordered)) in
     stands-punct c.args.self.now _ c.args.input c.args.punct (c.standing.ensures c.args.self.now.spec few) c.requires.fits.0 c.requires.fits.1 (returns-clause-keeps c)
 
 pub returns-clause-out : goal.returns-clause-out
@@ -61,8 +73,8 @@ returns-clause-out c =
     let there : c.args.input < inputs (join_data (arc_value c.self.inside.spec) c.self.inside.schemes c.self.inside.certs) = rw (← c.self.view_is) at lt in
     rw (← c.self.view_is)
     (punct_out (seen (made_with c.self.inside.node (join_data (arc_value c.self.inside.spec) c.self.inside.schemes c.self.inside.certs) c.self.inside.limit) c.self.inside.next c.self.inside.done (log_of c.self.inside.states.items) (puncts_of c.self.inside.stores.items) c.self.inside.waiting c.self.inside.taken.items) c.args.input c.args.punct
-    (still_held c.index.result.now.rows [] c.args.punct) (record { ticket = c.self.inside.next; input = c.args.input; patterns = c.args.punct }) c.args.out.now c.hear.new.out refl (held-at-first (join_data (arc_value c.self.inside.spec) c.self.inside.schemes c.self.inside.certs) c.self.inside.limit c.self.inside.next c.self.inside.done c.self.inside.states.items c.self.inside.stores.items c.self.inside.pending c.self.inside.taken.items c.self.invariant c.index.result.now (record { ticket = c.self.inside.next; input = c.args.input; patterns = c.args.punct }) there (state_is c.self.inside.states.items c.args.input c.index.result.now (inputs (join_data (arc_value c.self.inside.spec) c.self.inside.schemes c.self.inside.certs)) (all-states (join_data (arc_value c.self.inside.spec) c.self.inside.schemes c.self.inside.certs) c.self.inside.limit c.self.inside.next c.self.inside.done c.self.inside.states.items c.self.inside.stores.items c.self.inside.pending c.self.inside.taken.items c.self.invariant) there c.index.ensures)) refl
-    (c.in_ok-hear.ensures.out ∙ ap (λ schemas. c.args.out.now ++ going_at_once schemas (still_held c.index.result.now.rows [] c.args.punct) (record { ticket = c.self.inside.next; input = c.args.input; patterns = c.args.punct })) (c.as_slice.ensures ∙ ap (λ (s : JoinSpec). s.inputs) c.deref.ensures)))
+    (still_held c.index.result.now.rows [] c.args.punct) (record { ticket = c.self.inside.next; input = c.args.input; patterns = c.args.punct }) c.args.out.now c.hear.new.out refl (held-at-first (join_data (arc_value c.self.inside.spec) c.self.inside.schemes c.self.inside.certs) c.self.inside.limit c.self.inside.next c.self.inside.done c.self.inside.states.items c.self.inside.stores.items c.self.inside.pending c.self.inside.taken.items c.self.invariant.0 c.index.result.now (record { ticket = c.self.inside.next; input = c.args.input; patterns = c.args.punct }) there (state_is c.self.inside.states.items c.args.input c.index.result.now (inputs (join_data (arc_value c.self.inside.spec) c.self.inside.schemes c.self.inside.certs)) (all-states (join_data (arc_value c.self.inside.spec) c.self.inside.schemes c.self.inside.certs) c.self.inside.limit c.self.inside.next c.self.inside.done c.self.inside.states.items c.self.inside.stores.items c.self.inside.pending c.self.inside.taken.items c.self.invariant.0) there c.index.ensures)) refl
+    (c.in_ok-hear.ensures.out ∙ ap (λ schemas. c.args.out.now ++ going_at_once schemas (still_held c.index.result.now.rows [] c.args.punct) (record { ticket = c.self.inside.next; input = c.args.input; patterns = c.args.punct })) (c.as_slice-3.ensures ∙ ap (λ (s : JoinSpec). s.inputs) c.deref-2.ensures)))
 
 pub returns-clause-hands : goal.returns-clause-hands
 returns-clause-hands c = hands-punct c.args.self.now c.args.input c.args.punct
@@ -71,9 +83,9 @@ pub returns-in_err-hear-clause-refused : goal.returns-in_err-hear-clause-refused
 returns-in_err-hear-clause-refused c =
     let lt : c.args.input < inputs c.args.self.now.spec = c.requires.fits.0 in
     let there : c.args.input < inputs (join_data (arc_value c.self.inside.spec) c.self.inside.schemes c.self.inside.certs) = rw (← c.self.view_is) at lt in
-    on-err c.from_residual.result (
+    on-err c.from_residual-in_err-hear.result (
       rw (← c.self.view_is)
           (ap₂ (λ (ss : List Store) (ws : List PunctAt). seen (made_with c.self.inside.node (join_data (arc_value c.self.inside.spec) c.self.inside.schemes c.self.inside.certs) c.self.inside.limit) c.self.inside.next c.self.inside.done (log_of c.self.inside.states.items) (puncts_of ss) ws c.self.inside.taken.items)
-          (same-stores (join_data (arc_value c.self.inside.spec) c.self.inside.schemes c.self.inside.certs) c.self.inside.limit c.self.inside.next c.self.inside.done c.self.inside.states.items c.self.inside.stores.items c.self.inside.pending c.self.inside.taken.items c.self.invariant c.args.input c.index_mut.result.now c.hear.new.store there c.index_mut.ensures.value c.in_err-hear.ensures.arity c.in_err-hear.ensures.err.0) c.in_err-hear.ensures.err.1),
+          (same-stores (join_data (arc_value c.self.inside.spec) c.self.inside.schemes c.self.inside.certs) c.self.inside.limit c.self.inside.next c.self.inside.done c.self.inside.states.items c.self.inside.stores.items c.self.inside.pending c.self.inside.taken.items c.self.invariant.0 c.args.input c.index_mut.result.now c.hear.new.store there c.index_mut.ensures.value c.in_err-hear.ensures.arity c.in_err-hear.ensures.err.0) c.in_err-hear.ensures.err.1),
       c.in_err-hear.ensures.err.2,
     )

@@ -10,31 +10,31 @@ use Rattle.pj_join.proofs.Kept.{all-states, first-is, own-there, shapes, takes-n
 use Rattle.pj_join.proofs.join.Join.take.Goals as goal
 
 pub new-requires-clause-few : goal.new-requires-clause-few
-new-requires-clause-few c = omega (arith, ap (λ (ss : List StateView). length ss) c.as_slice-in-Some.ensures.value, all-states (join_data (arc_value c.self.inside.spec) c.self.inside.schemes c.self.inside.certs) c.self.inside.limit c.self.inside.next c.self.inside.done c.self.inside.states.items c.self.inside.stores.items c.self.inside.pending c.self.inside.taken.items c.self.invariant, c.self.invariant.ordered.sound.few_inputs.1, shapes (join_data (arc_value c.self.inside.spec) c.self.inside.schemes c.self.inside.certs) c.self.inside.limit c.self.inside.next c.self.inside.done c.self.inside.states.items c.self.inside.stores.items c.self.inside.pending c.self.inside.taken.items c.self.invariant)
+new-requires-clause-few c = omega (arith, ap (λ (ss : List StateView). length ss) c.as_slice-in-Some.ensures.value, all-states (join_data (arc_value c.self.inside.spec) c.self.inside.schemes c.self.inside.certs) c.self.inside.limit c.self.inside.next c.self.inside.done c.self.inside.states.items c.self.inside.stores.items c.self.inside.pending c.self.inside.taken.items c.self.invariant.0, c.self.invariant.0.ordered.sound.few_inputs.1, shapes (join_data (arc_value c.self.inside.spec) c.self.inside.schemes c.self.inside.certs) c.self.inside.limit c.self.inside.next c.self.inside.done c.self.inside.states.items c.self.inside.stores.items c.self.inside.pending c.self.inside.taken.items c.self.invariant.0)
 
 pub new-requires-clause-there : goal.new-requires-clause-there
-new-requires-clause-there c = subst (λ (ss : List StateView). c.in-Some.own.input < length ss) (sym c.as_slice-in-Some.ensures.value) (own-there (join_data (arc_value c.self.inside.spec) c.self.inside.schemes c.self.inside.certs) c.self.inside.limit c.self.inside.next c.self.inside.done c.self.inside.states.items c.self.inside.stores.items c.self.inside.pending c.self.inside.taken.items c.self.invariant c.in-Some.own (c.in-Some.ensures ∙ ap (λ (ss : List StateView). first_of ss c.self.inside.pending) c.as_slice.ensures.value ∙ first-is (join_data (arc_value c.self.inside.spec) c.self.inside.schemes c.self.inside.certs) c.self.inside.limit c.self.inside.next c.self.inside.done c.self.inside.states.items c.self.inside.stores.items c.self.inside.pending c.self.inside.taken.items c.self.invariant))
+new-requires-clause-there c = subst (λ (ss : List StateView). c.in-Some.own.input < length ss) (sym c.as_slice-in-Some.ensures.value) (own-there (join_data (arc_value c.self.inside.spec) c.self.inside.schemes c.self.inside.certs) c.self.inside.limit c.self.inside.next c.self.inside.done c.self.inside.states.items c.self.inside.stores.items c.self.inside.pending c.self.inside.taken.items c.self.invariant.0 c.in-Some.own (c.in-Some.ensures ∙ ap (λ (ss : List StateView). first_of ss c.self.inside.pending) c.as_slice.ensures.value ∙ first-is (join_data (arc_value c.self.inside.spec) c.self.inside.schemes c.self.inside.certs) c.self.inside.limit c.self.inside.next c.self.inside.done c.self.inside.states.items c.self.inside.stores.items c.self.inside.pending c.self.inside.taken.items c.self.invariant.0))
 
 pub new-requires-clause-wide : goal.new-requires-clause-wide
-new-requires-clause-wide c = subst (λ (ss : List StateView). AreWide ss) (sym c.as_slice-in-Some.ensures.value) (wide (join_data (arc_value c.self.inside.spec) c.self.inside.schemes c.self.inside.certs) c.self.inside.limit c.self.inside.next c.self.inside.done c.self.inside.states.items c.self.inside.stores.items c.self.inside.pending c.self.inside.taken.items c.self.invariant)
+new-requires-clause-wide c = subst (λ (ss : List StateView). AreWide ss) (sym c.as_slice-in-Some.ensures.value) (wide (join_data (arc_value c.self.inside.spec) c.self.inside.schemes c.self.inside.certs) c.self.inside.limit c.self.inside.next c.self.inside.done c.self.inside.states.items c.self.inside.stores.items c.self.inside.pending c.self.inside.taken.items c.self.invariant.0)
 
 pub overflow_add-self : goal.overflow_add-self
-overflow_add-self c = let f : c.self.inside.done < 2 ^ 40 + 1 = done-fits (join_data (arc_value c.self.inside.spec) c.self.inside.schemes c.self.inside.certs) c.self.inside.limit c.self.inside.next c.self.inside.done (log_of c.self.inside.states.items) (tuples_in 0 c.self.inside.states.items) c.self.inside.taken.items c.self.invariant.ordered in omega (arith, f)
+overflow_add-self c = let f : c.self.inside.done < 2 ^ 40 + 1 = done-fits (join_data (arc_value c.self.inside.spec) c.self.inside.schemes c.self.inside.certs) c.self.inside.limit c.self.inside.next c.self.inside.done (log_of c.self.inside.states.items) (tuples_in 0 c.self.inside.states.items) c.self.inside.taken.items c.self.invariant.0.ordered in omega (arith, f)
 
 pub invariant_of-self-in-Some : goal.invariant_of-self-in-Some
 invariant_of-self-in-Some c =
-    takes-now (join_data (arc_value c.self.inside.spec) c.self.inside.schemes c.self.inside.certs) c.self.inside.limit c.self.inside.next c.self.inside.done c.self.inside.states.items c.self.inside.stores.items c.self.inside.pending c.self.inside.taken.items c.self.invariant c.in-Some.own c.push.new.self.items c.pop_first.new.self (c.in-Some.ensures ∙ ap (λ (ss : List StateView). first_of ss c.self.inside.pending) c.as_slice.ensures.value ∙ first-is (join_data (arc_value c.self.inside.spec) c.self.inside.schemes c.self.inside.certs) c.self.inside.limit c.self.inside.next c.self.inside.done c.self.inside.states.items c.self.inside.stores.items c.self.inside.pending c.self.inside.taken.items c.self.invariant) (c.in_ok-push-in-Some.ensures.items ∙ ap (λ n. c.self.inside.taken.items ++ n ∷ []) (c.ticket.ensures ∙ ap (λ (f : Found). f.ticket) c.in_ok-probe-in-Some.ensures)) c.pop_first.ensures
+    (takes-now (join_data (arc_value c.self.inside.spec) c.self.inside.schemes c.self.inside.certs) c.self.inside.limit c.self.inside.next c.self.inside.done c.self.inside.states.items c.self.inside.stores.items c.self.inside.pending c.self.inside.taken.items c.self.invariant.0 c.in-Some.own c.push.new.self.items c.pop_first.new.self (c.in-Some.ensures ∙ ap (λ (ss : List StateView). first_of ss c.self.inside.pending) c.as_slice.ensures.value ∙ first-is (join_data (arc_value c.self.inside.spec) c.self.inside.schemes c.self.inside.certs) c.self.inside.limit c.self.inside.next c.self.inside.done c.self.inside.states.items c.self.inside.stores.items c.self.inside.pending c.self.inside.taken.items c.self.invariant.0) (c.in_ok-push-in-Some.ensures.items ∙ ap (λ n. c.self.inside.taken.items ++ n ∷ []) (c.ticket.ensures ∙ ap (λ (f : Found). f.ticket) c.in_ok-probe-in-Some.ensures)) c.pop_first.ensures, c.self.invariant.1)
 
 pub returns-in-None-clause-takes : goal.returns-in-None-clause-takes
-returns-in-None-clause-takes c = rw (← c.self.view_is) (none-pending (log_of c.self.inside.states.items) c.self.inside.done (c.in-None.ensures ∙ ap (λ (ss : List StateView). first_of ss c.self.inside.pending) c.as_slice.ensures.value ∙ first-is (join_data (arc_value c.self.inside.spec) c.self.inside.schemes c.self.inside.certs) c.self.inside.limit c.self.inside.next c.self.inside.done c.self.inside.states.items c.self.inside.stores.items c.self.inside.pending c.self.inside.taken.items c.self.invariant), refl)
+returns-in-None-clause-takes c = rw (← c.self.view_is) (none-pending (log_of c.self.inside.states.items) c.self.inside.done (c.in-None.ensures ∙ ap (λ (ss : List StateView). first_of ss c.self.inside.pending) c.as_slice.ensures.value ∙ first-is (join_data (arc_value c.self.inside.spec) c.self.inside.schemes c.self.inside.certs) c.self.inside.limit c.self.inside.next c.self.inside.done c.self.inside.states.items c.self.inside.stores.items c.self.inside.pending c.self.inside.taken.items c.self.invariant.0), refl)
 
 pub returns-in_ok-push-in-Some-clause-takes : goal.returns-in_ok-push-in-Some-clause-takes
 returns-in_ok-push-in-Some-clause-takes c =
-    rw (← c.self.view_is) (take-finds c.self.inside.node (join_data (arc_value c.self.inside.spec) c.self.inside.schemes c.self.inside.certs) c.self.inside.limit c.self.inside.next c.self.inside.done (log_of c.self.inside.states.items) (tuples_in 0 c.self.inside.states.items) (puncts_of c.self.inside.stores.items) c.self.inside.waiting c.self.inside.taken.items c.push.new.self.items c.in-Some.own c.in_ok-probe-in-Some.probe c.ticket.result c.self.invariant.ordered
-    (c.in-Some.ensures ∙ ap (λ (ss : List StateView). first_of ss c.self.inside.pending) c.as_slice.ensures.value ∙ first-is (join_data (arc_value c.self.inside.spec) c.self.inside.schemes c.self.inside.certs) c.self.inside.limit c.self.inside.next c.self.inside.done c.self.inside.states.items c.self.inside.stores.items c.self.inside.pending c.self.inside.taken.items c.self.invariant) (rw (← c.as_slice-in-Some.ensures.value) c.in_ok-probe-in-Some.ensures) c.ticket.ensures c.in_ok-push-in-Some.ensures.items)
+    rw (← c.self.view_is) (take-finds c.self.inside.node (join_data (arc_value c.self.inside.spec) c.self.inside.schemes c.self.inside.certs) c.self.inside.limit c.self.inside.next c.self.inside.done (log_of c.self.inside.states.items) (tuples_in 0 c.self.inside.states.items) (puncts_of c.self.inside.stores.items) c.self.inside.waiting c.self.inside.taken.items c.push.new.self.items c.in-Some.own c.in_ok-probe-in-Some.probe c.ticket.result c.self.invariant.0.ordered
+    (c.in-Some.ensures ∙ ap (λ (ss : List StateView). first_of ss c.self.inside.pending) c.as_slice.ensures.value ∙ first-is (join_data (arc_value c.self.inside.spec) c.self.inside.schemes c.self.inside.certs) c.self.inside.limit c.self.inside.next c.self.inside.done c.self.inside.states.items c.self.inside.stores.items c.self.inside.pending c.self.inside.taken.items c.self.invariant.0) (rw (← c.as_slice-in-Some.ensures.value) c.in_ok-probe-in-Some.ensures) c.ticket.ensures c.in_ok-push-in-Some.ensures.items)
 
 pub returns-in_ok-push-in-Some-clause-stands : goal.returns-in_ok-push-in-Some-clause-stands
 returns-in_ok-push-in-Some-clause-stands c =
-    let few : 1 < inputs c.args.self.now.spec = rw (← c.self.view_is) (several (join_data (arc_value c.self.inside.spec) c.self.inside.schemes c.self.inside.certs) c.self.inside.limit c.self.inside.next c.self.inside.done (log_of c.self.inside.states.items) (tuples_in 0 c.self.inside.states.items) c.self.inside.taken.items c.self.invariant.ordered) in
+    let few : 1 < inputs c.args.self.now.spec = rw (← c.self.view_is) (several (join_data (arc_value c.self.inside.spec) c.self.inside.schemes c.self.inside.certs) c.self.inside.limit c.self.inside.next c.self.inside.done (log_of c.self.inside.states.items) (tuples_in 0 c.self.inside.states.items) c.self.inside.taken.items c.self.invariant.0.ordered) in
     let some : 0 < inputs c.args.self.now.spec = omega (arith, few) in
     stands-taken c.args.self.now _ (Some c.in_ok-probe-in-Some.probe) (c.standing.ensures c.args.self.now.spec some) (c.forgetting_is_safe.ensures.stored_suffice c.args.self.now.spec) (returns-in_ok-push-in-Some-clause-takes c)

@@ -1,26 +1,28 @@
-use Rattle.std.proofs.Common.{◌≡◌, ◌<◌, ◌∙◌, List, length, ap, arith, refl}
+use Rattle.std.proofs.Common.{◌≡◌, ◌<◌, ◌+◌, ◌∙◌, List, length, ap, arith, refl, sym, subst}
 use Rattle.std.proofs.lemmas.Bool.{false≢true}
 use Rattle.std.specs.Arc.{arc_value}
-use Rattle.pj_events.specs.Join.{Value, arity, inputs}
+use Rattle.pj_events.specs.Join.{TupleAt, Value, arity, inputs}
 use Rattle.pj_join.specs.Joins.{join_data}
 use Rattle.pj_join.specs.Sides.{log_of, puncts_of, tuples_in}
 use Rattle.pj_join.proofs.Standing.{stands-tuple}
 use Rattle.pj_join.proofs.Calling.{several, tuple-keeps}
 use Rattle.pj_join.proofs.Kept.{all-states, columns-of-below, join-more, log-more, rows-of-below}
 use Rattle.pj_join.proofs.Looped.{state_is}
+use Rattle.pj_join.proofs.Watched.{watched_tuple}
+use Rattle.pj_join.specs.Watching.{AreWatched}
 use Rattle.pj_join.proofs.join.Join.tuple.Goals as goal
 
 pub index_mut-requires : goal.index_mut-requires
 index_mut-requires c =
     let lt : c.args.input < inputs c.args.self.now.spec = c.requires.fits.0 in
     let there : c.args.input < inputs (join_data (arc_value c.self.inside.spec) c.self.inside.schemes c.self.inside.certs) = rw (← c.self.view_is) at lt in
-    omega (arith, there, all-states (join_data (arc_value c.self.inside.spec) c.self.inside.schemes c.self.inside.certs) c.self.inside.limit c.self.inside.next c.self.inside.done c.self.inside.states.items c.self.inside.stores.items c.self.inside.pending c.self.inside.taken.items c.self.invariant, c.self.inside.states.ok)
+    omega (arith, there, all-states (join_data (arc_value c.self.inside.spec) c.self.inside.schemes c.self.inside.certs) c.self.inside.limit c.self.inside.next c.self.inside.done c.self.inside.states.items c.self.inside.stores.items c.self.inside.pending c.self.inside.taken.items c.self.invariant.0, c.self.inside.states.ok)
 
 pub store-requires-clause-later : goal.store-requires-clause-later
 store-requires-clause-later c =
     let lt : c.args.input < inputs c.args.self.now.spec = c.requires.fits.0 in
     let there : c.args.input < inputs (join_data (arc_value c.self.inside.spec) c.self.inside.schemes c.self.inside.certs) = rw (← c.self.view_is) at lt in
-    rows-of-below (join_data (arc_value c.self.inside.spec) c.self.inside.schemes c.self.inside.certs) c.self.inside.limit c.self.inside.next c.self.inside.done c.self.inside.states.items c.self.inside.stores.items c.self.inside.pending c.self.inside.taken.items c.self.invariant c.args.input _ there (state_is c.self.inside.states.items c.args.input _ (inputs (join_data (arc_value c.self.inside.spec) c.self.inside.schemes c.self.inside.certs)) (all-states (join_data (arc_value c.self.inside.spec) c.self.inside.schemes c.self.inside.certs) c.self.inside.limit c.self.inside.next c.self.inside.done c.self.inside.states.items c.self.inside.stores.items c.self.inside.pending c.self.inside.taken.items c.self.invariant) there c.index_mut.ensures.value)
+    rows-of-below (join_data (arc_value c.self.inside.spec) c.self.inside.schemes c.self.inside.certs) c.self.inside.limit c.self.inside.next c.self.inside.done c.self.inside.states.items c.self.inside.stores.items c.self.inside.pending c.self.inside.taken.items c.self.invariant.0 c.args.input _ there (state_is c.self.inside.states.items c.args.input _ (inputs (join_data (arc_value c.self.inside.spec) c.self.inside.schemes c.self.inside.certs)) (all-states (join_data (arc_value c.self.inside.spec) c.self.inside.schemes c.self.inside.certs) c.self.inside.limit c.self.inside.next c.self.inside.done c.self.inside.states.items c.self.inside.stores.items c.self.inside.pending c.self.inside.taken.items c.self.invariant.0) there c.index_mut.ensures.value)
 
 pub store-requires-clause-wide : goal.store-requires-clause-wide
 store-requires-clause-wide c =
@@ -28,18 +30,22 @@ store-requires-clause-wide c =
     let there : c.args.input < inputs (join_data (arc_value c.self.inside.spec) c.self.inside.schemes c.self.inside.certs) = rw (← c.self.view_is) at lt in
     let fits : length c.args.row ≡ arity c.args.self.now.spec c.args.input = c.requires.fits.1 in
     let long : length c.args.row ≡ arity (join_data (arc_value c.self.inside.spec) c.self.inside.schemes c.self.inside.certs) c.args.input = rw (← c.self.view_is) at fits in
-    columns-of-below (join_data (arc_value c.self.inside.spec) c.self.inside.schemes c.self.inside.certs) c.self.inside.limit c.self.inside.next c.self.inside.done c.self.inside.states.items c.self.inside.stores.items c.self.inside.pending c.self.inside.taken.items c.self.invariant c.args.input (length c.in_ok-row.row) _ there (ap (λ (vs : List Value). length vs) c.in_ok-row.ensures ∙ long)
-    (state_is c.self.inside.states.items c.args.input _ (inputs (join_data (arc_value c.self.inside.spec) c.self.inside.schemes c.self.inside.certs)) (all-states (join_data (arc_value c.self.inside.spec) c.self.inside.schemes c.self.inside.certs) c.self.inside.limit c.self.inside.next c.self.inside.done c.self.inside.states.items c.self.inside.stores.items c.self.inside.pending c.self.inside.taken.items c.self.invariant) there c.index_mut.ensures.value)
+    columns-of-below (join_data (arc_value c.self.inside.spec) c.self.inside.schemes c.self.inside.certs) c.self.inside.limit c.self.inside.next c.self.inside.done c.self.inside.states.items c.self.inside.stores.items c.self.inside.pending c.self.inside.taken.items c.self.invariant.0 c.args.input (length c.in_ok-row.row) _ there (ap (λ (vs : List Value). length vs) c.in_ok-row.ensures ∙ long)
+    (state_is c.self.inside.states.items c.args.input _ (inputs (join_data (arc_value c.self.inside.spec) c.self.inside.schemes c.self.inside.certs)) (all-states (join_data (arc_value c.self.inside.spec) c.self.inside.schemes c.self.inside.certs) c.self.inside.limit c.self.inside.next c.self.inside.done c.self.inside.states.items c.self.inside.stores.items c.self.inside.pending c.self.inside.taken.items c.self.invariant.0) there c.index_mut.ensures.value)
 
 pub invariant_of-self-2 : goal.invariant_of-self-2
 invariant_of-self-2 c =
     let lt : c.args.input < inputs c.args.self.now.spec = c.requires.fits.0 in
     let there : c.args.input < inputs (join_data (arc_value c.self.inside.spec) c.self.inside.schemes c.self.inside.certs) = rw (← c.self.view_is) at lt in
     let fits : length c.args.row ≡ arity c.args.self.now.spec c.args.input = c.requires.fits.1 in
-    let long : length c.args.row ≡ arity (join_data (arc_value c.self.inside.spec) c.self.inside.schemes c.self.inside.certs) c.args.input = rw (← c.self.view_is) at fits in
-    join-more (join_data (arc_value c.self.inside.spec) c.self.inside.schemes c.self.inside.certs) c.self.inside.limit c.self.inside.next c.self.inside.done c.self.inside.states.items c.self.inside.stores.items c.self.inside.pending c.self.inside.taken.items c.self.invariant c.args.input c.args.row _ c.store.new.state (λ e. false≢true (c.if-is_full.ensures.1 e)) there long
-    (state_is c.self.inside.states.items c.args.input _ (inputs (join_data (arc_value c.self.inside.spec) c.self.inside.schemes c.self.inside.certs)) (all-states (join_data (arc_value c.self.inside.spec) c.self.inside.schemes c.self.inside.certs) c.self.inside.limit c.self.inside.next c.self.inside.done c.self.inside.states.items c.self.inside.stores.items c.self.inside.pending c.self.inside.taken.items c.self.invariant) there c.index_mut.ensures.value)
-    (rw (← c.in_ok-row.ensures) c.in_ok-store.ensures.state) c.store.new.pending c.in_ok-store.ensures.pending
+    let long : length c.args.row ≡ arity (join_data (arc_value c.self.inside.spec) c.self.inside.schemes c.self.inside.certs) c.args.input = rw (← c.self.view_is) at fits in (
+      join-more (join_data (arc_value c.self.inside.spec) c.self.inside.schemes c.self.inside.certs) c.self.inside.limit c.self.inside.next c.self.inside.done c.self.inside.states.items c.self.inside.stores.items c.self.inside.pending c.self.inside.taken.items c.self.invariant.0 c.args.input c.args.row _ c.store.new.state (λ e. false≢true (c.if-is_full.ensures.1 e)) there long
+          (state_is c.self.inside.states.items c.args.input _ (inputs (join_data (arc_value c.self.inside.spec) c.self.inside.schemes c.self.inside.certs)) (all-states (join_data (arc_value c.self.inside.spec) c.self.inside.schemes c.self.inside.certs) c.self.inside.limit c.self.inside.next c.self.inside.done c.self.inside.states.items c.self.inside.stores.items c.self.inside.pending c.self.inside.taken.items c.self.invariant.0) there c.index_mut.ensures.value)
+          (rw (← c.in_ok-row.ensures) c.in_ok-store.ensures.state) c.store.new.pending c.in_ok-store.ensures.pending,
+      subst (λ (xs : List TupleAt). AreWatched (join_data (arc_value c.self.inside.spec) c.self.inside.schemes c.self.inside.certs) (c.self.inside.next + 1) xs (puncts_of c.self.inside.stores.items) c.self.inside.watches.items) (sym (log-more (join_data (arc_value c.self.inside.spec) c.self.inside.schemes c.self.inside.certs) c.self.inside.limit c.self.inside.next c.self.inside.done c.self.inside.states.items c.self.inside.stores.items c.self.inside.pending c.self.inside.taken.items c.self.invariant.0 c.args.input c.args.row _ c.store.new.state (λ e. false≢true (c.if-is_full.ensures.1 e)) there long
+          (state_is c.self.inside.states.items c.args.input _ (inputs (join_data (arc_value c.self.inside.spec) c.self.inside.schemes c.self.inside.certs)) (all-states (join_data (arc_value c.self.inside.spec) c.self.inside.schemes c.self.inside.certs) c.self.inside.limit c.self.inside.next c.self.inside.done c.self.inside.states.items c.self.inside.stores.items c.self.inside.pending c.self.inside.taken.items c.self.invariant.0) there c.index_mut.ensures.value) (rw (← c.in_ok-row.ensures) c.in_ok-store.ensures.state)))
+          (watched_tuple (join_data (arc_value c.self.inside.spec) c.self.inside.schemes c.self.inside.certs) c.self.inside.next (log_of c.self.inside.states.items) (puncts_of c.self.inside.stores.items) c.self.inside.watches.items (record { ticket = c.self.inside.next; input = c.args.input; row = c.args.row }) refl c.self.invariant.1),
+    )
 
 pub returns-clause-keeps : goal.returns-clause-keeps
 returns-clause-keeps c =
@@ -48,11 +54,11 @@ returns-clause-keeps c =
     let fits : length c.args.row ≡ arity c.args.self.now.spec c.args.input = c.requires.fits.1 in
     let long : length c.args.row ≡ arity (join_data (arc_value c.self.inside.spec) c.self.inside.schemes c.self.inside.certs) c.args.input = rw (← c.self.view_is) at fits in
     rw (← c.self.view_is)
-    (tuple-keeps c.self.inside.node (join_data (arc_value c.self.inside.spec) c.self.inside.schemes c.self.inside.certs) c.self.inside.limit c.self.inside.next c.self.inside.done (log_of c.self.inside.states.items) _ (puncts_of c.self.inside.stores.items) c.self.inside.waiting c.self.inside.taken.items c.args.input c.args.row _ c.self.invariant.ordered.within refl
-    (log-more (join_data (arc_value c.self.inside.spec) c.self.inside.schemes c.self.inside.certs) c.self.inside.limit c.self.inside.next c.self.inside.done c.self.inside.states.items c.self.inside.stores.items c.self.inside.pending c.self.inside.taken.items c.self.invariant c.args.input c.args.row _ c.store.new.state (λ e. false≢true (c.if-is_full.ensures.1 e)) there long
-    (state_is c.self.inside.states.items c.args.input _ (inputs (join_data (arc_value c.self.inside.spec) c.self.inside.schemes c.self.inside.certs)) (all-states (join_data (arc_value c.self.inside.spec) c.self.inside.schemes c.self.inside.certs) c.self.inside.limit c.self.inside.next c.self.inside.done c.self.inside.states.items c.self.inside.stores.items c.self.inside.pending c.self.inside.taken.items c.self.invariant) there c.index_mut.ensures.value) (rw (← c.in_ok-row.ensures) c.in_ok-store.ensures.state)))
+    (tuple-keeps c.self.inside.node (join_data (arc_value c.self.inside.spec) c.self.inside.schemes c.self.inside.certs) c.self.inside.limit c.self.inside.next c.self.inside.done (log_of c.self.inside.states.items) _ (puncts_of c.self.inside.stores.items) c.self.inside.waiting c.self.inside.taken.items c.args.input c.args.row _ c.self.invariant.0.ordered.within refl
+    (log-more (join_data (arc_value c.self.inside.spec) c.self.inside.schemes c.self.inside.certs) c.self.inside.limit c.self.inside.next c.self.inside.done c.self.inside.states.items c.self.inside.stores.items c.self.inside.pending c.self.inside.taken.items c.self.invariant.0 c.args.input c.args.row _ c.store.new.state (λ e. false≢true (c.if-is_full.ensures.1 e)) there long
+    (state_is c.self.inside.states.items c.args.input _ (inputs (join_data (arc_value c.self.inside.spec) c.self.inside.schemes c.self.inside.certs)) (all-states (join_data (arc_value c.self.inside.spec) c.self.inside.schemes c.self.inside.certs) c.self.inside.limit c.self.inside.next c.self.inside.done c.self.inside.states.items c.self.inside.stores.items c.self.inside.pending c.self.inside.taken.items c.self.invariant.0) there c.index_mut.ensures.value) (rw (← c.in_ok-row.ensures) c.in_ok-store.ensures.state)))
 
 pub returns-clause-stands : goal.returns-clause-stands
 returns-clause-stands c =
-    let few : 0 < inputs c.args.self.now.spec = rw (← c.self.view_is) (omega (arith, several (join_data (arc_value c.self.inside.spec) c.self.inside.schemes c.self.inside.certs) c.self.inside.limit c.self.inside.next c.self.inside.done (log_of c.self.inside.states.items) (tuples_in 0 c.self.inside.states.items) c.self.inside.taken.items c.self.invariant.ordered)) in
+    let few : 0 < inputs c.args.self.now.spec = rw (← c.self.view_is) (omega (arith, several (join_data (arc_value c.self.inside.spec) c.self.inside.schemes c.self.inside.certs) c.self.inside.limit c.self.inside.next c.self.inside.done (log_of c.self.inside.states.items) (tuples_in 0 c.self.inside.states.items) c.self.inside.taken.items c.self.invariant.0.ordered)) in
     stands-tuple c.args.self.now _ c.args.input c.args.row (c.standing.ensures c.args.self.now.spec few) c.requires.fits.0 c.requires.fits.1 (returns-clause-keeps c)

@@ -1,0 +1,345 @@
+-- What a sweep finds over the rows that it judges.
+use Rattle.std.proofs.Common.{ℕ, zero, suc, ◌+◌, ◌-◌, ◌<◌, ◌≤◌, Bool, true, false, cond, not, ◌&&◌, ◌||◌, List, [], ◌∷◌, ◌++◌, ◌≡◌, ◌⊎◌, Option, Some, None, map, filter, flat_map, take, drop, length, get_or, refl, sym, ap, ap₂, ◌∙◌, subst, inl, inr, eqb, ltb, arith, append_assoc, append-nil, Contains, AllPairs, nat_cmp, IsPermutation, IsSorted}
+use Rattle.std.specs.List.{list_any, slice_get, dedup}
+use Rattle.std.specs.List.Retain.{DiffersFromLast, IsFiltered}
+use Rattle.std.proofs.lemmas.Bool.{and_parts, and_from, and_right, eq-eqb, eqb-true, false_from_ne_true, false≢true, lt-ltb, ltb-false}
+use Rattle.std.proofs.lemmas.List.{map-append, take_more}
+use Rattle.std.proofs.lemmas.List.Filters.{dedup_is}
+use Rattle.std.proofs.lemmas.List.Kept.{AllPairs-from_increasing, Contains-dedup_nat}
+use Rattle.std.proofs.lemmas.List.Sorted.{Contains-permutation}
+use Rattle.std.proofs.lemmas.Map.Keys.{IsStrictlyIncreasing-dedup}
+use Rattle.std.proofs.lemmas.Option.{get_or_from_slice_get}
+use Rattle.pj_value.specs.declared.values.Value.{Value}
+use Rattle.pj_value.proofs.Members.{In-append_left, In-append_right, In-append_cases, In-filter, In-filter_from, In-flat_map, In-flat_map_from, any_at, any_from, in-place}
+use Rattle.pj_state.specs.declared.shared.Stored.{Stored}
+use Rattle.pj_state.specs.Rising.{AllAbove, IsRising, first_with, itself}
+use Rattle.pj_state.specs.States.{pair_of, row_in as row_found, row_under, stored, ticket_of, tickets_of}
+use Rattle.pj_cover.specs.declared.rows.Uncovered.{Uncovered}
+use Rattle.pj_cover.specs.Asking.{IsAsked, IsFirstUncovered, IsOpen, Known, all_covered, entries, known_of, tuple_of}
+use Rattle.pj_events.specs.Join.{CertEntry, CertStep, Demand, In, TupleAt, covered, demand, has, older_puncts}
+use Rattle.pj_join.specs.declared.marks.Verdict.{Verdict}
+use Rattle.pj_join.specs.declared.marks.Verdict.TheVariants.{Ripe, Open, Marked}
+use Rattle.pj_join.specs.Judging.{Judge, one_if, ripe_at, row_in}
+use Rattle.pj_join.specs.Sides.{row_pairs}
+use Rattle.pj_join.specs.Watching.{AreJudged, AreLookedAt, AsksOpen, IsLookedAt, IsOneJudged, IsOpenAt, IsVerdict, Judged, NoneIsRipe, Watches, all_picked, goes_by, is_passed, marked_by, picked, rows_at, under_with, verdict_on}
+
+-- ---- lists that rise
+
+above-in : {A : Type 0} (number : A → ℕ) (n : ℕ) (xs : List A) (x : A) → AllAbove number n xs → In x xs → n < number x
+above-in number n [] x a h = absurd h
+above-in number n (y ∷ ys) x a (inl e) = subst (λ z. n < number z) e a.0
+above-in number n (y ∷ ys) x a (inr h) = above-in number n ys x a.1 h
+
+above-from : {A : Type 0} (number : A → ℕ) (n : ℕ) (xs : List A) → ((x : A) → In x xs → n < number x) → AllAbove number n xs
+above-from number n [] f = tt
+above-from number n (x ∷ xs) f = (f x (inl refl), above-from number n xs (λ y h. f y (inr h)))
+
+rising-append : {A : Type 0} (number : A → ℕ) (xs ys : List A) → IsRising number xs → IsRising number ys → ((x y : A) → In x xs → In y ys → number x < number y) → IsRising number (xs ++ ys)
+rising-append number [] ys r s f = s
+rising-append {A} number (x ∷ xs) ys r s f = (above-from number (number x) (xs ++ ys) later, rising-append number xs ys r.1 s (λ y z h k. f y z (inr h) k))
+  where
+    later : (y : A) → In y (xs ++ ys) → number x < number y
+    later y h = elim (In-append_cases y xs ys h) [ inl a ↦ above-in number (number x) xs y r.0 a | inr b ↦ f x y (inl refl) b ]
+
+rising-filter : {A : Type 0} (number : A → ℕ) (p : A → Bool) (xs : List A) → IsRising number xs → IsRising number (filter p xs)
+rising-filter number p [] r = tt
+rising-filter {A} number p (x ∷ xs) r = go (p x) (rising-filter number p xs r.1)
+  where
+    go : (b : Bool) → IsRising number (filter p xs) → IsRising number (cond b (x ∷ filter p xs) (filter p xs))
+    go true ih = (above-from number (number x) (filter p xs) (λ y h. above-in number (number x) xs y r.0 (In-filter p y xs h).0), ih)
+    go false ih = ih
+
+-- lists that rise and have the same items are the same
+rising-same : {A : Type 0} (number : A → ℕ) (xs ys : List A) → IsRising number xs → IsRising number ys → ((x : A) → In x xs → In x ys) → ((x : A) → In x ys → In x xs) → xs ≡ ys
+rising-same number [] [] r s f g = refl
+rising-same number [] (y ∷ ys) r s f g = absurd (g y (inl refl))
+rising-same number (x ∷ xs) [] r s f g = absurd (f x (inl refl))
+rising-same {A} number (x ∷ xs) (y ∷ ys) r s f g = ap₂ (λ (z : A) zs. z ∷ zs) same (rising-same number xs ys r.1 s.1 fore back)
+  where
+    least : In x (y ∷ ys) → In y (x ∷ xs) → x ≡ y
+    least (inl e) h = sym e
+    least (inr h) (inl e) = e
+    least (inr h) (inr k) = let a = above-in number (number y) ys x s.0 h in let b = above-in number (number x) xs y r.0 k in absurd (omega (arith, a, b))
+
+    same : x ≡ y
+    same = least (f x (inl refl)) (g y (inl refl))
+
+    fore : (z : A) → In z xs → In z ys
+    fore z h = go (f z (inr h))
+      where
+        go : In z (y ∷ ys) → In z ys
+        go (inl e) = let a : number x < number z = above-in number (number x) xs z r.0 h in let q : number x ≡ number z = ap number (same ∙ e) in absurd (omega (arith, a, q))
+        go (inr k) = k
+
+    back : (z : A) → In z ys → In z xs
+    back z h = go (g z (inr h))
+      where
+        go : In z (x ∷ xs) → In z xs
+        go (inl e) = let a : number y < number z = above-in number (number y) ys z s.0 h in let q : number y ≡ number z = ap number (sym same ∙ e) in absurd (omega (arith, a, q))
+        go (inr k) = k
+
+-- ---- tickets in order
+
+pairs-rise : (xs : List ℕ) → ((i j d : ℕ) → i < j → j < length xs → get_or xs i d < get_or xs j d) → IsRising itself xs
+pairs-rise [] f = tt
+pairs-rise (x ∷ xs) f = (above xs (λ k lt. f 0 (suc k) x (omega arith) (omega (arith, lt))), pairs-rise xs (λ i j d l m. f (suc i) (suc j) d (omega (arith, l)) (omega (arith, m))))
+  where
+    above : (ys : List ℕ) → ((k : ℕ) → k < length ys → x < get_or ys k x) → AllAbove itself x ys
+    above [] g = tt
+    above (y ∷ ys) g = (g 0 (omega arith), above ys (λ k lt. g (suc k) (omega (arith, lt))))
+
+pub in_order_rises : (E : ℕ → ℕ → Bool) (xs ys : List ℕ) → E ≡ eqb → IsSorted nat_cmp xs → IsFiltered (DiffersFromLast E) [] xs ys → IsRising itself ys
+in_order_rises E xs ys e sorted kept =
+    subst (λ (ns : List ℕ). IsRising itself ns) (sym (dedup_is E xs ys kept ∙ ap (λ f. dedup f xs) e)) (pairs-rise (dedup eqb xs) (AllPairs-from_increasing (dedup eqb xs) (IsStrictlyIncreasing-dedup xs sorted)))
+
+in-contains : (xs : List ℕ) (n : ℕ) → In n xs → Contains xs n
+in-contains [] n h = absurd h
+in-contains (x ∷ xs) n (inl e) = (0, omega arith, e)
+in-contains (x ∷ xs) n (inr h) = let c = in-contains xs n h in (suc c.0, (let l = c.1 in omega (arith, l)), c.2)
+
+contains-in : (xs : List ℕ) (n : ℕ) → Contains xs n → In n xs
+contains-in xs n c = subst (λ (m : ℕ). In m xs) c.2 (in-place xs n c.0 c.1)
+
+pub in_order_all : (E : ℕ → ℕ → Bool) (ws xs ys : List ℕ) → E ≡ eqb → IsPermutation ws xs → IsFiltered (DiffersFromLast E) [] xs ys → (n : ℕ) → In n ws → In n ys
+in_order_all E ws xs ys e moved kept n h =
+    subst (λ (ns : List ℕ). In n ns) (sym (dedup_is E xs ys kept ∙ ap (λ f. dedup f xs) e))
+    (contains-in (dedup eqb xs) n (Contains-dedup_nat xs n (Contains-permutation ws xs n moved (in-contains ws n h))))
+
+-- ---- young rows
+
+pub drop_one : {A : Type 0} (xs : List A) (i : ℕ) (x : A) → slice_get xs i ≡ Some x → drop i xs ≡ x ∷ drop (i + 1) xs
+drop_one [] i x e = absurd (cc)
+drop_one {A} (y ∷ ys) zero x e = ap (λ (z : A). z ∷ ys) (get_or_from_slice_get (y ∷ ys) 0 x x e)
+drop_one {A} (y ∷ ys) (suc i) x e = let n : suc (i + 1) ≡ suc i + 1 = omega arith in drop_one ys i x e ∙ ap (λ k. x ∷ drop k (y ∷ ys)) n
+
+pub young_more : (rows : List Stored) (list list' : List ℕ) (count back i : ℕ) (s : Stored) → slice_get rows i ≡ Some s → i + 1 ≡ count - back → i ≡ count - (back + 1) → list' ≡ list ++ s.ticket ∷ []
+    → ((t : Stored) → In t (drop (count - back) rows) → In t.ticket list) → (t : Stored) → In t (drop (count - (back + 1)) rows) → In t.ticket list'
+young_more rows list list' count back i s at n m is all t h =
+    subst (λ (ns : List ℕ). In t.ticket ns) (sym is)
+    (go (subst (λ (ts : List Stored). In t ts) (ap (λ k. drop k rows) (sym m) ∙ drop_one rows i s at ∙ ap (λ k. s ∷ drop k rows) n) h))
+  where
+    go : In t (s ∷ drop (count - back) rows) → In t.ticket (list ++ s.ticket ∷ [])
+    go (inl e) = In-append_right t.ticket list (s.ticket ∷ []) (inl (ap ticket_of e))
+    go (inr k) = In-append_left t.ticket list (s.ticket ∷ []) (all t k)
+
+behind : (rows : List Stored) (i : ℕ) (x s : Stored) → IsRising ticket_of rows → slice_get rows i ≡ Some x → In s rows → x.ticket < s.ticket → In s (drop (i + 1) rows)
+behind [] i x s r at h lt = absurd h
+behind (y ∷ ys) zero x s r at (inl e) lt = let q : s.ticket ≡ x.ticket = ap ticket_of (sym e ∙ get_or_from_slice_get (y ∷ ys) 0 x x at) in absurd (omega (arith, lt, q))
+behind (y ∷ ys) zero x s r at (inr h) lt = h
+behind (y ∷ ys) (suc i) x s r at (inl e) lt =
+    let a : y.ticket < x.ticket = above-in ticket_of y.ticket ys x r.0 (place ys i at) in
+    let q : y.ticket ≡ s.ticket = ap ticket_of e in absurd (omega (arith, lt, a, q))
+  where
+    place : (zs : List Stored) (k : ℕ) → slice_get zs k ≡ Some x → In x zs
+    place [] k e = absurd (cc)
+    place (z ∷ zs) zero e = inl (get_or_from_slice_get (z ∷ zs) 0 x x e)
+    place (z ∷ zs) (suc k) e = inr (place zs k e)
+behind (y ∷ ys) (suc i) x s r at (inr h) lt = let n : suc (i + 1) ≡ suc i + 1 = omega arith in subst (λ k. In s (drop k (y ∷ ys))) n (behind ys i x s r.1 at h lt)
+
+pub young_stop : (rows : List Stored) (list : List ℕ) (count back i from : ℕ) (x : Stored) → IsRising ticket_of rows → slice_get rows i ≡ Some x → i + 1 ≡ count - back → x.ticket < from
+    → ((t : Stored) → In t (drop (count - back) rows) → In t.ticket list) → (t : Stored) → In t rows → from ≤ t.ticket → In t.ticket list
+young_stop rows list count back i from x r at n lt all t h le = all t (subst (λ k. In t (drop k rows)) n (behind rows i x t r at h (omega (arith, lt, le))))
+
+pub judged_all : (w : Watches) (rows : List Stored) (young list tickets : List ℕ) → ((s : Stored) → In s rows → w.from ≤ s.ticket → In s.ticket young) → list ≡ young ++ w.marked → ((n : ℕ) → In n list → In n tickets)
+    → (s : Stored) → In s rows → is_passed w s.ticket ≡ false → In s.ticket tickets
+judged_all w rows young list tickets all is more s h f = more s.ticket (subst (λ (ns : List ℕ). In s.ticket ns) (sym is) (go (ltb s.ticket w.from) refl (has w.marked s.ticket) refl f))
+  where
+    go : (a : Bool) → ltb s.ticket w.from ≡ a → (b : Bool) → has w.marked s.ticket ≡ b → (a && not b) ≡ false → In s.ticket (young ++ w.marked)
+    go true e true g q = In-append_right s.ticket young w.marked (let m = any_at (λ n. eqb n s.ticket) w.marked g in subst (λ n. In n w.marked) (eqb-true m.0 s.ticket m.2) m.1)
+    go true e false g q = absurd (false≢true (sym q))
+    go false e b g q = In-append_left s.ticket young w.marked (all s h (ltb-false s.ticket w.from e))
+
+-- ---- one row
+
+open-first : (k : Known) (cert : List CertEntry) (x : TupleAt) (rows : List TupleAt) (asks : Demand) → length rows ≡ 0 → IsAsked k.classes cert rows (x ∷ []) asks → covered (older_puncts k.low k.puncts) asks ≡ false
+    → AsksOpen k.classes cert (older_puncts k.low k.puncts) x
+open-first k [] x rows asks none asked un = asked
+open-first k (e ∷ cert) x [] asks none asked un = ap (covered (older_puncts k.low k.puncts)) asked ∙ un
+open-first k (e ∷ cert) x (y ∷ rows) asks none asked un = absurd (omega (arith, none))
+
+pub verdict_is : (j : Judge) (cert : List CertStep) (input : ℕ) (settled : Bool) (s : Stored) (found : Option Uncovered) → s.ticket < j.low
+    → IsFirstUncovered (known_of j.spec (row_pairs j.states) j.stores j.low) (entries j.schemes cert) (tuple_of input (pair_of s)) found → IsVerdict j cert input settled s (verdict_on found settled)
+verdict_is j cert input settled s None lt all = and_from (ltb s.ticket j.low) _ (lt-ltb s.ticket j.low lt) all
+verdict_is j cert input settled s (Some u) lt v = go (eqb u.entry 0) refl settled refl
+  where
+    known : Known
+    known = known_of j.spec (row_pairs j.states) j.stores j.low
+
+    not_ripe : ripe_at j cert input s ≡ false
+    not_ripe = and_right (ltb s.ticket j.low) (all_covered known (entries j.schemes cert) (tuple_of input (pair_of s) ∷ [])) v.1
+
+    go : (a : Bool) → eqb u.entry 0 ≡ a → (b : Bool) → settled ≡ b → IsVerdict j cert input settled s (cond (a && b) Open Marked)
+    go true e true q =
+        let place : 0 + length v.0.rows ≡ u.entry = v.0.place in
+        let entry : u.entry ≡ 0 = eqb-true u.entry 0 e in
+        (not_ripe, λ l. (q, open-first known (entries j.schemes cert) (tuple_of input (pair_of s)) v.0.rows v.0.asks (omega (arith, place, entry)) v.0.asked v.0.uncovered))
+    go true e false q = not_ripe
+    go false e b q = not_ripe
+
+pub under_at : (rows : List Stored) (ticket : ℕ) (row : List Value) → Some row ≡ row_under ticket rows → (at : ℕ) × (slice_get rows at ≡ Some (stored ticket row))
+under_at [] ticket row e = absurd (cc)
+under_at (s ∷ rows) ticket row e = go (eqb s.ticket ticket) refl e (under_at rows ticket row)
+  where
+    go : (b : Bool) → eqb s.ticket ticket ≡ b → Some row ≡ row_found (cond b (Some s) (first_with ticket_of ticket rows)) → (Some row ≡ row_under ticket rows → (at : ℕ) × (slice_get rows at ≡ Some (stored ticket row)))
+        → (at : ℕ) × (slice_get (s ∷ rows) at ≡ Some (stored ticket row))
+    go true f k ih = (0, ap₂ (λ n (r : List Value). Some (stored n r)) (eqb-true s.ticket ticket f) (same k))
+      where
+        same : Some row ≡ Some s.row → s.row ≡ row
+        same q = cc
+    go false f k ih = let r = ih k in (suc r.0, r.1)
+
+any-append : {A : Type 0} (p : A → Bool) (xs ys : List A) → list_any p (xs ++ ys) ≡ (list_any p xs || list_any p ys)
+any-append p [] ys = refl
+any-append p (x ∷ xs) ys = go (p x) (any-append p xs ys)
+  where
+    go : (b : Bool) → list_any p (xs ++ ys) ≡ (list_any p xs || list_any p ys) → (b || list_any p (xs ++ ys)) ≡ ((b || list_any p xs) || list_any p ys)
+    go true ih = refl
+    go false ih = ih
+
+left-false : (a b : Bool) → (a || b) ≡ false → (a ≡ false) × (b ≡ false)
+left-false true b e = absurd (false≢true (sym e))
+left-false false b e = (refl, e)
+
+has-split : (ns ms : List ℕ) (n : ℕ) → has (ns ++ ms) n ≡ false → (has ns n ≡ false) × (has ms n ≡ false)
+has-split ns ms n e = left-false (has ns n) (has ms n) (sym (any-append (λ m. eqb m n) ns ms) ∙ e)
+
+pub judged_none : (j : Judge) (cert : List CertStep) (input : ℕ) (settled : Bool) (ticket : ℕ) (old : Judged) → None ≡ row_under ticket (rows_at j input) → IsOneJudged j cert input settled ticket old old
+judged_none j cert input settled ticket old e = record {
+  gone = sym (append-nil old.gone) ∙ ap (λ (o : Option (List Value)). old.gone ++ tickets_of (filter (ripe_at j cert input) (under_with ticket o))) e;
+  more = λ m f. f;
+  looked = λ row at. absurd (clash (e ∙ sym at));
+}
+  where
+    clash : {row : List Value} → None ≡ Some row → ⊥
+    clash q = cc
+
+pub judged_row : (j : Judge) (cert : List CertStep) (input : ℕ) (settled : Bool) (ticket : ℕ) (row : List Value) (v : Verdict) (old new : Judged) → Some row ≡ row_under ticket (rows_at j input) → IsVerdict j cert input settled (stored ticket row) v
+    → new.gone ≡ old.gone ++ one_if (goes_by v) ticket → new.marked ≡ old.marked ++ one_if (marked_by v) ticket → IsOneJudged j cert input settled ticket old new
+judged_row j cert input settled ticket row v old new at is gone marked = record {
+  gone = gone ∙ ap (λ (ts : List ℕ). old.gone ++ ts) (picks v is ∙ ap (λ (o : Option (List Value)). tickets_of (filter (ripe_at j cert input) (under_with ticket o))) at);
+  more = λ m f. (has-split old.marked (one_if (marked_by v) ticket) m (ap (λ ns. has ns m) (sym marked) ∙ f)).0;
+  looked = λ other here. subst (λ (r : List Value). IsLookedAt j cert input settled new.marked (stored ticket r)) (same (at ∙ sym here)) (look v is marked);
+}
+  where
+    same : {a b : List Value} → Some a ≡ Some b → a ≡ b
+    same q = cc
+
+    picks : (w : Verdict) → IsVerdict j cert input settled (stored ticket row) w → one_if (goes_by w) ticket ≡ tickets_of (filter (ripe_at j cert input) (stored ticket row ∷ []))
+    picks Ripe t = sym (ap (λ b. tickets_of (cond b (stored ticket row ∷ []) [])) t)
+    picks Open t = sym (ap (λ b. tickets_of (cond b (stored ticket row ∷ []) [])) t.0)
+    picks Marked t = sym (ap (λ b. tickets_of (cond b (stored ticket row ∷ []) [])) t)
+
+    look : (w : Verdict) → IsVerdict j cert input settled (stored ticket row) w → new.marked ≡ old.marked ++ one_if (marked_by w) ticket → IsLookedAt j cert input settled new.marked (stored ticket row)
+    look Ripe t m lt f none = absurd (false≢true (sym f ∙ t))
+    look Open t m lt f none = t.1 lt
+    look Marked t m lt f none =
+        absurd (false≢true (sym ((has-split old.marked (ticket ∷ []) ticket (ap (λ ns. has ns ticket) (sym m) ∙ none)).1) ∙ ap (λ b. b || false) (eq-eqb ticket ticket refl)))
+
+pub picked_rows : (j : Judge) (cert : List CertStep) (input ticket : ℕ) (row : List Value) (v : Verdict) (settled : Bool) (old new : List (List Value)) → Some row ≡ row_under ticket (rows_at j input) → IsVerdict j cert input settled (stored ticket row) v
+    → new ≡ old ++ one_if (goes_by v) row → new ≡ old ++ map row_in (picked j cert input ticket)
+picked_rows j cert input ticket row v settled old new at is e =
+    e ∙ ap (λ (rs : List (List Value)). old ++ rs) (picks v is ∙ ap (λ (o : Option (List Value)). map row_in (filter (ripe_at j cert input) (under_with ticket o))) at)
+  where
+    picks : (w : Verdict) → IsVerdict j cert input settled (stored ticket row) w → one_if (goes_by w) row ≡ map row_in (filter (ripe_at j cert input) (stored ticket row ∷ []))
+    picks Ripe t = sym (ap (λ b. map row_in (cond b (stored ticket row ∷ []) [])) t)
+    picks Open t = sym (ap (λ b. map row_in (cond b (stored ticket row ∷ []) [])) t.0)
+    picks Marked t = sym (ap (λ b. map row_in (cond b (stored ticket row ∷ []) [])) t)
+
+pub picked_none : (j : Judge) (cert : List CertStep) (input ticket : ℕ) (old : List (List Value)) → None ≡ row_under ticket (rows_at j input) → old ≡ old ++ map row_in (picked j cert input ticket)
+picked_none j cert input ticket old e = sym (append-nil old) ∙ ap (λ (o : Option (List Value)). old ++ map row_in (filter (ripe_at j cert input) (under_with ticket o))) e
+
+-- ---- all of them
+
+flat-more : {A B : Type 0} (f : A → List B) (xs : List A) (x : A) → flat_map f (xs ++ x ∷ []) ≡ flat_map f xs ++ f x
+flat-more f [] x = append-nil (f x)
+flat-more f (y ∷ ys) x = ap (λ zs. f y ++ zs) (flat-more f ys x) ∙ sym (append_assoc (f y) (flat_map f ys) (f x))
+
+next-picked : (j : Judge) (cert : List CertStep) (input : ℕ) (tickets : List ℕ) (i t : ℕ) → i < length tickets → t ≡ get_or tickets i 0 → all_picked j cert input (take (i + 1) tickets) ≡ all_picked j cert input (take i tickets) ++ picked j cert input t
+next-picked j cert input tickets i t lt is = ap (all_picked j cert input) (take_more tickets i 0 lt ∙ ap (λ n. take i tickets ++ n ∷ []) (sym is)) ∙ flat-more (picked j cert input) (take i tickets) t
+
+pub judged_more : (j : Judge) (cert : List CertStep) (input : ℕ) (settled : Bool) (tickets : List ℕ) (i t : ℕ) (old new : Judged) → i < length tickets → t ≡ get_or tickets i 0
+    → AreJudged j cert input settled (take i tickets) old → IsOneJudged j cert input settled t old new → AreJudged j cert input settled (take (i + 1) tickets) new
+judged_more j cert input settled tickets i t old new lt is before one = record {
+  gone = one.gone ∙ ap (λ (ts : List ℕ). ts ++ tickets_of (picked j cert input t)) before.gone ∙ sym (ap tickets_of (next-picked j cert input tickets i t lt is) ∙ map-append ticket_of (all_picked j cert input (take i tickets)) (picked j cert input t));
+  looked = looked;
+}
+  where
+    looked : (n : ℕ) → In n (take (i + 1) tickets) → (row : List Value) → Some row ≡ row_under n (rows_at j input) → IsLookedAt j cert input settled new.marked (stored n row)
+    looked n h row at = go (In-append_cases n (take i tickets) (t ∷ []) (subst (λ (ns : List ℕ). In n ns) (take_more tickets i 0 lt ∙ ap (λ m. take i tickets ++ m ∷ []) (sym is)) h))
+      where
+        go : In n (take i tickets) ⊎ In n (t ∷ []) → IsLookedAt j cert input settled new.marked (stored n row)
+        go (inl k) = λ l f none. before.looked n k row at l f (one.more n none)
+        go (inr (inl e)) = subst (λ m. Some row ≡ row_under m (rows_at j input) → IsLookedAt j cert input settled new.marked (stored m row)) e (one.looked row) at
+        go (inr (inr k)) = absurd k
+
+pub rows_more : (j : Judge) (cert : List CertStep) (input : ℕ) (tickets : List ℕ) (i t : ℕ) (first old new : List (List Value)) → i < length tickets → t ≡ get_or tickets i 0
+    → old ≡ first ++ map row_in (all_picked j cert input (take i tickets)) → new ≡ old ++ map row_in (picked j cert input t) → new ≡ first ++ map row_in (all_picked j cert input (take (i + 1) tickets))
+rows_more j cert input tickets i t first old new lt is before one =
+    one ∙ ap (λ (rs : List (List Value)). rs ++ map row_in (picked j cert input t)) before ∙ append_assoc first (map row_in (all_picked j cert input (take i tickets))) (map row_in (picked j cert input t))
+    ∙ ap (λ (rs : List (List Value)). first ++ rs) (sym (ap (map row_in) (next-picked j cert input tickets i t lt is) ∙ map-append row_in (all_picked j cert input (take i tickets)) (picked j cert input t)))
+
+-- ---- the ripe rows
+
+under-in : (rows : List Stored) (t : ℕ) (s : Stored) → In s (under_with t (row_under t rows)) → In s rows × (s.ticket ≡ t)
+under-in [] t s h = absurd h
+under-in (r ∷ rows) t s h = go (eqb r.ticket t) refl h (under-in rows t s)
+  where
+    go : (b : Bool) → eqb r.ticket t ≡ b → In s (under_with t (row_found (cond b (Some r) (first_with ticket_of t rows)))) → (In s (under_with t (row_under t rows)) → In s rows × (s.ticket ≡ t)) → In s (r ∷ rows) × (s.ticket ≡ t)
+    go true e (inl q) ih = (inl (ap (λ n. stored n r.row) (eqb-true r.ticket t e) ∙ q), sym (ap ticket_of q))
+    go true e (inr k) ih = absurd k
+    go false e k ih = (inr (ih k).0, (ih k).1)
+
+under-own : (rows : List Stored) (s : Stored) → IsRising ticket_of rows → In s rows → Some s.row ≡ row_under s.ticket rows
+under-own [] s r h = absurd h
+under-own (t ∷ rows) s r (inl e) = subst (λ (u : Stored). Some u.row ≡ row_under u.ticket (t ∷ rows)) e (sym (ap (λ b. row_found (cond b (Some t) (first_with ticket_of t.ticket rows))) (eq-eqb t.ticket t.ticket refl)))
+under-own (t ∷ rows) s r (inr h) =
+    let a : t.ticket < s.ticket = above-in ticket_of t.ticket rows s r.0 h in
+    under-own rows s r.1 h ∙ sym (ap (λ b. row_found (cond b (Some t) (first_with ticket_of s.ticket rows))) (false_from_ne_true (eqb t.ticket s.ticket) (λ q. let e = eqb-true t.ticket s.ticket q in omega (arith, a, e))))
+
+pub picks_are : (j : Judge) (cert : List CertStep) (input : ℕ) (tickets : List ℕ) → IsRising ticket_of (rows_at j input) → IsRising itself tickets
+    → ((s : Stored) → In s (rows_at j input) → ripe_at j cert input s ≡ true → In s.ticket tickets) → all_picked j cert input tickets ≡ filter (ripe_at j cert input) (rows_at j input)
+picks_are j cert input tickets r t all = rising-same ticket_of (all_picked j cert input tickets) (filter (ripe_at j cert input) (rows_at j input)) (rises tickets t) (rising-filter ticket_of (ripe_at j cert input) (rows_at j input) r) fore back
+  where
+    of-picked : (n : ℕ) (s : Stored) → In s (picked j cert input n) → (In s (rows_at j input) × (s.ticket ≡ n)) × (ripe_at j cert input s ≡ true)
+    of-picked n s h = let f = In-filter (ripe_at j cert input) s (under_with n (row_under n (rows_at j input))) h in (under-in (rows_at j input) n s f.0, f.1)
+
+    of-all : (ns : List ℕ) (s : Stored) → In s (all_picked j cert input ns) → (n : ℕ) × In n ns × In s (picked j cert input n)
+    of-all ns s h = In-flat_map (picked j cert input) s ns h
+
+    single : (n : ℕ) (o : Option (List Value)) → IsRising ticket_of (filter (ripe_at j cert input) (under_with n o))
+    single n None = tt
+    single n (Some row) = go (ripe_at j cert input (stored n row))
+      where
+        go : (b : Bool) → IsRising ticket_of (cond b (stored n row ∷ []) [])
+        go true = (tt, tt)
+        go false = tt
+
+    rises : (ns : List ℕ) → IsRising itself ns → IsRising ticket_of (all_picked j cert input ns)
+    rises [] q = tt
+    rises (n ∷ ns) q = rising-append ticket_of (picked j cert input n) (all_picked j cert input ns) (single n (row_under n (rows_at j input))) (rises ns q.1) later
+      where
+        later : (x y : Stored) → In x (picked j cert input n) → In y (all_picked j cert input ns) → x.ticket < y.ticket
+        later x y h k =
+            let m = of-all ns y k in
+            let a : n < m.0 = above-in itself n ns m.0 q.0 m.1 in
+            let e : x.ticket ≡ n = (of-picked n x h).0.1 in
+            let f : y.ticket ≡ m.0 = (of-picked m.0 y m.2).0.1 in omega (arith, a, e, f)
+
+    fore : (s : Stored) → In s (all_picked j cert input tickets) → In s (filter (ripe_at j cert input) (rows_at j input))
+    fore s h = let m = of-all tickets s h in let o = of-picked m.0 s m.2 in In-filter_from (ripe_at j cert input) s (rows_at j input) o.0.0 o.1
+
+    back : (s : Stored) → In s (filter (ripe_at j cert input) (rows_at j input)) → In s (all_picked j cert input tickets)
+    back s h =
+        let f = In-filter (ripe_at j cert input) s (rows_at j input) h in
+        In-flat_map_from (picked j cert input) s s.ticket tickets (all s f.0 f.1)
+        (In-filter_from (ripe_at j cert input) s (under_with s.ticket (row_under s.ticket (rows_at j input))) (subst (λ (o : Option (List Value)). In s (under_with s.ticket o)) (under-own (rows_at j input) s r f.0) (inl refl)) f.1)
+
+-- what is not passed over was judged, and what is passed over is not ripe
+pub all_ripe : (j : Judge) (cert : List CertStep) (input : ℕ) (w : Watches) (tickets : List ℕ) → IsRising ticket_of (rows_at j input) → IsRising itself tickets → NoneIsRipe j cert input w
+    → ((s : Stored) → In s (rows_at j input) → is_passed w s.ticket ≡ false → In s.ticket tickets) → all_picked j cert input tickets ≡ filter (ripe_at j cert input) (rows_at j input)
+all_ripe j cert input w tickets r t none all =
+    picks_are j cert input tickets r t (λ s h ripe. all s h (false_from_ne_true (is_passed w s.ticket) (λ p. false≢true (sym (none s h p) ∙ ripe))))
+
+pub all_looked : (j : Judge) (cert : List CertStep) (input : ℕ) (settled : Bool) (w : Watches) (tickets : List ℕ) (judged : Judged) → IsRising ticket_of (rows_at j input)
+    → ((s : Stored) → In s (rows_at j input) → is_passed w s.ticket ≡ false → In s.ticket tickets) → AreJudged j cert input settled tickets judged → AreLookedAt j cert input settled w judged.marked
+all_looked j cert input settled w tickets judged r all are s h f = are.looked s.ticket (all s h f) s.row (under-own (rows_at j input) s r h)

@@ -1,0 +1,234 @@
+-- Which rows a punctuation marks.
+use Rattle.std.proofs.Common.{ℕ, zero, suc, ◌+◌, ◌<◌, ◌≤◌, Bool, true, false, cond, not, ◌&&◌, ◌||◌, List, [], ◌∷◌, ◌++◌, ◌≡◌, Option, Some, None, Ok, Err, Result, IfSome, OnOk, map, filter, flat_map, length, get_or, set, refl, sym, ap, ap₂, ◌∙◌, subst, inl, inr, eqb, ltb, arith}
+use Rattle.std.specs.List.{list_any, slice_get}
+use Rattle.std.proofs.lemmas.Bool.{and_parts, and_right, eq-eqb, eqb-true, false_from_ne_true, false≢true, not-true, ltb-true}
+use Rattle.std.proofs.lemmas.Option.{slice_get-get_or, get_or_from_slice_get}
+use Rattle.pj_value.specs.declared.values.Value.{Value}
+use Rattle.pj_value.specs.Values.{value_eq}
+use Rattle.pj_value.proofs.Members.{In-filter_from, In-map_from, any_at, any_from, none_from}
+use Rattle.pj_value.proofs.Orders.{same_if_equal, equal_itself}
+use Rattle.pj_pattern.specs.declared.pattern.Form.TheVariants.{Constant}
+use Rattle.pj_state.specs.declared.shared.Stored.{Stored}
+use Rattle.pj_state.specs.States.{StateView, has_value, is_value, rows_with, tickets_of, ticket_of}
+use Rattle.pj_shape.specs.declared.joins.CertStep.{CertStep}
+use Rattle.pj_cover.specs.Asking.{entries, first_class, marks_of}
+use Rattle.pj_cover.proofs.Classes.{first_class_is}
+use Rattle.pj_events.specs.Patterns.{Pattern, covers, matches_value}
+use Rattle.pj_events.specs.Join.{CertEntry, ClassCol, In, JoinData, PunctAt, TupleAt, class_with, constant, covered, demand, entry_of, has, instance_from, no_value, part_of, value_at, values}
+use Rattle.pj_join.specs.Sides.{IsWide, tuple_in}
+use Rattle.pj_join.proofs.Wanted.{all-in}
+use Rattle.pj_join.specs.Watching.{AreFewer, AreLeft, AreLeftAt, AreLeftOpen, AreUncovered, AsksOpen, IsFewer, IsKey, Watches, first_column, is_passed, watches_at}
+
+-- ---- what is asked for
+
+turned : (m n : ℕ) (b : Bool) → eqb m n ≡ b → eqb n m ≡ b
+turned m n true e = eq-eqb n m (sym (eqb-true m n e))
+turned m n false e = false_from_ne_true (eqb n m) (λ t. false≢true (sym e ∙ eq-eqb m n (sym (eqb-true n m t))))
+
+-- a punctuation with a constant in a marked column covers only what has this constant there
+needs : (classes : List (List ClassCol)) (other c : ℕ) (marks : List Bool) (ps : List Pattern) (xs : List TupleAt) (k : ℕ) (v : Value) → slice_get marks k ≡ Some true → slice_get ps k ≡ Some (Constant v)
+    → covers ps (instance_from classes other c marks xs) ≡ true → value_eq v (constant (class_with classes other (c + k)) xs) ≡ true
+needs classes other c [] ps xs k v m p t = absurd (cc)
+needs classes other c (b ∷ marks) [] xs k v m p t = absurd (cc)
+needs classes other c (true ∷ marks) (q ∷ ps) xs zero v m p t =
+    let n : c + 0 ≡ c = omega arith in
+    let same : q ≡ Constant v = get_or_from_slice_get (q ∷ ps) 0 (Constant v) (Constant v) p in
+    ap (λ i. value_eq v (constant (class_with classes other i) xs)) n
+    ∙ ap (λ r. matches_value r (constant (class_with classes other c) xs)) (sym same)
+    ∙ (and_parts (matches_value q (constant (class_with classes other c) xs)) (covers ps (instance_from classes other (c + 1) marks xs)) t).0
+needs classes other c (false ∷ marks) (q ∷ ps) xs zero v m p t = absurd (cc)
+needs classes other c (true ∷ marks) (q ∷ ps) xs (suc k) v m p t =
+    let n : c + suc k ≡ c + 1 + k = omega arith in
+    ap (λ i. value_eq v (constant (class_with classes other i) xs)) n
+    ∙ needs classes other (c + 1) marks ps xs k v m p (and_parts (matches_value q (constant (class_with classes other c) xs)) (covers ps (instance_from classes other (c + 1) marks xs)) t).1
+needs classes other c (false ∷ marks) (q ∷ ps) xs (suc k) v m p t =
+    let n : c + suc k ≡ c + 1 + k = omega arith in
+    ap (λ i. value_eq v (constant (class_with classes other i) xs)) n
+    ∙ needs classes other (c + 1) marks ps xs k v m p (and_parts _ (covers ps (instance_from classes other (c + 1) marks xs)) t).1
+
+-- what a tuple has in a class is its value in the first column of its input
+first-value : (class : List ClassCol) (x : TupleAt) (own : ℕ) → first_column class x.input ≡ Some own → constant class (x ∷ []) ≡ value_at x.row own
+first-value [] x own e = absurd (cc)
+first-value (at ∷ class) x own e = go (eqb at.input x.input) refl e (first-value class x own)
+  where
+    go : (b : Bool) → eqb at.input x.input ≡ b → cond b (Some at.column) (first_column class x.input) ≡ Some own → (first_column class x.input ≡ Some own → constant class (x ∷ []) ≡ value_at x.row own)
+        → constant (at ∷ class) (x ∷ []) ≡ value_at x.row own
+    go true f k ih =
+        ap (λ b. get_or ((cond b (value_at x.row at.column ∷ []) [] ++ []) ++ values (part_of x ∷ []) class) 0 no_value) (turned at.input x.input true f)
+        ∙ ap (λ i. value_at x.row i) (same k)
+      where
+        same : Some at.column ≡ Some own → at.column ≡ own
+        same q = cc
+    go false f k ih = ap (λ b. get_or ((cond b (value_at x.row at.column ∷ []) [] ++ []) ++ values (part_of x ∷ []) class) 0 no_value) (turned at.input x.input false f) ∙ ih k
+
+pub key_is : (classes : List (List ClassCol)) (input : ℕ) (columns : List ℕ) (other : ℕ) (marks : List Bool) (ps : List Pattern) (at : ClassCol) (own : ℕ) (v : Value)
+    → at.input ≡ other → slice_get marks at.column ≡ Some true → first_column (first_class classes at) input ≡ Some own → list_any (λ o. eqb own o) columns ≡ true → slice_get ps at.column ≡ Some (Constant v)
+    → IsKey classes input columns other marks ps own v
+key_is classes input columns other marks ps at own v of marked first indexed const = (within, uncovered)
+  where
+    within : In own columns
+    within = let h = any_at (λ o. eqb own o) columns indexed in subst (λ n. In n columns) (sym (eqb-true own h.0 h.2)) h.1
+
+    uncovered : (x : TupleAt) → x.input ≡ input → own < length x.row → is_value v (slice_get x.row own) ≡ false → covers ps (instance_from classes other 0 marks (x ∷ [])) ≡ false
+    uncovered x same lt differs = false_from_ne_true (covers ps (instance_from classes other 0 marks (x ∷ []))) (λ t. false≢true (sym differs ∙ yes t))
+      where
+        asked : covers ps (instance_from classes other 0 marks (x ∷ [])) ≡ true → value_eq v (value_at x.row own) ≡ true
+        asked t =
+            let n : 0 + at.column ≡ at.column = omega arith in
+            ap (value_eq v)
+            (sym (ap (λ (cls : List ClassCol). constant cls (x ∷ [])) (ap₂ (λ i j. class_with classes i j) (sym of) n ∙ sym (first_class_is classes at))
+            ∙ first-value (first_class classes at) x own (ap (first_column (first_class classes at)) same ∙ first)))
+            ∙ needs classes other 0 marks ps (x ∷ []) at.column v marked const t
+
+        yes : covers ps (instance_from classes other 0 marks (x ∷ [])) ≡ true → is_value v (slice_get x.row own) ≡ true
+        yes t =
+            ap (is_value v) (slice_get-get_or x.row own no_value lt)
+            ∙ ap (λ w. value_eq w v) (sym (same_if_equal v (value_at x.row own) (asked t)))
+            ∙ equal_itself v
+
+-- a fact of what was found follows from three others
+pub some_from : {A : Type 0} (o : Option A) (P Q R S : A → Type 0) → ((a : A) → P a → Q a → R a → S a) → IfSome o P → IfSome o Q → IfSome o R → IfSome o S
+some_from None P Q R S f p q r = tt
+some_from (Some a) P Q R S f p q r = f a p q r
+
+-- ---- what is passed over
+
+pub all_marked : (w : Watches) → w.from ≡ 0 → (ticket : ℕ) → is_passed w ticket ≡ true → ⊥
+all_marked w e ticket t = let lt = ltb-true ticket w.from (and_parts (ltb ticket w.from) (not (has w.marked ticket)) t).0 in omega (arith, lt, e)
+
+pub fewer_none : (old new : Watches) → new.from ≡ 0 → IsFewer old new
+fewer_none old new e = record { from = omega (arith, e); passed = λ ticket t. absurd (all_marked new e ticket t) }
+
+pub fewer_same : (w : Watches) → IsFewer w w
+fewer_same w = record { from = omega arith; passed = λ ticket t. t }
+
+any-append : {A : Type 0} (p : A → Bool) (xs ys : List A) → list_any p (xs ++ ys) ≡ (list_any p xs || list_any p ys)
+any-append p [] ys = refl
+any-append p (x ∷ xs) ys = go (p x) (any-append p xs ys)
+  where
+    go : (b : Bool) → list_any p (xs ++ ys) ≡ (list_any p xs || list_any p ys) → (b || list_any p (xs ++ ys)) ≡ ((b || list_any p xs) || list_any p ys)
+    go true ih = refl
+    go false ih = ih
+
+-- a ticket that is passed over is among none of those that were marked, and was passed over before
+pub passed_more : (old new : Watches) (ts : List ℕ) → new.from ≡ old.from → new.marked ≡ old.marked ++ ts → (ticket : ℕ) → is_passed new ticket ≡ true → (is_passed old ticket ≡ true) × (has ts ticket ≡ false)
+passed_more old new ts from marked ticket t =
+    go (has old.marked ticket) refl (has ts ticket) refl (ap₂ (λ n (ms : List ℕ). ltb ticket n && not (has ms ticket)) (sym from) (sym marked) ∙ t)
+  where
+    go : (a : Bool) → has old.marked ticket ≡ a → (b : Bool) → has ts ticket ≡ b → (ltb ticket old.from && not (has (old.marked ++ ts) ticket)) ≡ true → (is_passed old ticket ≡ true) × (has ts ticket ≡ false)
+    go a e b f u =
+        let both = and_parts (ltb ticket old.from) (not (has (old.marked ++ ts) ticket)) u in
+        let none : not (a || b) ≡ true = ap₂ (λ c d. not (c || d)) (sym e) (sym f) ∙ ap not (sym (any-append (λ m. eqb m ticket) old.marked ts)) ∙ both.1 in
+        split a b e f both.0 none
+      where
+        split : (a b : Bool) → has old.marked ticket ≡ a → has ts ticket ≡ b → ltb ticket old.from ≡ true → not (a || b) ≡ true → (is_passed old ticket ≡ true) × (has ts ticket ≡ false)
+        split true b e f l n = absurd (false≢true n)
+        split false true e f l n = absurd (false≢true n)
+        split false false e f l n = (ap₂ (λ c d. c && not d) l e, f)
+
+pub fewer_more : (old new : Watches) (ts : List ℕ) → new.from ≡ old.from → new.marked ≡ old.marked ++ ts → IsFewer old new
+fewer_more old new ts from marked = record { from = omega (arith, from); passed = λ ticket t. (passed_more old new ts from marked ticket t).0 }
+
+pub fewer_alike : (old new : Watches) → new.from ≡ old.from → new.marked ≡ old.marked → IsFewer old new
+fewer_alike old new from marked = record { from = omega (arith, from); passed = λ ticket t. ap₂ (λ n (ms : List ℕ). ltb ticket n && not (has ms ticket)) (sym from) (sym marked) ∙ t }
+
+-- those that have the key are marked
+pub left_by_key : (classes : List (List ClassCol)) (input other : ℕ) (rows : List Stored) (columns : List ℕ) (marks : List Bool) (ps : List Pattern) (own : ℕ) (v : Value) (old new : Watches) (ts : List ℕ)
+    → ((s : Stored) → In s rows → own < length s.row) → IsKey classes input columns other marks ps own v → ts ≡ tickets_of (rows_with own v rows) → new.from ≡ old.from → new.marked ≡ old.marked ++ ts
+    → AreUncovered classes input rows other marks ps new
+left_by_key classes input other rows columns marks ps own v old new ts wide key are from marked s h t =
+    key.1 (tuple_in input s) refl (wide s h)
+    (false_from_ne_true (has_value own v s) (λ y. false≢true (sym (passed_more old new ts from marked s.ticket t).1
+    ∙ any_from (λ m. eqb m s.ticket) ts s.ticket (subst (λ (ns : List ℕ). In s.ticket ns) (sym are) (In-map_from ticket_of s (rows_with own v rows) (In-filter_from (has_value own v) s rows h y))) (eq-eqb s.ticket s.ticket refl))))
+
+pub left_marked : {E V : Type 0} (r : Result V E) (classes : List (List ClassCol)) (input other : ℕ) (state : StateView) (marks : List Bool) (ps : List Pattern) (own : ℕ) (v : Value) (old new : Watches) (ts : List ℕ)
+    → IsWide state → IsKey classes input state.columns other marks ps own v → ts ≡ tickets_of (rows_with own v state.rows) → new.from ≡ old.from → OnOk r (new.marked ≡ old.marked ++ ts)
+    → OnOk r (AreUncovered classes input state.rows other marks ps new)
+left_marked (Ok done) classes input other state marks ps own v old new ts wide key are from marked =
+    left_by_key classes input other state.rows state.columns marks ps own v old new ts (λ s h. all-in (λ c. c < length s.row) state.columns (wide s h) own key.0) key are from marked
+left_marked (Err stop) classes input other state marks ps own v old new ts wide key are from marked = tt
+
+-- ---- the first step
+
+one-step : (cert : List CertStep) (step : CertStep) → slice_get cert 0 ≡ Some step → (rest : List CertStep) × (cert ≡ step ∷ rest)
+one-step [] step e = absurd (cc)
+one-step (s ∷ rest) step e = (rest, ap (λ (t : CertStep). t ∷ rest) (get_or_from_slice_get (s ∷ rest) 0 step step e))
+
+pub left_all : (classes : List (List ClassCol)) (cert : List CertEntry) (input : ℕ) (rows : List Stored) (p : PunctAt) (w : Watches) → w.from ≡ 0 → AreLeftOpen classes cert input rows p w
+left_all classes cert input rows p w e s h t = absurd (all_marked w e s.ticket t)
+
+pub left_other : (classes : List (List ClassCol)) (schemes : List (List (List Bool))) (cert : List CertStep) (step : CertStep) (input : ℕ) (rows : List Stored) (p : PunctAt) (w : Watches)
+    → slice_get cert 0 ≡ Some step → (step.input ≡ p.input → ⊥) → AreLeftOpen classes (entries schemes cert) input rows p w
+left_other classes schemes cert step input rows p w at ne s h t =
+    let rest = one-step cert step at in
+    subst (λ (cs : List CertStep). AsksOpen classes (entries schemes cs) (p ∷ []) (tuple_in input s)) (sym rest.1)
+    (ap (λ b. (b && covers p.patterns (demand classes (entry_of schemes step) (tuple_in input s ∷ [])).instance) || false) (false_from_ne_true (eqb p.input step.input) (λ e. ne (sym (eqb-true p.input step.input e)))))
+
+pub left_first : (classes : List (List ClassCol)) (schemes : List (List (List Bool))) (cert : List CertStep) (step : CertStep) (marks : List Bool) (input : ℕ) (rows : List Stored) (p : PunctAt) (w : Watches)
+    → slice_get cert 0 ≡ Some step → step.input ≡ p.input → marks ≡ marks_of schemes step → AreUncovered classes input rows p.input marks p.patterns w → AreLeftOpen classes (entries schemes cert) input rows p w
+left_first classes schemes cert step marks input rows p w at same are uncovered s h t =
+    let rest = one-step cert step at in
+    subst (λ (cs : List CertStep). AsksOpen classes (entries schemes cs) (p ∷ []) (tuple_in input s)) (sym rest.1)
+    (go (eqb p.input step.input)
+    (ap₂ (λ i (ms : List Bool). covers p.patterns (instance_from classes i 0 ms (tuple_in input s ∷ []))) same (sym are) ∙ uncovered s h t))
+  where
+    go : (b : Bool) → covers p.patterns (instance_from classes step.input 0 (marks_of schemes step) (tuple_in input s ∷ [])) ≡ false → ((b && covers p.patterns (instance_from classes step.input 0 (marks_of schemes step) (tuple_in input s ∷ []))) || false) ≡ false
+    go true e = ap (λ c. c || false) e
+    go false e = refl
+
+pub on_ok : {E V : Type 0} {P Q : Type 0} (r : Result V E) → (P → Q) → OnOk r P → OnOk r Q
+on_ok (Ok v) f p = f p
+on_ok (Err e) f p = tt
+
+-- ---- all inputs
+
+at-set : (ws : List Watches) (i k : ℕ) (w : Watches) → i < length ws → (k ≡ i → ⊥) → watches_at (set ws i w) k ≡ watches_at ws k
+at-set [] i k w lt ne = absurd (omega (arith, lt))
+at-set (v ∷ ws) zero zero w lt ne = absurd (ne refl)
+at-set (v ∷ ws) zero (suc k) w lt ne = refl
+at-set (v ∷ ws) (suc i) zero w lt ne = refl
+at-set (v ∷ ws) (suc i) (suc k) w lt ne = at-set ws i k w (omega (arith, lt)) (λ e. ne (ap suc e))
+
+at-place : (ws : List Watches) (i : ℕ) (w : Watches) → i < length ws → watches_at (set ws i w) i ≡ w
+at-place [] i w lt = absurd (omega (arith, lt))
+at-place (v ∷ ws) zero w lt = refl
+at-place (v ∷ ws) (suc i) w lt = at-place ws i w (omega (arith, lt))
+
+at-own : (ws : List Watches) (i : ℕ) (w : Watches) → i < length ws → w ≡ get_or ws i w → watches_at ws i ≡ w
+at-own [] i w lt e = absurd (omega (arith, lt))
+at-own (v ∷ ws) zero w lt e = sym e
+at-own (v ∷ ws) (suc i) w lt e = at-own ws i w (omega (arith, lt)) e
+
+set-count : (ws : List Watches) (i : ℕ) (w : Watches) → length (set ws i w) ≡ length ws
+set-count [] i w = refl
+set-count (v ∷ ws) zero w = refl
+set-count (v ∷ ws) (suc i) w = ap suc (set-count ws i w)
+
+fewer-then : (a b c : Watches) → IsFewer a b → IsFewer b c → IsFewer a c
+fewer-then a b c f g = let l = f.from in let m = g.from in record { from = omega (arith, l, m); passed = λ ticket t. f.passed ticket (g.passed ticket t) }
+
+by-place : (P : ℕ → Type 0) (i k : ℕ) → P i → ((k ≡ i → ⊥) → P k) → P k
+by-place P i k here there = go (eqb k i) refl
+  where
+    go : (b : Bool) → eqb k i ≡ b → P k
+    go true e = subst P (sym (eqb-true k i e)) here
+    go false e = there (λ q. false≢true (sym e ∙ eq-eqb k i q))
+
+pub fewer_start : (ws : List Watches) → AreFewer ws ws
+fewer_start ws = record { count = refl; each = λ input. fewer_same (watches_at ws input) }
+
+-- one input more was gone over
+pub fewer_next : (old cur : List Watches) (i : ℕ) (v w : Watches) → AreFewer old cur → i < length cur → v ≡ get_or cur i v → IsFewer v w → AreFewer old (set cur i w)
+fewer_next old cur i v w all lt is one = record { count = set-count cur i w ∙ all.count; each = each }
+  where
+    each : (k : ℕ) → IsFewer (watches_at old k) (watches_at (set cur i w) k)
+    each k =
+        by-place (λ k. IsFewer (watches_at old k) (watches_at (set cur i w) k)) i k
+        (fewer-then (watches_at old i) (watches_at cur i) (watches_at (set cur i w) i) (all.each i) (subst (λ u. IsFewer (watches_at cur i) u) (sym (at-place cur i w lt)) (subst (λ u. IsFewer u w) (sym (at-own cur i v lt is)) one)))
+        (λ ne. subst (λ u. IsFewer (watches_at old k) u) (sym (at-set cur i k w lt ne)) (all.each k))
+
+pub left_next : (spec : JoinData) (states : List StateView) (p : PunctAt) (cur : List Watches) (i : ℕ) (w : Watches) → i < length cur → AreLeft spec states p cur i → AreLeftAt spec states p w i → AreLeft spec states p (set cur i w) (i + 1)
+left_next spec states p cur i w lt all one k le =
+    by-place (λ k. k < i + 1 → AreLeftAt spec states p (watches_at (set cur i w) k) k) i k
+    (λ l. subst (λ u. AreLeftAt spec states p u i) (sym (at-place cur i w lt)) one)
+    (λ ne l. subst (λ u. AreLeftAt spec states p u k) (sym (at-set cur i k w lt ne)) (all k (omega (arith, l, ne)))) le

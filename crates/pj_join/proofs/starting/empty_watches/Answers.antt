@@ -1,0 +1,7 @@
+use Rattle.std.proofs.Common.{◌∙◌, ◌++◌, ◌∷◌, [], ap, refl}
+use Rattle.pj_join.specs.Watching.{Watches, no_watches}
+use Rattle.pj_join.proofs.Watched.{watches_more}
+use Rattle.pj_join.proofs.starting.empty_watches.Goals as goal
+
+pub loop-input-preserved : goal.loop-input-preserved
+loop-input-preserved c = watches_more c.loop-input.watches.items c.push.new.self.items c.loop-input._input c.loop-input.invariant.0 c.loop-input.invariant.1 no_watches refl (rw (← c.new.ensures) c.in_ok-push.ensures.items)

@@ -1,0 +1,6 @@
+use Rattle.std.proofs.Common.{◌≡◌, ℕ, length}
+use Rattle.pj_join.specs.Watching.{watches_at}
+use Rattle.pj_join.proofs.starting.empty_watches.Given as goal
+
+abbrev pub invariant-loop-input : goal.invariant-loop-input
+invariant-loop-input l = (length l.watches.items ≡ l._input) × ((input : ℕ) → (watches_at l.watches.items input).from ≡ 0)

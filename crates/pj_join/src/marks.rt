@@ -1,0 +1,26 @@
+// What is known of the stored rows of an input between its sweeps.
+use pj_value::List;
+
+/// Which stored rows of an input a sweep judges: those with tickets from `from` on, and those whose tickets are marked. Each
+/// other one asks for an instance that no punctuation covers, and is passed over.
+#[derive(Drop)]
+pub struct Watches {
+    pub from: u64,
+    pub marked: List<u64>,
+}
+
+/// What a judge says of a stored row: it is ripe; or what it asks for first is not covered, or its ticket is not below the
+/// low-water ticket, so that it is not judged before something changes; or it is judged at the next sweep again.
+#[derive(Clone, Copy)]
+pub enum Verdict {
+    Ripe,
+    Open,
+    Marked,
+}
+
+/// What a sweep finds of the stored rows of an input: the tickets of those that go, and of those that are judged again.
+#[derive(Drop)]
+pub struct Judged {
+    pub gone: List<u64>,
+    pub marked: List<u64>,
+}

@@ -1,0 +1,286 @@
+// Which stored rows a punctuation marks.
+ghost use Rattle.std.specs.Prelude.{◌≡◌, ◌<◌, ◌≤◌, ◌^◌, ◌==◌, ◌++◌, [], true, ℕ, length, slice_get, slice_index_or, Some, IfOk, IfSome, OnOk, OnErr};
+ghost use Rattle.std.specs.List.{list_any};
+ghost use Rattle.pj_pattern.specs.declared.pattern.Form.TheVariants.{Constant};
+ghost use Rattle.pj_shape.specs.Joining.{has_column};
+ghost use Rattle.pj_cover.specs.Asking.{entries, first_class, marks_of};
+ghost use Rattle.pj_join.specs.Joins.{join_data};
+ghost use Rattle.pj_join.specs.Sides.{IsWide, AreWide, state_at};
+ghost use Rattle.pj_join.specs.Watching.{AreFewer, AreLeft, AreLeftAt, AreLeftOpen, AreUncovered, IsFewer, IsKey, first_column, no_watches, watches_at};
+
+use crate::lookups::Lookup;
+use crate::marks::Watches;
+use crate::widening::constant_of;
+use pj_pattern::Punct;
+use pj_shape::{Cert, CertStep, ClassCol, JoinSpec, Scheme, Schemes};
+use pj_state::State;
+use pj_value::{List, NoMemory};
+use std::alloc::Global;
+
+impl Watches {
+    /// All rows are judged.
+    pub fn new(alloc: Global) -> Watches
+        ensures { result ≡ no_watches }
+    {
+        Watches {
+            from: 0,
+            marked: List::new(alloc),
+        }
+    }
+
+    // All rows are judged.
+    fn mark_all(&mut self)
+        ensures { self.new.from ≡ 0 }
+    {
+        self.from = 0;
+        self.marked.truncate(0);
+    }
+
+    // The rows with these tickets are judged.
+    fn mark(&mut self, tickets: &[u64]) -> Result<(), NoMemory>
+        ensures from { self.new.from ≡ self.old.from }
+        ensures ok { OnOk result (self.new.marked ≡ self.old.marked ++ tickets.now) }
+        ensures err { OnErr result (self.new.marked ≡ self.old.marked) }
+    {
+        self.marked.append(tickets)
+    }
+}
+
+// The first column of an input in a class.
+fn first_column(class: &[ClassCol], input: u32) -> Option<u32>
+    ensures { result ≡ first_column class.now input }
+{
+    for at in class {
+        if at.input == input {
+            return Some(at.column);
+        }
+    }
+    None
+}
+
+fn has_column(class: &[ClassCol], at: ClassCol) -> bool
+    ensures { result ≡ has_column class.now at }
+{
+    class
+        .iter()
+        .any(|c| c.input == at.input && c.column == at.column)
+}
+
+// The columns of the first class that has this one; none where no class has it.
+fn class_with<'a>(classes: &'a [List<ClassCol>], at: ClassCol) -> &'a [ClassCol]
+    ensures { result.now ≡ first_class classes.now at }
+{
+    for class in classes {
+        if has_column(class.as_slice(), at) {
+            return class.as_slice();
+        }
+    }
+    &[]
+}
+
+// A column of the rows of an input, and the value in it of those that ask for the constant of the punctuation in this column.
+fn key_in<'a>(
+    classes: &[List<ClassCol>],
+    input: u32,
+    state: &State,
+    at: ClassCol,
+    punct: &'a Punct,
+) -> Option<Lookup<'a>>
+    requires { at.column < length punct.now }
+    ensures own { IfSome result (λ key. first_column (first_class classes.now at) input ≡ Some key.column) }
+    ensures indexed { IfSome result (λ key. list_any (λ own. key.column == own) state.now.columns ≡ true) }
+    ensures value { IfSome result (λ key. slice_get punct.now at.column ≡ Some (Constant key.value.now)) }
+{
+    match constant_of(punct.at(at.column as usize)) {
+        None => None,
+        Some(value) => match first_column(class_with(classes, at), input) {
+            None => None,
+            Some(column) => {
+                if state.is_indexed(column) {
+                    return Some(Lookup { column, value });
+                }
+                None
+            }
+        },
+    }
+}
+
+// The same where the scheme marks the column.
+#[tactic(auto, using(crate::proofs::Woken::key_is))]
+fn key_at<'a>(
+    classes: &[List<ClassCol>],
+    input: u32,
+    state: &State,
+    other: u32,
+    scheme: &Scheme,
+    column: usize,
+    punct: &'a Punct,
+) -> Option<Lookup<'a>>
+    requires { column < length scheme.now }
+    ensures { IfSome result (λ key. IsKey classes.now input state.now.columns other scheme.now punct.now key.column key.value.now) }
+{
+    if !*scheme.at(column) || column >= punct.len() || column > u32::MAX as usize {
+        return None;
+    }
+    let at = ClassCol {
+        input: other,
+        column: column as u32,
+    };
+    key_in(classes, input, state, at, punct)
+}
+
+// A column of the rows of an input, and the value in it of those that ask for what the punctuation covers.
+fn key<'a>(
+    classes: &[List<ClassCol>],
+    input: u32,
+    state: &State,
+    other: u32,
+    scheme: &Scheme,
+    punct: &'a Punct,
+) -> Option<Lookup<'a>>
+    ensures { IfSome result (λ key. IsKey classes.now input state.now.columns other scheme.now punct.now key.column key.value.now) }
+{
+    for column in 0..scheme.len() {
+        match key_at(classes, input, state, other, scheme, column, punct) {
+            Some(key) => return Some(key),
+            None => {}
+        }
+    }
+    None
+}
+
+// The scheme of a certificate's step, where there is one.
+fn scheme_of(schemes: &Schemes, step: CertStep) -> Option<&Scheme>
+    ensures { IfSome result (λ scheme. scheme.now ≡ marks_of schemes.now step) }
+{
+    if step.input as usize >= schemes.len() {
+        return None;
+    }
+    schemes.at(step.input as usize).get(step.scheme as usize)
+}
+
+// Marks the rows of an input that ask for what the punctuation covers by this step; or all.
+fn wake_by(
+    watches: &mut Watches,
+    classes: &[List<ClassCol>],
+    input: u32,
+    state: &State,
+    scheme: &Scheme,
+    other: u32,
+    punct: &Punct,
+) -> Result<(), NoMemory>
+    requires { IsWide state.now }
+    ensures fewer { IsFewer watches.old watches.new }
+    ensures left { OnOk result (AreUncovered classes.now input state.now.rows other scheme.now punct.now watches.new) }
+{
+    match key(classes, input, state, other, scheme, punct) {
+        None => {
+            watches.mark_all();
+            Ok(())
+        }
+        Some(key) => watches.mark(state.tickets(key.column, key.value)),
+    }
+}
+
+// Marks the rows of an input that ask first for what the punctuation of another one covers; or all.
+fn wake_one(
+    watches: &mut Watches,
+    classes: &[List<ClassCol>],
+    schemes: &Schemes,
+    cert: &Cert,
+    input: u32,
+    state: &State,
+    other: u32,
+    punct: &Punct,
+) -> Result<(), NoMemory>
+    requires { IsWide state.now }
+    ensures fewer { IsFewer watches.old watches.new }
+    ensures left { OnOk result ((ticket : ℕ) → AreLeftOpen classes.now (entries schemes.now cert.now) input state.now.rows (record { ticket = ticket; input = other; patterns = punct.now }) watches.new) }
+{
+    if cert.len() == 0 {
+        watches.mark_all();
+        return Ok(());
+    }
+    let step = *cert.at(0);
+    if step.input != other {
+        return Ok(());
+    }
+    match scheme_of(schemes, step) {
+        None => {
+            watches.mark_all();
+            Ok(())
+        }
+        Some(scheme) => wake_by(watches, classes, input, state, scheme, other, punct),
+    }
+}
+
+// The same for the input with this number.
+fn wake_at(
+    watches: &mut Watches,
+    spec: &JoinSpec,
+    schemes: &Schemes,
+    certs: &[Cert],
+    states: &[State],
+    at: usize,
+    other: u32,
+    punct: &Punct,
+) -> Result<(), NoMemory>
+    requires few { at < 2 ^ 32 }
+    requires wide { AreWide states.now }
+    ensures fewer { IsFewer watches.old watches.new }
+    ensures left { OnOk result ((ticket : ℕ) → AreLeftAt (join_data spec.now schemes.now certs.now) states.now (record { ticket = ticket; input = other; patterns = punct.now }) watches.new at) }
+{
+    match certs.get(at) {
+        None => {
+            watches.mark_all();
+            Ok(())
+        }
+        Some(cert) => match states.get(at) {
+            None => {
+                watches.mark_all();
+                Ok(())
+            }
+            Some(state) => wake_one(
+                watches,
+                spec.classes.as_slice(),
+                schemes,
+                cert,
+                at as u32,
+                state,
+                other,
+                punct,
+            ),
+        },
+    }
+}
+
+/// Marks the rows of each input that ask first for what the punctuation of another one covers. On a refusal some may be
+/// marked.
+pub fn wake(
+    watches: &mut Vec<Watches>,
+    spec: &JoinSpec,
+    schemes: &Schemes,
+    certs: &[Cert],
+    states: &[State],
+    other: u32,
+    punct: &Punct,
+) -> Result<(), NoMemory>
+    requires few { length watches.old.items < 2 ^ 32 }
+    requires wide { AreWide states.now }
+    ensures fewer { AreFewer watches.old.items watches.new.items }
+    ensures left { OnOk result ((ticket : ℕ) → AreLeft (join_data spec.now schemes.now certs.now) states.now (record { ticket = ticket; input = other; patterns = punct.now }) watches.new.items (length watches.old.items)) }
+{
+    for at in 0..watches.len() {
+        wake_at(
+            &mut watches[at],
+            spec,
+            schemes,
+            certs,
+            states,
+            at,
+            other,
+            punct,
+        )?;
+    }
+    Ok(())
+}
