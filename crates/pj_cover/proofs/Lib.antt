@@ -7,6 +7,7 @@ pub mod Classes
 pub mod Constants
 pub mod Covering
 pub mod Firsts
+pub mod Numbered
 pub mod Agreeing
 pub mod Judged
 pub mod Searching

@@ -6,3 +6,5 @@ pub mod Rising
 pub mod Suits
 pub mod Asking
 pub mod Chain
+pub mod Numbers
+pub mod Alike

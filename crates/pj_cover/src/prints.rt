@@ -19,7 +19,8 @@ pub fn with_cell(print: u64, is_marked: bool, cell: Option<&Value>) -> u64
     }
 }
 
-fn with_value(print: u64, value: &Value) -> u64
+/// The print with that of a value more.
+pub fn with_value(print: u64, value: &Value) -> u64
     ensures { result ≡ with_value print value.now }
 {
     match value {

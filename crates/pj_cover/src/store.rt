@@ -1,15 +1,17 @@
 // A store of punctuations with numbers.
-ghost use Rattle.std.specs.Prelude.{◌≡◌, [], ◌∷◌, ◌++◌, length, IfOk, OnOk, OnErr};
+ghost use Rattle.std.specs.Prelude.{◌≡◌, ◌<◌, ◌+◌, [], ◌∷◌, ◌++◌, length, IfOk, OnOk, OnErr};
 ghost use Rattle.pj_cover.specs.Givens.{instance_of, marked};
-ghost use Rattle.pj_cover.specs.Indexed.{is_below};
+ghost use Rattle.pj_cover.specs.Indexed.{IsFiled, IsUnfiled, is_below};
+ghost use Rattle.pj_cover.specs.Numbers.{AreToldMore, AreToldSame, numbers_with};
 ghost use Rattle.pj_cover.specs.Stores.{covered_below, first_match_of, IsAbove, IsLeastMatch};
 
 use crate::Given;
 use crate::cells::Instance;
 use crate::index::Index;
+use crate::numbers::NumberLists;
 use pj_pattern::Punct;
 use pj_shape::Scheme;
-use pj_value::{List, NoMemory, Row};
+use pj_value::{List, NoMemory, Row, Value};
 use std::alloc::Global;
 use std::marker::Model;
 
@@ -28,17 +30,18 @@ pub struct PunctStore {
     arity: u32,
     kept: List<NumberedPunct>,
     index: Index,
+    numbers: NumberLists,
 }
 
 impl Model for PunctStore {
     ghost use Rattle.pj_cover.specs.Stores.{Store};
-    ghost use Rattle.pj_cover.specs.Indexed.{IsIndexed};
+    ghost use Rattle.pj_cover.specs.Numbers.{IsStored};
 
     ghost Value = { Store };
 
     ghost view = { λ s. record { arity = s.arity; kept = s.kept } };
 
-    ghost invariant = { λ s. IsIndexed s.kept s.index };
+    ghost invariant = { λ s. IsStored s.kept s.index s.numbers };
 }
 
 impl PunctStore {
@@ -51,6 +54,7 @@ impl PunctStore {
             arity,
             kept: List::new(alloc),
             index: Index::new(alloc),
+            numbers: NumberLists::new(alloc),
         })
     }
 
@@ -65,7 +69,8 @@ impl PunctStore {
     {
         let at = self.kept.len();
         self.kept.push(NumberedPunct { punct, number })?;
-        match self.index.file(self.alloc, self.kept.as_slice(), at) {
+        let kept = self.kept.as_slice();
+        match file_last(self.alloc, kept, at, &mut self.index, &mut self.numbers) {
             Ok(()) => Ok(()),
             Err(stop) => {
                 self.kept.truncate(at);
@@ -83,6 +88,15 @@ impl PunctStore {
         self.index.first(self.kept.as_slice(), row)
     }
 
+    /// The numbers, rising, of the punctuations that have this constant in the column, counted from 0, and wildcards in all
+    /// others.
+    pub fn constants(&self, column: u32, value: &Value) -> &[u64]
+        requires { column < self.now.arity }
+        ensures { result.now ≡ numbers_with column value.now self.now.kept }
+    {
+        self.numbers.numbers(column as usize, value)
+    }
+
     /// Whether a punctuation with a number below this one covers the instance of the scheme with these constants: it has a
     /// wildcard in each column that is not marked, and matches the constant in each marked one. There are as many constants
     /// as marks, and the scheme is as long as the arity.
@@ -97,6 +111,31 @@ impl PunctStore {
             return true;
         }
         is_below(self.index.first(kept, &instance), below)
+    }
+}
+
+// Takes in the punctuation at the last place. On a refusal all is found as before.
+fn file_last(
+    alloc: Global,
+    kept: &[NumberedPunct],
+    at: usize,
+    index: &mut Index,
+    numbers: &mut NumberLists,
+) -> Result<(), NoMemory>
+    requires { at + 1 ≡ length kept.now }
+    ensures filed { OnOk result (IsFiled kept.now index.old index.new) }
+    ensures told { OnOk result (AreToldMore kept.now numbers.old numbers.new) }
+    ensures unfiled { OnErr result (IsUnfiled index.old index.new) }
+    ensures same { OnErr result (AreToldSame numbers.old numbers.new) }
+{
+    let last = &kept[at];
+    numbers.file(alloc, last.punct.as_slice(), last.number)?;
+    match index.file(alloc, kept, at) {
+        Ok(()) => Ok(()),
+        Err(stop) => {
+            numbers.unfile(last.punct.as_slice());
+            Err(stop)
+        }
     }
 }
 

@@ -65,7 +65,8 @@ fn beside_wild(alloc: Global, pattern: Pattern, is_first: bool) -> Result<Punct,
 // A store with this punctuation alone.
 fn store_of(alloc: Global, punct: Punct, number: u64) -> Result<PunctStore, NoMemory>
     requires { length punct ≡ 2 }
-    ensures { IfOk result (λ store. store.arity ≡ 2) }
+    ensures arity { IfOk result (λ store. store.arity ≡ 2) }
+    ensures above { IfOk result (λ store. IsAbove (number + 1) store.kept) }
 {
     let mut store = PunctStore::new(alloc, 2)?;
     store.push(punct, number)?;
@@ -127,6 +128,50 @@ fn lists_cover_their_members(rt: HostRuntime) {
         Err(_) => assert!(rt; false),
         Ok(pattern) => assert!(rt; covers_five(alloc, pattern, true, 4) == Ok(true)),
     }
+}
+
+// One punctuation more of two columns, with 5 in the first or the second one.
+fn add_five(
+    alloc: Global,
+    store: &mut PunctStore,
+    is_first: bool,
+    number: u64,
+) -> Result<(), NoMemory>
+    requires above { IsAbove number store.old.kept }
+    requires arity { store.old.arity ≡ 2 }
+    ensures above { OnOk result (IsAbove (number + 1) store.new.kept) }
+    ensures arity { store.new.arity ≡ 2 }
+{
+    let five = Pattern::constant(Value::Int(5));
+    store.push(beside_wild(alloc, five, is_first)?, number)?;
+    Ok(())
+}
+
+// A store with 5 in the first column twice, in the second one once, and a range in the first one.
+fn fives(alloc: Global) -> Result<PunctStore, NoMemory>
+    ensures { IfOk result (λ store. store.arity ≡ 2) }
+{
+    let mut store = store_of(alloc, beside_wild(alloc, upto_nine(), true)?, 2)?;
+    add_five(alloc, &mut store, true, 3)?;
+    add_five(alloc, &mut store, false, 4)?;
+    add_five(alloc, &mut store, true, 5)?;
+    Ok(store)
+}
+
+// Whether the numbers of a constant are these.
+fn has_numbers(alloc: Global, column: u32, number: i64, numbers: &[u64]) -> Result<bool, NoMemory>
+    requires { column < 2 }
+{
+    let store = fives(alloc)?;
+    Ok(store.constants(column, &Value::Int(number)) == numbers)
+}
+
+#[test]
+fn the_numbers_of_a_constant_are_lent(rt: HostRuntime) {
+    let alloc = rt.alloc();
+    assert!(rt; has_numbers(alloc, 0, 5, &[3, 5]) == Ok(true));
+    assert!(rt; has_numbers(alloc, 1, 5, &[4]) == Ok(true));
+    assert!(rt; has_numbers(alloc, 0, 9, &[]) == Ok(true));
 }
 
 // A store of two columns, and its punctuations once more in a plain list.

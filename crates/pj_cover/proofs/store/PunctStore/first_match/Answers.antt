@@ -17,5 +17,5 @@ returns-clause-least c =
     let same : c.as_slice.result.now ≡ c.args.self.now.kept = c.as_slice.ensures ∙ ap (λ (s : Store). s.kept) c.self.view_is in
     let first : c.first.result ≡ first_match_of c.args.self.now.kept c.args.row.now =
     c.first.ensures ∙ (ap (λ (ks : List NumberedPunct). first_covering ks (row_cells c.args.row.now)) same ∙ first_for_row c.args.self.now.kept c.args.row.now) in
-    let rising : AreRising c.args.self.now.kept = subst AreRising (ap (λ (s : Store). s.kept) c.self.view_is) c.self.invariant.rising in
+    let rising : AreRising c.args.self.now.kept = subst AreRising (ap (λ (s : Store). s.kept) c.self.view_is) c.self.invariant.indexed.rising in
     subst (IsLeastMatch c.args.self.now.kept c.args.row.now) (sym first) (first_least c.args.self.now.kept c.args.row.now rising)

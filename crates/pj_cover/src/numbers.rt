@@ -1,0 +1,215 @@
+// The numbers of the punctuations with one constant.
+ghost use Rattle.std.specs.Prelude.{◌≡◌, ◌<◌, ◌+◌, [], length, drop, IfSome, IfNone, OnOk, OnErr};
+ghost use Rattle.std.specs.Cmp.{on_equiv, partial_equiv_from_equiv};
+ghost use Rattle.std.specs.Hash as fed;
+ghost use Rattle.pj_cover.specs.Numbers.{AreTold, Changes, HasNone, IsOnly, TellSame, TellsLess, TellsMore, are_wild, constant, constant_print, first_filled, less_last, same_constant, told, with_last};
+ghost use Rattle.pj_cover.specs.Alike.{constant_prints_agree, constants_equal};
+
+use crate::cells::{constant_in, is_wild};
+use crate::prints::with_value;
+use indexmap::{Equivalent, IndexMap};
+use pj_pattern::Pattern;
+use pj_value::{List, NoMemory, Value};
+use std::alloc::Global;
+use std::hash::{Hash, Hasher};
+
+/// A column with its only constant.
+#[derive(Drop)]
+pub struct Constant {
+    column: usize,
+    value: Value,
+}
+
+/// The same, lent.
+#[derive(Clone, Copy)]
+pub struct LentConstant<'a> {
+    column: usize,
+    value: &'a Value,
+}
+
+impl PartialEq for Constant {
+    ghost eq = { same_constant };
+
+    ghost laws = { partial_equiv_from_equiv constants_equal };
+
+    fn eq(&self, other: &Constant) -> bool {
+        self.column == other.column && self.value.same(&other.value)
+    }
+}
+
+impl Eq for Constant {
+    ghost laws = { constants_equal };
+}
+
+impl Hash for Constant {
+    ghost hash_input = { λ key. fed.u64 (constant_print key) };
+
+    ghost respects_eq = { λ x y t. constant_prints_agree x y t };
+
+    fn hash<H: Hasher>(&self, state: &mut H) {
+        state.write_u64(with_value(self.column as u64, &self.value));
+    }
+}
+
+impl<'a> PartialEq for LentConstant<'a> {
+    ghost eq = { λ x y. same_constant (constant x.column x.value.now) (constant y.column y.value.now) };
+
+    ghost laws = { partial_equiv_from_equiv (on_equiv (λ x. constant x.column x.value.now) constants_equal) };
+
+    fn eq(&self, other: &LentConstant<'a>) -> bool {
+        self.column == other.column && self.value.same(other.value)
+    }
+}
+
+impl<'a> Eq for LentConstant<'a> {
+    ghost laws = { on_equiv (λ x. constant x.column x.value.now) constants_equal };
+}
+
+impl<'a> Hash for LentConstant<'a> {
+    ghost hash_input = { λ key. fed.u64 (constant_print (constant key.column key.value.now)) };
+
+    ghost respects_eq = { λ x y t. constant_prints_agree (constant x.column x.value.now) (constant y.column y.value.now) t };
+
+    fn hash<H: Hasher>(&self, state: &mut H) {
+        state.write_u64(with_value(self.column as u64, self.value));
+    }
+}
+
+impl<'a> Equivalent<Constant> for LentConstant<'a> {
+    ghost equivalent = { λ q. same_constant (constant q.column q.value.now) };
+
+    ghost respects_hash = { λ q k t. constant_prints_agree (constant q.column q.value.now) k t };
+
+    ghost respects_eq = { λ q x y t. constants_equal.congr (constant q.column q.value.now) x y t };
+
+    fn equivalent(&self, key: &Constant) -> bool {
+        self.column == key.column && self.value.same(&key.value)
+    }
+}
+
+/// The numbers of the punctuations of each constant in each column, in order.
+#[derive(Drop)]
+pub struct NumberLists {
+    lists: IndexMap<Constant, List<u64>>,
+}
+
+impl NumberLists {
+    /// The lists of no punctuations.
+    pub fn new(alloc: Global) -> NumberLists
+        ensures { AreTold [] result }
+    {
+        NumberLists {
+            lists: IndexMap::new(alloc),
+        }
+    }
+
+    /// The numbers of a constant in a column.
+    pub fn numbers(&self, column: usize, value: &Value) -> &[u64]
+        ensures { result.now ≡ told self.now column value.now }
+    {
+        match self.lists.get(LentConstant { column, value }) {
+            None => &[],
+            Some(numbers) => numbers.as_slice(),
+        }
+    }
+
+    /// Takes in the number of a punctuation with these patterns. On a refusal the lists tell the same.
+    pub fn file(&mut self, alloc: Global, patterns: &[Pattern], number: u64) -> Result<(), NoMemory>
+        ensures ok { OnOk result (TellsMore patterns.now number (told self.old) (told self.new)) }
+        ensures err { OnErr result (TellSame (told self.old) (told self.new)) }
+    {
+        match only_constant(patterns) {
+            None => Ok(()),
+            Some(key) => self.add(alloc, key, number),
+        }
+    }
+
+    /// Takes out the last number that was taken in for these patterns.
+    pub fn unfile(&mut self, patterns: &[Pattern])
+        ensures { TellsLess patterns.now (told self.old) (told self.new) }
+    {
+        match only_constant(patterns) {
+            None => {}
+            Some(key) => self.take_last(key),
+        }
+    }
+
+    fn add(&mut self, alloc: Global, key: LentConstant<'_>, number: u64) -> Result<(), NoMemory>
+        ensures ok { OnOk result (Changes (with_last number) (told self.old) (told self.new) (constant key.entry.column key.entry.value.now)) }
+        ensures err { OnErr result (TellSame (told self.old) (told self.new)) }
+    {
+        match self.lists.get_mut(key) {
+            Some(numbers) => {
+                numbers.push(number)?;
+                Ok(())
+            }
+            None => {
+                let value = key.value.copy(alloc)?;
+                let mut numbers = List::new(alloc);
+                numbers.push(number)?;
+                let column = key.column;
+                self.lists.insert(Constant { column, value }, numbers)?;
+                Ok(())
+            }
+        }
+    }
+
+    fn take_last(&mut self, key: LentConstant<'_>)
+        ensures { Changes less_last (told self.old) (told self.new) (constant key.entry.column key.entry.value.now) }
+    {
+        match self.lists.get_mut(key) {
+            None => {}
+            Some(numbers) => drop_last(numbers),
+        }
+    }
+}
+
+fn drop_last(numbers: &mut List<u64>)
+    ensures { numbers.new ≡ less_last numbers.old }
+{
+    let count = numbers.len().saturating_sub(1);
+    numbers.truncate(count);
+}
+
+// The only constant of the patterns, where they have wildcards elsewhere.
+fn only_constant(patterns: &[Pattern]) -> Option<LentConstant<'_>>
+    ensures some { IfSome result (λ key. IsOnly patterns.now (constant key.column key.value.now)) }
+    ensures none { IfNone result (HasNone patterns.now) }
+{
+    let column = first_filled(patterns);
+    if column >= patterns.len() {
+        return None;
+    }
+    if !are_wild_from(patterns, column + 1) {
+        return None;
+    }
+    match constant_in(&patterns[column]) {
+        None => None,
+        Some(value) => Some(LentConstant { column, value }),
+    }
+}
+
+// The first column without a wildcard, or the number of columns.
+fn first_filled(patterns: &[Pattern]) -> usize
+    ensures { result ≡ first_filled patterns.now }
+{
+    for column in 0..patterns.len() {
+        if !is_wild(&patterns[column]) {
+            return column;
+        }
+    }
+    patterns.len()
+}
+
+// Whether all patterns from a column on are wildcards.
+fn are_wild_from(patterns: &[Pattern], from: usize) -> bool
+    requires { from < length patterns.now + 1 }
+    ensures { result ≡ are_wild (drop from patterns.now) }
+{
+    for column in from..patterns.len() {
+        if !is_wild(&patterns[column]) {
+            return false;
+        }
+    }
+    true
+}
