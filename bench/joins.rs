@@ -1,5 +1,6 @@
-// What the program does on a plan of streams and one join of them, in plain Rust: the measure of its speed. Files have
-// canonical lines, and punctuations of constants and wildcards alone. Words: the plan, and the file of each stream.
+// What the program does on a plan of streams, joins, projects, selects of a range from below and groups with sums, in plain
+// Rust: the measure of its speed. Files have canonical lines, and punctuations of constants and wildcards alone. Each scheme
+// stands before the nodes above its stream. Words: the plan, and the file of each stream.
 
 use std::collections::{BTreeMap, BTreeSet};
 use std::fs::File;
@@ -117,67 +118,127 @@ impl Store {
     }
 }
 
-struct Stream {
-    name: String,
-    arity: usize,
-    schemes: Vec<Vec<usize>>,
-}
-
 struct Plan {
-    streams: Vec<Stream>,
-    join: String,
-    inputs: Vec<usize>,
+    arities: Vec<usize>,
     // For each class the column of each input that it has.
     classes: Vec<BTreeMap<usize, usize>>,
     // For each input the others in an order in which the marked columns of a scheme of each are bound.
     certs: Vec<Vec<(usize, Vec<usize>)>>,
 }
 
-fn read_plan(text: &str) -> Plan {
-    let (mut streams, mut columns) = (Vec::<Stream>::new(), Vec::<Vec<String>>::new());
-    let (mut join, mut inputs, mut classes) = (String::new(), Vec::new(), Vec::new());
+enum Operator {
+    Stream,
+    Select { column: usize, low: i64 },
+    Project(Vec<usize>),
+    Join(Plan, Join),
+    Group { by: Vec<usize>, sums: Vec<usize>, groups: Groups },
+}
+
+struct Node {
+    name: String,
+    columns: Vec<String>,
+    schemes: Vec<Vec<usize>>,
+    parent: Option<(usize, usize)>,
+    operator: Operator,
+}
+
+fn place(columns: &[String], name: &str) -> usize {
+    columns.iter().position(|other| other == name).unwrap()
+}
+
+fn join_of(nodes: &[Node], inputs: &[usize], words: &[&str]) -> Operator {
+    let mut classes = Vec::new();
+    for class in words {
+        let mut places = BTreeMap::new();
+        for name in class.split('=') {
+            for (input, node) in inputs.iter().enumerate() {
+                if let Some(column) = nodes[*node].columns.iter().position(|other| other == name) {
+                    places.insert(input, column);
+                }
+            }
+        }
+        classes.push(places);
+    }
+    let schemes: Vec<&[Vec<usize>]> = inputs.iter().map(|node| &nodes[*node].schemes[..]).collect();
+    let certs = (0..inputs.len()).map(|input| certificate(&schemes, &classes, input)).collect();
+    let plan = Plan { arities: inputs.iter().map(|node| nodes[*node].columns.len()).collect(), classes, certs };
+    let join = Join::new(&plan);
+    Operator::Join(plan, join)
+}
+
+// The schemes of a result whose columns are these ones of the input, as far as their marks are kept.
+fn kept_schemes(schemes: &[Vec<usize>], columns: &[usize]) -> Vec<Vec<usize>> {
+    let moved = |scheme: &Vec<usize>| scheme.iter().map(|mark| columns.iter().position(|column| column == mark)).collect();
+    schemes.iter().filter_map(moved).collect()
+}
+
+fn read_plan(text: &str) -> Vec<Node> {
+    let mut nodes = Vec::<Node>::new();
     for line in text.lines() {
         let words: Vec<&str> = line.split(' ').collect();
-        let number = |name: &str, streams: &[Stream]| streams.iter().position(|stream| stream.name == name).unwrap();
-        match words[0] {
+        let number = |name: &str| nodes.iter().position(|node| node.name == name).unwrap();
+        let after = |word: &str| words.iter().position(|other| *other == word).unwrap() + 1;
+        let (inputs, columns, schemes, operator) = match words[0] {
             "stream" => {
-                columns.push(words[2..].iter().map(|word| word.split(':').next().unwrap().to_owned()).collect());
-                streams.push(Stream { name: words[1].to_owned(), arity: words.len() - 2, schemes: Vec::new() });
+                let columns = words[2..].iter().map(|word| word.split(':').next().unwrap().to_owned()).collect();
+                (Vec::new(), columns, Vec::new(), Operator::Stream)
             }
             "scheme" => {
                 let marked = (2..words.len()).filter(|at| words[*at] == "+").map(|at| at - 2).collect();
-                let stream = number(words[1], &streams);
-                streams[stream].schemes.push(marked);
+                let stream = number(words[1]);
+                nodes[stream].schemes.push(marked);
+                continue;
+            }
+            "select" => {
+                let input = &nodes[number(words[2])];
+                let low = words[5].trim_start_matches('[').trim_end_matches("..]").parse().unwrap();
+                let operator = Operator::Select { column: place(&input.columns, words[4]), low };
+                (vec![number(words[2])], input.columns.clone(), input.schemes.clone(), operator)
+            }
+            "project" => {
+                let input = &nodes[number(words[2])];
+                let columns: Vec<usize> = words[3..].iter().map(|word| place(&input.columns, word)).collect();
+                let names = words[3..].iter().map(|word| word.to_string()).collect();
+                (vec![number(words[2])], names, kept_schemes(&input.schemes, &columns), Operator::Project(columns))
             }
             "join" => {
-                let on = words.iter().position(|word| *word == "on").unwrap();
-                join = words[1].to_owned();
-                inputs = words[2..on].iter().map(|name| number(name, &streams)).collect::<Vec<usize>>();
-                for class in &words[on + 1..] {
-                    let mut places = BTreeMap::new();
-                    for name in class.split('=') {
-                        for (input, stream) in inputs.iter().enumerate() {
-                            if let Some(column) = columns[*stream].iter().position(|other| other == name) {
-                                places.insert(input, column);
-                            }
-                        }
-                    }
-                    classes.push(places);
+                let inputs: Vec<usize> = words[2..after("on") - 1].iter().map(|name| number(name)).collect();
+                let (mut columns, mut schemes) = (Vec::new(), Vec::new());
+                for input in &inputs {
+                    let before = columns.len();
+                    schemes.extend(nodes[*input].schemes.iter().map(|scheme| scheme.iter().map(|mark| mark + before).collect()));
+                    columns.extend(nodes[*input].columns.iter().cloned());
                 }
+                let operator = join_of(&nodes, &inputs, &words[after("on")..]);
+                (inputs, columns, schemes, operator)
             }
-            _ => {}
+            "group" => {
+                let input = &nodes[number(words[2])];
+                let named = &words[after("by")..after("of") - 1];
+                let by: Vec<usize> = named.iter().map(|word| place(&input.columns, word)).collect();
+                let made = || words[after("of")..].iter().map(|word| word.split_once("=sum:").unwrap());
+                let sums = made().map(|(_, of)| place(&input.columns, of)).collect();
+                let names = named.iter().copied().chain(made().map(|(new, _)| new)).map(str::to_owned).collect();
+                let schemes = kept_schemes(&input.schemes, &by);
+                (vec![number(words[2])], names, schemes, Operator::Group { by, sums, groups: Groups::default() })
+            }
+            _ => continue,
+        };
+        let node = nodes.len();
+        for (input, child) in inputs.iter().enumerate() {
+            nodes[*child].parent = Some((node, input));
         }
+        nodes.push(Node { name: words[1].to_owned(), columns, schemes, parent: None, operator });
     }
-    let certs = (0..inputs.len()).map(|input| certificate(&streams, &inputs, &classes, input)).collect();
-    Plan { streams, join, inputs, classes, certs }
+    nodes
 }
 
-fn certificate(streams: &[Stream], inputs: &[usize], classes: &[BTreeMap<usize, usize>], input: usize) -> Vec<(usize, Vec<usize>)> {
+fn certificate(schemes: &[&[Vec<usize>]], classes: &[BTreeMap<usize, usize>], input: usize) -> Vec<(usize, Vec<usize>)> {
     let (mut known, mut steps) = (BTreeSet::from([input]), Vec::new());
     'add: loop {
-        for (other, stream) in inputs.iter().enumerate().filter(|(other, _)| !known.contains(other)) {
+        for (other, own) in schemes.iter().enumerate().filter(|(other, _)| !known.contains(other)) {
             let bound = |column: &usize| classes.iter().any(|class| class.get(&other) == Some(column) && class.keys().any(|k| known.contains(k)));
-            if let Some(scheme) = streams[*stream].schemes.iter().find(|scheme| scheme.iter().all(bound)) {
+            if let Some(scheme) = own.iter().find(|scheme| scheme.iter().all(bound)) {
                 steps.push((other, scheme.clone()));
                 known.insert(other);
                 continue 'add;
@@ -224,7 +285,7 @@ struct Join {
 
 impl Join {
     fn new(plan: &Plan) -> Join {
-        let arities: Vec<usize> = plan.inputs.iter().map(|stream| plan.streams[*stream].arity).collect();
+        let arities = &plan.arities;
         let before = (0..arities.len()).map(|input| arities[..input].iter().sum()).collect();
         let mut sides: Vec<Side> = (0..arities.len()).map(|_| Side::default()).collect();
         for (input, column) in plan.classes.iter().flatten() {
@@ -316,7 +377,7 @@ impl Join {
         self.sides[input].waiting.insert(number, Waiting { punct, witness });
     }
 
-    fn punct(&mut self, plan: &Plan, input: usize, punct: Row, out: &mut impl Write) -> io::Result<()> {
+    fn punct(&mut self, input: usize, punct: Row, out: &mut impl Write) -> io::Result<()> {
         let (number, punct) = (self.next, Rc::new(punct));
         self.next += 1;
         self.sides[input].store.push(&punct, number);
@@ -335,9 +396,6 @@ impl Join {
         }
         for (other, ticket) in woken {
             self.mark(other, ticket);
-        }
-        for other in 0..plan.inputs.len() {
-            self.sweep(plan, other, out)?;
         }
         Ok(())
     }
@@ -463,36 +521,189 @@ impl Feed {
     }
 }
 
+// The sums of each open group, in the order of the groups' first rows, and the groups with each value of a column.
+#[derive(Default)]
+struct Groups {
+    open: BTreeMap<u64, (Row, Vec<i64>)>,
+    numbers: HashMap<Key, u64>,
+    index: Vec<HashMap<Key, BTreeSet<u64>>>,
+    next: u64,
+}
+
+impl Groups {
+    fn tuple(&mut self, row: &Row, by: &[usize], sums: &[usize]) {
+        let values = sums.iter().map(|column| number_in(row.cell(*column)));
+        let key = key_of(row, by);
+        if let Some(number) = self.numbers.get(&key) {
+            let group = self.open.get_mut(number).unwrap();
+            group.1.iter_mut().zip(values).for_each(|(sum, value)| *sum += value);
+            return;
+        }
+        let values = values.collect();
+        let group = projected(row, by);
+        self.index.resize_with(by.len(), HashMap::default);
+        for (column, numbers) in self.index.iter_mut().enumerate() {
+            numbers.entry(group.cell(column).into()).or_default().insert(self.next);
+        }
+        self.numbers.insert(key, self.next);
+        self.open.insert(self.next, (group, values));
+        self.next += 1;
+    }
+
+    // Closes the groups that the punctuation, which speaks of the groups' columns, matches.
+    fn close(&mut self, punct: &Row, out: &mut Vec<Row>) {
+        let columns = punct.constants();
+        let mut closed: Vec<u64> = match columns.first() {
+            Some(column) if !self.index.is_empty() => self.index[*column].get(punct.cell(*column)).map_or(Vec::new(), |set| set.iter().copied().collect()),
+            Some(_) => Vec::new(),
+            None => self.open.keys().copied().collect(),
+        };
+        closed.retain(|number| punct.matches(&self.open[number].0));
+        for number in closed {
+            let (group, sums) = self.open.remove(&number).unwrap();
+            let by: Vec<usize> = (0..group.ends.len()).collect();
+            self.numbers.remove(&key_of(&group, &by));
+            for (column, numbers) in self.index.iter_mut().enumerate() {
+                let set = numbers.get_mut(group.cell(column)).unwrap();
+                set.remove(&number);
+                if set.is_empty() {
+                    numbers.remove(group.cell(column));
+                }
+            }
+            let mut line = group.line.to_vec();
+            for sum in sums {
+                write!(line, " {sum}").unwrap();
+            }
+            out.push(Row::of(&line));
+        }
+    }
+}
+
+fn number_in(cell: &[u8]) -> i64 {
+    std::str::from_utf8(cell).unwrap().parse().unwrap()
+}
+
+fn projected(row: &Row, columns: &[usize]) -> Row {
+    let mut line = vec![row.line[0]];
+    for column in columns {
+        line.push(b' ');
+        line.extend_from_slice(row.cell(*column));
+    }
+    Row::of(&line)
+}
+
+fn is_wild_beside(punct: &Row, columns: &[usize]) -> bool {
+    punct.constants().iter().all(|column| columns.contains(column))
+}
+
+enum Call {
+    Feed(Row),
+    Sweep,
+}
+
+fn join_step(plan: &Plan, join: &mut Join, input: usize, call: Call, out: &mut impl Write) -> io::Result<()> {
+    match call {
+        Call::Feed(row) if row.line[0] == b't' => join.tuple(plan, input, row, out),
+        Call::Feed(punct) => join.punct(input, punct, out),
+        Call::Sweep => join.sweep(plan, input, out),
+    }
+}
+
+// What a node other than a join hands up for an element.
+fn step(operator: &mut Operator, row: Row, up: &mut Vec<Row>) {
+    let is_tuple = row.line[0] == b't';
+    match operator {
+        Operator::Stream | Operator::Join(..) => up.push(row),
+        Operator::Select { column, low } => {
+            if !is_tuple || number_in(row.cell(*column)) >= *low {
+                up.push(row);
+            }
+        }
+        Operator::Project(columns) => {
+            if is_tuple || is_wild_beside(&row, columns) {
+                up.push(projected(&row, columns));
+            }
+        }
+        Operator::Group { by, sums, groups } if is_tuple => groups.tuple(&row, by, sums),
+        Operator::Group { by, sums, groups } => {
+            if is_wild_beside(&row, by) {
+                let punct = projected(&row, by);
+                groups.close(&punct, up);
+                up.push(Row::of(&[&punct.line, " *".repeat(sums.len()).as_bytes()].concat()));
+            }
+        }
+    }
+}
+
+// Calls a node's input, and hands on what the node hands up.
+fn call(nodes: &mut [Node], node: usize, input: usize, wanted: Call, out: &mut (impl Write, u64, u64)) -> io::Result<()> {
+    let parent = nodes[node].parent;
+    let mut up = Vec::new();
+    match (&mut nodes[node].operator, wanted) {
+        (Operator::Join(plan, join), wanted) if parent.is_none() => {
+            join_step(plan, join, input, wanted, &mut out.0)?;
+            (out.1, out.2) = (join.rows, join.puncts);
+        }
+        (Operator::Join(plan, join), wanted) => {
+            let mut lines = Vec::new();
+            join_step(plan, join, input, wanted, &mut lines)?;
+            up.extend(lines.split(|byte| *byte == b'\n').filter(|line| !line.is_empty()).map(Row::of));
+        }
+        (operator, Call::Feed(row)) => step(operator, row, &mut up),
+        (_, Call::Sweep) => {}
+    }
+    for row in up {
+        match parent {
+            Some((above, at)) => call(nodes, above, at, Call::Feed(row), out)?,
+            None => {
+                if row.line[0] == b't' { out.1 += 1 } else { out.2 += 1 }
+                out.0.write_all(&row.line)?;
+                out.0.write_all(b"\n")?;
+            }
+        }
+    }
+    Ok(())
+}
+
 fn main() -> io::Result<()> {
     let words: Vec<String> = std::env::args().collect();
-    let plan = read_plan(&std::fs::read_to_string(&words[1])?);
-    let mut out = BufWriter::with_capacity(1 << 16, io::stdout().lock());
+    let mut nodes = read_plan(&std::fs::read_to_string(&words[1])?);
+    let mut out = (BufWriter::with_capacity(1 << 16, io::stdout().lock()), 0, 0);
     let mut feeds = Vec::new();
     for name in &words[2..] {
         let file = Some(BufReader::with_capacity(1 << 16, File::open(name)?));
         feeds.push(Feed { file, number: 0, store: Store::default(), tuples: 0, puncts: 0, rejects: Vec::new() });
     }
-    let (mut join, mut line) = (Join::new(&plan), Vec::new());
+    let streams: Vec<usize> = (0..nodes.len()).filter(|node| matches!(nodes[*node].operator, Operator::Stream)).collect();
+    let inputs_of = |node: usize| nodes.iter().filter(|child| child.parent.is_some_and(|parent| parent.0 == node)).count();
+    let joins = (0..nodes.len()).filter(|node| matches!(nodes[*node].operator, Operator::Join(..)));
+    let sweeps: Vec<(usize, usize)> = joins.flat_map(|join| (0..inputs_of(join)).map(move |input| (join, input))).collect();
+    let mut line = Vec::new();
     while feeds.iter().any(|feed| feed.file.is_some()) {
-        for (stream, feed) in feeds.iter_mut().enumerate().filter(|(_, feed)| feed.file.is_some()) {
-            let input = plan.inputs.iter().position(|other| *other == stream).unwrap();
-            match feed.next(&mut line)? {
-                Turn::Tuple(row) => join.tuple(&plan, input, row, &mut out)?,
-                Turn::Punct(punct) => join.punct(&plan, input, punct, &mut out)?,
-                Turn::End => {
-                    let closing = format!("p{}", " *".repeat(plan.streams[stream].arity));
-                    join.punct(&plan, input, Row::of(closing.as_bytes()), &mut out)?;
-                }
+        for (stream, feed) in streams.iter().zip(&mut feeds).filter(|(_, feed)| feed.file.is_some()) {
+            let row = match feed.next(&mut line)? {
+                Turn::Tuple(row) | Turn::Punct(row) => row,
+                Turn::End => Row::of(format!("p{}", " *".repeat(nodes[*stream].columns.len())).as_bytes()),
+            };
+            let sweeps: &[(usize, usize)] = if row.line[0] == b'p' { &sweeps } else { &[] };
+            call(&mut nodes, *stream, 0, Call::Feed(row), &mut out)?;
+            for (join, input) in sweeps {
+                call(&mut nodes, *join, *input, Call::Sweep, &mut out)?;
             }
         }
     }
-    for (stream, feed) in plan.streams.iter().zip(&feeds) {
-        writeln!(out, "# stream {} tuples {} punctuations {} rejected {}", stream.name, feed.tuples, feed.puncts, feed.rejects.len())?;
+    for (stream, feed) in streams.iter().zip(&feeds) {
+        let name = &nodes[*stream].name;
+        writeln!(out.0, "# stream {name} tuples {} punctuations {} rejected {}", feed.tuples, feed.puncts, feed.rejects.len())?;
         for (number, by) in feed.rejects.iter().take(1_000) {
-            writeln!(out, "# reject {} line {number} closed by line {by}", stream.name)?;
+            writeln!(out.0, "# reject {name} line {number} closed by line {by}")?;
         }
     }
-    writeln!(out, "# results {} punctuations {}", join.rows, join.puncts)?;
-    writeln!(out, "# peak {} {}", plan.join, join.peak)?;
-    out.flush()
+    writeln!(out.0, "# results {} punctuations {}", out.1, out.2)?;
+    for node in &nodes {
+        if let Operator::Join(_, join) = &node.operator {
+            writeln!(out.0, "# peak {} {}", node.name, join.peak)?;
+        }
+    }
+    out.0.flush()
 }

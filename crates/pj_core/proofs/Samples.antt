@@ -16,7 +16,7 @@ use Rattle.pj_events.specs.Join.{AreCertified, CertEntry, ClassCol, JoinData, en
 use Rattle.pj_laws.specs.HistoryLaws.{AllAreCertified}
 use Rattle.pj_join.specs.Joins.{join_data}
 use Rattle.pj_core.specs.Plans.{nodes_of, run_plan}
-use Rattle.pj_core.specs.Samples.{IsSample, chain_certs, chain_statements, lone_statements, pair_certs, pair_statements, step}
+use Rattle.pj_core.specs.Samples.{IsSample, chain_certs, chain_statements, lone_statements, pair_certs, pair_statements, step, tower_certs, tower_statements}
 
 -- ---- plans
 
@@ -69,6 +69,30 @@ chain_nodes =
     ∷ node (codes "b") b_columns (StreamNode ((true ∷ false ∷ []) ∷ (false ∷ true ∷ []) ∷ []))
     ∷ node (codes "c") c_columns (StreamNode ((true ∷ []) ∷ []))
     ∷ node (codes "j") (number (codes "x") ∷ number (codes "bx") ∷ number (codes "by") ∷ number (codes "cy") ∷ []) (JoinNode (0 ∷ 1 ∷ 2 ∷ []) chain_join)
+    ∷ []
+
+abbrev low_columns : List Column
+low_columns = number (codes "x") ∷ number (codes "bx") ∷ []
+
+abbrev one_columns : List Column
+one_columns = number (codes "bx") ∷ []
+
+abbrev third_columns : List Column
+third_columns = number (codes "cx") ∷ []
+
+abbrev low_join : JoinSpec
+low_join = record { inputs = a_columns ∷ one_columns ∷ []; classes = (at 0 0 ∷ at 1 0 ∷ []) ∷ [] }
+
+abbrev high_join : JoinSpec
+high_join = record { inputs = low_columns ∷ third_columns ∷ []; classes = (at 0 0 ∷ at 1 0 ∷ []) ∷ [] }
+
+abbrev tower_nodes : List PlanNode
+tower_nodes =
+    node (codes "a") a_columns (StreamNode ((true ∷ []) ∷ []))
+    ∷ node (codes "b") one_columns (StreamNode ((true ∷ []) ∷ []))
+    ∷ node (codes "i") low_columns (JoinNode (0 ∷ 1 ∷ []) low_join)
+    ∷ node (codes "c") third_columns (StreamNode ((true ∷ []) ∷ []))
+    ∷ node (codes "j") (number (codes "x") ∷ number (codes "bx") ∷ number (codes "cx") ∷ []) (JoinNode (2 ∷ 3 ∷ []) high_join)
     ∷ []
 
 -- ---- certificates
@@ -151,6 +175,59 @@ chain_certified (suc (suc zero)) lt = (
     reached (suc (suc (suc k))) below other = absurd (omega (arith, below))
 chain_certified (suc (suc (suc n))) lt = absurd (omega (arith, lt))
 
+-- the join below, and the one above it
+abbrev low_data : JoinData
+low_data = join_data low_join (((true ∷ []) ∷ []) ∷ ((true ∷ []) ∷ []) ∷ []) ((step 1 0 ∷ []) ∷ (step 0 0 ∷ []) ∷ [])
+
+abbrev high_data : JoinData
+high_data = join_data high_join (((true ∷ false ∷ []) ∷ (false ∷ true ∷ []) ∷ []) ∷ ((true ∷ []) ∷ []) ∷ []) ((step 1 0 ∷ []) ∷ (step 0 0 ∷ []) ∷ [])
+
+low_certified : AreCertified low_data
+low_certified zero lt = (
+  (omega arith, apart 0 1 (λ e. omega (arith, e)), tt),
+  (omega arith, refl, ((at 0 0, inl refl, inl refl), tt), tt),
+  λ k below other. reached k below other,
+)
+  where
+    reached : (k : ℕ) → k < 2 → k ≢ 0 → (e : CertEntry) × In e (map (entry_of low_data.schemes) (step 1 0 ∷ [])) × (e.input ≡ k)
+    reached zero below other = absurd (other refl)
+    reached (suc zero) below other = (record { input = 1; marks = true ∷ [] }, inl refl, refl)
+    reached (suc (suc k)) below other = absurd (omega (arith, below))
+low_certified (suc zero) lt = (
+  (omega arith, apart 1 0 (λ e. omega (arith, e)), tt),
+  (omega arith, refl, ((at 1 0, inr (inl refl), inl refl), tt), tt),
+  λ k below other. reached k below other,
+)
+  where
+    reached : (k : ℕ) → k < 2 → k ≢ 1 → (e : CertEntry) × In e (map (entry_of low_data.schemes) (step 0 0 ∷ [])) × (e.input ≡ k)
+    reached zero below other = (record { input = 0; marks = true ∷ [] }, inl refl, refl)
+    reached (suc zero) below other = absurd (other refl)
+    reached (suc (suc k)) below other = absurd (omega (arith, below))
+low_certified (suc (suc n)) lt = absurd (omega (arith, lt))
+
+high_certified : AreCertified high_data
+high_certified zero lt = (
+  (omega arith, apart 0 1 (λ e. omega (arith, e)), tt),
+  (omega arith, refl, ((at 0 0, inl refl, inl refl), tt), tt),
+  λ k below other. reached k below other,
+)
+  where
+    reached : (k : ℕ) → k < 2 → k ≢ 0 → (e : CertEntry) × In e (map (entry_of high_data.schemes) (step 1 0 ∷ [])) × (e.input ≡ k)
+    reached zero below other = absurd (other refl)
+    reached (suc zero) below other = (record { input = 1; marks = true ∷ [] }, inl refl, refl)
+    reached (suc (suc k)) below other = absurd (omega (arith, below))
+high_certified (suc zero) lt = (
+  (omega arith, apart 1 0 (λ e. omega (arith, e)), tt),
+  (omega arith, refl, ((at 1 0, inr (inl refl), inl refl), tt), tt),
+  λ k below other. reached k below other,
+)
+  where
+    reached : (k : ℕ) → k < 2 → k ≢ 1 → (e : CertEntry) × In e (map (entry_of high_data.schemes) (step 0 0 ∷ [])) × (e.input ≡ k)
+    reached zero below other = (record { input = 0; marks = true ∷ false ∷ [] }, inl refl, refl)
+    reached (suc zero) below other = absurd (other refl)
+    reached (suc (suc k)) below other = absurd (omega (arith, below))
+high_certified (suc (suc n)) lt = absurd (omega (arith, lt))
+
 -- ---- samples
 
 -- what holds of the plan that the statements make holds of each that they make
@@ -176,6 +253,14 @@ chain-all trace (suc (suc zero)) lt = tt
 chain-all trace (suc (suc (suc zero))) lt = chain_certified
 chain-all trace (suc (suc (suc (suc n)))) lt = absurd (omega (arith, lt))
 
+tower-all : (trace : Bool) → AllAreCertified (nodes_of (run_plan tower_nodes tower_certs trace))
+tower-all trace zero lt = tt
+tower-all trace (suc zero) lt = tt
+tower-all trace (suc (suc zero)) lt = low_certified
+tower-all trace (suc (suc (suc zero))) lt = tt
+tower-all trace (suc (suc (suc (suc zero)))) lt = high_certified
+tower-all trace (suc (suc (suc (suc (suc n))))) lt = absurd (omega (arith, lt))
+
 sample-of : (statements : List Stated) (certs : List (List (List CertStep))) (nodes : List PlanNode) → built statements 9 ≡ Ok (outline nodes) → ((trace : Bool) → AllAreCertified (nodes_of (run_plan nodes certs trace)))
     → (plan : Outline) → built statements 9 ≡ Ok plan → (trace : Bool) → AllAreCertified (nodes_of (run_plan plan.nodes certs trace))
 sample-of statements certs nodes is all plan e = only-plan statements nodes is (λ ns. (trace : Bool) → AllAreCertified (nodes_of (run_plan ns certs trace))) all plan e
@@ -188,3 +273,6 @@ pair_sample = record { spelled = refl; certified = sample-of pair_statements pai
 
 pub chain_sample : IsSample chain_statements chain_certs
 chain_sample = record { spelled = refl; certified = sample-of chain_statements chain_certs chain_nodes refl chain-all }
+
+pub tower_sample : IsSample tower_statements tower_certs
+tower_sample = record { spelled = refl; certified = sample-of tower_statements tower_certs tower_nodes refl tower-all }

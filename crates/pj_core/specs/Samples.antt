@@ -37,8 +37,11 @@ stream name columns = stated (Stream name (map number_column columns))
 abbrev pub scheme : List ℕ → List Bool → Stated
 scheme name marks = stated (Scheme name marks)
 
+abbrev pub named_join : List ℕ → List (List ℕ) → List (List (List ℕ)) → Stated
+named_join name inputs classes = stated (Join name inputs classes)
+
 abbrev pub join : List (List ℕ) → List (List (List ℕ)) → Stated
-join inputs classes = stated (Join (codes "j") inputs classes)
+join inputs classes = named_join (codes "j") inputs classes
 
 abbrev pub output : List ℕ → Stated
 output name = stated (Output name)
@@ -85,6 +88,25 @@ chain_statements =
 
 abbrev pub chain_certs : List (List (List CertStep))
 chain_certs = ((step 1 0 ∷ step 2 0 ∷ []) ∷ (step 0 0 ∷ step 2 0 ∷ []) ∷ (step 1 1 ∷ step 0 0 ∷ []) ∷ []) ∷ []
+
+-- ---- a join of two streams below a join with a third
+
+abbrev pub tower_statements : List Stated
+tower_statements =
+    begun
+    ∷ stream (codes "a") (codes "x" ∷ [])
+    ∷ scheme (codes "a") (true ∷ [])
+    ∷ stream (codes "b") (codes "bx" ∷ [])
+    ∷ scheme (codes "b") (true ∷ [])
+    ∷ named_join (codes "i") (codes "a" ∷ codes "b" ∷ []) ((codes "x" ∷ codes "bx" ∷ []) ∷ [])
+    ∷ stream (codes "c") (codes "cx" ∷ [])
+    ∷ scheme (codes "c") (true ∷ [])
+    ∷ join (codes "i" ∷ codes "c" ∷ []) ((codes "x" ∷ codes "cx" ∷ []) ∷ [])
+    ∷ output (codes "j")
+    ∷ []
+
+abbrev pub tower_certs : List (List (List CertStep))
+tower_certs = ((step 1 0 ∷ []) ∷ (step 0 0 ∷ []) ∷ []) ∷ ((step 1 0 ∷ []) ∷ (step 0 0 ∷ []) ∷ []) ∷ []
 
 -- ---- what is asked of a sample
 

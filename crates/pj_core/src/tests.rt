@@ -7,7 +7,7 @@ ghost use Rattle.pj_plan.specs.Canonical.{node_at};
 ghost use Rattle.pj_plan.specs.Nodes.{inputs_of, is_join, streams_of};
 ghost use Rattle.pj_core.specs.Calls.{IsOpen};
 ghost use Rattle.pj_core.specs.Plans.{stream_columns, streams_in};
-ghost use Rattle.pj_core.specs.Samples.{IsSample, begun as beginning, chain_certs as certs_of_chain, chain_statements, join as join_of, kinds, lone_statements, number_column, output as output_of, pair_certs as certs_of_pair, pair_statements, scheme as scheme_of, step as step_of, stream as stream_of};
+ghost use Rattle.pj_core.specs.Samples.{IsSample, begun as beginning, chain_certs as certs_of_chain, chain_statements, join as join_of, kinds, lone_statements, named_join as named_join_of, number_column, output as output_of, pair_certs as certs_of_pair, pair_statements, scheme as scheme_of, step as step_of, stream as stream_of, tower_certs as certs_of_tower, tower_statements};
 
 use super::*;
 use pj_pattern::{Element, Pattern, Punct, Shape};
@@ -77,6 +77,25 @@ fn join(alloc: Global, inputs: List<Bytes>, classes: List<List<Bytes>>) -> Resul
     ensures { IfOk result (λ s. s ≡ join_of inputs classes) }
 {
     let name = List::copy_of(alloc, b"j")?;
+    Ok(stated(Statement::Join {
+        name,
+        inputs,
+        classes,
+    }))
+}
+
+// The join of two streams by their columns of these names.
+fn join_of_two(
+    alloc: Global,
+    name: &[u8],
+    inputs: List<Bytes>,
+    class: List<Bytes>,
+) -> Result<Stated, NoMemory>
+    ensures { IfOk result (λ s. s ≡ named_join_of name.now inputs (class ∷ [])) }
+{
+    let mut classes = List::new(alloc);
+    classes.push(class)?;
+    let name = List::copy_of(alloc, name)?;
     Ok(stated(Statement::Join {
         name,
         inputs,
@@ -158,6 +177,38 @@ fn chain(alloc: Global) -> Result<List<Stated>, NoMemory>
     Ok(statements)
 }
 
+fn lower_join(alloc: Global) -> Result<Stated, NoMemory>
+    ensures { IfOk result (λ s. s ≡ named_join_of (codes "i") (codes "a" ∷ codes "b" ∷ []) ((codes "x" ∷ codes "bx" ∷ []) ∷ [])) }
+{
+    let inputs = names(alloc, b"a", b"b")?;
+    let class = names(alloc, b"x", b"bx")?;
+    join_of_two(alloc, b"i", inputs, class)
+}
+
+fn upper_join(alloc: Global) -> Result<Stated, NoMemory>
+    ensures { IfOk result (λ s. s ≡ join_of (codes "i" ∷ codes "c" ∷ []) ((codes "x" ∷ codes "cx" ∷ []) ∷ [])) }
+{
+    let inputs = names(alloc, b"i", b"c")?;
+    let class = names(alloc, b"x", b"cx")?;
+    join_of_two(alloc, b"j", inputs, class)
+}
+
+fn tower(alloc: Global) -> Result<List<Stated>, NoMemory>
+    ensures { IfOk result (λ s. s ≡ tower_statements) }
+{
+    let mut statements = begun(alloc)?;
+    statements.push(one(alloc, b"a", b"x")?)?;
+    statements.push(scheme(alloc, b"a", &[true])?)?;
+    statements.push(one(alloc, b"b", b"bx")?)?;
+    statements.push(scheme(alloc, b"b", &[true])?)?;
+    statements.push(lower_join(alloc)?)?;
+    statements.push(one(alloc, b"c", b"cx")?)?;
+    statements.push(scheme(alloc, b"c", &[true])?)?;
+    statements.push(upper_join(alloc)?)?;
+    statements.push(output(alloc, b"j")?)?;
+    Ok(statements)
+}
+
 // ---- certificates
 
 fn step(input: u32, scheme: u32) -> CertStep
@@ -191,6 +242,18 @@ fn chain_certs(alloc: Global) -> Result<List<List<Cert>>, NoMemory>
     inputs.push(cert(alloc, &[step(0, 0), step(2, 0)])?)?;
     inputs.push(cert(alloc, &[step(1, 1), step(0, 0)])?)?;
     let mut joins = List::new(alloc);
+    joins.push(inputs)?;
+    Ok(joins)
+}
+
+// Those of the lower join and of the upper one, which are the same.
+fn tower_certs(alloc: Global) -> Result<List<List<Cert>>, NoMemory>
+    ensures { IfOk result (λ certs. certs ≡ certs_of_tower) }
+{
+    let mut joins = pair_certs(alloc)?;
+    let mut inputs = List::new(alloc);
+    inputs.push(cert(alloc, &[step(1, 0)])?)?;
+    inputs.push(cert(alloc, &[step(0, 0)])?)?;
     joins.push(inputs)?;
     Ok(joins)
 }
@@ -237,6 +300,16 @@ fn chain_core(alloc: Global, limit: u64, trace: bool) -> Option<Core>
     requires { (1 ≤ limit) × (limit ≤ 2 ^ 40) }
 {
     match (chain(alloc), chain_certs(alloc)) {
+        (Ok(statements), Ok(certs)) => core_of(alloc, statements, certs, limit, trace),
+        _ => None,
+    }
+}
+
+#[tactic(auto, using(crate::proofs::Samples::tower_sample))]
+fn tower_core(alloc: Global, limit: u64, trace: bool) -> Option<Core>
+    requires { (1 ≤ limit) × (limit ≤ 2 ^ 40) }
+{
+    match (tower(alloc), tower_certs(alloc)) {
         (Ok(statements), Ok(certs)) => core_of(alloc, statements, certs, limit, trace),
         _ => None,
     }
@@ -398,6 +471,40 @@ fn three_streams_join(rt: HostRuntime) {
             let counts = bring_all(alloc, &mut core, [a, b, c, a, c]);
             assert_eq!(rt; counts, [0, 0, 1, 1, -3]);
             assert_eq!(rt; core.look().stop, Some(Stop::Limit { node: 3 }));
+        }
+        None => assert!(rt; false),
+    }
+}
+
+// The fourth row of the lower join's inputs goes beyond its limit, and the upper join has room left.
+#[test]
+fn the_limit_of_a_join_below_a_join_stops_it(rt: HostRuntime) {
+    let alloc = rt.alloc();
+    match tower_core(alloc, 3, false) {
+        Some(mut core) => {
+            let a = tuple_of(0, false, 1, 0);
+            let b = tuple_of(1, false, 1, 0);
+            let c = tuple_of(2, false, 1, 0);
+            let counts = bring_all(alloc, &mut core, [a, b, c, a, b]);
+            assert_eq!(rt; counts, [0, 0, 1, 1, -2]);
+            assert_eq!(rt; core.look().stop, Some(Stop::Limit { node: 2 }));
+        }
+        None => assert!(rt; false),
+    }
+}
+
+// The lower join hands up two rows in one turn, and the second goes beyond the upper join's limit.
+#[test]
+fn the_limit_of_a_join_above_a_join_stops_it(rt: HostRuntime) {
+    let alloc = rt.alloc();
+    match tower_core(alloc, 3, false) {
+        Some(mut core) => {
+            let a = tuple_of(0, false, 1, 0);
+            let b = tuple_of(1, false, 1, 0);
+            let c = tuple_of(2, false, 1, 0);
+            let counts = bring_all(alloc, &mut core, [c, c, a, a, b]);
+            assert_eq!(rt; counts, [0, 0, 0, 0, -4]);
+            assert_eq!(rt; core.look().stop, Some(Stop::Limit { node: 4 }));
         }
         None => assert!(rt; false),
     }

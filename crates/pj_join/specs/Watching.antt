@@ -62,6 +62,10 @@ AreLeftAt spec states p w input = AreLeftOpen spec.shape.classes (cert_of spec i
 abbrev pub AreLeft : JoinData → List StateView → PunctAt → List Watches → ℕ → Type 0
 AreLeft spec states p ws count = (input : ℕ) → input < count → AreLeftAt spec states p (watches_at ws input) input
 
+-- the same of a punctuation of this input with these patterns, whatever its ticket
+abbrev pub AllAreLeft : JoinData → List StateView → ℕ → List Pattern → List Watches → ℕ → Type 0
+AllAreLeft spec states input patterns ws count = (ticket : ℕ) → AreLeft spec states (record { ticket = ticket; input = input; patterns = patterns }) ws count
+
 -- of no input are more rows passed over
 pub record AreFewer (old new : List Watches) : Type 0 where
   pub count : length new ≡ length old

@@ -6,7 +6,7 @@ ghost use Rattle.pj_shape.specs.Joining.{has_column};
 ghost use Rattle.pj_cover.specs.Asking.{entries, first_class, marks_of};
 ghost use Rattle.pj_join.specs.Joins.{join_data};
 ghost use Rattle.pj_join.specs.Sides.{IsWide, AreWide, state_at};
-ghost use Rattle.pj_join.specs.Watching.{AreFewer, AreLeft, AreLeftAt, AreLeftOpen, AreUncovered, IsFewer, IsKey, first_column, no_watches, watches_at};
+ghost use Rattle.pj_join.specs.Watching.{AllAreLeft, AreFewer, AreLeftAt, AreLeftOpen, AreUncovered, IsFewer, IsKey, first_column, no_watches, watches_at};
 
 use crate::lookups::Lookup;
 use crate::marks::Watches;
@@ -268,7 +268,7 @@ pub fn wake(
     requires few { length watches.old.items < 2 ^ 32 }
     requires wide { AreWide states.now }
     ensures fewer { AreFewer watches.old.items watches.new.items }
-    ensures left { OnOk result ((ticket : ℕ) → AreLeft (join_data spec.now schemes.now certs.now) states.now (record { ticket = ticket; input = other; patterns = punct.now }) watches.new.items (length watches.old.items)) }
+    ensures left { OnOk result (AllAreLeft (join_data spec.now schemes.now certs.now) states.now other punct.now watches.new.items (length watches.old.items)) }
 {
     for at in 0..watches.len() {
         wake_at(

@@ -718,3 +718,79 @@ fn a_plan_of_more_bytes_than_may_be_is_refused(rt: HostRuntime) -> Result<(), Fa
     assert!(rt; refuses(&rt, "run plan file", plan.as_slice(), 6, line)?);
     Ok(())
 }
+
+// The name of a node by its number, behind a byte: `naa` is the first.
+fn append_name(before: u8, node: usize, plan: &mut List<u8>) -> Result<(), NoMemory> {
+    let letters = b"abcdefghijklmnop";
+    plan.push(before)?;
+    plan.push(b'n')?;
+    plan.push(letters[node / 16 % 16])?;
+    plan.push(letters[node % 16])?;
+    Ok(())
+}
+
+fn append_select(node: usize, plan: &mut List<u8>) -> Result<(), NoMemory> {
+    plan.append(b"select")?;
+    append_name(b' ', node, plan)?;
+    append_name(b' ', node.saturating_sub(1), plan)?;
+    plan.append(b" where v [")?;
+    append_name(b'"', node, plan)?;
+    plan.append(b"\"..]\n")?;
+    Ok(())
+}
+
+fn append_union(node: usize, plan: &mut List<u8>) -> Result<(), NoMemory> {
+    plan.append(b"union")?;
+    append_name(b' ', node, plan)?;
+    append_name(b' ', node.saturating_sub(1), plan)?;
+    append_name(b' ', node.saturating_sub(4), plan)?;
+    plan.push(b'\n')?;
+    Ok(())
+}
+
+// Four streams, three unions of them, and then a chain of selects, of which each asks for its own name and those behind it.
+fn append_statement(node: usize, plan: &mut List<u8>) -> Result<(), NoMemory> {
+    if node >= 7 {
+        append_select(node, plan)?;
+    } else if node >= 4 {
+        append_union(node, plan)?;
+    } else {
+        plan.append(b"stream")?;
+        append_name(b' ', node, plan)?;
+        plan.append(b" v:text\n")?;
+    }
+    Ok(())
+}
+
+fn plan_of(alloc: Global, nodes: usize) -> Result<List<u8>, NoMemory> {
+    let mut plan = List::copy_of(alloc, b"plan 1\n")?;
+    for node in 0..nodes {
+        append_statement(node, &mut plan)?;
+    }
+    plan.append(b"output")?;
+    append_name(b' ', nodes.saturating_sub(1), &mut plan)?;
+    plan.push(b'\n')?;
+    Ok(plan)
+}
+
+// The last select drops what all others keep.
+const CHAIN: &[u8] = b"t \"ndp\"\nt \"ndo\"\np \"ndp\"\nt \"ndp\"\nt \"z\"\n";
+
+const CHAIN_OUT: &[u8] =
+    b"t \"ndp\"\nt \"ndp\"\nt \"ndp\"\nt \"ndp\"\np \"ndp\"\np \"ndp\"\np \"ndp\"\np \"ndp\"\nt \"z\"\nt \"z\"\nt \"z\"\nt \"z\"\np *\np *\np *\np *\n# stream naa tuples 3 punctuations 1 rejected 1\n# reject naa line 4 closed by line 3\n# stream nab tuples 3 punctuations 1 rejected 1\n# reject nab line 4 closed by line 3\n# stream nac tuples 3 punctuations 1 rejected 1\n# reject nac line 4 closed by line 3\n# stream nad tuples 3 punctuations 1 rejected 1\n# reject nad line 4 closed by line 3\n# results 8 punctuations 8\n";
+
+#[test]
+fn the_greatest_plan_runs(rt: HostRuntime) -> Result<(), Fail> {
+    let plan = plan_of(rt.alloc(), 64)?;
+    let files = [CHAIN, CHAIN, CHAIN];
+    assert!(rt; runs(&rt, "run plan a b c a", plan.as_slice(), files, CHAIN_OUT)?);
+    Ok(())
+}
+
+#[test]
+fn a_plan_of_more_nodes_than_may_be_is_refused(rt: HostRuntime) -> Result<(), Fail> {
+    let plan = plan_of(rt.alloc(), 65)?;
+    let line = b"# refused plan line 66 P12 too many\n";
+    assert!(rt; refuses(&rt, "run plan file", plan.as_slice(), 1, line)?);
+    Ok(())
+}
