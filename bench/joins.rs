@@ -1,6 +1,5 @@
-// What the program does on a plan of streams, joins, projects, selects of a range from below and groups with sums, in plain
-// Rust: the measure of its speed. Files have canonical lines, and punctuations of constants and wildcards alone. Each scheme
-// stands before the nodes above its stream. Words: the plan, and the file of each stream.
+// What the program does on a tree of streams, selects by one range, projects, sums and joins, in plain Rust: the measure of its
+// speed. Files have canonical lines, and punctuations of constants and wildcards alone. Words: the plan, and each stream's file.
 
 use std::collections::{BTreeMap, BTreeSet};
 use std::fs::File;
@@ -30,13 +29,13 @@ type HashMap<K, V> = std::collections::HashMap<K, V, BuildHasherDefault<Quick>>;
 
 // The cells of an element, without its first one. A wildcard is `*`.
 struct Row {
-    line: Box<[u8]>,
-    ends: Box<[(u32, u32)]>,
+    line: Vec<u8>,
+    ends: Vec<(u32, u32)>,
 }
 
 impl Row {
     fn of(line: &[u8]) -> Row {
-        let (mut ends, mut at) = (Vec::new(), 1);
+        let (mut ends, mut at) = (Vec::with_capacity(4), 1);
         while at < line.len() {
             let start = at + 1;
             at = start;
@@ -51,7 +50,49 @@ impl Row {
             }
             ends.push((start as u32, at as u32));
         }
-        Row { line: line.into(), ends: ends.into() }
+        Row { line: line.to_vec(), ends }
+    }
+
+    // The rows' cells one after the other.
+    fn joined(rows: &[Rc<Row>]) -> Row {
+        let mut line = Vec::with_capacity(rows.iter().map(|row| row.line.len()).sum());
+        let mut ends = Vec::with_capacity(rows.iter().map(|row| row.ends.len()).sum());
+        line.push(b't');
+        for row in rows {
+            let before = line.len() as u32 - 1;
+            line.extend_from_slice(&row.line[1..]);
+            ends.extend(row.ends.iter().map(|(start, end)| (start + before, end + before)));
+        }
+        Row { line, ends }
+    }
+
+    // A punctuation with so many wildcards before and behind it.
+    fn widened(&self, before: usize, behind: usize) -> Row {
+        let mut line = Vec::with_capacity(self.line.len() + 2 * (before + behind));
+        line.push(b'p');
+        line.extend(b" *".iter().cycle().take(2 * before));
+        line.extend_from_slice(&self.line[1..]);
+        line.extend(b" *".iter().cycle().take(2 * behind));
+        let wild = |count: usize, from: usize| (0..count).map(move |at| ((from + 2 * at + 1) as u32, (from + 2 * at + 2) as u32));
+        let moved = self.ends.iter().map(|(start, end)| (start + 2 * before as u32, end + 2 * before as u32));
+        let ends = wild(before, 1).chain(moved).chain(wild(behind, self.line.len() + 2 * before)).collect();
+        Row { line, ends }
+    }
+
+    fn of_cells<'a>(tag: u8, cells: impl Iterator<Item = &'a [u8]>) -> Row {
+        let (mut line, mut ends) = (Vec::with_capacity(32), Vec::with_capacity(4));
+        line.push(tag);
+        for cell in cells {
+            line.push(b' ');
+            let start = line.len() as u32;
+            line.extend_from_slice(cell);
+            ends.push((start, line.len() as u32));
+        }
+        Row { line, ends }
+    }
+
+    fn number(&self, column: usize) -> i64 {
+        std::str::from_utf8(self.cell(column)).unwrap().parse().unwrap()
     }
 
     fn cell(&self, column: usize) -> &[u8] {
@@ -76,7 +117,7 @@ type Key = Box<[u8]>;
 
 // The cells of these columns, each with a space behind it.
 fn key_of(row: &Row, columns: &[usize]) -> Key {
-    let mut key = Vec::new();
+    let mut key = Vec::with_capacity(columns.iter().map(|column| row.cell(*column).len() + 1).sum());
     for column in columns {
         key.extend_from_slice(row.cell(*column));
         key.push(b' ');
@@ -104,49 +145,58 @@ impl Store {
         self.forms.iter().filter_map(|(columns, numbers)| numbers.get(&key_of(row, columns)).copied()).min()
     }
 
-    // Whether one covers the instance that has these values in the marked columns.
-    fn covers(&self, marked: &[usize], values: &[&[u8]]) -> bool {
+    // Whether one covers the instance that has these values in the marked columns, which are the key.
+    fn covers<'a>(&self, marked: &[usize], key: &[u8], value: impl Fn(usize) -> &'a [u8]) -> bool {
         self.forms.iter().any(|(columns, numbers)| {
-            let mut key = Vec::new();
-            for column in columns {
-                let Some(at) = marked.iter().position(|other| other == column) else { return false };
-                key.extend_from_slice(values[at]);
-                key.push(b' ');
+            if columns == marked {
+                return numbers.contains_key(key);
             }
-            numbers.contains_key(&key[..])
+            if !columns.iter().all(|column| marked.contains(column)) {
+                return false;
+            }
+            let mut part = Vec::new();
+            for column in columns {
+                part.extend_from_slice(value(*column));
+                part.push(b' ');
+            }
+            numbers.contains_key(&part[..])
         })
     }
 }
 
-struct Plan {
-    arities: Vec<usize>,
-    // For each class the column of each input that it has.
-    classes: Vec<BTreeMap<usize, usize>>,
-    // For each input the others in an order in which the marked columns of a scheme of each are bound.
-    certs: Vec<Vec<(usize, Vec<usize>)>>,
-}
-
-enum Operator {
+enum Kind {
     Stream,
-    Select { column: usize, low: i64 },
-    Project(Vec<usize>),
-    Join(Plan, Join),
-    Group { by: Vec<usize>, sums: Vec<usize>, groups: Groups },
+    Select { column: usize, low: i64, high: i64 },
+    Project { columns: Vec<usize> },
+    Group(Group),
+    Join(Join),
 }
 
 struct Node {
     name: String,
     columns: Vec<String>,
     schemes: Vec<Vec<usize>>,
+    // The node that it feeds, and as which of its inputs.
     parent: Option<(usize, usize)>,
-    operator: Operator,
+    kind: Kind,
 }
 
-fn place(columns: &[String], name: &str) -> usize {
-    columns.iter().position(|other| other == name).unwrap()
+fn place_of(columns: &[String], name: &str) -> usize {
+    columns.iter().position(|column| column == name).unwrap()
 }
 
-fn join_of(nodes: &[Node], inputs: &[usize], words: &[&str]) -> Operator {
+// The schemes whose marks are all among these columns, in their places there.
+fn cut(schemes: &[Vec<usize>], columns: &[usize]) -> Vec<Vec<usize>> {
+    let place = |mark: &usize| columns.iter().position(|column| column == mark);
+    schemes.iter().filter_map(|scheme| scheme.iter().map(place).collect()).collect()
+}
+
+fn range_of(text: &str) -> (i64, i64) {
+    let (low, high) = text[1..text.len() - 1].split_once("..").unwrap();
+    (low.parse().unwrap_or(i64::MIN), high.parse().unwrap_or(i64::MAX))
+}
+
+fn join_of(nodes: &[Node], inputs: &[usize], words: &[&str]) -> Join {
     let mut classes = Vec::new();
     for class in words {
         let mut places = BTreeMap::new();
@@ -161,27 +211,20 @@ fn join_of(nodes: &[Node], inputs: &[usize], words: &[&str]) -> Operator {
     }
     let schemes: Vec<&[Vec<usize>]> = inputs.iter().map(|node| &nodes[*node].schemes[..]).collect();
     let certs = (0..inputs.len()).map(|input| certificate(&schemes, &classes, input)).collect();
-    let plan = Plan { arities: inputs.iter().map(|node| nodes[*node].columns.len()).collect(), classes, certs };
-    let join = Join::new(&plan);
-    Operator::Join(plan, join)
+    let arities: Vec<usize> = inputs.iter().map(|node| nodes[*node].columns.len()).collect();
+    Join::new(JoinPlan { classes, certs }, &arities)
 }
 
-// The schemes of a result whose columns are these ones of the input, as far as their marks are kept.
-fn kept_schemes(schemes: &[Vec<usize>], columns: &[usize]) -> Vec<Vec<usize>> {
-    let moved = |scheme: &Vec<usize>| scheme.iter().map(|mark| columns.iter().position(|column| column == mark)).collect();
-    schemes.iter().filter_map(moved).collect()
-}
-
+// The nodes in their order; each feeds a later one.
 fn read_plan(text: &str) -> Vec<Node> {
     let mut nodes = Vec::<Node>::new();
     for line in text.lines() {
         let words: Vec<&str> = line.split(' ').collect();
         let number = |name: &str| nodes.iter().position(|node| node.name == name).unwrap();
-        let after = |word: &str| words.iter().position(|other| *other == word).unwrap() + 1;
-        let (inputs, columns, schemes, operator) = match words[0] {
+        let (inputs, columns, schemes, kind) = match words[0] {
             "stream" => {
                 let columns = words[2..].iter().map(|word| word.split(':').next().unwrap().to_owned()).collect();
-                (Vec::new(), columns, Vec::new(), Operator::Stream)
+                (Vec::new(), columns, Vec::new(), Kind::Stream)
             }
             "scheme" => {
                 let marked = (2..words.len()).filter(|at| words[*at] == "+").map(|at| at - 2).collect();
@@ -190,45 +233,44 @@ fn read_plan(text: &str) -> Vec<Node> {
                 continue;
             }
             "select" => {
-                let input = &nodes[number(words[2])];
-                let low = words[5].trim_start_matches('[').trim_end_matches("..]").parse().unwrap();
-                let operator = Operator::Select { column: place(&input.columns, words[4]), low };
-                (vec![number(words[2])], input.columns.clone(), input.schemes.clone(), operator)
+                let input = number(words[2]);
+                let (low, high) = range_of(words[5]);
+                let column = place_of(&nodes[input].columns, words[4]);
+                (vec![input], nodes[input].columns.clone(), nodes[input].schemes.clone(), Kind::Select { column, low, high })
             }
             "project" => {
-                let input = &nodes[number(words[2])];
-                let columns: Vec<usize> = words[3..].iter().map(|word| place(&input.columns, word)).collect();
-                let names = words[3..].iter().map(|word| word.to_string()).collect();
-                (vec![number(words[2])], names, kept_schemes(&input.schemes, &columns), Operator::Project(columns))
+                let input = number(words[2]);
+                let columns: Vec<usize> = words[3..].iter().map(|name| place_of(&nodes[input].columns, name)).collect();
+                let names = words[3..].iter().map(|name| name.to_string()).collect();
+                (vec![input], names, cut(&nodes[input].schemes, &columns), Kind::Project { columns })
+            }
+            "group" => {
+                let input = number(words[2]);
+                let of = words.iter().position(|word| *word == "of").unwrap();
+                let keys: Vec<usize> = words[4..of].iter().map(|name| place_of(&nodes[input].columns, name)).collect();
+                let sums: Vec<(&str, &str)> = words[of + 1..].iter().map(|word| word.split_once("=sum:").unwrap()).collect();
+                let names = words[4..of].iter().copied().chain(sums.iter().map(|sum| sum.0)).map(str::to_owned).collect();
+                let summed = sums.iter().map(|sum| place_of(&nodes[input].columns, sum.1)).collect();
+                (vec![input], names, cut(&nodes[input].schemes, &keys), Kind::Group(Group::new(keys, summed)))
             }
             "join" => {
-                let inputs: Vec<usize> = words[2..after("on") - 1].iter().map(|name| number(name)).collect();
+                let on = words.iter().position(|word| *word == "on").unwrap();
+                let inputs: Vec<usize> = words[2..on].iter().map(|name| number(name)).collect();
                 let (mut columns, mut schemes) = (Vec::new(), Vec::new());
                 for input in &inputs {
                     let before = columns.len();
                     schemes.extend(nodes[*input].schemes.iter().map(|scheme| scheme.iter().map(|mark| mark + before).collect()));
                     columns.extend(nodes[*input].columns.iter().cloned());
                 }
-                let operator = join_of(&nodes, &inputs, &words[after("on")..]);
-                (inputs, columns, schemes, operator)
-            }
-            "group" => {
-                let input = &nodes[number(words[2])];
-                let named = &words[after("by")..after("of") - 1];
-                let by: Vec<usize> = named.iter().map(|word| place(&input.columns, word)).collect();
-                let made = || words[after("of")..].iter().map(|word| word.split_once("=sum:").unwrap());
-                let sums = made().map(|(_, of)| place(&input.columns, of)).collect();
-                let names = named.iter().copied().chain(made().map(|(new, _)| new)).map(str::to_owned).collect();
-                let schemes = kept_schemes(&input.schemes, &by);
-                (vec![number(words[2])], names, schemes, Operator::Group { by, sums, groups: Groups::default() })
+                let join = join_of(&nodes, &inputs, &words[on + 1..]);
+                (inputs, columns, schemes, Kind::Join(join))
             }
             _ => continue,
         };
-        let node = nodes.len();
-        for (input, child) in inputs.iter().enumerate() {
-            nodes[*child].parent = Some((node, input));
+        for (place, input) in inputs.into_iter().enumerate() {
+            nodes[input].parent = Some((nodes.len(), place));
         }
-        nodes.push(Node { name: words[1].to_owned(), columns, schemes, parent: None, operator });
+        nodes.push(Node { name: words[1].to_owned(), columns, schemes, parent: None, kind });
     }
     nodes
 }
@@ -236,9 +278,9 @@ fn read_plan(text: &str) -> Vec<Node> {
 fn certificate(schemes: &[&[Vec<usize>]], classes: &[BTreeMap<usize, usize>], input: usize) -> Vec<(usize, Vec<usize>)> {
     let (mut known, mut steps) = (BTreeSet::from([input]), Vec::new());
     'add: loop {
-        for (other, own) in schemes.iter().enumerate().filter(|(other, _)| !known.contains(other)) {
+        for (other, listed) in schemes.iter().enumerate().filter(|(other, _)| !known.contains(other)) {
             let bound = |column: &usize| classes.iter().any(|class| class.get(&other) == Some(column) && class.keys().any(|k| known.contains(k)));
-            if let Some(scheme) = own.iter().find(|scheme| scheme.iter().all(bound)) {
+            if let Some(scheme) = listed.iter().find(|scheme| scheme.iter().all(bound)) {
                 steps.push((other, scheme.clone()));
                 known.insert(other);
                 continue 'add;
@@ -246,6 +288,92 @@ fn certificate(schemes: &[&[Vec<usize>]], classes: &[BTreeMap<usize, usize>], in
         }
         return steps;
     }
+}
+
+// What a node hands up: a row in parts, or a punctuation with so many wildcards before and behind it.
+enum Up {
+    Rows(Vec<Rc<Row>>),
+    Punct(usize, Rc<Row>, usize),
+}
+
+// The open groups in order of their first rows, and for each form of a punctuation those with its constants.
+struct Group {
+    keys: Vec<usize>,
+    summed: Vec<usize>,
+    numbers: HashMap<Key, u64>,
+    open: BTreeMap<u64, (Row, Vec<i128>)>,
+    next: u64,
+    forms: Vec<(Vec<usize>, HashMap<Key, BTreeSet<u64>>)>,
+}
+
+impl Group {
+    fn new(keys: Vec<usize>, summed: Vec<usize>) -> Group {
+        Group { keys, summed, numbers: HashMap::default(), open: BTreeMap::new(), next: 0, forms: Vec::new() }
+    }
+
+    fn tuple(&mut self, row: &Row) {
+        let key = key_of(row, &self.keys);
+        let number = match self.numbers.get(&key) {
+            Some(number) => *number,
+            None => {
+                let number = self.next;
+                self.next += 1;
+                let cells = Row::of_cells(b't', self.keys.iter().map(|column| row.cell(*column)));
+                for (columns, groups) in &mut self.forms {
+                    groups.entry(key_of(&cells, columns)).or_default().insert(number);
+                }
+                self.open.insert(number, (cells, vec![0; self.summed.len()]));
+                self.numbers.insert(key, number);
+                number
+            }
+        };
+        let sums = &mut self.open.get_mut(&number).unwrap().1;
+        for (sum, column) in sums.iter_mut().zip(&self.summed) {
+            *sum += i128::from(row.number(*column));
+        }
+    }
+
+    // The rows of the groups that the punctuation closes, and what it says of the groups.
+    fn punct(&mut self, punct: &Row, ups: &mut Vec<Up>) {
+        if punct.constants().iter().any(|column| !self.keys.contains(column)) {
+            return;
+        }
+        let said = Row::of_cells(b'p', self.keys.iter().map(|column| punct.cell(*column)));
+        let columns = said.constants();
+        if !self.forms.iter().any(|form| form.0 == columns) {
+            let mut groups: HashMap<Key, BTreeSet<u64>> = HashMap::default();
+            for (number, (cells, _)) in &self.open {
+                groups.entry(key_of(cells, &columns)).or_default().insert(*number);
+            }
+            self.forms.push((columns.clone(), groups));
+        }
+        let form = self.forms.iter_mut().find(|form| form.0 == columns).unwrap();
+        for number in form.1.remove(&key_of(&said, &columns)).unwrap_or_default() {
+            let (cells, sums) = self.open.remove(&number).unwrap();
+            let all: Vec<usize> = (0..self.keys.len()).collect();
+            self.numbers.remove(&key_of(&cells, &all));
+            for (columns, groups) in &mut self.forms {
+                let key = key_of(&cells, columns);
+                if let Some(set) = groups.get_mut(&key) {
+                    set.remove(&number);
+                    if set.is_empty() {
+                        groups.remove(&key);
+                    }
+                }
+            }
+            let sums = sums.iter().map(|sum| (*sum).clamp(i64::MIN.into(), i64::MAX.into()).to_string()).collect::<Vec<String>>();
+            let sums = Row::of_cells(b't', sums.iter().map(|sum| sum.as_bytes()));
+            ups.push(Up::Rows(vec![Rc::new(cells), Rc::new(sums)]));
+        }
+        ups.push(Up::Punct(0, Rc::new(said), self.summed.len()));
+    }
+}
+
+struct JoinPlan {
+    // For each class the column of each input that it has.
+    classes: Vec<BTreeMap<usize, usize>>,
+    // For each input the others in an order in which the marked columns of a scheme of each are bound.
+    certs: Vec<Vec<(usize, Vec<usize>)>>,
 }
 
 // A stored row, and the rows that watch through it.
@@ -262,8 +390,8 @@ struct Waiting {
 #[derive(Default)]
 struct Side {
     rows: BTreeMap<u64, Stored>,
-    // For each column that a class has, the tickets of the rows with a value there.
-    index: HashMap<usize, HashMap<Key, BTreeSet<u64>>>,
+    // For each column that a class has, the tickets of the rows with a value there, which rise.
+    index: HashMap<usize, HashMap<Key, Vec<u64>>>,
     store: Store,
     // The rows to be judged at the next sweep.
     marked: BTreeSet<u64>,
@@ -274,49 +402,47 @@ struct Side {
 }
 
 struct Join {
+    plan: Rc<JoinPlan>,
     sides: Vec<Side>,
     next: u64,
     peak: usize,
     before: Vec<usize>,
     width: usize,
-    rows: u64,
-    puncts: u64,
 }
 
 impl Join {
-    fn new(plan: &Plan) -> Join {
-        let arities = &plan.arities;
+    fn new(plan: JoinPlan, arities: &[usize]) -> Join {
         let before = (0..arities.len()).map(|input| arities[..input].iter().sum()).collect();
         let mut sides: Vec<Side> = (0..arities.len()).map(|_| Side::default()).collect();
         for (input, column) in plan.classes.iter().flatten() {
             sides[*input].index.insert(*column, HashMap::default());
         }
-        Join { sides, next: 0, peak: 0, before, width: arities.iter().sum(), rows: 0, puncts: 0 }
+        Join { plan: Rc::new(plan), sides, next: 0, peak: 0, before, width: arities.iter().sum() }
     }
 
     // The tickets of the rows of an input that agree with the parts in each class, which are all older than this one.
-    fn partners(&self, plan: &Plan, parts: &[Option<(u64, Rc<Row>)>], input: usize, below: u64) -> Vec<u64> {
+    fn partners(&self, plan: &JoinPlan, parts: &[Option<(u64, Rc<Row>)>], input: usize, below: u64) -> Vec<u64> {
         let mut found: Option<Vec<u64>> = None;
         for class in &plan.classes {
             let Some(column) = class.get(&input) else { continue };
             let Some((other, there)) = class.iter().find(|(other, _)| parts[**other].is_some()) else { continue };
             let value = parts[*other].as_ref().unwrap().1.cell(*there);
             match &mut found {
-                None => found = Some(self.sides[input].index[column].get(value).map_or(Vec::new(), |set| set.range(..below).copied().collect())),
+                None => found = Some(self.sides[input].index[column].get(value).map_or(Vec::new(), |set| set[..set.partition_point(|ticket| *ticket < below)].to_vec())),
                 Some(tickets) => tickets.retain(|ticket| self.sides[input].rows[ticket].row.cell(*column) == value),
             }
         }
         found.unwrap_or_else(|| self.sides[input].rows.range(..below).map(|(ticket, _)| *ticket).collect())
     }
 
-    fn tuple(&mut self, plan: &Plan, input: usize, row: Row, out: &mut impl Write) -> io::Result<()> {
-        let (ticket, row) = (self.next, Rc::new(row));
+    fn tuple(&mut self, input: usize, row: Rc<Row>, ups: &mut Vec<Up>) {
+        let (plan, ticket) = (self.plan.clone(), self.next);
         self.next += 1;
         let side = &mut self.sides[input];
         for (column, tickets) in &mut side.index {
             match tickets.get_mut(row.cell(*column)) {
-                Some(set) => drop(set.insert(ticket)),
-                None => drop(tickets.insert(row.cell(*column).into(), BTreeSet::from([ticket]))),
+                Some(set) => set.push(ticket),
+                None => drop(tickets.insert(row.cell(*column).into(), vec![ticket])),
             }
         }
         side.rows.insert(ticket, Stored { row: row.clone(), watchers: Vec::new() });
@@ -325,20 +451,12 @@ impl Join {
         let mut parts = vec![None; self.sides.len()];
         parts[input] = Some((ticket, row));
         let mut found = Vec::new();
-        self.complete(plan, &mut parts, ticket, &mut found);
+        self.complete(&plan, &mut parts, ticket, &mut found);
         found.sort_by(|a: &Vec<(u64, Rc<Row>)>, b| a.iter().map(|part| part.0).cmp(b.iter().map(|part| part.0)));
-        for combination in found {
-            out.write_all(b"t")?;
-            for (_, part) in &combination {
-                out.write_all(&part.line[1..])?;
-            }
-            out.write_all(b"\n")?;
-            self.rows += 1;
-        }
-        Ok(())
+        ups.extend(found.into_iter().map(|rows| Up::Rows(rows.into_iter().map(|part| part.1).collect())));
     }
 
-    fn complete(&self, plan: &Plan, parts: &mut Vec<Option<(u64, Rc<Row>)>>, below: u64, found: &mut Vec<Vec<(u64, Rc<Row>)>>) {
+    fn complete(&self, plan: &JoinPlan, parts: &mut Vec<Option<(u64, Rc<Row>)>>, below: u64, found: &mut Vec<Vec<(u64, Rc<Row>)>>) {
         let open: Vec<usize> = (0..parts.len()).filter(|input| parts[*input].is_none()).collect();
         let linked = |input: &&usize| plan.classes.iter().any(|class| class.contains_key(*input) && class.keys().any(|k| parts[*k].is_some()));
         let Some(input) = open.iter().find(linked).or(open.first()).copied() else {
@@ -352,14 +470,9 @@ impl Join {
         parts[input] = None;
     }
 
-    fn emit(&mut self, input: usize, punct: &Row, out: &mut impl Write) -> io::Result<()> {
-        self.puncts += 1;
-        out.write_all(b"p")?;
+    fn up(&self, input: usize, punct: Rc<Row>) -> Up {
         let behind = self.width - self.before[input] - punct.ends.len();
-        out.write_all(" *".repeat(self.before[input]).as_bytes())?;
-        out.write_all(&punct.line[1..])?;
-        out.write_all(" *".repeat(behind).as_bytes())?;
-        out.write_all(b"\n")
+        Up::Punct(self.before[input], punct, behind)
     }
 
     // The first stored row from this ticket on that the punctuation matches.
@@ -367,7 +480,11 @@ impl Join {
         let side = &self.sides[input];
         let indexed = side.index.iter().find(|(column, _)| !punct.is_wild(**column));
         match indexed {
-            Some((column, tickets)) => tickets.get(punct.cell(*column))?.range(from..).find(|ticket| punct.matches(&side.rows[ticket].row)).copied(),
+            Some((column, tickets)) => {
+                let set = tickets.get(punct.cell(*column))?;
+                let start = set.partition_point(|ticket| *ticket < from);
+                set[start..].iter().find(|ticket| punct.matches(&side.rows[ticket].row)).copied()
+            }
             None => side.rows.range(from..).find(|(_, stored)| punct.matches(&stored.row)).map(|(ticket, _)| *ticket),
         }
     }
@@ -377,12 +494,12 @@ impl Join {
         self.sides[input].waiting.insert(number, Waiting { punct, witness });
     }
 
-    fn punct(&mut self, input: usize, punct: Row, out: &mut impl Write) -> io::Result<()> {
-        let (number, punct) = (self.next, Rc::new(punct));
+    fn punct(&mut self, input: usize, punct: Rc<Row>, ups: &mut Vec<Up>) {
+        let number = self.next;
         self.next += 1;
         self.sides[input].store.push(&punct, number);
         match self.witness(input, &punct, 0) {
-            None => self.emit(input, &punct, out)?,
+            None => ups.push(self.up(input, punct.clone())),
             Some(witness) => self.wait(input, number, punct.clone(), witness),
         }
         let columns = punct.constants();
@@ -397,7 +514,6 @@ impl Join {
         for (other, ticket) in woken {
             self.mark(other, ticket);
         }
-        Ok(())
     }
 
     fn mark(&mut self, input: usize, ticket: u64) {
@@ -407,22 +523,20 @@ impl Join {
     }
 
     // Whether all is covered that the parts ask for; else the row watches the first instance that is not.
-    fn judge(&mut self, plan: &Plan, own: (usize, u64), at: usize, parts: &mut Vec<Option<(u64, Rc<Row>)>>) -> bool {
+    fn judge(&mut self, plan: &JoinPlan, own: (usize, u64), at: usize, parts: &mut Vec<Option<(u64, Rc<Row>)>>) -> bool {
         let cert = &plan.certs[own.0];
         let Some((input, marked)) = cert.get(at) else { return true };
-        let mut values = Vec::new();
-        for column in marked {
-            let class = plan.classes.iter().find(|class| class.get(input) == Some(column)).unwrap();
+        let value = |column: usize| {
+            let class = plan.classes.iter().find(|class| class.get(input) == Some(&column)).unwrap();
             let (other, there) = class.iter().find(|(other, _)| parts[**other].is_some()).unwrap();
-            values.push((*other, *there));
+            parts[*other].as_ref().unwrap().1.cell(*there)
+        };
+        let mut key = Vec::with_capacity(24);
+        for column in marked {
+            key.extend_from_slice(value(*column));
+            key.push(b' ');
         }
-        let cells: Vec<&[u8]> = values.iter().map(|(other, there)| parts[*other].as_ref().unwrap().1.cell(*there)).collect();
-        if !self.sides[*input].store.covers(marked, &cells) {
-            let mut key = Vec::new();
-            for cell in cells {
-                key.extend_from_slice(cell);
-                key.push(b' ');
-            }
+        if !self.sides[*input].store.covers(marked, &key, value) {
             self.sides[*input].watches.entry(marked.clone()).or_default().entry(key.into()).or_default().push(own);
             for (other, part) in parts.iter().enumerate().filter(|(other, _)| *other != own.0) {
                 if let Some((ticket, _)) = part {
@@ -442,13 +556,14 @@ impl Join {
         true
     }
 
-    fn sweep(&mut self, plan: &Plan, input: usize, out: &mut impl Write) -> io::Result<()> {
+    fn sweep(&mut self, input: usize, ups: &mut Vec<Up>) {
+        let plan = self.plan.clone();
         let marked = std::mem::take(&mut self.sides[input].marked);
         let mut ripe = Vec::new();
         for ticket in marked {
             let mut parts = vec![None; self.sides.len()];
             parts[input] = Some((ticket, self.sides[input].rows[&ticket].row.clone()));
-            if self.judge(plan, (input, ticket), 0, &mut parts) {
+            if self.judge(&plan, (input, ticket), 0, &mut parts) {
                 ripe.push(ticket);
             }
         }
@@ -458,7 +573,8 @@ impl Join {
             let stored = side.rows.remove(&ticket).unwrap();
             for (column, tickets) in &mut side.index {
                 let set = tickets.get_mut(stored.row.cell(*column)).unwrap();
-                set.remove(&ticket);
+                let at = set.binary_search(&ticket).unwrap();
+                set.remove(at);
                 if set.is_empty() {
                     tickets.remove(stored.row.cell(*column));
                 }
@@ -471,12 +587,106 @@ impl Join {
         for number in looked {
             let waiting = self.sides[input].waiting.remove(&number).unwrap();
             match self.witness(input, &waiting.punct, waiting.witness) {
-                None => self.emit(input, &waiting.punct, out)?,
+                None => ups.push(self.up(input, waiting.punct)),
                 Some(witness) => self.wait(input, number, waiting.punct, witness),
+            }
+        }
+    }
+}
+
+// The tree of nodes, and what the last of them wrote.
+struct Tree<W: Write> {
+    nodes: Vec<Node>,
+    out: W,
+    rows: u64,
+    puncts: u64,
+}
+
+impl<W: Write> Tree<W> {
+    // An element comes to a node from one of its inputs.
+    fn arrive(&mut self, node: usize, input: usize, row: Rc<Row>) -> io::Result<()> {
+        let is_punct = row.line[0] == b'p';
+        let mut ups = Vec::new();
+        let passed = match &mut self.nodes[node].kind {
+            Kind::Stream => Some(row),
+            Kind::Select { column, low, high } => (is_punct || (*low..=*high).contains(&row.number(*column))).then_some(row),
+            Kind::Project { columns } => {
+                let kept = !is_punct || row.constants().iter().all(|column| columns.contains(column));
+                kept.then(|| Rc::new(Row::of_cells(row.line[0], columns.iter().map(|column| row.cell(*column)))))
+            }
+            Kind::Group(group) => {
+                if is_punct { group.punct(&row, &mut ups) } else { group.tuple(&row) }
+                None
+            }
+            Kind::Join(join) => {
+                if is_punct { join.punct(input, row, &mut ups) } else { join.tuple(input, row, &mut ups) }
+                None
+            }
+        };
+        match (passed, self.nodes[node].parent) {
+            (Some(row), Some((above, input))) => self.arrive(above, input, row),
+            (Some(row), None) if is_punct => self.write(Up::Punct(0, row, 0)),
+            (Some(row), None) => self.write(Up::Rows(vec![row])),
+            (None, _) => self.hand_up(node, ups),
+        }
+    }
+
+    fn hand_up(&mut self, node: usize, ups: Vec<Up>) -> io::Result<()> {
+        for up in ups {
+            match self.nodes[node].parent {
+                Some((above, input)) => self.arrive(above, input, row_of(up))?,
+                None => self.write(up)?,
             }
         }
         Ok(())
     }
+
+    fn write(&mut self, up: Up) -> io::Result<()> {
+        match up {
+            Up::Rows(rows) => {
+                self.rows += 1;
+                self.out.write_all(b"t")?;
+                for row in rows {
+                    self.out.write_all(&row.line[1..])?;
+                }
+            }
+            Up::Punct(before, punct, behind) => {
+                self.puncts += 1;
+                self.out.write_all(b"p")?;
+                self.out.write_all(" *".repeat(before).as_bytes())?;
+                self.out.write_all(&punct.line[1..])?;
+                self.out.write_all(" *".repeat(behind).as_bytes())?;
+            }
+        }
+        self.out.write_all(b"\n")
+    }
+
+    fn sweep(&mut self) -> io::Result<()> {
+        for node in 0..self.nodes.len() {
+            let inputs = if let Kind::Join(join) = &self.nodes[node].kind { join.sides.len() } else { 0 };
+            for input in 0..inputs {
+                let mut ups = Vec::new();
+                if let Kind::Join(join) = &mut self.nodes[node].kind {
+                    join.sweep(input, &mut ups);
+                }
+                self.hand_up(node, ups)?;
+            }
+        }
+        Ok(())
+    }
+}
+
+fn row_of(up: Up) -> Rc<Row> {
+    match up {
+        Up::Rows(mut rows) if rows.len() == 1 => rows.pop().unwrap(),
+        Up::Rows(rows) => Rc::new(Row::joined(&rows)),
+        Up::Punct(0, punct, 0) => punct,
+        Up::Punct(before, punct, behind) => Rc::new(punct.widened(before, behind)),
+    }
+}
+
+fn wild(arity: usize) -> Row {
+    Row::of_cells(b'p', std::iter::repeat_n(&b"*"[..], arity))
 }
 
 // A stream's file with its accepted punctuations and its counts.
@@ -521,189 +731,44 @@ impl Feed {
     }
 }
 
-// The sums of each open group, in the order of the groups' first rows, and the groups with each value of a column.
-#[derive(Default)]
-struct Groups {
-    open: BTreeMap<u64, (Row, Vec<i64>)>,
-    numbers: HashMap<Key, u64>,
-    index: Vec<HashMap<Key, BTreeSet<u64>>>,
-    next: u64,
-}
-
-impl Groups {
-    fn tuple(&mut self, row: &Row, by: &[usize], sums: &[usize]) {
-        let values = sums.iter().map(|column| number_in(row.cell(*column)));
-        let key = key_of(row, by);
-        if let Some(number) = self.numbers.get(&key) {
-            let group = self.open.get_mut(number).unwrap();
-            group.1.iter_mut().zip(values).for_each(|(sum, value)| *sum += value);
-            return;
-        }
-        let values = values.collect();
-        let group = projected(row, by);
-        self.index.resize_with(by.len(), HashMap::default);
-        for (column, numbers) in self.index.iter_mut().enumerate() {
-            numbers.entry(group.cell(column).into()).or_default().insert(self.next);
-        }
-        self.numbers.insert(key, self.next);
-        self.open.insert(self.next, (group, values));
-        self.next += 1;
-    }
-
-    // Closes the groups that the punctuation, which speaks of the groups' columns, matches.
-    fn close(&mut self, punct: &Row, out: &mut Vec<Row>) {
-        let columns = punct.constants();
-        let mut closed: Vec<u64> = match columns.first() {
-            Some(column) if !self.index.is_empty() => self.index[*column].get(punct.cell(*column)).map_or(Vec::new(), |set| set.iter().copied().collect()),
-            Some(_) => Vec::new(),
-            None => self.open.keys().copied().collect(),
-        };
-        closed.retain(|number| punct.matches(&self.open[number].0));
-        for number in closed {
-            let (group, sums) = self.open.remove(&number).unwrap();
-            let by: Vec<usize> = (0..group.ends.len()).collect();
-            self.numbers.remove(&key_of(&group, &by));
-            for (column, numbers) in self.index.iter_mut().enumerate() {
-                let set = numbers.get_mut(group.cell(column)).unwrap();
-                set.remove(&number);
-                if set.is_empty() {
-                    numbers.remove(group.cell(column));
-                }
-            }
-            let mut line = group.line.to_vec();
-            for sum in sums {
-                write!(line, " {sum}").unwrap();
-            }
-            out.push(Row::of(&line));
-        }
-    }
-}
-
-fn number_in(cell: &[u8]) -> i64 {
-    std::str::from_utf8(cell).unwrap().parse().unwrap()
-}
-
-fn projected(row: &Row, columns: &[usize]) -> Row {
-    let mut line = vec![row.line[0]];
-    for column in columns {
-        line.push(b' ');
-        line.extend_from_slice(row.cell(*column));
-    }
-    Row::of(&line)
-}
-
-fn is_wild_beside(punct: &Row, columns: &[usize]) -> bool {
-    punct.constants().iter().all(|column| columns.contains(column))
-}
-
-enum Call {
-    Feed(Row),
-    Sweep,
-}
-
-fn join_step(plan: &Plan, join: &mut Join, input: usize, call: Call, out: &mut impl Write) -> io::Result<()> {
-    match call {
-        Call::Feed(row) if row.line[0] == b't' => join.tuple(plan, input, row, out),
-        Call::Feed(punct) => join.punct(input, punct, out),
-        Call::Sweep => join.sweep(plan, input, out),
-    }
-}
-
-// What a node other than a join hands up for an element.
-fn step(operator: &mut Operator, row: Row, up: &mut Vec<Row>) {
-    let is_tuple = row.line[0] == b't';
-    match operator {
-        Operator::Stream | Operator::Join(..) => up.push(row),
-        Operator::Select { column, low } => {
-            if !is_tuple || number_in(row.cell(*column)) >= *low {
-                up.push(row);
-            }
-        }
-        Operator::Project(columns) => {
-            if is_tuple || is_wild_beside(&row, columns) {
-                up.push(projected(&row, columns));
-            }
-        }
-        Operator::Group { by, sums, groups } if is_tuple => groups.tuple(&row, by, sums),
-        Operator::Group { by, sums, groups } => {
-            if is_wild_beside(&row, by) {
-                let punct = projected(&row, by);
-                groups.close(&punct, up);
-                up.push(Row::of(&[&punct.line, " *".repeat(sums.len()).as_bytes()].concat()));
-            }
-        }
-    }
-}
-
-// Calls a node's input, and hands on what the node hands up.
-fn call(nodes: &mut [Node], node: usize, input: usize, wanted: Call, out: &mut (impl Write, u64, u64)) -> io::Result<()> {
-    let parent = nodes[node].parent;
-    let mut up = Vec::new();
-    match (&mut nodes[node].operator, wanted) {
-        (Operator::Join(plan, join), wanted) if parent.is_none() => {
-            join_step(plan, join, input, wanted, &mut out.0)?;
-            (out.1, out.2) = (join.rows, join.puncts);
-        }
-        (Operator::Join(plan, join), wanted) => {
-            let mut lines = Vec::new();
-            join_step(plan, join, input, wanted, &mut lines)?;
-            up.extend(lines.split(|byte| *byte == b'\n').filter(|line| !line.is_empty()).map(Row::of));
-        }
-        (operator, Call::Feed(row)) => step(operator, row, &mut up),
-        (_, Call::Sweep) => {}
-    }
-    for row in up {
-        match parent {
-            Some((above, at)) => call(nodes, above, at, Call::Feed(row), out)?,
-            None => {
-                if row.line[0] == b't' { out.1 += 1 } else { out.2 += 1 }
-                out.0.write_all(&row.line)?;
-                out.0.write_all(b"\n")?;
-            }
-        }
-    }
-    Ok(())
-}
-
 fn main() -> io::Result<()> {
     let words: Vec<String> = std::env::args().collect();
-    let mut nodes = read_plan(&std::fs::read_to_string(&words[1])?);
-    let mut out = (BufWriter::with_capacity(1 << 16, io::stdout().lock()), 0, 0);
+    let nodes = read_plan(&std::fs::read_to_string(&words[1])?);
+    let streams: Vec<usize> = (0..nodes.len()).filter(|node| matches!(nodes[*node].kind, Kind::Stream)).collect();
+    let out = BufWriter::with_capacity(1 << 16, io::stdout().lock());
+    let mut tree = Tree { nodes, out, rows: 0, puncts: 0 };
     let mut feeds = Vec::new();
     for name in &words[2..] {
         let file = Some(BufReader::with_capacity(1 << 16, File::open(name)?));
         feeds.push(Feed { file, number: 0, store: Store::default(), tuples: 0, puncts: 0, rejects: Vec::new() });
     }
-    let streams: Vec<usize> = (0..nodes.len()).filter(|node| matches!(nodes[*node].operator, Operator::Stream)).collect();
-    let inputs_of = |node: usize| nodes.iter().filter(|child| child.parent.is_some_and(|parent| parent.0 == node)).count();
-    let joins = (0..nodes.len()).filter(|node| matches!(nodes[*node].operator, Operator::Join(..)));
-    let sweeps: Vec<(usize, usize)> = joins.flat_map(|join| (0..inputs_of(join)).map(move |input| (join, input))).collect();
     let mut line = Vec::new();
     while feeds.iter().any(|feed| feed.file.is_some()) {
-        for (stream, feed) in streams.iter().zip(&mut feeds).filter(|(_, feed)| feed.file.is_some()) {
+        for (stream, feed) in feeds.iter_mut().enumerate().filter(|(_, feed)| feed.file.is_some()) {
+            let node = streams[stream];
             let row = match feed.next(&mut line)? {
                 Turn::Tuple(row) | Turn::Punct(row) => row,
-                Turn::End => Row::of(format!("p{}", " *".repeat(nodes[*stream].columns.len())).as_bytes()),
+                Turn::End => wild(tree.nodes[node].columns.len()),
             };
-            let sweeps: &[(usize, usize)] = if row.line[0] == b'p' { &sweeps } else { &[] };
-            call(&mut nodes, *stream, 0, Call::Feed(row), &mut out)?;
-            for (join, input) in sweeps {
-                call(&mut nodes, *join, *input, Call::Sweep, &mut out)?;
+            let is_punct = row.line[0] == b'p';
+            tree.arrive(node, 0, Rc::new(row))?;
+            if is_punct {
+                tree.sweep()?;
             }
         }
     }
     for (stream, feed) in streams.iter().zip(&feeds) {
-        let name = &nodes[*stream].name;
-        writeln!(out.0, "# stream {name} tuples {} punctuations {} rejected {}", feed.tuples, feed.puncts, feed.rejects.len())?;
+        let name = &tree.nodes[*stream].name;
+        writeln!(tree.out, "# stream {name} tuples {} punctuations {} rejected {}", feed.tuples, feed.puncts, feed.rejects.len())?;
         for (number, by) in feed.rejects.iter().take(1_000) {
-            writeln!(out.0, "# reject {name} line {number} closed by line {by}")?;
+            writeln!(tree.out, "# reject {name} line {number} closed by line {by}")?;
         }
     }
-    writeln!(out.0, "# results {} punctuations {}", out.1, out.2)?;
-    for node in &nodes {
-        if let Operator::Join(_, join) = &node.operator {
-            writeln!(out.0, "# peak {} {}", node.name, join.peak)?;
+    writeln!(tree.out, "# results {} punctuations {}", tree.rows, tree.puncts)?;
+    for node in &tree.nodes {
+        if let Kind::Join(join) = &node.kind {
+            writeln!(tree.out, "# peak {} {}", node.name, join.peak)?;
         }
     }
-    out.0.flush()
+    tree.out.flush()
 }
