@@ -27,3 +27,4 @@ pub mod Looked
 pub mod Woken
 pub mod Picked
 pub mod Watched
+pub mod Held

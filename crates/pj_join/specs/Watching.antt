@@ -6,11 +6,11 @@ use Rattle.pj_state.specs.States.{StateView, is_value, row_under, stored, ticket
 use Rattle.pj_cover.specs.Asking.{entries, puncts_from}
 use Rattle.pj_cover.specs.declared.rows.Uncovered.{Uncovered}
 use Rattle.pj_events.specs.Patterns.{Pattern, covers}
-use Rattle.pj_events.specs.Join.{CertEntry, CertStep, ClassCol, In, JoinData, PunctAt, TupleAt, cert_of, covered, demand, has, inputs, instance_from, older_puncts}
+use Rattle.pj_events.specs.Join.{CertEntry, CertStep, ClassCol, In, JoinData, PunctAt, TupleAt, cert_of, covered, demand, has, inputs, instance_from, is_held, older_puncts}
 use Rattle.pj_events.specs.KeptState.{kept_low, kept_ripe}
 use Rattle.pj_join.specs.Joins.{JoinView}
 use Rattle.pj_join.specs.Judging.{Judge, ripe_at}
-use Rattle.pj_join.specs.Sides.{state_at, tuple_in}
+use Rattle.pj_join.specs.Sides.{state_at, still_held, tuple_in}
 pub use Rattle.pj_join.specs.declared.marks.Watches.{Watches}
 pub use Rattle.pj_join.specs.declared.marks.Judged.{Judged}
 use Rattle.pj_join.specs.declared.marks.Verdict.{Verdict}
@@ -42,6 +42,19 @@ abbrev pub AreOpenBut : JoinView → ℕ → List ℕ → Type 0
 AreOpenBut join input marked =
     (x : TupleAt) → In x join.kept.stored → x.input ≡ input → x.ticket < kept_low join.kept → kept_ripe join.spec join.kept x ≡ false → has marked x.ticket ≡ false
     → AsksOpen join.spec.shape.classes (cert_of join.spec input) join.kept.puncts x
+
+-- each of these punctuations is matched by a stored tuple of its input
+abbrev pub AllHeld : List TupleAt → List PunctAt → Type 0
+AllHeld stored ps = (p : PunctAt) → In p ps → is_held stored p ≡ true
+
+-- each of these that is of the input is matched by one of the rows
+abbrev pub AreHeldBy : List Stored → ℕ → List PunctAt → Type 0
+AreHeldBy rows input ps = (p : PunctAt) → In p ps → p.input ≡ input → still_held rows [] p.patterns ≡ true
+
+-- the list that takes the place of this one, or the same
+abbrev pub or_same : {A : Type 0} → Option (List A) → List A → List A
+or_same None xs = xs
+or_same (Some ys) xs = ys
 
 -- ---- what a punctuation marks
 

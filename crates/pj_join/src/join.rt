@@ -9,7 +9,7 @@ ghost use Rattle.pj_join.specs.Handed.{JoinProbes, StandsProbed, rows_probed};
 ghost use Rattle.pj_join.specs.Insides.{Rise, tickets};
 ghost use Rattle.pj_join.specs.Judging.{waiting_on};
 ghost use Rattle.pj_join.specs.Joins.{IsTaken, StandsFor, JoinTakes, StandsTaken, after, join_data};
-ghost use Rattle.pj_join.specs.Watching.{AreOpenBut};
+ghost use Rattle.pj_join.specs.Watching.{AreOpenBut, or_same};
 ghost use Rattle.pj_join.specs.Sweeping.{GoesWhereCovered, HandsUp, HasBeenLawful, IsForgotten, puncts_up, rows_off, swept_off};
 
 use crate::arrivals::Heard;
@@ -59,13 +59,13 @@ impl Model for Join {
     ghost use Rattle.pj_join.specs.Joins.{JoinView, join_data};
     ghost use Rattle.pj_join.specs.Insides.{IsJoin, inside, made_with, seen};
     ghost use Rattle.pj_join.specs.Sides.{log_of, puncts_of};
-    ghost use Rattle.pj_join.specs.Watching.{AreWatched};
+    ghost use Rattle.pj_join.specs.Watching.{AllHeld, AreWatched};
 
     ghost Value = { JoinView };
 
     ghost view = { λ j. seen (made_with j.node (join_data (arc_value j.spec) j.schemes j.certs) j.limit) j.next j.done (log_of j.states.items) (puncts_of j.stores.items) j.waiting j.taken.items };
 
-    ghost invariant = { λ j. IsJoin (join_data (arc_value j.spec) j.schemes j.certs) j.limit (inside j.next j.done j.states.items j.stores.items j.pending j.taken.items) × AreWatched (join_data (arc_value j.spec) j.schemes j.certs) j.next (log_of j.states.items) (puncts_of j.stores.items) j.watches.items };
+    ghost invariant = { λ j. IsJoin (join_data (arc_value j.spec) j.schemes j.certs) j.limit (inside j.next j.done j.states.items j.stores.items j.pending j.taken.items) × AreWatched (join_data (arc_value j.spec) j.schemes j.certs) j.next (log_of j.states.items) (puncts_of j.stores.items) j.watches.items × AllHeld (log_of j.states.items) j.waiting };
 }
 
 impl Join {
@@ -291,7 +291,7 @@ impl Join {
         ensures certified { OnOk result (AreCertified self.now.spec) }
         ensures gone { IfOk result (λ left. left.gone ≡ tickets (swept_off self.now input)) }
         ensures marked { IfOk result (λ left. AreOpenBut self.now input left.marked) }
-        ensures waiting { IfOk result (λ left. left.waiting ≡ waiting_on (swept self.now.spec self.now.kept input) input self.now.kept.waiting) }
+        ensures waiting { IfOk result (λ left. or_same left.waiting self.now.kept.waiting ≡ waiting_on (swept self.now.spec self.now.kept input) input self.now.kept.waiting) }
         ensures removed { OnOk result (removed.new ≡ removed.old ++ rows_off self.now input) }
         ensures out { OnOk result (out.new ≡ out.old ++ puncts_up self.now (Sweep input)) }
         ensures err { OnErr result ((take (length removed.old) removed.new ≡ removed.old) × (take (length out.old) out.new ≡ out.old)) }
@@ -322,7 +322,7 @@ impl Join {
         requires there { input < inputs self.old.spec }
         requires gone { left.gone ≡ tickets (swept_off self.old input) }
         requires marked { AreOpenBut self.old input left.marked }
-        requires waiting { left.waiting ≡ waiting_on (swept self.old.spec self.old.kept input) input self.old.kept.waiting }
+        requires waiting { or_same left.waiting self.old.kept.waiting ≡ waiting_on (swept self.old.spec self.old.kept input) input self.old.kept.waiting }
         ensures sweeps { self.new ≡ after self.old (Sweep input) }
         ensures count { result ≡ length (swept_off self.old input) }
     {
@@ -334,7 +334,7 @@ impl Join {
         let count = gone.len();
         let from = self.low();
         self.done -= count;
-        self.waiting = waiting;
+        take_over(&mut self.waiting, waiting);
         remove_all(&mut self.states[input as usize], gone.as_slice());
         self.watches[input as usize] = Watches { from, marked };
         count as u64
@@ -380,6 +380,18 @@ impl Join {
         ensures { result + length self.now.kept.pending ≡ length self.now.kept.opened }
     {
         self.taken.len() as u64
+    }
+}
+
+// Takes a list over, where there is one.
+fn take_over(waiting: &mut List<Heard>, other: Option<List<Heard>>)
+    ensures { waiting.new ≡ or_same other waiting.old }
+{
+    match other {
+        None => {}
+        Some(list) => {
+            *waiting = list;
+        }
     }
 }
 

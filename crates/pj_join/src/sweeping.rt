@@ -6,7 +6,7 @@ ghost use Rattle.pj_state.specs.Rising.{IsRising, itself};
 ghost use Rattle.pj_state.specs.States.{state_of, stored, ticket_of};
 ghost use Rattle.pj_join.specs.Judging.{BothMore, MayJudge, judge, letting_go, one_if, ripe_rows, ripe_tickets, row_in, rows_without, staying_on};
 ghost use Rattle.pj_join.specs.Sides.{state_at};
-ghost use Rattle.pj_join.specs.Watching.{AreJudged, AreLookedAt, IsOneJudged, IsVerdict, NoneIsRipe, all_picked, goes_by, is_passed, marked_by, picked, verdict_on};
+ghost use Rattle.pj_join.specs.Watching.{AreHeldBy, AreJudged, AreLookedAt, IsOneJudged, IsVerdict, NoneIsRipe, all_picked, goes_by, is_passed, marked_by, or_same, picked, verdict_on};
 
 use crate::arrivals::Heard;
 use crate::marks::{Judged, Verdict, Watches};
@@ -14,17 +14,18 @@ use crate::stored::Inputs;
 use crate::widening::let_go;
 use pj_cover::{PunctStore, Uncovered, first_uncovered};
 use pj_pattern::Punct;
-use pj_shape::{Cert, JoinSpec, Schemes};
+use pj_shape::{Cert, JoinSpec, Schema, Schemes};
 use pj_state::State;
 use pj_value::{List, NoMemory, Row};
 use std::alloc::Global;
 
-/// What a sweep leaves: the tickets of the tuples that go, and of those that are judged again, and the punctuations that wait.
+/// What a sweep leaves: the tickets of the tuples that go, and of those that are judged again, and the punctuations that wait
+/// on; none where all do.
 #[derive(Drop)]
 pub struct Left {
     pub gone: List<u64>,
     pub marked: List<u64>,
-    pub waiting: List<Heard>,
+    pub waiting: Option<List<Heard>>,
 }
 
 // What the first instance tells that a row asks for and that is not covered. Where no punctuation is at or above the low-water
@@ -268,6 +269,29 @@ fn ripe_ones(
     Ok(judged)
 }
 
+// The punctuations that wait on where these rows go, and none where all do; the others are put at the end of `out`, widened.
+fn wait_on(
+    alloc: Global,
+    schemas: &[Schema],
+    state: &State,
+    gone: &[u64],
+    input: u32,
+    waiting: &[Heard],
+    out: &mut List<Punct>,
+) -> Result<Option<List<Heard>>, NoMemory>
+    requires there { input < length schemas.now }
+    requires held { AreHeldBy state.now.rows input waiting.now }
+    ensures waiting { IfOk result (λ stay. or_same stay waiting.now ≡ staying_on state.now.rows gone.now input waiting.now) }
+    ensures ok { OnOk result (out.new ≡ out.old ++ letting_go schemas.now state.now.rows gone.now input waiting.now) }
+    ensures err { OnErr result (take (length out.old) out.new ≡ out.old) }
+{
+    if gone.len() == 0 {
+        return Ok(None);
+    }
+    let stay = let_go(alloc, schemas, state, gone, input, waiting, out)?;
+    Ok(Some(stay))
+}
+
 /// Judges the stored tuples of an input. The rows of those that go are put at the end of `removed`, and the punctuations that
 /// are let go at the end of `out`. After a refusal both begin as before.
 pub fn sweep_input(
@@ -287,9 +311,10 @@ pub fn sweep_input(
 ) -> Result<Left, NoMemory>
     requires may { MayJudge (judge spec.now schemes.now states.now stores.now low) cert.now input }
     requires passed { NoneIsRipe (judge spec.now schemes.now states.now stores.now low) cert.now input watches.now }
+    requires held { AreHeldBy (state_at states.now input).rows input waiting.now }
     ensures gone { let j = judge spec.now schemes.now states.now stores.now low in IfOk result (λ left. left.gone ≡ ripe_tickets j cert.now input (state_at states.now input).rows) }
     ensures left { let j = judge spec.now schemes.now states.now stores.now low in IfOk result (λ left. AreLookedAt j cert.now input settled watches.now left.marked) }
-    ensures waiting { IfOk result (λ left. left.waiting ≡ staying_on (state_at states.now input).rows left.gone input waiting.now) }
+    ensures waiting { IfOk result (λ left. or_same left.waiting waiting.now ≡ staying_on (state_at states.now input).rows left.gone input waiting.now) }
     ensures removed { let j = judge spec.now schemes.now states.now stores.now low in OnOk result (removed.new ≡ removed.old ++ ripe_rows j cert.now input (state_at states.now input).rows) }
     ensures out { IfOk result (λ left. out.new ≡ out.old ++ letting_go spec.now.inputs (state_at states.now input).rows left.gone input waiting.now) }
     ensures err { OnErr result ((take (length removed.old) removed.new ≡ removed.old) × (take (length out.old) out.new ≡ out.old)) }
@@ -298,7 +323,7 @@ pub fn sweep_input(
         alloc, spec, schemes, cert, input, states, stores, watches, low, settled, removed,
     )?;
     let Judged { gone, marked } = judged;
-    let waiting = let_go(
+    let waiting = wait_on(
         alloc,
         spec.inputs.as_slice(),
         &states[input as usize],

@@ -17,7 +17,7 @@ pub invariant_of-self : goal.invariant_of-self
 invariant_of-self c =
     let r : IsTaken c.args.self.now.kept c.args.probe.ticket = c.requires in
     let f : has (tickets (drop c.self.inside.done (log_of c.self.inside.states.items))) c.args.probe.ticket ≡ false = (rw (← c.self.view_is) at r).1 in
-    (rw (c.forget.ensures, c.ticket.ensures) (join-gives (join_data (arc_value c.self.inside.spec) c.self.inside.schemes c.self.inside.certs) c.self.inside.limit c.self.inside.next c.self.inside.done c.self.inside.states.items c.self.inside.stores.items c.self.inside.pending c.self.inside.taken.items c.self.invariant.0 c.args.probe.ticket f), c.self.invariant.1)
+    (rw (c.forget.ensures, c.ticket.ensures) (join-gives (join_data (arc_value c.self.inside.spec) c.self.inside.schemes c.self.inside.certs) c.self.inside.limit c.self.inside.next c.self.inside.done c.self.inside.states.items c.self.inside.stores.items c.self.inside.pending c.self.inside.taken.items c.self.invariant.0 c.args.probe.ticket f), c.self.invariant.1, c.self.invariant.2)
 
 pub returns-clause-gives : goal.returns-clause-gives
 returns-clause-gives c =

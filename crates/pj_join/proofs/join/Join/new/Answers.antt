@@ -19,6 +19,7 @@ invariant_of-result c = (
   rw (c.in_ok-new.ensures.ok) (subst (λ (xs : List TupleAt). AreWatched (join_data c.args.spec c.args.schemes c.args.certs) 0 xs (puncts_of c.in_ok-stores.stores.items) c.in_ok-watches.watches.items) (sym (log-none (join_data c.args.spec c.args.schemes c.args.certs) c.args.limit c.in_ok-states.states.items c.in_ok-stores.stores.items c.in_ok-states.ensures.rows (c.in_ok-stores.ensures.heard ∙ ap (λ (ss : List (List Column)). map (λ k. heard_of k []) (upto_from 0 (length ss))) c.as_slice.ensures)))
       (subst (λ (ps : List PunctAt). AreWatched (join_data c.args.spec c.args.schemes c.args.certs) 0 [] ps c.in_ok-watches.watches.items) (sym (puncts-none (join_data c.args.spec c.args.schemes c.args.certs) c.args.limit c.in_ok-states.states.items c.in_ok-stores.stores.items c.in_ok-states.ensures.rows (c.in_ok-stores.ensures.heard ∙ ap (λ (ss : List (List Column)). map (λ k. heard_of k []) (upto_from 0 (length ss))) c.as_slice.ensures)))
       (watched_start (join_data c.args.spec c.args.schemes c.args.certs) c.in_ok-watches.watches.items (c.in_ok-watches.ensures.count ∙ c.len.ensures ∙ sym (length-map c.args.spec.inputs (λ schema. length schema))) c.in_ok-watches.ensures.none))),
+  rw (c.new-2.ensures) (λ p h. absurd h),
 )
 
 pub returns : goal.returns

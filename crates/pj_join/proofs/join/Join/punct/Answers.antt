@@ -14,7 +14,8 @@ use Rattle.pj_join.proofs.Sweeps.{hands-punct, punct_out, punct_view}
 use Rattle.pj_join.proofs.Swept.{held-at-first}
 use Rattle.pj_join.proofs.Kept.{above-all, all-states, all-stores, join-hears, on-err, puncts-more, same-stores, wide}
 use Rattle.pj_state.specs.States.{StateView}
-use Rattle.pj_join.specs.Watching.{AreWatched}
+use Rattle.pj_join.specs.Watching.{AllHeld, AreWatched}
+use Rattle.pj_join.proofs.Held.{held_punct}
 use Rattle.pj_join.proofs.Watched.{watched_fewer, watched_punct}
 use Rattle.pj_join.proofs.Looped.{state_is}
 use Rattle.pj_join.proofs.join.Join.punct.Goals as goal
@@ -35,14 +36,14 @@ pub wake-requires-clause-wide : goal.wake-requires-clause-wide
 wake-requires-clause-wide c = subst (λ (ss : List StateView). AreWide ss) (sym c.as_slice-2.ensures.value) (wide (join_data (arc_value c.self.inside.spec) c.self.inside.schemes c.self.inside.certs) c.self.inside.limit c.self.inside.next c.self.inside.done c.self.inside.states.items c.self.inside.stores.items c.self.inside.pending c.self.inside.taken.items c.self.invariant.0)
 
 pub invariant_of-self : goal.invariant_of-self
-invariant_of-self c = (c.self.invariant.0, (watched_fewer (join_data (arc_value c.self.inside.spec) c.self.inside.schemes c.self.inside.certs) c.self.inside.next (log_of c.self.inside.states.items) (puncts_of c.self.inside.stores.items) c.self.inside.watches.items c.wake.new.watches.items c.wake.ensures.fewer c.self.invariant.1))
+invariant_of-self c = (c.self.invariant.0, (watched_fewer (join_data (arc_value c.self.inside.spec) c.self.inside.schemes c.self.inside.certs) c.self.inside.next (log_of c.self.inside.states.items) (puncts_of c.self.inside.stores.items) c.self.inside.watches.items c.wake.new.watches.items c.wake.ensures.fewer c.self.invariant.1), c.self.invariant.2)
 
 pub invariant_of-self-in_err-hear : goal.invariant_of-self-in_err-hear
 invariant_of-self-in_err-hear c =
     let lt : c.args.input < inputs c.args.self.now.spec = c.requires.fits.0 in
     let there : c.args.input < inputs (join_data (arc_value c.self.inside.spec) c.self.inside.schemes c.self.inside.certs) = rw (← c.self.view_is) at lt in
-    subst (λ (ss : List Store). IsJoin (join_data (arc_value c.self.inside.spec) c.self.inside.schemes c.self.inside.certs) c.self.inside.limit (inside c.self.inside.next c.self.inside.done c.self.inside.states.items ss c.self.inside.pending c.self.inside.taken.items) × AreWatched (join_data (arc_value c.self.inside.spec) c.self.inside.schemes c.self.inside.certs) c.self.inside.next (log_of c.self.inside.states.items) (puncts_of ss) c.wake.new.watches.items)
-    (sym (same-stores (join_data (arc_value c.self.inside.spec) c.self.inside.schemes c.self.inside.certs) c.self.inside.limit c.self.inside.next c.self.inside.done c.self.inside.states.items c.self.inside.stores.items c.self.inside.pending c.self.inside.taken.items c.self.invariant.0 c.args.input c.index_mut.result.now c.hear.new.store there c.index_mut.ensures.value c.in_err-hear.ensures.arity c.in_err-hear.ensures.err.0)) (c.self.invariant.0, (watched_fewer (join_data (arc_value c.self.inside.spec) c.self.inside.schemes c.self.inside.certs) c.self.inside.next (log_of c.self.inside.states.items) (puncts_of c.self.inside.stores.items) c.self.inside.watches.items c.wake.new.watches.items c.wake.ensures.fewer c.self.invariant.1))
+    subst (λ (ss : List Store). IsJoin (join_data (arc_value c.self.inside.spec) c.self.inside.schemes c.self.inside.certs) c.self.inside.limit (inside c.self.inside.next c.self.inside.done c.self.inside.states.items ss c.self.inside.pending c.self.inside.taken.items) × AreWatched (join_data (arc_value c.self.inside.spec) c.self.inside.schemes c.self.inside.certs) c.self.inside.next (log_of c.self.inside.states.items) (puncts_of ss) c.wake.new.watches.items × AllHeld (log_of c.self.inside.states.items) c.hear.new.waiting)
+    (sym (same-stores (join_data (arc_value c.self.inside.spec) c.self.inside.schemes c.self.inside.certs) c.self.inside.limit c.self.inside.next c.self.inside.done c.self.inside.states.items c.self.inside.stores.items c.self.inside.pending c.self.inside.taken.items c.self.invariant.0 c.args.input c.index_mut.result.now c.hear.new.store there c.index_mut.ensures.value c.in_err-hear.ensures.arity c.in_err-hear.ensures.err.0)) (c.self.invariant.0, (watched_fewer (join_data (arc_value c.self.inside.spec) c.self.inside.schemes c.self.inside.certs) c.self.inside.next (log_of c.self.inside.states.items) (puncts_of c.self.inside.stores.items) c.self.inside.watches.items c.wake.new.watches.items c.wake.ensures.fewer c.self.invariant.1), rw (c.in_err-hear.ensures.err.1) c.self.invariant.2)
 
 pub invariant_of-self-2 : goal.invariant_of-self-2
 invariant_of-self-2 c =
@@ -51,6 +52,7 @@ invariant_of-self-2 c =
       join-hears (join_data (arc_value c.self.inside.spec) c.self.inside.schemes c.self.inside.certs) c.self.inside.limit c.self.inside.next c.self.inside.done c.self.inside.states.items c.self.inside.stores.items c.self.inside.pending c.self.inside.taken.items c.self.invariant.0 c.args.input c.args.punct c.index_mut.result.now c.hear.new.store there (λ d. c.index_mut.ensures.value ∙ same-at c.self.inside.stores.items c.args.input c.index_mut.result.now d (omega (arith, there, all-stores (join_data (arc_value c.self.inside.spec) c.self.inside.schemes c.self.inside.certs) c.self.inside.limit c.self.inside.next c.self.inside.done c.self.inside.states.items c.self.inside.stores.items c.self.inside.pending c.self.inside.taken.items c.self.invariant.0))) c.in_ok-hear.ensures.arity c.in_ok-hear.ensures.store (λ e. false≢true (c.if-is_full.ensures.1 e)),
       subst (λ (ps : List PunctAt). AreWatched (join_data (arc_value c.self.inside.spec) c.self.inside.schemes c.self.inside.certs) (c.self.inside.next + 1) (log_of c.self.inside.states.items) ps c.wake.new.watches.items) (sym (puncts-more (join_data (arc_value c.self.inside.spec) c.self.inside.schemes c.self.inside.certs) c.self.inside.limit c.self.inside.next c.self.inside.done c.self.inside.states.items c.self.inside.stores.items c.self.inside.pending c.self.inside.taken.items c.self.invariant.0 c.args.input c.args.punct c.index_mut.result.now c.hear.new.store there (λ d. c.index_mut.ensures.value ∙ same-at c.self.inside.stores.items c.args.input c.index_mut.result.now d (omega (arith, there, all-stores (join_data (arc_value c.self.inside.spec) c.self.inside.schemes c.self.inside.certs) c.self.inside.limit c.self.inside.next c.self.inside.done c.self.inside.states.items c.self.inside.stores.items c.self.inside.pending c.self.inside.taken.items c.self.invariant.0))) c.in_ok-hear.ensures.arity c.in_ok-hear.ensures.store))
           (watched_punct (join_data (arc_value c.self.inside.spec) c.self.inside.schemes c.self.inside.certs) c.self.inside.limit c.self.inside.next c.self.inside.done c.self.inside.states.items c.self.inside.stores.items c.self.inside.pending c.self.inside.taken.items c.self.invariant.0 c.self.inside.watches.items c.wake.new.watches.items (record { ticket = c.self.inside.next; input = c.args.input; patterns = c.args.punct }) c.wake.ensures.fewer (rw (c.deref.ensures, c.as_slice.ensures, c.as_slice-2.ensures.value) at (c.in_ok-wake.ensures.left c.self.inside.next)) c.self.invariant.1),
+      held_punct (log_of c.self.inside.states.items) c.self.inside.waiting c.hear.new.waiting _ (record { ticket = c.self.inside.next; input = c.args.input; patterns = c.args.punct }) c.self.invariant.2 (held-at-first (join_data (arc_value c.self.inside.spec) c.self.inside.schemes c.self.inside.certs) c.self.inside.limit c.self.inside.next c.self.inside.done c.self.inside.states.items c.self.inside.stores.items c.self.inside.pending c.self.inside.taken.items c.self.invariant.0 c.index.result.now (record { ticket = c.self.inside.next; input = c.args.input; patterns = c.args.punct }) there (state_is c.self.inside.states.items c.args.input c.index.result.now (inputs (join_data (arc_value c.self.inside.spec) c.self.inside.schemes c.self.inside.certs)) (all-states (join_data (arc_value c.self.inside.spec) c.self.inside.schemes c.self.inside.certs) c.self.inside.limit c.self.inside.next c.self.inside.done c.self.inside.states.items c.self.inside.stores.items c.self.inside.pending c.self.inside.taken.items c.self.invariant.0) there c.index.ensures)) c.in_ok-hear.ensures.waiting,
     )
 
 pub returns-clause-keeps : goal.returns-clause-keeps

@@ -11,7 +11,8 @@ use Rattle.pj_join.specs.Sweeping.{swept_off}
 use Rattle.pj_join.proofs.Kept.{all-states}
 use Rattle.pj_join.proofs.Looped.{state_is}
 use Rattle.pj_join.proofs.Swept.{few-gone, join-swept, log-left, view-left}
-use Rattle.pj_join.specs.Watching.{AreOpenBut, AreWatched}
+use Rattle.pj_join.specs.Watching.{AllHeld, AreOpenBut, AreWatched, or_same}
+use Rattle.pj_join.proofs.Held.{held_swept}
 use Rattle.pj_join.proofs.Watched.{watched_swept}
 use Rattle.pj_join.proofs.join.Join.settle.Goals as goal
 
@@ -41,22 +42,24 @@ invariant_of-self c =
     let there : c.args.input < inputs (join_data (arc_value c.self.inside.spec) c.self.inside.schemes c.self.inside.certs) = rw (← c.self.view_is) at lt in
     let goes : c.args.left.gone ≡ tickets (swept_off c.args.self.now c.args.input) = c.requires.gone in
     let gone : c.args.left.gone ≡ tickets (swept_off (seen (made_with c.self.inside.node (join_data (arc_value c.self.inside.spec) c.self.inside.schemes c.self.inside.certs) c.self.inside.limit) c.self.inside.next c.self.inside.done (log_of c.self.inside.states.items) (puncts_of c.self.inside.stores.items) c.self.inside.waiting c.self.inside.taken.items) c.args.input) = rw (← c.self.view_is) at goes in
+    let waits : or_same c.args.left.waiting c.args.self.now.kept.waiting ≡ waiting_on (swept c.args.self.now.spec c.args.self.now.kept c.args.input) c.args.input c.args.self.now.kept.waiting = c.requires.waiting in
     let kept : c.low-from.result ≡ kept_low c.args.self.now.kept = c.low-from.ensures.kept in
     let low : c.low-from.result ≡ kept_low (seen (made_with c.self.inside.node (join_data (arc_value c.self.inside.spec) c.self.inside.schemes c.self.inside.certs) c.self.inside.limit) c.self.inside.next c.self.inside.done (log_of c.self.inside.states.items) (puncts_of c.self.inside.stores.items) c.self.inside.waiting c.self.inside.taken.items).kept = rw (← c.self.view_is) at kept in
     let marks : AreOpenBut c.args.self.now c.args.input c.args.left.marked = c.requires.marked in (
       rw (c.len-count.ensures) (join-swept c.self.inside.node (join_data (arc_value c.self.inside.spec) c.self.inside.schemes c.self.inside.certs) c.self.inside.limit c.self.inside.next c.self.inside.done c.self.inside.states.items c.self.inside.stores.items c.self.inside.pending c.self.inside.taken.items c.self.inside.waiting c.args.input c.self.invariant.0 there c.args.left.gone gone c.index_mut.result.now c.remove_all.new.state (state_is c.self.inside.states.items c.args.input c.index_mut.result.now (inputs (join_data (arc_value c.self.inside.spec) c.self.inside.schemes c.self.inside.certs)) (all-states (join_data (arc_value c.self.inside.spec) c.self.inside.schemes c.self.inside.certs) c.self.inside.limit c.self.inside.next c.self.inside.done c.self.inside.states.items c.self.inside.stores.items c.self.inside.pending c.self.inside.taken.items c.self.invariant.0) there c.index_mut.ensures.value) (rw (← c.as_slice.ensures) c.remove_all.ensures)),
       subst (λ (xs : List TupleAt). AreWatched (join_data (arc_value c.self.inside.spec) c.self.inside.schemes c.self.inside.certs) c.self.inside.next xs (puncts_of c.self.inside.stores.items) (set c.self.inside.watches.items c.args.input (record { from = c.low-from.result; marked = c.args.left.marked }))) (sym (log-left c.self.inside.node (join_data (arc_value c.self.inside.spec) c.self.inside.schemes c.self.inside.certs) c.self.inside.limit c.self.inside.next c.self.inside.done c.self.inside.states.items c.self.inside.stores.items c.self.inside.pending c.self.inside.taken.items c.self.inside.waiting c.args.input c.self.invariant.0 there c.args.left.gone gone c.index_mut.result.now c.remove_all.new.state (state_is c.self.inside.states.items c.args.input c.index_mut.result.now (inputs (join_data (arc_value c.self.inside.spec) c.self.inside.schemes c.self.inside.certs)) (all-states (join_data (arc_value c.self.inside.spec) c.self.inside.schemes c.self.inside.certs) c.self.inside.limit c.self.inside.next c.self.inside.done c.self.inside.states.items c.self.inside.stores.items c.self.inside.pending c.self.inside.taken.items c.self.invariant.0) there c.index_mut.ensures.value) (rw (← c.as_slice.ensures) c.remove_all.ensures)))
           (watched_swept (seen (made_with c.self.inside.node (join_data (arc_value c.self.inside.spec) c.self.inside.schemes c.self.inside.certs) c.self.inside.limit) c.self.inside.next c.self.inside.done (log_of c.self.inside.states.items) (puncts_of c.self.inside.stores.items) c.self.inside.waiting c.self.inside.taken.items) c.args.input c.low-from.result c.args.left.marked c.self.inside.watches.items low there c.self.invariant.1 (rw (← c.self.view_is) at marks)),
+      subst (λ (xs : List TupleAt). AllHeld xs c.take_over.new.waiting) (sym (log-left c.self.inside.node (join_data (arc_value c.self.inside.spec) c.self.inside.schemes c.self.inside.certs) c.self.inside.limit c.self.inside.next c.self.inside.done c.self.inside.states.items c.self.inside.stores.items c.self.inside.pending c.self.inside.taken.items c.self.inside.waiting c.args.input c.self.invariant.0 there c.args.left.gone gone c.index_mut.result.now c.remove_all.new.state (state_is c.self.inside.states.items c.args.input c.index_mut.result.now (inputs (join_data (arc_value c.self.inside.spec) c.self.inside.schemes c.self.inside.certs)) (all-states (join_data (arc_value c.self.inside.spec) c.self.inside.schemes c.self.inside.certs) c.self.inside.limit c.self.inside.next c.self.inside.done c.self.inside.states.items c.self.inside.stores.items c.self.inside.pending c.self.inside.taken.items c.self.invariant.0) there c.index_mut.ensures.value) (rw (← c.as_slice.ensures) c.remove_all.ensures))) (held_swept (seen (made_with c.self.inside.node (join_data (arc_value c.self.inside.spec) c.self.inside.schemes c.self.inside.certs) c.self.inside.limit) c.self.inside.next c.self.inside.done (log_of c.self.inside.states.items) (puncts_of c.self.inside.stores.items) c.self.inside.waiting c.self.inside.taken.items) c.args.input c.take_over.new.waiting c.self.invariant.2 (c.take_over.ensures ∙ (rw (← c.self.view_is) at waits))),
     )
 
 pub returns-clause-sweeps : goal.returns-clause-sweeps
 returns-clause-sweeps c =
-    let waits : c.args.left.waiting ≡ waiting_on (swept c.args.self.now.spec c.args.self.now.kept c.args.input) c.args.input c.args.self.now.kept.waiting = c.requires.waiting in
+    let waits : or_same c.args.left.waiting c.args.self.now.kept.waiting ≡ waiting_on (swept c.args.self.now.spec c.args.self.now.kept c.args.input) c.args.input c.args.self.now.kept.waiting = c.requires.waiting in
     let lt : c.args.input < inputs c.args.self.now.spec = c.requires.there in
     let there : c.args.input < inputs (join_data (arc_value c.self.inside.spec) c.self.inside.schemes c.self.inside.certs) = rw (← c.self.view_is) at lt in
     let goes : c.args.left.gone ≡ tickets (swept_off c.args.self.now c.args.input) = c.requires.gone in
     let gone : c.args.left.gone ≡ tickets (swept_off (seen (made_with c.self.inside.node (join_data (arc_value c.self.inside.spec) c.self.inside.schemes c.self.inside.certs) c.self.inside.limit) c.self.inside.next c.self.inside.done (log_of c.self.inside.states.items) (puncts_of c.self.inside.stores.items) c.self.inside.waiting c.self.inside.taken.items) c.args.input) = rw (← c.self.view_is) at goes in
-    rw (c.len-count.ensures, ← c.self.view_is) (view-left c.self.inside.node (join_data (arc_value c.self.inside.spec) c.self.inside.schemes c.self.inside.certs) c.self.inside.limit c.self.inside.next c.self.inside.done c.self.inside.states.items c.self.inside.stores.items c.self.inside.pending c.self.inside.taken.items c.self.inside.waiting c.args.input c.self.invariant.0 there c.args.left.gone gone c.index_mut.result.now c.remove_all.new.state (state_is c.self.inside.states.items c.args.input c.index_mut.result.now (inputs (join_data (arc_value c.self.inside.spec) c.self.inside.schemes c.self.inside.certs)) (all-states (join_data (arc_value c.self.inside.spec) c.self.inside.schemes c.self.inside.certs) c.self.inside.limit c.self.inside.next c.self.inside.done c.self.inside.states.items c.self.inside.stores.items c.self.inside.pending c.self.inside.taken.items c.self.invariant.0) there c.index_mut.ensures.value) (rw (← c.as_slice.ensures) c.remove_all.ensures) c.args.left.waiting (rw (← c.self.view_is) at waits))
+    rw (c.len-count.ensures, ← c.self.view_is) (view-left c.self.inside.node (join_data (arc_value c.self.inside.spec) c.self.inside.schemes c.self.inside.certs) c.self.inside.limit c.self.inside.next c.self.inside.done c.self.inside.states.items c.self.inside.stores.items c.self.inside.pending c.self.inside.taken.items c.self.inside.waiting c.args.input c.self.invariant.0 there c.args.left.gone gone c.index_mut.result.now c.remove_all.new.state (state_is c.self.inside.states.items c.args.input c.index_mut.result.now (inputs (join_data (arc_value c.self.inside.spec) c.self.inside.schemes c.self.inside.certs)) (all-states (join_data (arc_value c.self.inside.spec) c.self.inside.schemes c.self.inside.certs) c.self.inside.limit c.self.inside.next c.self.inside.done c.self.inside.states.items c.self.inside.stores.items c.self.inside.pending c.self.inside.taken.items c.self.invariant.0) there c.index_mut.ensures.value) (rw (← c.as_slice.ensures) c.remove_all.ensures) c.take_over.new.waiting (c.take_over.ensures ∙ (rw (← c.self.view_is) at waits)))
 
 pub returns-clause-count : goal.returns-clause-count
 returns-clause-count c = c.len-count.ensures ∙ ap (λ ts. length ts) c.requires.gone ∙ length-map (swept_off c.args.self.now c.args.input) (λ (x : TupleAt). x.ticket)
