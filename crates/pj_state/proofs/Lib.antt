@@ -3,7 +3,7 @@ pub mod Blocks
 pub mod Slots
 pub mod Between
 pub mod Passed
-pub mod Entries
+pub mod Told
 pub mod Indexed
 pub mod Looking
 pub mod Empty

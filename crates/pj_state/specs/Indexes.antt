@@ -1,62 +1,60 @@
 -- Indexes: which rows have which value in a column.
-use Rattle.std.specs.Prelude.{◌≡◌, ℕ, ◌<◌, ◌≤◌, Bool, true, false, nat_eq, if◌then◌else◌, List, [], ◌∷◌, ◌++◌, Option, Some, None, length, slice_index_or}
-use Rattle.indexmap.specs.IndexMap.{get}
+use Rattle.std.specs.Prelude.{◌≡◌, ℕ, ℤ, ◌<◌, ◌≤◌, Bool, if◌then◌else◌, List, [], ◌∷◌, ◌++◌, Option, Some, None, length, slice_index_or}
+use Rattle.std.specs.Ordering.{int_eq}
+use Rattle.indexmap.specs.IndexMap.{IndexMap, get}
 use Rattle.pj_value.specs.declared.values.Value.{Value}
+use Rattle.pj_value.specs.declared.values.Value.TheVariants.{Int, Text}
 use Rattle.pj_value.specs.Values.{value_eq}
-use Rattle.pj_state.specs.Prints.{value_print}
+use Rattle.pj_state.specs.Keys.{same_text, text_key}
 use Rattle.pj_state.specs.Rising.{AllBelow, IsRising, first_with, itself, without}
 use Rattle.pj_state.specs.States.{rows_with, ticket_of, tickets_of}
 use Rattle.pj_state.specs.declared.shared.Stored.{Stored}
-use Rattle.pj_state.specs.declared.groups.Entry.{Entry}
+use Rattle.pj_state.specs.declared.texts.TextKey.{TextKey}
 use Rattle.pj_state.specs.declared.index.ValueIndex.{ValueIndex}
 
--- the entry is that of the value
-abbrev pub is_of : Value → Entry → Bool
-is_of value e = value_eq e.value value
+-- the tickets that are there
+abbrev pub listed : Option (List ℕ) → List ℕ
+listed None = []
+listed (Some tickets) = tickets
 
--- the tickets that the first entry of a value has
-abbrev pub told_in : List Entry → Value → List ℕ
-told_in [] value = []
-told_in (e ∷ es) value = if is_of value e then e.tickets else told_in es value
+-- the tickets under a key
+abbrev pub told_at : {K S : Type 0} → (K → K → Bool) → IndexMap K (List ℕ) S → K → List ℕ
+told_at same map key = listed (get same map key)
 
--- no entry up to a place is that of the value
-abbrev pub NoneBefore : Value → List Entry → ℕ → Type 0
-NoneBefore value es at = (k : ℕ) (d : Entry) → k < at → is_of value (slice_index_or es k d) ≡ false
-
--- the first entry of the value stands at this place
-pub record IsFirstOf (value : Value) (es : List Entry) (at : ℕ) : Type 0 where
-  pub there : at < length es
-  pub here : (d : Entry) → is_of value (slice_index_or es at d) ≡ true
-  pub before : NoneBefore value es at
-
--- the entries before a place have no tickets
-abbrev pub AreIdle : List Entry → ℕ → Type 0
-AreIdle es at = (k : ℕ) (d : Entry) → k < at → (slice_index_or es k d).tickets ≡ []
-
--- the tickets of a value, where there may be no entries
-abbrev pub told_by : Option (List Entry) → Value → List ℕ
-told_by None value = []
-told_by (Some entries) value = told_in entries value
-
--- the tickets of a value, whose entry is found by its print
-abbrev pub told_at : (ℕ → Option (List Entry)) → Value → List ℕ
-told_at find value = told_by (find (value_print value)) value
+-- the tickets of a value: an integer is looked up among these, a text among those
+abbrev pub told_by : (ℤ → List ℕ) → (TextKey → List ℕ) → Value → List ℕ
+told_by numbers texts (Int n) = numbers n
+told_by numbers texts (Text bytes) = texts (text_key bytes)
 
 -- the tickets that an index has for a value
 abbrev pub told : ValueIndex → Value → List ℕ
-told index = told_at (get nat_eq index.groups)
+told index = told_by (told_at int_eq index.numbers) (told_at same_text index.texts)
 
--- the first has the same tickets as the second, but one more for this value
-abbrev pub HasMore : (Value → List ℕ) → (Value → List ℕ) → Value → ℕ → Type 0
-HasMore new old value ticket = (v : Value) → new v ≡ (if value_eq value v then old v ++ ticket ∷ [] else old v)
+-- the first has the same tickets as the second, but one more under this key
+abbrev pub HasMoreAt : {K : Type 0} → (K → K → Bool) → (K → List ℕ) → (K → List ℕ) → K → ℕ → Type 0
+HasMoreAt {K} same new old key ticket = (k : K) → new k ≡ (if same key k then old k ++ ticket ∷ [] else old k)
 
--- the first has the same tickets as the second, but not this one for this value
-abbrev pub HasFewer : (Value → List ℕ) → (Value → List ℕ) → Value → ℕ → Type 0
-HasFewer new old value ticket = (v : Value) → new v ≡ (if value_eq value v then without itself ticket (old v) else old v)
+-- the first has the same tickets as the second, but not this one under this key
+abbrev pub HasFewerAt : {K : Type 0} → (K → K → Bool) → (K → List ℕ) → (K → List ℕ) → K → ℕ → Type 0
+HasFewerAt {K} same new old key ticket = (k : K) → new k ≡ (if same key k then without itself ticket (old k) else old k)
+
+-- the same, where the tickets under the key rise
+abbrev pub TakesAt : {K : Type 0} → (K → K → Bool) → (K → List ℕ) → (K → List ℕ) → K → ℕ → Type 0
+TakesAt same new old key ticket = IsRising itself (old key) → HasFewerAt same new old key ticket
 
 -- both have the same tickets
+abbrev pub HasSameAt : {K : Type 0} → (K → List ℕ) → (K → List ℕ) → Type 0
+HasSameAt {K} new old = (k : K) → new k ≡ old k
+
+-- the same, of values
+abbrev pub HasMore : (Value → List ℕ) → (Value → List ℕ) → Value → ℕ → Type 0
+HasMore new old value ticket = HasMoreAt value_eq new old value ticket
+
+abbrev pub HasFewer : (Value → List ℕ) → (Value → List ℕ) → Value → ℕ → Type 0
+HasFewer new old value ticket = HasFewerAt value_eq new old value ticket
+
 abbrev pub HasSame : (Value → List ℕ) → (Value → List ℕ) → Type 0
-HasSame new old = (v : Value) → new v ≡ old v
+HasSame new old = HasSameAt new old
 
 -- the index has exactly the tickets of the rows with each value in this column
 abbrev pub IsIndexOf : ℕ → List Stored → ValueIndex → Type 0

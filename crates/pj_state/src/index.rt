@@ -1,19 +1,23 @@
 // An index: from the values of a column to the tickets of the rows that have them.
 ghost use Rattle.std.specs.Prelude.{◌≡◌, [], OnOk, OnErr};
+ghost use Rattle.std.specs.Option.{option_copied};
+ghost use Rattle.std.specs.Ordering.{int_eq};
 ghost use Rattle.pj_value.specs.declared.values.Value.{Value};
 ghost use Rattle.pj_state.specs.Rising.{IsRising, itself};
-ghost use Rattle.pj_state.specs.Indexes.{HasFewer, HasMore, HasSame, told};
+ghost use Rattle.pj_state.specs.Keys.{same_text, text_key};
+ghost use Rattle.pj_state.specs.Indexes.{HasFewer, HasMore, HasMoreAt, HasSame, HasSameAt, TakesAt, listed, told, told_at};
 
-use crate::groups::Group;
-use crate::prints::value_print;
+use crate::texts::{LentText, TextKey};
+use crate::tickets::Tickets;
 use indexmap::IndexMap;
-use pj_value::{NoMemory, Value};
+use pj_value::{NoMemory, SharedText, Value};
 use std::alloc::Global;
 
-/// The tickets of each value, in groups by the values' prints.
+/// The tickets of each integer, and of each text.
 #[derive(Drop)]
 pub struct ValueIndex {
-    groups: IndexMap<u64, Group>,
+    numbers: IndexMap<i64, Tickets>,
+    texts: IndexMap<TextKey, Tickets>,
 }
 
 impl ValueIndex {
@@ -22,7 +26,8 @@ impl ValueIndex {
         ensures { (v : Value) → told result v ≡ [] }
     {
         ValueIndex {
-            groups: IndexMap::new(alloc),
+            numbers: IndexMap::new(alloc),
+            texts: IndexMap::new(alloc),
         }
     }
 
@@ -30,9 +35,9 @@ impl ValueIndex {
     pub fn tickets(&self, value: &Value) -> &[u64]
         ensures { result.now ≡ told self.now value.now }
     {
-        match self.groups.get(&value_print(value)) {
-            None => &[],
-            Some(group) => group.tickets(value),
+        match value {
+            Value::Int(number) => listed(self.numbers.get(number)),
+            Value::Text(text) => listed(self.texts.get(LentText::of(text))),
         }
     }
 
@@ -41,15 +46,13 @@ impl ValueIndex {
         ensures ok { OnOk result (HasMore (told self.new) (told self.old) value.now ticket) }
         ensures err { OnErr result (HasSame (told self.new) (told self.old)) }
     {
-        let print = value_print(value);
-        match self.groups.get_mut(&print) {
-            Some(group) => {
-                group.add(alloc, value, ticket)?;
+        match value {
+            Value::Int(number) => {
+                add_to_number(&mut self.numbers, alloc, *number, ticket)?;
                 Ok(())
             }
-            None => {
-                let group = Group::of(alloc, value, ticket)?;
-                self.groups.insert(print, group)?;
+            Value::Text(text) => {
+                add_to_text(&mut self.texts, alloc, text, ticket)?;
                 Ok(())
             }
         }
@@ -59,14 +62,93 @@ impl ValueIndex {
     pub fn take(&mut self, value: &Value, ticket: u64)
         ensures { IsRising itself (told self.old value.now) → HasFewer (told self.new) (told self.old) value.now ticket }
     {
-        let print = value_print(value);
-        match self.groups.get_mut(&print) {
-            None => {}
-            Some(group) => {
-                group.take(value, ticket);
-                if group.is_idle() {
-                    self.groups.swap_remove(&print);
-                }
+        match value {
+            Value::Int(number) => take_from_number(&mut self.numbers, *number, ticket),
+            Value::Text(text) => take_from_text(&mut self.texts, LentText::of(text), ticket),
+        }
+    }
+}
+
+// The tickets that were found.
+fn listed(found: Option<&Tickets>) -> &[u64]
+    ensures { result.now ≡ listed (option_copied found.entry) }
+{
+    match found {
+        None => &[],
+        Some(tickets) => tickets.as_slice(),
+    }
+}
+
+// One more ticket for an integer.
+fn add_to_number(
+    numbers: &mut IndexMap<i64, Tickets>,
+    alloc: Global,
+    number: i64,
+    ticket: u64,
+) -> Result<(), NoMemory>
+    ensures ok { OnOk result (HasMoreAt int_eq (told_at int_eq numbers.new) (told_at int_eq numbers.old) number ticket) }
+    ensures err { OnErr result (HasSameAt (told_at int_eq numbers.new) (told_at int_eq numbers.old)) }
+{
+    match numbers.get_mut(&number) {
+        Some(tickets) => {
+            tickets.push(alloc, ticket)?;
+            Ok(())
+        }
+        None => {
+            numbers.insert(number, Tickets::one(ticket))?;
+            Ok(())
+        }
+    }
+}
+
+// One more ticket for a text.
+fn add_to_text(
+    texts: &mut IndexMap<TextKey, Tickets>,
+    alloc: Global,
+    text: &SharedText,
+    ticket: u64,
+) -> Result<(), NoMemory>
+    ensures ok { OnOk result (HasMoreAt same_text (told_at same_text texts.new) (told_at same_text texts.old) (text_key text.now) ticket) }
+    ensures err { OnErr result (HasSameAt (told_at same_text texts.new) (told_at same_text texts.old)) }
+{
+    match texts.get_mut(LentText::of(text)) {
+        Some(tickets) => {
+            tickets.push(alloc, ticket)?;
+            Ok(())
+        }
+        None => {
+            let key = TextKey::of(text.share()?);
+            texts.insert(key, Tickets::one(ticket))?;
+            Ok(())
+        }
+    }
+}
+
+// Takes out a ticket of an integer, where its tickets rise.
+fn take_from_number(numbers: &mut IndexMap<i64, Tickets>, number: i64, ticket: u64)
+    ensures { TakesAt int_eq (told_at int_eq numbers.new) (told_at int_eq numbers.old) number ticket }
+{
+    match numbers.get_mut(&number) {
+        None => {}
+        Some(tickets) => {
+            tickets.take(ticket);
+            if tickets.as_slice().len() == 0 {
+                numbers.swap_remove(&number);
+            }
+        }
+    }
+}
+
+// Takes out a ticket of a text, where its tickets rise.
+fn take_from_text(texts: &mut IndexMap<TextKey, Tickets>, key: LentText<'_>, ticket: u64)
+    ensures { TakesAt same_text (told_at same_text texts.new) (told_at same_text texts.old) (text_key key.entry.bytes.now) ticket }
+{
+    match texts.get_mut(key) {
+        None => {}
+        Some(tickets) => {
+            tickets.take(ticket);
+            if tickets.as_slice().len() == 0 {
+                texts.swap_remove(key);
             }
         }
     }

@@ -1,7 +1,6 @@
 //! The stored rows of an input of a join: in order of their tickets, with an index for each column that is asked for.
 #![tactic(auto)]
 
-mod groups;
 mod halving;
 mod index;
 mod matching;
@@ -10,6 +9,7 @@ mod prints;
 mod shared;
 mod state;
 mod store;
+mod texts;
 mod tickets;
 
 pub use matching::Matching;

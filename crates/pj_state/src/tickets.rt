@@ -7,14 +7,36 @@ use pj_value::NoMemory;
 use std::alloc::Global;
 use std::marker::Model;
 
-/// Tickets in order, seen as their list. The first one is taken out by passing over it.
+/// Tickets in order, seen as their list. One alone takes no memory beside it.
 #[derive(Drop)]
 pub struct Tickets {
+    held: Held,
+}
+
+#[derive(Drop)]
+enum Held {
+    Nothing,
+    One([u64; 1]),
+    Several(Box<TicketList>),
+}
+
+// A list of tickets in order, seen as what is left of it. The first one is taken out by passing over it.
+#[derive(Drop)]
+pub struct TicketList {
     list: Vec<u64>,
     start: usize,
 }
 
 impl Model for Tickets {
+    ghost use Rattle.std.specs.Prelude.{ℕ, List};
+    ghost use Rattle.pj_state.specs.Tickets.{tickets_in};
+
+    ghost Value = { List ℕ };
+
+    ghost view = { λ t. tickets_in t.held };
+}
+
+impl Model for TicketList {
     ghost use Rattle.std.specs.Prelude.{◌≤◌, ℕ, List, drop, length};
 
     ghost Value = { List ℕ };
@@ -26,23 +48,83 @@ impl Model for Tickets {
 
 impl Tickets {
     /// One ticket.
-    pub fn of(alloc: Global, ticket: u64) -> Result<Tickets, NoMemory>
-        ensures { IfOk result (λ t. t ≡ ticket ∷ []) }
+    pub fn one(ticket: u64) -> Tickets
+        ensures { result ≡ ticket ∷ [] }
     {
-        let mut list = Vec::with_capacity(alloc, 1)?;
-        list.push(ticket)?;
-        Ok(Tickets { list, start: 0 })
+        Tickets {
+            held: Held::One([ticket]),
+        }
     }
 
     /// All tickets.
     pub fn as_slice(&self) -> &[u64]
         ensures { result.now ≡ self.now }
     {
+        match &self.held {
+            Held::Nothing => &[],
+            Held::One(ticket) => ticket.as_slice(),
+            Held::Several(list) => list.as_slice(),
+        }
+    }
+
+    /// One more ticket at the end. On a refusal all is as it was.
+    pub fn push(&mut self, alloc: Global, ticket: u64) -> Result<(), NoMemory>
+        ensures ok { OnOk result (self.new ≡ self.old ++ ticket ∷ []) }
+        ensures err { OnErr result (self.new ≡ self.old) }
+    {
+        match &mut self.held {
+            Held::Nothing => {
+                self.held = Held::One([ticket]);
+                Ok(())
+            }
+            Held::One(first) => {
+                let list = TicketList::of(alloc, first[0], ticket)?;
+                self.held = Held::Several(Box::new(alloc, list)?);
+                Ok(())
+            }
+            Held::Several(list) => {
+                list.push(ticket)?;
+                Ok(())
+            }
+        }
+    }
+
+    /// Takes out a ticket, where the tickets rise.
+    pub fn take(&mut self, ticket: u64)
+        ensures { IsRising itself self.old → self.new ≡ without itself ticket self.old }
+    {
+        match &mut self.held {
+            Held::Nothing => {}
+            Held::One(own) => {
+                if own[0] == ticket {
+                    self.held = Held::Nothing;
+                }
+            }
+            Held::Several(list) => list.take(ticket),
+        }
+    }
+}
+
+impl TicketList {
+    // Two tickets.
+    fn of(alloc: Global, first: u64, second: u64) -> Result<TicketList, NoMemory>
+        ensures { IfOk result (λ t. t ≡ first ∷ second ∷ []) }
+    {
+        let mut list = Vec::with_capacity(alloc, 2)?;
+        list.push(first)?;
+        list.push(second)?;
+        Ok(TicketList { list, start: 0 })
+    }
+
+    // All tickets.
+    fn as_slice(&self) -> &[u64]
+        ensures { result.now ≡ self.now }
+    {
         self.list.as_slice().split_at(self.start).1
     }
 
-    /// One more ticket at the end.
-    pub fn push(&mut self, ticket: u64) -> Result<(), NoMemory>
+    // One more ticket at the end.
+    fn push(&mut self, ticket: u64) -> Result<(), NoMemory>
         ensures ok { OnOk result (self.new ≡ self.old ++ ticket ∷ []) }
         ensures err { OnErr result (self.new ≡ self.old) }
     {
@@ -50,8 +132,8 @@ impl Tickets {
         Ok(())
     }
 
-    /// Takes out a ticket, where the tickets rise.
-    pub fn take(&mut self, ticket: u64)
+    // Takes out a ticket, where the tickets rise.
+    fn take(&mut self, ticket: u64)
         ensures { IsRising itself self.old → self.new ≡ without itself ticket self.old }
     {
         match position(self.as_slice(), ticket) {

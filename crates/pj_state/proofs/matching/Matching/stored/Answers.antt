@@ -1,7 +1,6 @@
-use Rattle.std.proofs.Common.{◌≡◌, List, ap, sym, ◌∙◌, length, arith}
+use Rattle.std.proofs.Common.{List, ap, ◌∙◌, length, arith}
 use Rattle.std.specs.List.{slice_get}
 use Rattle.pj_state.specs.declared.shared.Stored.{Stored}
-use Rattle.pj_state.specs.States.{rows_with}
 use Rattle.pj_state.proofs.Looking.{matching-at}
 use Rattle.pj_state.proofs.matching.Matching.stored.Goals as goal
 

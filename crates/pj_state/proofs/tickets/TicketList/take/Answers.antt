@@ -1,7 +1,7 @@
 use Rattle.std.proofs.Common.{◌∙◌}
 use Rattle.pj_state.specs.Rising.{itself}
 use Rattle.pj_state.proofs.Between.{found_left, missing_left}
-use Rattle.pj_state.proofs.tickets.Tickets.take.Goals as goal
+use Rattle.pj_state.proofs.tickets.TicketList.take.Goals as goal
 
 pub returns-in-None : goal.returns-in-None
 returns-in-None c = missing_left itself c.args.ticket c.args.self.now c.as_slice.result.now c.as_slice.ensures c.in-None.ensures.missing

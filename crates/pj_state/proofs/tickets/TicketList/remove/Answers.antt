@@ -2,7 +2,7 @@ use Rattle.std.proofs.Common.{◌≡◌, ◌<◌, ℕ, List, length, drop, refl,
 use Rattle.std.specs.List.{remove}
 use Rattle.std.proofs.lemmas.List.{length-drop}
 use Rattle.pj_state.proofs.Passed.{drop-first, drop-remove}
-use Rattle.pj_state.proofs.tickets.Tickets.remove.Goals as goal
+use Rattle.pj_state.proofs.tickets.TicketList.remove.Goals as goal
 
 pub returns-then-at-gt0 : goal.returns-then-at-gt0
 returns-then-at-gt0 c =
