@@ -128,11 +128,11 @@ none-before n bs at s e h filled = flat-above n bs h filled (λ d. subst (λ i. 
 pub flat-drop : (bs : List (List Place)) (i : ℕ) (d : List Place) → i < length bs → flat (drop i bs) ≡ get_or bs i d ++ flat (drop (i + 1) bs)
 flat-drop bs i d lt = ap flat (drop_more bs i d lt)
 
-pub nth-here : (bs : List (List Place)) (i left : ℕ) (b : List Place) (p : Place) → i < length bs → b ≡ get_or bs i b → left < length b → p ≡ get_or b left p
+pub nth-here : (bs : List (List Place)) (i left : ℕ) (b : List Place) (p : Place) → i < length bs → b ≡ get_or bs i b → left < length b → slice_get b left ≡ Some p
     → slice_get (flat (drop i bs)) left ≡ Some p
 nth-here bs i left b p lt is here at =
     ap (λ (ps : List Place). slice_get ps left) (flat-drop bs i b lt ∙ ap (λ (ps : List Place). ps ++ flat (drop (i + 1) bs)) (sym is))
-    ∙ (get_front b (flat (drop (i + 1) bs)) left here ∙ (slice_get-get_or b left p here ∙ ap Some (sym at)))
+    ∙ (get_front b (flat (drop (i + 1) bs)) left here ∙ at)
 
 pub nth-behind : (bs : List (List Place)) (i at left : ℕ) (b : List Place) → slice_get (flat bs) at ≡ slice_get (flat (drop i bs)) left → i < length bs → b ≡ get_or bs i b → length b ≤ left
     → slice_get (flat bs) at ≡ slice_get (flat (drop (i + 1) bs)) (left - length b)

@@ -1,4 +1,5 @@
 pub mod Rising
+pub mod Near
 pub mod Blocks
 pub mod Slots
 pub mod Between

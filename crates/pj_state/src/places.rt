@@ -1,7 +1,9 @@
 // Where rows stand, in order of their tickets: in blocks, so that one is taken out by moving few.
-ghost use Rattle.std.specs.Prelude.{◌≡◌, ◌<◌, [], ◌∷◌, ◌++◌, length, slice_get, slice_index_or, slice_set, Some, IfOk, OnOk, OnErr};
+ghost use Rattle.std.specs.Prelude.{◌≡◌, ◌<◌, [], ◌∷◌, ◌++◌, length, remove, slice_get, slice_index_or, slice_set, None, Some, IfOk, IfSome, IfNone, OnOk, OnErr};
 ghost use Rattle.pj_state.specs.Rising.{IsRising, first_with, without};
+ghost use Rattle.pj_state.specs.Nears.{IsBase, near_place};
 ghost use Rattle.pj_state.specs.Stores.{AreFilled, flat, less_one, place_ticket};
+ghost use Rattle.pj_state.specs.declared.places.Place.{Place as AnyPlace};
 
 use crate::halving::{Ticketed, position, split_place};
 use pj_value::NoMemory;
@@ -15,10 +17,18 @@ pub struct Place {
     pub key: usize,
 }
 
+// The same in half the room: the ticket is told by how far it is past the base of its block.
+#[derive(Clone, Copy)]
+pub struct Near {
+    past: u32,
+    key: u32,
+}
+
 /// Some places that follow each other, at most 128, seen as their list.
 #[derive(Drop)]
 pub struct Block {
-    places: Vec<Place>,
+    base: u64,
+    nears: Vec<Near>,
 }
 
 /// All places, seen as their list.
@@ -30,13 +40,19 @@ pub struct Places {
 // How many places a block has at most.
 const BLOCK: usize = 128;
 
+// The greatest base of a block: each number of 32 bits past it is one of 64.
+const LAST_BASE: u64 = 18446744069414584320;
+
 impl Model for Block {
     ghost use Rattle.std.specs.Prelude.{List};
     ghost use Rattle.pj_state.specs.declared.places.Place.{Place as AnyPlace};
+    ghost use Rattle.pj_state.specs.Nears.{IsBase, places_from};
 
     ghost Value = { List AnyPlace };
 
-    ghost view = { λ b. b.places.items };
+    ghost view = { λ b. places_from b.base b.nears.items };
+
+    ghost invariant = { λ b. IsBase b.base };
 }
 
 impl Model for Places {
@@ -61,15 +77,58 @@ impl Ticketed for Place {
     }
 }
 
+impl Ticketed for Near {
+    ghost use Rattle.pj_state.specs.Nears.{near_past};
+
+    ghost number = { near_past };
+
+    fn ticket(&self) -> u64 {
+        u64::from(self.past)
+    }
+}
+
 impl Ticketed for Block {
     ghost use Rattle.pj_state.specs.Stores.{first_ticket};
 
     ghost number = { first_ticket };
 
     fn ticket(&self) -> u64 {
-        match self.places.first() {
+        match self.nears.first() {
             None => 0,
-            Some(place) => place.ticket,
+            Some(near) => near.place(self.base).ticket,
+        }
+    }
+}
+
+impl Near {
+    // A place in a block with this base; `None` where its ticket is too far past that, or its key too great.
+    fn of(base: u64, place: Place) -> Option<Near>
+        ensures { IfSome result (λ near. near_place base near ≡ place) }
+    {
+        if place.ticket < base {
+            return None;
+        }
+        let past = place.ticket - base;
+        if past > u64::from(u32::MAX) {
+            return None;
+        }
+        if place.key > u32::MAX as usize {
+            return None;
+        }
+        Some(Near {
+            past: past as u32,
+            key: place.key as u32,
+        })
+    }
+
+    // The place in a block with this base.
+    fn place(&self, base: u64) -> Place
+        requires { IsBase base }
+        ensures { result ≡ near_place base self.now }
+    {
+        Place {
+            ticket: base + u64::from(self.past),
+            key: self.key as usize,
         }
     }
 }
@@ -79,16 +138,32 @@ impl Block {
     fn of(alloc: Global, place: Place) -> Result<Block, NoMemory>
         ensures { IfOk result (λ b. b ≡ place ∷ []) }
     {
-        let mut places = Vec::new(alloc);
-        places.push(place)?;
-        Ok(Block { places })
+        let mut block = Block {
+            base: place.ticket.min(LAST_BASE),
+            nears: Vec::new(alloc),
+        };
+        block.push(place)?;
+        Ok(block)
     }
 
-    /// All places of the block.
-    pub fn as_slice(&self) -> &[Place]
-        ensures { result.now ≡ self.now }
+    /// How many places there are.
+    pub fn len(&self) -> usize
+        ensures { result ≡ length self.now }
     {
-        self.places.as_slice()
+        self.nears.len()
+    }
+
+    /// The place at a position, counted from 0.
+    pub fn at(&self, at: usize) -> Place
+        requires { at < length self.now }
+        ensures { slice_get self.now at ≡ Some result }
+    {
+        self.nears[at].place(self.base)
+    }
+
+    // Whether a place fits behind those that are there.
+    fn has_room_for(&self, place: Place) -> bool {
+        self.nears.len() < BLOCK && Near::of(self.base, place).is_some()
     }
 
     // One more place at the end.
@@ -96,17 +171,34 @@ impl Block {
         ensures ok { OnOk result (self.new ≡ self.old ++ place ∷ []) }
         ensures err { OnErr result (self.new ≡ self.old) }
     {
-        self.places.push(place)?;
-        Ok(())
+        match Near::of(self.base, place) {
+            None => Err(NoMemory),
+            Some(near) => {
+                self.nears.push(near)?;
+                Ok(())
+            }
+        }
+    }
+
+    // The position of the place with this ticket; where the tickets rise, `None` exactly where there is none.
+    fn position(&self, ticket: u64) -> Option<usize>
+        ensures within { IfSome result (λ at. at < length self.now) }
+        ensures found { IfSome result (λ at. (d : AnyPlace) → place_ticket (slice_index_or self.now at d) ≡ ticket) }
+        ensures missing { IfNone result (IsRising place_ticket self.now → first_with place_ticket ticket self.now ≡ None) }
+    {
+        if ticket < self.base {
+            return None;
+        }
+        position(self.nears.as_slice(), ticket - self.base)
     }
 
     // The place with this ticket, where the tickets rise.
     fn get(&self, ticket: u64) -> Option<Place>
         ensures { IsRising place_ticket self.now → result ≡ first_with place_ticket ticket self.now }
     {
-        match position(self.places.as_slice(), ticket) {
+        match self.position(ticket) {
             None => None,
-            Some(at) => Some(self.places[at]),
+            Some(at) => Some(self.at(at)),
         }
     }
 
@@ -115,10 +207,19 @@ impl Block {
         ensures taken { IsRising place_ticket self.old → result ≡ first_with place_ticket ticket self.old }
         ensures left { IsRising place_ticket self.old → self.new ≡ without place_ticket ticket self.old }
     {
-        match position(self.places.as_slice(), ticket) {
+        match self.position(ticket) {
             None => None,
-            Some(at) => Some(self.places.remove(at)),
+            Some(at) => Some(self.remove(at)),
         }
+    }
+
+    // Takes out the place at a position.
+    fn remove(&mut self, at: usize) -> Place
+        requires { at < length self.old }
+        ensures taken { slice_get self.old at ≡ Some result }
+        ensures left { self.new ≡ remove self.old at }
+    {
+        self.nears.remove(at).place(self.base)
     }
 }
 
@@ -177,11 +278,10 @@ impl Places {
     {
         let mut left = at;
         for block in &self.blocks {
-            let places = block.as_slice();
-            if left < places.len() {
-                return places[left];
+            if left < block.len() {
+                return block.at(left);
             }
-            left -= places.len();
+            left -= block.len();
         }
         Place { ticket: 0, key: 0 }
     }
@@ -194,7 +294,7 @@ fn push_place(blocks: &mut Vec<Block>, alloc: Global, place: Place) -> Result<()
     ensures filled { AreFilled blocks.old.items → AreFilled blocks.new.items }
 {
     let count = blocks.len();
-    if count > 0 && blocks[count - 1].as_slice().len() < BLOCK {
+    if count > 0 && blocks[count - 1].has_room_for(place) {
         blocks[count - 1].push(place)?;
         Ok(())
     } else {
@@ -212,7 +312,7 @@ fn take_place(blocks: &mut Vec<Block>, at: usize, ticket: u64) -> Option<Place>
     ensures filled { AreFilled blocks.old.items → AreFilled blocks.new.items }
 {
     let place = blocks[at].take(ticket);
-    if blocks[at].as_slice().len() == 0 {
+    if blocks[at].len() == 0 {
         blocks.remove(at);
     }
     place

@@ -50,7 +50,8 @@ impl State {
         })
     }
 
-    /// Stores a row under a ticket that is greater than all that are there. On a refusal all is as it was.
+    /// Stores a row under a ticket that is greater than all that are there. On a refusal all is as it was. `NoMemory` comes for
+    /// more than 2^32 rows, too.
     pub fn insert(&mut self, ticket: u64, row: Shared) -> Result<(), NoMemory>
         requires later { All (λ s. s.ticket < ticket) self.old.rows }
         requires wide { All (λ column. column < length row) self.old.columns }

@@ -110,7 +110,7 @@ impl Store {
     {
         let mut found = List::new(alloc);
         for block in self.places.blocks() {
-            append_below(alloc, &self.slab, block.as_slice(), ticket, &mut found)?;
+            append_below(alloc, &self.slab, block, ticket, &mut found)?;
         }
         Ok(found)
     }
@@ -120,14 +120,15 @@ impl Store {
 fn append_below(
     alloc: Global,
     slab: &Slab<Stored>,
-    places: &[Place],
+    block: &Block,
     ticket: u64,
     found: &mut List<(u64, Shared)>,
 ) -> Result<(), NoMemory>
-    requires { AreHeld slab.now.slots places.now }
-    ensures { OnOk result (found.new ≡ found.old ++ pairs (rows_below ticket (rows_at slab.now.slots places.now))) }
+    requires { AreHeld slab.now.slots block.now }
+    ensures { OnOk result (found.new ≡ found.old ++ pairs (rows_below ticket (rows_at slab.now.slots block.now))) }
 {
-    for place in places {
+    for at in 0..block.len() {
+        let place = block.at(at);
         if place.ticket < ticket {
             let row = slab[place.key].row.share(alloc)?;
             found.push((place.ticket, row))?;

@@ -260,6 +260,24 @@ fn run(alloc: Global, state: &mut State, list: &mut Vec<Plain>, count: u64) -> R
     Ok(count)
 }
 
+// Whether rows stand in order, and are found and taken out, whose tickets lie far apart.
+fn far(alloc: Global, tickets: &[u64], taken: u64) -> Result<bool, NoMemory> {
+    let mut state = State::new(alloc, &[0, 1])?;
+    let mut list = Vec::new(alloc);
+    for ticket in tickets {
+        let plain = Plain {
+            ticket: *ticket,
+            number: 1,
+            letter: b'a',
+        };
+        list.push(plain)?;
+        if !put(alloc, &mut state, plain)? {
+            return Ok(false);
+        }
+    }
+    Ok(pull(&mut state, &mut list, taken) && is_same(&state, list.as_slice()))
+}
+
 fn steps(alloc: Global, count: u64) -> Result<u64, NoMemory> {
     let mut state = State::new(alloc, &[0, 1])?;
     let mut list = Vec::new(alloc);
@@ -269,4 +287,12 @@ fn steps(alloc: Global, count: u64) -> Result<u64, NoMemory> {
 #[test]
 fn steps_agree_with_a_plain_list(rt: HostRuntime) {
     assert_eq!(rt; steps(rt.alloc(), 600), Ok(600));
+}
+
+#[test]
+fn tickets_may_lie_far_apart(rt: HostRuntime) {
+    let tickets = [3, 4, 4294967299, 4294967300, u64::MAX - 1, u64::MAX];
+    for taken in [3, 4294967299, u64::MAX] {
+        assert_eq!(rt; far(rt.alloc(), tickets.as_slice(), taken), Ok(true));
+    }
 }

@@ -1,0 +1,6 @@
+use Rattle.std.proofs.Common.{length, ap, sym, ◌∙◌}
+use Rattle.pj_state.proofs.Near.{near-length}
+use Rattle.pj_state.proofs.places.Block.len.Goals as goal
+
+pub returns : goal.returns
+returns c = c.len.ensures ∙ (c.self.inside.nears.ok.0 ∙ sym (near-length c.self.inside.base c.self.inside.nears.items) ∙ ap length c.self.view_is)
