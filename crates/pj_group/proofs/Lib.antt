@@ -2,6 +2,8 @@ pub mod Apart
 pub mod Bounds
 pub mod Constants
 pub mod Equality
+pub mod FoundPlaces
+pub mod Indexed
 pub mod Shutting
 pub mod OpenGroups
 pub mod States

@@ -162,7 +162,7 @@ open_append (x ∷ xs) ys = go x.1 (open_append xs ys)
     go None ih = ih
     go (Some ts) ih = ap (λ (es : List GroupEntry). (x.0, ts) ∷ es) ih
 
-closed_append : (patterns : List Pattern) (xs ys : List GroupSlot) → closed_rows patterns (open_groups (xs ++ ys)) ≡ closed_rows patterns (open_groups xs) ++ closed_rows patterns (open_groups ys)
+pub closed_append : (patterns : List Pattern) (xs ys : List GroupSlot) → closed_rows patterns (open_groups (xs ++ ys)) ≡ closed_rows patterns (open_groups xs) ++ closed_rows patterns (open_groups ys)
 closed_append patterns xs ys =
     ap (closed_rows patterns) (open_append xs ys)
     ∙ ap (map row_tuple) (filter-append (λ (k : GroupEntry). matches_row patterns k.0) (open_groups xs) (open_groups ys))

@@ -1,3 +1,4 @@
+pub mod Indexes
 pub mod Insides
 pub mod Prints
 pub mod Slots

@@ -1,17 +1,21 @@
 // Groups that a punctuation closes.
-ghost use Rattle.std.specs.Prelude.{ℕ, ◌≡◌, ◌<◌, ◌≤◌, ◌+◌, ◌^◌, ◌∷◌, [], ◌++◌, All, IfSome, not, filter, length, OnOk, OnErr};
+ghost use Rattle.std.specs.Prelude.{ℕ, ◌≡◌, ◌<◌, ◌≤◌, ◌+◌, ◌^◌, ◌++◌, All, not, filter, length, nat_eq, OnOk, OnErr};
 ghost use Rattle.std.specs.List.{IsDistinct};
 ghost use Rattle.std.specs.Map.{keys_of};
-ghost use Rattle.std.specs.Option.{option_copied};
+ghost use Rattle.indexmap.specs.IndexMap.{get};
 ghost use Rattle.pj_shape.specs.declared.groups.GroupSpec.{GroupSpec as AnySpec};
 ghost use Rattle.pj_value.specs.Values.{row_eq};
-ghost use Rattle.pj_events.specs.Patterns.{all_wild, matches_row};
+ghost use Rattle.pj_events.specs.Patterns.{matches_row};
+ghost use Rattle.pj_group.specs.Indexes.{AreFound, AreIndexesOf, Reaches, told_by};
 ghost use Rattle.pj_group.specs.Insides.{AllStates};
-ghost use Rattle.pj_group.specs.Slots.{MatchesOnly, open_groups};
-ghost use Rattle.pj_group.specs.Steps.{closed_rows, table_after, table_hands};
+ghost use Rattle.pj_group.specs.Slots.{open_groups};
+ghost use Rattle.pj_group.specs.Steps.{table_after, table_hands};
 
 use crate::handing::hand_out;
-use crate::keys::Key;
+use crate::indexes::{Indexes, places_of};
+use crate::keys::ColumnValue;
+use crate::places::close_places;
+use crate::reach::Reach;
 use crate::slots::{Slots, clear, close_one, drop_matched};
 use pj_pattern::{Element, Punct};
 use pj_shape::GroupSpec;
@@ -19,13 +23,14 @@ use pj_value::{List, NoMemory};
 use std::alloc::Global;
 
 /// Hands out the rows of the groups that the punctuation closes, and the punctuation, and drops these groups; so many elements
-/// came before, and so many punctuations for one key since groups were cleared away. On a refusal the groups and `out` are as
-/// before.
+/// came before, and punctuations came to so many places of closed groups since groups were cleared away. On a refusal the
+/// groups and `out` are as before.
 pub fn close(
     alloc: Global,
     count: u64,
     spec: &GroupSpec,
     slots: &mut Slots,
+    indexes: &mut Indexes,
     closings: &mut usize,
     punct: &Punct,
     out: &mut List<Element>,
@@ -34,7 +39,9 @@ pub fn close(
     requires few { length spec.now.keys + length spec.now.aggs ≤ 120 }
     requires count { count < 2 ^ 40 }
     requires states { AllStates count spec.now slots.old.entries }
+    requires indexed { AreIndexesOf slots.old.entries (get nat_eq indexes.old) }
     ensures states { OnOk result (AllStates (count + 1) spec.now slots.new.entries) }
+    ensures indexed { AreIndexesOf slots.new.entries (get nat_eq indexes.new) }
     ensures keeps { OnOk result (open_groups slots.new.entries ≡ table_after spec.now (open_groups slots.old.entries) punct.now) }
     ensures hands { OnOk result (out.new ≡ out.old ++ table_hands spec.now (open_groups slots.old.entries) punct.now) }
     ensures slots { OnErr result (slots.new.entries ≡ slots.old.entries) }
@@ -43,48 +50,76 @@ pub fn close(
     match punct.keep(alloc, spec.keys.as_slice())? {
         None => Ok(()),
         Some(kept) => {
-            let only = Key::of_constants(alloc, &kept)?;
+            let reach = Reach::of(alloc, slots, indexes, &kept)?;
             let places = slots.len();
-            hand_out(alloc, spec, slots, &kept, only.as_ref(), out)?;
-            drop_closed(slots, places, closings, &kept, only.as_ref());
+            hand_out(alloc, spec, slots, indexes, &kept, &reach, out)?;
+            drop_closed(slots, indexes, places, closings, &kept, &reach);
             Ok(())
         }
     }
 }
 
-// Drops the groups whose keys match. One key alone is looked up, and its group keeps its place without states until there are
-// more such closings than half the places.
+// Drops the groups whose keys match. Those that are looked up keep their places without states until such punctuations came to
+// more than half as many places of closed groups as there are places.
 fn drop_closed(
     slots: &mut Slots,
+    indexes: &mut Indexes,
     places: usize,
     closings: &mut usize,
     kept: &Punct,
-    only: Option<&Key>,
+    reach: &Reach,
 )
-    requires only { IfSome (option_copied only) (MatchesOnly kept.now) }
+    requires reach { Reaches kept.now slots.old.entries (get nat_eq indexes.old) reach.now }
     requires apart { IsDistinct row_eq (keys_of slots.old.entries) }
+    requires indexed { AreIndexesOf slots.old.entries (get nat_eq indexes.old) }
     ensures keeps { open_groups slots.new.entries ≡ filter (λ e. not (matches_row kept.now e.0)) (open_groups slots.old.entries) }
     ensures states { (count : ℕ) (spec : AnySpec) → AllStates count spec slots.old.entries → AllStates count spec slots.new.entries }
+    ensures indexed { AreIndexesOf slots.new.entries (get nat_eq indexes.new) }
 {
-    match only {
-        None => {
+    match reach {
+        Reach::All => {
             drop_matched(slots, kept);
+            indexes.clear();
             *closings = 0;
         }
-        Some(key) => {
+        Reach::One(key) => {
             close_one(slots, key);
-            *closings = cleared(slots, places, closings.saturating_add(1));
+            *closings = cleared(slots, indexes, places, closings.saturating_add(1));
+        }
+        Reach::Column(column, value) => {
+            let closed = close_found(slots, indexes, *column, value, kept);
+            *closings = cleared(slots, indexes, places, closings.saturating_add(closed));
         }
     }
 }
 
-// Clears away the groups that were closed where so many closings are more than half the places; answers how many are left.
-fn cleared(slots: &mut Slots, places: usize, closings: usize) -> usize
+// Closes the groups with a value in a column whose keys match; answers how many places they have.
+fn close_found(
+    slots: &mut Slots,
+    indexes: &Indexes,
+    column: usize,
+    value: &ColumnValue,
+    kept: &Punct,
+) -> usize
+    requires found { AreFound kept.now column value.now slots.old.entries (told_by (get nat_eq indexes.now column) value.now) }
+    ensures keeps { open_groups slots.new.entries ≡ filter (λ e. not (matches_row kept.now e.0)) (open_groups slots.old.entries) }
+    ensures states { (count : ℕ) (spec : AnySpec) → AllStates count spec slots.old.entries → AllStates count spec slots.new.entries }
+    ensures keys { keys_of slots.new.entries ≡ keys_of slots.old.entries }
+{
+    close_places(slots, places_of(indexes, column, value), kept)
+}
+
+// Clears away the groups that were closed, and the indexes, where so many closings are more than half the places; answers how
+// many are left.
+fn cleared(slots: &mut Slots, indexes: &mut Indexes, places: usize, closings: usize) -> usize
+    requires indexed { AreIndexesOf slots.old.entries (get nat_eq indexes.old) }
     ensures same { open_groups slots.new.entries ≡ open_groups slots.old.entries }
     ensures states { (count : ℕ) (spec : AnySpec) → AllStates count spec slots.old.entries → AllStates count spec slots.new.entries }
+    ensures indexed { AreIndexesOf slots.new.entries (get nat_eq indexes.new) }
 {
     if closings > places / 2 {
         clear(slots);
+        indexes.clear();
         0
     } else {
         closings

@@ -1,8 +1,10 @@
 // Groups.
-ghost use Rattle.std.specs.Prelude.{◌≡◌, ◌<◌, ◌≤◌, ◌+◌, ◌^◌, ◌↔◌, List, [], ◌∷◌, ◌++◌, All, length, map, filter, OnOk, OnErr, IfOk, IsErrOf, IsTrue, IfSome};
+ghost use Rattle.std.specs.Prelude.{◌≡◌, ◌<◌, ◌≤◌, ◌+◌, ◌^◌, ◌↔◌, List, [], ◌∷◌, ◌++◌, All, length, map, nat_eq, OnOk, OnErr, IfOk, IsErrOf, IsTrue, IfSome};
 ghost use Rattle.std.specs.Option.{option_copied, option_map};
 ghost use Rattle.pj_value.specs.declared.values.Value.{Value};
 ghost use Rattle.pj_events.specs.Operators.{group_after, group_hands};
+ghost use Rattle.indexmap.specs.IndexMap.{get};
+ghost use Rattle.pj_group.specs.Indexes.{AreIndexesOf};
 ghost use Rattle.pj_group.specs.Insides.{AllStates, AreStates, IsBounded};
 ghost use Rattle.pj_group.specs.Slots.{open_groups};
 ghost use Rattle.pj_group.specs.Steps.{Fits, IsInRange, cell_of, next_tallies, first_tally};
@@ -10,6 +12,7 @@ ghost use Rattle.pj_group.specs.Tables.{StandsFor};
 ghost use Rattle.pj_events.specs.Tables.{table_of};
 
 use crate::closing::close;
+use crate::indexes::Indexes;
 use crate::keys::Key;
 use crate::slots::{Slots, reopen};
 use crate::tally::Tally;
@@ -48,7 +51,9 @@ pub struct Group {
     limit: u64,
     count: u64,
     slots: Slots,
-    // How many punctuations for one key came since groups were cleared away.
+    // Of the key columns in which a punctuation had a constant, but not in all.
+    indexes: Indexes,
+    // How many places of closed groups punctuations came to since groups were cleared away.
     closings: usize,
     // Room in which the next states of a group are made.
     room: List<Tally>,
@@ -56,6 +61,8 @@ pub struct Group {
 
 impl Model for Group {
     ghost use Rattle.pj_group.specs.Tables.{GroupView};
+    ghost use Rattle.std.specs.Prelude.{nat_eq};
+    ghost use Rattle.indexmap.specs.IndexMap.{get};
     ghost use Rattle.pj_group.specs.Insides.{IsHeld};
     ghost use Rattle.pj_group.specs.Slots.{open_groups};
 
@@ -63,7 +70,7 @@ impl Model for Group {
 
     ghost view = { λ g. record { spec = g.spec; limit = g.limit; count = g.count; table = open_groups g.slots.entries } };
 
-    ghost invariant = { λ g. IsHeld g.spec g.limit g.count g.slots.entries };
+    ghost invariant = { λ g. IsHeld g.spec g.limit g.count g.slots.entries (get nat_eq g.indexes) };
 }
 
 impl Group {
@@ -78,6 +85,7 @@ impl Group {
             limit,
             count: 0,
             slots: IndexMap::new(alloc),
+            indexes: IndexMap::new(alloc),
             closings: 0,
             room: List::new(alloc),
         })
@@ -101,6 +109,7 @@ impl Group {
             self.count,
             &self.spec,
             &mut self.slots,
+            &mut self.indexes,
             &row,
             &mut self.room,
         )?;
@@ -130,6 +139,7 @@ impl Group {
             self.count,
             &self.spec,
             &mut self.slots,
+            &mut self.indexes,
             &mut self.closings,
             &punct,
             out,
@@ -151,19 +161,22 @@ fn take_row(
     count: u64,
     spec: &GroupSpec,
     slots: &mut Slots,
+    indexes: &mut Indexes,
     row: &Row,
     room: &mut List<Tally>,
 ) -> Result<(), NoMemory>
     requires few { count < 2 ^ 40 }
     requires fits { Fits spec.now (length row.now) }
     requires states { AllStates count spec.now slots.old.entries }
+    requires indexed { AreIndexesOf slots.old.entries (get nat_eq indexes.old) }
     ensures keeps { OnOk result ((rows : List (List Value)) → open_groups slots.old.entries ≡ table_of spec.now rows → open_groups slots.new.entries ≡ table_of spec.now (rows ++ row.now ∷ [])) }
     ensures states { OnOk result (AllStates (count + 1) spec.now slots.new.entries) }
     ensures err { OnErr result (open_groups slots.new.entries ≡ open_groups slots.old.entries) }
     ensures left { OnErr result (AllStates count spec.now slots.new.entries) }
+    ensures indexed { AreIndexesOf slots.new.entries (get nat_eq indexes.new) }
 {
     let key = Key::of(alloc, spec.keys.as_slice(), row)?;
-    reopen(slots, &key);
+    reopen(slots, indexes, &key);
     match slots.get_mut(&key) {
         Some(states) => {
             renew(alloc, count, spec.aggs.as_slice(), states, row, room)?;

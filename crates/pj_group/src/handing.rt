@@ -1,17 +1,20 @@
 // Rows of groups that are handed out.
-ghost use Rattle.std.specs.Prelude.{◌≡◌, ◌≤◌, ◌+◌, ◌^◌, ◌∷◌, [], ◌++◌, All, IfSome, map, length, slice_get, OnOk, OnErr, IfOk};
+ghost use Rattle.std.specs.Prelude.{◌≡◌, ◌≤◌, ◌+◌, ◌^◌, ◌∷◌, [], ◌++◌, All, IfSome, map, length, nat_eq, slice_get, OnOk, OnErr, IfOk};
 ghost use Rattle.std.specs.List.{IsDistinct};
 ghost use Rattle.std.specs.Map.{keys_of, lookup};
-ghost use Rattle.std.specs.Option.{option_copied};
+ghost use Rattle.indexmap.specs.IndexMap.{get};
 ghost use Rattle.pj_value.specs.Texts.{IsFront};
 ghost use Rattle.pj_value.specs.Values.{row_eq};
 ghost use Rattle.pj_events.specs.Patterns.{all_wild};
+ghost use Rattle.pj_group.specs.Indexes.{AreFound, Reaches, closed_over, told_by};
 ghost use Rattle.pj_group.specs.Insides.{AllStates, AreStates, IsBounded};
-ghost use Rattle.pj_group.specs.Slots.{MatchesOnly, open_groups, state_rows, states_in};
+ghost use Rattle.pj_group.specs.Slots.{open_groups, state_rows, states_in};
 ghost use Rattle.pj_group.specs.Steps.{closed_at, closed_rows};
 ghost use Rattle.pj_events.specs.Tables.{row_of, value_of};
 
-use crate::keys::Key;
+use crate::indexes::{Indexes, places_of};
+use crate::keys::{ColumnValue, Key};
+use crate::reach::Reach;
 use crate::slots::Slots;
 use crate::tally::Tally;
 use pj_pattern::{Element, Punct};
@@ -19,25 +22,26 @@ use pj_shape::GroupSpec;
 use pj_value::{List, NoMemory, Row, Value};
 use std::alloc::Global;
 
-/// Puts the rows of the groups whose keys match at the end of `out`, and then the punctuation; on a refusal nothing. Where it
-/// matches one key alone, that is `only`.
+/// Puts the rows of the groups whose keys match at the end of `out`, and then the punctuation; on a refusal nothing. They are
+/// looked for where `reach` says.
 pub fn hand_out(
     alloc: Global,
     spec: &GroupSpec,
     slots: &Slots,
+    indexes: &Indexes,
     kept: &Punct,
-    only: Option<&Key>,
+    reach: &Reach,
     out: &mut List<Element>,
 ) -> Result<(), NoMemory>
     requires few { length kept.now + length spec.now.aggs ≤ 120 }
     requires states { AllStates (2 ^ 40) spec.now slots.now.entries }
-    requires only { IfSome (option_copied only) (MatchesOnly kept.now) }
+    requires reach { Reaches kept.now slots.now.entries (get nat_eq indexes.now) reach.now }
     requires apart { IsDistinct row_eq (keys_of slots.now.entries) }
     ensures ok { OnOk result (out.new ≡ out.old ++ (closed_rows kept.now (open_groups slots.now.entries) ++ Element.Punct (kept.now ++ all_wild (length spec.now.aggs)) ∷ [])) }
     ensures err { OnErr result (out.new ≡ out.old) }
 {
     let count = out.len();
-    match append_all(alloc, spec, slots, kept, only, out) {
+    match append_all(alloc, spec, slots, indexes, kept, reach, out) {
         Ok(()) => Ok(()),
         Err(stop) => {
             out.truncate(count);
@@ -50,47 +54,92 @@ fn append_all(
     alloc: Global,
     spec: &GroupSpec,
     slots: &Slots,
+    indexes: &Indexes,
     kept: &Punct,
-    only: Option<&Key>,
+    reach: &Reach,
     out: &mut List<Element>,
 ) -> Result<(), NoMemory>
     requires few { length kept.now + length spec.now.aggs ≤ 120 }
     requires states { AllStates (2 ^ 40) spec.now slots.now.entries }
-    requires only { IfSome (option_copied only) (MatchesOnly kept.now) }
+    requires reach { Reaches kept.now slots.now.entries (get nat_eq indexes.now) reach.now }
     requires apart { IsDistinct row_eq (keys_of slots.now.entries) }
     ensures ok { OnOk result (out.new ≡ out.old ++ (closed_rows kept.now (open_groups slots.now.entries) ++ Element.Punct (kept.now ++ all_wild (length spec.now.aggs)) ∷ [])) }
     ensures err { OnErr result (IsFront out.old out.new) }
 {
-    append_closed(alloc, spec, slots, kept, only, out)?;
+    append_closed(alloc, spec, slots, indexes, kept, reach, out)?;
     let punct = kept.widen(alloc, 0, spec.aggs.len() as u32)?;
     out.push(Element::Punct(punct))
 }
 
-// The rows of the groups whose keys match: of one key that is looked up, or of all that do.
+// The rows of the groups whose keys match: of one key, of those that are looked up by a value in a column, or of all that do.
 fn append_closed(
     alloc: Global,
     spec: &GroupSpec,
     slots: &Slots,
+    indexes: &Indexes,
     kept: &Punct,
-    only: Option<&Key>,
+    reach: &Reach,
     out: &mut List<Element>,
 ) -> Result<(), NoMemory>
     requires states { AllStates (2 ^ 40) spec.now slots.now.entries }
-    requires only { IfSome (option_copied only) (MatchesOnly kept.now) }
+    requires reach { Reaches kept.now slots.now.entries (get nat_eq indexes.now) reach.now }
     requires apart { IsDistinct row_eq (keys_of slots.now.entries) }
     ensures ok { OnOk result (out.new ≡ out.old ++ closed_rows kept.now (open_groups slots.now.entries)) }
     ensures err { OnErr result (IsFront out.old out.new) }
 {
-    match only {
-        None => {
+    match reach {
+        Reach::All => {
             append_rows(alloc, spec, slots, kept, out)?;
             Ok(())
         }
-        Some(key) => {
+        Reach::One(key) => {
             append_one(alloc, spec, slots, key, out)?;
             Ok(())
         }
+        Reach::Column(column, value) => {
+            append_found(alloc, spec, slots, indexes, kept, *column, value, out)?;
+            Ok(())
+        }
     }
+}
+
+// The rows of the groups with a value in a column whose keys match.
+fn append_found(
+    alloc: Global,
+    spec: &GroupSpec,
+    slots: &Slots,
+    indexes: &Indexes,
+    kept: &Punct,
+    column: usize,
+    value: &ColumnValue,
+    out: &mut List<Element>,
+) -> Result<(), NoMemory>
+    requires states { AllStates (2 ^ 40) spec.now slots.now.entries }
+    requires found { AreFound kept.now column value.now slots.now.entries (told_by (get nat_eq indexes.now column) value.now) }
+    ensures ok { OnOk result (out.new ≡ out.old ++ closed_rows kept.now (open_groups slots.now.entries)) }
+    ensures err { OnErr result (IsFront out.old out.new) }
+{
+    let places = places_of(indexes, column, value);
+    append_places(alloc, spec, slots, places, kept, out)
+}
+
+// The rows of the groups at these places, where they are open and their keys match.
+fn append_places(
+    alloc: Global,
+    spec: &GroupSpec,
+    slots: &Slots,
+    places: &[usize],
+    kept: &Punct,
+    out: &mut List<Element>,
+) -> Result<(), NoMemory>
+    requires { AllStates (2 ^ 40) spec.now slots.now.entries }
+    ensures ok { OnOk result (out.new ≡ out.old ++ closed_over kept.now slots.now.entries places.now) }
+    ensures err { OnErr result (IsFront out.old out.new) }
+{
+    for place in places {
+        append_at(alloc, spec, slots, *place, kept, out)?;
+    }
+    Ok(())
 }
 
 // Puts the row of the group of a key at the end, where it is open.

@@ -1,12 +1,12 @@
-// Keys of groups.
+// Keys of groups, and values of their columns.
 ghost use Rattle.std.specs.Prelude.{◌≡◌, ◌<◌, All, IfOk, IfSome, length};
-ghost use Rattle.pj_value.specs.Values.{row_eq};
+ghost use Rattle.pj_value.specs.Values.{row_eq, value_eq};
 ghost use Rattle.pj_events.specs.Operators.{picked_cells};
 ghost use Rattle.pj_group.specs.Slots.{MatchesOnly};
 ghost use Rattle.pj_group.specs.Prints.{next_print, print_of, with_bytes, with_value};
 ghost use Rattle.std.specs.Cmp.{decided, partial_equiv_from_equiv};
 ghost use Rattle.std.proofs.Common.{ap};
-ghost use Rattle.pj_value.proofs.Orders.{row_equal_if_same, row_same_if_equal};
+ghost use Rattle.pj_value.proofs.Orders.{equal_if_same, row_equal_if_same, row_same_if_equal, same_if_equal};
 ghost use Rattle.std.specs.Hash as fed;
 
 use pj_flow::project_tuple;
@@ -87,6 +87,55 @@ impl Hash for Key {
 
     fn hash<H: Hasher>(&self, state: &mut H) {
         state.write_u64(print(&self.row));
+    }
+}
+
+/// A value of a key column, by which groups are looked up.
+#[derive(Drop)]
+pub struct ColumnValue {
+    value: Value,
+}
+
+impl Model for ColumnValue {
+    ghost use Rattle.pj_value.specs.declared.values.Value.{Value as AnyValue};
+
+    ghost Value = { AnyValue };
+
+    ghost view = { λ v. v.value };
+}
+
+impl ColumnValue {
+    /// The same value. A text is shared and not copied.
+    pub fn of(alloc: Global, value: &Value) -> Result<ColumnValue, NoMemory>
+        ensures { IfOk result (λ v. v ≡ value.now) }
+    {
+        Ok(ColumnValue {
+            value: value.copy(alloc)?,
+        })
+    }
+}
+
+impl PartialEq for ColumnValue {
+    ghost eq = { value_eq };
+
+    ghost laws = { partial_equiv_from_equiv (decided value_eq (λ x y. (same_if_equal x y, equal_if_same x y))) };
+
+    fn eq(&self, other: &ColumnValue) -> bool {
+        self.value.same(&other.value)
+    }
+}
+
+impl Eq for ColumnValue {
+    ghost laws = { decided value_eq (λ x y. (same_if_equal x y, equal_if_same x y)) };
+}
+
+impl Hash for ColumnValue {
+    ghost hash_input = { λ v. fed.u64 (with_value 0 v) };
+
+    ghost respects_eq = { λ x y t. ap (λ v. fed.u64 (with_value 0 v)) (same_if_equal x y t) };
+
+    fn hash<H: Hasher>(&self, state: &mut H) {
+        state.write_u64(with_value(0, &self.value));
     }
 }
 

@@ -1,12 +1,15 @@
 // Groups in memory.
-ghost use Rattle.std.specs.Prelude.{ℕ, ◌≡◌, ◌&&◌, false, not, Some, None, filter, is_some};
+ghost use Rattle.std.specs.Prelude.{ℕ, ◌≡◌, ◌&&◌, false, not, Some, None, filter, is_some, nat_eq};
 ghost use Rattle.std.specs.Map.{lookup, set_value};
+ghost use Rattle.indexmap.specs.IndexMap.{get};
 ghost use Rattle.pj_shape.specs.declared.groups.GroupSpec.{GroupSpec as AnySpec};
 ghost use Rattle.pj_value.specs.Values.{row_eq};
 ghost use Rattle.pj_events.specs.Patterns.{matches_row};
+ghost use Rattle.pj_group.specs.Indexes.{AreIndexesOf};
 ghost use Rattle.pj_group.specs.Insides.{AllStates};
 ghost use Rattle.pj_group.specs.Slots.{IsReady, is_open, open_groups};
 
+use crate::indexes::Indexes;
 use crate::keys::Key;
 use crate::tally::Tally;
 use indexmap::IndexMap;
@@ -17,15 +20,18 @@ use pj_value::List;
 /// all such are cleared away.
 pub type Slots = IndexMap<Key, Option<List<Tally>>>;
 
-/// Clears away the groups that were closed, where the one of this key is.
+/// Clears away the groups that were closed, where the one of this key is, and then the indexes.
 #[tactic(auto, using(crate::proofs::OpenGroups::open_filter, crate::proofs::OpenGroups::ready_filter, crate::proofs::OpenGroups::states_filter))]
-pub fn reopen(slots: &mut Slots, key: &Key)
+pub fn reopen(slots: &mut Slots, indexes: &mut Indexes, key: &Key)
+    requires indexed { AreIndexesOf slots.old.entries (get nat_eq indexes.old) }
     ensures ready { IsReady (lookup (row_eq key.now) slots.new.entries) }
     ensures same { open_groups slots.new.entries ≡ open_groups slots.old.entries }
     ensures states { (count : ℕ) (spec : AnySpec) → AllStates count spec slots.old.entries → AllStates count spec slots.new.entries }
+    ensures indexed { AreIndexesOf slots.new.entries (get nat_eq indexes.new) }
 {
     if is_closed(slots, key) {
         clear(slots);
+        indexes.clear();
     }
 }
 

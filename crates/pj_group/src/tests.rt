@@ -1,5 +1,5 @@
 // What no clause says: that the calls succeed with ample memory, and what they hand out on runs by hand.
-ghost use Rattle.std.specs.Prelude.{◌≡◌, ◌≤◌, ◌+◌, ◌^◌, ◌∷◌, [], All, IfOk, length};
+ghost use Rattle.std.specs.Prelude.{◌≡◌, ◌≤◌, ◌+◌, ◌^◌, All, IfOk, length};
 ghost use Rattle.pj_group.specs.Steps.{Fits, IsInRange};
 
 use super::*;
@@ -207,6 +207,110 @@ fn sums_are_exact_and_clamped(rt: HostRuntime) {
         -7,
     ];
     assert!(rt; agrees(&run(rt.alloc(), &aggs, &said), &want));
+}
+
+// What is said to a group of rows of three columns by the first two.
+#[derive(Clone, Copy)]
+enum PairSaid {
+    Row(i64, i64, i64),
+    Close(Option<i64>, Option<i64>),
+    CloseUpTo(i64, i64),
+}
+
+fn pair_group(alloc: Global) -> Result<Group, NoMemory>
+    ensures fits { IfOk result (λ g. Fits g.spec 3) }
+    ensures few { IfOk result (λ g. length g.spec.keys + length g.spec.aggs ≤ 120) }
+{
+    let keys = List::copy_of(alloc, &[0, 1])?;
+    let aggs = List::copy_of(alloc, &[Agg::Count, Agg::Sum(2)])?;
+    Ok(Group::new(alloc, GroupSpec { keys, aggs }, 1000)?)
+}
+
+fn put_three(alloc: Global, group: &mut Group, a: i64, b: i64, c: i64) -> Result<(), GroupStop>
+    requires { Fits group.old.spec 3 }
+    ensures { group.new.spec ≡ group.old.spec }
+{
+    let mut values = List::new(alloc);
+    values.push(Value::Int(a))?;
+    values.push(Value::Int(b))?;
+    values.push(Value::Int(c))?;
+    group.tuple(Row::of(values))
+}
+
+fn close_pairs(
+    alloc: Global,
+    group: &mut Group,
+    a: Pattern,
+    b: Pattern,
+    out: &mut List<Element>,
+) -> Result<(), GroupStop>
+    requires fits { Fits group.old.spec 3 }
+    requires few { length group.old.spec.keys + length group.old.spec.aggs ≤ 120 }
+    ensures { group.new.spec ≡ group.old.spec }
+{
+    let mut patterns = List::new(alloc);
+    patterns.push(a)?;
+    patterns.push(b)?;
+    patterns.push(Pattern::wild())?;
+    group.punct(Punct::of(patterns), out)
+}
+
+fn say_pair(
+    alloc: Global,
+    group: &mut Group,
+    said: PairSaid,
+    out: &mut List<Element>,
+) -> Result<(), GroupStop>
+    requires fits { Fits group.old.spec 3 }
+    requires few { length group.old.spec.keys + length group.old.spec.aggs ≤ 120 }
+    ensures { group.new.spec ≡ group.old.spec }
+{
+    match said {
+        PairSaid::Row(a, b, c) => put_three(alloc, group, a, b, c),
+        PairSaid::Close(a, b) => close_pairs(alloc, group, pattern(a), pattern(b), out),
+        PairSaid::CloseUpTo(a, b) => {
+            let up_to = Pattern::range(None, Some(Value::Int(b)));
+            close_pairs(alloc, group, pattern(Some(a)), up_to, out)
+        }
+    }
+}
+
+fn run_pairs(alloc: Global, all: &[PairSaid]) -> Result<Vec<i64>, GroupStop> {
+    let mut group = pair_group(alloc)?;
+    let mut out = List::new(alloc);
+    for said in all {
+        say_pair(alloc, &mut group, *said, &mut out)?;
+    }
+    Ok(marks_of(alloc, out.as_slice())?)
+}
+
+// The second punctuation comes to more than half of the places, so that closed groups are cleared away.
+#[test]
+fn groups_close_by_one_of_two_columns(rt: HostRuntime) {
+    let said = [
+        PairSaid::Row(1, 1, 10),
+        PairSaid::Row(2, 1, 20),
+        PairSaid::Row(1, 2, 30),
+        PairSaid::Row(3, 3, 5),
+        PairSaid::Row(2, 2, 1),
+        PairSaid::Close(Some(1), None),
+        PairSaid::Row(4, 1, 7),
+        PairSaid::Row(2, 1, 2),
+        PairSaid::Close(None, Some(1)),
+        PairSaid::Row(2, 3, 4),
+        PairSaid::Row(3, 4, 6),
+        PairSaid::Row(2, 2, 1),
+        PairSaid::Close(Some(2), None),
+        PairSaid::Close(Some(2), None),
+        PairSaid::CloseUpTo(3, 3),
+        PairSaid::Close(None, None),
+    ];
+    let want = [
+        1, 1, 1, 10, 1, 2, 1, 30, 1, -7, -7, -7, 2, 1, 2, 22, 4, 1, 1, 7, -7, 1, -7, -7, 2, 2, 2,
+        2, 2, 3, 1, 4, 2, -7, -7, -7, 2, -7, -7, -7, 3, 3, 1, 5, 3, -7, -7, -7, 3, 4, 1, 6, -7, -7,
+        -7, -7,
+    ];
+    assert!(rt; agrees(&run_pairs(rt.alloc(), &said), &want));
 }
 
 fn text(alloc: Global, bytes: &[u8]) -> Result<Value, NoMemory> {

@@ -1,9 +1,11 @@
 use Rattle.std.proofs.Common.{Some, ap, sym, ◌∙◌, subst}
-use Rattle.indexmap.specs.IndexMap.{insert_entry}
+use Rattle.std.specs.Prelude.{nat_eq}
+use Rattle.indexmap.specs.IndexMap.{get, insert_entry}
 use Rattle.pj_value.specs.Values.{row_eq}
 use Rattle.pj_group.specs.Insides.{AllStates}
 use Rattle.pj_group.specs.Slots.{open_groups}
 use Rattle.pj_group.proofs.Taking.{added_by, kept_by, renewed_by}
+use Rattle.pj_group.proofs.Indexed.{indexes_put}
 use Rattle.pj_group.proofs.Bounds.{first_states, found_states, on_err, put_states_by, set_states_by}
 use Rattle.pj_group.proofs.group.take_row.Goals as goal
 
@@ -44,3 +46,8 @@ returns-in_ok-insert-in-None-clause-states c =
     (c.reopen.ensures.states c.args.count c.args.spec.now c.requires.states) c.as_slice-in-None.ensures
     (first_states c.args.count c.args.row.now c.as_slice-in-None.result.now c.in_ok-tallies-in-None.tallies c.in_ok-tallies-in-None.ensures.is c.in_ok-tallies-in-None.ensures.bounded)
     (c.in_ok-insert-in-None.ensures.entries ∙ ap (λ m. insert_entry row_eq m.entries c.in_ok-key.key (Some c.in_ok-tallies-in-None.tallies)) c.get_mut.follows.holds-at-none)
+
+pub returns-in_ok-insert-in-None-clause-indexed : goal.returns-in_ok-insert-in-None-clause-indexed
+returns-in_ok-insert-in-None-clause-indexed c =
+    indexes_put c.reopen.new.slots.entries c.insert.new.self.entries c.in_ok-key.key (Some c.in_ok-tallies-in-None.tallies) (get nat_eq c.reopen.new.indexes)
+    (c.in_ok-insert-in-None.ensures.entries ∙ ap (λ m. insert_entry row_eq m.entries c.in_ok-key.key (Some c.in_ok-tallies-in-None.tallies)) c.get_mut.follows.holds-at-none) c.reopen.ensures.indexed

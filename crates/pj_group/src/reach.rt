@@ -1,0 +1,114 @@
+// Where the groups that a punctuation matches are looked for.
+ghost use Rattle.std.specs.Prelude.{◌<◌, length, IfOk, IfSome, nat_eq};
+ghost use Rattle.indexmap.specs.IndexMap.{get};
+ghost use Rattle.pj_group.specs.Indexes.{AreIndexesOf, IsSought, NeedsValue, Reaches};
+
+use crate::indexes::{Indexes, catch_up, places_of};
+use crate::keys::{ColumnValue, Key};
+use crate::slots::Slots;
+use pj_pattern::{Punct, Shape};
+use pj_value::NoMemory;
+use std::alloc::Global;
+
+/// Where to look for groups: at one key, at the places of a value in a key column, or at all.
+#[derive(Drop)]
+pub enum Reach {
+    One(Key),
+    Column(usize, ColumnValue),
+    All,
+}
+
+impl Reach {
+    /// Where all groups are found that the punctuation matches: by their key where it has constants alone, else by a column in
+    /// which it has one, else by going through all. The indexes of these columns are brought up to date.
+    pub fn of(
+        alloc: Global,
+        slots: &Slots,
+        indexes: &mut Indexes,
+        kept: &Punct,
+    ) -> Result<Reach, NoMemory>
+        requires { AreIndexesOf slots.now.entries (get nat_eq indexes.old) }
+        ensures same { AreIndexesOf slots.now.entries (get nat_eq indexes.new) }
+        ensures ok { IfOk result (Reaches kept.now slots.now.entries (get nat_eq indexes.new)) }
+    {
+        match Key::of_constants(alloc, kept)? {
+            Some(key) => Ok(Reach::One(key)),
+            None => match rarest(alloc, slots, indexes, kept)? {
+                None => Ok(Reach::All),
+                Some((column, value)) => Ok(Reach::Column(column, value)),
+            },
+        }
+    }
+}
+
+// A column in which the punctuation has a constant, with it: of several the one with the fewest places.
+fn rarest(
+    alloc: Global,
+    slots: &Slots,
+    indexes: &mut Indexes,
+    kept: &Punct,
+) -> Result<Option<(usize, ColumnValue)>, NoMemory>
+    requires { AreIndexesOf slots.now.entries (get nat_eq indexes.old) }
+    ensures same { AreIndexesOf slots.now.entries (get nat_eq indexes.new) }
+    ensures ok { IfOk result (λ best. IfSome best (IsSought kept.now slots.now.entries (get nat_eq indexes.new))) }
+{
+    let mut best = None;
+    for column in 0..kept.len() {
+        best = with_column(alloc, slots, indexes, kept, column, best)?;
+    }
+    Ok(best)
+}
+
+// The best so far, or this column with its constant, where it has one with fewer places.
+fn with_column(
+    alloc: Global,
+    slots: &Slots,
+    indexes: &mut Indexes,
+    kept: &Punct,
+    column: usize,
+    best: Option<(usize, ColumnValue)>,
+) -> Result<Option<(usize, ColumnValue)>, NoMemory>
+    requires within { column < length kept.now }
+    requires indexed { AreIndexesOf slots.now.entries (get nat_eq indexes.old) }
+    requires best { IfSome best (IsSought kept.now slots.now.entries (get nat_eq indexes.old)) }
+    ensures same { AreIndexesOf slots.now.entries (get nat_eq indexes.new) }
+    ensures ok { IfOk result (λ best. IfSome best (IsSought kept.now slots.now.entries (get nat_eq indexes.new))) }
+{
+    match constant_in(alloc, kept, column)? {
+        None => Ok(best),
+        Some(value) => {
+            catch_up(alloc, indexes, slots, column)?;
+            if is_rarer(indexes, column, &value, best.as_ref()) {
+                Ok(Some((column, value)))
+            } else {
+                Ok(best)
+            }
+        }
+    }
+}
+
+// Whether fewer groups have this value than the best so far.
+fn is_rarer(
+    indexes: &Indexes,
+    column: usize,
+    value: &ColumnValue,
+    best: Option<&(usize, ColumnValue)>,
+) -> bool {
+    match best {
+        None => true,
+        Some(one) => {
+            places_of(indexes, column, value).len() < places_of(indexes, one.0, &one.1).len()
+        }
+    }
+}
+
+// The constant of the punctuation in a column, if that is one.
+fn constant_in(alloc: Global, punct: &Punct, column: usize) -> Result<Option<ColumnValue>, NoMemory>
+    requires { column < length punct.now }
+    ensures { IfOk result (λ found. IfSome found (NeedsValue punct.now column)) }
+{
+    match punct.at(column).shape() {
+        Shape::Constant(value) => Ok(Some(ColumnValue::of(alloc, value)?)),
+        _ => Ok(None),
+    }
+}
