@@ -15,13 +15,13 @@ use Rattle.pj_cover.specs.Asking.{IsFound, AreFound, there, or_else, first_there
 use Rattle.pj_cover.proofs.Classes.{first_class_is}
 
 -- those of these rows that are of the column's input have the column
-abbrev HasCells : List TupleAt → ClassCol → Type 0
+abbrev pub HasCells : List TupleAt → ClassCol → Type 0
 HasCells xs at = (x : TupleAt) → In x xs → x.input ≡ at.input → at.column < length x.row
 
 none-not-some : {A : Type 0} (o : Option A) (v : A) → o ≡ None → o ≡ Some v → ⊥
 none-not-some o v p q = cc
 
-there-values : (xs : List TupleAt) (at : ClassCol) (v : Value) → there xs at ≡ Some v → (rest : List Value) × (values_in (map part_of xs) at ≡ v ∷ rest)
+pub there-values : (xs : List TupleAt) (at : ClassCol) (v : Value) → there xs at ≡ Some v → (rest : List Value) × (values_in (map part_of xs) at ≡ v ∷ rest)
 there-values [] at v e = absurd (none-not-some None v refl e)
 there-values (x ∷ xs) at v e = go (eqb x.input at.input) e (there-values xs at v)
   where
@@ -93,7 +93,7 @@ arity-at (s ∷ schemas) zero schema e = ap length (get_or_from_slice_get (s ∷
 arity-at (s ∷ schemas) (suc i) schema e = arity-at schemas i schema e
 
 -- rows that fit have the columns of a class
-class-cells : (spec : JoinSpec) (class : List ClassCol) (xs : List TupleAt) → IsSoundSpec spec → In class spec.classes → ((x : TupleAt) → In x xs → length x.row ≡ get_or (arities_of spec.inputs) x.input 0)
+pub class-cells : (spec : JoinSpec) (class : List ClassCol) (xs : List TupleAt) → IsSoundSpec spec → In class spec.classes → ((x : TupleAt) → In x xs → length x.row ≡ get_or (arities_of spec.inputs) x.input 0)
     → (at : ClassCol) → In at class → HasCells xs at
 class-cells spec class xs sound h fit at ha x hx i =
     let k = (sound.sound_classes class h).same_kind in

@@ -18,3 +18,4 @@ pub mod Stored
 pub mod Below
 pub mod Bound
 pub mod Steps
+pub mod Partners

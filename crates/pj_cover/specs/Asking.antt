@@ -110,6 +110,20 @@ abbrev pub AreDone : Known → List CertEntry → List TupleAt → List TupleAt 
 AreDone k [] xs ys = ⊥
 AreDone k (e ∷ cert) xs ys = (y : TupleAt) → In y ys → MayStand k e xs y → all_covered k cert (y ∷ xs) ≡ true
 
+-- the same of those of the rows that have one of these tickets
+abbrev pub AreDoneUnder : Known → List CertEntry → List TupleAt → List TupleAt → List ℕ → Type 0
+AreDoneUnder k [] xs ys tickets = ⊥
+AreDoneUnder k (e ∷ cert) xs ys tickets = (y : TupleAt) → In y ys → In y.ticket tickets → MayStand k e xs y → all_covered k cert (y ∷ xs) ≡ true
+
+-- nothing where with none of those rows anything is asked for that is not covered; else what is not
+abbrev pub IsJudgedUnder : Known → List CertEntry → ℕ → List TupleAt → List TupleAt → List ℕ → Option Uncovered → Type 0
+IsJudgedUnder k cert at xs ys tickets None = AreDoneUnder k cert xs ys tickets
+IsJudgedUnder k cert at xs ys tickets (Some u) = IsOpen k cert at xs u
+
+-- each of the rows that joins with these has one of the tickets
+abbrev pub HavePartners : List (List ClassCol) → List TupleAt → List TupleAt → List ℕ → Type 0
+HavePartners classes xs ys tickets = (y : TupleAt) → In y ys → agree classes (y ∷ xs) ≡ true → In y.ticket tickets
+
 -- nothing exactly where all that the row asks for is covered; else what is not
 abbrev pub IsFirstUncovered : Known → List CertEntry → TupleAt → Option Uncovered → Type 0
 IsFirstUncovered k cert x None = all_covered k cert (x ∷ []) ≡ true
@@ -134,6 +148,14 @@ first_there xs (at ∷ class) = or_else (there xs at) (first_there xs class)
 -- the value of the class is found in these rows
 abbrev pub IsFound : List ClassCol → List TupleAt → Type 0
 IsFound class xs = (v : Value) × (first_there xs class ≡ Some v) × (constant class xs ≡ v)
+
+-- the class has this column of the input, and its value in these rows is this one
+abbrev pub ClassTells : List ClassCol → List TupleAt → ℕ → ℕ → Value → Type 0
+ClassTells class xs input column value = In (record { input = input; column = column }) class × (first_there xs class ≡ Some value)
+
+-- one of the classes does
+abbrev pub IsPartnerKey : List (List ClassCol) → List TupleAt → ℕ → ℕ → Value → Type 0
+IsPartnerKey classes xs input column value = (class : List ClassCol) × In class classes × ClassTells class xs input column value
 
 -- that of each marked column is
 abbrev pub AreFound : List (List ClassCol) → ℕ → List Bool → List TupleAt → Type 0

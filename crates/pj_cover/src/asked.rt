@@ -1,12 +1,12 @@
 // Rows that are lent, and what they have in the classes of a join.
-ghost use Rattle.std.specs.Prelude.{◌≡◌, ◌<◌, ◌≤◌, ◌+◌, ◌++◌, ◌∷◌, [], ◌||◌, ◌&&◌, ◌==◌, not, true, IsTrue, length, slice_get};
+ghost use Rattle.std.specs.Prelude.{◌≡◌, ◌<◌, ◌≤◌, ◌+◌, ◌++◌, ◌∷◌, [], ◌||◌, ◌&&◌, ◌==◌, not, true, IsTrue, IfSome, Some, length, slice_get};
 ghost use Rattle.std.specs.List.{list_all};
 ghost use Rattle.std.specs.Option.{option_copied};
 ghost use Rattle.pj_value.specs.declared.values.Value.{Value as AnyValue};
 ghost use Rattle.pj_value.specs.Values.{value_eq};
 ghost use Rattle.pj_shape.specs.Joining.{has_column};
-ghost use Rattle.pj_events.specs.Join.{class_with, no_value, value_at};
-ghost use Rattle.pj_cover.specs.Asking.{AreFound, IsFound, constant_if, constants_in, first_class, first_there, there};
+ghost use Rattle.pj_events.specs.Join.{In, class_with, no_value, value_at};
+ghost use Rattle.pj_cover.specs.Asking.{AreFound, ClassTells, IsFound, IsPartnerKey, constant_if, constants_in, first_class, first_there, there};
 ghost use Rattle.pj_cover.specs.Suits.{all_have, cell_value, has_there, suits, suits_class};
 
 use crate::Given;
@@ -182,6 +182,55 @@ fn first_there<'a>(rows: &[Lent<'a>], class: &[ClassCol]) -> Option<&'a Value>
         match there(rows, *at) {
             None => {}
             Some(v) => return Some(v),
+        }
+    }
+    None
+}
+
+// The first column of an input in a class.
+fn column_of(class: &[ClassCol], input: u32) -> Option<u32>
+    ensures { IfSome result (λ column. In (record { input = input; column = column }) class.now) }
+{
+    for at in class {
+        if at.input == input {
+            return Some(at.column);
+        }
+    }
+    None
+}
+
+/// A column, and the value that each row has in it that joins with others.
+#[derive(Clone, Copy)]
+pub struct PartnerKey<'a> {
+    pub column: u32,
+    pub value: &'a Value,
+}
+
+// What the class tells of the rows of an input that join with these.
+fn key_in<'a>(class: &[ClassCol], input: u32, rows: &[Lent<'a>]) -> Option<PartnerKey<'a>>
+    ensures { IfSome result (λ key. ClassTells class.now rows.now input key.column key.value.now) }
+{
+    match column_of(class, input) {
+        None => None,
+        Some(column) => match first_there(rows, class) {
+            None => None,
+            Some(value) => Some(PartnerKey { column, value }),
+        },
+    }
+}
+
+/// What the first class tells of the rows of an input that join with these, where one does.
+pub fn partner_key<'a>(
+    classes: &[List<ClassCol>],
+    input: u32,
+    rows: &[Lent<'a>],
+) -> Option<PartnerKey<'a>>
+    ensures { IfSome result (λ key. IsPartnerKey classes.now rows.now input key.column key.value.now) }
+{
+    for class in classes {
+        match key_in(class.as_slice(), input, rows) {
+            Some(key) => return Some(key),
+            None => {}
         }
     }
     None

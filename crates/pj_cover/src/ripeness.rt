@@ -3,9 +3,10 @@ ghost use Rattle.std.specs.Prelude.{◌≡◌, ◌<◌, ◌≤◌, ◌+◌, ◌^
 ghost use Rattle.pj_value.specs.Lists.{In};
 ghost use Rattle.pj_shape.specs.Sound.{IsSoundSpec, arities_of};
 ghost use Rattle.pj_events.specs.Join.{IsCertified, agree, demand, entry_of};
-ghost use Rattle.pj_cover.specs.Asking.{AreParts, HaveLength, IsFirstUncovered, IsJudged, IsJudgedThrough, IsJudgedWith, IsOnWalk, IsStep, data_of, entries, is_covered, is_ripe, known_of, marks_of, tuple_of, tuples_at, with_ticket};
+ghost use Rattle.pj_cover.specs.Rising.{AreRisingRows};
+ghost use Rattle.pj_cover.specs.Asking.{AreParts, HaveLength, HavePartners, IsFirstUncovered, IsJudged, IsJudgedThrough, IsJudgedUnder, IsJudgedWith, IsOnWalk, IsStep, data_of, entries, is_covered, is_ripe, known_of, marks_of, tuple_of, tuples_at, with_ticket};
 
-use crate::asked::{Lent, lend_constants, suits};
+use crate::asked::{Lent, lend_constants, partner_key, suits};
 use crate::{Given, PunctStore, StoredRows, Uncovered};
 use arrayvec::ArrayVec;
 use pj_shape::{Cert, CertStep, JoinSpec, Scheme, Schemes};
@@ -56,6 +57,24 @@ fn with_ticket(ticket: u64, found: Option<Uncovered>) -> Option<Uncovered>
             through.insert(0, ticket);
             Some(Uncovered { entry, through })
         }
+    }
+}
+
+// The tickets of stored rows of an input, among which are all that join with these rows, where an index tells.
+fn partners<'a, R: StoredRows>(
+    spec: &JoinSpec,
+    input: u32,
+    parts: &[Lent<'_>],
+    rows: &'a R,
+) -> Option<&'a [u64]>
+    requires sound { IsSoundSpec spec.now }
+    requires fit { HaveLength (slice_index (arities_of spec.now.inputs) input) (R.rows rows.now input) }
+    ensures all { IfSome result (λ tickets. HavePartners spec.now.classes parts.now (tuples_at (R.rows rows.now) input) tickets.now) }
+    ensures rising { IfSome result (λ tickets. AreRisingRows (R.rows rows.now input)) }
+{
+    match partner_key(spec.classes.as_slice(), input, parts) {
+        None => None,
+        Some(key) => rows.tickets_with(input, key.column, key.value),
     }
 }
 
@@ -111,6 +130,34 @@ fn seek_through<'a, R: StoredRows>(
     if cert.len() <= at + 1 {
         return None;
     }
+    match partners(spec, step.input, parts.as_slice(), rows) {
+        None => seek_each(spec, schemes, cert, at, step, rows, stores, low, parts),
+        Some(tickets) => seek_among(
+            spec, schemes, cert, at, step, rows, stores, low, tickets, parts,
+        ),
+    }
+}
+
+// The same where each row of the step's input is looked at.
+#[cycle(judging)]
+fn seek_each<'a, R: StoredRows>(
+    spec: &JoinSpec,
+    schemes: &Schemes,
+    cert: &Cert,
+    at: usize,
+    step: CertStep,
+    rows: &'a R,
+    stores: &[PunctStore],
+    low: u64,
+    parts: &mut ArrayVec<Lent<'a>, 16>,
+) -> Option<Uncovered>
+    requires parts { AreParts spec.now (R.rows rows.now) stores.now }
+    requires walk { IsOnWalk spec.now schemes.now (drop at cert.now) parts.old.items }
+    requires step { slice_get cert.now at ≡ Some step }
+    requires fits { at + 1 < 2 ^ 64 }
+    ensures same { parts.new.items ≡ parts.old.items }
+    ensures judged { IsJudgedThrough (known_of spec.now (R.rows rows.now) stores.now low) (entries schemes.now (drop at cert.now)) at parts.old.items (tuples_at (R.rows rows.now) step.input) result }
+{
     for n in 0..rows.count(step.input) {
         let (ticket, row) = rows.nth(step.input, n);
         match seek_with(
@@ -121,6 +168,69 @@ fn seek_through<'a, R: StoredRows>(
         }
     }
     None
+}
+
+// The same through each stored row of the step's input that has one of these tickets.
+#[cycle(judging)]
+fn seek_among<'a, R: StoredRows>(
+    spec: &JoinSpec,
+    schemes: &Schemes,
+    cert: &Cert,
+    at: usize,
+    step: CertStep,
+    rows: &'a R,
+    stores: &[PunctStore],
+    low: u64,
+    tickets: &[u64],
+    parts: &mut ArrayVec<Lent<'a>, 16>,
+) -> Option<Uncovered>
+    requires parts { AreParts spec.now (R.rows rows.now) stores.now }
+    requires walk { IsOnWalk spec.now schemes.now (drop at cert.now) parts.old.items }
+    requires step { slice_get cert.now at ≡ Some step }
+    requires fits { at + 1 < 2 ^ 64 }
+    requires rising { AreRisingRows (R.rows rows.now step.input) }
+    ensures same { parts.new.items ≡ parts.old.items }
+    ensures judged { IsJudgedUnder (known_of spec.now (R.rows rows.now) stores.now low) (entries schemes.now (drop at cert.now)) at parts.old.items (tuples_at (R.rows rows.now) step.input) tickets.now result }
+{
+    for ticket in tickets {
+        match seek_under(
+            spec, schemes, cert, at, step, rows, stores, low, *ticket, parts,
+        ) {
+            None => {}
+            Some(found) => return Some(found),
+        }
+    }
+    None
+}
+
+// The same through the stored row with this ticket.
+#[cycle(judging)]
+fn seek_under<'a, R: StoredRows>(
+    spec: &JoinSpec,
+    schemes: &Schemes,
+    cert: &Cert,
+    at: usize,
+    step: CertStep,
+    rows: &'a R,
+    stores: &[PunctStore],
+    low: u64,
+    ticket: u64,
+    parts: &mut ArrayVec<Lent<'a>, 16>,
+) -> Option<Uncovered>
+    requires parts { AreParts spec.now (R.rows rows.now) stores.now }
+    requires walk { IsOnWalk spec.now schemes.now (drop at cert.now) parts.old.items }
+    requires step { slice_get cert.now at ≡ Some step }
+    requires fits { at + 1 < 2 ^ 64 }
+    requires rising { AreRisingRows (R.rows rows.now step.input) }
+    ensures same { parts.new.items ≡ parts.old.items }
+    ensures judged { IsJudgedUnder (known_of spec.now (R.rows rows.now) stores.now low) (entries schemes.now (drop at cert.now)) at parts.old.items (tuples_at (R.rows rows.now) step.input) (ticket ∷ []) result }
+{
+    match rows.get(step.input, ticket) {
+        None => None,
+        Some(row) => seek_with(
+            spec, schemes, cert, at, step, rows, stores, low, ticket, row, parts,
+        ),
+    }
 }
 
 // The same through this stored row.

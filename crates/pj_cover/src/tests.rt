@@ -1,8 +1,9 @@
 // What no clause says: that the calls succeed with ample memory, on worked punctuations.
-ghost use Rattle.std.specs.Prelude.{◌≡◌, ◌<◌, ◌+◌, ◌∷◌, [], ℕ, map, true, false, not, length, IfOk, OnOk};
+ghost use Rattle.std.specs.Prelude.{◌≡◌, ◌<◌, ◌+◌, ◌∷◌, [], ℕ, map, true, false, not, length, slice_get, IfOk, OnOk};
 ghost use Rattle.pj_cover.specs.Givens.{marked};
 ghost use Rattle.pj_cover.specs.Stores.{IsAbove};
 ghost use Rattle.pj_cover.specs.Chain.{at, chain, chain_cert, chain_schemes, firsts, number, pair, pairs, seconds, two_rows};
+ghost use Rattle.pj_cover.specs.Rising.{is_there};
 
 use super::*;
 use crate::cells::{Cells, Instance};
@@ -473,6 +474,15 @@ struct TwoRows {
     other: Row,
 }
 
+fn has_value(row: &Row, column: u32, value: &Value) -> bool
+    ensures { result ≡ is_there value.now (slice_get row.now column) }
+{
+    match row.get(column as usize) {
+        None => false,
+        Some(there) => there.same(value),
+    }
+}
+
 impl StoredRows for TwoRows {
     ghost rows = { λ s. two_rows s.one s.other };
 
@@ -486,6 +496,32 @@ impl StoredRows for TwoRows {
         } else {
             (2, &self.other)
         }
+    }
+
+    fn tickets_with(&self, input: u32, column: u32, value: &Value) -> Option<&[u64]> {
+        if input != 1 {
+            return None;
+        }
+        if has_value(&self.one, column, value) {
+            if has_value(&self.other, column, value) {
+                return Some(&[1, 2]);
+            }
+            return Some(&[1]);
+        }
+        if has_value(&self.other, column, value) {
+            return Some(&[2]);
+        }
+        Some(&[])
+    }
+
+    fn get(&self, input: u32, ticket: u64) -> Option<&Row> {
+        if input == 1 && ticket == 1 {
+            return Some(&self.one);
+        }
+        if input == 1 && ticket == 2 {
+            return Some(&self.other);
+        }
+        None
     }
 }
 

@@ -6,7 +6,7 @@ use crate::arrivals::Arrived;
 use crate::queue::{Place, Queue};
 use pj_cover::StoredRows;
 use pj_state::State;
-use pj_value::Row;
+use pj_value::{Row, Value};
 
 /// The states of all inputs, lent.
 #[derive(Drop)]
@@ -26,6 +26,24 @@ impl<'a> StoredRows for Inputs<'a> {
 
     fn nth(&self, input: u32, at: usize) -> (u64, &Row) {
         self.states[input as usize].nth(at)
+    }
+
+    fn tickets_with(&self, input: u32, column: u32, value: &Value) -> Option<&[u64]> {
+        if input as usize >= self.states.len() {
+            return None;
+        }
+        let state = &self.states[input as usize];
+        if !state.is_indexed(column) {
+            return None;
+        }
+        Some(state.tickets(column, value))
+    }
+
+    fn get(&self, input: u32, ticket: u64) -> Option<&Row> {
+        if input as usize >= self.states.len() {
+            return None;
+        }
+        self.states[input as usize].get(ticket)
     }
 }
 

@@ -1,9 +1,11 @@
-use Rattle.std.proofs.Common.{rules, ◌≡◌, ◌^◌, drop, ◌<◌, ◌≤◌, ◌+◌, ◌∷◌, refl, sym, ap, ◌∙◌, subst, true, Option, length, map, List, arith}
+use Rattle.std.proofs.Common.{rules, ◌≡◌, drop, ◌<◌, ◌≤◌, ◌+◌, ◌∷◌, refl, sym, ap, ◌∙◌, subst, true, Option, length, map, List, get_or, arith}
+use Rattle.std.proofs.lemmas.Option.{slice_get-get_or}
 use Rattle.pj_events.specs.Join.{TupleAt}
 use Rattle.pj_cover.specs.declared.rows.Uncovered.{Uncovered}
 use Rattle.pj_cover.specs.Suits.{suits}
 use Rattle.pj_cover.specs.Asking.{IsJudgedWith, IsOnWalk, entries, known_of, tuple_of}
 use Rattle.pj_cover.proofs.Searching.{few_found, found_here, goes_on, gone_through, has_room, in_here, last_step, not_suited, one_more, ready, went_on}
+use Rattle.pj_cover.proofs.Partners.{found_in, no_row_under, none_under, one_more_under, row_under_judged, step_fits, whole_under}
 use Rattle.pj_cover.proofs.ripeness.+judging.Goals as goal
 
 pub seek-step_is_covered-requires : goal.seek-step_is_covered-requires
@@ -25,14 +27,13 @@ seek_through-returns-then-len-at-clause-judged g t c =
     let le : length c.args.cert.now ≤ c.args.at + 1 = omega (arith, c.if-len-at.true, c.len.ensures) in
     last_step (known_of c.args.spec.now (g.R.StoredRows.rows c.args.rows.now) c.args.stores.now c.args.low) c.args.schemes.now c.args.cert.now c.args.at c.args.step c.args.parts.now.items (map (tuple_of c.args.step.input) (g.R.StoredRows.rows c.args.rows.now c.args.step.input)) c.requires.step le
 
-pub seek_through-seek_with-requires : goal.seek_through-seek_with-requires
-seek_through-seek_with-requires g t c κs l =
+pub seek_each-seek_with-requires : goal.seek_each-seek_with-requires
+seek_each-seek_with-requires g t c κs l =
     let walk : IsOnWalk c.args.spec.now c.args.schemes.now (drop c.args.at c.args.cert.now) c.loop-n.parts.items = subst (λ (xs : List TupleAt). IsOnWalk c.args.spec.now c.args.schemes.now (drop c.args.at c.args.cert.now) xs) (sym c.loop-n.invariant.0) c.requires.walk in
-    let fits : c.args.at + 1 < 2 ^ 64 = omega (arith, c.if-len-at.false, c.len.type_inv) in
-    (search rules, (search rules, (c.requires.parts, (walk, (c.requires.step, (fits, in_here (g.R.StoredRows.rows c.args.rows.now c.args.step.input) c.loop-n.n (c.nth-ticket.result.0, c.nth-ticket.result.1.now) c.nth-ticket.ensures))))))
+    (search rules, (search rules, (c.requires.parts, (walk, (c.requires.step, (c.requires.fits, in_here (g.R.StoredRows.rows c.args.rows.now c.args.step.input) c.loop-n.n (c.nth-ticket.result.0, c.nth-ticket.result.1.now) c.nth-ticket.ensures))))))
 
-pub seek_through-loop-n-preserved : goal.seek_through-loop-n-preserved
-seek_through-loop-n-preserved g t c =
+pub seek_each-loop-n-preserved : goal.seek_each-loop-n-preserved
+seek_each-loop-n-preserved g t c =
     let k = known_of c.args.spec.now (g.R.StoredRows.rows c.args.rows.now) c.args.stores.now c.args.low in (
       c.seek_with.ensures.same ∙ c.loop-n.invariant.0,
       one_more k c.args.schemes.now c.args.cert.now c.args.at c.args.step c.args.parts.now.items c.loop-n.parts.items (g.R.StoredRows.rows c.args.rows.now c.args.step.input) c.loop-n.n (c.nth-ticket.result.0, c.nth-ticket.result.1.now) c.seek_with.result
@@ -78,3 +79,43 @@ seek_with-returns-clause-judged g t c =
     subst (λ (o : Option Uncovered). IsJudgedWith k (entries c.args.schemes.now (drop c.args.at c.args.cert.now)) c.args.at c.args.parts.now.items (tuple_of c.args.step.input (c.args.ticket, c.args.row.now)) o) (sym c.with_ticket.ensures)
     (went_on c.args.spec.now c.args.schemes.now (g.R.StoredRows.rows c.args.rows.now) c.args.stores.now c.args.low c.args.cert.now c.args.at c.args.step c.args.parts.now.items c.insert.new.self.items (c.args.ticket, c.args.row.now) c.seek-found.result
     c.requires.walk c.requires.step c.requires.stored c.if-ticket-low.false suited same c.seek-found.ensures.judged)
+
+pub seek_through-partners-requires-clause-fit : goal.seek_through-partners-requires-clause-fit
+seek_through-partners-requires-clause-fit g t c =
+    step_fits c.args.spec.now c.args.schemes.now (g.R.StoredRows.rows c.args.rows.now) c.args.stores.now c.args.cert.now c.args.at c.args.step c.args.parts.now.items c.requires.parts c.requires.walk c.requires.step
+
+pub seek_through-returns-in-Some-clause-judged : goal.seek_through-returns-in-Some-clause-judged
+seek_through-returns-in-Some-clause-judged g t c =
+    whole_under (known_of c.args.spec.now (g.R.StoredRows.rows c.args.rows.now) c.args.stores.now c.args.low) (entries c.args.schemes.now (drop c.args.at c.args.cert.now)) c.args.at c.args.parts.now.items c.as_slice.result.now
+    (map (tuple_of c.args.step.input) (g.R.StoredRows.rows c.args.rows.now c.args.step.input)) c.in-Some.tickets.now c.seek_among.result c.as_slice.ensures.value c.in-Some.ensures.all c.seek_among.ensures.judged
+
+pub seek_among-seek_under-requires : goal.seek_among-seek_under-requires
+seek_among-seek_under-requires g t c κs l =
+    let walk : IsOnWalk c.args.spec.now c.args.schemes.now (drop c.args.at c.args.cert.now) c.loop-ticket.parts.items = subst (λ (xs : List TupleAt). IsOnWalk c.args.spec.now c.args.schemes.now (drop c.args.at c.args.cert.now) xs) (sym c.loop-ticket.invariant.0) c.requires.walk in
+    (search rules, (search rules, (c.requires.parts, (walk, (c.requires.step, (c.requires.fits, c.requires.rising))))))
+
+pub seek_among-loop-ticket-init : goal.seek_among-loop-ticket-init
+seek_among-loop-ticket-init g t c =
+    (refl, none_under (known_of c.args.spec.now (g.R.StoredRows.rows c.args.rows.now) c.args.stores.now c.args.low) c.args.schemes.now c.args.cert.now c.args.at c.args.step c.args.parts.now.items (map (tuple_of c.args.step.input) (g.R.StoredRows.rows c.args.rows.now c.args.step.input)) c.requires.step)
+
+pub seek_under-seek_with-requires : goal.seek_under-seek_with-requires
+seek_under-seek_with-requires g t c κs l =
+    (search rules, (search rules, (c.requires.parts, (c.requires.walk, (c.requires.step, (c.requires.fits, found_in c.args.ticket c.in-Some.row.now (g.R.StoredRows.rows c.args.rows.now c.args.step.input) (sym c.in-Some.ensures)))))))
+
+pub seek_under-returns-in-None-clause-judged : goal.seek_under-returns-in-None-clause-judged
+seek_under-returns-in-None-clause-judged g t c =
+    no_row_under (known_of c.args.spec.now (g.R.StoredRows.rows c.args.rows.now) c.args.stores.now c.args.low) c.args.schemes.now c.args.cert.now c.args.at c.args.step c.args.parts.now.items c.args.ticket (g.R.StoredRows.rows c.args.rows.now c.args.step.input)
+    c.requires.step (sym c.in-None.ensures)
+
+pub seek_under-returns-in-Some-clause-judged : goal.seek_under-returns-in-Some-clause-judged
+seek_under-returns-in-Some-clause-judged g t c =
+    row_under_judged (known_of c.args.spec.now (g.R.StoredRows.rows c.args.rows.now) c.args.stores.now c.args.low) c.args.schemes.now c.args.cert.now c.args.at c.args.step c.args.parts.now.items c.args.ticket c.in-Some.row.now (g.R.StoredRows.rows c.args.rows.now c.args.step.input) c.seek_with.result
+    c.requires.step c.requires.rising (sym c.in-Some.ensures) c.seek_with.ensures.judged
+
+pub seek_among-loop-ticket-preserved : goal.seek_among-loop-ticket-preserved
+seek_among-loop-ticket-preserved g t c = (
+  c.seek_under.ensures.same ∙ c.loop-ticket.invariant.0,
+  one_more_under (known_of c.args.spec.now (g.R.StoredRows.rows c.args.rows.now) c.args.stores.now c.args.low) (entries c.args.schemes.now (drop c.args.at c.args.cert.now)) c.args.at c.args.parts.now.items c.loop-ticket.parts.items
+      (map (tuple_of c.args.step.input) (g.R.StoredRows.rows c.args.rows.now c.args.step.input)) c.args.tickets.now c.loop-ticket.ticket-index (get_or c.args.tickets.now c.loop-ticket.ticket-index 0) c.seek_under.result
+      (slice_get-get_or c.args.tickets.now c.loop-ticket.ticket-index 0 c.loop-ticket-test.true) c.loop-ticket.invariant.0 c.loop-ticket.invariant.1 c.seek_under.ensures.judged c.in-None.is,
+)

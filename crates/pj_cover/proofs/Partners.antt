@@ -1,0 +1,189 @@
+-- Stored rows that join with others are found by an index.
+use Rattle.std.proofs.Common.{ℕ, ◌+◌, ◌<◌, Bool, true, false, cond, List, [], ◌∷◌, ◌++◌, ◌≡◌, ◌⊎◌, Bor, Option, Some, None, map, filter, length, take, drop, get_or, refl, sym, ap, ap₂, ◌∙◌, subst, inl, inr, eqb, arith}
+use Rattle.std.specs.List.{slice_get}
+use Rattle.std.specs.Prelude.{IfSome}
+use Rattle.std.proofs.lemmas.Bool.{false≢true, eqb-true, eq-eqb}
+use Rattle.std.proofs.lemmas.List.{take_more}
+use Rattle.std.proofs.lemmas.Option.{get_or_from_slice_get, slice_get_within, slice_get-get_or}
+use Rattle.pj_value.specs.declared.values.Value.{Value}
+use Rattle.pj_value.specs.Values.{value_eq}
+use Rattle.pj_value.proofs.Members.{in-place, In-append_cases, In-append_right, In-filter_from, In-flat_map_from, In-map, In-map_from}
+use Rattle.pj_value.proofs.Orders.{equal_itself}
+use Rattle.pj_shape.specs.declared.joins.JoinSpec.{JoinSpec}
+use Rattle.pj_shape.specs.Joining.{values_in}
+use Rattle.pj_shape.specs.Sound.{IsSoundSpec, arities_of}
+use Rattle.pj_events.specs.Join.{In, TupleAt, ClassCol, CertEntry, CertStep, agree, entry_of, no_value, part_of, value_at, values}
+use Rattle.pj_laws.proofs.Matching.{agree-at, value-in}
+use Rattle.pj_cover.specs.declared.rows.Uncovered.{Uncovered}
+use Rattle.pj_cover.specs.Stores.{Store}
+use Rattle.pj_cover.specs.Rising.{AreAbove, AreRisingRows, has_there_value, is_there, row_with, ticket_in, tickets_with}
+use Rattle.pj_cover.specs.Asking.{Known, AreDoneUnder, AreParts, IsOnWalk, ClassTells, HaveLength, HavePartners, IsJudgedThrough, IsJudgedUnder, IsJudgedWith, IsOpen, IsPartnerKey, MayStand, all_covered, entries, first_there, or_else, there, tuple_of}
+use Rattle.pj_cover.proofs.Bound.{class-cells, there-values}
+use Rattle.pj_cover.proofs.Steps.{drop_here, length-map}
+
+-- a column that stands at a place of a class
+pub found_column : (class : List ClassCol) (i : ℕ) (d : ClassCol) (input : ℕ) → i < length class → (get_or class i d).input ≡ input → In (record { input = input; column = (get_or class i d).column }) class
+found_column class i d input lt same =
+    subst (λ (c : ClassCol). In c class) (ap (λ (n : ℕ). record { input = n; column = (get_or class i d).column }) same) (in-place class d i lt)
+
+pub told_by_class : (classes : List (List ClassCol)) (xs : List TupleAt) (class : List ClassCol) (i input column : ℕ) (value : Value) → i < length classes → class ≡ get_or classes i class → ClassTells class xs input column value
+    → IsPartnerKey classes xs input column value
+told_by_class classes xs class i input column value lt is tells = (class, subst (λ (c : List ClassCol). In c classes) (sym is) (in-place classes class i lt), tells)
+
+-- the rows of a step's input fit
+pub step_fits : (spec : JoinSpec) (schemes : List (List (List Bool))) (rows : ℕ → List (ℕ × List Value)) (stores : List Store) (cert : List CertStep) (at : ℕ) (step : CertStep) (xs : List TupleAt)
+    → AreParts spec rows stores → IsOnWalk spec schemes (drop at cert) xs → slice_get cert at ≡ Some step → HaveLength (get_or (arities_of spec.inputs) step.input 0) (rows step.input)
+step_fits spec schemes rows stores cert at step xs parts walk here =
+    let w = subst (λ (steps : List CertStep). IsOnWalk spec schemes steps xs) (drop_here cert at step here) walk in
+    let n : length (arities_of spec.inputs) ≡ length spec.inputs = length-map length spec.inputs in
+    let below : step.input < length (arities_of spec.inputs) = w.walk.0 in
+    parts.fit step.input (omega (arith, n, below))
+
+-- the value of a class in rows is among its values there
+first-there-in : (class : List ClassCol) (xs : List TupleAt) (v : Value) → first_there xs class ≡ Some v → (at : ClassCol) × In at class × ((rest : List Value) × (values_in (map part_of xs) at ≡ v ∷ rest))
+first-there-in [] xs v e = absurd (cc)
+first-there-in (a ∷ class) xs v e = go (there xs a) refl e (first-there-in class xs v)
+  where
+    go : (o : Option Value) → there xs a ≡ o → or_else o (first_there xs class) ≡ Some v → (first_there xs class ≡ Some v → (at : ClassCol) × In at class × ((rest : List Value) × (values_in (map part_of xs) at ≡ v ∷ rest)))
+        → (at : ClassCol) × In at (a ∷ class) × ((rest : List Value) × (values_in (map part_of xs) at ≡ v ∷ rest))
+    go (Some w) f g ih = (a, inl refl, there-values xs a v (f ∙ g))
+    go None f g ih = let r = ih g in (r.0, inr r.1, r.2)
+
+-- a row that joins with these has the value that the class tells
+partner-value : (classes : List (List ClassCol)) (xs : List TupleAt) (y : TupleAt) (input column : ℕ) (value : Value) → IsPartnerKey classes xs input column value → y.input ≡ input → agree classes (y ∷ xs) ≡ true
+    → value_at y.row column ≡ value
+partner-value classes xs y input column value key of joins =
+    let c = first-there-in key.0 xs value key.2.1 in
+    let own : ClassCol = record { input = input; column = column } in
+    let one : Value → List Value = λ v. v ∷ [] in
+    let front : List Value = cond (eqb y.input c.0.input) (one (get_or y.row c.0.column no_value)) [] in
+    let theirs : In value (values (map part_of (y ∷ xs)) key.0) =
+    In-flat_map_from (values_in (map part_of (y ∷ xs))) value c.0 key.0 c.1
+    (In-append_right value front (values_in (map part_of xs) c.0) (subst (λ (vs : List Value). In value vs) (sym c.2.1) (inl refl))) in
+    agree-at classes (y ∷ xs) key.0 (get_or y.row column no_value) value joins key.1 (value-in (y ∷ xs) key.0 y own (inl refl) key.2.0 of) theirs
+
+pub have_partners : (spec : JoinSpec) (xs : List TupleAt) (rows : List (ℕ × List Value)) (input column : ℕ) (value : Value) → IsSoundSpec spec → HaveLength (get_or (arities_of spec.inputs) input 0) rows
+    → IsPartnerKey spec.classes xs input column value → HavePartners spec.classes xs (map (tuple_of input) rows) (tickets_with column value rows)
+have_partners spec xs rows input column value sound fit key y h joins =
+    let r = In-map (tuple_of input) y rows h in
+    let of : y.input ≡ input = ap (λ (z : TupleAt). z.input) (sym r.2) in
+    let fits : (z : TupleAt) → In z (y ∷ []) → length z.row ≡ get_or (arities_of spec.inputs) z.input 0 = λ z k. elim k [
+      | inl q ↦ subst (λ (w : TupleAt). length w.row ≡ get_or (arities_of spec.inputs) w.input 0) (r.2 ∙ q) (fit r.0 r.1)
+      | inr n ↦ absurd n
+    ] in
+    let lt : column < length y.row = class-cells spec key.0 (y ∷ []) sound key.1 fits (record { input = input; column = column }) key.2.0 y (inl refl) of in
+    let have : is_there value (slice_get y.row column) ≡ true =
+    ap (is_there value) (slice_get-get_or y.row column no_value lt) ∙ ap (λ (v : Value). value_eq v value) (partner-value spec.classes xs y input column value key of joins) ∙ equal_itself value in
+    let its : has_there_value column value r.0 ≡ true = ap (λ (z : TupleAt). is_there value (slice_get z.row column)) r.2 ∙ have in
+    subst (λ (n : ℕ). In n (tickets_with column value rows)) (ap (λ (z : TupleAt). z.ticket) r.2) (In-map_from ticket_in r.0 (filter (has_there_value column value) rows) (In-filter_from (has_there_value column value) r.0 rows r.1 its))
+
+pub partners_told : (spec : JoinSpec) (xs : List TupleAt) (rows : List (ℕ × List Value)) (input column : ℕ) (value : Value) (tickets : Option (Bor (List ℕ))) → IsSoundSpec spec → HaveLength (get_or (arities_of spec.inputs) input 0) rows
+    → IsPartnerKey spec.classes xs input column value → IfSome tickets (λ t. t.now ≡ tickets_with column value rows) → IfSome tickets (λ t. HavePartners spec.classes xs (map (tuple_of input) rows) t.now)
+partners_told spec xs rows input column value None sound fit key is = tt
+partners_told spec xs rows input column value (Some t) sound fit key is =
+    subst (λ (ts : List ℕ). HavePartners spec.classes xs (map (tuple_of input) rows) ts) (sym is) (have_partners spec xs rows input column value sound fit key)
+
+-- ---- the row under a ticket
+
+no-such : (ticket : ℕ) (rows : List (ℕ × List Value)) → row_with ticket rows ≡ None → (r : ℕ × List Value) → In r rows → r.0 ≡ ticket → ⊥
+no-such ticket [] e r h same = h
+no-such ticket (q ∷ rows) e r h same = go (eqb q.0 ticket) refl e h (λ n k. no-such ticket rows n r k same)
+  where
+    go : (b : Bool) → eqb q.0 ticket ≡ b → cond b (Some q.1) (row_with ticket rows) ≡ None → (q ≡ r) ⊎ In r rows → (row_with ticket rows ≡ None → In r rows → ⊥) → ⊥
+    go true f n k ih = absurd (cc)
+    go false f n (inl is) ih = false≢true (sym f ∙ eq-eqb q.0 ticket (ap (λ (z : ℕ × List Value). z.0) is ∙ same))
+    go false f n (inr k) ih = ih n k
+
+above-in : (n : ℕ) (rows : List (ℕ × List Value)) → AreAbove n rows → (r : ℕ × List Value) → In r rows → n < r.0
+above-in n [] a r h = absurd h
+above-in n (q ∷ rows) a r (inl is) = subst (λ (z : ℕ × List Value). n < z.0) is a.0
+above-in n (q ∷ rows) a r (inr k) = above-in n rows a.1 r k
+
+the-one : (ticket : ℕ) (row : List Value) (rows : List (ℕ × List Value)) → AreRisingRows rows → row_with ticket rows ≡ Some row → (r : ℕ × List Value) → In r rows → r.0 ≡ ticket → r ≡ (ticket, row)
+the-one ticket row [] rises e r h same = absurd h
+the-one ticket row (q ∷ rows) rises e r h same = go (eqb q.0 ticket) refl e h (λ n k. the-one ticket row rows rises.1 n r k same)
+  where
+    pair : (z : ℕ × List Value) → z.0 ≡ ticket → z.1 ≡ row → z ≡ (ticket, row)
+    pair z a b = ap₂ (λ n w. (n, w)) a b
+
+    go : (b : Bool) → eqb q.0 ticket ≡ b → cond b (Some q.1) (row_with ticket rows) ≡ Some row → (q ≡ r) ⊎ In r rows → (row_with ticket rows ≡ Some row → In r rows → r ≡ (ticket, row)) → r ≡ (ticket, row)
+    go true f n (inl is) ih = let own : q.1 ≡ row = cc in sym is ∙ pair q (eqb-true q.0 ticket f) own
+    go true f n (inr k) ih =
+        let lt : q.0 < r.0 = above-in q.0 rows rises.0 r k in
+        let at : q.0 ≡ ticket = eqb-true q.0 ticket f in
+        absurd (omega (arith, lt, at, same))
+    go false f n (inl is) ih = absurd (false≢true (sym f ∙ eq-eqb q.0 ticket (ap (λ (z : ℕ × List Value). z.0) is ∙ same)))
+    go false f n (inr k) ih = ih n k
+
+pub found_in : (ticket : ℕ) (row : List Value) (rows : List (ℕ × List Value)) → row_with ticket rows ≡ Some row → In (ticket, row) rows
+found_in ticket row [] e = absurd (cc)
+found_in ticket row (q ∷ rows) e = go (eqb q.0 ticket) refl e (found_in ticket row rows)
+  where
+    go : (b : Bool) → eqb q.0 ticket ≡ b → cond b (Some q.1) (row_with ticket rows) ≡ Some row → (row_with ticket rows ≡ Some row → In (ticket, row) rows) → In (ticket, row) (q ∷ rows)
+    go true f n ih = let own : q.1 ≡ row = cc in inl (ap₂ (λ m w. (m, w)) (eqb-true q.0 ticket f) own)
+    go false f n ih = inr (ih n)
+
+-- ---- what was judged through rows under tickets
+
+under-none : (k : Known) (cert : List CertEntry) (at : ℕ) (xs : List TupleAt) (input ticket : ℕ) (rows : List (ℕ × List Value)) (e : CertEntry) → row_with ticket rows ≡ None
+    → IsJudgedUnder k (e ∷ cert) at xs (map (tuple_of input) rows) (ticket ∷ []) None
+under-none k cert at xs input ticket rows e none = λ y h n m. elim n [
+  | inl is ↦ let r = In-map (tuple_of input) y rows h in absurd (no-such ticket rows none r.0 r.1 (ap (λ (z : TupleAt). z.ticket) r.2 ∙ sym is))
+  | inr n' ↦ absurd n'
+]
+
+pub no_row_under : (k : Known) (schemes : List (List (List Bool))) (cert : List CertStep) (at : ℕ) (step : CertStep) (xs : List TupleAt) (ticket : ℕ) (rows : List (ℕ × List Value)) → slice_get cert at ≡ Some step → row_with ticket rows ≡ None
+    → IsJudgedUnder k (entries schemes (drop at cert)) at xs (map (tuple_of step.input) rows) (ticket ∷ []) None
+no_row_under k schemes cert at step xs ticket rows here none =
+    subst (λ (steps : List CertStep). IsJudgedUnder k (entries schemes steps) at xs (map (tuple_of step.input) rows) (ticket ∷ []) None) (sym (drop_here cert at step here))
+    (under-none k (entries schemes (drop (at + 1) cert)) at xs step.input ticket rows (entry_of schemes step) none)
+
+under-one : (k : Known) (cert : List CertEntry) (at : ℕ) (xs : List TupleAt) (input ticket : ℕ) (row : List Value) (rows : List (ℕ × List Value)) (e : CertEntry) (o : Option Uncovered) → AreRisingRows rows → row_with ticket rows ≡ Some row
+    → IsJudgedWith k (e ∷ cert) at xs (tuple_of input (ticket, row)) o → IsJudgedUnder k (e ∷ cert) at xs (map (tuple_of input) rows) (ticket ∷ []) o
+under-one k cert at xs input ticket row rows e (Some u) rises is j = j
+under-one k cert at xs input ticket row rows e None rises is j = λ y h n m. elim n [
+  | inl same ↦
+      let r = In-map (tuple_of input) y rows h in
+      let one : r.0 ≡ (ticket, row) = the-one ticket row rows rises is r.0 r.1 (ap (λ (z : TupleAt). z.ticket) r.2 ∙ sym same) in
+      let it : tuple_of input (ticket, row) ≡ y = ap (tuple_of input) (sym one) ∙ r.2 in
+      subst (λ (z : TupleAt). MayStand k e xs z → all_covered k cert (z ∷ xs) ≡ true) it j m
+  | inr n' ↦ absurd n'
+]
+
+pub row_under_judged : (k : Known) (schemes : List (List (List Bool))) (cert : List CertStep) (at : ℕ) (step : CertStep) (xs : List TupleAt) (ticket : ℕ) (row : List Value) (rows : List (ℕ × List Value)) (o : Option Uncovered)
+    → slice_get cert at ≡ Some step → AreRisingRows rows → row_with ticket rows ≡ Some row
+    → IsJudgedWith k (entries schemes (drop at cert)) at xs (tuple_of step.input (ticket, row)) o → IsJudgedUnder k (entries schemes (drop at cert)) at xs (map (tuple_of step.input) rows) (ticket ∷ []) o
+row_under_judged k schemes cert at step xs ticket row rows o here rises is j =
+    subst (λ (steps : List CertStep). IsJudgedUnder k (entries schemes steps) at xs (map (tuple_of step.input) rows) (ticket ∷ []) o) (sym (drop_here cert at step here))
+    (under-one k (entries schemes (drop (at + 1) cert)) at xs step.input ticket row rows (entry_of schemes step) o rises is
+    (subst (λ (steps : List CertStep). IsJudgedWith k (entries schemes steps) at xs (tuple_of step.input (ticket, row)) o) (drop_here cert at step here) j))
+
+-- no ticket yet
+pub none_under : (k : Known) (schemes : List (List (List Bool))) (cert : List CertStep) (at : ℕ) (step : CertStep) (xs ys : List TupleAt) → slice_get cert at ≡ Some step → AreDoneUnder k (entries schemes (drop at cert)) xs ys []
+none_under k schemes cert at step xs ys here = subst (λ (steps : List CertStep). AreDoneUnder k (entries schemes steps) xs ys []) (sym (drop_here cert at step here)) (λ y h n m. absurd n)
+
+under-more : (k : Known) (cert : List CertEntry) (xs ys : List TupleAt) (before : List ℕ) (ticket : ℕ) → AreDoneUnder k cert xs ys before → AreDoneUnder k cert xs ys (ticket ∷ []) → AreDoneUnder k cert xs ys (before ++ ticket ∷ [])
+under-more k [] xs ys before ticket a b = a
+under-more k (e ∷ cert) xs ys before ticket a b = λ y h n m. elim (In-append_cases y.ticket before (ticket ∷ []) n) [ inl q ↦ a y h q m | inr q ↦ b y h q m ]
+
+-- one ticket more
+pub one_more_under : (k : Known) (cert : List CertEntry) (at : ℕ) (xs zs ys : List TupleAt) (tickets : List ℕ) (n ticket : ℕ) (o : Option Uncovered) → slice_get tickets n ≡ Some ticket → zs ≡ xs → AreDoneUnder k cert xs ys (take n tickets)
+    → IsJudgedUnder k cert at zs ys (ticket ∷ []) o → o ≡ None → AreDoneUnder k cert xs ys (take (n + 1) tickets)
+one_more_under k cert at xs zs ys tickets n ticket o here same done j none =
+    let now : AreDoneUnder k cert xs ys (ticket ∷ []) =
+    subst (λ (ws : List TupleAt). AreDoneUnder k cert ws ys (ticket ∷ [])) same (subst (λ (p : Option Uncovered). IsJudgedUnder k cert at zs ys (ticket ∷ []) p) none j) in
+    subst (λ (ts : List ℕ). AreDoneUnder k cert xs ys ts) (sym (take_more tickets n ticket (slice_get_within tickets n ticket here) ∙ ap (λ t. take n tickets ++ t ∷ []) (get_or_from_slice_get tickets n ticket ticket here)))
+    (under-more k cert xs ys (take n tickets) ticket done now)
+
+pub found_under : (k : Known) (cert : List CertEntry) (at : ℕ) (xs zs ys : List TupleAt) (tickets : List ℕ) (o : Option Uncovered) (u : Uncovered) → zs ≡ xs → IsJudgedUnder k cert at zs ys tickets o → o ≡ Some u → IsOpen k cert at xs u
+found_under k cert at xs zs ys tickets o u same j some =
+    subst (λ (ws : List TupleAt). IsOpen k cert at ws u) same (subst (λ (p : Option Uncovered). IsJudgedUnder k cert at zs ys tickets p) some j)
+
+under-whole : (k : Known) (cert : List CertEntry) (at : ℕ) (xs ys : List TupleAt) (tickets : List ℕ) (o : Option Uncovered) → HavePartners k.classes xs ys tickets → IsJudgedUnder k cert at xs ys tickets o → IsJudgedThrough k cert at xs ys o
+under-whole k cert at xs ys tickets (Some u) have j = j
+under-whole k [] at xs ys tickets None have j = j
+under-whole k (e ∷ cert) at xs ys tickets None have j = λ y h m. j y h (have y h m.joins) m
+
+-- those with these tickets are all that join
+pub whole_under : (k : Known) (cert : List CertEntry) (at : ℕ) (xs zs ys : List TupleAt) (tickets : List ℕ) (o : Option Uncovered) → zs ≡ xs → HavePartners k.classes zs ys tickets → IsJudgedUnder k cert at xs ys tickets o → IsJudgedThrough k cert at xs ys o
+whole_under k cert at xs zs ys tickets o same have j = under-whole k cert at xs ys tickets o (subst (λ (ws : List TupleAt). HavePartners k.classes ws ys tickets) same have) j
