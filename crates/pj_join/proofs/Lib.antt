@@ -28,3 +28,4 @@ pub mod Woken
 pub mod Picked
 pub mod Watched
 pub mod Held
+pub mod Halved

@@ -248,6 +248,7 @@ fn ripe_ones(
     requires may { MayJudge (judge spec.now schemes.now states.now stores.now low) cert.now input }
     requires passed { NoneIsRipe (judge spec.now schemes.now states.now stores.now low) cert.now input watches.now }
     ensures gone { let j = judge spec.now schemes.now states.now stores.now low in IfOk result (λ judged. judged.gone ≡ ripe_tickets j cert.now input (state_at states.now input).rows) }
+    ensures rising { IfOk result (λ judged. IsRising itself judged.gone) }
     ensures left { let j = judge spec.now schemes.now states.now stores.now low in IfOk result (λ judged. AreLookedAt j cert.now input settled watches.now judged.marked) }
     ensures removed { let j = judge spec.now schemes.now states.now stores.now low in OnOk result (removed.new ≡ removed.old ++ ripe_rows j cert.now input (state_at states.now input).rows) }
     ensures err { OnErr result (take (length removed.old) removed.new ≡ removed.old) }
@@ -280,6 +281,7 @@ fn wait_on(
     out: &mut List<Punct>,
 ) -> Result<Option<List<Heard>>, NoMemory>
     requires there { input < length schemas.now }
+    requires rising { IsRising itself gone.now }
     requires held { AreHeldBy state.now.rows input waiting.now }
     ensures waiting { IfOk result (λ stay. or_same stay waiting.now ≡ staying_on state.now.rows gone.now input waiting.now) }
     ensures ok { OnOk result (out.new ≡ out.old ++ letting_go schemas.now state.now.rows gone.now input waiting.now) }

@@ -3,6 +3,7 @@ ghost use Rattle.std.specs.Prelude.{◌≡◌, ◌<◌, ◌++◌, ◌∷◌, [],
 ghost use Rattle.pj_events.specs.Join.{has};
 ghost use Rattle.pj_events.specs.Patterns.{all_wild};
 ghost use Rattle.pj_shape.specs.Sound.{arities_of};
+ghost use Rattle.pj_state.specs.Rising.{IsRising, itself};
 ghost use Rattle.pj_state.specs.States.{stored};
 ghost use Rattle.pj_cover.specs.Stores.{IsAbove};
 ghost use Rattle.pj_join.specs.Judging.{IsSortedOut, going_at_once, letting_go, lets_go, staying_on, waiting_with, widened_among};
@@ -70,14 +71,17 @@ fn widened(
     Ok(Punct::of(patterns))
 }
 
+// Whether the ticket is one of those that go, which are in order.
 fn is_gone(gone: &[u64], ticket: u64) -> bool
+    requires { IsRising itself gone.now }
     ensures { result ≡ has gone.now ticket }
 {
-    gone.iter().any(|t| *t == ticket)
+    gone.binary_search(&ticket).is_ok()
 }
 
 // Whether the row matches the punctuation, and is not among those that go.
 fn stays(gone: &[u64], ticket: u64, row: &Row, punct: &Punct) -> bool
+    requires { IsRising itself gone.now }
     ensures { result ≡ stays gone.now punct.now (stored ticket row.now) }
 {
     punct.matches(row) && !is_gone(gone, ticket)
@@ -132,6 +136,7 @@ fn lookup<'a>(state: &State, punct: &'a Punct) -> Option<Lookup<'a>>
 
 // The ticket of one of these rows that stays and matches the punctuation.
 fn find_matching(among: &Matching<'_>, gone: &[u64], punct: &Punct) -> Option<u64>
+    requires { IsRising itself gone.now }
     ensures { is_some result ≡ still_held among.now gone.now punct.now }
 {
     for at in 0..among.len() {
@@ -145,6 +150,7 @@ fn find_matching(among: &Matching<'_>, gone: &[u64], punct: &Punct) -> Option<u6
 
 // The ticket of a row that stays and matches the punctuation, where each is looked at.
 fn find_among_all(state: &State, gone: &[u64], punct: &Punct) -> Option<u64>
+    requires { IsRising itself gone.now }
     ensures { is_some result ≡ still_held state.now.rows gone.now punct.now }
 {
     for at in 0..state.len() {
@@ -158,6 +164,7 @@ fn find_among_all(state: &State, gone: &[u64], punct: &Punct) -> Option<u64>
 
 // The ticket of a row that stays and matches the punctuation: by an index where one tells.
 fn find(state: &State, gone: &[u64], punct: &Punct) -> Option<u64>
+    requires { IsRising itself gone.now }
     ensures { is_some result ≡ still_held state.now.rows gone.now punct.now }
 {
     match lookup(state, punct) {
@@ -168,6 +175,7 @@ fn find(state: &State, gone: &[u64], punct: &Punct) -> Option<u64>
 
 // Whether the row with this ticket is there, stays and matches the punctuation.
 fn is_witness(state: &State, gone: &[u64], ticket: u64, punct: &Punct) -> bool
+    requires { IsRising itself gone.now }
     ensures { result ≡ true → still_held state.now.rows gone.now punct.now ≡ true }
 {
     match state.get(ticket) {
@@ -178,6 +186,7 @@ fn is_witness(state: &State, gone: &[u64], ticket: u64, punct: &Punct) -> bool
 
 // The same, where that with this ticket is looked at first.
 fn witness(state: &State, gone: &[u64], first: u64, punct: &Punct) -> Option<u64>
+    requires { IsRising itself gone.now }
     ensures { is_some result ≡ still_held state.now.rows gone.now punct.now }
 {
     if is_witness(state, gone, first, punct) {
@@ -188,6 +197,7 @@ fn witness(state: &State, gone: &[u64], first: u64, punct: &Punct) -> Option<u64
 
 // The ticket of a row for which the punctuation waits on: one of another input than the swept one does in any case.
 fn waits_for(state: &State, gone: &[u64], input: u32, punct: &Heard) -> Option<u64>
+    requires { IsRising itself gone.now }
     ensures { not (is_some result) ≡ lets_go state.now.rows gone.now input punct.now }
 {
     if punct.input() != input {
@@ -207,7 +217,8 @@ fn let_one_go(
     stay: &mut List<Heard>,
     out: &mut List<Punct>,
 ) -> Result<(), NoMemory>
-    requires { input < length schemas.now }
+    requires there { input < length schemas.now }
+    requires rising { IsRising itself gone.now }
     ensures ok { OnOk result (IsSortedOut (lets_go state.now.rows gone.now input punct.now) punct.now (widened_among schemas.now punct.now) stay.old stay.new out.old out.new) }
     ensures err { OnErr result (out.new ≡ out.old) }
 {
@@ -233,7 +244,8 @@ pub fn let_go(
     waiting: &[Heard],
     out: &mut List<Punct>,
 ) -> Result<List<Heard>, NoMemory>
-    requires { input < length schemas.now }
+    requires there { input < length schemas.now }
+    requires rising { IsRising itself gone.now }
     ensures waiting { IfOk result (λ stay. stay ≡ staying_on state.now.rows gone.now input waiting.now) }
     ensures ok { OnOk result (out.new ≡ out.old ++ letting_go schemas.now state.now.rows gone.now input waiting.now) }
     ensures err { OnErr result (take (length out.old) out.new ≡ out.old) }

@@ -1,12 +1,10 @@
-use Rattle.std.proofs.Common.{◌≡◌, ◌∙◌, ◌++◌, false, ℕ, List, length, ap, map}
-use Rattle.pj_value.specs.Lists.{In}
-use Rattle.pj_value.specs.declared.values.Value.{Value}
+use Rattle.std.proofs.Common.{◌≡◌, ◌∙◌, ◌++◌, ℕ, List, length, ap, map, subst, sym}
 use Rattle.pj_state.specs.declared.shared.Stored.{Stored}
 use Rattle.pj_state.specs.Rising.{IsRising, itself}
-use Rattle.pj_state.specs.States.{ticket_of, tickets_of}
-use Rattle.pj_join.specs.Judging.{judge, row_in}
+use Rattle.pj_state.specs.States.{tickets_of}
+use Rattle.pj_join.specs.Judging.{judge, ripe_at, row_in}
 use Rattle.pj_join.specs.Sides.{state_at}
-use Rattle.pj_join.specs.Watching.{is_passed}
+use Rattle.pj_join.proofs.Halved.{some_rise}
 use Rattle.pj_join.proofs.Looped.{state_is}
 use Rattle.pj_join.proofs.Picked.{all_looked, all_ripe}
 use Rattle.pj_join.proofs.sweeping.ripe_ones.Goals as goal
@@ -16,6 +14,12 @@ returns-clause-gone c =
     let state : c.index-states-input.result ≡ state_at c.args.states.now c.args.input = state_is c.args.states.now c.args.input c.index-states-input.result (length c.args.spec.now.inputs) c.requires.may.count c.requires.may.there c.index-states-input.is in
     (rw (c.as_slice.ensures.value) at c.in_ok-judged.ensures.judged.gone)
     ∙ ap tickets_of (all_ripe (judge c.args.spec.now c.args.schemes.now c.args.states.now c.args.stores.now c.args.low) c.args.cert.now c.args.input c.args.watches.now c.in_ok-tickets.tickets.items (rw (← state) c.in_ok-tickets.ensures.order) c.in_ok-tickets.ensures.rising c.requires.passed (rw (← state) c.in_ok-tickets.ensures.all))
+
+pub returns-clause-rising : goal.returns-clause-rising
+returns-clause-rising c =
+    let state : c.index-states-input.result ≡ state_at c.args.states.now c.args.input = state_is c.args.states.now c.args.input c.index-states-input.result (length c.args.spec.now.inputs) c.requires.may.count c.requires.may.there c.index-states-input.is in
+    subst (λ (ns : List ℕ). IsRising itself ns) (sym (returns-clause-gone c))
+    (some_rise (ripe_at (judge c.args.spec.now c.args.schemes.now c.args.states.now c.args.stores.now c.args.low) c.args.cert.now c.args.input) (state_at c.args.states.now c.args.input).rows (rw (← state) c.in_ok-tickets.ensures.order))
 
 pub returns-clause-left : goal.returns-clause-left
 returns-clause-left c =
