@@ -29,3 +29,4 @@ pub mod Picked
 pub mod Watched
 pub mod Held
 pub mod Halved
+pub mod Elsewhere

@@ -1,11 +1,11 @@
 -- Which stored tuples of an input a sweep has to judge.
-use Rattle.std.specs.Prelude.{ℕ, ◌<◌, ◌≤◌, ◌≡◌, ◌==◌, if◌then◌else◌, Bool, true, false, not, nat_lt, ◌&&◌, List, [], ◌∷◌, ◌++◌, Option, Some, None, filter, flat_map, length, map, slice_get, slice_index_or}
+use Rattle.std.specs.Prelude.{ℕ, ◌<◌, ◌≤◌, ◌≡◌, ◌==◌, if◌then◌else◌, Bool, true, false, not, nat_lt, ◌&&◌, ◌||◌, List, [], ◌∷◌, ◌++◌, Option, Some, None, filter, flat_map, length, map, slice_get, slice_index_or}
 use Rattle.pj_value.specs.declared.values.Value.{Value}
 use Rattle.pj_state.specs.declared.shared.Stored.{Stored}
 use Rattle.pj_state.specs.States.{StateView, is_value, row_under, stored, tickets_of}
 use Rattle.pj_cover.specs.Asking.{entries, puncts_from}
 use Rattle.pj_cover.specs.declared.rows.Uncovered.{Uncovered}
-use Rattle.pj_events.specs.Patterns.{Pattern, covers}
+use Rattle.pj_events.specs.Patterns.{Pattern, covers, is_wild}
 use Rattle.pj_events.specs.Join.{CertEntry, CertStep, ClassCol, In, JoinData, PunctAt, TupleAt, cert_of, covered, demand, has, inputs, instance_from, is_held, older_puncts}
 use Rattle.pj_events.specs.KeptState.{kept_low, kept_ripe}
 use Rattle.pj_join.specs.Joins.{JoinView}
@@ -88,6 +88,13 @@ pub record AreFewer (old new : List Watches) : Type 0 where
 abbrev pub AreUncovered : List (List ClassCol) → ℕ → List Stored → ℕ → List Bool → List Pattern → Watches → Type 0
 AreUncovered classes input rows other marks patterns w =
     (s : Stored) → In s rows → is_passed w s.ticket ≡ true → covers patterns (instance_from classes other 0 marks (tuple_in input s ∷ [])) ≡ false
+
+-- there is a pattern for each mark, and a wildcard for each column that is not marked
+abbrev pub is_wild_elsewhere : List Bool → List Pattern → Bool
+is_wild_elsewhere [] [] = true
+is_wild_elsewhere [] (p ∷ patterns) = false
+is_wild_elsewhere (mark ∷ marks) [] = false
+is_wild_elsewhere (mark ∷ marks) (p ∷ patterns) = (mark || is_wild p) && is_wild_elsewhere marks patterns
 
 -- the column is indexed, and the punctuation covers what a row of the input asks for only where it has this value there
 abbrev pub IsKey : List (List ClassCol) → ℕ → List ℕ → ℕ → List Bool → List Pattern → ℕ → Value → Type 0

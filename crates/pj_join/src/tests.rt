@@ -551,3 +551,49 @@ fn each_partner_of_a_row_is_asked_for(rt: HostRuntime) -> Result<(), Fail> {
     assert_eq!(rt; (join.stored(), join.waiting()), (2, 1));
     Ok(())
 }
+
+// A bid for an item, which is given.
+fn bid(alloc: Global, join: &mut Join, item: i64) -> Result<(), JoinStop>
+    requires { join.old.spec ≡ double_join }
+    ensures { join.new.spec ≡ double_join }
+{
+    let bid = row(alloc, item, 50)?;
+    join.tuple(1, bid)?;
+    next_count(alloc, join)?;
+    Ok(())
+}
+
+// Bids for three items, which a sweep leaves.
+fn judged_bids(alloc: Global, join: &mut Join, all: &mut Vec<i64>) -> Result<(), JoinStop>
+    requires { join.old.spec ≡ double_join }
+    ensures { join.new.spec ≡ double_join }
+{
+    bid(alloc, join, 1)?;
+    bid(alloc, join, 2)?;
+    bid(alloc, join, 5)?;
+    sweep(alloc, join, 1, all)?;
+    Ok(())
+}
+
+// First no more of item 5 and one seller come, and then no more of it at all.
+fn sweeps_behind_constants(alloc: Global, join: &mut Join) -> Result<Vec<i64>, JoinStop>
+    requires { join.old.spec ≡ double_join }
+{
+    let mut all = Vec::new(alloc);
+    judged_bids(alloc, join, &mut all)?;
+    hear(alloc, join, 0, 5, 7, &mut all)?;
+    sweep(alloc, join, 1, &mut all)?;
+    hear(alloc, join, 0, 5, -2, &mut all)?;
+    sweep(alloc, join, 1, &mut all)?;
+    Ok(all)
+}
+
+#[test]
+fn a_constant_in_another_column_removes_no_row(rt: HostRuntime) -> Result<(), Fail> {
+    let alloc = rt.alloc();
+    let mut join = double_join(alloc)?;
+    let swept = sweeps_behind_constants(alloc, &mut join)?;
+    let want = [0, 5, 7, -2, -2, 0, 5, -2, -2, -2, 1, 5, 50];
+    assert_eq!(rt; swept.as_slice(), want.as_slice());
+    Ok(())
+}

@@ -1,17 +1,18 @@
 // Which stored rows a punctuation marks.
-ghost use Rattle.std.specs.Prelude.{◌≡◌, ◌<◌, ◌≤◌, ◌^◌, ◌==◌, ◌++◌, [], true, ℕ, length, slice_get, slice_index_or, Some, IfOk, IfSome, OnOk, OnErr};
+ghost use Rattle.std.specs.Prelude.{◌≡◌, ◌<◌, ◌≤◌, ◌^◌, ◌==◌, ◌||◌, ◌++◌, [], true, ℕ, length, slice_get, slice_index_or, Some, IfOk, IfSome, OnOk, OnErr};
 ghost use Rattle.std.specs.List.{list_any};
 ghost use Rattle.pj_pattern.specs.declared.pattern.Form.TheVariants.{Constant};
 ghost use Rattle.pj_shape.specs.Joining.{has_column};
+ghost use Rattle.pj_events.specs.Patterns.{is_wild};
 ghost use Rattle.pj_cover.specs.Asking.{entries, first_class, marks_of};
 ghost use Rattle.pj_join.specs.Joins.{join_data};
 ghost use Rattle.pj_join.specs.Sides.{IsWide, AreWide, state_at};
-ghost use Rattle.pj_join.specs.Watching.{AllAreLeft, AreFewer, AreLeftAt, AreLeftOpen, AreUncovered, IsFewer, IsKey, first_column, no_watches, watches_at};
+ghost use Rattle.pj_join.specs.Watching.{AllAreLeft, AreFewer, AreLeftAt, AreLeftOpen, AreUncovered, IsFewer, IsKey, first_column, is_wild_elsewhere, no_watches, watches_at};
 
 use crate::lookups::Lookup;
 use crate::marks::Watches;
-use crate::widening::constant_of;
-use pj_pattern::Punct;
+use crate::widening::{constant_of, is_wild};
+use pj_pattern::{Pattern, Punct};
 use pj_shape::{Cert, CertStep, ClassCol, JoinSpec, Scheme, Schemes};
 use pj_state::State;
 use pj_value::{List, NoMemory};
@@ -159,6 +160,31 @@ fn scheme_of(schemes: &Schemes, step: CertStep) -> Option<&Scheme>
     schemes.at(step.input as usize).get(step.scheme as usize)
 }
 
+// Whether the scheme marks the column, or the pattern is the wildcard.
+fn is_marked_or_wild(mark: bool, pattern: &Pattern) -> bool
+    ensures { result ≡ (mark || is_wild pattern.now) }
+{
+    mark || is_wild(pattern)
+}
+
+// Whether the punctuation is a wildcard in each column that the scheme does not mark: else it covers no instance of the scheme.
+#[tactic(auto, using(crate::proofs::Elsewhere::elsewhere_length))]
+fn is_wild_elsewhere(scheme: &Scheme, punct: &Punct) -> bool
+    ensures { result ≡ is_wild_elsewhere scheme.now punct.now }
+{
+    if scheme.len() != punct.len() {
+        return false;
+    }
+    for column in 0..punct.len() {
+        let mark = *scheme.at(column);
+        let pattern = punct.at(column);
+        if !is_marked_or_wild(mark, pattern) {
+            return false;
+        }
+    }
+    true
+}
+
 // Marks the rows of an input that ask for what the punctuation covers by this step; or all.
 fn wake_by(
     watches: &mut Watches,
@@ -173,6 +199,9 @@ fn wake_by(
     ensures fewer { IsFewer watches.old watches.new }
     ensures left { OnOk result (AreUncovered classes.now input state.now.rows other scheme.now punct.now watches.new) }
 {
+    if !is_wild_elsewhere(scheme, punct) {
+        return Ok(());
+    }
     match key(classes, input, state, other, scheme, punct) {
         None => {
             watches.mark_all();
