@@ -1,11 +1,11 @@
 -- Which rows a punctuation marks.
-use Rattle.std.proofs.Common.{ℕ, zero, suc, ◌+◌, ◌<◌, ◌≤◌, Bool, true, false, cond, not, ◌&&◌, ◌||◌, List, [], ◌∷◌, ◌++◌, ◌≡◌, Option, Some, None, Ok, Err, Result, IfSome, OnOk, map, filter, flat_map, length, get_or, set, refl, sym, ap, ap₂, ◌∙◌, subst, inl, inr, eqb, ltb, arith}
+use Rattle.std.proofs.Common.{ℕ, zero, suc, ◌+◌, ◌<◌, Bool, true, false, cond, not, ◌&&◌, ◌||◌, List, [], ◌∷◌, ◌++◌, ◌≡◌, Option, Some, None, Ok, Err, Result, IfSome, OnOk, filter, length, get_or, set, refl, sym, ap, ap₂, ◌∙◌, subst, eqb, ltb, arith}
 use Rattle.std.specs.List.{list_any, slice_get}
-use Rattle.std.proofs.lemmas.Bool.{and_parts, and_right, eq-eqb, eqb-true, false_from_ne_true, false≢true, not-true, ltb-true}
+use Rattle.std.proofs.lemmas.Bool.{and_parts, eq-eqb, eqb-true, false_from_ne_true, false≢true, ltb-true}
 use Rattle.std.proofs.lemmas.Option.{slice_get-get_or, get_or_from_slice_get}
 use Rattle.pj_value.specs.declared.values.Value.{Value}
 use Rattle.pj_value.specs.Values.{value_eq}
-use Rattle.pj_value.proofs.Members.{In-filter_from, In-map_from, any_at, any_from, none_from}
+use Rattle.pj_value.proofs.Members.{In-filter_from, In-map_from, any_at, any_from}
 use Rattle.pj_value.proofs.Orders.{same_if_equal, equal_itself}
 use Rattle.pj_pattern.specs.declared.pattern.Form.TheVariants.{Constant}
 use Rattle.pj_state.specs.declared.shared.Stored.{Stored}
@@ -14,10 +14,10 @@ use Rattle.pj_shape.specs.declared.joins.CertStep.{CertStep}
 use Rattle.pj_cover.specs.Asking.{entries, first_class, marks_of}
 use Rattle.pj_cover.proofs.Classes.{first_class_is}
 use Rattle.pj_events.specs.Patterns.{Pattern, covers, matches_value}
-use Rattle.pj_events.specs.Join.{CertEntry, ClassCol, In, JoinData, PunctAt, TupleAt, class_with, constant, covered, demand, entry_of, has, instance_from, no_value, part_of, value_at, values}
+use Rattle.pj_events.specs.Join.{CertEntry, ClassCol, In, JoinData, PunctAt, TupleAt, class_with, constant, demand, entry_of, has, instance_from, no_value, part_of, value_at, values}
 use Rattle.pj_join.specs.Sides.{IsWide, tuple_in}
 use Rattle.pj_join.proofs.Wanted.{all-in}
-use Rattle.pj_join.specs.Watching.{AreFewer, AreLeft, AreLeftAt, AreLeftOpen, AreUncovered, AsksOpen, IsFewer, IsKey, Watches, first_column, is_passed, watches_at}
+use Rattle.pj_join.specs.Watching.{AreFewer, AreLeft, AreLeftAt, AreLeftOpen, AreUncovered, AsksOpen, IsFewer, IsKey, Limits, Watches, first_column, has_match, is_match, is_passed, watches_at}
 
 -- ---- what is asked for
 
@@ -25,26 +25,26 @@ turned : (m n : ℕ) (b : Bool) → eqb m n ≡ b → eqb n m ≡ b
 turned m n true e = eq-eqb n m (sym (eqb-true m n e))
 turned m n false e = false_from_ne_true (eqb n m) (λ t. false≢true (sym e ∙ eq-eqb m n (sym (eqb-true n m t))))
 
--- a punctuation with a constant in a marked column covers only what has this constant there
-needs : (classes : List (List ClassCol)) (other c : ℕ) (marks : List Bool) (ps : List Pattern) (xs : List TupleAt) (k : ℕ) (v : Value) → slice_get marks k ≡ Some true → slice_get ps k ≡ Some (Constant v)
-    → covers ps (instance_from classes other c marks xs) ≡ true → value_eq v (constant (class_with classes other (c + k)) xs) ≡ true
-needs classes other c [] ps xs k v m p t = absurd (cc)
-needs classes other c (b ∷ marks) [] xs k v m p t = absurd (cc)
-needs classes other c (true ∷ marks) (q ∷ ps) xs zero v m p t =
+-- a punctuation covers only what its pattern in a marked column matches there
+needs : (classes : List (List ClassCol)) (other c : ℕ) (marks : List Bool) (ps : List Pattern) (xs : List TupleAt) (k : ℕ) (r : Pattern) → slice_get marks k ≡ Some true → slice_get ps k ≡ Some r
+    → covers ps (instance_from classes other c marks xs) ≡ true → matches_value r (constant (class_with classes other (c + k)) xs) ≡ true
+needs classes other c [] ps xs k r m p t = absurd (cc)
+needs classes other c (b ∷ marks) [] xs k r m p t = absurd (cc)
+needs classes other c (true ∷ marks) (q ∷ ps) xs zero r m p t =
     let n : c + 0 ≡ c = omega arith in
-    let same : q ≡ Constant v = get_or_from_slice_get (q ∷ ps) 0 (Constant v) (Constant v) p in
-    ap (λ i. value_eq v (constant (class_with classes other i) xs)) n
-    ∙ ap (λ r. matches_value r (constant (class_with classes other c) xs)) (sym same)
+    let same : q ≡ r = get_or_from_slice_get (q ∷ ps) 0 r r p in
+    ap (λ i. matches_value r (constant (class_with classes other i) xs)) n
+    ∙ ap (λ (s : Pattern). matches_value s (constant (class_with classes other c) xs)) (sym same)
     ∙ (and_parts (matches_value q (constant (class_with classes other c) xs)) (covers ps (instance_from classes other (c + 1) marks xs)) t).0
-needs classes other c (false ∷ marks) (q ∷ ps) xs zero v m p t = absurd (cc)
-needs classes other c (true ∷ marks) (q ∷ ps) xs (suc k) v m p t =
+needs classes other c (false ∷ marks) (q ∷ ps) xs zero r m p t = absurd (cc)
+needs classes other c (true ∷ marks) (q ∷ ps) xs (suc k) r m p t =
     let n : c + suc k ≡ c + 1 + k = omega arith in
-    ap (λ i. value_eq v (constant (class_with classes other i) xs)) n
-    ∙ needs classes other (c + 1) marks ps xs k v m p (and_parts (matches_value q (constant (class_with classes other c) xs)) (covers ps (instance_from classes other (c + 1) marks xs)) t).1
-needs classes other c (false ∷ marks) (q ∷ ps) xs (suc k) v m p t =
+    ap (λ i. matches_value r (constant (class_with classes other i) xs)) n
+    ∙ needs classes other (c + 1) marks ps xs k r m p (and_parts (matches_value q (constant (class_with classes other c) xs)) (covers ps (instance_from classes other (c + 1) marks xs)) t).1
+needs classes other c (false ∷ marks) (q ∷ ps) xs (suc k) r m p t =
     let n : c + suc k ≡ c + 1 + k = omega arith in
-    ap (λ i. value_eq v (constant (class_with classes other i) xs)) n
-    ∙ needs classes other (c + 1) marks ps xs k v m p (and_parts _ (covers ps (instance_from classes other (c + 1) marks xs)) t).1
+    ap (λ i. matches_value r (constant (class_with classes other i) xs)) n
+    ∙ needs classes other (c + 1) marks ps xs k r m p (and_parts _ (covers ps (instance_from classes other (c + 1) marks xs)) t).1
 
 -- what a tuple has in a class is its value in the first column of its input
 first-value : (class : List ClassCol) (x : TupleAt) (own : ℕ) → first_column class x.input ≡ Some own → constant class (x ∷ []) ≡ value_at x.row own
@@ -61,29 +61,38 @@ first-value (at ∷ class) x own e = go (eqb at.input x.input) refl e (first-val
         same q = cc
     go false f k ih = ap (λ b. get_or ((cond b (value_at x.row at.column ∷ []) [] ++ []) ++ values (part_of x ∷ []) class) 0 no_value) (turned at.input x.input false f) ∙ ih k
 
+-- what the pattern in a marked column matches, where the class has a column of the rows' own
+asked : (classes : List (List ClassCol)) (input other : ℕ) (marks : List Bool) (ps : List Pattern) (at : ClassCol) (own : ℕ) (r : Pattern) (x : TupleAt)
+    → at.input ≡ other → slice_get marks at.column ≡ Some true → first_column (first_class classes at) input ≡ Some own → slice_get ps at.column ≡ Some r → x.input ≡ input
+    → covers ps (instance_from classes other 0 marks (x ∷ [])) ≡ true → matches_value r (value_at x.row own) ≡ true
+asked classes input other marks ps at own r x of marked first there same t =
+    let n : 0 + at.column ≡ at.column = omega arith in
+    ap (matches_value r)
+    (sym (ap (λ (cls : List ClassCol). constant cls (x ∷ [])) (ap₂ (λ i j. class_with classes i j) (sym of) n ∙ sym (first_class_is classes at))
+    ∙ first-value (first_class classes at) x own (ap (first_column (first_class classes at)) same ∙ first)))
+    ∙ needs classes other 0 marks ps (x ∷ []) at.column r marked there t
+
+pub limits_are : (classes : List (List ClassCol)) (input other : ℕ) (marks : List Bool) (ps : List Pattern) (at : ClassCol) (own : ℕ) (r : Pattern)
+    → at.input ≡ other → slice_get marks at.column ≡ Some true → first_column (first_class classes at) input ≡ Some own → slice_get ps at.column ≡ Some r → Limits classes input other marks ps own r
+limits_are classes input other marks ps at own r of marked first there x same lt differs =
+    false_from_ne_true (covers ps (instance_from classes other 0 marks (x ∷ [])))
+    (λ t. false≢true (sym differs ∙ ap (is_match r) (slice_get-get_or x.row own no_value lt) ∙ asked classes input other marks ps at own r x of marked first there same t))
+
+pub within : (own : ℕ) (columns : List ℕ) → list_any (λ o. eqb own o) columns ≡ true → In own columns
+within own columns indexed = let h = any_at (λ o. eqb own o) columns indexed in subst (λ n. In n columns) (sym (eqb-true own h.0 h.2)) h.1
+
 pub key_is : (classes : List (List ClassCol)) (input : ℕ) (columns : List ℕ) (other : ℕ) (marks : List Bool) (ps : List Pattern) (at : ClassCol) (own : ℕ) (v : Value)
     → at.input ≡ other → slice_get marks at.column ≡ Some true → first_column (first_class classes at) input ≡ Some own → list_any (λ o. eqb own o) columns ≡ true → slice_get ps at.column ≡ Some (Constant v)
     → IsKey classes input columns other marks ps own v
-key_is classes input columns other marks ps at own v of marked first indexed const = (within, uncovered)
+key_is classes input columns other marks ps at own v of marked first indexed const = (within own columns indexed, uncovered)
   where
-    within : In own columns
-    within = let h = any_at (λ o. eqb own o) columns indexed in subst (λ n. In n columns) (sym (eqb-true own h.0 h.2)) h.1
-
     uncovered : (x : TupleAt) → x.input ≡ input → own < length x.row → is_value v (slice_get x.row own) ≡ false → covers ps (instance_from classes other 0 marks (x ∷ [])) ≡ false
     uncovered x same lt differs = false_from_ne_true (covers ps (instance_from classes other 0 marks (x ∷ []))) (λ t. false≢true (sym differs ∙ yes t))
       where
-        asked : covers ps (instance_from classes other 0 marks (x ∷ [])) ≡ true → value_eq v (value_at x.row own) ≡ true
-        asked t =
-            let n : 0 + at.column ≡ at.column = omega arith in
-            ap (value_eq v)
-            (sym (ap (λ (cls : List ClassCol). constant cls (x ∷ [])) (ap₂ (λ i j. class_with classes i j) (sym of) n ∙ sym (first_class_is classes at))
-            ∙ first-value (first_class classes at) x own (ap (first_column (first_class classes at)) same ∙ first)))
-            ∙ needs classes other 0 marks ps (x ∷ []) at.column v marked const t
-
         yes : covers ps (instance_from classes other 0 marks (x ∷ [])) ≡ true → is_value v (slice_get x.row own) ≡ true
         yes t =
             ap (is_value v) (slice_get-get_or x.row own no_value lt)
-            ∙ ap (λ w. value_eq w v) (sym (same_if_equal v (value_at x.row own) (asked t)))
+            ∙ ap (λ w. value_eq w v) (sym (same_if_equal v (value_at x.row own) (asked classes input other marks ps at own (Constant v) x of marked first const same t)))
             ∙ equal_itself v
 
 -- a fact of what was found follows from three others
@@ -132,14 +141,18 @@ fewer_more old new ts from marked = record { from = omega (arith, from); passed 
 pub fewer_alike : (old new : Watches) → new.from ≡ old.from → new.marked ≡ old.marked → IsFewer old new
 fewer_alike old new from marked = record { from = omega (arith, from); passed = λ ticket t. ap₂ (λ n (ms : List ℕ). ltb ticket n && not (has ms ticket)) (sym from) (sym marked) ∙ t }
 
+-- a row that is passed over after some were marked is none of these
+unmarked : (p : Stored → Bool) (rows : List Stored) (old new : Watches) (ts : List ℕ) (s : Stored) → ts ≡ tickets_of (filter p rows) → new.from ≡ old.from → new.marked ≡ old.marked ++ ts → In s rows → is_passed new s.ticket ≡ true → p s ≡ false
+unmarked p rows old new ts s are from marked h t =
+    false_from_ne_true (p s) (λ y. false≢true (sym (passed_more old new ts from marked s.ticket t).1
+    ∙ any_from (λ m. eqb m s.ticket) ts s.ticket (subst (λ (ns : List ℕ). In s.ticket ns) (sym are) (In-map_from ticket_of s (filter p rows) (In-filter_from p s rows h y))) (eq-eqb s.ticket s.ticket refl)))
+
 -- those that have the key are marked
 pub left_by_key : (classes : List (List ClassCol)) (input other : ℕ) (rows : List Stored) (columns : List ℕ) (marks : List Bool) (ps : List Pattern) (own : ℕ) (v : Value) (old new : Watches) (ts : List ℕ)
     → ((s : Stored) → In s rows → own < length s.row) → IsKey classes input columns other marks ps own v → ts ≡ tickets_of (rows_with own v rows) → new.from ≡ old.from → new.marked ≡ old.marked ++ ts
     → AreUncovered classes input rows other marks ps new
 left_by_key classes input other rows columns marks ps own v old new ts wide key are from marked s h t =
-    key.1 (tuple_in input s) refl (wide s h)
-    (false_from_ne_true (has_value own v s) (λ y. false≢true (sym (passed_more old new ts from marked s.ticket t).1
-    ∙ any_from (λ m. eqb m s.ticket) ts s.ticket (subst (λ (ns : List ℕ). In s.ticket ns) (sym are) (In-map_from ticket_of s (rows_with own v rows) (In-filter_from (has_value own v) s rows h y))) (eq-eqb s.ticket s.ticket refl))))
+    key.1 (tuple_in input s) refl (wide s h) (unmarked (has_value own v) rows old new ts s are from marked h t)
 
 pub left_marked : {E V : Type 0} (r : Result V E) (classes : List (List ClassCol)) (input other : ℕ) (state : StateView) (marks : List Bool) (ps : List Pattern) (own : ℕ) (v : Value) (old new : Watches) (ts : List ℕ)
     → IsWide state → IsKey classes input state.columns other marks ps own v → ts ≡ tickets_of (rows_with own v state.rows) → new.from ≡ old.from → OnOk r (new.marked ≡ old.marked ++ ts)
@@ -147,6 +160,15 @@ pub left_marked : {E V : Type 0} (r : Result V E) (classes : List (List ClassCol
 left_marked (Ok done) classes input other state marks ps own v old new ts wide key are from marked =
     left_by_key classes input other state.rows state.columns marks ps own v old new ts (λ s h. all-in (λ c. c < length s.row) state.columns (wide s h) own key.0) key are from marked
 left_marked (Err stop) classes input other state marks ps own v old new ts wide key are from marked = tt
+
+-- those that the pattern matches are marked
+pub left_matched : {E V : Type 0} (r : Result V E) (classes : List (List ClassCol)) (input other : ℕ) (state : StateView) (marks : List Bool) (ps : List Pattern) (own : ℕ) (q : Pattern) (old new : Watches)
+    → IsWide state → In own state.columns → Limits classes input other marks ps own q → new.from ≡ old.from → OnOk r (new.marked ≡ old.marked ++ tickets_of (filter (has_match own q) state.rows))
+    → OnOk r (AreUncovered classes input state.rows other marks ps new)
+left_matched (Ok done) classes input other state marks ps own q old new wide indexed limits from marked = λ s h t.
+    limits (tuple_in input s) refl (all-in (λ c. c < length s.row) state.columns (wide s h) own indexed)
+    (unmarked (has_match own q) state.rows old new (tickets_of (filter (has_match own q) state.rows)) s refl from marked h t)
+left_matched (Err stop) classes input other state marks ps own q old new wide indexed limits from marked = tt
 
 -- ---- the first step
 

@@ -1,11 +1,11 @@
 -- Which stored tuples of an input a sweep has to judge.
-use Rattle.std.specs.Prelude.{ℕ, ◌<◌, ◌≤◌, ◌≡◌, ◌==◌, if◌then◌else◌, Bool, true, false, not, nat_lt, ◌&&◌, ◌||◌, List, [], ◌∷◌, ◌++◌, Option, Some, None, filter, flat_map, length, map, slice_get, slice_index_or}
+use Rattle.std.specs.Prelude.{ℕ, ◌<◌, ◌≤◌, ◌≡◌, ◌==◌, if◌then◌else◌, Bool, true, false, not, nat_lt, ◌&&◌, ◌||◌, List, [], ◌∷◌, ◌++◌, Option, Some, None, filter, flat_map, length, slice_get, slice_index_or}
 use Rattle.pj_value.specs.declared.values.Value.{Value}
 use Rattle.pj_state.specs.declared.shared.Stored.{Stored}
 use Rattle.pj_state.specs.States.{StateView, is_value, row_under, stored, tickets_of}
 use Rattle.pj_cover.specs.Asking.{entries, puncts_from}
 use Rattle.pj_cover.specs.declared.rows.Uncovered.{Uncovered}
-use Rattle.pj_events.specs.Patterns.{Pattern, covers, is_wild}
+use Rattle.pj_events.specs.Patterns.{Pattern, covers, is_wild, matches_value}
 use Rattle.pj_events.specs.Join.{CertEntry, CertStep, ClassCol, In, JoinData, PunctAt, TupleAt, cert_of, covered, demand, has, inputs, instance_from, is_held, older_puncts}
 use Rattle.pj_events.specs.KeptState.{kept_low, kept_ripe}
 use Rattle.pj_join.specs.Joins.{JoinView}
@@ -100,6 +100,20 @@ is_wild_elsewhere (mark ∷ marks) (p ∷ patterns) = (mark || is_wild p) && is_
 abbrev pub IsKey : List (List ClassCol) → ℕ → List ℕ → ℕ → List Bool → List Pattern → ℕ → Value → Type 0
 IsKey classes input columns other marks patterns column value =
     In column columns × ((x : TupleAt) → x.input ≡ input → column < length x.row → is_value value (slice_get x.row column) ≡ false → covers patterns (instance_from classes other 0 marks (x ∷ [])) ≡ false)
+
+-- the value is there, and the pattern matches it
+abbrev pub is_match : Pattern → Option Value → Bool
+is_match pattern None = false
+is_match pattern (Some value) = matches_value pattern value
+
+-- the pattern matches the row's value in this column
+abbrev pub has_match : ℕ → Pattern → Stored → Bool
+has_match column pattern s = is_match pattern (slice_get s.row column)
+
+-- the punctuation covers what a row of the input asks for only where this pattern matches its value in this column
+abbrev pub Limits : List (List ClassCol) → ℕ → ℕ → List Bool → List Pattern → ℕ → Pattern → Type 0
+Limits classes input other marks patterns column pattern =
+    (x : TupleAt) → x.input ≡ input → column < length x.row → is_match pattern (slice_get x.row column) ≡ false → covers patterns (instance_from classes other 0 marks (x ∷ [])) ≡ false
 
 -- the first column of the input in a class
 abbrev pub first_column : List ClassCol → ℕ → Option ℕ

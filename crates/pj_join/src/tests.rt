@@ -575,6 +575,42 @@ fn judged_bids(alloc: Global, join: &mut Join, all: &mut Vec<i64>) -> Result<(),
     Ok(())
 }
 
+// No more items of these numbers come.
+fn hear_range(alloc: Global, join: &mut Join, low: i64, high: i64) -> Result<(), JoinStop>
+    requires { join.old.spec ≡ double_join }
+    ensures { join.new.spec ≡ double_join }
+{
+    let low = Value::Int(low);
+    let high = Value::Int(high);
+    let mut patterns = List::new(alloc);
+    patterns.push(Pattern::range(Some(low), Some(high)))?;
+    patterns.push(Pattern::wild())?;
+    let mut out = List::new(alloc);
+    join.punct(0, Punct::of(patterns), &mut out)?;
+    Ok(())
+}
+
+fn sweeps_behind_range(alloc: Global, join: &mut Join) -> Result<Vec<i64>, JoinStop>
+    requires { join.old.spec ≡ double_join }
+{
+    let mut all = Vec::new(alloc);
+    judged_bids(alloc, join, &mut all)?;
+    hear_range(alloc, join, 1, 3)?;
+    sweep(alloc, join, 1, &mut all)?;
+    hear_range(alloc, join, 4, 6)?;
+    sweep(alloc, join, 1, &mut all)?;
+    Ok(all)
+}
+
+#[test]
+fn a_range_removes_the_rows_that_it_matches(rt: HostRuntime) -> Result<(), Fail> {
+    let alloc = rt.alloc();
+    let mut join = double_join(alloc)?;
+    let swept = sweeps_behind_range(alloc, &mut join)?;
+    assert_eq!(rt; swept.as_slice(), [0, 2, 1, 50, 2, 50, 1, 5, 50].as_slice());
+    Ok(())
+}
+
 // First no more of item 5 and one seller come, and then no more of it at all.
 fn sweeps_behind_constants(alloc: Global, join: &mut Join) -> Result<Vec<i64>, JoinStop>
     requires { join.old.spec ≡ double_join }

@@ -1,13 +1,16 @@
 // Which stored rows a punctuation marks.
-ghost use Rattle.std.specs.Prelude.{◌≡◌, ◌<◌, ◌≤◌, ◌^◌, ◌==◌, ◌||◌, ◌++◌, [], true, ℕ, length, slice_get, slice_index_or, Some, IfOk, IfSome, OnOk, OnErr};
+ghost use Rattle.std.specs.Prelude.{◌≡◌, ◌<◌, ◌≤◌, ◌^◌, ◌==◌, ◌||◌, ◌++◌, [], true, ℕ, filter, length, slice_get, slice_index_or, Some, IfOk, IfSome, OnOk, OnErr};
 ghost use Rattle.std.specs.List.{list_any};
 ghost use Rattle.pj_pattern.specs.declared.pattern.Form.TheVariants.{Constant};
 ghost use Rattle.pj_shape.specs.Joining.{has_column};
 ghost use Rattle.pj_events.specs.Patterns.{is_wild};
+ghost use Rattle.pj_state.specs.States.{stored, tickets_of};
+ghost use Rattle.pj_value.specs.Lists.{In};
 ghost use Rattle.pj_cover.specs.Asking.{entries, first_class, marks_of};
 ghost use Rattle.pj_join.specs.Joins.{join_data};
+ghost use Rattle.pj_join.specs.Judging.{one_if};
 ghost use Rattle.pj_join.specs.Sides.{IsWide, AreWide, state_at};
-ghost use Rattle.pj_join.specs.Watching.{AllAreLeft, AreFewer, AreLeftAt, AreLeftOpen, AreUncovered, IsFewer, IsKey, first_column, is_wild_elsewhere, no_watches, watches_at};
+ghost use Rattle.pj_join.specs.Watching.{AllAreLeft, AreFewer, AreLeftAt, AreLeftOpen, AreUncovered, IsFewer, IsKey, Limits, first_column, has_match, is_match, is_wild_elsewhere, no_watches, watches_at};
 
 use crate::lookups::Lookup;
 use crate::marks::Watches;
@@ -15,8 +18,15 @@ use crate::widening::{constant_of, is_wild};
 use pj_pattern::{Pattern, Punct};
 use pj_shape::{Cert, CertStep, ClassCol, JoinSpec, Scheme, Schemes};
 use pj_state::State;
-use pj_value::{List, NoMemory};
+use pj_value::{List, NoMemory, Row};
 use std::alloc::Global;
+
+// A column, and a pattern for it.
+#[derive(Clone, Copy)]
+struct Limit<'a> {
+    column: u32,
+    pattern: &'a Pattern,
+}
 
 impl Watches {
     /// All rows are judged.
@@ -79,6 +89,22 @@ fn class_with<'a>(classes: &'a [List<ClassCol>], at: ClassCol) -> &'a [ClassCol]
     &[]
 }
 
+// The column of the rows of an input in the class of this one, where that is indexed.
+fn own_column(classes: &[List<ClassCol>], input: u32, state: &State, at: ClassCol) -> Option<u32>
+    ensures own { IfSome result (λ column. first_column (first_class classes.now at) input ≡ Some column) }
+    ensures indexed { IfSome result (λ column. list_any (λ own. column == own) state.now.columns ≡ true) }
+{
+    match first_column(class_with(classes, at), input) {
+        None => None,
+        Some(column) => {
+            if state.is_indexed(column) {
+                return Some(column);
+            }
+            None
+        }
+    }
+}
+
 // A column of the rows of an input, and the value in it of those that ask for the constant of the punctuation in this column.
 fn key_in<'a>(
     classes: &[List<ClassCol>],
@@ -94,14 +120,9 @@ fn key_in<'a>(
 {
     match constant_of(punct.at(at.column as usize)) {
         None => None,
-        Some(value) => match first_column(class_with(classes, at), input) {
+        Some(value) => match own_column(classes, input, state, at) {
             None => None,
-            Some(column) => {
-                if state.is_indexed(column) {
-                    return Some(Lookup { column, value });
-                }
-                None
-            }
+            Some(column) => Some(Lookup { column, value }),
         },
     }
 }
@@ -150,6 +171,107 @@ fn key<'a>(
     None
 }
 
+// A column of the rows of an input, and the pattern of the punctuation in this column, where the scheme marks this one and the
+// pattern is not the wildcard: a row whose value it does not match asks for nothing that the punctuation covers.
+fn limit_at<'a>(
+    classes: &[List<ClassCol>],
+    input: u32,
+    state: &State,
+    other: u32,
+    scheme: &Scheme,
+    column: usize,
+    punct: &'a Punct,
+) -> Option<Limit<'a>>
+    requires { column < length scheme.now }
+    ensures indexed { IfSome result (λ limit. In limit.column state.now.columns) }
+    ensures limits { IfSome result (λ limit. Limits classes.now input other scheme.now punct.now limit.column limit.pattern.now) }
+{
+    if !*scheme.at(column) || column >= punct.len() || column > u32::MAX as usize {
+        return None;
+    }
+    let pattern = punct.at(column);
+    if is_wild(pattern) {
+        return None;
+    }
+    let at = ClassCol {
+        input: other,
+        column: column as u32,
+    };
+    match own_column(classes, input, state, at) {
+        None => None,
+        Some(own) => Some(Limit {
+            column: own,
+            pattern,
+        }),
+    }
+}
+
+// The same of the first column for which there is one.
+fn first_limit<'a>(
+    classes: &[List<ClassCol>],
+    input: u32,
+    state: &State,
+    other: u32,
+    scheme: &Scheme,
+    punct: &'a Punct,
+) -> Option<Limit<'a>>
+    ensures indexed { IfSome result (λ limit. In limit.column state.now.columns) }
+    ensures limits { IfSome result (λ limit. Limits classes.now input other scheme.now punct.now limit.column limit.pattern.now) }
+{
+    for column in 0..scheme.len() {
+        match limit_at(classes, input, state, other, scheme, column, punct) {
+            Some(limit) => return Some(limit),
+            None => {}
+        }
+    }
+    None
+}
+
+// Whether the pattern matches the row's value in a column.
+fn has_match(row: &Row, column: u32, pattern: &Pattern) -> bool
+    ensures { result ≡ is_match pattern.now (slice_get row.now column) }
+{
+    match row.get(column as usize) {
+        None => false,
+        Some(value) => pattern.matches(value),
+    }
+}
+
+// Puts the ticket of the row at the end where the pattern matches its value in a column.
+fn mark_match(
+    ticket: u64,
+    row: &Row,
+    column: u32,
+    pattern: &Pattern,
+    marked: &mut List<u64>,
+) -> Result<(), NoMemory>
+    ensures ok { OnOk result (marked.new ≡ marked.old ++ one_if (has_match column pattern.now (stored ticket row.now)) ticket) }
+    ensures err { OnErr result (marked.new ≡ marked.old) }
+{
+    if has_match(row, column, pattern) {
+        marked.push(ticket)?;
+    }
+    Ok(())
+}
+
+// Marks the rows whose value in a column the pattern matches. On a refusal some may be marked.
+fn mark_matching(
+    watches: &mut Watches,
+    state: &State,
+    column: u32,
+    pattern: &Pattern,
+) -> Result<(), NoMemory>
+    ensures from { watches.new.from ≡ watches.old.from }
+    ensures fewer { IsFewer watches.old watches.new }
+    ensures ok { OnOk result (watches.new.marked ≡ watches.old.marked ++ tickets_of (filter (has_match column pattern.now) state.now.rows)) }
+{
+    for at in 0..state.len() {
+        let (ticket, row) = state.nth(at);
+        mark_match(ticket, row, column, pattern, &mut watches.marked)?;
+    }
+    Ok(())
+}
+
 // The scheme of a certificate's step, where there is one.
 fn scheme_of(schemes: &Schemes, step: CertStep) -> Option<&Scheme>
     ensures { IfSome result (λ scheme. scheme.now ≡ marks_of schemes.now step) }
@@ -185,6 +307,29 @@ fn is_wild_elsewhere(scheme: &Scheme, punct: &Punct) -> bool
     true
 }
 
+// Marks the rows of an input that a marked column of the punctuation leaves; all where each is a wildcard.
+fn wake_limited(
+    watches: &mut Watches,
+    classes: &[List<ClassCol>],
+    input: u32,
+    state: &State,
+    scheme: &Scheme,
+    other: u32,
+    punct: &Punct,
+) -> Result<(), NoMemory>
+    requires { IsWide state.now }
+    ensures fewer { IsFewer watches.old watches.new }
+    ensures left { OnOk result (AreUncovered classes.now input state.now.rows other scheme.now punct.now watches.new) }
+{
+    match first_limit(classes, input, state, other, scheme, punct) {
+        None => {
+            watches.mark_all();
+            Ok(())
+        }
+        Some(limit) => mark_matching(watches, state, limit.column, limit.pattern),
+    }
+}
+
 // Marks the rows of an input that ask for what the punctuation covers by this step; or all.
 fn wake_by(
     watches: &mut Watches,
@@ -203,10 +348,7 @@ fn wake_by(
         return Ok(());
     }
     match key(classes, input, state, other, scheme, punct) {
-        None => {
-            watches.mark_all();
-            Ok(())
-        }
+        None => wake_limited(watches, classes, input, state, scheme, other, punct),
         Some(key) => watches.mark(state.tickets(key.column, key.value)),
     }
 }
