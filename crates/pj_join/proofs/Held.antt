@@ -1,7 +1,6 @@
 -- Each punctuation that waits is matched by a stored tuple of its input, from step to step.
-use Rattle.std.proofs.Common.{ℕ, ◌<◌, length, arith, Bool, true, false, cond, not, ◌&&◌, ◌||◌, List, [], ◌∷◌, ◌++◌, ◌≡◌, ◌⊎◌, map, filter, refl, sym, ap, ◌∙◌, subst, inl, inr, eqb}
-use Rattle.std.specs.List.{list_any}
-use Rattle.std.proofs.lemmas.Bool.{and_parts, and_from, eq-eqb, eqb-true, false≢true}
+use Rattle.std.proofs.Common.{ℕ, ◌<◌, length, arith, Bool, true, false, cond, not, ◌&&◌, ◌||◌, List, [], ◌∷◌, ◌++◌, ◌≡◌, map, filter, refl, sym, ap, ◌∙◌, subst, inl, inr, eqb}
+use Rattle.std.proofs.lemmas.Bool.{and_parts, eqb-true}
 use Rattle.pj_value.proofs.Members.{In-append_cases, In-append_left, In-filter, In-filter_from, any_at, any_from, filter-all}
 use Rattle.pj_state.specs.declared.shared.Stored.{Stored}
 use Rattle.pj_events.specs.Patterns.{Pattern, matches_row}

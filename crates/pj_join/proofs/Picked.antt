@@ -1,8 +1,8 @@
 -- What a sweep finds over the rows that it judges.
-use Rattle.std.proofs.Common.{ℕ, zero, suc, ◌+◌, ◌-◌, ◌<◌, ◌≤◌, Bool, true, false, cond, not, ◌&&◌, ◌||◌, List, [], ◌∷◌, ◌++◌, ◌≡◌, ◌⊎◌, Option, Some, None, map, filter, flat_map, take, drop, length, get_or, refl, sym, ap, ap₂, ◌∙◌, subst, inl, inr, eqb, ltb, arith, append_assoc, append-nil, Contains, AllPairs, nat_cmp, IsPermutation, IsSorted}
+use Rattle.std.proofs.Common.{ℕ, zero, suc, ◌+◌, ◌-◌, ◌<◌, ◌≤◌, Bool, true, false, cond, not, ◌&&◌, ◌||◌, List, [], ◌∷◌, ◌++◌, ◌≡◌, ◌⊎◌, Option, Some, None, map, filter, flat_map, take, drop, length, get_or, refl, sym, ap, ap₂, ◌∙◌, subst, inl, inr, eqb, ltb, arith, append_assoc, append-nil, Contains, nat_cmp, IsPermutation, IsSorted}
 use Rattle.std.specs.List.{list_any, slice_get, dedup}
 use Rattle.std.specs.List.Retain.{DiffersFromLast, IsFiltered}
-use Rattle.std.proofs.lemmas.Bool.{and_parts, and_from, and_right, eq-eqb, eqb-true, false_from_ne_true, false≢true, lt-ltb, ltb-false}
+use Rattle.std.proofs.lemmas.Bool.{and_from, and_right, eq-eqb, eqb-true, false_from_ne_true, false≢true, lt-ltb, ltb-false}
 use Rattle.std.proofs.lemmas.List.{map-append, take_more}
 use Rattle.std.proofs.lemmas.List.Filters.{dedup_is}
 use Rattle.std.proofs.lemmas.List.Kept.{AllPairs-from_increasing, Contains-dedup_nat}
@@ -10,18 +10,18 @@ use Rattle.std.proofs.lemmas.List.Sorted.{Contains-permutation}
 use Rattle.std.proofs.lemmas.Map.Keys.{IsStrictlyIncreasing-dedup}
 use Rattle.std.proofs.lemmas.Option.{get_or_from_slice_get}
 use Rattle.pj_value.specs.declared.values.Value.{Value}
-use Rattle.pj_value.proofs.Members.{In-append_left, In-append_right, In-append_cases, In-filter, In-filter_from, In-flat_map, In-flat_map_from, any_at, any_from, in-place}
+use Rattle.pj_value.proofs.Members.{In-append_left, In-append_right, In-append_cases, In-filter, In-filter_from, In-flat_map, In-flat_map_from, any_at, in-place}
 use Rattle.pj_state.specs.declared.shared.Stored.{Stored}
 use Rattle.pj_state.specs.Rising.{AllAbove, IsRising, first_with, itself}
 use Rattle.pj_state.specs.States.{pair_of, row_in as row_found, row_under, stored, ticket_of, tickets_of}
 use Rattle.pj_cover.specs.declared.rows.Uncovered.{Uncovered}
-use Rattle.pj_cover.specs.Asking.{IsAsked, IsFirstUncovered, IsOpen, Known, all_covered, entries, known_of, tuple_of}
-use Rattle.pj_events.specs.Join.{CertEntry, CertStep, Demand, In, TupleAt, covered, demand, has, older_puncts}
+use Rattle.pj_cover.specs.Asking.{IsAsked, IsFirstUncovered, Known, all_covered, entries, known_of, tuple_of}
+use Rattle.pj_events.specs.Join.{CertEntry, CertStep, Demand, In, TupleAt, covered, has, older_puncts}
 use Rattle.pj_join.specs.declared.marks.Verdict.{Verdict}
 use Rattle.pj_join.specs.declared.marks.Verdict.TheVariants.{Ripe, Open, Marked}
 use Rattle.pj_join.specs.Judging.{Judge, one_if, ripe_at, row_in}
 use Rattle.pj_join.specs.Sides.{row_pairs}
-use Rattle.pj_join.specs.Watching.{AreJudged, AreLookedAt, AsksOpen, IsLookedAt, IsOneJudged, IsOpenAt, IsVerdict, Judged, NoneIsRipe, Watches, all_picked, goes_by, is_passed, marked_by, picked, rows_at, under_with, verdict_on}
+use Rattle.pj_join.specs.Watching.{AreJudged, AreLookedAt, AsksOpen, IsLookedAt, IsOneJudged, IsVerdict, Judged, NoneIsRipe, Watches, all_picked, goes_by, is_passed, marked_by, picked, rows_at, under_with, verdict_on}
 
 -- ---- lists that rise
 

@@ -1,26 +1,24 @@
 -- The tuples that are passed over are not ripe, from step to step.
-use Rattle.std.proofs.Common.{ℕ, zero, suc, ◌+◌, ◌<◌, ◌≤◌, min, Bool, true, false, cond, not, ◌&&◌, ◌||◌, List, [], ◌∷◌, ◌++◌, ◌≡◌, ◌⊎◌, map, filter, flat_map, length, get_or, set, refl, sym, ap, ap₂, ◌∙◌, subst, inl, inr, eqb, ltb, arith}
+use Rattle.std.proofs.Common.{ℕ, zero, suc, ◌+◌, ◌<◌, ◌≤◌, Bool, true, false, cond, not, ◌&&◌, ◌||◌, List, [], ◌∷◌, ◌++◌, ◌≡◌, map, flat_map, length, get_or, set, refl, sym, ap, ◌∙◌, subst, inl, inr, eqb, ltb, arith}
 use Rattle.std.specs.List.{list_all, list_any}
-use Rattle.std.proofs.lemmas.Bool.{and_parts, and_right, eq-eqb, eqb-true, false_from_ne_true, false≢true, lt-ltb, ltb-true}
+use Rattle.std.proofs.lemmas.Bool.{and_parts, and_right, eq-eqb, eqb-true, false≢true, lt-ltb, ltb-true}
 use Rattle.std.proofs.lemmas.List.{length-append}
-use Rattle.pj_value.proofs.Members.{In-append_cases, In-filter, In-filter_from, In-map_from, any_at, any_from, filter-all}
+use Rattle.pj_value.proofs.Members.{In-append_cases, In-filter, In-filter_from, In-map_from, filter-all}
 use Rattle.pj_state.specs.declared.shared.Stored.{Stored}
 use Rattle.pj_state.specs.States.{StateView}
 use Rattle.pj_cover.specs.Stores.{Store}
-use Rattle.pj_cover.specs.Asking.{entries, puncts_from}
-use Rattle.pj_events.specs.Patterns.{Pattern, covers}
-use Rattle.pj_events.specs.Join.{CertEntry, CertStep, ClassCol, Demand, In, JoinData, PunctAt, TupleAt, cert_of, covered, demand, grown, has, inputs, need, of_input, older, older_puncts, steps_of}
+use Rattle.pj_cover.specs.Asking.{puncts_from}
+use Rattle.pj_events.specs.Patterns.{covers}
+use Rattle.pj_events.specs.Join.{CertEntry, CertStep, ClassCol, Demand, In, JoinData, PunctAt, TupleAt, cert_of, covered, demand, grown, has, inputs, need, older, older_puncts, steps_of}
 use Rattle.pj_events.specs.KeptState.{KeptState, kept_low, kept_ripe, least, swept}
 use Rattle.pj_join.specs.declared.queue.Place.{Place}
-use Rattle.pj_join.specs.Insides.{IsJoin, Rise, inside, made_with, seen}
+use Rattle.pj_join.specs.Insides.{IsJoin, inside, made_with, seen}
 use Rattle.pj_join.specs.Joins.{JoinView}
 use Rattle.pj_join.specs.Judging.{Judge, judge, ripe_at}
 use Rattle.pj_join.specs.Sides.{log_of, puncts_of, state_at, tuple_in}
 use Rattle.pj_join.specs.Watching.{AreFewer, AreLeft, AreLookedAt, AreOpenBut, AreWatched, AsksOpen, NoneIsRipe, Watches, is_passed, watches_at}
 use Rattle.pj_join.proofs.Judged.{covered-of, ripe-is, same-puncts}
 use Rattle.pj_join.proofs.Kept.{below-end, shapes, side-is}
-use Rattle.pj_join.proofs.Orders.{rise-in}
-use Rattle.pj_join.proofs.Woken.{all_marked}
 
 module _ (spec : JoinData) where
   pub watched_start : (ws : List Watches) → length ws ≡ inputs spec → ((input : ℕ) → (watches_at ws input).from ≡ 0) → AreWatched spec 0 [] [] ws

@@ -1,4 +1,4 @@
-use Rattle.std.proofs.Common.{refl, ◌≡◌}
+use Rattle.std.proofs.Common.{refl}
 use Rattle.pj_join.proofs.Picked.{in_order_all, in_order_rises}
 use Rattle.pj_join.proofs.sweeping.in_order.Goals as goal
 

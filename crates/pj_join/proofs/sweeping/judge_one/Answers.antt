@@ -1,10 +1,9 @@
-use Rattle.std.proofs.Common.{◌≡◌, ◌∙◌, length, List, ap, None, Some}
-use Rattle.pj_value.specs.declared.values.Value.{Value}
+use Rattle.std.proofs.Common.{◌≡◌, ◌∙◌, length, ap}
 use Rattle.pj_state.specs.States.{StateView, row_under}
 use Rattle.pj_join.specs.Judging.{judge}
 use Rattle.pj_join.specs.Sides.{state_at}
 use Rattle.pj_join.proofs.Looped.{state_is}
-use Rattle.pj_join.proofs.Picked.{judged_none, judged_row, picked_none, picked_rows, under_at}
+use Rattle.pj_join.proofs.Picked.{judged_none, judged_row, under_at}
 use Rattle.pj_join.proofs.sweeping.judge_one.Goals as goal
 
 pub judge-verdict-requires-clause-there : goal.judge-verdict-requires-clause-there

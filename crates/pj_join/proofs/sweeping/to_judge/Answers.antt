@@ -1,4 +1,4 @@
-use Rattle.std.proofs.Common.{◌≡◌, ◌∙◌, ◌++◌, ap}
+use Rattle.std.proofs.Common.{◌∙◌, ◌++◌, ap}
 use Rattle.pj_join.proofs.Picked.{judged_all}
 use Rattle.pj_join.proofs.sweeping.to_judge.Goals as goal
 

@@ -1,4 +1,3 @@
-use Rattle.std.proofs.Common.{◌≡◌, [], List, length, ℕ}
 use Rattle.pj_join.proofs.Held.{go_none, no_items, stay_all}
 use Rattle.pj_join.proofs.sweeping.wait_on.Goals as goal
 

@@ -1,6 +1,5 @@
-use Rattle.std.proofs.Common.{◌≡◌, ◌+◌, ◌-◌, ◌∙◌, arith, drop, length, subst, sym}
+use Rattle.std.proofs.Common.{◌≡◌, ◌-◌, arith, drop, subst, sym}
 use Rattle.pj_value.specs.Lists.{In}
-use Rattle.pj_state.specs.declared.shared.Stored.{Stored}
 use Rattle.pj_state.specs.States.{stored}
 use Rattle.pj_join.proofs.Picked.{young_more, young_stop}
 use Rattle.pj_join.proofs.sweeping.young.Goals as goal
