@@ -15,7 +15,7 @@ use Rattle.pj_laws.proofs.Matching.{agree-mono}
 
 -- ---- numbers from one on
 
-map-map_upto : {A B : Type 0} (g : A → B) (f : ℕ → A) (base n : ℕ) → map g (map f (upto_from base n)) ≡ map (λ k. g (f k)) (upto_from base n)
+pub map-map_upto : {A B : Type 0} (g : A → B) (f : ℕ → A) (base n : ℕ) → map g (map f (upto_from base n)) ≡ map (λ k. g (f k)) (upto_from base n)
 map-map_upto g f base zero = refl
 map-map_upto {A} {B} g f base (suc n) = ap (λ (ys : List B). g (f base) ∷ ys) (map-map_upto g f (base + 1) n)
 
@@ -118,7 +118,7 @@ choices-combinations spec x log sides lt e =
 
 -- ---- lists among which the choices are
 
-as-upto : {A : Type 0} (d : A) (base : ℕ) (xs : List A) → xs ≡ map (λ k. get_or xs (k - base) d) (upto_from base (length xs))
+pub as-upto : {A : Type 0} (d : A) (base : ℕ) (xs : List A) → xs ≡ map (λ k. get_or xs (k - base) d) (upto_from base (length xs))
 as-upto d base [] = refl
 as-upto {A} d base (x ∷ xs) =
     ap₂ (λ (y : A) (ys : List A). y ∷ ys) (ap (λ k. get_or (x ∷ xs) k d) (same base)) (as-upto d (base + 1) xs ∙ shift (base + 1) (length xs) (omega arith))

@@ -30,3 +30,4 @@ pub mod Watched
 pub mod Held
 pub mod Halved
 pub mod Elsewhere
+pub mod Hopped

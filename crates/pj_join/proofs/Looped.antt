@@ -2,7 +2,7 @@
 use Rattle.std.proofs.Common.{ℕ, zero, suc, ◌+◌, ◌<◌, ◌≤◌, Bool, true, false, cond, not, ◌&&◌, ◌||◌, List, [], ◌∷◌, ◌++◌, ◌≡◌, Some, map, filter, sum, take, length, get_or, refl, sym, ap, ap₂, ◌∙◌, subst, eqb, ltb, arith, append_assoc}
 use Rattle.std.specs.List.{list_any, slice_get}
 use Rattle.std.proofs.lemmas.Bool.{and_parts, eq-eqb, eqb-true, false_from_ne_true, false≢true, ltb-true}
-use Rattle.std.proofs.lemmas.List.{length-append, map-append, take_all, take_more}
+use Rattle.std.proofs.lemmas.List.{map-append, take_all, take_more}
 use Rattle.std.proofs.lemmas.List.Elements.{filter-append}
 use Rattle.std.proofs.lemmas.Option.{get_or_from_slice_get, slice_get_within}
 use Rattle.pj_value.proofs.Members.{In-map_from, any_from, filter-agree, filter-all, filter-filter, in-place}
@@ -177,38 +177,6 @@ pairs_end classes own input i rows le = ap (λ (xs : List Stored). pairs_out cla
 pub sides-length : (base : ℕ) (lists : List (List (ℕ × List Value))) → length (sides_at base lists) ≡ length lists
 sides-length base [] = refl
 sides-length base (x ∷ xs) = ap suc (sides-length (base + 1) xs)
-
-sides-front : (base : ℕ) (lists : List (List (ℕ × List Value))) (last : List (ℕ × List Value)) (k : ℕ) → k < length lists → get_or (sides_at base (lists ++ last ∷ [])) k [] ≡ get_or (sides_at base lists) k []
-sides-front base [] last k lt = absurd (omega (arith, lt))
-sides-front base (x ∷ xs) last zero lt = refl
-sides-front base (x ∷ xs) last (suc k) lt = sides-front (base + 1) xs last k (omega (arith, lt))
-
-sides-last : (base : ℕ) (lists : List (List (ℕ × List Value))) (last : List (ℕ × List Value)) → get_or (sides_at base (lists ++ last ∷ [])) (length lists) [] ≡ map (tuple_at (base + length lists)) last
-sides-last base [] last = ap (λ n. map (tuple_at n) last) (omega arith)
-sides-last base (x ∷ xs) last = sides-last (base + 1) xs last ∙ ap (λ n. map (tuple_at n) last) (omega arith)
-
-pub narrowed_more : (classes : List (List ClassCol)) (own : TupleAt) (sides : List (List TupleAt)) (lists new : List (List (ℕ × List Value))) (last : List (ℕ × List Value)) (i : ℕ) → new ≡ lists ++ last ∷ [] → length lists ≡ i
-    → IsNarrowed classes own sides i (map (tuple_at i) last) → ((k : ℕ) → k < length lists → IsNarrowed classes own sides k (get_or (sides_at 0 lists) k []))
-    → (length new ≡ i + 1) × ((k : ℕ) → k < length new → IsNarrowed classes own sides k (get_or (sides_at 0 new) k []))
-narrowed_more classes own sides lists new last i e count is before = (count-now, λ k lt. each k lt (eqb k i) refl)
-  where
-    count-now : length new ≡ i + 1
-    count-now = omega (arith, ap (λ (ls : List (List (ℕ × List Value))). length ls) e, length-append lists (last ∷ []), count)
-
-    at-end : get_or (sides_at 0 (lists ++ last ∷ [])) i [] ≡ map (tuple_at i) last
-    at-end = ap (λ n. get_or (sides_at 0 (lists ++ last ∷ [])) n []) (sym count) ∙ sides-last 0 lists last ∙ ap (λ n. map (tuple_at n) last) (omega (arith, count))
-
-    each : (k : ℕ) → k < length new → (b : Bool) → eqb k i ≡ b → IsNarrowed classes own sides k (get_or (sides_at 0 new) k [])
-    each k lt true q =
-        subst (λ (ls : List (List (ℕ × List Value))). IsNarrowed classes own sides k (get_or (sides_at 0 ls) k [])) (sym e)
-        (subst (λ n. IsNarrowed classes own sides n (get_or (sides_at 0 (lists ++ last ∷ [])) n [])) (sym (eqb-true k i q)) (subst (λ (xs : List TupleAt). IsNarrowed classes own sides i xs) (sym at-end) is))
-    each k lt false q =
-        let l : k < length lists = omega (arith, lt, count-now, count, apart) in
-        subst (λ (ls : List (List (ℕ × List Value))). IsNarrowed classes own sides k (get_or (sides_at 0 ls) k [])) (sym e)
-        (subst (λ (xs : List TupleAt). IsNarrowed classes own sides k xs) (sym (sides-front 0 lists last k l)) (before k l))
-      where
-        apart : k ≡ i → ⊥
-        apart m = false≢true (sym q ∙ eq-eqb k i m)
 
 -- a choice of another input's tuples
 pub narrowed_choice : (classes : List (List ClassCol)) (own : TupleAt) (sides : List (List TupleAt)) (input : ℕ) (rows : List (ℕ × List Value)) (side : List TupleAt) → (input ≡ own.input → ⊥) → get_or sides input [] ≡ side

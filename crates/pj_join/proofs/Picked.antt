@@ -25,7 +25,7 @@ use Rattle.pj_join.specs.Watching.{AreJudged, AreLookedAt, AsksOpen, IsLookedAt,
 
 -- ---- lists that rise
 
-above-in : {A : Type 0} (number : A → ℕ) (n : ℕ) (xs : List A) (x : A) → AllAbove number n xs → In x xs → n < number x
+pub above-in : {A : Type 0} (number : A → ℕ) (n : ℕ) (xs : List A) (x : A) → AllAbove number n xs → In x xs → n < number x
 above-in number n [] x a h = absurd h
 above-in number n (y ∷ ys) x a (inl e) = subst (λ z. n < number z) e a.0
 above-in number n (y ∷ ys) x a (inr h) = above-in number n ys x a.1 h
@@ -34,14 +34,14 @@ above-from : {A : Type 0} (number : A → ℕ) (n : ℕ) (xs : List A) → ((x :
 above-from number n [] f = tt
 above-from number n (x ∷ xs) f = (f x (inl refl), above-from number n xs (λ y h. f y (inr h)))
 
-rising-append : {A : Type 0} (number : A → ℕ) (xs ys : List A) → IsRising number xs → IsRising number ys → ((x y : A) → In x xs → In y ys → number x < number y) → IsRising number (xs ++ ys)
+pub rising-append : {A : Type 0} (number : A → ℕ) (xs ys : List A) → IsRising number xs → IsRising number ys → ((x y : A) → In x xs → In y ys → number x < number y) → IsRising number (xs ++ ys)
 rising-append number [] ys r s f = s
 rising-append {A} number (x ∷ xs) ys r s f = (above-from number (number x) (xs ++ ys) later, rising-append number xs ys r.1 s (λ y z h k. f y z (inr h) k))
   where
     later : (y : A) → In y (xs ++ ys) → number x < number y
     later y h = elim (In-append_cases y xs ys h) [ inl a ↦ above-in number (number x) xs y r.0 a | inr b ↦ f x y (inl refl) b ]
 
-rising-filter : {A : Type 0} (number : A → ℕ) (p : A → Bool) (xs : List A) → IsRising number xs → IsRising number (filter p xs)
+pub rising-filter : {A : Type 0} (number : A → ℕ) (p : A → Bool) (xs : List A) → IsRising number xs → IsRising number (filter p xs)
 rising-filter number p [] r = tt
 rising-filter {A} number p (x ∷ xs) r = go (p x) (rising-filter number p xs r.1)
   where
@@ -50,7 +50,7 @@ rising-filter {A} number p (x ∷ xs) r = go (p x) (rising-filter number p xs r.
     go false ih = ih
 
 -- lists that rise and have the same items are the same
-rising-same : {A : Type 0} (number : A → ℕ) (xs ys : List A) → IsRising number xs → IsRising number ys → ((x : A) → In x xs → In x ys) → ((x : A) → In x ys → In x xs) → xs ≡ ys
+pub rising-same : {A : Type 0} (number : A → ℕ) (xs ys : List A) → IsRising number xs → IsRising number ys → ((x : A) → In x xs → In x ys) → ((x : A) → In x ys → In x xs) → xs ≡ ys
 rising-same number [] [] r s f g = refl
 rising-same number [] (y ∷ ys) r s f g = absurd (g y (inl refl))
 rising-same number (x ∷ xs) [] r s f g = absurd (f x (inl refl))
@@ -250,7 +250,7 @@ picked_none j cert input ticket old e = sym (append-nil old) ∙ ap (λ (o : Opt
 
 -- ---- all of them
 
-flat-more : {A B : Type 0} (f : A → List B) (xs : List A) (x : A) → flat_map f (xs ++ x ∷ []) ≡ flat_map f xs ++ f x
+pub flat-more : {A B : Type 0} (f : A → List B) (xs : List A) (x : A) → flat_map f (xs ++ x ∷ []) ≡ flat_map f xs ++ f x
 flat-more f [] x = append-nil (f x)
 flat-more f (y ∷ ys) x = ap (λ zs. f y ++ zs) (flat-more f ys x) ∙ sym (append_assoc (f y) (flat_map f ys) (f x))
 
@@ -280,7 +280,7 @@ rows_more j cert input tickets i t first old new lt is before one =
 
 -- ---- the ripe rows
 
-under-in : (rows : List Stored) (t : ℕ) (s : Stored) → In s (under_with t (row_under t rows)) → In s rows × (s.ticket ≡ t)
+pub under-in : (rows : List Stored) (t : ℕ) (s : Stored) → In s (under_with t (row_under t rows)) → In s rows × (s.ticket ≡ t)
 under-in [] t s h = absurd h
 under-in (r ∷ rows) t s h = go (eqb r.ticket t) refl h (under-in rows t s)
   where
@@ -289,7 +289,7 @@ under-in (r ∷ rows) t s h = go (eqb r.ticket t) refl h (under-in rows t s)
     go true e (inr k) ih = absurd k
     go false e k ih = (inr (ih k).0, (ih k).1)
 
-under-own : (rows : List Stored) (s : Stored) → IsRising ticket_of rows → In s rows → Some s.row ≡ row_under s.ticket rows
+pub under-own : (rows : List Stored) (s : Stored) → IsRising ticket_of rows → In s rows → Some s.row ≡ row_under s.ticket rows
 under-own [] s r h = absurd h
 under-own (t ∷ rows) s r (inl e) = subst (λ (u : Stored). Some u.row ≡ row_under u.ticket (t ∷ rows)) e (sym (ap (λ b. row_found (cond b (Some t) (first_with ticket_of t.ticket rows))) (eq-eqb t.ticket t.ticket refl)))
 under-own (t ∷ rows) s r (inr h) =

@@ -7,7 +7,6 @@ use Rattle.pj_state.specs.States.{StateView, has_value, is_below, is_value, pair
 use Rattle.pj_probe.specs.Walks.{tuple_at}
 use Rattle.pj_join.specs.Sides.{IsWide, tuple_in}
 use Rattle.std.specs.List.{list_all, list_any}
-use Rattle.std.specs.Prelude.{IfOk, Result, Ok, Err}
 use Rattle.std.proofs.lemmas.Bool.{and_parts, eqb-true, false≢true}
 use Rattle.std.proofs.lemmas.Bool.Decides.{nat_tests}
 use Rattle.pj_value.specs.Values.{value_eq}
@@ -98,14 +97,6 @@ candidates_hold classes x state found input column value wide wants indexed is =
     only s h false e false g true = refl
     only s h false e false g false = refl
 
--- the same where those with smaller tickets alone were taken
-pub narrowed_holds : (classes : List (List ClassCol)) (x : TupleAt) (state : StateView) (found : List (ℕ × List Value)) (input column : ℕ) (value : Value) → IsWide state → IsWanted classes (x ∷ []) input column value → In column state.columns
-    → found ≡ pairs (rows_below x.ticket (rows_with column value state.rows)) → filter (suits classes (x ∷ [])) (map (tuple_at input) found) ≡ filter (older_joins classes x) (map (tuple_in input) state.rows)
-narrowed_holds classes x state found input column value wide wants indexed is =
-    ap (λ (rows : List (ℕ × List Value)). filter (suits classes (x ∷ [])) (map (tuple_at input) rows)) is
-    ∙ below-pairs classes x input (rows_with column value state.rows)
-    ∙ candidates_hold classes x state (rows_with column value state.rows) input column value wide wants indexed refl
-
 -- all with smaller tickets
 pub all_hold : (classes : List (List ClassCol)) (x : TupleAt) (rows : List Stored) (found : List (ℕ × List Value)) (input : ℕ) → found ≡ pairs (rows_below x.ticket rows)
     → filter (suits classes (x ∷ [])) (map (tuple_at input) found) ≡ filter (older_joins classes x) (map (tuple_in input) rows)
@@ -117,15 +108,3 @@ pub indexed-in : (column : ℕ) (columns : List ℕ) → list_any (λ own. colum
 indexed-in column columns t =
     let at = any_at (λ own. column == own) columns t in
     subst (λ n. In n columns) (sym (eqb-true column at.0 at.2)) at.1
-
--- the same of what a call answers
-pub all_hold_ok : {E : Type 0} (classes : List (List ClassCol)) (x : TupleAt) (rows : List Stored) (found : Result (List (ℕ × List Value)) E) (input ticket : ℕ) → ticket ≡ x.ticket → IfOk found (λ f. f ≡ pairs (rows_below ticket rows))
-    → IfOk found (λ f. filter (suits classes (x ∷ [])) (map (tuple_at input) f) ≡ filter (older_joins classes x) (map (tuple_in input) rows))
-all_hold_ok classes x rows (Ok f) input ticket same is = all_hold classes x rows f input (is ∙ ap (λ n. pairs (rows_below n rows)) same)
-all_hold_ok classes x rows (Err e) input ticket same is = tt
-
-pub narrowed_holds_ok : {E : Type 0} (classes : List (List ClassCol)) (x : TupleAt) (state : StateView) (found : Result (List (ℕ × List Value)) E) (input column : ℕ) (value : Value) (ticket : ℕ) → ticket ≡ x.ticket → IsWide state → IsWanted classes (x ∷ []) input column value → In column state.columns
-    → IfOk found (λ f. f ≡ pairs (rows_below ticket (rows_with column value state.rows)))
-    → IfOk found (λ f. filter (suits classes (x ∷ [])) (map (tuple_at input) f) ≡ filter (older_joins classes x) (map (tuple_in input) state.rows))
-narrowed_holds_ok classes x state (Ok f) input column value ticket same wide wants indexed is = narrowed_holds classes x state f input column value wide wants indexed (is ∙ ap (λ n. pairs (rows_below n (rows_with column value state.rows))) same)
-narrowed_holds_ok classes x state (Err e) input column value ticket same wide wants indexed is = tt

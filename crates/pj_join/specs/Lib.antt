@@ -9,3 +9,4 @@ pub mod Judging
 pub mod Sweeping
 pub mod Triples
 pub mod Watching
+pub mod Hops

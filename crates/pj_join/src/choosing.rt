@@ -1,17 +1,41 @@
 // The rows that may stand in a combination with a tuple, for each input.
-ghost use Rattle.std.specs.Prelude.{◌≡◌, ◌<◌, ◌∷◌, [], filter, length, map, IfOk};
-ghost use Rattle.pj_probe.specs.Walks.{sides_at, tuple_at};
-ghost use Rattle.pj_join.specs.Sides.{AreWide, IsWide, tuple_in, tuples_in};
-ghost use Rattle.pj_join.specs.Walks.{AreNarrowed, IsNarrowed, older_joins, suits};
+ghost use Rattle.std.specs.Prelude.{◌≡◌, ℕ, List, true, false, ◌<◌, ◌++◌, ◌∷◌, [], filter, length, map, slice_get, slice_index_or, slice_set, Some, IfOk, IfSome, OnOk, OnErr};
+ghost use Rattle.pj_value.specs.Lists.{In};
+ghost use Rattle.pj_events.specs.Join.{ClassCol as AnyClassCol, value_at};
+ghost use Rattle.pj_state.specs.Rising.{IsRising};
+ghost use Rattle.pj_state.specs.States.{pairs, ticket_of};
+ghost use Rattle.pj_probe.specs.Walks.{tuple_at};
+ghost use Rattle.pj_join.specs.Hops.{AreChosen, AreKnown, AreLinked, AreMore, FindSame, HaveTickets, KnowsMore, IsChoice, Links, LinksBy, all_under, older_under};
+ghost use Rattle.pj_join.specs.Sides.{AreWide, IsWide};
 
 use crate::arrivals::Arrived;
-use crate::lookups::wanted;
+use crate::lookups::column_in;
+use crate::sweeping::in_order;
 use pj_shape::ClassCol;
 use pj_state::{Shared, State};
-use pj_value::{List, NoMemory};
+use pj_value::{List, NoMemory, Row};
 use std::alloc::Global;
 
-fn alone(alloc: Global, own: &Arrived<'_>) -> Result<List<(u64, Shared)>, NoMemory>
+/// Rows with their tickets, in order of these.
+type Rows = List<(u64, Shared)>;
+
+/// For each input whether the rows are known that may stand in a combination with a tuple, and which they are.
+#[derive(Drop)]
+pub struct Chosen {
+    known: Vec<bool>,
+    lists: Vec<Rows>,
+}
+
+/// Rows of another input, and the columns in which those of an input have one value with them that stand in a combination.
+#[derive(Clone, Copy)]
+pub struct Link<'a> {
+    mine: u32,
+    other: usize,
+    theirs: u32,
+    rows: &'a [(u64, Shared)],
+}
+
+fn alone(alloc: Global, own: &Arrived<'_>) -> Result<Rows, NoMemory>
     ensures { IfOk result (λ list. map (tuple_at own.now.input) list ≡ own.now ∷ []) }
 {
     let mut list = List::with_room(alloc, 1)?;
@@ -20,62 +44,315 @@ fn alone(alloc: Global, own: &Arrived<'_>) -> Result<List<(u64, Shared)>, NoMemo
     Ok(list)
 }
 
-// Among the rows of an input those that are older than this tuple, and have the value that is wanted where an index tells.
-fn narrowed(
-    alloc: Global,
-    classes: &[List<ClassCol>],
-    own: &Arrived<'_>,
-    state: &State,
-    input: usize,
-) -> Result<List<(u64, Shared)>, NoMemory>
-    requires { IsWide state.now }
-    ensures { IfOk result (λ found. filter (suits classes.now (own.now ∷ [])) (map (tuple_at input) found) ≡ filter (older_joins classes.now own.now) (map (tuple_in input) state.now.rows)) }
+// The tuple's own row where it is asked for, and else none.
+fn alone_if(alloc: Global, own: &Arrived<'_>, is_own: bool) -> Result<Rows, NoMemory>
+    ensures { IfOk result (λ list. is_own ≡ true → map (tuple_at own.now.input) list ≡ own.now ∷ []) }
 {
-    match wanted(classes, own, input) {
-        None => state.all(alloc, own.ticket()),
-        Some(wanted) => {
-            if !state.is_indexed(wanted.column) {
-                return state.all(alloc, own.ticket());
+    if is_own {
+        return alone(alloc, own);
+    }
+    Ok(List::new(alloc))
+}
+
+// The tuple's own row is known, and no other.
+fn begin(alloc: Global, own: &Arrived<'_>, sides: &[State]) -> Result<Chosen, NoMemory>
+    requires { own.now.input < length sides.now }
+    ensures { IfOk result (λ chosen. (classes : List (List AnyClassCol)) → AreChosen classes own.now sides.now chosen.known.items chosen.lists.items) }
+{
+    let mut known = Vec::with_capacity(alloc, sides.len())?;
+    let mut lists = Vec::with_capacity(alloc, sides.len())?;
+    for input in 0..sides.len() {
+        let is_own = input == own.input() as usize;
+        known.push(is_own)?;
+        lists.push(alone_if(alloc, own, is_own)?)?;
+    }
+    Ok(Chosen { known, lists })
+}
+
+// The rows of an input, where they are known.
+fn known_rows(chosen: &Chosen, input: usize) -> Option<&[(u64, Shared)]>
+    ensures known { IfSome result (λ rows. slice_get chosen.now.known.items input ≡ Some true) }
+    ensures rows { IfSome result (λ rows. slice_index_or chosen.now.lists.items input [] ≡ rows.now) }
+{
+    match chosen.known.get(input) {
+        None => None,
+        Some(known) => {
+            if *known && input < chosen.lists.len() {
+                return Some(chosen.lists[input].as_slice());
             }
-            state.candidates(alloc, wanted.column, wanted.value, own.ticket())
+            None
         }
     }
 }
 
-fn choice(
+// A column of the class of another input whose rows are known.
+fn link_in<'a>(class: &[ClassCol], chosen: &'a Chosen, input: usize) -> Option<Link<'a>>
+    ensures { IfSome result (λ link. LinksBy class.now chosen.now.known.items chosen.now.lists.items input link.mine link.other link.theirs link.rows.now) }
+{
+    let mine = column_in(class, input)?;
+    for at in class {
+        match known_rows(chosen, at.input as usize) {
+            None => {}
+            Some(rows) => {
+                return Some(Link {
+                    mine,
+                    other: at.input as usize,
+                    theirs: at.column,
+                    rows,
+                });
+            }
+        }
+    }
+    None
+}
+
+// The same of the first class that has one.
+fn find_link<'a>(classes: &[List<ClassCol>], chosen: &'a Chosen, input: usize) -> Option<Link<'a>>
+    ensures { IfSome result (λ link. Links classes.now chosen.now.known.items chosen.now.lists.items input link.mine link.other link.theirs link.rows.now) }
+{
+    for class in classes {
+        match link_in(class.as_slice(), chosen, input) {
+            Some(link) => return Some(link),
+            None => {}
+        }
+    }
+    None
+}
+
+// Puts the tickets of the rows of a state at the end that have the row's value in a column; answers whether it has one.
+fn append_tickets(
+    state: &State,
+    mine: u32,
+    row: &Row,
+    theirs: u32,
+    tickets: &mut List<u64>,
+) -> Result<bool, NoMemory>
+    requires wide { IsWide state.now }
+    requires indexed { In mine state.now.columns }
+    ensures { IfOk result (λ told. told ≡ true → AreMore state.now.rows mine (value_at row.now theirs) tickets.old tickets.new) }
+{
+    match row.get(theirs as usize) {
+        None => Ok(false),
+        Some(value) => {
+            tickets.append(state.tickets(mine, value))?;
+            Ok(true)
+        }
+    }
+}
+
+// The tickets of the rows of a state that have the value of one of the others in these columns, and maybe more; `None` where
+// one of the others has no such column.
+fn tickets_for(
+    alloc: Global,
+    state: &State,
+    mine: u32,
+    others: &[(u64, Shared)],
+    theirs: u32,
+) -> Result<Option<List<u64>>, NoMemory>
+    requires wide { IsWide state.now }
+    requires indexed { In mine state.now.columns }
+    ensures { IfOk result (λ told. IfSome told (HaveTickets state.now.rows mine theirs others.now)) }
+{
+    let mut tickets = List::new(alloc);
+    for at in 0..others.len() {
+        if !append_tickets(state, mine, others[at].1.row(), theirs, &mut tickets)? {
+            return Ok(None);
+        }
+    }
+    Ok(Some(tickets))
+}
+
+// Puts the row with a ticket at the end, where there is one and it is older.
+fn append_under(
+    alloc: Global,
+    state: &State,
+    ticket: u64,
+    below: u64,
+    found: &mut Rows,
+) -> Result<(), NoMemory>
+    ensures { OnOk result (found.new ≡ found.old ++ pairs (older_under below state.now.rows ticket)) }
+{
+    match state.get(ticket) {
+        None => Ok(()),
+        Some(row) => {
+            if ticket < below {
+                let shared = Shared::new(alloc, row.copy(alloc)?)?;
+                found.push((ticket, shared))?;
+            }
+            Ok(())
+        }
+    }
+}
+
+// The rows with these tickets that are older.
+fn rows_under(alloc: Global, state: &State, tickets: &[u64], below: u64) -> Result<Rows, NoMemory>
+    ensures rising { IsRising ticket_of state.now.rows }
+    ensures found { IfOk result (λ found. found ≡ pairs (all_under below state.now.rows tickets.now)) }
+{
+    let mut found = List::with_room(alloc, tickets.len().min(state.len()))?;
+    for ticket in tickets {
+        append_under(alloc, state, *ticket, below, &mut found)?;
+    }
+    Ok(found)
+}
+
+// The rows of an input that are older than the tuple and may stand beside those that the link tells.
+fn linked(
+    alloc: Global,
+    state: &State,
+    link: &Link<'_>,
+    below: u64,
+) -> Result<Option<Rows>, NoMemory>
+    requires wide { IsWide state.now }
+    ensures { IfOk result (λ found. IfSome found (AreLinked state.now link.now.mine link.now.theirs link.now.rows.now below)) }
+{
+    if !state.is_indexed(link.mine) {
+        return Ok(None);
+    }
+    match tickets_for(alloc, state, link.mine, link.rows, link.theirs)? {
+        None => Ok(None),
+        Some(tickets) => {
+            let found = rows_under(alloc, state, in_order(tickets).as_slice(), below)?;
+            Ok(Some(found))
+        }
+    }
+}
+
+// The rows of an input that may stand in a combination with the tuple, where those of another one tell.
+fn hop(
     alloc: Global,
     classes: &[List<ClassCol>],
     own: &Arrived<'_>,
     sides: &[State],
+    chosen: &Chosen,
     input: usize,
-) -> Result<List<(u64, Shared)>, NoMemory>
+) -> Result<Option<Rows>, NoMemory>
+    requires there { input < length sides.now }
+    requires other { slice_index_or chosen.now.known.items input false ≡ false }
+    requires wide { AreWide sides.now }
+    requires chosen { AreChosen classes.now own.now sides.now chosen.now.known.items chosen.now.lists.items }
+    ensures { IfOk result (λ found. IfSome found (IsChoice classes.now own.now sides.now input)) }
+{
+    match find_link(classes, chosen, input) {
+        None => Ok(None),
+        Some(link) => linked(alloc, &sides[input], &link, own.ticket()),
+    }
+}
+
+// Finds the rows of an input, where they are not known and those of another one tell.
+fn hop_to(
+    alloc: Global,
+    classes: &[List<ClassCol>],
+    own: &Arrived<'_>,
+    sides: &[State],
+    chosen: &mut Chosen,
+    input: usize,
+) -> Result<(), NoMemory>
     requires there { input < length sides.now }
     requires wide { AreWide sides.now }
-    ensures { IfOk result (λ found. IsNarrowed classes.now own.now (tuples_in 0 sides.now) input (map (tuple_at input) found)) }
+    requires chosen { AreChosen classes.now own.now sides.now chosen.old.known.items chosen.old.lists.items }
+    ensures { OnOk result (AreChosen classes.now own.now sides.now chosen.new.known.items chosen.new.lists.items) }
 {
-    if input == own.input() as usize {
-        let list = alone(alloc, own)?;
-        return Ok(list);
+    if chosen.known[input] {
+        return Ok(());
     }
-    let found = narrowed(alloc, classes, own, &sides[input], input)?;
-    Ok(found)
+    match hop(alloc, classes, own, sides, chosen, input)? {
+        None => Ok(()),
+        Some(rows) => {
+            take_rows(chosen, input, rows);
+            Ok(())
+        }
+    }
+}
+
+// The same of each input.
+fn hop_to_all(
+    alloc: Global,
+    classes: &[List<ClassCol>],
+    own: &Arrived<'_>,
+    sides: &[State],
+    chosen: &mut Chosen,
+) -> Result<(), NoMemory>
+    requires wide { AreWide sides.now }
+    requires chosen { AreChosen classes.now own.now sides.now chosen.old.known.items chosen.old.lists.items }
+    ensures { OnOk result (AreChosen classes.now own.now sides.now chosen.new.known.items chosen.new.lists.items) }
+{
+    for input in 0..sides.len() {
+        hop_to(alloc, classes, own, sides, chosen, input)?;
+    }
+    Ok(())
+}
+
+// The rows of an input are known now.
+fn take_rows(chosen: &mut Chosen, input: usize, rows: Rows)
+    requires known { input < length chosen.old.known.items }
+    requires lists { input < length chosen.old.lists.items }
+    ensures known { chosen.new.known.items ≡ slice_set chosen.old.known.items input true }
+    ensures lists { chosen.new.lists.items ≡ slice_set chosen.old.lists.items input rows }
+{
+    chosen.known[input] = true;
+    chosen.lists[input] = rows;
+}
+
+// Takes all older rows of an input where they are not known.
+fn fill(
+    alloc: Global,
+    classes: &[List<ClassCol>],
+    own: &Arrived<'_>,
+    sides: &[State],
+    chosen: &mut Chosen,
+    input: usize,
+) -> Result<(), NoMemory>
+    requires there { input < length sides.now }
+    requires chosen { AreChosen classes.now own.now sides.now chosen.old.known.items chosen.old.lists.items }
+    ensures chosen { OnOk result (AreChosen classes.now own.now sides.now chosen.new.known.items chosen.new.lists.items) }
+    ensures known { OnOk result (KnowsMore input chosen.old.known.items chosen.new.known.items) }
+{
+    if chosen.known[input] {
+        return Ok(());
+    }
+    let rows = sides[input].all(alloc, own.ticket())?;
+    take_rows(chosen, input, rows);
+    Ok(())
+}
+
+// The same of each input.
+fn fill_all(
+    alloc: Global,
+    classes: &[List<ClassCol>],
+    own: &Arrived<'_>,
+    sides: &[State],
+    chosen: &mut Chosen,
+) -> Result<(), NoMemory>
+    requires chosen { AreChosen classes.now own.now sides.now chosen.old.known.items chosen.old.lists.items }
+    ensures chosen { OnOk result (AreChosen classes.now own.now sides.now chosen.new.known.items chosen.new.lists.items) }
+    ensures known { OnOk result (AreKnown (length sides.now) chosen.new.known.items) }
+{
+    for input in 0..sides.len() {
+        fill(alloc, classes, own, sides, chosen, input)?;
+    }
+    Ok(())
 }
 
 /// For each input rows that hold all which may stand in a combination with this tuple: of its own input its own row alone,
-/// of each other older ones.
+/// of each other older ones. They are found from one input to the next by the indexes of the classes that both have; where no
+/// class leads to an input, they are all older ones.
 pub fn choices(
     alloc: Global,
     classes: &[List<ClassCol>],
     own: &Arrived<'_>,
     sides: &[State],
-) -> Result<List<List<(u64, Shared)>>, NoMemory>
-    requires { AreWide sides.now }
-    ensures narrowed { IfOk result (λ found. AreNarrowed classes.now own.now (tuples_in 0 sides.now) (sides_at 0 found)) }
+) -> Result<List<Rows>, NoMemory>
+    requires there { own.now.input < length sides.now }
+    requires wide { AreWide sides.now }
+    ensures same { IfOk result (λ found. FindSame classes.now own.now sides.now found) }
     ensures count { IfOk result (λ found. length found ≡ length sides.now) }
 {
-    let mut found = List::new(alloc);
-    for input in 0..sides.len() {
-        found.push(choice(alloc, classes, own, sides, input)?)?;
+    let mut chosen = begin(alloc, own, sides)?;
+    for _round in 0..sides.len() {
+        hop_to_all(alloc, classes, own, sides, &mut chosen)?;
     }
-    Ok(found)
+    fill_all(alloc, classes, own, sides, &mut chosen)?;
+    let Chosen { known: _, lists } = chosen;
+    Ok(List::of(lists))
 }

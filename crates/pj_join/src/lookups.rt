@@ -15,8 +15,8 @@ pub struct Lookup<'a> {
     pub value: &'a Value,
 }
 
-// The first column of an input in a class.
-fn column_in(class: &[ClassCol], input: usize) -> Option<u32>
+/// The first column of an input in a class.
+pub fn column_in(class: &[ClassCol], input: usize) -> Option<u32>
     ensures { IfSome result (λ column. In (record { input = input; column = column }) class.now) }
 {
     for at in class {

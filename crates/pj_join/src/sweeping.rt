@@ -166,8 +166,8 @@ fn young(alloc: Global, state: &State, from: u64) -> Result<List<u64>, NoMemory>
     Ok(list)
 }
 
-// The tickets in order, each once.
-fn in_order(list: List<u64>) -> Vec<u64>
+/// The tickets in order, each once.
+pub fn in_order(list: List<u64>) -> Vec<u64>
     ensures rising { IsRising itself result.items }
     ensures all { (n : ℕ) → In n list → In n result.items }
 {
