@@ -1,5 +1,5 @@
 // Tuple lines that are the canonical lines of their tuples. A contract here speaks of the bytes behind the tag.
-ghost use Rattle.std.specs.Prelude.{◌≡◌, ◌≤◌, ◌<◌, ◌+◌, ◌^◌, ◌∷◌, true, length, IfOk, IfSome, IsTrue};
+ghost use Rattle.std.specs.Prelude.{◌≡◌, ◌≤◌, ◌<◌, ◌+◌, ◌^◌, ◌∷◌, true, length, Some, IfOk, IfSome, IsTrue};
 ghost use Rattle.std.specs.Fmt.{decimal, signed_decimal};
 ghost use Rattle.pj_value.specs.Texts.{value_spelling};
 ghost use Rattle.pj_value.specs.Values.{is_kind};
@@ -12,7 +12,7 @@ ghost use Rattle.pj_element.specs.declared.element.Read.TheVariants.{Tuple};
 use crate::spelled::read_value;
 use crate::storable::see_values;
 use pj_shape::Column;
-use pj_value::{Kind, List, NoMemory, Row, SharedText, Value, plain_len, value_text};
+use pj_value::{Kind, List, NoMemory, Row, SharedText, Spelling, Value, plain_len, value_text};
 use std::alloc::Global;
 
 /// The tuple whose canonical line this is, for at most 120 columns. `None` says nothing of the line.
@@ -43,13 +43,48 @@ fn read_cells(alloc: Global, columns: &[Column], cells: &[u8]) -> Result<Option<
     ensures spelled { IfOk result (λ row. IfSome row (λ row. AreSpelled columns.now cells.now row)) }
     ensures storable { IfOk result (λ row. IfSome row (λ row. AreStorable row)) }
 {
-    let piece = SharedText::copy_of(alloc, cells)?;
-    match read_values(alloc, columns, &piece)? {
+    let piece = text_piece(alloc, columns, cells)?;
+    match read_values(alloc, columns, cells, &piece)? {
         Some(values) => {
             see_values(values.as_slice());
-            Ok(Some(Row::spelled(values, piece)))
+            let spelling = spelling_of(alloc, piece, cells)?;
+            Ok(Some(Row::spelled(alloc, values, spelling)?))
         }
         None => Ok(None),
+    }
+}
+
+// A copy of the cells, of which their texts are parts; none where no column has texts.
+fn text_piece(
+    alloc: Global,
+    columns: &[Column],
+    cells: &[u8],
+) -> Result<Option<SharedText>, NoMemory>
+    ensures { IfOk result (λ piece. IfSome piece (λ piece. piece ≡ cells.now)) }
+{
+    for column in columns {
+        if is_text(column.kind) {
+            return Ok(Some(SharedText::copy_of(alloc, cells)?));
+        }
+    }
+    Ok(None)
+}
+
+fn is_text(kind: Kind) -> bool {
+    match kind {
+        Kind::Int => false,
+        Kind::Text => true,
+    }
+}
+
+// The cells as a spelling: the piece, where there is one.
+fn spelling_of(alloc: Global, piece: Option<SharedText>, cells: &[u8]) -> Result<Spelling, NoMemory>
+    requires { IfSome piece (λ piece. piece ≡ cells.now) }
+    ensures { IfOk result (λ spelling. spelling ≡ Some cells.now) }
+{
+    match piece {
+        Some(piece) => Ok(Spelling::shared(piece)),
+        None => Spelling::copy_of(alloc, cells),
     }
 }
 
@@ -58,14 +93,16 @@ fn read_cells(alloc: Global, columns: &[Column], cells: &[u8]) -> Result<Option<
 fn read_values(
     alloc: Global,
     columns: &[Column],
-    piece: &SharedText,
+    cells: &[u8],
+    piece: &Option<SharedText>,
 ) -> Result<Option<List<Value>>, NoMemory>
-    ensures { IfOk result (λ values. IfSome values (λ values. AreSpelled columns.now piece.now values)) }
+    requires { IfSome piece.now (λ piece. piece ≡ cells.now) }
+    ensures { IfOk result (λ values. IfSome values (λ values. AreSpelled columns.now cells.now values)) }
 {
     let mut values = List::with_room(alloc, columns.len())?;
     let mut at = 0;
     for column in columns {
-        match read_cell(alloc, column.kind, piece, at)? {
+        match read_cell(alloc, column.kind, cells, piece, at)? {
             Some((value, end)) => {
                 values.push(value)?;
                 at = end;
@@ -73,7 +110,7 @@ fn read_values(
             None => return Ok(None),
         }
     }
-    if at == piece.len() {
+    if at == cells.len() {
         return Ok(Some(values));
     }
     Ok(None)
@@ -83,23 +120,27 @@ fn read_values(
 fn read_cell(
     alloc: Global,
     kind: Kind,
-    piece: &SharedText,
+    cells: &[u8],
+    piece: &Option<SharedText>,
     at: usize,
 ) -> Result<Option<(Value, usize)>, NoMemory>
-    requires { at ≤ length piece.now }
-    ensures cell { IfOk result (λ cell. IfSome cell (λ cell. StandsAt piece.now at cell.1 (32 ∷ value_spelling cell.0))) }
+    requires piece { IfSome piece.now (λ piece. piece ≡ cells.now) }
+    requires within { at ≤ length cells.now }
+    ensures cell { IfOk result (λ cell. IfSome cell (λ cell. StandsAt cells.now at cell.1 (32 ∷ value_spelling cell.0))) }
     ensures kind { IfOk result (λ cell. IfSome cell (λ cell. is_kind kind cell.0 ≡ true)) }
 {
-    let bytes = piece.as_slice();
-    if at == bytes.len() || bytes[at] != b' ' {
+    if at == cells.len() || cells[at] != b' ' {
         return Ok(None);
     }
     match kind {
-        Kind::Int => match read_int(bytes, at + 1) {
+        Kind::Int => match read_int(cells, at + 1) {
             Some((n, end)) => Ok(Some((Value::Int(n), end))),
             None => Ok(None),
         },
-        Kind::Text => read_text(alloc, piece, bytes, at + 1),
+        Kind::Text => match piece {
+            Some(piece) => read_text(alloc, piece, cells, at + 1),
+            None => Ok(None),
+        },
     }
 }
 

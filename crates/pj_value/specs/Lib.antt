@@ -4,5 +4,6 @@ pub mod Lists
 pub mod Options
 pub mod Parts
 pub mod Rows
+pub mod Spellings
 pub mod Values
 pub mod Texts

@@ -7,7 +7,7 @@ use Rattle.pj_value.specs.declared.values.Value.{Value}
 
 -- its values, wherever they stand
 abbrev pub values_in : Parts → List Value
-values_in (Own part) = part
+values_in (Own values) = values
 values_in (Shared part) = arc_value part
 values_in (Both pair) = pair
 values_in (Joined parts) = parts

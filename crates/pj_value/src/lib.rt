@@ -9,6 +9,7 @@ mod pair;
 mod parts;
 mod rows;
 mod shared_text;
+mod spelling;
 mod texts;
 mod values;
 
@@ -18,6 +19,7 @@ pub use laws::{bags_count_rows, spellings_are_printable, values_are_ordered};
 pub use lists::{Bytes, List, NoMemory};
 pub use rows::Row;
 pub use shared_text::SharedText;
+pub use spelling::Spelling;
 pub use texts::{plain_len, value_text};
 pub use values::{Kind, Value};
 

@@ -1,10 +1,9 @@
 // Values that rows may share.
-ghost use Rattle.std.specs.Prelude.{◌≡◌, ◌++◌, OnOk, OnErr, IfOk};
+ghost use Rattle.std.specs.Prelude.{◌≡◌, ◌++◌, Some, OnOk, OnErr};
 ghost use Rattle.pj_value.specs.Texts.{IsFront, values_spelling};
 
-use crate::copies::copy_values;
 use crate::texts::values_text;
-use crate::{List, NoMemory, SharedText, Value};
+use crate::{List, NoMemory, Spelling, Value};
 use std::alloc::Global;
 use std::marker::Model;
 
@@ -12,7 +11,7 @@ use std::marker::Model;
 #[derive(Drop)]
 pub struct Part {
     values: List<Value>,
-    spelling: Option<SharedText>,
+    spelling: Spelling,
 }
 
 impl Model for Part {
@@ -34,19 +33,16 @@ impl Part {
     {
         Part {
             values,
-            spelling: None,
+            spelling: Spelling::none(),
         }
     }
 
     // These values with their spelling.
-    pub fn spelled(values: List<Value>, spelling: SharedText) -> Part
-        requires { spelling ≡ values_spelling values }
+    pub fn spelled(values: List<Value>, spelling: Spelling) -> Part
+        requires { spelling ≡ Some (values_spelling values) }
         ensures { result ≡ values }
     {
-        Part {
-            values,
-            spelling: Some(spelling),
-        }
+        Part { values, spelling }
     }
 
     // All values.
@@ -56,25 +52,14 @@ impl Part {
         self.values.as_slice()
     }
 
-    // Equal values, of texts second handles.
-    pub fn copy(&self, alloc: Global) -> Result<Part, NoMemory>
-        ensures { IfOk result (λ part. part ≡ self.now) }
-    {
-        let values = copy_values(alloc, self.values.as_slice())?;
-        match &self.spelling {
-            None => Ok(Part::of(values)),
-            Some(spelling) => Ok(Part::spelled(values, spelling.share()?)),
-        }
-    }
-
     // Appends the canonical spelling of each value behind a space. On a refusal some of it may stand.
     pub fn spell(&self, alloc: Global, out: &mut List<u8>) -> Result<(), NoMemory>
         ensures ok { OnOk result (out.new ≡ out.old ++ values_spelling self.now) }
         ensures err { OnErr result (IsFront out.old out.new) }
     {
-        match &self.spelling {
+        match self.spelling.bytes() {
             None => values_text(alloc, self.values.as_slice(), out),
-            Some(spelling) => out.append(spelling.as_slice()),
+            Some(bytes) => out.append(bytes),
         }
     }
 }

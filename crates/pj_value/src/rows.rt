@@ -4,10 +4,12 @@ ghost use Rattle.std.specs.Arc.{arc_value};
 ghost use Rattle.std.specs.Option.{option_copied};
 ghost use Rattle.pj_value.specs.Texts.{IsFront, values_spelling};
 
+use crate::copies::copy_values;
 use crate::joined::JoinedParts;
 use crate::pair::Pair;
 use crate::parts::Part;
-use crate::{List, NoMemory, SharedText, Value};
+use crate::texts::values_text;
+use crate::{List, NoMemory, Spelling, Value};
 use std::alloc::Global;
 use std::marker::Model;
 use std::sync::Arc;
@@ -18,10 +20,11 @@ pub struct Row {
     parts: Parts,
 }
 
-// Where the values of a row stand: in a part of its own, in one that others share, in two of these, or in several, in order.
+// Where the values of a row stand: in a list of its own, in a part that others may share, in two of these, or in several, in
+// order.
 #[derive(Drop)]
 enum Parts {
-    Own(Part),
+    Own(List<Value>),
     Shared(Arc<Part, Global>),
     Both(Pair),
     Joined(JoinedParts),
@@ -43,18 +46,20 @@ impl Row {
         ensures { result ≡ values }
     {
         Row {
-            parts: Parts::Own(Part::of(values)),
+            parts: Parts::Own(values),
         }
     }
 
-    /// The row of these values, which are handed over with their canonical spelling, each behind a space.
-    pub fn spelled(values: List<Value>, spelling: SharedText) -> Row
-        requires { spelling ≡ values_spelling values }
-        ensures { result ≡ values }
+    /// The row of these values, which are handed over with their canonical spelling, each behind a space. A copy of it is a
+    /// second handle.
+    pub fn spelled(alloc: Global, values: List<Value>, spelling: Spelling) -> Result<Row, NoMemory>
+        requires { spelling ≡ Some (values_spelling values) }
+        ensures { IfOk result (λ r. r ≡ values) }
     {
-        Row {
-            parts: Parts::Own(Part::spelled(values, spelling)),
-        }
+        let part = Arc::new(alloc, Part::spelled(values, spelling))?;
+        Ok(Row {
+            parts: Parts::Shared(part),
+        })
     }
 
     /// How many columns there are.
@@ -62,7 +67,7 @@ impl Row {
         ensures { result ≡ length self.now }
     {
         match &self.parts {
-            Parts::Own(part) => part.as_slice().len(),
+            Parts::Own(values) => values.len(),
             Parts::Shared(part) => part.as_slice().len(),
             Parts::Both(pair) => pair.len(),
             Parts::Joined(parts) => parts.len(),
@@ -74,7 +79,7 @@ impl Row {
         ensures { option_copied result ≡ slice_get self.now column }
     {
         match &self.parts {
-            Parts::Own(part) => part.as_slice().get(column),
+            Parts::Own(values) => values.get(column),
             Parts::Shared(part) => part.as_slice().get(column),
             Parts::Both(pair) => pair.get(column),
             Parts::Joined(parts) => parts.get(column),
@@ -87,7 +92,7 @@ impl Row {
         ensures { slice_get self.now column ≡ Some result.now }
     {
         match &self.parts {
-            Parts::Own(part) => &part.as_slice()[column],
+            Parts::Own(values) => &values.as_slice()[column],
             Parts::Shared(part) => &part.as_slice()[column],
             Parts::Both(pair) => pair.at(column),
             Parts::Joined(parts) => parts.at(column),
@@ -115,12 +120,7 @@ impl Row {
         ensures { IfOk result (λ r. r ≡ self.now) }
     {
         match &self.parts {
-            Parts::Own(part) => {
-                let part = part.copy(alloc)?;
-                Ok(Row {
-                    parts: Parts::Own(part),
-                })
-            }
+            Parts::Own(values) => Ok(Row::of(copy_values(alloc, values.as_slice())?)),
             Parts::Shared(part) => {
                 let part = Arc::try_clone(part)?;
                 Ok(Row {
@@ -148,8 +148,8 @@ impl Row {
     {
         let Row { parts } = self;
         match parts {
-            Parts::Own(part) => {
-                let part = Arc::new(alloc, part)?;
+            Parts::Own(values) => {
+                let part = Arc::new(alloc, Part::of(values))?;
                 Ok(Row {
                     parts: Parts::Shared(part),
                 })
@@ -186,7 +186,7 @@ impl Row {
         ensures err { OnErr result (IsFront out.old out.new) }
     {
         match &self.parts {
-            Parts::Own(part) => part.spell(alloc, out),
+            Parts::Own(values) => values_text(alloc, values.as_slice(), out),
             Parts::Shared(part) => part.spell(alloc, out),
             Parts::Both(pair) => pair.spell(alloc, out),
             Parts::Joined(parts) => parts.spell(alloc, out),
@@ -237,8 +237,8 @@ impl Row {
         ensures { OnOk result (parts.new ≡ parts.old ++ self.now) }
     {
         match &self.parts {
-            Parts::Own(part) => {
-                let part = part.copy(alloc)?;
+            Parts::Own(values) => {
+                let part = Part::of(copy_values(alloc, values.as_slice())?);
                 parts.push(Arc::new(alloc, part)?)
             }
             Parts::Shared(part) => parts.push(Arc::try_clone(part)?),

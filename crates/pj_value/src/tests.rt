@@ -106,6 +106,20 @@ fn rows_are_spelled(rt: HostRuntime) {
 }
 
 #[test]
+fn spellings_are_kept(rt: HostRuntime) {
+    for bytes in [
+        b"".as_slice(),
+        b" 1 50",
+        b" 123456 12345678",
+        b" 123456 123456789",
+    ] {
+        let spelling = Spelling::copy_of(rt.alloc(), bytes);
+        assert!(rt; matches!(&spelling, Ok(spelling) if spelling.bytes() == Some(bytes)));
+    }
+    assert!(rt; Spelling::none().bytes().is_none());
+}
+
+#[test]
 fn texts_have_parts(rt: HostRuntime) {
     let text = SharedText::copy_of(rt.alloc(), b"ann");
     assert!(rt; matches!(&text, Ok(text) if text.len() == 3));
