@@ -76,17 +76,11 @@ fn is_to(high: &Option<Value>, value: &Value) -> bool
 fn is_up_to(low: &Value, high: &Value) -> bool
     ensures { result ≡ up_to low.now high.now }
 {
-    are_of_one_kind(low, high) && !low.order(high).is_gt()
-}
-
-fn are_of_one_kind(one: &Value, other: &Value) -> bool
-    ensures { result ≡ same_kind one.now other.now }
-{
-    match (one, other) {
-        (Value::Int(_), Value::Int(_)) => true,
+    match (low, high) {
+        (Value::Int(low), Value::Int(high)) => !low.cmp(high).is_gt(),
         (Value::Int(_), Value::Text(_)) => false,
         (Value::Text(_), Value::Int(_)) => false,
-        (Value::Text(_), Value::Text(_)) => true,
+        (Value::Text(low), Value::Text(high)) => !low.as_slice().cmp(high.as_slice()).is_gt(),
     }
 }
 
