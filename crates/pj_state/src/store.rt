@@ -100,7 +100,7 @@ impl Store {
         requires { at < length self.now }
         ensures { slice_get self.now at ≡ Some result.now }
     {
-        let place = self.places.nth(at);
+        let place = place_at(&self.places, self.slab.len(), at);
         &self.slab[place.key]
     }
 
@@ -114,6 +114,18 @@ impl Store {
         }
         Ok(found)
     }
+}
+
+// The place at a position, of so many, from the nearer end.
+fn place_at(places: &Places, count: usize, at: usize) -> Place
+    requires count { count ≡ length places.now }
+    requires within { at < count }
+    ensures { slice_get places.now at ≡ Some result }
+{
+    if at < count / 2 {
+        return places.nth(at);
+    }
+    places.nth_back(count - 1 - at)
 }
 
 // Appends second handles of those of these rows that have smaller tickets than this one.
