@@ -1,5 +1,5 @@
 -- Halving a list in which numbers rise.
-use Rattle.std.proofs.Common.{◌≡◌, ℕ, ◌+◌, ◌<◌, ◌≤◌, List, None, Some, length, get_or, ap, sym, ◌∙◌, subst, arith}
+use Rattle.std.proofs.Common.{◌≡◌, ℕ, ◌+◌, ◌-◌, ◌/◌, ◌<◌, ◌≤◌, List, None, Some, length, get_or, ap, sym, ◌∙◌, subst, arith}
 use Rattle.std.specs.List.{remove}
 use Rattle.std.proofs.lemmas.List.{get_or_default}
 use Rattle.pj_state.specs.Rising.{IsRising, SplitsAt, first_with, without}
@@ -53,6 +53,38 @@ module _ {A : Type 0} (number : A → ℕ) where
     before = h.before;
     behind = λ d lt. h.behind low d (omega (arith, h.ordered, done)) lt;
   }
+
+  -- the place is from low to high, and one of these is looked at next
+  pub record IsProbed (n : ℕ) (xs : List A) (low high middle : ℕ) : Type 0 where
+    pub between : IsBetween n xs low high
+    pub from : low < high → low ≤ middle
+    pub to : low < high → middle < high
+
+  pub probed_all : (n : ℕ) (xs : List A) (high middle : ℕ) → high ≡ length xs → (0 < length xs → middle < length xs) → IsProbed n xs 0 high middle
+  probed_all n xs high middle e lt = record {
+    between = between_all n xs high e;
+    from = λ some. omega arith;
+    to = λ some. omega (arith, e, lt (omega (arith, e, some)));
+  }
+
+  pub probed_above : (n : ℕ) (xs : List A) (low high middle stride : ℕ) (x : A) → IsProbed n xs low high middle → low < high → x ≡ get_or xs middle x → number x ≤ n
+      → stride ≤ (high - (middle + 1)) / 2 → IsProbed n xs (middle + 1) high (middle + 1 + stride)
+  probed_above n xs low high middle stride x h lt is le near = record {
+    between = between_above n xs low high middle x h.between (h.to lt) is le;
+    from = λ some. omega arith;
+    to = λ some. omega (arith, near, some);
+  }
+
+  pub probed_below : (n : ℕ) (xs : List A) (low high middle stride next : ℕ) (x : A) → IsProbed n xs low high middle → low < high → x ≡ get_or xs middle x → n < number x
+      → stride ≤ (middle - low) / 2 → next ≡ middle - (1 + stride) → IsProbed n xs low middle next
+  probed_below n xs low high middle stride next x h lt is gt near e = record {
+    between = between_below n xs low high middle x h.between (h.from lt) (h.to lt) is gt;
+    from = λ some. omega (arith, near, some, e);
+    to = λ some. omega (arith, some, e);
+  }
+
+  pub probed_end : (n : ℕ) (xs : List A) (low high middle : ℕ) → IsProbed n xs low high middle → high ≤ low → SplitsAt number n xs low
+  probed_end n xs low high middle h done = between_end n xs low high h.between done
 
   -- no item has the number, where none is before the place that splits the list, and where the one before it has another
   pub none_in_front : (n : ℕ) (xs : List A) (at : ℕ) → SplitsAt number n xs at → at ≡ 0 → IsRising number xs → first_with number n xs ≡ None

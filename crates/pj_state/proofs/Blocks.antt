@@ -1,7 +1,7 @@
 -- Places in blocks.
 use Rattle.std.proofs.Common.{◌≡◌, ℕ, zero, suc, ◌+◌, ◌-◌, ◌<◌, ◌≤◌, List, [], ◌∷◌, ◌++◌, Option, None, Some, length, get_or, set, take, drop, refl, ap, sym, ◌∙◌, subst, arith, append_assoc, append-nil, get_or-set_same}
 use Rattle.std.specs.List.{remove, slice_get}
-use Rattle.std.proofs.lemmas.List.{drop_more, get_or_default, take_more}
+use Rattle.std.proofs.lemmas.List.{drop_more, get_or_default, length-append, take_more}
 use Rattle.std.proofs.lemmas.Option.{slice_get-get_or}
 use Rattle.pj_value.proofs.Slices.{get_front, get_behind}
 use Rattle.pj_state.specs.Rising.{AllAbove, AllBelow, IsRising, SplitsAt, first_with, without}
@@ -154,6 +154,62 @@ nth-end bs all i at left d e lt before done =
 
 pub flat-take : (bs : List (List Place)) (i : ℕ) (b : List Place) → i < length bs → b ≡ get_or bs i b → flat (take (i + 1) bs) ≡ flat (take i bs) ++ b
 flat-take bs i b lt is = ap flat (take_more bs i b lt) ∙ (flat-push (take i bs) (get_or bs i b) ∙ ap (λ (ps : List Place). flat (take i bs) ++ ps) (sym is))
+
+-- ---- the place at a position from the end
+
+flat-split : (bs : List (List Place)) (i : ℕ) → flat bs ≡ flat (take i bs) ++ flat (drop i bs)
+flat-split [] zero = refl
+flat-split [] (suc i) = refl
+flat-split (b ∷ bs) zero = refl
+flat-split (b ∷ bs) (suc i) = ap (λ (ps : List Place). b ++ ps) (flat-split bs i) ∙ sym (append_assoc b (flat (take i bs)) (flat (drop i bs)))
+
+take-all : (bs : List (List Place)) → take (length bs) bs ≡ bs
+take-all [] = refl
+take-all (b ∷ bs) = ap (λ (cs : List (List Place)). b ∷ cs) (take-all bs)
+
+-- so many blocks are not yet passed from the end, and the position so far from the end is this far before the end of them
+pub record IsBefore (bs : List (List Place)) (at behind left : ℕ) : Type 0 where
+  pub within : behind ≤ length bs
+  pub rest : length (flat bs) - 1 - at + left + 1 ≡ length (flat (take behind bs))
+
+pub before-all : (bs : List (List Place)) (all : List Place) (at behind : ℕ) → flat bs ≡ all → at < length all → behind ≡ length bs → IsBefore bs at behind at
+before-all bs all at behind e lt is = record {
+  within = omega (arith, is);
+  rest = omega (arith, lt, ap length e, ap (λ n. length (flat (take n bs))) is, ap (λ (cs : List (List Place)). length (flat cs)) (take-all bs));
+}
+
+length-take : (bs : List (List Place)) (i behind : ℕ) (b : List Place) → i + 1 ≡ behind → i < length bs → b ≡ get_or bs i b → length (flat (take behind bs)) ≡ length (flat (take i bs)) + length b
+length-take bs i behind b e lt is =
+    ap (λ n. length (flat (take n bs))) (sym e) ∙ (ap length (flat-take bs i b lt is) ∙ length-append (flat (take i bs)) b)
+
+pub before-less : (bs : List (List Place)) (at behind left i : ℕ) (b : List Place) → IsBefore bs at behind left → i + 1 ≡ behind → b ≡ get_or bs i b → length b ≤ left
+    → IsBefore bs at i (left - length b)
+before-less bs at behind left i b h e is le = record {
+  within = omega (arith, h.within, e);
+  rest = omega (arith, h.rest, le, length-take bs i behind b e (omega (arith, h.within, e)) is);
+}
+
+pub before-here : (bs : List (List Place)) (all : List Place) (at behind left i : ℕ) (b : List Place) (p : Place) → flat bs ≡ all → IsBefore bs at behind left → i + 1 ≡ behind
+    → b ≡ get_or bs i b → left < length b → slice_get b (length b - 1 - left) ≡ Some p → slice_get all (length all - 1 - at) ≡ Some p
+before-here bs all at behind left i b p whole h e is here there =
+    let lt : i < length bs = omega (arith, h.within, e) in
+    let long = length-take bs i behind b e lt is in
+    let front = flat (take i bs) in
+    let where-at = length (flat bs) - 1 - at in
+    let past : length front ≤ where-at = omega (arith, h.rest, long, here) in
+    let same : where-at - length front ≡ length b - 1 - left = omega (arith, h.rest, long, here) in
+    ap (λ (ps : List Place). slice_get ps (length ps - 1 - at)) (sym whole)
+    ∙ (ap (λ (ps : List Place). slice_get ps where-at) (flat-split bs i)
+    ∙ (get_behind front (flat (drop i bs)) where-at past
+    ∙ (ap (slice_get (flat (drop i bs))) same
+    ∙ (ap (λ (ps : List Place). slice_get ps (length b - 1 - left)) (flat-drop bs i b lt ∙ ap (λ (ps : List Place). ps ++ flat (drop (i + 1) bs)) (sym is))
+    ∙ (get_front b (flat (drop (i + 1) bs)) (length b - 1 - left) (omega (arith, here)) ∙ there)))))
+
+pub before-none : (bs : List (List Place)) (at behind left : ℕ) → IsBefore bs at behind left → behind ≤ 0 → ⊥
+before-none bs at behind left h done = omega (arith, h.rest, ap (λ n. length (flat (take n bs))) (zero-is behind done))
+  where
+    zero-is : (n : ℕ) → n ≤ 0 → n ≡ 0
+    zero-is n le = omega (arith, le)
 
 -- ---- what is found and taken by halving
 

@@ -1,5 +1,5 @@
 -- Rows that are looked up by their tickets.
-use Rattle.std.proofs.Common.{◌≡◌, ℕ, zero, suc, ◌+◌, ◌<◌, ◌≤◌, Bool, true, false, cond, List, [], ◌∷◌, ◌++◌, Option, None, Some, length, drop, filter, get_or, ltb, refl, ap, sym, ◌∙◌, arith, append-nil, append_assoc}
+use Rattle.std.proofs.Common.{◌≡◌, ℕ, zero, suc, ◌+◌, ◌<◌, ◌≤◌, Bool, true, false, cond, List, [], ◌∷◌, ◌++◌, Option, None, Some, length, drop, filter, get_or, ltb, refl, ap, sym, ◌∙◌, subst, arith, append-nil, append_assoc}
 use Rattle.std.proofs.lemmas.Bool.{eq-eqb, le-ltb, lt-ltb, ltb-false}
 use Rattle.std.proofs.lemmas.List.{drop_more}
 use Rattle.pj_value.specs.declared.values.Value.{Value}
@@ -8,6 +8,7 @@ use Rattle.pj_state.specs.States.{pairs, rows_below, rows_with, has_value, ticke
 use Rattle.pj_state.specs.declared.shared.Stored.{Stored}
 use Rattle.pj_state.specs.Indexes.{IsMatching}
 use Rattle.std.specs.List.{slice_get}
+use Rattle.std.specs.Option.{IfNone, IfSome, IsSome}
 use Rattle.pj_state.proofs.Rising.{eqb-apart, rising-filter}
 
 -- a ticket with its row, where there is one, and others behind it
@@ -113,3 +114,11 @@ pub matching-at : (rows : List Stored) (column : ℕ) (value : Value) (ts : List
 matching-at rows column value ts at is lt =
     ap (λ (us : List ℕ). first_with ticket_of (get_or us at 0) rows) is.0
     ∙ first-at rows (rows_with column value rows) at (first-filter (has_value column value) rows rows (are-first rows is.1)) lt
+
+-- what is there is found
+pub is-there : {A B : Type 0} (o : Option A) (p q : Option B) (x : B) → IfNone o (p ≡ None) → p ≡ q → q ≡ Some x → IsSome o
+is-there None p q x missing e is = let clash : None ≡ Some x = sym missing ∙ (e ∙ is) in absurd (cc)
+is-there (Some a) p q x missing e is = refl
+
+pub row-is : {A : Type 0} (o : Option A) (a : A) (P : A → Type 0) → IfSome o P → o ≡ Some a → P a
+row-is {A = A} o a P h e = subst (λ (p : Option A). IfSome p P) e h

@@ -1,5 +1,6 @@
 -- How rows are kept in order of their tickets.
 use Rattle.std.specs.Prelude.{◌≡◌, ℕ, ◌<◌, List, [], ◌∷◌, ◌++◌, Option, Some, None, is_some, count_by, length, slice_index_or, slice_set}
+use Rattle.pj_value.specs.declared.values.Value.{Value}
 use Rattle.pj_state.specs.Rising.{IsRising, without}
 use Rattle.pj_state.specs.States.{stored}
 use Rattle.pj_state.specs.declared.shared.Stored.{Stored}
@@ -28,26 +29,41 @@ abbrev pub less_one : List (List Place) → ℕ → ℕ → List (List Place)
 less_one blocks at ticket = slice_set blocks at (without place_ticket ticket (slice_index_or blocks at []))
 
 -- what stands under a key
-abbrev pub slot_at : List (Option Stored) → ℕ → Option Stored
+abbrev pub slot_at : List (Option (List Value)) → ℕ → Option (List Value)
 slot_at slots key = slice_index_or slots key None
 
--- what stands there, for a place
-abbrev pub stored_for : Place → Option Stored → Stored
-stored_for p None = stored p.ticket []
-stored_for p (Some s) = s
+-- the row that stands there
+abbrev pub row_there : Option (List Value) → List Value
+row_there None = []
+row_there (Some row) = row
+
+-- the row that a place leads to, under its ticket
+abbrev pub stored_at : List (Option (List Value)) → Place → Stored
+stored_at slots p = stored p.ticket (row_there (slot_at slots p.key))
 
 -- the rows that the places lead to
-abbrev pub rows_at : List (Option Stored) → List Place → List Stored
+abbrev pub rows_at : List (Option (List Value)) → List Place → List Stored
 rows_at slots [] = []
-rows_at slots (p ∷ ps) = stored_for p (slot_at slots p.key) ∷ rows_at slots ps
+rows_at slots (p ∷ ps) = stored_at slots p ∷ rows_at slots ps
 
--- each place leads to a row with its ticket
-abbrev pub AreHeld : List (Option Stored) → List Place → Type 0
+-- each place leads to a row
+abbrev pub AreHeld : List (Option (List Value)) → List Place → Type 0
 AreHeld slots [] = Unit {0}
-AreHeld slots (p ∷ ps) = ((s : Stored) × (slot_at slots p.key ≡ Some s) × (s.ticket ≡ p.ticket)) × AreHeld slots ps
+AreHeld slots (p ∷ ps) = ((row : List Value) × (slot_at slots p.key ≡ Some row)) × AreHeld slots ps
+
+-- no place has this key
+abbrev pub NoneAt : ℕ → List Place → Type 0
+NoneAt key [] = Unit {0}
+NoneAt key (p ∷ ps) = (p.key ≡ key → ⊥) × NoneAt key ps
+
+-- each place has a key of its own
+abbrev pub AreApart : List Place → Type 0
+AreApart [] = Unit {0}
+AreApart (p ∷ ps) = NoneAt p.key ps × AreApart ps
 
 -- the places' tickets rise, and each leads to a row of its own
-pub record IsStore (slots : List (Option Stored)) (places : List Place) : Type 0 where
+pub record IsStore (slots : List (Option (List Value))) (places : List Place) : Type 0 where
   pub held : AreHeld slots places
   pub rising : IsRising place_ticket places
+  pub apart : AreApart places
   pub count : count_by is_some slots ≡ length places

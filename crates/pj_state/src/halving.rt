@@ -1,6 +1,9 @@
 // Finding an item by its ticket in a list in which tickets rise.
-ghost use Rattle.std.specs.Prelude.{◌≡◌, ◌<◌, ℕ, length, slice_index_or, None, IfSome, IfNone};
+ghost use Rattle.std.specs.Prelude.{◌≡◌, ◌<◌, ◌≤◌, ◌/◌, ℕ, length, slice_index_or, None, IfSome, IfNone};
 ghost use Rattle.pj_state.specs.Rising.{IsRising, SplitsAt, first_with, itself};
+
+// In a list that is shorter no first guess pays.
+const FEW: usize = 8;
 
 /// What has a ticket.
 pub trait Ticketed {
@@ -18,22 +21,54 @@ impl Ticketed for u64 {
     }
 }
 
-/// How many items have at most this ticket, where the tickets rise.
-#[tactic(auto, using(crate::proofs::Between::between_all, crate::proofs::Between::between_above, crate::proofs::Between::between_below, crate::proofs::Between::between_end))]
+/// How many items have at most this ticket, where the tickets rise. Looks first where the ticket would stand if they rose
+/// evenly, then from there at twice as far each time, and at last halves what is left.
+#[tactic(auto, using(crate::proofs::Between::probed_all, crate::proofs::Between::probed_above, crate::proofs::Between::probed_below, crate::proofs::Between::probed_end))]
 pub fn split_place<T: Ticketed>(items: &[T], ticket: u64) -> usize
     ensures { SplitsAt T.number ticket items.now result }
 {
     let mut low = 0;
     let mut high = items.len();
+    let mut middle = even_place(items, ticket);
+    let mut step = 0;
     while low < high {
-        let middle = low + (high - low) / 2;
         if items[middle].ticket() <= ticket {
             low = middle + 1;
+            middle = low + at_most_half(step, high - low);
         } else {
             high = middle;
+            middle = high.saturating_sub(1 + at_most_half(step, high - low));
         }
+        step = step.wrapping_mul(2).wrapping_add(1);
     }
     low
+}
+
+// Where the ticket would stand if the tickets rose evenly; in the middle of few.
+fn even_place<T: Ticketed>(items: &[T], ticket: u64) -> usize
+    ensures { 0 < length items.now → result < length items.now }
+{
+    let count = items.len();
+    if count < FEW {
+        return count / 2;
+    }
+    let first = items[0].ticket();
+    let last = items[count - 1].ticket();
+    if ticket <= first {
+        return 0;
+    }
+    if ticket >= last {
+        return count - 1;
+    }
+    let at = (ticket - first).wrapping_mul(count as u64 - 1) / (last - first);
+    (at as usize).min(count - 1)
+}
+
+// So many steps, and half of the room at most.
+fn at_most_half(step: usize, room: usize) -> usize
+    ensures { result ≤ room / 2 }
+{
+    step.min(room / 2)
 }
 
 /// The place of the item with this ticket; where the tickets rise, `None` exactly where there is none.

@@ -1,11 +1,9 @@
 // Rows that have one value in a column, lent.
 ghost use Rattle.std.specs.Prelude.{◌≡◌, ◌<◌, Some, length, slice_get};
-ghost use Rattle.std.specs.Option.{option_copied};
 ghost use Rattle.pj_state.specs.Rising.{IsRising};
 ghost use Rattle.pj_state.specs.States.{rows_with, stored, ticket_of};
 ghost use Rattle.pj_state.specs.Indexes.{IsMatching};
 
-use crate::shared::Stored;
 use crate::store::Store;
 use pj_value::{Row, Value};
 use std::marker::Model;
@@ -64,15 +62,7 @@ impl<'a> Matching<'a> {
         requires { at < length self.now }
         ensures { slice_get self.now at ≡ Some (stored result.0 result.1.now) }
     {
-        let stored = self.stored(at).unwrap();
-        (stored.ticket, stored.row.row())
-    }
-
-    // What stands at a position.
-    fn stored(&self, at: usize) -> Option<&'a Stored>
-        requires { at < length self.now }
-        ensures { option_copied result ≡ slice_get self.now at }
-    {
-        self.store.get(self.tickets[at])
+        let row = self.store.get(self.tickets[at]).unwrap();
+        (self.tickets[at], row.row())
     }
 }

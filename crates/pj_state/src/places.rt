@@ -1,5 +1,5 @@
 // Where rows stand, in order of their tickets: in blocks, so that one is taken out by moving few.
-ghost use Rattle.std.specs.Prelude.{◌≡◌, ◌<◌, [], ◌∷◌, ◌++◌, length, remove, slice_get, slice_index_or, slice_set, None, Some, IfOk, IfSome, IfNone, OnOk, OnErr};
+ghost use Rattle.std.specs.Prelude.{◌≡◌, ◌-◌, ◌<◌, [], ◌∷◌, ◌++◌, length, remove, slice_get, slice_index_or, slice_set, None, Some, IfOk, IfSome, IfNone, OnOk, OnErr};
 ghost use Rattle.pj_state.specs.Rising.{IsRising, first_with, without};
 ghost use Rattle.pj_state.specs.Nears.{IsBase, near_place};
 ghost use Rattle.pj_state.specs.Stores.{AreFilled, flat, less_one, place_ticket};
@@ -282,6 +282,25 @@ impl Places {
                 return block.at(left);
             }
             left -= block.len();
+        }
+        Place { ticket: 0, key: 0 }
+    }
+
+    /// The place at a position, counted from 0 at the end.
+    pub fn nth_back(&self, at: usize) -> Place
+        requires { at < length self.now }
+        ensures { slice_get self.now (length self.now - 1 - at) ≡ Some result }
+    {
+        let mut left = at;
+        let mut behind = self.blocks.len();
+        while behind > 0 {
+            let block = &self.blocks[behind - 1];
+            let len = block.len();
+            if left < len {
+                return block.at(len - 1 - left);
+            }
+            left -= len;
+            behind -= 1;
         }
         Place { ticket: 0, key: 0 }
     }

@@ -108,7 +108,7 @@ impl State {
             }
             match self.store.get(*ticket) {
                 None => {}
-                Some(stored) => found.push((*ticket, stored.row.share(alloc)?))?,
+                Some(row) => found.push((*ticket, row.share(alloc)?))?,
             }
         }
         Ok(found)
@@ -134,8 +134,8 @@ impl State {
         requires { at < length self.now.rows }
         ensures { slice_get self.now.rows at ≡ Some (stored result.0 result.1.now) }
     {
-        let stored = self.store.nth(at);
-        (stored.ticket, stored.row.row())
+        let (ticket, row) = self.store.nth(at);
+        (ticket, row.row())
     }
 
     /// The tickets of the rows that have this value in this column, which was named to `new`, rising. Takes no memory.
@@ -173,7 +173,7 @@ impl State {
     {
         match self.store.get(ticket) {
             None => None,
-            Some(stored) => Some(stored.row.row()),
+            Some(row) => Some(row.row()),
         }
     }
 }

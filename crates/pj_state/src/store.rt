@@ -1,6 +1,5 @@
 // Rows in order of their tickets.
-ghost use Rattle.std.specs.Prelude.{◌≡◌, ◌<◌, [], ◌∷◌, ◌++◌, length, slice_get, Some, IfOk, IfErr, OnOk, OnErr};
-ghost use Rattle.std.specs.Option.{option_copied};
+ghost use Rattle.std.specs.Prelude.{◌≡◌, ◌<◌, [], ◌∷◌, ◌++◌, length, slice_get, None, Some, IfOk, IfErr, IfSome, IfNone, OnOk, OnErr};
 ghost use Rattle.pj_state.specs.Rising.{AllBelow, IsRising, first_with, without};
 ghost use Rattle.pj_state.specs.States.{pairs, row_under, rows_below, stored, ticket_of};
 ghost use Rattle.pj_state.specs.Stores.{AreHeld, rows_at};
@@ -16,7 +15,7 @@ use std::marker::Model;
 #[derive(Drop)]
 pub struct Store {
     places: Places,
-    slab: Slab<Stored>,
+    slab: Slab<Shared>,
 }
 
 impl Model for Store {
@@ -65,7 +64,7 @@ impl Store {
                 match self.places.push(alloc, Place { ticket, key }) {
                     Err(_) => Err(row),
                     Ok(()) => {
-                        self.slab.insert_reserved(Stored { ticket, row });
+                        self.slab.insert_reserved(row);
                         Ok(())
                     }
                 }
@@ -81,27 +80,31 @@ impl Store {
     {
         match self.places.take(ticket) {
             None => None,
-            Some(place) => Some(self.slab.remove(place.key)),
+            Some(place) => Some(Stored {
+                ticket: place.ticket,
+                row: self.slab.remove(place.key),
+            }),
         }
     }
 
     /// The row with this ticket.
-    pub fn get(&self, ticket: u64) -> Option<&Stored>
-        ensures { option_copied result ≡ first_with ticket_of ticket self.now }
+    pub fn get(&self, ticket: u64) -> Option<&Shared>
+        ensures found { IfSome result (λ row. first_with ticket_of ticket self.now ≡ Some (stored ticket row.now)) }
+        ensures missing { IfNone result (first_with ticket_of ticket self.now ≡ None) }
     {
         match self.places.get(ticket) {
             None => None,
-            Some(place) => self.slab.get(place.key),
+            Some(place) => Some(&self.slab[place.key]),
         }
     }
 
-    /// The row at a position, counted from 0.
-    pub fn nth(&self, at: usize) -> &Stored
+    /// The row at a position, counted from 0, with its ticket.
+    pub fn nth(&self, at: usize) -> (u64, &Shared)
         requires { at < length self.now }
-        ensures { slice_get self.now at ≡ Some result.now }
+        ensures { slice_get self.now at ≡ Some (stored result.0 result.1.now) }
     {
-        let place = self.places.nth(at);
-        &self.slab[place.key]
+        let place = place_at(&self.places, self.slab.len(), at);
+        (place.ticket, &self.slab[place.key])
     }
 
     /// Second handles of the rows with smaller tickets than this one, in order.
@@ -116,10 +119,22 @@ impl Store {
     }
 }
 
+// The place at a position, of so many, from the nearer end.
+fn place_at(places: &Places, count: usize, at: usize) -> Place
+    requires count { count ≡ length places.now }
+    requires within { at < count }
+    ensures { slice_get places.now at ≡ Some result }
+{
+    if at < count / 2 {
+        return places.nth(at);
+    }
+    places.nth_back(count - 1 - at)
+}
+
 // Appends second handles of those of these rows that have smaller tickets than this one.
 fn append_below(
     alloc: Global,
-    slab: &Slab<Stored>,
+    slab: &Slab<Shared>,
     block: &Block,
     ticket: u64,
     found: &mut List<(u64, Shared)>,
@@ -130,7 +145,7 @@ fn append_below(
     for at in 0..block.len() {
         let place = block.at(at);
         if place.ticket < ticket {
-            let row = slab[place.key].row.share(alloc)?;
+            let row = slab[place.key].share(alloc)?;
             found.push((place.ticket, row))?;
         }
     }

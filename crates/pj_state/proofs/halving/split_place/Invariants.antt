@@ -1,9 +1,9 @@
 use Rattle.std.proofs.Common.{◌-◌}
-use Rattle.pj_state.proofs.Between.{IsBetween}
+use Rattle.pj_state.proofs.Between.{IsProbed}
 use Rattle.pj_state.proofs.halving.split_place.Given as goal
 
 abbrev pub invariant-loop-low : goal.invariant-loop-low
-invariant-loop-low g l = IsBetween g.T.Ticketed.number l.ticket l.items l.low l.high
+invariant-loop-low g l = IsProbed g.T.Ticketed.number l.ticket l.items l.low l.high l.middle
 
 abbrev pub decreases-loop-low : goal.decreases-loop-low
 decreases-loop-low g l = l.high - l.low

@@ -1,11 +1,10 @@
-use Rattle.std.proofs.Common.{◌≡◌, ◌<◌, ◌∷◌, ◌++◌, [], List, ℕ, Some, length, get_or, take, ap, sym, ◌∙◌, subst, arith, append_assoc}
+use Rattle.std.proofs.Common.{◌≡◌, ◌<◌, ◌∷◌, ◌++◌, [], List, ℕ, length, get_or, take, ap, sym, ◌∙◌, subst, arith, append_assoc}
 use Rattle.std.specs.Option.{is_some}
 use Rattle.std.proofs.lemmas.List.{get_or_default}
 use Rattle.pj_value.specs.declared.values.Value.{Value}
-use Rattle.pj_state.specs.States.{pairs, rows_below, ticket_of}
+use Rattle.pj_state.specs.States.{pairs, rows_below}
 use Rattle.pj_state.specs.Stores.{rows_at}
 use Rattle.pj_state.specs.declared.places.Place.{Place}
-use Rattle.pj_state.specs.declared.shared.Stored.{Stored}
 use Rattle.pj_state.proofs.Slots.{IsHeld, below-passed, below-taken, held-place}
 use Rattle.pj_state.proofs.Near.{item-there}
 use Rattle.pj_state.proofs.store.append_below.Goals as goal
@@ -27,12 +26,8 @@ loop-at-preserved c =
     let p : Place = c.at-place.result in
     let there : i < length places = omega (arith, c.loop-at-test.true, c.len-at-end.ensures) in
     let is : p ≡ get_or places i p = item-there places i p there c.at-place.ensures in
-    let held : IsHeld slots p = subst (IsHeld slots) (sym is) (held-place slots places i p c.requires there) in
     elim c.if-place-ticket.branch [
       | then-place-ticket+in_ok-row+in_ok-push w ↦
-          let s : Stored = w.index.result.now in
-          let one : Some held.0 ≡ Some s = sym held.1 ∙ w.index.ensures in
-          let at : held.0 ≡ s = cc in
           let before = pairs (rows_below c.args.ticket (rows_at slots (take i places))) in
           w.found-is
           ∙ (w.in_ok-push.ensures.ok
@@ -40,7 +35,7 @@ loop-at-preserved c =
           ∙ (append_assoc c.args.found.now before ((p.ticket, w.in_ok-row.row) ∷ [])
           ∙ ap (λ (xs : List (ℕ × List Value)). c.args.found.now ++ xs)
           (ap (λ (row : List Value). before ++ (p.ticket, row) ∷ []) w.in_ok-row.ensures
-          ∙ sym (below-taken slots c.args.ticket i places p s there is w.index.ensures (ap ticket_of (sym at) ∙ held.2) w.if-place-ticket.true)))))
+          ∙ sym (below-taken slots c.args.ticket i places p w.index.result.now there is w.index.ensures w.if-place-ticket.true)))))
       | else-place-ticket w ↦
-          w.found-is ∙ (c.loop-at.invariant ∙ ap (λ (xs : List (ℕ × List Value)). c.args.found.now ++ xs) (sym (below-passed slots c.args.ticket i places p there is held w.if-place-ticket.false)))
+          w.found-is ∙ (c.loop-at.invariant ∙ ap (λ (xs : List (ℕ × List Value)). c.args.found.now ++ xs) (sym (below-passed slots c.args.ticket i places p there is w.if-place-ticket.false)))
     ]

@@ -1,7 +1,7 @@
 use Rattle.std.proofs.Common.{◌≡◌, ◌++◌, ◌∷◌, [], List, Some, None, get_or, ap, sym, ◌∙◌, append-nil}
 use Rattle.pj_value.specs.declared.values.Value.{Value}
 use Rattle.pj_state.specs.Rising.{first_with}
-use Rattle.pj_state.specs.States.{StateView, ticket_of}
+use Rattle.pj_state.specs.States.{StateView, stored, ticket_of}
 use Rattle.pj_state.proofs.Looking.{candidates-are, look-end, look-more, look-stop, looked_up}
 use Rattle.pj_state.proofs.state.State.candidates.Goals as goal
 use Rattle.pj_state.proofs.state.State.candidates.Goals.{in-None, in-Some+in_ok-share-in-Some+in_ok-push-in-Some}
@@ -29,9 +29,9 @@ loop-ticket-preserved c =
     elim c.match-get.branch [
       | in-None w ↦
           look-more rows c.args.below i tickets c.loop-ticket.found c.match-get.found (looked_up rows c.args.below tickets) None c.loop-ticket-test.true c.if-ticket-below.false
-          (w.in-None.ensures ∙ ap (first_with ticket_of (get_or tickets i 0)) store) (w.found-is ∙ sym (append-nil c.loop-ticket.found)) c.loop-ticket.invariant
+          (sym w.in-None.ensures.missing ∙ ap (first_with ticket_of (get_or tickets i 0)) store) (w.found-is ∙ sym (append-nil c.loop-ticket.found)) c.loop-ticket.invariant
       | in-Some+in_ok-share-in-Some+in_ok-push-in-Some w ↦
-          look-more rows c.args.below i tickets c.loop-ticket.found c.match-get.found (looked_up rows c.args.below tickets) (Some w.in-Some.stored.now) c.loop-ticket-test.true c.if-ticket-below.false
-          (w.in-Some.ensures ∙ ap (first_with ticket_of (get_or tickets i 0)) store)
+          look-more rows c.args.below i tickets c.loop-ticket.found c.match-get.found (looked_up rows c.args.below tickets) (Some (stored (get_or tickets i 0) w.in-Some.row.now)) c.loop-ticket-test.true c.if-ticket-below.false
+          (sym w.in-Some.ensures.found ∙ ap (first_with ticket_of (get_or tickets i 0)) store)
           (w.found-is ∙ (w.in_ok-push-in-Some.ensures.ok ∙ ap (λ (row : List Value). c.loop-ticket.found ++ (get_or tickets i 0, row) ∷ []) w.in_ok-share-in-Some.ensures)) c.loop-ticket.invariant
     ]

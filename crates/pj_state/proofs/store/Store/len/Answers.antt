@@ -9,4 +9,4 @@ returns-clause-len c =
     c.len.ensures ∙ (c.self.invariant.count ∙ (sym (length-rows c.self.inside.slab.slots c.self.inside.places) ∙ ap length c.self.view_is))
 
 pub returns-clause-rising : goal.returns-clause-rising
-returns-clause-rising c = subst (IsRising ticket_of) c.self.view_is (rising-rows c.self.inside.slab.slots c.self.inside.places c.self.invariant.held c.self.invariant.rising)
+returns-clause-rising c = subst (IsRising ticket_of) c.self.view_is (rising-rows c.self.inside.slab.slots c.self.inside.places c.self.invariant.rising)

@@ -34,7 +34,7 @@ returns-in-None-clause-left c =
     ∙ ap (without ticket_of c.args.ticket) c.self.view_is
 
 pub returns-in-None-clause-rising : goal.returns-in-None-clause-rising
-returns-in-None-clause-rising c = subst (IsRising ticket_of) c.self.view_is (rising-rows c.self.inside.slab.slots c.self.inside.places c.self.invariant.held c.self.invariant.rising)
+returns-in-None-clause-rising c = subst (IsRising ticket_of) c.self.view_is (rising-rows c.self.inside.slab.slots c.self.inside.places c.self.invariant.rising)
 
 pub returns-in-Some-clause-taken : goal.returns-in-Some-clause-taken
 returns-in-Some-clause-taken c =
@@ -51,4 +51,4 @@ returns-in-Some-clause-left c =
     ∙ ap (without ticket_of c.args.ticket) c.self.view_is
 
 pub returns-in-Some-clause-rising : goal.returns-in-Some-clause-rising
-returns-in-Some-clause-rising c = subst (IsRising ticket_of) c.self.view_is (rising-rows c.self.inside.slab.slots c.self.inside.places c.self.invariant.held c.self.invariant.rising)
+returns-in-Some-clause-rising c = subst (IsRising ticket_of) c.self.view_is (rising-rows c.self.inside.slab.slots c.self.inside.places c.self.invariant.rising)
