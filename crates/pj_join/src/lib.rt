@@ -23,4 +23,6 @@ pub use join::Join;
 pub use probe::Probe;
 
 #[cfg(test)]
+mod plain_sweeps;
+#[cfg(test)]
 mod tests;

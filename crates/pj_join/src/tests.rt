@@ -117,7 +117,7 @@ fn certs(alloc: Global) -> Result<List<Cert>, NoMemory>
 
 // A join of three inputs of two columns: the first columns of 0 and 1 are equal, and the second ones of 1 and 2.
 #[tactic(auto, using(crate::proofs::Triples::triple_sound))]
-fn join_of(alloc: Global, limit: u64) -> Result<Join, NoMemory>
+pub fn join_of(alloc: Global, limit: u64) -> Result<Join, NoMemory>
     requires { (1 ≤ limit) × (limit ≤ 2 ^ 40) }
     ensures { IfOk result (λ join. join.spec ≡ triple_join) }
 {
@@ -137,7 +137,7 @@ fn row(alloc: Global, a: i64, b: i64) -> Result<Row, NoMemory>
     Ok(Row::of(values))
 }
 
-fn put(alloc: Global, join: &mut Join, input: u32, a: i64, b: i64) -> Result<u64, JoinStop>
+pub fn put(alloc: Global, join: &mut Join, input: u32, a: i64, b: i64) -> Result<u64, JoinStop>
     requires spec { join.old.spec ≡ triple_join }
     requires input { input < 3 }
     ensures { join.new.spec ≡ join.old.spec }
@@ -286,7 +286,7 @@ fn no_more_than_the_limit_come(rt: HostRuntime) -> Result<(), Fail> {
     Ok(())
 }
 
-fn next_count(alloc: Global, join: &mut Join) -> Result<usize, NoMemory>
+pub fn next_count(alloc: Global, join: &mut Join) -> Result<usize, NoMemory>
     ensures { join.new.spec ≡ join.old.spec }
 {
     match next(alloc, join)? {
@@ -420,7 +420,7 @@ fn pattern(number: i64) -> Pattern {
 }
 
 // A punctuation comes; what it hands up at once is put at the end.
-fn hear(
+pub fn hear(
     alloc: Global,
     join: &mut Join,
     input: u32,
