@@ -1,5 +1,5 @@
 -- Loops over values and patterns that are storable.
-use Rattle.std.proofs.Common.{◌≡◌, ℕ, zero, suc, ◌+◌, ◌<◌, ◌≤◌, List, [], ◌∷◌, Some, length, get_or, drop, sym, subst}
+use Rattle.std.proofs.Common.{◌≡◌, ℕ, zero, suc, ◌+◌, ◌<◌, ◌≤◌, List, [], ◌∷◌, ◌++◌, Some, length, get_or, drop, sym, subst}
 use Rattle.std.specs.List.{slice_get}
 use Rattle.std.proofs.lemmas.Option.{get_or_from_slice_get, slice_get_within}
 use Rattle.std.proofs.lemmas.List.{drop_more, at_drop_all}
@@ -26,6 +26,10 @@ storable_at values i value before there stored =
 
 pub storable_end : (values : List Value) (i : ℕ) → StorableSoFar values i → length values ≤ i → AreStorable values
 storable_end values i before le = before (subst AreStorable (sym (at_drop_all (λ (vs : List Value). vs) values i le)) tt)
+
+pub storable_both : (first second : List Value) → AreStorable first → AreStorable second → AreStorable (first ++ second)
+storable_both [] second one other = other
+storable_both (v ∷ vs) second (here, one) other = (here, storable_both vs second one other)
 
 -- all are kept, if those from the i-th on are
 abbrev pub KeptSoFar : List Pattern → ℕ → Type 0

@@ -33,13 +33,27 @@ pub(crate) fn see_values(values: &[Value])
     }
 }
 
-/// The values of a row are storable.
+// The same, one column after the other.
 #[tactic(auto, using(crate::proofs::Stored::storable_at, crate::proofs::Stored::storable_end))]
-pub(crate) fn see_row(row: &Row)
+fn see_columns(row: &Row)
     ensures { AreStorable row.now }
 {
     for column in 0..row.len() {
         see_value(row.at(column));
+    }
+}
+
+/// The values of a row are storable. A loop over slices that only looks is left out of the program.
+#[tactic(auto, using(crate::proofs::Stored::storable_both))]
+pub(crate) fn see_row(row: &Row)
+    ensures { AreStorable row.now }
+{
+    match row.as_slices() {
+        None => see_columns(row),
+        Some((first, second)) => {
+            see_values(first);
+            see_values(second);
+        }
     }
 }
 

@@ -74,6 +74,13 @@ impl Pair {
         &self.second.as_slice()[at - values.len()]
     }
 
+    // The values of each part.
+    pub(crate) fn as_slices(&self) -> (&[Value], &[Value])
+        ensures { result.0.now ++ result.1.now ≡ self.now }
+    {
+        (self.first.as_slice(), self.second.as_slice())
+    }
+
     // Second handles of the same values.
     pub(crate) fn share(&self) -> Result<Pair, NoMemory>
         ensures { IfOk result (λ pair. pair ≡ self.now) }

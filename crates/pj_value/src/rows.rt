@@ -99,6 +99,18 @@ impl Row {
         }
     }
 
+    /// All values in two slices, one behind the other; `None` where they stand in more pieces.
+    pub fn as_slices(&self) -> Option<(&[Value], &[Value])>
+        ensures { IfSome result (λ slices. slices.0.now ++ slices.1.now ≡ self.now) }
+    {
+        match &self.parts {
+            Parts::Own(values) => Some((values.as_slice(), &[])),
+            Parts::Shared(part) => Some((part.as_slice(), &[])),
+            Parts::Both(pair) => Some(pair.as_slices()),
+            Parts::Joined(_) => None,
+        }
+    }
+
     /// Whether both rows have the same values in the same order.
     #[tactic(auto, using(crate::proofs::Slices::same_front))]
     pub fn same(&self, other: &Row) -> bool
