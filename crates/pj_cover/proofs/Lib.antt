@@ -19,3 +19,4 @@ pub mod Below
 pub mod Bound
 pub mod Steps
 pub mod Partners
+pub mod Alone

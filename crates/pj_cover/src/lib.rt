@@ -6,6 +6,7 @@ mod asked;
 mod cells;
 mod given;
 mod index;
+mod number_list;
 mod numbers;
 mod prints;
 mod ripeness;
