@@ -109,11 +109,11 @@ impl PunctStore {
         ensures { result ≡ covered_below self.now.kept below (instance_of scheme.now given.now) }
     {
         let instance = Instance { scheme, given };
-        if is_below(self.numbers.first(self.arity as usize, &instance), below) {
-            return true;
-        }
         let kept = self.others.as_slice();
         if is_below(self.index.first_with(scheme, kept, &instance), below) {
+            return true;
+        }
+        if is_below(self.numbers.first(self.arity as usize, &instance), below) {
             return true;
         }
         is_below(self.index.first(kept, &instance), below)
