@@ -87,12 +87,12 @@ print_ends p [] (suc column) cells le = refl
 print_ends p (m ∷ marks) zero cells le = absurd (omega (arith, le))
 print_ends p (m ∷ marks) (suc column) cells le = print_ends p marks column cells (omega (arith, le))
 
-print-step : (p : ℕ) (ms : List Bool) (cells : List (Option Value)) (i : ℕ) → i < length ms → length ms ≡ length cells
+pub print_step : (p : ℕ) (ms : List Bool) (cells : List (Option Value)) (i : ℕ) → i < length ms → length ms ≡ length cells
     → print_from p (drop i ms) (drop i cells) ≡ print_from (with_cell p (get_or ms i false) (get_or cells i None)) (drop (i + 1) ms) (drop (i + 1) cells)
-print-step p [] cells i lt e = absurd (omega (arith, lt))
-print-step p (m ∷ ms) [] i lt e = absurd (omega (arith, e))
-print-step p (m ∷ ms) (c ∷ cells) zero lt e = refl
-print-step p (m ∷ ms) (c ∷ cells) (suc i) lt e = let n : suc i + 1 ≡ suc (i + 1) = omega arith in rw n (print-step p ms cells i (omega (arith, lt)) (omega (arith, e)))
+print_step p [] cells i lt e = absurd (omega (arith, lt))
+print_step p (m ∷ ms) [] i lt e = absurd (omega (arith, e))
+print_step p (m ∷ ms) (c ∷ cells) zero lt e = refl
+print_step p (m ∷ ms) (c ∷ cells) (suc i) lt e = let n : suc i + 1 ≡ suc (i + 1) = omega arith in rw n (print_step p ms cells i (omega (arith, lt)) (omega (arith, e)))
 
 row-cell : (row : List Value) (i : ℕ) → get_or (row_cells row) i None ≡ slice_get row i
 row-cell [] i = refl
@@ -103,14 +103,14 @@ row-cell (v ∷ row) (suc i) = row-cell row i
 pub row_step : (p : ℕ) (ms : List Bool) (row : List Value) (i next : ℕ) (cell : Option Value) → i < length ms → length ms ≡ length row → cell ≡ slice_get row i → next ≡ with_cell p (get_or ms i false) cell
     → print_from p (drop i ms) (drop i (row_cells row)) ≡ print_from next (drop (i + 1) ms) (drop (i + 1) (row_cells row))
 row_step p ms row i next cell lt e is to =
-    print-step p ms (row_cells row) i lt (e ∙ sym (length-map row Some))
+    print_step p ms (row_cells row) i lt (e ∙ sym (length-map row Some))
     ∙ ap (λ n. print_from n (drop (i + 1) ms) (drop (i + 1) (row_cells row))) (ap (with_cell p (get_or ms i false)) (row-cell row i ∙ sym is) ∙ sym to)
 
 -- one column more of a punctuation
 pub constants_step : (p : ℕ) (ms : List Bool) (ps : List Pattern) (i next : ℕ) (q : Pattern) (cell : Option Value) → i < length ms → length ms ≡ length ps → q ≡ get_or ps i q → cell ≡ constant_in q
     → next ≡ with_cell p (get_or ms i false) cell → print_from p (drop i ms) (drop i (constants_of ps)) ≡ print_from next (drop (i + 1) ms) (drop (i + 1) (constants_of ps))
 constants_step p ms ps i next q cell lt e is cell_is to =
-    print-step p ms (constants_of ps) i lt (e ∙ sym (length-map ps constant_in))
+    print_step p ms (constants_of ps) i lt (e ∙ sym (length-map ps constant_in))
     ∙ ap (λ n. print_from n (drop (i + 1) ms) (drop (i + 1) (constants_of ps)))
     (ap (with_cell p (get_or ms i false)) (get_or-map constant_in ps i q None (omega (arith, lt, e)) ∙ (ap constant_in (sym is) ∙ sym cell_is)) ∙ sym to)
 

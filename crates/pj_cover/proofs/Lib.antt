@@ -20,3 +20,4 @@ pub mod Bound
 pub mod Steps
 pub mod Partners
 pub mod Alone
+pub mod OneCell

@@ -193,8 +193,8 @@ fn one_if(test: bool) -> usize
     if test { 1 } else { 0 }
 }
 
-// Whether the pattern matches the constant of a marked column, or is a wildcard in another one.
-fn covers_cell(pattern: &Pattern, is_marked: bool, constant: Option<&Value>) -> bool
+/// Whether the pattern matches the constant of a marked column, or is a wildcard in another one.
+pub fn covers_cell(pattern: &Pattern, is_marked: bool, constant: Option<&Value>) -> bool
     ensures { result ≡ covers_cell pattern.now (cell_of is_marked (option_copied constant.entry)) }
 {
     if !is_marked {

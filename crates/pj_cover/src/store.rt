@@ -1,6 +1,6 @@
 // A store of punctuations with numbers.
 ghost use Rattle.std.specs.Prelude.{◌≡◌, ◌<◌, ◌+◌, [], ◌∷◌, ◌++◌, length, IfOk, OnOk, OnErr};
-ghost use Rattle.pj_cover.specs.Givens.{instance_of, marked};
+ghost use Rattle.pj_cover.specs.Givens.{instance_of, marked, one_cell};
 ghost use Rattle.pj_cover.specs.Indexed.{is_below};
 ghost use Rattle.pj_cover.specs.Numbers.{numbers_with};
 ghost use Rattle.pj_cover.specs.Stores.{covered_below, first_match_of, IsAbove, IsLeastMatch};
@@ -9,6 +9,7 @@ use crate::Given;
 use crate::cells::Instance;
 use crate::index::{Index, least};
 use crate::numbers::NumberLists;
+use crate::one_cell::OneCell;
 use pj_pattern::Punct;
 use pj_shape::Scheme;
 use pj_value::{List, NoMemory, Row, Value};
@@ -117,6 +118,22 @@ impl PunctStore {
             return true;
         }
         is_below(self.index.first(kept, &instance), below)
+    }
+
+    /// The same of the instance with this constant in this column alone.
+    pub(crate) fn covers_one(&self, column: usize, value: &Value, below: u64) -> bool
+        ensures { result ≡ covered_below self.now.kept below (one_cell self.now.arity column value.now) }
+    {
+        let count = self.arity as usize;
+        let cells = OneCell {
+            count,
+            column,
+            value,
+        };
+        if is_below(self.numbers.first(count, &cells), below) {
+            return true;
+        }
+        is_below(self.index.first(self.others.as_slice(), &cells), below)
     }
 }
 
