@@ -1,8 +1,9 @@
 -- Cells of rows, instances and punctuations, and their prints.
-use Rattle.std.proofs.Common.{◌≡◌, ℕ, zero, suc, ◌+◌, ◌<◌, ◌≤◌, Bool, true, false, cond, ◌&&◌, List, [], ◌∷◌, Option, Some, None, length, get_or, drop, eqb, refl, sym, ap, ◌∙◌, arith}
+use Rattle.std.proofs.Common.{◌≡◌, ℕ, zero, suc, ◌+◌, ◌<◌, ◌≤◌, Bool, true, false, cond, ◌&&◌, List, [], ◌∷◌, Option, Some, None, length, get_or, drop, take, eqb, refl, sym, ap, ◌∙◌, arith}
 use Rattle.std.specs.List.{slice_get}
 use Rattle.std.proofs.lemmas.Bool.{and_parts, eq-eqb, eqb-true, false_from_ne_true, false≢true}
 use Rattle.std.proofs.lemmas.List.{get_or-map, length-map}
+use Rattle.std.proofs.lemmas.Option.{get_or_from_slice_get}
 use Rattle.pj_value.specs.declared.values.Value.{Value}
 use Rattle.pj_value.specs.Values.{value_eq}
 use Rattle.pj_value.proofs.Orders.{same_if_equal}
@@ -10,8 +11,8 @@ use Rattle.pj_pattern.specs.declared.pattern.Form.TheVariants.{Wild, Empty, Cons
 use Rattle.pj_pattern.specs.Patterns.{covers_pattern}
 use Rattle.pj_pattern.proofs.Covering.{covered}
 use Rattle.pj_events.specs.Patterns.{Pattern, covers, covers_punct, is_wild, matches_row, matches_value}
-use Rattle.pj_cover.specs.Givens.{cell_of, instance_of}
-use Rattle.pj_cover.specs.Prints.{constant_in, constants_of, print_from, print_of, row_cells, with_cell}
+use Rattle.pj_cover.specs.Givens.{cell_of, instance_of, marked}
+use Rattle.pj_cover.specs.Prints.{cell_at, constant_in, constants_of, print_from, print_of, row_cells, with_cell}
 use Rattle.pj_cover.specs.Indexed.{fits_mark, fits_marks, is_constant}
 
 -- a row is matched where its cells are covered
@@ -20,6 +21,57 @@ row_covered [] [] = refl
 row_covered [] (v ∷ row) = refl
 row_covered (p ∷ ps) [] = refl
 row_covered (p ∷ ps) (v ∷ row) = ap (λ b. matches_value p v && b) (row_covered ps row)
+
+pub row_count : (row : List Value) → length (row_cells row) ≡ length row
+row_count row = length-map row Some
+
+pub row_cell_at : (row : List Value) (column : ℕ) → cell_at (row_cells row) column ≡ slice_get row column
+row_cell_at [] column = refl
+row_cell_at (v ∷ row) zero = refl
+row_cell_at (v ∷ row) (suc column) = row_cell_at row column
+
+pub instance_count : (marks : List Bool) (vs : List Value) → length (instance_of marks vs) ≡ length marks
+instance_count [] vs = refl
+instance_count (false ∷ marks) vs = ap suc (instance_count marks vs)
+instance_count (true ∷ marks) [] = ap suc (instance_count marks [])
+instance_count (true ∷ marks) (v ∷ vs) = ap suc (instance_count marks vs)
+
+-- ---- the cell of a column of an instance
+
+pub no_cell : (marks : List Bool) (vs : List Value) (column : ℕ) → length marks ≤ column → cell_at (instance_of marks vs) column ≡ None
+no_cell [] vs column le = refl
+no_cell (m ∷ marks) vs zero le = absurd (omega (arith, le))
+no_cell (false ∷ marks) vs (suc column) le = no_cell marks vs column (omega (arith, le))
+no_cell (true ∷ marks) [] (suc column) le = no_cell marks [] column (omega (arith, le))
+no_cell (true ∷ marks) (v ∷ vs) (suc column) le = no_cell marks vs column (omega (arith, le))
+
+pub free_cell : (marks : List Bool) (vs : List Value) (column : ℕ) → slice_get marks column ≡ Some false → cell_at (instance_of marks vs) column ≡ None
+free_cell [] vs column e = refl
+free_cell (false ∷ marks) vs zero e = refl
+free_cell (true ∷ marks) vs zero e = absurd (cc)
+free_cell (false ∷ marks) vs (suc column) e = free_cell marks vs column e
+free_cell (true ∷ marks) [] (suc column) e = free_cell marks [] column e
+free_cell (true ∷ marks) (v ∷ vs) (suc column) e = free_cell marks vs column e
+
+pub marked_cell : (marks : List Bool) (vs : List Value) (column : ℕ) → slice_get marks column ≡ Some true → cell_at (instance_of marks vs) column ≡ slice_get vs (marked (take column marks))
+marked_cell [] vs column e = absurd (cc)
+marked_cell (false ∷ marks) vs zero e = absurd (cc)
+marked_cell (true ∷ marks) [] zero e = refl
+marked_cell (true ∷ marks) (v ∷ vs) zero e = refl
+marked_cell (false ∷ marks) vs (suc column) e =
+    let n : 0 + marked (take column marks) ≡ marked (take column marks) = omega arith in rw n (marked_cell marks vs column e)
+marked_cell (true ∷ marks) [] (suc column) e = marked_cell marks [] column e
+marked_cell (true ∷ marks) (v ∷ vs) (suc column) e =
+    let n : 1 + marked (take column marks) ≡ suc (marked (take column marks)) = omega arith in rw n (marked_cell marks vs column e)
+
+-- one column more
+pub marked_more : (marks : List Bool) (column : ℕ) (mark : Bool) → slice_get marks column ≡ Some mark → marked (take (column + 1) marks) ≡ marked (take column marks) + cond mark 1 0
+marked_more [] column mark e = absurd (cc)
+marked_more (m ∷ marks) zero mark e = let same : m ≡ mark = get_or_from_slice_get (m ∷ marks) 0 mark mark e in rw same (omega arith)
+marked_more (m ∷ marks) (suc column) mark e =
+    let n : suc column + 1 ≡ suc (column + 1) = omega arith in
+    let ih : marked (take (column + 1) marks) ≡ marked (take column marks) + cond mark 1 0 = marked_more marks column mark e in
+    rw n (omega (arith, ih))
 
 -- ---- prints, cell by cell
 
@@ -35,12 +87,12 @@ print_ends p [] (suc column) cells le = refl
 print_ends p (m ∷ marks) zero cells le = absurd (omega (arith, le))
 print_ends p (m ∷ marks) (suc column) cells le = print_ends p marks column cells (omega (arith, le))
 
-print-step : (p : ℕ) (ms : List Bool) (cells : List (Option Value)) (i : ℕ) → i < length ms → length ms ≡ length cells
+pub print_step : (p : ℕ) (ms : List Bool) (cells : List (Option Value)) (i : ℕ) → i < length ms → length ms ≡ length cells
     → print_from p (drop i ms) (drop i cells) ≡ print_from (with_cell p (get_or ms i false) (get_or cells i None)) (drop (i + 1) ms) (drop (i + 1) cells)
-print-step p [] cells i lt e = absurd (omega (arith, lt))
-print-step p (m ∷ ms) [] i lt e = absurd (omega (arith, e))
-print-step p (m ∷ ms) (c ∷ cells) zero lt e = refl
-print-step p (m ∷ ms) (c ∷ cells) (suc i) lt e = let n : suc i + 1 ≡ suc (i + 1) = omega arith in rw n (print-step p ms cells i (omega (arith, lt)) (omega (arith, e)))
+print_step p [] cells i lt e = absurd (omega (arith, lt))
+print_step p (m ∷ ms) [] i lt e = absurd (omega (arith, e))
+print_step p (m ∷ ms) (c ∷ cells) zero lt e = refl
+print_step p (m ∷ ms) (c ∷ cells) (suc i) lt e = let n : suc i + 1 ≡ suc (i + 1) = omega arith in rw n (print_step p ms cells i (omega (arith, lt)) (omega (arith, e)))
 
 row-cell : (row : List Value) (i : ℕ) → get_or (row_cells row) i None ≡ slice_get row i
 row-cell [] i = refl
@@ -51,14 +103,14 @@ row-cell (v ∷ row) (suc i) = row-cell row i
 pub row_step : (p : ℕ) (ms : List Bool) (row : List Value) (i next : ℕ) (cell : Option Value) → i < length ms → length ms ≡ length row → cell ≡ slice_get row i → next ≡ with_cell p (get_or ms i false) cell
     → print_from p (drop i ms) (drop i (row_cells row)) ≡ print_from next (drop (i + 1) ms) (drop (i + 1) (row_cells row))
 row_step p ms row i next cell lt e is to =
-    print-step p ms (row_cells row) i lt (e ∙ sym (length-map row Some))
+    print_step p ms (row_cells row) i lt (e ∙ sym (length-map row Some))
     ∙ ap (λ n. print_from n (drop (i + 1) ms) (drop (i + 1) (row_cells row))) (ap (with_cell p (get_or ms i false)) (row-cell row i ∙ sym is) ∙ sym to)
 
 -- one column more of a punctuation
 pub constants_step : (p : ℕ) (ms : List Bool) (ps : List Pattern) (i next : ℕ) (q : Pattern) (cell : Option Value) → i < length ms → length ms ≡ length ps → q ≡ get_or ps i q → cell ≡ constant_in q
     → next ≡ with_cell p (get_or ms i false) cell → print_from p (drop i ms) (drop i (constants_of ps)) ≡ print_from next (drop (i + 1) ms) (drop (i + 1) (constants_of ps))
 constants_step p ms ps i next q cell lt e is cell_is to =
-    print-step p ms (constants_of ps) i lt (e ∙ sym (length-map ps constant_in))
+    print_step p ms (constants_of ps) i lt (e ∙ sym (length-map ps constant_in))
     ∙ ap (λ n. print_from n (drop (i + 1) ms) (drop (i + 1) (constants_of ps)))
     (ap (with_cell p (get_or ms i false)) (get_or-map constant_in ps i q None (omega (arith, lt, e)) ∙ (ap constant_in (sym is) ∙ sym cell_is)) ∙ sym to)
 

@@ -49,7 +49,7 @@ in-there [] at j e = absurd (cc)
 in-there (x ∷ ks) zero j e = inl (some-same x j e)
 in-there (x ∷ ks) (suc at) j e = inr (in-there ks at j e)
 
-below-all : (n : ℕ) (ks : List NumberedPunct) (j : NumberedPunct) → IsAbove n ks → In j ks → j.number < n
+pub below-all : (n : ℕ) (ks : List NumberedPunct) (j : NumberedPunct) → IsAbove n ks → In j ks → j.number < n
 below-all n [] j all h = absurd h
 below-all n (x ∷ ks) j all (inl e) = subst (λ (y : NumberedPunct). y.number < n) e all.0
 below-all n (x ∷ ks) j all (inr h) = below-all n ks j all.1 h

@@ -19,3 +19,5 @@ pub mod Below
 pub mod Bound
 pub mod Steps
 pub mod Partners
+pub mod Alone
+pub mod OneCell

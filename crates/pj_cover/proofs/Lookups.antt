@@ -21,7 +21,7 @@ abbrev pub IsUpTo : Option ℕ → ℕ → Type 0
 IsUpTo None n = ⊥
 IsUpTo (Some m) n = m ≤ n
 
-least-left : (o p : Option ℕ) (n : ℕ) → IsUpTo o n → IsUpTo (least o p) n
+pub least-left : (o p : Option ℕ) (n : ℕ) → IsUpTo o n → IsUpTo (least o p) n
 least-left None p n h = absurd h
 least-left (Some m) None n h = h
 least-left (Some m) (Some k) n h = go (ltb k m) refl
@@ -30,7 +30,7 @@ least-left (Some m) (Some k) n h = go (ltb k m) refl
     go true e = let lt : k < m = ltb-true k m e in omega (arith, lt, h)
     go false e = h
 
-least-right : (o p : Option ℕ) (n : ℕ) → IsUpTo p n → IsUpTo (least o p) n
+pub least-right : (o p : Option ℕ) (n : ℕ) → IsUpTo p n → IsUpTo (least o p) n
 least-right None p n h = h
 least-right (Some m) None n h = absurd h
 least-right (Some m) (Some k) n h = go (ltb k m) refl
@@ -51,10 +51,10 @@ module _ (kept : List NumberedPunct) (cells : List (Option Value)) where
   abbrev pub IsSound : Option ℕ → Type 0
   IsSound o = (n : ℕ) → o ≡ Some n → Covering n
 
-  sound-none : IsSound None
+  pub sound-none : IsSound None
   sound-none n e = absurd (cc)
 
-  sound-least : (o p : Option ℕ) → IsSound o → IsSound p → IsSound (least o p)
+  pub sound-least : (o p : Option ℕ) → IsSound o → IsSound p → IsSound (least o p)
   sound-least None p s t = t
   sound-least (Some n) None s t = s
   sound-least (Some n) (Some m) s t = go (ltb m n)
@@ -212,7 +212,7 @@ above-covering n m [] cells all c = absurd c.1
 above-covering n m (k ∷ ks) cells all (j, inl e, t, q) = let lt : n < j.number = subst (λ (y : NumberedPunct). n < y.number) e all.0 in omega (arith, lt, q)
 above-covering n m (k ∷ ks) cells all (j, inr h, t, q) = above-covering n m ks cells all.1 (j, h, t, q)
 
-first-sound : (ks : List NumberedPunct) (cells : List (Option Value)) → IsSound ks cells (first_covering ks cells)
+pub first-sound : (ks : List NumberedPunct) (cells : List (Option Value)) → IsSound ks cells (first_covering ks cells)
 first-sound [] cells = λ n e. absurd (cc)
 first-sound (k ∷ ks) cells = go (covers k.punct cells) refl (first-sound ks cells)
   where
@@ -223,7 +223,7 @@ first-sound (k ∷ ks) cells = go (covers k.punct cells) refl (first-sound ks ce
         some-same a b r = cc
     go false t ih n e = let c = ih n e in (c.0, inr c.1, c.2, c.3)
 
-first-least : (ks : List NumberedPunct) (cells : List (Option Value)) (n : ℕ) → AreRising ks → Covering ks cells n → IsUpTo (first_covering ks cells) n
+pub first-least : (ks : List NumberedPunct) (cells : List (Option Value)) (n : ℕ) → AreRising ks → Covering ks cells n → IsUpTo (first_covering ks cells) n
 first-least [] cells n rises c = absurd c.1
 first-least (k ∷ ks) cells n rises (j, inl e, t, q) =
     subst (λ b. IsUpTo (cond b (Some k.number) (first_covering ks cells)) n) (sym (ap (λ (y : NumberedPunct). covers y.punct cells) e ∙ t)) (omega (arith, q, ap (λ (y : NumberedPunct). y.number) e))
@@ -233,7 +233,7 @@ first-least (k ∷ ks) cells n rises (j, inr h, t, q) = go (covers k.punct cells
     go true ih = let lt : k.number < n = above-covering k.number n ks cells rises.0 (j, h, t, q) in omega (arith, lt)
     go false ih = ih
 
-one-least : (ks : List NumberedPunct) (cells : List (Option Value)) (o p : Option ℕ) → IsSound ks cells o → IsSound ks cells p → ((n : ℕ) → Covering ks cells n → IsUpTo o n) → ((n : ℕ) → Covering ks cells n → IsUpTo p n) → o ≡ p
+pub one-least : (ks : List NumberedPunct) (cells : List (Option Value)) (o p : Option ℕ) → IsSound ks cells o → IsSound ks cells p → ((n : ℕ) → Covering ks cells n → IsUpTo o n) → ((n : ℕ) → Covering ks cells n → IsUpTo p n) → o ≡ p
 one-least ks cells None None s t f g = refl
 one-least ks cells None (Some m) s t f g = absurd (f m (t m refl))
 one-least ks cells (Some n) None s t f g = absurd (g n (s n refl))

@@ -1,17 +1,12 @@
 -- Constants in columns, and the numbers that are told for them.
-use Rattle.std.proofs.Common.{◌≡◌, ℕ, zero, suc, ◌+◌, ◌-◌, ◌<◌, ◌≤◌, Bool, true, false, cond, ◌&&◌, List, [], ◌∷◌, ◌++◌, Option, None, Some, length, take, drop, filter, map, get_or, eqb, refl, ap, ap₂, sym, ◌∙◌, subst, arith, length-append}
-use Rattle.std.proofs.lemmas.List.{take-append-le}
+use Rattle.std.proofs.Common.{◌≡◌, ℕ, zero, suc, ◌+◌, ◌<◌, ◌≤◌, Bool, true, false, cond, ◌&&◌, List, [], ◌∷◌, ◌++◌, Option, None, Some, length, drop, filter, map, get_or, eqb, refl, ap, ap₂, sym, ◌∙◌, subst, arith}
 use Rattle.std.proofs.lemmas.Bool.{eqb-true, eq-eqb, false_from_ne_true, true≢false}
 use Rattle.pj_value.specs.declared.values.Value.{Value}
 use Rattle.pj_value.specs.Values.{value_eq}
-use Rattle.pj_value.proofs.Orders.{equal_if_same, equal_itself, same_if_equal}
 use Rattle.pj_pattern.specs.declared.pattern.Form.TheVariants.{Wild, Empty, Constant as Fixed, Range, Members}
 use Rattle.pj_events.specs.Patterns.{Pattern, is_wild}
-use Rattle.pj_cover.specs.Prints.{constant_in, with_value}
-use Rattle.pj_cover.specs.Numbers.{AreToldMore, AreToldSame, Changes, HasNone, IsOnly, TellSame, TellsLess, TellsMore, are_wild, constant, constant_print, first_filled, has_only, is_alone, is_value, less_last, number_of, numbers_in, numbers_with, same_constant, told, told_by, with_last}
-use Rattle.pj_cover.specs.Alike.{constant_same_if_equal}
-use Rattle.pj_cover.specs.declared.numbers.Constant.{Constant}
-use Rattle.pj_cover.specs.declared.numbers.NumberLists.{NumberLists}
+use Rattle.pj_cover.specs.Prints.{constant_in}
+use Rattle.pj_cover.specs.Numbers.{HasNone, are_wild, first_filled, has_only, is_alone, is_value, number_of, numbers_with, with_last}
 use Rattle.pj_cover.specs.declared.store.NumberedPunct.{NumberedPunct}
 
 -- ---- the only constant of patterns
@@ -114,7 +109,7 @@ not-wild-behind ps c e lt wild d w = go ps c e lt wild
 
 -- ---- one punctuation more
 
-numbers-more : (column : ℕ) (value : Value) (ks : List NumberedPunct) (k : NumberedPunct)
+pub numbers-more : (column : ℕ) (value : Value) (ks : List NumberedPunct) (k : NumberedPunct)
     → numbers_with column value (ks ++ k ∷ []) ≡ cond (has_only column value k.punct) (with_last k.number (numbers_with column value ks)) (numbers_with column value ks)
 numbers-more column value [] k = go (has_only column value k.punct)
   where
@@ -130,24 +125,3 @@ numbers-more column value (x ∷ xs) k = go (is_alone column value x) (has_only 
     go true false ih = ap (λ ns. x.number ∷ ns) ih
     go false true ih = ih
     go false false ih = ih
-
-last-is : (kept : List NumberedPunct) (at : ℕ) (last : NumberedPunct) (ks : List NumberedPunct) (k : NumberedPunct) → at + 1 ≡ length kept → last ≡ get_or kept at last → kept ≡ ks ++ k ∷ [] → last ≡ k
-last-is kept at last ks k end is e =
-    let count : length kept ≡ length ks + 1 = ap length e ∙ length-append ks (k ∷ []) in
-    let place : at ≡ length ks = omega (arith, end, count) in
-    is ∙ (ap (λ (xs : List NumberedPunct). get_or xs at last) e ∙ (ap (λ n. get_or (ks ++ k ∷ []) n last) place ∙ at-end ks))
-  where
-    at-end : (xs : List NumberedPunct) → get_or (xs ++ k ∷ []) (length xs) last ≡ k
-    at-end [] = refl
-    at-end (x ∷ xs) = at-end xs
-
-pub told-more : (kept : List NumberedPunct) (at : ℕ) (last : NumberedPunct) (old new : NumberLists) → at + 1 ≡ length kept → last ≡ get_or kept at last → TellsMore last.punct last.number (told old) (told new) → AreToldMore kept old new
-told-more kept at last old new end is more ks k e were column value =
-    let same : last ≡ k = last-is kept at last ks k end is e in
-    more column value
-    ∙ (ap (λ (x : NumberedPunct). cond (has_only column value x.punct) (with_last x.number (told old column value)) (told old column value)) same
-    ∙ (ap (λ (ns : List ℕ). cond (has_only column value k.punct) (with_last k.number ns) ns) (were column value)
-    ∙ (sym (numbers-more column value ks k) ∙ ap (numbers_with column value) (sym e))))
-
-pub told-same : (old new : NumberLists) → TellSame (told old) (told new) → AreToldSame old new
-told-same old new same ks were column value = same column value ∙ were column value

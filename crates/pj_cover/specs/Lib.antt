@@ -8,3 +8,5 @@ pub mod Asking
 pub mod Chain
 pub mod Numbers
 pub mod Alike
+pub mod Held
+pub mod Alone

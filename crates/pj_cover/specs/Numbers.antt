@@ -1,12 +1,10 @@
 -- The numbers of the punctuations with one constant, and how they are found by it.
-use Rattle.std.specs.Prelude.{ℕ, zero, suc, ◌≡◌, ◌+◌, ◌-◌, Bool, true, false, ◌&&◌, nat_eq, if◌then◌else◌, List, [], ◌∷◌, ◌++◌, length, map, filter, take, drop, Option, Some, None}
+use Rattle.std.specs.Prelude.{ℕ, zero, suc, ◌≡◌, Bool, true, false, ◌&&◌, nat_eq, if◌then◌else◌, List, [], ◌∷◌, ◌++◌, map, filter, Option, Some, None}
 use Rattle.indexmap.specs.IndexMap.{get}
 use Rattle.pj_value.specs.Values.{value_eq}
 use Rattle.pj_value.specs.declared.values.Value.{Value}
 use Rattle.pj_events.specs.Patterns.{Pattern, is_wild}
 use Rattle.pj_cover.specs.Prints.{constant_in, with_value}
-use Rattle.pj_cover.specs.Indexed.{IsIndexed}
-use Rattle.pj_cover.specs.declared.index.Index.{Index}
 use Rattle.pj_cover.specs.declared.store.NumberedPunct.{NumberedPunct}
 use Rattle.pj_cover.specs.declared.numbers.Constant.{Constant}
 use Rattle.pj_cover.specs.declared.numbers.NumberLists.{NumberLists}
@@ -71,22 +69,6 @@ Changes f old new key = (column : ℕ) (value : Value) → new column value ≡ 
 abbrev pub with_last : ℕ → List ℕ → List ℕ
 with_last number numbers = numbers ++ number ∷ []
 
-abbrev pub less_last : List ℕ → List ℕ
-less_last numbers = take (length numbers - 1) numbers
-
--- both tell the same
-abbrev pub TellSame : (ℕ → Value → List ℕ) → (ℕ → Value → List ℕ) → Type 0
-TellSame old new = (column : ℕ) (value : Value) → new column value ≡ old column value
-
--- the second tells this number too, for the constant of these patterns
-abbrev pub TellsMore : List Pattern → ℕ → (ℕ → Value → List ℕ) → (ℕ → Value → List ℕ) → Type 0
-TellsMore patterns number old new =
-    (column : ℕ) (value : Value) → new column value ≡ (if has_only column value patterns then with_last number (old column value) else old column value)
-
--- the second tells what was told before one number more
-abbrev pub TellsLess : List Pattern → (ℕ → Value → List ℕ) → (ℕ → Value → List ℕ) → Type 0
-TellsLess patterns old new = (before : ℕ → Value → List ℕ) (number : ℕ) → TellsMore patterns number before old → TellSame before new
-
 -- this is the only constant of the patterns, which have wildcards elsewhere
 abbrev pub IsOnly : List Pattern → Constant → Type 0
 IsOnly patterns key = (column : ℕ) (value : Value) → has_only column value patterns ≡ same_constant key (constant column value)
@@ -98,16 +80,3 @@ HasNone patterns = (column : ℕ) (value : Value) → has_only column value patt
 abbrev pub first_filled : List Pattern → ℕ
 first_filled [] = 0
 first_filled (p ∷ ps) = if is_wild p then suc (first_filled ps) else 0
-
--- where the old lists tell of all but the last, the new ones tell of all
-abbrev pub AreToldMore : List NumberedPunct → NumberLists → NumberLists → Type 0
-AreToldMore kept old new = (ks : List NumberedPunct) (k : NumberedPunct) → kept ≡ ks ++ k ∷ [] → AreTold ks old → AreTold kept new
-
--- the new lists tell of the same punctuations
-abbrev pub AreToldSame : NumberLists → NumberLists → Type 0
-AreToldSame old new = (ks : List NumberedPunct) → AreTold ks old → AreTold ks new
-
--- the punctuations are found by their forms, and their numbers by their constants
-pub record IsStored (kept : List NumberedPunct) (index : Index) (lists : NumberLists) : Type 0 where
-  pub indexed : IsIndexed kept index
-  pub told_all : AreTold kept lists

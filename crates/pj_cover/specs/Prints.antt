@@ -1,5 +1,5 @@
 -- Prints of constants, by which punctuations with constants are found.
-use Rattle.std.specs.Prelude.{ℕ, ◌+◌, ◌*◌, ◌%◌, ◌^◌, Bool, true, false, List, [], ◌∷◌, Option, Some, None, length, map, nat_eq, if◌then◌else◌, unsigned_abs, int_lt, pos}
+use Rattle.std.specs.Prelude.{ℕ, zero, suc, ◌+◌, ◌*◌, ◌%◌, ◌^◌, Bool, true, false, List, [], ◌∷◌, Option, Some, None, length, map, nat_eq, if◌then◌else◌, unsigned_abs, int_lt, pos}
 use Rattle.pj_value.specs.declared.values.Value.{Value}
 use Rattle.pj_value.specs.declared.values.Value.TheVariants.{Int, Text}
 use Rattle.pj_pattern.specs.declared.pattern.Form.TheVariants.{Wild, Empty, Constant, Range, Members}
@@ -31,6 +31,12 @@ print_from print (mark ∷ marks) (cell ∷ cells) = print_from (with_cell print
 -- a number of 64 bits: cells with the same values in the marked columns have the same
 abbrev pub print_of : List Bool → List (Option Value) → ℕ
 print_of marks cells = if nat_eq (length marks) (length cells) then print_from 0 marks cells else 0
+
+-- the value of the cell of a column, where that is there and has one
+abbrev pub cell_at : List (Option Value) → ℕ → Option Value
+cell_at [] column = None
+cell_at (cell ∷ cells) zero = cell
+cell_at (cell ∷ cells) (suc column) = cell_at cells column
 
 -- the cells of a row
 abbrev pub row_cells : List Value → List (Option Value)

@@ -143,9 +143,9 @@ fn has_column(class: &[ClassCol], at: ClassCol) -> bool
         .any(|c| c.input == at.input && c.column == at.column)
 }
 
-// The columns of the first class that has this one; none where no class has it.
+/// The columns of the first class that has this one; none where no class has it.
 #[tactic(auto, using(crate::proofs::Classes::first_class_is))]
-fn class_with<'a>(classes: &'a [List<ClassCol>], at: ClassCol) -> &'a [ClassCol]
+pub fn class_with<'a>(classes: &'a [List<ClassCol>], at: ClassCol) -> &'a [ClassCol]
     ensures { result.now ≡ class_with classes.now at.input at.column }
 {
     first_class(classes, at)
@@ -174,8 +174,8 @@ fn there<'a>(rows: &[Lent<'a>], at: ClassCol) -> Option<&'a Value>
     None
 }
 
-// The value that the rows have in the first column of a class that is there.
-fn first_there<'a>(rows: &[Lent<'a>], class: &[ClassCol]) -> Option<&'a Value>
+/// The value that the rows have in the first column of a class that is there.
+pub fn first_there<'a>(rows: &[Lent<'a>], class: &[ClassCol]) -> Option<&'a Value>
     ensures { option_copied result ≡ first_there rows.now class.now }
 {
     for at in class {

@@ -1,10 +1,10 @@
 // The cells that punctuations are asked to cover: those of a row, or of an instance of a scheme.
-ghost use Rattle.std.specs.Prelude.{◌≡◌, ◌<◌, List, Option, length, if◌then◌else◌};
+ghost use Rattle.std.specs.Prelude.{◌≡◌, ◌<◌, ◌≤◌, List, Option, length, take, if◌then◌else◌};
 ghost use Rattle.std.specs.Option.{option_copied};
 ghost use Rattle.pj_value.specs.declared.values.Value.{Value as AnyValue};
 ghost use Rattle.pj_events.specs.Patterns.{covers, is_wild};
 ghost use Rattle.pj_cover.specs.Givens.{cell_of, covers_cell, instance_of, marked};
-ghost use Rattle.pj_cover.specs.Prints.{constant_in, constants_of, print_of, row_cells};
+ghost use Rattle.pj_cover.specs.Prints.{cell_at, constant_in, constants_of, print_of, row_cells};
 
 use crate::Given;
 use crate::prints::with_cell;
@@ -15,6 +15,14 @@ use pj_value::{Row, Value};
 /// Cells, each with a value or with none.
 pub trait Cells {
     ghost cells: { Self → List (Option AnyValue) };
+
+    /// How many cells there are.
+    fn count(&self) -> usize
+        ensures { result ≡ length (cells self.now) };
+
+    /// The value of the cell of a column, counted from 0, where that is there and has one.
+    fn cell(&self, column: usize) -> Option<&Value>
+        ensures { option_copied result ≡ cell_at (cells self.now) column };
 
     /// The print of the values in the marked columns.
     fn print(&self, marks: &[bool]) -> u64
@@ -34,6 +42,16 @@ pub struct Instance<'a, 'b> {
 
 impl Cells for Row {
     ghost cells = { row_cells };
+
+    #[tactic(auto, using(crate::proofs::Cellwise::row_count))]
+    fn count(&self) -> usize {
+        self.len()
+    }
+
+    #[tactic(auto, using(crate::proofs::Cellwise::row_cell_at))]
+    fn cell(&self, column: usize) -> Option<&Value> {
+        self.get(column)
+    }
 
     fn print(&self, marks: &[bool]) -> u64 {
         if marks.len() != self.len() {
@@ -57,6 +75,15 @@ impl<'a, 'b> Cells for Instance<'a, 'b> {
 
     ghost cells = { λ i. instance_of i.scheme.now i.given.now };
 
+    #[tactic(auto, using(crate::proofs::Cellwise::instance_count))]
+    fn count(&self) -> usize {
+        self.scheme.len()
+    }
+
+    fn cell(&self, column: usize) -> Option<&Value> {
+        instance_cell(self.scheme, self.given, column)
+    }
+
     fn print(&self, marks: &[bool]) -> u64 {
         instance_print(marks, self.scheme, self.given)
     }
@@ -64,6 +91,31 @@ impl<'a, 'b> Cells for Instance<'a, 'b> {
     fn are_covered_by(&self, punct: &Punct) -> bool {
         covers(punct.as_slice(), self.scheme, self.given)
     }
+}
+
+// The constant of a column, where that is marked.
+fn instance_cell<'a>(scheme: &Scheme, given: &'a Given<'_>, column: usize) -> Option<&'a Value>
+    ensures { option_copied result ≡ cell_at (instance_of scheme.now given.now) column }
+{
+    if column >= scheme.len() {
+        return None;
+    }
+    if !*scheme.at(column) {
+        return None;
+    }
+    given.get(marks_before(scheme, column))
+}
+
+// How many columns before this one are marked.
+fn marks_before(scheme: &Scheme, column: usize) -> usize
+    requires { column ≤ length scheme.now }
+    ensures { result ≡ marked (take column scheme.now) }
+{
+    let mut count = 0;
+    for at in 0..column {
+        count += one_if(*scheme.at(at));
+    }
+    count
 }
 
 fn instance_print(marks: &[bool], scheme: &Scheme, given: &Given<'_>) -> u64
@@ -141,8 +193,8 @@ fn one_if(test: bool) -> usize
     if test { 1 } else { 0 }
 }
 
-// Whether the pattern matches the constant of a marked column, or is a wildcard in another one.
-fn covers_cell(pattern: &Pattern, is_marked: bool, constant: Option<&Value>) -> bool
+/// Whether the pattern matches the constant of a marked column, or is a wildcard in another one.
+pub fn covers_cell(pattern: &Pattern, is_marked: bool, constant: Option<&Value>) -> bool
     ensures { result ≡ covers_cell pattern.now (cell_of is_marked (option_copied constant.entry)) }
 {
     if !is_marked {

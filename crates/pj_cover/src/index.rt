@@ -93,7 +93,8 @@ impl Index {
 
 // ---- looking up
 
-fn least(one: Option<u64>, other: Option<u64>) -> Option<u64>
+/// The lesser of two numbers that may be there.
+pub fn least(one: Option<u64>, other: Option<u64>) -> Option<u64>
     ensures { result ≡ least one other }
 {
     match one {

@@ -1,11 +1,16 @@
 // The numbers of the punctuations with one constant.
-ghost use Rattle.std.specs.Prelude.{◌≡◌, ◌<◌, ◌+◌, [], length, drop, IfSome, IfNone, OnOk, OnErr};
+ghost use Rattle.std.specs.Prelude.{◌≡◌, ◌<◌, ◌+◌, [], length, drop, IfOk, IfSome, IfNone, OnOk, OnErr};
 ghost use Rattle.std.specs.Cmp.{on_equiv, partial_equiv_from_equiv};
 ghost use Rattle.std.specs.Hash as fed;
-ghost use Rattle.pj_cover.specs.Numbers.{AreTold, Changes, HasNone, IsOnly, TellSame, TellsLess, TellsMore, are_wild, constant, constant_print, first_filled, less_last, same_constant, told, with_last};
+ghost use Rattle.std.specs.Option.{option_copied};
+ghost use Rattle.pj_value.specs.Lists.{In};
+ghost use Rattle.pj_cover.specs.Alone.{AreAmong, AreSame, IsAdded, IsOneMore, IsTaken, first_in_cell, first_told, least_in};
+ghost use Rattle.pj_cover.specs.Numbers.{AreTold, Changes, HasNone, IsOnly, are_wild, constant, constant_print, first_filled, same_constant, told, with_last};
 ghost use Rattle.pj_cover.specs.Alike.{constant_prints_agree, constants_equal};
 
-use crate::cells::{constant_in, is_wild};
+use crate::cells::{Cells, constant_in, is_wild};
+use crate::index::least;
+use crate::number_list::NumberList;
 use crate::prints::with_value;
 use indexmap::{Equivalent, IndexMap};
 use pj_pattern::Pattern;
@@ -87,19 +92,22 @@ impl<'a> Equivalent<Constant> for LentConstant<'a> {
     }
 }
 
-/// The numbers of the punctuations of each constant in each column, in order.
+/// The numbers of the punctuations of each constant in each column, in order, and the columns with constants.
 #[derive(Drop)]
 pub struct NumberLists {
-    lists: IndexMap<Constant, List<u64>>,
+    lists: IndexMap<Constant, NumberList>,
+    columns: List<usize>,
 }
 
 impl NumberLists {
     /// The lists of no punctuations.
     pub fn new(alloc: Global) -> NumberLists
-        ensures { AreTold [] result }
+        ensures told { AreTold [] result }
+        ensures none { result.lists.entries ≡ [] }
     {
         NumberLists {
             lists: IndexMap::new(alloc),
+            columns: List::new(alloc),
         }
     }
 
@@ -113,62 +121,97 @@ impl NumberLists {
         }
     }
 
-    /// Takes in the number of a punctuation with these patterns. On a refusal the lists tell the same.
-    pub fn file(&mut self, alloc: Global, patterns: &[Pattern], number: u64) -> Result<(), NoMemory>
-        ensures ok { OnOk result (TellsMore patterns.now number (told self.old) (told self.new)) }
-        ensures err { OnErr result (TellSame (told self.old) (told self.new)) }
+    /// The least number of a punctuation of one constant and so many columns that covers the cells.
+    pub fn first<C: Cells>(&self, arity: usize, cells: &C) -> Option<u64>
+        ensures { result ≡ first_told arity self.now (C.cells cells.now) }
     {
-        match only_constant(patterns) {
-            None => Ok(()),
-            Some(key) => self.add(alloc, key, number),
+        if cells.count() != arity {
+            return None;
+        }
+        self.least_in(cells)
+    }
+
+    fn least_in<C: Cells>(&self, cells: &C) -> Option<u64>
+        ensures { result ≡ least_in (told self.now) (C.cells cells.now) None self.now.columns }
+    {
+        let mut best = None;
+        for column in self.columns.as_slice() {
+            best = least(best, self.first_in_cell(*column, cells.cell(*column)));
+        }
+        best
+    }
+
+    // The first number of the constant of a cell.
+    fn first_in_cell(&self, column: usize, cell: Option<&Value>) -> Option<u64>
+        ensures { result ≡ first_in_cell (told self.now) column (option_copied cell.entry) }
+    {
+        match cell {
+            None => None,
+            Some(value) => self.numbers(column, value).first().copied(),
         }
     }
 
-    /// Takes out the last number that was taken in for these patterns.
-    pub fn unfile(&mut self, patterns: &[Pattern])
-        ensures { TellsLess patterns.now (told self.old) (told self.new) }
+    /// Takes in a punctuation with these patterns, where they have one constant and wildcards elsewhere; or not. On a refusal
+    /// the lists tell the same.
+    pub fn file(
+        &mut self,
+        alloc: Global,
+        patterns: &[Pattern],
+        number: u64,
+    ) -> Result<bool, NoMemory>
+        ensures ok { IfOk result (IsTaken patterns.now number self.old self.new) }
+        ensures err { OnErr result (AreSame self.old self.new) }
     {
         match only_constant(patterns) {
-            None => {}
-            Some(key) => self.take_last(key),
+            None => Ok(false),
+            Some(key) => {
+                self.add(alloc, key, number)?;
+                Ok(true)
+            }
         }
     }
 
     fn add(&mut self, alloc: Global, key: LentConstant<'_>, number: u64) -> Result<(), NoMemory>
-        ensures ok { OnOk result (Changes (with_last number) (told self.old) (told self.new) (constant key.entry.column key.entry.value.now)) }
-        ensures err { OnErr result (TellSame (told self.old) (told self.new)) }
+        ensures ok { OnOk result (IsAdded (constant key.entry.column key.entry.value.now) number self.old self.new) }
+        ensures err { OnErr result (AreSame self.old self.new) }
+    {
+        note(&mut self.columns, key.column)?;
+        self.enter(alloc, key, number)?;
+        Ok(())
+    }
+
+    fn enter(&mut self, alloc: Global, key: LentConstant<'_>, number: u64) -> Result<(), NoMemory>
+        ensures tells { OnOk result (Changes (with_last number) (told self.old) (told self.new) (constant key.entry.column key.entry.value.now)) }
+        ensures more { OnOk result (IsOneMore (constant key.entry.column key.entry.value.now) number self.old self.new) }
+        ensures err { OnErr result (self.new.lists.entries ≡ self.old.lists.entries) }
+        ensures columns { self.new.columns ≡ self.old.columns }
     {
         match self.lists.get_mut(key) {
             Some(numbers) => {
-                numbers.push(number)?;
+                numbers.push(alloc, number)?;
                 Ok(())
             }
             None => {
                 let value = key.value.copy(alloc)?;
-                let mut numbers = List::new(alloc);
-                numbers.push(number)?;
                 let column = key.column;
-                self.lists.insert(Constant { column, value }, numbers)?;
+                self.lists
+                    .insert(Constant { column, value }, NumberList::one(number))?;
                 Ok(())
             }
         }
     }
-
-    fn take_last(&mut self, key: LentConstant<'_>)
-        ensures { Changes less_last (told self.old) (told self.new) (constant key.entry.column key.entry.value.now) }
-    {
-        match self.lists.get_mut(key) {
-            None => {}
-            Some(numbers) => drop_last(numbers),
-        }
-    }
 }
 
-fn drop_last(numbers: &mut List<u64>)
-    ensures { numbers.new ≡ less_last numbers.old }
+// Notes a column, once.
+fn note(columns: &mut List<usize>, column: usize) -> Result<(), NoMemory>
+    ensures here { OnOk result (In column columns.new) }
+    ensures others { AreAmong columns.old columns.new }
 {
-    let count = numbers.len().saturating_sub(1);
-    numbers.truncate(count);
+    if columns.as_slice().contains(&column) {
+        return Ok(());
+    }
+    columns.push(column)?;
+    Ok(())
 }
 
 // The only constant of the patterns, where they have wildcards elsewhere.

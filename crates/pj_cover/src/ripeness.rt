@@ -6,8 +6,9 @@ ghost use Rattle.pj_events.specs.Join.{IsCertified, agree, demand, entry_of};
 ghost use Rattle.pj_cover.specs.Rising.{AreRisingRows};
 ghost use Rattle.pj_cover.specs.Asking.{AreParts, HaveLength, HavePartners, IsFirstUncovered, IsJudged, IsJudgedThrough, IsJudgedUnder, IsJudgedWith, IsOnWalk, IsStep, data_of, entries, is_covered, is_ripe, known_of, marks_of, tuple_of, tuples_at, with_ticket};
 
-use crate::asked::{Lent, lend_constants, partner_key, suits};
-use crate::{Given, PunctStore, StoredRows, Uncovered};
+use crate::asked::{Lent, partner_key, suits};
+use crate::instances::instance_is_covered;
+use crate::{PunctStore, StoredRows, Uncovered};
 use arrayvec::ArrayVec;
 use pj_shape::{Cert, CertStep, JoinSpec, Scheme, Schemes};
 use pj_value::Row;
@@ -34,15 +35,15 @@ fn step_is_covered(
     ensures { (lists : ℕ → _) → result ≡ is_covered (known_of spec.now lists stores.now low) (demand spec.now.classes (entry_of schemes.now step) rows.now) }
 {
     let scheme = scheme_of(schemes, step);
-    let mut given = Given::new();
-    lend_constants(
+    let store = &stores[step.input as usize];
+    instance_is_covered(
         spec.classes.as_slice(),
         step.input,
         scheme,
         rows,
-        &mut given,
-    );
-    stores[step.input as usize].covers(scheme, &given, low)
+        store,
+        low,
+    )
 }
 
 // The same with the ticket of one row more in front.

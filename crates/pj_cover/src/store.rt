@@ -1,14 +1,15 @@
 // A store of punctuations with numbers.
 ghost use Rattle.std.specs.Prelude.{◌≡◌, ◌<◌, ◌+◌, [], ◌∷◌, ◌++◌, length, IfOk, OnOk, OnErr};
-ghost use Rattle.pj_cover.specs.Givens.{instance_of, marked};
-ghost use Rattle.pj_cover.specs.Indexed.{IsFiled, IsUnfiled, is_below};
-ghost use Rattle.pj_cover.specs.Numbers.{AreToldMore, AreToldSame, numbers_with};
+ghost use Rattle.pj_cover.specs.Givens.{instance_of, marked, one_cell};
+ghost use Rattle.pj_cover.specs.Indexed.{is_below};
+ghost use Rattle.pj_cover.specs.Numbers.{numbers_with};
 ghost use Rattle.pj_cover.specs.Stores.{covered_below, first_match_of, IsAbove, IsLeastMatch};
 
 use crate::Given;
 use crate::cells::Instance;
-use crate::index::Index;
+use crate::index::{Index, least};
 use crate::numbers::NumberLists;
+use crate::one_cell::OneCell;
 use pj_pattern::Punct;
 use pj_shape::Scheme;
 use pj_value::{List, NoMemory, Row, Value};
@@ -23,25 +24,26 @@ pub struct NumberedPunct {
 }
 
 /// The punctuations that have arrived (Tucker et al. 2003), all of one arity and with rising numbers, as those of the lines
-/// of a file or the tickets of a join. A tuple that matches one of them breaks its promise.
+/// of a file or the tickets of a join. A tuple that matches one of them breaks its promise. Of one with a constant in one
+/// column and wildcards elsewhere the constant and the number are kept, of the others all patterns.
 #[derive(Drop)]
 pub struct PunctStore {
     alloc: Global,
     arity: u32,
-    kept: List<NumberedPunct>,
+    others: List<NumberedPunct>,
     index: Index,
     numbers: NumberLists,
 }
 
 impl Model for PunctStore {
     ghost use Rattle.pj_cover.specs.Stores.{Store};
-    ghost use Rattle.pj_cover.specs.Numbers.{IsStored};
+    ghost use Rattle.pj_cover.specs.Alone.{IsStored, kept_of};
 
     ghost Value = { Store };
 
-    ghost view = { λ s. record { arity = s.arity; kept = s.kept } };
+    ghost view = { λ s. record { arity = s.arity; kept = kept_of s.arity s.others s.numbers } };
 
-    ghost invariant = { λ s. IsStored s.kept s.index s.numbers };
+    ghost invariant = { λ s. IsStored s.arity (kept_of s.arity s.others s.numbers) s.others s.index s.numbers };
 }
 
 impl PunctStore {
@@ -52,7 +54,7 @@ impl PunctStore {
         Ok(PunctStore {
             alloc,
             arity,
-            kept: List::new(alloc),
+            others: List::new(alloc),
             index: Index::new(alloc),
             numbers: NumberLists::new(alloc),
         })
@@ -67,25 +69,27 @@ impl PunctStore {
         ensures ok { OnOk result (self.new.kept ≡ self.old.kept ++ record { punct = punct; number = number } ∷ []) }
         ensures err { OnErr result (self.new.kept ≡ self.old.kept) }
     {
-        let at = self.kept.len();
-        self.kept.push(NumberedPunct { punct, number })?;
-        let kept = self.kept.as_slice();
-        match file_last(self.alloc, kept, at, &mut self.index, &mut self.numbers) {
+        if self.numbers.file(self.alloc, punct.as_slice(), number)? {
+            return Ok(());
+        }
+        let at = self.others.len();
+        self.others.push(NumberedPunct { punct, number })?;
+        match self.index.file(self.alloc, self.others.as_slice(), at) {
             Ok(()) => Ok(()),
             Err(stop) => {
-                self.kept.truncate(at);
+                self.others.truncate(at);
                 Err(stop)
             }
         }
     }
 
-    /// The least number of a punctuation that the row matches; `None` exactly where there is none. It asks one punctuation
-    /// after another, up to the first that matches.
+    /// The least number of a punctuation that the row matches; `None` exactly where there is none.
     pub fn first_match(&self, row: &Row) -> Option<u64>
         ensures first { result ≡ first_match_of self.now.kept row.now }
         ensures least { IsLeastMatch self.now.kept row.now result }
     {
-        self.index.first(self.kept.as_slice(), row)
+        let alone = self.numbers.first(self.arity as usize, row);
+        least(alone, self.index.first(self.others.as_slice(), row))
     }
 
     /// The numbers, rising, of the punctuations that have this constant in the column, counted from 0, and wildcards in all
@@ -106,36 +110,30 @@ impl PunctStore {
         ensures { result ≡ covered_below self.now.kept below (instance_of scheme.now given.now) }
     {
         let instance = Instance { scheme, given };
-        let kept = self.kept.as_slice();
+        let kept = self.others.as_slice();
         if is_below(self.index.first_with(scheme, kept, &instance), below) {
+            return true;
+        }
+        if is_below(self.numbers.first(self.arity as usize, &instance), below) {
             return true;
         }
         is_below(self.index.first(kept, &instance), below)
     }
-}
 
-// Takes in the punctuation at the last place. On a refusal all is found as before.
-fn file_last(
-    alloc: Global,
-    kept: &[NumberedPunct],
-    at: usize,
-    index: &mut Index,
-    numbers: &mut NumberLists,
-) -> Result<(), NoMemory>
-    requires { at + 1 ≡ length kept.now }
-    ensures filed { OnOk result (IsFiled kept.now index.old index.new) }
-    ensures told { OnOk result (AreToldMore kept.now numbers.old numbers.new) }
-    ensures unfiled { OnErr result (IsUnfiled index.old index.new) }
-    ensures same { OnErr result (AreToldSame numbers.old numbers.new) }
-{
-    let last = &kept[at];
-    numbers.file(alloc, last.punct.as_slice(), last.number)?;
-    match index.file(alloc, kept, at) {
-        Ok(()) => Ok(()),
-        Err(stop) => {
-            numbers.unfile(last.punct.as_slice());
-            Err(stop)
+    /// The same of the instance with this constant in this column alone.
+    pub(crate) fn covers_one(&self, column: usize, value: &Value, below: u64) -> bool
+        ensures { result ≡ covered_below self.now.kept below (one_cell self.now.arity column value.now) }
+    {
+        let count = self.arity as usize;
+        let cells = OneCell {
+            count,
+            column,
+            value,
+        };
+        if is_below(self.numbers.first(count, &cells), below) {
+            return true;
         }
+        is_below(self.index.first(self.others.as_slice(), &cells), below)
     }
 }
 
