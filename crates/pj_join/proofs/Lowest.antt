@@ -1,5 +1,5 @@
 -- The low-water ticket never falls.
-use Rattle.std.proofs.Common.{ℕ, zero, suc, ◌+◌, ◌<◌, ◌≤◌, Bool, true, false, cond, not, List, [], ◌∷◌, ◌++◌, ◌≡◌, ◌⊎◌, Some, map, filter, drop, length, refl, sym, ap, ◌∙◌, subst, inl, inr, eqb, arith}
+use Rattle.std.proofs.Common.{ℕ, ◌+◌, ◌≤◌, not, List, [], ◌∷◌, ◌++◌, ◌≡◌, ◌⊎◌, Some, drop, length, refl, sym, ap, ◌∙◌, subst, inl, inr, eqb, arith}
 use Rattle.std.specs.List.{slice_get}
 use Rattle.std.proofs.lemmas.List.{map-append}
 use Rattle.pj_value.proofs.Members.{In-append_cases, In-append_left, In-append_right, In-filter}

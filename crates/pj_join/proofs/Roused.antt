@@ -1,6 +1,6 @@
 -- Which rows are marked when rows of another input go.
-use Rattle.std.proofs.Common.{ℕ, zero, suc, ◌+◌, ◌<◌, Bool, true, false, List, [], ◌∷◌, ◌++◌, ◌≡◌, Some, None, filter, take, length, get_or, set, refl, sym, ap, ◌∙◌, subst, inl, inr, ◌⊎◌, eqb, arith}
-use Rattle.std.specs.List.{list_any, slice_get}
+use Rattle.std.proofs.Common.{ℕ, ◌+◌, ◌<◌, true, false, List, [], ◌∷◌, ◌++◌, ◌≡◌, Some, None, take, length, get_or, set, refl, sym, ap, ◌∙◌, subst, inl, inr, ◌⊎◌, eqb, arith}
+use Rattle.std.specs.List.{slice_get}
 use Rattle.std.proofs.lemmas.Bool.{eq-eqb, false_from_ne_true, false≢true}
 use Rattle.std.proofs.lemmas.List.{take_more}
 use Rattle.std.proofs.lemmas.Option.{slice_get-get_or, get_or_from_slice_get}
@@ -12,14 +12,14 @@ use Rattle.pj_state.specs.declared.shared.Stored.{Stored}
 use Rattle.pj_state.specs.Rising.{IsRising}
 use Rattle.pj_state.specs.States.{StateView, has_value, is_value, row_under, rows_with, tickets_of, ticket_of}
 use Rattle.pj_shape.specs.declared.joins.CertStep.{CertStep}
-use Rattle.pj_events.specs.Join.{ClassCol, In, TupleAt, agree, has, no_value, value_at}
+use Rattle.pj_events.specs.Join.{ClassCol, In, TupleAt, agree, no_value, value_at}
 use Rattle.pj_laws.proofs.Matching.{agree-at, value-in}
 use Rattle.pj_join.specs.Sides.{IsWide, state_at, tuple_in}
 use Rattle.pj_join.specs.Watching.{AreAllUnlike, AreMarked, AreRoused, AreUnlike, IsAlone, IsFewer, IsPair, IsRousedAt, Watches, asks_first, first_column, is_passed, watches_at}
 use Rattle.pj_join.proofs.Picked.{under-own}
 use Rattle.pj_join.proofs.Through.{first-in_class}
 use Rattle.pj_join.proofs.Wanted.{all-in}
-use Rattle.pj_join.proofs.Woken.{all_marked, at-place, at-set, by-place, fewer-then, passed_more}
+use Rattle.pj_join.proofs.Woken.{all_marked, at-place, at-set, by-place, passed_more}
 
 -- ---- what is marked
 

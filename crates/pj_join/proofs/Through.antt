@@ -1,5 +1,5 @@
 -- What tuples that join tell of each other, and what a punctuation marks of those that ask by their second step.
-use Rattle.std.proofs.Common.{ℕ, zero, suc, ◌+◌, ◌<◌, Bool, true, false, cond, ◌&&◌, ◌||◌, List, [], ◌∷◌, ◌≡◌, Some, map, filter, length, get_or, refl, sym, ap, ap₂, ◌∙◌, subst, inl, inr, eqb, arith, Result, Ok, Err, OnOk}
+use Rattle.std.proofs.Common.{ℕ, ◌<◌, Bool, true, false, cond, ◌&&◌, ◌||◌, List, [], ◌∷◌, ◌≡◌, Some, map, filter, length, get_or, refl, sym, ap, ap₂, ◌∙◌, subst, inl, inr, eqb, arith}
 use Rattle.std.specs.List.{slice_get}
 use Rattle.std.proofs.lemmas.Bool.{eqb-true, false_from_ne_true, false≢true}
 use Rattle.std.proofs.lemmas.Option.{get_or_from_slice_get}
@@ -11,10 +11,10 @@ use Rattle.pj_shape.specs.declared.joins.CertStep.{CertStep}
 use Rattle.pj_shape.specs.Joining.{has_column}
 use Rattle.pj_cover.specs.Asking.{entries, first_class, marks_of}
 use Rattle.pj_events.specs.Patterns.{Pattern, covers}
-use Rattle.pj_events.specs.Join.{CertEntry, ClassCol, In, PunctAt, TupleAt, agree, constant, covered, demand, entry_of, instance_from, no_value, part_of, value_at, values}
+use Rattle.pj_events.specs.Join.{CertEntry, ClassCol, In, PunctAt, TupleAt, agree, constant, demand, entry_of, instance_from, no_value, part_of, value_at, values}
 use Rattle.pj_laws.proofs.Matching.{agree-at, value-in}
 use Rattle.pj_join.specs.Sides.{IsWide, state_at, tuple_in}
-use Rattle.pj_join.specs.Watching.{AreAllUnlike, AreLeftNext, AreLeftOpen, AreUncovered, AreUncoveredWith, IsAlone, IsFewer, IsKey, IsLeftNext, IsPair, Limits, Tells, Watches, first_column, has_match, is_passed}
+use Rattle.pj_join.specs.Watching.{AreLeftNext, AreLeftOpen, AreUncovered, AreUncoveredWith, IsAlone, IsFewer, IsKey, IsLeftNext, Limits, Tells, Watches, first_column, has_match, is_passed}
 use Rattle.pj_join.proofs.Wanted.{all-in}
 use Rattle.pj_join.proofs.Woken.{all_marked}
 

@@ -93,14 +93,16 @@ module _ (spec : JoinData) where
           let is : tuple_in e.input s.0 ≡ y = ap (λ i. tuple_in i s.0) (sym w.of_entry) ∙ s.2 in
           let in_rows : In s.0 (state_at states e.input).rows = subst (λ i. In s.0 (state_at states i).rows) w.of_entry s.1 in
           let no : covered (p ∷ []) (demand spec.shape.classes f (y ∷ x ∷ [])) ≡ false =
-          subst (λ (z : TupleAt). agree spec.shape.classes (z ∷ x ∷ []) ≡ true → covered (p ∷ []) (demand spec.shape.classes f (z ∷ x ∷ [])) ≡ false) is (l s.0 in_rows) w.joins in
-          (y, record {
-            there = w.there;
-            below = w.below;
-            of_entry = w.of_entry;
-            joins = w.joins;
-            uncovered = any-append (λ q. eqb q.input f.input && covers q.patterns (demand spec.shape.classes f (y ∷ x ∷ [])).instance) puncts (p ∷ []) w.uncovered no;
-          })
+          subst (λ (z : TupleAt). agree spec.shape.classes (z ∷ x ∷ []) ≡ true → covered (p ∷ []) (demand spec.shape.classes f (z ∷ x ∷ [])) ≡ false) is (l s.0 in_rows) w.joins in (
+            y,
+            record {
+              there = w.there;
+              below = w.below;
+              of_entry = w.of_entry;
+              joins = w.joins;
+              uncovered = any-append (λ q. eqb q.input f.input && covers q.patterns (demand spec.shape.classes f (y ∷ x ∷ [])).instance) puncts (p ∷ []) w.uncovered no;
+            },
+          )
 
   module _ (limit next done : ℕ) (states : List StateView) (stores : List Store) (pending : List Place) (taken : List ℕ) (j : IsJoin spec limit (inside next done states stores pending taken)) where
     abbrev log : List TupleAt

@@ -42,12 +42,7 @@ fn pair_in(class: &[ClassCol], input: u32, state: &State, other: u32) -> Option<
 }
 
 /// A column of each of two inputs, of which the first is indexed; `None` where no class has both.
-pub fn pair_of(
-    classes: &[List<ClassCol>],
-    input: u32,
-    state: &State,
-    other: u32,
-) -> Option<Pair>
+pub fn pair_of(classes: &[List<ClassCol>], input: u32, state: &State, other: u32) -> Option<Pair>
     ensures { IfSome result (λ pair. IsPair classes.now input state.now.columns other pair.mine pair.theirs) }
 {
     for class in classes {

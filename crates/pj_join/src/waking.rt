@@ -276,7 +276,16 @@ fn wake_second(
             Ok(())
         }
         Some(scheme) => wake_after(
-            alloc, watches, classes, input, state, first.input, states, scheme, other, punct,
+            alloc,
+            watches,
+            classes,
+            input,
+            state,
+            first.input,
+            states,
+            scheme,
+            other,
+            punct,
         ),
     }
 }

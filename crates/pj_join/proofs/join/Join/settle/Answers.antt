@@ -1,4 +1,4 @@
-use Rattle.std.proofs.Common.{◌≡◌, ◌<◌, ◌∙◌, List, ap, arith, length, set, sym, subst}
+use Rattle.std.proofs.Common.{◌≡◌, ◌<◌, ◌∙◌, List, ap, arith, length, sym, subst}
 use Rattle.std.proofs.lemmas.List.{length-map}
 use Rattle.std.specs.Arc.{arc_value}
 use Rattle.pj_events.specs.Join.{TupleAt, inputs}
@@ -12,7 +12,7 @@ use Rattle.pj_join.specs.Sweeping.{swept_off}
 use Rattle.pj_join.proofs.Kept.{all-states, wide}
 use Rattle.pj_join.proofs.Looped.{state_is}
 use Rattle.pj_join.proofs.Swept.{few-gone, join-swept, log-left, view-left}
-use Rattle.pj_join.specs.Watching.{AllHeld, AreOpenBut, AreWatched, or_same}
+use Rattle.pj_join.specs.Watching.{AllHeld, AreOpenBut, or_same}
 use Rattle.pj_join.proofs.Held.{held_swept}
 use Rattle.pj_join.proofs.Settled.{settled}
 use Rattle.pj_join.proofs.join.Join.settle.Goals as goal
