@@ -145,7 +145,7 @@ module _ (spec : JoinData) (limit next done : ℕ) (states : List StateView) (st
   shapes : inputs spec ≡ length spec.shape.inputs
   shapes = length-map spec.shape.inputs (λ schema. length schema)
 
-  same-rows : (k : ℕ) → of_input k (tuples_of (row_pairs states) (length spec.shape.inputs)) ≡ of_input k (log_of states)
+  pub same-rows : (k : ℕ) → of_input k (tuples_of (row_pairs states) (length spec.shape.inputs)) ≡ of_input k (log_of states)
   same-rows k = go (ltb k (length spec.shape.inputs)) refl
     where
       go : (b : Bool) → ltb k (length spec.shape.inputs) ≡ b → of_input k (tuples_of (row_pairs states) (length spec.shape.inputs)) ≡ of_input k (log_of states)

@@ -31,3 +31,8 @@ pub mod Held
 pub mod Halved
 pub mod Elsewhere
 pub mod Hopped
+pub mod Lowest
+pub mod Through
+pub mod Triangles
+pub mod Roused
+pub mod Settled

@@ -12,7 +12,7 @@ use Rattle.pj_events.specs.KeptState.{kept_low, kept_ripe, swept}
 use Rattle.pj_value.proofs.Members.{In-filter, In-map_from, filter-agree, filter-filter}
 use Rattle.pj_join.specs.declared.queue.Place.{Place}
 use Rattle.pj_join.specs.Joins.{JoinView, after}
-use Rattle.pj_join.specs.Insides.{IsJoin, IsOrdered, Rise, inside, made_with, seen, tickets}
+use Rattle.pj_join.specs.Insides.{IsJoin, IsOrdered, Rise, inside, lowest, made_with, seen, tickets}
 use Rattle.pj_join.specs.Judging.{Judge, is_let_go, judge, letting_go, lets_go, ripe_at, ripe_rows, ripe_tickets, rows_without, staying_on, waiting_on}
 use Rattle.pj_join.specs.Sides.{IsShaped, log_of, merged, place_of, puncts_of, state_at, stays, still_held, ticket_at, tuple_in, tuples_in}
 use Rattle.pj_join.specs.Sweeping.{puncts_up, rows_off, swept_off}
@@ -199,6 +199,10 @@ module _ (node : ℕ) (spec : JoinData) (limit next done : ℕ) (states : List S
       view-left on w =
           ap₂ (λ n (xs : List TupleAt). seen (made_with node spec limit) next (done - n) xs (puncts_of stores) on taken) count-is log-left
           ∙ swept_view node spec limit next done log (tuples_in 0 states) (puncts_of stores) waiting taken input (swept spec join.kept input) j.ordered refl on w
+
+      -- the low-water ticket stays
+      pub lowest-left : lowest next (done - length gone) (log_of (set states input new)) taken ≡ lowest next done log taken
+      lowest-left = ap (λ (v : JoinView). kept_low v.kept) (view-left (waiting_on (swept spec join.kept input) input waiting) refl)
 
 -- whether a row matches, before any goes
 pub held-at-first : (spec : JoinData) (limit next done : ℕ) (states : List StateView) (stores : List Store) (pending : List Place) (taken : List ℕ) → IsJoin spec limit (inside next done states stores pending taken)

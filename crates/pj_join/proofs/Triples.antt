@@ -73,11 +73,11 @@ triple_sound = record {
 
 -- ---- certificates
 
-not_one : (n m : ℕ) → (n ≢ m) → In n (m ∷ []) → ⊥
+pub not_one : (n m : ℕ) → (n ≢ m) → In n (m ∷ []) → ⊥
 not_one n m ne (inl e) = ne (sym e)
 not_one n m ne (inr h) = absurd h
 
-not_two : (n m k : ℕ) → (n ≢ m) → (n ≢ k) → In n (m ∷ k ∷ []) → ⊥
+pub not_two : (n m k : ℕ) → (n ≢ m) → (n ≢ k) → In n (m ∷ k ∷ []) → ⊥
 not_two n m k ne nf (inl e) = ne (sym e)
 not_two n m k ne nf (inr h) = not_one n k nf h
 

@@ -17,7 +17,7 @@ use Rattle.pj_events.specs.Patterns.{Pattern, covers, matches_value}
 use Rattle.pj_events.specs.Join.{CertEntry, ClassCol, In, JoinData, PunctAt, TupleAt, class_with, constant, demand, entry_of, has, instance_from, no_value, part_of, value_at, values}
 use Rattle.pj_join.specs.Sides.{IsWide, tuple_in}
 use Rattle.pj_join.proofs.Wanted.{all-in}
-use Rattle.pj_join.specs.Watching.{AreFewer, AreLeft, AreLeftAt, AreLeftOpen, AreUncovered, AsksOpen, IsFewer, IsKey, Limits, Watches, first_column, has_match, is_match, is_passed, watches_at}
+use Rattle.pj_join.specs.Watching.{AreFewer, AreLeft, AreLeftAt, AreLeftOpen, AreUncovered, AsksOpen, IsFewer, IsKey, Limits, Tells, Watches, first_column, has_match, is_match, is_passed, watches_at}
 
 -- ---- what is asked for
 
@@ -61,22 +61,26 @@ first-value (at ∷ class) x own e = go (eqb at.input x.input) refl e (first-val
         same q = cc
     go false f k ih = ap (λ b. get_or ((cond b (value_at x.row at.column ∷ []) [] ++ []) ++ values (part_of x ∷ []) class) 0 no_value) (turned at.input x.input false f) ∙ ih k
 
+-- one tuple alone tells its own values
+pub tells-own : (classes : List (List ClassCol)) (x : TupleAt) → Tells classes (x ∷ []) x
+tells-own classes x at own e = first-value (first_class classes at) x own e
+
 -- what the pattern in a marked column matches, where the class has a column of the rows' own
-asked : (classes : List (List ClassCol)) (input other : ℕ) (marks : List Bool) (ps : List Pattern) (at : ClassCol) (own : ℕ) (r : Pattern) (x : TupleAt)
-    → at.input ≡ other → slice_get marks at.column ≡ Some true → first_column (first_class classes at) input ≡ Some own → slice_get ps at.column ≡ Some r → x.input ≡ input
-    → covers ps (instance_from classes other 0 marks (x ∷ [])) ≡ true → matches_value r (value_at x.row own) ≡ true
-asked classes input other marks ps at own r x of marked first there same t =
+asked : (classes : List (List ClassCol)) (input other : ℕ) (marks : List Bool) (ps : List Pattern) (at : ClassCol) (own : ℕ) (r : Pattern) (z : TupleAt) (xs : List TupleAt)
+    → at.input ≡ other → slice_get marks at.column ≡ Some true → first_column (first_class classes at) input ≡ Some own → slice_get ps at.column ≡ Some r → Tells classes xs z → z.input ≡ input
+    → covers ps (instance_from classes other 0 marks xs) ≡ true → matches_value r (value_at z.row own) ≡ true
+asked classes input other marks ps at own r z xs of marked first there tells same t =
     let n : 0 + at.column ≡ at.column = omega arith in
     ap (matches_value r)
-    (sym (ap (λ (cls : List ClassCol). constant cls (x ∷ [])) (ap₂ (λ i j. class_with classes i j) (sym of) n ∙ sym (first_class_is classes at))
-    ∙ first-value (first_class classes at) x own (ap (first_column (first_class classes at)) same ∙ first)))
-    ∙ needs classes other 0 marks ps (x ∷ []) at.column r marked there t
+    (sym (ap (λ (cls : List ClassCol). constant cls xs) (ap₂ (λ i j. class_with classes i j) (sym of) n ∙ sym (first_class_is classes at))
+    ∙ tells at own (ap (first_column (first_class classes at)) same ∙ first)))
+    ∙ needs classes other 0 marks ps xs at.column r marked there t
 
 pub limits_are : (classes : List (List ClassCol)) (input other : ℕ) (marks : List Bool) (ps : List Pattern) (at : ClassCol) (own : ℕ) (r : Pattern)
     → at.input ≡ other → slice_get marks at.column ≡ Some true → first_column (first_class classes at) input ≡ Some own → slice_get ps at.column ≡ Some r → Limits classes input other marks ps own r
-limits_are classes input other marks ps at own r of marked first there x same lt differs =
-    false_from_ne_true (covers ps (instance_from classes other 0 marks (x ∷ [])))
-    (λ t. false≢true (sym differs ∙ ap (is_match r) (slice_get-get_or x.row own no_value lt) ∙ asked classes input other marks ps at own r x of marked first there same t))
+limits_are classes input other marks ps at own r of marked first there z xs tells same lt differs =
+    false_from_ne_true (covers ps (instance_from classes other 0 marks xs))
+    (λ t. false≢true (sym differs ∙ ap (is_match r) (slice_get-get_or z.row own no_value lt) ∙ asked classes input other marks ps at own r z xs of marked first there tells same t))
 
 pub within : (own : ℕ) (columns : List ℕ) → list_any (λ o. eqb own o) columns ≡ true → In own columns
 within own columns indexed = let h = any_at (λ o. eqb own o) columns indexed in subst (λ n. In n columns) (sym (eqb-true own h.0 h.2)) h.1
@@ -86,13 +90,13 @@ pub key_is : (classes : List (List ClassCol)) (input : ℕ) (columns : List ℕ)
     → IsKey classes input columns other marks ps own v
 key_is classes input columns other marks ps at own v of marked first indexed const = (within own columns indexed, uncovered)
   where
-    uncovered : (x : TupleAt) → x.input ≡ input → own < length x.row → is_value v (slice_get x.row own) ≡ false → covers ps (instance_from classes other 0 marks (x ∷ [])) ≡ false
-    uncovered x same lt differs = false_from_ne_true (covers ps (instance_from classes other 0 marks (x ∷ []))) (λ t. false≢true (sym differs ∙ yes t))
+    uncovered : (z : TupleAt) (xs : List TupleAt) → Tells classes xs z → z.input ≡ input → own < length z.row → is_value v (slice_get z.row own) ≡ false → covers ps (instance_from classes other 0 marks xs) ≡ false
+    uncovered z xs tells same lt differs = false_from_ne_true (covers ps (instance_from classes other 0 marks xs)) (λ t. false≢true (sym differs ∙ yes t))
       where
-        yes : covers ps (instance_from classes other 0 marks (x ∷ [])) ≡ true → is_value v (slice_get x.row own) ≡ true
+        yes : covers ps (instance_from classes other 0 marks xs) ≡ true → is_value v (slice_get z.row own) ≡ true
         yes t =
-            ap (is_value v) (slice_get-get_or x.row own no_value lt)
-            ∙ ap (λ w. value_eq w v) (sym (same_if_equal v (value_at x.row own) (asked classes input other marks ps at own (Constant v) x of marked first const same t)))
+            ap (is_value v) (slice_get-get_or z.row own no_value lt)
+            ∙ ap (λ w. value_eq w v) (sym (same_if_equal v (value_at z.row own) (asked classes input other marks ps at own (Constant v) z xs of marked first const tells same t)))
             ∙ equal_itself v
 
 -- a fact of what was found follows from three others
@@ -142,7 +146,7 @@ pub fewer_alike : (old new : Watches) → new.from ≡ old.from → new.marked �
 fewer_alike old new from marked = record { from = omega (arith, from); passed = λ ticket t. ap₂ (λ n (ms : List ℕ). ltb ticket n && not (has ms ticket)) (sym from) (sym marked) ∙ t }
 
 -- a row that is passed over after some were marked is none of these
-unmarked : (p : Stored → Bool) (rows : List Stored) (old new : Watches) (ts : List ℕ) (s : Stored) → ts ≡ tickets_of (filter p rows) → new.from ≡ old.from → new.marked ≡ old.marked ++ ts → In s rows → is_passed new s.ticket ≡ true → p s ≡ false
+pub unmarked : (p : Stored → Bool) (rows : List Stored) (old new : Watches) (ts : List ℕ) (s : Stored) → ts ≡ tickets_of (filter p rows) → new.from ≡ old.from → new.marked ≡ old.marked ++ ts → In s rows → is_passed new s.ticket ≡ true → p s ≡ false
 unmarked p rows old new ts s are from marked h t =
     false_from_ne_true (p s) (λ y. false≢true (sym (passed_more old new ts from marked s.ticket t).1
     ∙ any_from (λ m. eqb m s.ticket) ts s.ticket (subst (λ (ns : List ℕ). In s.ticket ns) (sym are) (In-map_from ticket_of s (filter p rows) (In-filter_from p s rows h y))) (eq-eqb s.ticket s.ticket refl)))
@@ -151,8 +155,8 @@ unmarked p rows old new ts s are from marked h t =
 pub left_by_key : (classes : List (List ClassCol)) (input other : ℕ) (rows : List Stored) (columns : List ℕ) (marks : List Bool) (ps : List Pattern) (own : ℕ) (v : Value) (old new : Watches) (ts : List ℕ)
     → ((s : Stored) → In s rows → own < length s.row) → IsKey classes input columns other marks ps own v → ts ≡ tickets_of (rows_with own v rows) → new.from ≡ old.from → new.marked ≡ old.marked ++ ts
     → AreUncovered classes input rows other marks ps new
-left_by_key classes input other rows columns marks ps own v old new ts wide key are from marked s h t =
-    key.1 (tuple_in input s) refl (wide s h) (unmarked (has_value own v) rows old new ts s are from marked h t)
+left_by_key classes input other rows columns marks ps own v old new ts wide key are from marked s h t xs tells =
+    key.1 (tuple_in input s) xs tells refl (wide s h) (unmarked (has_value own v) rows old new ts s are from marked h t)
 
 pub left_marked : {E V : Type 0} (r : Result V E) (classes : List (List ClassCol)) (input other : ℕ) (state : StateView) (marks : List Bool) (ps : List Pattern) (own : ℕ) (v : Value) (old new : Watches) (ts : List ℕ)
     → IsWide state → IsKey classes input state.columns other marks ps own v → ts ≡ tickets_of (rows_with own v state.rows) → new.from ≡ old.from → OnOk r (new.marked ≡ old.marked ++ ts)
@@ -165,14 +169,14 @@ left_marked (Err stop) classes input other state marks ps own v old new ts wide 
 pub left_matched : {E V : Type 0} (r : Result V E) (classes : List (List ClassCol)) (input other : ℕ) (state : StateView) (marks : List Bool) (ps : List Pattern) (own : ℕ) (q : Pattern) (old new : Watches)
     → IsWide state → In own state.columns → Limits classes input other marks ps own q → new.from ≡ old.from → OnOk r (new.marked ≡ old.marked ++ tickets_of (filter (has_match own q) state.rows))
     → OnOk r (AreUncovered classes input state.rows other marks ps new)
-left_matched (Ok done) classes input other state marks ps own q old new wide indexed limits from marked = λ s h t.
-    limits (tuple_in input s) refl (all-in (λ c. c < length s.row) state.columns (wide s h) own indexed)
+left_matched (Ok done) classes input other state marks ps own q old new wide indexed limits from marked = λ s h t xs tells.
+    limits (tuple_in input s) xs tells refl (all-in (λ c. c < length s.row) state.columns (wide s h) own indexed)
     (unmarked (has_match own q) state.rows old new (tickets_of (filter (has_match own q) state.rows)) s refl from marked h t)
 left_matched (Err stop) classes input other state marks ps own q old new wide indexed limits from marked = tt
 
 -- ---- the first step
 
-one-step : (cert : List CertStep) (step : CertStep) → slice_get cert 0 ≡ Some step → (rest : List CertStep) × (cert ≡ step ∷ rest)
+pub one-step : (cert : List CertStep) (step : CertStep) → slice_get cert 0 ≡ Some step → (rest : List CertStep) × (cert ≡ step ∷ rest)
 one-step [] step e = absurd (cc)
 one-step (s ∷ rest) step e = (rest, ap (λ (t : CertStep). t ∷ rest) (get_or_from_slice_get (s ∷ rest) 0 step step e))
 
@@ -192,7 +196,7 @@ left_first classes schemes cert step marks input rows p w at same are uncovered 
     let rest = one-step cert step at in
     subst (λ (cs : List CertStep). AsksOpen classes (entries schemes cs) (p ∷ []) (tuple_in input s)) (sym rest.1)
     (go (eqb p.input step.input)
-    (ap₂ (λ i (ms : List Bool). covers p.patterns (instance_from classes i 0 ms (tuple_in input s ∷ []))) same (sym are) ∙ uncovered s h t))
+    (ap₂ (λ i (ms : List Bool). covers p.patterns (instance_from classes i 0 ms (tuple_in input s ∷ []))) same (sym are) ∙ uncovered s h t (tuple_in input s ∷ []) (tells-own classes (tuple_in input s))))
   where
     go : (b : Bool) → covers p.patterns (instance_from classes step.input 0 (marks_of schemes step) (tuple_in input s ∷ [])) ≡ false → ((b && covers p.patterns (instance_from classes step.input 0 (marks_of schemes step) (tuple_in input s ∷ []))) || false) ≡ false
     go true e = ap (λ c. c || false) e
@@ -204,32 +208,32 @@ on_ok (Err e) f p = tt
 
 -- ---- all inputs
 
-at-set : (ws : List Watches) (i k : ℕ) (w : Watches) → i < length ws → (k ≡ i → ⊥) → watches_at (set ws i w) k ≡ watches_at ws k
+pub at-set : (ws : List Watches) (i k : ℕ) (w : Watches) → i < length ws → (k ≡ i → ⊥) → watches_at (set ws i w) k ≡ watches_at ws k
 at-set [] i k w lt ne = absurd (omega (arith, lt))
 at-set (v ∷ ws) zero zero w lt ne = absurd (ne refl)
 at-set (v ∷ ws) zero (suc k) w lt ne = refl
 at-set (v ∷ ws) (suc i) zero w lt ne = refl
 at-set (v ∷ ws) (suc i) (suc k) w lt ne = at-set ws i k w (omega (arith, lt)) (λ e. ne (ap suc e))
 
-at-place : (ws : List Watches) (i : ℕ) (w : Watches) → i < length ws → watches_at (set ws i w) i ≡ w
+pub at-place : (ws : List Watches) (i : ℕ) (w : Watches) → i < length ws → watches_at (set ws i w) i ≡ w
 at-place [] i w lt = absurd (omega (arith, lt))
 at-place (v ∷ ws) zero w lt = refl
 at-place (v ∷ ws) (suc i) w lt = at-place ws i w (omega (arith, lt))
 
-at-own : (ws : List Watches) (i : ℕ) (w : Watches) → i < length ws → w ≡ get_or ws i w → watches_at ws i ≡ w
+pub at-own : (ws : List Watches) (i : ℕ) (w : Watches) → i < length ws → w ≡ get_or ws i w → watches_at ws i ≡ w
 at-own [] i w lt e = absurd (omega (arith, lt))
 at-own (v ∷ ws) zero w lt e = sym e
 at-own (v ∷ ws) (suc i) w lt e = at-own ws i w (omega (arith, lt)) e
 
-set-count : (ws : List Watches) (i : ℕ) (w : Watches) → length (set ws i w) ≡ length ws
+pub set-count : (ws : List Watches) (i : ℕ) (w : Watches) → length (set ws i w) ≡ length ws
 set-count [] i w = refl
 set-count (v ∷ ws) zero w = refl
 set-count (v ∷ ws) (suc i) w = ap suc (set-count ws i w)
 
-fewer-then : (a b c : Watches) → IsFewer a b → IsFewer b c → IsFewer a c
+pub fewer-then : (a b c : Watches) → IsFewer a b → IsFewer b c → IsFewer a c
 fewer-then a b c f g = let l = f.from in let m = g.from in record { from = omega (arith, l, m); passed = λ ticket t. f.passed ticket (g.passed ticket t) }
 
-by-place : (P : ℕ → Type 0) (i k : ℕ) → P i → ((k ≡ i → ⊥) → P k) → P k
+pub by-place : (P : ℕ → Type 0) (i k : ℕ) → P i → ((k ≡ i → ⊥) → P k) → P k
 by-place P i k here there = go (eqb k i) refl
   where
     go : (b : Bool) → eqb k i ≡ b → P k

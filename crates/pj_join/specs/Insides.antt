@@ -4,6 +4,7 @@ use Rattle.pj_state.specs.States.{StateView}
 use Rattle.pj_cover.specs.Stores.{Store}
 use Rattle.pj_shape.specs.Sound.{IsSoundSpec}
 use Rattle.pj_events.specs.Join.{In, JoinData, TupleAt, PunctAt, AreCertified, arities, inputs, of_input, upto_from}
+use Rattle.pj_events.specs.KeptState.{least}
 use Rattle.pj_join.specs.Joins.{JoinView}
 use Rattle.pj_join.specs.Sides.{AreAllShaped, heard_in, heard_of, log_of, place_of, puncts_of, tuples_in}
 use Rattle.pj_join.specs.declared.queue.Place.{Place}
@@ -36,6 +37,10 @@ seen made next done log puncts waiting taken = record {
     waiting = waiting;
   };
 }
+
+-- the low-water ticket: the least that is not given, else the next
+abbrev pub lowest : ℕ → ℕ → List TupleAt → List ℕ → ℕ
+lowest next done log taken = least next (taken ++ tickets (drop done log))
 
 -- the numbers rise, from at least the first number to below the last
 abbrev pub Rise : ℕ → List ℕ → ℕ → Type 0

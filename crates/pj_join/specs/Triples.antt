@@ -46,6 +46,19 @@ triple_certs = (by 1 0 ∷ by 2 0 ∷ []) ∷ (by 0 0 ∷ by 2 0 ∷ []) ∷ (by
 abbrev pub triple_join : JoinData
 triple_join = join_data triple triple_schemes triple_certs
 
+-- each two of three inputs share a column
+abbrev pub triangle : JoinSpec
+triangle = record { inputs = pair ∷ pair ∷ pair ∷ []; classes = (at 0 0 ∷ at 1 0 ∷ []) ∷ (at 1 1 ∷ at 2 0 ∷ []) ∷ (at 0 1 ∷ at 2 1 ∷ []) ∷ [] }
+
+abbrev pub triangle_schemes : List (List (List Bool))
+triangle_schemes = (first_marked ∷ []) ∷ (first_marked ∷ second_marked ∷ []) ∷ (first_marked ∷ second_marked ∷ []) ∷ []
+
+abbrev pub triangle_certs : List (List CertStep)
+triangle_certs = (by 1 0 ∷ by 2 0 ∷ []) ∷ (by 0 0 ∷ by 2 1 ∷ []) ∷ (by 1 1 ∷ by 0 0 ∷ []) ∷ []
+
+abbrev pub triangle_join : JoinData
+triangle_join = join_data triangle triangle_schemes triangle_certs
+
 -- items, and bids for them: the first columns are equal
 abbrev pub double : JoinSpec
 double = record { inputs = named ∷ pair ∷ []; classes = (at 0 0 ∷ at 1 0 ∷ []) ∷ [] }

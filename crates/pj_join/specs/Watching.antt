@@ -1,16 +1,16 @@
 -- Which stored tuples of an input a sweep has to judge.
-use Rattle.std.specs.Prelude.{ℕ, ◌<◌, ◌≤◌, ◌≡◌, ◌==◌, if◌then◌else◌, Bool, true, false, not, nat_lt, ◌&&◌, ◌||◌, List, [], ◌∷◌, ◌++◌, Option, Some, None, filter, flat_map, length, slice_get, slice_index_or}
+use Rattle.std.specs.Prelude.{ℕ, ◌<◌, ◌≤◌, ◌≡◌, ◌==◌, if◌then◌else◌, Bool, true, false, not, nat_lt, ◌&&◌, ◌||◌, ◌⊎◌, List, [], ◌∷◌, ◌++◌, Option, Some, None, filter, flat_map, length, slice_get, slice_index_or}
 use Rattle.pj_value.specs.declared.values.Value.{Value}
 use Rattle.pj_state.specs.declared.shared.Stored.{Stored}
 use Rattle.pj_state.specs.States.{StateView, is_value, row_under, stored, tickets_of}
-use Rattle.pj_cover.specs.Asking.{entries, puncts_from}
+use Rattle.pj_cover.specs.Asking.{Known, entries, first_class, puncts_from, tuples_of}
 use Rattle.pj_cover.specs.declared.rows.Uncovered.{Uncovered}
 use Rattle.pj_events.specs.Patterns.{Pattern, covers, is_wild, matches_value}
-use Rattle.pj_events.specs.Join.{CertEntry, CertStep, ClassCol, In, JoinData, PunctAt, TupleAt, cert_of, covered, demand, has, inputs, instance_from, is_held, older_puncts}
+use Rattle.pj_events.specs.Join.{CertEntry, CertStep, ClassCol, In, JoinData, PunctAt, TupleAt, agree, cert_of, constant, covered, demand, has, inputs, instance_from, is_held, older_puncts, value_at}
 use Rattle.pj_events.specs.KeptState.{kept_low, kept_ripe}
 use Rattle.pj_join.specs.Joins.{JoinView}
 use Rattle.pj_join.specs.Judging.{Judge, ripe_at}
-use Rattle.pj_join.specs.Sides.{state_at, still_held, tuple_in}
+use Rattle.pj_join.specs.Sides.{row_pairs, state_at, still_held, tuple_in}
 pub use Rattle.pj_join.specs.declared.marks.Watches.{Watches}
 pub use Rattle.pj_join.specs.declared.marks.Judged.{Judged}
 use Rattle.pj_join.specs.declared.marks.Verdict.{Verdict}
@@ -31,17 +31,38 @@ abbrev pub AsksOpen : List (List ClassCol) → List CertEntry → List PunctAt �
 AsksOpen classes [] puncts x = ⊥
 AsksOpen classes (e ∷ cert) puncts x = covered puncts (demand classes e (x ∷ [])) ≡ false
 
--- each stored tuple that is passed over asks for something that no punctuation covers
-pub record AreWatched (spec : JoinData) (next : ℕ) (stored : List TupleAt) (puncts : List PunctAt) (ws : List Watches) : Type 0 where
+abbrev pub known : List (List ClassCol) → List TupleAt → List PunctAt → ℕ → Known
+known classes stored puncts low = record { classes = classes; stored = stored; puncts = puncts; low = low }
+
+-- y is stored, below the low-water ticket, for the entry e, and joins with x; what both ask for by the next entry is not covered
+pub record IsWitness (k : Known) (e f : CertEntry) (x y : TupleAt) : Type 0 where
+  pub there : In y k.stored
+  pub below : y.ticket < k.low
+  pub of_entry : y.input ≡ e.input
+  pub joins : agree k.classes (y ∷ x ∷ []) ≡ true
+  pub uncovered : covered k.puncts (demand k.classes f (y ∷ x ∷ [])) ≡ false
+
+-- what the tuple asks for by the second entry through a stored tuple is not covered
+abbrev pub AsksNext : Known → List CertEntry → TupleAt → Type 0
+AsksNext k [] x = ⊥
+AsksNext k (e ∷ []) x = ⊥
+AsksNext k (e ∷ f ∷ cert) x = (y : TupleAt) × IsWitness k e f x y
+
+-- what it asks for by the first entry or by the second one is not covered
+abbrev pub AsksEarly : Known → List CertEntry → TupleAt → Type 0
+AsksEarly k cert x = AsksOpen k.classes cert k.puncts x ⊎ AsksNext k cert x
+
+-- each stored tuple that is passed over asks early for something that no punctuation covers
+pub record AreWatched (spec : JoinData) (next low : ℕ) (stored : List TupleAt) (puncts : List PunctAt) (ws : List Watches) : Type 0 where
   pub count : length ws ≡ inputs spec
   pub reached : (input : ℕ) → (watches_at ws input).from ≤ next
-  pub asks : (x : TupleAt) → In x stored → is_passed (watches_at ws x.input) x.ticket ≡ true → AsksOpen spec.shape.classes (cert_of spec x.input) puncts x
+  pub asks : (x : TupleAt) → In x stored → is_passed (watches_at ws x.input) x.ticket ≡ true → AsksEarly (known spec.shape.classes stored puncts low) (cert_of spec x.input) x
 
 -- each stored tuple of the input below the low-water ticket that is neither ripe nor marked does
 abbrev pub AreOpenBut : JoinView → ℕ → List ℕ → Type 0
 AreOpenBut join input marked =
     (x : TupleAt) → In x join.kept.stored → x.input ≡ input → x.ticket < kept_low join.kept → kept_ripe join.spec join.kept x ≡ false → has marked x.ticket ≡ false
-    → AsksOpen join.spec.shape.classes (cert_of join.spec input) join.kept.puncts x
+    → AsksEarly (known join.spec.shape.classes join.kept.stored join.kept.puncts (kept_low join.kept)) (cert_of join.spec input) x
 
 -- each of these punctuations is matched by a stored tuple of its input
 abbrev pub AllHeld : List TupleAt → List PunctAt → Type 0
@@ -67,9 +88,22 @@ pub record IsFewer (old new : Watches) : Type 0 where
 abbrev pub AreLeftOpen : List (List ClassCol) → List CertEntry → ℕ → List Stored → PunctAt → Watches → Type 0
 AreLeftOpen classes cert input rows p w = (s : Stored) → In s rows → is_passed w s.ticket ≡ true → AsksOpen classes cert (p ∷ []) (tuple_in input s)
 
--- the same of the input with this number
+-- the punctuation covers nothing that the tuple asks for by the second entry through a row of the first one's input
+abbrev pub IsLeftNext : List (List ClassCol) → List CertEntry → List StateView → PunctAt → TupleAt → Type 0
+IsLeftNext classes [] states p x = Unit {0}
+IsLeftNext classes (e ∷ []) states p x = Unit {0}
+IsLeftNext classes (e ∷ f ∷ cert) states p x =
+    (t : Stored) → In t (state_at states e.input).rows → agree classes (tuple_in e.input t ∷ x ∷ []) ≡ true → covered (p ∷ []) (demand classes f (tuple_in e.input t ∷ x ∷ [])) ≡ false
+
+-- the same of each of the input's rows that are passed over
+abbrev pub AreLeftNext : List (List ClassCol) → List CertEntry → ℕ → List StateView → PunctAt → Watches → Type 0
+AreLeftNext classes cert input states p w = (s : Stored) → In s (state_at states input).rows → is_passed w s.ticket ≡ true → IsLeftNext classes cert states p (tuple_in input s)
+
+-- both of the input with this number
 abbrev pub AreLeftAt : JoinData → List StateView → PunctAt → Watches → ℕ → Type 0
-AreLeftAt spec states p w input = AreLeftOpen spec.shape.classes (cert_of spec input) input (state_at states input).rows p w
+AreLeftAt spec states p w input =
+    AreLeftOpen spec.shape.classes (cert_of spec input) input (state_at states input).rows p w
+    × AreLeftNext spec.shape.classes (cert_of spec input) input states p w
 
 -- the same of the first so many inputs
 abbrev pub AreLeft : JoinData → List StateView → PunctAt → List Watches → ℕ → Type 0
@@ -84,10 +118,25 @@ pub record AreFewer (old new : List Watches) : Type 0 where
   pub count : length new ≡ length old
   pub each : (input : ℕ) → IsFewer (watches_at old input) (watches_at new input)
 
--- the same where the entry's input and scheme are these
+-- the first column of the input in a class
+abbrev pub first_column : List ClassCol → ℕ → Option ℕ
+first_column [] input = None
+first_column (at ∷ class) input = if at.input == input then Some at.column else first_column class input
+
+-- the value of each class in these tuples is the one that this tuple has in the class's first column of its input
+abbrev pub Tells : List (List ClassCol) → List TupleAt → TupleAt → Type 0
+Tells classes xs z =
+    (at : ClassCol) (own : ℕ) → first_column (first_class classes at) z.input ≡ Some own → constant (first_class classes at) xs ≡ value_at z.row own
+
+-- the punctuation covers nothing that is asked for of this input and scheme by tuples whose values a row tells that is passed over
 abbrev pub AreUncovered : List (List ClassCol) → ℕ → List Stored → ℕ → List Bool → List Pattern → Watches → Type 0
 AreUncovered classes input rows other marks patterns w =
-    (s : Stored) → In s rows → is_passed w s.ticket ≡ true → covers patterns (instance_from classes other 0 marks (tuple_in input s ∷ [])) ≡ false
+    (s : Stored) → In s rows → is_passed w s.ticket ≡ true → (xs : List TupleAt) → Tells classes xs (tuple_in input s) → covers patterns (instance_from classes other 0 marks xs) ≡ false
+
+-- nor what those of these tuples that are passed over ask for with one of those that joins with them
+abbrev pub AreUncoveredWith : List (List ClassCol) → List TupleAt → List TupleAt → ℕ → List Bool → List Pattern → Watches → Type 0
+AreUncoveredWith classes xs ys other marks patterns w =
+    (x y : TupleAt) → In x xs → is_passed w x.ticket ≡ true → In y ys → agree classes (y ∷ x ∷ []) ≡ true → covers patterns (instance_from classes other 0 marks (y ∷ x ∷ [])) ≡ false
 
 -- there is a pattern for each mark, and a wildcard for each column that is not marked
 abbrev pub is_wild_elsewhere : List Bool → List Pattern → Bool
@@ -96,10 +145,11 @@ is_wild_elsewhere [] (p ∷ patterns) = false
 is_wild_elsewhere (mark ∷ marks) [] = false
 is_wild_elsewhere (mark ∷ marks) (p ∷ patterns) = (mark || is_wild p) && is_wild_elsewhere marks patterns
 
--- the column is indexed, and the punctuation covers what a row of the input asks for only where it has this value there
+-- the column is indexed, and the punctuation covers what tuples ask for whose values a row tells only where it has this value there
 abbrev pub IsKey : List (List ClassCol) → ℕ → List ℕ → ℕ → List Bool → List Pattern → ℕ → Value → Type 0
 IsKey classes input columns other marks patterns column value =
-    In column columns × ((x : TupleAt) → x.input ≡ input → column < length x.row → is_value value (slice_get x.row column) ≡ false → covers patterns (instance_from classes other 0 marks (x ∷ [])) ≡ false)
+    In column columns
+    × ((z : TupleAt) (xs : List TupleAt) → Tells classes xs z → z.input ≡ input → column < length z.row → is_value value (slice_get z.row column) ≡ false → covers patterns (instance_from classes other 0 marks xs) ≡ false)
 
 -- the value is there, and the pattern matches it
 abbrev pub is_match : Pattern → Option Value → Bool
@@ -110,28 +160,69 @@ is_match pattern (Some value) = matches_value pattern value
 abbrev pub has_match : ℕ → Pattern → Stored → Bool
 has_match column pattern s = is_match pattern (slice_get s.row column)
 
--- the punctuation covers what a row of the input asks for only where this pattern matches its value in this column
+-- the punctuation covers what tuples ask for whose values a row tells only where this pattern matches its value in this column
 abbrev pub Limits : List (List ClassCol) → ℕ → ℕ → List Bool → List Pattern → ℕ → Pattern → Type 0
 Limits classes input other marks patterns column pattern =
-    (x : TupleAt) → x.input ≡ input → column < length x.row → is_match pattern (slice_get x.row column) ≡ false → covers patterns (instance_from classes other 0 marks (x ∷ [])) ≡ false
+    (z : TupleAt) (xs : List TupleAt) → Tells classes xs z → z.input ≡ input → column < length z.row → is_match pattern (slice_get z.row column) ≡ false → covers patterns (instance_from classes other 0 marks xs) ≡ false
 
--- the first column of the input in a class
-abbrev pub first_column : List ClassCol → ℕ → Option ℕ
-first_column [] input = None
-first_column (at ∷ class) input = if at.input == input then Some at.column else first_column class input
+-- ---- rows that join with one of another input
+
+-- the column is indexed, and tuples of both inputs that join have one value in these columns
+abbrev pub IsPair : List (List ClassCol) → ℕ → List ℕ → ℕ → ℕ → ℕ → Type 0
+IsPair classes input columns other mine theirs =
+    In mine columns × ((x y : TupleAt) → x.input ≡ input → y.input ≡ other → agree classes (y ∷ x ∷ []) ≡ true → value_at x.row mine ≡ value_at y.row theirs)
+
+-- no row with one of these tickets is passed over
+abbrev pub AreMarked : List ℕ → Watches → Type 0
+AreMarked tickets w = (t : ℕ) → In t tickets → is_passed w t ≡ false
+
+-- no row that is passed over has this value in this column
+abbrev pub AreUnlike : List Stored → ℕ → Value → Watches → Type 0
+AreUnlike rows column value w = (s : Stored) → In s rows → is_passed w s.ticket ≡ true → value_at s.row column ≡ value → ⊥
+
+-- the same for the value that each row of another input with one of these tickets has
+abbrev pub AreAllUnlike : List Stored → ℕ → List Stored → ℕ → List ℕ → Watches → Type 0
+AreAllUnlike rows mine others theirs tickets w = (t : Stored) → In t others → In t.ticket tickets → AreUnlike rows mine (value_at t.row theirs) w
+
+-- no row of the input that is passed over joins with this tuple
+abbrev pub IsAlone : List (List ClassCol) → ℕ → List Stored → TupleAt → Watches → Type 0
+IsAlone classes input rows y w = (s : Stored) → In s rows → is_passed w s.ticket ≡ true → agree classes (y ∷ tuple_in input s ∷ []) ≡ false
+
+-- the same of the tuples of another input with one of these tickets
+abbrev pub AreAllAlone : List (List ClassCol) → ℕ → List Stored → ℕ → List Stored → List ℕ → Watches → Type 0
+AreAllAlone classes input rows other others tickets w = (t : Stored) → In t others → In t.ticket tickets → IsAlone classes input rows (tuple_in other t) w
+
+-- the certificate begins with this input, and goes on
+abbrev pub asks_first : List CertStep → ℕ → Bool
+asks_first [] other = false
+asks_first (step ∷ []) other = false
+asks_first (step ∷ next ∷ steps) other = step.input == other
+
+-- where the input asks first of that one: no row of it that is passed over joins with one that goes there
+abbrev pub IsRousedAt : List (List ClassCol) → List (List CertStep) → List StateView → ℕ → List ℕ → Watches → ℕ → Type 0
+IsRousedAt classes certs states other gone w input =
+    asks_first (slice_index_or certs input []) other ≡ true → AreAllAlone classes input (state_at states input).rows other (state_at states other).rows gone w
+
+-- the same of the first so many inputs
+abbrev pub AreRoused : List (List ClassCol) → List (List CertStep) → List StateView → ℕ → List ℕ → List Watches → ℕ → Type 0
+AreRoused classes certs states other gone ws count = (input : ℕ) → input < count → IsRousedAt classes certs states other gone (watches_at ws input) input
 
 -- ---- what a judge says
 
--- what the row asks for by the first entry is not covered below the low-water ticket
+-- what is known below the low-water ticket
+abbrev pub known_at : Judge → Known
+known_at j = known j.spec.classes (tuples_of (row_pairs j.states) (length j.spec.inputs)) (older_puncts j.low (puncts_from 0 j.stores)) j.low
+
+-- what the row asks for by one of the first two entries is not covered below the low-water ticket
 abbrev pub IsOpenAt : Judge → List CertStep → ℕ → Stored → Type 0
-IsOpenAt j cert input s = AsksOpen j.spec.classes (entries j.schemes cert) (older_puncts j.low (puncts_from 0 j.stores)) (tuple_in input s)
+IsOpenAt j cert input s = AsksEarly (known_at j) (entries j.schemes cert) (tuple_in input s)
 
 -- what the first instance that is not covered tells
 abbrev pub verdict_on : Option Uncovered → Bool → Verdict
 verdict_on None settled = Ripe
-verdict_on (Some u) settled = if (u.entry == 0) && settled then Open else Marked
+verdict_on (Some u) settled = if nat_lt u.entry 2 && settled then Open else Marked
 
--- it is ripe; or what it asks for first is not covered, where it is below the low-water ticket; or it is not ripe
+-- it is ripe; or what it asks for early is not covered, where it is below the low-water ticket; or it is not ripe
 abbrev pub IsVerdict : Judge → List CertStep → ℕ → Bool → Stored → Verdict → Type 0
 IsVerdict j cert input settled s Ripe = ripe_at j cert input s ≡ true
 IsVerdict j cert input settled s Open = (ripe_at j cert input s ≡ false) × (s.ticket < j.low → (settled ≡ true) × IsOpenAt j cert input s)
@@ -161,7 +252,7 @@ picked j cert input ticket = filter (ripe_at j cert input) (under_with ticket (r
 abbrev pub all_picked : Judge → List CertStep → ℕ → List ℕ → List Stored
 all_picked j cert input tickets = flat_map (picked j cert input) tickets
 
--- the row is ripe, or marked, or what it asks for first is not covered
+-- the row is ripe, or marked, or what it asks for early is not covered
 abbrev pub IsLookedAt : Judge → List CertStep → ℕ → Bool → List ℕ → Stored → Type 0
 IsLookedAt j cert input settled marked s = s.ticket < j.low → ripe_at j cert input s ≡ false → has marked s.ticket ≡ false → (settled ≡ true) × IsOpenAt j cert input s
 

@@ -15,11 +15,12 @@ ghost use Rattle.pj_join.specs.Sweeping.{GoesWhereCovered, HandsUp, HasBeenLawfu
 use crate::arrivals::Heard;
 use crate::handing::hand_out_found;
 use crate::marks::Watches;
+use crate::partners::rouse;
 use crate::queue::{Place, Queue};
 use crate::starting::{empty_states, empty_stores, empty_watches};
 use crate::stored::first_pending;
 use crate::sweeping::{Left, remove_all, sweep_input};
-use crate::watches::wake;
+use crate::waking::wake;
 use crate::widening::hear;
 use crate::{JoinStop, Probe};
 use pj_cover::PunctStore;
@@ -57,7 +58,7 @@ pub struct Join {
 impl Model for Join {
     ghost use Rattle.std.specs.Arc.{arc_value};
     ghost use Rattle.pj_join.specs.Joins.{JoinView, join_data};
-    ghost use Rattle.pj_join.specs.Insides.{IsJoin, inside, made_with, seen};
+    ghost use Rattle.pj_join.specs.Insides.{IsJoin, inside, lowest, made_with, seen};
     ghost use Rattle.pj_join.specs.Sides.{log_of, puncts_of};
     ghost use Rattle.pj_join.specs.Watching.{AllHeld, AreWatched};
 
@@ -65,7 +66,7 @@ impl Model for Join {
 
     ghost view = { λ j. seen (made_with j.node (join_data (arc_value j.spec) j.schemes j.certs) j.limit) j.next j.done (log_of j.states.items) (puncts_of j.stores.items) j.waiting j.taken.items };
 
-    ghost invariant = { λ j. IsJoin (join_data (arc_value j.spec) j.schemes j.certs) j.limit (inside j.next j.done j.states.items j.stores.items j.pending j.taken.items) × AreWatched (join_data (arc_value j.spec) j.schemes j.certs) j.next (log_of j.states.items) (puncts_of j.stores.items) j.watches.items × AllHeld (log_of j.states.items) j.waiting };
+    ghost invariant = { λ j. IsJoin (join_data (arc_value j.spec) j.schemes j.certs) j.limit (inside j.next j.done j.states.items j.stores.items j.pending j.taken.items) × AreWatched (join_data (arc_value j.spec) j.schemes j.certs) j.next (lowest j.next j.done (log_of j.states.items) j.taken.items) (log_of j.states.items) (puncts_of j.stores.items) j.watches.items × AllHeld (log_of j.states.items) j.waiting };
 }
 
 impl Join {
@@ -157,6 +158,7 @@ impl Join {
         }
         let ticket = self.next;
         wake(
+            self.alloc,
             &mut self.watches,
             &self.spec,
             &self.schemes,
@@ -335,8 +337,16 @@ impl Join {
         let from = self.low();
         self.done -= count;
         take_over(&mut self.waiting, waiting);
-        remove_all(&mut self.states[input as usize], gone.as_slice());
         self.watches[input as usize] = Watches { from, marked };
+        rouse(
+            &mut self.watches,
+            self.spec.classes.as_slice(),
+            self.certs.as_slice(),
+            self.states.as_slice(),
+            input,
+            gone.as_slice(),
+        );
+        remove_all(&mut self.states[input as usize], gone.as_slice());
         count as u64
     }
 

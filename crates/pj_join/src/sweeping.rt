@@ -29,14 +29,14 @@ pub struct Left {
 }
 
 // What the first instance tells that a row asks for and that is not covered. Where no punctuation is at or above the low-water
-// ticket, one of the first step of the certificate stays so until a punctuation comes.
+// ticket, one of the first two steps of the certificate stays so until a punctuation comes, or a row goes.
 fn verdict_on(found: Option<Uncovered>, settled: bool) -> Verdict
     ensures { result ≡ verdict_on found settled }
 {
     match found {
         None => Verdict::Ripe,
         Some(found) => {
-            if found.entry == 0 && settled {
+            if found.entry < 2 && settled {
                 return Verdict::Open;
             }
             Verdict::Marked

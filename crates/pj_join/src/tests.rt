@@ -1,7 +1,7 @@
 // What no clause says: that the calls succeed with ample memory, and what the definitions mean on runs by hand.
 ghost use Rattle.std.specs.Prelude.{◌≡◌, ◌<◌, ◌≤◌, ◌^◌, ◌∷◌, [], if◌then◌else◌, length, IfOk};
 ghost use Rattle.pj_events.specs.Join.{arity, inputs};
-ghost use Rattle.pj_join.specs.Triples.{at, by, double, double_certs, double_join, double_schemes, first_marked, named, number, pair, second_marked, triple_certs, triple_join, triple_schemes};
+ghost use Rattle.pj_join.specs.Triples.{at, by, double, double_certs, double_join, double_schemes, first_marked, named, number, pair, second_marked, triangle, triangle_certs, triangle_join, triangle_schemes, triple_certs, triple_join, triple_schemes};
 
 use super::*;
 use pj_events::Out;
@@ -631,5 +631,111 @@ fn a_constant_in_another_column_removes_no_row(rt: HostRuntime) -> Result<(), Fa
     let swept = sweeps_behind_constants(alloc, &mut join)?;
     let want = [0, 5, 7, -2, -2, 0, 5, -2, -2, -2, 1, 5, 50];
     assert_eq!(rt; swept.as_slice(), want.as_slice());
+    Ok(())
+}
+
+fn triangle_spec(alloc: Global) -> Result<JoinSpec, NoMemory>
+    ensures { IfOk result (λ s. s ≡ triangle) }
+{
+    let inputs = inputs(alloc)?;
+    let mut classes = List::new(alloc);
+    classes.push(class(alloc, col(0, 0), col(1, 0))?)?;
+    classes.push(class(alloc, col(1, 1), col(2, 0))?)?;
+    classes.push(class(alloc, col(0, 1), col(2, 1))?)?;
+    Ok(JoinSpec { inputs, classes })
+}
+
+fn both_schemes(alloc: Global) -> Result<List<Scheme>, NoMemory>
+    ensures { IfOk result (λ l. l ≡ first_marked ∷ second_marked ∷ []) }
+{
+    let mut list = one_scheme(alloc, true)?;
+    list.push(scheme(alloc, false)?)?;
+    Ok(list)
+}
+
+fn triangle_schemes(alloc: Global) -> Result<Schemes, NoMemory>
+    ensures { IfOk result (λ s. s ≡ triangle_schemes) }
+{
+    let mut lists = List::new(alloc);
+    lists.push(one_scheme(alloc, true)?)?;
+    lists.push(both_schemes(alloc)?)?;
+    lists.push(both_schemes(alloc)?)?;
+    Ok(Schemes::of(lists))
+}
+
+fn triangle_certs(alloc: Global) -> Result<List<Cert>, NoMemory>
+    ensures { IfOk result (λ c. c ≡ triangle_certs) }
+{
+    let mut certs = List::new(alloc);
+    certs.push(cert(alloc, &[by(1, 0), by(2, 0)])?)?;
+    certs.push(cert(alloc, &[by(0, 0), by(2, 1)])?)?;
+    certs.push(cert(alloc, &[by(1, 1), by(0, 0)])?)?;
+    Ok(certs)
+}
+
+// A join of three inputs of which each two share a column.
+#[tactic(auto, using(crate::proofs::Triangles::triangle_sound))]
+fn triangle_join(alloc: Global) -> Result<Join, NoMemory>
+    ensures { IfOk result (λ join. join.spec ≡ triangle_join) }
+{
+    let spec = triangle_spec(alloc)?;
+    Join::new(
+        alloc,
+        5,
+        spec,
+        triangle_schemes(alloc)?,
+        triangle_certs(alloc)?,
+        100,
+    )
+}
+
+// A row comes and is given.
+fn add(alloc: Global, join: &mut Join, input: u32, a: i64, b: i64) -> Result<(), JoinStop>
+    requires spec { join.old.spec ≡ triangle_join }
+    requires input { input < 3 }
+    ensures { join.new.spec ≡ triangle_join }
+{
+    let row = row(alloc, a, b)?;
+    join.tuple(input, row)?;
+    next_count(alloc, join)?;
+    Ok(())
+}
+
+// A row of the first input that waits by its second step, through a row of the second one.
+fn waits_through(alloc: Global, join: &mut Join, all: &mut Vec<i64>) -> Result<(), JoinStop>
+    requires { join.old.spec ≡ triangle_join }
+    ensures { join.new.spec ≡ triangle_join }
+{
+    add(alloc, join, 0, 1, 7)?;
+    add(alloc, join, 1, 1, 5)?;
+    hear(alloc, join, 1, 1, -2, all)?;
+    sweep(alloc, join, 0, all)?;
+    Ok(())
+}
+
+// The row of the second input goes, and the one that waited through it behind it.
+fn sweeps_of_triangle(alloc: Global, join: &mut Join) -> Result<Vec<i64>, JoinStop>
+    requires { join.old.spec ≡ triangle_join }
+{
+    let mut all = Vec::new(alloc);
+    waits_through(alloc, join, &mut all)?;
+    hear(alloc, join, 0, 1, -2, &mut all)?;
+    hear(alloc, join, 2, -2, 7, &mut all)?;
+    sweep(alloc, join, 0, &mut all)?;
+    sweep(alloc, join, 1, &mut all)?;
+    sweep(alloc, join, 0, &mut all)?;
+    Ok(all)
+}
+
+#[test]
+fn a_row_that_goes_wakes_one_that_waits_through_it(rt: HostRuntime) -> Result<(), Fail> {
+    let alloc = rt.alloc();
+    let mut join = triangle_join(alloc)?;
+    let swept = sweeps_of_triangle(alloc, &mut join)?;
+    let want = [
+        0, -2, -2, -2, -2, -2, 7, 0, 1, 1, 5, -2, -2, 1, -2, -2, -2, 1, 1, 7, 1, -2, -2, -2, -2, -2,
+    ];
+    assert_eq!(rt; swept.as_slice(), want.as_slice());
+    assert_eq!(rt; (join.stored(), join.waiting()), (0, 0));
     Ok(())
 }

@@ -1,31 +1,29 @@
-// Which stored rows a punctuation marks.
-ghost use Rattle.std.specs.Prelude.{◌≡◌, ◌<◌, ◌≤◌, ◌^◌, ◌==◌, ◌||◌, ◌++◌, [], true, ℕ, filter, length, slice_get, slice_index_or, Some, IfOk, IfSome, OnOk, OnErr};
+// Where the rows are looked up that a punctuation marks.
+ghost use Rattle.std.specs.Prelude.{◌≡◌, ◌<◌, ◌==◌, ◌||◌, ◌++◌, true, filter, length, slice_get, Some, IfOk, IfSome, OnOk, OnErr};
 ghost use Rattle.std.specs.List.{list_any};
 ghost use Rattle.pj_pattern.specs.declared.pattern.Form.TheVariants.{Constant};
 ghost use Rattle.pj_shape.specs.Joining.{has_column};
 ghost use Rattle.pj_events.specs.Patterns.{is_wild};
 ghost use Rattle.pj_state.specs.States.{stored, tickets_of};
 ghost use Rattle.pj_value.specs.Lists.{In};
-ghost use Rattle.pj_cover.specs.Asking.{entries, first_class, marks_of};
-ghost use Rattle.pj_join.specs.Joins.{join_data};
+ghost use Rattle.pj_cover.specs.Asking.{first_class, marks_of};
 ghost use Rattle.pj_join.specs.Judging.{one_if};
-ghost use Rattle.pj_join.specs.Sides.{IsWide, AreWide, state_at};
-ghost use Rattle.pj_join.specs.Watching.{AllAreLeft, AreFewer, AreLeftAt, AreLeftOpen, AreUncovered, IsFewer, IsKey, Limits, first_column, has_match, is_match, is_wild_elsewhere, no_watches, watches_at};
+ghost use Rattle.pj_join.specs.Watching.{AreMarked, IsFewer, IsKey, Limits, first_column, has_match, is_match, is_wild_elsewhere, no_watches};
 
 use crate::lookups::Lookup;
 use crate::marks::Watches;
 use crate::widening::{constant_of, is_wild};
 use pj_pattern::{Pattern, Punct};
-use pj_shape::{Cert, CertStep, ClassCol, JoinSpec, Scheme, Schemes};
+use pj_shape::{CertStep, ClassCol, Scheme, Schemes};
 use pj_state::State;
 use pj_value::{List, NoMemory, Row};
 use std::alloc::Global;
 
-// A column, and a pattern for it.
+/// A column, and a pattern for it.
 #[derive(Clone, Copy)]
-struct Limit<'a> {
-    column: u32,
-    pattern: &'a Pattern,
+pub struct Limit<'a> {
+    pub column: u32,
+    pub pattern: &'a Pattern,
 }
 
 impl Watches {
@@ -39,26 +37,37 @@ impl Watches {
         }
     }
 
-    // All rows are judged.
-    fn mark_all(&mut self)
+    /// All rows are judged.
+    pub fn mark_all(&mut self)
         ensures { self.new.from ≡ 0 }
     {
         self.from = 0;
         self.marked.truncate(0);
     }
 
-    // The rows with these tickets are judged.
-    fn mark(&mut self, tickets: &[u64]) -> Result<(), NoMemory>
+    /// The rows with these tickets are judged.
+    pub fn mark(&mut self, tickets: &[u64]) -> Result<(), NoMemory>
         ensures from { self.new.from ≡ self.old.from }
         ensures ok { OnOk result (self.new.marked ≡ self.old.marked ++ tickets.now) }
         ensures err { OnErr result (self.new.marked ≡ self.old.marked) }
     {
         self.marked.append(tickets)
     }
+
+    /// The rows with these tickets are judged; all where there is no memory to mark them.
+    pub fn mark_or_all(&mut self, tickets: &[u64])
+        ensures fewer { IsFewer self.old self.new }
+        ensures marked { AreMarked tickets.now self.new }
+    {
+        match self.mark(tickets) {
+            Ok(()) => {}
+            Err(_) => self.mark_all(),
+        }
+    }
 }
 
-// The first column of an input in a class.
-fn first_column(class: &[ClassCol], input: u32) -> Option<u32>
+/// The first column of an input in a class.
+pub fn first_column(class: &[ClassCol], input: u32) -> Option<u32>
     ensures { result ≡ first_column class.now input }
 {
     for at in class {
@@ -151,8 +160,8 @@ fn key_at<'a>(
     key_in(classes, input, state, at, punct)
 }
 
-// A column of the rows of an input, and the value in it of those that ask for what the punctuation covers.
-fn key<'a>(
+/// A column of the rows of an input, and the value in it of those that ask for what the punctuation covers.
+pub fn key<'a>(
     classes: &[List<ClassCol>],
     input: u32,
     state: &State,
@@ -206,8 +215,8 @@ fn limit_at<'a>(
     }
 }
 
-// The same of the first column for which there is one.
-fn first_limit<'a>(
+/// The same of the first column for which there is one.
+pub fn first_limit<'a>(
     classes: &[List<ClassCol>],
     input: u32,
     state: &State,
@@ -254,26 +263,25 @@ fn mark_match(
     Ok(())
 }
 
-// Marks the rows whose value in a column the pattern matches. On a refusal some may be marked.
-fn mark_matching(
-    watches: &mut Watches,
+/// The tickets of the rows whose value in a column the pattern matches.
+pub fn matching_tickets(
+    alloc: Global,
     state: &State,
     column: u32,
     pattern: &Pattern,
-) -> Result<(), NoMemory>
-    ensures from { watches.new.from ≡ watches.old.from }
-    ensures fewer { IsFewer watches.old watches.new }
-    ensures ok { OnOk result (watches.new.marked ≡ watches.old.marked ++ tickets_of (filter (has_match column pattern.now) state.now.rows)) }
+) -> Result<List<u64>, NoMemory>
+    ensures { IfOk result (λ tickets. tickets ≡ tickets_of (filter (has_match column pattern.now) state.now.rows)) }
 {
+    let mut tickets = List::new(alloc);
     for at in 0..state.len() {
         let (ticket, row) = state.nth(at);
-        mark_match(ticket, row, column, pattern, &mut watches.marked)?;
+        mark_match(ticket, row, column, pattern, &mut tickets)?;
     }
-    Ok(())
+    Ok(tickets)
 }
 
-// The scheme of a certificate's step, where there is one.
-fn scheme_of(schemes: &Schemes, step: CertStep) -> Option<&Scheme>
+/// The scheme of a certificate's step, where there is one.
+pub fn scheme_of(schemes: &Schemes, step: CertStep) -> Option<&Scheme>
     ensures { IfSome result (λ scheme. scheme.now ≡ marks_of schemes.now step) }
 {
     if step.input as usize >= schemes.len() {
@@ -289,9 +297,9 @@ fn is_marked_or_wild(mark: bool, pattern: &Pattern) -> bool
     mark || is_wild(pattern)
 }
 
-// Whether the punctuation is a wildcard in each column that the scheme does not mark: else it covers no instance of the scheme.
+/// Whether the punctuation is a wildcard in each column that the scheme does not mark: else it covers no instance of the scheme.
 #[tactic(auto, using(crate::proofs::Elsewhere::elsewhere_length))]
-fn is_wild_elsewhere(scheme: &Scheme, punct: &Punct) -> bool
+pub fn is_wild_elsewhere(scheme: &Scheme, punct: &Punct) -> bool
     ensures { result ≡ is_wild_elsewhere scheme.now punct.now }
 {
     if scheme.len() != punct.len() {
@@ -305,153 +313,4 @@ fn is_wild_elsewhere(scheme: &Scheme, punct: &Punct) -> bool
         }
     }
     true
-}
-
-// Marks the rows of an input that a marked column of the punctuation leaves; all where each is a wildcard.
-fn wake_limited(
-    watches: &mut Watches,
-    classes: &[List<ClassCol>],
-    input: u32,
-    state: &State,
-    scheme: &Scheme,
-    other: u32,
-    punct: &Punct,
-) -> Result<(), NoMemory>
-    requires { IsWide state.now }
-    ensures fewer { IsFewer watches.old watches.new }
-    ensures left { OnOk result (AreUncovered classes.now input state.now.rows other scheme.now punct.now watches.new) }
-{
-    match first_limit(classes, input, state, other, scheme, punct) {
-        None => {
-            watches.mark_all();
-            Ok(())
-        }
-        Some(limit) => mark_matching(watches, state, limit.column, limit.pattern),
-    }
-}
-
-// Marks the rows of an input that ask for what the punctuation covers by this step; or all.
-fn wake_by(
-    watches: &mut Watches,
-    classes: &[List<ClassCol>],
-    input: u32,
-    state: &State,
-    scheme: &Scheme,
-    other: u32,
-    punct: &Punct,
-) -> Result<(), NoMemory>
-    requires { IsWide state.now }
-    ensures fewer { IsFewer watches.old watches.new }
-    ensures left { OnOk result (AreUncovered classes.now input state.now.rows other scheme.now punct.now watches.new) }
-{
-    if !is_wild_elsewhere(scheme, punct) {
-        return Ok(());
-    }
-    match key(classes, input, state, other, scheme, punct) {
-        None => wake_limited(watches, classes, input, state, scheme, other, punct),
-        Some(key) => watches.mark(state.tickets(key.column, key.value)),
-    }
-}
-
-// Marks the rows of an input that ask first for what the punctuation of another one covers; or all.
-fn wake_one(
-    watches: &mut Watches,
-    classes: &[List<ClassCol>],
-    schemes: &Schemes,
-    cert: &Cert,
-    input: u32,
-    state: &State,
-    other: u32,
-    punct: &Punct,
-) -> Result<(), NoMemory>
-    requires { IsWide state.now }
-    ensures fewer { IsFewer watches.old watches.new }
-    ensures left { OnOk result ((ticket : ℕ) → AreLeftOpen classes.now (entries schemes.now cert.now) input state.now.rows (record { ticket = ticket; input = other; patterns = punct.now }) watches.new) }
-{
-    if cert.len() == 0 {
-        watches.mark_all();
-        return Ok(());
-    }
-    let step = *cert.at(0);
-    if step.input != other {
-        return Ok(());
-    }
-    match scheme_of(schemes, step) {
-        None => {
-            watches.mark_all();
-            Ok(())
-        }
-        Some(scheme) => wake_by(watches, classes, input, state, scheme, other, punct),
-    }
-}
-
-// The same for the input with this number.
-fn wake_at(
-    watches: &mut Watches,
-    spec: &JoinSpec,
-    schemes: &Schemes,
-    certs: &[Cert],
-    states: &[State],
-    at: usize,
-    other: u32,
-    punct: &Punct,
-) -> Result<(), NoMemory>
-    requires few { at < 2 ^ 32 }
-    requires wide { AreWide states.now }
-    ensures fewer { IsFewer watches.old watches.new }
-    ensures left { OnOk result ((ticket : ℕ) → AreLeftAt (join_data spec.now schemes.now certs.now) states.now (record { ticket = ticket; input = other; patterns = punct.now }) watches.new at) }
-{
-    match certs.get(at) {
-        None => {
-            watches.mark_all();
-            Ok(())
-        }
-        Some(cert) => match states.get(at) {
-            None => {
-                watches.mark_all();
-                Ok(())
-            }
-            Some(state) => wake_one(
-                watches,
-                spec.classes.as_slice(),
-                schemes,
-                cert,
-                at as u32,
-                state,
-                other,
-                punct,
-            ),
-        },
-    }
-}
-
-/// Marks the rows of each input that ask first for what the punctuation of another one covers. On a refusal some may be
-/// marked.
-pub fn wake(
-    watches: &mut Vec<Watches>,
-    spec: &JoinSpec,
-    schemes: &Schemes,
-    certs: &[Cert],
-    states: &[State],
-    other: u32,
-    punct: &Punct,
-) -> Result<(), NoMemory>
-    requires few { length watches.old.items < 2 ^ 32 }
-    requires wide { AreWide states.now }
-    ensures fewer { AreFewer watches.old.items watches.new.items }
-    ensures left { OnOk result (AllAreLeft (join_data spec.now schemes.now certs.now) states.now other punct.now watches.new.items (length watches.old.items)) }
-{
-    for at in 0..watches.len() {
-        wake_at(
-            &mut watches[at],
-            spec,
-            schemes,
-            certs,
-            states,
-            at,
-            other,
-            punct,
-        )?;
-    }
-    Ok(())
 }

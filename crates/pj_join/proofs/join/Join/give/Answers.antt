@@ -2,12 +2,15 @@ use Rattle.std.proofs.Common.{◌≡◌, ◌<◌, false, arith, drop}
 use Rattle.std.specs.Arc.{arc_value}
 use Rattle.pj_events.specs.Join.{has, inputs}
 use Rattle.pj_join.specs.Joins.{join_data, IsTaken}
-use Rattle.pj_join.specs.Insides.{tickets}
+use Rattle.pj_events.specs.KeptState.{without}
+use Rattle.pj_join.specs.Insides.{lowest, tickets}
 use Rattle.pj_join.specs.Sides.{log_of, puncts_of, tuples_in}
 use Rattle.pj_join.proofs.Orders.{seen-give}
 use Rattle.pj_join.proofs.Standing.{stands-give}
 use Rattle.pj_join.proofs.Calling.{may-forget, several}
 use Rattle.pj_join.proofs.Kept.{join-gives}
+use Rattle.pj_join.proofs.Lowest.{lowest_give}
+use Rattle.pj_join.proofs.Watched.{watched_rises}
 use Rattle.pj_join.proofs.join.Join.give.Goals as goal
 
 pub forget-requires : goal.forget-requires
@@ -16,8 +19,11 @@ forget-requires c = may-forget (join_data (arc_value c.self.inside.spec) c.self.
 pub invariant_of-self : goal.invariant_of-self
 invariant_of-self c =
     let r : IsTaken c.args.self.now.kept c.args.probe.ticket = c.requires in
-    let f : has (tickets (drop c.self.inside.done (log_of c.self.inside.states.items))) c.args.probe.ticket ≡ false = (rw (← c.self.view_is) at r).1 in
-    (rw (c.forget.ensures, c.ticket.ensures) (join-gives (join_data (arc_value c.self.inside.spec) c.self.inside.schemes c.self.inside.certs) c.self.inside.limit c.self.inside.next c.self.inside.done c.self.inside.states.items c.self.inside.stores.items c.self.inside.pending c.self.inside.taken.items c.self.invariant.0 c.args.probe.ticket f), c.self.invariant.1, c.self.invariant.2)
+    let f : has (tickets (drop c.self.inside.done (log_of c.self.inside.states.items))) c.args.probe.ticket ≡ false = (rw (← c.self.view_is) at r).1 in (
+      rw (c.forget.ensures, c.ticket.ensures) (join-gives (join_data (arc_value c.self.inside.spec) c.self.inside.schemes c.self.inside.certs) c.self.inside.limit c.self.inside.next c.self.inside.done c.self.inside.states.items c.self.inside.stores.items c.self.inside.pending c.self.inside.taken.items c.self.invariant.0 c.args.probe.ticket f),
+      rw (c.forget.ensures, c.ticket.ensures) (watched_rises (join_data (arc_value c.self.inside.spec) c.self.inside.schemes c.self.inside.certs) c.self.inside.next (lowest c.self.inside.next c.self.inside.done (log_of c.self.inside.states.items) c.self.inside.taken.items) (lowest c.self.inside.next c.self.inside.done (log_of c.self.inside.states.items) (without c.self.inside.taken.items c.args.probe.ticket)) (log_of c.self.inside.states.items) (puncts_of c.self.inside.stores.items) c.self.inside.watches.items (lowest_give c.self.inside.next c.self.inside.done (log_of c.self.inside.states.items) c.self.inside.taken.items c.args.probe.ticket) c.self.invariant.1),
+      c.self.invariant.2,
+    )
 
 pub returns-clause-gives : goal.returns-clause-gives
 returns-clause-gives c =

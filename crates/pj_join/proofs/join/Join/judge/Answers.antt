@@ -1,6 +1,6 @@
 use Rattle.std.proofs.Common.{◌≡◌, ◌<◌, ◌∙◌, ◌++◌, [], List, ap, arith, get_or, refl, sym, subst}
 use Rattle.std.proofs.lemmas.Bool.{eqb-true}
-use Rattle.pj_join.specs.Watching.{AreHeldBy, or_same, watches_at}
+use Rattle.pj_join.specs.Watching.{AreHeldBy, AreWatched, or_same, watches_at}
 use Rattle.pj_join.proofs.Held.{held_rows}
 use Rattle.pj_join.proofs.Watched.{none_ripe, open_but, same_looked, same_none, watch_is}
 use Rattle.std.specs.Arc.{arc_value}
@@ -39,7 +39,7 @@ sweep_input-requires-clause-passed c =
     let looks : judge c.deref.result.now c.self.inside.schemes c.as_slice-2.result.now c.as_slice-3.result.now c.low-low.result ≡ judge (arc_value c.self.inside.spec) c.self.inside.schemes c.self.inside.states.items c.self.inside.stores.items c.low-low.result =
     same-judge c.self.inside.schemes c.low-low.result c.deref.result.now (arc_value c.self.inside.spec) c.as_slice-2.result.now c.self.inside.states.items c.as_slice-3.result.now c.self.inside.stores.items c.deref.ensures c.as_slice-2.ensures.value c.as_slice-3.ensures.value in
     let watches : c.index.result.now ≡ watches_at c.self.inside.watches.items c.args.input = watch_is c.self.inside.watches.items c.args.input c.index.result.now (omega (arith, there, c.self.invariant.1.count)) c.index.ensures in
-    same_none c.args.input _ _ _ _ _ _ looks cert watches (none_ripe (join_data (arc_value c.self.inside.spec) c.self.inside.schemes c.self.inside.certs) c.self.inside.limit c.self.inside.next c.self.inside.done c.self.inside.states.items c.self.inside.stores.items c.self.inside.pending c.self.inside.taken.items c.self.invariant.0 (seen (made_with c.self.inside.node (join_data (arc_value c.self.inside.spec) c.self.inside.schemes c.self.inside.certs) c.self.inside.limit) c.self.inside.next c.self.inside.done (log_of c.self.inside.states.items) (puncts_of c.self.inside.stores.items) c.self.inside.waiting c.self.inside.taken.items).kept refl refl c.low-low.result low c.args.input there c.self.inside.watches.items c.self.invariant.1)
+    same_none c.args.input _ _ _ _ _ _ looks cert watches (none_ripe (join_data (arc_value c.self.inside.spec) c.self.inside.schemes c.self.inside.certs) c.self.inside.limit c.self.inside.next c.self.inside.done c.self.inside.states.items c.self.inside.stores.items c.self.inside.pending c.self.inside.taken.items c.self.invariant.0 (seen (made_with c.self.inside.node (join_data (arc_value c.self.inside.spec) c.self.inside.schemes c.self.inside.certs) c.self.inside.limit) c.self.inside.next c.self.inside.done (log_of c.self.inside.states.items) (puncts_of c.self.inside.stores.items) c.self.inside.waiting c.self.inside.taken.items).kept refl refl c.low-low.result low c.args.input there c.self.inside.watches.items (subst (λ n. AreWatched (join_data (arc_value c.self.inside.spec) c.self.inside.schemes c.self.inside.certs) c.self.inside.next n (log_of c.self.inside.states.items) (puncts_of c.self.inside.stores.items) c.self.inside.watches.items) (sym low) c.self.invariant.1))
 
 pub sweep_input-requires-clause-held : goal.sweep_input-requires-clause-held
 sweep_input-requires-clause-held c =
@@ -64,7 +64,7 @@ returns-clause-marked c =
     let looks : judge c.deref.result.now c.self.inside.schemes c.as_slice-2.result.now c.as_slice-3.result.now c.low-low.result ≡ judge (arc_value c.self.inside.spec) c.self.inside.schemes c.self.inside.states.items c.self.inside.stores.items c.low-low.result =
     same-judge c.self.inside.schemes c.low-low.result c.deref.result.now (arc_value c.self.inside.spec) c.as_slice-2.result.now c.self.inside.states.items c.as_slice-3.result.now c.self.inside.stores.items c.deref.ensures c.as_slice-2.ensures.value c.as_slice-3.ensures.value in
     let watches : c.index.result.now ≡ watches_at c.self.inside.watches.items c.args.input = watch_is c.self.inside.watches.items c.args.input c.index.result.now (omega (arith, there, c.self.invariant.1.count)) c.index.ensures in
-    rw (← c.self.view_is) (open_but (join_data (arc_value c.self.inside.spec) c.self.inside.schemes c.self.inside.certs) c.self.inside.limit c.self.inside.next c.self.inside.done c.self.inside.states.items c.self.inside.stores.items c.self.inside.pending c.self.inside.taken.items c.self.invariant.0 (seen (made_with c.self.inside.node (join_data (arc_value c.self.inside.spec) c.self.inside.schemes c.self.inside.certs) c.self.inside.limit) c.self.inside.next c.self.inside.done (log_of c.self.inside.states.items) (puncts_of c.self.inside.stores.items) c.self.inside.waiting c.self.inside.taken.items).kept refl refl c.low-low.result low c.args.input there c.self.inside.node c.self.inside.waiting c.self.inside.watches.items _ c.in_ok-left.left.marked refl c.self.invariant.1 (λ t. eqb-true c.low-low.result c.self.inside.next t) (same_looked c.args.input _ c.in_ok-left.left.marked _ _ _ _ _ _ looks cert watches c.in_ok-left.ensures.left))
+    rw (← c.self.view_is) (open_but (join_data (arc_value c.self.inside.spec) c.self.inside.schemes c.self.inside.certs) c.self.inside.limit c.self.inside.next c.self.inside.done c.self.inside.states.items c.self.inside.stores.items c.self.inside.pending c.self.inside.taken.items c.self.invariant.0 (seen (made_with c.self.inside.node (join_data (arc_value c.self.inside.spec) c.self.inside.schemes c.self.inside.certs) c.self.inside.limit) c.self.inside.next c.self.inside.done (log_of c.self.inside.states.items) (puncts_of c.self.inside.stores.items) c.self.inside.waiting c.self.inside.taken.items).kept refl refl c.low-low.result low c.args.input there c.self.inside.node c.self.inside.waiting c.self.inside.watches.items _ c.in_ok-left.left.marked refl (subst (λ n. AreWatched (join_data (arc_value c.self.inside.spec) c.self.inside.schemes c.self.inside.certs) c.self.inside.next n (log_of c.self.inside.states.items) (puncts_of c.self.inside.stores.items) c.self.inside.watches.items) (sym low) c.self.invariant.1) (λ t. eqb-true c.low-low.result c.self.inside.next t) (same_looked c.args.input _ c.in_ok-left.left.marked _ _ _ _ _ _ looks cert watches c.in_ok-left.ensures.left))
 
 pub returns-clause-certified : goal.returns-clause-certified
 returns-clause-certified c = rw (← c.self.view_is) c.self.invariant.0.ordered.certified

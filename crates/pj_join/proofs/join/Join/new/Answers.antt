@@ -2,7 +2,7 @@ use Rattle.std.proofs.Common.{◌∙◌, [], List, map, length, ap, ap₂, sym, 
 use Rattle.pj_shape.specs.declared.columns.Column.{Column}
 use Rattle.pj_shape.specs.Sound.{arities_of}
 use Rattle.pj_events.specs.Join.{PunctAt, TupleAt, upto_from}
-use Rattle.pj_join.specs.Insides.{made_with, seen}
+use Rattle.pj_join.specs.Insides.{lowest, made_with, seen}
 use Rattle.pj_join.specs.Joins.{join_data}
 use Rattle.std.proofs.lemmas.List.{length-map}
 use Rattle.pj_join.specs.Sides.{heard_of, puncts_of}
@@ -16,8 +16,8 @@ invariant_of-result c = (
   rw (c.new-3.ensures, c.new-4.ensures.items, c.in_ok-new.ensures.ok)
       (join-starts (join_data c.args.spec c.args.schemes c.args.certs) c.args.limit c.in_ok-states.states.items c.in_ok-stores.stores.items c.in_ok-states.ensures.rows (c.in_ok-stores.ensures.heard ∙ ap (λ (ss : List (List Column)). map (λ k. heard_of k []) (upto_from 0 (length ss))) c.as_slice.ensures) c.requires.sound c.requires.certified c.requires.limit.1 c.in_ok-states.ensures.shaped
       (c.in_ok-stores.ensures.arities ∙ ap arities_of c.as_slice.ensures)),
-  rw (c.in_ok-new.ensures.ok) (subst (λ (xs : List TupleAt). AreWatched (join_data c.args.spec c.args.schemes c.args.certs) 0 xs (puncts_of c.in_ok-stores.stores.items) c.in_ok-watches.watches.items) (sym (log-none (join_data c.args.spec c.args.schemes c.args.certs) c.args.limit c.in_ok-states.states.items c.in_ok-stores.stores.items c.in_ok-states.ensures.rows (c.in_ok-stores.ensures.heard ∙ ap (λ (ss : List (List Column)). map (λ k. heard_of k []) (upto_from 0 (length ss))) c.as_slice.ensures)))
-      (subst (λ (ps : List PunctAt). AreWatched (join_data c.args.spec c.args.schemes c.args.certs) 0 [] ps c.in_ok-watches.watches.items) (sym (puncts-none (join_data c.args.spec c.args.schemes c.args.certs) c.args.limit c.in_ok-states.states.items c.in_ok-stores.stores.items c.in_ok-states.ensures.rows (c.in_ok-stores.ensures.heard ∙ ap (λ (ss : List (List Column)). map (λ k. heard_of k []) (upto_from 0 (length ss))) c.as_slice.ensures)))
+  rw (c.new-4.ensures.items, c.in_ok-new.ensures.ok) (subst (λ (xs : List TupleAt). AreWatched (join_data c.args.spec c.args.schemes c.args.certs) 0 (lowest 0 0 xs []) xs (puncts_of c.in_ok-stores.stores.items) c.in_ok-watches.watches.items) (sym (log-none (join_data c.args.spec c.args.schemes c.args.certs) c.args.limit c.in_ok-states.states.items c.in_ok-stores.stores.items c.in_ok-states.ensures.rows (c.in_ok-stores.ensures.heard ∙ ap (λ (ss : List (List Column)). map (λ k. heard_of k []) (upto_from 0 (length ss))) c.as_slice.ensures)))
+      (subst (λ (ps : List PunctAt). AreWatched (join_data c.args.spec c.args.schemes c.args.certs) 0 (lowest 0 0 [] []) [] ps c.in_ok-watches.watches.items) (sym (puncts-none (join_data c.args.spec c.args.schemes c.args.certs) c.args.limit c.in_ok-states.states.items c.in_ok-stores.stores.items c.in_ok-states.ensures.rows (c.in_ok-stores.ensures.heard ∙ ap (λ (ss : List (List Column)). map (λ k. heard_of k []) (upto_from 0 (length ss))) c.as_slice.ensures)))
       (watched_start (join_data c.args.spec c.args.schemes c.args.certs) c.in_ok-watches.watches.items (c.in_ok-watches.ensures.count ∙ c.len.ensures ∙ sym (length-map c.args.spec.inputs (λ schema. length schema))) c.in_ok-watches.ensures.none))),
   rw (c.new-2.ensures) (λ p h. absurd h),
 )

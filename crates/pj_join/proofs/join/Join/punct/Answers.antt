@@ -4,7 +4,8 @@ use Rattle.std.specs.Arc.{arc_value}
 use Rattle.pj_cover.specs.Stores.{IsAbove, Store}
 use Rattle.pj_shape.specs.declared.joins.JoinSpec.{JoinSpec}
 use Rattle.pj_events.specs.Join.{PunctAt, inputs}
-use Rattle.pj_join.specs.Insides.{IsJoin, inside, made_with, seen}
+use Rattle.pj_join.specs.Insides.{IsJoin, inside, lowest, made_with, seen}
+use Rattle.pj_join.proofs.Lowest.{lowest_punct}
 use Rattle.pj_join.specs.Joins.{join_data}
 use Rattle.pj_join.specs.Judging.{going_at_once}
 use Rattle.pj_join.specs.Sides.{AreWide, log_of, puncts_of, still_held, tuples_in}
@@ -36,22 +37,22 @@ pub wake-requires-clause-wide : goal.wake-requires-clause-wide
 wake-requires-clause-wide c = subst (λ (ss : List StateView). AreWide ss) (sym c.as_slice-2.ensures.value) (wide (join_data (arc_value c.self.inside.spec) c.self.inside.schemes c.self.inside.certs) c.self.inside.limit c.self.inside.next c.self.inside.done c.self.inside.states.items c.self.inside.stores.items c.self.inside.pending c.self.inside.taken.items c.self.invariant.0)
 
 pub invariant_of-self : goal.invariant_of-self
-invariant_of-self c = (c.self.invariant.0, (watched_fewer (join_data (arc_value c.self.inside.spec) c.self.inside.schemes c.self.inside.certs) c.self.inside.next (log_of c.self.inside.states.items) (puncts_of c.self.inside.stores.items) c.self.inside.watches.items c.wake.new.watches.items c.wake.ensures.fewer c.self.invariant.1), c.self.invariant.2)
+invariant_of-self c = (c.self.invariant.0, (watched_fewer (join_data (arc_value c.self.inside.spec) c.self.inside.schemes c.self.inside.certs) c.self.inside.next (lowest c.self.inside.next c.self.inside.done (log_of c.self.inside.states.items) c.self.inside.taken.items) (log_of c.self.inside.states.items) (puncts_of c.self.inside.stores.items) c.self.inside.watches.items c.wake.new.watches.items c.wake.ensures.fewer c.self.invariant.1), c.self.invariant.2)
 
 pub invariant_of-self-in_err-hear : goal.invariant_of-self-in_err-hear
 invariant_of-self-in_err-hear c =
     let lt : c.args.input < inputs c.args.self.now.spec = c.requires.fits.0 in
     let there : c.args.input < inputs (join_data (arc_value c.self.inside.spec) c.self.inside.schemes c.self.inside.certs) = rw (← c.self.view_is) at lt in
-    subst (λ (ss : List Store). IsJoin (join_data (arc_value c.self.inside.spec) c.self.inside.schemes c.self.inside.certs) c.self.inside.limit (inside c.self.inside.next c.self.inside.done c.self.inside.states.items ss c.self.inside.pending c.self.inside.taken.items) × AreWatched (join_data (arc_value c.self.inside.spec) c.self.inside.schemes c.self.inside.certs) c.self.inside.next (log_of c.self.inside.states.items) (puncts_of ss) c.wake.new.watches.items × AllHeld (log_of c.self.inside.states.items) c.hear.new.waiting)
-    (sym (same-stores (join_data (arc_value c.self.inside.spec) c.self.inside.schemes c.self.inside.certs) c.self.inside.limit c.self.inside.next c.self.inside.done c.self.inside.states.items c.self.inside.stores.items c.self.inside.pending c.self.inside.taken.items c.self.invariant.0 c.args.input c.index_mut.result.now c.hear.new.store there c.index_mut.ensures.value c.in_err-hear.ensures.arity c.in_err-hear.ensures.err.0)) (c.self.invariant.0, (watched_fewer (join_data (arc_value c.self.inside.spec) c.self.inside.schemes c.self.inside.certs) c.self.inside.next (log_of c.self.inside.states.items) (puncts_of c.self.inside.stores.items) c.self.inside.watches.items c.wake.new.watches.items c.wake.ensures.fewer c.self.invariant.1), rw (c.in_err-hear.ensures.err.1) c.self.invariant.2)
+    subst (λ (ss : List Store). IsJoin (join_data (arc_value c.self.inside.spec) c.self.inside.schemes c.self.inside.certs) c.self.inside.limit (inside c.self.inside.next c.self.inside.done c.self.inside.states.items ss c.self.inside.pending c.self.inside.taken.items) × AreWatched (join_data (arc_value c.self.inside.spec) c.self.inside.schemes c.self.inside.certs) c.self.inside.next (lowest c.self.inside.next c.self.inside.done (log_of c.self.inside.states.items) c.self.inside.taken.items) (log_of c.self.inside.states.items) (puncts_of ss) c.wake.new.watches.items × AllHeld (log_of c.self.inside.states.items) c.hear.new.waiting)
+    (sym (same-stores (join_data (arc_value c.self.inside.spec) c.self.inside.schemes c.self.inside.certs) c.self.inside.limit c.self.inside.next c.self.inside.done c.self.inside.states.items c.self.inside.stores.items c.self.inside.pending c.self.inside.taken.items c.self.invariant.0 c.args.input c.index_mut.result.now c.hear.new.store there c.index_mut.ensures.value c.in_err-hear.ensures.arity c.in_err-hear.ensures.err.0)) (c.self.invariant.0, (watched_fewer (join_data (arc_value c.self.inside.spec) c.self.inside.schemes c.self.inside.certs) c.self.inside.next (lowest c.self.inside.next c.self.inside.done (log_of c.self.inside.states.items) c.self.inside.taken.items) (log_of c.self.inside.states.items) (puncts_of c.self.inside.stores.items) c.self.inside.watches.items c.wake.new.watches.items c.wake.ensures.fewer c.self.invariant.1), rw (c.in_err-hear.ensures.err.1) c.self.invariant.2)
 
 pub invariant_of-self-2 : goal.invariant_of-self-2
 invariant_of-self-2 c =
     let lt : c.args.input < inputs c.args.self.now.spec = c.requires.fits.0 in
     let there : c.args.input < inputs (join_data (arc_value c.self.inside.spec) c.self.inside.schemes c.self.inside.certs) = rw (← c.self.view_is) at lt in (
       join-hears (join_data (arc_value c.self.inside.spec) c.self.inside.schemes c.self.inside.certs) c.self.inside.limit c.self.inside.next c.self.inside.done c.self.inside.states.items c.self.inside.stores.items c.self.inside.pending c.self.inside.taken.items c.self.invariant.0 c.args.input c.args.punct c.index_mut.result.now c.hear.new.store there (λ d. c.index_mut.ensures.value ∙ same-at c.self.inside.stores.items c.args.input c.index_mut.result.now d (omega (arith, there, all-stores (join_data (arc_value c.self.inside.spec) c.self.inside.schemes c.self.inside.certs) c.self.inside.limit c.self.inside.next c.self.inside.done c.self.inside.states.items c.self.inside.stores.items c.self.inside.pending c.self.inside.taken.items c.self.invariant.0))) c.in_ok-hear.ensures.arity c.in_ok-hear.ensures.store (λ e. false≢true (c.if-is_full.ensures.1 e)),
-      subst (λ (ps : List PunctAt). AreWatched (join_data (arc_value c.self.inside.spec) c.self.inside.schemes c.self.inside.certs) (c.self.inside.next + 1) (log_of c.self.inside.states.items) ps c.wake.new.watches.items) (sym (puncts-more (join_data (arc_value c.self.inside.spec) c.self.inside.schemes c.self.inside.certs) c.self.inside.limit c.self.inside.next c.self.inside.done c.self.inside.states.items c.self.inside.stores.items c.self.inside.pending c.self.inside.taken.items c.self.invariant.0 c.args.input c.args.punct c.index_mut.result.now c.hear.new.store there (λ d. c.index_mut.ensures.value ∙ same-at c.self.inside.stores.items c.args.input c.index_mut.result.now d (omega (arith, there, all-stores (join_data (arc_value c.self.inside.spec) c.self.inside.schemes c.self.inside.certs) c.self.inside.limit c.self.inside.next c.self.inside.done c.self.inside.states.items c.self.inside.stores.items c.self.inside.pending c.self.inside.taken.items c.self.invariant.0))) c.in_ok-hear.ensures.arity c.in_ok-hear.ensures.store))
-          (watched_punct (join_data (arc_value c.self.inside.spec) c.self.inside.schemes c.self.inside.certs) c.self.inside.limit c.self.inside.next c.self.inside.done c.self.inside.states.items c.self.inside.stores.items c.self.inside.pending c.self.inside.taken.items c.self.invariant.0 c.self.inside.watches.items c.wake.new.watches.items (record { ticket = c.self.inside.next; input = c.args.input; patterns = c.args.punct }) c.wake.ensures.fewer (rw (c.deref.ensures, c.as_slice.ensures, c.as_slice-2.ensures.value) at (c.in_ok-wake.ensures.left c.self.inside.next)) c.self.invariant.1),
+      subst (λ (ps : List PunctAt). AreWatched (join_data (arc_value c.self.inside.spec) c.self.inside.schemes c.self.inside.certs) (c.self.inside.next + 1) (lowest (c.self.inside.next + 1) c.self.inside.done (log_of c.self.inside.states.items) c.self.inside.taken.items) (log_of c.self.inside.states.items) ps c.wake.new.watches.items) (sym (puncts-more (join_data (arc_value c.self.inside.spec) c.self.inside.schemes c.self.inside.certs) c.self.inside.limit c.self.inside.next c.self.inside.done c.self.inside.states.items c.self.inside.stores.items c.self.inside.pending c.self.inside.taken.items c.self.invariant.0 c.args.input c.args.punct c.index_mut.result.now c.hear.new.store there (λ d. c.index_mut.ensures.value ∙ same-at c.self.inside.stores.items c.args.input c.index_mut.result.now d (omega (arith, there, all-stores (join_data (arc_value c.self.inside.spec) c.self.inside.schemes c.self.inside.certs) c.self.inside.limit c.self.inside.next c.self.inside.done c.self.inside.states.items c.self.inside.stores.items c.self.inside.pending c.self.inside.taken.items c.self.invariant.0))) c.in_ok-hear.ensures.arity c.in_ok-hear.ensures.store))
+          (watched_punct (join_data (arc_value c.self.inside.spec) c.self.inside.schemes c.self.inside.certs) c.self.inside.limit c.self.inside.next c.self.inside.done c.self.inside.states.items c.self.inside.stores.items c.self.inside.pending c.self.inside.taken.items c.self.invariant.0 c.self.inside.watches.items c.wake.new.watches.items (lowest c.self.inside.next c.self.inside.done (log_of c.self.inside.states.items) c.self.inside.taken.items) (lowest (c.self.inside.next + 1) c.self.inside.done (log_of c.self.inside.states.items) c.self.inside.taken.items) (record { ticket = c.self.inside.next; input = c.args.input; patterns = c.args.punct }) c.wake.ensures.fewer (rw (c.deref.ensures, c.as_slice.ensures, c.as_slice-2.ensures.value) at (c.in_ok-wake.ensures.left c.self.inside.next)) (lowest_punct c.self.inside.next c.self.inside.done (log_of c.self.inside.states.items) c.self.inside.taken.items) c.self.invariant.1),
       held_punct (log_of c.self.inside.states.items) c.self.inside.waiting c.hear.new.waiting _ (record { ticket = c.self.inside.next; input = c.args.input; patterns = c.args.punct }) c.self.invariant.2 (held-at-first (join_data (arc_value c.self.inside.spec) c.self.inside.schemes c.self.inside.certs) c.self.inside.limit c.self.inside.next c.self.inside.done c.self.inside.states.items c.self.inside.stores.items c.self.inside.pending c.self.inside.taken.items c.self.invariant.0 c.index.result.now (record { ticket = c.self.inside.next; input = c.args.input; patterns = c.args.punct }) there (state_is c.self.inside.states.items c.args.input c.index.result.now (inputs (join_data (arc_value c.self.inside.spec) c.self.inside.schemes c.self.inside.certs)) (all-states (join_data (arc_value c.self.inside.spec) c.self.inside.schemes c.self.inside.certs) c.self.inside.limit c.self.inside.next c.self.inside.done c.self.inside.states.items c.self.inside.stores.items c.self.inside.pending c.self.inside.taken.items c.self.invariant.0) there c.index.ensures)) c.in_ok-hear.ensures.waiting,
     )
 

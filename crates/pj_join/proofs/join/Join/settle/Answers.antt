@@ -1,4 +1,4 @@
-use Rattle.std.proofs.Common.{◌≡◌, ◌<◌, ◌∙◌, List, ap, arith, length, set, sym, subst}
+use Rattle.std.proofs.Common.{◌≡◌, ◌<◌, ◌∙◌, List, ap, arith, length, sym, subst}
 use Rattle.std.proofs.lemmas.List.{length-map}
 use Rattle.std.specs.Arc.{arc_value}
 use Rattle.pj_events.specs.Join.{TupleAt, inputs}
@@ -6,14 +6,15 @@ use Rattle.pj_events.specs.KeptState.{kept_low, swept}
 use Rattle.pj_join.specs.Insides.{made_with, seen, tickets}
 use Rattle.pj_join.specs.Joins.{join_data}
 use Rattle.pj_join.specs.Judging.{waiting_on}
-use Rattle.pj_join.specs.Sides.{log_of, puncts_of}
+use Rattle.pj_state.specs.States.{StateView}
+use Rattle.pj_join.specs.Sides.{AreWide, log_of, puncts_of}
 use Rattle.pj_join.specs.Sweeping.{swept_off}
-use Rattle.pj_join.proofs.Kept.{all-states}
+use Rattle.pj_join.proofs.Kept.{all-states, wide}
 use Rattle.pj_join.proofs.Looped.{state_is}
 use Rattle.pj_join.proofs.Swept.{few-gone, join-swept, log-left, view-left}
-use Rattle.pj_join.specs.Watching.{AllHeld, AreOpenBut, AreWatched, or_same}
+use Rattle.pj_join.specs.Watching.{AllHeld, AreOpenBut, or_same}
 use Rattle.pj_join.proofs.Held.{held_swept}
-use Rattle.pj_join.proofs.Watched.{watched_swept}
+use Rattle.pj_join.proofs.Settled.{settled}
 use Rattle.pj_join.proofs.join.Join.settle.Goals as goal
 
 pub overflow_sub-self : goal.overflow_sub-self
@@ -24,17 +25,20 @@ overflow_sub-self c =
     let gone : c.args.left.gone ≡ tickets (swept_off (seen (made_with c.self.inside.node (join_data (arc_value c.self.inside.spec) c.self.inside.schemes c.self.inside.certs) c.self.inside.limit) c.self.inside.next c.self.inside.done (log_of c.self.inside.states.items) (puncts_of c.self.inside.stores.items) c.self.inside.waiting c.self.inside.taken.items) c.args.input) = rw (← c.self.view_is) at goes in
     omega (arith, few-gone c.self.inside.node (join_data (arc_value c.self.inside.spec) c.self.inside.schemes c.self.inside.certs) c.self.inside.limit c.self.inside.next c.self.inside.done c.self.inside.states.items c.self.inside.stores.items c.self.inside.pending c.self.inside.taken.items c.self.inside.waiting c.args.input c.self.invariant.0 there c.args.left.gone gone, c.len-count.ensures)
 
-pub index_mut-requires : goal.index_mut-requires
-index_mut-requires c =
-    let lt : c.args.input < inputs c.args.self.now.spec = c.requires.there in
-    let there : c.args.input < inputs (join_data (arc_value c.self.inside.spec) c.self.inside.schemes c.self.inside.certs) = rw (← c.self.view_is) at lt in
-    omega (arith, there, all-states (join_data (arc_value c.self.inside.spec) c.self.inside.schemes c.self.inside.certs) c.self.inside.limit c.self.inside.next c.self.inside.done c.self.inside.states.items c.self.inside.stores.items c.self.inside.pending c.self.inside.taken.items c.self.invariant.0, c.self.inside.states.ok)
-
 pub index_mut-requires-2 : goal.index_mut-requires-2
 index_mut-requires-2 c =
     let lt : c.args.input < inputs c.args.self.now.spec = c.requires.there in
     let there : c.args.input < inputs (join_data (arc_value c.self.inside.spec) c.self.inside.schemes c.self.inside.certs) = rw (← c.self.view_is) at lt in
+    omega (arith, there, all-states (join_data (arc_value c.self.inside.spec) c.self.inside.schemes c.self.inside.certs) c.self.inside.limit c.self.inside.next c.self.inside.done c.self.inside.states.items c.self.inside.stores.items c.self.inside.pending c.self.inside.taken.items c.self.invariant.0, c.self.inside.states.ok)
+
+pub index_mut-requires : goal.index_mut-requires
+index_mut-requires c =
+    let lt : c.args.input < inputs c.args.self.now.spec = c.requires.there in
+    let there : c.args.input < inputs (join_data (arc_value c.self.inside.spec) c.self.inside.schemes c.self.inside.certs) = rw (← c.self.view_is) at lt in
     omega (arith, there, c.self.invariant.1.count, c.self.inside.watches.ok)
+
+pub rouse-requires-clause-wide : goal.rouse-requires-clause-wide
+rouse-requires-clause-wide c = subst (λ (ss : List StateView). AreWide ss) (sym c.as_slice-3.ensures.value) (wide (join_data (arc_value c.self.inside.spec) c.self.inside.schemes c.self.inside.certs) c.self.inside.limit c.self.inside.next c.self.inside.done c.self.inside.states.items c.self.inside.stores.items c.self.inside.pending c.self.inside.taken.items c.self.invariant.0)
 
 pub invariant_of-self : goal.invariant_of-self
 invariant_of-self c =
@@ -46,10 +50,11 @@ invariant_of-self c =
     let kept : c.low-from.result ≡ kept_low c.args.self.now.kept = c.low-from.ensures.kept in
     let low : c.low-from.result ≡ kept_low (seen (made_with c.self.inside.node (join_data (arc_value c.self.inside.spec) c.self.inside.schemes c.self.inside.certs) c.self.inside.limit) c.self.inside.next c.self.inside.done (log_of c.self.inside.states.items) (puncts_of c.self.inside.stores.items) c.self.inside.waiting c.self.inside.taken.items).kept = rw (← c.self.view_is) at kept in
     let marks : AreOpenBut c.args.self.now c.args.input c.args.left.marked = c.requires.marked in (
-      rw (c.len-count.ensures) (join-swept c.self.inside.node (join_data (arc_value c.self.inside.spec) c.self.inside.schemes c.self.inside.certs) c.self.inside.limit c.self.inside.next c.self.inside.done c.self.inside.states.items c.self.inside.stores.items c.self.inside.pending c.self.inside.taken.items c.self.inside.waiting c.args.input c.self.invariant.0 there c.args.left.gone gone c.index_mut.result.now c.remove_all.new.state (state_is c.self.inside.states.items c.args.input c.index_mut.result.now (inputs (join_data (arc_value c.self.inside.spec) c.self.inside.schemes c.self.inside.certs)) (all-states (join_data (arc_value c.self.inside.spec) c.self.inside.schemes c.self.inside.certs) c.self.inside.limit c.self.inside.next c.self.inside.done c.self.inside.states.items c.self.inside.stores.items c.self.inside.pending c.self.inside.taken.items c.self.invariant.0) there c.index_mut.ensures.value) (rw (← c.as_slice.ensures) c.remove_all.ensures)),
-      subst (λ (xs : List TupleAt). AreWatched (join_data (arc_value c.self.inside.spec) c.self.inside.schemes c.self.inside.certs) c.self.inside.next xs (puncts_of c.self.inside.stores.items) (set c.self.inside.watches.items c.args.input (record { from = c.low-from.result; marked = c.args.left.marked }))) (sym (log-left c.self.inside.node (join_data (arc_value c.self.inside.spec) c.self.inside.schemes c.self.inside.certs) c.self.inside.limit c.self.inside.next c.self.inside.done c.self.inside.states.items c.self.inside.stores.items c.self.inside.pending c.self.inside.taken.items c.self.inside.waiting c.args.input c.self.invariant.0 there c.args.left.gone gone c.index_mut.result.now c.remove_all.new.state (state_is c.self.inside.states.items c.args.input c.index_mut.result.now (inputs (join_data (arc_value c.self.inside.spec) c.self.inside.schemes c.self.inside.certs)) (all-states (join_data (arc_value c.self.inside.spec) c.self.inside.schemes c.self.inside.certs) c.self.inside.limit c.self.inside.next c.self.inside.done c.self.inside.states.items c.self.inside.stores.items c.self.inside.pending c.self.inside.taken.items c.self.invariant.0) there c.index_mut.ensures.value) (rw (← c.as_slice.ensures) c.remove_all.ensures)))
-          (watched_swept (seen (made_with c.self.inside.node (join_data (arc_value c.self.inside.spec) c.self.inside.schemes c.self.inside.certs) c.self.inside.limit) c.self.inside.next c.self.inside.done (log_of c.self.inside.states.items) (puncts_of c.self.inside.stores.items) c.self.inside.waiting c.self.inside.taken.items) c.args.input c.low-from.result c.args.left.marked c.self.inside.watches.items low there c.self.invariant.1 (rw (← c.self.view_is) at marks)),
-      subst (λ (xs : List TupleAt). AllHeld xs c.take_over.new.waiting) (sym (log-left c.self.inside.node (join_data (arc_value c.self.inside.spec) c.self.inside.schemes c.self.inside.certs) c.self.inside.limit c.self.inside.next c.self.inside.done c.self.inside.states.items c.self.inside.stores.items c.self.inside.pending c.self.inside.taken.items c.self.inside.waiting c.args.input c.self.invariant.0 there c.args.left.gone gone c.index_mut.result.now c.remove_all.new.state (state_is c.self.inside.states.items c.args.input c.index_mut.result.now (inputs (join_data (arc_value c.self.inside.spec) c.self.inside.schemes c.self.inside.certs)) (all-states (join_data (arc_value c.self.inside.spec) c.self.inside.schemes c.self.inside.certs) c.self.inside.limit c.self.inside.next c.self.inside.done c.self.inside.states.items c.self.inside.stores.items c.self.inside.pending c.self.inside.taken.items c.self.invariant.0) there c.index_mut.ensures.value) (rw (← c.as_slice.ensures) c.remove_all.ensures))) (held_swept (seen (made_with c.self.inside.node (join_data (arc_value c.self.inside.spec) c.self.inside.schemes c.self.inside.certs) c.self.inside.limit) c.self.inside.next c.self.inside.done (log_of c.self.inside.states.items) (puncts_of c.self.inside.stores.items) c.self.inside.waiting c.self.inside.taken.items) c.args.input c.take_over.new.waiting c.self.invariant.2 (c.take_over.ensures ∙ (rw (← c.self.view_is) at waits))),
+      rw (c.len-count.ensures) (join-swept c.self.inside.node (join_data (arc_value c.self.inside.spec) c.self.inside.schemes c.self.inside.certs) c.self.inside.limit c.self.inside.next c.self.inside.done c.self.inside.states.items c.self.inside.stores.items c.self.inside.pending c.self.inside.taken.items c.self.inside.waiting c.args.input c.self.invariant.0 there c.args.left.gone gone c.index_mut-2.result.now c.remove_all.new.state (state_is c.self.inside.states.items c.args.input c.index_mut-2.result.now (inputs (join_data (arc_value c.self.inside.spec) c.self.inside.schemes c.self.inside.certs)) (all-states (join_data (arc_value c.self.inside.spec) c.self.inside.schemes c.self.inside.certs) c.self.inside.limit c.self.inside.next c.self.inside.done c.self.inside.states.items c.self.inside.stores.items c.self.inside.pending c.self.inside.taken.items c.self.invariant.0) there c.index_mut-2.ensures.value) (rw (← c.as_slice-5.ensures) c.remove_all.ensures)),
+      rw (c.len-count.ensures)
+          (settled c.self.inside.node (join_data (arc_value c.self.inside.spec) c.self.inside.schemes c.self.inside.certs) c.self.inside.limit c.self.inside.next c.self.inside.done c.self.inside.states.items c.self.inside.stores.items c.self.inside.pending c.self.inside.taken.items c.self.inside.waiting c.args.input c.self.invariant.0 there c.args.left.gone gone c.index_mut-2.result.now c.remove_all.new.state (state_is c.self.inside.states.items c.args.input c.index_mut-2.result.now (inputs (join_data (arc_value c.self.inside.spec) c.self.inside.schemes c.self.inside.certs)) (all-states (join_data (arc_value c.self.inside.spec) c.self.inside.schemes c.self.inside.certs) c.self.inside.limit c.self.inside.next c.self.inside.done c.self.inside.states.items c.self.inside.stores.items c.self.inside.pending c.self.inside.taken.items c.self.invariant.0) there c.index_mut-2.ensures.value) (rw (← c.as_slice-5.ensures) c.remove_all.ensures) c.low-from.result c.args.left.marked c.self.inside.watches.items c.rouse.new.watches.items low c.self.invariant.1 (rw (← c.self.view_is) at marks)
+          c.rouse.ensures.fewer (rw (c.as_slice.ensures, c.deref.ensures, c.as_slice-2.ensures, c.as_slice-3.ensures.value, c.as_slice-4.ensures) at c.rouse.ensures.roused)),
+      subst (λ (xs : List TupleAt). AllHeld xs c.take_over.new.waiting) (sym (log-left c.self.inside.node (join_data (arc_value c.self.inside.spec) c.self.inside.schemes c.self.inside.certs) c.self.inside.limit c.self.inside.next c.self.inside.done c.self.inside.states.items c.self.inside.stores.items c.self.inside.pending c.self.inside.taken.items c.self.inside.waiting c.args.input c.self.invariant.0 there c.args.left.gone gone c.index_mut-2.result.now c.remove_all.new.state (state_is c.self.inside.states.items c.args.input c.index_mut-2.result.now (inputs (join_data (arc_value c.self.inside.spec) c.self.inside.schemes c.self.inside.certs)) (all-states (join_data (arc_value c.self.inside.spec) c.self.inside.schemes c.self.inside.certs) c.self.inside.limit c.self.inside.next c.self.inside.done c.self.inside.states.items c.self.inside.stores.items c.self.inside.pending c.self.inside.taken.items c.self.invariant.0) there c.index_mut-2.ensures.value) (rw (← c.as_slice-5.ensures) c.remove_all.ensures))) (held_swept (seen (made_with c.self.inside.node (join_data (arc_value c.self.inside.spec) c.self.inside.schemes c.self.inside.certs) c.self.inside.limit) c.self.inside.next c.self.inside.done (log_of c.self.inside.states.items) (puncts_of c.self.inside.stores.items) c.self.inside.waiting c.self.inside.taken.items) c.args.input c.take_over.new.waiting c.self.invariant.2 (c.take_over.ensures ∙ (rw (← c.self.view_is) at waits))),
     )
 
 pub returns-clause-sweeps : goal.returns-clause-sweeps
@@ -59,7 +64,7 @@ returns-clause-sweeps c =
     let there : c.args.input < inputs (join_data (arc_value c.self.inside.spec) c.self.inside.schemes c.self.inside.certs) = rw (← c.self.view_is) at lt in
     let goes : c.args.left.gone ≡ tickets (swept_off c.args.self.now c.args.input) = c.requires.gone in
     let gone : c.args.left.gone ≡ tickets (swept_off (seen (made_with c.self.inside.node (join_data (arc_value c.self.inside.spec) c.self.inside.schemes c.self.inside.certs) c.self.inside.limit) c.self.inside.next c.self.inside.done (log_of c.self.inside.states.items) (puncts_of c.self.inside.stores.items) c.self.inside.waiting c.self.inside.taken.items) c.args.input) = rw (← c.self.view_is) at goes in
-    rw (c.len-count.ensures, ← c.self.view_is) (view-left c.self.inside.node (join_data (arc_value c.self.inside.spec) c.self.inside.schemes c.self.inside.certs) c.self.inside.limit c.self.inside.next c.self.inside.done c.self.inside.states.items c.self.inside.stores.items c.self.inside.pending c.self.inside.taken.items c.self.inside.waiting c.args.input c.self.invariant.0 there c.args.left.gone gone c.index_mut.result.now c.remove_all.new.state (state_is c.self.inside.states.items c.args.input c.index_mut.result.now (inputs (join_data (arc_value c.self.inside.spec) c.self.inside.schemes c.self.inside.certs)) (all-states (join_data (arc_value c.self.inside.spec) c.self.inside.schemes c.self.inside.certs) c.self.inside.limit c.self.inside.next c.self.inside.done c.self.inside.states.items c.self.inside.stores.items c.self.inside.pending c.self.inside.taken.items c.self.invariant.0) there c.index_mut.ensures.value) (rw (← c.as_slice.ensures) c.remove_all.ensures) c.take_over.new.waiting (c.take_over.ensures ∙ (rw (← c.self.view_is) at waits)))
+    rw (c.len-count.ensures, ← c.self.view_is) (view-left c.self.inside.node (join_data (arc_value c.self.inside.spec) c.self.inside.schemes c.self.inside.certs) c.self.inside.limit c.self.inside.next c.self.inside.done c.self.inside.states.items c.self.inside.stores.items c.self.inside.pending c.self.inside.taken.items c.self.inside.waiting c.args.input c.self.invariant.0 there c.args.left.gone gone c.index_mut-2.result.now c.remove_all.new.state (state_is c.self.inside.states.items c.args.input c.index_mut-2.result.now (inputs (join_data (arc_value c.self.inside.spec) c.self.inside.schemes c.self.inside.certs)) (all-states (join_data (arc_value c.self.inside.spec) c.self.inside.schemes c.self.inside.certs) c.self.inside.limit c.self.inside.next c.self.inside.done c.self.inside.states.items c.self.inside.stores.items c.self.inside.pending c.self.inside.taken.items c.self.invariant.0) there c.index_mut-2.ensures.value) (rw (← c.as_slice-5.ensures) c.remove_all.ensures) c.take_over.new.waiting (c.take_over.ensures ∙ (rw (← c.self.view_is) at waits)))
 
 pub returns-clause-count : goal.returns-clause-count
 returns-clause-count c = c.len-count.ensures ∙ ap (λ ts. length ts) c.requires.gone ∙ length-map (swept_off c.args.self.now c.args.input) (λ (x : TupleAt). x.ticket)

@@ -1,7 +1,7 @@
 use Rattle.std.proofs.Common.{ℕ}
 use Rattle.pj_join.specs.Joins.{join_data}
 use Rattle.pj_join.specs.Watching.{AreFewer, AreLeft}
-use Rattle.pj_join.proofs.watches.wake.Given as goal
+use Rattle.pj_join.proofs.waking.wake.Given as goal
 
 abbrev pub invariant-loop-at : goal.invariant-loop-at
 invariant-loop-at l =

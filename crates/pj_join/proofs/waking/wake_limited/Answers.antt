@@ -1,5 +1,5 @@
 use Rattle.pj_join.proofs.Woken.{left_matched}
-use Rattle.pj_join.proofs.watches.wake_limited.Goals as goal
+use Rattle.pj_join.proofs.waking.wake_limited.Goals as goal
 
 pub returns-in-Some-clause-left : goal.returns-in-Some-clause-left
 returns-in-Some-clause-left c =

@@ -1,5 +1,5 @@
 use Rattle.pj_join.proofs.Woken.{left_first, left_other, on_ok}
-use Rattle.pj_join.proofs.watches.wake_one.Goals as goal
+use Rattle.pj_join.proofs.waking.wake_first.Goals as goal
 
 pub returns-then-step-other-clause-left : goal.returns-then-step-other-clause-left
 returns-then-step-other-clause-left c =

@@ -1,0 +1,6 @@
+use Rattle.std.proofs.Common.{take}
+use Rattle.pj_join.specs.Watching.{AreAllUnlike, IsFewer}
+use Rattle.pj_join.proofs.partners.mark_partners.Given as goal
+
+abbrev pub invariant-loop-ticket : goal.invariant-loop-ticket
+invariant-loop-ticket l = IsFewer l.fn.watches l.watches × AreAllUnlike l.state.rows l.pair.mine l.others.rows l.pair.theirs (take l.ticket-index l.tickets) l.watches

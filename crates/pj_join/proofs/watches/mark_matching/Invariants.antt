@@ -1,8 +1,0 @@
-use Rattle.std.proofs.Common.{◌≡◌, ◌++◌, filter, take}
-use Rattle.pj_state.specs.States.{tickets_of}
-use Rattle.pj_join.specs.Watching.{has_match}
-use Rattle.pj_join.proofs.watches.mark_matching.Given as goal
-
-abbrev pub invariant-loop-at : goal.invariant-loop-at
-invariant-loop-at l =
-    (l.watches.from ≡ l.fn.watches.from) × (l.watches.marked ≡ l.fn.watches.marked ++ tickets_of (filter (has_match l.column l.pattern) (take l.at l.state.rows)))
