@@ -29,7 +29,7 @@ pub struct Left {
 }
 
 // What the first instance tells that a row asks for and that is not covered. Where no punctuation is at or above the low-water
-// ticket, one of the first two steps of the certificate stays so until a punctuation comes, or a row goes that it is asked through.
+// ticket, one of the first two steps of the certificate stays so until a punctuation comes, or a row goes.
 fn verdict_on(found: Option<Uncovered>, settled: bool) -> Verdict
     ensures { result ≡ verdict_on found settled }
 {
