@@ -36,3 +36,4 @@ pub mod Through
 pub mod Triangles
 pub mod Roused
 pub mod Settled
+pub mod Changing

@@ -17,7 +17,7 @@ use Rattle.pj_events.specs.Patterns.{Pattern}
 use Rattle.pj_events.specs.Join.{CertStep, ClassCol, In, PunctAt, TupleAt, Value, has, of_input, upto_from}
 use Rattle.pj_probe.specs.Walks.{sides_at, tuple_at}
 use Rattle.pj_join.specs.Handed.{pair_of, pairs_out}
-use Rattle.pj_join.specs.Judging.{IsSortedOut, Judge, MayJudge, lets_go, one_if, ripe_at, rows_without, widened_among}
+use Rattle.pj_join.specs.Judging.{Judge, MayJudge, lets_go, one_if, ripe_at, rows_without, widened_among}
 use Rattle.pj_join.specs.Sides.{AreAllShaped, AreWide, IsShaped, IsWide, heard_of, no_state, heard_in, heard_with, state_at, stays, still_held, tuple_in, tuples_in}
 use Rattle.pj_join.specs.Walks.{IsNarrowed, may_join, older_joins, suits}
 use Rattle.pj_join.proofs.Combining.{filter-map}
@@ -261,8 +261,16 @@ small_schema schemas i schema few lt at = let m = member schemas i lt in omega (
     member (c ∷ ss) (suc k) l = let m = member ss k (omega (arith, l)) in omega (arith, m, sum_by-cons (λ (n : ℕ). n) (length c) (arities_of ss))
 
 -- a punctuation that is let go
-pub let_go_is : (schemas : List (List Column)) (rows : List Stored) (gone : List ℕ) (input : ℕ) (p : PunctAt) (patterns w : List Pattern) (stay : List PunctAt) (out out' : List (List Pattern)) → lets_go rows gone input p ≡ true → patterns ≡ p.patterns
-    → ((ticket : ℕ) → w ≡ widened_among schemas (record { ticket = ticket; input = input; patterns = patterns })) → out' ≡ out ++ w ∷ [] → IsSortedOut (lets_go rows gone input p) p (widened_among schemas p) stay stay out out'
-let_go_is schemas rows gone input p patterns w stay out out' goes same wide more =
-    subst (λ b. IsSortedOut b p (widened_among schemas p) stay stay out out') (sym goes)
-    (refl, more ∙ ap (λ (v : List Pattern). out ++ v ∷ []) (wide p.ticket ∙ ap₂ (λ n (ps : List Pattern). widened_among schemas (record { ticket = p.ticket; input = n; patterns = ps })) (sym (eqb-true p.input input (and_parts (eqb p.input input) _ goes).0)) same))
+pub let_go_is : (schemas : List (List Column)) (rows : List Stored) (gone : List ℕ) (input : ℕ) (p : PunctAt) (patterns w : List Pattern) (out out' : List (List Pattern)) → lets_go rows gone input p ≡ true → patterns ≡ p.patterns
+    → ((ticket : ℕ) → w ≡ widened_among schemas (record { ticket = ticket; input = input; patterns = patterns })) → out' ≡ out ++ w ∷ [] → out' ≡ out ++ one_if (lets_go rows gone input p) (widened_among schemas p)
+let_go_is schemas rows gone input p patterns w out out' goes same wide more =
+    subst (λ b. out' ≡ out ++ one_if b (widened_among schemas p)) (sym goes)
+    (more ∙ ap (λ (v : List Pattern). out ++ v ∷ []) (wide p.ticket ∙ ap₂ (λ n (ps : List Pattern). widened_among schemas (record { ticket = p.ticket; input = n; patterns = ps })) (sym (eqb-true p.input input (and_parts (eqb p.input input) _ goes).0)) same))
+
+-- whether one of the swept input goes
+pub goes_where : (rows : List Stored) (gone : List ℕ) (input : ℕ) (p : PunctAt) (held : Bool) → p.input ≡ input → held ≡ still_held rows gone p.patterns → lets_go rows gone input p ≡ not held
+goes_where rows gone input p held own is = ap (λ n. eqb n input && not (still_held rows gone p.patterns)) own ∙ ap (λ b. b && not (still_held rows gone p.patterns)) (eq-eqb input input refl) ∙ ap not (sym is)
+
+-- one of another input waits on
+pub waits_elsewhere : (rows : List Stored) (gone : List ℕ) (input : ℕ) (p : PunctAt) → eqb p.input input ≡ false → lets_go rows gone input p ≡ false
+waits_elsewhere rows gone input p other = ap (λ b. b && not (still_held rows gone p.patterns)) other

@@ -91,11 +91,6 @@ waiting_with held ps p = if held then (ps ++ p ∷ []) else ps
 
 -- ---- one after the other
 
--- an element goes to the one list by its image, or stays and goes to the other
-abbrev pub IsSortedOut : {A B : Type 0} → Bool → A → B → List A → List A → List B → List B → Type 0
-IsSortedOut true x y stay stay' out out' = (stay' ≡ stay) × (out' ≡ out ++ y ∷ [])
-IsSortedOut false x y stay stay' out out' = (stay' ≡ stay ++ x ∷ []) × (out' ≡ out)
-
 -- both lists have these more
 abbrev pub BothMore : {A B : Type 0} → List A → List A → List A → List B → List B → List B → Type 0
 BothMore old new more old' new' more' = (new ≡ old ++ more) × (new' ≡ old' ++ more')

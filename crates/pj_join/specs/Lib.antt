@@ -10,3 +10,4 @@ pub mod Sweeping
 pub mod Triples
 pub mod Watching
 pub mod Hops
+pub mod Changes

@@ -72,11 +72,6 @@ AllHeld stored ps = (p : PunctAt) → In p ps → is_held stored p ≡ true
 abbrev pub AreHeldBy : List Stored → ℕ → List PunctAt → Type 0
 AreHeldBy rows input ps = (p : PunctAt) → In p ps → p.input ≡ input → still_held rows [] p.patterns ≡ true
 
--- the list that takes the place of this one, or the same
-abbrev pub or_same : {A : Type 0} → Option (List A) → List A → List A
-or_same None xs = xs
-or_same (Some ys) xs = ys
-
 -- ---- what a punctuation marks
 
 -- no row more is passed over

@@ -93,17 +93,11 @@ impl Heard {
         })
     }
 
-    /// A second handle of the same punctuation, beside another stored tuple; its patterns are not copied.
-    pub fn share(&self, witness: u64) -> Result<Heard, NoMemory>
-        ensures { IfOk result (λ p. p ≡ self.now) }
+    /// The same punctuation, beside another stored tuple.
+    pub fn renew(&mut self, witness: u64)
+        ensures { self.new ≡ self.old }
     {
-        let punct = Arc::try_clone(&self.punct)?;
-        Ok(Heard {
-            ticket: self.ticket,
-            input: self.input,
-            punct,
-            witness,
-        })
+        self.witness = witness;
     }
 
     /// The input at which it came.

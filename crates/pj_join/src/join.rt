@@ -5,14 +5,16 @@ ghost use Rattle.pj_shape.specs.Sound.{IsSoundSpec};
 ghost use Rattle.pj_events.specs.Join.{AreCertified, Step, TupleComes, PunctComes, Take, Give, Sweep, IsNew, start, run, low, inputs, arity};
 ghost use Rattle.pj_events.specs.KeptState.{kept_of, kept_low, swept, without};
 ghost use Rattle.std.specs.List.{position};
+ghost use Rattle.pj_join.specs.Changes.{changed};
 ghost use Rattle.pj_join.specs.Handed.{JoinProbes, StandsProbed, rows_probed};
 ghost use Rattle.pj_join.specs.Insides.{Rise, tickets};
 ghost use Rattle.pj_join.specs.Judging.{waiting_on};
 ghost use Rattle.pj_join.specs.Joins.{IsTaken, StandsFor, JoinTakes, StandsTaken, after, join_data};
-ghost use Rattle.pj_join.specs.Watching.{AreOpenBut, or_same};
+ghost use Rattle.pj_join.specs.Watching.{AreOpenBut};
 ghost use Rattle.pj_join.specs.Sweeping.{GoesWhereCovered, HandsUp, HasBeenLawful, IsForgotten, puncts_up, rows_off, swept_off};
 
 use crate::arrivals::Heard;
+use crate::changes::make_changes;
 use crate::handing::hand_out_found;
 use crate::marks::Watches;
 use crate::partners::rouse;
@@ -293,7 +295,7 @@ impl Join {
         ensures certified { OnOk result (AreCertified self.now.spec) }
         ensures gone { IfOk result (λ left. left.gone ≡ tickets (swept_off self.now input)) }
         ensures marked { IfOk result (λ left. AreOpenBut self.now input left.marked) }
-        ensures waiting { IfOk result (λ left. or_same left.waiting self.now.kept.waiting ≡ waiting_on (swept self.now.spec self.now.kept input) input self.now.kept.waiting) }
+        ensures waiting { IfOk result (λ left. changed left.changes self.now.kept.waiting ≡ waiting_on (swept self.now.spec self.now.kept input) input self.now.kept.waiting) }
         ensures removed { OnOk result (removed.new ≡ removed.old ++ rows_off self.now input) }
         ensures out { OnOk result (out.new ≡ out.old ++ puncts_up self.now (Sweep input)) }
         ensures err { OnErr result ((take (length removed.old) removed.new ≡ removed.old) × (take (length out.old) out.new ≡ out.old)) }
@@ -324,19 +326,19 @@ impl Join {
         requires there { input < inputs self.old.spec }
         requires gone { left.gone ≡ tickets (swept_off self.old input) }
         requires marked { AreOpenBut self.old input left.marked }
-        requires waiting { or_same left.waiting self.old.kept.waiting ≡ waiting_on (swept self.old.spec self.old.kept input) input self.old.kept.waiting }
+        requires waiting { changed left.changes self.old.kept.waiting ≡ waiting_on (swept self.old.spec self.old.kept input) input self.old.kept.waiting }
         ensures sweeps { self.new ≡ after self.old (Sweep input) }
         ensures count { result ≡ length (swept_off self.old input) }
     {
         let Left {
             gone,
             marked,
-            waiting,
+            changes,
         } = left;
         let count = gone.len();
         let from = self.low();
         self.done -= count;
-        take_over(&mut self.waiting, waiting);
+        make_changes(self.alloc, &mut self.waiting, changes.as_slice());
         self.watches[input as usize] = Watches { from, marked };
         rouse(
             &mut self.watches,
@@ -390,18 +392,6 @@ impl Join {
         ensures { result + length self.now.kept.pending ≡ length self.now.kept.opened }
     {
         self.taken.len() as u64
-    }
-}
-
-// Takes a list over, where there is one.
-fn take_over(waiting: &mut List<Heard>, other: Option<List<Heard>>)
-    ensures { waiting.new ≡ or_same other waiting.old }
-{
-    match other {
-        None => {}
-        Some(list) => {
-            *waiting = list;
-        }
     }
 }
 

@@ -2,6 +2,7 @@
 #![tactic(auto)]
 
 mod arrivals;
+mod changes;
 mod choosing;
 mod found;
 mod handing;

@@ -4,11 +4,13 @@ ghost use Rattle.pj_value.specs.Lists.{In};
 ghost use Rattle.pj_state.specs.declared.shared.Stored.{Stored};
 ghost use Rattle.pj_state.specs.Rising.{IsRising, itself};
 ghost use Rattle.pj_state.specs.States.{state_of, stored, ticket_of};
+ghost use Rattle.pj_join.specs.Changes.{changed};
 ghost use Rattle.pj_join.specs.Judging.{BothMore, MayJudge, judge, letting_go, one_if, ripe_rows, ripe_tickets, row_in, rows_without, staying_on};
 ghost use Rattle.pj_join.specs.Sides.{state_at};
-ghost use Rattle.pj_join.specs.Watching.{AreHeldBy, AreJudged, AreLookedAt, IsOneJudged, IsVerdict, NoneIsRipe, all_picked, goes_by, is_passed, marked_by, or_same, picked, verdict_on};
+ghost use Rattle.pj_join.specs.Watching.{AreHeldBy, AreJudged, AreLookedAt, IsOneJudged, IsVerdict, NoneIsRipe, all_picked, goes_by, is_passed, marked_by, picked, verdict_on};
 
 use crate::arrivals::Heard;
+use crate::changes::Change;
 use crate::marks::{Judged, Verdict, Watches};
 use crate::stored::Inputs;
 use crate::widening::let_go;
@@ -25,7 +27,7 @@ use std::alloc::Global;
 pub struct Left {
     pub gone: List<u64>,
     pub marked: List<u64>,
-    pub waiting: Option<List<Heard>>,
+    pub changes: List<Change>,
 }
 
 // What the first instance tells that a row asks for and that is not covered. Where no punctuation is at or above the low-water
@@ -270,7 +272,7 @@ fn ripe_ones(
     Ok(judged)
 }
 
-// The punctuations that wait on where these rows go, and none where all do; the others are put at the end of `out`, widened.
+// What changes of the punctuations that wait where these rows go; those that do not wait on are put at the end of `out`, widened.
 fn wait_on(
     alloc: Global,
     schemas: &[Schema],
@@ -279,19 +281,18 @@ fn wait_on(
     input: u32,
     waiting: &[Heard],
     out: &mut List<Punct>,
-) -> Result<Option<List<Heard>>, NoMemory>
+) -> Result<List<Change>, NoMemory>
     requires there { input < length schemas.now }
     requires rising { IsRising itself gone.now }
     requires held { AreHeldBy state.now.rows input waiting.now }
-    ensures waiting { IfOk result (λ stay. or_same stay waiting.now ≡ staying_on state.now.rows gone.now input waiting.now) }
+    ensures waiting { IfOk result (λ changes. changed changes waiting.now ≡ staying_on state.now.rows gone.now input waiting.now) }
     ensures ok { OnOk result (out.new ≡ out.old ++ letting_go schemas.now state.now.rows gone.now input waiting.now) }
     ensures err { OnErr result (take (length out.old) out.new ≡ out.old) }
 {
     if gone.len() == 0 {
-        return Ok(None);
+        return Ok(List::new(alloc));
     }
-    let stay = let_go(alloc, schemas, state, gone, input, waiting, out)?;
-    Ok(Some(stay))
+    let_go(alloc, schemas, state, gone, input, waiting, out)
 }
 
 /// Judges the stored tuples of an input. The rows of those that go are put at the end of `removed`, and the punctuations that
@@ -316,7 +317,7 @@ pub fn sweep_input(
     requires held { AreHeldBy (state_at states.now input).rows input waiting.now }
     ensures gone { let j = judge spec.now schemes.now states.now stores.now low in IfOk result (λ left. left.gone ≡ ripe_tickets j cert.now input (state_at states.now input).rows) }
     ensures left { let j = judge spec.now schemes.now states.now stores.now low in IfOk result (λ left. AreLookedAt j cert.now input settled watches.now left.marked) }
-    ensures waiting { IfOk result (λ left. or_same left.waiting waiting.now ≡ staying_on (state_at states.now input).rows left.gone input waiting.now) }
+    ensures waiting { IfOk result (λ left. changed left.changes waiting.now ≡ staying_on (state_at states.now input).rows left.gone input waiting.now) }
     ensures removed { let j = judge spec.now schemes.now states.now stores.now low in OnOk result (removed.new ≡ removed.old ++ ripe_rows j cert.now input (state_at states.now input).rows) }
     ensures out { IfOk result (λ left. out.new ≡ out.old ++ letting_go spec.now.inputs (state_at states.now input).rows left.gone input waiting.now) }
     ensures err { OnErr result ((take (length removed.old) removed.new ≡ removed.old) × (take (length out.old) out.new ≡ out.old)) }
@@ -325,7 +326,7 @@ pub fn sweep_input(
         alloc, spec, schemes, cert, input, states, stores, watches, low, settled, removed,
     )?;
     let Judged { gone, marked } = judged;
-    let waiting = wait_on(
+    let changes = wait_on(
         alloc,
         spec.inputs.as_slice(),
         &states[input as usize],
@@ -337,7 +338,7 @@ pub fn sweep_input(
     Ok(Left {
         gone,
         marked,
-        waiting,
+        changes,
     })
 }
 

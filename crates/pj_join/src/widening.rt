@@ -6,11 +6,13 @@ ghost use Rattle.pj_shape.specs.Sound.{arities_of};
 ghost use Rattle.pj_state.specs.Rising.{IsRising, itself};
 ghost use Rattle.pj_state.specs.States.{stored};
 ghost use Rattle.pj_cover.specs.Stores.{IsAbove};
-ghost use Rattle.pj_join.specs.Judging.{IsSortedOut, going_at_once, letting_go, lets_go, staying_on, waiting_with, widened_among};
+ghost use Rattle.pj_join.specs.Changes.{TakesOut, changed};
+ghost use Rattle.pj_join.specs.Judging.{going_at_once, letting_go, lets_go, one_if, staying_on, waiting_with, widened_among};
 ghost use Rattle.pj_pattern.specs.declared.pattern.Form.TheVariants.{Constant};
 ghost use Rattle.pj_join.specs.Sides.{IsLookup, stays, still_held};
 
 use crate::arrivals::Heard;
+use crate::changes::Change;
 use crate::lookups::Lookup;
 use pj_cover::PunctStore;
 use pj_pattern::{Pattern, Punct, Shape};
@@ -197,57 +199,69 @@ fn is_witness(state: &State, gone: &[u64], ticket: u64, punct: &Punct) -> bool
     }
 }
 
-// The same, where that with this ticket is looked at first.
-fn witness(state: &State, gone: &[u64], first: u64, punct: &Punct) -> Option<u64>
-    requires { IsRising itself gone.now }
-    ensures { is_some result ≡ still_held state.now.rows gone.now punct.now }
+// Puts the punctuation of the swept input at the end of those that go up, widened, where no row that stays matches it.
+#[tactic(auto, using(crate::proofs::Changing::takes_out_goes, crate::proofs::Changing::takes_out_stays, crate::proofs::Changing::takes_out_none, crate::proofs::Looped::goes_where, crate::proofs::Looped::let_go_is))]
+fn let_own_go(
+    alloc: Global,
+    schemas: &[Schema],
+    state: &State,
+    gone: &[u64],
+    input: u32,
+    at: usize,
+    punct: &Heard,
+    changes: &mut List<Change>,
+    out: &mut List<Punct>,
+) -> Result<(), NoMemory>
+    requires there { input < length schemas.now }
+    requires rising { IsRising itself gone.now }
+    requires own { punct.now.input ≡ input }
+    ensures changes { OnOk result (TakesOut (lets_go state.now.rows gone.now input punct.now) at changes.old changes.new) }
+    ensures ok { OnOk result (out.new ≡ out.old ++ one_if (lets_go state.now.rows gone.now input punct.now) (widened_among schemas.now punct.now)) }
+    ensures err { OnErr result (out.new ≡ out.old) }
 {
-    if is_witness(state, gone, first, punct) {
-        return Some(first);
+    if is_witness(state, gone, punct.witness(), punct.punct()) {
+        return Ok(());
     }
-    find(state, gone, punct)
+    match find(state, gone, punct.punct()) {
+        None => {
+            changes.push(Change::Goes(at))?;
+            out.push(widened(alloc, schemas, input, punct.punct().as_slice())?)?;
+        }
+        Some(found) => {
+            changes.push(Change::Stays(at, found))?;
+        }
+    }
+    Ok(())
 }
 
-// The ticket of a row for which the punctuation waits on: one of another input than the swept one does in any case.
-fn waits_for(state: &State, gone: &[u64], input: u32, punct: &Heard) -> Option<u64>
-    requires { IsRising itself gone.now }
-    ensures { not (is_some result) ≡ lets_go state.now.rows gone.now input punct.now }
-{
-    if punct.input() != input {
-        return Some(punct.witness());
-    }
-    witness(state, gone, punct.witness(), punct.punct())
-}
-
-// Puts the punctuation at the end of those that go up, widened, or of those that wait on.
+// The same of a punctuation of any input: one of another input than the swept one waits on.
+#[tactic(auto, using(crate::proofs::Changing::takes_out_none, crate::proofs::Looped::waits_elsewhere))]
 fn let_one_go(
     alloc: Global,
     schemas: &[Schema],
     state: &State,
     gone: &[u64],
     input: u32,
+    at: usize,
     punct: &Heard,
-    stay: &mut List<Heard>,
+    changes: &mut List<Change>,
     out: &mut List<Punct>,
 ) -> Result<(), NoMemory>
     requires there { input < length schemas.now }
     requires rising { IsRising itself gone.now }
-    ensures ok { OnOk result (IsSortedOut (lets_go state.now.rows gone.now input punct.now) punct.now (widened_among schemas.now punct.now) stay.old stay.new out.old out.new) }
+    ensures changes { OnOk result (TakesOut (lets_go state.now.rows gone.now input punct.now) at changes.old changes.new) }
+    ensures ok { OnOk result (out.new ≡ out.old ++ one_if (lets_go state.now.rows gone.now input punct.now) (widened_among schemas.now punct.now)) }
     ensures err { OnErr result (out.new ≡ out.old) }
 {
-    match waits_for(state, gone, input, punct) {
-        None => {
-            out.push(widened(alloc, schemas, input, punct.punct().as_slice())?)?;
-        }
-        Some(found) => {
-            stay.push(punct.share(found)?)?;
-        }
+    if punct.input() != input {
+        return Ok(());
     }
-    Ok(())
+    let_own_go(alloc, schemas, state, gone, input, at, punct, changes, out)
 }
 
 /// Puts the waiting punctuations of an input that none of its rows but those that go matches at the end of `out`, widened, and
-/// answers those that wait on.
+/// answers what is to change of those that wait.
+#[tactic(auto, using(crate::proofs::Changing::none_taken, crate::proofs::Changing::taken_more, crate::proofs::Changing::all_taken))]
 pub fn let_go(
     alloc: Global,
     schemas: &[Schema],
@@ -256,18 +270,28 @@ pub fn let_go(
     input: u32,
     waiting: &[Heard],
     out: &mut List<Punct>,
-) -> Result<List<Heard>, NoMemory>
+) -> Result<List<Change>, NoMemory>
     requires there { input < length schemas.now }
     requires rising { IsRising itself gone.now }
-    ensures waiting { IfOk result (λ stay. stay ≡ staying_on state.now.rows gone.now input waiting.now) }
+    ensures waiting { IfOk result (λ changes. changed changes waiting.now ≡ staying_on state.now.rows gone.now input waiting.now) }
     ensures ok { OnOk result (out.new ≡ out.old ++ letting_go schemas.now state.now.rows gone.now input waiting.now) }
     ensures err { OnErr result (take (length out.old) out.new ≡ out.old) }
 {
-    let mut stay = List::new(alloc);
-    for punct in waiting {
-        let_one_go(alloc, schemas, state, gone, input, punct, &mut stay, out)?;
+    let mut changes = List::new(alloc);
+    for at in 0..waiting.len() {
+        let_one_go(
+            alloc,
+            schemas,
+            state,
+            gone,
+            input,
+            at,
+            &waiting[at],
+            &mut changes,
+            out,
+        )?;
     }
-    Ok(stay)
+    Ok(changes)
 }
 
 // Keeps a punctuation among all, and a copy among those that wait; or neither.

@@ -1,8 +1,10 @@
 use Rattle.std.proofs.Common.{◌≡◌, ◌++◌, take}
-use Rattle.pj_join.specs.Judging.{letting_go, staying_on}
+use Rattle.pj_join.specs.Judging.{letting_go, lets_go}
+use Rattle.pj_join.proofs.Changing.{AreTaken}
 use Rattle.pj_join.proofs.widening.let_go.Given as goal
 
-abbrev pub invariant-loop-punct : goal.invariant-loop-punct
-invariant-loop-punct l =
-    (l.stay ≡ staying_on l.state.rows l.gone l.input (take l.punct-index l.waiting))
-    × (l.out ≡ l.fn.out ++ letting_go l.schemas l.state.rows l.gone l.input (take l.punct-index l.waiting))
+abbrev pub invariant-loop-at : goal.invariant-loop-at
+invariant-loop-at l = record {
+  taken : AreTaken (lets_go l.state.rows l.gone l.input) l.waiting l.at l.changes;
+  out : l.out ≡ l.fn.out ++ letting_go l.schemas l.state.rows l.gone l.input (take l.at l.waiting);
+}

@@ -1,6 +1,7 @@
 use Rattle.std.proofs.Common.{◌≡◌, ◌<◌, ◌∙◌, ◌++◌, [], List, ap, arith, get_or, refl, sym, subst}
 use Rattle.std.proofs.lemmas.Bool.{eqb-true}
-use Rattle.pj_join.specs.Watching.{AreHeldBy, AreWatched, or_same, watches_at}
+use Rattle.pj_join.specs.Changes.{changed}
+use Rattle.pj_join.specs.Watching.{AreHeldBy, AreWatched, watches_at}
 use Rattle.pj_join.proofs.Held.{held_rows}
 use Rattle.pj_join.proofs.Watched.{none_ripe, open_but, same_looked, same_none, watch_is}
 use Rattle.std.specs.Arc.{arc_value}
@@ -100,8 +101,8 @@ returns-clause-waiting c =
     let cert : c.cert_of-cert.result.now ≡ steps_of (join_data (arc_value c.self.inside.spec) c.self.inside.schemes c.self.inside.certs) c.args.input = c.cert_of-cert.ensures ∙ ap (λ (cs : List (List CertStep)). get_or cs c.args.input []) c.as_slice.ensures in
     let looks : judge c.deref.result.now c.self.inside.schemes c.as_slice-2.result.now c.as_slice-3.result.now c.low-low.result ≡ judge (arc_value c.self.inside.spec) c.self.inside.schemes c.self.inside.states.items c.self.inside.stores.items c.low-low.result =
     same-judge c.self.inside.schemes c.low-low.result c.deref.result.now (arc_value c.self.inside.spec) c.as_slice-2.result.now c.self.inside.states.items c.as_slice-3.result.now c.self.inside.stores.items c.deref.ensures c.as_slice-2.ensures.value c.as_slice-3.ensures.value in
-    rw (← c.self.view_is) (waiting-are c.self.inside.node (join_data (arc_value c.self.inside.spec) c.self.inside.schemes c.self.inside.certs) c.self.inside.limit c.self.inside.next c.self.inside.done c.self.inside.states.items c.self.inside.stores.items c.self.inside.pending c.self.inside.taken.items c.self.inside.waiting c.args.input c.self.invariant.0 there c.in_ok-left.left.gone (gone-are c.self.inside.node (join_data (arc_value c.self.inside.spec) c.self.inside.schemes c.self.inside.certs) c.self.inside.limit c.self.inside.next c.self.inside.done c.self.inside.states.items c.self.inside.stores.items c.self.inside.pending c.self.inside.taken.items c.self.inside.waiting c.args.input c.self.invariant.0 there c.low-low.result c.in_ok-left.left.gone low (c.in_ok-left.ensures.gone ∙ same-tickets c.args.input _ _ _ _ _ _ looks cert c.as_slice-2.ensures.value)) (or_same c.in_ok-left.left.waiting c.self.inside.waiting)
-    (ap (λ (ws : List PunctAt). or_same c.in_ok-left.left.waiting ws) (sym c.as_slice-4.ensures) ∙ c.in_ok-left.ensures.waiting ∙ ap (λ (ss : List StateView). staying_on (state_at ss c.args.input).rows c.in_ok-left.left.gone c.args.input c.as_slice-4.result.now) c.as_slice-2.ensures.value
+    rw (← c.self.view_is) (waiting-are c.self.inside.node (join_data (arc_value c.self.inside.spec) c.self.inside.schemes c.self.inside.certs) c.self.inside.limit c.self.inside.next c.self.inside.done c.self.inside.states.items c.self.inside.stores.items c.self.inside.pending c.self.inside.taken.items c.self.inside.waiting c.args.input c.self.invariant.0 there c.in_ok-left.left.gone (gone-are c.self.inside.node (join_data (arc_value c.self.inside.spec) c.self.inside.schemes c.self.inside.certs) c.self.inside.limit c.self.inside.next c.self.inside.done c.self.inside.states.items c.self.inside.stores.items c.self.inside.pending c.self.inside.taken.items c.self.inside.waiting c.args.input c.self.invariant.0 there c.low-low.result c.in_ok-left.left.gone low (c.in_ok-left.ensures.gone ∙ same-tickets c.args.input _ _ _ _ _ _ looks cert c.as_slice-2.ensures.value)) (changed c.in_ok-left.left.changes c.self.inside.waiting)
+    (ap (λ (ws : List PunctAt). changed c.in_ok-left.left.changes ws) (sym c.as_slice-4.ensures) ∙ c.in_ok-left.ensures.waiting ∙ ap (λ (ss : List StateView). staying_on (state_at ss c.args.input).rows c.in_ok-left.left.gone c.args.input c.as_slice-4.result.now) c.as_slice-2.ensures.value
     ∙ ap (λ (ws : List PunctAt). staying_on (state_at c.self.inside.states.items c.args.input).rows c.in_ok-left.left.gone c.args.input ws) c.as_slice-4.ensures))
 
 pub returns-clause-out : goal.returns-clause-out
