@@ -1,5 +1,5 @@
 // What a sweep changes of the punctuations that wait.
-ghost use Rattle.std.specs.Prelude.{◌≡◌, ◌<◌, length};
+ghost use Rattle.std.specs.Prelude.{◌≡◌};
 ghost use Rattle.std.specs.List.{remove};
 ghost use Rattle.pj_join.specs.Changes.{change, changed};
 

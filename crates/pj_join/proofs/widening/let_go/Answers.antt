@@ -1,4 +1,4 @@
-use Rattle.std.proofs.Common.{◌∙◌, Some, ap, sym, refl, arith, ◌≤◌, rules}
+use Rattle.std.proofs.Common.{◌∙◌, Some, ap, sym, refl, rules}
 use Rattle.std.proofs.lemmas.Option.{slice_get-get_or}
 use Rattle.pj_join.specs.Judging.{lets_go, widened_among}
 use Rattle.pj_join.proofs.Changing.{all_taken, taken_more}

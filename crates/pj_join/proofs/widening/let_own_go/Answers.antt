@@ -1,4 +1,4 @@
-use Rattle.std.proofs.Common.{◌∙◌, Option, Bool, false, is_some, ap, sym, ℕ, List}
+use Rattle.std.proofs.Common.{◌∙◌, Option, false, is_some, ap, sym, ℕ, List}
 use Rattle.pj_events.specs.Patterns.{Pattern}
 use Rattle.pj_join.specs.Sides.{still_held}
 use Rattle.pj_join.proofs.Looped.{goes_where, let_go_is}
