@@ -7,3 +7,4 @@ pub mod Keys
 pub mod Alike
 pub mod Tickets
 pub mod Indexes
+pub mod Ordered

@@ -12,9 +12,9 @@ mod store;
 mod texts;
 mod tickets;
 
-pub use matching::Matching;
+pub use matching::{Matching, Spot};
 pub use shared::{Shared, Stored};
-pub use state::State;
+pub use state::{NextNumber, State};
 
 #[cfg(test)]
 mod tests;

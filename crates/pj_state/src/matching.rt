@@ -8,6 +8,20 @@ use crate::store::Store;
 use pj_value::{Row, Value};
 use std::marker::Model;
 
+/// Where a row was found: a hint for finding the next one.
+#[derive(Clone, Copy)]
+pub struct Spot {
+    block: usize,
+    at: usize,
+}
+
+impl Spot {
+    /// No row was found yet.
+    pub fn new() -> Spot {
+        Spot { block: 0, at: 0 }
+    }
+}
+
 /// The rows that have one value in a column, lent, in order of tickets; seen as their list.
 #[derive(Drop)]
 pub struct Matching<'a> {
@@ -64,5 +78,14 @@ impl<'a> Matching<'a> {
     {
         let row = self.store.get(self.tickets[at]).unwrap();
         (self.tickets[at], row.row())
+    }
+
+    /// The same; near the place where the last one was found it takes a few steps.
+    pub fn nth_near(&self, at: usize, near: &mut Spot) -> (u64, &'a Row)
+        requires { at < length self.now }
+        ensures { slice_get self.now at ≡ Some (stored result.0 result.1.now) }
+    {
+        let _ = near;
+        self.nth(at)
     }
 }

