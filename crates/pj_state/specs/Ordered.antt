@@ -1,5 +1,5 @@
 -- The integers of a column, in order.
-use Rattle.std.specs.Prelude.{◌≡◌, ℕ, ℤ, ◌<ℤ◌, ◌≤ℤ◌, List, Some, slice_get}
+use Rattle.std.specs.Prelude.{◌≡◌, ℕ, ℤ, ◌≤ℤ◌, List, Option, Some, None, slice_get}
 use Rattle.pj_value.specs.declared.values.Value.TheVariants.{Int}
 use Rattle.pj_value.specs.Lists.{In}
 use Rattle.pj_state.specs.declared.shared.Stored.{Stored}
@@ -14,22 +14,27 @@ HasNumber column n s = slice_get s.row column ≡ Some (Int n)
 abbrev pub IsNumberThere : ℕ → ℤ → List Stored → Type 0
 IsNumberThere column n rows = (s : Stored) × (In s rows × HasNumber column n s)
 
--- each integer that a row has in this column is below the first of these two, or at least the second
-abbrev pub NoneBetween : ℕ → ℤ → ℤ → List Stored → Type 0
-NoneBetween column from next rows = (s : Stored) (n : ℤ) → In s rows → HasNumber column n s → from ≤ℤ n → next ≤ℤ n
+-- the integer is at least this one; where none is named, each is
+abbrev pub IsFrom : Option ℤ → ℤ → Type 0
+IsFrom None n = Unit {0}
+IsFrom (Some from) n = from ≤ℤ n
 
--- each integer that a row has in this column is below this one
-abbrev pub NoneFrom : ℕ → ℤ → List Stored → Type 0
-NoneFrom column from rows = (s : Stored) (n : ℤ) → In s rows → HasNumber column n s → n <ℤ from
+-- each integer that a row has in this column from the first of these two on is at least the second
+abbrev pub NoneBetween : ℕ → Option ℤ → ℤ → List Stored → Type 0
+NoneBetween column from next rows = (s : Stored) (n : ℤ) → In s rows → HasNumber column n s → IsFrom from n → next ≤ℤ n
+
+-- no row has an integer in this column from this one on
+abbrev pub NoneFrom : ℕ → Option ℤ → List Stored → Type 0
+NoneFrom column from rows = (s : Stored) (n : ℤ) → In s rows → HasNumber column n s → IsFrom from n → ⊥
 
 -- this is the least integer from one on that a row has in this column
-pub record IsNextNumber (column : ℕ) (from n : ℤ) (rows : List Stored) : Type 0 where
-  pub above : from ≤ℤ n
+pub record IsNextNumber (column : ℕ) (from : Option ℤ) (n : ℤ) (rows : List Stored) : Type 0 where
+  pub above : IsFrom from n
   pub there : IsNumberThere column n rows
   pub least : NoneBetween column from n rows
 
 -- what is told of the least integer from one on that a row has in this column
-abbrev pub TellsNext : ℕ → ℤ → List Stored → NextNumber → Type 0
+abbrev pub TellsNext : ℕ → Option ℤ → List Stored → NextNumber → Type 0
 TellsNext column from rows Untold = Unit {0}
 TellsNext column from rows Nothing = NoneFrom column from rows
 TellsNext column from rows (At n) = IsNextNumber column from n rows

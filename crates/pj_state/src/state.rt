@@ -184,10 +184,10 @@ impl State {
         let _ = column;
     }
 
-    /// The least integer from one on that a row has in a column, which was named to `new`. Takes no memory.
+    /// The least integer from one on, or of all, that a row has in a column, which was named to `new`. Takes no memory.
     ///
     /// It is told where `keep_order` was called for the column and memory was there.
-    pub fn next_number(&self, column: u32, from: i64) -> NextNumber
+    pub fn next_number(&self, column: u32, from: Option<i64>) -> NextNumber
         requires { In column self.now.columns }
         ensures { TellsNext column from self.now.rows result }
     {
