@@ -37,3 +37,4 @@ pub mod Triangles
 pub mod Roused
 pub mod Settled
 pub mod Changing
+pub mod Ranged

@@ -14,6 +14,8 @@ use Rattle.pj_events.specs.Patterns.{Pattern, covers}
 use Rattle.pj_events.specs.Join.{CertEntry, ClassCol, In, PunctAt, TupleAt, agree, constant, demand, entry_of, instance_from, no_value, part_of, value_at, values}
 use Rattle.pj_laws.proofs.Matching.{agree-at, value-in}
 use Rattle.pj_join.specs.Sides.{IsWide, state_at, tuple_in}
+use Rattle.pj_join.specs.Ranges.{HoldTrue}
+use Rattle.pj_join.proofs.Ranged.{held_by}
 use Rattle.pj_join.specs.Watching.{AreLeftNext, AreLeftOpen, AreUncovered, AreUncoveredWith, IsAlone, IsFewer, IsKey, IsLeftNext, Limits, Tells, Watches, first_column, has_match, is_passed}
 use Rattle.pj_join.proofs.Wanted.{all-in}
 use Rattle.pj_join.proofs.Woken.{all_marked}
@@ -61,7 +63,7 @@ with_own classes input other rows ys marks ps w left x y h t k j =
 
 -- those none of whose partners with these tickets are left
 pub with_marked : (classes : List (List ClassCol)) (input first other : ℕ) (rows firsts : List Stored) (marks : List Bool) (ps : List Pattern) (p : Stored → Bool) (tickets : List ℕ) (w : Watches)
-    → ((t : Stored) → In t firsts → In t.ticket tickets → IsAlone classes input rows (tuple_in first t) w) → tickets ≡ tickets_of (filter p firsts)
+    → ((t : Stored) → In t firsts → In t.ticket tickets → IsAlone classes input rows (tuple_in first t) w) → HoldTrue p firsts tickets
     → ((t : Stored) → In t firsts → p t ≡ false → (xs : List TupleAt) → Tells classes xs (tuple_in first t) → covers ps (instance_from classes other 0 marks xs) ≡ false)
     → AreUncoveredWith classes (map (tuple_in input) rows) (map (tuple_in first) firsts) other marks ps w
 with_marked classes input first other rows firsts marks ps p tickets w alone are others x y h t k j =
@@ -71,7 +73,7 @@ with_marked classes input first other rows firsts marks ps p tickets w alone are
   where
     go : (s : Stored) → In s rows → tuple_in input s ≡ x → (u : Stored) → In u firsts → tuple_in first u ≡ y → (b : Bool) → p u ≡ b → covers ps (instance_from classes other 0 marks (y ∷ x ∷ [])) ≡ false
     go s hs es u hu eu true e =
-        let marked : In u.ticket tickets = subst (λ (ns : List ℕ). In u.ticket ns) (sym are) (In-map_from ticket_of u (filter p firsts) (In-filter_from p u firsts hu e)) in
+        let marked : In u.ticket tickets = are u hu e in
         let no : agree classes (tuple_in first u ∷ tuple_in input s ∷ []) ≡ false = alone u hu marked s hs (ap (λ (z : TupleAt). is_passed w z.ticket) es ∙ t) in
         absurd (false≢true (sym no ∙ ap₂ (λ (a b : TupleAt). agree classes (a ∷ b ∷ [])) eu es ∙ j))
     go s hs es u hu eu false e = others u hu e (y ∷ x ∷ []) (subst (λ (z : TupleAt). Tells classes (y ∷ x ∷ []) z) (sym eu) (tells-joined classes (y ∷ x ∷ []) y j (inl refl)))
@@ -80,11 +82,11 @@ pub with_key : (classes : List (List ClassCol)) (input first other : ℕ) (rows 
     → IsWide state → ((t : Stored) → In t state.rows → In t.ticket tickets → IsAlone classes input rows (tuple_in first t) w) → tickets ≡ tickets_of (rows_with column v state.rows) → IsKey classes first state.columns other marks ps column v
     → AreUncoveredWith classes (map (tuple_in input) rows) (map (tuple_in first) state.rows) other marks ps w
 with_key classes input first other rows state marks ps column v tickets w wide alone are key =
-    with_marked classes input first other rows state.rows marks ps (has_value column v) tickets w alone are
+    with_marked classes input first other rows state.rows marks ps (has_value column v) tickets w alone (held_by (has_value column v) state.rows tickets are)
     (λ t h e xs tells. key.1 (tuple_in first t) xs tells refl (all-in (λ c. c < length t.row) state.columns (wide t h) column key.0) e)
 
 pub with_limit : (classes : List (List ClassCol)) (input first other : ℕ) (rows : List Stored) (state : StateView) (marks : List Bool) (ps : List Pattern) (column : ℕ) (q : Pattern) (tickets : List ℕ) (w : Watches)
-    → IsWide state → In column state.columns → ((t : Stored) → In t state.rows → In t.ticket tickets → IsAlone classes input rows (tuple_in first t) w) → tickets ≡ tickets_of (filter (has_match column q) state.rows) → Limits classes first other marks ps column q
+    → IsWide state → In column state.columns → ((t : Stored) → In t state.rows → In t.ticket tickets → IsAlone classes input rows (tuple_in first t) w) → HoldTrue (has_match column q) state.rows tickets → Limits classes first other marks ps column q
     → AreUncoveredWith classes (map (tuple_in input) rows) (map (tuple_in first) state.rows) other marks ps w
 with_limit classes input first other rows state marks ps column q tickets w wide indexed alone are limits =
     with_marked classes input first other rows state.rows marks ps (has_match column q) tickets w alone are

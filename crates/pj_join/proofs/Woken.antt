@@ -1,5 +1,5 @@
 -- Which rows a punctuation marks.
-use Rattle.std.proofs.Common.{ℕ, zero, suc, ◌+◌, ◌<◌, Bool, true, false, cond, not, ◌&&◌, ◌||◌, List, [], ◌∷◌, ◌++◌, ◌≡◌, Option, Some, None, Ok, Err, Result, IfSome, OnOk, filter, length, get_or, set, refl, sym, ap, ap₂, ◌∙◌, subst, eqb, ltb, arith}
+use Rattle.std.proofs.Common.{ℕ, zero, suc, ◌+◌, ◌<◌, Bool, true, false, cond, not, ◌&&◌, ◌||◌, List, [], ◌∷◌, ◌++◌, ◌≡◌, Option, Some, None, Ok, Err, Result, IfSome, OnOk, OnErr, filter, length, get_or, set, refl, sym, ap, ap₂, ◌∙◌, subst, eqb, ltb, arith}
 use Rattle.std.specs.List.{list_any, slice_get}
 use Rattle.std.proofs.lemmas.Bool.{and_parts, eq-eqb, eqb-true, false_from_ne_true, false≢true, ltb-true}
 use Rattle.std.proofs.lemmas.Option.{slice_get-get_or, get_or_from_slice_get}
@@ -17,7 +17,8 @@ use Rattle.pj_events.specs.Patterns.{Pattern, covers, matches_value}
 use Rattle.pj_events.specs.Join.{CertEntry, ClassCol, In, JoinData, PunctAt, TupleAt, class_with, constant, demand, entry_of, has, instance_from, no_value, part_of, value_at, values}
 use Rattle.pj_join.specs.Sides.{IsWide, tuple_in}
 use Rattle.pj_join.proofs.Wanted.{all-in}
-use Rattle.pj_join.specs.Watching.{AreFewer, AreLeft, AreLeftAt, AreLeftOpen, AreUncovered, AsksOpen, IsFewer, IsKey, Limits, Tells, Watches, first_column, has_match, is_match, is_passed, watches_at}
+use Rattle.pj_join.specs.Ranges.{HoldTrue}
+use Rattle.pj_join.specs.Watching.{AreFewer, AreLeft, AreLeftAt, AreLeftOpen, AreUncovered, AsksOpen, IsFewer, IsKey, Limits, NonePasses, Tells, Watches, first_column, has_match, is_match, is_passed, watches_at}
 
 -- ---- what is asked for
 
@@ -166,13 +167,23 @@ left_marked (Ok done) classes input other state marks ps own v old new ts wide k
 left_marked (Err stop) classes input other state marks ps own v old new ts wide key are from marked = tt
 
 -- those that the pattern matches are marked
-pub left_matched : {E V : Type 0} (r : Result V E) (classes : List (List ClassCol)) (input other : ℕ) (state : StateView) (marks : List Bool) (ps : List Pattern) (own : ℕ) (q : Pattern) (old new : Watches)
-    → IsWide state → In own state.columns → Limits classes input other marks ps own q → new.from ≡ old.from → OnOk r (new.marked ≡ old.marked ++ tickets_of (filter (has_match own q) state.rows))
-    → OnOk r (AreUncovered classes input state.rows other marks ps new)
-left_matched (Ok done) classes input other state marks ps own q old new wide indexed limits from marked = λ s h t xs tells.
-    limits (tuple_in input s) xs tells refl (all-in (λ c. c < length s.row) state.columns (wide s h) own indexed)
-    (unmarked (has_match own q) state.rows old new (tickets_of (filter (has_match own q) state.rows)) s refl from marked h t)
-left_matched (Err stop) classes input other state marks ps own q old new wide indexed limits from marked = tt
+pub left_matched : {E V : Type 0} (r : Result V E) (classes : List (List ClassCol)) (input other : ℕ) (state : StateView) (marks : List Bool) (ps : List Pattern) (own : ℕ) (q : Pattern) (w : Watches)
+    → IsWide state → In own state.columns → Limits classes input other marks ps own q → OnOk r (NonePasses (has_match own q) state.rows w)
+    → OnOk r (AreUncovered classes input state.rows other marks ps w)
+left_matched (Ok done) classes input other state marks ps own q w wide indexed limits none = λ s h t xs tells.
+    limits (tuple_in input s) xs tells refl (all-in (λ c. c < length s.row) state.columns (wide s h) own indexed) (none s h t)
+left_matched (Err stop) classes input other state marks ps own q w wide indexed limits none = tt
+
+-- none of those passes whose tickets were marked
+pub none_passes : {E V : Type 0} (r : Result V E) (p : Stored → Bool) (rows : List Stored) (old new : Watches) (ts : List ℕ) → HoldTrue p rows ts → new.from ≡ old.from → OnOk r (new.marked ≡ old.marked ++ ts) → OnOk r (NonePasses p rows new)
+none_passes (Ok done) p rows old new ts held from marked = λ s h t.
+    false_from_ne_true (p s) (λ y. false≢true (sym (passed_more old new ts from marked s.ticket t).1
+    ∙ any_from (λ m. eqb m s.ticket) ts s.ticket (held s h y) (eq-eqb s.ticket s.ticket refl)))
+none_passes (Err stop) p rows old new ts held from marked = tt
+
+pub fewer_marked : {E V : Type 0} (r : Result V E) (old new : Watches) (ts : List ℕ) → new.from ≡ old.from → OnOk r (new.marked ≡ old.marked ++ ts) → OnErr r (new.marked ≡ old.marked) → IsFewer old new
+fewer_marked (Ok done) old new ts from ok err = fewer_more old new ts from ok
+fewer_marked (Err stop) old new ts from ok err = fewer_alike old new from err
 
 -- ---- the first step
 

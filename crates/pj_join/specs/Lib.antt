@@ -11,3 +11,4 @@ pub mod Triples
 pub mod Watching
 pub mod Hops
 pub mod Changes
+pub mod Ranges

@@ -155,6 +155,10 @@ is_match pattern (Some value) = matches_value pattern value
 abbrev pub has_match : ℕ → Pattern → Stored → Bool
 has_match column pattern s = is_match pattern (slice_get s.row column)
 
+-- no row that passes the test is passed over
+abbrev pub NonePasses : (Stored → Bool) → List Stored → Watches → Type 0
+NonePasses p rows w = (s : Stored) → In s rows → is_passed w s.ticket ≡ true → p s ≡ false
+
 -- the punctuation covers what tuples ask for whose values a row tells only where this pattern matches its value in this column
 abbrev pub Limits : List (List ClassCol) → ℕ → ℕ → List Bool → List Pattern → ℕ → Pattern → Type 0
 Limits classes input other marks patterns column pattern =

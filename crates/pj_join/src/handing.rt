@@ -13,7 +13,7 @@ use crate::walk::{
 };
 use pj_events::Out;
 use pj_shape::{ClassCol, JoinSpec};
-use pj_state::{Matching, State};
+use pj_state::{Matching, Spot, State};
 use pj_value::{List, NoMemory, Row, Value};
 use std::alloc::Global;
 use std::sync::Arc;
@@ -145,8 +145,9 @@ fn append_pairs<'a>(
     let input = 1u32.saturating_sub(own.input());
     let columns = equal_columns(classes, own, input as usize);
     let cell = own_cell(own, columns);
+    let mut near = Spot::new();
     for at in 0..among.len() {
-        let (ticket, row) = among.nth(at);
+        let (ticket, row) = among.nth_near(at, &mut near);
         if ticket >= own.ticket() {
             return Ok(());
         }

@@ -19,6 +19,7 @@ use crate::handing::hand_out_found;
 use crate::marks::Watches;
 use crate::partners::rouse;
 use crate::queue::{Place, Queue};
+use crate::ranges::keep_orders;
 use crate::starting::{empty_states, empty_stores, empty_watches};
 use crate::stored::first_pending;
 use crate::sweeping::{Left, remove_all, sweep_input};
@@ -140,6 +141,31 @@ impl Join {
     ///
     /// `Limit` comes exactly where as many elements have come as may.
     pub fn punct(
+        &mut self,
+        input: u32,
+        punct: Punct,
+        out: &mut List<Punct>,
+    ) -> Result<u64, JoinStop>
+        requires fits { (input < inputs self.old.spec) × (length punct ≡ arity self.old.spec input) }
+        ensures ticket { IfOk result (λ ticket. ticket ≡ self.old.kept.next) }
+        ensures keeps { OnOk result (self.new ≡ after self.old (PunctComes input punct)) }
+        ensures stands { OnOk result ((steps : List Step) → StandsFor self.old steps → StandsFor self.new (steps ++ PunctComes input punct ∷ [])) }
+        ensures out { OnOk result (out.new ≡ out.old ++ puncts_up self.old (PunctComes input punct)) }
+        ensures hands { OnOk result ((steps : List Step) → StandsFor self.old steps → HandsUp self.old steps (PunctComes input punct)) }
+        ensures limit { IsErrOf result JoinStop.Limit ↔ (self.old.kept.next ≡ self.old.limit) }
+        ensures refused { OnErr result ((self.new ≡ self.old) × (out.new ≡ out.old)) }
+    {
+        keep_orders(
+            &mut self.states,
+            self.spec.classes.as_slice(),
+            input,
+            &punct,
+        );
+        self.hear_punct(input, punct, out)
+    }
+
+    // The same, once orders are kept of the columns in which its ranges look for rows.
+    fn hear_punct(
         &mut self,
         input: u32,
         punct: Punct,

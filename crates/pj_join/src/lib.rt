@@ -12,6 +12,7 @@ mod marks;
 mod partners;
 mod probe;
 mod queue;
+mod ranges;
 mod starting;
 mod stored;
 mod sweeping;

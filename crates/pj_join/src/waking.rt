@@ -1,10 +1,10 @@
 // Which stored rows a punctuation marks.
-ghost use Rattle.std.specs.Prelude.{◌≡◌, ◌<◌, ◌^◌, ◌++◌, ℕ, filter, length, map, OnOk, OnErr};
-ghost use Rattle.pj_state.specs.States.{tickets_of};
+ghost use Rattle.std.specs.Prelude.{◌≡◌, ◌<◌, ◌^◌, ℕ, length, map, OnOk};
+ghost use Rattle.pj_value.specs.Lists.{In};
 ghost use Rattle.pj_cover.specs.Asking.{entries};
 ghost use Rattle.pj_join.specs.Joins.{join_data};
 ghost use Rattle.pj_join.specs.Sides.{AreWide, IsWide, state_at, tuple_in};
-ghost use Rattle.pj_join.specs.Watching.{AllAreLeft, AreFewer, AreLeftAt, AreLeftNext, AreLeftOpen, AreUncovered, AreUncoveredWith, IsFewer, IsPair, has_match};
+ghost use Rattle.pj_join.specs.Watching.{AllAreLeft, AreFewer, AreLeftAt, AreLeftNext, AreLeftOpen, AreUncovered, AreUncoveredWith, IsFewer, IsPair, NonePasses, has_match};
 
 use crate::marks::Watches;
 use crate::partners::{Pair, mark_partners, pair_of};
@@ -15,7 +15,8 @@ use pj_state::State;
 use pj_value::{List, NoMemory};
 use std::alloc::Global;
 
-// Marks the rows whose value in a column the pattern matches.
+// Marks the rows whose value in a column the pattern matches, and maybe others.
+#[tactic(auto, using(crate::proofs::Woken::none_passes, crate::proofs::Woken::fewer_marked, crate::proofs::Woken::fewer_same))]
 fn mark_matching(
     alloc: Global,
     watches: &mut Watches,
@@ -23,9 +24,9 @@ fn mark_matching(
     column: u32,
     pattern: &Pattern,
 ) -> Result<(), NoMemory>
-    ensures from { watches.new.from ≡ watches.old.from }
-    ensures ok { OnOk result (watches.new.marked ≡ watches.old.marked ++ tickets_of (filter (has_match column pattern.now) state.now.rows)) }
-    ensures err { OnErr result (watches.new.marked ≡ watches.old.marked) }
+    requires { In column state.now.columns }
+    ensures fewer { IsFewer watches.old watches.new }
+    ensures none { OnOk result (NonePasses (has_match column pattern.now) state.now.rows watches.new) }
 {
     let tickets = matching_tickets(alloc, state, column, pattern)?;
     watches.mark(tickets.as_slice())

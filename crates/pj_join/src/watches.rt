@@ -8,10 +8,12 @@ ghost use Rattle.pj_state.specs.States.{stored, tickets_of};
 ghost use Rattle.pj_value.specs.Lists.{In};
 ghost use Rattle.pj_cover.specs.Asking.{first_class, marks_of};
 ghost use Rattle.pj_join.specs.Judging.{one_if};
+ghost use Rattle.pj_join.specs.Ranges.{HoldTrue};
 ghost use Rattle.pj_join.specs.Watching.{AreMarked, IsFewer, IsKey, Limits, first_column, has_match, is_match, is_wild_elsewhere, no_watches};
 
 use crate::lookups::Lookup;
 use crate::marks::Watches;
+use crate::ranges::{numbers_of, tickets_among};
 use crate::widening::{constant_of, is_wild};
 use pj_pattern::{Pattern, Punct};
 use pj_shape::{CertStep, ClassCol, Scheme, Schemes};
@@ -263,8 +265,8 @@ fn mark_match(
     Ok(())
 }
 
-/// The tickets of the rows whose value in a column the pattern matches.
-pub fn matching_tickets(
+// The tickets of the rows whose value in a column the pattern matches, where each is looked at.
+fn walked_tickets(
     alloc: Global,
     state: &State,
     column: u32,
@@ -278,6 +280,27 @@ pub fn matching_tickets(
         mark_match(ticket, row, column, pattern, &mut tickets)?;
     }
     Ok(tickets)
+}
+
+/// Tickets among which those of all rows are whose value in a column the pattern matches: by an order of the integers there
+/// where the pattern is a range of them.
+#[tactic(auto, using(crate::proofs::Ranged::held_by, crate::proofs::Ranged::held_among))]
+pub fn matching_tickets(
+    alloc: Global,
+    state: &State,
+    column: u32,
+    pattern: &Pattern,
+) -> Result<List<u64>, NoMemory>
+    requires { In column state.now.columns }
+    ensures { IfOk result (HoldTrue (has_match column pattern.now) state.now.rows) }
+{
+    match numbers_of(pattern) {
+        None => walked_tickets(alloc, state, column, pattern),
+        Some(numbers) => match tickets_among(alloc, state, column, numbers)? {
+            None => walked_tickets(alloc, state, column, pattern),
+            Some(tickets) => Ok(tickets),
+        },
+    }
 }
 
 /// The scheme of a certificate's step, where there is one.

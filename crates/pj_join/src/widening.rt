@@ -14,6 +14,7 @@ ghost use Rattle.pj_join.specs.Sides.{IsLookup, stays, still_held};
 use crate::arrivals::Heard;
 use crate::changes::Change;
 use crate::lookups::Lookup;
+use crate::ranges::{find_among, first_stretch};
 use pj_cover::PunctStore;
 use pj_pattern::{Pattern, Punct, Shape};
 use pj_shape::Schema;
@@ -149,8 +150,8 @@ fn lookup<'a>(state: &State, punct: &'a Punct) -> Option<Lookup<'a>>
     None
 }
 
-// The ticket of one of these rows that stays and matches the punctuation.
-fn find_matching(among: &Matching<'_>, gone: &[u64], punct: &Punct) -> Option<u64>
+/// The ticket of one of these rows that stays and matches the punctuation.
+pub fn find_matching(among: &Matching<'_>, gone: &[u64], punct: &Punct) -> Option<u64>
     requires { IsRising itself gone.now }
     ensures { is_some result ≡ still_held among.now gone.now punct.now }
 {
@@ -177,13 +178,27 @@ fn find_among_all(state: &State, gone: &[u64], punct: &Punct) -> Option<u64>
     None
 }
 
+// The same, where the rows are looked for by a range of integers, if an order of them is kept.
+fn find_by_order(state: &State, gone: &[u64], punct: &Punct) -> Option<u64>
+    requires { IsRising itself gone.now }
+    ensures { is_some result ≡ still_held state.now.rows gone.now punct.now }
+{
+    match first_stretch(state, punct) {
+        None => find_among_all(state, gone, punct),
+        Some(stretch) => match find_among(state, gone, punct, stretch) {
+            None => find_among_all(state, gone, punct),
+            Some(found) => found,
+        },
+    }
+}
+
 // The ticket of a row that stays and matches the punctuation: by an index where one tells.
 fn find(state: &State, gone: &[u64], punct: &Punct) -> Option<u64>
     requires { IsRising itself gone.now }
     ensures { is_some result ≡ still_held state.now.rows gone.now punct.now }
 {
     match lookup(state, punct) {
-        None => find_among_all(state, gone, punct),
+        None => find_by_order(state, gone, punct),
         Some(at) => find_matching(&state.matching(at.column, at.value), gone, punct),
     }
 }

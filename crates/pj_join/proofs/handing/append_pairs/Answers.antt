@@ -9,9 +9,9 @@ use Rattle.pj_join.proofs.handing.append_pairs.Goals as goal
 pub returns-then-ticket-clause-ok : goal.returns-then-ticket-clause-ok
 returns-then-ticket-clause-ok c =
     c.loop-at.invariant ∙ ap (λ (outs : List Out). c.args.outs.now ++ outs)
-    (pairs_stop c.args.classes.now c.args.own.now (1 - c.args.own.now.input) c.args.among.now c.loop-at.at (stored c.nth-ticket.result.0 c.nth-ticket.result.1.now) c.len-at-end.ensures.rising c.nth-ticket.ensures (omega (arith, c.if-ticket.true, c.ticket.ensures)))
+    (pairs_stop c.args.classes.now c.args.own.now (1 - c.args.own.now.input) c.args.among.now c.loop-at.at (stored c.nth_near-ticket.result.0 c.nth_near-ticket.result.1.now) c.len-at-end.ensures.rising c.nth_near-ticket.ensures (omega (arith, c.if-ticket.true, c.ticket.ensures)))
 
 pub loop-at-preserved : goal.loop-at-preserved
 loop-at-preserved c =
-    pairs_more c.args.classes.now c.args.own.now (1 - c.args.own.now.input) c.args.among.now c.loop-at.at (stored c.nth-ticket.result.0 c.nth-ticket.result.1.now) c.args.outs.now c.loop-at.outs c.append_pair.new.outs c.nth-ticket.ensures c.loop-at.invariant
-    (c.in_ok-append_pair.ensures.ok ∙ ap (λ (x : TupleAt). c.loop-at.outs ++ pairs_out c.args.classes.now c.args.own.now (x ∷ [])) (c.of-other.ensures ∙ ap (λ n. record { ticket = c.nth-ticket.result.0; input = n; row = c.nth-ticket.result.1.now }) (c.saturating_sub-input.ensures ∙ ap (λ n. 1 - n) c.input.ensures)))
+    pairs_more c.args.classes.now c.args.own.now (1 - c.args.own.now.input) c.args.among.now c.loop-at.at (stored c.nth_near-ticket.result.0 c.nth_near-ticket.result.1.now) c.args.outs.now c.loop-at.outs c.append_pair.new.outs c.nth_near-ticket.ensures c.loop-at.invariant
+    (c.in_ok-append_pair.ensures.ok ∙ ap (λ (x : TupleAt). c.loop-at.outs ++ pairs_out c.args.classes.now c.args.own.now (x ∷ [])) (c.of-other.ensures ∙ ap (λ n. record { ticket = c.nth_near-ticket.result.0; input = n; row = c.nth_near-ticket.result.1.now }) (c.saturating_sub-input.ensures ∙ ap (λ n. 1 - n) c.input.ensures)))

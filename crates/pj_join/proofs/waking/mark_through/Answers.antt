@@ -1,4 +1,6 @@
-use Rattle.std.proofs.Common.{◌∙◌}
+use Rattle.std.proofs.Common.{ℕ, List, subst, sym}
+use Rattle.pj_join.specs.Ranges.{HoldTrue}
+use Rattle.pj_join.specs.Watching.{has_match}
 use Rattle.pj_join.proofs.Roused.{alone_are}
 use Rattle.pj_join.proofs.Through.{with_key, with_limit}
 use Rattle.pj_join.proofs.waking.mark_through.Goals as goal
@@ -12,4 +14,4 @@ pub returns-in_ok-tickets-in-Some-first_limit-clause-left : goal.returns-in_ok-t
 returns-in_ok-tickets-in-Some-first_limit-clause-left c =
     with_limit c.args.classes.now c.args.input c.args.first c.args.other c.args.state.now.rows c.args.firsts.now c.args.scheme.now c.args.punct.now c.in-Some-first_limit.limit.column c.in-Some-first_limit.limit.pattern.now c.as_slice.result.now c.mark_partners-in-Some-first_limit.new.watches c.requires.wide_first c.in-Some-first_limit.ensures.indexed
     (alone_are c.args.classes.now c.args.input c.args.state.now.rows c.args.state.now.columns c.args.first c.args.firsts.now.rows c.args.pair.mine c.args.pair.theirs c.as_slice.result.now c.mark_partners-in-Some-first_limit.new.watches c.requires.pair c.mark_partners-in-Some-first_limit.ensures.unlike)
-    (c.as_slice.ensures ∙ c.in_ok-tickets-in-Some-first_limit.ensures) c.in-Some-first_limit.ensures.limits
+    (subst (λ (ts : List ℕ). HoldTrue (has_match c.in-Some-first_limit.limit.column c.in-Some-first_limit.limit.pattern.now) c.args.firsts.now.rows ts) (sym c.as_slice.ensures) c.in_ok-tickets-in-Some-first_limit.ensures) c.in-Some-first_limit.ensures.limits

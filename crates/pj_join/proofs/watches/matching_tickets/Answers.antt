@@ -1,9 +1,9 @@
-use Rattle.std.proofs.Common.{[], refl}
-use Rattle.pj_state.specs.States.{stored, ticket_of}
-use Rattle.pj_join.specs.Watching.{has_match}
-use Rattle.pj_join.proofs.Looped.{picked_more}
+use Rattle.std.proofs.Common.{ℕ, List, Option, IfSome, subst}
+use Rattle.pj_join.specs.Ranges.{HasAmong, HoldAll}
+use Rattle.pj_join.proofs.Ranged.{held_among}
 use Rattle.pj_join.proofs.watches.matching_tickets.Goals as goal
 
-pub loop-at-preserved : goal.loop-at-preserved
-loop-at-preserved c =
-    picked_more (has_match c.args.column c.args.pattern.now) ticket_of c.args.state.now.rows c.loop-at.at (stored c.nth-ticket.result.0 c.nth-ticket.result.1.now) (has_match c.args.column c.args.pattern.now (stored c.nth-ticket.result.0 c.nth-ticket.result.1.now)) [] c.loop-at.tickets c.mark_match.new.marked c.nth-ticket.ensures refl c.loop-at.invariant c.in_ok-mark_match.ensures.ok
+pub returns-in-Some-2 : goal.returns-in-Some-2
+returns-in-Some-2 c =
+    held_among c.args.column c.args.pattern.now c.in-Some.numbers c.args.state.now.rows c.in-Some-2.tickets c.in-Some.ensures
+    (subst (λ (told : Option (List ℕ)). IfSome told (HoldAll (HasAmong c.args.column c.in-Some.numbers) c.args.state.now.rows)) c.in-Some-2.is c.in_ok-tickets_among-in-Some.ensures)

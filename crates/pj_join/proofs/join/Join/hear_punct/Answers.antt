@@ -19,7 +19,7 @@ use Rattle.pj_join.specs.Watching.{AllHeld, AreWatched}
 use Rattle.pj_join.proofs.Held.{held_punct}
 use Rattle.pj_join.proofs.Watched.{watched_fewer, watched_punct}
 use Rattle.pj_join.proofs.Looped.{state_is}
-use Rattle.pj_join.proofs.join.Join.punct.Goals as goal
+use Rattle.pj_join.proofs.join.Join.hear_punct.Goals as goal
 
 pub index-requires : goal.index-requires
 index-requires c =
