@@ -105,6 +105,9 @@ module _ {A : Type 0} (number : A → ℕ) where
   found_first n xs ys at x e is lt found rising =
       ap Some is ∙ sym (first-at number n xs at x rising (subst (λ (zs : List A). at < length zs) e lt) (subst (λ (zs : List A). number (get_or zs at x) ≡ n) e (found x)))
 
+  pub found_here : (n : ℕ) (xs : List A) (at : ℕ) (x : A) → at < length xs → x ≡ get_or xs at x → number x ≡ n → IsRising number xs → first_with number n xs ≡ Some x
+  found_here n xs at x lt is e rising = first-at number n xs at x rising lt (ap number (sym is) ∙ e) ∙ ap Some (sym is)
+
   pub found_left : (n : ℕ) (xs ys : List A) (at : ℕ) (d : A) → ys ≡ xs → at < length ys → ((e : A) → number (get_or ys at e) ≡ n) → IsRising number xs → remove xs at ≡ without number n xs
   found_left n xs ys at d e lt found rising =
       sym (without-at number n xs at d rising (subst (λ (zs : List A). at < length zs) e lt) (subst (λ (zs : List A). number (get_or zs at d) ≡ n) e (found d)))

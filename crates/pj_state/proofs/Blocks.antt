@@ -1,13 +1,14 @@
 -- Places in blocks.
 use Rattle.std.proofs.Common.{◌≡◌, ℕ, zero, suc, ◌+◌, ◌-◌, ◌<◌, ◌≤◌, List, [], ◌∷◌, ◌++◌, Option, None, Some, length, get_or, set, take, drop, refl, ap, sym, ◌∙◌, subst, arith, append_assoc, append-nil, get_or-set_same}
 use Rattle.std.specs.List.{remove, slice_get}
+use Rattle.std.specs.Option.{IfSome}
 use Rattle.std.proofs.lemmas.List.{drop_more, get_or_default, length-append, take_more}
 use Rattle.std.proofs.lemmas.Option.{slice_get-get_or}
 use Rattle.pj_value.proofs.Slices.{get_front, get_behind}
 use Rattle.pj_state.specs.Rising.{AllAbove, AllBelow, IsRising, SplitsAt, first_with, without}
 use Rattle.pj_state.specs.Stores.{AreFilled, first_ticket, flat, less_one, place_ticket}
 use Rattle.pj_state.specs.declared.places.Place.{Place}
-use Rattle.pj_state.proofs.Rising.{above-behind, above-weaker, first-above, first-behind, first-front, rising-behind, rising-front, without-above, without-append, without-below}
+use Rattle.pj_state.proofs.Rising.{above-behind, above-weaker, first-above, first-behind, first-earlier, first-front, first-later, rising-behind, rising-front, without-above, without-append, without-below}
 
 pub flat-push : (bs : List (List Place)) (b : List Place) → flat (bs ++ b ∷ []) ≡ flat bs ++ b
 flat-push [] b = append-nil b
@@ -247,6 +248,23 @@ block-taken n bs cs all at k new s e taken rising =
     let block = block-before n bs at k split e in
     let rise : IsRising place_ticket (flat bs) = subst (IsRising place_ticket) (sym s.whole) rising in
     taken (rising-block bs k [] rise block.there) ∙ (sym (without-in-block n bs k [] rise s.filled block) ∙ ap (without place_ticket n) s.whole)
+
+-- ---- what is found in a block
+
+first-in-one : (n : ℕ) (bs : List (List Place)) (k : ℕ) (d : List Place) (p : Place) → k < length bs → IsRising place_ticket (flat bs) → first_with place_ticket n (get_or bs k d) ≡ Some p → first_with place_ticket n (flat bs) ≡ Some p
+first-in-one n [] k d p lt rising h = absurd (omega (arith, lt))
+first-in-one n (b ∷ bs) zero d p lt rising h = first-earlier place_ticket n b (flat bs) p h
+first-in-one n (b ∷ bs) (suc k) d p lt rising h =
+    first-later place_ticket n b (flat bs) p rising (first-in-one n bs k d p (omega (arith, lt)) (rising-behind place_ticket b (flat bs) rising) h)
+
+pub found-in-one : (n : ℕ) (bs : List (List Place)) (all : List Place) (k : ℕ) (b : List Place) (r : Option Place) → flat bs ≡ all → k < length bs → b ≡ get_or bs k b
+    → IfSome r (λ p. IsRising place_ticket b → first_with place_ticket n b ≡ Some p) → IfSome r (λ p. IsRising place_ticket all → first_with place_ticket n all ≡ Some p)
+found-in-one n bs all k b None whole lt is h = tt
+found-in-one n bs all k b (Some p) whole lt is h = λ rising.
+    let rise : IsRising place_ticket (flat bs) = subst (IsRising place_ticket) (sym whole) rising in
+    let here : first_with place_ticket n (get_or bs k b) ≡ Some p =
+    ap (first_with place_ticket n) (sym is) ∙ h (subst (IsRising place_ticket) (sym is) (rising-block bs k b rise lt)) in
+    ap (first_with place_ticket n) (sym whole) ∙ first-in-one n bs k b p lt rise here
 
 -- ---- a block that was taken from
 

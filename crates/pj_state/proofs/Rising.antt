@@ -106,6 +106,25 @@ module _ {A : Type 0} (number : A → ℕ) where
   pub first-push : (n : ℕ) (xs : List A) (x : A) → AllBelow number n xs → number x ≡ n → first_with number n (xs ++ x ∷ []) ≡ Some x
   first-push n xs x h e = first-behind n xs (x ∷ []) h ∙ ap (λ b. cond b (Some x) None) (eq-eqb (number x) n e)
 
+  -- what is found in a part is found in the whole
+  pub first-earlier : (n : ℕ) (xs ys : List A) (p : A) → first_with number n xs ≡ Some p → first_with number n (xs ++ ys) ≡ Some p
+  first-earlier n [] ys p h = absurd (cc)
+  first-earlier n (x ∷ xs) ys p h = go (eqb (number x) n) (first-earlier n xs ys p) h
+    where
+      go : (b : Bool) → (first_with number n xs ≡ Some p → first_with number n (xs ++ ys) ≡ Some p) → cond b (Some x) (first_with number n xs) ≡ Some p → cond b (Some x) (first_with number n (xs ++ ys)) ≡ Some p
+      go true ih q = q
+      go false ih q = ih q
+
+  pub first-later : (n : ℕ) (xs ys : List A) (p : A) → IsRising number (xs ++ ys) → first_with number n ys ≡ Some p → first_with number n (xs ++ ys) ≡ Some p
+  first-later n [] ys p rising h = h
+  first-later n (x ∷ xs) ys p rising h =
+      ap (λ b. cond b (Some x) (first_with number n (xs ++ ys))) (eqb-apart (number x) n other) ∙ first-later n xs ys p rising.1 h
+    where
+      other : number x ≡ n → ⊥
+      other e =
+          let none : first_with number n ys ≡ None = first-above n ys (above-weaker n (number x) ys (omega (arith, e)) (above-behind (number x) xs ys rising.0)) in
+          let clash : Some p ≡ None = sym h ∙ none in absurd (cc)
+
   pub first-number : (n : ℕ) (xs : List A) (x : A) → first_with number n xs ≡ Some x → number x ≡ n
   first-number n [] x h = absurd (cc)
   first-number n (y ∷ ys) x h = go (eqb (number y) n) refl (first-number n ys x) h

@@ -8,15 +8,16 @@ use crate::store::Store;
 use pj_value::{Row, Value};
 use std::marker::Model;
 
-/// Where a row was found: a hint for finding the next one.
+/// Where a row was found: a hint for finding the next one. Holds the place behind it.
 #[derive(Clone, Copy)]
 pub struct Spot {
-    block: usize,
-    at: usize,
+    pub(crate) block: usize,
+    pub(crate) at: usize,
 }
 
 impl Spot {
     /// No row was found yet.
+    #[inline(always)]
     pub fn new() -> Spot {
         Spot { block: 0, at: 0 }
     }
@@ -64,6 +65,7 @@ impl<'a> Matching<'a> {
     }
 
     /// How many rows there are.
+    #[inline(always)]
     pub fn len(&self) -> usize
         ensures len { result ≡ length self.now }
         ensures rising { IsRising ticket_of self.now }
@@ -81,11 +83,12 @@ impl<'a> Matching<'a> {
     }
 
     /// The same; near the place where the last one was found it takes a few steps.
+    #[inline]
     pub fn nth_near(&self, at: usize, near: &mut Spot) -> (u64, &'a Row)
         requires { at < length self.now }
         ensures { slice_get self.now at ≡ Some (stored result.0 result.1.now) }
     {
-        let _ = near;
-        self.nth(at)
+        let row = self.store.get_near(self.tickets[at], near).unwrap();
+        (self.tickets[at], row.row())
     }
 }

@@ -6,6 +6,7 @@ ghost use Rattle.pj_state.specs.Stores.{AreFilled, flat, less_one, place_ticket}
 ghost use Rattle.pj_state.specs.declared.places.Place.{Place as AnyPlace};
 
 use crate::halving::{Ticketed, position, split_place};
+use crate::matching::Spot;
 use pj_value::NoMemory;
 use std::alloc::Global;
 use std::marker::Model;
@@ -72,6 +73,7 @@ impl Ticketed for Place {
 
     ghost number = { place_ticket };
 
+    #[inline(always)]
     fn ticket(&self) -> u64 {
         self.ticket
     }
@@ -82,6 +84,7 @@ impl Ticketed for Near {
 
     ghost number = { near_past };
 
+    #[inline(always)]
     fn ticket(&self) -> u64 {
         u64::from(self.past)
     }
@@ -92,6 +95,7 @@ impl Ticketed for Block {
 
     ghost number = { first_ticket };
 
+    #[inline(always)]
     fn ticket(&self) -> u64 {
         match self.nears.first() {
             None => 0,
@@ -122,6 +126,7 @@ impl Near {
     }
 
     // The place in a block with this base.
+    #[inline(always)]
     fn place(&self, base: u64) -> Place
         requires { IsBase base }
         ensures { result ≡ near_place base self.now }
@@ -147,6 +152,7 @@ impl Block {
     }
 
     /// How many places there are.
+    #[inline(always)]
     pub fn len(&self) -> usize
         ensures { result ≡ length self.now }
     {
@@ -154,6 +160,7 @@ impl Block {
     }
 
     /// The place at a position, counted from 0.
+    #[inline(always)]
     pub fn at(&self, at: usize) -> Place
         requires { at < length self.now }
         ensures { slice_get self.now at ≡ Some result }
@@ -180,7 +187,23 @@ impl Block {
         }
     }
 
+    // The place at a position, where it is there and has this ticket.
+    #[inline(always)]
+    fn found_at(&self, at: usize, ticket: u64) -> Option<Place>
+        ensures { IfSome result (λ place. IsRising place_ticket self.now → first_with place_ticket ticket self.now ≡ Some place) }
+    {
+        if at >= self.len() {
+            return None;
+        }
+        let place = self.at(at);
+        if place.ticket != ticket {
+            return None;
+        }
+        Some(place)
+    }
+
     // The position of the place with this ticket; where the tickets rise, `None` exactly where there is none.
+    #[inline]
     fn position(&self, ticket: u64) -> Option<usize>
         ensures within { IfSome result (λ at. at < length self.now) }
         ensures found { IfSome result (λ at. (d : AnyPlace) → place_ticket (slice_index_or self.now at d) ≡ ticket) }
@@ -199,6 +222,19 @@ impl Block {
         match self.position(ticket) {
             None => None,
             Some(at) => Some(self.at(at)),
+        }
+    }
+
+    // The same; tells the position behind it.
+    fn get_near(&self, ticket: u64, next: &mut usize) -> Option<Place>
+        ensures { IsRising place_ticket self.now → result ≡ first_with place_ticket ticket self.now }
+    {
+        match self.position(ticket) {
+            None => None,
+            Some(at) => {
+                *next = at.wrapping_add(1);
+                Some(self.at(at))
+            }
         }
     }
 
@@ -248,8 +284,48 @@ impl Places {
         push_place(&mut self.blocks, alloc, place)
     }
 
-    /// The place with this ticket, where the tickets rise.
+    /// The place with this ticket, where the tickets rise. Looks at the last place first.
+    #[inline]
     pub fn get(&self, ticket: u64) -> Option<Place>
+        ensures { IsRising place_ticket self.now → result ≡ first_with place_ticket ticket self.now }
+    {
+        match self.last_with(ticket) {
+            Some(place) => Some(place),
+            None => self.search(ticket),
+        }
+    }
+
+    /// The same; looks first at a spot, which then becomes the one behind the place.
+    #[inline]
+    pub fn get_near(&self, ticket: u64, near: &mut Spot) -> Option<Place>
+        ensures { IsRising place_ticket self.now → result ≡ first_with place_ticket ticket self.now }
+    {
+        match self.found_at(near.block, near.at, ticket) {
+            Some(place) => {
+                near.at = near.at.wrapping_add(1);
+                Some(place)
+            }
+            None => self.get_behind(ticket, near),
+        }
+    }
+
+    // The same; looks first at the next block.
+    fn get_behind(&self, ticket: u64, near: &mut Spot) -> Option<Place>
+        ensures { IsRising place_ticket self.now → result ≡ first_with place_ticket ticket self.now }
+    {
+        let next = near.block.wrapping_add(1);
+        match self.found_at(next, 0, ticket) {
+            Some(place) => {
+                near.block = next;
+                near.at = 1;
+                Some(place)
+            }
+            None => self.search_near(ticket, near),
+        }
+    }
+
+    // The place with this ticket, where the tickets rise.
+    fn search(&self, ticket: u64) -> Option<Place>
         ensures { IsRising place_ticket self.now → result ≡ first_with place_ticket ticket self.now }
     {
         let behind = split_place(self.blocks.as_slice(), ticket);
@@ -257,6 +333,42 @@ impl Places {
             return None;
         }
         self.blocks[behind - 1].get(ticket)
+    }
+
+    // The same; tells the spot behind it.
+    fn search_near(&self, ticket: u64, near: &mut Spot) -> Option<Place>
+        ensures { IsRising place_ticket self.now → result ≡ first_with place_ticket ticket self.now }
+    {
+        let behind = split_place(self.blocks.as_slice(), ticket);
+        if behind == 0 {
+            return None;
+        }
+        near.block = behind - 1;
+        self.blocks[behind - 1].get_near(ticket, &mut near.at)
+    }
+
+    // The last place, where it has this ticket.
+    #[inline(always)]
+    fn last_with(&self, ticket: u64) -> Option<Place>
+        ensures { IfSome result (λ place. IsRising place_ticket self.now → first_with place_ticket ticket self.now ≡ Some place) }
+    {
+        let count = self.blocks.len();
+        if count == 0 {
+            return None;
+        }
+        let last = self.blocks[count - 1].len().wrapping_sub(1);
+        self.found_at(count - 1, last, ticket)
+    }
+
+    // The place at a position of a block, where it is there and has this ticket.
+    #[inline(always)]
+    fn found_at(&self, block: usize, at: usize, ticket: u64) -> Option<Place>
+        ensures { IfSome result (λ place. IsRising place_ticket self.now → first_with place_ticket ticket self.now ≡ Some place) }
+    {
+        if block >= self.blocks.len() {
+            return None;
+        }
+        self.blocks[block].found_at(at, ticket)
     }
 
     /// Takes out the place with this ticket, where the tickets rise.

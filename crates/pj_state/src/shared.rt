@@ -38,6 +38,7 @@ impl Shared {
     }
 
     /// The row itself.
+    #[inline(always)]
     pub fn row(&self) -> &Row
         ensures { result.now ≡ self.now }
     {

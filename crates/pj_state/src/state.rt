@@ -195,6 +195,7 @@ impl State {
     }
 
     /// The row with a ticket; `None` exactly where there is none.
+    #[inline]
     pub fn get(&self, ticket: u64) -> Option<&Row>
         ensures { option_copied result ≡ row_under ticket self.now.rows }
     {

@@ -4,6 +4,7 @@ ghost use Rattle.pj_state.specs.Rising.{AllBelow, IsRising, first_with, without}
 ghost use Rattle.pj_state.specs.States.{pairs, row_under, rows_below, stored, ticket_of};
 ghost use Rattle.pj_state.specs.Stores.{AreHeld, rows_at};
 
+use crate::matching::Spot;
 use crate::places::{Block, Place, Places};
 use crate::shared::{Shared, Stored};
 use pj_value::{List, NoMemory};
@@ -88,11 +89,24 @@ impl Store {
     }
 
     /// The row with this ticket.
+    #[inline]
     pub fn get(&self, ticket: u64) -> Option<&Shared>
         ensures found { IfSome result (λ row. first_with ticket_of ticket self.now ≡ Some (stored ticket row.now)) }
         ensures missing { IfNone result (first_with ticket_of ticket self.now ≡ None) }
     {
         match self.places.get(ticket) {
+            None => None,
+            Some(place) => Some(&self.slab[place.key]),
+        }
+    }
+
+    /// The same; looks first at a spot, which then becomes the one behind the row.
+    #[inline]
+    pub fn get_near(&self, ticket: u64, near: &mut Spot) -> Option<&Shared>
+        ensures found { IfSome result (λ row. first_with ticket_of ticket self.now ≡ Some (stored ticket row.now)) }
+        ensures missing { IfNone result (first_with ticket_of ticket self.now ≡ None) }
+    {
+        match self.places.get_near(ticket, near) {
             None => None,
             Some(place) => Some(&self.slab[place.key]),
         }

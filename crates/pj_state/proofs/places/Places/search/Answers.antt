@@ -1,6 +1,6 @@
 use Rattle.std.proofs.Common.{◌-◌, arith}
 use Rattle.pj_state.proofs.Blocks.{Searched, block-found, nothing-found}
-use Rattle.pj_state.proofs.places.Places.get.Goals as goal
+use Rattle.pj_state.proofs.places.Places.search.Goals as goal
 
 pub returns-then-behind-eq0 : goal.returns-then-behind-eq0
 returns-then-behind-eq0 c =

@@ -1,0 +1,9 @@
+use Rattle.std.proofs.Common.{◌-◌}
+use Rattle.pj_state.proofs.Between.{IsBetween}
+use Rattle.pj_state.proofs.halving.place_in_few.Given as goal
+
+abbrev pub invariant-loop-low : goal.invariant-loop-low
+invariant-loop-low g l = IsBetween g.T.Ticketed.number l.ticket l.items l.low l.high
+
+abbrev pub decreases-loop-low : goal.decreases-loop-low
+decreases-loop-low g l = l.high - l.low
