@@ -10,7 +10,9 @@ use Rattle.pj_value.specs.declared.values.Value.{Value}
 use Rattle.pj_value.specs.Values.{row_eq}
 use Rattle.pj_events.specs.Tables.{Tally}
 use Rattle.pj_group.specs.Indexes.{AreIndexesOf, HasOneMore, HasSame, IsIndexOf, IsWhole, has_value, places_from, told}
+use Rattle.pj_group.specs.Renewing.{IsRenewed}
 use Rattle.pj_group.specs.Slots.{GroupSlot}
+use Rattle.std.proofs.lemmas.Map.{keys-set_value}
 use Rattle.pj_group.specs.declared.indexes.ColumnIndex.{ColumnIndex}
 
 -- the key of the group at a place
@@ -111,3 +113,8 @@ indexes_put slots new key w find e are = let k = keys_put key w slots in indexes
 -- where no column has an index
 pub indexes_none : (slots : List GroupSlot) (find : ℕ → Option ColumnIndex) → ((column : ℕ) → find column ≡ None) → AreIndexesOf slots find
 indexes_none slots find none column = subst (λ (o : Option ColumnIndex). IfSome o (IsIndexOf column (keys_of slots))) (sym (none column)) tt
+
+-- where the states of a key that is there are renewed
+pub indexes_renewed : (next : List Tally → List Tally) (slots new : List GroupSlot) (key : List Value) (find : ℕ → Option ColumnIndex) → IsRenewed next slots key new → AreIndexesOf slots find → AreIndexesOf new find
+indexes_renewed next slots new key find is are =
+    indexes_keys slots new find (ap keys_of is.renewed ∙ keys-set_value (row_eq key) slots (Some (next is.tallies))) are

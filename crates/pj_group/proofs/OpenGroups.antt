@@ -1,5 +1,5 @@
 -- Groups in memory: what clearing away, closing and renewing make of the open ones.
-use Rattle.std.proofs.Common.{ℕ, Bool, true, false, cond, not, ◌&&◌, List, [], ◌∷◌, Option, Some, None, is_some, ◌≡◌, map, filter, length, refl, sym, ap, ◌∙◌}
+use Rattle.std.proofs.Common.{ℕ, Bool, true, false, cond, not, ◌&&◌, List, [], ◌∷◌, Option, Some, None, is_some, ◌≡◌, map, filter, length, refl, sym, ap, ◌∙◌, subst}
 use Rattle.std.specs.List.{AllByRecursion, IsDistinct}
 use Rattle.std.specs.Map.{keys_of, lookup, set_value}
 use Rattle.std.specs.Option.{IfSome}
@@ -11,6 +11,7 @@ use Rattle.pj_value.proofs.Orders.{row_same_if_equal}
 use Rattle.pj_events.specs.Patterns.{Pattern, matches_row}
 use Rattle.pj_events.specs.Operators.{GroupSpec}
 use Rattle.pj_events.specs.Tables.{GroupEntry, GroupTable, Tally}
+use Rattle.pj_group.specs.Renewing.{IsLeft}
 use Rattle.pj_group.specs.Slots.{GroupSlot, IsReady, MatchesOnly, is_open, open_groups, state_rows, states_in, with_open}
 use Rattle.pj_group.specs.Steps.{closed_rows, row_tuple}
 use Rattle.pj_group.specs.Insides.{AllStates, AreStates}
@@ -185,3 +186,45 @@ only_closed patterns key (s ∷ slots) only d = go s.0 s.1 (row_eq key s.0) refl
       ap (λ (b : Bool). map row_tuple (cond b ((k, ts) ∷ filter (λ (e : GroupEntry). matches_row patterns e.0) T) (filter (λ (e : GroupEntry). matches_row patterns e.0) T))) (m ∙ e) ∙ ih.0,
       ap (λ (es : GroupTable). (k, ts) ∷ es) ih.1 ∙ sym (ap (λ (b : Bool). cond (not b) ((k, ts) ∷ left T) (left T)) (m ∙ e)),
     )
+
+-- ---- a key whose group was closed
+
+none_there : (key k : List Value) (slots : List GroupSlot) → key ≡ k → AllByRecursion (λ y. row_eq k y ≡ false) (keys_of slots) → lookup (row_eq key) (filter is_open slots) ≡ None
+none_there key k [] q a = refl
+none_there key k (s ∷ slots) q a = go s.1 (ap (λ (j : List Value). row_eq j s.0) q ∙ a.0) (none_there key k slots q a.1)
+  where
+    R : List GroupSlot
+    R = filter is_open slots
+
+    go : (o : Option (List Tally)) → row_eq key s.0 ≡ false → lookup (row_eq key) R ≡ None → lookup (row_eq key) (cond (is_some o) ((s.0, o) ∷ R) R) ≡ None
+    go None f ih = ih
+    go (Some ts) f ih = ap (λ (b : Bool). cond b (Some (Some ts)) (lookup (row_eq key) R)) f ∙ ih
+
+-- it is new once such groups are cleared away
+pub new_after_clearing : (key : List Value) (slots : List GroupSlot) → IsDistinct row_eq (keys_of slots) → lookup (row_eq key) slots ≡ Some None → lookup (row_eq key) (filter is_open slots) ≡ None
+unfolding IsDistinct
+new_after_clearing key [] d e = cc
+new_after_clearing key (s ∷ slots) d e = go s.1 (row_eq key s.0) refl e (new_after_clearing key slots d.1)
+  where
+    R : List GroupSlot
+    R = filter is_open slots
+
+    L : Option (Option (List Tally))
+    L = lookup (row_eq key) slots
+
+    go : (o : Option (List Tally)) (b : Bool) → row_eq key s.0 ≡ b → cond b (Some o) L ≡ Some None → (L ≡ Some None → lookup (row_eq key) R ≡ None) → lookup (row_eq key) (cond (is_some o) ((s.0, o) ∷ R) R) ≡ None
+    go None true t e ih = none_there key s.0 slots (row_same_if_equal key s.0 t) d.0
+    go None false t e ih = ih e
+    go (Some ts) true t e ih = absurd (cc)
+    go (Some ts) false t e ih = ap (λ (b : Bool). cond b (Some (Some ts)) (lookup (row_eq key) R)) t ∙ ih e
+
+-- ---- where closed groups are cleared away after they were looked for
+
+pub new_cleared : (old slots new : List GroupSlot) (key : List Value) → IsLeft (filter is_open old) old key slots → new ≡ filter is_open slots → lookup (row_eq key) new ≡ None
+new_cleared old slots new key is n = ap (lookup (row_eq key)) (n ∙ ap (filter is_open) is.same) ∙ is.none
+
+pub open_cleared : (old slots new : List GroupSlot) (key : List Value) → IsLeft (filter is_open old) old key slots → new ≡ filter is_open slots → open_groups new ≡ open_groups old
+open_cleared old slots new key is n = ap open_groups (n ∙ ap (filter is_open) is.same) ∙ open_filter old
+
+pub states_cleared : (count : ℕ) (spec : GroupSpec) (old slots new : List GroupSlot) (key : List Value) → IsLeft (filter is_open old) old key slots → new ≡ filter is_open slots → AllStates count spec old → AllStates count spec new
+states_cleared count spec old slots new key is n h = subst (AllStates count spec) (sym (n ∙ ap (filter is_open) is.same)) (states_filter count spec is_open old h)

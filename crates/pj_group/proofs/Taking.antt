@@ -1,7 +1,7 @@
 -- A table after one row more.
-use Rattle.std.proofs.Common.{ℕ, Bool, true, false, cond, ◌||◌, inl, inr, List, [], ◌∷◌, ◌++◌, Option, Some, None, ◌≡◌, map, refl, sym, ap, ap₂, ◌∙◌, subst, append-nil}
-use Rattle.std.specs.List.{list_any}
-use Rattle.std.specs.Map.{lookup, set_value}
+use Rattle.std.proofs.Common.{ℕ, Bool, true, false, cond, ◌||◌, inl, inr, List, [], ◌∷◌, ◌++◌, Option, Some, None, is_some, ◌≡◌, filter, map, refl, sym, ap, ap₂, ◌∙◌, subst, append-nil}
+use Rattle.std.specs.List.{IsDistinct, list_any}
+use Rattle.std.specs.Map.{keys_of, lookup, set_value}
 use Rattle.std.specs.Option.{option_map}
 use Rattle.std.proofs.lemmas.Map.Steps.{set_value_same}
 use Rattle.std.proofs.lemmas.Bool.{false≢true, false_from_ne_true}
@@ -15,9 +15,10 @@ use Rattle.pj_value.proofs.Orders.{row_equal_if_same, row_same_if_equal}
 use Rattle.pj_events.specs.Operators.{Agg, GroupSpec, keys_from, picked_cells}
 use Rattle.pj_laws.proofs.UnionsAndGroups.{key-from}
 use Rattle.pj_events.specs.Tables.{GroupEntry, Tally, kept_for, rows_with_key, table_of, tally}
-use Rattle.pj_group.specs.Slots.{GroupSlot, IsReady, open_groups, states_in}
+use Rattle.pj_group.specs.Slots.{GroupSlot, IsReady, is_open, open_groups, states_in}
+use Rattle.pj_group.specs.Renewing.{IsLeft, IsRenewed}
 use Rattle.pj_group.specs.Steps.{first_tally, next_tallies, tallies_after}
-use Rattle.pj_group.proofs.OpenGroups.{open_found, open_put, set_put}
+use Rattle.pj_group.proofs.OpenGroups.{new_after_clearing, open_found, open_put, set_put}
 use Rattle.pj_laws.proofs.Groups.{AreApart, key_of, keys-apart}
 use Rattle.pj_group.proofs.Apart.{keys_more, none_with, some_with}
 use Rattle.pj_group.proofs.States.{tallies_first, tallies_more}
@@ -119,15 +120,22 @@ added_by spec rows row old slots new key ts keys aggs k ks a ready same f t n e 
     taken_by spec rows row (open_groups slots) (open_groups new) key ts keys aggs None k ks a (ap states_in f ∙ sym (open_found key slots ready)) t (ap open_groups n ∙ open_put key ts slots ready) (same ∙ e)
 
 -- the states of a key that is there
-pub renewed_by : (spec : GroupSpec) (rows : List (List Value)) (row : List Value) (old slots new : List GroupSlot) (key : List Value) (was next : Option (List Tally)) (keys : List ℕ) (aggs : List Agg)
-    → key ≡ picked_cells keys row → keys ≡ spec.keys → aggs ≡ spec.aggs → IsReady (lookup (row_eq key) slots) → open_groups slots ≡ open_groups old
-    → Some was ≡ lookup (row_eq key) slots → next ≡ option_map (next_tallies row aggs) was → new ≡ set_value (row_eq key) slots next
-    → open_groups old ≡ table_of spec rows → open_groups new ≡ table_of spec (rows ++ row ∷ [])
-renewed_by spec rows row old slots new key None next keys aggs k ks a ready same f t n e = absurd (subst IsReady (sym f) ready)
-renewed_by spec rows row old slots new key (Some was) next keys aggs k ks a ready same f t n e =
-    taken_by spec rows row (open_groups slots) (open_groups new) key (next_tallies row aggs was) keys aggs (Some was) k ks a (ap states_in f ∙ sym (open_found key slots ready)) refl
-    (ap open_groups (n ∙ ap (set_value (row_eq key) slots) t ∙ set_put key (Some was) (Some (next_tallies row aggs was)) slots (sym f)) ∙ open_put key (next_tallies row aggs was) slots ready) (same ∙ e)
+renewed : (spec : GroupSpec) (rows : List (List Value)) (row : List Value) (slots new : List GroupSlot) (key : List Value) (was : List Tally) → key ≡ picked_cells spec.keys row
+    → Some (Some was) ≡ lookup (row_eq key) slots → IsReady (lookup (row_eq key) slots) → new ≡ set_value (row_eq key) slots (Some (next_tallies row spec.aggs was)) → open_groups slots ≡ table_of spec rows → open_groups new ≡ table_of spec (rows ++ row ∷ [])
+renewed spec rows row slots new key was k f ready n e =
+    taken_by spec rows row (open_groups slots) (open_groups new) key (next_tallies row spec.aggs was) spec.keys spec.aggs (Some was) k refl refl (ap states_in f ∙ sym (open_found key slots ready)) refl
+    (ap open_groups (n ∙ set_put key (Some was) (Some (next_tallies row spec.aggs was)) slots (sym f)) ∙ open_put key (next_tallies row spec.aggs was) slots ready) e
+
+pub renewed_by : (spec : GroupSpec) (rows : List (List Value)) (row : List Value) (slots new : List GroupSlot) (key : List Value) → key ≡ picked_cells spec.keys row → IsRenewed (next_tallies row spec.aggs) slots key new
+    → open_groups slots ≡ table_of spec rows → open_groups new ≡ table_of spec (rows ++ row ∷ [])
+renewed_by spec rows row slots new key k is e = renewed spec rows row slots new key is.tallies k (sym is.there) (subst IsReady (sym is.there) tt) is.renewed e
 
 -- to write back what was there changes nothing
 pub kept_by : (slots new : List GroupSlot) (key : List Value) (was next : Option (List Tally)) → Some was ≡ lookup (row_eq key) slots → next ≡ was → new ≡ set_value (row_eq key) slots next → new ≡ slots
 kept_by slots new key was next f t n = n ∙ ap (set_value (row_eq key) slots) t ∙ set_value_same (row_eq key) slots was (sym f)
+
+-- a group that was closed
+pub left_by : (f : List Tally → List Tally) (slots new : List GroupSlot) (key : List Value) (was next : Option (List Tally)) (b : Bool) → b ≡ is_some was → b ≡ false → IsDistinct row_eq (keys_of slots)
+    → Some was ≡ lookup (row_eq key) slots → next ≡ option_map f was → new ≡ set_value (row_eq key) slots next → IsLeft (filter is_open slots) slots key new
+left_by f slots new key None next b o c d e t n = record { none = new_after_clearing key slots d (sym e); same = kept_by slots new key None next e t n }
+left_by f slots new key (Some ts) next b o c d e t n = absurd (cc)

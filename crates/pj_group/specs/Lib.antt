@@ -1,6 +1,7 @@
 pub mod Indexes
 pub mod Insides
 pub mod Prints
+pub mod Renewing
 pub mod Slots
 pub mod States
 pub mod Steps

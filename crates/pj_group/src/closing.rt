@@ -16,7 +16,7 @@ use crate::indexes::{Indexes, places_of};
 use crate::keys::ColumnValue;
 use crate::places::close_places;
 use crate::reach::Reach;
-use crate::slots::{Slots, clear, close_one, drop_matched};
+use crate::slots::{Slots, clear_all, close_one, drop_matched};
 use pj_pattern::{Element, Punct};
 use pj_shape::GroupSpec;
 use pj_value::{List, NoMemory};
@@ -118,8 +118,7 @@ fn cleared(slots: &mut Slots, indexes: &mut Indexes, places: usize, closings: us
     ensures indexed { AreIndexesOf slots.new.entries (get nat_eq indexes.new) }
 {
     if closings > places / 2 {
-        clear(slots);
-        indexes.clear();
+        clear_all(slots, indexes);
         0
     } else {
         closings

@@ -1,11 +1,14 @@
 // Groups.
-ghost use Rattle.std.specs.Prelude.{◌≡◌, ◌<◌, ◌≤◌, ◌+◌, ◌^◌, ◌↔◌, List, [], ◌∷◌, ◌++◌, All, length, map, nat_eq, OnOk, OnErr, IfOk, IsErrOf, IsTrue, IfSome};
+ghost use Rattle.std.specs.Prelude.{◌≡◌, ◌<◌, ◌≤◌, ◌+◌, ◌^◌, ◌↔◌, List, [], ◌∷◌, ◌++◌, All, None, is_some, length, map, nat_eq, OnOk, OnErr, IfOk, IsErrOf, IsTrue, IfSome};
+ghost use Rattle.std.specs.Map.{lookup};
 ghost use Rattle.std.specs.Option.{option_copied, option_map};
 ghost use Rattle.pj_value.specs.declared.values.Value.{Value};
-ghost use Rattle.pj_events.specs.Operators.{group_after, group_hands};
+ghost use Rattle.pj_value.specs.Values.{row_eq};
+ghost use Rattle.pj_events.specs.Operators.{group_after, group_hands, picked_cells};
 ghost use Rattle.indexmap.specs.IndexMap.{get};
 ghost use Rattle.pj_group.specs.Indexes.{AreIndexesOf};
 ghost use Rattle.pj_group.specs.Insides.{AllStates, AreStates, IsBounded};
+ghost use Rattle.pj_group.specs.Renewing.{Renews};
 ghost use Rattle.pj_group.specs.Slots.{open_groups};
 ghost use Rattle.pj_group.specs.Steps.{Fits, IsInRange, cell_of, next_tallies, first_tally};
 ghost use Rattle.pj_group.specs.Tables.{StandsFor};
@@ -14,7 +17,7 @@ ghost use Rattle.pj_events.specs.Tables.{table_of};
 use crate::closing::close;
 use crate::indexes::Indexes;
 use crate::keys::Key;
-use crate::slots::{Slots, reopen};
+use crate::slots::{Slots, clear_all};
 use crate::tally::Tally;
 use indexmap::IndexMap;
 use pj_flow::cell;
@@ -155,7 +158,8 @@ fn is_full(count: u64, limit: u64) -> bool
     count == limit
 }
 
-// Takes a row; so many elements came before.
+// Takes a row; so many elements came before. Its group is looked up once where it is there and open; where it was closed,
+// the groups that were closed are cleared away, so that it comes last.
 fn take_row(
     alloc: Global,
     count: u64,
@@ -176,21 +180,83 @@ fn take_row(
     ensures indexed { AreIndexesOf slots.new.entries (get nat_eq indexes.new) }
 {
     let key = Key::of(alloc, spec.keys.as_slice(), row)?;
-    reopen(slots, indexes, &key);
-    match slots.get_mut(&key) {
-        Some(states) => {
-            renew(alloc, count, spec.aggs.as_slice(), states, row, room)?;
+    match renew_at(alloc, count, spec, slots, &key, row, room)? {
+        Found::Open => Ok(()),
+        Found::Closed => {
+            clear_all(slots, indexes);
+            add(alloc, count, spec, slots, indexes, key, row)?;
             Ok(())
         }
-        None => {
-            let tallies = first_tallies(alloc, spec.aggs.as_slice(), row)?;
-            slots.insert(key, Some(tallies))?;
+        Found::Missing => {
+            add(alloc, count, spec, slots, indexes, key, row)?;
             Ok(())
         }
     }
 }
 
-// The states of an open group after a row.
+// Takes a row whose key is new; so many elements came before.
+fn add(
+    alloc: Global,
+    count: u64,
+    spec: &GroupSpec,
+    slots: &mut Slots,
+    indexes: &Indexes,
+    key: Key,
+    row: &Row,
+) -> Result<(), NoMemory>
+    requires new { lookup (row_eq key) slots.old.entries ≡ None }
+    requires is { key ≡ picked_cells spec.now.keys row.now }
+    requires fits { All (IsInRange (length row.now)) spec.now.aggs }
+    requires states { AllStates count spec.now slots.old.entries }
+    requires indexed { AreIndexesOf slots.old.entries (get nat_eq indexes.now) }
+    ensures keeps { OnOk result ((rows : List (List Value)) → open_groups slots.old.entries ≡ table_of spec.now rows → open_groups slots.new.entries ≡ table_of spec.now (rows ++ row.now ∷ [])) }
+    ensures states { OnOk result (AllStates (count + 1) spec.now slots.new.entries) }
+    ensures err { OnErr result (slots.new.entries ≡ slots.old.entries) }
+    ensures indexed { AreIndexesOf slots.new.entries (get nat_eq indexes.now) }
+{
+    let tallies = first_tallies(alloc, spec.aggs.as_slice(), row)?;
+    slots.insert(key, Some(tallies))?;
+    Ok(())
+}
+
+// What stands for a key: an open group, one that was closed, or nothing.
+enum Found {
+    Open,
+    Closed,
+    Missing,
+}
+
+// Takes a row of this key where its group is there and open; answers what stood there. Else, and on a refusal, the groups are
+// as before.
+fn renew_at(
+    alloc: Global,
+    count: u64,
+    spec: &GroupSpec,
+    slots: &mut Slots,
+    key: &Key,
+    row: &Row,
+    room: &mut List<Tally>,
+) -> Result<Found, NoMemory>
+    requires few { count < 2 ^ 40 }
+    requires fits { All (IsInRange (length row.now)) spec.now.aggs }
+    requires states { AllStates count spec.now slots.old.entries }
+    ensures is { IfOk result (Renews (next_tallies row.now spec.now.aggs) slots.old.entries key.now slots.new.entries) }
+    ensures states { OnOk result (AllStates (count + 1) spec.now slots.new.entries) }
+    ensures err { OnErr result (slots.new.entries ≡ slots.old.entries) }
+{
+    match slots.get_mut(key) {
+        None => Ok(Found::Missing),
+        Some(states) => {
+            if renew(alloc, count, spec.aggs.as_slice(), states, row, room)? {
+                Ok(Found::Open)
+            } else {
+                Ok(Found::Closed)
+            }
+        }
+    }
+}
+
+// The states of a group after a row, where it is open; answers whether it is.
 fn renew(
     alloc: Global,
     count: u64,
@@ -198,20 +264,21 @@ fn renew(
     states: &mut Option<List<Tally>>,
     row: &Row,
     room: &mut List<Tally>,
-) -> Result<(), NoMemory>
+) -> Result<bool, NoMemory>
     requires few { count < 2 ^ 40 }
     requires fits { All (IsInRange (length row.now)) aggs.now }
     requires states { IfSome states.old (AreStates count (length aggs.now)) }
+    ensures open { IfOk result (λ was_open. was_open ≡ is_some states.old) }
     ensures ok { OnOk result (states.new ≡ option_map (next_tallies row.now aggs.now) states.old) }
     ensures states { OnOk result (IfSome states.new (AreStates (count + 1) (length aggs.now))) }
     ensures err { OnErr result (states.new ≡ states.old) }
 {
     match states {
-        None => Ok(()),
+        None => Ok(false),
         Some(tallies) => {
             next_tallies(alloc, count, aggs, tallies.as_slice(), row, room)?;
             mem::swap(tallies, room);
-            Ok(())
+            Ok(true)
         }
     }
 }

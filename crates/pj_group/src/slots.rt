@@ -1,13 +1,11 @@
 // Groups in memory.
-ghost use Rattle.std.specs.Prelude.{ℕ, ◌≡◌, ◌&&◌, false, not, Some, None, filter, is_some, nat_eq};
-ghost use Rattle.std.specs.Map.{lookup, set_value};
+ghost use Rattle.std.specs.Prelude.{◌≡◌, ◌&&◌, not, None, filter, is_some, nat_eq};
+ghost use Rattle.std.specs.Map.{set_value};
 ghost use Rattle.indexmap.specs.IndexMap.{get};
-ghost use Rattle.pj_shape.specs.declared.groups.GroupSpec.{GroupSpec as AnySpec};
 ghost use Rattle.pj_value.specs.Values.{row_eq};
 ghost use Rattle.pj_events.specs.Patterns.{matches_row};
 ghost use Rattle.pj_group.specs.Indexes.{AreIndexesOf};
-ghost use Rattle.pj_group.specs.Insides.{AllStates};
-ghost use Rattle.pj_group.specs.Slots.{IsReady, is_open, open_groups};
+ghost use Rattle.pj_group.specs.Slots.{is_open};
 
 use crate::indexes::Indexes;
 use crate::keys::Key;
@@ -20,33 +18,17 @@ use pj_value::List;
 /// all such are cleared away.
 pub type Slots = IndexMap<Key, Option<List<Tally>>>;
 
-/// Clears away the groups that were closed, where the one of this key is, and then the indexes.
-#[tactic(auto, using(crate::proofs::OpenGroups::open_filter, crate::proofs::OpenGroups::ready_filter, crate::proofs::OpenGroups::states_filter))]
-pub fn reopen(slots: &mut Slots, indexes: &mut Indexes, key: &Key)
-    requires indexed { AreIndexesOf slots.old.entries (get nat_eq indexes.old) }
-    ensures ready { IsReady (lookup (row_eq key.now) slots.new.entries) }
-    ensures same { open_groups slots.new.entries ≡ open_groups slots.old.entries }
-    ensures states { (count : ℕ) (spec : AnySpec) → AllStates count spec slots.old.entries → AllStates count spec slots.new.entries }
+/// Clears away the groups that were closed, and then the indexes.
+pub fn clear_all(slots: &mut Slots, indexes: &mut Indexes)
+    ensures slots { slots.new.entries ≡ filter is_open slots.old.entries }
     ensures indexed { AreIndexesOf slots.new.entries (get nat_eq indexes.new) }
 {
-    if is_closed(slots, key) {
-        clear(slots);
-        indexes.clear();
-    }
+    clear(slots);
+    indexes.clear();
 }
 
-// Whether the group of this key was closed.
-fn is_closed(slots: &Slots, key: &Key) -> bool
-    ensures { result ≡ false → IsReady (lookup (row_eq key.now) slots.now.entries) }
-{
-    match slots.get(key) {
-        None => false,
-        Some(states) => states.is_none(),
-    }
-}
-
-/// Clears away the groups that were closed.
-pub fn clear(slots: &mut Slots)
+// Clears away the groups that were closed.
+fn clear(slots: &mut Slots)
     ensures { slots.new.entries ≡ filter is_open slots.old.entries }
 {
     slots.retain(
