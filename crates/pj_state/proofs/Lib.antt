@@ -8,3 +8,5 @@ pub mod Told
 pub mod Indexed
 pub mod Looking
 pub mod Empty
+pub mod Orders
+pub mod Next

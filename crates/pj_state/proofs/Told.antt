@@ -5,7 +5,8 @@ use Rattle.std.proofs.lemmas.Bool.Decides.{Decides-int_eq}
 use Rattle.pj_value.specs.declared.values.Value.{Value}
 use Rattle.pj_value.specs.declared.values.Value.TheVariants.{Int, Text}
 use Rattle.pj_state.specs.Alike.{text_same_if_equal}
-use Rattle.pj_state.specs.Indexes.{HasFewer, HasFewerAt, HasMore, HasMoreAt, HasSame, HasSameAt, listed, told_by}
+use Rattle.pj_state.specs.Indexes.{HasFewer, HasFewerAt, HasMore, HasMoreAt, HasSame, HasSameAt, told_by}
+use Rattle.pj_state.specs.Numbers.{listed}
 use Rattle.pj_state.specs.Keys.{same_text, text_key}
 use Rattle.pj_state.specs.Rising.{itself, without}
 use Rattle.pj_state.specs.declared.texts.TextKey.{TextKey}

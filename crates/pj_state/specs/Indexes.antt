@@ -1,21 +1,16 @@
 -- Indexes: which rows have which value in a column.
-use Rattle.std.specs.Prelude.{◌≡◌, ℕ, ℤ, ◌<◌, ◌≤◌, Bool, if◌then◌else◌, List, [], ◌∷◌, ◌++◌, Option, Some, None, length, slice_index_or}
-use Rattle.std.specs.Ordering.{int_eq}
+use Rattle.std.specs.Prelude.{◌≡◌, ℕ, ℤ, ◌<◌, ◌≤◌, Bool, if◌then◌else◌, List, [], ◌∷◌, ◌++◌, Some, length, slice_index_or}
 use Rattle.indexmap.specs.IndexMap.{IndexMap, get}
 use Rattle.pj_value.specs.declared.values.Value.{Value}
 use Rattle.pj_value.specs.declared.values.Value.TheVariants.{Int, Text}
 use Rattle.pj_value.specs.Values.{value_eq}
 use Rattle.pj_state.specs.Keys.{same_text, text_key}
+use Rattle.pj_state.specs.Numbers.{listed, number_tickets}
 use Rattle.pj_state.specs.Rising.{AllBelow, IsRising, first_with, itself, without}
 use Rattle.pj_state.specs.States.{rows_with, ticket_of, tickets_of}
 use Rattle.pj_state.specs.declared.shared.Stored.{Stored}
 use Rattle.pj_state.specs.declared.texts.TextKey.{TextKey}
 use Rattle.pj_state.specs.declared.index.ValueIndex.{ValueIndex}
-
--- the tickets that are there
-abbrev pub listed : Option (List ℕ) → List ℕ
-listed None = []
-listed (Some tickets) = tickets
 
 -- the tickets under a key
 abbrev pub told_at : {K S : Type 0} → (K → K → Bool) → IndexMap K (List ℕ) S → K → List ℕ
@@ -28,7 +23,7 @@ told_by numbers texts (Text bytes) = texts (text_key bytes)
 
 -- the tickets that an index has for a value
 abbrev pub told : ValueIndex → Value → List ℕ
-told index = told_by (told_at int_eq index.numbers) (told_at same_text index.texts)
+told index = told_by (number_tickets index.numbers) (told_at same_text index.texts)
 
 -- the first has the same tickets as the second, but one more under this key
 abbrev pub HasMoreAt : {K : Type 0} → (K → K → Bool) → (K → List ℕ) → (K → List ℕ) → K → ℕ → Type 0

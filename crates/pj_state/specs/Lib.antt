@@ -6,5 +6,7 @@ pub mod Prints
 pub mod Keys
 pub mod Alike
 pub mod Tickets
+pub mod Numbers
 pub mod Indexes
 pub mod Ordered
+pub mod Least

@@ -3,10 +3,15 @@ ghost use Rattle.std.specs.Prelude.{◌≡◌, [], OnOk, OnErr};
 ghost use Rattle.std.specs.Option.{option_copied};
 ghost use Rattle.std.specs.Ordering.{int_eq};
 ghost use Rattle.pj_value.specs.declared.values.Value.{Value};
+ghost use Rattle.pj_value.specs.declared.values.Value.TheVariants.{Int};
 ghost use Rattle.pj_state.specs.Rising.{IsRising, itself};
 ghost use Rattle.pj_state.specs.Keys.{same_text, text_key};
-ghost use Rattle.pj_state.specs.Indexes.{HasFewer, HasMore, HasMoreAt, HasSame, HasSameAt, TakesAt, listed, told, told_at};
+ghost use Rattle.pj_state.specs.Indexes.{HasFewer, HasMore, HasMoreAt, HasSame, HasSameAt, TakesAt, told, told_at};
+ghost use Rattle.pj_state.specs.Least.{TellsLeast};
+ghost use Rattle.pj_state.specs.Numbers.{has_tickets};
 
+use crate::NextNumber;
+use crate::numbers::{Numbers, listed};
 use crate::texts::{LentText, TextKey};
 use crate::tickets::Tickets;
 use indexmap::IndexMap;
@@ -16,7 +21,7 @@ use std::alloc::Global;
 /// The tickets of each integer, and of each text.
 #[derive(Drop)]
 pub struct ValueIndex {
-    numbers: IndexMap<i64, Tickets>,
+    numbers: Numbers,
     texts: IndexMap<TextKey, Tickets>,
 }
 
@@ -26,7 +31,7 @@ impl ValueIndex {
         ensures { (v : Value) → told result v ≡ [] }
     {
         ValueIndex {
-            numbers: IndexMap::new(alloc),
+            numbers: Numbers::new(alloc),
             texts: IndexMap::new(alloc),
         }
     }
@@ -36,7 +41,7 @@ impl ValueIndex {
         ensures { result.now ≡ told self.now value.now }
     {
         match value {
-            Value::Int(number) => listed(self.numbers.get(number)),
+            Value::Int(number) => self.numbers.tickets(*number),
             Value::Text(text) => listed(self.texts.get(LentText::of(text))),
         }
     }
@@ -48,7 +53,7 @@ impl ValueIndex {
     {
         match value {
             Value::Int(number) => {
-                add_to_number(&mut self.numbers, alloc, *number, ticket)?;
+                self.numbers.add(alloc, *number, ticket)?;
                 Ok(())
             }
             Value::Text(text) => {
@@ -63,41 +68,23 @@ impl ValueIndex {
         ensures { IsRising itself (told self.old value.now) → HasFewer (told self.new) (told self.old) value.now ticket }
     {
         match value {
-            Value::Int(number) => take_from_number(&mut self.numbers, *number, ticket),
+            Value::Int(number) => self.numbers.take(*number, ticket),
             Value::Text(text) => take_from_text(&mut self.texts, LentText::of(text), ticket),
         }
     }
-}
 
-// The tickets that were found.
-fn listed(found: Option<&Tickets>) -> &[u64]
-    ensures { result.now ≡ listed (option_copied found.entry) }
-{
-    match found {
-        None => &[],
-        Some(tickets) => tickets.as_slice(),
+    /// Keeps the integers that have tickets in order from now on, where there is memory for it.
+    pub fn keep_order(&mut self, alloc: Global)
+        ensures { self.new ≡ self.old }
+    {
+        self.numbers.keep_order(alloc);
     }
-}
 
-// One more ticket for an integer.
-fn add_to_number(
-    numbers: &mut IndexMap<i64, Tickets>,
-    alloc: Global,
-    number: i64,
-    ticket: u64,
-) -> Result<(), NoMemory>
-    ensures ok { OnOk result (HasMoreAt int_eq (told_at int_eq numbers.new) (told_at int_eq numbers.old) number ticket) }
-    ensures err { OnErr result (HasSameAt (told_at int_eq numbers.new) (told_at int_eq numbers.old)) }
-{
-    match numbers.get_mut(&number) {
-        Some(tickets) => {
-            tickets.push(alloc, ticket)?;
-            Ok(())
-        }
-        None => {
-            numbers.insert(number, Tickets::one(ticket))?;
-            Ok(())
-        }
+    /// The least integer from one on, or of all, that has tickets; untold where no order is kept.
+    pub fn next_number(&self, from: Option<i64>) -> NextNumber
+        ensures { TellsLeast (λ n. has_tickets (told self.now (Int n))) from result }
+    {
+        self.numbers.next_number(from)
     }
 }
 
@@ -120,21 +107,6 @@ fn add_to_text(
             let key = TextKey::of(text.share()?);
             texts.insert(key, Tickets::one(ticket))?;
             Ok(())
-        }
-    }
-}
-
-// Takes out a ticket of an integer, where its tickets rise.
-fn take_from_number(numbers: &mut IndexMap<i64, Tickets>, number: i64, ticket: u64)
-    ensures { TakesAt int_eq (told_at int_eq numbers.new) (told_at int_eq numbers.old) number ticket }
-{
-    match numbers.get_mut(&number) {
-        None => {}
-        Some(tickets) => {
-            tickets.take(ticket);
-            if tickets.as_slice().len() == 0 {
-                numbers.swap_remove(&number);
-            }
         }
     }
 }

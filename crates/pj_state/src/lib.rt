@@ -4,6 +4,7 @@
 mod halving;
 mod index;
 mod matching;
+mod numbers;
 mod places;
 mod prints;
 mod shared;

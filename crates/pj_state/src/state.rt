@@ -181,7 +181,8 @@ impl State {
     pub fn keep_order(&mut self, column: u32)
         ensures { self.new ≡ self.old }
     {
-        let _ = column;
+        let columns = self.columns.as_slice();
+        keep_order_in(self.alloc, columns, &mut self.indexes, column);
     }
 
     /// The least integer from one on, or of all, that a row has in a column, which was named to `new`. Takes no memory.
@@ -191,6 +192,11 @@ impl State {
         requires { In column self.now.columns }
         ensures { TellsNext column from self.now.rows result }
     {
+        for (at, named) in self.columns.as_slice().iter().enumerate() {
+            if column == *named {
+                return self.indexes[at].next_number(from);
+            }
+        }
         NextNumber::Untold
     }
 
@@ -221,6 +227,19 @@ fn empty_indexes(alloc: Global, columns: &[u32]) -> Result<Vec<ValueIndex>, NoMe
 fn no_memory_for(row: Shared) -> NoMemory {
     let _ = row;
     NoMemory
+}
+
+// Keeps the integers of a column in order, where it has an index.
+fn keep_order_in(alloc: Global, columns: &[u32], indexes: &mut Vec<ValueIndex>, column: u32)
+    requires { length indexes.old.items ≡ length columns.now }
+    ensures { indexes.new.items ≡ indexes.old.items }
+{
+    for at in 0..columns.len() {
+        if columns[at] == column {
+            indexes[at].keep_order(alloc);
+            return;
+        }
+    }
 }
 
 // Puts a row into each index, or into none.

@@ -91,7 +91,8 @@ impl Tickets {
 
     /// Takes out a ticket, where the tickets rise.
     pub fn take(&mut self, ticket: u64)
-        ensures { IsRising itself self.old → self.new ≡ without itself ticket self.old }
+        ensures taken { IsRising itself self.old → self.new ≡ without itself ticket self.old }
+        ensures none { self.old ≡ [] → self.new ≡ [] }
     {
         match &mut self.held {
             Held::Nothing => {}
@@ -134,7 +135,8 @@ impl TicketList {
 
     // Takes out a ticket, where the tickets rise.
     fn take(&mut self, ticket: u64)
-        ensures { IsRising itself self.old → self.new ≡ without itself ticket self.old }
+        ensures taken { IsRising itself self.old → self.new ≡ without itself ticket self.old }
+        ensures none { self.old ≡ [] → self.new ≡ [] }
     {
         match position(self.as_slice(), ticket) {
             None => {}
