@@ -6,6 +6,9 @@ use super::*;
 use pj_value::{List, NoMemory, Row, SharedText, Value};
 use std::alloc::Global;
 
+// The step at which an order is first kept.
+const KEPT: u64 = 40;
+
 // A row of the plain list: an integer, and a text of one byte.
 #[derive(Clone, Copy)]
 struct Plain {
@@ -195,6 +198,10 @@ fn next(seed: u64) -> u64 {
         .wrapping_add(1442695040888963407)
 }
 
+fn number(draw: u64) -> i64 {
+    (draw % 97) as i64 - 48
+}
+
 fn letter(draw: u64) -> u8 {
     match draw % 3 {
         0 => b'a',
@@ -219,7 +226,7 @@ fn change(
     }
     let plain = Plain {
         ticket,
-        number: (draw % 7) as i64 - 3,
+        number: number(draw),
         letter: letter(draw / 8),
     };
     list.push(plain)?;
@@ -233,7 +240,7 @@ fn agrees(alloc: Global, state: &State, list: &[Plain], draw: u64) -> Result<boo
     let below = draw % 600;
     for wanted in [
         Wanted::Any,
-        Wanted::Number((draw % 7) as i64 - 3),
+        Wanted::Number(number(draw)),
         Wanted::Letter(letter(draw)),
     ] {
         if !finds_value(alloc, state, list, wanted, below)? {
@@ -243,17 +250,77 @@ fn agrees(alloc: Global, state: &State, list: &[Plain], draw: u64) -> Result<boo
     Ok(is_same(state, list))
 }
 
+// The least integer of the list from one on, or of all.
+fn next_in(list: &[Plain], from: Option<i64>) -> NextNumber {
+    let mut least = NextNumber::Nothing;
+    for plain in list {
+        if is_from(plain.number, from) && is_less(plain.number, least) {
+            least = NextNumber::At(plain.number);
+        }
+    }
+    least
+}
+
+fn is_from(number: i64, from: Option<i64>) -> bool {
+    match from {
+        None => true,
+        Some(from) => from <= number,
+    }
+}
+
+fn is_less(number: i64, least: NextNumber) -> bool {
+    match least {
+        NextNumber::At(least) => number < least,
+        _ => true,
+    }
+}
+
+// Whether the state tells the next integer as the list does, where an order is kept, and nothing where none is.
+fn tells_next(state: &State, list: &[Plain], is_kept: bool, draw: u64) -> bool
+    requires { state.now.columns ≡ 0 ∷ 1 ∷ [] }
+{
+    let from = Some(number(draw));
+    if !is_kept {
+        return state.next_number(0, from) == NextNumber::Untold;
+    }
+    state.next_number(0, from) == next_in(list, from)
+        && state.next_number(0, None) == next_in(list, None)
+}
+
+// Whether each row is the same one where it is looked for near the last.
+fn is_near_same(matching: &Matching<'_>, near: &mut Spot) -> bool {
+    for at in 0..matching.len() {
+        let (ticket, row) = matching.nth(at);
+        let (near_ticket, near_row) = matching.nth_near(at, near);
+        if ticket != near_ticket || !row.same(near_row) {
+            return false;
+        }
+    }
+    true
+}
+
 // How many of these steps agree with the list, up to the first that does not.
 fn run(alloc: Global, state: &mut State, list: &mut Vec<Plain>, count: u64) -> Result<u64, NoMemory>
     requires { state.old.columns ≡ 0 ∷ 1 ∷ [] }
 {
+    let wanted = text(alloc, b'a')?;
+    let mut near = Spot::new();
     let mut seed = 7;
     for ticket in 0..count {
         seed = next(seed);
+        if ticket == KEPT {
+            state.keep_order(0);
+        }
         if !change(alloc, state, list, ticket, seed >> 33)? {
             return Ok(ticket);
         }
         if !agrees(alloc, state, list.as_slice(), seed >> 40)? {
+            return Ok(ticket);
+        }
+        if !tells_next(state, list.as_slice(), ticket >= KEPT, seed >> 40) {
+            return Ok(ticket);
+        }
+        if !is_near_same(&state.matching(1, &wanted), &mut near) {
             return Ok(ticket);
         }
     }
