@@ -14,6 +14,7 @@ use Rattle.pj_state.specs.States.{StateView, is_below, is_value, has_value, pair
 use Rattle.pj_probe.specs.Walks.{sides_at, tuple_at}
 use Rattle.pj_events.specs.Join.{ClassCol, In, TupleAt, Value, agree, has, no_value, product, upto_from, value_at}
 use Rattle.pj_laws.proofs.Matching.{agree-at, value-in}
+use Rattle.pj_join.proofs.Halved.{some_rise}
 use Rattle.pj_join.specs.Hops.{AreChosen, AreKnown, AreLinked, AreMore, BeginsWith, FindSame, HaveTickets, IsChoice, KnowsMore, Links, LinksBy, all_older, all_under, has_ticket, is_among, older_at, older_under, ticket_in}
 use Rattle.pj_join.specs.Sides.{IsWide, state_at}
 use Rattle.pj_join.specs.Watching.{under_with}
@@ -132,6 +133,19 @@ more_with state mine theirs row value old more new wide indexed there is now = r
         ap (is_value value) (slice_get-get_or s.row mine no_value (all-in (λ c. c < length s.row) state.columns (wide s h) mine indexed))
         ∙ ap (λ (v : Value). value_eq v value) (e ∙ get_or_from_slice_get row theirs value no_value there)
         ∙ equal_itself value
+
+-- the rows with the value of one row
+pub linked_one : (state : StateView) (mine theirs below ticket : ℕ) (row : List Value) (value : Value) (tickets : List ℕ) (found : Pairs) → IsRising ticket_of state.rows → IsWide state → In mine state.columns
+    → Some value ≡ slice_get row theirs → tickets ≡ tickets_of (rows_with mine value state.rows) → found ≡ pairs (all_under below state.rows tickets) → AreLinked state mine theirs ((ticket, row) ∷ []) below found
+linked_one state mine theirs below ticket row value tickets found rising wide indexed there are is =
+    linked_is state mine theirs below ((ticket, row) ∷ []) found tickets tickets rising (subst (λ (ns : List ℕ). IsRising itself ns) (sym are) (some_rise (has_value mine value) state.rows rising)) (λ n h. h) have is
+  where
+    more : AreMore state.rows mine (value_at row theirs) [] tickets
+    more = more_with state mine theirs row value [] tickets tickets wide indexed (sym there) are refl
+
+    have : HaveTickets state.rows mine theirs ((ticket, row) ∷ []) tickets
+    have r (inl e) s k v = more.more s k (v ∙ ap (λ (q : ℕ × List Value). value_at q.1 theirs) (sym e))
+    have r (inr h) s k v = absurd h
 
 -- ---- combinations of older tuples
 

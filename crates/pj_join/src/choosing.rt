@@ -12,7 +12,7 @@ use crate::arrivals::Arrived;
 use crate::lookups::column_in;
 use crate::sweeping::in_order;
 use pj_shape::ClassCol;
-use pj_state::{Shared, State};
+use pj_state::{Shared, Spot, State};
 use pj_value::{List, NoMemory, Row};
 use std::alloc::Global;
 
@@ -168,11 +168,12 @@ fn append_under(
     state: &State,
     ticket: u64,
     below: u64,
+    near: &mut Spot,
     found: &mut Rows,
 ) -> Result<(), NoMemory>
     ensures { OnOk result (found.new ≡ found.old ++ pairs (older_under below state.now.rows ticket)) }
 {
-    match state.get(ticket) {
+    match state.get_near(ticket, near) {
         None => Ok(()),
         Some(row) => {
             if ticket < below {
@@ -190,10 +191,55 @@ fn rows_under(alloc: Global, state: &State, tickets: &[u64], below: u64) -> Resu
     ensures found { IfOk result (λ found. found ≡ pairs (all_under below state.now.rows tickets.now)) }
 {
     let mut found = List::with_room(alloc, tickets.len().min(state.len()))?;
+    let mut near = Spot::new();
     for ticket in tickets {
-        append_under(alloc, state, *ticket, below, &mut found)?;
+        append_under(alloc, state, *ticket, below, &mut near, &mut found)?;
     }
     Ok(found)
+}
+
+// The rows of an input that are older than the tuple and have the value of this row in these columns.
+fn linked_by_one(
+    alloc: Global,
+    state: &State,
+    mine: u32,
+    row: &Row,
+    theirs: u32,
+    below: u64,
+) -> Result<Option<Rows>, NoMemory>
+    requires wide { IsWide state.now }
+    requires indexed { In mine state.now.columns }
+    ensures { (ticket : ℕ) → IfOk result (λ found. IfSome found (AreLinked state.now mine theirs ((ticket, row.now) ∷ []) below)) }
+{
+    match row.get(theirs as usize) {
+        None => Ok(None),
+        Some(value) => {
+            let found = rows_under(alloc, state, state.tickets(mine, value), below)?;
+            Ok(Some(found))
+        }
+    }
+}
+
+// The same for each of these rows.
+fn linked_by_all(
+    alloc: Global,
+    state: &State,
+    mine: u32,
+    others: &[(u64, Shared)],
+    theirs: u32,
+    below: u64,
+) -> Result<Option<Rows>, NoMemory>
+    requires wide { IsWide state.now }
+    requires indexed { In mine state.now.columns }
+    ensures { IfOk result (λ found. IfSome found (AreLinked state.now mine theirs others.now below)) }
+{
+    match tickets_for(alloc, state, mine, others, theirs)? {
+        None => Ok(None),
+        Some(tickets) => {
+            let found = rows_under(alloc, state, in_order(tickets).as_slice(), below)?;
+            Ok(Some(found))
+        }
+    }
 }
 
 // The rows of an input that are older than the tuple and may stand beside those that the link tells.
@@ -209,12 +255,9 @@ fn linked(
     if !state.is_indexed(link.mine) {
         return Ok(None);
     }
-    match tickets_for(alloc, state, link.mine, link.rows, link.theirs)? {
-        None => Ok(None),
-        Some(tickets) => {
-            let found = rows_under(alloc, state, in_order(tickets).as_slice(), below)?;
-            Ok(Some(found))
-        }
+    match link.rows {
+        [(_, row)] => linked_by_one(alloc, state, link.mine, row.row(), link.theirs, below),
+        _ => linked_by_all(alloc, state, link.mine, link.rows, link.theirs, below),
     }
 }
 

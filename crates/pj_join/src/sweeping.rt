@@ -17,12 +17,12 @@ use crate::widening::let_go;
 use pj_cover::{PunctStore, Uncovered, first_uncovered};
 use pj_pattern::Punct;
 use pj_shape::{Cert, JoinSpec, Schema, Schemes};
-use pj_state::State;
+use pj_state::{Spot, State};
 use pj_value::{List, NoMemory, Row};
 use std::alloc::Global;
 
-/// What a sweep leaves: the tickets of the tuples that go, and of those that are judged again, and the punctuations that wait
-/// on; none where all do.
+/// What a sweep leaves: the tickets of the tuples that go, and of those that are judged again, and what changes of the
+/// punctuations that wait.
 #[derive(Drop)]
 pub struct Left {
     pub gone: List<u64>,
@@ -123,6 +123,7 @@ fn judge_one(
     low: u64,
     settled: bool,
     ticket: u64,
+    near: &mut Spot,
     judged: &mut Judged,
     removed: &mut List<Row>,
 ) -> Result<(), NoMemory>
@@ -131,7 +132,7 @@ fn judge_one(
     ensures removed { let j = judge spec.now schemes.now states.now stores.now low in OnOk result (removed.new ≡ removed.old ++ map row_in (picked j cert.now input ticket)) }
     ensures err { OnErr result (removed.new ≡ removed.old) }
 {
-    match states[input as usize].get(ticket) {
+    match states[input as usize].get_near(ticket, near) {
         None => Ok(()),
         Some(row) => {
             let verdict = judge(
@@ -213,6 +214,7 @@ fn judge_all(
         gone: List::new(alloc),
         marked: List::new(alloc),
     };
+    let mut near = Spot::new();
     for ticket in tickets {
         judge_one(
             alloc,
@@ -225,6 +227,7 @@ fn judge_all(
             low,
             settled,
             *ticket,
+            &mut near,
             &mut judged,
             removed,
         )?;

@@ -9,7 +9,7 @@ ghost use Rattle.pj_state.specs.States.{pairs, row_under, rows_below, rows_with,
 ghost use Rattle.pj_state.specs.Indexes.{IndexesFewer, IndexesMore, IndexesSame, IsKept, SameBehind};
 ghost use Rattle.pj_state.specs.Ordered.{TellsNext};
 
-use crate::Matching;
+use crate::{Matching, Spot};
 use crate::index::ValueIndex;
 use crate::shared::{Shared, Stored};
 use crate::store::Store;
@@ -206,6 +206,16 @@ impl State {
         ensures { option_copied result ≡ row_under ticket self.now.rows }
     {
         match self.store.get(ticket) {
+            None => None,
+            Some(row) => Some(row.row()),
+        }
+    }
+
+    /// The same; near the place where the last one was found it takes a few steps.
+    pub fn get_near(&self, ticket: u64, near: &mut Spot) -> Option<&Row>
+        ensures { option_copied result ≡ row_under ticket self.now.rows }
+    {
+        match self.store.get_near(ticket, near) {
             None => None,
             Some(row) => Some(row.row()),
         }
