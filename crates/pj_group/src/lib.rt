@@ -10,12 +10,14 @@ mod group;
 mod handing;
 mod indexes;
 mod keys;
+mod order_index;
 mod places;
 mod reach;
 mod slots;
 mod tally;
 #[cfg(test)]
 mod tests;
+mod value_index;
 
 pub use group::{Group, GroupStop};
 pub use tally::Tally;
