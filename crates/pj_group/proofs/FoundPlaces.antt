@@ -1,13 +1,18 @@
--- Groups at the places of a value: their rows are those of all groups that match, and closing them closes all that do.
-use Rattle.std.proofs.Common.{ℕ, zero, suc, ◌+◌, ◌<◌, Bool, true, false, cond, not, List, [], ◌∷◌, ◌++◌, Option, Some, None, ◌≡◌, map, filter, length, take, get_or, refl, sym, ap, ap₂, ◌∙◌, arith, append_assoc, append-nil, length-append}
-use Rattle.std.specs.List.{flat_map, slice_get}
+-- Groups at places that pass over none that matches: their rows are those of all groups that match, and closing them closes
+-- all that do.
+use Rattle.std.proofs.Common.{ℕ, zero, suc, ◌+◌, ◌<◌, ◌≤◌, ◌||◌, subst, Bool, true, false, cond, not, List, [], ◌∷◌, ◌++◌, Option, Some, None, ◌≡◌, map, filter, length, take, get_or, refl, sym, ap, ap₂, ◌∙◌, arith, append_assoc, append-nil, length-append}
+use Rattle.std.specs.Bool.{MatchBool}
+use Rattle.std.specs.Cmp.{nat_eq_equiv}
+use Rattle.std.specs.List.{Contains, flat_map, list_any, slice_get}
+use Rattle.std.specs.List.Sorted.{IsStrictlyIncreasing}
 use Rattle.std.specs.Map.{keys_of}
 use Rattle.std.specs.Option.{IfSome}
-use Rattle.std.specs.Prelude.{Result, Ok, Err, OnOk}
-use Rattle.std.proofs.lemmas.Bool.{and_parts, false_from_ne_true, false≢true}
+use Rattle.std.specs.Prelude.{Result, Ok, Err, OnOk, nat_eq}
+use Rattle.std.proofs.lemmas.Bool.{and_parts, eq-eqb, eqb-false, eqb-true, false_from_ne_true, false≢true}
 use Rattle.std.proofs.lemmas.List.{take_more}
 use Rattle.std.proofs.lemmas.List.Concat.{flat_map-append}
 use Rattle.std.proofs.lemmas.List.Elements.{All-cons, All-head, All-tail}
+use Rattle.std.proofs.lemmas.Map.Views.{list_any-from_Contains}
 use Rattle.indexmap.specs.IndexMap.{set_value_at}
 use Rattle.pj_value.specs.declared.values.Value.{Value}
 use Rattle.pj_value.specs.Values.{value_eq}
@@ -18,9 +23,11 @@ use Rattle.pj_pattern.specs.Patterns.{matches_value}
 use Rattle.pj_events.specs.Patterns.{Pattern, matches_row}
 use Rattle.pj_events.specs.Operators.{GroupSpec}
 use Rattle.pj_events.specs.Tables.{GroupEntry, GroupTable, Tally}
-use Rattle.pj_group.specs.Indexes.{AreFound, NeedsValue, closed_over, has_value, matches_slot, places_from, shut_at, shut_over}
+use Rattle.pj_group.specs.Indexes.{AreFound, AreFrom, NeedsValue, PassNone, closed_over, has_value, matches_slot, places_from, shut_at, shut_over}
 use Rattle.pj_group.specs.Insides.{AllStates, AreStates}
+use Rattle.pj_group.specs.Orders.{FindsAll, NeedsInteger}
 use Rattle.pj_group.specs.Slots.{GroupSlot, open_groups, with_open}
+use Rattle.pj_group.specs.declared.order_index.Integers.{Integers}
 use Rattle.pj_group.specs.Steps.{closed_at, closed_rows, row_tuple}
 use Rattle.pj_group.proofs.Shutting.{closed_append}
 
@@ -38,6 +45,131 @@ needs_constant (q ∷ patterns) (suc column) p v w e c s (x ∷ key) m =
 
 unmatched : (patterns : List Pattern) (column : ℕ) (value : Value) (key : List Value) → NeedsValue patterns column value → has_value column value key ≡ false → matches_row patterns key ≡ false
 unmatched patterns column value key needed h = false_from_ne_true (matches_row patterns key) (λ t. false≢true (sym h ∙ needed key t))
+
+-- ---- places that pass over none
+
+from_weaker : (at : ℕ) (places : List ℕ) → AreFrom (at + 1) places → AreFrom at places
+from_weaker at [] h = tt
+from_weaker at (place ∷ places) h = (omega (arith, h.0), from_weaker at places h.1)
+
+places_are_from : (at column : ℕ) (value : Value) (keys : List (List Value)) → AreFrom at (places_from at column value keys)
+places_are_from at column value [] = tt
+places_are_from at column value (key ∷ keys) = go (has_value column value key) (from_weaker at (places_from (at + 1) column value keys) (places_are_from (at + 1) column value keys))
+  where
+    go : (b : Bool) → AreFrom at (places_from (at + 1) column value keys) → AreFrom at (cond b (at ∷ places_from (at + 1) column value keys) (places_from (at + 1) column value keys))
+    go true h = (omega arith, h)
+    go false h = h
+
+-- one key more that does not match
+passes : (patterns : List Pattern) (at : ℕ) (key : List Value) (keys : List (List Value)) (places : List ℕ) → matches_row patterns key ≡ false → AreFrom (at + 1) places → PassNone patterns (at + 1) keys places → PassNone patterns at (key ∷ keys) places
+passes patterns at key keys [] m f h = (m, h)
+passes patterns at key keys (place ∷ places) m f h = go (nat_eq at place) refl
+  where
+    go : (b : Bool) → nat_eq at place ≡ b → MatchBool b (PassNone patterns (at + 1) keys places) ((matches_row patterns key ≡ false) × PassNone patterns (at + 1) keys (place ∷ places))
+    go true t = let e = eqb-true at place t in absurd (omega (arith, e, f.0))
+    go false t = (m, h)
+
+-- one key more, at this place
+stops : (patterns : List Pattern) (at place : ℕ) (key : List Value) (keys : List (List Value)) (places : List ℕ) → at ≡ place → PassNone patterns (at + 1) keys places → PassNone patterns at (key ∷ keys) (place ∷ places)
+stops patterns at place key keys places e h = go (nat_eq at place) (eq-eqb at place e)
+  where
+    go : (b : Bool) → b ≡ true → MatchBool b (PassNone patterns (at + 1) keys places) ((matches_row patterns key ≡ false) × PassNone patterns (at + 1) keys (place ∷ places))
+    go true t = h
+    go false t = absurd (false≢true t)
+
+value_passes : (patterns : List Pattern) (column : ℕ) (value : Value) → NeedsValue patterns column value → (at : ℕ) (keys : List (List Value)) → PassNone patterns at keys (places_from at column value keys)
+value_passes patterns column value needed at [] = tt
+value_passes patterns column value needed at (key ∷ keys) = go (has_value column value key) refl (value_passes patterns column value needed (at + 1) keys)
+  where
+    P : List ℕ
+    P = places_from (at + 1) column value keys
+
+    go : (b : Bool) → has_value column value key ≡ b → PassNone patterns (at + 1) keys P → PassNone patterns at (key ∷ keys) (cond b (at ∷ P) P)
+    go true t h = stops patterns at at key keys P refl h
+    go false t h = passes patterns at key keys P (unmatched patterns column value key needed t) (places_are_from (at + 1) column value keys) h
+
+pub found_pass : (patterns : List Pattern) (column : ℕ) (value : Value) (slots : List GroupSlot) (places : List ℕ) → AreFound patterns column value slots places → PassNone patterns 0 (keys_of slots) places
+found_pass patterns column value slots places found = subst (PassNone patterns 0 (keys_of slots)) (sym found.all) (value_passes patterns column value found.needed 0 (keys_of slots))
+
+-- ---- places that rise
+
+-- each is above the one before, the first at this number or above
+abbrev AreRising : ℕ → List ℕ → Type 0
+AreRising at [] = Unit {0}
+AreRising at (place ∷ places) = (at ≤ place) × AreRising (place + 1) places
+
+rising_from : (at : ℕ) (places : List ℕ) → AreRising at places → AreFrom at places
+rising_from at [] h = tt
+rising_from at (place ∷ places) h = (h.0, lower (place + 1) places (omega (arith, h.0)) (rising_from (place + 1) places h.1))
+  where
+    lower : (n : ℕ) (ps : List ℕ) → at ≤ n → AreFrom n ps → AreFrom at ps
+    lower n [] le k = tt
+    lower n (p ∷ ps) le k = (omega (arith, le, k.0), lower n ps le k.1)
+
+none_below : (at : ℕ) (places : List ℕ) → AreFrom (at + 1) places → list_any (nat_eq at) places ≡ false
+none_below at [] h = refl
+none_below at (place ∷ places) h = go (nat_eq at place) refl (none_below at places h.1)
+  where
+    go : (b : Bool) → nat_eq at place ≡ b → list_any (nat_eq at) places ≡ false → (b || list_any (nat_eq at) places) ≡ false
+    go true t ih = let e = eqb-true at place t in absurd (omega (arith, e, h.0))
+    go false t ih = ih
+
+-- these are places of all keys that match
+abbrev HaveAll : List Pattern → ℕ → List (List Value) → List ℕ → Type 0
+HaveAll patterns at keys places = (i : ℕ) (key : List Value) → slice_get keys i ≡ Some key → matches_row patterns key ≡ true → list_any (nat_eq (at + i)) places ≡ true
+
+all_behind : (patterns : List Pattern) (at : ℕ) (key : List Value) (keys : List (List Value)) (places : List ℕ) → HaveAll patterns at (key ∷ keys) places → HaveAll patterns (at + 1) keys places
+all_behind patterns at key keys places all i k e m = let n : at + suc i ≡ at + 1 + i = omega arith in subst (λ j. list_any (nat_eq j) places ≡ true) n (all (suc i) k e m)
+
+-- without the first place, which is none of theirs
+all_without : (patterns : List Pattern) (at place : ℕ) (keys : List (List Value)) (places : List ℕ) → at ≡ place → HaveAll patterns (at + 1) keys (place ∷ places) → HaveAll patterns (at + 1) keys places
+all_without patterns at place keys places e all i k s m = go (nat_eq (at + 1 + i) place) refl (all i k s m)
+  where
+    go : (b : Bool) → nat_eq (at + 1 + i) place ≡ b → (b || list_any (nat_eq (at + 1 + i)) places) ≡ true → list_any (nat_eq (at + 1 + i)) places ≡ true
+    go true t h = let f = eqb-true (at + 1 + i) place t in absurd (omega (arith, e, f))
+    go false t h = h
+
+-- a list that rises and has the places of all keys that match
+rising_passes : (patterns : List Pattern) (at : ℕ) (keys : List (List Value)) (places : List ℕ) → AreRising at places → HaveAll patterns at keys places → PassNone patterns at keys places
+rising_passes patterns at [] places r all = rising_from at places r
+rising_passes patterns at (key ∷ keys) [] r all = (
+  false_from_ne_true (matches_row patterns key) (λ t. false≢true (all 0 key refl t)),
+  rising_passes patterns (at + 1) keys [] tt (all_behind patterns at key keys [] all),
+)
+rising_passes patterns at (key ∷ keys) (place ∷ places) r all =
+    go (nat_eq at place) refl
+    (λ s. rising_passes patterns (at + 1) keys places s)
+    (λ s. rising_passes patterns (at + 1) keys (place ∷ places) s (all_behind patterns at key keys (place ∷ places) all))
+  where
+    go : (b : Bool) → nat_eq at place ≡ b → (AreRising (at + 1) places → HaveAll patterns (at + 1) keys places → PassNone patterns (at + 1) keys places)
+        → (AreRising (at + 1) (place ∷ places) → PassNone patterns (at + 1) keys (place ∷ places)) → PassNone patterns at (key ∷ keys) (place ∷ places)
+    go true t f g =
+        let e = eqb-true at place t in
+        stops patterns at place key keys places e
+        (f (subst (λ n. AreRising (n + 1) places) (sym e) r.1) (all_without patterns at place keys places e (all_behind patterns at key keys (place ∷ places) all)))
+    go false t f g =
+        let above : at + 1 ≤ place = omega (arith, r.0, eqb-false at place t) in
+        let rises : AreRising (at + 1) (place ∷ places) = (above, r.1) in
+        let n : at + 0 ≡ at = omega arith in
+        passes patterns at key keys (place ∷ places)
+        (false_from_ne_true (matches_row patterns key) (λ m. false≢true (sym (none_below at (place ∷ places) (rising_from (at + 1) (place ∷ places) rises)) ∙ subst (λ k. list_any (nat_eq k) (place ∷ places) ≡ true) n (all 0 key refl m))))
+        (rising_from (at + 1) (place ∷ places) rises) (g rises)
+
+rising_if_increasing : (at : ℕ) (places : List ℕ) → IsStrictlyIncreasing places → (0 < length places → at ≤ get_or places 0 0) → AreRising at places
+rising_if_increasing at [] up first = tt
+rising_if_increasing at (place ∷ places) up first = (
+  first (omega arith),
+  rising_if_increasing (place + 1) places
+      (λ k lt. let n : suc k + 1 ≡ suc (k + 1) = omega arith in subst (λ j. get_or (place ∷ places) (suc k) 0 < get_or (place ∷ places) j 0) n (up (suc k) (omega (arith, lt))))
+      (λ lt. omega (arith, up 0 (omega (arith, lt)))),
+)
+
+-- what is found for a range, in order and each once
+pub range_passes : (patterns : List Pattern) (column : ℕ) (range : Integers) (slots : List GroupSlot) (found places : List ℕ) → NeedsInteger patterns column range → FindsAll column (keys_of slots) range found
+    → IsStrictlyIncreasing places → ((at : ℕ) → Contains found at → Contains places at) → PassNone patterns 0 (keys_of slots) places
+range_passes patterns column range slots found places needed all up keeps =
+    rising_passes patterns 0 (keys_of slots) places (rising_if_increasing 0 places up (λ lt. omega arith))
+    (λ i key e m. let n : i ≡ 0 + i = omega arith in subst (λ j. list_any (nat_eq j) places ≡ true) n (list_any-from_Contains nat_eq_equiv i places (keeps i (all i key e (needed key m)))))
 
 -- ---- a group behind others
 
@@ -62,26 +194,38 @@ none_closed patterns s f = go s.1
     go None = refl
     go (Some ts) = ap (λ (b : Bool). map row_tuple (cond b ((s.0, ts) ∷ []) [])) f
 
-hands_behind : (patterns : List Pattern) (column : ℕ) (value : Value) → NeedsValue patterns column value → (pre ss : List GroupSlot) (at : ℕ) → at ≡ length pre
-    → closed_over patterns (pre ++ ss) (places_from at column value (keys_of ss)) ≡ closed_rows patterns (open_groups ss)
-hands_behind patterns column value needed pre [] at e = refl
-hands_behind patterns column value needed pre (s ∷ ss) at e =
-    go (has_value column value s.0) refl
-    (ap (λ (es : List GroupSlot). closed_over patterns es (places_from (at + 1) column value (keys_of ss))) (sym (append_assoc pre (s ∷ []) ss))
-    ∙ hands_behind patterns column value needed (pre ++ s ∷ []) ss (at + 1) (omega (arith, e, length-append pre (s ∷ []))))
-  where
-    P : List ℕ
-    P = places_from (at + 1) column value (keys_of ss)
+beyond : (slots : List GroupSlot) (at : ℕ) → length slots ≤ at → slice_get slots at ≡ None
+beyond [] at le = refl
+beyond (s ∷ slots) zero le = absurd (omega (arith, le))
+beyond (s ∷ slots) (suc at) le = beyond slots at (omega (arith, le))
 
+hands_beyond : (patterns : List Pattern) (slots : List GroupSlot) (at : ℕ) (places : List ℕ) → length slots ≤ at → AreFrom at places → closed_over patterns slots places ≡ []
+hands_beyond patterns slots at [] le h = refl
+hands_beyond patterns slots at (place ∷ places) le h =
+    ap₂ (λ (xs ys : List Element). xs ++ ys) (ap (closed_at patterns) (beyond slots place (omega (arith, le, h.0)))) (hands_beyond patterns slots at places le h.1)
+
+hands_behind : (patterns : List Pattern) (pre ss : List GroupSlot) (at : ℕ) (places : List ℕ) → at ≡ length pre → PassNone patterns at (keys_of ss) places → closed_over patterns (pre ++ ss) places ≡ closed_rows patterns (open_groups ss)
+hands_behind patterns pre [] at places e h = ap (λ (es : List GroupSlot). closed_over patterns es places) (append-nil pre) ∙ hands_beyond patterns pre at places (omega (arith, e)) h
+hands_behind patterns pre (s ∷ ss) at [] e h =
+    hands_behind patterns (pre ++ s ∷ []) ss (at + 1) [] (omega (arith, e, length-append pre (s ∷ []))) h.1
+    ∙ (ap (λ (xs : List Element). xs ++ closed_rows patterns (open_groups ss)) (sym (none_closed patterns s h.0)) ∙ sym (closed_append patterns (s ∷ []) ss))
+hands_behind patterns pre (s ∷ ss) at (place ∷ places) e h =
+    go (nat_eq at place) refl
+    (λ ps k. ap (λ (es : List GroupSlot). closed_over patterns es ps) (sym (append_assoc pre (s ∷ []) ss)) ∙ hands_behind patterns (pre ++ s ∷ []) ss (at + 1) ps (omega (arith, e, length-append pre (s ∷ []))) k)
+    h
+  where
     C : List Element
     C = closed_rows patterns (open_groups ss)
 
-    go : (b : Bool) → has_value column value s.0 ≡ b → closed_over patterns (pre ++ s ∷ ss) P ≡ C → closed_over patterns (pre ++ s ∷ ss) (cond b (at ∷ P) P) ≡ closed_rows patterns (open_groups (s ∷ ss))
-    go true h rest = ap₂ (λ (xs ys : List Element). xs ++ ys) (ap (closed_at patterns) (there pre s ss at e)) rest ∙ sym (closed_append patterns (s ∷ []) ss)
-    go false h rest = rest ∙ (ap (λ (xs : List Element). xs ++ C) (sym (none_closed patterns s (unmatched patterns column value s.0 needed h))) ∙ sym (closed_append patterns (s ∷ []) ss))
+    go : (b : Bool) → nat_eq at place ≡ b → ((ps : List ℕ) → PassNone patterns (at + 1) (keys_of ss) ps → closed_over patterns (pre ++ s ∷ ss) ps ≡ C)
+        → MatchBool b (PassNone patterns (at + 1) (keys_of ss) places) ((matches_row patterns s.0 ≡ false) × PassNone patterns (at + 1) (keys_of ss) (place ∷ places))
+        → closed_over patterns (pre ++ s ∷ ss) (place ∷ places) ≡ closed_rows patterns (open_groups (s ∷ ss))
+    go true t rest k =
+        ap₂ (λ (xs ys : List Element). xs ++ ys) (ap (closed_at patterns) (there pre s ss place (sym (eqb-true at place t) ∙ e))) (rest places k) ∙ sym (closed_append patterns (s ∷ []) ss)
+    go false t rest k = rest (place ∷ places) k.1 ∙ (ap (λ (xs : List Element). xs ++ C) (sym (none_closed patterns s k.0)) ∙ sym (closed_append patterns (s ∷ []) ss))
 
-pub found_hands : (patterns : List Pattern) (column : ℕ) (value : Value) (slots : List GroupSlot) (places : List ℕ) → AreFound patterns column value slots places → closed_over patterns slots places ≡ closed_rows patterns (open_groups slots)
-found_hands patterns column value slots places found = ap (closed_over patterns slots) found.all ∙ hands_behind patterns column value found.needed [] slots 0 refl
+pub found_hands : (patterns : List Pattern) (slots : List GroupSlot) (places : List ℕ) → PassNone patterns 0 (keys_of slots) places → closed_over patterns slots places ≡ closed_rows patterns (open_groups slots)
+found_hands patterns slots places h = hands_behind patterns [] slots 0 places refl h
 
 -- the rows of one place more
 pub over_so_far : (patterns : List Pattern) (slots : List GroupSlot) (places : List ℕ) (i place : ℕ) (first old new : List Element) → i < length places → get_or places i 0 ≡ place → old ≡ first ++ closed_over patterns slots (take i places)
@@ -109,23 +253,41 @@ shut_there patterns pre s ss at e =
     go true = set_there pre s ss at None e
     go false = refl
 
-shut_behind : (patterns : List Pattern) (column : ℕ) (value : Value) → NeedsValue patterns column value → (pre ss : List GroupSlot) (at : ℕ) → at ≡ length pre
-    → shut_over patterns (pre ++ ss) (places_from at column value (keys_of ss)) ≡ pre ++ map (left patterns) ss
-shut_behind patterns column value needed pre [] at e = refl
-shut_behind patterns column value needed pre (s ∷ ss) at e =
-    go (has_value column value s.0) refl
-    (λ t. ap (λ (es : List GroupSlot). shut_over patterns es (places_from (at + 1) column value (keys_of ss))) (sym (append_assoc pre (t ∷ []) ss))
-    ∙ (shut_behind patterns column value needed (pre ++ t ∷ []) ss (at + 1) (omega (arith, e, length-append pre (t ∷ []))) ∙ append_assoc pre (t ∷ []) (map (left patterns) ss)))
-  where
-    P : List ℕ
-    P = places_from (at + 1) column value (keys_of ss)
+shut_beyond : (patterns : List Pattern) (slots : List GroupSlot) (at : ℕ) (places : List ℕ) → length slots ≤ at → AreFrom at places → shut_over patterns slots places ≡ slots
+shut_beyond patterns slots at [] le h = refl
+shut_beyond patterns slots at (place ∷ places) le h =
+    ap (λ (es : List GroupSlot). shut_over patterns es places)
+    (ap (λ (o : Option GroupSlot). cond (matches_slot patterns o) (set_value_at slots place None) slots) (beyond slots place (omega (arith, le, h.0))))
+    ∙ shut_beyond patterns slots at places le h.1
 
+shut_behind : (patterns : List Pattern) (pre ss : List GroupSlot) (at : ℕ) (places : List ℕ) → at ≡ length pre → PassNone patterns at (keys_of ss) places → shut_over patterns (pre ++ ss) places ≡ pre ++ map (left patterns) ss
+shut_behind patterns pre [] at places e h =
+    ap (λ (es : List GroupSlot). shut_over patterns es places) (append-nil pre) ∙ (shut_beyond patterns pre at places (omega (arith, e)) h ∙ sym (append-nil pre))
+shut_behind patterns pre (s ∷ ss) at places e h =
+    by_places places
+    (λ t ps k. ap (λ (es : List GroupSlot). shut_over patterns es ps) (sym (append_assoc pre (t ∷ []) ss))
+    ∙ (shut_behind patterns (pre ++ t ∷ []) ss (at + 1) ps (omega (arith, e, length-append pre (t ∷ []))) k ∙ append_assoc pre (t ∷ []) (map (left patterns) ss)))
+    h
+  where
     M : List GroupSlot
     M = map (left patterns) ss
 
-    go : (b : Bool) → has_value column value s.0 ≡ b → ((t : GroupSlot) → shut_over patterns (pre ++ t ∷ ss) P ≡ pre ++ t ∷ M) → shut_over patterns (pre ++ s ∷ ss) (cond b (at ∷ P) P) ≡ pre ++ left patterns s ∷ M
-    go true h rest = ap (λ (es : List GroupSlot). shut_over patterns es P) (shut_there patterns pre s ss at e) ∙ rest (left patterns s)
-    go false h rest = rest s ∙ ap (λ (b : Bool). pre ++ (s.0, cond b None s.1) ∷ M) (sym (unmatched patterns column value s.0 needed h))
+    -- what shutting those behind leaves, whatever stands here
+    Rest : Type 0
+    Rest = (t : GroupSlot) (ps : List ℕ) → PassNone patterns (at + 1) (keys_of ss) ps → shut_over patterns (pre ++ t ∷ ss) ps ≡ pre ++ t ∷ M
+
+    passed : (ps : List ℕ) → Rest → matches_row patterns s.0 ≡ false → PassNone patterns (at + 1) (keys_of ss) ps → shut_over patterns (pre ++ s ∷ ss) ps ≡ pre ++ left patterns s ∷ M
+    passed ps rest m k = rest s ps k ∙ ap (λ (b : Bool). pre ++ (s.0, cond b None s.1) ∷ M) (sym m)
+
+    go : (place : ℕ) (ps : List ℕ) (b : Bool) → nat_eq at place ≡ b → Rest
+        → MatchBool b (PassNone patterns (at + 1) (keys_of ss) ps) ((matches_row patterns s.0 ≡ false) × PassNone patterns (at + 1) (keys_of ss) (place ∷ ps))
+        → shut_over patterns (pre ++ s ∷ ss) (place ∷ ps) ≡ pre ++ left patterns s ∷ M
+    go place ps true t rest k = ap (λ (es : List GroupSlot). shut_over patterns es ps) (shut_there patterns pre s ss place (sym (eqb-true at place t) ∙ e)) ∙ rest (left patterns s) ps k
+    go place ps false t rest k = passed (place ∷ ps) rest k.0 k.1
+
+    by_places : (ps : List ℕ) → Rest → PassNone patterns at (s.0 ∷ keys_of ss) ps → shut_over patterns (pre ++ s ∷ ss) ps ≡ pre ++ left patterns s ∷ M
+    by_places [] rest k = passed [] rest k.0 k.1
+    by_places (place ∷ ps) rest k = go place ps (nat_eq at place) refl rest k
 
 open_left_over : (patterns : List Pattern) (ss : List GroupSlot) → open_groups (map (left patterns) ss) ≡ filter (λ e. not (matches_row patterns e.0)) (open_groups ss)
 open_left_over patterns [] = refl
@@ -149,10 +311,9 @@ open_left_over patterns (s ∷ ss) = go s.1 (open_left_over patterns ss)
         at true = ih
         at false = ap (λ (es : GroupTable). (s.0, ts) ∷ es) ih
 
-pub found_left : (patterns : List Pattern) (column : ℕ) (value : Value) (slots : List GroupSlot) (places : List ℕ) → AreFound patterns column value slots places
+pub found_left : (patterns : List Pattern) (slots : List GroupSlot) (places : List ℕ) → PassNone patterns 0 (keys_of slots) places
     → open_groups (shut_over patterns slots places) ≡ filter (λ e. not (matches_row patterns e.0)) (open_groups slots)
-found_left patterns column value slots places found =
-    ap (λ (ps : List ℕ). open_groups (shut_over patterns slots ps)) found.all ∙ (ap open_groups (shut_behind patterns column value found.needed [] slots 0 refl) ∙ open_left_over patterns slots)
+found_left patterns slots places h = ap open_groups (shut_behind patterns [] slots 0 places refl h) ∙ open_left_over patterns slots
 
 -- ---- keys and states
 

@@ -9,11 +9,13 @@ use Rattle.indexmap.specs.IndexMap.{insert_entry}
 use Rattle.pj_value.specs.declared.values.Value.{Value}
 use Rattle.pj_value.specs.Values.{row_eq}
 use Rattle.pj_events.specs.Tables.{Tally}
-use Rattle.pj_group.specs.Indexes.{AreIndexesOf, HasOneMore, HasSame, IsIndexOf, IsWhole, has_value, places_from, told}
+use Rattle.pj_group.specs.Indexes.{AreIndexesOf, HasOneMore, HasSame, IsColumnOf, IsIndexOf, IsWhole, has_value, places_from, told}
 use Rattle.pj_group.specs.Renewing.{IsRenewed}
 use Rattle.pj_group.specs.Slots.{GroupSlot}
 use Rattle.std.proofs.lemmas.Map.{keys-set_value}
 use Rattle.pj_group.specs.declared.indexes.ColumnIndex.{ColumnIndex}
+use Rattle.pj_group.specs.declared.value_index.ValueIndex.{ValueIndex}
+use Rattle.pj_group.proofs.Ordered.{order_push}
 
 -- the key of the group at a place
 pub key_at : (slots : List GroupSlot) (at : ℕ) (key : List Value) (states : Option (List Tally)) → slice_get slots at ≡ Some (key, states) → slice_get (keys_of slots) at ≡ Some key
@@ -41,7 +43,7 @@ places-append at column value (x ∷ xs) ys =
     go true e = ap (λ (ps : List ℕ). at ∷ ps) e
     go false e = e
 
-pub index_more : (column : ℕ) (keys : List (List Value)) (key : List Value) (old new : ColumnIndex) → slice_get keys old.upto ≡ Some key → IsIndexOf column keys old → HasOneMore column key old new → IsIndexOf column keys new
+pub index_more : (column : ℕ) (keys : List (List Value)) (key : List Value) (old new : ValueIndex) → slice_get keys old.upto ≡ Some key → IsIndexOf column keys old → HasOneMore column key old new → IsIndexOf column keys new
 index_more column keys key old new there is more = record {
   within = omega (arith, within, more.upto);
   places = λ value. more.places value ∙ (by value (has_value column value key) ∙ sym (taken value));
@@ -66,37 +68,40 @@ index_more column keys key old new there is more = record {
     by value true = ap (λ (ps : List ℕ). ps ++ old.upto ∷ []) (is.places value)
     by value false = is.places value ∙ sym (append-nil (places_from 0 column value first))
 
-pub index_same : (column : ℕ) (keys : List (List Value)) (old new : ColumnIndex) → IsIndexOf column keys old → HasSame old new → IsIndexOf column keys new
+pub index_same : (column : ℕ) (keys : List (List Value)) (old new : ValueIndex) → IsIndexOf column keys old → HasSame old new → IsIndexOf column keys new
 index_same column keys old new is same = record {
   within = omega (arith, is.within, same.upto);
   places = λ value. same.places value ∙ (is.places value ∙ ap (λ n. places_from 0 column value (take n keys)) (sym same.upto));
 }
 
 -- an index of no keys
-pub index_empty : (column : ℕ) (keys : List (List Value)) (index : ColumnIndex) → index.upto ≡ 0 → ((value : Value) → told index value ≡ []) → IsIndexOf column keys index
+pub index_empty : (column : ℕ) (keys : List (List Value)) (index : ValueIndex) → index.upto ≡ 0 → ((value : Value) → told index value ≡ []) → IsIndexOf column keys index
 index_empty column keys index e none = record {
   within = omega (arith, e);
   places = λ value. none value ∙ ap (λ n. places_from 0 column value (take n keys)) (sym e);
 }
 
 -- an index of all
-pub index_whole : (column : ℕ) (slots : List GroupSlot) (index : ColumnIndex) → IsIndexOf column (keys_of slots) index → length (keys_of slots) ≤ index.upto → IsWhole column slots (Some index)
-index_whole column slots index is all value = is.places value ∙ ap (places_from 0 column value) (take_all index.upto (keys_of slots) all)
+pub index_whole : (column : ℕ) (slots : List GroupSlot) (index : ColumnIndex) → IsColumnOf column (keys_of slots) index → length (keys_of slots) ≤ index.values.upto → IsWhole column slots (Some index)
+index_whole column slots index is all value = is.values.places value ∙ ap (places_from 0 column value) (take_all index.values.upto (keys_of slots) all)
 
 -- ---- where groups come or change
 
 pub indexes_push : (slots new : List GroupSlot) (more : List (List Value)) (find : ℕ → Option ColumnIndex) → keys_of new ≡ keys_of slots ++ more → AreIndexesOf slots find → AreIndexesOf new find
 indexes_push slots new more find e are column = go (find column) (are column)
   where
-    go : (o : Option ColumnIndex) → IfSome o (IsIndexOf column (keys_of slots)) → IfSome o (IsIndexOf column (keys_of new))
+    go : (o : Option ColumnIndex) → IfSome o (IsColumnOf column (keys_of slots)) → IfSome o (IsColumnOf column (keys_of new))
     go None h = h
-    go (Some index) h = subst (λ (ks : List (List Value)). IsIndexOf column ks index) (sym e) (record {
-      within = omega (arith, h.within, length-append (keys_of slots) more);
-      places = λ value. h.places value ∙ ap (places_from 0 column value) (sym (take-append-le index.upto (keys_of slots) more h.within));
+    go (Some index) h = subst (λ (ks : List (List Value)). IsColumnOf column ks index) (sym e) (record {
+      values = record {
+        within = omega (arith, h.values.within, length-append (keys_of slots) more);
+        places = λ value. h.values.places value ∙ ap (places_from 0 column value) (sym (take-append-le index.values.upto (keys_of slots) more h.values.within));
+      };
+      order = order_push column (keys_of slots) more index.order h.order;
     })
 
 pub indexes_keys : (slots new : List GroupSlot) (find : ℕ → Option ColumnIndex) → keys_of new ≡ keys_of slots → AreIndexesOf slots find → AreIndexesOf new find
-indexes_keys slots new find e are column = subst (λ (ks : List (List Value)). IfSome (find column) (IsIndexOf column ks)) (sym e) (are column)
+indexes_keys slots new find e are column = subst (λ (ks : List (List Value)). IfSome (find column) (IsColumnOf column ks)) (sym e) (are column)
 
 keys_put : (key : List Value) (w : Option (List Tally)) (slots : List GroupSlot) → (more : List (List Value)) × (keys_of (insert_entry row_eq slots key w) ≡ keys_of slots ++ more)
 keys_put key w [] = (key ∷ [], refl)
@@ -112,7 +117,7 @@ indexes_put slots new key w find e are = let k = keys_put key w slots in indexes
 
 -- where no column has an index
 pub indexes_none : (slots : List GroupSlot) (find : ℕ → Option ColumnIndex) → ((column : ℕ) → find column ≡ None) → AreIndexesOf slots find
-indexes_none slots find none column = subst (λ (o : Option ColumnIndex). IfSome o (IsIndexOf column (keys_of slots))) (sym (none column)) tt
+indexes_none slots find none column = subst (λ (o : Option ColumnIndex). IfSome o (IsColumnOf column (keys_of slots))) (sym (none column)) tt
 
 -- where the states of a key that is there are renewed
 pub indexes_renewed : (next : List Tally → List Tally) (slots new : List GroupSlot) (key : List Value) (find : ℕ → Option ColumnIndex) → IsRenewed next slots key new → AreIndexesOf slots find → AreIndexesOf new find

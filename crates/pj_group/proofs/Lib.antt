@@ -6,5 +6,6 @@ pub mod FoundPlaces
 pub mod Indexed
 pub mod Shutting
 pub mod OpenGroups
+pub mod Ordered
 pub mod States
 pub mod Taking

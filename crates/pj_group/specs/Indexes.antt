@@ -1,5 +1,6 @@
 -- Groups by their values in a key column.
-use Rattle.std.specs.Prelude.{ℕ, ◌+◌, ◌≤◌, ◌≡◌, Bool, true, false, if◌then◌else◌, List, [], ◌∷◌, ◌++◌, Option, Some, None, length, take, flat_map, slice_get, IfSome}
+use Rattle.std.specs.Prelude.{ℕ, ◌+◌, ◌≤◌, ◌≡◌, Bool, true, false, if◌then◌else◌, List, [], ◌∷◌, ◌++◌, Option, Some, None, length, take, flat_map, nat_eq, slice_get, IfSome}
+use Rattle.std.specs.Bool.{MatchBool}
 use Rattle.std.specs.Map.{keys_of}
 use Rattle.indexmap.specs.IndexMap.{get, set_value_at}
 use Rattle.pj_value.specs.declared.values.Value.{Value}
@@ -8,9 +9,11 @@ use Rattle.pj_pattern.specs.declared.element.Element.{Element}
 use Rattle.pj_events.specs.Patterns.{Pattern, matches_row}
 use Rattle.pj_group.specs.Slots.{GroupSlot, MatchesOnly}
 use Rattle.pj_group.specs.Steps.{closed_at}
+use Rattle.pj_group.specs.Orders.{IsOrderOf}
 use Rattle.pj_group.specs.declared.indexes.ColumnIndex.{ColumnIndex}
+use Rattle.pj_group.specs.declared.value_index.ValueIndex.{ValueIndex}
 use Rattle.pj_group.specs.declared.reach.Reach.{Reach}
-use Rattle.pj_group.specs.declared.reach.Reach.TheVariants.{One, Column, All as AllGroups}
+use Rattle.pj_group.specs.declared.reach.Reach.TheVariants.{One, Column, Several, All as AllGroups}
 
 -- the value is there, and is this one
 abbrev pub is_value : Value → Option Value → Bool
@@ -34,22 +37,27 @@ places_in None = []
 places_in (Some places) = places
 
 -- the places that an index has for a value
-abbrev pub told : ColumnIndex → Value → List ℕ
+abbrev pub told : ValueIndex → Value → List ℕ
 told index value = places_in (get value_eq index.places value)
 
 -- the places for a value, where there may be no index
 abbrev pub told_by : Option ColumnIndex → Value → List ℕ
 told_by None value = []
-told_by (Some index) value = told index value
+told_by (Some index) value = told index.values value
 
 -- the index has exactly the places of so many first keys
-pub record IsIndexOf (column : ℕ) (keys : List (List Value)) (index : ColumnIndex) : Type 0 where
+pub record IsIndexOf (column : ℕ) (keys : List (List Value)) (index : ValueIndex) : Type 0 where
   pub within : index.upto ≤ length keys
   pub places : (value : Value) → told index value ≡ places_from 0 column value (take index.upto keys)
 
--- each index that is found by a column is one of these groups by that column
+-- both indexes of a column are of these keys
+pub record IsColumnOf (column : ℕ) (keys : List (List Value)) (index : ColumnIndex) : Type 0 where
+  pub values : IsIndexOf column keys index.values
+  pub order : IsOrderOf column keys index.order
+
+-- what is found by a column are indexes of these groups by that column
 abbrev pub AreIndexesOf : List GroupSlot → (ℕ → Option ColumnIndex) → Type 0
-AreIndexesOf slots find = (column : ℕ) → IfSome (find column) (IsIndexOf column (keys_of slots))
+AreIndexesOf slots find = (column : ℕ) → IfSome (find column) (IsColumnOf column (keys_of slots))
 
 -- the index of this column has the places of all groups
 abbrev pub IsWhole : ℕ → List GroupSlot → Option ColumnIndex → Type 0
@@ -61,19 +69,19 @@ StayWhole slots old new =
     (column : ℕ) (value : Value) → told_by (old column) value ≡ places_from 0 column value (keys_of slots) → told_by (new column) value ≡ places_from 0 column value (keys_of slots)
 
 -- one place more is told, for this value
-abbrev pub TellsMore : Value → ℕ → ColumnIndex → ColumnIndex → Type 0
+abbrev pub TellsMore : Value → ℕ → ValueIndex → ValueIndex → Type 0
 TellsMore given at old new = (value : Value) → told new value ≡ (if value_eq given value then told old value ++ at ∷ [] else told old value)
 
-abbrev pub TellsSame : ColumnIndex → ColumnIndex → Type 0
+abbrev pub TellsSame : ValueIndex → ValueIndex → Type 0
 TellsSame old new = (value : Value) → told new value ≡ told old value
 
 -- one key more is indexed by this column
-pub record HasOneMore (column : ℕ) (key : List Value) (old new : ColumnIndex) : Type 0 where
+pub record HasOneMore (column : ℕ) (key : List Value) (old new : ValueIndex) : Type 0 where
   pub upto : new.upto ≡ old.upto + 1
   pub places : (value : Value) → told new value ≡ (if has_value column value key then told old value ++ old.upto ∷ [] else told old value)
 
 -- the same keys are indexed
-pub record HasSame (old new : ColumnIndex) : Type 0 where
+pub record HasSame (old new : ValueIndex) : Type 0 where
   pub upto : new.upto ≡ old.upto
   pub places : TellsSame old new
 
@@ -92,11 +100,24 @@ pub record AreFound (patterns : List Pattern) (column : ℕ) (value : Value) (sl
 abbrev pub IsSought : List Pattern → List GroupSlot → (ℕ → Option ColumnIndex) → ℕ × Value → Type 0
 IsSought patterns slots find sought = AreFound patterns sought.0 sought.1 slots (told_by (find sought.0) sought.1)
 
--- no other key matches than those that are looked for
+-- all are this place or behind it
+abbrev pub AreFrom : ℕ → List ℕ → Type 0
+AreFrom at [] = Unit {0}
+AreFrom at (place ∷ places) = (at ≤ place) × AreFrom at places
+
+-- these places rise, and pass over no key that matches; the keys stand at the places from this one on
+abbrev pub PassNone : List Pattern → ℕ → List (List Value) → List ℕ → Type 0
+PassNone patterns at [] places = AreFrom at places
+PassNone patterns at (key ∷ keys) [] = (matches_row patterns key ≡ false) × PassNone patterns (at + 1) keys []
+PassNone patterns at (key ∷ keys) (place ∷ places) =
+    MatchBool (nat_eq at place) (PassNone patterns (at + 1) keys places) ((matches_row patterns key ≡ false) × PassNone patterns (at + 1) keys (place ∷ places))
+
+-- no other group matches than those that are looked for
 abbrev pub Reaches : List Pattern → List GroupSlot → (ℕ → Option ColumnIndex) → Reach → Type 0
 Reaches patterns slots find AllGroups = Unit {0}
 Reaches patterns slots find (One key) = MatchesOnly patterns key
-Reaches patterns slots find (Column column value) = AreFound patterns column value slots (told_by (find column) value)
+Reaches patterns slots find (Column column value) = PassNone patterns 0 (keys_of slots) (told_by (find column) value)
+Reaches patterns slots find (Several places) = PassNone patterns 0 (keys_of slots) places
 
 -- ---- groups at places
 

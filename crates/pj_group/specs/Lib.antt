@@ -1,5 +1,6 @@
 pub mod Indexes
 pub mod Insides
+pub mod Orders
 pub mod Prints
 pub mod Renewing
 pub mod Slots

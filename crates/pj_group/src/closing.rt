@@ -6,14 +6,13 @@ ghost use Rattle.indexmap.specs.IndexMap.{get};
 ghost use Rattle.pj_shape.specs.declared.groups.GroupSpec.{GroupSpec as AnySpec};
 ghost use Rattle.pj_value.specs.Values.{row_eq};
 ghost use Rattle.pj_events.specs.Patterns.{matches_row};
-ghost use Rattle.pj_group.specs.Indexes.{AreFound, AreIndexesOf, Reaches, told_by};
+ghost use Rattle.pj_group.specs.Indexes.{AreIndexesOf, PassNone, Reaches};
 ghost use Rattle.pj_group.specs.Insides.{AllStates};
 ghost use Rattle.pj_group.specs.Slots.{open_groups};
 ghost use Rattle.pj_group.specs.Steps.{table_after, table_hands};
 
 use crate::handing::hand_out;
 use crate::indexes::{Indexes, places_of};
-use crate::keys::ColumnValue;
 use crate::places::close_places;
 use crate::reach::Reach;
 use crate::slots::{Slots, clear_all, close_one, drop_matched};
@@ -87,26 +86,24 @@ fn drop_closed(
             *closings = cleared(slots, indexes, places, closings.saturating_add(1));
         }
         Reach::Column(column, value) => {
-            let closed = close_found(slots, indexes, *column, value, kept);
+            let closed = close_found(slots, places_of(indexes, *column, value), kept);
+            *closings = cleared(slots, indexes, places, closings.saturating_add(closed));
+        }
+        Reach::Several(found) => {
+            let closed = close_found(slots, found.as_slice(), kept);
             *closings = cleared(slots, indexes, places, closings.saturating_add(closed));
         }
     }
 }
 
-// Closes the groups with a value in a column whose keys match; answers how many places they have.
-fn close_found(
-    slots: &mut Slots,
-    indexes: &Indexes,
-    column: usize,
-    value: &ColumnValue,
-    kept: &Punct,
-) -> usize
-    requires found { AreFound kept.now column value.now slots.old.entries (told_by (get nat_eq indexes.now column) value.now) }
+// Closes the groups whose keys match, which are all among these places; answers how many places they have.
+fn close_found(slots: &mut Slots, places: &[usize], kept: &Punct) -> usize
+    requires found { PassNone kept.now 0 (keys_of slots.old.entries) places.now }
     ensures keeps { open_groups slots.new.entries ≡ filter (λ e. not (matches_row kept.now e.0)) (open_groups slots.old.entries) }
     ensures states { (count : ℕ) (spec : AnySpec) → AllStates count spec slots.old.entries → AllStates count spec slots.new.entries }
     ensures keys { keys_of slots.new.entries ≡ keys_of slots.old.entries }
 {
-    close_places(slots, places_of(indexes, column, value), kept)
+    close_places(slots, places, kept)
 }
 
 // Clears away the groups that were closed, and the indexes, where so many closings are more than half the places; answers how

@@ -6,14 +6,14 @@ ghost use Rattle.indexmap.specs.IndexMap.{get};
 ghost use Rattle.pj_value.specs.Texts.{IsFront};
 ghost use Rattle.pj_value.specs.Values.{row_eq};
 ghost use Rattle.pj_events.specs.Patterns.{all_wild};
-ghost use Rattle.pj_group.specs.Indexes.{AreFound, Reaches, closed_over, told_by};
+ghost use Rattle.pj_group.specs.Indexes.{PassNone, Reaches, closed_over};
 ghost use Rattle.pj_group.specs.Insides.{AllStates, AreStates, IsBounded};
 ghost use Rattle.pj_group.specs.Slots.{open_groups, state_rows, states_in};
 ghost use Rattle.pj_group.specs.Steps.{closed_at, closed_rows};
 ghost use Rattle.pj_events.specs.Tables.{row_of, value_of};
 
 use crate::indexes::{Indexes, places_of};
-use crate::keys::{ColumnValue, Key};
+use crate::keys::Key;
 use crate::reach::Reach;
 use crate::slots::Slots;
 use crate::tally::Tally;
@@ -71,7 +71,7 @@ fn append_all(
     out.push(Element::Punct(punct))
 }
 
-// The rows of the groups whose keys match: of one key, of those that are looked up by a value in a column, or of all that do.
+// The rows of the groups whose keys match: of one key, of those at places that are found in an index, or of all that do.
 fn append_closed(
     alloc: Global,
     spec: &GroupSpec,
@@ -97,29 +97,31 @@ fn append_closed(
             Ok(())
         }
         Reach::Column(column, value) => {
-            append_found(alloc, spec, slots, indexes, kept, *column, value, out)?;
+            let places = places_of(indexes, *column, value);
+            append_found(alloc, spec, slots, places, kept, out)?;
+            Ok(())
+        }
+        Reach::Several(places) => {
+            append_found(alloc, spec, slots, places.as_slice(), kept, out)?;
             Ok(())
         }
     }
 }
 
-// The rows of the groups with a value in a column whose keys match.
+// The rows of the groups whose keys match, which are all among these places.
 fn append_found(
     alloc: Global,
     spec: &GroupSpec,
     slots: &Slots,
-    indexes: &Indexes,
+    places: &[usize],
     kept: &Punct,
-    column: usize,
-    value: &ColumnValue,
     out: &mut List<Element>,
 ) -> Result<(), NoMemory>
     requires states { AllStates (2 ^ 40) spec.now slots.now.entries }
-    requires found { AreFound kept.now column value.now slots.now.entries (told_by (get nat_eq indexes.now column) value.now) }
+    requires found { PassNone kept.now 0 (keys_of slots.now.entries) places.now }
     ensures ok { OnOk result (out.new ≡ out.old ++ closed_rows kept.now (open_groups slots.now.entries)) }
     ensures err { OnErr result (IsFront out.old out.new) }
 {
-    let places = places_of(indexes, column, value);
     append_places(alloc, spec, slots, places, kept, out)
 }
 

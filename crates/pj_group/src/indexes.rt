@@ -1,123 +1,65 @@
-// Indexes of groups by their values in a key column.
-ghost use Rattle.std.specs.Prelude.{◌≡◌, ◌<◌, ◌≤◌, ◌+◌, [], ◌^◌, length, nat_eq, OnOk, OnErr};
+// Indexes of groups by a key column.
+ghost use Rattle.std.specs.Prelude.{◌≡◌, ◌≤◌, length, nat_eq, IfOk, OnOk};
 ghost use Rattle.std.specs.Map.{keys_of};
 ghost use Rattle.indexmap.specs.IndexMap.{get};
-ghost use Rattle.pj_value.specs.declared.values.Value.{Value as AnyValue};
-ghost use Rattle.pj_group.specs.Indexes.{AreIndexesOf, HasOneMore, HasSame, IsIndexOf, IsWhole, StayWhole, TellsMore, TellsSame, told, told_by};
+ghost use Rattle.pj_group.specs.Indexes.{AreIndexesOf, IsColumnOf, IsWhole, StayWhole, told_by};
+ghost use Rattle.pj_group.specs.Orders.{FindsAll, IsForward};
 
-use crate::keys::{ColumnValue, Key};
+use crate::keys::ColumnValue;
+use crate::order_index::{Integers, OrderIndex};
 use crate::slots::Slots;
+use crate::value_index::ValueIndex;
 use indexmap::IndexMap;
-use pj_value::{List, NoMemory, Value};
+use pj_value::NoMemory;
 use std::alloc::Global;
 
-/// The places of the first so many groups, rising, by their values in a key column.
+/// The indexes of a column: by its values, for constants, and by its integers in order, for ranges. Each has the groups that
+/// there were when it was last asked.
 #[derive(Drop)]
 pub struct ColumnIndex {
-    upto: usize,
-    places: IndexMap<ColumnValue, List<usize>>,
+    values: ValueIndex,
+    order: OrderIndex,
 }
 
 /// The indexes that were asked for, by their columns. They stand until groups are cleared away.
 pub type Indexes = IndexMap<usize, ColumnIndex>;
 
 impl ColumnIndex {
-    // An index of no groups.
-    fn new(alloc: Global) -> ColumnIndex
-        ensures upto { result.upto ≡ 0 }
-        ensures none { (value : AnyValue) → told result value ≡ [] }
+    // Indexes of no groups.
+    fn new(alloc: Global, column: usize, slots: &Slots) -> ColumnIndex
+        ensures { IsColumnOf column (keys_of slots.now.entries) result }
     {
         ColumnIndex {
-            upto: 0,
-            places: IndexMap::new(alloc),
+            values: ValueIndex::new(alloc),
+            order: OrderIndex::new(alloc),
         }
     }
 
-    // The places of the groups with a value.
-    fn places(&self, value: &ColumnValue) -> &[usize]
-        ensures { result.now ≡ told self.now value.now }
-    {
-        match self.places.get(value) {
-            None => &[],
-            Some(places) => places.as_slice(),
-        }
-    }
-
-    // Takes in the groups that came since.
+    // Brings the index by values up to date.
     fn catch_up(&mut self, alloc: Global, slots: &Slots, column: usize) -> Result<(), NoMemory>
-        requires { IsIndexOf column (keys_of slots.now.entries) self.old }
-        ensures same { IsIndexOf column (keys_of slots.now.entries) self.new }
-        ensures ok { OnOk result (length (keys_of slots.now.entries) ≤ self.new.upto) }
+        requires { IsColumnOf column (keys_of slots.now.entries) self.old }
+        ensures same { IsColumnOf column (keys_of slots.now.entries) self.new }
+        ensures ok { OnOk result (length (keys_of slots.now.entries) ≤ self.new.values.upto) }
     {
-        for at in self.upto..slots.len() {
-            self.take_at(alloc, slots, at, column)?;
-        }
-        Ok(())
+        self.values.catch_up(alloc, slots, column)
     }
 
-    // Takes in the group at a place, where there is one.
-    fn take_at(
+    // The places of the groups with an integer of a range. The index by order is brought up to date.
+    fn between(
         &mut self,
         alloc: Global,
         slots: &Slots,
-        at: usize,
         column: usize,
-    ) -> Result<(), NoMemory>
-        requires next { at ≡ self.old.upto }
-        requires within { at < length slots.now.entries }
-        requires few { at < 2 ^ 63 }
-        requires same { IsIndexOf column (keys_of slots.now.entries) self.old }
-        ensures same { IsIndexOf column (keys_of slots.now.entries) self.new }
-        ensures ok { OnOk result (self.new.upto ≡ at + 1) }
+        range: Integers,
+    ) -> Result<Vec<usize>, NoMemory>
+        requires forward { IsForward range }
+        requires same { IsColumnOf column (keys_of slots.now.entries) self.old }
+        ensures same { IsColumnOf column (keys_of slots.now.entries) self.new }
+        ensures values { self.new.values ≡ self.old.values }
+        ensures ok { IfOk result (λ places. FindsAll column (keys_of slots.now.entries) range places.items) }
     {
-        match slots.get_index(at) {
-            None => Ok(()),
-            Some((key, _)) => {
-                self.take_in(alloc, key, column)?;
-                Ok(())
-            }
-        }
-    }
-
-    // Takes in the next group. On a refusal it has the same groups.
-    fn take_in(&mut self, alloc: Global, key: &Key, column: usize) -> Result<(), NoMemory>
-        requires few { self.old.upto < 2 ^ 63 }
-        ensures ok { OnOk result (HasOneMore column key.now self.old self.new) }
-        ensures err { OnErr result (HasSame self.old self.new) }
-    {
-        match key.row().get(column) {
-            None => {
-                self.upto += 1;
-                Ok(())
-            }
-            Some(value) => {
-                let at = self.upto;
-                self.add(alloc, value, at)?;
-                self.upto += 1;
-                Ok(())
-            }
-        }
-    }
-
-    // One place more for a value. On a refusal each value has the places that it had.
-    fn add(&mut self, alloc: Global, value: &Value, at: usize) -> Result<(), NoMemory>
-        ensures upto { self.new.upto ≡ self.old.upto }
-        ensures ok { OnOk result (TellsMore value.now at self.old self.new) }
-        ensures err { OnErr result (TellsSame self.old self.new) }
-    {
-        let value = ColumnValue::of(alloc, value)?;
-        match self.places.get_mut(&value) {
-            Some(places) => {
-                places.push(at)?;
-                Ok(())
-            }
-            None => {
-                let mut places = List::new(alloc);
-                places.push(at)?;
-                self.places.insert(value, places)?;
-                Ok(())
-            }
-        }
+        self.order.catch_up(slots, column)?;
+        Ok(self.order.between(alloc, range)?)
     }
 }
 
@@ -139,7 +81,7 @@ pub fn catch_up(
             Ok(())
         }
         None => {
-            let mut index = ColumnIndex::new(alloc);
+            let mut index = ColumnIndex::new(alloc, column, slots);
             index.catch_up(alloc, slots, column)?;
             indexes.insert(column, index)?;
             Ok(())
@@ -153,6 +95,31 @@ pub fn places_of<'a>(indexes: &'a Indexes, column: usize, value: &ColumnValue) -
 {
     match indexes.get(&column) {
         None => &[],
-        Some(index) => index.places(value),
+        Some(index) => index.values.places(value),
+    }
+}
+
+/// The places of the groups with an integer of a range in a column. The index of the column is brought up to date; the first
+/// time it is made.
+pub fn places_between(
+    alloc: Global,
+    indexes: &mut Indexes,
+    slots: &Slots,
+    column: usize,
+    range: Integers,
+) -> Result<Vec<usize>, NoMemory>
+    requires forward { IsForward range }
+    requires indexed { AreIndexesOf slots.now.entries (get nat_eq indexes.old) }
+    ensures same { AreIndexesOf slots.now.entries (get nat_eq indexes.new) }
+    ensures ok { IfOk result (λ places. FindsAll column (keys_of slots.now.entries) range places.items) }
+{
+    match indexes.get_mut(&column) {
+        Some(index) => Ok(index.between(alloc, slots, column, range)?),
+        None => {
+            let mut index = ColumnIndex::new(alloc, column, slots);
+            let places = index.between(alloc, slots, column, range)?;
+            indexes.insert(column, index)?;
+            Ok(places)
+        }
     }
 }

@@ -1,26 +1,33 @@
 // Where the groups that a punctuation matches are looked for.
-ghost use Rattle.std.specs.Prelude.{◌<◌, length, IfOk, IfSome, nat_eq};
+ghost use Rattle.std.specs.Prelude.{◌<◌, length, IfOk, IfSome, Some, nat_eq};
+ghost use Rattle.std.specs.Option.{option_copied};
 ghost use Rattle.indexmap.specs.IndexMap.{get};
+ghost use Rattle.pj_value.specs.declared.values.Value.TheVariants.{Int as AnInt};
 ghost use Rattle.pj_group.specs.Indexes.{AreIndexesOf, IsSought, NeedsValue, Reaches};
+ghost use Rattle.pj_group.specs.Orders.{AreEnds, IsRangeSought};
 
-use crate::indexes::{Indexes, catch_up, places_of};
+use crate::indexes::{Indexes, catch_up, places_between, places_of};
 use crate::keys::{ColumnValue, Key};
+use crate::order_index::{Integers, rising};
 use crate::slots::Slots;
 use pj_pattern::{Punct, Shape};
-use pj_value::NoMemory;
+use pj_value::{List, NoMemory, Value};
 use std::alloc::Global;
 
-/// Where to look for groups: at one key, at the places of a value in a key column, or at all.
+/// Where to look for groups: at one key, at the places of a value in a key column, at several places, which rise, or at all.
 #[derive(Drop)]
 pub enum Reach {
     One(Key),
     Column(usize, ColumnValue),
+    Several(List<usize>),
     All,
 }
 
 impl Reach {
     /// Where all groups are found that the punctuation matches: by their key where it has constants alone, else by a column in
-    /// which it has one, else by going through all. The indexes of these columns are brought up to date.
+    /// which it has one, else by the first in which it has a range of integers, else by going through all. The indexes of
+    /// these columns are brought up to date.
+    #[tactic(auto, using(crate::proofs::FoundPlaces::found_pass))]
     pub fn of(
         alloc: Global,
         slots: &Slots,
@@ -34,7 +41,7 @@ impl Reach {
         match Key::of_constants(alloc, kept)? {
             Some(key) => Ok(Reach::One(key)),
             None => match rarest(alloc, slots, indexes, kept)? {
-                None => Ok(Reach::All),
+                None => ranged(alloc, slots, indexes, kept),
                 Some((column, value)) => Ok(Reach::Column(column, value)),
             },
         }
@@ -110,5 +117,95 @@ fn constant_in(alloc: Global, punct: &Punct, column: usize) -> Result<Option<Col
     match punct.at(column).shape() {
         Shape::Constant(value) => Ok(Some(ColumnValue::of(alloc, value)?)),
         _ => Ok(None),
+    }
+}
+
+// The places of the groups with an integer of the punctuation's first range of integers. All groups are gone through where it
+// has none, or where more than half of the groups have such an integer.
+fn ranged(
+    alloc: Global,
+    slots: &Slots,
+    indexes: &mut Indexes,
+    kept: &Punct,
+) -> Result<Reach, NoMemory>
+    requires { AreIndexesOf slots.now.entries (get nat_eq indexes.old) }
+    ensures same { AreIndexesOf slots.now.entries (get nat_eq indexes.new) }
+    ensures ok { IfOk result (Reaches kept.now slots.now.entries (get nat_eq indexes.new)) }
+{
+    match first_range(kept) {
+        None => Ok(Reach::All),
+        Some((column, range)) => {
+            let places = places_between(alloc, indexes, slots, column, range)?;
+            if places.len() > slots.len() / 2 {
+                Ok(Reach::All)
+            } else {
+                Ok(Reach::Several(rising(places)))
+            }
+        }
+    }
+}
+
+// The first column in which the punctuation has a range of integers, with it.
+fn first_range(kept: &Punct) -> Option<(usize, Integers)>
+    ensures { IfSome result (IsRangeSought kept.now) }
+{
+    for column in 0..kept.len() {
+        match range_in(kept, column) {
+            None => {}
+            Some(range) => {
+                return Some((column, range));
+            }
+        }
+    }
+    None
+}
+
+// The range of the punctuation in a column, if that is one of integers.
+fn range_in(punct: &Punct, column: usize) -> Option<Integers>
+    requires { column < length punct.now }
+    ensures { IfSome result (λ range. IsRangeSought punct.now (column, range)) }
+{
+    match punct.at(column).shape() {
+        Shape::Range(low, high) => integers(low, high),
+        _ => None,
+    }
+}
+
+// The range with these ends, if it is one of integers, its low end not above its high one.
+fn integers(low: Option<&Value>, high: Option<&Value>) -> Option<Integers>
+    ensures { IfSome result (AreEnds (option_copied low.entry) (option_copied high.entry)) }
+{
+    match low {
+        None => match high {
+            None => None,
+            Some(Value::Text(_)) => None,
+            Some(Value::Int(last)) => Some(Integers {
+                low: None,
+                high: Some(*last),
+            }),
+        },
+        Some(Value::Text(_)) => None,
+        Some(Value::Int(first)) => up_from(*first, high),
+    }
+}
+
+fn up_from(first: i64, high: Option<&Value>) -> Option<Integers>
+    ensures { IfSome result (AreEnds (Some (AnInt first)) (option_copied high.entry)) }
+{
+    match high {
+        None => Some(Integers {
+            low: Some(first),
+            high: None,
+        }),
+        Some(Value::Text(_)) => None,
+        Some(Value::Int(last)) => {
+            if first > *last {
+                return None;
+            }
+            Some(Integers {
+                low: Some(first),
+                high: Some(*last),
+            })
+        }
     }
 }

@@ -13,6 +13,8 @@ use std::test::Fail;
 enum Said {
     Row(i64, i64),
     Close(Option<i64>, Option<i64>),
+    // The ends of a range of the first column.
+    CloseBetween(Option<i64>, Option<i64>),
 }
 
 // A group of rows of two columns by the first.
@@ -45,11 +47,20 @@ fn pattern(number: Option<i64>) -> Pattern {
     }
 }
 
+fn between(low: Option<i64>, high: Option<i64>) -> Pattern {
+    match (low, high) {
+        (None, None) => Pattern::wild(),
+        (None, Some(high)) => Pattern::range(None, Some(Value::Int(high))),
+        (Some(low), None) => Pattern::range(Some(Value::Int(low)), None),
+        (Some(low), Some(high)) => Pattern::range(Some(Value::Int(low)), Some(Value::Int(high))),
+    }
+}
+
 fn close(
     alloc: Global,
     group: &mut Group,
-    a: Option<i64>,
-    b: Option<i64>,
+    a: Pattern,
+    b: Pattern,
     out: &mut List<Element>,
 ) -> Result<(), GroupStop>
     requires fits { Fits group.old.spec 2 }
@@ -57,8 +68,8 @@ fn close(
     ensures { group.new.spec ≡ group.old.spec }
 {
     let mut patterns = List::new(alloc);
-    patterns.push(pattern(a))?;
-    patterns.push(pattern(b))?;
+    patterns.push(a)?;
+    patterns.push(b)?;
     group.punct(Punct::of(patterns), out)
 }
 
@@ -74,7 +85,10 @@ fn say(
 {
     match said {
         Said::Row(a, b) => put(alloc, group, Value::Int(a), Value::Int(b)),
-        Said::Close(a, b) => close(alloc, group, a, b, out),
+        Said::Close(a, b) => close(alloc, group, pattern(a), pattern(b), out),
+        Said::CloseBetween(low, high) => {
+            close(alloc, group, between(low, high), Pattern::wild(), out)
+        }
     }
 }
 
@@ -174,6 +188,37 @@ fn closed_groups_leave_the_order(rt: HostRuntime) {
     ];
     let want = [
         2, 2, 2, -7, 5, -7, 3, 1, 3, -7, 1, 1, 1, -7, 4, 1, 2, 1, -7, -7,
+    ];
+    assert!(rt; agrees(&run(rt.alloc(), &[Agg::Count], &said), &want));
+}
+
+// Each range but the last two comes to at most half of the groups; 20 is closed and comes again, and then stands last.
+#[test]
+fn groups_close_by_ranges(rt: HostRuntime) {
+    let said = [
+        Said::Row(30, 0),
+        Said::Row(10, 0),
+        Said::Row(50, 0),
+        Said::Row(20, 0),
+        Said::Row(40, 0),
+        Said::Row(60, 0),
+        Said::Row(10, 0),
+        Said::Row(-5, 0),
+        Said::CloseBetween(Some(20), Some(30)),
+        Said::CloseBetween(None, Some(0)),
+        Said::CloseBetween(Some(61), None),
+        Said::Row(20, 0),
+        Said::Row(35, 0),
+        Said::CloseBetween(Some(15), Some(35)),
+        Said::CloseBetween(Some(50), None),
+        Said::Row(5, 0),
+        Said::CloseBetween(None, Some(9)),
+        Said::CloseBetween(Some(0), Some(100)),
+        Said::CloseBetween(None, None),
+    ];
+    let want = [
+        30, 1, 20, 1, -7, -7, -5, 1, -7, -7, -7, -7, 20, 1, 35, 1, -7, -7, 50, 1, 60, 1, -7, -7, 5,
+        1, -7, -7, 10, 2, 40, 1, -7, -7, -7, -7,
     ];
     assert!(rt; agrees(&run(rt.alloc(), &[Agg::Count], &said), &want));
 }
@@ -324,8 +369,41 @@ fn texts(alloc: Global) -> Result<Vec<i64>, GroupStop> {
     put(alloc, &mut group, Value::Int(1), text(alloc, b"abcd")?)?;
     put(alloc, &mut group, Value::Int(1), text(alloc, b"b")?)?;
     let mut out = List::new(alloc);
-    close(alloc, &mut group, Some(1), None, &mut out)?;
+    close(
+        alloc,
+        &mut group,
+        pattern(Some(1)),
+        Pattern::wild(),
+        &mut out,
+    )?;
     Ok(marks_of(alloc, out.as_slice())?)
+}
+
+fn put_all(alloc: Global, group: &mut Group) -> Result<(), GroupStop>
+    requires { Fits group.old.spec 2 }
+    ensures { group.new.spec ≡ group.old.spec }
+{
+    put(alloc, group, text(alloc, b"b")?, Value::Int(1))?;
+    put(alloc, group, Value::Int(9), Value::Int(1))?;
+    put(alloc, group, text(alloc, b"ddd")?, Value::Int(1))?;
+    put(alloc, group, Value::Int(3), Value::Int(1))
+}
+
+// What a range of integers hands out of a column that has texts too, and then a range of texts.
+fn mixed(alloc: Global) -> Result<Vec<i64>, GroupStop> {
+    let mut group = group_of(alloc, &[Agg::Count], 9)?;
+    put_all(alloc, &mut group)?;
+    let mut out = List::new(alloc);
+    let integers = between(Some(1), None);
+    close(alloc, &mut group, integers, Pattern::wild(), &mut out)?;
+    let texts = Pattern::range(Some(text(alloc, b"c")?), None);
+    close(alloc, &mut group, texts, Pattern::wild(), &mut out)?;
+    Ok(marks_of(alloc, out.as_slice())?)
+}
+
+#[test]
+fn ranges_are_of_one_kind(rt: HostRuntime) {
+    assert!(rt; agrees(&mixed(rt.alloc()), &[9, 1, 3, 1, -7, -7, 3, 1, -7, -7]));
 }
 
 #[test]
@@ -339,7 +417,13 @@ fn no_more_than_the_limit_come(rt: HostRuntime) -> Result<(), Fail> {
     let mut group = group_of(alloc, &[Agg::Count], 1)?;
     let first = put(alloc, &mut group, Value::Int(1), Value::Int(1));
     let second = put(alloc, &mut group, Value::Int(1), Value::Int(1));
-    let third = close(alloc, &mut group, None, None, &mut List::new(alloc));
+    let third = close(
+        alloc,
+        &mut group,
+        Pattern::wild(),
+        Pattern::wild(),
+        &mut List::new(alloc),
+    );
     assert_eq!(rt; first, Ok(()));
     assert_eq!(rt;
         (second, third),

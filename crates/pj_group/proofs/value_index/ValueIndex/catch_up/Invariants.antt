@@ -1,7 +1,7 @@
 use Rattle.std.proofs.Common.{◌≡◌}
 use Rattle.std.specs.Map.{keys_of}
 use Rattle.pj_group.specs.Indexes.{IsIndexOf}
-use Rattle.pj_group.proofs.indexes.ColumnIndex.catch_up.Given as goal
+use Rattle.pj_group.proofs.value_index.ValueIndex.catch_up.Given as goal
 
 abbrev pub invariant-loop-at : goal.invariant-loop-at
 invariant-loop-at l = record { upto : l.self.upto ≡ l.at; same : IsIndexOf l.column (keys_of l.slots.entries) l.self }
