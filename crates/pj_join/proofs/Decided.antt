@@ -1,11 +1,16 @@
 -- Joins in which two columns decide.
-use Rattle.std.proofs.Common.{◌≡◌, ℕ, Bool, true, false, not, ◌==◌, ◌&&◌, ◌||◌, ◌<◌, ◌≤◌, List, [], ◌∷◌, length, get_or, refl, sym, ◌∙◌, arith}
-use Rattle.std.proofs.lemmas.Bool.{eq-eqb, eqb-true, false_from_ne_true}
+use Rattle.std.proofs.Common.{◌≡◌, ℕ, Bool, true, false, not, ◌==◌, ◌&&◌, ◌||◌, ◌<◌, ◌≤◌, List, [], ◌∷◌, length, get_or, Option, Some, None, refl, sym, ap, ap₂, ◌∙◌, arith}
+use Rattle.std.specs.List.{slice_get}
+use Rattle.std.proofs.lemmas.Option.{get_or_from_slice_get}
+use Rattle.pj_value.specs.declared.values.Value.{Value}
+use Rattle.pj_state.specs.States.{is_value}
+use Rattle.pj_join.specs.Sides.{tuple_in}
+use Rattle.std.proofs.lemmas.Bool.{eq-eqb, eqb-true, false_from_ne_true, false≢true}
 use Rattle.pj_value.specs.Values.{value_eq}
-use Rattle.pj_value.proofs.Orders.{equal_itself}
-use Rattle.pj_events.specs.Join.{ClassCol, TupleAt, value_at}
-use Rattle.pj_join.specs.Walks.{all_have, suits_class}
-use Rattle.pj_join.specs.Decided.{ClassDecides, ColumnsDecide}
+use Rattle.pj_value.proofs.Orders.{equal_itself, same_if_equal}
+use Rattle.pj_events.specs.Join.{ClassCol, TupleAt, no_value, value_at}
+use Rattle.pj_join.specs.Walks.{all_have, suits, suits_class}
+use Rattle.pj_join.specs.Decided.{AllJoinAt, ClassDecides, ColumnsDecide}
 
 both_first : (p q r s t rest u v w : Bool) → p ≡ false → q ≡ true → r ≡ true → s ≡ false → t ≡ true
     → ((not p || rest) && ((not q || (((not p || u) && ((not r || v) && true)) && (((not q || t) && ((not s || w) && true)) && true))) && true)) ≡ v
@@ -50,3 +55,14 @@ two_columns [] d e least below = absurd (omega (arith, least))
 two_columns (a ∷ []) d e least below = absurd (omega (arith, least))
 two_columns (a ∷ b ∷ []) d e least below = refl
 two_columns (a ∷ b ∷ c ∷ cs) d e least below = absurd (omega (arith, below))
+
+-- a row that has the tuple's own value in the column that decides joins with it
+pub decided_joins : (classes : List (List ClassCol)) (x : TupleAt) (input mine theirs column : ℕ) (value : Value) → ColumnsDecide classes x input mine theirs → theirs ≡ column → value_eq (value_at x.row mine) value ≡ true → AllJoinAt classes x input column value
+decided_joins classes x input mine theirs column value decide same own s t = go (slice_get s.row column) refl t
+  where
+    go : (o : Option Value) → slice_get s.row column ≡ o → is_value value o ≡ true → suits classes (x ∷ []) (tuple_in input s) ≡ true
+    go None e u = absurd (false≢true u)
+    go (Some w) e u =
+        let there : value_at s.row theirs ≡ w = ap (value_at s.row) same ∙ get_or_from_slice_get s.row column w no_value e in
+        let equal : w ≡ value_at x.row mine = same_if_equal w value u ∙ sym (same_if_equal (value_at x.row mine) value own) in
+        decide (tuple_in input s) refl ∙ ap₂ (λ (a b : Value). value_eq a b) there (sym equal) ∙ equal_itself w

@@ -1,15 +1,16 @@
 // What a join hands out.
-ghost use Rattle.std.specs.Prelude.{◌≡◌, ◌<◌, ◌≤◌, ◌-◌, ◌++◌, ◌∷◌, [], map, length, slice_get, take, OnOk, OnErr, IfOk, IfSome};
+ghost use Rattle.std.specs.Prelude.{◌≡◌, ◌<◌, ◌≤◌, ◌-◌, ◌++◌, ◌∷◌, [], true, map, length, slice_get, take, OnOk, OnErr, IfOk, IfSome};
 ghost use Rattle.std.specs.Arc.{arc_value};
 ghost use Rattle.std.specs.Option.{option_copied};
-ghost use Rattle.pj_join.specs.Decided.{ColumnsDecide};
+ghost use Rattle.pj_join.specs.Decided.{AllSuit, ColumnsDecide};
+ghost use Rattle.pj_join.specs.Walks.{suits};
 ghost use Rattle.pj_join.specs.Handed.{found_out, pair_of, pairs_out};
 ghost use Rattle.pj_join.specs.Sides.{AreWide, tuple_in, tuples_in};
 
 use crate::Probe;
 use crate::arrivals::Arrived;
 use crate::walk::{
-    EqualColumns, FEW, candidates, choices_join, equal_columns, joins_with, own_cell,
+    Narrowed, EqualColumns, FEW, candidates, choices_join, equal_columns, joins_with, own_cell,
 };
 use pj_events::Out;
 use pj_shape::{ClassCol, JoinSpec};
@@ -60,15 +61,19 @@ fn partners<'a>(
     classes: &[List<ClassCol>],
     own: &Arrived<'a>,
     sides: &'a [State],
-) -> Option<Matching<'a>>
+) -> Option<Narrowed<'a>>
     requires { AreWide sides.now }
-    ensures { IfSome result (λ found. pairs_out classes.now own.now (map (tuple_in (1 - own.now.input)) found) ≡ found_out classes.now own.now (tuples_in 0 sides.now)) }
+    ensures found { IfSome result (λ found. pairs_out classes.now own.now (map (tuple_in (1 - own.now.input)) found.among) ≡ found_out classes.now own.now (tuples_in 0 sides.now)) }
+    ensures join { IfSome result (λ found. found.all_join ≡ true → AllSuit classes.now own.now (1 - own.now.input) found.among) }
 {
     if !choices_join(classes, own, sides) {
         return None;
     }
     let input = 1 - own.input() as usize;
-    candidates(classes, own, &sides[input], input)
+    match candidates(classes, own, &sides[input], input) {
+        None => None,
+        Some(found) => Some(found),
+    }
 }
 
 /// Puts the results of a tuple at the end, over the stored tuples of each input; on a refusal the list is as before.
@@ -86,7 +91,14 @@ pub fn hand_out_found(
     ensures err { OnErr result (outs.new ≡ outs.old) }
 {
     match partners(spec.classes.as_slice(), own, sides) {
-        Some(among) => hand_out_pairs(alloc, spec.classes.as_slice(), own, &among, outs),
+        Some(found) => hand_out_pairs(
+            alloc,
+            spec.classes.as_slice(),
+            own,
+            &found.among,
+            found.all_join,
+            outs,
+        ),
         None => hand_out_probed(alloc, spec, own, sides, outs),
     }
 }
@@ -116,14 +128,16 @@ fn hand_out_pairs<'a>(
     classes: &[List<ClassCol>],
     own: &Arrived<'a>,
     among: &Matching<'a>,
+    all_join: bool,
     outs: &mut List<Out>,
 ) -> Result<(), NoMemory>
+    requires { all_join ≡ true → AllSuit classes.now own.now (1 - own.now.input) among.now }
     ensures ok { OnOk result (outs.new ≡ outs.old ++ pairs_out classes.now own.now (map (tuple_in (1 - own.now.input)) among.now)) }
     ensures err { OnErr result (outs.new ≡ outs.old) }
 {
     make_room(alloc, outs, among.len().min(FEW))?;
     let before = outs.len();
-    match append_pairs(alloc, classes, own, among, outs) {
+    match append_pairs(alloc, classes, own, among, all_join, outs) {
         Ok(()) => Ok(()),
         Err(stop) => {
             outs.truncate(before);
@@ -137,8 +151,10 @@ fn append_pairs<'a>(
     classes: &[List<ClassCol>],
     own: &Arrived<'a>,
     among: &Matching<'a>,
+    all_join: bool,
     outs: &mut List<Out>,
 ) -> Result<(), NoMemory>
+    requires { all_join ≡ true → AllSuit classes.now own.now (1 - own.now.input) among.now }
     ensures ok { OnOk result (outs.new ≡ outs.old ++ pairs_out classes.now own.now (map (tuple_in (1 - own.now.input)) among.now)) }
     ensures err { OnErr result (take (length outs.old) outs.new ≡ outs.old) }
 {
@@ -152,7 +168,9 @@ fn append_pairs<'a>(
             return Ok(());
         }
         let other = Arrived::of(ticket, input, row);
-        append_pair(alloc, classes, own, columns, cell, &other, outs)?;
+        append_pair(
+            alloc, classes, own, columns, cell, &other, all_join, outs,
+        )?;
     }
     Ok(())
 }
@@ -165,15 +183,17 @@ fn append_pair<'a>(
     columns: Option<EqualColumns>,
     cell: Option<&Value>,
     other: &Arrived<'a>,
+    joins: bool,
     outs: &mut List<Out>,
 ) -> Result<(), NoMemory>
+    requires joins { joins ≡ true → suits classes.now (own.now ∷ []) other.now ≡ true }
     requires older { other.now.ticket < own.now.ticket }
     requires cell { IfSome columns (λ columns. option_copied cell ≡ slice_get own.now.row columns.mine) }
     requires decide { IfSome columns (λ columns. ColumnsDecide classes.now own.now other.now.input columns.mine columns.theirs) }
     ensures ok { OnOk result (outs.new ≡ outs.old ++ pairs_out classes.now own.now (other.now ∷ [])) }
     ensures err { OnErr result (outs.new ≡ outs.old) }
 {
-    if joins_with(classes, own, other.input() as usize, columns, cell, other) {
+    if joins || joins_with(classes, own, other.input() as usize, columns, cell, other) {
         let (first, second) = in_order(own, other);
         outs.push(Out::Tuple(Row::pair(alloc, first, second)?))?;
     }

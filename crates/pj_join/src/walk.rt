@@ -5,7 +5,7 @@ ghost use Rattle.std.specs.Option.{option_copied};
 ghost use Rattle.pj_value.specs.declared.values.Value.{Value};
 ghost use Rattle.pj_value.specs.Values.{value_eq};
 ghost use Rattle.pj_events.specs.Join.{agree, value_at};
-ghost use Rattle.pj_join.specs.Decided.{ClassDecides, ColumnsDecide};
+ghost use Rattle.pj_join.specs.Decided.{AllJoinAt, AllSuit, ClassDecides, ColumnsDecide};
 ghost use Rattle.pj_join.specs.Sides.{IsWide, tuple_in, tuples_in};
 ghost use Rattle.pj_join.specs.Walks.{AllJoin, all_have, cell_value, choices, has_there, older_joins, suits, suits_class};
 
@@ -108,27 +108,6 @@ pub fn suits<'a>(classes: &[List<ClassCol>], others: &[Arrived<'a>], more: &Arri
         .all(|class| suits_class(others, more, class.as_slice()))
 }
 
-/// The tuples of an input among which all are that are older than this one and join with it; `None` where no index tells.
-pub fn candidates<'a>(
-    classes: &[List<ClassCol>],
-    own: &Arrived<'a>,
-    state: &'a State,
-    input: usize,
-) -> Option<Matching<'a>>
-    requires { IsWide state.now }
-    ensures { let joins = older_joins classes.now own.now in IfSome result (λ found. filter joins (map (tuple_in input) found) ≡ filter joins (map (tuple_in input) state.now.rows)) }
-{
-    match wanted(classes, own, input) {
-        None => None,
-        Some(wanted) => {
-            if !state.is_indexed(wanted.column) {
-                return None;
-            }
-            Some(state.matching(wanted.column, wanted.value))
-        }
-    }
-}
-
 /// The columns that decide whether two tuples join.
 #[derive(Clone, Copy)]
 pub struct EqualColumns {
@@ -180,6 +159,68 @@ pub fn equal_columns(
     match classes {
         [class] => columns_of(class.as_slice(), own.input() as usize, input),
         _ => None,
+    }
+}
+
+/// The tuples of an input among which all are that are older than one and join with it, and whether it is known that each of
+/// them joins with it.
+#[derive(Drop)]
+pub struct Narrowed<'a> {
+    pub among: Matching<'a>,
+    pub all_join: bool,
+}
+
+// Whether the row has this value in the column. A column that is not there has the empty text.
+fn has_cell(row: &Row, column: u32, value: &Value) -> bool
+    ensures { result ≡ value_eq (value_at row.now column) value.now }
+{
+    same_cells(row.get(column as usize), Some(value))
+}
+
+// Whether all tuples of the input join with this one that have this value in this column.
+#[tactic(auto, using(crate::proofs::Decided::decided_joins))]
+fn decides(
+    classes: &[List<ClassCol>],
+    own: &Arrived<'_>,
+    input: usize,
+    column: u32,
+    value: &Value,
+) -> bool
+    ensures { result ≡ true → AllJoinAt classes.now own.now input column value.now }
+{
+    match equal_columns(classes, own, input) {
+        None => false,
+        Some(columns) => {
+            if columns.theirs != column {
+                return false;
+            }
+            has_cell(own.row(), columns.mine, value)
+        }
+    }
+}
+
+/// The tuples of an input among which all are that are older than this one and join with it; `None` where no index tells.
+pub fn candidates<'a>(
+    classes: &[List<ClassCol>],
+    own: &Arrived<'a>,
+    state: &'a State,
+    input: usize,
+) -> Option<Narrowed<'a>>
+    requires { IsWide state.now }
+    ensures hold { let joins = older_joins classes.now own.now in IfSome result (λ found. filter joins (map (tuple_in input) found.among) ≡ filter joins (map (tuple_in input) state.now.rows)) }
+    ensures join { IfSome result (λ found. found.all_join ≡ true → AllSuit classes.now own.now input found.among) }
+{
+    match wanted(classes, own, input) {
+        None => None,
+        Some(wanted) => {
+            if !state.is_indexed(wanted.column) {
+                return None;
+            }
+            Some(Narrowed {
+                among: state.matching(wanted.column, wanted.value),
+                all_join: decides(classes, own, input, wanted.column, wanted.value),
+            })
+        }
     }
 }
 
