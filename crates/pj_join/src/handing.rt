@@ -10,7 +10,7 @@ ghost use Rattle.pj_join.specs.Sides.{AreWide, tuple_in, tuples_in};
 use crate::Probe;
 use crate::arrivals::Arrived;
 use crate::walk::{
-    Narrowed, EqualColumns, FEW, candidates, choices_join, equal_columns, joins_with, own_cell,
+    EqualColumns, FEW, Narrowed, candidates, choices_join, equal_columns, joins_with, own_cell,
 };
 use pj_events::Out;
 use pj_shape::{ClassCol, JoinSpec};
@@ -168,9 +168,7 @@ fn append_pairs<'a>(
             return Ok(());
         }
         let other = Arrived::of(ticket, input, row);
-        append_pair(
-            alloc, classes, own, columns, cell, &other, all_join, outs,
-        )?;
+        append_pair(alloc, classes, own, columns, cell, &other, all_join, outs)?;
     }
     Ok(())
 }

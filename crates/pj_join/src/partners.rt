@@ -10,7 +10,7 @@ ghost use Rattle.pj_join.specs.Watching.{AreAllAlone, AreAllUnlike, AreFewer, Ar
 use crate::marks::Watches;
 use crate::watches::first_column;
 use pj_shape::{Cert, ClassCol};
-use pj_state::State;
+use pj_state::{Spot, State};
 use pj_value::{List, Row};
 
 /// A column of each of two inputs: rows of them that join have one value there.
@@ -68,14 +68,21 @@ fn mark_like(watches: &mut Watches, pair: Pair, state: &State, row: &Row)
 }
 
 // The same for the row of another input with this ticket, where there is one.
-fn mark_under(watches: &mut Watches, pair: Pair, state: &State, others: &State, ticket: u64)
+fn mark_under(
+    watches: &mut Watches,
+    pair: Pair,
+    state: &State,
+    others: &State,
+    ticket: u64,
+    near: &mut Spot,
+)
     requires indexed { In pair.mine state.now.columns }
     requires wide { IsWide state.now }
     requires rising { IsRising ticket_of others.now.rows }
     ensures fewer { IsFewer watches.old watches.new }
     ensures unlike { AreAllUnlike state.now.rows pair.mine others.now.rows pair.theirs (ticket ∷ []) watches.new }
 {
-    match others.get(ticket) {
+    match others.get_near(ticket, near) {
         None => {}
         Some(row) => mark_like(watches, pair, state, row),
     }
@@ -97,8 +104,9 @@ pub fn mark_partners(
     if others.len() == 0 {
         return;
     }
+    let mut near = Spot::new();
     for ticket in tickets {
-        mark_under(watches, pair, state, others, *ticket);
+        mark_under(watches, pair, state, others, *ticket, &mut near);
     }
 }
 

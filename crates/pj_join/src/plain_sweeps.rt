@@ -2,9 +2,10 @@
 ghost use Rattle.std.specs.Prelude.{◌≡◌, ◌<◌};
 ghost use Rattle.pj_join.specs.Triples.{triple_join};
 
-use crate::tests::{hear, join_of, next_count, put};
+use crate::tests::{join_of, next_count, put};
 use crate::{Join, JoinStop};
-use pj_value::{List, NoMemory};
+use pj_pattern::{Pattern, Punct};
+use pj_value::{List, NoMemory, Value};
 use std::alloc::Global;
 use std::test::Fail;
 
@@ -16,12 +17,13 @@ struct PlainRow {
     b: i64,
 }
 
-// That no more rows of an input with this number in this column come.
+// That no more rows of an input come with a number from one to another in this column.
 #[derive(Clone, Copy)]
 struct Said {
     input: u32,
     column: u32,
-    number: i64,
+    from: i64,
+    to: i64,
 }
 
 #[derive(Drop)]
@@ -46,7 +48,10 @@ fn number(seed: &mut u64) -> i64 {
 }
 
 fn is_said(said: &[Said], input: u32, column: u32, number: i64) -> bool {
-    said.iter().any(|s| s.input == input && s.column == column && s.number == number)
+    said.iter().any(|s| s.input == input
+        && s.column == column
+        && s.from <= number
+        && number <= s.to)
 }
 
 // Whether what a row of the first input asks for is said: for each row of the second one with its first number, too.
@@ -127,18 +132,30 @@ fn some_tuple(
     Ok(())
 }
 
-// No more rows of an input with this number in its first or second column come.
-fn say(alloc: Global, join: &mut Join, input: u32, column: u32, number: i64) -> Result<(), JoinStop>
+// A range of numbers, all of which are at least 0.
+fn between(from: i64, to: i64) -> Pattern {
+    if from == 0 {
+        return Pattern::range(None, Some(Value::Int(to)));
+    }
+    Pattern::range(Some(Value::Int(from)), Some(Value::Int(to)))
+}
+
+fn say(alloc: Global, join: &mut Join, said: Said) -> Result<(), JoinStop>
     requires spec { join.old.spec ≡ triple_join }
-    requires input { input < 3 }
+    requires input { said.input < 3 }
     ensures { join.new.spec ≡ triple_join }
 {
-    let mut all = Vec::new(alloc);
-    if column == 0 {
-        hear(alloc, join, input, number, -2, &mut all)
+    let mut patterns = List::new(alloc);
+    if said.column == 0 {
+        patterns.push(between(said.from, said.to))?;
+        patterns.push(Pattern::wild())?;
     } else {
-        hear(alloc, join, input, -2, number, &mut all)
+        patterns.push(Pattern::wild())?;
+        patterns.push(between(said.from, said.to))?;
     }
+    let mut out = List::new(alloc);
+    join.punct(said.input, Punct::of(patterns), &mut out)?;
+    Ok(())
 }
 
 // Some punctuation comes: of the first input by its first column, of the third one by its second.
@@ -157,13 +174,15 @@ fn some_punct(
         1 => draw(seed, 2) as u32,
         _ => 1,
     };
-    let number = number(seed);
-    plain.said.push(Said {
+    let from = number(seed);
+    let said = Said {
         input,
         column,
-        number,
-    })?;
-    say(alloc, join, input, column, number)
+        from,
+        to: from.saturating_add(draw(seed, 2) as i64),
+    };
+    plain.said.push(said)?;
+    say(alloc, join, said)
 }
 
 // Whether a sweep of some input removes as many rows of both.
@@ -226,6 +245,6 @@ fn agreeing(alloc: Global, join: &mut Join, steps: u64) -> Result<(u64, u64, usi
 fn sweeps_are_those_of_a_plain_join(rt: HostRuntime) -> Result<(), Fail> {
     let alloc = rt.alloc();
     let mut join = join_of(alloc, 1_000_000)?;
-    assert_eq!(rt; agreeing(alloc, &mut join, 600)?, (600, 55, 55));
+    assert_eq!(rt; agreeing(alloc, &mut join, 600)?, (600, 11, 11));
     Ok(())
 }

@@ -185,13 +185,7 @@ pub fn first_stretch(state: &State, punct: &Punct) -> Option<Stretch>
 }
 
 // The ticket of a row with this integer in a column that stays and matches the punctuation.
-fn find_with(
-    state: &State,
-    column: u32,
-    number: i64,
-    gone: &[u64],
-    punct: &Punct,
-) -> Option<u64>
+fn find_with(state: &State, column: u32, number: i64, gone: &[u64], punct: &Punct) -> Option<u64>
     requires indexed { In column state.now.columns }
     requires rising { IsRising itself gone.now }
     ensures { is_some result ≡ still_held (rows_with column (AnyValue.Int number) state.now.rows) gone.now punct.now }
@@ -269,12 +263,7 @@ fn keep_column_order(states: &mut Vec<State>, classes: &[List<ClassCol>], at: Cl
 }
 
 /// Keeps the integers in order of the columns in which rows are looked for by the ranges of a punctuation of an input.
-pub fn keep_orders(
-    states: &mut Vec<State>,
-    classes: &[List<ClassCol>],
-    input: u32,
-    punct: &Punct,
-)
+pub fn keep_orders(states: &mut Vec<State>, classes: &[List<ClassCol>], input: u32, punct: &Punct)
     ensures { states.new.items ≡ states.old.items }
 {
     for column in 0..punct.len() {

@@ -23,6 +23,6 @@ loop-preserved c =
     let after : SFits w64 c.in-Some-behind.next = search rules in
     let one : to_z w64 (of_z w64 c.in-Some-behind.next) ≡ c.in-At.number +ℤ pos 1 = omega (arith, ints, fits, after, next) in (
       stay_more c.args.stretch.column c.args.stretch.numbers.low c.loop.left.low c.in-At.number _ c.args.state.now.rows c.args.gone.now c.args.punct.now one c.loop.invariant.0 c.in-At.ensures
-      (ap (λ n. still_held (rows_with c.args.stretch.column (Int n) c.args.state.now.rows) c.args.gone.now c.args.punct.now) (sym same) ∙ sym c.find_with.ensures ∙ ap (λ (o : Option ℕ). is_some o) c.in-None.is),
+          (ap (λ n. still_held (rows_with c.args.stretch.column (Int n) c.args.state.now.rows) c.args.gone.now c.args.punct.now) (sym same) ∙ sym c.find_with.ensures ∙ ap (λ (o : Option ℕ). is_some o) c.in-None.is),
       c.loop.invariant.1,
     )

@@ -1,4 +1,4 @@
-use Rattle.std.proofs.Common.{ℕ, ℤ, List, ◌≡◌, ◌++◌, ◌+ℤ◌, pos, ◌∙◌, ap, arith, rules}
+use Rattle.std.proofs.Common.{◌≡◌, ◌++◌, ◌+ℤ◌, pos, ◌∙◌, ap, arith, rules}
 use Rattle.std.proofs.lemmas.Int.{ints}
 use mir.Val.{SFits, of_z, to_z}
 use mir.Syntax.{w64}
@@ -18,6 +18,6 @@ loop-preserved c =
     let after : SFits w64 c.in-Some.next = search rules in
     let one : to_z w64 (of_z w64 c.in-Some.next) ≡ c.in-At.number +ℤ pos 1 = omega (arith, ints, fits, after, next) in (
       hold_more c.args.column c.args.numbers.low c.loop.left.low c.in-At.number _ c.args.state.now.rows c.loop.tickets c.append_with.new.tickets one c.loop.invariant.0 c.in-At.ensures
-      (c.in_ok-append_with-in-At.ensures ∙ ap (λ n. c.loop.tickets ++ tickets_of (rows_with c.args.column (Int n) c.args.state.now.rows)) same),
+          (c.in_ok-append_with-in-At.ensures ∙ ap (λ n. c.loop.tickets ++ tickets_of (rows_with c.args.column (Int n) c.args.state.now.rows)) same),
       c.loop.invariant.1,
     )
