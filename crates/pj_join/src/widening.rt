@@ -55,6 +55,15 @@ fn append_copies(
     Ok(())
 }
 
+// How many columns these inputs have together.
+fn width_of(schemas: &[Schema]) -> usize {
+    let mut width = 0_usize;
+    for schema in schemas {
+        width = width.saturating_add(schema.len());
+    }
+    width
+}
+
 // The patterns of a punctuation of an input with wildcards for the columns of the other inputs.
 fn widened(
     alloc: Global,
@@ -67,7 +76,7 @@ fn widened(
 {
     let (before, from) = schemas.split_at(input as usize);
     let (_, behind) = from.split_at(1);
-    let mut patterns = List::new(alloc);
+    let mut patterns = List::with_room(alloc, width_of(schemas))?;
     append_wilds(before, &mut patterns)?;
     append_copies(alloc, own, &mut patterns)?;
     append_wilds(behind, &mut patterns)?;
