@@ -1,12 +1,12 @@
 -- What tuples that join tell of each other, and what a punctuation marks of those that ask by their second step.
-use Rattle.std.proofs.Common.{ℕ, ◌<◌, Bool, true, false, cond, ◌&&◌, ◌||◌, List, [], ◌∷◌, ◌≡◌, Some, map, filter, length, get_or, refl, sym, ap, ap₂, ◌∙◌, subst, inl, inr, eqb, arith}
+use Rattle.std.proofs.Common.{ℕ, ◌<◌, Bool, true, false, cond, ◌&&◌, ◌||◌, List, [], ◌∷◌, ◌≡◌, Some, map, length, get_or, refl, sym, ap, ap₂, ◌∙◌, subst, inl, inr, eqb, arith}
 use Rattle.std.specs.List.{slice_get}
 use Rattle.std.proofs.lemmas.Bool.{eqb-true, false_from_ne_true, false≢true}
 use Rattle.std.proofs.lemmas.Option.{get_or_from_slice_get}
 use Rattle.pj_value.specs.declared.values.Value.{Value}
-use Rattle.pj_value.proofs.Members.{In-filter_from, In-map, In-map_from}
+use Rattle.pj_value.proofs.Members.{In-map, In-map_from}
 use Rattle.pj_state.specs.declared.shared.Stored.{Stored}
-use Rattle.pj_state.specs.States.{StateView, has_value, rows_with, tickets_of, ticket_of}
+use Rattle.pj_state.specs.States.{StateView, has_value, rows_with, tickets_of}
 use Rattle.pj_shape.specs.declared.joins.CertStep.{CertStep}
 use Rattle.pj_shape.specs.Joining.{has_column}
 use Rattle.pj_cover.specs.Asking.{entries, first_class, marks_of}

@@ -1,4 +1,4 @@
-use Rattle.std.proofs.Common.{◌∙◌, ℕ, List, Option, ap, subst, sym}
+use Rattle.std.proofs.Common.{◌∙◌, ℕ, List, Option, ap, subst}
 use Rattle.std.specs.Prelude.{IfSome}
 use Rattle.pj_state.specs.States.{pairs}
 use Rattle.pj_join.specs.Hops.{HaveTickets, all_under}

@@ -1,6 +1,3 @@
-use Rattle.std.proofs.Common.{ℕ, List, ◌∙◌, ap}
-use Rattle.pj_state.specs.States.{pairs}
-use Rattle.pj_join.specs.Hops.{all_under}
 use Rattle.pj_join.proofs.Hopped.{linked_one}
 use Rattle.pj_join.proofs.choosing.linked_by_one.Goals as goal
 

@@ -1,4 +1,4 @@
-use Rattle.std.proofs.Common.{ℕ, ℤ, List, Option, ◌≡◌, ◌+ℤ◌, pos, ◌∙◌, ap, arith, is_some, rules, sym}
+use Rattle.std.proofs.Common.{ℕ, Option, ◌≡◌, ◌+ℤ◌, pos, ◌∙◌, ap, arith, is_some, rules, sym}
 use Rattle.std.proofs.lemmas.Int.{ints}
 use mir.Val.{SFits, of_z, to_z}
 use mir.Syntax.{w64}
