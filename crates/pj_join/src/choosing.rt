@@ -1,5 +1,5 @@
 // The rows that may stand in a combination with a tuple, for each input.
-ghost use Rattle.std.specs.Prelude.{◌≡◌, ℕ, List, true, false, ◌<◌, ◌++◌, ◌∷◌, [], filter, length, map, slice_get, slice_index_or, slice_set, Some, IfOk, IfSome, OnOk, OnErr};
+ghost use Rattle.std.specs.Prelude.{◌≡◌, ℕ, List, true, false, ◌<◌, ◌≤◌, ◌++◌, ◌∷◌, [], filter, length, map, slice_get, slice_index_or, slice_set, Some, IfOk, IfSome, OnOk, OnErr};
 ghost use Rattle.pj_value.specs.Lists.{In};
 ghost use Rattle.pj_events.specs.Join.{ClassCol as AnyClassCol, value_at};
 ghost use Rattle.pj_state.specs.Rising.{IsRising};
@@ -11,6 +11,7 @@ ghost use Rattle.pj_join.specs.Sides.{AreWide, IsWide};
 use crate::arrivals::Arrived;
 use crate::lookups::column_in;
 use crate::sweeping::in_order;
+use arrayvec::ArrayVec;
 use pj_shape::ClassCol;
 use pj_state::{Shared, Spot, State};
 use pj_value::{List, NoMemory, Row};
@@ -22,7 +23,7 @@ type Rows = List<(u64, Shared)>;
 /// For each input whether the rows are known that may stand in a combination with a tuple, and which they are.
 #[derive(Drop)]
 pub struct Chosen {
-    known: Vec<bool>,
+    known: ArrayVec<bool, 16>,
     lists: Vec<Rows>,
 }
 
@@ -56,14 +57,15 @@ fn alone_if(alloc: Global, own: &Arrived<'_>, is_own: bool) -> Result<Rows, NoMe
 
 // The tuple's own row is known, and no other.
 fn begin(alloc: Global, own: &Arrived<'_>, sides: &[State]) -> Result<Chosen, NoMemory>
-    requires { own.now.input < length sides.now }
+    requires own { own.now.input < length sides.now }
+    requires few { length sides.now ≤ 16 }
     ensures { IfOk result (λ chosen. (classes : List (List AnyClassCol)) → AreChosen classes own.now sides.now chosen.known.items chosen.lists.items) }
 {
-    let mut known = Vec::with_capacity(alloc, sides.len())?;
+    let mut known = ArrayVec::new();
     let mut lists = Vec::with_capacity(alloc, sides.len())?;
     for input in 0..sides.len() {
         let is_own = input == own.input() as usize;
-        known.push(is_own)?;
+        known.push(is_own);
         lists.push(alone_if(alloc, own, is_own)?)?;
     }
     Ok(Chosen { known, lists })
@@ -74,7 +76,7 @@ fn known_rows(chosen: &Chosen, input: usize) -> Option<&[(u64, Shared)]>
     ensures known { IfSome result (λ rows. slice_get chosen.now.known.items input ≡ Some true) }
     ensures rows { IfSome result (λ rows. slice_index_or chosen.now.lists.items input [] ≡ rows.now) }
 {
-    match chosen.known.get(input) {
+    match chosen.known.as_slice().get(input) {
         None => None,
         Some(known) => {
             if *known && input < chosen.lists.len() {
@@ -296,7 +298,7 @@ fn hop_to(
     requires chosen { AreChosen classes.now own.now sides.now chosen.old.known.items chosen.old.lists.items }
     ensures { OnOk result (AreChosen classes.now own.now sides.now chosen.new.known.items chosen.new.lists.items) }
 {
-    if chosen.known[input] {
+    if chosen.known.as_slice()[input] {
         return Ok(());
     }
     match hop(alloc, classes, own, sides, chosen, input)? {
@@ -333,7 +335,7 @@ fn take_rows(chosen: &mut Chosen, input: usize, rows: Rows)
     ensures known { chosen.new.known.items ≡ slice_set chosen.old.known.items input true }
     ensures lists { chosen.new.lists.items ≡ slice_set chosen.old.lists.items input rows }
 {
-    chosen.known[input] = true;
+    chosen.known.as_mut_slice()[input] = true;
     chosen.lists[input] = rows;
 }
 
@@ -351,7 +353,7 @@ fn fill(
     ensures chosen { OnOk result (AreChosen classes.now own.now sides.now chosen.new.known.items chosen.new.lists.items) }
     ensures known { OnOk result (KnowsMore input chosen.old.known.items chosen.new.known.items) }
 {
-    if chosen.known[input] {
+    if chosen.known.as_slice()[input] {
         return Ok(());
     }
     let rows = sides[input].all(alloc, own.ticket())?;
@@ -387,6 +389,7 @@ pub fn choices(
     sides: &[State],
 ) -> Result<List<Rows>, NoMemory>
     requires there { own.now.input < length sides.now }
+    requires few { length sides.now ≤ 16 }
     requires wide { AreWide sides.now }
     ensures same { IfOk result (λ found. FindSame classes.now own.now sides.now found) }
     ensures count { IfOk result (λ found. length found ≡ length sides.now) }
