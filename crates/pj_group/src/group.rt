@@ -16,7 +16,7 @@ ghost use Rattle.pj_events.specs.Tables.{table_of};
 
 use crate::closing::close;
 use crate::indexes::Indexes;
-use crate::keys::Key;
+use crate::lent_key::LentKey;
 use crate::slots::{Slots, clear_all};
 use crate::tally::Tally;
 use indexmap::IndexMap;
@@ -158,8 +158,8 @@ fn is_full(count: u64, limit: u64) -> bool
     count == limit
 }
 
-// Takes a row; so many elements came before. Its group is looked up once where it is there and open; where it was closed,
-// the groups that were closed are cleared away, so that it comes last.
+// Takes a row; so many elements came before. Where its group is there and open it is looked up once, and no key is made; where
+// it was closed, the groups that were closed are cleared away, so that it comes last.
 fn take_row(
     alloc: Global,
     count: u64,
@@ -179,16 +179,16 @@ fn take_row(
     ensures left { OnErr result (AllStates count spec.now slots.new.entries) }
     ensures indexed { AreIndexesOf slots.new.entries (get nat_eq indexes.new) }
 {
-    let key = Key::of(alloc, spec.keys.as_slice(), row)?;
+    let key = LentKey::of(spec.keys.as_slice(), row);
     match renew_at(alloc, count, spec, slots, &key, row, room)? {
         Found::Open => Ok(()),
         Found::Closed => {
             clear_all(slots, indexes);
-            add(alloc, count, spec, slots, indexes, key, row)?;
+            add(alloc, count, spec, slots, indexes, &key, row)?;
             Ok(())
         }
         Found::Missing => {
-            add(alloc, count, spec, slots, indexes, key, row)?;
+            add(alloc, count, spec, slots, indexes, &key, row)?;
             Ok(())
         }
     }
@@ -201,11 +201,11 @@ fn add(
     spec: &GroupSpec,
     slots: &mut Slots,
     indexes: &Indexes,
-    key: Key,
+    key: &LentKey<'_>,
     row: &Row,
 ) -> Result<(), NoMemory>
-    requires new { lookup (row_eq key) slots.old.entries ≡ None }
-    requires is { key ≡ picked_cells spec.now.keys row.now }
+    requires new { lookup (row_eq key.now) slots.old.entries ≡ None }
+    requires is { key.now ≡ picked_cells spec.now.keys row.now }
     requires fits { All (IsInRange (length row.now)) spec.now.aggs }
     requires states { AllStates count spec.now slots.old.entries }
     requires indexed { AreIndexesOf slots.old.entries (get nat_eq indexes.now) }
@@ -214,8 +214,9 @@ fn add(
     ensures err { OnErr result (slots.new.entries ≡ slots.old.entries) }
     ensures indexed { AreIndexesOf slots.new.entries (get nat_eq indexes.now) }
 {
+    let made = key.key(alloc)?;
     let tallies = first_tallies(alloc, spec.aggs.as_slice(), row)?;
-    slots.insert(key, Some(tallies))?;
+    slots.insert(made, Some(tallies))?;
     Ok(())
 }
 
@@ -233,7 +234,7 @@ fn renew_at(
     count: u64,
     spec: &GroupSpec,
     slots: &mut Slots,
-    key: &Key,
+    key: &LentKey<'_>,
     row: &Row,
     room: &mut List<Tally>,
 ) -> Result<Found, NoMemory>

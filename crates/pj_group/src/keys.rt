@@ -149,7 +149,8 @@ fn print(row: &Row) -> u64
     print
 }
 
-fn with_value(print: u64, value: &Value) -> u64
+/// A print with a value more.
+pub fn with_value(print: u64, value: &Value) -> u64
     ensures { result ≡ with_value print value.now }
 {
     match value {

@@ -11,6 +11,7 @@ mod group;
 mod handing;
 mod indexes;
 mod keys;
+mod lent_key;
 mod order_index;
 mod places;
 mod reach;
