@@ -9,10 +9,10 @@ ghost use Rattle.pj_state.specs.States.{pairs, row_under, rows_below, rows_with,
 ghost use Rattle.pj_state.specs.Indexes.{IndexesFewer, IndexesMore, IndexesSame, IsKept, SameBehind};
 ghost use Rattle.pj_state.specs.Ordered.{TellsNext};
 
-use crate::{Matching, Spot};
 use crate::index::ValueIndex;
 use crate::shared::{Shared, Stored};
 use crate::store::Store;
+use crate::{Matching, Spot};
 use pj_value::{List, NoMemory, Row, Value};
 use std::alloc::Global;
 use std::marker::Model;
