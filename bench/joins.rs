@@ -1,5 +1,6 @@
 // What the program does on a tree of streams, selects by one range, projects, sums and joins, in plain Rust: the measure of its
-// speed. Files have canonical lines, and punctuations of constants and wildcards alone. Words: the plan, and each stream's file.
+// speed. Files have canonical lines, and punctuations of constants and wildcards, or of one range `[..k]` and wildcards. Words: the
+// plan, and each stream's file.
 
 use std::collections::{BTreeMap, BTreeSet};
 use std::fs::File;
@@ -92,7 +93,7 @@ impl Row {
     }
 
     fn number(&self, column: usize) -> i64 {
-        std::str::from_utf8(self.cell(column)).unwrap().parse().unwrap()
+        number_of(self.cell(column))
     }
 
     fn cell(&self, column: usize) -> &[u8] {
@@ -108,9 +109,24 @@ impl Row {
         (0..self.ends.len()).filter(|column| !self.is_wild(*column)).collect()
     }
 
-    fn matches(&self, row: &Row) -> bool {
-        (0..self.ends.len()).all(|column| self.is_wild(column) || self.cell(column) == row.cell(column))
+    // The column with a range, and its end.
+    fn limit(&self) -> Option<(usize, i64)> {
+        (0..self.ends.len()).find_map(|column| {
+            let end = self.cell(column).strip_prefix(b"[..")?.strip_suffix(b"]")?;
+            Some((column, number_of(end)))
+        })
     }
+
+    fn matches(&self, row: &Row) -> bool {
+        match self.limit() {
+            Some((column, end)) => row.number(column) <= end,
+            None => (0..self.ends.len()).all(|column| self.is_wild(column) || self.cell(column) == row.cell(column)),
+        }
+    }
+}
+
+fn number_of(cell: &[u8]) -> i64 {
+    std::str::from_utf8(cell).unwrap().parse().unwrap()
 }
 
 type Key = Box<[u8]>;
@@ -129,10 +145,20 @@ fn key_of(row: &Row, columns: &[usize]) -> Key {
 #[derive(Default)]
 struct Store {
     forms: Vec<(Vec<usize>, HashMap<Key, u64>)>,
+    // The ends of the ranges in a column, which rise with the numbers of their punctuations.
+    limits: Vec<(usize, Vec<(i64, u64)>)>,
 }
 
 impl Store {
     fn push(&mut self, punct: &Row, number: u64) {
+        if let Some((column, end)) = punct.limit() {
+            match self.limits.iter_mut().find(|limit| limit.0 == column) {
+                Some(limit) if limit.1.last().is_some_and(|last| last.0 >= end) => {}
+                Some(limit) => limit.1.push((end, number)),
+                None => self.limits.push((column, vec![(end, number)])),
+            }
+            return;
+        }
         let columns = punct.constants();
         let key = key_of(punct, &columns);
         match self.forms.iter_mut().find(|form| form.0 == columns) {
@@ -142,12 +168,18 @@ impl Store {
     }
 
     fn first_match(&self, row: &Row) -> Option<u64> {
-        self.forms.iter().filter_map(|(columns, numbers)| numbers.get(&key_of(row, columns)).copied()).min()
+        let of_constants = self.forms.iter().filter_map(|(columns, numbers)| numbers.get(&key_of(row, columns)).copied());
+        let of_ranges = self.limits.iter().filter_map(|(column, ends)| {
+            let number = row.number(*column);
+            ends.get(ends.partition_point(|end| end.0 < number)).map(|end| end.1)
+        });
+        of_constants.chain(of_ranges).min()
     }
 
     // Whether one covers the instance that has these values in the marked columns, which are the key.
     fn covers<'a>(&self, marked: &[usize], key: &[u8], value: impl Fn(usize) -> &'a [u8]) -> bool {
-        self.forms.iter().any(|(columns, numbers)| {
+        let is_in_range = |(column, ends): &(usize, Vec<(i64, u64)>)| marked.contains(column) && ends.last().is_some_and(|end| number_of(value(*column)) <= end.0);
+        self.limits.iter().any(is_in_range) || self.forms.iter().any(|(columns, numbers)| {
             if columns == marked {
                 return numbers.contains_key(key);
             }
@@ -392,6 +424,8 @@ struct Side {
     rows: BTreeMap<u64, Stored>,
     // For each column that a class has, the tickets of the rows with a value there, which rise.
     index: HashMap<usize, HashMap<Key, Vec<u64>>>,
+    // The numbers in such a column in order, once a range asks for them.
+    orders: HashMap<usize, BTreeSet<i64>>,
     store: Store,
     // The rows to be judged at the next sweep.
     marked: BTreeSet<u64>,
@@ -445,6 +479,9 @@ impl Join {
                 None => drop(tickets.insert(row.cell(*column).into(), vec![ticket])),
             }
         }
+        for (column, numbers) in &mut side.orders {
+            numbers.insert(row.number(*column));
+        }
         side.rows.insert(ticket, Stored { row: row.clone(), watchers: Vec::new() });
         side.marked.insert(ticket);
         self.peak = self.peak.max(self.sides.iter().map(|side| side.rows.len()).sum());
@@ -475,9 +512,15 @@ impl Join {
         Up::Punct(self.before[input], punct, behind)
     }
 
-    // The first stored row from this ticket on that the punctuation matches.
+    // The first stored row from this ticket on that the punctuation matches; of those of a range, one with the least number.
     fn witness(&self, input: usize, punct: &Row, from: u64) -> Option<u64> {
         let side = &self.sides[input];
+        if let Some((column, end)) = punct.limit() {
+            if let Some(numbers) = side.orders.get(&column) {
+                let least = numbers.range(..=end).next()?;
+                return side.index[&column].get(least.to_string().as_bytes())?.first().copied();
+            }
+        }
         let indexed = side.index.iter().find(|(column, _)| !punct.is_wild(**column));
         match indexed {
             Some((column, tickets)) => {
@@ -498,14 +541,25 @@ impl Join {
         let number = self.next;
         self.next += 1;
         self.sides[input].store.push(&punct, number);
+        if let Some((column, _)) = punct.limit() {
+            let side = &mut self.sides[input];
+            if let (Some(tickets), false) = (side.index.get(&column), side.orders.contains_key(&column)) {
+                let numbers = tickets.keys().map(|cell| number_of(cell)).collect();
+                side.orders.insert(column, numbers);
+            }
+        }
         match self.witness(input, &punct, 0) {
             None => ups.push(self.up(input, punct.clone())),
             Some(witness) => self.wait(input, number, punct.clone(), witness),
         }
         let columns = punct.constants();
+        let limit = punct.limit();
         let mut woken = Vec::new();
         for (marked, watches) in &mut self.sides[input].watches {
-            if *marked == columns {
+            if let (Some((_, end)), true) = (limit, *marked == columns) {
+                let covered: Vec<Key> = watches.keys().filter(|key| number_of(&key[..key.len() - 1]) <= end).cloned().collect();
+                woken.extend(covered.iter().flat_map(|key| watches.remove(key).unwrap()));
+            } else if *marked == columns {
                 woken.extend(watches.remove(&key_of(&punct, &columns)).unwrap_or_default());
             } else if columns.iter().all(|column| marked.contains(column)) {
                 woken.extend(watches.drain().flat_map(|(_, rows)| rows));
@@ -577,6 +631,9 @@ impl Join {
                 set.remove(at);
                 if set.is_empty() {
                     tickets.remove(stored.row.cell(*column));
+                    if let Some(numbers) = side.orders.get_mut(column) {
+                        numbers.remove(&stored.row.number(*column));
+                    }
                 }
             }
             looked.extend(side.witnesses.remove(&ticket).unwrap_or_default());
