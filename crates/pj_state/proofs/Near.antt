@@ -18,10 +18,10 @@ pub near-length : (base : ℕ) (ns : List Near) → length (places_from base ns)
 near-length base [] = refl
 near-length base (n ∷ ns) = omega (arith, near-length base ns)
 
-pub near-at : (base : ℕ) (ns : List Near) (at : ℕ) (d : Near) → at < length ns → slice_get (places_from base ns) at ≡ Some (near_place base (get_or ns at d))
-near-at base [] at d lt = absurd (omega (arith, lt))
-near-at base (n ∷ ns) zero d lt = refl
-near-at base (n ∷ ns) (suc at) d lt = near-at base ns at d (omega (arith, lt))
+pub near-got : (base : ℕ) (ns : List Near) (at : ℕ) (n : Near) → slice_get ns at ≡ Some n → slice_get (places_from base ns) at ≡ Some (near_place base n)
+near-got base [] at n is = absurd (cc)
+near-got base (m ∷ ns) zero n is = let same : m ≡ n = cc in ap (λ (near : Near). Some (near_place base near)) same
+near-got base (m ∷ ns) (suc at) n is = near-got base ns at n is
 
 pub near-remove : (base : ℕ) (ns : List Near) (at : ℕ) → places_from base (remove ns at) ≡ remove (places_from base ns) at
 near-remove base [] zero = refl

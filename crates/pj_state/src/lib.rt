@@ -5,6 +5,7 @@ mod halving;
 mod index;
 mod matching;
 mod numbers;
+mod remaining;
 mod places;
 mod prints;
 mod shared;

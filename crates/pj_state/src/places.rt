@@ -7,6 +7,7 @@ ghost use Rattle.pj_state.specs.declared.places.Place.{Place as AnyPlace};
 
 use crate::halving::{Ticketed, position, split_place};
 use crate::matching::Spot;
+use crate::remaining::Remaining;
 use pj_value::NoMemory;
 use std::alloc::Global;
 use std::marker::Model;
@@ -29,7 +30,7 @@ pub struct Near {
 #[derive(Drop)]
 pub struct Block {
     base: u64,
-    nears: Vec<Near>,
+    nears: Remaining<Near>,
 }
 
 /// All places, seen as their list.
@@ -51,7 +52,7 @@ impl Model for Block {
 
     ghost Value = { List AnyPlace };
 
-    ghost view = { λ b. places_from b.base b.nears.items };
+    ghost view = { λ b. places_from b.base b.nears };
 
     ghost invariant = { λ b. IsBase b.base };
 }
@@ -97,7 +98,7 @@ impl Ticketed for Block {
 
     #[inline(always)]
     fn ticket(&self) -> u64 {
-        match self.nears.first() {
+        match self.nears.as_slice().first() {
             None => 0,
             Some(near) => near.place(self.base).ticket,
         }
@@ -145,7 +146,7 @@ impl Block {
     {
         let mut block = Block {
             base: place.ticket.min(LAST_BASE),
-            nears: Vec::new(alloc),
+            nears: Remaining::of(Vec::new(alloc)),
         };
         block.push(place)?;
         Ok(block)
@@ -165,7 +166,7 @@ impl Block {
         requires { at < length self.now }
         ensures { slice_get self.now at ≡ Some result }
     {
-        self.nears[at].place(self.base)
+        self.nears.at(at).place(self.base)
     }
 
     // Whether a place fits behind those that are there.

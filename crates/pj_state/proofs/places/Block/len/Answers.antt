@@ -3,4 +3,4 @@ use Rattle.pj_state.proofs.Near.{near-length}
 use Rattle.pj_state.proofs.places.Block.len.Goals as goal
 
 pub returns : goal.returns
-returns c = c.len.ensures ∙ (c.self.inside.nears.ok.0 ∙ sym (near-length c.self.inside.base c.self.inside.nears.items) ∙ ap length c.self.view_is)
+returns c = c.len.ensures ∙ (sym (near-length c.self.inside.base c.self.inside.nears) ∙ ap length c.self.view_is)
