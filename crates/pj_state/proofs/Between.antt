@@ -54,6 +54,19 @@ module _ {A : Type 0} (number : A → ℕ) where
     behind = λ d lt. h.behind low d (omega (arith, h.ordered, done)) lt;
   }
 
+  -- the first is not greater and the second one is
+  pub first_splits : (n : ℕ) (xs : List A) (x y : A) → 1 < length xs → x ≡ get_or xs 0 x → y ≡ get_or xs 1 y → number x ≤ n → n < number y → SplitsAt number n xs 1
+  first_splits n xs x y lt one two le gt = record {
+    within = omega (arith, lt);
+    before = λ k d q. at k d (omega (arith, q));
+    behind = λ d there. subst (λ z. n < number z) (two ∙ get_or_default xs 1 y d lt) gt;
+  }
+    where
+      at : (k : ℕ) (d : A) → k ≡ 0 → number (get_or xs k d) ≤ n
+      at k d q =
+          subst (λ j. number (get_or xs j d) ≤ n) (sym q)
+          (subst (λ z. number z ≤ n) (one ∙ get_or_default xs 0 x d (omega (arith, lt))) le)
+
   -- the place is from low to high, and one of these is looked at next
   pub record IsProbed (n : ℕ) (xs : List A) (low high middle : ℕ) : Type 0 where
     pub between : IsBetween n xs low high

@@ -158,13 +158,13 @@ flat-take bs i b lt is = ap flat (take_more bs i b lt) ∙ (flat-push (take i bs
 
 -- ---- the place at a position from the end
 
-flat-split : (bs : List (List Place)) (i : ℕ) → flat bs ≡ flat (take i bs) ++ flat (drop i bs)
+pub flat-split : (bs : List (List Place)) (i : ℕ) → flat bs ≡ flat (take i bs) ++ flat (drop i bs)
 flat-split [] zero = refl
 flat-split [] (suc i) = refl
 flat-split (b ∷ bs) zero = refl
 flat-split (b ∷ bs) (suc i) = ap (λ (ps : List Place). b ++ ps) (flat-split bs i) ∙ sym (append_assoc b (flat (take i bs)) (flat (drop i bs)))
 
-take-all : (bs : List (List Place)) → take (length bs) bs ≡ bs
+pub take-all : (bs : List (List Place)) → take (length bs) bs ≡ bs
 take-all [] = refl
 take-all (b ∷ bs) = ap (λ (cs : List (List Place)). b ∷ cs) (take-all bs)
 

@@ -10,3 +10,4 @@ pub mod Looking
 pub mod Empty
 pub mod Orders
 pub mod Next
+pub mod Reaching

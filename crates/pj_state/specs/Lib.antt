@@ -10,3 +10,4 @@ pub mod Numbers
 pub mod Indexes
 pub mod Ordered
 pub mod Least
+pub mod Reaching

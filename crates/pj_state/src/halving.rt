@@ -40,6 +40,22 @@ pub fn split_place<T: Ticketed>(items: &[T], ticket: u64) -> usize
     place_in_many(items, ticket)
 }
 
+/// The same. Looks first whether the ticket belongs to the first item.
+#[inline]
+#[tactic(auto, using(crate::proofs::Between::first_splits))]
+pub fn split_place_early<T: Ticketed>(items: &[T], ticket: u64) -> usize
+    ensures { SplitsAt T.number ticket items.now result }
+{
+    if items.len() > 1 {
+        if items[0].ticket() <= ticket {
+            if ticket < items[1].ticket() {
+                return 1;
+            }
+        }
+    }
+    split_place(items, ticket)
+}
+
 // The same, by halving what is left.
 #[inline]
 #[tactic(auto, using(crate::proofs::Between::between_all, crate::proofs::Between::between_above, crate::proofs::Between::between_below, crate::proofs::Between::between_end))]

@@ -1,6 +1,7 @@
 //! The stored rows of an input of a join: in order of their tickets, with an index for each column that is asked for.
 #![tactic(auto)]
 
+mod cursor;
 mod halving;
 mod index;
 mod matching;
@@ -14,6 +15,7 @@ mod store;
 mod texts;
 mod tickets;
 
+pub use cursor::Cursor;
 pub use matching::{Matching, Spot};
 pub use shared::{Shared, Stored};
 pub use state::{NextNumber, State};

@@ -5,7 +5,7 @@ ghost use Rattle.pj_state.specs.Nears.{IsBase, near_place};
 ghost use Rattle.pj_state.specs.Stores.{AreFilled, flat, less_one, place_ticket};
 ghost use Rattle.pj_state.specs.declared.places.Place.{Place as AnyPlace};
 
-use crate::halving::{Ticketed, position, split_place};
+use crate::halving::{Ticketed, position, split_place, split_place_early};
 use crate::matching::Spot;
 use crate::remaining::Remaining;
 use pj_value::NoMemory;
@@ -377,7 +377,7 @@ impl Places {
         ensures taken { IsRising place_ticket self.old → result ≡ first_with place_ticket ticket self.old }
         ensures left { IsRising place_ticket self.old → self.new ≡ without place_ticket ticket self.old }
     {
-        let behind = split_place(self.blocks.as_slice(), ticket);
+        let behind = split_place_early(self.blocks.as_slice(), ticket);
         if behind == 0 {
             return None;
         }

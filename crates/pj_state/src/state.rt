@@ -12,7 +12,7 @@ ghost use Rattle.pj_state.specs.Ordered.{TellsNext};
 use crate::index::ValueIndex;
 use crate::shared::{Shared, Stored};
 use crate::store::Store;
-use crate::{Matching, Spot};
+use crate::{Cursor, Matching, Spot};
 use pj_value::{List, NoMemory, Row, Value};
 use std::alloc::Global;
 use std::marker::Model;
@@ -146,6 +146,13 @@ impl State {
     {
         let (ticket, row) = self.store.nth(at);
         (ticket, row.row())
+    }
+
+    /// The rows in order of tickets, lent, to be looked at one near the other. Takes no memory.
+    pub fn cursor(&self) -> Cursor<'_>
+        ensures { result ≡ self.now.rows }
+    {
+        self.store.cursor()
     }
 
     /// The tickets of the rows that have this value in this column, which was named to `new`, rising. Takes no memory.

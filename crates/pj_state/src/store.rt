@@ -4,6 +4,7 @@ ghost use Rattle.pj_state.specs.Rising.{AllBelow, IsRising, first_with, without}
 ghost use Rattle.pj_state.specs.States.{pairs, row_under, rows_below, stored, ticket_of};
 ghost use Rattle.pj_state.specs.Stores.{AreHeld, rows_at};
 
+use crate::cursor::Cursor;
 use crate::matching::Spot;
 use crate::places::{Block, Place, Places};
 use crate::shared::{Shared, Stored};
@@ -119,6 +120,13 @@ impl Store {
     {
         let place = place_at(&self.places, self.slab.len(), at);
         (place.ticket, &self.slab[place.key])
+    }
+
+    /// All rows, lent.
+    pub fn cursor(&self) -> Cursor<'_>
+        ensures { result ≡ self.now }
+    {
+        Cursor::of(self.places.blocks(), &self.slab)
     }
 
     /// Second handles of the rows with smaller tickets than this one, in order.
