@@ -159,8 +159,9 @@ fn young(alloc: Global, state: &State, from: u64) -> Result<List<u64>, NoMemory>
 {
     let mut list = List::new(alloc);
     let count = state.len();
+    let mut rows = state.cursor();
     for back in 0..count {
-        let (ticket, _) = state.nth(count - 1 - back);
+        let (ticket, _) = rows.nth(count - 1 - back);
         if ticket < from {
             return Ok(list);
         }

@@ -275,8 +275,9 @@ fn walked_tickets(
     ensures { IfOk result (λ tickets. tickets ≡ tickets_of (filter (has_match column pattern.now) state.now.rows)) }
 {
     let mut tickets = List::new(alloc);
+    let mut rows = state.cursor();
     for at in 0..state.len() {
-        let (ticket, row) = state.nth(at);
+        let (ticket, row) = rows.nth(at);
         mark_match(ticket, row, column, pattern, &mut tickets)?;
     }
     Ok(tickets)

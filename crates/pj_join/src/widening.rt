@@ -178,8 +178,9 @@ fn find_among_all(state: &State, gone: &[u64], punct: &Punct) -> Option<u64>
     requires { IsRising itself gone.now }
     ensures { is_some result ≡ still_held state.now.rows gone.now punct.now }
 {
+    let mut rows = state.cursor();
     for at in 0..state.len() {
-        let (ticket, row) = state.nth(at);
+        let (ticket, row) = rows.nth(at);
         if stays(gone, ticket, row, punct) {
             return Some(ticket);
         }

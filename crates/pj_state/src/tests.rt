@@ -118,6 +118,23 @@ fn is_same(state: &State, list: &[Plain]) -> bool {
     true
 }
 
+// Whether a cursor that jumps from either end to the other finds the rows of the list.
+fn is_jumped_through(state: &State, list: &[Plain]) -> bool {
+    let count = state.len();
+    if count != list.len() {
+        return false;
+    }
+    let mut cursor = state.cursor();
+    for at in 0..count {
+        let place = if at % 2 == 0 { at } else { count - at };
+        let (ticket, row) = cursor.nth(place);
+        if ticket != list[place].ticket || !is_row(row, &list[place]) {
+            return false;
+        }
+    }
+    true
+}
+
 // Whether these are the rows of the list with smaller tickets that fit, in order.
 fn are_found(found: &[(u64, Shared)], list: &[Plain], wanted: Wanted, below: u64) -> bool {
     let mut at = 0;
@@ -247,7 +264,7 @@ fn agrees(alloc: Global, state: &State, list: &[Plain], draw: u64) -> Result<boo
             return Ok(false);
         }
     }
-    Ok(is_same(state, list))
+    Ok(is_same(state, list) && is_jumped_through(state, list))
 }
 
 // The least integer of the list from one on, or of all.
