@@ -9,7 +9,7 @@ use crate::element::{Read, Reject};
 use crate::items::{append_items, read_items};
 use crate::storable::{see_pattern, see_patterns, see_row};
 use crate::written::append_pattern;
-use pj_line::{Cells, cells, is_skipped};
+use pj_line::{Cells, cut_into, is_skipped};
 use pj_pattern::{Pattern, Punct};
 use pj_shape::{Column, Schema};
 use pj_value::{List, NoMemory, Row};
@@ -41,8 +41,9 @@ fn read_by_cells(alloc: Global, columns: &[Column], line: &[u8]) -> Result<Read,
     if is_skipped(line) {
         return Ok(Read::Skip);
     }
-    match cells(line) {
-        Ok(cells) => Ok(read_tagged(alloc, columns, &cells)?),
+    let mut cells = Cells::none();
+    match cut_into(line, &mut cells) {
+        Ok(()) => Ok(read_tagged(alloc, columns, &cells)?),
         Err(_) => Ok(Read::Bad(Reject::NotElement)),
     }
 }

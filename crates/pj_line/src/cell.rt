@@ -1,5 +1,5 @@
 // The cells of a line: blanks part them, and a quoted part may hold blanks.
-ghost use Rattle.std.specs.Prelude.{◌≡◌, ◌<◌, length, slice_get, slice_index_or};
+ghost use Rattle.std.specs.Prelude.{◌≡◌, ◌<◌, [], length, slice_get, slice_index_or};
 ghost use Rattle.pj_line.specs.Places.{cell_at, IsWithin};
 
 use arrayvec::ArrayVec;
@@ -47,6 +47,16 @@ impl<'a> Model for Cells<'a> {
 }
 
 impl<'a> Cells<'a> {
+    /// The cells of an empty line: none.
+    pub fn none() -> Cells<'a>
+        ensures { result ≡ [] }
+    {
+        Cells {
+            line: &[],
+            places: ArrayVec::new(),
+        }
+    }
+
     /// How many cells there are.
     #[tactic(auto, using(crate::proofs::CellPlaces::cells_count))]
     pub fn len(&self) -> usize

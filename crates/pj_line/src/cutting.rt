@@ -19,14 +19,22 @@ pub fn cells(line: &[u8]) -> Result<Cells<'_>, CellFault>
     requires { length line.now < 2 ^ 32 }
     ensures { AreCut line.now result }
 {
-    let mut cut = Cells {
-        line,
-        places: ArrayVec::new(),
-    };
-    match cut_places(line, &mut cut.places) {
+    let mut cut = Cells::none();
+    match cut_into(line, &mut cut) {
         Ok(()) => Ok(cut),
         Err(fault) => Err(fault),
     }
+}
+
+/// The same, where the cells take the place of others. On a refusal nothing is said of them.
+pub fn cut_into<'a>(line: &'a [u8], cells: &mut Cells<'a>) -> Result<(), CellFault>
+    requires { length line.now < 2 ^ 32 }
+    ensures ok { OnOk result (AreCut line.now (Ok cells.new)) }
+    ensures err { IfErr result (λ fault. AreCut line.now (Err fault)) }
+{
+    cells.line = line;
+    cells.places.clear();
+    cut_places(line, &mut cells.places)
 }
 
 // Puts the places of the line's cells into the list, which is empty.

@@ -15,7 +15,7 @@ mod window;
 
 pub use buffer::{Line, LineBuf, LineStop};
 pub use cell::{Cell, CellFault, Cells};
-pub use cutting::{after, cells, is_outside};
+pub use cutting::{after, cells, cut_into, is_outside};
 pub use laws::line_bytes;
 pub use lines::{is_blank, is_skipped, line_of_piece};
 pub use quote::Quote;

@@ -102,6 +102,9 @@ fn cells_of_a_line(rt: HostRuntime) {
         }
         Err(_) => assert!(rt; false),
     }
+    let mut again = Cells::none();
+    assert!(rt; cut_into(b"t 1 2", &mut again).is_ok() && cut_into(b" x", &mut again).is_ok());
+    assert!(rt; again.len() == 1 && again.cell(0).start == 1);
     let open = cells(b"t \"a\" \"b ");
     assert!(rt; matches!(open, Err(CellFault::Unclosed { at: 6 })));
     assert!(rt; is_skipped(b" #") && is_blank(b'\t'));
