@@ -1,5 +1,5 @@
 // An index of punctuations by their forms.
-ghost use Rattle.std.specs.Prelude.{◌≡◌, ◌<◌, ◌+◌, [], true, None, IfOk, IfSome, OnOk, OnErr, length, map, slice_get};
+ghost use Rattle.std.specs.Prelude.{◌≡◌, ◌<◌, ◌≤◌, ◌+◌, [], true, None, IfOk, IfSome, OnOk, OnErr, length, map, slice_get};
 ghost use Rattle.pj_cover.specs.Indexed.{AreChained, AreLed, ChainTakes, ChainsTake, FitsAt, Grows, IsChained, IsCovering, IsFiled, IsInSets, IsInSlot, IsIndexed, IsSetFor, IsUnfiled, covered_in, covers_in, first_at, first_covering, fits_mark, fits_marks, is_constant, least, least_of_chains, least_of_sets, number_at, number_under, slot};
 
 use crate::cells::{Cells, constant_in, constants_print, is_wild};
@@ -157,7 +157,21 @@ fn least_of_chains<C: Cells>(
     lesser
 }
 
-// The first number of a chain, found by halving.
+// The place to look at next between these: in steps from the end that grow, then in the middle.
+fn next_place(low: usize, high: usize, step: usize) -> usize
+    requires { low < high }
+    ensures from { low ≤ result }
+    ensures below { result < high }
+{
+    let half = (high - low) / 2;
+    if step < half {
+        high - 1 - step
+    } else {
+        low + half
+    }
+}
+
+// The first number of a chain. What is asked for is mostly covered by no place, or by one of the last alone.
 fn first_in_chain<C: Cells>(chain: &Chain, kept: &[NumberedPunct], cells: &C) -> Option<u64>
     requires { IsChained kept.now chain.now }
     ensures { result ≡ first_at kept.now (C.cells cells.now) chain.now.places }
@@ -165,14 +179,16 @@ fn first_in_chain<C: Cells>(chain: &Chain, kept: &[NumberedPunct], cells: &C) ->
     let places = chain.places.as_slice();
     let mut low = 0;
     let mut high = places.len();
+    let mut step = 0_usize;
     let mut found = None;
     while low < high {
-        let middle = low + (high - low) / 2;
+        let middle = next_place(low, high, step);
         match number_at(kept, places[middle], cells) {
             None => low = middle + 1,
             Some(number) => {
                 found = Some(number);
                 high = middle;
+                step = step.saturating_mul(2).saturating_add(1);
             }
         }
     }
