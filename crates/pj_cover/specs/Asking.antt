@@ -219,6 +219,11 @@ abbrev pub with_ticket : ℕ → Option Uncovered → Option Uncovered
 with_ticket ticket None = None
 with_ticket ticket (Some u) = Some (through_more ticket u)
 
+-- what was found, where something was
+abbrev pub found_if : Bool → Uncovered → Option Uncovered
+found_if false u = None
+found_if true u = Some u
+
 -- nothing where with none of these rows anything is asked for that is not covered; else what is not
 abbrev pub IsJudgedThrough : Known → List CertEntry → ℕ → List TupleAt → List TupleAt → Option Uncovered → Type 0
 IsJudgedThrough k cert at xs ys None = AreDone k cert xs ys

@@ -101,6 +101,7 @@ fn same_cell<'a>(a: &Lent<'a>, i: u32, b: &Lent<'a>, j: u32) -> bool
     same_cells(a.get(i), b.get(j))
 }
 
+#[inline(always)]
 fn has_there<'a>(more: &Lent<'a>, at: ClassCol, there: ClassCol, other: &Lent<'a>) -> bool
     ensures { result ≡ has_there (value_at more.now.row at.column) there other.now }
 {

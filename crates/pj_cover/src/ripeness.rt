@@ -4,7 +4,7 @@ ghost use Rattle.pj_value.specs.Lists.{In};
 ghost use Rattle.pj_shape.specs.Sound.{IsSoundSpec, arities_of};
 ghost use Rattle.pj_events.specs.Join.{IsCertified, agree, demand, entry_of};
 ghost use Rattle.pj_cover.specs.Rising.{AreRisingRows};
-ghost use Rattle.pj_cover.specs.Asking.{AreParts, HaveLength, HavePartners, IsFirstUncovered, IsJudged, IsJudgedThrough, IsJudgedUnder, IsJudgedWith, IsOnWalk, IsStep, data_of, entries, is_covered, is_ripe, known_of, marks_of, tuple_of, tuples_at, with_ticket};
+ghost use Rattle.pj_cover.specs.Asking.{AreParts, HaveLength, HavePartners, IsFirstUncovered, IsJudged, IsJudgedThrough, IsJudgedUnder, IsJudgedWith, IsOnWalk, IsStep, data_of, entries, found_if, is_covered, is_ripe, known_of, marks_of, tuple_of, tuples_at, with_ticket};
 
 use crate::asked::{Lent, partner_key, suits};
 use crate::instances::instance_is_covered;
@@ -12,6 +12,7 @@ use crate::{PunctStore, StoredRows, Uncovered};
 use arrayvec::ArrayVec;
 use pj_shape::{Cert, CertStep, JoinSpec, Scheme, Schemes};
 use pj_value::Row;
+use std::slice::from_ref;
 
 // The scheme of a certificate's step.
 #[tactic(auto, using(crate::proofs::Steps::listed_input))]
@@ -23,6 +24,7 @@ fn scheme_of(schemes: &Schemes, step: CertStep) -> &Scheme
 }
 
 // Whether the instance that a step asks for of these rows is covered.
+#[inline(never)]
 fn step_is_covered(
     spec: &JoinSpec,
     schemes: &Schemes,
@@ -46,18 +48,13 @@ fn step_is_covered(
     )
 }
 
-// The same with the ticket of one row more in front.
-fn with_ticket(ticket: u64, found: Option<Uncovered>) -> Option<Uncovered>
-    requires { IfSome found (λ u. length u.through.items < 16) }
-    ensures { result ≡ with_ticket ticket found }
+// Notes the ticket of one row more in front, where something was found.
+fn note_ticket(ticket: u64, is_found: bool, found: &mut Uncovered)
+    requires { IfSome (found_if is_found found.old) (λ u. length u.through.items < 16) }
+    ensures { found_if is_found found.new ≡ with_ticket ticket (found_if is_found found.old) }
 {
-    match found {
-        None => None,
-        Some(found) => {
-            let Uncovered { entry, mut through } = found;
-            through.insert(0, ticket);
-            Some(Uncovered { entry, through })
-        }
+    if is_found {
+        found.through.insert(0, ticket);
     }
 }
 
@@ -79,7 +76,7 @@ fn partners<'a, R: StoredRows>(
     }
 }
 
-// The first instance that these rows ask for, by the certificate's steps from a place on, and that is not covered.
+// Whether an instance that these rows ask for, by the certificate's steps from a place on, is not covered; the first is found.
 #[cycle(judging)]
 fn seek<'a, R: StoredRows>(
     spec: &JoinSpec,
@@ -90,23 +87,27 @@ fn seek<'a, R: StoredRows>(
     stores: &[PunctStore],
     low: u64,
     parts: &mut ArrayVec<Lent<'a>, 16>,
-) -> Option<Uncovered>
+    found: &mut Uncovered,
+) -> bool
     requires parts { AreParts spec.now (R.rows rows.now) stores.now }
     requires walk { IsOnWalk spec.now schemes.now (drop at cert.now) parts.old.items }
     ensures same { parts.new.items ≡ parts.old.items }
-    ensures judged { IsJudged (known_of spec.now (R.rows rows.now) stores.now low) (entries schemes.now (drop at cert.now)) at parts.old.items result }
+    ensures judged { IsJudged (known_of spec.now (R.rows rows.now) stores.now low) (entries schemes.now (drop at cert.now)) at parts.old.items (found_if result found.new) }
 {
     if at >= cert.len() {
-        return None;
+        return false;
     }
     let step = *cert.at(at);
     if !step_is_covered(spec, schemes, stores, low, step, parts.as_slice()) {
-        return Some(Uncovered {
+        *found = Uncovered {
             entry: at,
             through: ArrayVec::new(),
-        });
+        };
+        return true;
     }
-    seek_through(spec, schemes, cert, at, step, rows, stores, low, parts)
+    seek_through(
+        spec, schemes, cert, at, step, rows, stores, low, parts, found,
+    )
 }
 
 // The same through each stored row that may stand for the step at the place, which itself is covered.
@@ -121,20 +122,23 @@ fn seek_through<'a, R: StoredRows>(
     stores: &[PunctStore],
     low: u64,
     parts: &mut ArrayVec<Lent<'a>, 16>,
-) -> Option<Uncovered>
+    found: &mut Uncovered,
+) -> bool
     requires parts { AreParts spec.now (R.rows rows.now) stores.now }
     requires walk { IsOnWalk spec.now schemes.now (drop at cert.now) parts.old.items }
     requires step { slice_get cert.now at ≡ Some step }
     ensures same { parts.new.items ≡ parts.old.items }
-    ensures judged { IsJudgedThrough (known_of spec.now (R.rows rows.now) stores.now low) (entries schemes.now (drop at cert.now)) at parts.old.items (tuples_at (R.rows rows.now) step.input) result }
+    ensures judged { IsJudgedThrough (known_of spec.now (R.rows rows.now) stores.now low) (entries schemes.now (drop at cert.now)) at parts.old.items (tuples_at (R.rows rows.now) step.input) (found_if result found.new) }
 {
     if cert.len() <= at + 1 {
-        return None;
+        return false;
     }
     match partners(spec, step.input, parts.as_slice(), rows) {
-        None => seek_each(spec, schemes, cert, at, step, rows, stores, low, parts),
+        None => seek_each(
+            spec, schemes, cert, at, step, rows, stores, low, parts, found,
+        ),
         Some(tickets) => seek_among(
-            spec, schemes, cert, at, step, rows, stores, low, tickets, parts,
+            spec, schemes, cert, at, step, rows, stores, low, tickets, parts, found,
         ),
     }
 }
@@ -151,24 +155,24 @@ fn seek_each<'a, R: StoredRows>(
     stores: &[PunctStore],
     low: u64,
     parts: &mut ArrayVec<Lent<'a>, 16>,
-) -> Option<Uncovered>
+    found: &mut Uncovered,
+) -> bool
     requires parts { AreParts spec.now (R.rows rows.now) stores.now }
     requires walk { IsOnWalk spec.now schemes.now (drop at cert.now) parts.old.items }
     requires step { slice_get cert.now at ≡ Some step }
     requires fits { at + 1 < 2 ^ 64 }
     ensures same { parts.new.items ≡ parts.old.items }
-    ensures judged { IsJudgedThrough (known_of spec.now (R.rows rows.now) stores.now low) (entries schemes.now (drop at cert.now)) at parts.old.items (tuples_at (R.rows rows.now) step.input) result }
+    ensures judged { IsJudgedThrough (known_of spec.now (R.rows rows.now) stores.now low) (entries schemes.now (drop at cert.now)) at parts.old.items (tuples_at (R.rows rows.now) step.input) (found_if result found.new) }
 {
     for n in 0..rows.count(step.input) {
         let (ticket, row) = rows.nth(step.input, n);
-        match seek_with(
-            spec, schemes, cert, at, step, rows, stores, low, ticket, row, parts,
+        if seek_with(
+            spec, schemes, cert, at, step, rows, stores, low, ticket, row, parts, found,
         ) {
-            None => {}
-            Some(found) => return Some(found),
+            return true;
         }
     }
-    None
+    false
 }
 
 // The same through each stored row of the step's input that has one of these tickets.
@@ -184,24 +188,24 @@ fn seek_among<'a, R: StoredRows>(
     low: u64,
     tickets: &[u64],
     parts: &mut ArrayVec<Lent<'a>, 16>,
-) -> Option<Uncovered>
+    found: &mut Uncovered,
+) -> bool
     requires parts { AreParts spec.now (R.rows rows.now) stores.now }
     requires walk { IsOnWalk spec.now schemes.now (drop at cert.now) parts.old.items }
     requires step { slice_get cert.now at ≡ Some step }
     requires fits { at + 1 < 2 ^ 64 }
     requires rising { AreRisingRows (R.rows rows.now step.input) }
     ensures same { parts.new.items ≡ parts.old.items }
-    ensures judged { IsJudgedUnder (known_of spec.now (R.rows rows.now) stores.now low) (entries schemes.now (drop at cert.now)) at parts.old.items (tuples_at (R.rows rows.now) step.input) tickets.now result }
+    ensures judged { IsJudgedUnder (known_of spec.now (R.rows rows.now) stores.now low) (entries schemes.now (drop at cert.now)) at parts.old.items (tuples_at (R.rows rows.now) step.input) tickets.now (found_if result found.new) }
 {
     for ticket in tickets {
-        match seek_under(
-            spec, schemes, cert, at, step, rows, stores, low, *ticket, parts,
+        if seek_under(
+            spec, schemes, cert, at, step, rows, stores, low, *ticket, parts, found,
         ) {
-            None => {}
-            Some(found) => return Some(found),
+            return true;
         }
     }
-    None
+    false
 }
 
 // The same through the stored row with this ticket.
@@ -217,19 +221,20 @@ fn seek_under<'a, R: StoredRows>(
     low: u64,
     ticket: u64,
     parts: &mut ArrayVec<Lent<'a>, 16>,
-) -> Option<Uncovered>
+    found: &mut Uncovered,
+) -> bool
     requires parts { AreParts spec.now (R.rows rows.now) stores.now }
     requires walk { IsOnWalk spec.now schemes.now (drop at cert.now) parts.old.items }
     requires step { slice_get cert.now at ≡ Some step }
     requires fits { at + 1 < 2 ^ 64 }
     requires rising { AreRisingRows (R.rows rows.now step.input) }
     ensures same { parts.new.items ≡ parts.old.items }
-    ensures judged { IsJudgedUnder (known_of spec.now (R.rows rows.now) stores.now low) (entries schemes.now (drop at cert.now)) at parts.old.items (tuples_at (R.rows rows.now) step.input) (ticket ∷ []) result }
+    ensures judged { IsJudgedUnder (known_of spec.now (R.rows rows.now) stores.now low) (entries schemes.now (drop at cert.now)) at parts.old.items (tuples_at (R.rows rows.now) step.input) (ticket ∷ []) (found_if result found.new) }
 {
     match rows.get(step.input, ticket) {
-        None => None,
+        None => false,
         Some(row) => seek_with(
-            spec, schemes, cert, at, step, rows, stores, low, ticket, row, parts,
+            spec, schemes, cert, at, step, rows, stores, low, ticket, row, parts, found,
         ),
     }
 }
@@ -248,29 +253,57 @@ fn seek_with<'a, R: StoredRows>(
     ticket: u64,
     row: &'a Row,
     parts: &mut ArrayVec<Lent<'a>, 16>,
-) -> Option<Uncovered>
+    found: &mut Uncovered,
+) -> bool
     requires parts { AreParts spec.now (R.rows rows.now) stores.now }
     requires walk { IsOnWalk spec.now schemes.now (drop at cert.now) parts.old.items }
     requires step { slice_get cert.now at ≡ Some step }
     requires fits { at + 1 < 2 ^ 64 }
     requires stored { In (ticket, row.now) (R.rows rows.now step.input) }
     ensures same { parts.new.items ≡ parts.old.items }
-    ensures judged { IsJudgedWith (known_of spec.now (R.rows rows.now) stores.now low) (entries schemes.now (drop at cert.now)) at parts.old.items (tuple_of step.input (ticket, row.now)) result }
+    ensures judged { IsJudgedWith (known_of spec.now (R.rows rows.now) stores.now low) (entries schemes.now (drop at cert.now)) at parts.old.items (tuple_of step.input (ticket, row.now)) (found_if result found.new) }
 {
     if ticket >= low {
-        return None;
+        return false;
     }
     let next = Lent::of(ticket, step.input, row);
     if !suits(spec.classes.as_slice(), parts.as_slice(), &next) {
-        return None;
+        return false;
     }
     parts.insert(0, next);
-    let found = seek(spec, schemes, cert, at + 1, rows, stores, low, parts);
+    let is_found = seek(spec, schemes, cert, at + 1, rows, stores, low, parts, found);
     parts.remove(0);
-    with_ticket(ticket, found)
+    note_ticket(ticket, is_found, found);
+    is_found
+}
+
+// Whether an instance that a row asks for after the first step, which is covered, is not covered; the first is found.
+#[inline(never)]
+fn judge_through<R: StoredRows>(
+    spec: &JoinSpec,
+    schemes: &Schemes,
+    cert: &Cert,
+    step: CertStep,
+    own: Lent<'_>,
+    rows: &R,
+    stores: &[PunctStore],
+    low: u64,
+    found: &mut Uncovered,
+) -> bool
+    requires parts { AreParts spec.now (R.rows rows.now) stores.now }
+    requires walk { IsOnWalk spec.now schemes.now cert.now (own ∷ []) }
+    requires step { slice_get cert.now 0 ≡ Some step }
+    ensures { IsJudgedThrough (known_of spec.now (R.rows rows.now) stores.now low) (entries schemes.now cert.now) 0 (own.entry ∷ []) (tuples_at (R.rows rows.now) step.input) (found_if result found.new) }
+{
+    let mut parts = ArrayVec::new();
+    parts.push(own);
+    seek_through(
+        spec, schemes, cert, 0, step, rows, stores, low, &mut parts, found,
+    )
 }
 
 // What a row asks for first that is not covered.
+#[inline(always)]
 fn judge<R: StoredRows>(
     spec: &JoinSpec,
     schemes: &Schemes,
@@ -284,14 +317,33 @@ fn judge<R: StoredRows>(
     requires walk { IsOnWalk spec.now schemes.now cert.now (own ∷ []) }
     ensures { IsFirstUncovered (known_of spec.now (R.rows rows.now) stores.now low) (entries schemes.now cert.now) own.entry result }
 {
-    let mut parts = ArrayVec::new();
-    parts.push(own);
-    seek(spec, schemes, cert, 0, rows, stores, low, &mut parts)
+    if cert.len() == 0 {
+        return None;
+    }
+    let step = *cert.at(0);
+    let mut found = Uncovered {
+        entry: 0,
+        through: ArrayVec::new(),
+    };
+    if !step_is_covered(spec, schemes, stores, low, step, from_ref(&own)) {
+        return Some(found);
+    }
+    if cert.len() == 1 {
+        return None;
+    }
+    if judge_through(
+        spec, schemes, cert, step, own, rows, stores, low, &mut found,
+    ) {
+        Some(found)
+    } else {
+        None
+    }
 }
 
 /// The first instance that a row of an input asks for, by the input's certificate, over the stored rows below the low-water
 /// ticket, and that no punctuation below it covers; `None` exactly where all that it asks for is covered. The join is sound,
 /// the certificate is one of the input, all rows fit it, and there is one store of punctuations for each input.
+#[inline(always)]
 pub fn first_uncovered<R: StoredRows>(
     spec: &JoinSpec,
     schemes: &Schemes,

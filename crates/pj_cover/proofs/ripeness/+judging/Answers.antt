@@ -1,9 +1,9 @@
-use Rattle.std.proofs.Common.{rules, ◌≡◌, drop, ◌<◌, ◌≤◌, ◌+◌, ◌∷◌, refl, sym, ap, ◌∙◌, subst, true, Option, length, map, List, get_or, arith}
+use Rattle.std.proofs.Common.{rules, ◌≡◌, drop, ◌<◌, ◌≤◌, ◌+◌, ◌∷◌, refl, sym, ap, ◌∙◌, subst, true, Bool, Option, length, map, List, get_or, arith}
 use Rattle.std.proofs.lemmas.Option.{slice_get-get_or}
 use Rattle.pj_events.specs.Join.{TupleAt}
 use Rattle.pj_cover.specs.declared.rows.Uncovered.{Uncovered}
 use Rattle.pj_cover.specs.Suits.{suits}
-use Rattle.pj_cover.specs.Asking.{IsJudgedWith, IsOnWalk, entries, known_of, tuple_of}
+use Rattle.pj_cover.specs.Asking.{IsJudgedWith, IsOnWalk, entries, found_if, known_of, tuple_of}
 use Rattle.pj_cover.proofs.Searching.{few_found, found_here, goes_on, gone_through, has_room, in_here, last_step, not_suited, one_more, ready, went_on}
 use Rattle.pj_cover.proofs.Partners.{found_in, no_row_under, none_under, one_more_under, row_under_judged, step_fits, whole_under}
 use Rattle.pj_cover.proofs.ripeness.+judging.Goals as goal
@@ -19,7 +19,7 @@ seek-returns-then-not-step_is_covered-clause-judged g t c =
 
 pub seek-returns-clause-judged : goal.seek-returns-clause-judged
 seek-returns-clause-judged g t c =
-    gone_through c.args.spec.now c.args.schemes.now (g.R.StoredRows.rows c.args.rows.now) c.args.stores.now c.args.low c.args.cert.now c.args.at c.at-step.result.now c.args.parts.now.items c.as_slice.result.now c.step_is_covered.result c.seek_through.result
+    gone_through c.args.spec.now c.args.schemes.now (g.R.StoredRows.rows c.args.rows.now) c.args.stores.now c.args.low c.args.cert.now c.args.at c.at-step.result.now c.args.parts.now.items c.as_slice.result.now c.step_is_covered.result (found_if c.seek_through.result c.seek_through.new.found)
     c.at-step.ensures c.as_slice.ensures.value (c.step_is_covered.ensures (g.R.StoredRows.rows c.args.rows.now)) c.if-not-step_is_covered.false c.seek_through.ensures.judged
 
 pub seek_through-returns-then-len-at-clause-judged : goal.seek_through-returns-then-len-at-clause-judged
@@ -36,8 +36,8 @@ pub seek_each-loop-n-preserved : goal.seek_each-loop-n-preserved
 seek_each-loop-n-preserved g t c =
     let k = known_of c.args.spec.now (g.R.StoredRows.rows c.args.rows.now) c.args.stores.now c.args.low in (
       c.seek_with.ensures.same ∙ c.loop-n.invariant.0,
-      one_more k c.args.schemes.now c.args.cert.now c.args.at c.args.step c.args.parts.now.items c.loop-n.parts.items (g.R.StoredRows.rows c.args.rows.now c.args.step.input) c.loop-n.n (c.nth-ticket.result.0, c.nth-ticket.result.1.now) c.seek_with.result
-          c.requires.step c.nth-ticket.ensures c.loop-n.invariant.0 c.loop-n.invariant.1 c.seek_with.ensures.judged c.in-None.is,
+      one_more k c.args.schemes.now c.args.cert.now c.args.at c.args.step c.args.parts.now.items c.loop-n.parts.items (g.R.StoredRows.rows c.args.rows.now c.args.step.input) c.loop-n.n (c.nth-ticket.result.0, c.nth-ticket.result.1.now) (found_if c.seek_with.result c.seek_with.new.found)
+          c.requires.step c.nth-ticket.ensures c.loop-n.invariant.0 c.loop-n.invariant.1 c.seek_with.ensures.judged (ap (λ (b : Bool). found_if b c.seek_with.new.found) c.if-seek_with.false),
     )
 
 pub seek_with-returns-then-not-suits-clause-judged : goal.seek_with-returns-then-not-suits-clause-judged
@@ -48,8 +48,8 @@ seek_with-insert-requires g t c =
     let room : length c.args.parts.now.items < 16 = has_room c.args.spec.now c.args.schemes.now c.args.cert.now c.args.at c.args.step c.args.parts.now.items c.requires.walk c.requires.step in
     (search rules, (search rules, room))
 
-pub seek_with-seek-found-requires : goal.seek_with-seek-found-requires
-seek_with-seek-found-requires g t c κs l =
+pub seek_with-seek-is_found-requires : goal.seek_with-seek-is_found-requires
+seek_with-seek-is_found-requires g t c κs l =
     let suited : suits c.args.spec.now.classes c.args.parts.now.items (tuple_of c.args.step.input (c.args.ticket, c.args.row.now)) ≡ true = rw (← c.as_slice.ensures, ← c.as_slice-2.ensures.value, ← c.of-next.ensures) (sym c.suits.ensures ∙ c.if-not-suits.false) in
     let same : c.insert.new.self.items ≡ tuple_of c.args.step.input (c.args.ticket, c.args.row.now) ∷ c.args.parts.now.items = c.insert.ensures.items ∙ ap (λ (x : TupleAt). x ∷ c.args.parts.now.items) c.of-next.ensures in (
       search rules,
@@ -63,22 +63,22 @@ seek_with-seek-found-requires g t c κs l =
       ),
     )
 
-pub seek_with-with_ticket-requires : goal.seek_with-with_ticket-requires
-seek_with-with_ticket-requires g t c =
+pub seek_with-note_ticket-requires : goal.seek_with-note_ticket-requires
+seek_with-note_ticket-requires g t c =
     let suited : suits c.args.spec.now.classes c.args.parts.now.items (tuple_of c.args.step.input (c.args.ticket, c.args.row.now)) ≡ true = rw (← c.as_slice.ensures, ← c.as_slice-2.ensures.value, ← c.of-next.ensures) (sym c.suits.ensures ∙ c.if-not-suits.false) in
     let same : c.insert.new.self.items ≡ tuple_of c.args.step.input (c.args.ticket, c.args.row.now) ∷ c.args.parts.now.items = c.insert.ensures.items ∙ ap (λ (x : TupleAt). x ∷ c.args.parts.now.items) c.of-next.ensures in
     let walk = goes_on c.args.spec.now c.args.schemes.now (g.R.StoredRows.rows c.args.rows.now) c.args.stores.now c.args.cert.now c.args.at c.args.step c.args.parts.now.items c.insert.new.self.items (c.args.ticket, c.args.row.now)
     c.requires.parts c.requires.walk c.requires.step c.requires.stored suited same in
-    few_found (known_of c.args.spec.now (g.R.StoredRows.rows c.args.rows.now) c.args.stores.now c.args.low) c.args.schemes.now (drop (c.args.at + 1) c.args.cert.now) (c.args.at + 1) c.insert.new.self.items c.seek-found.result c.args.spec.now walk c.seek-found.ensures.judged
+    few_found (known_of c.args.spec.now (g.R.StoredRows.rows c.args.rows.now) c.args.stores.now c.args.low) c.args.schemes.now (drop (c.args.at + 1) c.args.cert.now) (c.args.at + 1) c.insert.new.self.items (found_if c.seek-is_found.result c.seek-is_found.new.found) c.args.spec.now walk c.seek-is_found.ensures.judged
 
 pub seek_with-returns-clause-judged : goal.seek_with-returns-clause-judged
 seek_with-returns-clause-judged g t c =
     let k = known_of c.args.spec.now (g.R.StoredRows.rows c.args.rows.now) c.args.stores.now c.args.low in
     let suited : suits c.args.spec.now.classes c.args.parts.now.items (tuple_of c.args.step.input (c.args.ticket, c.args.row.now)) ≡ true = rw (← c.as_slice.ensures, ← c.as_slice-2.ensures.value, ← c.of-next.ensures) (sym c.suits.ensures ∙ c.if-not-suits.false) in
     let same : c.insert.new.self.items ≡ tuple_of c.args.step.input (c.args.ticket, c.args.row.now) ∷ c.args.parts.now.items = c.insert.ensures.items ∙ ap (λ (x : TupleAt). x ∷ c.args.parts.now.items) c.of-next.ensures in
-    subst (λ (o : Option Uncovered). IsJudgedWith k (entries c.args.schemes.now (drop c.args.at c.args.cert.now)) c.args.at c.args.parts.now.items (tuple_of c.args.step.input (c.args.ticket, c.args.row.now)) o) (sym c.with_ticket.ensures)
-    (went_on c.args.spec.now c.args.schemes.now (g.R.StoredRows.rows c.args.rows.now) c.args.stores.now c.args.low c.args.cert.now c.args.at c.args.step c.args.parts.now.items c.insert.new.self.items (c.args.ticket, c.args.row.now) c.seek-found.result
-    c.requires.walk c.requires.step c.requires.stored c.if-ticket-low.false suited same c.seek-found.ensures.judged)
+    subst (λ (o : Option Uncovered). IsJudgedWith k (entries c.args.schemes.now (drop c.args.at c.args.cert.now)) c.args.at c.args.parts.now.items (tuple_of c.args.step.input (c.args.ticket, c.args.row.now)) o) (sym c.note_ticket.ensures)
+    (went_on c.args.spec.now c.args.schemes.now (g.R.StoredRows.rows c.args.rows.now) c.args.stores.now c.args.low c.args.cert.now c.args.at c.args.step c.args.parts.now.items c.insert.new.self.items (c.args.ticket, c.args.row.now) (found_if c.seek-is_found.result c.seek-is_found.new.found)
+    c.requires.walk c.requires.step c.requires.stored c.if-ticket-low.false suited same c.seek-is_found.ensures.judged)
 
 pub seek_through-partners-requires-clause-fit : goal.seek_through-partners-requires-clause-fit
 seek_through-partners-requires-clause-fit g t c =
@@ -87,7 +87,7 @@ seek_through-partners-requires-clause-fit g t c =
 pub seek_through-returns-in-Some-clause-judged : goal.seek_through-returns-in-Some-clause-judged
 seek_through-returns-in-Some-clause-judged g t c =
     whole_under (known_of c.args.spec.now (g.R.StoredRows.rows c.args.rows.now) c.args.stores.now c.args.low) (entries c.args.schemes.now (drop c.args.at c.args.cert.now)) c.args.at c.args.parts.now.items c.as_slice.result.now
-    (map (tuple_of c.args.step.input) (g.R.StoredRows.rows c.args.rows.now c.args.step.input)) c.in-Some.tickets.now c.seek_among.result c.as_slice.ensures.value c.in-Some.ensures.all c.seek_among.ensures.judged
+    (map (tuple_of c.args.step.input) (g.R.StoredRows.rows c.args.rows.now c.args.step.input)) c.in-Some.tickets.now (found_if c.seek_among.result c.seek_among.new.found) c.as_slice.ensures.value c.in-Some.ensures.all c.seek_among.ensures.judged
 
 pub seek_among-seek_under-requires : goal.seek_among-seek_under-requires
 seek_among-seek_under-requires g t c κs l =
@@ -109,13 +109,13 @@ seek_under-returns-in-None-clause-judged g t c =
 
 pub seek_under-returns-in-Some-clause-judged : goal.seek_under-returns-in-Some-clause-judged
 seek_under-returns-in-Some-clause-judged g t c =
-    row_under_judged (known_of c.args.spec.now (g.R.StoredRows.rows c.args.rows.now) c.args.stores.now c.args.low) c.args.schemes.now c.args.cert.now c.args.at c.args.step c.args.parts.now.items c.args.ticket c.in-Some.row.now (g.R.StoredRows.rows c.args.rows.now c.args.step.input) c.seek_with.result
+    row_under_judged (known_of c.args.spec.now (g.R.StoredRows.rows c.args.rows.now) c.args.stores.now c.args.low) c.args.schemes.now c.args.cert.now c.args.at c.args.step c.args.parts.now.items c.args.ticket c.in-Some.row.now (g.R.StoredRows.rows c.args.rows.now c.args.step.input) (found_if c.seek_with.result c.seek_with.new.found)
     c.requires.step c.requires.rising (sym c.in-Some.ensures) c.seek_with.ensures.judged
 
 pub seek_among-loop-ticket-preserved : goal.seek_among-loop-ticket-preserved
 seek_among-loop-ticket-preserved g t c = (
   c.seek_under.ensures.same ∙ c.loop-ticket.invariant.0,
   one_more_under (known_of c.args.spec.now (g.R.StoredRows.rows c.args.rows.now) c.args.stores.now c.args.low) (entries c.args.schemes.now (drop c.args.at c.args.cert.now)) c.args.at c.args.parts.now.items c.loop-ticket.parts.items
-      (map (tuple_of c.args.step.input) (g.R.StoredRows.rows c.args.rows.now c.args.step.input)) c.args.tickets.now c.loop-ticket.ticket-index (get_or c.args.tickets.now c.loop-ticket.ticket-index 0) c.seek_under.result
-      (slice_get-get_or c.args.tickets.now c.loop-ticket.ticket-index 0 c.loop-ticket-test.true) c.loop-ticket.invariant.0 c.loop-ticket.invariant.1 c.seek_under.ensures.judged c.in-None.is,
+      (map (tuple_of c.args.step.input) (g.R.StoredRows.rows c.args.rows.now c.args.step.input)) c.args.tickets.now c.loop-ticket.ticket-index (get_or c.args.tickets.now c.loop-ticket.ticket-index 0) (found_if c.seek_under.result c.seek_under.new.found)
+      (slice_get-get_or c.args.tickets.now c.loop-ticket.ticket-index 0 c.loop-ticket-test.true) c.loop-ticket.invariant.0 c.loop-ticket.invariant.1 c.seek_under.ensures.judged (ap (λ (b : Bool). found_if b c.seek_under.new.found) c.if-seek_under.false),
 )
