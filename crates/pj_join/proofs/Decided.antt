@@ -66,3 +66,38 @@ decided_joins classes x input mine theirs column value decide same own s t = go 
         let there : value_at s.row theirs ≡ w = ap (value_at s.row) same ∙ get_or_from_slice_get s.row column w no_value e in
         let equal : w ≡ value_at x.row mine = same_if_equal w value u ∙ sym (same_if_equal (value_at x.row mine) value own) in
         decide (tuple_in input s) refl ∙ ap₂ (λ (a b : Value). value_eq a b) there (sym equal) ∙ equal_itself w
+
+-- ---- a class with one column of an input
+
+one_second : (p q rest u v : Bool) → p ≡ false → v ≡ true → ((not p || rest) && ((not q || (((not p || u) && true) && (((not q || v) && true) && true))) && true)) ≡ true
+one_second p q rest u v ep ev = rw (ep, ev) (last q)
+  where
+    last : (b : Bool) → ((not b || (((not b || true) && true) && true)) && true) ≡ true
+    last true = refl
+    last false = refl
+
+one_first : (p q rest u v : Bool) → q ≡ false → v ≡ true → ((not p || (((not p || v) && true) && (((not q || u) && true) && true))) && ((not q || rest) && true)) ≡ true
+one_first p q rest u v eq ev = rw (eq, ev) (last p)
+  where
+    last : (b : Bool) → ((not b || (((not b || true) && true) && true)) && true) ≡ true
+    last true = refl
+    last false = refl
+
+pub first_apart : (class : List ClassCol) (d : ClassCol) (input : ℕ) → 2 ≤ length class → length class < 3 → ((get_or class 0 d).input ≡ input → ⊥) → (x : TupleAt) → x.input ≡ input → suits_class [] x class ≡ true
+first_apart [] d input least below differ = absurd (omega (arith, least))
+first_apart (a ∷ []) d input least below differ = absurd (omega (arith, least))
+first_apart (a ∷ b ∷ []) d input least below differ = λ x own.
+    one_second (x.input == a.input) (x.input == b.input) (all_have (a ∷ b ∷ []) [] x (value_at x.row a.column)) (value_eq (value_at x.row b.column) (value_at x.row a.column)) (value_eq (value_at x.row b.column) (value_at x.row b.column))
+    (apart x.input a.input (λ e. differ (sym e ∙ own))) (equal_itself (value_at x.row b.column))
+first_apart (a ∷ b ∷ c ∷ cs) d input least below differ = absurd (omega (arith, below))
+
+pub second_apart : (class : List ClassCol) (d : ClassCol) (input : ℕ) → 2 ≤ length class → length class < 3 → ((get_or class 1 d).input ≡ input → ⊥) → (x : TupleAt) → x.input ≡ input → suits_class [] x class ≡ true
+second_apart [] d input least below differ = absurd (omega (arith, least))
+second_apart (a ∷ []) d input least below differ = absurd (omega (arith, least))
+second_apart (a ∷ b ∷ []) d input least below differ = λ x own.
+    one_first (x.input == a.input) (x.input == b.input) (all_have (a ∷ b ∷ []) [] x (value_at x.row b.column)) (value_eq (value_at x.row a.column) (value_at x.row b.column)) (value_eq (value_at x.row a.column) (value_at x.row a.column))
+    (apart x.input b.input (λ e. differ (sym e ∙ own))) (equal_itself (value_at x.row a.column))
+second_apart (a ∷ b ∷ c ∷ cs) d input least below differ = absurd (omega (arith, below))
+
+pub one_alone : (class : List ClassCol) (x : TupleAt) → suits_class [] x class ≡ true → suits (class ∷ []) [] x ≡ true
+one_alone class x t = and-true (suits_class [] x class) ∙ t

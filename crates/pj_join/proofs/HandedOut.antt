@@ -1,6 +1,7 @@
 -- The rows that a tuple of two inputs is joined to.
-use Rattle.std.proofs.Common.{ℕ, zero, suc, ◌-◌, ◌<◌, Bool, true, false, cond, List, [], ◌∷◌, ◌≡◌, map, filter, flat_map, length, get_or, refl, sym, ap, ap₂, ◌∙◌, eqb, arith, append-nil}
+use Rattle.std.proofs.Common.{ℕ, zero, suc, ◌-◌, ◌<◌, Bool, true, false, cond, List, [], ◌∷◌, ◌++◌, ◌≡◌, map, filter, flat_map, length, get_or, refl, sym, ap, ap₂, ◌∙◌, eqb, arith, append-nil}
 use Rattle.std.proofs.lemmas.Bool.{eq-eqb, false_from_ne_true, false≢true, eqb-true}
+use Rattle.pj_events.specs.declared.events.Out.{Out}
 use Rattle.pj_events.specs.declared.events.Out.TheVariants.{Tuple}
 use Rattle.pj_events.specs.Join.{TupleAt, ClassCol, Value, agree, joined, product, upto_from}
 use Rattle.pj_join.specs.Handed.{found_out, pair_of, pairs_out}
@@ -82,3 +83,12 @@ partners_found classes own states input state (Some f) lt two all is here same =
     ap (λ n. pairs_out classes own (map (tuple_in n) f)) (sym is)
     ∙ pairs-are-found classes own (tuples_in 0 states) input (map (tuple_in input) state.rows) (map (tuple_in input) f) lt (tuples-length 0 states ∙ two) all is
     (sym (side_at states input state (omega (arith, is, two)) here) ∙ same-at (tuples_in 0 states) input [] (map (tuple_in input) state.rows) (omega (arith, is, two, tuples-length 0 states))) same
+
+-- no rows, no pairs
+pub pairs_none : (classes : List (List ClassCol)) (own : TupleAt) (input : ℕ) (among : List Stored) (outs : List Out) → length among ≡ 0 → outs ≡ outs ++ pairs_out classes own (map (tuple_in input) among)
+pairs_none classes own input [] outs none = sym (append-none outs)
+  where
+    append-none : (xs : List Out) → xs ++ [] ≡ xs
+    append-none [] = refl
+    append-none (x ∷ xs) = ap (λ ys. x ∷ ys) (append-none xs)
+pairs_none classes own input (s ∷ among) outs none = absurd (omega (arith, none))

@@ -37,4 +37,5 @@ pub mod Triangles
 pub mod Roused
 pub mod Settled
 pub mod Changing
+pub mod Spared
 pub mod Ranged

@@ -5,7 +5,7 @@ use Rattle.pj_state.specs.declared.shared.Stored.{Stored}
 use Rattle.pj_state.specs.States.{StateView, is_value, row_under, stored, tickets_of}
 use Rattle.pj_cover.specs.Asking.{Known, entries, first_class, puncts_from, tuples_of}
 use Rattle.pj_cover.specs.declared.rows.Uncovered.{Uncovered}
-use Rattle.pj_events.specs.Patterns.{Pattern, covers, is_wild, matches_value}
+use Rattle.pj_events.specs.Patterns.{Pattern, covers, is_wild, matches_row, matches_value}
 use Rattle.pj_events.specs.Join.{CertEntry, CertStep, ClassCol, In, JoinData, PunctAt, TupleAt, agree, cert_of, constant, covered, demand, has, inputs, instance_from, is_held, older_puncts, value_at}
 use Rattle.pj_events.specs.KeptState.{kept_low, kept_ripe}
 use Rattle.pj_join.specs.Joins.{JoinView}
@@ -71,6 +71,19 @@ AllHeld stored ps = (p : PunctAt) → In p ps → is_held stored p ≡ true
 -- each of these that is of the input is matched by one of the rows
 abbrev pub AreHeldBy : List Stored → ℕ → List PunctAt → Type 0
 AreHeldBy rows input ps = (p : PunctAt) → In p ps → p.input ≡ input → still_held rows [] p.patterns ≡ true
+
+-- each of these rows that goes is one of these two
+abbrev pub AreGone : List Stored → List ℕ → Option (List Value) → Option (List Value) → Type 0
+AreGone rows gone first second = (s : Stored) → In s rows → has gone s.ticket ≡ true → (first ≡ Some s.row) ⊎ (second ≡ Some s.row)
+
+-- there is a row, and it matches the patterns
+abbrev pub is_like : List Pattern → Option (List Value) → Bool
+is_like patterns None = false
+is_like patterns (Some row) = matches_row patterns row
+
+-- these are the tickets of some of the rows, in their order
+abbrev pub AreSome : List Stored → List ℕ → Type 0
+AreSome rows gone = (keep : Stored → Bool) × (gone ≡ tickets_of (filter keep rows))
 
 -- ---- what a punctuation marks
 

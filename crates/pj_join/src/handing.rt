@@ -123,6 +123,7 @@ fn hand_out_probed(
 }
 
 // Puts the row of the tuple with each of these at the end that is older and joins with it; on a refusal the list is as before.
+#[tactic(auto, using(crate::proofs::HandedOut::pairs_none))]
 fn hand_out_pairs<'a>(
     alloc: Global,
     classes: &[List<ClassCol>],
@@ -135,6 +136,9 @@ fn hand_out_pairs<'a>(
     ensures ok { OnOk result (outs.new ≡ outs.old ++ pairs_out classes.now own.now (map (tuple_in (1 - own.now.input)) among.now)) }
     ensures err { OnErr result (outs.new ≡ outs.old) }
 {
+    if among.len() == 0 {
+        return Ok(());
+    }
     make_room(alloc, outs, among.len().min(FEW))?;
     let before = outs.len();
     match append_pairs(alloc, classes, own, among, all_join, outs) {

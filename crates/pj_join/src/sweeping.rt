@@ -7,7 +7,7 @@ ghost use Rattle.pj_state.specs.States.{state_of, stored, ticket_of};
 ghost use Rattle.pj_join.specs.Changes.{changed};
 ghost use Rattle.pj_join.specs.Judging.{BothMore, MayJudge, judge, letting_go, one_if, ripe_rows, ripe_tickets, row_in, rows_without, staying_on};
 ghost use Rattle.pj_join.specs.Sides.{state_at};
-ghost use Rattle.pj_join.specs.Watching.{AreHeldBy, AreJudged, AreLookedAt, IsOneJudged, IsVerdict, NoneIsRipe, all_picked, goes_by, is_passed, marked_by, picked, verdict_on};
+ghost use Rattle.pj_join.specs.Watching.{AreHeldBy, AreJudged, AreLookedAt, AreSome, IsOneJudged, IsVerdict, NoneIsRipe, all_picked, goes_by, is_passed, marked_by, picked, verdict_on};
 
 use crate::arrivals::Heard;
 use crate::changes::Change;
@@ -288,6 +288,7 @@ fn wait_on(
 ) -> Result<List<Change>, NoMemory>
     requires there { input < length schemas.now }
     requires rising { IsRising itself gone.now }
+    requires some { AreSome state.now.rows gone.now }
     requires held { AreHeldBy state.now.rows input waiting.now }
     ensures waiting { IfOk result (λ changes. changed changes waiting.now ≡ staying_on state.now.rows gone.now input waiting.now) }
     ensures ok { OnOk result (out.new ≡ out.old ++ letting_go schemas.now state.now.rows gone.now input waiting.now) }
@@ -301,6 +302,7 @@ fn wait_on(
 
 /// Judges the stored tuples of an input. The rows of those that go are put at the end of `removed`, and the punctuations that
 /// are let go at the end of `out`. After a refusal both begin as before.
+#[tactic(auto, using(crate::proofs::Spared::ripe_some))]
 pub fn sweep_input(
     alloc: Global,
     spec: &JoinSpec,

@@ -4,7 +4,7 @@ ghost use Rattle.std.specs.List.{list_all, slice_get};
 ghost use Rattle.std.specs.Option.{option_copied};
 ghost use Rattle.pj_value.specs.declared.values.Value.{Value};
 ghost use Rattle.pj_value.specs.Values.{value_eq};
-ghost use Rattle.pj_events.specs.Join.{agree, value_at};
+ghost use Rattle.pj_events.specs.Join.{TupleAt, agree, value_at};
 ghost use Rattle.pj_join.specs.Decided.{AllJoinAt, AllSuit, ClassDecides, ColumnsDecide};
 ghost use Rattle.pj_join.specs.Sides.{IsWide, tuple_in, tuples_in};
 ghost use Rattle.pj_join.specs.Walks.{AllJoin, all_have, cell_value, choices, has_there, older_joins, suits, suits_class};
@@ -271,6 +271,37 @@ pub fn joins_with<'a>(
 /// Room for so many candidates is made at once.
 pub const FEW: usize = 64;
 
+// Whether a class of two columns has at most one of the input.
+fn has_one(class: &[ClassCol], input: u32) -> bool
+    ensures { (own : TupleAt) → own.input ≡ input → result ≡ true → suits_class [] own class.now ≡ true }
+{
+    match class {
+        [a, b] => {
+            if a.input != input {
+                return true;
+            }
+            b.input != input
+        }
+        _ => false,
+    }
+}
+
+// Whether the tuple's own values agree in each class, where no cell is looked at if that is known without.
+#[tactic(auto, using(crate::proofs::Decided::one_alone))]
+fn suits_itself(classes: &[List<ClassCol>], own: &Arrived<'_>) -> bool
+    ensures { result ≡ true → suits classes.now [] own.now ≡ true }
+{
+    match classes {
+        [class] => {
+            if has_one(class.as_slice(), own.input()) {
+                return true;
+            }
+            suits(classes, &[], own)
+        }
+        _ => suits(classes, &[], own),
+    }
+}
+
 /// Whether it is known that the choices of this tuple all join: those of two inputs, each of which was compared with it.
 #[tactic(auto, using(crate::proofs::Pairs::two_states))]
 pub fn choices_join(classes: &[List<ClassCol>], own: &Arrived<'_>, sides: &[State]) -> bool
@@ -278,5 +309,5 @@ pub fn choices_join(classes: &[List<ClassCol>], own: &Arrived<'_>, sides: &[Stat
     ensures two { IsTrue result → length sides.now ≡ 2 }
     ensures all { IsTrue result → AllJoin classes.now (choices classes.now own.now (tuples_in 0 sides.now)) }
 {
-    own.input() < 2 && sides.len() == 2 && suits(classes, &[], own)
+    own.input() < 2 && sides.len() == 2 && suits_itself(classes, own)
 }

@@ -1,15 +1,17 @@
 // Punctuations that a join hands up, or that wait.
 ghost use Rattle.std.specs.Prelude.{◌≡◌, ◌<◌, ◌++◌, ◌∷◌, [], ℕ, not, true, false, is_some, length, map, sum, take, OnOk, OnErr, IfOk, IfSome};
+ghost use Rattle.std.specs.Option.{option_copied};
 ghost use Rattle.pj_events.specs.Join.{has};
 ghost use Rattle.pj_events.specs.Patterns.{all_wild, is_wild};
 ghost use Rattle.pj_shape.specs.Sound.{arities_of};
 ghost use Rattle.pj_state.specs.Rising.{IsRising, itself};
-ghost use Rattle.pj_state.specs.States.{stored};
+ghost use Rattle.pj_state.specs.States.{stored, ticket_of};
 ghost use Rattle.pj_cover.specs.Stores.{IsAbove};
 ghost use Rattle.pj_join.specs.Changes.{TakesOut, changed};
 ghost use Rattle.pj_join.specs.Judging.{going_at_once, letting_go, lets_go, one_if, staying_on, waiting_with, widened_among};
 ghost use Rattle.pj_pattern.specs.declared.pattern.Form.TheVariants.{Constant};
 ghost use Rattle.pj_join.specs.Sides.{IsLookup, stays, still_held};
+ghost use Rattle.pj_join.specs.Watching.{AreGone, AreHeldBy, AreSome, is_like};
 
 use crate::arrivals::Heard;
 use crate::changes::Change;
@@ -21,6 +23,9 @@ use pj_shape::Schema;
 use pj_state::{Matching, State};
 use pj_value::{List, NoMemory, Row, Value};
 use std::alloc::Global;
+
+// Where so many punctuations wait, each is compared with the rows that go before its own row is looked for.
+const MANY: usize = 4;
 
 fn append_wild(count: usize, patterns: &mut List<Pattern>) -> Result<(), NoMemory>
     ensures { OnOk result (patterns.new ≡ patterns.old ++ all_wild count) }
@@ -213,6 +218,18 @@ fn find(state: &State, gone: &[u64], punct: &Punct) -> Option<u64>
     }
 }
 
+// The same where the tickets are those of some of the rows: where as many go as there are, none stays.
+fn find_left(state: &State, gone: &[u64], punct: &Punct) -> Option<u64>
+    requires rising { IsRising itself gone.now }
+    requires some { AreSome state.now.rows gone.now }
+    ensures { is_some result ≡ still_held state.now.rows gone.now punct.now }
+{
+    if gone.len() == state.len() {
+        return None;
+    }
+    find(state, gone, punct)
+}
+
 // Whether the row with this ticket is there, stays and matches the punctuation.
 fn is_witness(state: &State, gone: &[u64], ticket: u64, punct: &Punct) -> bool
     requires { IsRising itself gone.now }
@@ -221,6 +238,63 @@ fn is_witness(state: &State, gone: &[u64], ticket: u64, punct: &Punct) -> bool
     match state.get(ticket) {
         None => false,
         Some(row) => stays(gone, ticket, row, punct),
+    }
+}
+
+// The rows that go, where they are one or two.
+#[derive(Clone, Copy)]
+struct Few<'a> {
+    first: Option<&'a Row>,
+    second: Option<&'a Row>,
+}
+
+// The rows with these tickets, where they are one or two.
+fn few_gone<'a>(state: &'a State, gone: &[u64]) -> Option<Few<'a>>
+    requires { IsRising ticket_of state.now.rows }
+    ensures { IfSome result (λ few. AreGone state.now.rows gone.now (option_copied few.first) (option_copied few.second)) }
+{
+    match gone {
+        [a] => Some(Few {
+            first: state.get(*a),
+            second: None,
+        }),
+        [a, b] => Some(Few {
+            first: state.get(*a),
+            second: state.get(*b),
+        }),
+        _ => None,
+    }
+}
+
+// The same where they are looked at for this many punctuations, or more.
+fn few_for<'a>(state: &'a State, gone: &[u64], waiting: usize) -> Option<Few<'a>>
+    ensures { IfSome result (λ few. AreGone state.now.rows gone.now (option_copied few.first) (option_copied few.second)) }
+{
+    if waiting < MANY || state.len() == 0 {
+        return None;
+    }
+    few_gone(state, gone)
+}
+
+// Whether there is a row, and it matches the punctuation.
+fn is_like(row: Option<&Row>, punct: &Punct) -> bool
+    ensures { result ≡ is_like punct.now (option_copied row.entry) }
+{
+    match row {
+        None => false,
+        Some(row) => punct.matches(row),
+    }
+}
+
+// Whether it is known that no row that goes matches the punctuation.
+fn is_spared(few: Option<Few<'_>>, punct: &Punct) -> bool
+    ensures first { result ≡ true → IfSome few.entry (λ few. is_like punct.now (option_copied few.first) ≡ false) }
+    ensures second { result ≡ true → IfSome few.entry (λ few. is_like punct.now (option_copied few.second) ≡ false) }
+    ensures some { result ≡ true → is_some few.entry ≡ true }
+{
+    match few {
+        None => false,
+        Some(few) => !is_like(few.first, punct) && !is_like(few.second, punct),
     }
 }
 
@@ -239,6 +313,7 @@ fn let_own_go(
 ) -> Result<(), NoMemory>
     requires there { input < length schemas.now }
     requires rising { IsRising itself gone.now }
+    requires some { AreSome state.now.rows gone.now }
     requires own { punct.now.input ≡ input }
     ensures changes { OnOk result (TakesOut (lets_go state.now.rows gone.now input punct.now) at changes.old changes.new) }
     ensures ok { OnOk result (out.new ≡ out.old ++ one_if (lets_go state.now.rows gone.now input punct.now) (widened_among schemas.now punct.now)) }
@@ -247,7 +322,7 @@ fn let_own_go(
     if is_witness(state, gone, punct.witness(), punct.punct()) {
         return Ok(());
     }
-    match find(state, gone, punct.punct()) {
+    match find_left(state, gone, punct.punct()) {
         None => {
             changes.push(Change::Goes(at))?;
             out.push(widened(alloc, schemas, input, punct.punct().as_slice())?)?;
@@ -269,16 +344,23 @@ fn let_one_go(
     input: u32,
     at: usize,
     punct: &Heard,
+    few: Option<Few<'_>>,
     changes: &mut List<Change>,
     out: &mut List<Punct>,
 ) -> Result<(), NoMemory>
     requires there { input < length schemas.now }
     requires rising { IsRising itself gone.now }
+    requires some { AreSome state.now.rows gone.now }
+    requires held { punct.now.input ≡ input → still_held state.now.rows [] punct.now.patterns ≡ true }
+    requires few { IfSome few (λ few. AreGone state.now.rows gone.now (option_copied few.first) (option_copied few.second)) }
     ensures changes { OnOk result (TakesOut (lets_go state.now.rows gone.now input punct.now) at changes.old changes.new) }
     ensures ok { OnOk result (out.new ≡ out.old ++ one_if (lets_go state.now.rows gone.now input punct.now) (widened_among schemas.now punct.now)) }
     ensures err { OnErr result (out.new ≡ out.old) }
 {
     if punct.input() != input {
+        return Ok(());
+    }
+    if is_spared(few, punct.punct()) {
         return Ok(());
     }
     let_own_go(alloc, schemas, state, gone, input, at, punct, changes, out)
@@ -298,11 +380,14 @@ pub fn let_go(
 ) -> Result<List<Change>, NoMemory>
     requires there { input < length schemas.now }
     requires rising { IsRising itself gone.now }
+    requires some { AreSome state.now.rows gone.now }
+    requires held { AreHeldBy state.now.rows input waiting.now }
     ensures waiting { IfOk result (λ changes. changed changes waiting.now ≡ staying_on state.now.rows gone.now input waiting.now) }
     ensures ok { OnOk result (out.new ≡ out.old ++ letting_go schemas.now state.now.rows gone.now input waiting.now) }
     ensures err { OnErr result (take (length out.old) out.new ≡ out.old) }
 {
     let mut changes = List::new(alloc);
+    let few = few_for(state, gone, waiting.len());
     for at in 0..waiting.len() {
         let_one_go(
             alloc,
@@ -312,6 +397,7 @@ pub fn let_go(
             input,
             at,
             &waiting[at],
+            few,
             &mut changes,
             out,
         )?;

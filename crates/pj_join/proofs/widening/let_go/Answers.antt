@@ -1,5 +1,7 @@
-use Rattle.std.proofs.Common.{◌∙◌, Some, ap, sym, refl, rules}
+use Rattle.std.proofs.Common.{◌∙◌, Some, ap, sym, subst, refl, rules}
 use Rattle.std.proofs.lemmas.Option.{slice_get-get_or}
+use Rattle.pj_value.proofs.Members.{in-place}
+use Rattle.pj_events.specs.Join.{In, PunctAt}
 use Rattle.pj_join.specs.Judging.{lets_go, widened_among}
 use Rattle.pj_join.proofs.Changing.{all_taken, taken_more}
 use Rattle.pj_join.proofs.Looped.{picked_more}
@@ -17,3 +19,7 @@ loop-at-preserved c =
 pub returns-clause-waiting : goal.returns-clause-waiting
 returns-clause-waiting c =
     all_taken (lets_go c.args.state.now.rows c.args.gone.now c.args.input) c.args.waiting.now c.loop-at.at c.loop-at.changes c.loop-at.invariant.taken (search rules)
+
+pub let_one_go-requires-clause-held : goal.let_one_go-requires-clause-held
+let_one_go-requires-clause-held c = λ own.
+    c.requires.held c.index-waiting-at.result (subst (λ (p : PunctAt). In p c.args.waiting.now) (sym c.index-waiting-at.is) (in-place c.args.waiting.now c.index-waiting-at.result c.loop-at.at c.loop-at-test.true)) own

@@ -8,5 +8,5 @@ pub returns-in_ok-push-in-None-2-clause-ok : goal.returns-in_ok-push-in-None-2-c
 returns-in_ok-push-in-None-2-clause-ok c =
     let_go_is c.args.schemas.now c.args.state.now.rows c.args.gone.now c.args.input c.args.punct.now c.as_slice.result.now c.in_ok-widened-in-None.field-0 c.args.out.now c.push-in-None.new.self
     (goes_where c.args.state.now.rows c.args.gone.now c.args.input c.args.punct.now false c.requires.own
-    (ap (λ (o : Option ℕ). is_some o) (sym c.in-None.is) ∙ c.find.ensures ∙ ap (λ (ps : List Pattern). still_held c.args.state.now.rows c.args.gone.now ps) c.punct-2.ensures))
+    (ap (λ (o : Option ℕ). is_some o) (sym c.in-None.is) ∙ c.find_left.ensures ∙ ap (λ (ps : List Pattern). still_held c.args.state.now.rows c.args.gone.now ps) c.punct-2.ensures))
     (c.as_slice.ensures ∙ c.punct-in-None.ensures) c.in_ok-widened-in-None.ensures c.in_ok-push-in-None-2.ensures.ok
