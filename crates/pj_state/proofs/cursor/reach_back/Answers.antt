@@ -1,4 +1,4 @@
-use Rattle.std.proofs.Common.{◌≡◌, ◌+◌, ◌-◌, ◌<◌, ◌≤◌, length, ap, sym, subst, arith}
+use Rattle.std.proofs.Common.{◌≡◌, ◌+◌, ◌-◌, ◌≤◌, length, ap, sym, subst, arith}
 use Rattle.pj_state.specs.Reaching.{AreBefore}
 use Rattle.pj_state.proofs.Reaching.{before-back, item-is}
 use Rattle.pj_state.proofs.cursor.reach_back.Goals as goal

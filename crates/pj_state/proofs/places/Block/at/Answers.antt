@@ -1,7 +1,5 @@
-use Rattle.std.proofs.Common.{◌≡◌, ◌<◌, List, Some, length, ap, sym, ◌∙◌, arith}
+use Rattle.std.proofs.Common.{List, Some, length, ap, sym, ◌∙◌, arith}
 use Rattle.std.specs.List.{slice_get}
-use Rattle.pj_state.specs.Nears.{near_place}
-use Rattle.pj_state.specs.declared.places.Near.{Near}
 use Rattle.pj_state.specs.declared.places.Place.{Place}
 use Rattle.pj_state.proofs.Near.{near-got, near-length}
 use Rattle.pj_state.proofs.places.Block.at.Goals as goal

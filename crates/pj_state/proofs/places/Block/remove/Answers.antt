@@ -1,7 +1,6 @@
-use Rattle.std.proofs.Common.{◌≡◌, ◌<◌, List, Some, length, ap, sym, ◌∙◌, arith}
+use Rattle.std.proofs.Common.{List, Some, length, ap, sym, ◌∙◌, arith}
 use Rattle.std.specs.List.{remove, slice_get}
-use Rattle.pj_state.specs.Nears.{near_place, places_from}
-use Rattle.pj_state.specs.declared.places.Near.{Near}
+use Rattle.pj_state.specs.Nears.{places_from}
 use Rattle.pj_state.specs.declared.places.Place.{Place}
 use Rattle.pj_state.proofs.Near.{near-got, near-length, near-remove}
 use Rattle.pj_state.proofs.places.Block.remove.Goals as goal
