@@ -14,6 +14,10 @@ pub before-first : (bs : List (List Place)) → AreBefore bs 0 0
 before-first [] = (omega arith, refl)
 before-first (b ∷ bs) = (omega arith, refl)
 
+-- behind the last block
+pub before_last : (bs : List (List Place)) (i count : ℕ) → i ≡ length bs → count ≡ length (flat bs) → AreBefore bs i count
+before_last bs i count e is = (omega (arith, e), is ∙ sym (ap (λ n. length (flat (take n bs))) e ∙ ap (λ (cs : List (List Place)). length (flat cs)) (take-all bs)))
+
 length-next : (bs : List (List Place)) (i : ℕ) (b : List Place) → i < length bs → b ≡ get_or bs i b → length (flat (take (i + 1) bs)) ≡ length (flat (take i bs)) + length b
 length-next bs i b lt is = ap length (flat-take bs i b lt is) ∙ length-append (flat (take i bs)) b
 

@@ -15,6 +15,7 @@ use std::marker::Model;
 pub struct Cursor<'a> {
     blocks: &'a [Block],
     slab: &'a Slab<Shared>,
+    count: usize,
     here: Reached,
 }
 
@@ -26,7 +27,7 @@ pub struct Reached {
 }
 
 impl<'a> Model for Cursor<'a> {
-    ghost use Rattle.std.specs.Prelude.{List};
+    ghost use Rattle.std.specs.Prelude.{◌≡◌, List, length};
     ghost use Rattle.pj_state.specs.declared.shared.Stored.{Stored as AnyStored};
     ghost use Rattle.pj_state.specs.Reaching.{IsReached};
     ghost use Rattle.pj_state.specs.Stores.{AreHeld, flat, rows_at};
@@ -35,18 +36,20 @@ impl<'a> Model for Cursor<'a> {
 
     ghost view = { λ c. rows_at c.slab.now.slots (flat c.blocks.now) };
 
-    ghost invariant = { λ c. AreHeld c.slab.now.slots (flat c.blocks.now) × IsReached c.blocks.now c.here };
+    ghost invariant = { λ c. AreHeld c.slab.now.slots (flat c.blocks.now) × (c.count ≡ length (flat c.blocks.now)) × IsReached c.blocks.now c.here };
 }
 
 impl<'a> Cursor<'a> {
-    // The rows to which the places of these blocks lead.
-    pub(crate) fn of(blocks: &'a [Block], slab: &'a Slab<Shared>) -> Cursor<'a>
-        requires { AreHeld slab.now.slots (flat blocks.now) }
+    // The rows to which the places of these blocks lead, so many.
+    pub(crate) fn of(blocks: &'a [Block], slab: &'a Slab<Shared>, count: usize) -> Cursor<'a>
+        requires held { AreHeld slab.now.slots (flat blocks.now) }
+        requires count { count ≡ length (flat blocks.now) }
         ensures { result ≡ rows_at slab.now.slots (flat blocks.now) }
     {
         Cursor {
             blocks,
             slab,
+            count,
             here: Reached {
                 block: 0,
                 before: 0,
@@ -60,22 +63,39 @@ impl<'a> Cursor<'a> {
         ensures row { slice_get self.old at ≡ Some (stored result.0 result.1.now) }
         ensures same { self.new ≡ self.old }
     {
-        self.here = reach(self.blocks, self.here, at);
+        self.here = reach(self.blocks, self.count, self.here, at);
         let place = self.blocks[self.here.block].at(at - self.here.before);
         (place.ticket, self.slab[place.key].row())
     }
 }
 
-// The block in which the place at a position stands, looked for from another one.
-fn reach(blocks: &[Block], from: Reached, at: usize) -> Reached
+// The block in which the place at a position stands, looked for from another one, or from the end where that is nearer.
+fn reach(blocks: &[Block], count: usize, from: Reached, at: usize) -> Reached
     requires from { IsReached blocks.now from }
-    requires within { at < length (flat blocks.now) }
+    requires count { count ≡ length (flat blocks.now) }
+    requires within { at < count }
     ensures { StandsIn blocks.now result at }
 {
     if at < from.before {
         return reach_back(blocks, from, at);
     }
+    if count - at < at - from.before {
+        return reach_back(blocks, end_of(blocks, count), at);
+    }
     reach_on(blocks, from, at)
+}
+
+// Behind the last block.
+#[tactic(auto, using(crate::proofs::Reaching::before_last))]
+fn end_of(blocks: &[Block], count: usize) -> Reached
+    requires { count ≡ length (flat blocks.now) }
+    ensures reached { IsReached blocks.now result }
+    ensures before { result.before ≡ count }
+{
+    Reached {
+        block: blocks.len(),
+        before: count,
+    }
 }
 
 // The same, where it is none before that one.

@@ -126,7 +126,7 @@ impl Store {
     pub fn cursor(&self) -> Cursor<'_>
         ensures { result ≡ self.now }
     {
-        Cursor::of(self.places.blocks(), &self.slab)
+        Cursor::of(self.places.blocks(), &self.slab, self.slab.len())
     }
 
     /// Second handles of the rows with smaller tickets than this one, in order.
