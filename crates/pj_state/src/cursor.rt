@@ -85,19 +85,6 @@ fn reach(blocks: &[Block], count: usize, from: Reached, at: usize) -> Reached
     reach_on(blocks, from, at)
 }
 
-// Behind the last block.
-#[tactic(auto, using(crate::proofs::Reaching::before_last))]
-fn end_of(blocks: &[Block], count: usize) -> Reached
-    requires { count ≡ length (flat blocks.now) }
-    ensures reached { IsReached blocks.now result }
-    ensures before { result.before ≡ count }
-{
-    Reached {
-        block: blocks.len(),
-        before: count,
-    }
-}
-
 // The same, where it is none before that one.
 fn reach_on(blocks: &[Block], from: Reached, at: usize) -> Reached
     requires from { IsReached blocks.now from }
@@ -131,4 +118,17 @@ fn reach_back(blocks: &[Block], from: Reached, at: usize) -> Reached
         }
     }
     from
+}
+
+// Behind the last block.
+#[tactic(auto, using(crate::proofs::Reaching::before_last))]
+fn end_of(blocks: &[Block], count: usize) -> Reached
+    requires { count ≡ length (flat blocks.now) }
+    ensures reached { IsReached blocks.now result }
+    ensures before { result.before ≡ count }
+{
+    Reached {
+        block: blocks.len(),
+        before: count,
+    }
 }
