@@ -13,7 +13,7 @@ use Rattle.pj_join.specs.Sides.{still_held}
 use Rattle.pj_state.specs.States.{StateView}
 use Rattle.pj_cover.specs.Stores.{Store}
 use Rattle.pj_events.specs.Join.{JoinData, inputs}
-use Rattle.pj_join.specs.declared.queue.Place.{Place}
+use Rattle.pj_join.specs.declared.place.Place.{Place}
 use Rattle.pj_join.specs.Insides.{IsJoin, inside}
 use Rattle.pj_join.specs.Sides.{log_of, state_at}
 use Rattle.pj_join.proofs.Swept.{held-at-first}

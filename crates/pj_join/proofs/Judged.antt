@@ -13,7 +13,7 @@ use Rattle.pj_events.specs.Join.{In, CertEntry, ClassCol, Demand, IsWalk, JoinDa
 use Rattle.pj_events.specs.Patterns.{covers}
 use Rattle.pj_events.specs.KeptState.{KeptState, kept_low, kept_ripe}
 use Rattle.pj_laws.proofs.Upto.{get_or-upto}
-use Rattle.pj_join.specs.declared.queue.Place.{Place}
+use Rattle.pj_join.specs.declared.place.Place.{Place}
 use Rattle.pj_join.specs.Insides.{IsJoin, inside}
 use Rattle.pj_join.specs.Judging.{MayJudge, judge, ripe_at}
 use Rattle.pj_join.specs.Sides.{IsShaped, heard_in, heard_of, log_of, puncts_of, row_pairs, state_at, tuple_in}

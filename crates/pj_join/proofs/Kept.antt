@@ -17,7 +17,7 @@ use Rattle.pj_events.specs.KeptState.{without}
 use Rattle.pj_events.specs.Patterns.{Pattern}
 use Rattle.pj_laws.proofs.Upto.{get_or-upto}
 use Rattle.pj_value.proofs.Members.{In-append_cases, In-filter, In-filter_from, In-map_from, in-place}
-use Rattle.pj_join.specs.declared.queue.Place.{Place}
+use Rattle.pj_join.specs.declared.place.Place.{Place}
 use Rattle.pj_join.specs.Insides.{AreHeard, IsJoin, IsOrdered, Rise, inside, tickets}
 use Rattle.pj_join.specs.Sides.{AreAllShaped, AreWide, IsShaped, arrived_at, arrived_with, first_of, heard_at, heard_in, heard_of, heard_with, log_of, merged, place_of, puncts_of, state_at, ticket_at, tuple_in, tuples_in}
 use Rattle.pj_join.proofs.Classes.{classes-more, eqb-below}

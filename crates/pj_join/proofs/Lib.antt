@@ -20,7 +20,6 @@ pub mod Kept
 pub mod Judged
 pub mod Swept
 pub mod Looped
-pub mod Queued
 pub mod RowPairs
 pub mod Probed
 pub mod Looked

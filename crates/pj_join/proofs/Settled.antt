@@ -4,7 +4,7 @@ use Rattle.pj_state.specs.States.{StateView, state_of}
 use Rattle.pj_cover.specs.Stores.{Store}
 use Rattle.pj_events.specs.Join.{In, JoinData, PunctAt, TupleAt, inputs}
 use Rattle.pj_events.specs.KeptState.{kept_low}
-use Rattle.pj_join.specs.declared.queue.Place.{Place}
+use Rattle.pj_join.specs.declared.place.Place.{Place}
 use Rattle.pj_join.specs.Insides.{IsJoin, inside, lowest, made_with, seen, tickets}
 use Rattle.pj_join.specs.Joins.{JoinView}
 use Rattle.pj_join.specs.Judging.{rows_without}

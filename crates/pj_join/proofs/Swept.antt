@@ -10,7 +10,7 @@ use Rattle.pj_events.specs.Patterns.{Pattern, matches_row}
 use Rattle.pj_events.specs.Join.{CertStep, In, JoinData, JoinSpec, PunctAt, Sweep, TupleAt, Value, arities, has, inputs, is_held, of_input, steps_of, widened}
 use Rattle.pj_events.specs.KeptState.{kept_low, kept_ripe, swept}
 use Rattle.pj_value.proofs.Members.{In-filter, In-map_from, filter-agree, filter-filter}
-use Rattle.pj_join.specs.declared.queue.Place.{Place}
+use Rattle.pj_join.specs.declared.place.Place.{Place}
 use Rattle.pj_join.specs.Joins.{JoinView, after}
 use Rattle.pj_join.specs.Insides.{IsJoin, IsOrdered, Rise, inside, lowest, made_with, seen, tickets}
 use Rattle.pj_join.specs.Judging.{Judge, is_let_go, judge, letting_go, lets_go, ripe_at, ripe_rows, ripe_tickets, rows_without, staying_on, waiting_on}

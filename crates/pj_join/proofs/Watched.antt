@@ -11,7 +11,7 @@ use Rattle.pj_cover.specs.Asking.{puncts_from, tuples_of}
 use Rattle.pj_events.specs.Patterns.{covers}
 use Rattle.pj_events.specs.Join.{CertEntry, CertStep, ClassCol, Demand, In, JoinData, PunctAt, TupleAt, agree, cert_of, covered, demand, entry_of, grown, has, inputs, need, of_input, older, older_puncts, steps_of}
 use Rattle.pj_events.specs.KeptState.{KeptState, kept_low, kept_ripe, least, swept}
-use Rattle.pj_join.specs.declared.queue.Place.{Place}
+use Rattle.pj_join.specs.declared.place.Place.{Place}
 use Rattle.pj_join.specs.Insides.{IsJoin, inside, made_with, seen, tickets}
 use Rattle.pj_join.specs.Joins.{JoinView}
 use Rattle.pj_join.specs.Judging.{Judge, judge, ripe_at}

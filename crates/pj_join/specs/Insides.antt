@@ -7,7 +7,7 @@ use Rattle.pj_events.specs.Join.{In, JoinData, TupleAt, PunctAt, AreCertified, a
 use Rattle.pj_events.specs.KeptState.{least}
 use Rattle.pj_join.specs.Joins.{JoinView}
 use Rattle.pj_join.specs.Sides.{AreAllShaped, heard_in, heard_of, log_of, place_of, puncts_of, tuples_in}
-use Rattle.pj_join.specs.declared.queue.Place.{Place}
+use Rattle.pj_join.specs.declared.place.Place.{Place}
 
 abbrev pub tickets : List TupleAt → List ℕ
 tickets xs = map (λ x. x.ticket) xs

@@ -7,7 +7,7 @@ use Rattle.pj_cover.specs.Stores.{Store}
 use Rattle.pj_cover.specs.declared.store.NumberedPunct.{NumberedPunct}
 use Rattle.pj_events.specs.Patterns.{Pattern, matches_row}
 use Rattle.pj_events.specs.Join.{In, PunctAt, TupleAt, Value, has}
-use Rattle.pj_join.specs.declared.queue.Place.{Place}
+use Rattle.pj_join.specs.declared.place.Place.{Place}
 
 -- ---- one list of several, in order of numbers
 

@@ -18,7 +18,7 @@ use crate::changes::make_changes;
 use crate::handing::hand_out_found;
 use crate::marks::Watches;
 use crate::partners::rouse;
-use crate::queue::{Place, Queue};
+use crate::place::Place;
 use crate::ranges::keep_orders;
 use crate::starting::{empty_states, empty_stores, empty_watches};
 use crate::stored::first_pending;
@@ -31,7 +31,7 @@ use pj_events::Out;
 use pj_laws::{forgetting_is_safe, lawfulness, ripeness, standing};
 use pj_pattern::Punct;
 use pj_shape::{Cert, JoinSpec, Schemes};
-use pj_state::{Shared, State};
+use pj_state::{Remaining, Shared, State};
 use pj_value::{List, NoMemory, Row};
 use std::alloc::Global;
 use std::marker::Model;
@@ -53,7 +53,7 @@ pub struct Join {
     stores: Vec<PunctStore>,
     watches: Vec<Watches>,
     waiting: List<Heard>,
-    pending: Queue,
+    pending: Remaining<Place>,
     done: usize,
     taken: Vec<u64>,
 }
@@ -103,7 +103,7 @@ impl Join {
             stores,
             watches,
             waiting: List::new(alloc),
-            pending: Queue::new(alloc),
+            pending: Remaining::of(Vec::new(alloc)),
             done: 0,
             taken: Vec::new(alloc),
         })
@@ -428,7 +428,12 @@ fn is_full(next: u64, limit: u64) -> bool
 }
 
 /// Stores a row at a place of its input, and puts the place at the end of those that are pending; or neither.
-fn store(pending: &mut Queue, state: &mut State, place: Place, row: Shared) -> Result<(), NoMemory>
+fn store(
+    pending: &mut Remaining<Place>,
+    state: &mut State,
+    place: Place,
+    row: Shared,
+) -> Result<(), NoMemory>
     requires later { All (λ s. s.ticket < place.ticket) state.old.rows }
     requires wide { All (λ column. column < length row) state.old.columns }
     ensures pending { OnOk result (pending.new ≡ pending.old ++ place ∷ []) }

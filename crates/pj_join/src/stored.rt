@@ -3,9 +3,9 @@ ghost use Rattle.std.specs.Prelude.{◌≡◌, ◌<◌, List, length};
 ghost use Rattle.pj_join.specs.Sides.{arrived_at, first_of, row_pairs};
 
 use crate::arrivals::Arrived;
-use crate::queue::{Place, Queue};
+use crate::place::Place;
 use pj_cover::StoredRows;
-use pj_state::State;
+use pj_state::{Remaining, State};
 use pj_value::{Row, Value};
 
 /// The states of all inputs, lent.
@@ -61,7 +61,7 @@ fn arrived<'a>(states: &'a [State], place: Place) -> Option<Arrived<'a>>
 }
 
 /// The tuple that stands at the first of these places.
-pub fn first_pending<'a>(states: &'a [State], pending: &Queue) -> Option<Arrived<'a>>
+pub fn first_pending<'a>(states: &'a [State], pending: &Remaining<Place>) -> Option<Arrived<'a>>
     ensures { result ≡ first_of states.now pending.now }
 {
     match pending.as_slice().split_first() {

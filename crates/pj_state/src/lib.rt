@@ -17,6 +17,7 @@ mod tickets;
 
 pub use cursor::Cursor;
 pub use matching::{Matching, Spot};
+pub use remaining::Remaining;
 pub use shared::{Shared, Stored};
 pub use state::{NextNumber, State};
 

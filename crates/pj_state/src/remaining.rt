@@ -1,5 +1,5 @@
 // A list whose first items are taken out by passing over them.
-ghost use Rattle.std.specs.Prelude.{◌≡◌, ◌<◌, ◌∷◌, [], ◌++◌, length, remove, slice_get, Some, OnOk, OnErr};
+ghost use Rattle.std.specs.Prelude.{◌≡◌, ◌<◌, ◌∷◌, [], ◌++◌, drop, length, remove, slice_get, Some, OnOk, OnErr};
 
 use pj_value::NoMemory;
 use std::marker::Model;
@@ -64,6 +64,16 @@ impl<T: Drop> Remaining<T> {
         self.list.push(item)?;
         Ok(())
     }
+
+    /// Takes the last item out, where there is one.
+    pub fn pop_last(&mut self)
+        ensures { (front : _) (last : T) → self.old ≡ front ++ last ∷ [] → self.new ≡ front }
+    {
+        let len = self.list.len();
+        if self.start < len {
+            self.list.truncate(len - 1);
+        }
+    }
 }
 
 impl<T: Copy> Remaining<T> {
@@ -77,6 +87,15 @@ impl<T: Copy> Remaining<T> {
             self.list.remove(self.start + at)
         } else {
             self.pass()
+        }
+    }
+
+    /// Takes the first item out, where there is one.
+    pub fn pop_first(&mut self)
+        ensures { self.new ≡ drop 1 self.old }
+    {
+        if self.len() > 0 {
+            self.pass();
         }
     }
 

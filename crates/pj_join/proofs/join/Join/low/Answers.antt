@@ -1,7 +1,7 @@
 use Rattle.std.proofs.Common.{◌∙◌, List, ap}
 use Rattle.std.specs.List.{slice_get}
 use Rattle.std.specs.Arc.{arc_value}
-use Rattle.pj_join.specs.declared.queue.Place.{Place}
+use Rattle.pj_join.specs.declared.place.Place.{Place}
 use Rattle.pj_join.specs.Joins.{join_data}
 use Rattle.pj_join.specs.Sides.{log_of}
 use Rattle.pj_join.proofs.Standing.{low-stands}
