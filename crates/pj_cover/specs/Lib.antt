@@ -5,6 +5,7 @@ pub mod Indexed
 pub mod Rising
 pub mod Suits
 pub mod Asking
+pub mod Judges
 pub mod Chain
 pub mod Numbers
 pub mod Alike

@@ -4,7 +4,8 @@ ghost use Rattle.pj_value.specs.Lists.{In};
 ghost use Rattle.pj_shape.specs.Sound.{IsSoundSpec, arities_of};
 ghost use Rattle.pj_events.specs.Join.{IsCertified, agree, demand, entry_of};
 ghost use Rattle.pj_cover.specs.Rising.{AreRisingRows};
-ghost use Rattle.pj_cover.specs.Asking.{AreParts, HaveLength, HavePartners, IsFirstUncovered, IsJudged, IsJudgedThrough, IsJudgedUnder, IsJudgedWith, IsOnWalk, IsStep, data_of, entries, found_if, is_covered, is_ripe, known_of, marks_of, tuple_of, tuples_at, with_ticket};
+ghost use Rattle.pj_cover.specs.Asking.{AreParts, HaveLength, HavePartners, IsFirstUncovered, IsJudged, IsJudgedWith, IsStep, data_of, entries, found_if, is_covered, is_ripe, known_of, marks_of, tuple_of, tuples_at, with_ticket};
+ghost use Rattle.pj_cover.specs.Judges.{IsJudgedAmong, IsJudgedAt, IsWalkAt, MayJudge, known_by, steps_from};
 
 use crate::asked::{Lent, partner_key, suits};
 use crate::instances::instance_is_covered;
@@ -23,31 +24,6 @@ fn scheme_of(schemes: &Schemes, step: CertStep) -> &Scheme
     &schemes.at(step.input as usize).as_slice()[step.scheme as usize]
 }
 
-// Whether the instance that a step asks for of these rows is covered.
-#[inline(never)]
-fn step_is_covered(
-    spec: &JoinSpec,
-    schemes: &Schemes,
-    stores: &[PunctStore],
-    low: u64,
-    step: CertStep,
-    rows: &[Lent<'_>],
-) -> bool
-    requires { IsStep spec.now schemes.now stores.now step rows.now }
-    ensures { (lists : ℕ → _) → result ≡ is_covered (known_of spec.now lists stores.now low) (demand spec.now.classes (entry_of schemes.now step) rows.now) }
-{
-    let scheme = scheme_of(schemes, step);
-    let store = &stores[step.input as usize];
-    instance_is_covered(
-        spec.classes.as_slice(),
-        step.input,
-        scheme,
-        rows,
-        store,
-        low,
-    )
-}
-
 // Notes the ticket of one row more in front, where something was found.
 fn note_ticket(ticket: u64, is_found: bool, found: &mut Uncovered)
     requires { IfSome (found_if is_found found.old) (λ u. length u.through.items < 16) }
@@ -58,285 +34,244 @@ fn note_ticket(ticket: u64, is_found: bool, found: &mut Uncovered)
     }
 }
 
-// The tickets of stored rows of an input, among which are all that join with these rows, where an index tells.
-fn partners<'a, R: StoredRows>(
-    spec: &JoinSpec,
-    input: u32,
-    parts: &[Lent<'_>],
+// What a row is judged by: the join's shape and schemes, the certificate of the row's input, the stored rows, the punctuations of
+// each input, and the low-water ticket.
+#[derive(Clone, Copy)]
+struct Judge<'a, R> {
+    spec: &'a JoinSpec,
+    schemes: &'a Schemes,
+    cert: &'a Cert,
     rows: &'a R,
-) -> Option<&'a [u64]>
-    requires sound { IsSoundSpec spec.now }
-    requires fit { HaveLength (slice_index (arities_of spec.now.inputs) input) (R.rows rows.now input) }
-    ensures all { IfSome result (λ tickets. HavePartners spec.now.classes parts.now (tuples_at (R.rows rows.now) input) tickets.now) }
-    ensures rising { IfSome result (λ tickets. AreRisingRows (R.rows rows.now input)) }
-{
-    match partner_key(spec.classes.as_slice(), input, parts) {
-        None => None,
-        Some(key) => rows.tickets_with(input, key.column, key.value),
-    }
+    stores: &'a [PunctStore],
+    low: u64,
 }
 
-// Whether an instance that these rows ask for, by the certificate's steps from a place on, is not covered; the first is found.
-#[cycle(judging)]
-fn seek<'a, R: StoredRows>(
-    spec: &JoinSpec,
-    schemes: &Schemes,
-    cert: &Cert,
-    at: usize,
-    rows: &'a R,
-    stores: &[PunctStore],
-    low: u64,
-    parts: &mut ArrayVec<Lent<'a>, 16>,
-    found: &mut Uncovered,
-) -> bool
-    requires parts { AreParts spec.now (R.rows rows.now) stores.now }
-    requires walk { IsOnWalk spec.now schemes.now (drop at cert.now) parts.old.items }
-    ensures same { parts.new.items ≡ parts.old.items }
-    ensures judged { IsJudged (known_of spec.now (R.rows rows.now) stores.now low) (entries schemes.now (drop at cert.now)) at parts.old.items (found_if result found.new) }
-{
-    if at >= cert.len() {
-        return false;
+impl<'a, R: StoredRows> Judge<'a, R> {
+    // Whether the instance that a step asks for of these rows is covered.
+    #[inline(never)]
+    fn is_step_covered(&self, step: CertStep, parts: &[Lent<'_>]) -> bool
+        requires { IsStep self.now.spec.now self.now.schemes.now self.now.stores.now step parts.now }
+        ensures { result ≡ is_covered (known_by (R.rows self.now.rows.now) self.now) (demand self.now.spec.now.classes (entry_of self.now.schemes.now step) parts.now) }
+    {
+        let scheme = scheme_of(self.schemes, step);
+        let store = &self.stores[step.input as usize];
+        instance_is_covered(
+            self.spec.classes.as_slice(),
+            step.input,
+            scheme,
+            parts,
+            store,
+            self.low,
+        )
     }
-    let step = *cert.at(at);
-    if !step_is_covered(spec, schemes, stores, low, step, parts.as_slice()) {
-        *found = Uncovered {
-            entry: at,
+
+    // The tickets of stored rows of an input, among which are all that join with these rows, where an index tells.
+    fn partners(&self, input: u32, parts: &[Lent<'_>]) -> Option<&'a [u64]>
+        requires sound { IsSoundSpec self.now.spec.now }
+        requires fit { HaveLength (slice_index (arities_of self.now.spec.now.inputs) input) (R.rows self.now.rows.now input) }
+        ensures all { IfSome result (λ tickets. HavePartners self.now.spec.now.classes parts.now (tuples_at (R.rows self.now.rows.now) input) tickets.now) }
+        ensures rising { IfSome result (λ tickets. AreRisingRows (R.rows self.now.rows.now input)) }
+    {
+        match partner_key(self.spec.classes.as_slice(), input, parts) {
+            None => None,
+            Some(key) => self.rows.tickets_with(input, key.column, key.value),
+        }
+    }
+
+    // Whether an instance that these rows ask for, by the certificate's steps from a place on, is not covered; the first is
+    // found.
+    #[cycle(judging)]
+    fn seek(&self, at: usize, parts: &mut ArrayVec<Lent<'a>, 16>, found: &mut Uncovered) -> bool
+        requires parts { MayJudge (R.rows self.now.rows.now) self.now }
+        requires walk { IsWalkAt self.now at parts.old.items }
+        ensures same { parts.new.items ≡ parts.old.items }
+        ensures judged { IsJudged (known_by (R.rows self.now.rows.now) self.now) (steps_from self.now at) at parts.old.items (found_if result found.new) }
+    {
+        if at >= self.cert.len() {
+            return false;
+        }
+        let step = *self.cert.at(at);
+        if !self.is_step_covered(step, parts.as_slice()) {
+            *found = Uncovered {
+                entry: at,
+                through: ArrayVec::new(),
+            };
+            return true;
+        }
+        self.seek_through(at, step, parts, found)
+    }
+
+    // The same through each stored row that may stand for the step at the place, which itself is covered.
+    #[cycle(judging)]
+    fn seek_through(
+        &self,
+        at: usize,
+        step: CertStep,
+        parts: &mut ArrayVec<Lent<'a>, 16>,
+        found: &mut Uncovered,
+    ) -> bool
+        requires parts { MayJudge (R.rows self.now.rows.now) self.now }
+        requires walk { IsWalkAt self.now at parts.old.items }
+        requires step { slice_get self.now.cert.now at ≡ Some step }
+        ensures same { parts.new.items ≡ parts.old.items }
+        ensures judged { IsJudgedAt (R.rows self.now.rows.now) self.now at step.input parts.old.items (found_if result found.new) }
+    {
+        if self.cert.len() <= at + 1 {
+            return false;
+        }
+        match self.partners(step.input, parts.as_slice()) {
+            None => self.seek_each(at, step, parts, found),
+            Some(tickets) => self.seek_among(at, step, tickets, parts, found),
+        }
+    }
+
+    // The same where each row of the step's input is looked at.
+    #[cycle(judging)]
+    fn seek_each(
+        &self,
+        at: usize,
+        step: CertStep,
+        parts: &mut ArrayVec<Lent<'a>, 16>,
+        found: &mut Uncovered,
+    ) -> bool
+        requires parts { MayJudge (R.rows self.now.rows.now) self.now }
+        requires walk { IsWalkAt self.now at parts.old.items }
+        requires step { slice_get self.now.cert.now at ≡ Some step }
+        requires fits { at + 1 < 2 ^ 64 }
+        ensures same { parts.new.items ≡ parts.old.items }
+        ensures judged { IsJudgedAt (R.rows self.now.rows.now) self.now at step.input parts.old.items (found_if result found.new) }
+    {
+        for n in 0..self.rows.count(step.input) {
+            let (ticket, row) = self.rows.nth(step.input, n);
+            if self.seek_with(at, step, ticket, row, parts, found) {
+                return true;
+            }
+        }
+        false
+    }
+
+    // The same through each stored row of the step's input that has one of these tickets.
+    #[cycle(judging)]
+    fn seek_among(
+        &self,
+        at: usize,
+        step: CertStep,
+        tickets: &[u64],
+        parts: &mut ArrayVec<Lent<'a>, 16>,
+        found: &mut Uncovered,
+    ) -> bool
+        requires parts { MayJudge (R.rows self.now.rows.now) self.now }
+        requires walk { IsWalkAt self.now at parts.old.items }
+        requires step { slice_get self.now.cert.now at ≡ Some step }
+        requires fits { at + 1 < 2 ^ 64 }
+        requires rising { AreRisingRows (R.rows self.now.rows.now step.input) }
+        ensures same { parts.new.items ≡ parts.old.items }
+        ensures judged { IsJudgedAmong (R.rows self.now.rows.now) self.now at step.input tickets.now parts.old.items (found_if result found.new) }
+    {
+        for ticket in tickets {
+            if self.seek_under(at, step, *ticket, parts, found) {
+                return true;
+            }
+        }
+        false
+    }
+
+    // The same through the stored row with this ticket.
+    #[cycle(judging)]
+    fn seek_under(
+        &self,
+        at: usize,
+        step: CertStep,
+        ticket: u64,
+        parts: &mut ArrayVec<Lent<'a>, 16>,
+        found: &mut Uncovered,
+    ) -> bool
+        requires parts { MayJudge (R.rows self.now.rows.now) self.now }
+        requires walk { IsWalkAt self.now at parts.old.items }
+        requires step { slice_get self.now.cert.now at ≡ Some step }
+        requires fits { at + 1 < 2 ^ 64 }
+        requires rising { AreRisingRows (R.rows self.now.rows.now step.input) }
+        ensures same { parts.new.items ≡ parts.old.items }
+        ensures judged { IsJudgedAmong (R.rows self.now.rows.now) self.now at step.input (ticket ∷ []) parts.old.items (found_if result found.new) }
+    {
+        match self.rows.get(step.input, ticket) {
+            None => false,
+            Some(row) => self.seek_with(at, step, ticket, row, parts, found),
+        }
+    }
+
+    // The same through this stored row.
+    #[cycle(judging)]
+    fn seek_with(
+        &self,
+        at: usize,
+        step: CertStep,
+        ticket: u64,
+        row: &'a Row,
+        parts: &mut ArrayVec<Lent<'a>, 16>,
+        found: &mut Uncovered,
+    ) -> bool
+        requires parts { MayJudge (R.rows self.now.rows.now) self.now }
+        requires walk { IsWalkAt self.now at parts.old.items }
+        requires step { slice_get self.now.cert.now at ≡ Some step }
+        requires fits { at + 1 < 2 ^ 64 }
+        requires stored { In (ticket, row.now) (R.rows self.now.rows.now step.input) }
+        ensures same { parts.new.items ≡ parts.old.items }
+        ensures judged { let y = tuple_of step.input (ticket, row.now) in IsJudgedWith (known_by (R.rows self.now.rows.now) self.now) (steps_from self.now at) at parts.old.items y (found_if result found.new) }
+    {
+        if ticket >= self.low {
+            return false;
+        }
+        let next = Lent::of(ticket, step.input, row);
+        if !suits(self.spec.classes.as_slice(), parts.as_slice(), &next) {
+            return false;
+        }
+        parts.insert(0, next);
+        let is_found = self.seek(at + 1, parts, found);
+        parts.remove(0);
+        note_ticket(ticket, is_found, found);
+        is_found
+    }
+
+    // Whether an instance that a row asks for after the first step, which is covered, is not covered; the first is found.
+    #[inline(never)]
+    fn judge_through(&self, step: CertStep, own: Lent<'a>, found: &mut Uncovered) -> bool
+        requires parts { MayJudge (R.rows self.now.rows.now) self.now }
+        requires walk { IsWalkAt self.now 0 (own ∷ []) }
+        requires step { slice_get self.now.cert.now 0 ≡ Some step }
+        ensures { IsJudgedAt (R.rows self.now.rows.now) self.now 0 step.input (own.entry ∷ []) (found_if result found.new) }
+    {
+        let mut parts = ArrayVec::new();
+        parts.push(own);
+        self.seek_through(0, step, &mut parts, found)
+    }
+
+    // What a row asks for first that is not covered.
+    #[inline(always)]
+    fn judge(&self, own: Lent<'a>) -> Option<Uncovered>
+        requires parts { MayJudge (R.rows self.now.rows.now) self.now }
+        requires walk { IsWalkAt self.now 0 (own ∷ []) }
+        ensures { IsFirstUncovered (known_by (R.rows self.now.rows.now) self.now) (steps_from self.now 0) own.entry result }
+    {
+        if self.cert.len() == 0 {
+            return None;
+        }
+        let step = *self.cert.at(0);
+        let mut found = Uncovered {
+            entry: 0,
             through: ArrayVec::new(),
         };
-        return true;
-    }
-    seek_through(
-        spec, schemes, cert, at, step, rows, stores, low, parts, found,
-    )
-}
-
-// The same through each stored row that may stand for the step at the place, which itself is covered.
-#[cycle(judging)]
-fn seek_through<'a, R: StoredRows>(
-    spec: &JoinSpec,
-    schemes: &Schemes,
-    cert: &Cert,
-    at: usize,
-    step: CertStep,
-    rows: &'a R,
-    stores: &[PunctStore],
-    low: u64,
-    parts: &mut ArrayVec<Lent<'a>, 16>,
-    found: &mut Uncovered,
-) -> bool
-    requires parts { AreParts spec.now (R.rows rows.now) stores.now }
-    requires walk { IsOnWalk spec.now schemes.now (drop at cert.now) parts.old.items }
-    requires step { slice_get cert.now at ≡ Some step }
-    ensures same { parts.new.items ≡ parts.old.items }
-    ensures judged { IsJudgedThrough (known_of spec.now (R.rows rows.now) stores.now low) (entries schemes.now (drop at cert.now)) at parts.old.items (tuples_at (R.rows rows.now) step.input) (found_if result found.new) }
-{
-    if cert.len() <= at + 1 {
-        return false;
-    }
-    match partners(spec, step.input, parts.as_slice(), rows) {
-        None => seek_each(
-            spec, schemes, cert, at, step, rows, stores, low, parts, found,
-        ),
-        Some(tickets) => seek_among(
-            spec, schemes, cert, at, step, rows, stores, low, tickets, parts, found,
-        ),
-    }
-}
-
-// The same where each row of the step's input is looked at.
-#[cycle(judging)]
-fn seek_each<'a, R: StoredRows>(
-    spec: &JoinSpec,
-    schemes: &Schemes,
-    cert: &Cert,
-    at: usize,
-    step: CertStep,
-    rows: &'a R,
-    stores: &[PunctStore],
-    low: u64,
-    parts: &mut ArrayVec<Lent<'a>, 16>,
-    found: &mut Uncovered,
-) -> bool
-    requires parts { AreParts spec.now (R.rows rows.now) stores.now }
-    requires walk { IsOnWalk spec.now schemes.now (drop at cert.now) parts.old.items }
-    requires step { slice_get cert.now at ≡ Some step }
-    requires fits { at + 1 < 2 ^ 64 }
-    ensures same { parts.new.items ≡ parts.old.items }
-    ensures judged { IsJudgedThrough (known_of spec.now (R.rows rows.now) stores.now low) (entries schemes.now (drop at cert.now)) at parts.old.items (tuples_at (R.rows rows.now) step.input) (found_if result found.new) }
-{
-    for n in 0..rows.count(step.input) {
-        let (ticket, row) = rows.nth(step.input, n);
-        if seek_with(
-            spec, schemes, cert, at, step, rows, stores, low, ticket, row, parts, found,
-        ) {
-            return true;
+        if !self.is_step_covered(step, from_ref(&own)) {
+            return Some(found);
         }
-    }
-    false
-}
-
-// The same through each stored row of the step's input that has one of these tickets.
-#[cycle(judging)]
-fn seek_among<'a, R: StoredRows>(
-    spec: &JoinSpec,
-    schemes: &Schemes,
-    cert: &Cert,
-    at: usize,
-    step: CertStep,
-    rows: &'a R,
-    stores: &[PunctStore],
-    low: u64,
-    tickets: &[u64],
-    parts: &mut ArrayVec<Lent<'a>, 16>,
-    found: &mut Uncovered,
-) -> bool
-    requires parts { AreParts spec.now (R.rows rows.now) stores.now }
-    requires walk { IsOnWalk spec.now schemes.now (drop at cert.now) parts.old.items }
-    requires step { slice_get cert.now at ≡ Some step }
-    requires fits { at + 1 < 2 ^ 64 }
-    requires rising { AreRisingRows (R.rows rows.now step.input) }
-    ensures same { parts.new.items ≡ parts.old.items }
-    ensures judged { IsJudgedUnder (known_of spec.now (R.rows rows.now) stores.now low) (entries schemes.now (drop at cert.now)) at parts.old.items (tuples_at (R.rows rows.now) step.input) tickets.now (found_if result found.new) }
-{
-    for ticket in tickets {
-        if seek_under(
-            spec, schemes, cert, at, step, rows, stores, low, *ticket, parts, found,
-        ) {
-            return true;
+        if self.cert.len() == 1 {
+            return None;
         }
-    }
-    false
-}
-
-// The same through the stored row with this ticket.
-#[cycle(judging)]
-fn seek_under<'a, R: StoredRows>(
-    spec: &JoinSpec,
-    schemes: &Schemes,
-    cert: &Cert,
-    at: usize,
-    step: CertStep,
-    rows: &'a R,
-    stores: &[PunctStore],
-    low: u64,
-    ticket: u64,
-    parts: &mut ArrayVec<Lent<'a>, 16>,
-    found: &mut Uncovered,
-) -> bool
-    requires parts { AreParts spec.now (R.rows rows.now) stores.now }
-    requires walk { IsOnWalk spec.now schemes.now (drop at cert.now) parts.old.items }
-    requires step { slice_get cert.now at ≡ Some step }
-    requires fits { at + 1 < 2 ^ 64 }
-    requires rising { AreRisingRows (R.rows rows.now step.input) }
-    ensures same { parts.new.items ≡ parts.old.items }
-    ensures judged { IsJudgedUnder (known_of spec.now (R.rows rows.now) stores.now low) (entries schemes.now (drop at cert.now)) at parts.old.items (tuples_at (R.rows rows.now) step.input) (ticket ∷ []) (found_if result found.new) }
-{
-    match rows.get(step.input, ticket) {
-        None => false,
-        Some(row) => seek_with(
-            spec, schemes, cert, at, step, rows, stores, low, ticket, row, parts, found,
-        ),
-    }
-}
-
-// The same through this stored row.
-#[cycle(judging)]
-fn seek_with<'a, R: StoredRows>(
-    spec: &JoinSpec,
-    schemes: &Schemes,
-    cert: &Cert,
-    at: usize,
-    step: CertStep,
-    rows: &'a R,
-    stores: &[PunctStore],
-    low: u64,
-    ticket: u64,
-    row: &'a Row,
-    parts: &mut ArrayVec<Lent<'a>, 16>,
-    found: &mut Uncovered,
-) -> bool
-    requires parts { AreParts spec.now (R.rows rows.now) stores.now }
-    requires walk { IsOnWalk spec.now schemes.now (drop at cert.now) parts.old.items }
-    requires step { slice_get cert.now at ≡ Some step }
-    requires fits { at + 1 < 2 ^ 64 }
-    requires stored { In (ticket, row.now) (R.rows rows.now step.input) }
-    ensures same { parts.new.items ≡ parts.old.items }
-    ensures judged { IsJudgedWith (known_of spec.now (R.rows rows.now) stores.now low) (entries schemes.now (drop at cert.now)) at parts.old.items (tuple_of step.input (ticket, row.now)) (found_if result found.new) }
-{
-    if ticket >= low {
-        return false;
-    }
-    let next = Lent::of(ticket, step.input, row);
-    if !suits(spec.classes.as_slice(), parts.as_slice(), &next) {
-        return false;
-    }
-    parts.insert(0, next);
-    let is_found = seek(spec, schemes, cert, at + 1, rows, stores, low, parts, found);
-    parts.remove(0);
-    note_ticket(ticket, is_found, found);
-    is_found
-}
-
-// Whether an instance that a row asks for after the first step, which is covered, is not covered; the first is found.
-#[inline(never)]
-fn judge_through<R: StoredRows>(
-    spec: &JoinSpec,
-    schemes: &Schemes,
-    cert: &Cert,
-    step: CertStep,
-    own: Lent<'_>,
-    rows: &R,
-    stores: &[PunctStore],
-    low: u64,
-    found: &mut Uncovered,
-) -> bool
-    requires parts { AreParts spec.now (R.rows rows.now) stores.now }
-    requires walk { IsOnWalk spec.now schemes.now cert.now (own ∷ []) }
-    requires step { slice_get cert.now 0 ≡ Some step }
-    ensures { IsJudgedThrough (known_of spec.now (R.rows rows.now) stores.now low) (entries schemes.now cert.now) 0 (own.entry ∷ []) (tuples_at (R.rows rows.now) step.input) (found_if result found.new) }
-{
-    let mut parts = ArrayVec::new();
-    parts.push(own);
-    seek_through(
-        spec, schemes, cert, 0, step, rows, stores, low, &mut parts, found,
-    )
-}
-
-// What a row asks for first that is not covered.
-#[inline(always)]
-fn judge<R: StoredRows>(
-    spec: &JoinSpec,
-    schemes: &Schemes,
-    cert: &Cert,
-    own: Lent<'_>,
-    rows: &R,
-    stores: &[PunctStore],
-    low: u64,
-) -> Option<Uncovered>
-    requires parts { AreParts spec.now (R.rows rows.now) stores.now }
-    requires walk { IsOnWalk spec.now schemes.now cert.now (own ∷ []) }
-    ensures { IsFirstUncovered (known_of spec.now (R.rows rows.now) stores.now low) (entries schemes.now cert.now) own.entry result }
-{
-    if cert.len() == 0 {
-        return None;
-    }
-    let step = *cert.at(0);
-    let mut found = Uncovered {
-        entry: 0,
-        through: ArrayVec::new(),
-    };
-    if !step_is_covered(spec, schemes, stores, low, step, from_ref(&own)) {
-        return Some(found);
-    }
-    if cert.len() == 1 {
-        return None;
-    }
-    if judge_through(
-        spec, schemes, cert, step, own, rows, stores, low, &mut found,
-    ) {
-        Some(found)
-    } else {
-        None
+        if self.judge_through(step, own, &mut found) {
+            Some(found)
+        } else {
+            None
+        }
     }
 }
 
@@ -360,8 +295,15 @@ pub fn first_uncovered<R: StoredRows>(
     requires fits { length row.now ≡ slice_index (arities_of spec.now.inputs) input }
     ensures { (ticket : ℕ) → IsFirstUncovered (known_of spec.now (R.rows rows.now) stores.now low) (entries schemes.now cert.now) (tuple_of input (ticket, row.now)) result }
 {
-    let own = Lent::of(0, input, row);
-    judge(spec, schemes, cert, own, rows, stores, low)
+    let judge = Judge {
+        spec,
+        schemes,
+        cert,
+        rows,
+        stores,
+        low,
+    };
+    judge.judge(Lent::of(0, input, row))
 }
 
 /// Whether a row of an input is ripe: its ticket is below the low-water ticket, and each instance that it asks for, by the
@@ -387,8 +329,15 @@ pub fn ripe<R: StoredRows>(
     if low <= ticket {
         return false;
     }
-    let own = Lent::of(ticket, input, row);
-    match judge(spec, schemes, cert, own, rows, stores, low) {
+    let judge = Judge {
+        spec,
+        schemes,
+        cert,
+        rows,
+        stores,
+        low,
+    };
+    match judge.judge(Lent::of(ticket, input, row)) {
         None => true,
         Some(_) => false,
     }

@@ -7,10 +7,10 @@ use Rattle.pj_cover.proofs.ripeness.first_uncovered.Goals as goal
 
 pub judge-requires-clause-walk : goal.judge-requires-clause-walk
 judge-requires-clause-walk g c =
-    subst (λ (x : TupleAt). IsOnWalk c.args.spec.now c.args.schemes.now c.args.cert.now (x ∷ [])) (sym c.of-own.ensures)
+    subst (λ (x : TupleAt). IsOnWalk c.args.spec.now c.args.schemes.now c.args.cert.now (x ∷ [])) (sym c.of.ensures)
     (walk_starts c.args.spec.now c.args.schemes.now (g.R.StoredRows.rows c.args.rows.now) c.args.stores.now c.args.cert.now (tuple_of c.args.input (0, c.args.row.now)) c.requires.parts c.requires.input c.requires.certified c.requires.fits)
 
 pub returns : goal.returns
 returns g c ticket =
-    any_ticket (known_of c.args.spec.now (g.R.StoredRows.rows c.args.rows.now) c.args.stores.now c.args.low) (entries c.args.schemes.now c.args.cert.now) c.of-own.result (tuple_of c.args.input (ticket, c.args.row.now)) c.judge.result
-    (ap (λ (x : TupleAt). part_of x) c.of-own.ensures) c.judge.ensures
+    any_ticket (known_of c.args.spec.now (g.R.StoredRows.rows c.args.rows.now) c.args.stores.now c.args.low) (entries c.args.schemes.now c.args.cert.now) c.of.result (tuple_of c.args.input (ticket, c.args.row.now)) c.judge.result
+    (ap (λ (x : TupleAt). part_of x) c.of.ensures) c.judge.ensures

@@ -1,19 +1,19 @@
 use Rattle.std.proofs.Common.{◌≡◌, ◌∷◌, ◌++◌, [], ◌∙◌, sym, subst, List, map, ap}
 use Rattle.pj_events.specs.Join.{TupleAt}
 use Rattle.pj_cover.specs.Asking.{IsJudgedThrough, IsOnWalk, entries, found_if, known_of, tuple_of}
-use Rattle.pj_cover.proofs.ripeness.judge_through.Goals as goal
+use Rattle.pj_cover.proofs.ripeness.Judge.judge_through.Goals as goal
 
 pub seek_through-requires : goal.seek_through-requires
 seek_through-requires g c =
     let alone : c.push.new.self.items ≡ c.args.own ∷ [] = c.push.ensures.items ∙ ap (λ (xs : List TupleAt). xs ++ c.args.own ∷ []) c.new-parts.ensures in
     record {
       parts = c.requires.parts;
-      walk = subst (λ (xs : List TupleAt). IsOnWalk c.args.spec.now c.args.schemes.now c.args.cert.now xs) (sym alone) c.requires.walk;
+      walk = subst (λ (xs : List TupleAt). IsOnWalk c.args.self.now.spec.now c.args.self.now.schemes.now c.args.self.now.cert.now xs) (sym alone) c.requires.walk;
       step = c.requires.step;
     }
 
 pub returns : goal.returns
 returns g c =
-    let k = known_of c.args.spec.now (g.R.StoredRows.rows c.args.rows.now) c.args.stores.now c.args.low in
+    let k = known_of c.args.self.now.spec.now (g.R.StoredRows.rows c.args.self.now.rows.now) c.args.self.now.stores.now c.args.self.now.low in
     let alone : c.push.new.self.items ≡ c.args.own ∷ [] = c.push.ensures.items ∙ ap (λ (xs : List TupleAt). xs ++ c.args.own ∷ []) c.new-parts.ensures in
-    subst (λ (xs : List TupleAt). IsJudgedThrough k (entries c.args.schemes.now c.args.cert.now) 0 xs (map (tuple_of c.args.step.input) (g.R.StoredRows.rows c.args.rows.now c.args.step.input)) (found_if c.seek_through.result c.seek_through.new.found)) alone c.seek_through.ensures.judged
+    subst (λ (xs : List TupleAt). IsJudgedThrough k (entries c.args.self.now.schemes.now c.args.self.now.cert.now) 0 xs (map (tuple_of c.args.step.input) (g.R.StoredRows.rows c.args.self.now.rows.now c.args.step.input)) (found_if c.seek_through.result c.seek_through.new.found)) alone c.seek_through.ensures.judged
