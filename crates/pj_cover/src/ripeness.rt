@@ -34,6 +34,18 @@ fn note_ticket(ticket: u64, is_found: bool, found: &mut Uncovered)
     }
 }
 
+// What was found, where something was.
+#[inline(always)]
+fn found_if(is_found: bool, found: Uncovered) -> Option<Uncovered>
+    ensures { result ≡ found_if is_found found }
+{
+    if is_found {
+        Some(found)
+    } else {
+        None
+    }
+}
+
 // What a row is judged by: the join's shape and schemes, the certificate of the row's input, the stored rows, the punctuations of
 // each input, and the low-water ticket.
 #[derive(Clone, Copy)]
@@ -267,11 +279,8 @@ impl<'a, R: StoredRows> Judge<'a, R> {
         if self.cert.len() == 1 {
             return None;
         }
-        if self.judge_through(step, own, &mut found) {
-            Some(found)
-        } else {
-            None
-        }
+        let is_found = self.judge_through(step, own, &mut found);
+        found_if(is_found, found)
     }
 }
 

@@ -1,4 +1,4 @@
-use Rattle.std.proofs.Common.{◌≤◌, ◌+◌, ◌∷◌, [], Bool, Some, None, length, map, refl, subst, arith}
+use Rattle.std.proofs.Common.{◌≤◌, ◌+◌, ◌∷◌, [], Option, Some, None, length, map, refl, subst, sym, arith}
 use Rattle.pj_cover.specs.declared.rows.Uncovered.{Uncovered}
 use Rattle.pj_cover.specs.Asking.{IsFirstUncovered, entries, found_if, known_of, tuple_of}
 use Rattle.pj_cover.proofs.Judged.{judged_whole}
@@ -25,20 +25,11 @@ returns-then-len-eq1 g c =
     c.at-step.ensures c.from_ref.ensures.value c.is_step_covered.ensures c.if-not-is_step_covered.false
     (last_step k c.args.self.now.schemes.now c.args.self.now.cert.now 0 c.at-step.result.now (c.args.own ∷ []) (map (tuple_of c.at-step.result.now.input) (g.R.StoredRows.rows c.args.self.now.rows.now c.at-step.result.now.input)) c.at-step.ensures le))
 
-pub returns-then-judge_through : goal.returns-then-judge_through
-returns-then-judge_through g c =
+pub returns : goal.returns
+returns g c =
     let k = known_of c.args.self.now.spec.now (g.R.StoredRows.rows c.args.self.now.rows.now) c.args.self.now.stores.now c.args.self.now.low in
-    let o = found_if c.judge_through.result c.judge_through.new.found in
-    subst (λ (b : Bool). IsFirstUncovered k (entries c.args.self.now.schemes.now c.args.self.now.cert.now) c.args.own (found_if b c.judge_through.new.found)) c.if-judge_through.true
+    let o = found_if c.judge_through-is_found.result c.judge_through-is_found.new.found in
+    subst (λ (a : Option Uncovered). IsFirstUncovered k (entries c.args.self.now.schemes.now c.args.self.now.cert.now) c.args.own a) (sym c.found_if.ensures)
     (judged_whole k (entries c.args.self.now.schemes.now c.args.self.now.cert.now) c.args.own o
     (gone_through c.args.self.now.spec.now c.args.self.now.schemes.now (g.R.StoredRows.rows c.args.self.now.rows.now) c.args.self.now.stores.now c.args.self.now.low c.args.self.now.cert.now 0 c.at-step.result.now (c.args.own ∷ []) c.from_ref.result.now c.is_step_covered.result o
-    c.at-step.ensures c.from_ref.ensures.value c.is_step_covered.ensures c.if-not-is_step_covered.false c.judge_through.ensures))
-
-pub returns-else-judge_through : goal.returns-else-judge_through
-returns-else-judge_through g c =
-    let k = known_of c.args.self.now.spec.now (g.R.StoredRows.rows c.args.self.now.rows.now) c.args.self.now.stores.now c.args.self.now.low in
-    let o = found_if c.judge_through.result c.judge_through.new.found in
-    subst (λ (b : Bool). IsFirstUncovered k (entries c.args.self.now.schemes.now c.args.self.now.cert.now) c.args.own (found_if b c.judge_through.new.found)) c.if-judge_through.false
-    (judged_whole k (entries c.args.self.now.schemes.now c.args.self.now.cert.now) c.args.own o
-    (gone_through c.args.self.now.spec.now c.args.self.now.schemes.now (g.R.StoredRows.rows c.args.self.now.rows.now) c.args.self.now.stores.now c.args.self.now.low c.args.self.now.cert.now 0 c.at-step.result.now (c.args.own ∷ []) c.from_ref.result.now c.is_step_covered.result o
-    c.at-step.ensures c.from_ref.ensures.value c.is_step_covered.ensures c.if-not-is_step_covered.false c.judge_through.ensures))
+    c.at-step.ensures c.from_ref.ensures.value c.is_step_covered.ensures c.if-not-is_step_covered.false c.judge_through-is_found.ensures))
