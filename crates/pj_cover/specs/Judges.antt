@@ -2,7 +2,7 @@
 use Rattle.std.specs.Prelude.{ℕ, List, drop, Option}
 use Rattle.pj_value.specs.declared.values.Value.{Value}
 use Rattle.pj_events.specs.Join.{CertEntry, TupleAt}
-use Rattle.pj_cover.specs.Asking.{AreParts, IsJudgedThrough, IsJudgedUnder, IsOnWalk, Known, entries, known_of, tuples_at}
+use Rattle.pj_cover.specs.Asking.{AreParts, IsJudgedThrough, IsJudgedUnder, IsJudgedWith, IsOnWalk, Known, entries, known_of, tuples_at}
 use Rattle.pj_cover.specs.declared.rows.Uncovered.{Uncovered}
 use Rattle.pj_cover.specs.declared.ripeness.Judge.{Judge}
 
@@ -33,3 +33,7 @@ IsJudgedAt rows j at input xs o = IsJudgedThrough (known_by rows j) (steps_from 
 -- the same with those that have one of these tickets
 abbrev pub IsJudgedAmong : {R : Type 0} → Rows → Judge R → ℕ → ℕ → List ℕ → List TupleAt → Option Uncovered → Type 0
 IsJudgedAmong rows j at input tickets xs o = IsJudgedUnder (known_by rows j) (steps_from j at) at xs (tuples_at rows input) tickets o
+
+-- the same with this row alone
+abbrev pub IsJudgedBy : {R : Type 0} → Rows → Judge R → ℕ → List TupleAt → TupleAt → Option Uncovered → Type 0
+IsJudgedBy rows j at xs y o = IsJudgedWith (known_by rows j) (steps_from j at) at xs y o

@@ -4,8 +4,8 @@ ghost use Rattle.pj_value.specs.Lists.{In};
 ghost use Rattle.pj_shape.specs.Sound.{IsSoundSpec, arities_of};
 ghost use Rattle.pj_events.specs.Join.{IsCertified, agree, demand, entry_of};
 ghost use Rattle.pj_cover.specs.Rising.{AreRisingRows};
-ghost use Rattle.pj_cover.specs.Asking.{AreParts, HaveLength, HavePartners, IsFirstUncovered, IsJudged, IsJudgedWith, IsStep, data_of, entries, found_if, is_covered, is_ripe, known_of, marks_of, tuple_of, tuples_at, with_ticket};
-ghost use Rattle.pj_cover.specs.Judges.{IsJudgedAmong, IsJudgedAt, IsWalkAt, MayJudge, known_by, steps_from};
+ghost use Rattle.pj_cover.specs.Asking.{AreParts, HaveLength, HavePartners, IsFirstUncovered, IsJudged, IsStep, data_of, entries, found_if, is_covered, is_ripe, known_of, marks_of, tuple_of, tuples_at, with_ticket};
+ghost use Rattle.pj_cover.specs.Judges.{IsJudgedAmong, IsJudgedAt, IsJudgedBy, IsWalkAt, MayJudge, known_by, steps_from};
 
 use crate::asked::{Lent, partner_key, suits};
 use crate::instances::instance_is_covered;
@@ -229,7 +229,7 @@ impl<'a, R: StoredRows> Judge<'a, R> {
         requires fits { at + 1 < 2 ^ 64 }
         requires stored { In (ticket, row.now) (R.rows self.now.rows.now step.input) }
         ensures same { parts.new.items ≡ parts.old.items }
-        ensures judged { let y = tuple_of step.input (ticket, row.now) in IsJudgedWith (known_by (R.rows self.now.rows.now) self.now) (steps_from self.now at) at parts.old.items y (found_if result found.new) }
+        ensures judged { IsJudgedBy (R.rows self.now.rows.now) self.now at parts.old.items (tuple_of step.input (ticket, row.now)) (found_if result found.new) }
     {
         if ticket >= self.low {
             return false;

@@ -8,7 +8,8 @@ use Rattle.pj_laws.proofs.Matching.{agree-mono}
 use Rattle.pj_join.specs.Walks.{AllJoin, choice, choices, pair, pairs, suits}
 use Rattle.pj_state.specs.States.{StateView}
 use Rattle.pj_join.specs.Sides.{tuples_in}
-use Rattle.pj_join.proofs.Agreeing.{agree-none, suits-agree}
+use Rattle.pj_cover.proofs.Agreeing.{suits-agree}
+use Rattle.pj_join.proofs.Agreeing.{agree-none}
 use Rattle.pj_join.proofs.Kept.{tuples-length}
 
 one-each : (x : TupleAt) (ys : List TupleAt) → map joined (map (λ (c : List TupleAt). x ∷ c) (product (ys ∷ []))) ≡ pairs ys x

@@ -1,31 +1,9 @@
 -- How combinations that join are found one tuple after the other.
 use Rattle.std.specs.Prelude.{◌≡◌, ◌<◌, true, ℕ, Bool, not, ◌==◌, nat_lt, ◌&&◌, ◌||◌, if◌then◌else◌, List, [], ◌∷◌, map, filter, slice_index_or, length, Option, Some, None}
-use Rattle.std.specs.List.{list_all}
-use Rattle.pj_value.specs.Values.{value_eq}
+pub use Rattle.pj_cover.specs.Suits.{all_have, cell_value, has_there, suits, suits_class}
 use Rattle.pj_join.specs.declared.found.Found.{Found}
 use Rattle.pj_probe.specs.declared.probe.Found.{Found as ProbeFound}
 use Rattle.pj_events.specs.Join.{ClassCol, In, TupleAt, Value, agree, joined, no_value, product, upto_from, value_at}
-
--- the value of a cell, where one that is not there has the empty text
-abbrev pub cell_value : Option Value → Value
-cell_value None = no_value
-cell_value (Some v) = v
-
--- the tuple has this value in the column, where that is a column of its input
-abbrev pub has_there : Value → ClassCol → TupleAt → Bool
-has_there v at x = not (x.input == at.input) || value_eq v (value_at x.row at.column)
-
--- the tuple, and each of the others, has this value in each column of the class that is of its input
-abbrev pub all_have : List ClassCol → List TupleAt → TupleAt → Value → Bool
-all_have class xs more v = list_all (λ at. has_there v at more && list_all (has_there v at) xs) class
-
--- the tuple's values in the class are those that the others have in it
-abbrev pub suits_class : List TupleAt → TupleAt → List ClassCol → Bool
-suits_class xs more class = list_all (λ at. not (more.input == at.input) || all_have class xs more (value_at more.row at.column)) class
-
--- whether the tuple joins with these, which join with each other
-abbrev pub suits : List (List ClassCol) → List TupleAt → TupleAt → Bool
-suits classes xs more = list_all (suits_class xs more) classes
 
 -- whether a tuple is older than this one and joins with it
 abbrev pub older_joins : List (List ClassCol) → TupleAt → TupleAt → Bool
