@@ -2,6 +2,7 @@
 use Rattle.std.specs.Prelude.{ℕ, ◌<◌, ◌≤◌, ◌≡◌, ◌==◌, if◌then◌else◌, Bool, true, false, not, nat_lt, ◌&&◌, ◌||◌, ◌⊎◌, List, [], ◌∷◌, ◌++◌, Option, Some, None, filter, flat_map, length, slice_get, slice_index_or}
 use Rattle.pj_value.specs.declared.values.Value.{Value}
 use Rattle.pj_state.specs.declared.shared.Stored.{Stored}
+use Rattle.pj_state.specs.Rising.{IsRising, itself}
 use Rattle.pj_state.specs.States.{StateView, is_value, row_under, stored, tickets_of}
 use Rattle.pj_cover.specs.Asking.{Known, entries, first_class, puncts_from, tuples_of}
 use Rattle.pj_cover.specs.declared.rows.Uncovered.{Uncovered}
@@ -9,11 +10,12 @@ use Rattle.pj_events.specs.Patterns.{Pattern, covers, is_wild, matches_row, matc
 use Rattle.pj_events.specs.Join.{CertEntry, CertStep, ClassCol, In, JoinData, PunctAt, TupleAt, agree, cert_of, constant, covered, demand, has, inputs, instance_from, is_held, older_puncts, value_at}
 use Rattle.pj_events.specs.KeptState.{kept_low, kept_ripe}
 use Rattle.pj_join.specs.Joins.{JoinView}
-use Rattle.pj_join.specs.Judging.{JudgeView, ripe_at, rows_at}
+use Rattle.pj_join.specs.Judging.{JudgeView, lets_go, ripe_at, rows_at}
 use Rattle.pj_join.specs.Sides.{row_pairs, state_at, still_held, tuple_in}
 pub use Rattle.pj_join.specs.declared.marks.Watches.{Watches}
 pub use Rattle.pj_join.specs.declared.marks.Judged.{Judged}
 use Rattle.pj_join.specs.declared.marks.Verdict.{Verdict}
+use Rattle.pj_join.specs.declared.widening.Swept.{Swept}
 use Rattle.pj_join.specs.declared.marks.Verdict.TheVariants.{Ripe, Open, Marked}
 
 abbrev pub no_watches : Watches
@@ -84,6 +86,16 @@ is_like patterns (Some row) = matches_row patterns row
 -- these are the tickets of some of the rows, in their order
 abbrev pub AreSome : List Stored → List ℕ → Type 0
 AreSome rows gone = (keep : Stored → Bool) × (gone ≡ tickets_of (filter keep rows))
+
+-- those that go are some of the rows of an input, in order of tickets
+pub record IsSwept (s : Swept) : Type 0 where
+  pub there : s.input < length s.schemas.now
+  pub rising : IsRising itself s.gone.now
+  pub some : AreSome s.state.now.rows s.gone.now
+
+-- whether the punctuation goes up
+abbrev pub goes_up : Swept → PunctAt → Bool
+goes_up s p = lets_go s.state.now.rows s.gone.now s.input p
 
 -- ---- what a punctuation marks
 

@@ -13,7 +13,7 @@ ghost use Rattle.pj_join.specs.Joins.{IsTaken, StandsFor, JoinTakes, StandsTaken
 ghost use Rattle.pj_join.specs.Watching.{AreOpenBut};
 ghost use Rattle.pj_join.specs.Sweeping.{GoesWhereCovered, HandsUp, HasBeenLawful, IsForgotten, puncts_up, rows_off, swept_off};
 
-use crate::arrivals::Heard;
+use crate::arrivals::{Coming, Heard};
 use crate::changes::make_changes;
 use crate::handing::hand_out_found;
 use crate::marks::Watches;
@@ -201,9 +201,11 @@ impl Join {
             &self.states[input as usize],
             &mut self.stores[input as usize],
             &mut self.waiting,
-            ticket,
-            input,
-            punct,
+            Coming {
+                ticket,
+                input,
+                punct,
+            },
             out,
         )?;
         self.next += 1;

@@ -1,18 +1,18 @@
 // Which tuples a sweep removes, and what is left.
-ghost use Rattle.std.specs.Prelude.{◌≡◌, ◌<◌, ◌≤◌, ◌++◌, ℕ, false, length, map, slice_get, take, Some, OnOk, OnErr, IfOk};
+ghost use Rattle.std.specs.Prelude.{◌≡◌, ◌≤◌, ◌++◌, ℕ, false, length, map, slice_get, take, Some, OnOk, OnErr, IfOk};
 ghost use Rattle.pj_value.specs.Lists.{In};
 ghost use Rattle.pj_state.specs.declared.shared.Stored.{Stored};
 ghost use Rattle.pj_state.specs.Rising.{IsRising, itself};
 ghost use Rattle.pj_state.specs.States.{state_of, stored, ticket_of};
 ghost use Rattle.pj_join.specs.Changes.{changed};
 ghost use Rattle.pj_join.specs.Judging.{BothMore, letting_go, one_if, ripe_rows, ripe_tickets, row_in, rows_at, rows_without, staying_on};
-ghost use Rattle.pj_join.specs.Watching.{AreHeldBy, AreJudged, AreLookedAt, AreSome, IsOneJudged, IsVerdict, NoneIsRipe, all_picked, goes_by, is_passed, marked_by, picked, verdict_on};
+ghost use Rattle.pj_join.specs.Watching.{AreHeldBy, AreJudged, AreLookedAt, IsOneJudged, IsSwept, IsVerdict, NoneIsRipe, all_picked, goes_by, is_passed, marked_by, picked, verdict_on};
 
 use crate::arrivals::Heard;
 use crate::changes::Change;
 use crate::marks::{Judged, Verdict, Watches};
 use crate::stored::Inputs;
-use crate::widening::let_go;
+use crate::widening::Swept;
 use pj_cover::{PunctStore, Uncovered, first_uncovered};
 use pj_pattern::Punct;
 use pj_shape::{Cert, JoinSpec, Schema, Schemes};
@@ -153,25 +153,20 @@ fn to_judge(alloc: Global, watches: &Watches, state: &State) -> Result<Vec<u64>,
 // What changes of the punctuations that wait where these rows go; those that do not wait on are put at the end of `out`, widened.
 fn wait_on(
     alloc: Global,
-    schemas: &[Schema],
-    state: &State,
-    gone: &[u64],
-    input: u32,
+    swept: &Swept<'_>,
     waiting: &[Heard],
     out: &mut List<Punct>,
 ) -> Result<List<Change>, NoMemory>
-    requires there { input < length schemas.now }
-    requires rising { IsRising itself gone.now }
-    requires some { AreSome state.now.rows gone.now }
-    requires held { AreHeldBy state.now.rows input waiting.now }
-    ensures waiting { IfOk result (λ changes. changed changes waiting.now ≡ staying_on state.now.rows gone.now input waiting.now) }
-    ensures ok { OnOk result (out.new ≡ out.old ++ letting_go schemas.now state.now.rows gone.now input waiting.now) }
+    requires swept { IsSwept swept.now }
+    requires held { AreHeldBy swept.now.state.now.rows swept.now.input waiting.now }
+    ensures waiting { IfOk result (λ changes. changed changes waiting.now ≡ staying_on swept.now.state.now.rows swept.now.gone.now swept.now.input waiting.now) }
+    ensures ok { let s = swept.now in OnOk result (out.new ≡ out.old ++ letting_go s.schemas.now s.state.now.rows s.gone.now s.input waiting.now) }
     ensures err { OnErr result (take (length out.old) out.new ≡ out.old) }
 {
-    if gone.len() == 0 {
+    if swept.gone.len() == 0 {
         return Ok(List::new(alloc));
     }
-    let_go(alloc, schemas, state, gone, input, waiting, out)
+    swept.let_go(alloc, waiting, out)
 }
 
 impl<'a> Judge<'a> {
@@ -294,15 +289,13 @@ impl<'a> Judge<'a> {
     {
         let judged = self.ripe_ones(alloc, watches, removed)?;
         let Judged { gone, marked } = judged;
-        let changes = wait_on(
-            alloc,
-            self.spec.inputs.as_slice(),
-            &self.states[self.input as usize],
-            gone.as_slice(),
-            self.input,
-            waiting,
-            out,
-        )?;
+        let swept = Swept {
+            schemas: self.spec.inputs.as_slice(),
+            input: self.input,
+            state: &self.states[self.input as usize],
+            gone: gone.as_slice(),
+        };
+        let changes = wait_on(alloc, &swept, waiting, out)?;
         Ok(Left {
             gone,
             marked,
