@@ -9,13 +9,13 @@ use Rattle.pj_state.specs.declared.shared.Stored.{Stored}
 use Rattle.pj_state.specs.States.{StateView, pair_of, pairs}
 use Rattle.pj_cover.specs.Stores.{Store}
 use Rattle.pj_cover.specs.Asking.{HaveLength, Known, data_of, entries, is_covered, known_of, punct_of, puncts_from, tuple_of, tuples_of}
-use Rattle.pj_events.specs.Join.{In, CertEntry, ClassCol, Demand, IsWalk, JoinData, PunctAt, TupleAt, Value, agree, arities, covered, demand, grown, inputs, need, of_input, older, older_puncts, steps_of}
+use Rattle.pj_events.specs.Join.{In, CertEntry, CertStep, ClassCol, Demand, IsWalk, JoinData, JoinSpec, PunctAt, TupleAt, Value, agree, arities, covered, demand, grown, inputs, need, of_input, older, older_puncts, steps_of}
 use Rattle.pj_events.specs.Patterns.{covers}
 use Rattle.pj_events.specs.KeptState.{KeptState, kept_low, kept_ripe}
 use Rattle.pj_laws.proofs.Upto.{get_or-upto}
 use Rattle.pj_join.specs.declared.place.Place.{Place}
 use Rattle.pj_join.specs.Insides.{IsJoin, inside}
-use Rattle.pj_join.specs.Judging.{MayJudge, judge, ripe_at}
+use Rattle.pj_join.specs.Judging.{JudgeView, MayJudge, ripe_at}
 use Rattle.pj_join.specs.Sides.{IsShaped, heard_in, heard_of, log_of, puncts_of, row_pairs, state_at, tuple_in}
 use Rattle.pj_join.proofs.Combining.{flat_map-agree}
 use Rattle.pj_join.proofs.Kept.{all-states, all-stores, heard-length, shaped-at, side-is}
@@ -141,6 +141,11 @@ walk-same : (spec : JoinData) (cert : List CertEntry) (known : List ℕ) → IsW
 walk-same spec [] known w = tt
 walk-same spec (e ∷ cert) known w = (w.0, w.1, w.2, walk-same spec cert (e.input ∷ known) w.3)
 
+-- a judge of an input over these rows and punctuations
+abbrev pub judge_at : JoinData → ℕ → List StateView → List Store → ℕ → Bool → JudgeView
+judge_at spec input states stores low settled =
+    record { spec = spec.shape; schemes = spec.schemes; cert = steps_of spec input; input = input; states = states; stores = stores; low = low; settled = settled }
+
 module _ (spec : JoinData) (limit next done : ℕ) (states : List StateView) (stores : List Store) (pending : List Place) (taken : List ℕ) (j : IsJoin spec limit (inside next done states stores pending taken)) where
   shapes : inputs spec ≡ length spec.shape.inputs
   shapes = length-map spec.shape.inputs (λ schema. length schema)
@@ -176,9 +181,9 @@ module _ (spec : JoinData) (limit next done : ℕ) (states : List StateView) (st
           ∙ sym (none-past (λ (p : PunctAt). p.input) k (puncts_of stores) (λ p h q. let lt = j.heard.placed p h in omega (arith, lt, q, le)))
 
   -- the judge's yes over the rows is that over all stored tuples
-  pub ripe-is : (k : KeptState) → k.stored ≡ log_of states → k.puncts ≡ puncts_of stores → (low : ℕ) → low ≡ kept_low k → (input : ℕ) (s : Stored)
-      → ripe_at (judge spec.shape spec.schemes states stores low) (steps_of spec input) input s ≡ kept_ripe spec k (tuple_in input s)
-  ripe-is k rows puncts low is input s =
+  pub ripe-is : (k : KeptState) → k.stored ≡ log_of states → k.puncts ≡ puncts_of stores → (low : ℕ) → low ≡ kept_low k → (input : ℕ) (settled : Bool) (s : Stored)
+      → ripe_at (judge_at spec input states stores low settled) s ≡ kept_ripe spec k (tuple_in input s)
+  ripe-is k rows puncts low is input settled s =
       ap (λ b. ltb s.ticket low && b)
       (all-same (is_covered known) (covered (older_puncts low (puncts_of stores))) (need spec.shape.classes (older low known.stored) cert (x ∷ [])) (λ d. covered-of low d known.puncts ∙ ap (list_any (λ p. ltb p.ticket low && covers p.patterns d.instance)) (same-puncts d.input) ∙ sym (covered-of low d (puncts_of stores)))
       ∙ ap (list_all (covered (older_puncts low (puncts_of stores)))) (need-same spec.shape.classes (older low known.stored) (older low (log_of states)) same-older cert (x ∷ [])))
@@ -200,8 +205,8 @@ module _ (spec : JoinData) (limit next done : ℕ) (states : List StateView) (st
           ∙ ap (older low) (same-rows n)
           ∙ sym (filter-swap (λ (y : TupleAt). eqb y.input n) (λ (y : TupleAt). ltb y.ticket low) (log_of states))
 
-  pub may-judge : (low input : ℕ) → input < inputs spec → MayJudge (judge spec.shape spec.schemes states stores low) (steps_of spec input) input
-  may-judge low input lt = record {
+  may-judge : (input : ℕ) → input < inputs spec → MayJudge spec.shape spec.schemes (steps_of spec input) input states stores
+  may-judge input lt = record {
     parts = record { sound = j.ordered.sound; fit = fit; one_each = j.heard.arities };
     count = all-states spec limit next done states stores pending taken j ∙ shapes;
     there = omega (arith, lt, shapes);
@@ -213,3 +218,12 @@ module _ (spec : JoinData) (limit next done : ℕ) (states : List StateView) (st
           let s = In-map pair_of r (state_at states k).rows h in
           let shape : IsShaped (get_or (arities spec) k 0) (state_at states k) = shaped-at (arities spec) states k j.shaped (omega (arith, l, shapes)) in
           subst (λ (q : ℕ × List Value). length q.1 ≡ get_or (arities spec) k 0) s.2 (shape.fit s.0 s.1)
+
+  -- the same of what a call is lent
+  pub may_judge_by : (input : ℕ) → input < inputs spec → (shape : JoinSpec) (cert : List CertStep) (states' : List StateView) (stores' : List Store) → shape ≡ spec.shape → cert ≡ steps_of spec input → states' ≡ states → stores' ≡ stores
+      → MayJudge shape spec.schemes cert input states' stores'
+  may_judge_by input lt shape cert states' stores' a b c d =
+      subst (λ (s : JoinSpec). MayJudge s spec.schemes cert input states' stores') (sym a)
+      (subst (λ (cs : List CertStep). MayJudge spec.shape spec.schemes cs input states' stores') (sym b)
+      (subst (λ (ss : List StateView). MayJudge spec.shape spec.schemes (steps_of spec input) input ss stores') (sym c)
+      (subst (λ (ps : List Store). MayJudge spec.shape spec.schemes (steps_of spec input) input states ps) (sym d) (may-judge input lt))))

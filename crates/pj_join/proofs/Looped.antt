@@ -14,10 +14,10 @@ use Rattle.pj_shape.specs.Sound.{arities_of}
 use Rattle.pj_events.specs.declared.events.Out.{Out}
 use Rattle.pj_events.specs.declared.events.Out.TheVariants.{Tuple}
 use Rattle.pj_events.specs.Patterns.{Pattern}
-use Rattle.pj_events.specs.Join.{CertStep, ClassCol, In, PunctAt, TupleAt, Value, has, of_input, upto_from}
+use Rattle.pj_events.specs.Join.{CertStep, ClassCol, In, JoinSpec, PunctAt, TupleAt, Value, has, of_input, upto_from}
 use Rattle.pj_probe.specs.Walks.{sides_at, tuple_at}
 use Rattle.pj_join.specs.Handed.{pair_of, pairs_out}
-use Rattle.pj_join.specs.Judging.{Judge, MayJudge, lets_go, one_if, ripe_at, rows_without, widened_among}
+use Rattle.pj_join.specs.Judging.{MayJudge, lets_go, one_if, rows_without, widened_among}
 use Rattle.pj_join.specs.Sides.{AreAllShaped, AreWide, IsShaped, IsWide, heard_of, no_state, heard_in, heard_with, state_at, stays, still_held, tuple_in, tuples_in}
 use Rattle.pj_join.specs.Walks.{IsNarrowed, may_join, older_joins, suits}
 use Rattle.pj_join.proofs.Combining.{filter-map}
@@ -65,17 +65,15 @@ picked_stop {A} p number low xs i x rising below at le = go xs i rising at
         pick true ih = ap (λ (zs : List A). y ∷ zs) ih
         pick false ih = ih
 
--- ---- ripe rows
-
-pub ripe-below : (j : Judge) (cert : List CertStep) (input : ℕ) (s : Stored) → ripe_at j cert input s ≡ true → s.ticket < j.low
-ripe-below j cert input s t = ltb-true s.ticket j.low (and_parts (ltb s.ticket j.low) _ t).0
+-- ---- rows that are judged
 
 -- a row that is stored fits its input
-pub row_fits : (j : Judge) (cert : List CertStep) (input ticket : ℕ) (row : List Value) → MayJudge j cert input → (at : ℕ) × (slice_get (state_at j.states input).rows at ≡ Some (stored ticket row)) → length row ≡ get_or (arities_of j.spec.inputs) input 0
-row_fits j cert input ticket row may (at, e) =
-    may.parts.fit input may.there (ticket, row) (In-map_from pair_stored (stored ticket row) (state_at j.states input).rows
-    (subst (λ (s : Stored). In s (state_at j.states input).rows) (get_or_from_slice_get (state_at j.states input).rows at (stored ticket row) (stored ticket row) e)
-    (in-place (state_at j.states input).rows (stored ticket row) at (slice_get_within (state_at j.states input).rows at (stored ticket row) e))))
+pub row_fits : (spec : JoinSpec) (schemes : List (List (List Bool))) (cert : List CertStep) (input : ℕ) (states : List StateView) (stores : List Store) (ticket : ℕ) (row : List Value) → MayJudge spec schemes cert input states stores
+    → (at : ℕ) × (slice_get (state_at states input).rows at ≡ Some (stored ticket row)) → length row ≡ get_or (arities_of spec.inputs) input 0
+row_fits spec schemes cert input states stores ticket row may (at, e) =
+    may.parts.fit input may.there (ticket, row) (In-map_from pair_stored (stored ticket row) (state_at states input).rows
+    (subst (λ (s : Stored). In s (state_at states input).rows) (get_or_from_slice_get (state_at states input).rows at (stored ticket row) (stored ticket row) e)
+    (in-place (state_at states input).rows (stored ticket row) at (slice_get_within (state_at states input).rows at (stored ticket row) e))))
 
 -- ---- rows that match
 

@@ -16,12 +16,12 @@ use Rattle.pj_state.specs.Rising.{AllAbove, IsRising, first_with, itself}
 use Rattle.pj_state.specs.States.{pair_of, row_in as row_found, row_under, stored, ticket_of, tickets_of}
 use Rattle.pj_cover.specs.declared.rows.Uncovered.{Uncovered}
 use Rattle.pj_cover.specs.Asking.{IsAsked, IsFirstUncovered, Known, all_covered, entries, known_of, tuple_of}
-use Rattle.pj_events.specs.Join.{CertEntry, CertStep, Demand, In, TupleAt, covered, has, older_puncts}
+use Rattle.pj_events.specs.Join.{CertEntry, Demand, In, TupleAt, covered, has, older_puncts}
 use Rattle.pj_join.specs.declared.marks.Verdict.{Verdict}
 use Rattle.pj_join.specs.declared.marks.Verdict.TheVariants.{Ripe, Open, Marked}
-use Rattle.pj_join.specs.Judging.{Judge, one_if, ripe_at, row_in}
+use Rattle.pj_join.specs.Judging.{JudgeView, one_if, ripe_at, row_in, rows_at}
 use Rattle.pj_join.specs.Sides.{row_pairs}
-use Rattle.pj_join.specs.Watching.{AreJudged, AreLookedAt, AsksEarly, IsLookedAt, IsOneJudged, IsVerdict, Judged, NoneIsRipe, Watches, all_picked, goes_by, is_passed, known, marked_by, picked, rows_at, under_with, verdict_on}
+use Rattle.pj_join.specs.Watching.{AreJudged, AreLookedAt, AsksEarly, IsLookedAt, IsOneJudged, IsVerdict, Judged, NoneIsRipe, Watches, all_picked, goes_by, is_passed, known, marked_by, picked, under_with, verdict_on}
 
 -- ---- lists that rise
 
@@ -164,22 +164,22 @@ open-early k (e ∷ f ∷ cert) x (y ∷ []) asks few there below asked un =
     inr (y, record { there = there y (inl refl); below = below y (inl refl); of_entry = asked.0; joins = asked.1; uncovered = ap (covered (older_puncts k.low k.puncts)) asked.2 ∙ un })
 open-early k (e ∷ f ∷ cert) x (y ∷ z ∷ rows) asks few there below asked un = absurd (omega (arith, few))
 
-pub verdict_is : (j : Judge) (cert : List CertStep) (input : ℕ) (settled : Bool) (s : Stored) (found : Option Uncovered) → s.ticket < j.low
-    → IsFirstUncovered (known_of j.spec (row_pairs j.states) j.stores j.low) (entries j.schemes cert) (tuple_of input (pair_of s)) found → IsVerdict j cert input settled s (verdict_on found settled)
-verdict_is j cert input settled s None lt all = and_from (ltb s.ticket j.low) _ (lt-ltb s.ticket j.low lt) all
-verdict_is j cert input settled s (Some u) lt v = go (ltb u.entry 2) refl settled refl
+pub verdict_is : (j : JudgeView) (s : Stored) (found : Option Uncovered) → s.ticket < j.low
+    → IsFirstUncovered (known_of j.spec (row_pairs j.states) j.stores j.low) (entries j.schemes j.cert) (tuple_of j.input (pair_of s)) found → IsVerdict j s (verdict_on found j.settled)
+verdict_is j s None lt all = and_from (ltb s.ticket j.low) _ (lt-ltb s.ticket j.low lt) all
+verdict_is j s (Some u) lt v = go (ltb u.entry 2) refl j.settled refl
   where
     facts : Known
     facts = known_of j.spec (row_pairs j.states) j.stores j.low
 
-    not_ripe : ripe_at j cert input s ≡ false
-    not_ripe = and_right (ltb s.ticket j.low) (all_covered facts (entries j.schemes cert) (tuple_of input (pair_of s) ∷ [])) v.1
+    not_ripe : ripe_at j s ≡ false
+    not_ripe = and_right (ltb s.ticket j.low) (all_covered facts (entries j.schemes j.cert) (tuple_of j.input (pair_of s) ∷ [])) v.1
 
-    go : (a : Bool) → ltb u.entry 2 ≡ a → (b : Bool) → settled ≡ b → IsVerdict j cert input settled s (cond (a && b) Open Marked)
+    go : (a : Bool) → ltb u.entry 2 ≡ a → (b : Bool) → j.settled ≡ b → IsVerdict j s (cond (a && b) Open Marked)
     go true e true q =
         let place : 0 + length v.0.rows ≡ u.entry = v.0.place in
         let entry : u.entry < 2 = ltb-true u.entry 2 e in
-        (not_ripe, λ l. (q, open-early facts (entries j.schemes cert) (tuple_of input (pair_of s)) v.0.rows v.0.asks (omega (arith, place, entry)) v.0.stored_in v.0.below v.0.asked v.0.uncovered))
+        (not_ripe, λ l. (q, open-early facts (entries j.schemes j.cert) (tuple_of j.input (pair_of s)) v.0.rows v.0.asks (omega (arith, place, entry)) v.0.stored_in v.0.below v.0.asked v.0.uncovered))
     go true e false q = not_ripe
     go false e b q = not_ripe
 
@@ -210,9 +210,9 @@ left-false false b e = (refl, e)
 has-split : (ns ms : List ℕ) (n : ℕ) → has (ns ++ ms) n ≡ false → (has ns n ≡ false) × (has ms n ≡ false)
 has-split ns ms n e = left-false (has ns n) (has ms n) (sym (any-append (λ m. eqb m n) ns ms) ∙ e)
 
-pub judged_none : (j : Judge) (cert : List CertStep) (input : ℕ) (settled : Bool) (ticket : ℕ) (old : Judged) → None ≡ row_under ticket (rows_at j input) → IsOneJudged j cert input settled ticket old old
-judged_none j cert input settled ticket old e = record {
-  gone = sym (append-nil old.gone) ∙ ap (λ (o : Option (List Value)). old.gone ++ tickets_of (filter (ripe_at j cert input) (under_with ticket o))) e;
+pub judged_none : (j : JudgeView) (ticket : ℕ) (old : Judged) → None ≡ row_under ticket (rows_at j) → IsOneJudged j ticket old old
+judged_none j ticket old e = record {
+  gone = sym (append-nil old.gone) ∙ ap (λ (o : Option (List Value)). old.gone ++ tickets_of (filter (ripe_at j) (under_with ticket o))) e;
   more = λ m f. f;
   looked = λ row at. absurd (clash (e ∙ sym at));
 }
@@ -220,40 +220,40 @@ judged_none j cert input settled ticket old e = record {
     clash : {row : List Value} → None ≡ Some row → ⊥
     clash q = cc
 
-pub judged_row : (j : Judge) (cert : List CertStep) (input : ℕ) (settled : Bool) (ticket : ℕ) (row : List Value) (v : Verdict) (old new : Judged) → Some row ≡ row_under ticket (rows_at j input) → IsVerdict j cert input settled (stored ticket row) v
-    → new.gone ≡ old.gone ++ one_if (goes_by v) ticket → new.marked ≡ old.marked ++ one_if (marked_by v) ticket → IsOneJudged j cert input settled ticket old new
-judged_row j cert input settled ticket row v old new at is gone marked = record {
-  gone = gone ∙ ap (λ (ts : List ℕ). old.gone ++ ts) (picks v is ∙ ap (λ (o : Option (List Value)). tickets_of (filter (ripe_at j cert input) (under_with ticket o))) at);
+pub judged_row : (j : JudgeView) (ticket : ℕ) (row : List Value) (v : Verdict) (old new : Judged) → Some row ≡ row_under ticket (rows_at j) → IsVerdict j (stored ticket row) v
+    → new.gone ≡ old.gone ++ one_if (goes_by v) ticket → new.marked ≡ old.marked ++ one_if (marked_by v) ticket → IsOneJudged j ticket old new
+judged_row j ticket row v old new at is gone marked = record {
+  gone = gone ∙ ap (λ (ts : List ℕ). old.gone ++ ts) (picks v is ∙ ap (λ (o : Option (List Value)). tickets_of (filter (ripe_at j) (under_with ticket o))) at);
   more = λ m f. (has-split old.marked (one_if (marked_by v) ticket) m (ap (λ ns. has ns m) (sym marked) ∙ f)).0;
-  looked = λ other here. subst (λ (r : List Value). IsLookedAt j cert input settled new.marked (stored ticket r)) (same (at ∙ sym here)) (look v is marked);
+  looked = λ other here. subst (λ (r : List Value). IsLookedAt j new.marked (stored ticket r)) (same (at ∙ sym here)) (look v is marked);
 }
   where
     same : {a b : List Value} → Some a ≡ Some b → a ≡ b
     same q = cc
 
-    picks : (w : Verdict) → IsVerdict j cert input settled (stored ticket row) w → one_if (goes_by w) ticket ≡ tickets_of (filter (ripe_at j cert input) (stored ticket row ∷ []))
+    picks : (w : Verdict) → IsVerdict j (stored ticket row) w → one_if (goes_by w) ticket ≡ tickets_of (filter (ripe_at j) (stored ticket row ∷ []))
     picks Ripe t = sym (ap (λ b. tickets_of (cond b (stored ticket row ∷ []) [])) t)
     picks Open t = sym (ap (λ b. tickets_of (cond b (stored ticket row ∷ []) [])) t.0)
     picks Marked t = sym (ap (λ b. tickets_of (cond b (stored ticket row ∷ []) [])) t)
 
-    look : (w : Verdict) → IsVerdict j cert input settled (stored ticket row) w → new.marked ≡ old.marked ++ one_if (marked_by w) ticket → IsLookedAt j cert input settled new.marked (stored ticket row)
+    look : (w : Verdict) → IsVerdict j (stored ticket row) w → new.marked ≡ old.marked ++ one_if (marked_by w) ticket → IsLookedAt j new.marked (stored ticket row)
     look Ripe t m lt f none = absurd (false≢true (sym f ∙ t))
     look Open t m lt f none = t.1 lt
     look Marked t m lt f none =
         absurd (false≢true (sym ((has-split old.marked (ticket ∷ []) ticket (ap (λ ns. has ns ticket) (sym m) ∙ none)).1) ∙ ap (λ b. b || false) (eq-eqb ticket ticket refl)))
 
-pub picked_rows : (j : Judge) (cert : List CertStep) (input ticket : ℕ) (row : List Value) (v : Verdict) (settled : Bool) (old new : List (List Value)) → Some row ≡ row_under ticket (rows_at j input) → IsVerdict j cert input settled (stored ticket row) v
-    → new ≡ old ++ one_if (goes_by v) row → new ≡ old ++ map row_in (picked j cert input ticket)
-picked_rows j cert input ticket row v settled old new at is e =
-    e ∙ ap (λ (rs : List (List Value)). old ++ rs) (picks v is ∙ ap (λ (o : Option (List Value)). map row_in (filter (ripe_at j cert input) (under_with ticket o))) at)
+pub picked_rows : (j : JudgeView) (ticket : ℕ) (row : List Value) (v : Verdict) (old new : List (List Value)) → Some row ≡ row_under ticket (rows_at j) → IsVerdict j (stored ticket row) v
+    → new ≡ old ++ one_if (goes_by v) row → new ≡ old ++ map row_in (picked j ticket)
+picked_rows j ticket row v old new at is e =
+    e ∙ ap (λ (rs : List (List Value)). old ++ rs) (picks v is ∙ ap (λ (o : Option (List Value)). map row_in (filter (ripe_at j) (under_with ticket o))) at)
   where
-    picks : (w : Verdict) → IsVerdict j cert input settled (stored ticket row) w → one_if (goes_by w) row ≡ map row_in (filter (ripe_at j cert input) (stored ticket row ∷ []))
+    picks : (w : Verdict) → IsVerdict j (stored ticket row) w → one_if (goes_by w) row ≡ map row_in (filter (ripe_at j) (stored ticket row ∷ []))
     picks Ripe t = sym (ap (λ b. map row_in (cond b (stored ticket row ∷ []) [])) t)
     picks Open t = sym (ap (λ b. map row_in (cond b (stored ticket row ∷ []) [])) t.0)
     picks Marked t = sym (ap (λ b. map row_in (cond b (stored ticket row ∷ []) [])) t)
 
-pub picked_none : (j : Judge) (cert : List CertStep) (input ticket : ℕ) (old : List (List Value)) → None ≡ row_under ticket (rows_at j input) → old ≡ old ++ map row_in (picked j cert input ticket)
-picked_none j cert input ticket old e = sym (append-nil old) ∙ ap (λ (o : Option (List Value)). old ++ map row_in (filter (ripe_at j cert input) (under_with ticket o))) e
+pub picked_none : (j : JudgeView) (ticket : ℕ) (old : List (List Value)) → None ≡ row_under ticket (rows_at j) → old ≡ old ++ map row_in (picked j ticket)
+picked_none j ticket old e = sym (append-nil old) ∙ ap (λ (o : Option (List Value)). old ++ map row_in (filter (ripe_at j) (under_with ticket o))) e
 
 -- ---- all of them
 
@@ -261,29 +261,29 @@ pub flat-more : {A B : Type 0} (f : A → List B) (xs : List A) (x : A) → flat
 flat-more f [] x = append-nil (f x)
 flat-more f (y ∷ ys) x = ap (λ zs. f y ++ zs) (flat-more f ys x) ∙ sym (append_assoc (f y) (flat_map f ys) (f x))
 
-next-picked : (j : Judge) (cert : List CertStep) (input : ℕ) (tickets : List ℕ) (i t : ℕ) → i < length tickets → t ≡ get_or tickets i 0 → all_picked j cert input (take (i + 1) tickets) ≡ all_picked j cert input (take i tickets) ++ picked j cert input t
-next-picked j cert input tickets i t lt is = ap (all_picked j cert input) (take_more tickets i 0 lt ∙ ap (λ n. take i tickets ++ n ∷ []) (sym is)) ∙ flat-more (picked j cert input) (take i tickets) t
+next-picked : (j : JudgeView) (tickets : List ℕ) (i t : ℕ) → i < length tickets → t ≡ get_or tickets i 0 → all_picked j (take (i + 1) tickets) ≡ all_picked j (take i tickets) ++ picked j t
+next-picked j tickets i t lt is = ap (all_picked j) (take_more tickets i 0 lt ∙ ap (λ n. take i tickets ++ n ∷ []) (sym is)) ∙ flat-more (picked j) (take i tickets) t
 
-pub judged_more : (j : Judge) (cert : List CertStep) (input : ℕ) (settled : Bool) (tickets : List ℕ) (i t : ℕ) (old new : Judged) → i < length tickets → t ≡ get_or tickets i 0
-    → AreJudged j cert input settled (take i tickets) old → IsOneJudged j cert input settled t old new → AreJudged j cert input settled (take (i + 1) tickets) new
-judged_more j cert input settled tickets i t old new lt is before one = record {
-  gone = one.gone ∙ ap (λ (ts : List ℕ). ts ++ tickets_of (picked j cert input t)) before.gone ∙ sym (ap tickets_of (next-picked j cert input tickets i t lt is) ∙ map-append ticket_of (all_picked j cert input (take i tickets)) (picked j cert input t));
+pub judged_more : (j : JudgeView) (tickets : List ℕ) (i t : ℕ) (old new : Judged) → i < length tickets → t ≡ get_or tickets i 0
+    → AreJudged j (take i tickets) old → IsOneJudged j t old new → AreJudged j (take (i + 1) tickets) new
+judged_more j tickets i t old new lt is before one = record {
+  gone = one.gone ∙ ap (λ (ts : List ℕ). ts ++ tickets_of (picked j t)) before.gone ∙ sym (ap tickets_of (next-picked j tickets i t lt is) ∙ map-append ticket_of (all_picked j (take i tickets)) (picked j t));
   looked = looked;
 }
   where
-    looked : (n : ℕ) → In n (take (i + 1) tickets) → (row : List Value) → Some row ≡ row_under n (rows_at j input) → IsLookedAt j cert input settled new.marked (stored n row)
+    looked : (n : ℕ) → In n (take (i + 1) tickets) → (row : List Value) → Some row ≡ row_under n (rows_at j) → IsLookedAt j new.marked (stored n row)
     looked n h row at = go (In-append_cases n (take i tickets) (t ∷ []) (subst (λ (ns : List ℕ). In n ns) (take_more tickets i 0 lt ∙ ap (λ m. take i tickets ++ m ∷ []) (sym is)) h))
       where
-        go : In n (take i tickets) ⊎ In n (t ∷ []) → IsLookedAt j cert input settled new.marked (stored n row)
+        go : In n (take i tickets) ⊎ In n (t ∷ []) → IsLookedAt j new.marked (stored n row)
         go (inl k) = λ l f none. before.looked n k row at l f (one.more n none)
-        go (inr (inl e)) = subst (λ m. Some row ≡ row_under m (rows_at j input) → IsLookedAt j cert input settled new.marked (stored m row)) e (one.looked row) at
+        go (inr (inl e)) = subst (λ m. Some row ≡ row_under m (rows_at j) → IsLookedAt j new.marked (stored m row)) e (one.looked row) at
         go (inr (inr k)) = absurd k
 
-pub rows_more : (j : Judge) (cert : List CertStep) (input : ℕ) (tickets : List ℕ) (i t : ℕ) (first old new : List (List Value)) → i < length tickets → t ≡ get_or tickets i 0
-    → old ≡ first ++ map row_in (all_picked j cert input (take i tickets)) → new ≡ old ++ map row_in (picked j cert input t) → new ≡ first ++ map row_in (all_picked j cert input (take (i + 1) tickets))
-rows_more j cert input tickets i t first old new lt is before one =
-    one ∙ ap (λ (rs : List (List Value)). rs ++ map row_in (picked j cert input t)) before ∙ append_assoc first (map row_in (all_picked j cert input (take i tickets))) (map row_in (picked j cert input t))
-    ∙ ap (λ (rs : List (List Value)). first ++ rs) (sym (ap (map row_in) (next-picked j cert input tickets i t lt is) ∙ map-append row_in (all_picked j cert input (take i tickets)) (picked j cert input t)))
+pub rows_more : (j : JudgeView) (tickets : List ℕ) (i t : ℕ) (first old new : List (List Value)) → i < length tickets → t ≡ get_or tickets i 0
+    → old ≡ first ++ map row_in (all_picked j (take i tickets)) → new ≡ old ++ map row_in (picked j t) → new ≡ first ++ map row_in (all_picked j (take (i + 1) tickets))
+rows_more j tickets i t first old new lt is before one =
+    one ∙ ap (λ (rs : List (List Value)). rs ++ map row_in (picked j t)) before ∙ append_assoc first (map row_in (all_picked j (take i tickets))) (map row_in (picked j t))
+    ∙ ap (λ (rs : List (List Value)). first ++ rs) (sym (ap (map row_in) (next-picked j tickets i t lt is) ∙ map-append row_in (all_picked j (take i tickets)) (picked j t)))
 
 -- ---- the ripe rows
 
@@ -303,50 +303,50 @@ under-own (t ∷ rows) s r (inr h) =
     let a : t.ticket < s.ticket = above-in ticket_of t.ticket rows s r.0 h in
     under-own rows s r.1 h ∙ sym (ap (λ b. row_found (cond b (Some t) (first_with ticket_of s.ticket rows))) (false_from_ne_true (eqb t.ticket s.ticket) (λ q. let e = eqb-true t.ticket s.ticket q in omega (arith, a, e))))
 
-pub picks_are : (j : Judge) (cert : List CertStep) (input : ℕ) (tickets : List ℕ) → IsRising ticket_of (rows_at j input) → IsRising itself tickets
-    → ((s : Stored) → In s (rows_at j input) → ripe_at j cert input s ≡ true → In s.ticket tickets) → all_picked j cert input tickets ≡ filter (ripe_at j cert input) (rows_at j input)
-picks_are j cert input tickets r t all = rising-same ticket_of (all_picked j cert input tickets) (filter (ripe_at j cert input) (rows_at j input)) (rises tickets t) (rising-filter ticket_of (ripe_at j cert input) (rows_at j input) r) fore back
+pub picks_are : (j : JudgeView) (tickets : List ℕ) → IsRising ticket_of (rows_at j) → IsRising itself tickets
+    → ((s : Stored) → In s (rows_at j) → ripe_at j s ≡ true → In s.ticket tickets) → all_picked j tickets ≡ filter (ripe_at j) (rows_at j)
+picks_are j tickets r t all = rising-same ticket_of (all_picked j tickets) (filter (ripe_at j) (rows_at j)) (rises tickets t) (rising-filter ticket_of (ripe_at j) (rows_at j) r) fore back
   where
-    of-picked : (n : ℕ) (s : Stored) → In s (picked j cert input n) → (In s (rows_at j input) × (s.ticket ≡ n)) × (ripe_at j cert input s ≡ true)
-    of-picked n s h = let f = In-filter (ripe_at j cert input) s (under_with n (row_under n (rows_at j input))) h in (under-in (rows_at j input) n s f.0, f.1)
+    of-picked : (n : ℕ) (s : Stored) → In s (picked j n) → (In s (rows_at j) × (s.ticket ≡ n)) × (ripe_at j s ≡ true)
+    of-picked n s h = let f = In-filter (ripe_at j) s (under_with n (row_under n (rows_at j))) h in (under-in (rows_at j) n s f.0, f.1)
 
-    of-all : (ns : List ℕ) (s : Stored) → In s (all_picked j cert input ns) → (n : ℕ) × In n ns × In s (picked j cert input n)
-    of-all ns s h = In-flat_map (picked j cert input) s ns h
+    of-all : (ns : List ℕ) (s : Stored) → In s (all_picked j ns) → (n : ℕ) × In n ns × In s (picked j n)
+    of-all ns s h = In-flat_map (picked j) s ns h
 
-    single : (n : ℕ) (o : Option (List Value)) → IsRising ticket_of (filter (ripe_at j cert input) (under_with n o))
+    single : (n : ℕ) (o : Option (List Value)) → IsRising ticket_of (filter (ripe_at j) (under_with n o))
     single n None = tt
-    single n (Some row) = go (ripe_at j cert input (stored n row))
+    single n (Some row) = go (ripe_at j (stored n row))
       where
         go : (b : Bool) → IsRising ticket_of (cond b (stored n row ∷ []) [])
         go true = (tt, tt)
         go false = tt
 
-    rises : (ns : List ℕ) → IsRising itself ns → IsRising ticket_of (all_picked j cert input ns)
+    rises : (ns : List ℕ) → IsRising itself ns → IsRising ticket_of (all_picked j ns)
     rises [] q = tt
-    rises (n ∷ ns) q = rising-append ticket_of (picked j cert input n) (all_picked j cert input ns) (single n (row_under n (rows_at j input))) (rises ns q.1) later
+    rises (n ∷ ns) q = rising-append ticket_of (picked j n) (all_picked j ns) (single n (row_under n (rows_at j))) (rises ns q.1) later
       where
-        later : (x y : Stored) → In x (picked j cert input n) → In y (all_picked j cert input ns) → x.ticket < y.ticket
+        later : (x y : Stored) → In x (picked j n) → In y (all_picked j ns) → x.ticket < y.ticket
         later x y h k =
             let m = of-all ns y k in
             let a : n < m.0 = above-in itself n ns m.0 q.0 m.1 in
             let e : x.ticket ≡ n = (of-picked n x h).0.1 in
             let f : y.ticket ≡ m.0 = (of-picked m.0 y m.2).0.1 in omega (arith, a, e, f)
 
-    fore : (s : Stored) → In s (all_picked j cert input tickets) → In s (filter (ripe_at j cert input) (rows_at j input))
-    fore s h = let m = of-all tickets s h in let o = of-picked m.0 s m.2 in In-filter_from (ripe_at j cert input) s (rows_at j input) o.0.0 o.1
+    fore : (s : Stored) → In s (all_picked j tickets) → In s (filter (ripe_at j) (rows_at j))
+    fore s h = let m = of-all tickets s h in let o = of-picked m.0 s m.2 in In-filter_from (ripe_at j) s (rows_at j) o.0.0 o.1
 
-    back : (s : Stored) → In s (filter (ripe_at j cert input) (rows_at j input)) → In s (all_picked j cert input tickets)
+    back : (s : Stored) → In s (filter (ripe_at j) (rows_at j)) → In s (all_picked j tickets)
     back s h =
-        let f = In-filter (ripe_at j cert input) s (rows_at j input) h in
-        In-flat_map_from (picked j cert input) s s.ticket tickets (all s f.0 f.1)
-        (In-filter_from (ripe_at j cert input) s (under_with s.ticket (row_under s.ticket (rows_at j input))) (subst (λ (o : Option (List Value)). In s (under_with s.ticket o)) (under-own (rows_at j input) s r f.0) (inl refl)) f.1)
+        let f = In-filter (ripe_at j) s (rows_at j) h in
+        In-flat_map_from (picked j) s s.ticket tickets (all s f.0 f.1)
+        (In-filter_from (ripe_at j) s (under_with s.ticket (row_under s.ticket (rows_at j))) (subst (λ (o : Option (List Value)). In s (under_with s.ticket o)) (under-own (rows_at j) s r f.0) (inl refl)) f.1)
 
 -- what is not passed over was judged, and what is passed over is not ripe
-pub all_ripe : (j : Judge) (cert : List CertStep) (input : ℕ) (w : Watches) (tickets : List ℕ) → IsRising ticket_of (rows_at j input) → IsRising itself tickets → NoneIsRipe j cert input w
-    → ((s : Stored) → In s (rows_at j input) → is_passed w s.ticket ≡ false → In s.ticket tickets) → all_picked j cert input tickets ≡ filter (ripe_at j cert input) (rows_at j input)
-all_ripe j cert input w tickets r t none all =
-    picks_are j cert input tickets r t (λ s h ripe. all s h (false_from_ne_true (is_passed w s.ticket) (λ p. false≢true (sym (none s h p) ∙ ripe))))
+pub all_ripe : (j : JudgeView) (w : Watches) (tickets : List ℕ) → IsRising ticket_of (rows_at j) → IsRising itself tickets → NoneIsRipe j w
+    → ((s : Stored) → In s (rows_at j) → is_passed w s.ticket ≡ false → In s.ticket tickets) → all_picked j tickets ≡ filter (ripe_at j) (rows_at j)
+all_ripe j w tickets r t none all =
+    picks_are j tickets r t (λ s h ripe. all s h (false_from_ne_true (is_passed w s.ticket) (λ p. false≢true (sym (none s h p) ∙ ripe))))
 
-pub all_looked : (j : Judge) (cert : List CertStep) (input : ℕ) (settled : Bool) (w : Watches) (tickets : List ℕ) (judged : Judged) → IsRising ticket_of (rows_at j input)
-    → ((s : Stored) → In s (rows_at j input) → is_passed w s.ticket ≡ false → In s.ticket tickets) → AreJudged j cert input settled tickets judged → AreLookedAt j cert input settled w judged.marked
-all_looked j cert input settled w tickets judged r all are s h f = are.looked s.ticket (all s h f) s.row (under-own (rows_at j input) s r h)
+pub all_looked : (j : JudgeView) (w : Watches) (tickets : List ℕ) (judged : Judged) → IsRising ticket_of (rows_at j)
+    → ((s : Stored) → In s (rows_at j) → is_passed w s.ticket ≡ false → In s.ticket tickets) → AreJudged j tickets judged → AreLookedAt j w judged.marked
+all_looked j w tickets judged r all are s h f = are.looked s.ticket (all s h f) s.row (under-own (rows_at j) s r h)

@@ -8,8 +8,8 @@ use Rattle.pj_state.specs.declared.shared.Stored.{Stored}
 use Rattle.pj_state.specs.Rising.{IsRising}
 use Rattle.pj_state.specs.States.{row_under, ticket_of}
 use Rattle.pj_events.specs.Patterns.{Pattern, matches_row}
-use Rattle.pj_events.specs.Join.{CertStep, In, PunctAt, Value, has}
-use Rattle.pj_join.specs.Judging.{Judge, lets_go, one_if, ripe_at, ripe_tickets}
+use Rattle.pj_events.specs.Join.{In, PunctAt, Value, has}
+use Rattle.pj_join.specs.Judging.{JudgeView, lets_go, one_if, ripe_at, ripe_tickets, rows_at}
 use Rattle.pj_join.specs.Sides.{stays, still_held}
 use Rattle.pj_join.specs.Watching.{AreGone, AreSome, is_like}
 use Rattle.pj_join.proofs.Picked.{under-own}
@@ -122,5 +122,5 @@ all_gone rows gone patterns (keep, is) as-many = any_none (stays gone patterns) 
         none true = refl
         none false = refl
 
-pub ripe_some : (j : Judge) (cert : List CertStep) (input : ℕ) (rows : List Stored) (gone : List ℕ) → gone ≡ ripe_tickets j cert input rows → AreSome rows gone
-ripe_some j cert input rows gone is = (ripe_at j cert input, is)
+pub ripe_some : (j : JudgeView) (gone : List ℕ) → gone ≡ ripe_tickets j → AreSome (rows_at j) gone
+ripe_some j gone is = (ripe_at j, is)

@@ -13,12 +13,12 @@ use Rattle.pj_value.proofs.Members.{In-filter, In-map_from, filter-agree, filter
 use Rattle.pj_join.specs.declared.place.Place.{Place}
 use Rattle.pj_join.specs.Joins.{JoinView, after}
 use Rattle.pj_join.specs.Insides.{IsJoin, IsOrdered, Rise, inside, lowest, made_with, seen, tickets}
-use Rattle.pj_join.specs.Judging.{Judge, is_let_go, judge, letting_go, lets_go, ripe_at, ripe_rows, ripe_tickets, rows_without, staying_on, waiting_on}
+use Rattle.pj_join.specs.Judging.{JudgeView, is_let_go, letting_go, lets_go, ripe_at, ripe_rows, ripe_tickets, rows_without, staying_on, waiting_on}
 use Rattle.pj_join.specs.Sides.{IsShaped, log_of, merged, place_of, puncts_of, state_at, stays, still_held, ticket_at, tuple_in, tuples_in}
 use Rattle.pj_join.specs.Sweeping.{puncts_up, rows_off, swept_off}
 use Rattle.pj_join.proofs.Classes.{eqb-below}
 use Rattle.pj_join.proofs.Combining.{filter-map}
-use Rattle.pj_join.proofs.Judged.{filter-swap, ripe-is}
+use Rattle.pj_join.proofs.Judged.{filter-swap, judge_at, ripe-is}
 use Rattle.pj_join.proofs.Kept.{shaped-at, shaped-set, side-is, tuples-set}
 use Rattle.pj_join.proofs.Merging.{merged-is}
 use Rattle.pj_join.proofs.Orders.{rise-has, rise-in}
@@ -81,8 +81,8 @@ module _ (node : ℕ) (spec : JoinData) (limit next done : ℕ) (states : List S
   abbrev rows : List Stored
   rows = (state_at states input).rows
 
-  abbrev judge-of : ℕ → Judge
-  judge-of low = judge spec.shape spec.schemes states stores low
+  abbrev judge-of : ℕ → Bool → JudgeView
+  judge-of low settled = judge_at spec input states stores low settled
 
   abbrev goes : TupleAt → Bool
   goes x = eqb x.input input && kept_ripe spec join.kept x
@@ -91,20 +91,20 @@ module _ (node : ℕ) (spec : JoinData) (limit next done : ℕ) (states : List S
   side = side-is spec limit next done states stores pending taken j input lt
 
   -- the ripe rows are the tuples that the sweep removes
-  ripe-are : (low : ℕ) → low ≡ kept_low join.kept → map (tuple_in input) (filter (ripe_at (judge-of low) (steps_of spec input) input) rows) ≡ swept_off join input
-  ripe-are low is =
-      ap (map (tuple_in input)) (filter-agree (ripe_at (judge-of low) (steps_of spec input) input) (λ s. kept_ripe spec join.kept (tuple_in input s)) rows (λ s h. ripe-is spec limit next done states stores pending taken j join.kept refl refl low is input s))
+  ripe-are : (low : ℕ) (settled : Bool) → low ≡ kept_low join.kept → map (tuple_in input) (filter (ripe_at (judge-of low settled)) rows) ≡ swept_off join input
+  ripe-are low settled is =
+      ap (map (tuple_in input)) (filter-agree (ripe_at (judge-of low settled)) (λ s. kept_ripe spec join.kept (tuple_in input s)) rows (λ s h. ripe-is spec limit next done states stores pending taken j join.kept refl refl low is input settled s))
       ∙ sym (filter-map (kept_ripe spec join.kept) (tuple_in input) rows)
       ∙ ap (filter (kept_ripe spec join.kept)) side
       ∙ filter-filter (λ (x : TupleAt). eqb x.input input) (kept_ripe spec join.kept) log
 
-  pub gone-are : (low : ℕ) (gone : List ℕ) → low ≡ kept_low join.kept → gone ≡ ripe_tickets (judge-of low) (steps_of spec input) input rows → gone ≡ tickets (swept_off join input)
-  gone-are low gone is e = e ∙ sym (map-map (λ (x : TupleAt). x.ticket) (tuple_in input) (filter (ripe_at (judge-of low) (steps_of spec input) input) rows)) ∙ ap tickets (ripe-are low is)
+  pub gone-are : (low : ℕ) (settled : Bool) (gone : List ℕ) → low ≡ kept_low join.kept → gone ≡ ripe_tickets (judge-of low settled) → gone ≡ tickets (swept_off join input)
+  gone-are low settled gone is e = e ∙ sym (map-map (λ (x : TupleAt). x.ticket) (tuple_in input) (filter (ripe_at (judge-of low settled)) rows)) ∙ ap tickets (ripe-are low settled is)
 
-  pub rows-are : (low : ℕ) (old new : List (List Value)) → low ≡ kept_low join.kept → new ≡ old ++ ripe_rows (judge-of low) (steps_of spec input) input rows → new ≡ old ++ rows_off join input
-  rows-are low old new is e =
+  pub rows-are : (low : ℕ) (settled : Bool) (old new : List (List Value)) → low ≡ kept_low join.kept → new ≡ old ++ ripe_rows (judge-of low settled) → new ≡ old ++ rows_off join input
+  rows-are low settled old new is e =
       e ∙ ap (λ (more : List (List Value)). old ++ more)
-      (sym (map-map (λ (x : TupleAt). x.row) (tuple_in input) (filter (ripe_at (judge-of low) (steps_of spec input) input) rows)) ∙ ap (map (λ (x : TupleAt). x.row)) (ripe-are low is))
+      (sym (map-map (λ (x : TupleAt). x.row) (tuple_in input) (filter (ripe_at (judge-of low settled)) rows)) ∙ ap (map (λ (x : TupleAt). x.row)) (ripe-are low settled is))
 
   module _ (gone : List ℕ) (are : gone ≡ tickets (swept_off join input)) where
     has-is : (x : TupleAt) → In x log → has gone x.ticket ≡ goes x
@@ -216,15 +216,6 @@ held-at-first spec limit next done states stores pending taken j state p lt is =
 
 -- ---- the same, of what a call is lent
 
-pub same-judge : (schemes : List (List (List Bool))) (low : ℕ) (spec spec' : JoinSpec) (states states' : List StateView) (stores stores' : List Store) → spec ≡ spec' → states ≡ states' → stores ≡ stores' → judge spec schemes states stores low ≡ judge spec' schemes states' stores' low
-same-judge schemes low spec spec' states states' stores stores' a b c = λ i. record { spec = a i; schemes = schemes; states = b i; stores = c i; low = low }
-
-pub same-tickets : (input : ℕ) (j k : Judge) (cert cert' : List CertStep) (states states' : List StateView) → j ≡ k → cert ≡ cert' → states ≡ states' → ripe_tickets j cert input (state_at states input).rows ≡ ripe_tickets k cert' input (state_at states' input).rows
-same-tickets input j k cert cert' states states' a b c =
-    ap (λ (l : Judge). ripe_tickets l cert input (state_at states input).rows) a
-    ∙ ap₂ (λ (cs : List CertStep) (ss : List StateView). ripe_tickets k cs input (state_at ss input).rows) b c
-
-pub same-rows : (input : ℕ) (j k : Judge) (cert cert' : List CertStep) (states states' : List StateView) → j ≡ k → cert ≡ cert' → states ≡ states' → ripe_rows j cert input (state_at states input).rows ≡ ripe_rows k cert' input (state_at states' input).rows
-same-rows input j k cert cert' states states' a b c =
-    ap (λ (l : Judge). ripe_rows l cert input (state_at states input).rows) a
-    ∙ ap₂ (λ (cs : List CertStep) (ss : List StateView). ripe_rows k cs input (state_at ss input).rows) b c
+pub same-judge : (spec : JoinData) (input low : ℕ) (settled : Bool) (shape : JoinSpec) (cert : List CertStep) (states states' : List StateView) (stores stores' : List Store) → shape ≡ spec.shape → cert ≡ steps_of spec input → states ≡ states' → stores ≡ stores'
+    → record { spec = shape; schemes = spec.schemes; cert = cert; input = input; states = states; stores = stores; low = low; settled = settled } ≡ judge_at spec input states' stores' low settled
+same-judge spec input low settled shape cert states states' stores stores' a b c d = λ i. record { spec = a i; schemes = spec.schemes; cert = b i; input = input; states = c i; stores = d i; low = low; settled = settled }

@@ -14,11 +14,11 @@ use Rattle.pj_events.specs.KeptState.{KeptState, kept_low, kept_ripe, least, swe
 use Rattle.pj_join.specs.declared.place.Place.{Place}
 use Rattle.pj_join.specs.Insides.{IsJoin, inside, made_with, seen, tickets}
 use Rattle.pj_join.specs.Joins.{JoinView}
-use Rattle.pj_join.specs.Judging.{Judge, judge, ripe_at}
+use Rattle.pj_join.specs.Judging.{JudgeView, ripe_at}
 use Rattle.pj_join.specs.Sides.{log_of, puncts_of, row_pairs, state_at, tuple_in}
 use Rattle.pj_join.specs.Sweeping.{swept_off}
 use Rattle.pj_join.specs.Watching.{AreFewer, AreLeft, AreLookedAt, AreOpenBut, AreRoused, AreWatched, AsksEarly, AsksNext, AsksOpen, IsLeftNext, NoneIsRipe, Watches, asks_first, is_passed, known, known_at, watches_at}
-use Rattle.pj_join.proofs.Judged.{covered-of, ripe-is, same-puncts, same-rows}
+use Rattle.pj_join.proofs.Judged.{covered-of, judge_at, ripe-is, same-puncts, same-rows}
 use Rattle.pj_join.proofs.Kept.{below-end, shapes, side-is}
 
 module _ (spec : JoinData) where
@@ -195,8 +195,8 @@ module _ (spec : JoinData) where
       in-log : (s : Stored) → In s (state_at states input).rows → In (tuple_in input s) log
       in-log s h = (In-filter (λ (y : TupleAt). eqb y.input input) (tuple_in input s) log (subst (λ (xs : List TupleAt). In (tuple_in input s) xs) (side-is spec limit next done states stores pending taken j input lt) (In-map_from (tuple_in input) s (state_at states input).rows h))).0
 
-      pub none_ripe : (ws : List Watches) → AreWatched spec next low log (puncts_of stores) ws → NoneIsRipe (judge spec.shape spec.schemes states stores low) (steps_of spec input) input (watches_at ws input)
-      none_ripe ws w s h t = ripe-is spec limit next done states stores pending taken j k stored-are puncts-are low is input s ∙ not_ripe (tuple_in input s) (w.asks (tuple_in input s) (in-log s h) t)
+      pub none_ripe : (settled : Bool) (ws : List Watches) → AreWatched spec next low log (puncts_of stores) ws → NoneIsRipe (judge_at spec input states stores low settled) (watches_at ws input)
+      none_ripe settled ws w s h t = ripe-is spec limit next done states stores pending taken j k stored-are puncts-are low is input settled s ∙ not_ripe (tuple_in input s) (w.asks (tuple_in input s) (in-log s h) t)
 
       covered-all : low ≡ next → (d : Demand) → covered (older_puncts low (puncts_from 0 stores)) d ≡ covered (puncts_of stores) d
       covered-all last d =
@@ -217,18 +217,18 @@ module _ (spec : JoinData) where
           (In-filter (λ (z : TupleAt). eqb z.input y.input) y log
           (subst (λ (xs : List TupleAt). In y xs) (same-rows spec limit next done states stores pending taken j y.input) (In-filter_from (λ (z : TupleAt). eqb z.input y.input) y (tuples_of (row_pairs states) (length spec.shape.inputs)) h (eq-eqb y.input y.input refl)))).0
 
-      early-all : low ≡ next → (cert : List CertEntry) (x : TupleAt) → AsksEarly (known_at (judge spec.shape spec.schemes states stores low)) cert x → AsksEarly (known spec.shape.classes log (puncts_of stores) low) cert x
-      early-all last cert x (inl a) = inl (asks-all last cert x a)
-      early-all last cert x (inr a) = inr (go cert a)
+      early-all : (settled : Bool) → low ≡ next → (cert : List CertEntry) (x : TupleAt) → AsksEarly (known_at (judge_at spec input states stores low settled)) cert x → AsksEarly (known spec.shape.classes log (puncts_of stores) low) cert x
+      early-all settled last cert x (inl a) = inl (asks-all last cert x a)
+      early-all settled last cert x (inr a) = inr (go cert a)
         where
-          go : (cs : List CertEntry) → AsksNext (known_at (judge spec.shape spec.schemes states stores low)) cs x → AsksNext (known spec.shape.classes log (puncts_of stores) low) cs x
+          go : (cs : List CertEntry) → AsksNext (known_at (judge_at spec input states stores low settled)) cs x → AsksNext (known spec.shape.classes log (puncts_of stores) low) cs x
           go [] n = n
           go (e ∷ []) n = n
           go (e ∷ f ∷ cs) (y, w) = (y, record { there = in-stored y w.there; below = w.below; of_entry = w.of_entry; joins = w.joins; uncovered = sym (covered-all last (demand spec.shape.classes f (y ∷ x ∷ []))) ∙ w.uncovered })
 
       -- what was judged and is neither ripe nor marked asks for something that is not covered
       pub open_but : (node : ℕ) (waiting : List PunctAt) (ws : List Watches) (settled : Bool) (marked : List ℕ) → k ≡ (seen (made_with node spec limit) next done (log_of states) (puncts_of stores) waiting taken).kept → AreWatched spec next low log (puncts_of stores) ws → (settled ≡ true → low ≡ next)
-          → AreLookedAt (judge spec.shape spec.schemes states stores low) (steps_of spec input) input settled (watches_at ws input) marked
+          → AreLookedAt (judge_at spec input states stores low settled) (watches_at ws input) marked
           → AreOpenBut (seen (made_with node spec limit) next done (log_of states) (puncts_of stores) waiting taken) input marked
       open_but node waiting ws settled marked same w last looked x h of below ripe none = by-pass (is_passed (watches_at ws input) x.ticket) refl
         where
@@ -247,9 +247,9 @@ module _ (spec : JoinData) where
           lower : s.0.ticket < low
           lower = let b : x.ticket < kept_low k = subst (λ (q : KeptState). x.ticket < kept_low q) (sym same) below in omega (arith, b, ticket, is)
 
-          unripe : ripe_at (judge spec.shape spec.schemes states stores low) (steps_of spec input) input s.0 ≡ false
+          unripe : ripe_at (judge_at spec input states stores low settled) s.0 ≡ false
           unripe =
-              ripe-is spec limit next done states stores pending taken j k stored-are puncts-are low is input s.0
+              ripe-is spec limit next done states stores pending taken j k stored-are puncts-are low is input settled s.0
               ∙ ap (kept_ripe spec k) is-x ∙ ap (λ (q : KeptState). kept_ripe spec q x) same ∙ ripe
 
           lows : low ≡ kept_low (seen (made_with node spec limit) next done (log_of states) (puncts_of stores) waiting taken).kept
@@ -262,7 +262,7 @@ module _ (spec : JoinData) where
           by-pass true e = at-low (subst (λ i. AsksEarly (known spec.shape.classes log (puncts_of stores) low) (cert_of spec i) x) of (w.asks x h (ap (λ i. is_passed (watches_at ws i) x.ticket) of ∙ e)))
           by-pass false e =
               let l = looked s.0 here (ap (is_passed (watches_at ws input)) ticket ∙ e) lower unripe (ap (has marked) ticket ∙ none) in
-              at-low (subst (λ (y : TupleAt). AsksEarly (known spec.shape.classes log (puncts_of stores) low) (cert_of spec input) y) is-x (early-all (last l.0) (cert_of spec input) (tuple_in input s.0) l.1))
+              at-low (subst (λ (y : TupleAt). AsksEarly (known spec.shape.classes log (puncts_of stores) low) (cert_of spec input) y) is-x (early-all settled (last l.0) (cert_of spec input) (tuple_in input s.0) l.1))
 
 -- ---- a sweep
 
@@ -377,13 +377,11 @@ watch_is [] i w lt e = absurd (omega (arith, lt))
 watch_is (v ∷ ws) zero w lt e = e
 watch_is (v ∷ ws) (suc i) w lt e = watch_is ws i w (omega (arith, lt)) e
 
-pub same_none : (input : ℕ) (j k : Judge) (cert cert' : List CertStep) (w w' : Watches) → j ≡ k → cert ≡ cert' → w ≡ w' → NoneIsRipe k cert' input w' → NoneIsRipe j cert input w
-same_none input j k cert cert' w w' a b c n =
-    subst (λ (l : Judge). NoneIsRipe l cert input w) (sym a) (subst (λ (cs : List CertStep). NoneIsRipe k cs input w) (sym b) (subst (λ (v : Watches). NoneIsRipe k cert' input v) (sym c) n))
+pub same_none : (j k : JudgeView) (w w' : Watches) → j ≡ k → w ≡ w' → NoneIsRipe k w' → NoneIsRipe j w
+same_none j k w w' a b n = subst (λ (l : JudgeView). NoneIsRipe l w) (sym a) (subst (λ (v : Watches). NoneIsRipe k v) (sym b) n)
 
-pub same_looked : (input : ℕ) (settled : Bool) (marked : List ℕ) (j k : Judge) (cert cert' : List CertStep) (w w' : Watches) → j ≡ k → cert ≡ cert' → w ≡ w' → AreLookedAt j cert input settled w marked → AreLookedAt k cert' input settled w' marked
-same_looked input settled marked j k cert cert' w w' a b c n =
-    subst (λ (v : Watches). AreLookedAt k cert' input settled v marked) c (subst (λ (cs : List CertStep). AreLookedAt k cs input settled w marked) b (subst (λ (l : Judge). AreLookedAt l cert input settled w marked) a n))
+pub same_looked : (marked : List ℕ) (j k : JudgeView) (w w' : Watches) → j ≡ k → w ≡ w' → AreLookedAt j w marked → AreLookedAt k w' marked
+same_looked marked j k w w' a b n = subst (λ (v : Watches). AreLookedAt k v marked) b (subst (λ (l : JudgeView). AreLookedAt l w marked) a n)
 
 pub watches_more : (ws ws' : List Watches) (n : ℕ) → length ws ≡ n → ((input : ℕ) → (watches_at ws input).from ≡ 0) → (v : Watches) → v.from ≡ 0 → ws' ≡ ws ++ v ∷ [] → (length ws' ≡ n + 1) × ((input : ℕ) → (watches_at ws' input).from ≡ 0)
 watches_more ws ws' n count none v e is = (ap length is ∙ length-append ws (v ∷ []) ∙ ap (λ k. k + 1) count, λ input. ap (λ us. (watches_at us input).from) is ∙ go ws input none)

@@ -9,40 +9,45 @@ use Rattle.pj_cover.specs.Stores.{Store}
 use Rattle.pj_cover.specs.Asking.{AreParts, data_of, entries, is_ripe, known_of, tuple_of}
 use Rattle.pj_events.specs.Patterns.{Pattern, all_wild}
 use Rattle.pj_events.specs.Join.{CertStep, IsCertified, JoinSpec, PunctAt, TupleAt, has, is_held}
-use Rattle.pj_join.specs.Sides.{row_pairs, still_held}
+use Rattle.pj_join.specs.Sides.{row_pairs, state_at, still_held}
 
--- what a judge looks at: the join's shape, its schemes, the stored rows, the punctuations, and the low-water ticket
-pub record Judge : Type 0 where
+-- what the rows of an input are judged by: the join's shape and schemes, the input's certificate, all stored rows, the
+-- punctuations, the low-water ticket, and whether each punctuation is below that
+pub record JudgeView : Type 0 where
   pub spec : JoinSpec
   pub schemes : List (List (List Bool))
+  pub cert : List CertStep
+  pub input : ℕ
   pub states : List StateView
   pub stores : List Store
   pub low : ℕ
+  pub settled : Bool
 
-abbrev pub judge : JoinSpec → List (List (List Bool)) → List StateView → List Store → ℕ → Judge
-judge spec schemes states stores low = record { spec = spec; schemes = schemes; states = states; stores = stores; low = low }
+-- these can be judged by: the parts fit, and the certificate is one of the input
+pub record MayJudge (spec : JoinSpec) (schemes : List (List (List Bool))) (cert : List CertStep) (input : ℕ) (states : List StateView) (stores : List Store) : Type 0 where
+  pub parts : AreParts spec (row_pairs states) stores
+  pub count : length states ≡ length spec.inputs
+  pub there : input < length spec.inputs
+  pub certified : IsCertified (data_of spec schemes) input cert
 
--- what is judged can be: the parts fit, and the certificate is one of the input
-pub record MayJudge (j : Judge) (cert : List CertStep) (input : ℕ) : Type 0 where
-  pub parts : AreParts j.spec (row_pairs j.states) j.stores
-  pub count : length j.states ≡ length j.spec.inputs
-  pub there : input < length j.spec.inputs
-  pub certified : IsCertified (data_of j.spec j.schemes) input cert
+-- the rows of the input
+abbrev pub rows_at : JudgeView → List Stored
+rows_at j = (state_at j.states j.input).rows
 
--- whether a row of the input, which has this certificate, is ripe
-abbrev pub ripe_at : Judge → List CertStep → ℕ → Stored → Bool
-ripe_at j cert input s = is_ripe (known_of j.spec (row_pairs j.states) j.stores j.low) (entries j.schemes cert) (tuple_of input (pair_of s))
+-- whether a row of the input is ripe
+abbrev pub ripe_at : JudgeView → Stored → Bool
+ripe_at j s = is_ripe (known_of j.spec (row_pairs j.states) j.stores j.low) (entries j.schemes j.cert) (tuple_of j.input (pair_of s))
 
 abbrev pub row_in : Stored → List Value
 row_in s = s.row
 
--- the rows of the ripe ones
-abbrev pub ripe_rows : Judge → List CertStep → ℕ → List Stored → List (List Value)
-ripe_rows j cert input rows = map row_in (filter (ripe_at j cert input) rows)
+-- the rows of the input that are ripe
+abbrev pub ripe_rows : JudgeView → List (List Value)
+ripe_rows j = map row_in (filter (ripe_at j) (rows_at j))
 
 -- their tickets
-abbrev pub ripe_tickets : Judge → List CertStep → ℕ → List Stored → List ℕ
-ripe_tickets j cert input rows = tickets_of (filter (ripe_at j cert input) rows)
+abbrev pub ripe_tickets : JudgeView → List ℕ
+ripe_tickets j = tickets_of (filter (ripe_at j) (rows_at j))
 
 -- an item, or nothing
 abbrev pub one_if : {A : Type 0} → Bool → A → List A

@@ -7,6 +7,7 @@ use Rattle.pj_cover.specs.Stores.{Store}
 use Rattle.pj_cover.specs.declared.store.NumberedPunct.{NumberedPunct}
 use Rattle.pj_events.specs.Patterns.{Pattern, matches_row}
 use Rattle.pj_events.specs.Join.{In, PunctAt, TupleAt, Value, has}
+use Rattle.pj_join.specs.declared.arrivals.Coming.{Coming}
 use Rattle.pj_join.specs.declared.place.Place.{Place}
 
 -- ---- one list of several, in order of numbers
@@ -93,6 +94,10 @@ AreAllShaped (n ∷ ns) (s ∷ ss) = IsShaped n s × AreAllShaped ns ss
 
 abbrev pub heard_with : ℕ → NumberedPunct → PunctAt
 heard_with input k = record { ticket = k.number; input = input; patterns = k.punct }
+
+-- the punctuation that comes
+abbrev pub coming_punct : Coming → PunctAt
+coming_punct p = record { ticket = p.ticket; input = p.input; patterns = p.punct }
 
 -- the punctuations of the inputs from this one on, which stand in these stores
 abbrev pub heard_in : ℕ → List Store → List (List PunctAt)

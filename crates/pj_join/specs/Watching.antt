@@ -2,6 +2,7 @@
 use Rattle.std.specs.Prelude.{ℕ, ◌<◌, ◌≤◌, ◌≡◌, ◌==◌, if◌then◌else◌, Bool, true, false, not, nat_lt, ◌&&◌, ◌||◌, ◌⊎◌, List, [], ◌∷◌, ◌++◌, Option, Some, None, filter, flat_map, length, slice_get, slice_index_or}
 use Rattle.pj_value.specs.declared.values.Value.{Value}
 use Rattle.pj_state.specs.declared.shared.Stored.{Stored}
+use Rattle.pj_state.specs.Rising.{IsRising, itself}
 use Rattle.pj_state.specs.States.{StateView, is_value, row_under, stored, tickets_of}
 use Rattle.pj_cover.specs.Asking.{Known, entries, first_class, puncts_from, tuples_of}
 use Rattle.pj_cover.specs.declared.rows.Uncovered.{Uncovered}
@@ -9,11 +10,12 @@ use Rattle.pj_events.specs.Patterns.{Pattern, covers, is_wild, matches_row, matc
 use Rattle.pj_events.specs.Join.{CertEntry, CertStep, ClassCol, In, JoinData, PunctAt, TupleAt, agree, cert_of, constant, covered, demand, has, inputs, instance_from, is_held, older_puncts, value_at}
 use Rattle.pj_events.specs.KeptState.{kept_low, kept_ripe}
 use Rattle.pj_join.specs.Joins.{JoinView}
-use Rattle.pj_join.specs.Judging.{Judge, ripe_at}
+use Rattle.pj_join.specs.Judging.{JudgeView, lets_go, ripe_at, rows_at}
 use Rattle.pj_join.specs.Sides.{row_pairs, state_at, still_held, tuple_in}
 pub use Rattle.pj_join.specs.declared.marks.Watches.{Watches}
 pub use Rattle.pj_join.specs.declared.marks.Judged.{Judged}
 use Rattle.pj_join.specs.declared.marks.Verdict.{Verdict}
+use Rattle.pj_join.specs.declared.widening.Swept.{Swept}
 use Rattle.pj_join.specs.declared.marks.Verdict.TheVariants.{Ripe, Open, Marked}
 
 abbrev pub no_watches : Watches
@@ -84,6 +86,16 @@ is_like patterns (Some row) = matches_row patterns row
 -- these are the tickets of some of the rows, in their order
 abbrev pub AreSome : List Stored → List ℕ → Type 0
 AreSome rows gone = (keep : Stored → Bool) × (gone ≡ tickets_of (filter keep rows))
+
+-- those that go are some of the rows of an input, in order of tickets
+pub record IsSwept (s : Swept) : Type 0 where
+  pub there : s.input < length s.schemas.now
+  pub rising : IsRising itself s.gone.now
+  pub some : AreSome s.state.now.rows s.gone.now
+
+-- whether the punctuation goes up
+abbrev pub goes_up : Swept → PunctAt → Bool
+goes_up s p = lets_go s.state.now.rows s.gone.now s.input p
 
 -- ---- what a punctuation marks
 
@@ -222,12 +234,12 @@ AreRoused classes certs states other gone ws count = (input : ℕ) → input < c
 -- ---- what a judge says
 
 -- what is known below the low-water ticket
-abbrev pub known_at : Judge → Known
+abbrev pub known_at : JudgeView → Known
 known_at j = known j.spec.classes (tuples_of (row_pairs j.states) (length j.spec.inputs)) (older_puncts j.low (puncts_from 0 j.stores)) j.low
 
 -- what the row asks for by one of the first two entries is not covered below the low-water ticket
-abbrev pub IsOpenAt : Judge → List CertStep → ℕ → Stored → Type 0
-IsOpenAt j cert input s = AsksEarly (known_at j) (entries j.schemes cert) (tuple_in input s)
+abbrev pub IsOpenAt : JudgeView → Stored → Type 0
+IsOpenAt j s = AsksEarly (known_at j) (entries j.schemes j.cert) (tuple_in j.input s)
 
 -- what the first instance that is not covered tells
 abbrev pub verdict_on : Option Uncovered → Bool → Verdict
@@ -235,10 +247,10 @@ verdict_on None settled = Ripe
 verdict_on (Some u) settled = if nat_lt u.entry 2 && settled then Open else Marked
 
 -- it is ripe; or what it asks for early is not covered, where it is below the low-water ticket; or it is not ripe
-abbrev pub IsVerdict : Judge → List CertStep → ℕ → Bool → Stored → Verdict → Type 0
-IsVerdict j cert input settled s Ripe = ripe_at j cert input s ≡ true
-IsVerdict j cert input settled s Open = (ripe_at j cert input s ≡ false) × (s.ticket < j.low → (settled ≡ true) × IsOpenAt j cert input s)
-IsVerdict j cert input settled s Marked = ripe_at j cert input s ≡ false
+abbrev pub IsVerdict : JudgeView → Stored → Verdict → Type 0
+IsVerdict j s Ripe = ripe_at j s ≡ true
+IsVerdict j s Open = (ripe_at j s ≡ false) × (s.ticket < j.low → (j.settled ≡ true) × IsOpenAt j s)
+IsVerdict j s Marked = ripe_at j s ≡ false
 
 abbrev pub goes_by : Verdict → Bool
 goes_by Ripe = true
@@ -250,39 +262,36 @@ marked_by Ripe = false
 marked_by Open = false
 marked_by Marked = true
 
-abbrev pub rows_at : Judge → ℕ → List Stored
-rows_at j input = (state_at j.states input).rows
-
 abbrev pub under_with : ℕ → Option (List Value) → List Stored
 under_with ticket None = []
 under_with ticket (Some row) = stored ticket row ∷ []
 
 -- the row of the input with this ticket, where it is ripe
-abbrev pub picked : Judge → List CertStep → ℕ → ℕ → List Stored
-picked j cert input ticket = filter (ripe_at j cert input) (under_with ticket (row_under ticket (rows_at j input)))
+abbrev pub picked : JudgeView → ℕ → List Stored
+picked j ticket = filter (ripe_at j) (under_with ticket (row_under ticket (rows_at j)))
 
-abbrev pub all_picked : Judge → List CertStep → ℕ → List ℕ → List Stored
-all_picked j cert input tickets = flat_map (picked j cert input) tickets
+abbrev pub all_picked : JudgeView → List ℕ → List Stored
+all_picked j tickets = flat_map (picked j) tickets
 
 -- the row is ripe, or marked, or what it asks for early is not covered
-abbrev pub IsLookedAt : Judge → List CertStep → ℕ → Bool → List ℕ → Stored → Type 0
-IsLookedAt j cert input settled marked s = s.ticket < j.low → ripe_at j cert input s ≡ false → has marked s.ticket ≡ false → (settled ≡ true) × IsOpenAt j cert input s
+abbrev pub IsLookedAt : JudgeView → List ℕ → Stored → Type 0
+IsLookedAt j marked s = s.ticket < j.low → ripe_at j s ≡ false → has marked s.ticket ≡ false → (j.settled ≡ true) × IsOpenAt j s
 
 -- the row with this ticket was judged
-pub record IsOneJudged (j : Judge) (cert : List CertStep) (input : ℕ) (settled : Bool) (ticket : ℕ) (old new : Judged) : Type 0 where
-  pub gone : new.gone ≡ old.gone ++ tickets_of (picked j cert input ticket)
+pub record IsOneJudged (j : JudgeView) (ticket : ℕ) (old new : Judged) : Type 0 where
+  pub gone : new.gone ≡ old.gone ++ tickets_of (picked j ticket)
   pub more : (m : ℕ) → has new.marked m ≡ false → has old.marked m ≡ false
-  pub looked : (row : List Value) → Some row ≡ row_under ticket (rows_at j input) → IsLookedAt j cert input settled new.marked (stored ticket row)
+  pub looked : (row : List Value) → Some row ≡ row_under ticket (rows_at j) → IsLookedAt j new.marked (stored ticket row)
 
 -- the rows with these tickets were
-pub record AreJudged (j : Judge) (cert : List CertStep) (input : ℕ) (settled : Bool) (tickets : List ℕ) (judged : Judged) : Type 0 where
-  pub gone : judged.gone ≡ tickets_of (all_picked j cert input tickets)
-  pub looked : (t : ℕ) → In t tickets → (row : List Value) → Some row ≡ row_under t (rows_at j input) → IsLookedAt j cert input settled judged.marked (stored t row)
+pub record AreJudged (j : JudgeView) (tickets : List ℕ) (judged : Judged) : Type 0 where
+  pub gone : judged.gone ≡ tickets_of (all_picked j tickets)
+  pub looked : (t : ℕ) → In t tickets → (row : List Value) → Some row ≡ row_under t (rows_at j) → IsLookedAt j judged.marked (stored t row)
 
 -- no row that is passed over is ripe
-abbrev pub NoneIsRipe : Judge → List CertStep → ℕ → Watches → Type 0
-NoneIsRipe j cert input w = (s : Stored) → In s (rows_at j input) → is_passed w s.ticket ≡ true → ripe_at j cert input s ≡ false
+abbrev pub NoneIsRipe : JudgeView → Watches → Type 0
+NoneIsRipe j w = (s : Stored) → In s (rows_at j) → is_passed w s.ticket ≡ true → ripe_at j s ≡ false
 
 -- each other row was judged
-abbrev pub AreLookedAt : Judge → List CertStep → ℕ → Bool → Watches → List ℕ → Type 0
-AreLookedAt j cert input settled w marked = (s : Stored) → In s (rows_at j input) → is_passed w s.ticket ≡ false → IsLookedAt j cert input settled marked s
+abbrev pub AreLookedAt : JudgeView → Watches → List ℕ → Type 0
+AreLookedAt j w marked = (s : Stored) → In s (rows_at j) → is_passed w s.ticket ≡ false → IsLookedAt j marked s

@@ -23,6 +23,14 @@ impl<'a> Model for Arrived<'a> {
     ghost view = { λ a. record { ticket = a.ticket; input = a.input; row = a.row.now } };
 }
 
+/// A punctuation that comes, with its ticket and its input.
+#[derive(Drop)]
+pub struct Coming {
+    pub ticket: u64,
+    pub input: u32,
+    pub punct: Punct,
+}
+
 /// A punctuation that waits, with its ticket and its input. Its patterns are shared. Beside it stands the ticket of a stored
 /// tuple that matched it when it was looked at last.
 #[derive(Drop)]

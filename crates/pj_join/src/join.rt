@@ -13,7 +13,7 @@ ghost use Rattle.pj_join.specs.Joins.{IsTaken, StandsFor, JoinTakes, StandsTaken
 ghost use Rattle.pj_join.specs.Watching.{AreOpenBut};
 ghost use Rattle.pj_join.specs.Sweeping.{GoesWhereCovered, HandsUp, HasBeenLawful, IsForgotten, puncts_up, rows_off, swept_off};
 
-use crate::arrivals::Heard;
+use crate::arrivals::{Coming, Heard};
 use crate::changes::make_changes;
 use crate::handing::hand_out_found;
 use crate::marks::Watches;
@@ -22,7 +22,7 @@ use crate::place::Place;
 use crate::ranges::keep_orders;
 use crate::starting::{empty_states, empty_stores, empty_watches};
 use crate::stored::first_pending;
-use crate::sweeping::{Left, remove_all, sweep_input};
+use crate::sweeping::{Judge, Left, remove_all};
 use crate::waking::wake;
 use crate::widening::hear;
 use crate::{JoinStop, Probe};
@@ -201,9 +201,11 @@ impl Join {
             &self.states[input as usize],
             &mut self.stores[input as usize],
             &mut self.waiting,
-            ticket,
-            input,
-            punct,
+            Coming {
+                ticket,
+                input,
+                punct,
+            },
             out,
         )?;
         self.next += 1;
@@ -329,18 +331,20 @@ impl Join {
         let none = Cert::of(List::new(self.alloc));
         let cert = cert_of(self.certs.as_slice(), &none, input);
         let low = self.low();
-        let left = sweep_input(
-            self.alloc,
-            &self.spec,
-            &self.schemes,
+        let judge = Judge {
+            spec: &self.spec,
+            schemes: &self.schemes,
             cert,
             input,
-            self.states.as_slice(),
-            self.stores.as_slice(),
-            self.waiting.as_slice(),
-            &self.watches[input as usize],
+            states: self.states.as_slice(),
+            stores: self.stores.as_slice(),
             low,
-            low == self.next,
+            settled: low == self.next,
+        };
+        let left = judge.sweep(
+            self.alloc,
+            &self.watches[input as usize],
+            self.waiting.as_slice(),
             removed,
             out,
         )?;

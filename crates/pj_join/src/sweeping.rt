@@ -1,25 +1,49 @@
 // Which tuples a sweep removes, and what is left.
-ghost use Rattle.std.specs.Prelude.{◌≡◌, ◌<◌, ◌≤◌, ◌++◌, ℕ, false, length, map, slice_get, take, Some, OnOk, OnErr, IfOk};
+ghost use Rattle.std.specs.Prelude.{◌≡◌, ◌≤◌, ◌++◌, ℕ, false, length, map, slice_get, take, Some, OnOk, OnErr, IfOk};
 ghost use Rattle.pj_value.specs.Lists.{In};
 ghost use Rattle.pj_state.specs.declared.shared.Stored.{Stored};
 ghost use Rattle.pj_state.specs.Rising.{IsRising, itself};
 ghost use Rattle.pj_state.specs.States.{state_of, stored, ticket_of};
 ghost use Rattle.pj_join.specs.Changes.{changed};
-ghost use Rattle.pj_join.specs.Judging.{BothMore, MayJudge, judge, letting_go, one_if, ripe_rows, ripe_tickets, row_in, rows_without, staying_on};
-ghost use Rattle.pj_join.specs.Sides.{state_at};
-ghost use Rattle.pj_join.specs.Watching.{AreHeldBy, AreJudged, AreLookedAt, AreSome, IsOneJudged, IsVerdict, NoneIsRipe, all_picked, goes_by, is_passed, marked_by, picked, verdict_on};
+ghost use Rattle.pj_join.specs.Judging.{BothMore, letting_go, one_if, ripe_rows, ripe_tickets, row_in, rows_at, rows_without, staying_on};
+ghost use Rattle.pj_join.specs.Watching.{AreHeldBy, AreJudged, AreLookedAt, IsOneJudged, IsSwept, IsVerdict, NoneIsRipe, all_picked, goes_by, is_passed, marked_by, picked, verdict_on};
 
 use crate::arrivals::Heard;
 use crate::changes::Change;
 use crate::marks::{Judged, Verdict, Watches};
 use crate::stored::Inputs;
-use crate::widening::let_go;
+use crate::widening::Swept;
 use pj_cover::{PunctStore, Uncovered, first_uncovered};
 use pj_pattern::Punct;
 use pj_shape::{Cert, JoinSpec, Schema, Schemes};
 use pj_state::{Spot, State};
 use pj_value::{List, NoMemory, Row};
 use std::alloc::Global;
+use std::marker::Model;
+
+/// What the stored rows of an input are judged by: the join's shape and schemes, the input's certificate, the rows and the
+/// punctuations of all inputs, the low-water ticket, and whether each punctuation is below it.
+#[derive(Drop)]
+pub struct Judge<'a> {
+    pub spec: &'a JoinSpec,
+    pub schemes: &'a Schemes,
+    pub cert: &'a Cert,
+    pub input: u32,
+    pub states: &'a [State],
+    pub stores: &'a [PunctStore],
+    pub low: u64,
+    pub settled: bool,
+}
+
+impl<'a> Model for Judge<'a> {
+    ghost use Rattle.pj_join.specs.Judging.{JudgeView, MayJudge};
+
+    ghost Value = { JudgeView };
+
+    ghost view = { λ j. record { spec = j.spec.now; schemes = j.schemes.now; cert = j.cert.now; input = j.input; states = j.states.now; stores = j.stores.now; low = j.low; settled = j.settled } };
+
+    ghost invariant = { λ j. MayJudge j.spec.now j.schemes.now j.cert.now j.input j.states.now j.stores.now };
+}
 
 /// What a sweep leaves: the tickets of the tuples that go, and of those that are judged again, and what changes of the
 /// punctuations that wait.
@@ -44,31 +68,6 @@ fn verdict_on(found: Option<Uncovered>, settled: bool) -> Verdict
             Verdict::Marked
         }
     }
-}
-
-// What is said of a row that is stored.
-fn judge(
-    spec: &JoinSpec,
-    schemes: &Schemes,
-    cert: &Cert,
-    input: u32,
-    states: &[State],
-    stores: &[PunctStore],
-    low: u64,
-    settled: bool,
-    ticket: u64,
-    row: &Row,
-) -> Verdict
-    requires may { MayJudge (judge spec.now schemes.now states.now stores.now low) cert.now input }
-    requires there { (at : _) × (slice_get (state_at states.now input).rows at ≡ Some (stored ticket row.now)) }
-    ensures { IsVerdict (judge spec.now schemes.now states.now stores.now low) cert.now input settled (stored ticket row.now) result }
-{
-    if low <= ticket {
-        return Verdict::Open;
-    }
-    let rows = Inputs { states };
-    let found = first_uncovered(spec, schemes, cert, input, row, &rows, stores, low);
-    verdict_on(found, settled)
 }
 
 // Puts the row at the end of those that go, and its ticket to theirs, where it is ripe; or neither.
@@ -108,47 +107,6 @@ fn is_ripe(verdict: Verdict) -> bool
         Verdict::Ripe => true,
         Verdict::Open => false,
         Verdict::Marked => false,
-    }
-}
-
-// Judges the row of an input with a ticket, where there is one. It goes where it is ripe, or is marked where it is judged again.
-fn judge_one(
-    alloc: Global,
-    spec: &JoinSpec,
-    schemes: &Schemes,
-    cert: &Cert,
-    input: u32,
-    states: &[State],
-    stores: &[PunctStore],
-    low: u64,
-    settled: bool,
-    ticket: u64,
-    near: &mut Spot,
-    judged: &mut Judged,
-    removed: &mut List<Row>,
-) -> Result<(), NoMemory>
-    requires { MayJudge (judge spec.now schemes.now states.now stores.now low) cert.now input }
-    ensures ok { let j = judge spec.now schemes.now states.now stores.now low in OnOk result (IsOneJudged j cert.now input settled ticket judged.old judged.new) }
-    ensures removed { let j = judge spec.now schemes.now states.now stores.now low in OnOk result (removed.new ≡ removed.old ++ map row_in (picked j cert.now input ticket)) }
-    ensures err { OnErr result (removed.new ≡ removed.old) }
-{
-    match states[input as usize].get_near(ticket, near) {
-        None => Ok(()),
-        Some(row) => {
-            let verdict = judge(
-                spec, schemes, cert, input, states, stores, low, settled, ticket, row,
-            );
-            keep_marked(verdict, ticket, &mut judged.marked)?;
-            sort_out(
-                alloc,
-                is_ripe(verdict),
-                ticket,
-                row,
-                &mut judged.gone,
-                removed,
-            )?;
-            Ok(())
-        }
     }
 }
 
@@ -192,160 +150,158 @@ fn to_judge(alloc: Global, watches: &Watches, state: &State) -> Result<Vec<u64>,
     Ok(in_order(list))
 }
 
-// Judges the rows with these tickets.
-fn judge_all(
-    alloc: Global,
-    spec: &JoinSpec,
-    schemes: &Schemes,
-    cert: &Cert,
-    input: u32,
-    states: &[State],
-    stores: &[PunctStore],
-    low: u64,
-    settled: bool,
-    tickets: &[u64],
-    removed: &mut List<Row>,
-) -> Result<Judged, NoMemory>
-    requires { MayJudge (judge spec.now schemes.now states.now stores.now low) cert.now input }
-    ensures judged { let j = judge spec.now schemes.now states.now stores.now low in IfOk result (λ judged. AreJudged j cert.now input settled tickets.now judged) }
-    ensures removed { let j = judge spec.now schemes.now states.now stores.now low in OnOk result (removed.new ≡ removed.old ++ map row_in (all_picked j cert.now input tickets.now)) }
-    ensures err { OnErr result (take (length removed.old) removed.new ≡ removed.old) }
-{
-    let mut judged = Judged {
-        gone: List::new(alloc),
-        marked: List::new(alloc),
-    };
-    let mut near = Spot::new();
-    for ticket in tickets {
-        judge_one(
-            alloc,
-            spec,
-            schemes,
-            cert,
-            input,
-            states,
-            stores,
-            low,
-            settled,
-            *ticket,
-            &mut near,
-            &mut judged,
-            removed,
-        )?;
-    }
-    Ok(judged)
-}
-
-// Puts the rows of the tuples of an input that are ripe at the end of `removed`, and answers their tickets, and which others
-// are marked now. Those that are passed over are not looked at.
-fn ripe_ones(
-    alloc: Global,
-    spec: &JoinSpec,
-    schemes: &Schemes,
-    cert: &Cert,
-    input: u32,
-    states: &[State],
-    stores: &[PunctStore],
-    watches: &Watches,
-    low: u64,
-    settled: bool,
-    removed: &mut List<Row>,
-) -> Result<Judged, NoMemory>
-    requires may { MayJudge (judge spec.now schemes.now states.now stores.now low) cert.now input }
-    requires passed { NoneIsRipe (judge spec.now schemes.now states.now stores.now low) cert.now input watches.now }
-    ensures gone { let j = judge spec.now schemes.now states.now stores.now low in IfOk result (λ judged. judged.gone ≡ ripe_tickets j cert.now input (state_at states.now input).rows) }
-    ensures rising { IfOk result (λ judged. IsRising itself judged.gone) }
-    ensures left { let j = judge spec.now schemes.now states.now stores.now low in IfOk result (λ judged. AreLookedAt j cert.now input settled watches.now judged.marked) }
-    ensures removed { let j = judge spec.now schemes.now states.now stores.now low in OnOk result (removed.new ≡ removed.old ++ ripe_rows j cert.now input (state_at states.now input).rows) }
-    ensures err { OnErr result (take (length removed.old) removed.new ≡ removed.old) }
-{
-    let tickets = to_judge(alloc, watches, &states[input as usize])?;
-    let judged = judge_all(
-        alloc,
-        spec,
-        schemes,
-        cert,
-        input,
-        states,
-        stores,
-        low,
-        settled,
-        tickets.as_slice(),
-        removed,
-    )?;
-    Ok(judged)
-}
-
 // What changes of the punctuations that wait where these rows go; those that do not wait on are put at the end of `out`, widened.
 fn wait_on(
     alloc: Global,
-    schemas: &[Schema],
-    state: &State,
-    gone: &[u64],
-    input: u32,
+    swept: &Swept<'_>,
     waiting: &[Heard],
     out: &mut List<Punct>,
 ) -> Result<List<Change>, NoMemory>
-    requires there { input < length schemas.now }
-    requires rising { IsRising itself gone.now }
-    requires some { AreSome state.now.rows gone.now }
-    requires held { AreHeldBy state.now.rows input waiting.now }
-    ensures waiting { IfOk result (λ changes. changed changes waiting.now ≡ staying_on state.now.rows gone.now input waiting.now) }
-    ensures ok { OnOk result (out.new ≡ out.old ++ letting_go schemas.now state.now.rows gone.now input waiting.now) }
+    requires swept { IsSwept swept.now }
+    requires held { AreHeldBy swept.now.state.now.rows swept.now.input waiting.now }
+    ensures waiting { IfOk result (λ changes. changed changes waiting.now ≡ staying_on swept.now.state.now.rows swept.now.gone.now swept.now.input waiting.now) }
+    ensures ok { let s = swept.now in OnOk result (out.new ≡ out.old ++ letting_go s.schemas.now s.state.now.rows s.gone.now s.input waiting.now) }
     ensures err { OnErr result (take (length out.old) out.new ≡ out.old) }
 {
-    if gone.len() == 0 {
+    if swept.gone.len() == 0 {
         return Ok(List::new(alloc));
     }
-    let_go(alloc, schemas, state, gone, input, waiting, out)
+    swept.let_go(alloc, waiting, out)
 }
 
-/// Judges the stored tuples of an input. The rows of those that go are put at the end of `removed`, and the punctuations that
-/// are let go at the end of `out`. After a refusal both begin as before.
-#[tactic(auto, using(crate::proofs::Spared::ripe_some))]
-pub fn sweep_input(
-    alloc: Global,
-    spec: &JoinSpec,
-    schemes: &Schemes,
-    cert: &Cert,
-    input: u32,
-    states: &[State],
-    stores: &[PunctStore],
-    waiting: &[Heard],
-    watches: &Watches,
-    low: u64,
-    settled: bool,
-    removed: &mut List<Row>,
-    out: &mut List<Punct>,
-) -> Result<Left, NoMemory>
-    requires may { MayJudge (judge spec.now schemes.now states.now stores.now low) cert.now input }
-    requires passed { NoneIsRipe (judge spec.now schemes.now states.now stores.now low) cert.now input watches.now }
-    requires held { AreHeldBy (state_at states.now input).rows input waiting.now }
-    ensures gone { let j = judge spec.now schemes.now states.now stores.now low in IfOk result (λ left. left.gone ≡ ripe_tickets j cert.now input (state_at states.now input).rows) }
-    ensures left { let j = judge spec.now schemes.now states.now stores.now low in IfOk result (λ left. AreLookedAt j cert.now input settled watches.now left.marked) }
-    ensures waiting { IfOk result (λ left. changed left.changes waiting.now ≡ staying_on (state_at states.now input).rows left.gone input waiting.now) }
-    ensures removed { let j = judge spec.now schemes.now states.now stores.now low in OnOk result (removed.new ≡ removed.old ++ ripe_rows j cert.now input (state_at states.now input).rows) }
-    ensures out { IfOk result (λ left. out.new ≡ out.old ++ letting_go spec.now.inputs (state_at states.now input).rows left.gone input waiting.now) }
-    ensures err { OnErr result ((take (length removed.old) removed.new ≡ removed.old) × (take (length out.old) out.new ≡ out.old)) }
-{
-    let judged = ripe_ones(
-        alloc, spec, schemes, cert, input, states, stores, watches, low, settled, removed,
-    )?;
-    let Judged { gone, marked } = judged;
-    let changes = wait_on(
-        alloc,
-        spec.inputs.as_slice(),
-        &states[input as usize],
-        gone.as_slice(),
-        input,
-        waiting,
-        out,
-    )?;
-    Ok(Left {
-        gone,
-        marked,
-        changes,
-    })
+impl<'a> Judge<'a> {
+    // What is said of a row that is stored.
+    fn verdict(&self, ticket: u64, row: &Row) -> Verdict
+        requires { (at : _) × (slice_get (rows_at self.now) at ≡ Some (stored ticket row.now)) }
+        ensures { IsVerdict self.now (stored ticket row.now) result }
+    {
+        if self.low <= ticket {
+            return Verdict::Open;
+        }
+        let rows = Inputs {
+            states: self.states,
+        };
+        let found = first_uncovered(
+            self.spec,
+            self.schemes,
+            self.cert,
+            self.input,
+            row,
+            &rows,
+            self.stores,
+            self.low,
+        );
+        verdict_on(found, self.settled)
+    }
+
+    // Judges the row with a ticket, where there is one. It goes where it is ripe, or is marked where it is judged again.
+    fn judge_one(
+        &self,
+        alloc: Global,
+        ticket: u64,
+        near: &mut Spot,
+        judged: &mut Judged,
+        removed: &mut List<Row>,
+    ) -> Result<(), NoMemory>
+        ensures ok { OnOk result (IsOneJudged self.now ticket judged.old judged.new) }
+        ensures removed { OnOk result (removed.new ≡ removed.old ++ map row_in (picked self.now ticket)) }
+        ensures err { OnErr result (removed.new ≡ removed.old) }
+    {
+        match self.states[self.input as usize].get_near(ticket, near) {
+            None => Ok(()),
+            Some(row) => {
+                let verdict = self.verdict(ticket, row);
+                keep_marked(verdict, ticket, &mut judged.marked)?;
+                sort_out(
+                    alloc,
+                    is_ripe(verdict),
+                    ticket,
+                    row,
+                    &mut judged.gone,
+                    removed,
+                )?;
+                Ok(())
+            }
+        }
+    }
+
+    // Judges the rows with these tickets.
+    fn judge_all(
+        &self,
+        alloc: Global,
+        tickets: &[u64],
+        removed: &mut List<Row>,
+    ) -> Result<Judged, NoMemory>
+        ensures judged { IfOk result (λ judged. AreJudged self.now tickets.now judged) }
+        ensures removed { OnOk result (removed.new ≡ removed.old ++ map row_in (all_picked self.now tickets.now)) }
+        ensures err { OnErr result (take (length removed.old) removed.new ≡ removed.old) }
+    {
+        let mut judged = Judged {
+            gone: List::new(alloc),
+            marked: List::new(alloc),
+        };
+        let mut near = Spot::new();
+        for ticket in tickets {
+            self.judge_one(alloc, *ticket, &mut near, &mut judged, removed)?;
+        }
+        Ok(judged)
+    }
+
+    // Puts the rows that are ripe at the end of `removed`, and answers their tickets, and which others are marked now. Those
+    // that are passed over are not looked at.
+    fn ripe_ones(
+        &self,
+        alloc: Global,
+        watches: &Watches,
+        removed: &mut List<Row>,
+    ) -> Result<Judged, NoMemory>
+        requires passed { NoneIsRipe self.now watches.now }
+        ensures gone { IfOk result (λ judged. judged.gone ≡ ripe_tickets self.now) }
+        ensures rising { IfOk result (λ judged. IsRising itself judged.gone) }
+        ensures left { IfOk result (λ judged. AreLookedAt self.now watches.now judged.marked) }
+        ensures removed { OnOk result (removed.new ≡ removed.old ++ ripe_rows self.now) }
+        ensures err { OnErr result (take (length removed.old) removed.new ≡ removed.old) }
+    {
+        let tickets = to_judge(alloc, watches, &self.states[self.input as usize])?;
+        let judged = self.judge_all(alloc, tickets.as_slice(), removed)?;
+        Ok(judged)
+    }
+
+    /// Judges the stored tuples of the input. The rows of those that go are put at the end of `removed`, and the punctuations
+    /// that are let go at the end of `out`. After a refusal both begin as before.
+    #[tactic(auto, using(crate::proofs::Spared::ripe_some))]
+    pub fn sweep(
+        &self,
+        alloc: Global,
+        watches: &Watches,
+        waiting: &[Heard],
+        removed: &mut List<Row>,
+        out: &mut List<Punct>,
+    ) -> Result<Left, NoMemory>
+        requires passed { NoneIsRipe self.now watches.now }
+        requires held { AreHeldBy (rows_at self.now) self.now.input waiting.now }
+        ensures gone { IfOk result (λ left. left.gone ≡ ripe_tickets self.now) }
+        ensures left { IfOk result (λ left. AreLookedAt self.now watches.now left.marked) }
+        ensures waiting { IfOk result (λ left. changed left.changes waiting.now ≡ staying_on (rows_at self.now) left.gone self.now.input waiting.now) }
+        ensures removed { OnOk result (removed.new ≡ removed.old ++ ripe_rows self.now) }
+        ensures out { IfOk result (λ left. out.new ≡ out.old ++ letting_go self.now.spec.inputs (rows_at self.now) left.gone self.now.input waiting.now) }
+        ensures err { OnErr result ((take (length removed.old) removed.new ≡ removed.old) × (take (length out.old) out.new ≡ out.old)) }
+    {
+        let judged = self.ripe_ones(alloc, watches, removed)?;
+        let Judged { gone, marked } = judged;
+        let swept = Swept {
+            schemas: self.spec.inputs.as_slice(),
+            input: self.input,
+            state: &self.states[self.input as usize],
+            gone: gone.as_slice(),
+        };
+        let changes = wait_on(alloc, &swept, waiting, out)?;
+        Ok(Left {
+            gone,
+            marked,
+            changes,
+        })
+    }
 }
 
 /// Takes the rows with these tickets out.

@@ -8,12 +8,12 @@ ghost use Rattle.pj_state.specs.Rising.{IsRising, itself};
 ghost use Rattle.pj_state.specs.States.{stored, ticket_of};
 ghost use Rattle.pj_cover.specs.Stores.{IsAbove};
 ghost use Rattle.pj_join.specs.Changes.{TakesOut, changed};
-ghost use Rattle.pj_join.specs.Judging.{going_at_once, letting_go, lets_go, one_if, staying_on, waiting_with, widened_among};
+ghost use Rattle.pj_join.specs.Judging.{going_at_once, letting_go, one_if, staying_on, waiting_with, widened_among};
 ghost use Rattle.pj_pattern.specs.declared.pattern.Form.TheVariants.{Constant};
-ghost use Rattle.pj_join.specs.Sides.{IsLookup, stays, still_held};
-ghost use Rattle.pj_join.specs.Watching.{AreGone, AreHeldBy, AreSome, is_like};
+ghost use Rattle.pj_join.specs.Sides.{IsLookup, coming_punct, stays, still_held};
+ghost use Rattle.pj_join.specs.Watching.{AreGone, AreHeldBy, AreSome, IsSwept, goes_up, is_like};
 
-use crate::arrivals::Heard;
+use crate::arrivals::{Coming, Heard};
 use crate::changes::Change;
 use crate::lookups::Lookup;
 use crate::ranges::{find_among, first_stretch};
@@ -298,111 +298,97 @@ fn is_spared(few: Option<Few<'_>>, punct: &Punct) -> bool
     }
 }
 
-// Puts the punctuation of the swept input at the end of those that go up, widened, where no row that stays matches it.
-#[tactic(auto, using(crate::proofs::Changing::takes_out_goes, crate::proofs::Changing::takes_out_stays, crate::proofs::Changing::takes_out_none, crate::proofs::Looped::goes_where, crate::proofs::Looped::let_go_is))]
-fn let_own_go(
-    alloc: Global,
-    schemas: &[Schema],
-    state: &State,
-    gone: &[u64],
-    input: u32,
-    at: usize,
-    punct: &Heard,
-    changes: &mut List<Change>,
-    out: &mut List<Punct>,
-) -> Result<(), NoMemory>
-    requires there { input < length schemas.now }
-    requires rising { IsRising itself gone.now }
-    requires some { AreSome state.now.rows gone.now }
-    requires own { punct.now.input ≡ input }
-    ensures changes { OnOk result (TakesOut (lets_go state.now.rows gone.now input punct.now) at changes.old changes.new) }
-    ensures ok { OnOk result (out.new ≡ out.old ++ one_if (lets_go state.now.rows gone.now input punct.now) (widened_among schemas.now punct.now)) }
-    ensures err { OnErr result (out.new ≡ out.old) }
-{
-    if is_witness(state, gone, punct.witness(), punct.punct()) {
-        return Ok(());
-    }
-    match find_left(state, gone, punct.punct()) {
-        None => {
-            changes.push(Change::Goes(at))?;
-            out.push(widened(alloc, schemas, input, punct.punct().as_slice())?)?;
-        }
-        Some(found) => {
-            changes.push(Change::Stays(at, found))?;
-        }
-    }
-    Ok(())
+/// An input as a sweep leaves it: the columns of all inputs, its number, its rows, and the tickets of those that go, in order.
+#[derive(Clone, Copy)]
+pub struct Swept<'a> {
+    pub schemas: &'a [Schema],
+    pub input: u32,
+    pub state: &'a State,
+    pub gone: &'a [u64],
 }
 
-// The same of a punctuation of any input: one of another input than the swept one waits on.
-#[tactic(auto, using(crate::proofs::Changing::takes_out_none, crate::proofs::Looped::waits_elsewhere))]
-fn let_one_go(
-    alloc: Global,
-    schemas: &[Schema],
-    state: &State,
-    gone: &[u64],
-    input: u32,
-    at: usize,
-    punct: &Heard,
-    few: Option<Few<'_>>,
-    changes: &mut List<Change>,
-    out: &mut List<Punct>,
-) -> Result<(), NoMemory>
-    requires there { input < length schemas.now }
-    requires rising { IsRising itself gone.now }
-    requires some { AreSome state.now.rows gone.now }
-    requires held { punct.now.input ≡ input → still_held state.now.rows [] punct.now.patterns ≡ true }
-    requires few { IfSome few (λ few. AreGone state.now.rows gone.now (option_copied few.first) (option_copied few.second)) }
-    ensures changes { OnOk result (TakesOut (lets_go state.now.rows gone.now input punct.now) at changes.old changes.new) }
-    ensures ok { OnOk result (out.new ≡ out.old ++ one_if (lets_go state.now.rows gone.now input punct.now) (widened_among schemas.now punct.now)) }
-    ensures err { OnErr result (out.new ≡ out.old) }
-{
-    if punct.input() != input {
-        return Ok(());
+impl<'a> Swept<'a> {
+    // Puts the punctuation of the input at the end of those that go up, widened, where no row that stays matches it.
+    #[tactic(auto, using(crate::proofs::Changing::takes_out_goes, crate::proofs::Changing::takes_out_stays, crate::proofs::Changing::takes_out_none, crate::proofs::Looped::goes_where, crate::proofs::Looped::let_go_is))]
+    fn let_own_go(
+        &self,
+        alloc: Global,
+        at: usize,
+        punct: &Heard,
+        changes: &mut List<Change>,
+        out: &mut List<Punct>,
+    ) -> Result<(), NoMemory>
+        requires swept { IsSwept self.now }
+        requires own { punct.now.input ≡ self.now.input }
+        ensures changes { OnOk result (TakesOut (goes_up self.now punct.now) at changes.old changes.new) }
+        ensures ok { OnOk result (out.new ≡ out.old ++ one_if (goes_up self.now punct.now) (widened_among self.now.schemas.now punct.now)) }
+        ensures err { OnErr result (out.new ≡ out.old) }
+    {
+        if is_witness(self.state, self.gone, punct.witness(), punct.punct()) {
+            return Ok(());
+        }
+        match find_left(self.state, self.gone, punct.punct()) {
+            None => {
+                changes.push(Change::Goes(at))?;
+                let own = punct.punct().as_slice();
+                out.push(widened(alloc, self.schemas, self.input, own)?)?;
+            }
+            Some(found) => {
+                changes.push(Change::Stays(at, found))?;
+            }
+        }
+        Ok(())
     }
-    if is_spared(few, punct.punct()) {
-        return Ok(());
-    }
-    let_own_go(alloc, schemas, state, gone, input, at, punct, changes, out)
-}
 
-/// Puts the waiting punctuations of an input that none of its rows but those that go matches at the end of `out`, widened, and
-/// answers what is to change of those that wait.
-#[tactic(auto, using(crate::proofs::Changing::none_taken, crate::proofs::Changing::taken_more, crate::proofs::Changing::all_taken))]
-pub fn let_go(
-    alloc: Global,
-    schemas: &[Schema],
-    state: &State,
-    gone: &[u64],
-    input: u32,
-    waiting: &[Heard],
-    out: &mut List<Punct>,
-) -> Result<List<Change>, NoMemory>
-    requires there { input < length schemas.now }
-    requires rising { IsRising itself gone.now }
-    requires some { AreSome state.now.rows gone.now }
-    requires held { AreHeldBy state.now.rows input waiting.now }
-    ensures waiting { IfOk result (λ changes. changed changes waiting.now ≡ staying_on state.now.rows gone.now input waiting.now) }
-    ensures ok { OnOk result (out.new ≡ out.old ++ letting_go schemas.now state.now.rows gone.now input waiting.now) }
-    ensures err { OnErr result (take (length out.old) out.new ≡ out.old) }
-{
-    let mut changes = List::new(alloc);
-    let few = few_for(state, gone, waiting.len());
-    for at in 0..waiting.len() {
-        let_one_go(
-            alloc,
-            schemas,
-            state,
-            gone,
-            input,
-            at,
-            &waiting[at],
-            few,
-            &mut changes,
-            out,
-        )?;
+    // The same of a punctuation of any input: one of another input waits on.
+    #[tactic(auto, using(crate::proofs::Changing::takes_out_none, crate::proofs::Looped::waits_elsewhere))]
+    fn let_one_go(
+        &self,
+        alloc: Global,
+        at: usize,
+        punct: &Heard,
+        few: Option<Few<'_>>,
+        changes: &mut List<Change>,
+        out: &mut List<Punct>,
+    ) -> Result<(), NoMemory>
+        requires swept { IsSwept self.now }
+        requires held { punct.now.input ≡ self.now.input → still_held self.now.state.now.rows [] punct.now.patterns ≡ true }
+        requires few { IfSome few (λ few. AreGone self.now.state.now.rows self.now.gone.now (option_copied few.first) (option_copied few.second)) }
+        ensures changes { OnOk result (TakesOut (goes_up self.now punct.now) at changes.old changes.new) }
+        ensures ok { OnOk result (out.new ≡ out.old ++ one_if (goes_up self.now punct.now) (widened_among self.now.schemas.now punct.now)) }
+        ensures err { OnErr result (out.new ≡ out.old) }
+    {
+        if punct.input() != self.input {
+            return Ok(());
+        }
+        if is_spared(few, punct.punct()) {
+            return Ok(());
+        }
+        self.let_own_go(alloc, at, punct, changes, out)
     }
-    Ok(changes)
+
+    /// Puts the waiting punctuations of the input that none of its rows but those that go matches at the end of `out`, widened,
+    /// and answers what is to change of those that wait.
+    #[tactic(auto, using(crate::proofs::Changing::none_taken, crate::proofs::Changing::taken_more, crate::proofs::Changing::all_taken))]
+    pub fn let_go(
+        &self,
+        alloc: Global,
+        waiting: &[Heard],
+        out: &mut List<Punct>,
+    ) -> Result<List<Change>, NoMemory>
+        requires swept { IsSwept self.now }
+        requires held { AreHeldBy self.now.state.now.rows self.now.input waiting.now }
+        ensures waiting { IfOk result (λ changes. changed changes waiting.now ≡ staying_on self.now.state.now.rows self.now.gone.now self.now.input waiting.now) }
+        ensures ok { let s = self.now in OnOk result (out.new ≡ out.old ++ letting_go s.schemas.now s.state.now.rows s.gone.now s.input waiting.now) }
+        ensures err { OnErr result (take (length out.old) out.new ≡ out.old) }
+    {
+        let mut changes = List::new(alloc);
+        let few = few_for(self.state, self.gone, waiting.len());
+        for at in 0..waiting.len() {
+            self.let_one_go(alloc, at, &waiting[at], few, &mut changes, out)?;
+        }
+        Ok(changes)
+    }
 }
 
 // Keeps a punctuation among all, and a copy among those that wait; or neither.
@@ -410,18 +396,21 @@ fn keep_waiting(
     alloc: Global,
     store: &mut PunctStore,
     waiting: &mut List<Heard>,
-    ticket: u64,
-    input: u32,
-    punct: Punct,
+    coming: Coming,
     witness: u64,
 ) -> Result<(), NoMemory>
-    requires fits { length punct ≡ store.old.arity }
-    requires rises { IsAbove ticket store.old.kept }
+    requires fits { length coming.punct ≡ store.old.arity }
+    requires rises { IsAbove coming.ticket store.old.kept }
     ensures arity { store.new.arity ≡ store.old.arity }
-    ensures store { OnOk result (store.new.kept ≡ store.old.kept ++ record { punct = punct; number = ticket } ∷ []) }
-    ensures waiting { OnOk result (waiting.new ≡ waiting.old ++ record { ticket = ticket; input = input; patterns = punct } ∷ []) }
+    ensures store { OnOk result (store.new.kept ≡ store.old.kept ++ record { punct = coming.punct; number = coming.ticket } ∷ []) }
+    ensures waiting { OnOk result (waiting.new ≡ waiting.old ++ coming_punct coming ∷ []) }
     ensures err { OnErr result ((store.new.kept ≡ store.old.kept) × (waiting.new ≡ waiting.old)) }
 {
+    let Coming {
+        ticket,
+        input,
+        punct,
+    } = coming;
     let count = waiting.len();
     waiting.push(Heard::new(alloc, ticket, input, &punct, witness)?)?;
     match store.push(punct, ticket) {
@@ -438,19 +427,22 @@ fn hand_up(
     alloc: Global,
     schemas: &[Schema],
     store: &mut PunctStore,
-    ticket: u64,
-    input: u32,
-    punct: Punct,
+    coming: Coming,
     out: &mut List<Punct>,
 ) -> Result<(), NoMemory>
-    requires there { input < length schemas.now }
-    requires fits { length punct ≡ store.old.arity }
-    requires rises { IsAbove ticket store.old.kept }
+    requires there { coming.input < length schemas.now }
+    requires fits { length coming.punct ≡ store.old.arity }
+    requires rises { IsAbove coming.ticket store.old.kept }
     ensures arity { store.new.arity ≡ store.old.arity }
-    ensures store { OnOk result (store.new.kept ≡ store.old.kept ++ record { punct = punct; number = ticket } ∷ []) }
-    ensures out { OnOk result (out.new ≡ out.old ++ widened_among schemas.now (record { ticket = ticket; input = input; patterns = punct }) ∷ []) }
+    ensures store { OnOk result (store.new.kept ≡ store.old.kept ++ record { punct = coming.punct; number = coming.ticket } ∷ []) }
+    ensures out { OnOk result (out.new ≡ out.old ++ widened_among schemas.now (coming_punct coming) ∷ []) }
     ensures err { OnErr result ((store.new.kept ≡ store.old.kept) × (out.new ≡ out.old)) }
 {
+    let Coming {
+        ticket,
+        input,
+        punct,
+    } = coming;
     let count = out.len();
     out.push(widened(alloc, schemas, input, punct.as_slice())?)?;
     match store.push(punct, ticket) {
@@ -470,22 +462,20 @@ pub fn hear(
     state: &State,
     store: &mut PunctStore,
     waiting: &mut List<Heard>,
-    ticket: u64,
-    input: u32,
-    punct: Punct,
+    coming: Coming,
     out: &mut List<Punct>,
 ) -> Result<(), NoMemory>
-    requires there { input < length schemas.now }
-    requires fits { length punct ≡ store.old.arity }
-    requires rises { IsAbove ticket store.old.kept }
+    requires there { coming.input < length schemas.now }
+    requires fits { length coming.punct ≡ store.old.arity }
+    requires rises { IsAbove coming.ticket store.old.kept }
     ensures arity { store.new.arity ≡ store.old.arity }
-    ensures store { OnOk result (store.new.kept ≡ store.old.kept ++ record { punct = punct; number = ticket } ∷ []) }
-    ensures waiting { let held = still_held state.now.rows [] punct in OnOk result (waiting.new ≡ waiting_with held waiting.old (record { ticket = ticket; input = input; patterns = punct })) }
-    ensures out { let held = still_held state.now.rows [] punct in OnOk result (out.new ≡ out.old ++ going_at_once schemas.now held (record { ticket = ticket; input = input; patterns = punct })) }
+    ensures store { OnOk result (store.new.kept ≡ store.old.kept ++ record { punct = coming.punct; number = coming.ticket } ∷ []) }
+    ensures waiting { let held = still_held state.now.rows [] coming.punct in OnOk result (waiting.new ≡ waiting_with held waiting.old (coming_punct coming)) }
+    ensures out { let held = still_held state.now.rows [] coming.punct in OnOk result (out.new ≡ out.old ++ going_at_once schemas.now held (coming_punct coming)) }
     ensures err { OnErr result ((store.new.kept ≡ store.old.kept) × (waiting.new ≡ waiting.old) × (out.new ≡ out.old)) }
 {
-    match find(state, &[], &punct) {
-        Some(found) => keep_waiting(alloc, store, waiting, ticket, input, punct, found),
-        None => hand_up(alloc, schemas, store, ticket, input, punct, out),
+    match find(state, &[], &coming.punct) {
+        Some(found) => keep_waiting(alloc, store, waiting, coming, found),
+        None => hand_up(alloc, schemas, store, coming, out),
     }
 }
