@@ -14,8 +14,9 @@ use Rattle.pj_state.specs.States.{StateView, has_value, is_value, row_under, row
 use Rattle.pj_shape.specs.declared.joins.CertStep.{CertStep}
 use Rattle.pj_events.specs.Join.{ClassCol, In, TupleAt, agree, no_value, value_at}
 use Rattle.pj_laws.proofs.Matching.{agree-at, value-in}
-use Rattle.pj_join.specs.Sides.{IsWide, state_at, tuple_in}
-use Rattle.pj_join.specs.Watching.{AreAllUnlike, AreMarked, AreRoused, AreUnlike, IsAlone, IsFewer, IsPair, IsRousedAt, Watches, asks_first, first_column, is_passed, watches_at}
+use Rattle.pj_join.specs.declared.partners.Pair.{Pair}
+use Rattle.pj_join.specs.Sides.{IsWide, tuple_in}
+use Rattle.pj_join.specs.Watching.{AreAllAlone, AreAllUnlike, AreMarked, AreRoused, AreUnlike, IsAlone, IsFewer, IsPair, IsRousedAt, SideView, Watches, asks_first, first_column, is_passed, side_at, watches_at}
 use Rattle.pj_join.proofs.Picked.{under-own}
 use Rattle.pj_join.proofs.Through.{first-in_class}
 use Rattle.pj_join.proofs.Wanted.{all-in}
@@ -32,14 +33,14 @@ marked_now old new tickets from marked t h =
 
 -- ---- partners
 
-pub pair_is : (classes : List (List ClassCol)) (class : List ClassCol) (input : ℕ) (columns : List ℕ) (other mine theirs : ℕ) → In class classes → first_column class input ≡ Some mine → first_column class other ≡ Some theirs → In mine columns → IsPair classes input columns other mine theirs
-pair_is classes class input columns other mine theirs there own next indexed = (indexed, same)
+pub pair_is : (classes : List (List ClassCol)) (class : List ClassCol) (side : SideView) (other : ℕ) (pair : Pair) → In class classes → first_column class side.input ≡ Some pair.mine → first_column class other ≡ Some pair.theirs → In pair.mine side.state.columns → IsPair classes side other pair
+pair_is classes class side other pair there own next indexed = (indexed, same)
   where
-    same : (x y : TupleAt) → x.input ≡ input → y.input ≡ other → agree classes (y ∷ x ∷ []) ≡ true → value_at x.row mine ≡ value_at y.row theirs
+    same : (x y : TupleAt) → x.input ≡ side.input → y.input ≡ other → agree classes (y ∷ x ∷ []) ≡ true → value_at x.row pair.mine ≡ value_at y.row pair.theirs
     same x y ex ey t =
-        agree-at classes (y ∷ x ∷ []) class (value_at x.row mine) (value_at y.row theirs) t there
-        (value-in (y ∷ x ∷ []) class x (record { input = input; column = mine }) (inr (inl refl)) (first-in_class class input mine own) ex)
-        (value-in (y ∷ x ∷ []) class y (record { input = other; column = theirs }) (inl refl) (first-in_class class other theirs next) ey)
+        agree-at classes (y ∷ x ∷ []) class (value_at x.row pair.mine) (value_at y.row pair.theirs) t there
+        (value-in (y ∷ x ∷ []) class x (record { input = side.input; column = pair.mine }) (inr (inl refl)) (first-in_class class side.input pair.mine own) ex)
+        (value-in (y ∷ x ∷ []) class y (record { input = other; column = pair.theirs }) (inl refl) (first-in_class class other pair.theirs next) ey)
 
 pub unlike_all : (rows : List Stored) (column : ℕ) (value : Value) (w : Watches) → w.from ≡ 0 → AreUnlike rows column value w
 unlike_all rows column value w e s h t q = all_marked w e s.ticket t
@@ -58,54 +59,53 @@ pub unlike_fewer : (rows : List Stored) (column : ℕ) (value : Value) (old new 
 unlike_fewer rows column value old new fewer unlike s h t q = unlike s h (fewer.passed s.ticket t) q
 
 -- those of the row with one ticket
-pub unlike_under : (rows : List Stored) (mine : ℕ) (others : List Stored) (theirs ticket : ℕ) (row : List Value) (w : Watches) → IsRising ticket_of others → Some row ≡ row_under ticket others → AreUnlike rows mine (value_at row theirs) w
-    → AreAllUnlike rows mine others theirs (ticket ∷ []) w
-unlike_under rows mine others theirs ticket row w rising at unlike t h (inl e) =
+pub unlike_under : (rows others : List Stored) (pair : Pair) (ticket : ℕ) (row : List Value) (w : Watches) → IsRising ticket_of others → Some row ≡ row_under ticket others → AreUnlike rows pair.mine (value_at row pair.theirs) w
+    → AreAllUnlike rows others pair (ticket ∷ []) w
+unlike_under rows others pair ticket row w rising at unlike t h (inl e) =
     let own : Some t.row ≡ row_under t.ticket others = under-own others t rising h in
     let both : Some t.row ≡ Some row = own ∙ ap (λ n. row_under n others) (sym e) ∙ sym at in
-    subst (λ (r : List Value). AreUnlike rows mine (value_at r theirs) w) (sym (same both)) unlike
+    subst (λ (r : List Value). AreUnlike rows pair.mine (value_at r pair.theirs) w) (sym (same both)) unlike
   where
     same : {a b : List Value} → Some a ≡ Some b → a ≡ b
     same q = cc
-unlike_under rows mine others theirs ticket row w rising at unlike t h (inr n) = absurd n
+unlike_under rows others pair ticket row w rising at unlike t h (inr n) = absurd n
 
-pub unlike_none : (rows : List Stored) (mine : ℕ) (others : List Stored) (theirs ticket : ℕ) (w : Watches) → IsRising ticket_of others → None ≡ row_under ticket others → AreAllUnlike rows mine others theirs (ticket ∷ []) w
-unlike_none rows mine others theirs ticket w rising at t h (inl e) =
+pub unlike_none : (rows others : List Stored) (pair : Pair) (ticket : ℕ) (w : Watches) → IsRising ticket_of others → None ≡ row_under ticket others → AreAllUnlike rows others pair (ticket ∷ []) w
+unlike_none rows others pair ticket w rising at t h (inl e) =
     absurd (clash (at ∙ ap (λ n. row_under n others) e ∙ sym (under-own others t rising h)))
   where
     clash : {a : List Value} → None ≡ Some a → ⊥
     clash q = cc
-unlike_none rows mine others theirs ticket w rising at t h (inr n) = absurd n
+unlike_none rows others pair ticket w rising at t h (inr n) = absurd n
 
-pub unlike_more : (rows : List Stored) (mine : ℕ) (others : List Stored) (theirs : ℕ) (tickets : List ℕ) (i ticket : ℕ) (old new : Watches) → i < length tickets → ticket ≡ get_or tickets i 0 → IsFewer old new
-    → AreAllUnlike rows mine others theirs (take i tickets) old → AreAllUnlike rows mine others theirs (ticket ∷ []) new → AreAllUnlike rows mine others theirs (take (i + 1) tickets) new
-unlike_more rows mine others theirs tickets i ticket old new lt is fewer before one t h k =
+pub unlike_more : (rows others : List Stored) (pair : Pair) (tickets : List ℕ) (i ticket : ℕ) (old new : Watches) → i < length tickets → ticket ≡ get_or tickets i 0 → IsFewer old new
+    → AreAllUnlike rows others pair (take i tickets) old → AreAllUnlike rows others pair (ticket ∷ []) new → AreAllUnlike rows others pair (take (i + 1) tickets) new
+unlike_more rows others pair tickets i ticket old new lt is fewer before one t h k =
     go (In-append_cases t.ticket (take i tickets) (ticket ∷ []) (subst (λ (ns : List ℕ). In t.ticket ns) (take_more tickets i 0 lt ∙ ap (λ m. take i tickets ++ m ∷ []) (sym is)) k))
   where
-    go : In t.ticket (take i tickets) ⊎ In t.ticket (ticket ∷ []) → AreUnlike rows mine (value_at t.row theirs) new
-    go (inl a) = unlike_fewer rows mine (value_at t.row theirs) old new fewer (before t h a)
+    go : In t.ticket (take i tickets) ⊎ In t.ticket (ticket ∷ []) → AreUnlike rows pair.mine (value_at t.row pair.theirs) new
+    go (inl a) = unlike_fewer rows pair.mine (value_at t.row pair.theirs) old new fewer (before t h a)
     go (inr a) = one t h a
 
-pub unlike_start : (rows : List Stored) (mine : ℕ) (others : List Stored) (theirs : ℕ) (w : Watches) → AreAllUnlike rows mine others theirs [] w
-unlike_start rows mine others theirs w t h k = absurd k
+pub unlike_start : (rows others : List Stored) (pair : Pair) (w : Watches) → AreAllUnlike rows others pair [] w
+unlike_start rows others pair w t h k = absurd k
 
-pub unlike_empty : (rows : List Stored) (mine : ℕ) (others : List Stored) (theirs : ℕ) (tickets : List ℕ) (w : Watches) → length others ≡ 0 → AreAllUnlike rows mine others theirs tickets w
-unlike_empty rows mine [] theirs tickets w none t h k = absurd h
-unlike_empty rows mine (o ∷ others) theirs tickets w none t h k = absurd (omega (arith, none))
+pub unlike_empty : (rows others : List Stored) (pair : Pair) (tickets : List ℕ) (w : Watches) → length others ≡ 0 → AreAllUnlike rows others pair tickets w
+unlike_empty rows [] pair tickets w none t h k = absurd h
+unlike_empty rows (o ∷ others) pair tickets w none t h k = absurd (omega (arith, none))
 
 -- none that is passed over joins with one of these
-pub alone_all : (classes : List (List ClassCol)) (input : ℕ) (rows : List Stored) (y : TupleAt) (w : Watches) → w.from ≡ 0 → IsAlone classes input rows y w
-alone_all classes input rows y w e s h t = absurd (all_marked w e s.ticket t)
+pub alone_all : (classes : List (List ClassCol)) (side : SideView) (y : TupleAt) (w : Watches) → w.from ≡ 0 → IsAlone classes side y w
+alone_all classes side y w e s h t = absurd (all_marked w e s.ticket t)
 
-pub alone_are : (classes : List (List ClassCol)) (input : ℕ) (rows : List Stored) (columns : List ℕ) (other : ℕ) (others : List Stored) (mine theirs : ℕ) (tickets : List ℕ) (w : Watches) → IsPair classes input columns other mine theirs → AreAllUnlike rows mine others theirs tickets w
-    → (t : Stored) → In t others → In t.ticket tickets → IsAlone classes input rows (tuple_in other t) w
-alone_are classes input rows columns other others mine theirs tickets w pair unlike t h k s hs p =
-    false_from_ne_true (agree classes (tuple_in other t ∷ tuple_in input s ∷ [])) (λ a. unlike t h k s hs p (pair.1 (tuple_in input s) (tuple_in other t) refl refl a))
+pub alone_are : (classes : List (List ClassCol)) (side others : SideView) (pair : Pair) (tickets : List ℕ) (w : Watches) → IsPair classes side others.input pair → AreAllUnlike side.state.rows others.state.rows pair tickets w → AreAllAlone classes side others tickets w
+alone_are classes side others pair tickets w is unlike t h k s hs p =
+    false_from_ne_true (agree classes (tuple_in others.input t ∷ tuple_in side.input s ∷ [])) (λ a. unlike t h k s hs p (is.1 (tuple_in side.input s) (tuple_in others.input t) refl refl a))
 
 -- the class that was found is one of the classes
-pub pair_found : (classes : List (List ClassCol)) (class item : List ClassCol) (i input : ℕ) (columns : List ℕ) (other mine theirs : ℕ) → i < length classes → class ≡ item → item ≡ get_or classes i item → first_column class input ≡ Some mine → first_column class other ≡ Some theirs → In mine columns → IsPair classes input columns other mine theirs
-pair_found classes class item i input columns other mine theirs lt same is own next indexed =
-    pair_is classes class input columns other mine theirs (subst (λ (c : List ClassCol). In c classes) (sym (same ∙ is)) (in-place classes item i lt)) own next indexed
+pub pair_found : (classes : List (List ClassCol)) (class item : List ClassCol) (i : ℕ) (side : SideView) (other : ℕ) (pair : Pair) → i < length classes → class ≡ item → item ≡ get_or classes i item → first_column class side.input ≡ Some pair.mine → first_column class other ≡ Some pair.theirs → In pair.mine side.state.columns → IsPair classes side other pair
+pair_found classes class item i side other pair lt same is own next indexed =
+    pair_is classes class side other pair (subst (λ (c : List ClassCol). In c classes) (sym (same ∙ is)) (in-place classes item i lt)) own next indexed
 
 -- ---- all inputs
 
@@ -124,7 +124,7 @@ pub roused_not : (classes : List (List ClassCol)) (certs : List (List CertStep))
 roused_not classes certs states other gone w input not first = absurd (false≢true (sym not ∙ first))
 
 pub roused_all : (classes : List (List ClassCol)) (certs : List (List CertStep)) (states : List StateView) (other : ℕ) (gone : List ℕ) (w : Watches) (input : ℕ) → w.from ≡ 0 → IsRousedAt classes certs states other gone w input
-roused_all classes certs states other gone w input e first t h k = alone_all classes input (state_at states input).rows (tuple_in other t) w e
+roused_all classes certs states other gone w input e first t h k = alone_all classes (side_at states input) (tuple_in other t) w e
 
 -- whether a certificate begins with an input
 pub first_short : (cert : List CertStep) (other : ℕ) → length cert < 2 → false ≡ asks_first cert other

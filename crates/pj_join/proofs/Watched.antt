@@ -17,7 +17,7 @@ use Rattle.pj_join.specs.Joins.{JoinView}
 use Rattle.pj_join.specs.Judging.{JudgeView, ripe_at}
 use Rattle.pj_join.specs.Sides.{log_of, puncts_of, row_pairs, state_at, tuple_in}
 use Rattle.pj_join.specs.Sweeping.{swept_off}
-use Rattle.pj_join.specs.Watching.{AreFewer, AreLeft, AreLookedAt, AreOpenBut, AreRoused, AreWatched, AsksEarly, AsksNext, AsksOpen, IsLeftNext, NoneIsRipe, Watches, asks_first, is_passed, known, known_at, watches_at}
+use Rattle.pj_join.specs.Watching.{AreFewer, AreLeft, AreLookedAt, AreOpenBut, AreRoused, AreWatched, AsksEarly, AsksNext, AsksOpen, PunctView, IsLeftNext, NoneIsRipe, Watches, asks_first, come_at, is_passed, known, known_at, watches_at}
 use Rattle.pj_join.proofs.Judged.{covered-of, judge_at, ripe-is, same-puncts, same-rows}
 use Rattle.pj_join.proofs.Kept.{below-end, shapes, side-is}
 
@@ -117,30 +117,30 @@ module _ (spec : JoinData) where
         found (s ∷ rows) (inr k) = let r = found rows k in (r.0, inr r.1, r.2)
 
     -- a punctuation comes
-    pub watched_punct : (ws ws' : List Watches) (low low' : ℕ) (p : PunctAt) → AreFewer ws ws' → AreLeft spec states p ws' (length ws) → low ≤ low' → AreWatched spec next low log (puncts_of stores) ws
-        → AreWatched spec (next + 1) low' log (puncts_of stores ++ p ∷ []) ws'
-    watched_punct ws ws' low low' p f left le w = record {
+    pub watched_punct : (ws ws' : List Watches) (low low' : ℕ) (come : PunctView) (ticket : ℕ) → AreFewer ws ws' → AreLeft spec states come ws' (length ws) → low ≤ low' → AreWatched spec next low log (puncts_of stores) ws
+        → AreWatched spec (next + 1) low' log (puncts_of stores ++ come_at come ticket ∷ []) ws'
+    watched_punct ws ws' low low' come ticket f left le w = record {
       count = f.count ∙ w.count;
       reached = λ input. (let l : (watches_at ws input).from ≤ next = w.reached input in let m : (watches_at ws' input).from ≤ (watches_at ws input).from = (f.each input).from in omega (arith, l, m));
       asks = λ x h t.
-          early-more log log (puncts_of stores ++ p ∷ []) low low' (cert_of spec x.input) x (λ z m. m) le
-          (early-both log states low (cert_of spec x.input) (puncts_of stores) p x in-row (new x h t) (new-next x h t) (w.asks x h ((f.each x.input).passed x.ticket t)));
+          early-more log log (puncts_of stores ++ come_at come ticket ∷ []) low low' (cert_of spec x.input) x (λ z m. m) le
+          (early-both log states low (cert_of spec x.input) (puncts_of stores) (come_at come ticket) x in-row (new x h t) (new-next x h t) (w.asks x h ((f.each x.input).passed x.ticket t)));
     }
       where
         within : (x : TupleAt) → In x log → x.input < length ws
         within x h = let l = j.ordered.placed x h in let c : length ws ≡ inputs spec = w.count in omega (arith, l, c, shapes spec limit next done states stores pending taken j)
 
-        new : (x : TupleAt) → In x log → is_passed (watches_at ws' x.input) x.ticket ≡ true → AsksOpen spec.shape.classes (cert_of spec x.input) (p ∷ []) x
+        new : (x : TupleAt) → In x log → is_passed (watches_at ws' x.input) x.ticket ≡ true → AsksOpen spec.shape.classes (cert_of spec x.input) (come_at come ticket ∷ []) x
         new x h t =
             let s = in-row x h in
-            subst (λ (y : TupleAt). AsksOpen spec.shape.classes (cert_of spec x.input) (p ∷ []) y) s.2
-            ((left x.input (within x h)).0 s.0 s.1 (ap (λ (y : TupleAt). is_passed (watches_at ws' x.input) y.ticket) s.2 ∙ t))
+            subst (λ (y : TupleAt). AsksOpen spec.shape.classes (cert_of spec x.input) (come_at come ticket ∷ []) y) s.2
+            ((left x.input (within x h)).0 ticket s.0 s.1 (ap (λ (y : TupleAt). is_passed (watches_at ws' x.input) y.ticket) s.2 ∙ t))
 
-        new-next : (x : TupleAt) → In x log → is_passed (watches_at ws' x.input) x.ticket ≡ true → IsLeftNext spec.shape.classes (cert_of spec x.input) states p x
+        new-next : (x : TupleAt) → In x log → is_passed (watches_at ws' x.input) x.ticket ≡ true → IsLeftNext spec.shape.classes (cert_of spec x.input) states (come_at come ticket) x
         new-next x h t =
             let s = in-row x h in
-            subst (λ (y : TupleAt). IsLeftNext spec.shape.classes (cert_of spec x.input) states p y) s.2
-            ((left x.input (within x h)).1 s.0 s.1 (ap (λ (y : TupleAt). is_passed (watches_at ws' x.input) y.ticket) s.2 ∙ t))
+            subst (λ (y : TupleAt). IsLeftNext spec.shape.classes (cert_of spec x.input) states (come_at come ticket) y) s.2
+            ((left x.input (within x h)).1 ticket s.0 s.1 (ap (λ (y : TupleAt). is_passed (watches_at ws' x.input) y.ticket) s.2 ∙ t))
 
     -- ---- what is passed over is not ripe
 

@@ -14,11 +14,11 @@ use Rattle.pj_shape.specs.declared.joins.CertStep.{CertStep}
 use Rattle.pj_cover.specs.Asking.{entries, first_class, marks_of}
 use Rattle.pj_cover.proofs.Classes.{first_class_is}
 use Rattle.pj_events.specs.Patterns.{Pattern, covers, matches_value}
-use Rattle.pj_events.specs.Join.{CertEntry, ClassCol, In, JoinData, PunctAt, TupleAt, class_with, constant, demand, entry_of, has, instance_from, no_value, part_of, value_at, values}
+use Rattle.pj_events.specs.Join.{CertEntry, ClassCol, In, JoinData, TupleAt, class_with, constant, demand, entry_of, has, instance_from, no_value, part_of, value_at, values}
 use Rattle.pj_join.specs.Sides.{IsWide, tuple_in}
 use Rattle.pj_join.proofs.Wanted.{all-in}
 use Rattle.pj_join.specs.Ranges.{HoldTrue}
-use Rattle.pj_join.specs.Watching.{AreFewer, AreLeft, AreLeftAt, AreLeftOpen, AreUncovered, AsksOpen, IsFewer, IsKey, Limits, NonePasses, Tells, Watches, first_column, has_match, is_match, is_passed, watches_at}
+use Rattle.pj_join.specs.Watching.{AreFewer, AreLeft, AreLeftAt, AreLeftOpen, AreUncovered, AsksOpen, PunctView, CoverageView, IsFewer, IsKey, Limits, NonePasses, SideView, Tells, Watches, come_at, first_column, has_match, is_match, is_met, is_passed, watches_at}
 
 -- ---- what is asked for
 
@@ -77,27 +77,27 @@ asked classes input other marks ps at own r z xs of marked first there tells sam
     ∙ tells at own (ap (first_column (first_class classes at)) same ∙ first)))
     ∙ needs classes other 0 marks ps xs at.column r marked there t
 
-pub limits_are : (classes : List (List ClassCol)) (input other : ℕ) (marks : List Bool) (ps : List Pattern) (at : ClassCol) (own : ℕ) (r : Pattern)
-    → at.input ≡ other → slice_get marks at.column ≡ Some true → first_column (first_class classes at) input ≡ Some own → slice_get ps at.column ≡ Some r → Limits classes input other marks ps own r
-limits_are classes input other marks ps at own r of marked first there z xs tells same lt differs =
-    false_from_ne_true (covers ps (instance_from classes other 0 marks xs))
-    (λ t. false≢true (sym differs ∙ ap (is_match r) (slice_get-get_or z.row own no_value lt) ∙ asked classes input other marks ps at own r z xs of marked first there tells same t))
+pub limits_are : (side : SideView) (c : CoverageView) (at : ClassCol) (own : ℕ) (r : Pattern)
+    → at.input ≡ c.input → slice_get c.marks at.column ≡ Some true → first_column (first_class c.classes at) side.input ≡ Some own → slice_get c.patterns at.column ≡ Some r → Limits side c own r
+limits_are side c at own r of marked first there z xs tells same lt differs =
+    false_from_ne_true (is_met c xs)
+    (λ t. false≢true (sym differs ∙ ap (is_match r) (slice_get-get_or z.row own no_value lt) ∙ asked c.classes side.input c.input c.marks c.patterns at own r z xs of marked first there tells same t))
 
 pub within : (own : ℕ) (columns : List ℕ) → list_any (λ o. eqb own o) columns ≡ true → In own columns
 within own columns indexed = let h = any_at (λ o. eqb own o) columns indexed in subst (λ n. In n columns) (sym (eqb-true own h.0 h.2)) h.1
 
-pub key_is : (classes : List (List ClassCol)) (input : ℕ) (columns : List ℕ) (other : ℕ) (marks : List Bool) (ps : List Pattern) (at : ClassCol) (own : ℕ) (v : Value)
-    → at.input ≡ other → slice_get marks at.column ≡ Some true → first_column (first_class classes at) input ≡ Some own → list_any (λ o. eqb own o) columns ≡ true → slice_get ps at.column ≡ Some (Constant v)
-    → IsKey classes input columns other marks ps own v
-key_is classes input columns other marks ps at own v of marked first indexed const = (within own columns indexed, uncovered)
+pub key_is : (side : SideView) (c : CoverageView) (at : ClassCol) (own : ℕ) (v : Value)
+    → at.input ≡ c.input → slice_get c.marks at.column ≡ Some true → first_column (first_class c.classes at) side.input ≡ Some own → list_any (λ o. eqb own o) side.state.columns ≡ true → slice_get c.patterns at.column ≡ Some (Constant v)
+    → IsKey side c own v
+key_is side c at own v of marked first indexed const = (within own side.state.columns indexed, uncovered)
   where
-    uncovered : (z : TupleAt) (xs : List TupleAt) → Tells classes xs z → z.input ≡ input → own < length z.row → is_value v (slice_get z.row own) ≡ false → covers ps (instance_from classes other 0 marks xs) ≡ false
-    uncovered z xs tells same lt differs = false_from_ne_true (covers ps (instance_from classes other 0 marks xs)) (λ t. false≢true (sym differs ∙ yes t))
+    uncovered : (z : TupleAt) (xs : List TupleAt) → Tells c.classes xs z → z.input ≡ side.input → own < length z.row → is_value v (slice_get z.row own) ≡ false → is_met c xs ≡ false
+    uncovered z xs tells same lt differs = false_from_ne_true (is_met c xs) (λ t. false≢true (sym differs ∙ yes t))
       where
-        yes : covers ps (instance_from classes other 0 marks xs) ≡ true → is_value v (slice_get z.row own) ≡ true
+        yes : is_met c xs ≡ true → is_value v (slice_get z.row own) ≡ true
         yes t =
             ap (is_value v) (slice_get-get_or z.row own no_value lt)
-            ∙ ap (λ w. value_eq w v) (sym (same_if_equal v (value_at z.row own) (asked classes input other marks ps at own (Constant v) z xs of marked first const tells same t)))
+            ∙ ap (λ w. value_eq w v) (sym (same_if_equal v (value_at z.row own) (asked c.classes side.input c.input c.marks c.patterns at own (Constant v) z xs of marked first const tells same t)))
             ∙ equal_itself v
 
 -- a fact of what was found follows from three others
@@ -153,26 +153,26 @@ unmarked p rows old new ts s are from marked h t =
     ∙ any_from (λ m. eqb m s.ticket) ts s.ticket (subst (λ (ns : List ℕ). In s.ticket ns) (sym are) (In-map_from ticket_of s (filter p rows) (In-filter_from p s rows h y))) (eq-eqb s.ticket s.ticket refl)))
 
 -- those that have the key are marked
-pub left_by_key : (classes : List (List ClassCol)) (input other : ℕ) (rows : List Stored) (columns : List ℕ) (marks : List Bool) (ps : List Pattern) (own : ℕ) (v : Value) (old new : Watches) (ts : List ℕ)
-    → ((s : Stored) → In s rows → own < length s.row) → IsKey classes input columns other marks ps own v → ts ≡ tickets_of (rows_with own v rows) → new.from ≡ old.from → new.marked ≡ old.marked ++ ts
-    → AreUncovered classes input rows other marks ps new
-left_by_key classes input other rows columns marks ps own v old new ts wide key are from marked s h t xs tells =
-    key.1 (tuple_in input s) xs tells refl (wide s h) (unmarked (has_value own v) rows old new ts s are from marked h t)
+pub left_by_key : (side : SideView) (c : CoverageView) (own : ℕ) (v : Value) (old new : Watches) (ts : List ℕ)
+    → ((s : Stored) → In s side.state.rows → own < length s.row) → IsKey side c own v → ts ≡ tickets_of (rows_with own v side.state.rows) → new.from ≡ old.from → new.marked ≡ old.marked ++ ts
+    → AreUncovered side c new
+left_by_key side c own v old new ts wide key are from marked s h t xs tells =
+    key.1 (tuple_in side.input s) xs tells refl (wide s h) (unmarked (has_value own v) side.state.rows old new ts s are from marked h t)
 
-pub left_marked : {E V : Type 0} (r : Result V E) (classes : List (List ClassCol)) (input other : ℕ) (state : StateView) (marks : List Bool) (ps : List Pattern) (own : ℕ) (v : Value) (old new : Watches) (ts : List ℕ)
-    → IsWide state → IsKey classes input state.columns other marks ps own v → ts ≡ tickets_of (rows_with own v state.rows) → new.from ≡ old.from → OnOk r (new.marked ≡ old.marked ++ ts)
-    → OnOk r (AreUncovered classes input state.rows other marks ps new)
-left_marked (Ok done) classes input other state marks ps own v old new ts wide key are from marked =
-    left_by_key classes input other state.rows state.columns marks ps own v old new ts (λ s h. all-in (λ c. c < length s.row) state.columns (wide s h) own key.0) key are from marked
-left_marked (Err stop) classes input other state marks ps own v old new ts wide key are from marked = tt
+pub left_marked : {E V : Type 0} (r : Result V E) (side : SideView) (c : CoverageView) (own : ℕ) (v : Value) (old new : Watches) (ts : List ℕ)
+    → IsWide side.state → IsKey side c own v → ts ≡ tickets_of (rows_with own v side.state.rows) → new.from ≡ old.from → OnOk r (new.marked ≡ old.marked ++ ts)
+    → OnOk r (AreUncovered side c new)
+left_marked (Ok done) side c own v old new ts wide key are from marked =
+    left_by_key side c own v old new ts (λ s h. all-in (λ k. k < length s.row) side.state.columns (wide s h) own key.0) key are from marked
+left_marked (Err stop) side c own v old new ts wide key are from marked = tt
 
 -- those that the pattern matches are marked
-pub left_matched : {E V : Type 0} (r : Result V E) (classes : List (List ClassCol)) (input other : ℕ) (state : StateView) (marks : List Bool) (ps : List Pattern) (own : ℕ) (q : Pattern) (w : Watches)
-    → IsWide state → In own state.columns → Limits classes input other marks ps own q → OnOk r (NonePasses (has_match own q) state.rows w)
-    → OnOk r (AreUncovered classes input state.rows other marks ps w)
-left_matched (Ok done) classes input other state marks ps own q w wide indexed limits none = λ s h t xs tells.
-    limits (tuple_in input s) xs tells refl (all-in (λ c. c < length s.row) state.columns (wide s h) own indexed) (none s h t)
-left_matched (Err stop) classes input other state marks ps own q w wide indexed limits none = tt
+pub left_matched : {E V : Type 0} (r : Result V E) (side : SideView) (c : CoverageView) (own : ℕ) (q : Pattern) (w : Watches)
+    → IsWide side.state → In own side.state.columns → Limits side c own q → OnOk r (NonePasses (has_match own q) side.state.rows w)
+    → OnOk r (AreUncovered side c w)
+left_matched (Ok done) side c own q w wide indexed limits none = λ s h t xs tells.
+    limits (tuple_in side.input s) xs tells refl (all-in (λ k. k < length s.row) side.state.columns (wide s h) own indexed) (none s h t)
+left_matched (Err stop) side c own q w wide indexed limits none = tt
 
 -- none of those passes whose tickets were marked
 pub none_passes : {E V : Type 0} (r : Result V E) (p : Stored → Bool) (rows : List Stored) (old new : Watches) (ts : List ℕ) → HoldTrue p rows ts → new.from ≡ old.from → OnOk r (new.marked ≡ old.marked ++ ts) → OnOk r (NonePasses p rows new)
@@ -191,26 +191,26 @@ pub one-step : (cert : List CertStep) (step : CertStep) → slice_get cert 0 ≡
 one-step [] step e = absurd (cc)
 one-step (s ∷ rest) step e = (rest, ap (λ (t : CertStep). t ∷ rest) (get_or_from_slice_get (s ∷ rest) 0 step step e))
 
-pub left_all : (classes : List (List ClassCol)) (cert : List CertEntry) (input : ℕ) (rows : List Stored) (p : PunctAt) (w : Watches) → w.from ≡ 0 → AreLeftOpen classes cert input rows p w
-left_all classes cert input rows p w e s h t = absurd (all_marked w e s.ticket t)
+pub left_all : (classes : List (List ClassCol)) (cert : List CertEntry) (side : SideView) (c : PunctView) (w : Watches) → w.from ≡ 0 → AreLeftOpen classes cert side c w
+left_all classes cert side c w e ticket s h t = absurd (all_marked w e s.ticket t)
 
-pub left_other : (classes : List (List ClassCol)) (schemes : List (List (List Bool))) (cert : List CertStep) (step : CertStep) (input : ℕ) (rows : List Stored) (p : PunctAt) (w : Watches)
-    → slice_get cert 0 ≡ Some step → (step.input ≡ p.input → ⊥) → AreLeftOpen classes (entries schemes cert) input rows p w
-left_other classes schemes cert step input rows p w at ne s h t =
+pub left_other : (classes : List (List ClassCol)) (schemes : List (List (List Bool))) (cert : List CertStep) (step : CertStep) (side : SideView) (c : PunctView) (w : Watches)
+    → slice_get cert 0 ≡ Some step → (step.input ≡ c.input → ⊥) → AreLeftOpen classes (entries schemes cert) side c w
+left_other classes schemes cert step side c w at ne ticket s h t =
     let rest = one-step cert step at in
-    subst (λ (cs : List CertStep). AsksOpen classes (entries schemes cs) (p ∷ []) (tuple_in input s)) (sym rest.1)
-    (ap (λ b. (b && covers p.patterns (demand classes (entry_of schemes step) (tuple_in input s ∷ [])).instance) || false) (false_from_ne_true (eqb p.input step.input) (λ e. ne (sym (eqb-true p.input step.input e)))))
+    subst (λ (cs : List CertStep). AsksOpen classes (entries schemes cs) (come_at c ticket ∷ []) (tuple_in side.input s)) (sym rest.1)
+    (ap (λ b. (b && covers c.patterns (demand classes (entry_of schemes step) (tuple_in side.input s ∷ [])).instance) || false) (false_from_ne_true (eqb c.input step.input) (λ e. ne (sym (eqb-true c.input step.input e)))))
 
-pub left_first : (classes : List (List ClassCol)) (schemes : List (List (List Bool))) (cert : List CertStep) (step : CertStep) (marks : List Bool) (input : ℕ) (rows : List Stored) (p : PunctAt) (w : Watches)
-    → slice_get cert 0 ≡ Some step → step.input ≡ p.input → marks ≡ marks_of schemes step → AreUncovered classes input rows p.input marks p.patterns w → AreLeftOpen classes (entries schemes cert) input rows p w
-left_first classes schemes cert step marks input rows p w at same are uncovered s h t =
+pub left_first : (classes : List (List ClassCol)) (schemes : List (List (List Bool))) (cert : List CertStep) (step : CertStep) (marks : List Bool) (side : SideView) (c : PunctView) (w : Watches)
+    → slice_get cert 0 ≡ Some step → step.input ≡ c.input → marks ≡ marks_of schemes step → AreUncovered side (record { classes = classes; input = c.input; marks = marks; patterns = c.patterns }) w → AreLeftOpen classes (entries schemes cert) side c w
+left_first classes schemes cert step marks side c w at same are uncovered ticket s h t =
     let rest = one-step cert step at in
-    subst (λ (cs : List CertStep). AsksOpen classes (entries schemes cs) (p ∷ []) (tuple_in input s)) (sym rest.1)
-    (go (eqb p.input step.input)
-    (ap₂ (λ i (ms : List Bool). covers p.patterns (instance_from classes i 0 ms (tuple_in input s ∷ []))) same (sym are) ∙ uncovered s h t (tuple_in input s ∷ []) (tells-own classes (tuple_in input s))))
+    subst (λ (cs : List CertStep). AsksOpen classes (entries schemes cs) (come_at c ticket ∷ []) (tuple_in side.input s)) (sym rest.1)
+    (go (eqb c.input step.input)
+    (ap₂ (λ i (ms : List Bool). covers c.patterns (instance_from classes i 0 ms (tuple_in side.input s ∷ []))) same (sym are) ∙ uncovered s h t (tuple_in side.input s ∷ []) (tells-own classes (tuple_in side.input s))))
   where
-    go : (b : Bool) → covers p.patterns (instance_from classes step.input 0 (marks_of schemes step) (tuple_in input s ∷ [])) ≡ false → ((b && covers p.patterns (instance_from classes step.input 0 (marks_of schemes step) (tuple_in input s ∷ []))) || false) ≡ false
-    go true e = ap (λ c. c || false) e
+    go : (b : Bool) → covers c.patterns (instance_from classes step.input 0 (marks_of schemes step) (tuple_in side.input s ∷ [])) ≡ false → ((b && covers c.patterns (instance_from classes step.input 0 (marks_of schemes step) (tuple_in side.input s ∷ []))) || false) ≡ false
+    go true e = ap (λ b. b || false) e
     go false e = refl
 
 pub on_ok : {E V : Type 0} {P Q : Type 0} (r : Result V E) → (P → Q) → OnOk r P → OnOk r Q
@@ -264,7 +264,7 @@ fewer_next old cur i v w all lt is one = record { count = set-count cur i w ∙ 
         (fewer-then (watches_at old i) (watches_at cur i) (watches_at (set cur i w) i) (all.each i) (subst (λ u. IsFewer (watches_at cur i) u) (sym (at-place cur i w lt)) (subst (λ u. IsFewer u w) (sym (at-own cur i v lt is)) one)))
         (λ ne. subst (λ u. IsFewer (watches_at old k) u) (sym (at-set cur i k w lt ne)) (all.each k))
 
-pub left_next : (spec : JoinData) (states : List StateView) (p : PunctAt) (cur : List Watches) (i : ℕ) (w : Watches) → i < length cur → AreLeft spec states p cur i → AreLeftAt spec states p w i → AreLeft spec states p (set cur i w) (i + 1)
+pub left_next : (spec : JoinData) (states : List StateView) (p : PunctView) (cur : List Watches) (i : ℕ) (w : Watches) → i < length cur → AreLeft spec states p cur i → AreLeftAt spec states p w i → AreLeft spec states p (set cur i w) (i + 1)
 left_next spec states p cur i w lt all one k le =
     by-place (λ k. k < i + 1 → AreLeftAt spec states p (watches_at (set cur i w) k) k) i k
     (λ l. subst (λ u. AreLeftAt spec states p u i) (sym (at-place cur i w lt)) one)

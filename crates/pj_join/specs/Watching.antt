@@ -16,6 +16,7 @@ pub use Rattle.pj_join.specs.declared.marks.Watches.{Watches}
 pub use Rattle.pj_join.specs.declared.marks.Judged.{Judged}
 use Rattle.pj_join.specs.declared.marks.Verdict.{Verdict}
 use Rattle.pj_join.specs.declared.widening.Swept.{Swept}
+use Rattle.pj_join.specs.declared.partners.Pair.{Pair}
 use Rattle.pj_join.specs.declared.marks.Verdict.TheVariants.{Ripe, Open, Marked}
 
 abbrev pub no_watches : Watches
@@ -104,9 +105,26 @@ pub record IsFewer (old new : Watches) : Type 0 where
   pub from : new.from ≤ old.from
   pub passed : (ticket : ℕ) → is_passed new ticket ≡ true → is_passed old ticket ≡ true
 
--- the punctuation covers what none of these rows asks for that are passed over
-abbrev pub AreLeftOpen : List (List ClassCol) → List CertEntry → ℕ → List Stored → PunctAt → Watches → Type 0
-AreLeftOpen classes cert input rows p w = (s : Stored) → In s rows → is_passed w s.ticket ≡ true → AsksOpen classes cert (p ∷ []) (tuple_in input s)
+-- an input and its stored rows
+pub record SideView : Type 0 where
+  pub input : ℕ
+  pub state : StateView
+
+abbrev pub side_at : List StateView → ℕ → SideView
+side_at states input = record { input = input; state = state_at states input }
+
+-- a punctuation that comes: its input and its patterns
+pub record PunctView : Type 0 where
+  pub input : ℕ
+  pub patterns : List Pattern
+
+-- the same with its ticket
+abbrev pub come_at : PunctView → ℕ → PunctAt
+come_at c ticket = record { ticket = ticket; input = c.input; patterns = c.patterns }
+
+-- whatever its ticket, the punctuation covers what none of the side's rows asks for that are passed over
+abbrev pub AreLeftOpen : List (List ClassCol) → List CertEntry → SideView → PunctView → Watches → Type 0
+AreLeftOpen classes cert side c w = (ticket : ℕ) (s : Stored) → In s side.state.rows → is_passed w s.ticket ≡ true → AsksOpen classes cert (come_at c ticket ∷ []) (tuple_in side.input s)
 
 -- the punctuation covers nothing that the tuple asks for by the second entry through a row of the first one's input
 abbrev pub IsLeftNext : List (List ClassCol) → List CertEntry → List StateView → PunctAt → TupleAt → Type 0
@@ -115,23 +133,19 @@ IsLeftNext classes (e ∷ []) states p x = Unit {0}
 IsLeftNext classes (e ∷ f ∷ cert) states p x =
     (t : Stored) → In t (state_at states e.input).rows → agree classes (tuple_in e.input t ∷ x ∷ []) ≡ true → covered (p ∷ []) (demand classes f (tuple_in e.input t ∷ x ∷ [])) ≡ false
 
--- the same of each of the input's rows that are passed over
-abbrev pub AreLeftNext : List (List ClassCol) → List CertEntry → ℕ → List StateView → PunctAt → Watches → Type 0
-AreLeftNext classes cert input states p w = (s : Stored) → In s (state_at states input).rows → is_passed w s.ticket ≡ true → IsLeftNext classes cert states p (tuple_in input s)
+-- the same of each of the input's rows that are passed over, whatever the punctuation's ticket
+abbrev pub AreLeftNext : List (List ClassCol) → List CertEntry → ℕ → List StateView → PunctView → Watches → Type 0
+AreLeftNext classes cert input states c w = (ticket : ℕ) (s : Stored) → In s (state_at states input).rows → is_passed w s.ticket ≡ true → IsLeftNext classes cert states (come_at c ticket) (tuple_in input s)
 
 -- both of the input with this number
-abbrev pub AreLeftAt : JoinData → List StateView → PunctAt → Watches → ℕ → Type 0
-AreLeftAt spec states p w input =
-    AreLeftOpen spec.shape.classes (cert_of spec input) input (state_at states input).rows p w
-    × AreLeftNext spec.shape.classes (cert_of spec input) input states p w
+abbrev pub AreLeftAt : JoinData → List StateView → PunctView → Watches → ℕ → Type 0
+AreLeftAt spec states c w input =
+    AreLeftOpen spec.shape.classes (cert_of spec input) (side_at states input) c w
+    × AreLeftNext spec.shape.classes (cert_of spec input) input states c w
 
 -- the same of the first so many inputs
-abbrev pub AreLeft : JoinData → List StateView → PunctAt → List Watches → ℕ → Type 0
-AreLeft spec states p ws count = (input : ℕ) → input < count → AreLeftAt spec states p (watches_at ws input) input
-
--- the same of a punctuation of this input with these patterns, whatever its ticket
-abbrev pub AllAreLeft : JoinData → List StateView → ℕ → List Pattern → List Watches → ℕ → Type 0
-AllAreLeft spec states input patterns ws count = (ticket : ℕ) → AreLeft spec states (record { ticket = ticket; input = input; patterns = patterns }) ws count
+abbrev pub AreLeft : JoinData → List StateView → PunctView → List Watches → ℕ → Type 0
+AreLeft spec states c ws count = (input : ℕ) → input < count → AreLeftAt spec states c (watches_at ws input) input
 
 -- of no input are more rows passed over
 pub record AreFewer (old new : List Watches) : Type 0 where
@@ -148,15 +162,26 @@ abbrev pub Tells : List (List ClassCol) → List TupleAt → TupleAt → Type 0
 Tells classes xs z =
     (at : ClassCol) (own : ℕ) → first_column (first_class classes at) z.input ≡ Some own → constant (first_class classes at) xs ≡ value_at z.row own
 
--- the punctuation covers nothing that is asked for of this input and scheme by tuples whose values a row tells that is passed over
-abbrev pub AreUncovered : List (List ClassCol) → ℕ → List Stored → ℕ → List Bool → List Pattern → Watches → Type 0
-AreUncovered classes input rows other marks patterns w =
-    (s : Stored) → In s rows → is_passed w s.ticket ≡ true → (xs : List TupleAt) → Tells classes xs (tuple_in input s) → covers patterns (instance_from classes other 0 marks xs) ≡ false
+-- a punctuation of an input, and what tuples ask for of this input: by a scheme's marks, with the values of these classes
+pub record CoverageView : Type 0 where
+  pub classes : List (List ClassCol)
+  pub input : ℕ
+  pub marks : List Bool
+  pub patterns : List Pattern
 
--- nor what those of these tuples that are passed over ask for with one of those that joins with them
-abbrev pub AreUncoveredWith : List (List ClassCol) → List TupleAt → List TupleAt → ℕ → List Bool → List Pattern → Watches → Type 0
-AreUncoveredWith classes xs ys other marks patterns w =
-    (x y : TupleAt) → In x xs → is_passed w x.ticket ≡ true → In y ys → agree classes (y ∷ x ∷ []) ≡ true → covers patterns (instance_from classes other 0 marks (y ∷ x ∷ [])) ≡ false
+-- whether the punctuation covers what these tuples ask for
+abbrev pub is_met : CoverageView → List TupleAt → Bool
+is_met c xs = covers c.patterns (instance_from c.classes c.input 0 c.marks xs)
+
+-- it covers nothing that tuples ask for whose values a row of the side tells that is passed over
+abbrev pub AreUncovered : SideView → CoverageView → Watches → Type 0
+AreUncovered side c w = (s : Stored) → In s side.state.rows → is_passed w s.ticket ≡ true → (xs : List TupleAt) → Tells c.classes xs (tuple_in side.input s) → is_met c xs ≡ false
+
+-- nor what those of its rows that are passed over ask for with one of another side that joins with them
+abbrev pub AreUncoveredWith : SideView → SideView → CoverageView → Watches → Type 0
+AreUncoveredWith side others c w =
+    (s t : Stored) → In s side.state.rows → is_passed w s.ticket ≡ true → In t others.state.rows → agree c.classes (tuple_in others.input t ∷ tuple_in side.input s ∷ []) ≡ true
+    → is_met c (tuple_in others.input t ∷ tuple_in side.input s ∷ []) ≡ false
 
 -- there is a pattern for each mark, and a wildcard for each column that is not marked
 abbrev pub is_wild_elsewhere : List Bool → List Pattern → Bool
@@ -166,10 +191,10 @@ is_wild_elsewhere (mark ∷ marks) [] = false
 is_wild_elsewhere (mark ∷ marks) (p ∷ patterns) = (mark || is_wild p) && is_wild_elsewhere marks patterns
 
 -- the column is indexed, and the punctuation covers what tuples ask for whose values a row tells only where it has this value there
-abbrev pub IsKey : List (List ClassCol) → ℕ → List ℕ → ℕ → List Bool → List Pattern → ℕ → Value → Type 0
-IsKey classes input columns other marks patterns column value =
-    In column columns
-    × ((z : TupleAt) (xs : List TupleAt) → Tells classes xs z → z.input ≡ input → column < length z.row → is_value value (slice_get z.row column) ≡ false → covers patterns (instance_from classes other 0 marks xs) ≡ false)
+abbrev pub IsKey : SideView → CoverageView → ℕ → Value → Type 0
+IsKey side c column value =
+    In column side.state.columns
+    × ((z : TupleAt) (xs : List TupleAt) → Tells c.classes xs z → z.input ≡ side.input → column < length z.row → is_value value (slice_get z.row column) ≡ false → is_met c xs ≡ false)
 
 -- the value is there, and the pattern matches it
 abbrev pub is_match : Pattern → Option Value → Bool
@@ -185,16 +210,17 @@ abbrev pub NonePasses : (Stored → Bool) → List Stored → Watches → Type 0
 NonePasses p rows w = (s : Stored) → In s rows → is_passed w s.ticket ≡ true → p s ≡ false
 
 -- the punctuation covers what tuples ask for whose values a row tells only where this pattern matches its value in this column
-abbrev pub Limits : List (List ClassCol) → ℕ → ℕ → List Bool → List Pattern → ℕ → Pattern → Type 0
-Limits classes input other marks patterns column pattern =
-    (z : TupleAt) (xs : List TupleAt) → Tells classes xs z → z.input ≡ input → column < length z.row → is_match pattern (slice_get z.row column) ≡ false → covers patterns (instance_from classes other 0 marks xs) ≡ false
+abbrev pub Limits : SideView → CoverageView → ℕ → Pattern → Type 0
+Limits side c column pattern =
+    (z : TupleAt) (xs : List TupleAt) → Tells c.classes xs z → z.input ≡ side.input → column < length z.row → is_match pattern (slice_get z.row column) ≡ false → is_met c xs ≡ false
 
 -- ---- rows that join with one of another input
 
 -- the column is indexed, and tuples of both inputs that join have one value in these columns
-abbrev pub IsPair : List (List ClassCol) → ℕ → List ℕ → ℕ → ℕ → ℕ → Type 0
-IsPair classes input columns other mine theirs =
-    In mine columns × ((x y : TupleAt) → x.input ≡ input → y.input ≡ other → agree classes (y ∷ x ∷ []) ≡ true → value_at x.row mine ≡ value_at y.row theirs)
+abbrev pub IsPair : List (List ClassCol) → SideView → ℕ → Pair → Type 0
+IsPair classes side other pair =
+    In pair.mine side.state.columns
+    × ((x y : TupleAt) → x.input ≡ side.input → y.input ≡ other → agree classes (y ∷ x ∷ []) ≡ true → value_at x.row pair.mine ≡ value_at y.row pair.theirs)
 
 -- no row with one of these tickets is passed over
 abbrev pub AreMarked : List ℕ → Watches → Type 0
@@ -205,16 +231,16 @@ abbrev pub AreUnlike : List Stored → ℕ → Value → Watches → Type 0
 AreUnlike rows column value w = (s : Stored) → In s rows → is_passed w s.ticket ≡ true → value_at s.row column ≡ value → ⊥
 
 -- the same for the value that each row of another input with one of these tickets has
-abbrev pub AreAllUnlike : List Stored → ℕ → List Stored → ℕ → List ℕ → Watches → Type 0
-AreAllUnlike rows mine others theirs tickets w = (t : Stored) → In t others → In t.ticket tickets → AreUnlike rows mine (value_at t.row theirs) w
+abbrev pub AreAllUnlike : List Stored → List Stored → Pair → List ℕ → Watches → Type 0
+AreAllUnlike rows others pair tickets w = (t : Stored) → In t others → In t.ticket tickets → AreUnlike rows pair.mine (value_at t.row pair.theirs) w
 
--- no row of the input that is passed over joins with this tuple
-abbrev pub IsAlone : List (List ClassCol) → ℕ → List Stored → TupleAt → Watches → Type 0
-IsAlone classes input rows y w = (s : Stored) → In s rows → is_passed w s.ticket ≡ true → agree classes (y ∷ tuple_in input s ∷ []) ≡ false
+-- no row of the side that is passed over joins with this tuple
+abbrev pub IsAlone : List (List ClassCol) → SideView → TupleAt → Watches → Type 0
+IsAlone classes side y w = (s : Stored) → In s side.state.rows → is_passed w s.ticket ≡ true → agree classes (y ∷ tuple_in side.input s ∷ []) ≡ false
 
--- the same of the tuples of another input with one of these tickets
-abbrev pub AreAllAlone : List (List ClassCol) → ℕ → List Stored → ℕ → List Stored → List ℕ → Watches → Type 0
-AreAllAlone classes input rows other others tickets w = (t : Stored) → In t others → In t.ticket tickets → IsAlone classes input rows (tuple_in other t) w
+-- the same of the tuples of another side with one of these tickets
+abbrev pub AreAllAlone : List (List ClassCol) → SideView → SideView → List ℕ → Watches → Type 0
+AreAllAlone classes side others tickets w = (t : Stored) → In t others.state.rows → In t.ticket tickets → IsAlone classes side (tuple_in others.input t) w
 
 -- the certificate begins with this input, and goes on
 abbrev pub asks_first : List CertStep → ℕ → Bool
@@ -225,7 +251,7 @@ asks_first (step ∷ next ∷ steps) other = step.input == other
 -- where the input asks first of that one: no row of it that is passed over joins with one that goes there
 abbrev pub IsRousedAt : List (List ClassCol) → List (List CertStep) → List StateView → ℕ → List ℕ → Watches → ℕ → Type 0
 IsRousedAt classes certs states other gone w input =
-    asks_first (slice_index_or certs input []) other ≡ true → AreAllAlone classes input (state_at states input).rows other (state_at states other).rows gone w
+    asks_first (slice_index_or certs input []) other ≡ true → AreAllAlone classes (side_at states input) (side_at states other) gone w
 
 -- the same of the first so many inputs
 abbrev pub AreRoused : List (List ClassCol) → List (List CertStep) → List StateView → ℕ → List ℕ → List Watches → ℕ → Type 0

@@ -15,6 +15,7 @@ ghost use Rattle.pj_join.specs.Sweeping.{GoesWhereCovered, HandsUp, HasBeenLawfu
 
 use crate::arrivals::{Coming, Heard};
 use crate::changes::make_changes;
+use crate::coverage::LentPunct;
 use crate::handing::hand_out_found;
 use crate::marks::Watches;
 use crate::partners::rouse;
@@ -23,7 +24,7 @@ use crate::ranges::keep_orders;
 use crate::starting::{empty_states, empty_stores, empty_watches};
 use crate::stored::first_pending;
 use crate::sweeping::{Judge, Left, remove_all};
-use crate::waking::wake;
+use crate::waking::{Certified, wake};
 use crate::widening::hear;
 use crate::{JoinStop, Probe};
 use pj_cover::PunctStore;
@@ -188,12 +189,16 @@ impl Join {
         wake(
             self.alloc,
             &mut self.watches,
-            &self.spec,
-            &self.schemes,
-            self.certs.as_slice(),
+            &Certified {
+                spec: &self.spec,
+                schemes: &self.schemes,
+                certs: self.certs.as_slice(),
+            },
             self.states.as_slice(),
-            input,
-            &punct,
+            &LentPunct {
+                input,
+                punct: &punct,
+            },
         )?;
         hear(
             self.alloc,

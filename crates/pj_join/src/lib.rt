@@ -4,6 +4,7 @@
 mod arrivals;
 mod changes;
 mod choosing;
+mod coverage;
 mod found;
 mod handing;
 mod join;

@@ -7,6 +7,7 @@ ghost use Rattle.pj_events.specs.Join.{value_at};
 ghost use Rattle.pj_join.specs.Sides.{AreWide, IsWide, state_at};
 ghost use Rattle.pj_join.specs.Watching.{AreAllAlone, AreAllUnlike, AreFewer, AreRoused, AreUnlike, IsFewer, IsPair, IsRousedAt, asks_first, first_column};
 
+use crate::coverage::Side;
 use crate::marks::Watches;
 use crate::watches::first_column;
 use pj_shape::{Cert, ClassCol};
@@ -20,19 +21,19 @@ pub struct Pair {
     pub theirs: u32,
 }
 
-// The first columns of both inputs in a class, where that of the first is indexed.
+// The first columns of both inputs in a class, where that of the side is indexed.
 #[tactic(auto, using(crate::proofs::Woken::within))]
-fn pair_in(class: &[ClassCol], input: u32, state: &State, other: u32) -> Option<Pair>
-    ensures own { IfSome result (λ pair. first_column class.now input ≡ Some pair.mine) }
+fn pair_in(class: &[ClassCol], side: &Side<'_>, other: u32) -> Option<Pair>
+    ensures own { IfSome result (λ pair. first_column class.now side.now.input ≡ Some pair.mine) }
     ensures next { IfSome result (λ pair. first_column class.now other ≡ Some pair.theirs) }
-    ensures indexed { IfSome result (λ pair. In pair.mine state.now.columns) }
+    ensures indexed { IfSome result (λ pair. In pair.mine side.now.state.columns) }
 {
-    match first_column(class, input) {
+    match first_column(class, side.input) {
         None => None,
         Some(mine) => match first_column(class, other) {
             None => None,
             Some(theirs) => {
-                if state.is_indexed(mine) {
+                if side.state.is_indexed(mine) {
                     return Some(Pair { mine, theirs });
                 }
                 None
@@ -41,12 +42,12 @@ fn pair_in(class: &[ClassCol], input: u32, state: &State, other: u32) -> Option<
     }
 }
 
-/// A column of each of two inputs, of which the first is indexed; `None` where no class has both.
-pub fn pair_of(classes: &[List<ClassCol>], input: u32, state: &State, other: u32) -> Option<Pair>
-    ensures { IfSome result (λ pair. IsPair classes.now input state.now.columns other pair.mine pair.theirs) }
+/// A column of the side's input, which is indexed, and one of the other input; `None` where no class has both.
+pub fn pair_of(classes: &[List<ClassCol>], side: &Side<'_>, other: u32) -> Option<Pair>
+    ensures { IfSome result (λ pair. IsPair classes.now side.now other pair) }
 {
     for class in classes {
-        match pair_in(class.as_slice(), input, state, other) {
+        match pair_in(class.as_slice(), side, other) {
             Some(pair) => return Some(pair),
             None => {}
         }
@@ -80,7 +81,7 @@ fn mark_under(
     requires wide { IsWide state.now }
     requires rising { IsRising ticket_of others.now.rows }
     ensures fewer { IsFewer watches.old watches.new }
-    ensures unlike { AreAllUnlike state.now.rows pair.mine others.now.rows pair.theirs (ticket ∷ []) watches.new }
+    ensures unlike { AreAllUnlike state.now.rows others.now.rows pair (ticket ∷ []) watches.new }
 {
     match others.get_near(ticket, near) {
         None => {}
@@ -99,7 +100,7 @@ pub fn mark_partners(
     requires indexed { In pair.mine state.now.columns }
     requires wide { IsWide state.now }
     ensures fewer { IsFewer watches.old watches.new }
-    ensures unlike { AreAllUnlike state.now.rows pair.mine others.now.rows pair.theirs tickets.now watches.new }
+    ensures unlike { AreAllUnlike state.now.rows others.now.rows pair tickets.now watches.new }
 {
     if others.len() == 0 {
         return;
@@ -121,23 +122,21 @@ fn asks_first(cert: &Cert, other: u32) -> bool
     cert.at(0).input == other
 }
 
-// Marks the rows of an input that join with one of these of another one.
+// Marks the rows of a side that join with those of another side with these tickets, and maybe others.
 fn rouse_one(
     watches: &mut Watches,
     classes: &[List<ClassCol>],
-    input: u32,
-    state: &State,
-    other: u32,
-    others: &State,
+    side: &Side<'_>,
+    others: &Side<'_>,
     gone: &[u64],
 )
-    requires wide { IsWide state.now }
+    requires wide { IsWide side.now.state }
     ensures fewer { IsFewer watches.old watches.new }
-    ensures alone { AreAllAlone classes.now input state.now.rows other others.now.rows gone.now watches.new }
+    ensures alone { AreAllAlone classes.now side.now others.now gone.now watches.new }
 {
-    match pair_of(classes, input, state, other) {
+    match pair_of(classes, side, others.input) {
         None => watches.mark_all(),
-        Some(pair) => mark_partners(watches, pair, state, others, gone),
+        Some(pair) => mark_partners(watches, pair, side.state, others.state, gone),
     }
 }
 
@@ -166,9 +165,19 @@ fn rouse_at(
                 None => watches.mark_all(),
                 Some(state) => match states.get(other as usize) {
                     None => watches.mark_all(),
-                    Some(others) => {
-                        rouse_one(watches, classes, at as u32, state, other, others, gone)
-                    }
+                    Some(others) => rouse_one(
+                        watches,
+                        classes,
+                        &Side {
+                            input: at as u32,
+                            state,
+                        },
+                        &Side {
+                            input: other,
+                            state: others,
+                        },
+                        gone,
+                    ),
                 },
             }
         }

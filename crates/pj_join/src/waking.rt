@@ -1,19 +1,53 @@
 // Which stored rows a punctuation marks.
-ghost use Rattle.std.specs.Prelude.{◌≡◌, ◌<◌, ◌^◌, ℕ, length, map, OnOk};
+ghost use Rattle.std.specs.Prelude.{◌≡◌, ◌<◌, ◌^◌, length, OnOk};
 ghost use Rattle.pj_value.specs.Lists.{In};
-ghost use Rattle.pj_cover.specs.Asking.{entries};
-ghost use Rattle.pj_join.specs.Joins.{join_data};
-ghost use Rattle.pj_join.specs.Sides.{AreWide, IsWide, state_at, tuple_in};
-ghost use Rattle.pj_join.specs.Watching.{AllAreLeft, AreFewer, AreLeftAt, AreLeftNext, AreLeftOpen, AreUncovered, AreUncoveredWith, IsFewer, IsPair, NonePasses, has_match};
+ghost use Rattle.pj_join.specs.Sides.{AreWide, IsWide, state_at};
+ghost use Rattle.pj_join.specs.Watching.{AreFewer, AreLeft, AreLeftAt, AreLeftNext, AreLeftOpen, AreUncovered, AreUncoveredWith, IsFewer, IsPair, NonePasses, has_match, side_at};
 
+use crate::coverage::{Coverage, LentPunct, Side};
 use crate::marks::Watches;
 use crate::partners::{Pair, mark_partners, pair_of};
-use crate::watches::{first_limit, is_wild_elsewhere, key, matching_tickets, scheme_of};
+use crate::watches::{matching_tickets, scheme_of};
 use pj_pattern::{Pattern, Punct};
 use pj_shape::{Cert, ClassCol, JoinSpec, Scheme, Schemes};
 use pj_state::State;
 use pj_value::{List, NoMemory};
 use std::alloc::Global;
+use std::marker::Model;
+
+/// The shape of a join, with the schemes and a certificate of each input, lent.
+#[derive(Drop)]
+pub struct Certified<'a> {
+    pub spec: &'a JoinSpec,
+    pub schemes: &'a Schemes,
+    pub certs: &'a [Cert],
+}
+
+impl<'a> Model for Certified<'a> {
+    ghost use Rattle.pj_events.specs.Join.{JoinData};
+    ghost use Rattle.pj_join.specs.Joins.{join_data};
+
+    ghost Value = { JoinData };
+
+    ghost view = { λ c. join_data c.spec.now c.schemes.now c.certs.now };
+}
+
+/// What the rows of an input ask for in turn: the steps of its certificate, each by a scheme of its input.
+#[derive(Drop)]
+pub struct Steps<'a> {
+    pub schemes: &'a Schemes,
+    pub cert: &'a Cert,
+}
+
+impl<'a> Model for Steps<'a> {
+    ghost use Rattle.std.specs.Prelude.{List};
+    ghost use Rattle.pj_cover.specs.Asking.{entries};
+    ghost use Rattle.pj_events.specs.Join.{CertEntry};
+
+    ghost Value = { List CertEntry };
+
+    ghost view = { λ s. entries s.schemes.now s.cert.now };
+}
 
 // Marks the rows whose value in a column the pattern matches, and maybe others.
 #[tactic(auto, using(crate::proofs::Woken::none_passes, crate::proofs::Woken::fewer_marked, crate::proofs::Woken::fewer_same))]
@@ -32,291 +66,243 @@ fn mark_matching(
     watches.mark(tickets.as_slice())
 }
 
-// Marks the rows of an input that a marked column of the punctuation leaves; all where each is a wildcard.
+// Marks the rows of a side that a marked column of the punctuation leaves; all where each is a wildcard.
 fn wake_limited(
     alloc: Global,
     watches: &mut Watches,
-    classes: &[List<ClassCol>],
-    input: u32,
-    state: &State,
-    scheme: &Scheme,
-    other: u32,
-    punct: &Punct,
+    side: &Side<'_>,
+    coverage: &Coverage<'_>,
 ) -> Result<(), NoMemory>
-    requires { IsWide state.now }
+    requires { IsWide side.now.state }
     ensures fewer { IsFewer watches.old watches.new }
-    ensures left { OnOk result (AreUncovered classes.now input state.now.rows other scheme.now punct.now watches.new) }
+    ensures left { OnOk result (AreUncovered side.now coverage.now watches.new) }
 {
-    match first_limit(classes, input, state, other, scheme, punct) {
+    match coverage.first_limit(side) {
         None => {
             watches.mark_all();
             Ok(())
         }
-        Some(limit) => mark_matching(alloc, watches, state, limit.column, limit.pattern),
+        Some(limit) => mark_matching(alloc, watches, side.state, limit.column, limit.pattern),
     }
 }
 
-// Marks the rows of an input that ask for what the punctuation covers by this step; or all.
+// Marks the rows of a side that ask for what the punctuation covers; or all.
 fn wake_by(
     alloc: Global,
     watches: &mut Watches,
-    classes: &[List<ClassCol>],
-    input: u32,
-    state: &State,
-    scheme: &Scheme,
-    other: u32,
-    punct: &Punct,
+    side: &Side<'_>,
+    coverage: &Coverage<'_>,
 ) -> Result<(), NoMemory>
-    requires { IsWide state.now }
+    requires { IsWide side.now.state }
     ensures fewer { IsFewer watches.old watches.new }
-    ensures left { OnOk result (AreUncovered classes.now input state.now.rows other scheme.now punct.now watches.new) }
+    ensures left { OnOk result (AreUncovered side.now coverage.now watches.new) }
 {
-    if !is_wild_elsewhere(scheme, punct) {
+    if !coverage.is_of_scheme() {
         return Ok(());
     }
-    match key(classes, input, state, other, scheme, punct) {
-        None => wake_limited(alloc, watches, classes, input, state, scheme, other, punct),
-        Some(key) => watches.mark(state.tickets(key.column, key.value)),
+    match coverage.key(side) {
+        None => wake_limited(alloc, watches, side, coverage),
+        Some(key) => watches.mark(side.state.tickets(key.column, key.value)),
     }
 }
 
-// Marks the rows of an input that ask first for what the punctuation of another one covers; or all.
+// Marks the rows of a side that ask first for what the punctuation of another input covers; or all.
 fn wake_first(
     alloc: Global,
     watches: &mut Watches,
     classes: &[List<ClassCol>],
-    schemes: &Schemes,
-    cert: &Cert,
-    input: u32,
-    state: &State,
-    other: u32,
-    punct: &Punct,
+    steps: &Steps<'_>,
+    side: &Side<'_>,
+    coming: &LentPunct<'_>,
 ) -> Result<(), NoMemory>
-    requires { IsWide state.now }
+    requires { IsWide side.now.state }
     ensures fewer { IsFewer watches.old watches.new }
-    ensures left { OnOk result ((ticket : ℕ) → AreLeftOpen classes.now (entries schemes.now cert.now) input state.now.rows (record { ticket = ticket; input = other; patterns = punct.now }) watches.new) }
+    ensures left { OnOk result (AreLeftOpen classes.now steps.now side.now coming.now watches.new) }
 {
-    if cert.len() == 0 {
+    if steps.cert.len() == 0 {
         watches.mark_all();
         return Ok(());
     }
-    let step = *cert.at(0);
-    if step.input != other {
+    let step = *steps.cert.at(0);
+    if step.input != coming.input {
         return Ok(());
     }
-    match scheme_of(schemes, step) {
+    match scheme_of(steps.schemes, step) {
         None => {
             watches.mark_all();
             Ok(())
         }
-        Some(scheme) => wake_by(alloc, watches, classes, input, state, scheme, other, punct),
+        Some(scheme) => wake_by(alloc, watches, side, &coming.coverage(classes, scheme)),
     }
 }
 
-// Marks the partners of those rows of the first step's input that a marked column of the punctuation leaves; all rows where
+// Marks the partners of those rows of the first step's side that a marked column of the punctuation leaves; all rows where
 // each is a wildcard.
 fn mark_through(
     alloc: Global,
     watches: &mut Watches,
-    classes: &[List<ClassCol>],
-    input: u32,
-    state: &State,
-    first: u32,
-    firsts: &State,
+    side: &Side<'_>,
+    firsts: &Side<'_>,
     pair: Pair,
-    scheme: &Scheme,
-    other: u32,
-    punct: &Punct,
+    coverage: &Coverage<'_>,
 ) -> Result<(), NoMemory>
-    requires wide { IsWide state.now }
-    requires wide_first { IsWide firsts.now }
-    requires pair { IsPair classes.now input state.now.columns first pair.mine pair.theirs }
+    requires wide { IsWide side.now.state }
+    requires wide_first { IsWide firsts.now.state }
+    requires pair { IsPair coverage.now.classes side.now firsts.now.input pair }
     ensures fewer { IsFewer watches.old watches.new }
-    ensures left { OnOk result (AreUncoveredWith classes.now (map (tuple_in input) state.now.rows) (map (tuple_in first) firsts.now.rows) other scheme.now punct.now watches.new) }
+    ensures left { OnOk result (AreUncoveredWith side.now firsts.now coverage.now watches.new) }
 {
-    match key(classes, first, firsts, other, scheme, punct) {
+    match coverage.key(firsts) {
         Some(key) => {
-            let tickets = firsts.tickets(key.column, key.value);
-            mark_partners(watches, pair, state, firsts, tickets);
+            let tickets = firsts.state.tickets(key.column, key.value);
+            mark_partners(watches, pair, side.state, firsts.state, tickets);
             Ok(())
         }
-        None => match first_limit(classes, first, firsts, other, scheme, punct) {
+        None => match coverage.first_limit(firsts) {
             None => {
                 watches.mark_all();
                 Ok(())
             }
             Some(limit) => {
-                let tickets = matching_tickets(alloc, firsts, limit.column, limit.pattern)?;
-                mark_partners(watches, pair, state, firsts, tickets.as_slice());
+                let tickets = matching_tickets(alloc, firsts.state, limit.column, limit.pattern)?;
+                mark_partners(watches, pair, side.state, firsts.state, tickets.as_slice());
                 Ok(())
             }
         },
     }
 }
 
-// Marks the rows of an input that a column of their own leaves, or that have a partner that one leaves; or all.
+// Marks the rows of a side that a column of their own leaves, or that have a partner that one leaves; or all.
 fn wake_through(
     alloc: Global,
     watches: &mut Watches,
-    classes: &[List<ClassCol>],
-    input: u32,
-    state: &State,
-    first: u32,
-    firsts: &State,
-    scheme: &Scheme,
-    other: u32,
-    punct: &Punct,
+    side: &Side<'_>,
+    firsts: &Side<'_>,
+    coverage: &Coverage<'_>,
 ) -> Result<(), NoMemory>
-    requires wide { IsWide state.now }
-    requires wide_first { IsWide firsts.now }
+    requires wide { IsWide side.now.state }
+    requires wide_first { IsWide firsts.now.state }
     ensures fewer { IsFewer watches.old watches.new }
-    ensures left { OnOk result (AreUncoveredWith classes.now (map (tuple_in input) state.now.rows) (map (tuple_in first) firsts.now.rows) other scheme.now punct.now watches.new) }
+    ensures left { OnOk result (AreUncoveredWith side.now firsts.now coverage.now watches.new) }
 {
-    match first_limit(classes, input, state, other, scheme, punct) {
-        Some(limit) => mark_matching(alloc, watches, state, limit.column, limit.pattern),
-        None => match pair_of(classes, input, state, first) {
+    match coverage.first_limit(side) {
+        Some(limit) => mark_matching(alloc, watches, side.state, limit.column, limit.pattern),
+        None => match pair_of(coverage.classes, side, firsts.input) {
             None => {
                 watches.mark_all();
                 Ok(())
             }
-            Some(pair) => mark_through(
-                alloc, watches, classes, input, state, first, firsts, pair, scheme, other, punct,
-            ),
+            Some(pair) => mark_through(alloc, watches, side, firsts, pair, coverage),
         },
     }
 }
 
-// Marks the rows of an input that ask through those of the first step's one for what the punctuation covers; or all.
+// Marks the rows of a side that ask through those of the first step's side for what the punctuation covers; or all.
 fn wake_next(
     alloc: Global,
     watches: &mut Watches,
-    classes: &[List<ClassCol>],
-    input: u32,
-    state: &State,
-    first: u32,
-    firsts: &State,
-    scheme: &Scheme,
-    other: u32,
-    punct: &Punct,
+    side: &Side<'_>,
+    firsts: &Side<'_>,
+    coverage: &Coverage<'_>,
 ) -> Result<(), NoMemory>
-    requires wide { IsWide state.now }
-    requires wide_first { IsWide firsts.now }
+    requires wide { IsWide side.now.state }
+    requires wide_first { IsWide firsts.now.state }
     ensures fewer { IsFewer watches.old watches.new }
-    ensures left { OnOk result (AreUncoveredWith classes.now (map (tuple_in input) state.now.rows) (map (tuple_in first) firsts.now.rows) other scheme.now punct.now watches.new) }
+    ensures left { OnOk result (AreUncoveredWith side.now firsts.now coverage.now watches.new) }
 {
-    if !is_wild_elsewhere(scheme, punct) {
+    if !coverage.is_of_scheme() {
         return Ok(());
     }
-    match key(classes, input, state, other, scheme, punct) {
-        Some(key) => watches.mark(state.tickets(key.column, key.value)),
-        None => wake_through(
-            alloc, watches, classes, input, state, first, firsts, scheme, other, punct,
-        ),
+    match coverage.key(side) {
+        Some(key) => watches.mark(side.state.tickets(key.column, key.value)),
+        None => wake_through(alloc, watches, side, firsts, coverage),
     }
 }
 
-// Marks the rows of an input that ask by the second step, of this scheme, for what the punctuation covers; or all.
+// Marks the rows of a side that ask through those of this input, for what the punctuation covers; or all.
 fn wake_after(
     alloc: Global,
     watches: &mut Watches,
-    classes: &[List<ClassCol>],
-    input: u32,
-    state: &State,
+    side: &Side<'_>,
     first: u32,
     states: &[State],
-    scheme: &Scheme,
-    other: u32,
-    punct: &Punct,
+    coverage: &Coverage<'_>,
 ) -> Result<(), NoMemory>
     requires wide { AreWide states.now }
-    requires own { IsWide state.now }
+    requires own { IsWide side.now.state }
     ensures fewer { IsFewer watches.old watches.new }
-    ensures left { OnOk result (AreUncoveredWith classes.now (map (tuple_in input) state.now.rows) (map (tuple_in first) (state_at states.now first).rows) other scheme.now punct.now watches.new) }
+    ensures left { OnOk result (AreUncoveredWith side.now (side_at states.now first) coverage.now watches.new) }
 {
     match states.get(first as usize) {
         None => {
             watches.mark_all();
             Ok(())
         }
-        Some(firsts) => wake_next(
-            alloc, watches, classes, input, state, first, firsts, scheme, other, punct,
-        ),
+        Some(state) => {
+            let firsts = Side {
+                input: first,
+                state,
+            };
+            wake_next(alloc, watches, side, &firsts, coverage)
+        }
     }
 }
 
-// Marks the rows of an input that ask by their second step for what the punctuation of another one covers; or all.
+// Marks the rows of a side that ask by their second step for what the punctuation of another input covers; or all.
 fn wake_second(
     alloc: Global,
     watches: &mut Watches,
     classes: &[List<ClassCol>],
-    schemes: &Schemes,
-    cert: &Cert,
-    input: u32,
-    state: &State,
+    steps: &Steps<'_>,
+    side: &Side<'_>,
     states: &[State],
-    other: u32,
-    punct: &Punct,
+    coming: &LentPunct<'_>,
 ) -> Result<(), NoMemory>
     requires wide { AreWide states.now }
-    requires own { IsWide state.now }
-    requires there { state.now ≡ state_at states.now input }
+    requires own { IsWide side.now.state }
+    requires there { side.now.state ≡ state_at states.now side.now.input }
     ensures fewer { IsFewer watches.old watches.new }
-    ensures left { OnOk result ((ticket : ℕ) → AreLeftNext classes.now (entries schemes.now cert.now) input states.now (record { ticket = ticket; input = other; patterns = punct.now }) watches.new) }
+    ensures left { OnOk result (AreLeftNext classes.now steps.now side.now.input states.now coming.now watches.new) }
 {
-    if cert.len() < 2 {
+    if steps.cert.len() < 2 {
         return Ok(());
     }
-    let first = *cert.at(0);
-    let step = *cert.at(1);
-    if step.input != other {
+    let first = *steps.cert.at(0);
+    let step = *steps.cert.at(1);
+    if step.input != coming.input {
         return Ok(());
     }
-    match scheme_of(schemes, step) {
+    match scheme_of(steps.schemes, step) {
         None => {
             watches.mark_all();
             Ok(())
         }
-        Some(scheme) => wake_after(
-            alloc,
-            watches,
-            classes,
-            input,
-            state,
-            first.input,
-            states,
-            scheme,
-            other,
-            punct,
-        ),
+        Some(scheme) => {
+            let coverage = coming.coverage(classes, scheme);
+            wake_after(alloc, watches, side, first.input, states, &coverage)
+        }
     }
 }
 
-// Marks the rows of an input that ask early for what the punctuation of another one covers; or all.
+// Marks the rows of a side that ask early for what the punctuation of another input covers; or all.
 fn wake_one(
     alloc: Global,
     watches: &mut Watches,
     classes: &[List<ClassCol>],
-    schemes: &Schemes,
-    cert: &Cert,
-    input: u32,
-    state: &State,
+    steps: &Steps<'_>,
+    side: &Side<'_>,
     states: &[State],
-    other: u32,
-    punct: &Punct,
+    coming: &LentPunct<'_>,
 ) -> Result<(), NoMemory>
     requires wide { AreWide states.now }
-    requires own { IsWide state.now }
-    requires there { state.now ≡ state_at states.now input }
+    requires own { IsWide side.now.state }
+    requires there { side.now.state ≡ state_at states.now side.now.input }
     ensures fewer { IsFewer watches.old watches.new }
-    ensures first { OnOk result ((ticket : ℕ) → AreLeftOpen classes.now (entries schemes.now cert.now) input state.now.rows (record { ticket = ticket; input = other; patterns = punct.now }) watches.new) }
-    ensures next { OnOk result ((ticket : ℕ) → AreLeftNext classes.now (entries schemes.now cert.now) input states.now (record { ticket = ticket; input = other; patterns = punct.now }) watches.new) }
+    ensures first { OnOk result (AreLeftOpen classes.now steps.now side.now coming.now watches.new) }
+    ensures next { OnOk result (AreLeftNext classes.now steps.now side.now.input states.now coming.now watches.new) }
 {
-    wake_first(
-        alloc, watches, classes, schemes, cert, input, state, other, punct,
-    )?;
-    wake_second(
-        alloc, watches, classes, schemes, cert, input, state, states, other, punct,
-    )?;
+    wake_first(alloc, watches, classes, steps, side, coming)?;
+    wake_second(alloc, watches, classes, steps, side, states, coming)?;
     Ok(())
 }
 
@@ -324,20 +310,17 @@ fn wake_one(
 fn wake_at(
     alloc: Global,
     watches: &mut Watches,
-    spec: &JoinSpec,
-    schemes: &Schemes,
-    certs: &[Cert],
+    join: &Certified<'_>,
     states: &[State],
     at: usize,
-    other: u32,
-    punct: &Punct,
+    coming: &LentPunct<'_>,
 ) -> Result<(), NoMemory>
     requires few { at < 2 ^ 32 }
     requires wide { AreWide states.now }
     ensures fewer { IsFewer watches.old watches.new }
-    ensures left { OnOk result ((ticket : ℕ) → AreLeftAt (join_data spec.now schemes.now certs.now) states.now (record { ticket = ticket; input = other; patterns = punct.now }) watches.new at) }
+    ensures left { OnOk result (AreLeftAt join.now states.now coming.now watches.new at) }
 {
-    match certs.get(at) {
+    match join.certs.get(at) {
         None => {
             watches.mark_all();
             Ok(())
@@ -347,18 +330,18 @@ fn wake_at(
                 watches.mark_all();
                 Ok(())
             }
-            Some(state) => wake_one(
-                alloc,
-                watches,
-                spec.classes.as_slice(),
-                schemes,
-                cert,
-                at as u32,
-                state,
-                states,
-                other,
-                punct,
-            ),
+            Some(state) => {
+                let steps = Steps {
+                    schemes: join.schemes,
+                    cert,
+                };
+                let side = Side {
+                    input: at as u32,
+                    state,
+                };
+                let classes = join.spec.classes.as_slice();
+                wake_one(alloc, watches, classes, &steps, &side, states, coming)
+            }
         },
     }
 }
@@ -368,30 +351,17 @@ fn wake_at(
 pub fn wake(
     alloc: Global,
     watches: &mut Vec<Watches>,
-    spec: &JoinSpec,
-    schemes: &Schemes,
-    certs: &[Cert],
+    join: &Certified<'_>,
     states: &[State],
-    other: u32,
-    punct: &Punct,
+    coming: &LentPunct<'_>,
 ) -> Result<(), NoMemory>
     requires few { length watches.old.items < 2 ^ 32 }
     requires wide { AreWide states.now }
     ensures fewer { AreFewer watches.old.items watches.new.items }
-    ensures left { OnOk result (AllAreLeft (join_data spec.now schemes.now certs.now) states.now other punct.now watches.new.items (length watches.old.items)) }
+    ensures left { OnOk result (AreLeft join.now states.now coming.now watches.new.items (length watches.old.items)) }
 {
     for at in 0..watches.len() {
-        wake_at(
-            alloc,
-            &mut watches[at],
-            spec,
-            schemes,
-            certs,
-            states,
-            at,
-            other,
-            punct,
-        )?;
+        wake_at(alloc, &mut watches[at], join, states, at, coming)?;
     }
     Ok(())
 }

@@ -11,6 +11,7 @@ ghost use Rattle.pj_join.specs.Judging.{one_if};
 ghost use Rattle.pj_join.specs.Ranges.{HoldTrue};
 ghost use Rattle.pj_join.specs.Watching.{AreMarked, IsFewer, IsKey, Limits, first_column, has_match, is_match, is_wild_elsewhere, no_watches};
 
+use crate::coverage::{Coverage, Side};
 use crate::lookups::Lookup;
 use crate::marks::Watches;
 use crate::ranges::{numbers_of, tickets_among};
@@ -100,142 +101,114 @@ fn class_with<'a>(classes: &'a [List<ClassCol>], at: ClassCol) -> &'a [ClassCol]
     &[]
 }
 
-// The column of the rows of an input in the class of this one, where that is indexed.
-fn own_column(classes: &[List<ClassCol>], input: u32, state: &State, at: ClassCol) -> Option<u32>
-    ensures own { IfSome result (λ column. first_column (first_class classes.now at) input ≡ Some column) }
-    ensures indexed { IfSome result (λ column. list_any (λ own. column == own) state.now.columns ≡ true) }
-{
-    match first_column(class_with(classes, at), input) {
-        None => None,
-        Some(column) => {
-            if state.is_indexed(column) {
-                return Some(column);
-            }
-            None
-        }
-    }
-}
-
-// A column of the rows of an input, and the value in it of those that ask for the constant of the punctuation in this column.
-fn key_in<'a>(
-    classes: &[List<ClassCol>],
-    input: u32,
-    state: &State,
-    at: ClassCol,
-    punct: &'a Punct,
-) -> Option<Lookup<'a>>
-    requires { at.column < length punct.now }
-    ensures own { IfSome result (λ key. first_column (first_class classes.now at) input ≡ Some key.column) }
-    ensures indexed { IfSome result (λ key. list_any (λ own. key.column == own) state.now.columns ≡ true) }
-    ensures value { IfSome result (λ key. slice_get punct.now at.column ≡ Some (Constant key.value.now)) }
-{
-    match constant_of(punct.at(at.column as usize)) {
-        None => None,
-        Some(value) => match own_column(classes, input, state, at) {
+impl<'a> Coverage<'a> {
+    // The column of the side's rows in the class of this one, where that is indexed.
+    fn own_column(&self, side: &Side<'_>, at: ClassCol) -> Option<u32>
+        ensures own { IfSome result (λ column. first_column (first_class self.now.classes at) side.now.input ≡ Some column) }
+        ensures indexed { IfSome result (λ column. list_any (λ own. column == own) side.now.state.columns ≡ true) }
+    {
+        match first_column(class_with(self.classes, at), side.input) {
             None => None,
-            Some(column) => Some(Lookup { column, value }),
-        },
-    }
-}
-
-// The same where the scheme marks the column.
-#[tactic(auto, using(crate::proofs::Woken::key_is))]
-fn key_at<'a>(
-    classes: &[List<ClassCol>],
-    input: u32,
-    state: &State,
-    other: u32,
-    scheme: &Scheme,
-    column: usize,
-    punct: &'a Punct,
-) -> Option<Lookup<'a>>
-    requires { column < length scheme.now }
-    ensures { IfSome result (λ key. IsKey classes.now input state.now.columns other scheme.now punct.now key.column key.value.now) }
-{
-    if !*scheme.at(column) || column >= punct.len() || column > u32::MAX as usize {
-        return None;
-    }
-    let at = ClassCol {
-        input: other,
-        column: column as u32,
-    };
-    key_in(classes, input, state, at, punct)
-}
-
-/// A column of the rows of an input, and the value in it of those that ask for what the punctuation covers.
-pub fn key<'a>(
-    classes: &[List<ClassCol>],
-    input: u32,
-    state: &State,
-    other: u32,
-    scheme: &Scheme,
-    punct: &'a Punct,
-) -> Option<Lookup<'a>>
-    ensures { IfSome result (λ key. IsKey classes.now input state.now.columns other scheme.now punct.now key.column key.value.now) }
-{
-    for column in 0..scheme.len() {
-        match key_at(classes, input, state, other, scheme, column, punct) {
-            Some(key) => return Some(key),
-            None => {}
+            Some(column) => {
+                if side.state.is_indexed(column) {
+                    return Some(column);
+                }
+                None
+            }
         }
     }
-    None
-}
 
-// A column of the rows of an input, and the pattern of the punctuation in this column, where the scheme marks this one and the
-// pattern is not the wildcard: a row whose value it does not match asks for nothing that the punctuation covers.
-fn limit_at<'a>(
-    classes: &[List<ClassCol>],
-    input: u32,
-    state: &State,
-    other: u32,
-    scheme: &Scheme,
-    column: usize,
-    punct: &'a Punct,
-) -> Option<Limit<'a>>
-    requires { column < length scheme.now }
-    ensures indexed { IfSome result (λ limit. In limit.column state.now.columns) }
-    ensures limits { IfSome result (λ limit. Limits classes.now input other scheme.now punct.now limit.column limit.pattern.now) }
-{
-    if !*scheme.at(column) || column >= punct.len() || column > u32::MAX as usize {
-        return None;
-    }
-    let pattern = punct.at(column);
-    if is_wild(pattern) {
-        return None;
-    }
-    let at = ClassCol {
-        input: other,
-        column: column as u32,
-    };
-    match own_column(classes, input, state, at) {
-        None => None,
-        Some(own) => Some(Limit {
-            column: own,
-            pattern,
-        }),
-    }
-}
-
-/// The same of the first column for which there is one.
-pub fn first_limit<'a>(
-    classes: &[List<ClassCol>],
-    input: u32,
-    state: &State,
-    other: u32,
-    scheme: &Scheme,
-    punct: &'a Punct,
-) -> Option<Limit<'a>>
-    ensures indexed { IfSome result (λ limit. In limit.column state.now.columns) }
-    ensures limits { IfSome result (λ limit. Limits classes.now input other scheme.now punct.now limit.column limit.pattern.now) }
-{
-    for column in 0..scheme.len() {
-        match limit_at(classes, input, state, other, scheme, column, punct) {
-            Some(limit) => return Some(limit),
-            None => {}
+    // A column of the side's rows, and the value in it of those that ask for the constant of the punctuation in this column.
+    fn key_in(&self, side: &Side<'_>, at: ClassCol) -> Option<Lookup<'a>>
+        requires { at.column < length self.now.patterns }
+        ensures own { IfSome result (λ key. first_column (first_class self.now.classes at) side.now.input ≡ Some key.column) }
+        ensures indexed { IfSome result (λ key. list_any (λ own. key.column == own) side.now.state.columns ≡ true) }
+        ensures value { IfSome result (λ key. slice_get self.now.patterns at.column ≡ Some (Constant key.value.now)) }
+    {
+        match constant_of(self.punct.at(at.column as usize)) {
+            None => None,
+            Some(value) => match self.own_column(side, at) {
+                None => None,
+                Some(column) => Some(Lookup { column, value }),
+            },
         }
     }
-    None
+
+    // The same where the scheme marks the column.
+    fn key_at(&self, side: &Side<'_>, column: usize) -> Option<Lookup<'a>>
+        requires { column < length self.now.marks }
+        ensures { IfSome result (λ key. IsKey side.now self.now key.column key.value.now) }
+    {
+        if !*self.scheme.at(column) || column >= self.punct.len() || column > u32::MAX as usize {
+            return None;
+        }
+        let at = ClassCol {
+            input: self.input,
+            column: column as u32,
+        };
+        self.key_in(side, at)
+    }
+
+    /// A column of the side's rows, and the value in it of those that ask for what the punctuation covers.
+    pub fn key(&self, side: &Side<'_>) -> Option<Lookup<'a>>
+        ensures { IfSome result (λ key. IsKey side.now self.now key.column key.value.now) }
+    {
+        for column in 0..self.scheme.len() {
+            match self.key_at(side, column) {
+                Some(key) => return Some(key),
+                None => {}
+            }
+        }
+        None
+    }
+
+    // A column of the side's rows, and the pattern of the punctuation in this column, where the scheme marks this one and the
+    // pattern is not the wildcard: a row whose value it does not match asks for nothing that the punctuation covers.
+    fn limit_at(&self, side: &Side<'_>, column: usize) -> Option<Limit<'a>>
+        requires { column < length self.now.marks }
+        ensures indexed { IfSome result (λ limit. In limit.column side.now.state.columns) }
+        ensures limits { IfSome result (λ limit. Limits side.now self.now limit.column limit.pattern.now) }
+    {
+        if !*self.scheme.at(column) || column >= self.punct.len() || column > u32::MAX as usize {
+            return None;
+        }
+        let pattern = self.punct.at(column);
+        if is_wild(pattern) {
+            return None;
+        }
+        let at = ClassCol {
+            input: self.input,
+            column: column as u32,
+        };
+        match self.own_column(side, at) {
+            None => None,
+            Some(own) => Some(Limit {
+                column: own,
+                pattern,
+            }),
+        }
+    }
+
+    /// The same of the first column for which there is one.
+    pub fn first_limit(&self, side: &Side<'_>) -> Option<Limit<'a>>
+        ensures indexed { IfSome result (λ limit. In limit.column side.now.state.columns) }
+        ensures limits { IfSome result (λ limit. Limits side.now self.now limit.column limit.pattern.now) }
+    {
+        for column in 0..self.scheme.len() {
+            match self.limit_at(side, column) {
+                Some(limit) => return Some(limit),
+                None => {}
+            }
+        }
+        None
+    }
+
+    /// Whether the punctuation is a wildcard in each column that the scheme does not mark: else it covers no instance of it.
+    pub fn is_of_scheme(&self) -> bool
+        ensures { result ≡ is_wild_elsewhere self.now.marks self.now.patterns }
+    {
+        is_wild_elsewhere(self.scheme, self.punct)
+    }
 }
 
 // Whether the pattern matches the row's value in a column.
@@ -321,9 +294,9 @@ fn is_marked_or_wild(mark: bool, pattern: &Pattern) -> bool
     mark || is_wild(pattern)
 }
 
-/// Whether the punctuation is a wildcard in each column that the scheme does not mark: else it covers no instance of the scheme.
+// Whether the punctuation is a wildcard in each column that the scheme does not mark.
 #[tactic(auto, using(crate::proofs::Elsewhere::elsewhere_length))]
-pub fn is_wild_elsewhere(scheme: &Scheme, punct: &Punct) -> bool
+fn is_wild_elsewhere(scheme: &Scheme, punct: &Punct) -> bool
     ensures { result ≡ is_wild_elsewhere scheme.now punct.now }
 {
     if scheme.len() != punct.len() {

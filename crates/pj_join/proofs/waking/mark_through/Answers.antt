@@ -7,11 +7,11 @@ use Rattle.pj_join.proofs.waking.mark_through.Goals as goal
 
 pub returns-in-Some-clause-left : goal.returns-in-Some-clause-left
 returns-in-Some-clause-left c =
-    with_key c.args.classes.now c.args.input c.args.first c.args.other c.args.state.now.rows c.args.firsts.now c.args.scheme.now c.args.punct.now c.in-Some.key.column c.in-Some.key.value.now c.tickets-tickets.result.now c.mark_partners.new.watches c.requires.wide_first
-    (alone_are c.args.classes.now c.args.input c.args.state.now.rows c.args.state.now.columns c.args.first c.args.firsts.now.rows c.args.pair.mine c.args.pair.theirs c.tickets-tickets.result.now c.mark_partners.new.watches c.requires.pair c.mark_partners.ensures.unlike) c.tickets-tickets.ensures.tickets c.in-Some.ensures
+    with_key c.args.side.now c.args.firsts.now c.args.coverage.now c.in-Some.key.column c.in-Some.key.value.now c.tickets-tickets.result.now c.mark_partners.new.watches c.requires.wide_first
+    (alone_are c.args.coverage.now.classes c.args.side.now c.args.firsts.now c.args.pair c.tickets-tickets.result.now c.mark_partners.new.watches c.requires.pair (rw (← c.side.view_is, ← c.firsts.view_is) c.mark_partners.ensures.unlike)) (rw (← c.firsts.view_is) c.tickets-tickets.ensures.tickets) c.in-Some.ensures
 
 pub returns-in_ok-tickets-in-Some-first_limit-clause-left : goal.returns-in_ok-tickets-in-Some-first_limit-clause-left
 returns-in_ok-tickets-in-Some-first_limit-clause-left c =
-    with_limit c.args.classes.now c.args.input c.args.first c.args.other c.args.state.now.rows c.args.firsts.now c.args.scheme.now c.args.punct.now c.in-Some-first_limit.limit.column c.in-Some-first_limit.limit.pattern.now c.as_slice.result.now c.mark_partners-in-Some-first_limit.new.watches c.requires.wide_first c.in-Some-first_limit.ensures.indexed
-    (alone_are c.args.classes.now c.args.input c.args.state.now.rows c.args.state.now.columns c.args.first c.args.firsts.now.rows c.args.pair.mine c.args.pair.theirs c.as_slice.result.now c.mark_partners-in-Some-first_limit.new.watches c.requires.pair c.mark_partners-in-Some-first_limit.ensures.unlike)
-    (subst (λ (ts : List ℕ). HoldTrue (has_match c.in-Some-first_limit.limit.column c.in-Some-first_limit.limit.pattern.now) c.args.firsts.now.rows ts) (sym c.as_slice.ensures) c.in_ok-tickets-in-Some-first_limit.ensures) c.in-Some-first_limit.ensures.limits
+    with_limit c.args.side.now c.args.firsts.now c.args.coverage.now c.in-Some-first_limit.limit.column c.in-Some-first_limit.limit.pattern.now c.as_slice.result.now c.mark_partners-in-Some-first_limit.new.watches c.requires.wide_first c.in-Some-first_limit.ensures.indexed
+    (alone_are c.args.coverage.now.classes c.args.side.now c.args.firsts.now c.args.pair c.as_slice.result.now c.mark_partners-in-Some-first_limit.new.watches c.requires.pair (rw (← c.side.view_is, ← c.firsts.view_is) c.mark_partners-in-Some-first_limit.ensures.unlike))
+    (rw (← c.firsts.view_is) (subst (λ (ts : List ℕ). HoldTrue (has_match c.in-Some-first_limit.limit.column c.in-Some-first_limit.limit.pattern.now) c.firsts.inside.state.now.rows ts) (sym c.as_slice.ensures) c.in_ok-tickets-in-Some-first_limit.ensures)) c.in-Some-first_limit.ensures.limits
