@@ -26,7 +26,7 @@ pub mod Looked
 pub mod Woken
 pub mod Picked
 pub mod Watched
-pub mod Held
+pub mod Holding
 pub mod Halved
 pub mod Elsewhere
 pub mod Hopped
@@ -35,6 +35,6 @@ pub mod Through
 pub mod Triangles
 pub mod Roused
 pub mod Settled
-pub mod Changing
+pub mod Leaving
 pub mod Spared
 pub mod Ranged

@@ -10,5 +10,6 @@ pub mod Sweeping
 pub mod Triples
 pub mod Watching
 pub mod Hops
-pub mod Changes
+pub mod Leaving
+pub mod Holding
 pub mod Ranges

@@ -67,23 +67,6 @@ AreOpenBut join input marked =
     (x : TupleAt) → In x join.kept.stored → x.input ≡ input → x.ticket < kept_low join.kept → kept_ripe join.spec join.kept x ≡ false → has marked x.ticket ≡ false
     → AsksEarly (known join.spec.shape.classes join.kept.stored join.kept.puncts (kept_low join.kept)) (cert_of join.spec input) x
 
--- each of these punctuations is matched by a stored tuple of its input
-abbrev pub AllHeld : List TupleAt → List PunctAt → Type 0
-AllHeld stored ps = (p : PunctAt) → In p ps → is_held stored p ≡ true
-
--- each of these that is of the input is matched by one of the rows
-abbrev pub AreHeldBy : List Stored → ℕ → List PunctAt → Type 0
-AreHeldBy rows input ps = (p : PunctAt) → In p ps → p.input ≡ input → still_held rows [] p.patterns ≡ true
-
--- each of these rows that goes is one of these two
-abbrev pub AreGone : List Stored → List ℕ → Option (List Value) → Option (List Value) → Type 0
-AreGone rows gone first second = (s : Stored) → In s rows → has gone s.ticket ≡ true → (first ≡ Some s.row) ⊎ (second ≡ Some s.row)
-
--- there is a row, and it matches the patterns
-abbrev pub is_like : List Pattern → Option (List Value) → Bool
-is_like patterns None = false
-is_like patterns (Some row) = matches_row patterns row
-
 -- these are the tickets of some of the rows, in their order
 abbrev pub AreSome : List Stored → List ℕ → Type 0
 AreSome rows gone = (keep : Stored → Bool) × (gone ≡ tickets_of (filter keep rows))

@@ -31,14 +31,12 @@ pub struct Coming {
     pub punct: Punct,
 }
 
-/// A punctuation that waits, with its ticket and its input. Its patterns are shared. Beside it stands the ticket of a stored
-/// tuple that matched it when it was looked at last.
+/// A punctuation that waits, with its ticket and its input. Its patterns are shared.
 #[derive(Drop)]
 pub struct Heard {
     ticket: u64,
     input: u32,
     punct: Arc<Punct, Global>,
-    witness: u64,
 }
 
 impl Model for Heard {
@@ -82,13 +80,7 @@ impl<'a> Arrived<'a> {
 
 impl Heard {
     /// A copy of a punctuation with its ticket and its input.
-    pub fn new(
-        alloc: Global,
-        ticket: u64,
-        input: u32,
-        punct: &Punct,
-        witness: u64,
-    ) -> Result<Heard, NoMemory>
+    pub fn new(alloc: Global, ticket: u64, input: u32, punct: &Punct) -> Result<Heard, NoMemory>
         ensures { IfOk result (λ p. p ≡ record { ticket = ticket; input = input; patterns = punct.now }) }
     {
         let punct = punct.copy(alloc)?;
@@ -97,15 +89,7 @@ impl Heard {
             ticket,
             input,
             punct,
-            witness,
         })
-    }
-
-    /// The same punctuation, beside another stored tuple.
-    pub fn renew(&mut self, witness: u64)
-        ensures { self.new ≡ self.old }
-    {
-        self.witness = witness;
     }
 
     /// The input at which it came.
@@ -120,10 +104,5 @@ impl Heard {
         ensures { result.now ≡ self.now.patterns }
     {
         &self.punct
-    }
-
-    /// The ticket of the stored tuple beside it.
-    pub fn witness(&self) -> u64 {
-        self.witness
     }
 }

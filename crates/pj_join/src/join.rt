@@ -5,7 +5,8 @@ ghost use Rattle.pj_shape.specs.Sound.{IsSoundSpec};
 ghost use Rattle.pj_events.specs.Join.{AreCertified, Step, TupleComes, PunctComes, Take, Give, Sweep, IsNew, start, run, low, inputs, arity};
 ghost use Rattle.pj_events.specs.KeptState.{kept_of, kept_low, swept, without};
 ghost use Rattle.std.specs.List.{position};
-ghost use Rattle.pj_join.specs.Changes.{changed};
+ghost use Rattle.pj_join.specs.Holding.{HoldWhere};
+ghost use Rattle.pj_join.specs.Leaving.{taken_out};
 ghost use Rattle.pj_join.specs.Handed.{JoinProbes, StandsProbed, rows_probed};
 ghost use Rattle.pj_join.specs.Insides.{Rise, tickets};
 ghost use Rattle.pj_join.specs.Judging.{waiting_on};
@@ -13,8 +14,7 @@ ghost use Rattle.pj_join.specs.Joins.{IsTaken, StandsFor, JoinTakes, StandsTaken
 ghost use Rattle.pj_join.specs.Watching.{AreOpenBut};
 ghost use Rattle.pj_join.specs.Sweeping.{GoesWhereCovered, HandsUp, HasBeenLawful, IsForgotten, puncts_up, rows_off, swept_off};
 
-use crate::arrivals::{Coming, Heard};
-use crate::changes::make_changes;
+use crate::arrivals::Coming;
 use crate::coverage::LentPunct;
 use crate::handing::hand_out_found;
 use crate::marks::Watches;
@@ -24,6 +24,7 @@ use crate::ranges::keep_orders;
 use crate::starting::{empty_states, empty_stores, empty_watches};
 use crate::stored::first_pending;
 use crate::sweeping::{Judge, Left, remove_all};
+use crate::waiting::Waiting;
 use crate::waking::{Certified, wake};
 use crate::widening::hear;
 use crate::{JoinStop, Probe};
@@ -53,7 +54,7 @@ pub struct Join {
     states: Vec<State>,
     stores: Vec<PunctStore>,
     watches: Vec<Watches>,
-    waiting: List<Heard>,
+    waiting: Waiting,
     pending: Remaining<Place>,
     done: usize,
     taken: Vec<u64>,
@@ -64,13 +65,14 @@ impl Model for Join {
     ghost use Rattle.pj_join.specs.Joins.{JoinView, join_data};
     ghost use Rattle.pj_join.specs.Insides.{IsJoin, inside, lowest, made_with, seen};
     ghost use Rattle.pj_join.specs.Sides.{log_of, puncts_of};
-    ghost use Rattle.pj_join.specs.Watching.{AllHeld, AreWatched};
+    ghost use Rattle.pj_join.specs.Holding.{AreHolders};
+    ghost use Rattle.pj_join.specs.Watching.{AreWatched};
 
     ghost Value = { JoinView };
 
-    ghost view = { λ j. seen (made_with j.node (join_data (arc_value j.spec) j.schemes j.certs) j.limit) j.next j.done (log_of j.states.items) (puncts_of j.stores.items) j.waiting j.taken.items };
+    ghost view = { λ j. seen (made_with j.node (join_data (arc_value j.spec) j.schemes j.certs) j.limit) j.next j.done (log_of j.states.items) (puncts_of j.stores.items) j.waiting.puncts j.taken.items };
 
-    ghost invariant = { λ j. IsJoin (join_data (arc_value j.spec) j.schemes j.certs) j.limit (inside j.next j.done j.states.items j.stores.items j.pending j.taken.items) × AreWatched (join_data (arc_value j.spec) j.schemes j.certs) j.next (lowest j.next j.done (log_of j.states.items) j.taken.items) (log_of j.states.items) (puncts_of j.stores.items) j.watches.items × AllHeld (log_of j.states.items) j.waiting };
+    ghost invariant = { λ j. IsJoin (join_data (arc_value j.spec) j.schemes j.certs) j.limit (inside j.next j.done j.states.items j.stores.items j.pending j.taken.items) × AreWatched (join_data (arc_value j.spec) j.schemes j.certs) j.next (lowest j.next j.done (log_of j.states.items) j.taken.items) (log_of j.states.items) (puncts_of j.stores.items) j.watches.items × AreHolders (log_of j.states.items) j.waiting.puncts j.waiting.holders };
 }
 
 impl Join {
@@ -103,7 +105,7 @@ impl Join {
             states,
             stores,
             watches,
-            waiting: List::new(alloc),
+            waiting: Waiting::new(alloc),
             pending: Remaining::of(Vec::new(alloc)),
             done: 0,
             taken: Vec::new(alloc),
@@ -328,7 +330,8 @@ impl Join {
         ensures certified { OnOk result (AreCertified self.now.spec) }
         ensures gone { IfOk result (λ left. left.gone ≡ tickets (swept_off self.now input)) }
         ensures marked { IfOk result (λ left. AreOpenBut self.now input left.marked) }
-        ensures waiting { IfOk result (λ left. changed left.changes self.now.kept.waiting ≡ waiting_on (swept self.now.spec self.now.kept input) input self.now.kept.waiting) }
+        ensures waiting { IfOk result (λ left. taken_out left.waiting.goes self.now.kept.waiting ≡ waiting_on (swept self.now.spec self.now.kept input) input self.now.kept.waiting) }
+        ensures holders { IfOk result (λ left. HoldWhere left.gone self.now input left.waiting.holders) }
         ensures removed { OnOk result (removed.new ≡ removed.old ++ rows_off self.now input) }
         ensures out { OnOk result (out.new ≡ out.old ++ puncts_up self.now (Sweep input)) }
         ensures err { OnErr result ((take (length removed.old) removed.new ≡ removed.old) × (take (length out.old) out.new ≡ out.old)) }
@@ -349,7 +352,7 @@ impl Join {
         let left = judge.sweep(
             self.alloc,
             &self.watches[input as usize],
-            self.waiting.as_slice(),
+            &self.waiting,
             removed,
             out,
         )?;
@@ -361,19 +364,20 @@ impl Join {
         requires there { input < inputs self.old.spec }
         requires gone { left.gone ≡ tickets (swept_off self.old input) }
         requires marked { AreOpenBut self.old input left.marked }
-        requires waiting { changed left.changes self.old.kept.waiting ≡ waiting_on (swept self.old.spec self.old.kept input) input self.old.kept.waiting }
+        requires waiting { taken_out left.waiting.goes self.old.kept.waiting ≡ waiting_on (swept self.old.spec self.old.kept input) input self.old.kept.waiting }
+        requires holders { HoldWhere left.gone self.old input left.waiting.holders }
         ensures sweeps { self.new ≡ after self.old (Sweep input) }
         ensures count { result ≡ length (swept_off self.old input) }
     {
         let Left {
             gone,
             marked,
-            changes,
+            waiting,
         } = left;
         let count = gone.len();
         let from = self.low();
         self.done -= count;
-        make_changes(self.alloc, &mut self.waiting, changes.as_slice());
+        self.waiting.leave(self.alloc, count, waiting);
         self.watches[input as usize] = Watches { from, marked };
         rouse(
             &mut self.watches,
@@ -412,7 +416,7 @@ impl Join {
     pub fn waiting(&self) -> u64
         ensures { result ≡ length self.now.kept.waiting }
     {
-        self.waiting.len() as u64
+        self.waiting.puncts.len() as u64
     }
 
     /// How many tickets are not taken.

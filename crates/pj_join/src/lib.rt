@@ -2,7 +2,6 @@
 #![tactic(auto)]
 
 mod arrivals;
-mod changes;
 mod choosing;
 mod coverage;
 mod found;
@@ -17,6 +16,7 @@ mod ranges;
 mod starting;
 mod stored;
 mod sweeping;
+mod waiting;
 mod waking;
 mod walk;
 mod watches;

@@ -1,5 +1,5 @@
 // Rows that are found by a range of integers.
-ghost use Rattle.std.specs.Prelude.{◌≡◌, ◌<◌, ◌++◌, ◌+ℤ◌, pos, OnOk, is_some, length, IsTrue, IfOk, IfSome};
+ghost use Rattle.std.specs.Prelude.{◌≡◌, ◌<◌, ◌++◌, ◌+ℤ◌, pos, OnOk, length, IsTrue, IfOk, IfSome};
 ghost use Rattle.std.specs.Option.{option_copied};
 ghost use Rattle.pj_value.specs.declared.values.Value.{Value as AnyValue};
 ghost use Rattle.pj_value.specs.Lists.{In};
@@ -7,7 +7,7 @@ ghost use Rattle.pj_pattern.specs.declared.pattern.Form.TheVariants.{Range};
 ghost use Rattle.pj_state.specs.States.{rows_with, tickets_of};
 ghost use Rattle.pj_state.specs.Rising.{IsRising, itself};
 ghost use Rattle.pj_join.specs.Ranges.{HasAmong, HoldAll, IsPast, MatchesAmong, NeedsAmong, TellsAmong};
-ghost use Rattle.pj_join.specs.Sides.{still_held};
+ghost use Rattle.pj_join.specs.Holding.{IsFound};
 
 use crate::widening::find_matching;
 use pj_pattern::{Pattern, Punct, Shape};
@@ -188,7 +188,7 @@ pub fn first_stretch(state: &State, punct: &Punct) -> Option<Stretch>
 fn find_with(state: &State, column: u32, number: i64, gone: &[u64], punct: &Punct) -> Option<u64>
     requires indexed { In column state.now.columns }
     requires rising { IsRising itself gone.now }
-    ensures { is_some result ≡ still_held (rows_with column (AnyValue.Int number) state.now.rows) gone.now punct.now }
+    ensures { IsFound (rows_with column (AnyValue.Int number) state.now.rows) gone.now punct.now result }
 {
     let value = Value::Int(number);
     find_matching(&state.matching(column, &value), gone, punct)
@@ -205,7 +205,7 @@ pub fn find_among(
     requires indexed { In stretch.column state.now.columns }
     requires needs { NeedsAmong punct.now stretch.column stretch.numbers }
     requires rising { IsRising itself gone.now }
-    ensures { IfSome result (λ found. is_some found ≡ still_held state.now.rows gone.now punct.now) }
+    ensures { IfSome result (IsFound state.now.rows gone.now punct.now) }
 {
     let mut left = stretch.numbers;
     for _ in 0..state.len().saturating_add(1) {

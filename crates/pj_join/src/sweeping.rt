@@ -1,17 +1,17 @@
 // Which tuples a sweep removes, and what is left.
-ghost use Rattle.std.specs.Prelude.{◌≡◌, ◌≤◌, ◌++◌, ℕ, false, length, map, slice_get, take, Some, OnOk, OnErr, IfOk};
+ghost use Rattle.std.specs.Prelude.{◌≡◌, ◌≤◌, ◌++◌, ℕ, false, length, map, slice_get, take, Some, OnOk, OnErr, IfOk, ◌<◌};
 ghost use Rattle.pj_value.specs.Lists.{In};
 ghost use Rattle.pj_state.specs.declared.shared.Stored.{Stored};
 ghost use Rattle.pj_state.specs.Rising.{IsRising, itself};
 ghost use Rattle.pj_state.specs.States.{state_of, stored, ticket_of};
-ghost use Rattle.pj_join.specs.Changes.{changed};
+ghost use Rattle.pj_join.specs.Holding.{AreHeldBy, HoldBehind, HoldOn};
+ghost use Rattle.pj_join.specs.Leaving.{taken_out};
 ghost use Rattle.pj_join.specs.Judging.{BothMore, letting_go, one_if, ripe_rows, ripe_tickets, row_in, rows_at, rows_without, staying_on};
-ghost use Rattle.pj_join.specs.Watching.{AreHeldBy, AreJudged, AreLookedAt, IsOneJudged, IsSwept, IsVerdict, NoneIsRipe, all_picked, goes_by, is_passed, marked_by, picked, verdict_on};
+ghost use Rattle.pj_join.specs.Watching.{AreJudged, AreLookedAt, IsOneJudged, IsSwept, IsVerdict, NoneIsRipe, all_picked, goes_by, is_passed, marked_by, picked, verdict_on};
 
-use crate::arrivals::Heard;
-use crate::changes::Change;
 use crate::marks::{Judged, Verdict, Watches};
 use crate::stored::Inputs;
+use crate::waiting::{StillWaiting, Waiting};
 use crate::widening::Swept;
 use pj_cover::{PunctStore, Uncovered, first_uncovered};
 use pj_pattern::Punct;
@@ -45,13 +45,13 @@ impl<'a> Model for Judge<'a> {
     ghost invariant = { λ j. MayJudge j.spec.now j.schemes.now j.cert.now j.input j.states.now j.stores.now };
 }
 
-/// What a sweep leaves: the tickets of the tuples that go, and of those that are judged again, and what changes of the
+/// What a sweep leaves: the tickets of the tuples that go, and of those that are judged again, and what is left of the
 /// punctuations that wait.
 #[derive(Drop)]
 pub struct Left {
     pub gone: List<u64>,
     pub marked: List<u64>,
-    pub changes: List<Change>,
+    pub waiting: StillWaiting,
 }
 
 // What the first instance tells that a row asks for and that is not covered. Where no punctuation is at or above the low-water
@@ -150,21 +150,26 @@ fn to_judge(alloc: Global, watches: &Watches, state: &State) -> Result<Vec<u64>,
     Ok(in_order(list))
 }
 
-// What changes of the punctuations that wait where these rows go; those that do not wait on are put at the end of `out`, widened.
+// What is left of the punctuations that wait where these rows go; those that do not wait on are put at the end of `out`, widened.
+// Where none goes it is not told what holds them back.
 fn wait_on(
     alloc: Global,
     swept: &Swept<'_>,
-    waiting: &[Heard],
+    waiting: &Waiting,
     out: &mut List<Punct>,
-) -> Result<List<Change>, NoMemory>
+) -> Result<StillWaiting, NoMemory>
     requires swept { IsSwept swept.now }
     requires held { AreHeldBy swept.now.state.now.rows swept.now.input waiting.now }
-    ensures waiting { IfOk result (λ changes. changed changes waiting.now ≡ staying_on swept.now.state.now.rows swept.now.gone.now swept.now.input waiting.now) }
-    ensures ok { let s = swept.now in OnOk result (out.new ≡ out.old ++ letting_go s.schemas.now s.state.now.rows s.gone.now s.input waiting.now) }
+    ensures waiting { IfOk result (λ left. taken_out left.goes waiting.now.puncts ≡ staying_on swept.now.state.now.rows swept.now.gone.now swept.now.input waiting.now.puncts) }
+    ensures holders { 0 < length swept.now.gone.now → IfOk result (λ left. HoldOn swept.now waiting.now left.holders) }
+    ensures ok { let s = swept.now in OnOk result (out.new ≡ out.old ++ letting_go s.schemas.now s.state.now.rows s.gone.now s.input waiting.now.puncts) }
     ensures err { OnErr result (take (length out.old) out.new ≡ out.old) }
 {
     if swept.gone.len() == 0 {
-        return Ok(List::new(alloc));
+        return Ok(StillWaiting {
+            goes: List::new(alloc),
+            holders: List::new(alloc),
+        });
     }
     swept.let_go(alloc, waiting, out)
 }
@@ -274,7 +279,7 @@ impl<'a> Judge<'a> {
         &self,
         alloc: Global,
         watches: &Watches,
-        waiting: &[Heard],
+        waiting: &Waiting,
         removed: &mut List<Row>,
         out: &mut List<Punct>,
     ) -> Result<Left, NoMemory>
@@ -282,9 +287,10 @@ impl<'a> Judge<'a> {
         requires held { AreHeldBy (rows_at self.now) self.now.input waiting.now }
         ensures gone { IfOk result (λ left. left.gone ≡ ripe_tickets self.now) }
         ensures left { IfOk result (λ left. AreLookedAt self.now watches.now left.marked) }
-        ensures waiting { IfOk result (λ left. changed left.changes waiting.now ≡ staying_on (rows_at self.now) left.gone self.now.input waiting.now) }
+        ensures waiting { IfOk result (λ left. taken_out left.waiting.goes waiting.now.puncts ≡ staying_on (rows_at self.now) left.gone self.now.input waiting.now.puncts) }
+        ensures holders { IfOk result (λ left. 0 < length left.gone → HoldBehind self.now left.gone waiting.now left.waiting.holders) }
         ensures removed { OnOk result (removed.new ≡ removed.old ++ ripe_rows self.now) }
-        ensures out { IfOk result (λ left. out.new ≡ out.old ++ letting_go self.now.spec.inputs (rows_at self.now) left.gone self.now.input waiting.now) }
+        ensures out { IfOk result (λ left. out.new ≡ out.old ++ letting_go self.now.spec.inputs (rows_at self.now) left.gone self.now.input waiting.now.puncts) }
         ensures err { OnErr result ((take (length removed.old) removed.new ≡ removed.old) × (take (length out.old) out.new ≡ out.old)) }
     {
         let judged = self.ripe_ones(alloc, watches, removed)?;
@@ -295,11 +301,11 @@ impl<'a> Judge<'a> {
             state: &self.states[self.input as usize],
             gone: gone.as_slice(),
         };
-        let changes = wait_on(alloc, &swept, waiting, out)?;
+        let waiting = wait_on(alloc, &swept, waiting, out)?;
         Ok(Left {
             gone,
             marked,
-            changes,
+            waiting,
         })
     }
 }

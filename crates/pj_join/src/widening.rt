@@ -1,31 +1,28 @@
 // Punctuations that a join hands up, or that wait.
 ghost use Rattle.std.specs.Prelude.{◌≡◌, ◌<◌, ◌++◌, ◌∷◌, [], ℕ, not, true, false, is_some, length, map, sum, take, OnOk, OnErr, IfOk, IfSome};
-ghost use Rattle.std.specs.Option.{option_copied};
 ghost use Rattle.pj_events.specs.Join.{has};
 ghost use Rattle.pj_events.specs.Patterns.{all_wild, is_wild};
 ghost use Rattle.pj_shape.specs.Sound.{arities_of};
 ghost use Rattle.pj_state.specs.Rising.{IsRising, itself};
 ghost use Rattle.pj_state.specs.States.{stored, ticket_of};
 ghost use Rattle.pj_cover.specs.Stores.{IsAbove};
-ghost use Rattle.pj_join.specs.Changes.{TakesOut, changed};
+ghost use Rattle.pj_join.specs.Holding.{AreHeldBy, HasHolder, HoldOn, HoldsOn, IsFound, IsHeldFrom, IsStaying};
+ghost use Rattle.pj_join.specs.Leaving.{TakesOut, taken_out};
 ghost use Rattle.pj_join.specs.Judging.{going_at_once, letting_go, one_if, staying_on, waiting_with, widened_among};
 ghost use Rattle.pj_pattern.specs.declared.pattern.Form.TheVariants.{Constant};
 ghost use Rattle.pj_join.specs.Sides.{IsLookup, coming_punct, stays, still_held};
-ghost use Rattle.pj_join.specs.Watching.{AreGone, AreHeldBy, AreSome, IsSwept, goes_up, is_like};
+ghost use Rattle.pj_join.specs.Watching.{AreSome, IsSwept, goes_up};
 
 use crate::arrivals::{Coming, Heard};
-use crate::changes::Change;
 use crate::lookups::Lookup;
 use crate::ranges::{find_among, first_stretch};
+use crate::waiting::{StillWaiting, Waiting};
 use pj_cover::PunctStore;
 use pj_pattern::{Pattern, Punct, Shape};
 use pj_shape::Schema;
 use pj_state::{Matching, State};
 use pj_value::{List, NoMemory, Row, Value};
 use std::alloc::Global;
-
-// Where so many punctuations wait, each is compared with the rows that go before its own row is looked for.
-const MANY: usize = 4;
 
 fn append_wild(count: usize, patterns: &mut List<Pattern>) -> Result<(), NoMemory>
     ensures { OnOk result (patterns.new ≡ patterns.old ++ all_wild count) }
@@ -167,7 +164,7 @@ fn lookup<'a>(state: &State, punct: &'a Punct) -> Option<Lookup<'a>>
 /// The ticket of one of these rows that stays and matches the punctuation.
 pub fn find_matching(among: &Matching<'_>, gone: &[u64], punct: &Punct) -> Option<u64>
     requires { IsRising itself gone.now }
-    ensures { is_some result ≡ still_held among.now gone.now punct.now }
+    ensures { IsFound among.now gone.now punct.now result }
 {
     for at in 0..among.len() {
         let (ticket, row) = among.nth(at);
@@ -181,7 +178,7 @@ pub fn find_matching(among: &Matching<'_>, gone: &[u64], punct: &Punct) -> Optio
 // The ticket of a row that stays and matches the punctuation, where each is looked at.
 fn find_among_all(state: &State, gone: &[u64], punct: &Punct) -> Option<u64>
     requires { IsRising itself gone.now }
-    ensures { is_some result ≡ still_held state.now.rows gone.now punct.now }
+    ensures { IsFound state.now.rows gone.now punct.now result }
 {
     let mut rows = state.cursor();
     for at in 0..state.len() {
@@ -196,7 +193,7 @@ fn find_among_all(state: &State, gone: &[u64], punct: &Punct) -> Option<u64>
 // The same, where the rows are looked for by a range of integers, if an order of them is kept.
 fn find_by_order(state: &State, gone: &[u64], punct: &Punct) -> Option<u64>
     requires { IsRising itself gone.now }
-    ensures { is_some result ≡ still_held state.now.rows gone.now punct.now }
+    ensures { IsFound state.now.rows gone.now punct.now result }
 {
     match first_stretch(state, punct) {
         None => find_among_all(state, gone, punct),
@@ -210,7 +207,7 @@ fn find_by_order(state: &State, gone: &[u64], punct: &Punct) -> Option<u64>
 // The ticket of a row that stays and matches the punctuation: by an index where one tells.
 fn find(state: &State, gone: &[u64], punct: &Punct) -> Option<u64>
     requires { IsRising itself gone.now }
-    ensures { is_some result ≡ still_held state.now.rows gone.now punct.now }
+    ensures { IsFound state.now.rows gone.now punct.now result }
 {
     match lookup(state, punct) {
         None => find_by_order(state, gone, punct),
@@ -222,80 +219,12 @@ fn find(state: &State, gone: &[u64], punct: &Punct) -> Option<u64>
 fn find_left(state: &State, gone: &[u64], punct: &Punct) -> Option<u64>
     requires rising { IsRising itself gone.now }
     requires some { AreSome state.now.rows gone.now }
-    ensures { is_some result ≡ still_held state.now.rows gone.now punct.now }
+    ensures { IsFound state.now.rows gone.now punct.now result }
 {
     if gone.len() == state.len() {
         return None;
     }
     find(state, gone, punct)
-}
-
-// Whether the row with this ticket is there, stays and matches the punctuation.
-fn is_witness(state: &State, gone: &[u64], ticket: u64, punct: &Punct) -> bool
-    requires { IsRising itself gone.now }
-    ensures { result ≡ true → still_held state.now.rows gone.now punct.now ≡ true }
-{
-    match state.get(ticket) {
-        None => false,
-        Some(row) => stays(gone, ticket, row, punct),
-    }
-}
-
-// The rows that go, where they are one or two.
-#[derive(Clone, Copy)]
-struct Few<'a> {
-    first: Option<&'a Row>,
-    second: Option<&'a Row>,
-}
-
-// The rows with these tickets, where they are one or two.
-fn few_gone<'a>(state: &'a State, gone: &[u64]) -> Option<Few<'a>>
-    requires { IsRising ticket_of state.now.rows }
-    ensures { IfSome result (λ few. AreGone state.now.rows gone.now (option_copied few.first) (option_copied few.second)) }
-{
-    match gone {
-        [a] => Some(Few {
-            first: state.get(*a),
-            second: None,
-        }),
-        [a, b] => Some(Few {
-            first: state.get(*a),
-            second: state.get(*b),
-        }),
-        _ => None,
-    }
-}
-
-// The same where they are looked at for this many punctuations, or more.
-fn few_for<'a>(state: &'a State, gone: &[u64], waiting: usize) -> Option<Few<'a>>
-    ensures { IfSome result (λ few. AreGone state.now.rows gone.now (option_copied few.first) (option_copied few.second)) }
-{
-    if waiting < MANY || state.len() == 0 {
-        return None;
-    }
-    few_gone(state, gone)
-}
-
-// Whether there is a row, and it matches the punctuation.
-fn is_like(row: Option<&Row>, punct: &Punct) -> bool
-    ensures { result ≡ is_like punct.now (option_copied row.entry) }
-{
-    match row {
-        None => false,
-        Some(row) => punct.matches(row),
-    }
-}
-
-// Whether it is known that no row that goes matches the punctuation.
-fn is_spared(few: Option<Few<'_>>, punct: &Punct) -> bool
-    ensures first { result ≡ true → IfSome few.entry (λ few. is_like punct.now (option_copied few.first) ≡ false) }
-    ensures second { result ≡ true → IfSome few.entry (λ few. is_like punct.now (option_copied few.second) ≡ false) }
-    ensures some { result ≡ true → is_some few.entry ≡ true }
-{
-    match few {
-        None => false,
-        Some(few) => !is_like(few.first, punct) && !is_like(few.second, punct),
-    }
 }
 
 /// An input as a sweep leaves it: the columns of all inputs, its number, its rows, and the tickets of those that go, in order.
@@ -308,102 +237,119 @@ pub struct Swept<'a> {
 }
 
 impl<'a> Swept<'a> {
-    // Puts the punctuation of the input at the end of those that go up, widened, where no row that stays matches it.
-    #[tactic(auto, using(crate::proofs::Changing::takes_out_goes, crate::proofs::Changing::takes_out_stays, crate::proofs::Changing::takes_out_none, crate::proofs::Looped::goes_where, crate::proofs::Looped::let_go_is))]
+    // Whether it is known that the holder of a punctuation stays. One of another input loses none.
+    fn stays_held(&self, punct: &Heard, holder: u64) -> bool
+        requires swept { IsSwept self.now }
+        requires held { punct.now.input ≡ self.now.input → IsStaying self.now.state.now.rows [] punct.now.patterns holder }
+        ensures own { result ≡ false → punct.now.input ≡ self.now.input }
+        ensures waits { result ≡ true → goes_up self.now punct.now ≡ false }
+        ensures holds { result ≡ true → HoldsOn self.now punct.now holder holder }
+    {
+        if punct.input() != self.input {
+            return true;
+        }
+        !is_gone(self.gone, holder)
+    }
+
+    // Puts the punctuation of the input at the end of those that go up, widened, where no row that stays matches it; else it has
+    // another holder.
+    #[tactic(auto, using(crate::proofs::Leaving::takes_out_one, crate::proofs::Leaving::takes_out_none, crate::proofs::Spared::adds_none, crate::proofs::Holding::holder_found, crate::proofs::Holding::holder_gone, crate::proofs::Looped::let_go_is))]
     fn let_own_go(
         &self,
         alloc: Global,
         at: usize,
         punct: &Heard,
-        changes: &mut List<Change>,
+        left: &mut StillWaiting,
         out: &mut List<Punct>,
     ) -> Result<(), NoMemory>
         requires swept { IsSwept self.now }
         requires own { punct.now.input ≡ self.now.input }
-        ensures changes { OnOk result (TakesOut (goes_up self.now punct.now) at changes.old changes.new) }
+        ensures goes { OnOk result (TakesOut (goes_up self.now punct.now) at left.old.goes left.new.goes) }
+        ensures holders { (old : ℕ) → OnOk result (HasHolder self.now punct.now old left.old.holders left.new.holders) }
         ensures ok { OnOk result (out.new ≡ out.old ++ one_if (goes_up self.now punct.now) (widened_among self.now.schemas.now punct.now)) }
         ensures err { OnErr result (out.new ≡ out.old) }
     {
-        if is_witness(self.state, self.gone, punct.witness(), punct.punct()) {
-            return Ok(());
-        }
         match find_left(self.state, self.gone, punct.punct()) {
             None => {
-                changes.push(Change::Goes(at))?;
+                left.goes.push(at)?;
                 let own = punct.punct().as_slice();
                 out.push(widened(alloc, self.schemas, self.input, own)?)?;
             }
             Some(found) => {
-                changes.push(Change::Stays(at, found))?;
+                left.holders.push(found)?;
             }
         }
         Ok(())
     }
 
-    // The same of a punctuation of any input: one of another input waits on.
-    #[tactic(auto, using(crate::proofs::Changing::takes_out_none, crate::proofs::Looped::waits_elsewhere))]
+    // The same of a punctuation of any input: one whose holder stays waits on.
+    #[tactic(auto, using(crate::proofs::Leaving::takes_out_none, crate::proofs::Spared::adds_none, crate::proofs::Holding::holder_kept))]
     fn let_one_go(
         &self,
         alloc: Global,
         at: usize,
         punct: &Heard,
-        few: Option<Few<'_>>,
-        changes: &mut List<Change>,
+        holder: u64,
+        left: &mut StillWaiting,
         out: &mut List<Punct>,
     ) -> Result<(), NoMemory>
         requires swept { IsSwept self.now }
-        requires held { punct.now.input ≡ self.now.input → still_held self.now.state.now.rows [] punct.now.patterns ≡ true }
-        requires few { IfSome few (λ few. AreGone self.now.state.now.rows self.now.gone.now (option_copied few.first) (option_copied few.second)) }
-        ensures changes { OnOk result (TakesOut (goes_up self.now punct.now) at changes.old changes.new) }
+        requires held { punct.now.input ≡ self.now.input → IsStaying self.now.state.now.rows [] punct.now.patterns holder }
+        ensures goes { OnOk result (TakesOut (goes_up self.now punct.now) at left.old.goes left.new.goes) }
+        ensures holders { OnOk result (HasHolder self.now punct.now holder left.old.holders left.new.holders) }
         ensures ok { OnOk result (out.new ≡ out.old ++ one_if (goes_up self.now punct.now) (widened_among self.now.schemas.now punct.now)) }
         ensures err { OnErr result (out.new ≡ out.old) }
     {
-        if punct.input() != self.input {
+        if self.stays_held(punct, holder) {
+            left.holders.push(holder)?;
             return Ok(());
         }
-        if is_spared(few, punct.punct()) {
-            return Ok(());
-        }
-        self.let_own_go(alloc, at, punct, changes, out)
+        self.let_own_go(alloc, at, punct, left, out)
     }
 
     /// Puts the waiting punctuations of the input that none of its rows but those that go matches at the end of `out`, widened,
-    /// and answers what is to change of those that wait.
-    #[tactic(auto, using(crate::proofs::Changing::none_taken, crate::proofs::Changing::taken_more, crate::proofs::Changing::all_taken))]
+    /// and answers what is left of those that wait.
+    #[tactic(auto, using(crate::proofs::Leaving::none_taken, crate::proofs::Leaving::all_taken))]
     pub fn let_go(
         &self,
         alloc: Global,
-        waiting: &[Heard],
+        waiting: &Waiting,
         out: &mut List<Punct>,
-    ) -> Result<List<Change>, NoMemory>
+    ) -> Result<StillWaiting, NoMemory>
         requires swept { IsSwept self.now }
         requires held { AreHeldBy self.now.state.now.rows self.now.input waiting.now }
-        ensures waiting { IfOk result (λ changes. changed changes waiting.now ≡ staying_on self.now.state.now.rows self.now.gone.now self.now.input waiting.now) }
-        ensures ok { let s = self.now in OnOk result (out.new ≡ out.old ++ letting_go s.schemas.now s.state.now.rows s.gone.now s.input waiting.now) }
+        ensures waiting { IfOk result (λ left. taken_out left.goes waiting.now.puncts ≡ staying_on self.now.state.now.rows self.now.gone.now self.now.input waiting.now.puncts) }
+        ensures holders { IfOk result (λ left. HoldOn self.now waiting.now left.holders) }
+        ensures ok { let s = self.now in OnOk result (out.new ≡ out.old ++ letting_go s.schemas.now s.state.now.rows s.gone.now s.input waiting.now.puncts) }
         ensures err { OnErr result (take (length out.old) out.new ≡ out.old) }
     {
-        let mut changes = List::new(alloc);
-        let few = few_for(self.state, self.gone, waiting.len());
-        for at in 0..waiting.len() {
-            self.let_one_go(alloc, at, &waiting[at], few, &mut changes, out)?;
+        let puncts = waiting.puncts.as_slice();
+        let holders = waiting.holders.as_slice();
+        let mut left = StillWaiting {
+            goes: List::new(alloc),
+            holders: List::with_room(alloc, holders.len())?,
+        };
+        for at in 0..puncts.len() {
+            self.let_one_go(alloc, at, &puncts[at], holders[at], &mut left, out)?;
         }
-        Ok(changes)
+        Ok(left)
     }
 }
 
-// Keeps a punctuation among all, and a copy among those that wait; or neither.
+// Keeps a punctuation among all, and a copy among those that wait, held back by the tuple with this ticket; or neither.
 fn keep_waiting(
     alloc: Global,
     store: &mut PunctStore,
-    waiting: &mut List<Heard>,
+    waiting: &mut Waiting,
     coming: Coming,
-    witness: u64,
+    holder: u64,
 ) -> Result<(), NoMemory>
     requires fits { length coming.punct ≡ store.old.arity }
     requires rises { IsAbove coming.ticket store.old.kept }
     ensures arity { store.new.arity ≡ store.old.arity }
     ensures store { OnOk result (store.new.kept ≡ store.old.kept ++ record { punct = coming.punct; number = coming.ticket } ∷ []) }
-    ensures waiting { OnOk result (waiting.new ≡ waiting.old ++ coming_punct coming ∷ []) }
+    ensures waiting { OnOk result (waiting.new.puncts ≡ waiting.old.puncts ++ coming_punct coming ∷ []) }
+    ensures holders { OnOk result (waiting.new.holders ≡ waiting.old.holders ++ holder ∷ []) }
     ensures err { OnErr result ((store.new.kept ≡ store.old.kept) × (waiting.new ≡ waiting.old)) }
 {
     let Coming {
@@ -411,12 +357,14 @@ fn keep_waiting(
         input,
         punct,
     } = coming;
-    let count = waiting.len();
-    waiting.push(Heard::new(alloc, ticket, input, &punct, witness)?)?;
+    let count = waiting.puncts.len();
+    let held = waiting.holders.len();
+    waiting.push(Heard::new(alloc, ticket, input, &punct)?, holder)?;
     match store.push(punct, ticket) {
         Ok(()) => Ok(()),
         Err(stop) => {
-            waiting.truncate(count);
+            waiting.puncts.truncate(count);
+            waiting.holders.truncate(held);
             Err(stop)
         }
     }
@@ -461,7 +409,7 @@ pub fn hear(
     schemas: &[Schema],
     state: &State,
     store: &mut PunctStore,
-    waiting: &mut List<Heard>,
+    waiting: &mut Waiting,
     coming: Coming,
     out: &mut List<Punct>,
 ) -> Result<(), NoMemory>
@@ -470,7 +418,8 @@ pub fn hear(
     requires rises { IsAbove coming.ticket store.old.kept }
     ensures arity { store.new.arity ≡ store.old.arity }
     ensures store { OnOk result (store.new.kept ≡ store.old.kept ++ record { punct = coming.punct; number = coming.ticket } ∷ []) }
-    ensures waiting { let held = still_held state.now.rows [] coming.punct in OnOk result (waiting.new ≡ waiting_with held waiting.old (coming_punct coming)) }
+    ensures waiting { let held = still_held state.now.rows [] coming.punct in OnOk result (waiting.new.puncts ≡ waiting_with held waiting.old.puncts (coming_punct coming)) }
+    ensures holders { OnOk result (IsHeldFrom state.now.rows coming.punct waiting.old.holders waiting.new.holders) }
     ensures out { let held = still_held state.now.rows [] coming.punct in OnOk result (out.new ≡ out.old ++ going_at_once schemas.now held (coming_punct coming)) }
     ensures err { OnErr result ((store.new.kept ≡ store.old.kept) × (waiting.new ≡ waiting.old) × (out.new ≡ out.old)) }
 {

@@ -1,19 +1,22 @@
-use Rattle.std.proofs.Common.{ℕ, Option, ◌≡◌, ◌+ℤ◌, pos, ◌∙◌, ap, arith, is_some, rules, sym}
+use Rattle.std.proofs.Common.{ℕ, Option, ◌≡◌, ◌+ℤ◌, pos, ◌∙◌, ap, arith, rules, subst, sym}
 use Rattle.std.proofs.lemmas.Int.{ints}
 use mir.Val.{SFits, of_z, to_z}
 use mir.Syntax.{w64}
 use Rattle.pj_value.specs.declared.values.Value.TheVariants.{Int}
 use Rattle.pj_state.specs.States.{rows_with}
+use Rattle.pj_join.specs.Holding.{IsFound}
 use Rattle.pj_join.specs.Sides.{still_held}
-use Rattle.pj_join.proofs.Ranged.{stay_more, stay_none, stays_there}
+use Rattle.pj_join.proofs.Holding.{found_with}
+use Rattle.pj_join.proofs.Ranged.{stay_more, stay_none}
 use Rattle.pj_join.proofs.ranges.find_among.Goals as goal
 
 pub returns-in-Nothing : goal.returns-in-Nothing
-returns-in-Nothing c = sym (stay_none c.args.stretch.column c.args.stretch.numbers c.loop.left c.args.state.now.rows c.args.gone.now c.args.punct.now c.requires.needs c.loop.invariant.0 c.loop.invariant.1 c.in-Nothing.ensures)
+returns-in-Nothing c = stay_none c.args.stretch.column c.args.stretch.numbers c.loop.left c.args.state.now.rows c.args.gone.now c.args.punct.now c.requires.needs c.loop.invariant.0 c.loop.invariant.1 c.in-Nothing.ensures
 
 pub returns-in-Some : goal.returns-in-Some
 returns-in-Some c =
-    sym (stays_there c.args.stretch.column (to_z w64 (of_z w64 c.in-At.number)) c.args.state.now.rows c.args.gone.now c.args.punct.now (sym c.find_with.ensures ∙ ap (λ (o : Option ℕ). is_some o) c.in-Some.is))
+    found_with c.args.stretch.column (Int (to_z w64 (of_z w64 c.in-At.number))) c.args.state.now.rows c.args.gone.now c.args.punct.now c.in-Some.found
+    (subst (λ (o : Option ℕ). IsFound (rows_with c.args.stretch.column (Int (to_z w64 (of_z w64 c.in-At.number))) c.args.state.now.rows) c.args.gone.now c.args.punct.now o) c.in-Some.is c.find_with.ensures)
 
 pub loop-preserved : goal.loop-preserved
 loop-preserved c =
@@ -21,8 +24,9 @@ loop-preserved c =
     let same : to_z w64 (of_z w64 c.in-At.number) ≡ c.in-At.number = omega (arith, ints, fits) in
     let next = c.in-Some-behind.ensures in
     let after : SFits w64 c.in-Some-behind.next = search rules in
+    let none = subst (λ (o : Option ℕ). IsFound (rows_with c.args.stretch.column (Int (to_z w64 (of_z w64 c.in-At.number))) c.args.state.now.rows) c.args.gone.now c.args.punct.now o) c.in-None.is c.find_with.ensures in
     let one : to_z w64 (of_z w64 c.in-Some-behind.next) ≡ c.in-At.number +ℤ pos 1 = omega (arith, ints, fits, after, next) in (
       stay_more c.args.stretch.column c.args.stretch.numbers.low c.loop.left.low c.in-At.number _ c.args.state.now.rows c.args.gone.now c.args.punct.now one c.loop.invariant.0 c.in-At.ensures
-          (ap (λ n. still_held (rows_with c.args.stretch.column (Int n) c.args.state.now.rows) c.args.gone.now c.args.punct.now) (sym same) ∙ sym c.find_with.ensures ∙ ap (λ (o : Option ℕ). is_some o) c.in-None.is),
+          (ap (λ n. still_held (rows_with c.args.stretch.column (Int n) c.args.state.now.rows) c.args.gone.now c.args.punct.now) (sym same) ∙ none),
       c.loop.invariant.1,
     )

@@ -29,7 +29,7 @@ pub returns-clause-gives : goal.returns-clause-gives
 returns-clause-gives c =
     let r : IsTaken c.args.self.now.kept c.args.probe.ticket = c.requires in
     let f : has (tickets (drop c.self.inside.done (log_of c.self.inside.states.items))) c.args.probe.ticket ≡ false = (rw (← c.self.view_is) at r).1 in
-    rw (← c.self.view_is, c.forget.ensures, c.ticket.ensures) (seen-give c.self.inside.node (join_data (arc_value c.self.inside.spec) c.self.inside.schemes c.self.inside.certs) c.self.inside.limit c.self.inside.next c.self.inside.done (log_of c.self.inside.states.items) (puncts_of c.self.inside.stores.items) c.self.inside.waiting c.self.inside.taken.items c.args.probe.ticket f)
+    rw (← c.self.view_is, c.forget.ensures, c.ticket.ensures) (seen-give c.self.inside.node (join_data (arc_value c.self.inside.spec) c.self.inside.schemes c.self.inside.certs) c.self.inside.limit c.self.inside.next c.self.inside.done (log_of c.self.inside.states.items) (puncts_of c.self.inside.stores.items) c.self.inside.waiting.puncts c.self.inside.taken.items c.args.probe.ticket f)
 
 pub returns-clause-stands : goal.returns-clause-stands
 returns-clause-stands c =

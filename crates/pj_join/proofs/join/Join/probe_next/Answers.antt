@@ -32,12 +32,12 @@ returns-in-None-clause-probes c = rw (← c.self.view_is) (none-pending (log_of 
 
 pub returns-in_ok-hand_out_found-in-Some-clause-probes : goal.returns-in_ok-hand_out_found-in-Some-clause-probes
 returns-in_ok-hand_out_found-in-Some-clause-probes c =
-    probe-does-at c.self.inside.node (join_data (arc_value c.self.inside.spec) c.self.inside.schemes c.self.inside.certs) c.self.inside.limit c.self.inside.next c.self.inside.done (log_of c.self.inside.states.items) (tuples_in 0 c.self.inside.states.items) (puncts_of c.self.inside.stores.items) c.self.inside.waiting c.self.inside.taken.items c.in-Some.own
+    probe-does-at c.self.inside.node (join_data (arc_value c.self.inside.spec) c.self.inside.schemes c.self.inside.certs) c.self.inside.limit c.self.inside.next c.self.inside.done (log_of c.self.inside.states.items) (tuples_in 0 c.self.inside.states.items) (puncts_of c.self.inside.stores.items) c.self.inside.waiting.puncts c.self.inside.taken.items c.in-Some.own
     c.self.invariant.0.ordered (c.in-Some.ensures ∙ ap (λ (ss : List StateView). first_of ss c.self.inside.pending) c.as_slice.ensures.value ∙ first-is (join_data (arc_value c.self.inside.spec) c.self.inside.schemes c.self.inside.certs) c.self.inside.limit c.self.inside.next c.self.inside.done c.self.inside.states.items c.self.inside.stores.items c.self.inside.pending c.self.inside.taken.items c.self.invariant.0) c.args.self.now c.self.view_is c.ticket-ticket.result c.ticket-ticket.ensures
 
 pub returns-in_ok-hand_out_found-in-Some-clause-hands : goal.returns-in_ok-hand_out_found-in-Some-clause-hands
 returns-in_ok-hand_out_found-in-Some-clause-hands c =
-    probe-hands c.self.inside.node (join_data (arc_value c.self.inside.spec) c.self.inside.schemes c.self.inside.certs) c.self.inside.limit c.self.inside.next c.self.inside.done (log_of c.self.inside.states.items) (tuples_in 0 c.self.inside.states.items) (puncts_of c.self.inside.stores.items) c.self.inside.waiting c.self.inside.taken.items c.in-Some.own
+    probe-hands c.self.inside.node (join_data (arc_value c.self.inside.spec) c.self.inside.schemes c.self.inside.certs) c.self.inside.limit c.self.inside.next c.self.inside.done (log_of c.self.inside.states.items) (tuples_in 0 c.self.inside.states.items) (puncts_of c.self.inside.stores.items) c.self.inside.waiting.puncts c.self.inside.taken.items c.in-Some.own
     c.self.invariant.0.ordered (c.in-Some.ensures ∙ ap (λ (ss : List StateView). first_of ss c.self.inside.pending) c.as_slice.ensures.value ∙ first-is (join_data (arc_value c.self.inside.spec) c.self.inside.schemes c.self.inside.certs) c.self.inside.limit c.self.inside.next c.self.inside.done c.self.inside.states.items c.self.inside.stores.items c.self.inside.pending c.self.inside.taken.items c.self.invariant.0) c.args.self.now c.self.view_is c.ticket-ticket.result c.ticket-ticket.ensures c.args.outs.now c.hand_out_found.new.outs
     (rw (← c.as_slice-in-Some.ensures.value) c.in_ok-hand_out_found-in-Some.ensures.ok)
 

@@ -1,0 +1,23 @@
+use Rattle.std.proofs.Common.{true, [], ◌≡◌, ◌++◌, sym, subst}
+use Rattle.std.specs.Prelude.{OnOk}
+use Rattle.pj_join.specs.Holding.{IsHeldIf}
+use Rattle.pj_join.specs.Judging.{going_at_once, waiting_with}
+use Rattle.pj_join.specs.Sides.{coming_punct, still_held}
+use Rattle.pj_join.proofs.Holding.{append-none, found_held, on_any, on_ok}
+use Rattle.pj_join.proofs.widening.hear.Goals as goal
+
+held : (c : goal.After-keep_waiting) → still_held c.args.state.now.rows [] c.args.coming.punct ≡ true
+held c = found_held c.args.state.now.rows [] c.args.coming.punct c.in-Some.found c.in-Some.ensures
+
+pub returns-in-Some-clause-waiting : goal.returns-in-Some-clause-waiting
+returns-in-Some-clause-waiting c =
+    subst (λ b. OnOk c.keep_waiting.result (c.keep_waiting.new.waiting.puncts ≡ waiting_with b c.args.waiting.now.puncts (coming_punct c.args.coming))) (sym (held c)) c.keep_waiting.ensures.waiting
+
+pub returns-in-Some-clause-holders : goal.returns-in-Some-clause-holders
+returns-in-Some-clause-holders c =
+    subst (λ b. OnOk c.keep_waiting.result (IsHeldIf b c.args.state.now.rows c.args.coming.punct c.args.waiting.now.holders c.keep_waiting.new.waiting.holders)) (sym (held c))
+    (on_ok c.keep_waiting.result (λ more. (c.in-Some.found, more, c.in-Some.ensures)) c.keep_waiting.ensures.holders)
+
+pub returns-in-Some-clause-out : goal.returns-in-Some-clause-out
+returns-in-Some-clause-out c =
+    subst (λ b. OnOk c.keep_waiting.result (c.args.out.now ≡ c.args.out.now ++ going_at_once c.args.schemas.now b (coming_punct c.args.coming))) (sym (held c)) (on_any c.keep_waiting.result (sym (append-none c.args.out.now)))
