@@ -1,5 +1,5 @@
 -- What rows that go tell of punctuations that wait.
-use Rattle.std.proofs.Common.{ℕ, suc, ◌++◌, is_some, IfSome, ◌+◌, ◌-◌, ◌<◌, ◌≤◌, Bool, true, false, cond, not, ◌&&◌, ◌||◌, ◌⊎◌, List, [], ◌∷◌, ◌≡◌, Option, Some, None, filter, length, get_or, inl, inr, refl, sym, ap, ap₂, ◌∙◌, subst, eqb, arith}
+use Rattle.std.proofs.Common.{ℕ, suc, ◌++◌, is_some, IfSome, ◌<◌, ◌≤◌, Bool, true, false, cond, not, ◌&&◌, ◌||◌, ◌⊎◌, List, [], ◌∷◌, ◌≡◌, Option, Some, None, filter, length, get_or, inl, inr, refl, sym, ap, ap₂, ◌∙◌, subst, eqb, arith}
 use Rattle.std.specs.List.{list_any}
 use Rattle.std.proofs.lemmas.Bool.{and_parts, eq-eqb, eqb-true, false≢true}
 use Rattle.std.proofs.lemmas.List.{length-map}
