@@ -1,4 +1,4 @@
-use Rattle.std.proofs.Common.{◌≡◌, ◌<◌, ◌∙◌, ℕ, ap, arith, subst, sym}
+use Rattle.std.proofs.Common.{◌≡◌, ◌<◌, ◌∙◌, ap, arith, subst, sym}
 use Rattle.pj_state.specs.States.{pair_of, stored}
 use Rattle.pj_cover.specs.Asking.{IsFirstUncovered, entries, known_of, tuple_of}
 use Rattle.pj_join.specs.declared.marks.Verdict.{Verdict}
