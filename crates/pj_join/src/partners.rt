@@ -4,7 +4,7 @@ ghost use Rattle.pj_value.specs.Lists.{In};
 ghost use Rattle.pj_state.specs.Rising.{IsRising};
 ghost use Rattle.pj_state.specs.States.{ticket_of};
 ghost use Rattle.pj_events.specs.Join.{value_at};
-ghost use Rattle.pj_join.specs.Sides.{AreWide, IsWide, state_at};
+ghost use Rattle.pj_join.specs.Sides.{AreWide, IsWide};
 ghost use Rattle.pj_join.specs.Watching.{AreAllAlone, AreAllUnlike, AreFewer, AreRoused, AreUnlike, IsFewer, IsPair, IsRousedAt, asks_first, first_column};
 
 use crate::coverage::Side;

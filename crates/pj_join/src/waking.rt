@@ -8,8 +8,8 @@ use crate::coverage::{Coverage, LentPunct, Side};
 use crate::marks::Watches;
 use crate::partners::{Pair, mark_partners, pair_of};
 use crate::watches::{matching_tickets, scheme_of};
-use pj_pattern::{Pattern, Punct};
-use pj_shape::{Cert, ClassCol, JoinSpec, Scheme, Schemes};
+use pj_pattern::Pattern;
+use pj_shape::{Cert, ClassCol, JoinSpec, Schemes};
 use pj_state::State;
 use pj_value::{List, NoMemory};
 use std::alloc::Global;
@@ -219,7 +219,7 @@ fn wake_next(
     }
 }
 
-// Marks the rows of a side that ask through those of this input, for what the punctuation covers; or all.
+// Marks the rows of a side that ask through those of this input for what the punctuation covers; or all.
 fn wake_after(
     alloc: Global,
     watches: &mut Watches,
