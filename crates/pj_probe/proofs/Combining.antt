@@ -8,7 +8,7 @@ use Rattle.pj_events.specs.Join.{Value, TupleAt, ClassCol, Part, agree, joined, 
 use Rattle.pj_laws.proofs.Matching.{agree-mono}
 use Rattle.pj_value.proofs.Members.{In-append_left}
 use Rattle.pj_probe.specs.Walks.{combined, end_to_end, no_row, numbered, row_at, sides_at, tuple_at}
-use Rattle.pj_probe.specs.Walking.{completed, tuples_of, walked, walked_upto}
+use Rattle.pj_probe.specs.Walking.{LacksOne, completed, tuples_of, walked, walked_upto}
 use Rattle.pj_probe.proofs.Whole.{joins-none}
 
 agree-front : (classes : List (List ClassCol)) (xs ys : List TupleAt) → agree classes (xs ++ ys) ≡ true → agree classes xs ≡ true
@@ -189,3 +189,16 @@ walked-whole classes sides = ap (map joined) (completed-all classes (sides_at 0 
 pub combined-nothing : (classes : List (List ClassCol)) (sides : List (List (ℕ × List Value))) → length sides ≤ 0 → combined classes (sides_at 0 sides) ≡ [] ∷ []
 combined-nothing classes [] le = sym (walked-whole classes []) ∙ walked-end classes [] [] (omega arith) (joins-none classes)
 combined-nothing classes (s ∷ ss) le = absurd (omega (arith, le))
+
+-- where a side has no row there is no combination
+pub combined-lacking : (classes : List (List ClassCol)) (sides : List (List (ℕ × List Value))) → LacksOne sides → combined classes (sides_at 0 sides) ≡ []
+combined-lacking classes sides lacks = ap (λ (cs : List (List TupleAt)). map joined (filter (agree classes) cs)) (none 0 sides lacks.0 lacks.1 lacks.2)
+  where
+    behind : (ys : List TupleAt) (lists : List (List TupleAt)) → product lists ≡ [] → product (ys ∷ lists) ≡ []
+    behind [] lists e = refl
+    behind (y ∷ ys) lists e = ap₂ (λ (cs ds : List (List TupleAt)). map (λ c. y ∷ c) cs ++ ds) e (behind ys lists e)
+
+    none : (base : ℕ) (ss : List (List (ℕ × List Value))) (k : ℕ) → k < length ss → get_or ss k [] ≡ [] → product (sides_at base ss) ≡ []
+    none base [] k lt e = absurd (omega (arith, lt))
+    none base (s ∷ ss) zero lt e = ap (λ (t : List (ℕ × List Value)). product (map (tuple_at base) t ∷ sides_at (base + 1) ss)) e
+    none base (s ∷ ss) (suc k) lt e = behind (map (tuple_at base) s) (sides_at (base + 1) ss) (none (base + 1) ss k (omega (arith, lt)) e)

@@ -1,7 +1,11 @@
 -- How the combinations that join are found one row after the other.
-use Rattle.std.specs.Prelude.{ℕ, zero, suc, ◌+◌, List, [], ◌∷◌, ◌++◌, drop, length, map, filter, slice_index_or}
+use Rattle.std.specs.Prelude.{◌≡◌, ◌<◌, ℕ, zero, suc, ◌+◌, List, [], ◌∷◌, ◌++◌, drop, length, map, filter, slice_index_or}
 use Rattle.pj_events.specs.Join.{ClassCol, TupleAt, Value, agree, joined, product}
 use Rattle.pj_probe.specs.Walks.{row_at, sides_at, tuple_at}
+
+-- one of the sides has no row
+abbrev pub LacksOne : List (List (ℕ × List Value)) → Type 0
+LacksOne sides = (k : ℕ) × (k < length sides) × (slice_index_or sides k [] ≡ [])
 
 -- these tuples with one of each list, where they join
 abbrev pub completed : List (List ClassCol) → List TupleAt → List (List TupleAt) → List (List TupleAt)

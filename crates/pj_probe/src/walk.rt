@@ -2,12 +2,12 @@
 ghost use Rattle.std.specs.Prelude.{◌≡◌, ◌<◌, ◌≤◌, ◌++◌, ◌∷◌, [], true, length, map, IsTrue, OnOk, OnErr};
 ghost use Rattle.pj_events.specs.Join.{joins};
 ghost use Rattle.pj_probe.specs.Walks.{combined, numbered, sides_at};
-ghost use Rattle.pj_probe.specs.Walking.{walked};
+ghost use Rattle.pj_probe.specs.Walking.{LacksOne, walked};
 ghost use Rattle.pj_probe.specs.Visits.{Grows, GrowsByFront};
 
 use crate::agreeing::agree;
-use crate::{Joined, Lent, Visit};
 use crate::lent::Candidates;
+use crate::{Joined, Lent, Visit};
 use arrayvec::ArrayVec;
 use pj_shape::ClassCol;
 use pj_value::{List, NoMemory, Row};
@@ -33,8 +33,23 @@ pub fn walk_all<S: Candidates, V: Visit>(
     if sides[0].count() == 0 {
         return Ok(());
     }
+    if lacks_one(sides) {
+        return Ok(());
+    }
     let mut rows = ArrayVec::new_in(sides[0].lend(0).row());
     walk(classes, sides, &mut rows, visit)
+}
+
+// Whether a side has no candidate.
+fn lacks_one<S: Candidates>(sides: &[S]) -> bool
+    ensures { result ≡ true → LacksOne (map S.pairs sides.now) }
+{
+    for side in sides {
+        if side.count() == 0 {
+            return true;
+        }
+    }
+    false
 }
 
 /// Shows the visitor each combination that begins with these rows, which join, and joins. The rows are as before where it

@@ -4,8 +4,8 @@ use Rattle.pj_events.specs.Join.{Value}
 use Rattle.pj_probe.specs.Walks.{combined, end_to_end, sides_at}
 use Rattle.pj_probe.specs.Visits.{Grows, GrowsByFront}
 use Rattle.pj_probe.specs.Walking.{walked}
-use Rattle.pj_probe.proofs.Combining.{combined-nothing, walked-whole}
-use Rattle.pj_probe.proofs.Growing.{grows-same}
+use Rattle.pj_probe.proofs.Combining.{combined-lacking, combined-nothing, walked-whole}
+use Rattle.pj_probe.proofs.Growing.{grows-none, grows-same}
 use Rattle.pj_probe.proofs.Placing.{sides-full}
 use Rattle.pj_probe.proofs.Whole.{joins-none}
 use Rattle.pj_probe.proofs.walk.walk_all.Goals as goal
@@ -30,3 +30,8 @@ returns-clause-err g c =
     let sides = map g.S.Candidates.pairs c.args.sides.now in
     let found : walked c.args.classes.now sides c.new_in-rows.result.items ≡ combined c.args.classes.now (sides_at 0 sides) = rw c.new_in-rows.ensures (walked-whole c.args.classes.now sides) in
     subst (λ (rows : List (List Value)). OnErr c.walk.result (GrowsByFront (g.V.Visit.told c.walk.new.visit) (g.V.Visit.list c.args.visit.now) (g.V.Visit.list c.walk.new.visit) rows)) found c.walk.ensures.err
+
+pub returns-then-lacks_one-clause-ok : goal.returns-then-lacks_one-clause-ok
+returns-then-lacks_one-clause-ok g c =
+    let sides = map g.S.Candidates.pairs c.args.sides.now in
+    grows-none (g.V.Visit.told c.args.visit.now) (g.V.Visit.list c.args.visit.now) (combined c.args.classes.now (sides_at 0 sides)) (combined-lacking c.args.classes.now sides (c.lacks_one.ensures c.if-lacks_one.true))
