@@ -88,10 +88,7 @@ fn share_spec(spec: &Arc<JoinSpec, Global>) -> Result<Arc<JoinSpec, Global>, NoM
 }
 
 // Handles of these rows.
-fn share_rows(
-    alloc: Global,
-    rows: &[(u64, Lent<'_>)],
-) -> Result<List<(u64, Shared)>, NoMemory>
+fn share_rows(alloc: Global, rows: &[(u64, Lent<'_>)]) -> Result<List<(u64, Shared)>, NoMemory>
     ensures { IfOk result (λ copy. copy ≡ rows.now) }
 {
     let mut copy = List::with_room(alloc, rows.len())?;
@@ -103,10 +100,7 @@ fn share_rows(
 }
 
 // The same of each of these lists.
-fn share_all(
-    alloc: Global,
-    lists: &[Rows<'_>],
-) -> Result<List<List<(u64, Shared)>>, NoMemory>
+fn share_all(alloc: Global, lists: &[Rows<'_>]) -> Result<List<List<(u64, Shared)>>, NoMemory>
     ensures { IfOk result (λ copy. copy ≡ lists.now) }
 {
     let mut copy = List::with_room(alloc, lists.len())?;
