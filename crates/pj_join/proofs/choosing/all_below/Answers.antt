@@ -1,4 +1,4 @@
-use Rattle.std.proofs.Common.{◌≡◌, ◌∙◌, ◌++◌, ◌∷◌, [], ℕ, List, Some, ap, subst, sym}
+use Rattle.std.proofs.Common.{◌≡◌, ◌∙◌, ◌++◌, ◌∷◌, [], List, Some, ap, subst}
 use Rattle.std.specs.List.{slice_get}
 use Rattle.pj_events.specs.Join.{Value}
 use Rattle.pj_state.specs.declared.shared.Stored.{Stored}
