@@ -13,7 +13,7 @@ use Rattle.pj_join.proofs.join.Join.new.Goals as goal
 
 pub invariant_of-result : goal.invariant_of-result
 invariant_of-result c = (
-  rw (c.new-3.ensures, c.new-4.ensures.items, c.in_ok-new.ensures.ok)
+  rw (c.of.ensures, c.new-3.ensures.items, c.new-4.ensures.items, c.in_ok-new.ensures.ok)
       (join-starts (join_data c.args.spec c.args.schemes c.args.certs) c.args.limit c.in_ok-states.states.items c.in_ok-stores.stores.items c.in_ok-states.ensures.rows (c.in_ok-stores.ensures.heard ∙ ap (λ (ss : List (List Column)). map (λ k. heard_of k []) (upto_from 0 (length ss))) c.as_slice.ensures) c.requires.sound c.requires.certified c.requires.limit.1 c.in_ok-states.ensures.shaped
       (c.in_ok-stores.ensures.arities ∙ ap arities_of c.as_slice.ensures)),
   rw (c.new-4.ensures.items, c.in_ok-new.ensures.ok) (subst (λ (xs : List TupleAt). AreWatched (join_data c.args.spec c.args.schemes c.args.certs) 0 (lowest 0 0 xs []) xs (puncts_of c.in_ok-stores.stores.items) c.in_ok-watches.watches.items) (sym (log-none (join_data c.args.spec c.args.schemes c.args.certs) c.args.limit c.in_ok-states.states.items c.in_ok-stores.stores.items c.in_ok-states.ensures.rows (c.in_ok-stores.ensures.heard ∙ ap (λ (ss : List (List Column)). map (λ k. heard_of k []) (upto_from 0 (length ss))) c.as_slice.ensures)))
