@@ -2,7 +2,8 @@
 use Rattle.std.proofs.Common.{ℕ, zero, suc, ◌+◌, ◌<◌, ◌≤◌, Bool, true, false, cond, ◌&&◌, ◌||◌, ◌-◌, List, [], ◌∷◌, ◌++◌, ◌≡◌, Option, Some, None, map, filter, set, take, length, get_or, refl, sym, ap, ap₂, ◌∙◌, subst, inl, inr, eqb, arith}
 use Rattle.std.specs.List.{list_all, slice_get}
 use Rattle.std.specs.Prelude.{IfOk, IfSome, Result, Ok, Err}
-use Rattle.std.proofs.lemmas.Bool.{cases_lt, eqb-true, eq-eqb, false≢true, false_from_ne_true}
+use Rattle.std.proofs.lemmas.Bool.{cases_lt, eqb-true, eq-eqb, false≢true, false_from_ne_true, lt-ltb, ltb-true}
+use Rattle.std.proofs.lemmas.List.Elements.{filter-append}
 use Rattle.std.proofs.lemmas.List.{get_or_past, get_or-set_other, get_or-set_same, length-append, length-map, map-append, take_more}
 use Rattle.std.proofs.lemmas.Option.{get_or_from_slice_get, slice_get_within, slice_get-get_or}
 use Rattle.pj_value.specs.Values.{value_eq}
@@ -15,7 +16,7 @@ use Rattle.pj_probe.specs.Walks.{sides_at, tuple_at}
 use Rattle.pj_events.specs.Join.{ClassCol, In, TupleAt, Value, agree, has, no_value, product, upto_from, value_at}
 use Rattle.pj_laws.proofs.Matching.{agree-at, value-in}
 use Rattle.pj_join.proofs.Halved.{some_rise}
-use Rattle.pj_join.specs.Hops.{AreChosen, AreKnown, AreLinked, AreMore, BeginsWith, FindSame, HaveTickets, IsChoice, KnowsMore, Links, LinksBy, all_older, all_under, has_ticket, is_among, older_at, older_under, ticket_in}
+use Rattle.pj_join.specs.Hops.{AreChosen, AreKnown, AreLinked, AreMore, BeginsWith, FindSame, HaveTickets, IsChoice, KnowsMore, LacksOne, Links, LinksBy, all_older, all_under, has_ticket, is_among, older_at, older_under, ticket_in}
 use Rattle.pj_join.specs.Sides.{IsWide, state_at}
 use Rattle.pj_join.specs.Watching.{under_with}
 use Rattle.pj_join.specs.Sides.{no_state, tuple_in, tuples_in}
@@ -26,7 +27,7 @@ use Rattle.pj_join.proofs.Combining.{filter-map}
 use Rattle.pj_join.proofs.Calling.{same-at}
 use Rattle.pj_join.proofs.Finding.{as-upto, map-map_upto, narrowed-finds}
 use Rattle.pj_join.proofs.Kept.{tuples-length}
-use Rattle.pj_join.proofs.Looped.{narrowed_choice, side_at, sides-length}
+use Rattle.pj_join.proofs.Looped.{narrowed_choice, picked_stop, side_at, sides-length}
 use Rattle.pj_join.proofs.Wanted.{all_hold}
 use Rattle.pj_join.proofs.Picked.{above-in, flat-more, rising-append, rising-filter, rising-same, under-in, under-own}
 
@@ -104,6 +105,31 @@ under_more below rows tickets i t found found' lt is before now =
 pub linked_is : (state : StateView) (mine theirs below : ℕ) (others found : Pairs) (tickets ordered : List ℕ) → IsRising ticket_of state.rows → IsRising itself ordered → ((n : ℕ) → In n tickets → In n ordered)
     → HaveTickets state.rows mine theirs others tickets → found ≡ pairs (all_under below state.rows ordered) → AreLinked state mine theirs others below found
 linked_is state mine theirs below others found tickets ordered r t all have is = (ordered, λ q h s k e. all s.ticket (have q h s k e), is ∙ ap pairs (all-under-is below state.rows ordered r t))
+
+-- the row at a place is older, so it is one more
+pub older_more : (below : ℕ) (rows : List Stored) (at : ℕ) (s : Stored) (found found' : Pairs) → slice_get rows at ≡ Some s → s.ticket < below → found ≡ pairs (rows_below below (take at rows)) → found' ≡ found ++ pair_of s ∷ []
+    → found' ≡ pairs (rows_below below (take (at + 1) rows))
+older_more below rows at s found found' here older before now =
+    now ∙ ap (λ (ps : Pairs). ps ++ pair_of s ∷ []) before
+    ∙ ap (λ b. pairs (rows_below below (take at rows)) ++ pairs (cond b (s ∷ []) [])) (sym (lt-ltb s.ticket below older))
+    ∙ sym (map-append pair_of (rows_below below (take at rows)) (rows_below below (s ∷ [])))
+    ∙ ap pairs (sym (filter-append (is_below below) (take at rows) (s ∷ [])))
+    ∙ ap (λ (xs : List Stored). pairs (rows_below below xs)) (ap (λ (t : Stored). take at rows ++ t ∷ []) (sym (get_or_from_slice_get rows at s s here)) ∙ sym (take_more rows at s (slice_get_within rows at s here)))
+
+-- it is not, and so no later one is
+pub older_stop : (below : ℕ) (rows : List Stored) (at : ℕ) (s : Stored) (found : Pairs) → IsRising ticket_of rows → slice_get rows at ≡ Some s → below ≤ s.ticket → found ≡ pairs (rows_below below (take at rows)) → found ≡ pairs (rows_below below rows)
+older_stop below rows at s found rising here late before = before ∙ ap pairs (picked_stop (is_below below) ticket_of below rows at s rising (λ t k. ltb-true t.ticket below k) here late)
+
+-- one row that tells is all that do
+pub linked_single : {E : Type 0} (state : StateView) (mine theirs below : ℕ) (rows : Pairs) (q : ℕ × List Value) (row : List Value) (result : Result (Option Pairs) E) → 1 ≤ length rows → length rows < 2 → q ≡ get_or rows 0 q → row ≡ q.1
+    → ((ticket : ℕ) → IfOk result (λ found. IfSome found (AreLinked state mine theirs ((ticket, row) ∷ []) below))) → IfOk result (λ found. IfSome found (AreLinked state mine theirs rows below))
+linked_single state mine theirs below rows q row result some one is e all =
+    subst (λ (rs : Pairs). IfOk result (λ found. IfSome found (AreLinked state mine theirs rs below))) (ap (λ (r : List Value). (q.0, r) ∷ []) e ∙ single rows is some one) (all q.0)
+  where
+    single : (rs : Pairs) → q ≡ get_or rs 0 q → 1 ≤ length rs → length rs < 2 → q ∷ [] ≡ rs
+    single [] i s o = absurd (omega (arith, s))
+    single (r ∷ []) i s o = ap (λ (z : ℕ × List Value). z ∷ []) i
+    single (r ∷ z ∷ rs) i s o = absurd (omega (arith, o))
 
 -- ---- tickets with the values of others
 
@@ -252,6 +278,31 @@ hopped classes own states known lists input mine other theirs rows found chosen 
         subst (λ (z : TupleAt). is_among found z ≡ true) s.2 (subst (λ (ps : Pairs). is_among ps (tuple_at input (pair_of s.0)) ≡ true) (sym linked.2)
         (among-from input (filter (has_ticket linked.0) (rows_below own.ticket (state_at states input).rows)) s.0
         (In-filter_from (has_ticket linked.0) s.0 (rows_below own.ticket (state_at states input).rows) s.1 (in-has linked.0 s.0.ticket told))))
+
+-- where one of the inputs has no row none is wanted of another
+pub none_chosen : (classes : List (List ClassCol)) (own : TupleAt) (states : List StateView) (known : List Bool) (lists : List Pairs) (input : ℕ) (found : Pairs) → AreChosen classes own states known lists → LacksOne known lists → found ≡ [] → IsChoice classes own states input found
+none_chosen classes own states known lists input found chosen lacks is =
+    let none : IsChoice classes own states input [] = record {
+      cut = sym (nothing (older_at own states input));
+      passes = λ c h a y hy yi.
+          let within : lacks.0 < length known = slice_get_within known lacks.0 true lacks.1 in
+          let x = product-some (older_at own states) 0 (length states) lacks.0 (omega arith) (omega (arith, within, chosen.flags)) c h in
+          let among : is_among (get_or lists lacks.0 []) x.0 ≡ true = (chosen.each lacks.0 lacks.1).passes c h a x.0 x.1 (older-input own states lacks.0 x.0 x.2) in
+          absurd (false≢true (subst (λ (ps : Pairs). is_among ps x.0 ≡ true) lacks.2 among));
+    } in
+    subst (λ (ps : Pairs). IsChoice classes own states input ps) (sym is) none
+  where
+    nothing : (ys : List TupleAt) → filter (is_among []) ys ≡ []
+    nothing [] = refl
+    nothing (y ∷ ys) = nothing ys
+
+-- a list without a row
+pub lacks_here : (known : List Bool) (lists : List Pairs) (input : ℕ) (rows : Pairs) → slice_get known input ≡ Some true → get_or lists input [] ≡ rows → length rows ≡ 0 → LacksOne known lists
+lacks_here known lists input rows is there none = (input, is, there ∙ nothing rows none)
+  where
+    nothing : (rs : Pairs) → length rs ≡ 0 → rs ≡ []
+    nothing [] e = refl
+    nothing (r ∷ rs) e = absurd (omega (arith, e))
 
 -- all older rows
 pub all_chosen : (classes : List (List ClassCol)) (own : TupleAt) (states : List StateView) (input : ℕ) (found : Pairs) → (input ≡ own.input → ⊥) → found ≡ pairs (rows_below own.ticket (state_at states input).rows) → IsChoice classes own states input found

@@ -5,6 +5,17 @@ use Rattle.pj_events.specs.Join.{ClassCol, Step, TupleAt, Value, Take, Give, agr
 use Rattle.pj_join.specs.Joins.{JoinView, StandsFor, TakesLeast, after, found_of}
 use Rattle.pj_join.specs.Walks.{choices, older_joins, pair}
 
+-- the rows of the tuples among these
+abbrev pub rows_of : List Out → List (List Value)
+rows_of [] = []
+rows_of (Out.Tuple row ∷ outs) = row ∷ rows_of outs
+rows_of (Out.Punct patterns ∷ outs) = rows_of outs
+rows_of (Out.Purged join input row ∷ outs) = rows_of outs
+
+-- these are all tuples
+abbrev pub AreTuples : List Out → Type 0
+AreTuples outs = outs ≡ map Out.Tuple (rows_of outs)
+
 -- the row of a tuple with another, that of the first input first
 abbrev pub pair_of : TupleAt → TupleAt → List Value
 pair_of own y = if own.input == 0 then pair own y else pair y own

@@ -34,6 +34,10 @@ pub record AreChosen (classes : List (List ClassCol)) (own : TupleAt) (states : 
   pub itself : slice_get known own.input ≡ Some true
   pub each : (k : ℕ) → slice_get known k ≡ Some true → IsChoice classes own states k (slice_index_or lists k [])
 
+-- one of the inputs that are known has no row
+abbrev pub LacksOne : List Bool → List (List (ℕ × List Value)) → Type 0
+LacksOne known lists = (k : ℕ) × (slice_get known k ≡ Some true) × (slice_index_or lists k [] ≡ [])
+
 -- with these lists a probe finds what it finds with all
 abbrev pub FindSame : List (List ClassCol) → TupleAt → List StateView → List (List (ℕ × List Value)) → Type 0
 FindSame classes own states lists = filter (agree classes) (product (sides_at 0 lists)) ≡ filter (agree classes) (product (choices classes own (tuples_in 0 states)))

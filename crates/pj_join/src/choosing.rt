@@ -3,28 +3,30 @@ ghost use Rattle.std.specs.Prelude.{◌≡◌, ℕ, List, true, false, ◌<◌, 
 ghost use Rattle.pj_value.specs.Lists.{In};
 ghost use Rattle.pj_events.specs.Join.{ClassCol as AnyClassCol, value_at};
 ghost use Rattle.pj_state.specs.Rising.{IsRising};
-ghost use Rattle.pj_state.specs.States.{pairs, ticket_of};
+ghost use Rattle.pj_state.specs.States.{pairs, rows_below, ticket_of};
 ghost use Rattle.pj_probe.specs.Walks.{tuple_at};
-ghost use Rattle.pj_join.specs.Hops.{AreChosen, AreKnown, AreLinked, AreMore, FindSame, HaveTickets, KnowsMore, IsChoice, Links, LinksBy, all_under, older_under};
+ghost use Rattle.pj_join.specs.Hops.{AreChosen, AreKnown, AreLinked, AreMore, FindSame, HaveTickets, KnowsMore, IsChoice, LacksOne, Links, LinksBy, all_under, older_under};
 ghost use Rattle.pj_join.specs.Sides.{AreWide, IsWide};
 
 use crate::arrivals::Arrived;
 use crate::lookups::column_in;
 use crate::sweeping::in_order;
 use arrayvec::ArrayVec;
+use pj_probe::Lent;
 use pj_shape::ClassCol;
-use pj_state::{Shared, Spot, State};
+use pj_state::{Spot, State};
 use pj_value::{List, NoMemory, Row};
 use std::alloc::Global;
+use std::mem;
 
 /// Rows with their tickets, in order of these.
-type Rows = List<(u64, Shared)>;
+pub type Rows<'a> = List<(u64, Lent<'a>)>;
 
 /// For each input whether the rows are known that may stand in a combination with a tuple, and which they are.
 #[derive(Drop)]
-pub struct Chosen {
+pub struct Chosen<'a> {
     known: ArrayVec<bool, 16>,
-    lists: Vec<Rows>,
+    lists: Vec<Rows<'a>>,
 }
 
 /// Rows of another input, and the columns in which those of an input have one value with them that stand in a combination.
@@ -33,20 +35,20 @@ pub struct Link<'a> {
     mine: u32,
     other: usize,
     theirs: u32,
-    rows: &'a [(u64, Shared)],
+    rows: &'a [(u64, Lent<'a>)],
 }
 
-fn alone(alloc: Global, own: &Arrived<'_>) -> Result<Rows, NoMemory>
+// The tuple's own row.
+fn alone<'a>(alloc: Global, own: &Arrived<'a>) -> Result<Rows<'a>, NoMemory>
     ensures { IfOk result (λ list. map (tuple_at own.now.input) list ≡ own.now ∷ []) }
 {
     let mut list = List::with_room(alloc, 1)?;
-    let row = Shared::new(alloc, own.row().copy(alloc)?)?;
-    list.push((own.ticket(), row))?;
+    list.push((own.ticket(), Lent::of(own.row())))?;
     Ok(list)
 }
 
 // The tuple's own row where it is asked for, and else none.
-fn alone_if(alloc: Global, own: &Arrived<'_>, is_own: bool) -> Result<Rows, NoMemory>
+fn alone_if<'a>(alloc: Global, own: &Arrived<'a>, is_own: bool) -> Result<Rows<'a>, NoMemory>
     ensures { IfOk result (λ list. is_own ≡ true → map (tuple_at own.now.input) list ≡ own.now ∷ []) }
 {
     if is_own {
@@ -56,7 +58,7 @@ fn alone_if(alloc: Global, own: &Arrived<'_>, is_own: bool) -> Result<Rows, NoMe
 }
 
 // The tuple's own row is known, and no other.
-fn begin(alloc: Global, own: &Arrived<'_>, sides: &[State]) -> Result<Chosen, NoMemory>
+fn begin<'a>(alloc: Global, own: &Arrived<'a>, sides: &[State]) -> Result<Chosen<'a>, NoMemory>
     requires own { own.now.input < length sides.now }
     requires few { length sides.now ≤ 16 }
     ensures { IfOk result (λ chosen. (classes : List (List AnyClassCol)) → AreChosen classes own.now sides.now chosen.known.items chosen.lists.items) }
@@ -72,7 +74,7 @@ fn begin(alloc: Global, own: &Arrived<'_>, sides: &[State]) -> Result<Chosen, No
 }
 
 // The rows of an input, where they are known.
-fn known_rows(chosen: &Chosen, input: usize) -> Option<&[(u64, Shared)]>
+fn known_rows<'a>(chosen: &'a Chosen<'a>, input: usize) -> Option<&'a [(u64, Lent<'a>)]>
     ensures known { IfSome result (λ rows. slice_get chosen.now.known.items input ≡ Some true) }
     ensures rows { IfSome result (λ rows. slice_index_or chosen.now.lists.items input [] ≡ rows.now) }
 {
@@ -87,8 +89,65 @@ fn known_rows(chosen: &Chosen, input: usize) -> Option<&[(u64, Shared)]>
     }
 }
 
+// Whether it is known that an input has no row.
+fn lacks_one(chosen: &Chosen<'_>) -> bool
+    ensures { result ≡ true → LacksOne chosen.now.known.items chosen.now.lists.items }
+{
+    for input in 0..chosen.known.len() {
+        match known_rows(&*chosen, input) {
+            None => {}
+            Some(rows) => {
+                if rows.len() == 0 {
+                    return true;
+                }
+            }
+        }
+    }
+    false
+}
+
+// A column of the class of another input, where its rows are known.
+fn link_to<'a>(
+    class: &[ClassCol],
+    chosen: &'a Chosen<'a>,
+    input: usize,
+    other: usize,
+) -> Option<Link<'a>>
+    ensures { IfSome result (λ link. LinksBy class.now chosen.now.known.items chosen.now.lists.items input link.mine link.other link.theirs link.rows.now) }
+{
+    let mine = column_in(class, input)?;
+    let theirs = column_in(class, other)?;
+    match known_rows(chosen, other) {
+        None => None,
+        Some(rows) => Some(Link {
+            mine,
+            other,
+            theirs,
+            rows,
+        }),
+    }
+}
+
+// The same of the first class that has one.
+fn find_link_to<'a>(
+    classes: &[List<ClassCol>],
+    chosen: &'a Chosen<'a>,
+    input: usize,
+    other: usize,
+) -> Option<Link<'a>>
+    ensures { IfSome result (λ link. Links classes.now chosen.now.known.items chosen.now.lists.items input link.mine link.other link.theirs link.rows.now) }
+{
+    for class in classes {
+        match link_to(class.as_slice(), chosen, input, other) {
+            Some(link) => return Some(link),
+            None => {}
+        }
+    }
+    None
+}
+
 // A column of the class of another input whose rows are known.
-fn link_in<'a>(class: &[ClassCol], chosen: &'a Chosen, input: usize) -> Option<Link<'a>>
+fn link_in<'a>(class: &[ClassCol], chosen: &'a Chosen<'a>, input: usize) -> Option<Link<'a>>
     ensures { IfSome result (λ link. LinksBy class.now chosen.now.known.items chosen.now.lists.items input link.mine link.other link.theirs link.rows.now) }
 {
     let mine = column_in(class, input)?;
@@ -109,7 +168,11 @@ fn link_in<'a>(class: &[ClassCol], chosen: &'a Chosen, input: usize) -> Option<L
 }
 
 // The same of the first class that has one.
-fn find_link<'a>(classes: &[List<ClassCol>], chosen: &'a Chosen, input: usize) -> Option<Link<'a>>
+fn find_link_in<'a>(
+    classes: &[List<ClassCol>],
+    chosen: &'a Chosen<'a>,
+    input: usize,
+) -> Option<Link<'a>>
     ensures { IfSome result (λ link. Links classes.now chosen.now.known.items chosen.now.lists.items input link.mine link.other link.theirs link.rows.now) }
 {
     for class in classes {
@@ -119,6 +182,21 @@ fn find_link<'a>(classes: &[List<ClassCol>], chosen: &'a Chosen, input: usize) -
         }
     }
     None
+}
+
+// A link from the tuple's own input, which has one row alone; from another one where no class has both.
+fn find_link<'a>(
+    classes: &[List<ClassCol>],
+    chosen: &'a Chosen<'a>,
+    input: usize,
+    own: usize,
+) -> Option<Link<'a>>
+    ensures { IfSome result (λ link. Links classes.now chosen.now.known.items chosen.now.lists.items input link.mine link.other link.theirs link.rows.now) }
+{
+    match find_link_to(classes, chosen, input, own) {
+        Some(link) => Some(link),
+        None => find_link_in(classes, chosen, input),
+    }
 }
 
 // Puts the tickets of the rows of a state at the end that have the row's value in a column; answers whether it has one.
@@ -148,7 +226,7 @@ fn tickets_for(
     alloc: Global,
     state: &State,
     mine: u32,
-    others: &[(u64, Shared)],
+    others: &[(u64, Lent<'_>)],
     theirs: u32,
 ) -> Result<Option<List<u64>>, NoMemory>
     requires wide { IsWide state.now }
@@ -165,13 +243,12 @@ fn tickets_for(
 }
 
 // Puts the row with a ticket at the end, where there is one and it is older.
-fn append_under(
-    alloc: Global,
-    state: &State,
+fn append_under<'a>(
+    state: &'a State,
     ticket: u64,
     below: u64,
     near: &mut Spot,
-    found: &mut Rows,
+    found: &mut Rows<'a>,
 ) -> Result<(), NoMemory>
     ensures { OnOk result (found.new ≡ found.old ++ pairs (older_under below state.now.rows ticket)) }
 {
@@ -179,8 +256,7 @@ fn append_under(
         None => Ok(()),
         Some(row) => {
             if ticket < below {
-                let shared = Shared::new(alloc, row.copy(alloc)?)?;
-                found.push((ticket, shared))?;
+                found.push((ticket, Lent::of(row)))?;
             }
             Ok(())
         }
@@ -188,27 +264,32 @@ fn append_under(
 }
 
 // The rows with these tickets that are older.
-fn rows_under(alloc: Global, state: &State, tickets: &[u64], below: u64) -> Result<Rows, NoMemory>
+fn rows_under<'a>(
+    alloc: Global,
+    state: &'a State,
+    tickets: &[u64],
+    below: u64,
+) -> Result<Rows<'a>, NoMemory>
     ensures rising { IsRising ticket_of state.now.rows }
     ensures found { IfOk result (λ found. found ≡ pairs (all_under below state.now.rows tickets.now)) }
 {
     let mut found = List::with_room(alloc, tickets.len().min(state.len()))?;
     let mut near = Spot::new();
     for ticket in tickets {
-        append_under(alloc, state, *ticket, below, &mut near, &mut found)?;
+        append_under(state, *ticket, below, &mut near, &mut found)?;
     }
     Ok(found)
 }
 
 // The rows of an input that are older than the tuple and have the value of this row in these columns.
-fn linked_by_one(
+fn linked_by_one<'a>(
     alloc: Global,
-    state: &State,
+    state: &'a State,
     mine: u32,
     row: &Row,
     theirs: u32,
     below: u64,
-) -> Result<Option<Rows>, NoMemory>
+) -> Result<Option<Rows<'a>>, NoMemory>
     requires wide { IsWide state.now }
     requires indexed { In mine state.now.columns }
     ensures { (ticket : ℕ) → IfOk result (λ found. IfSome found (AreLinked state.now mine theirs ((ticket, row.now) ∷ []) below)) }
@@ -223,14 +304,14 @@ fn linked_by_one(
 }
 
 // The same for each of these rows.
-fn linked_by_all(
+fn linked_by_all<'a>(
     alloc: Global,
-    state: &State,
+    state: &'a State,
     mine: u32,
-    others: &[(u64, Shared)],
+    others: &[(u64, Lent<'_>)],
     theirs: u32,
     below: u64,
-) -> Result<Option<Rows>, NoMemory>
+) -> Result<Option<Rows<'a>>, NoMemory>
     requires wide { IsWide state.now }
     requires indexed { In mine state.now.columns }
     ensures { IfOk result (λ found. IfSome found (AreLinked state.now mine theirs others.now below)) }
@@ -245,12 +326,12 @@ fn linked_by_all(
 }
 
 // The rows of an input that are older than the tuple and may stand beside those that the link tells.
-fn linked(
+fn linked<'a>(
     alloc: Global,
-    state: &State,
+    state: &'a State,
     link: &Link<'_>,
     below: u64,
-) -> Result<Option<Rows>, NoMemory>
+) -> Result<Option<Rows<'a>>, NoMemory>
     requires wide { IsWide state.now }
     ensures { IfOk result (λ found. IfSome found (AreLinked state.now link.now.mine link.now.theirs link.now.rows.now below)) }
 {
@@ -263,34 +344,38 @@ fn linked(
     }
 }
 
-// The rows of an input that may stand in a combination with the tuple, where those of another one tell.
-fn hop(
+// The rows of an input that may stand in a combination with the tuple, where those of another one tell. There are none where
+// another one has none.
+fn hop<'a>(
     alloc: Global,
     classes: &[List<ClassCol>],
-    own: &Arrived<'_>,
-    sides: &[State],
-    chosen: &Chosen,
+    own: &Arrived<'a>,
+    sides: &'a [State],
+    chosen: &Chosen<'a>,
     input: usize,
-) -> Result<Option<Rows>, NoMemory>
+) -> Result<Option<Rows<'a>>, NoMemory>
     requires there { input < length sides.now }
     requires other { slice_index_or chosen.now.known.items input false ≡ false }
     requires wide { AreWide sides.now }
     requires chosen { AreChosen classes.now own.now sides.now chosen.now.known.items chosen.now.lists.items }
     ensures { IfOk result (λ found. IfSome found (IsChoice classes.now own.now sides.now input)) }
 {
-    match find_link(classes, chosen, input) {
+    if lacks_one(chosen) {
+        return Ok(Some(List::new(alloc)));
+    }
+    match find_link(classes, chosen, input, own.input() as usize) {
         None => Ok(None),
         Some(link) => linked(alloc, &sides[input], &link, own.ticket()),
     }
 }
 
 // Finds the rows of an input, where they are not known and those of another one tell.
-fn hop_to(
+fn hop_to<'a>(
     alloc: Global,
     classes: &[List<ClassCol>],
-    own: &Arrived<'_>,
-    sides: &[State],
-    chosen: &mut Chosen,
+    own: &Arrived<'a>,
+    sides: &'a [State],
+    chosen: &mut Chosen<'a>,
     input: usize,
 ) -> Result<(), NoMemory>
     requires there { input < length sides.now }
@@ -311,12 +396,12 @@ fn hop_to(
 }
 
 // The same of each input.
-fn hop_to_all(
+fn hop_to_all<'a>(
     alloc: Global,
     classes: &[List<ClassCol>],
-    own: &Arrived<'_>,
-    sides: &[State],
-    chosen: &mut Chosen,
+    own: &Arrived<'a>,
+    sides: &'a [State],
+    chosen: &mut Chosen<'a>,
 ) -> Result<(), NoMemory>
     requires wide { AreWide sides.now }
     requires chosen { AreChosen classes.now own.now sides.now chosen.old.known.items chosen.old.lists.items }
@@ -329,23 +414,40 @@ fn hop_to_all(
 }
 
 // The rows of an input are known now.
-fn take_rows(chosen: &mut Chosen, input: usize, rows: Rows)
+fn take_rows<'a>(chosen: &mut Chosen<'a>, input: usize, rows: Rows<'a>)
     requires known { input < length chosen.old.known.items }
     requires lists { input < length chosen.old.lists.items }
     ensures known { chosen.new.known.items ≡ slice_set chosen.old.known.items input true }
-    ensures lists { chosen.new.lists.items ≡ slice_set chosen.old.lists.items input rows }
+    ensures lists { chosen.new.lists.items ≡ slice_set chosen.old.lists.items input rows.entry }
 {
     chosen.known.as_mut_slice()[input] = true;
-    chosen.lists[input] = rows;
+    let before = mem::replace(&mut chosen.lists[input], rows);
+    drop(before);
+}
+
+// All older rows.
+fn all_below<'a>(alloc: Global, state: &'a State, below: u64) -> Result<Rows<'a>, NoMemory>
+    ensures { IfOk result (λ found. found ≡ pairs (rows_below below state.now.rows)) }
+{
+    let mut found = List::with_room(alloc, state.len())?;
+    let mut rows = state.cursor();
+    for at in 0..state.len() {
+        let (ticket, row) = rows.nth(at);
+        if ticket >= below {
+            return Ok(found);
+        }
+        found.push((ticket, Lent::of(row)))?;
+    }
+    Ok(found)
 }
 
 // Takes all older rows of an input where they are not known.
-fn fill(
+fn fill<'a>(
     alloc: Global,
     classes: &[List<ClassCol>],
-    own: &Arrived<'_>,
-    sides: &[State],
-    chosen: &mut Chosen,
+    own: &Arrived<'a>,
+    sides: &'a [State],
+    chosen: &mut Chosen<'a>,
     input: usize,
 ) -> Result<(), NoMemory>
     requires there { input < length sides.now }
@@ -356,18 +458,18 @@ fn fill(
     if chosen.known.as_slice()[input] {
         return Ok(());
     }
-    let rows = sides[input].all(alloc, own.ticket())?;
+    let rows = all_below(alloc, &sides[input], own.ticket())?;
     take_rows(chosen, input, rows);
     Ok(())
 }
 
 // The same of each input.
-fn fill_all(
+fn fill_all<'a>(
     alloc: Global,
     classes: &[List<ClassCol>],
-    own: &Arrived<'_>,
-    sides: &[State],
-    chosen: &mut Chosen,
+    own: &Arrived<'a>,
+    sides: &'a [State],
+    chosen: &mut Chosen<'a>,
 ) -> Result<(), NoMemory>
     requires chosen { AreChosen classes.now own.now sides.now chosen.old.known.items chosen.old.lists.items }
     ensures chosen { OnOk result (AreChosen classes.now own.now sides.now chosen.new.known.items chosen.new.lists.items) }
@@ -382,12 +484,12 @@ fn fill_all(
 /// For each input rows that hold all which may stand in a combination with this tuple: of its own input its own row alone,
 /// of each other older ones. They are found from one input to the next by the indexes of the classes that both have; where no
 /// class leads to an input, they are all older ones.
-pub fn choices(
+pub fn choices<'a>(
     alloc: Global,
     classes: &[List<ClassCol>],
-    own: &Arrived<'_>,
-    sides: &[State],
-) -> Result<List<Rows>, NoMemory>
+    own: &Arrived<'a>,
+    sides: &'a [State],
+) -> Result<List<Rows<'a>>, NoMemory>
     requires there { own.now.input < length sides.now }
     requires few { length sides.now ≤ 16 }
     requires wide { AreWide sides.now }

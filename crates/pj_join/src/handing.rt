@@ -7,16 +7,18 @@ ghost use Rattle.pj_join.specs.Walks.{suits};
 ghost use Rattle.pj_join.specs.Handed.{found_out, pair_of, pairs_out};
 ghost use Rattle.pj_join.specs.Sides.{AreWide, tuple_in, tuples_in};
 
-use crate::Probe;
 use crate::arrivals::Arrived;
+use crate::choosing::choices;
 use crate::walk::{
     EqualColumns, FEW, Narrowed, candidates, choices_join, equal_columns, joins_with, own_cell,
 };
 use pj_events::Out;
+use pj_probe::{Joined, Visit, each_lent};
 use pj_shape::{ClassCol, JoinSpec};
 use pj_state::{Matching, Spot, State};
 use pj_value::{List, NoMemory, Row, Value};
 use std::alloc::Global;
+use std::marker::Model;
 use std::sync::Arc;
 
 /// Puts rows at the end; on a refusal the list is as before.
@@ -117,9 +119,102 @@ fn hand_out_probed(
     ensures ok { OnOk result (outs.new ≡ outs.old ++ found_out (arc_value spec.now).classes own.now (tuples_in 0 sides.now)) }
     ensures err { OnErr result (outs.new ≡ outs.old) }
 {
-    let probe = Probe::new(alloc, 0, spec, own, sides)?;
-    let found = probe.work(alloc)?;
-    hand_out_rows(alloc, outs, found.rows)
+    let classes = spec.classes.as_slice();
+    let lists = choices(alloc, classes, own, sides)?;
+    let mut results = Results::new(alloc);
+    each_lent(classes, lists.as_slice(), &mut results)?;
+    hand_over(outs, results.into_outs())
+}
+
+// Results of a tuple as a join hands them out, seen as their rows.
+#[derive(Drop)]
+struct Results {
+    alloc: Global,
+    outs: List<Out>,
+}
+
+impl Model for Results {
+    ghost use Rattle.std.specs.Prelude.{List};
+    ghost use Rattle.pj_value.specs.declared.values.Value.{Value as AnyValue};
+    ghost use Rattle.pj_join.specs.Handed.{AreTuples, rows_of};
+
+    ghost Value = { List (List AnyValue) };
+
+    ghost view = { λ r. rows_of r.outs };
+
+    ghost invariant = { λ r. AreTuples r.outs };
+}
+
+impl Results {
+    // None.
+    fn new(alloc: Global) -> Results
+        ensures { result ≡ [] }
+    {
+        Results {
+            alloc,
+            outs: List::new(alloc),
+        }
+    }
+
+    // As they are handed out.
+    fn into_outs(self) -> List<Out>
+        ensures { result ≡ map Out.Tuple self }
+    {
+        let Results { alloc: _, outs } = self;
+        outs
+    }
+
+    // Puts a row at the end.
+    #[tactic(auto, using(crate::proofs::HandedOut::tuples_more, crate::proofs::HandedOut::rows_more))]
+    fn push(&mut self, row: Row) -> Result<(), NoMemory>
+        ensures ok { OnOk result (self.new ≡ self.old ++ row ∷ []) }
+        ensures err { OnErr result (self.new ≡ self.old) }
+    {
+        self.outs.push(Out::Tuple(row))
+    }
+}
+
+impl Visit for Results {
+    ghost use Rattle.std.specs.Prelude.{true};
+
+    ghost told = { λ _. true };
+
+    ghost list = { λ results. results };
+
+    fn joined(&mut self, parts: Joined<'_>) -> Result<(), NoMemory> {
+        let row = parts.to_row(self.alloc)?;
+        self.push(row)?;
+        Ok(())
+    }
+}
+
+// Puts more elements at the end; on a refusal the list is as before.
+fn hand_over(outs: &mut List<Out>, more: List<Out>) -> Result<(), NoMemory>
+    ensures ok { OnOk result (outs.new ≡ outs.old ++ more) }
+    ensures err { OnErr result (outs.new ≡ outs.old) }
+{
+    let before = outs.len();
+    if before == 0 {
+        *outs = more;
+        return Ok(());
+    }
+    match append_outs(outs, more) {
+        Ok(()) => Ok(()),
+        Err(stop) => {
+            outs.truncate(before);
+            Err(stop)
+        }
+    }
+}
+
+fn append_outs(outs: &mut List<Out>, more: List<Out>) -> Result<(), NoMemory>
+    ensures ok { OnOk result (outs.new ≡ outs.old ++ more) }
+    ensures err { OnErr result (take (length outs.old) outs.new ≡ outs.old) }
+{
+    for out in more.into_vec() {
+        outs.push(out)?;
+    }
+    Ok(())
 }
 
 // Puts the row of the tuple with each of these at the end that is older and joins with it; on a refusal the list is as before.
@@ -164,7 +259,11 @@ fn append_pairs<'a>(
 {
     let input = 1u32.saturating_sub(own.input());
     let columns = equal_columns(classes, own, input as usize);
-    let cell = own_cell(own, columns);
+    let by = Comparison {
+        all_join,
+        columns,
+        cell: own_cell(own, columns),
+    };
     let mut near = Spot::new();
     for at in 0..among.len() {
         let (ticket, row) = among.nth_near(at, &mut near);
@@ -172,9 +271,17 @@ fn append_pairs<'a>(
             return Ok(());
         }
         let other = Arrived::of(ticket, input, row);
-        append_pair(alloc, classes, own, columns, cell, &other, all_join, outs)?;
+        append_pair(alloc, classes, own, &other, &by, outs)?;
     }
     Ok(())
+}
+
+// How it is told whether others join with a tuple: all do, or the columns decide, in which the tuple has this value.
+#[derive(Clone, Copy)]
+struct Comparison<'a> {
+    all_join: bool,
+    columns: Option<EqualColumns>,
+    cell: Option<&'a Value>,
 }
 
 // Puts the row of the tuple with the other one at the end, where that joins with it.
@@ -182,20 +289,19 @@ fn append_pair<'a>(
     alloc: Global,
     classes: &[List<ClassCol>],
     own: &Arrived<'a>,
-    columns: Option<EqualColumns>,
-    cell: Option<&Value>,
     other: &Arrived<'a>,
-    joins: bool,
+    by: &Comparison<'_>,
     outs: &mut List<Out>,
 ) -> Result<(), NoMemory>
-    requires joins { joins ≡ true → suits classes.now (own.now ∷ []) other.now ≡ true }
+    requires joins { by.now.all_join ≡ true → suits classes.now (own.now ∷ []) other.now ≡ true }
     requires older { other.now.ticket < own.now.ticket }
-    requires cell { IfSome columns (λ columns. option_copied cell ≡ slice_get own.now.row columns.mine) }
-    requires decide { IfSome columns (λ columns. ColumnsDecide classes.now own.now other.now.input columns.mine columns.theirs) }
+    requires cell { IfSome by.now.columns (λ columns. option_copied by.now.cell ≡ slice_get own.now.row columns.mine) }
+    requires decide { IfSome by.now.columns (λ columns. ColumnsDecide classes.now own.now other.now.input columns.mine columns.theirs) }
     ensures ok { OnOk result (outs.new ≡ outs.old ++ pairs_out classes.now own.now (other.now ∷ [])) }
     ensures err { OnErr result (outs.new ≡ outs.old) }
 {
-    if joins || joins_with(classes, own, other.input() as usize, columns, cell, other) {
+    let input = other.input() as usize;
+    if by.all_join || joins_with(classes, own, input, by.columns, by.cell, other) {
         let (first, second) = in_order(own, other);
         outs.push(Out::Tuple(Row::pair(alloc, first, second)?))?;
     }

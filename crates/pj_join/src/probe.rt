@@ -6,9 +6,10 @@ ghost use Rattle.pj_join.specs.Walks.{choices, found_in};
 
 use crate::Found;
 use crate::arrivals::Arrived;
-use crate::choosing::choices;
+use crate::choosing::{Rows, choices};
+use pj_probe::Lent;
 use pj_shape::JoinSpec;
-use pj_state::State;
+use pj_state::{Shared, State};
 use pj_value::{List, NoMemory};
 use std::alloc::Global;
 use std::marker::Model;
@@ -44,7 +45,8 @@ impl Probe {
         ensures { let classes = (arc_value spec.now).classes in IfOk result (λ probe. probe ≡ found_in join own.now.ticket classes (choices classes own.now (tuples_in 0 sides.now))) }
     {
         let spec = share_spec(spec)?;
-        let sides = choices(alloc, spec.classes.as_slice(), own, sides)?;
+        let lent = choices(alloc, spec.classes.as_slice(), own, sides)?;
+        let sides = share_all(alloc, lent.as_slice())?;
         Ok(Probe {
             probe: pj_probe::Probe::new(join, own.ticket(), spec, sides),
         })
@@ -83,4 +85,27 @@ fn share_spec(spec: &Arc<JoinSpec, Global>) -> Result<Arc<JoinSpec, Global>, NoM
     ensures { IfOk result (λ copy. arc_value copy ≡ arc_value spec.now) }
 {
     Ok(Arc::try_clone(spec)?)
+}
+
+// Handles of these rows.
+fn share_rows(alloc: Global, rows: &[(u64, Lent<'_>)]) -> Result<List<(u64, Shared)>, NoMemory>
+    ensures { IfOk result (λ copy. copy ≡ rows.now) }
+{
+    let mut copy = List::with_room(alloc, rows.len())?;
+    for at in 0..rows.len() {
+        let row = rows[at].1.row().copy(alloc)?;
+        copy.push((rows[at].0, Shared::new(alloc, row)?))?;
+    }
+    Ok(copy)
+}
+
+// The same of each of these lists.
+fn share_all(alloc: Global, lists: &[Rows<'_>]) -> Result<List<List<(u64, Shared)>>, NoMemory>
+    ensures { IfOk result (λ copy. copy ≡ lists.now) }
+{
+    let mut copy = List::with_room(alloc, lists.len())?;
+    for list in lists {
+        copy.push(share_rows(alloc, list.as_slice())?)?;
+    }
+    Ok(copy)
 }

@@ -1,13 +1,15 @@
 -- Combinations that are completed one tuple after the other.
-use Rattle.std.proofs.Common.{◌≡◌, ℕ, zero, suc, ◌+◌, ◌-◌, ◌<◌, ◌≤◌, true, false, cond, List, [], ◌∷◌, ◌++◌, map, filter, length, get_or, take, refl, sym, ap, ap₂, ◌∙◌, arith, append_assoc, append-nil, add-one}
+use Rattle.std.proofs.Common.{◌≡◌, ℕ, zero, suc, ◌+◌, ◌-◌, ◌<◌, ◌≤◌, Bool, true, false, cond, List, [], ◌∷◌, ◌++◌, map, filter, length, get_or, take, drop, refl, sym, ap, ap₂, ◌∙◌, arith, append_assoc, append-nil, add-one}
 use Rattle.std.proofs.lemmas.Bool.{false_from_ne_true, false≢true}
-use Rattle.std.proofs.lemmas.List.{map-append, take_more, take_all}
+use Rattle.std.proofs.lemmas.List.{drop_all, length-append, map-append, take_more, take_all}
 use Rattle.std.proofs.lemmas.List.Elements.{filter-append}
+use Rattle.pj_shape.specs.Joining.{joined_row}
 use Rattle.pj_events.specs.Join.{Value, TupleAt, ClassCol, Part, agree, joined, joins, part_of, product}
 use Rattle.pj_laws.proofs.Matching.{agree-mono}
 use Rattle.pj_value.proofs.Members.{In-append_left}
-use Rattle.pj_probe.specs.Walks.{end_to_end, no_row, numbered, rows_at, sides_at, tuple_at}
-use Rattle.pj_probe.specs.Walking.{completed, rest_at, tuples_at, walked, walked_upto}
+use Rattle.pj_probe.specs.Walks.{combined, end_to_end, no_row, numbered, row_at, sides_at, tuple_at}
+use Rattle.pj_probe.specs.Walking.{LacksOne, completed, tuples_of, walked, walked_upto}
+use Rattle.pj_probe.proofs.Whole.{joins-none}
 
 agree-front : (classes : List (List ClassCol)) (xs ys : List TupleAt) → agree classes (xs ++ ys) ≡ true → agree classes xs ≡ true
 agree-front classes xs ys t = agree-mono classes xs (xs ++ ys) (λ x h. In-append_left x xs ys h) t
@@ -53,115 +55,150 @@ each-push classes xs lists (y ∷ zs) z =
     ap (λ (cs : List (List TupleAt)). completed classes (xs ++ y ∷ []) lists ++ cs) (each-push classes xs lists zs z)
     ∙ sym (append_assoc (completed classes (xs ++ y ∷ []) lists) (completed_each classes xs lists zs) (completed classes (xs ++ z ∷ []) lists))
 
--- ---- the tuples at places
+-- ---- rows as tuples
 
-tuples-parts : (k : ℕ) (sides : List (List (ℕ × List Value))) (places : List ℕ) → map part_of (tuples_at k sides places) ≡ numbered k (rows_at sides places)
-tuples-parts k sides [] = refl
-tuples-parts k [] (p ∷ ps) = refl
-tuples-parts k (s ∷ ss) (p ∷ ps) = ap (λ (rest : List Part). part_of (tuple_at k (get_or s p no_row)) ∷ rest) (tuples-parts (k + 1) ss ps)
+tuples-parts : (k : ℕ) (rows : List (List Value)) → map part_of (tuples_of k rows) ≡ numbered k rows
+tuples-parts k [] = refl
+tuples-parts k (r ∷ rs) = ap (λ (rest : List Part). part_of (tuple_at k (0, r)) ∷ rest) (tuples-parts (k + 1) rs)
 
-tuples-agree : (classes : List (List ClassCol)) (sides : List (List (ℕ × List Value))) (places : List ℕ) → agree classes (tuples_at 0 sides places) ≡ joins classes (numbered 0 (rows_at sides places))
-tuples-agree classes sides places = ap (joins classes) (tuples-parts 0 sides places)
+tuples-agree : (classes : List (List ClassCol)) (rows : List (List Value)) → agree classes (tuples_of 0 rows) ≡ joins classes (numbered 0 rows)
+tuples-agree classes rows = ap (joins classes) (tuples-parts 0 rows)
 
-tuples-joined : (k : ℕ) (sides : List (List (ℕ × List Value))) (places : List ℕ) → joined (tuples_at k sides places) ≡ end_to_end (rows_at sides places)
-tuples-joined k sides [] = refl
-tuples-joined k [] (p ∷ ps) = refl
-tuples-joined k (s ∷ ss) (p ∷ ps) = ap (λ (vs : List Value). (get_or s p no_row).1 ++ vs) (tuples-joined (k + 1) ss ps)
+tuples-joined : (k : ℕ) (rows : List (List Value)) → joined (tuples_of k rows) ≡ end_to_end rows
+tuples-joined k [] = refl
+tuples-joined k (r ∷ rs) = ap (λ (vs : List Value). r ++ vs) (tuples-joined (k + 1) rs)
 
-tuples-next : (j k : ℕ) (sides : List (List (ℕ × List Value))) (places : List ℕ) (p : ℕ) → j ≡ k + length places → length places < length sides
-    → tuples_at k sides (places ++ p ∷ []) ≡ tuples_at k sides places ++ tuple_at j (get_or (get_or sides (length places) []) p no_row) ∷ []
-tuples-next j k [] places p e lt = absurd (omega (arith, lt))
-tuples-next j k (s ∷ ss) [] p e lt = let same : k ≡ j = omega (arith, e) in ap (λ (n : ℕ). tuple_at n (get_or s p no_row) ∷ []) same
-tuples-next j k (s ∷ ss) (q ∷ qs) p e lt = ap (λ (rest : List TupleAt). tuple_at k (get_or s q no_row) ∷ rest) (tuples-next j (k + 1) ss qs p (omega (arith, e)) (omega (arith, lt)))
+-- one row more, which is of the next input
+next-parts : (j k : ℕ) (rows : List (List Value)) (q : ℕ × List Value) → j ≡ k + length rows → map part_of (tuples_of k (rows ++ q.1 ∷ [])) ≡ map part_of (tuples_of k rows ++ tuple_at j q ∷ [])
+next-parts j k [] q e = let same : k ≡ j = omega (arith, e) in ap (λ (n : ℕ). part_of (tuple_at n q) ∷ []) same
+next-parts j k (r ∷ rs) q e = ap (λ (rest : List Part). part_of (tuple_at k (0, r)) ∷ rest) (next-parts j (k + 1) rs q (omega (arith, e)))
 
-rest-next : (j k : ℕ) (sides : List (List (ℕ × List Value))) (places : List ℕ) (p : ℕ) → j ≡ k + length places → length places < length sides
-    → rest_at k sides places ≡ map (tuple_at j) (get_or sides (length places) []) ∷ rest_at k sides (places ++ p ∷ [])
-rest-next j k [] places p e lt = absurd (omega (arith, lt))
-rest-next j k (s ∷ ss) [] p e lt = let same : k ≡ j = omega (arith, e) in ap (λ (n : ℕ). map (tuple_at n) s ∷ sides_at (k + 1) ss) same
-rest-next j k (s ∷ ss) (q ∷ qs) p e lt = rest-next j (k + 1) ss qs p (omega (arith, e)) (omega (arith, lt))
+-- whether tuples join, and their row, tell of no ticket
+same-parts : (classes : List (List ClassCol)) (xs ys : List TupleAt) (cs : List (List TupleAt)) → map part_of xs ≡ map part_of ys
+    → map joined (filter (agree classes) (map (λ c. xs ++ c) cs)) ≡ map joined (filter (agree classes) (map (λ c. ys ++ c) cs))
+same-parts classes xs ys [] e = refl
+same-parts classes xs ys (c ∷ cs) e =
+    kept (agree classes (xs ++ c)) (xs ++ c) (filter (agree classes) (map (λ d. xs ++ d) cs))
+    ∙ ap (λ (ps : List Part). cond (joins classes ps) (joined_row ps ∷ map joined (filter (agree classes) (map (λ d. xs ++ d) cs))) (map joined (filter (agree classes) (map (λ d. xs ++ d) cs))))
+    (map-append part_of xs c ∙ ap (λ (ps : List Part). ps ++ map part_of c) e ∙ sym (map-append part_of ys c))
+    ∙ ap (λ (rows : List (List Value)). cond (agree classes (ys ++ c)) (joined (ys ++ c) ∷ rows) rows) (same-parts classes xs ys cs e)
+    ∙ sym (kept (agree classes (ys ++ c)) (ys ++ c) (filter (agree classes) (map (λ d. ys ++ d) cs)))
+  where
+    kept : (b : Bool) (d : List TupleAt) (ds : List (List TupleAt)) → map joined (cond b (d ∷ ds) ds) ≡ cond b (joined d ∷ map joined ds) (map joined ds)
+    kept true d ds = refl
+    kept false d ds = refl
 
-rest-same : (k : ℕ) (sides : List (List (ℕ × List Value))) (places : List ℕ) (p q : ℕ) → length places < length sides → rest_at k sides (places ++ p ∷ []) ≡ rest_at k sides (places ++ q ∷ [])
-rest-same k [] places p q lt = absurd (omega (arith, lt))
-rest-same k (s ∷ ss) [] p q lt = refl
-rest-same k (s ∷ ss) (r ∷ rs) p q lt = rest-same (k + 1) ss rs p q (omega (arith, lt))
+-- ---- the sides behind
 
-rest-end : (k : ℕ) (sides : List (List (ℕ × List Value))) (places : List ℕ) → length sides ≤ length places → rest_at k sides places ≡ []
-rest-end k [] [] le = refl
-rest-end k [] (p ∷ ps) le = refl
-rest-end k (s ∷ ss) [] le = absurd (omega (arith, le))
-rest-end k (s ∷ ss) (p ∷ ps) le = rest-end (k + 1) ss ps (omega (arith, le))
+sides-length : (k : ℕ) (sides : List (List (ℕ × List Value))) → length (sides_at k sides) ≡ length sides
+sides-length k [] = refl
+sides-length k (s ∷ ss) = omega (arith, sides-length (k + 1) ss)
+
+rest-next : (j k n : ℕ) (sides : List (List (ℕ × List Value))) → j ≡ k + n → n < length sides → drop n (sides_at k sides) ≡ map (tuple_at j) (get_or sides n []) ∷ drop (suc n) (sides_at k sides)
+rest-next j k n [] e lt = absurd (omega (arith, lt))
+rest-next j k zero (s ∷ ss) e lt = let same : k ≡ j = omega (arith, e) in ap (λ (m : ℕ). map (tuple_at m) s ∷ sides_at (k + 1) ss) same
+rest-next j k (suc n) (s ∷ ss) e lt = rest-next j (k + 1) n ss (omega (arith, e)) (omega (arith, lt))
+
+rest-end : (sides : List (List (ℕ × List Value))) (rows : List (List Value)) → length sides ≤ length rows → drop (length rows) (sides_at 0 sides) ≡ []
+rest-end sides rows le = drop_all (length rows) (sides_at 0 sides) (omega (arith, le, sides-length 0 sides))
+
+one-longer : (rows : List (List Value)) (row : List Value) → length (rows ++ row ∷ []) ≡ suc (length rows)
+one-longer rows row = let e : length (rows ++ row ∷ []) ≡ length rows + 1 = length-append rows (row ∷ []) in omega (arith, e)
 
 -- ---- the walk
 
--- the next tuples, one after the other
-upto-is : (classes : List (List ClassCol)) (sides : List (List (ℕ × List Value))) (places : List ℕ) (n : ℕ) → length places < length sides → n ≤ length (get_or sides (length places) [])
-    → walked_upto classes sides places n ≡ map joined (completed_each classes (tuples_at 0 sides places) (rest_at 0 sides (places ++ 0 ∷ [])) (map (tuple_at (length places)) (take n (get_or sides (length places) []))))
-upto-is classes sides places zero lt le = refl
-upto-is classes sides places (suc n) lt le =
-    ap₂ (λ (rows more : List (List Value)). rows ++ more) (upto-is classes sides places n lt (omega (arith, le)))
-    (ap₂ (λ (ys : List TupleAt) (ls : List (List TupleAt)). map joined (completed classes ys ls)) (tuples-next (length places) 0 sides places n (omega arith) lt) (rest-same 0 sides places n 0 lt))
+-- one row more is one tuple more
+walked-next : (classes : List (List ClassCol)) (sides : List (List (ℕ × List Value))) (rows : List (List Value)) (q : ℕ × List Value)
+    → walked classes sides (rows ++ q.1 ∷ []) ≡ map joined (completed classes (tuples_of 0 rows ++ tuple_at (length rows) q ∷ []) (drop (suc (length rows)) (sides_at 0 sides)))
+walked-next classes sides rows q =
+    ap (λ (n : ℕ). map joined (completed classes (tuples_of 0 (rows ++ q.1 ∷ [])) (drop n (sides_at 0 sides)))) (one-longer rows q.1)
+    ∙ same-parts classes (tuples_of 0 (rows ++ q.1 ∷ [])) (tuples_of 0 rows ++ tuple_at (length rows) q ∷ []) (product (drop (suc (length rows)) (sides_at 0 sides))) (next-parts (length rows) 0 rows q (omega arith))
+
+-- the next rows, one after the other
+upto-is : (classes : List (List ClassCol)) (sides : List (List (ℕ × List Value))) (rows : List (List Value)) (n : ℕ) → n ≤ length (get_or sides (length rows) [])
+    → walked_upto classes sides rows n ≡ map joined (completed_each classes (tuples_of 0 rows) (drop (suc (length rows)) (sides_at 0 sides)) (map (tuple_at (length rows)) (take n (get_or sides (length rows) []))))
+upto-is classes sides rows zero le = refl
+upto-is classes sides rows (suc n) le =
+    ap₂ (λ (before more : List (List Value)). before ++ more) (upto-is classes sides rows n (omega (arith, le))) (walked-next classes sides rows (get_or side n no_row))
     ∙ sym (map-append joined (each (map tuple (take n side))) (completed classes (xs ++ tuple (get_or side n no_row) ∷ []) rest))
     ∙ ap (map joined) (sym (each-push classes xs rest (map tuple (take n side)) (tuple (get_or side n no_row)))
     ∙ ap each (sym (map-append tuple (take n side) (get_or side n no_row ∷ [])) ∙ ap (map tuple) (sym (take_more side n no_row (omega (arith, le))) ∙ ap (λ (m : ℕ). take m side) (add-one n))))
   where
     xs : List TupleAt
-    xs = tuples_at 0 sides places
+    xs = tuples_of 0 rows
 
     rest : List (List TupleAt)
-    rest = rest_at 0 sides (places ++ 0 ∷ [])
+    rest = drop (suc (length rows)) (sides_at 0 sides)
 
     side : List (ℕ × List Value)
-    side = get_or sides (length places) []
+    side = get_or sides (length rows) []
 
     tuple : ℕ × List Value → TupleAt
-    tuple = tuple_at (length places)
+    tuple = tuple_at (length rows)
 
     each : List TupleAt → List (List TupleAt)
     each = completed_each classes xs rest
 
 -- the rows of one place more
-pub upto-more : (classes : List (List ClassCol)) (sides : List (List (ℕ × List Value))) (places : List ℕ) (n : ℕ)
-    → walked_upto classes sides places (n + 1) ≡ walked_upto classes sides places n ++ walked classes sides (places ++ n ∷ [])
-upto-more classes sides places n = ap (walked_upto classes sides places) (add-one n)
+pub upto-more : (classes : List (List ClassCol)) (sides : List (List (ℕ × List Value))) (rows : List (List Value)) (n : ℕ)
+    → walked_upto classes sides rows (n + 1) ≡ walked_upto classes sides rows n ++ walked classes sides (rows ++ row_at (get_or sides (length rows) []) n ∷ [])
+upto-more classes sides rows n = ap (walked_upto classes sides rows) (add-one n)
 
 -- the rows of all places of the next side
-pub upto-all : (classes : List (List ClassCol)) (sides : List (List (ℕ × List Value))) (places : List ℕ) (n : ℕ) → length places < length sides → n ≡ length (get_or sides (length places) [])
-    → walked_upto classes sides places n ≡ walked classes sides places
-upto-all classes sides places n lt e =
-    upto-is classes sides places n lt (omega (arith, e))
-    ∙ ap (map joined) (ap (λ (s : List (ℕ × List Value)). completed_each classes (tuples_at 0 sides places) (rest_at 0 sides (places ++ 0 ∷ [])) (map (tuple_at (length places)) s)) (take_all n (get_or sides (length places) []) (omega (arith, e)))
-    ∙ sym (completed-cons classes (tuples_at 0 sides places) (map (tuple_at (length places)) (get_or sides (length places) [])) (rest_at 0 sides (places ++ 0 ∷ [])))
-    ∙ ap (completed classes (tuples_at 0 sides places)) (sym (rest-next (length places) 0 sides places 0 (omega arith) lt)))
+pub upto-all : (classes : List (List ClassCol)) (sides : List (List (ℕ × List Value))) (rows : List (List Value)) (n : ℕ) → length rows < length sides → n ≡ length (get_or sides (length rows) [])
+    → walked_upto classes sides rows n ≡ walked classes sides rows
+upto-all classes sides rows n lt e =
+    upto-is classes sides rows n (omega (arith, e))
+    ∙ ap (map joined) (ap (λ (s : List (ℕ × List Value)). completed_each classes (tuples_of 0 rows) (drop (suc (length rows)) (sides_at 0 sides)) (map (tuple_at (length rows)) s)) (take_all n (get_or sides (length rows) []) (omega (arith, e)))
+    ∙ sym (completed-cons classes (tuples_of 0 rows) (map (tuple_at (length rows)) (get_or sides (length rows) [])) (drop (suc (length rows)) (sides_at 0 sides)))
+    ∙ ap (completed classes (tuples_of 0 rows)) (sym (rest-next (length rows) 0 (length rows) sides (omega arith) lt)))
 
 -- some rows come behind those of fewer places
-upto-later : (classes : List (List ClassCol)) (sides : List (List (ℕ × List Value))) (places : List ℕ) (n more : ℕ) → (later : List (List Value)) × (walked_upto classes sides places (n + more) ≡ walked_upto classes sides places n ++ later)
-upto-later classes sides places n zero = let e : n + 0 ≡ n = omega arith in ([], ap (walked_upto classes sides places) e ∙ sym (append-nil (walked_upto classes sides places n)))
-upto-later classes sides places n (suc more) =
-    let h = upto-later classes sides places n more in
+upto-later : (classes : List (List ClassCol)) (sides : List (List (ℕ × List Value))) (rows : List (List Value)) (n more : ℕ) → (later : List (List Value)) × (walked_upto classes sides rows (n + more) ≡ walked_upto classes sides rows n ++ later)
+upto-later classes sides rows n zero = let e : n + 0 ≡ n = omega arith in ([], ap (walked_upto classes sides rows) e ∙ sym (append-nil (walked_upto classes sides rows n)))
+upto-later classes sides rows n (suc more) =
+    let h = upto-later classes sides rows n more in
     let e : n + suc more ≡ suc (n + more) = omega arith in
-    (h.0 ++ walked classes sides (places ++ (n + more) ∷ []), ap (walked_upto classes sides places) e ∙ ap (λ (rows : List (List Value)). rows ++ walked classes sides (places ++ (n + more) ∷ [])) h.1 ∙ append_assoc (walked_upto classes sides places n) h.0 (walked classes sides (places ++ (n + more) ∷ [])))
+    let next : List (List Value) = walked classes sides (rows ++ row_at (get_or sides (length rows) []) (n + more) ∷ []) in
+    (h.0 ++ next, ap (walked_upto classes sides rows) e ∙ ap (λ (before : List (List Value)). before ++ next) h.1 ∙ append_assoc (walked_upto classes sides rows n) h.0 next)
 
 -- the rows of fewer places, and of the next, are a front of all
-pub upto-front : (classes : List (List ClassCol)) (sides : List (List (ℕ × List Value))) (places : List ℕ) (n : ℕ) → length places < length sides → n < length (get_or sides (length places) [])
-    → (later : List (List Value)) × (walked classes sides places ≡ (walked_upto classes sides places n ++ walked classes sides (places ++ n ∷ [])) ++ later)
-upto-front classes sides places n lt below =
-    let count : ℕ = length (get_or sides (length places) []) in
-    let h = upto-later classes sides places (n + 1) (length (get_or sides (length places) []) - (n + 1)) in
-    let e : (n + 1) + (length (get_or sides (length places) []) - (n + 1)) ≡ length (get_or sides (length places) []) = omega (arith, below) in
-    (h.0, sym (upto-all classes sides places (length (get_or sides (length places) [])) lt refl) ∙ ap (walked_upto classes sides places) (sym e) ∙ h.1 ∙ ap (λ (rows : List (List Value)). rows ++ h.0) (upto-more classes sides places n))
+pub upto-front : (classes : List (List ClassCol)) (sides : List (List (ℕ × List Value))) (rows : List (List Value)) (n : ℕ) → length rows < length sides → n < length (get_or sides (length rows) [])
+    → (later : List (List Value)) × (walked classes sides rows ≡ (walked_upto classes sides rows n ++ walked classes sides (rows ++ row_at (get_or sides (length rows) []) n ∷ [])) ++ later)
+upto-front classes sides rows n lt below =
+    let h = upto-later classes sides rows (n + 1) (length (get_or sides (length rows) []) - (n + 1)) in
+    let e : (n + 1) + (length (get_or sides (length rows) []) - (n + 1)) ≡ length (get_or sides (length rows) []) = omega (arith, below) in
+    (h.0, sym (upto-all classes sides rows (length (get_or sides (length rows) [])) lt refl) ∙ ap (walked_upto classes sides rows) (sym e) ∙ h.1 ∙ ap (λ (before : List (List Value)). before ++ h.0) (upto-more classes sides rows n))
 
--- rows at all places that join are one combination
-pub walked-end : (classes : List (List ClassCol)) (sides : List (List (ℕ × List Value))) (places : List ℕ) → length sides ≤ length places → joins classes (numbered 0 (rows_at sides places)) ≡ true
-    → walked classes sides places ≡ end_to_end (rows_at sides places) ∷ []
-walked-end classes sides places le t =
-    ap (λ (ls : List (List TupleAt)). map joined (completed classes (tuples_at 0 sides places) ls)) (rest-end 0 sides places le)
-    ∙ ap (map joined) (completed-nil classes (tuples_at 0 sides places) (tuples-agree classes sides places ∙ t))
-    ∙ ap (λ (row : List Value). row ∷ []) (tuples-joined 0 sides places)
+-- rows of all sides that join are one combination
+pub walked-end : (classes : List (List ClassCol)) (sides : List (List (ℕ × List Value))) (rows : List (List Value)) → length sides ≤ length rows → joins classes (numbered 0 rows) ≡ true → walked classes sides rows ≡ end_to_end rows ∷ []
+walked-end classes sides rows le t =
+    ap (λ (ls : List (List TupleAt)). map joined (completed classes (tuples_of 0 rows) ls)) (rest-end sides rows le)
+    ∙ ap (map joined) (completed-nil classes (tuples_of 0 rows) (tuples-agree classes rows ∙ t))
+    ∙ ap (λ (row : List Value). row ∷ []) (tuples-joined 0 rows)
 
 -- rows that do not join begin no combination
-pub walked-none : (classes : List (List ClassCol)) (sides : List (List (ℕ × List Value))) (places : List ℕ) → joins classes (numbered 0 (rows_at sides places)) ≡ false → walked classes sides places ≡ []
-walked-none classes sides places f = ap (map joined) (completed-none classes (tuples_at 0 sides places) (product (rest_at 0 sides places)) (tuples-agree classes sides places ∙ f))
+pub walked-none : (classes : List (List ClassCol)) (sides : List (List (ℕ × List Value))) (rows : List (List Value)) → joins classes (numbered 0 rows) ≡ false → walked classes sides rows ≡ []
+walked-none classes sides rows f = ap (map joined) (completed-none classes (tuples_of 0 rows) (product (drop (length rows) (sides_at 0 sides))) (tuples-agree classes rows ∙ f))
 
--- from no place on all combinations are found
-pub walked-whole : (classes : List (List ClassCol)) (sides : List (List (ℕ × List Value))) → walked classes sides [] ≡ map joined (filter (agree classes) (product (sides_at 0 sides)))
+-- from no row on all combinations are found
+pub walked-whole : (classes : List (List ClassCol)) (sides : List (List (ℕ × List Value))) → walked classes sides [] ≡ combined classes (sides_at 0 sides)
 walked-whole classes sides = ap (map joined) (completed-all classes (sides_at 0 sides))
+
+-- where there is no side there is one combination, of no row
+pub combined-nothing : (classes : List (List ClassCol)) (sides : List (List (ℕ × List Value))) → length sides ≤ 0 → combined classes (sides_at 0 sides) ≡ [] ∷ []
+combined-nothing classes [] le = sym (walked-whole classes []) ∙ walked-end classes [] [] (omega arith) (joins-none classes)
+combined-nothing classes (s ∷ ss) le = absurd (omega (arith, le))
+
+-- where a side has no row there is no combination
+pub combined-lacking : (classes : List (List ClassCol)) (sides : List (List (ℕ × List Value))) → LacksOne sides → combined classes (sides_at 0 sides) ≡ []
+combined-lacking classes sides lacks = ap (λ (cs : List (List TupleAt)). map joined (filter (agree classes) cs)) (none 0 sides lacks.0 lacks.1 lacks.2)
+  where
+    behind : (ys : List TupleAt) (lists : List (List TupleAt)) → product lists ≡ [] → product (ys ∷ lists) ≡ []
+    behind [] lists e = refl
+    behind (y ∷ ys) lists e = ap₂ (λ (cs ds : List (List TupleAt)). map (λ c. y ∷ c) cs ++ ds) e (behind ys lists e)
+
+    none : (base : ℕ) (ss : List (List (ℕ × List Value))) (k : ℕ) → k < length ss → get_or ss k [] ≡ [] → product (sides_at base ss) ≡ []
+    none base [] k lt e = absurd (omega (arith, lt))
+    none base (s ∷ ss) zero lt e = ap (λ (t : List (ℕ × List Value)). product (map (tuple_at base) t ∷ sides_at (base + 1) ss)) e
+    none base (s ∷ ss) (suc k) lt e = behind (map (tuple_at base) s) (sides_at (base + 1) ss) (none (base + 1) ss k (omega (arith, lt)) e)

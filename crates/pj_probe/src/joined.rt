@@ -1,45 +1,41 @@
 // One combination of rows, lent.
-ghost use Rattle.std.specs.Prelude.{◌≡◌, ◌<◌, Some, length, slice_get};
+ghost use Rattle.std.specs.Prelude.{◌≡◌, ◌<◌, Some, length, slice_get, IfOk};
 ghost use Rattle.std.specs.Option.{option_copied};
-ghost use Rattle.pj_probe.specs.Walks.{AreAt, end_to_end, row_at, rows_at};
+ghost use Rattle.pj_probe.specs.Walks.{end_to_end};
 
-use pj_state::Shared;
-use pj_value::{List, Row, Value};
+use crate::Lent;
+use pj_value::{JoinedParts, NoMemory, Row, Value};
+use std::alloc::Global;
 use std::marker::Model;
 
 /// One combination of rows, the first so many inputs' in order, seen as the list of these rows. It copies none of them.
 #[derive(Drop)]
 pub struct Joined<'a> {
-    sides: &'a [List<(u64, Shared)>],
-    places: &'a [usize],
+    rows: &'a [Lent<'a>],
 }
 
 impl<'a> Model for Joined<'a> {
     ghost use Rattle.std.specs.Prelude.{List};
     ghost use Rattle.pj_value.specs.declared.values.Value.{Value as AnyValue};
-    ghost use Rattle.pj_probe.specs.Walks.{AreAt, rows_at};
 
     ghost Value = { List (List AnyValue) };
 
-    ghost view = { λ j. rows_at j.sides.now j.places.now };
-
-    ghost invariant = { λ j. AreAt j.sides.now j.places.now };
+    ghost view = { λ j. j.rows.now };
 }
 
 impl<'a> Joined<'a> {
-    /// The rows at these places of the first sides.
-    pub(crate) fn of(sides: &'a [List<(u64, Shared)>], places: &'a [usize]) -> Joined<'a>
-        requires { AreAt sides.now places.now }
-        ensures { result ≡ rows_at sides.now places.now }
+    /// The combination of these rows.
+    pub(crate) fn of(rows: &'a [Lent<'a>]) -> Joined<'a>
+        ensures { result ≡ rows.now }
     {
-        Joined { sides, places }
+        Joined { rows }
     }
 
     /// How many inputs have a row here.
     pub fn parts(&self) -> usize
         ensures { result ≡ length self.now }
     {
-        self.places.len()
+        self.rows.len()
     }
 
     /// The row of an input, which is below the number of parts.
@@ -55,7 +51,7 @@ impl<'a> Joined<'a> {
         requires { input < length self.now }
         ensures { slice_get self.now input ≡ Some result.now }
     {
-        row_in(self.sides, self.places, input)
+        row_in(self.rows, input)
     }
 
     /// The value in a column of the joined row, counted through all parts from 0; `None` exactly where the column is not
@@ -63,7 +59,7 @@ impl<'a> Joined<'a> {
     pub fn get(&self, column: u32) -> Option<&'a Value>
         ensures { option_copied result ≡ slice_get (end_to_end self.now) column }
     {
-        get_in(self.sides, self.places, column as usize)
+        get_in(self.rows, column as usize)
     }
 
     /// The value in a column of the joined row, counted through all parts from 0, and below the number of its columns.
@@ -73,37 +69,39 @@ impl<'a> Joined<'a> {
     {
         self.get(column).unwrap()
     }
+
+    /// The joined row, which shares the values of the parts.
+    pub fn to_row(&self, alloc: Global) -> Result<Row, NoMemory>
+        ensures { IfOk result (λ row. row ≡ end_to_end self.now) }
+    {
+        let count = self.parts();
+        if count == 2 {
+            let row = Row::pair(alloc, self.part(0), self.part(1))?;
+            return Ok(row);
+        }
+        let mut values = JoinedParts::with_room(alloc, count)?;
+        for input in 0..count {
+            self.nth(input).join_to(alloc, &mut values)?;
+        }
+        Ok(Row::joined(values))
+    }
 }
 
-// The row at a place of a side.
-fn row_of(side: &[(u64, Shared)], place: usize) -> &Row
-    requires { place < length side.now }
-    ensures { result.now ≡ row_at side.now place }
+// The row of an input.
+fn row_in<'a>(rows: &'a [Lent<'a>], input: usize) -> &'a Row
+    requires { input < length rows.now }
+    ensures { slice_get rows.now input ≡ Some result.now }
 {
-    side[place].1.row()
+    rows[input].row()
 }
 
-// The row of an input that has a place.
-fn row_in<'a>(sides: &'a [List<(u64, Shared)>], places: &[usize], input: usize) -> &'a Row
-    requires within { AreAt sides.now places.now }
-    requires input { input < length (rows_at sides.now places.now) }
-    ensures { slice_get (rows_at sides.now places.now) input ≡ Some result.now }
-{
-    row_of(sides[input].as_slice(), places[input])
-}
-
-// The value in a column, counted through the rows at all places.
-fn get_in<'a>(
-    sides: &'a [List<(u64, Shared)>],
-    places: &[usize],
-    column: usize,
-) -> Option<&'a Value>
-    requires { AreAt sides.now places.now }
-    ensures { option_copied result ≡ slice_get (end_to_end (rows_at sides.now places.now)) column }
+// The value in a column, counted through all rows.
+fn get_in<'a>(rows: &'a [Lent<'a>], column: usize) -> Option<&'a Value>
+    ensures { option_copied result ≡ slice_get (end_to_end rows.now) column }
 {
     let mut left = column;
-    for part in 0..places.len() {
-        let row = row_in(sides, places, part);
+    for part in 0..rows.len() {
+        let row = row_in(rows, part);
         if left < row.len() {
             return Some(row.at(left));
         }

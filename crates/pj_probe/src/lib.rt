@@ -4,12 +4,14 @@
 
 mod agreeing;
 mod joined;
+mod lent;
 mod probe;
 mod visit;
 mod walk;
 
 pub use joined::Joined;
-pub use probe::{Found, Probe};
+pub use lent::Lent;
+pub use probe::{Found, Probe, each_lent};
 pub use visit::Visit;
 
 #[cfg(test)]

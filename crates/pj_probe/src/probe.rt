@@ -1,15 +1,14 @@
 // A tuple on its way through the work of a join.
 ghost use Rattle.std.specs.Prelude.{◌≡◌, ◌≤◌, length, IfOk, IsTrue, OnOk, OnErr};
 ghost use Rattle.std.specs.Arc.{arc_value};
-ghost use Rattle.pj_probe.specs.Walks.{end_to_end, found_in, sides_at};
+ghost use Rattle.pj_probe.specs.Walks.{combined, found_in, sides_at};
 ghost use Rattle.pj_probe.specs.Visits.{Grows, GrowsByFront};
 
-use crate::walk::walk;
-use crate::{Joined, Visit};
-use arrayvec::ArrayVec;
-use pj_shape::JoinSpec;
+use crate::walk::walk_all;
+use crate::{Joined, Lent, Visit};
+use pj_shape::{ClassCol, JoinSpec};
 use pj_state::Shared;
-use pj_value::{JoinedParts, List, NoMemory, Row};
+use pj_value::{List, NoMemory, Row};
 use std::alloc::Global;
 use std::marker::Model;
 use std::sync::Arc;
@@ -86,13 +85,7 @@ impl Probe {
         ensures ok { OnOk result (Grows (V.told visit.new) (V.list visit.old) (V.list visit.new) self.now.rows) }
         ensures err { OnErr result (GrowsByFront (V.told visit.new) (V.list visit.old) (V.list visit.new) self.now.rows) }
     {
-        let mut places = ArrayVec::new();
-        walk(
-            self.spec.classes.as_slice(),
-            self.sides.as_slice(),
-            &mut places,
-            visit,
-        )
+        walk_all(self.spec.classes.as_slice(), self.sides.as_slice(), visit)
     }
 
     /// Finds its results: the row of each combination of one candidate of each input in which all classes agree, in the
@@ -113,6 +106,21 @@ impl Probe {
     }
 }
 
+/// Shows the visitor each combination of one candidate of each of at most 16 inputs, whose rows are lent, in which all classes
+/// agree, in the order of `Probe::each`. Where the visitor refuses one the walk ends there.
+pub fn each_lent<V: Visit>(
+    classes: &[List<ClassCol>],
+    sides: &[List<(u64, Lent<'_>)>],
+    visit: &mut V,
+) -> Result<(), NoMemory>
+    requires { length sides.now ≤ 16 }
+    ensures told { IsTrue (V.told visit.new) → IsTrue (V.told visit.old) }
+    ensures ok { OnOk result (Grows (V.told visit.new) (V.list visit.old) (V.list visit.new) (combined classes.now (sides_at 0 sides.now))) }
+    ensures err { OnErr result (GrowsByFront (V.told visit.new) (V.list visit.old) (V.list visit.new) (combined classes.now (sides_at 0 sides.now))) }
+{
+    walk_all(classes, sides, visit)
+}
+
 // Makes the joined rows.
 #[derive(Drop)]
 struct JoinedRows {
@@ -128,24 +136,8 @@ impl Visit for JoinedRows {
     ghost list = { λ v. v.rows };
 
     fn joined(&mut self, parts: Joined<'_>) -> Result<(), NoMemory> {
-        let row = joined_row(self.alloc, &parts)?;
+        let row = parts.to_row(self.alloc)?;
         self.rows.push(row)?;
         Ok(())
     }
-}
-
-// The row of these parts, which shares their values.
-fn joined_row(alloc: Global, parts: &Joined<'_>) -> Result<Row, NoMemory>
-    ensures { IfOk result (λ row. row ≡ end_to_end parts.now) }
-{
-    let count = parts.parts();
-    if count == 2 {
-        let row = Row::pair(alloc, parts.part(0), parts.part(1))?;
-        return Ok(row);
-    }
-    let mut values = JoinedParts::with_room(alloc, count)?;
-    for input in 0..count {
-        parts.nth(input).join_to(alloc, &mut values)?;
-    }
-    Ok(Row::joined(values))
 }

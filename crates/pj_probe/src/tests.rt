@@ -57,10 +57,42 @@ fn side(alloc: Global, rows: &[(u64, i64, i64)]) -> Result<List<(u64, Shared)>, 
 // The probe with ticket 9 of the join with number 7, over two candidates of each other input of which all join, and
 // a few that don't.
 fn probe(alloc: Global) -> Result<Probe, NoMemory> {
-    let first = side(alloc, &[(0, 1, 10), (1, 2, 11), (2, 1, 12)])?;
-    let own = side(alloc, &[(9, 1, 5)])?;
-    let last = side(alloc, &[(3, 20, 5), (4, 21, 6), (5, 22, 5)])?;
-    three(alloc, first, own, last)
+    three(alloc, first(alloc)?, own(alloc)?, last(alloc)?)
+}
+
+fn first(alloc: Global) -> Result<List<(u64, Shared)>, NoMemory> {
+    side(alloc, &[(0, 1, 10), (1, 2, 11), (2, 1, 12)])
+}
+
+fn own(alloc: Global) -> Result<List<(u64, Shared)>, NoMemory> {
+    side(alloc, &[(9, 1, 5)])
+}
+
+fn last(alloc: Global) -> Result<List<(u64, Shared)>, NoMemory> {
+    side(alloc, &[(3, 20, 5), (4, 21, 6), (5, 22, 5)])
+}
+
+fn lent(alloc: Global, side: &[(u64, Shared)]) -> Result<List<(u64, Lent<'_>)>, NoMemory> {
+    let mut rows = List::new(alloc);
+    for at in 0..side.len() {
+        rows.push((side[at].0, Lent::of(side[at].1.row())))?;
+    }
+    Ok(rows)
+}
+
+fn lent_sides<'a>(
+    alloc: Global,
+    first: &'a [(u64, Shared)],
+    own: &'a [(u64, Shared)],
+    last: &'a [(u64, Shared)],
+) -> Result<List<List<(u64, Lent<'a>)>>, NoMemory>
+    ensures { IfOk result (λ sides. length sides ≤ 16) }
+{
+    let mut sides = List::new(alloc);
+    sides.push(lent(alloc, first)?)?;
+    sides.push(lent(alloc, own)?)?;
+    sides.push(lent(alloc, last)?)?;
+    Ok(sides)
 }
 
 fn three(
@@ -152,6 +184,20 @@ fn noted(alloc: Global, most: usize) -> Result<Vec<i64>, NoMemory> {
     Ok(numbers)
 }
 
+// What is noted of the combinations of the same rows, lent.
+fn noted_lent(alloc: Global) -> Result<Vec<i64>, NoMemory> {
+    let spec = triple(alloc)?;
+    let (first, own, last) = (first(alloc)?, own(alloc)?, last(alloc)?);
+    let sides = lent_sides(alloc, first.as_slice(), own.as_slice(), last.as_slice())?;
+    let mut notes = Notes {
+        numbers: Vec::new(alloc),
+        left: 4,
+    };
+    each_lent(spec.classes.as_slice(), sides.as_slice(), &mut notes)?;
+    let Notes { numbers, left: _ } = notes;
+    Ok(numbers)
+}
+
 // The join's number, the ticket, and all numbers of the rows that are found.
 fn found(alloc: Global) -> Result<Vec<i64>, NoMemory> {
     let found = probe(alloc)?.work(alloc)?;
@@ -179,6 +225,10 @@ fn is_noted(alloc: Global, most: usize, expected: &[i64]) -> Result<bool, NoMemo
     Ok(noted(alloc, most)?.as_slice() == expected)
 }
 
+fn is_noted_lent(alloc: Global, expected: &[i64]) -> Result<bool, NoMemory> {
+    Ok(noted_lent(alloc)?.as_slice() == expected)
+}
+
 #[test]
 fn finds_the_rows_in_order(rt: HostRuntime) {
     let rows = [
@@ -187,10 +237,16 @@ fn finds_the_rows_in_order(rt: HostRuntime) {
     assert_eq!(rt; is_found(rt.alloc(), &rows), Ok(true));
 }
 
+const NOTES: [i64; 16] = [20, 10, 1, -1, 22, 10, 1, -1, 20, 12, 1, -1, 22, 12, 1, -1];
+
 #[test]
 fn shows_parts_and_values(rt: HostRuntime) {
-    let notes = [20, 10, 1, -1, 22, 10, 1, -1, 20, 12, 1, -1, 22, 12, 1, -1];
-    assert_eq!(rt; is_noted(rt.alloc(), 4, &notes), Ok(true));
+    assert_eq!(rt; is_noted(rt.alloc(), 4, &NOTES), Ok(true));
+}
+
+#[test]
+fn shows_the_same_of_lent_rows(rt: HostRuntime) {
+    assert_eq!(rt; is_noted_lent(rt.alloc(), &NOTES), Ok(true));
 }
 
 #[test]

@@ -1,67 +1,105 @@
 // A walk through the combinations that join, one row after the other.
-ghost use Rattle.std.specs.Prelude.{◌≡◌, ◌<◌, ◌≤◌, ◌++◌, ◌∷◌, [], true, length, IsTrue, OnOk, OnErr};
+ghost use Rattle.std.specs.Prelude.{◌≡◌, ◌<◌, ◌≤◌, ◌++◌, ◌∷◌, [], true, length, map, IsTrue, OnOk, OnErr};
 ghost use Rattle.pj_events.specs.Join.{joins};
-ghost use Rattle.pj_probe.specs.Walks.{AreAt, numbered, rows_at};
-ghost use Rattle.pj_probe.specs.Walking.{walked};
+ghost use Rattle.pj_probe.specs.Walks.{combined, numbered, sides_at};
+ghost use Rattle.pj_probe.specs.Walking.{LacksOne, walked};
 ghost use Rattle.pj_probe.specs.Visits.{Grows, GrowsByFront};
 
 use crate::agreeing::agree;
-use crate::{Joined, Visit};
+use crate::lent::Candidates;
+use crate::{Joined, Lent, Visit};
 use arrayvec::ArrayVec;
 use pj_shape::ClassCol;
-use pj_state::Shared;
-use pj_value::{List, NoMemory};
+use pj_value::{List, NoMemory, Row};
 
-/// Shows the visitor each combination that begins with the rows at these places, which join, and joins. The places are as
-/// before where it ends well.
-#[cycle(walking)]
-pub fn walk<V: Visit>(
+/// The rows of a combination so far. A place that is not used holds the row that the stack was made with.
+type Rows<'a> = ArrayVec<Lent<'a>, 16, &'a Row>;
+
+/// Shows the visitor each combination of one candidate of each side that joins.
+pub fn walk_all<S: Candidates, V: Visit>(
     classes: &[List<ClassCol>],
-    sides: &[List<(u64, Shared)>],
-    places: &mut ArrayVec<usize, 16>,
+    sides: &[S],
+    visit: &mut V,
+) -> Result<(), NoMemory>
+    requires { length sides.now ≤ 16 }
+    ensures told { IsTrue (V.told visit.new) → IsTrue (V.told visit.old) }
+    ensures ok { OnOk result (Grows (V.told visit.new) (V.list visit.old) (V.list visit.new) (combined classes.now (sides_at 0 (map S.pairs sides.now)))) }
+    ensures err { OnErr result (GrowsByFront (V.told visit.new) (V.list visit.old) (V.list visit.new) (combined classes.now (sides_at 0 (map S.pairs sides.now)))) }
+{
+    if sides.len() == 0 {
+        visit.joined(Joined::of(&[]))?;
+        return Ok(());
+    }
+    if sides[0].count() == 0 {
+        return Ok(());
+    }
+    if lacks_one(sides) {
+        return Ok(());
+    }
+    let mut rows = ArrayVec::new_in(sides[0].lend(0).row());
+    walk(classes, sides, &mut rows, visit)
+}
+
+// Whether a side has no candidate.
+fn lacks_one<S: Candidates>(sides: &[S]) -> bool
+    ensures { result ≡ true → LacksOne (map S.pairs sides.now) }
+{
+    for side in sides {
+        if side.count() == 0 {
+            return true;
+        }
+    }
+    false
+}
+
+/// Shows the visitor each combination that begins with these rows, which join, and joins. The rows are as before where it
+/// ends well.
+#[cycle(walking)]
+fn walk<'a, S: Candidates, V: Visit>(
+    classes: &[List<ClassCol>],
+    sides: &'a [S],
+    rows: &mut Rows<'a>,
     visit: &mut V,
 ) -> Result<(), NoMemory>
     requires few { length sides.now ≤ 16 }
-    requires within { AreAt sides.now places.old.items }
-    requires joins { joins classes.now (numbered 0 (rows_at sides.now places.old.items)) ≡ true }
-    ensures places { OnOk result (places.new.items ≡ places.old.items) }
+    requires joins { joins classes.now (numbered 0 rows.old.items) ≡ true }
+    ensures rows { OnOk result (rows.new.items ≡ rows.old.items) }
     ensures told { IsTrue (V.told visit.new) → IsTrue (V.told visit.old) }
-    ensures ok { OnOk result (Grows (V.told visit.new) (V.list visit.old) (V.list visit.new) (walked classes.now sides.now places.old.items)) }
-    ensures err { OnErr result (GrowsByFront (V.told visit.new) (V.list visit.old) (V.list visit.new) (walked classes.now sides.now places.old.items)) }
+    ensures ok { OnOk result (Grows (V.told visit.new) (V.list visit.old) (V.list visit.new) (walked classes.now (map S.pairs sides.now) rows.old.items)) }
+    ensures err { OnErr result (GrowsByFront (V.told visit.new) (V.list visit.old) (V.list visit.new) (walked classes.now (map S.pairs sides.now) rows.old.items)) }
 {
-    if places.len() >= sides.len() {
-        visit.joined(Joined::of(sides, places.as_slice()))?;
+    if rows.len() >= sides.len() {
+        visit.joined(Joined::of(rows.as_slice()))?;
         return Ok(());
     }
-    let count = sides[places.len()].len();
-    for place in 0..count {
-        walk_on(classes, sides, places, place, visit)?;
+    let side = &sides[rows.len()];
+    for place in 0..side.count() {
+        walk_on(classes, sides, rows, side.lend(place), visit)?;
     }
     Ok(())
 }
 
-/// The same with one more place, where the rows join.
+/// The same with one more row, where the rows join.
 #[cycle(walking)]
-fn walk_on<V: Visit>(
+fn walk_on<'a, S: Candidates, V: Visit>(
     classes: &[List<ClassCol>],
-    sides: &[List<(u64, Shared)>],
-    places: &mut ArrayVec<usize, 16>,
-    place: usize,
+    sides: &'a [S],
+    rows: &mut Rows<'a>,
+    row: Lent<'a>,
     visit: &mut V,
 ) -> Result<(), NoMemory>
     requires few { length sides.now ≤ 16 }
-    requires more { length places.old.items < length sides.now }
-    requires within { AreAt sides.now (places.old.items ++ place ∷ []) }
-    ensures places { OnOk result (places.new.items ≡ places.old.items) }
+    requires more { length rows.old.items < length sides.now }
+    ensures rows { OnOk result (rows.new.items ≡ rows.old.items) }
     ensures told { IsTrue (V.told visit.new) → IsTrue (V.told visit.old) }
-    ensures ok { OnOk result (Grows (V.told visit.new) (V.list visit.old) (V.list visit.new) (walked classes.now sides.now (places.old.items ++ place ∷ []))) }
-    ensures err { OnErr result (GrowsByFront (V.told visit.new) (V.list visit.old) (V.list visit.new) (walked classes.now sides.now (places.old.items ++ place ∷ []))) }
+    ensures ok { OnOk result (Grows (V.told visit.new) (V.list visit.old) (V.list visit.new) (walked classes.now (map S.pairs sides.now) (rows.old.items ++ row.entry ∷ []))) }
+    ensures err { OnErr result (GrowsByFront (V.told visit.new) (V.list visit.old) (V.list visit.new) (walked classes.now (map S.pairs sides.now) (rows.old.items ++ row.entry ∷ []))) }
 {
-    let count = places.len();
-    places.push(place);
-    if agree(classes, &Joined::of(sides, places.as_slice())) {
-        walk(classes, sides, places, visit)?;
+    let count = rows.len();
+    rows.push(row);
+    if agree(classes, &Joined::of(rows.as_slice())) {
+        walk(classes, sides, rows, visit)?;
     }
-    places.truncate(count);
+    rows.truncate(count);
     Ok(())
 }

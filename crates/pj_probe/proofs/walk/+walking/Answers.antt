@@ -1,86 +1,77 @@
-use Rattle.std.proofs.Common.{rules, arith, ◌≡◌, ◌<◌, ◌≤◌, ◌+◌, ◌++◌, ◌∷◌, [], ◌∙◌, true, ℕ, List, length, get_or, sym, ap}
+use Rattle.std.proofs.Common.{rules, arith, ◌≡◌, ◌<◌, ◌≤◌, ◌+◌, ◌++◌, ◌∷◌, [], ◌∙◌, true, ℕ, List, length, get_or, map, sym, ap}
 use Rattle.pj_events.specs.Join.{Value, joins}
-use Rattle.pj_probe.specs.Walks.{end_to_end, numbered, rows_at}
+use Rattle.pj_probe.specs.Walks.{end_to_end, numbered, row_at}
 use Rattle.pj_probe.specs.Walking.{walked, walked_upto}
 use Rattle.pj_probe.proofs.Combining.{upto-all, upto-front, upto-more, walked-end, walked-none}
 use Rattle.pj_probe.proofs.Growing.{front-more, grows-more, grows-none, grows-same}
-use Rattle.pj_probe.proofs.Placing.{one-more, side-is}
+use Rattle.pj_probe.proofs.Placing.{side-is, sides-full, sides-more}
 use Rattle.pj_probe.proofs.walk.+walking.Goals.{walk_on-then-agree+in_ok-walk, walk_on-else-agree}
 use Rattle.pj_probe.proofs.walk.+walking.Goals as goal
 
 pub walk-returns-then-len-sides-clause-ok : goal.walk-returns-then-len-sides-clause-ok
 walk-returns-then-len-sides-clause-ok g t c =
-    let ps : List ℕ = c.args.places.now.items in
-    let full : length c.args.sides.now ≤ length c.args.places.now.items = rw (← c.len.ensures.value) c.if-len-sides.true in
-    let parts : c.of.result ≡ rows_at c.args.sides.now c.args.places.now.items = c.of.ensures ∙ ap (rows_at c.args.sides.now) c.as_slice.ensures.value in
-    grows-same (g.V.Visit.told c.joined.new.self) (g.V.Visit.list c.args.visit.now) (g.V.Visit.list c.joined.new.self) (end_to_end c.of.result ∷ []) (walked c.args.classes.now c.args.sides.now c.args.places.now.items)
-    (ap (λ (rows : List (List Value)). end_to_end rows ∷ []) parts ∙ sym (walked-end c.args.classes.now c.args.sides.now c.args.places.now.items full c.requires.joins))
+    let sides = map g.S.Candidates.pairs c.args.sides.now in
+    let full : length c.args.sides.now ≤ length c.args.rows.now.items = rw (← c.len.ensures.value) c.if-len-sides.true in
+    let parts : c.of.result ≡ c.args.rows.now.items = c.of.ensures ∙ c.as_slice.ensures.value in
+    grows-same (g.V.Visit.told c.joined.new.self) (g.V.Visit.list c.args.visit.now) (g.V.Visit.list c.joined.new.self) (end_to_end c.of.result ∷ []) (walked c.args.classes.now sides c.args.rows.now.items)
+    (ap (λ (rows : List (List Value)). end_to_end rows ∷ []) parts ∙ sym (walked-end c.args.classes.now sides c.args.rows.now.items (sides-full g.S.Candidates.pairs c.args.sides.now (length c.args.rows.now.items) full) c.requires.joins))
     c.in_ok-joined.ensures.ok
-
-pub walk-walk_on-requires : goal.walk-walk_on-requires
-walk-walk_on-requires g t c κs within =
-    let more : length c.args.places.now.items < length c.args.sides.now = rw (← c.len.ensures.value) c.if-len-sides.false in
-    let side = side-is c.args.sides.now (length c.args.places.now.items) c.index-sides-len.result more (rw (← c.len-2.ensures.value) c.index-sides-len.is) in
-    let below : c.loop-place.place < length (get_or c.args.sides.now (length c.args.places.now.items) []) = rw (← side, ← c.len-count.ensures) c.loop-place-test.true in
-    let at = one-more c.args.sides.now c.args.places.now.items c.loop-place.place [] c.requires.within more below in
-    let same : c.loop-place.places.items ≡ c.args.places.now.items = c.loop-place.invariant.0 in
-    (search rules, (search rules, (c.requires.few, (rw same more, rw same at))))
-
-pub walk-returns-in_err-walk_on-clause-told : goal.walk-returns-in_err-walk_on-clause-told
-walk-returns-in_err-walk_on-clause-told g t c h = c.loop-place.invariant.1 (c.in_err-walk_on.ensures.told h)
-
-pub walk-returns-in_err-walk_on-clause-err : goal.walk-returns-in_err-walk_on-clause-err
-walk-returns-in_err-walk_on-clause-err g t c =
-    let more : length c.args.places.now.items < length c.args.sides.now = rw (← c.len.ensures.value) c.if-len-sides.false in
-    let side = side-is c.args.sides.now (length c.args.places.now.items) c.index-sides-len.result more (rw (← c.len-2.ensures.value) c.index-sides-len.is) in
-    let below : c.loop-place.place < length (get_or c.args.sides.now (length c.args.places.now.items) []) = rw (← side, ← c.len-count.ensures) c.loop-place-test.true in
-    let f = front-more (g.V.Visit.told c.loop-place.visit) (g.V.Visit.told c.walk_on.new.visit) (g.V.Visit.list c.args.visit.now) (g.V.Visit.list c.loop-place.visit) (g.V.Visit.list c.walk_on.new.visit)
-    (walked_upto c.args.classes.now c.args.sides.now c.args.places.now.items c.loop-place.place) (walked c.args.classes.now c.args.sides.now (c.args.places.now.items ++ c.loop-place.place ∷ [])) (walked c.args.classes.now c.args.sides.now c.args.places.now.items)
-    c.in_err-walk_on.ensures.told c.loop-place.invariant.2 (rw (← c.loop-place.invariant.0) c.in_err-walk_on.ensures.err) (upto-front c.args.classes.now c.args.sides.now c.args.places.now.items c.loop-place.place more below) in
-    search rules
-
-pub walk-loop-place-preserved : goal.walk-loop-place-preserved
-walk-loop-place-preserved g t c = (
-  c.in_ok-walk_on.ensures.places ∙ c.loop-place.invariant.0,
-  (λ h. c.loop-place.invariant.1 (c.in_ok-walk_on.ensures.told h)),
-  grows-same (g.V.Visit.told c.walk_on.new.visit) (g.V.Visit.list c.args.visit.now) (g.V.Visit.list c.walk_on.new.visit)
-      (walked_upto c.args.classes.now c.args.sides.now c.args.places.now.items c.loop-place.place ++ walked c.args.classes.now c.args.sides.now (c.args.places.now.items ++ c.loop-place.place ∷ []))
-      (walked_upto c.args.classes.now c.args.sides.now c.args.places.now.items (c.loop-place.place + 1))
-      (sym (upto-more c.args.classes.now c.args.sides.now c.args.places.now.items c.loop-place.place))
-      (grows-more (g.V.Visit.told c.loop-place.visit) (g.V.Visit.told c.walk_on.new.visit) (g.V.Visit.list c.args.visit.now) (g.V.Visit.list c.loop-place.visit) (g.V.Visit.list c.walk_on.new.visit)
-      (walked_upto c.args.classes.now c.args.sides.now c.args.places.now.items c.loop-place.place) (walked c.args.classes.now c.args.sides.now (c.args.places.now.items ++ c.loop-place.place ∷ []))
-      c.in_ok-walk_on.ensures.told c.loop-place.invariant.2 (rw (← c.loop-place.invariant.0) c.in_ok-walk_on.ensures.ok)),
-)
-
-pub walk-returns-clause-places : goal.walk-returns-clause-places
-walk-returns-clause-places g t c = c.loop-place.invariant.0
-
-pub walk-returns-clause-told : goal.walk-returns-clause-told
-walk-returns-clause-told g t c = c.loop-place.invariant.1
-
-pub walk-returns-clause-ok : goal.walk-returns-clause-ok
-walk-returns-clause-ok g t c =
-    let more : length c.args.places.now.items < length c.args.sides.now = rw (← c.len.ensures.value) c.if-len-sides.false in
-    let side = side-is c.args.sides.now (length c.args.places.now.items) c.index-sides-len.result more (rw (← c.len-2.ensures.value) c.index-sides-len.is) in
-    let end : c.loop-place.place ≡ length (get_or c.args.sides.now (length c.args.places.now.items) []) = rw (← side, ← c.len-count.ensures) (omega (arith, c.loop-place-test.false, c.loop-place.auto.place-end)) in
-    grows-same (g.V.Visit.told c.loop-place.visit) (g.V.Visit.list c.args.visit.now) (g.V.Visit.list c.loop-place.visit)
-    (walked_upto c.args.classes.now c.args.sides.now c.args.places.now.items c.loop-place.place) (walked c.args.classes.now c.args.sides.now c.args.places.now.items)
-    (upto-all c.args.classes.now c.args.sides.now c.args.places.now.items c.loop-place.place more end) c.loop-place.invariant.2
 
 pub walk_on-walk-requires : goal.walk_on-walk-requires
 walk_on-walk-requires g t c κs within =
-    let grown : c.push.new.self.items ≡ c.args.places.now.items ++ c.args.place ∷ [] = c.push.ensures.items in
-    let parts : c.of.result ≡ rows_at c.args.sides.now c.push.new.self.items = c.of.ensures ∙ ap (rows_at c.args.sides.now) c.as_slice.ensures.value in
-    let agrees : joins c.args.classes.now (numbered 0 (rows_at c.args.sides.now c.push.new.self.items)) ≡ true = rw (← parts) (sym c.agree.ensures ∙ c.if-agree.true) in
-    (search rules, (search rules, (c.requires.few, (rw grown c.requires.within, agrees))))
+    let grown : c.push.new.self.items ≡ c.args.rows.now.items ++ c.args.row ∷ [] = c.push.ensures.items in
+    let parts : c.of.result ≡ c.push.new.self.items = c.of.ensures ∙ c.as_slice.ensures.value in
+    let agrees : joins c.args.classes.now (numbered 0 c.push.new.self.items) ≡ true = rw (← parts) (sym c.agree.ensures ∙ c.if-agree.true) in
+    (search rules, (search rules, (search rules, (c.requires.few, agrees))))
 
 pub walk_on-returns-clause-ok : goal.walk_on-returns-clause-ok
 walk_on-returns-clause-ok g t c =
-    let grown : c.push.new.self.items ≡ c.args.places.now.items ++ c.args.place ∷ [] = c.push.ensures.items in
-    let parts : c.of.result ≡ rows_at c.args.sides.now c.push.new.self.items = c.of.ensures ∙ ap (rows_at c.args.sides.now) c.as_slice.ensures.value in
+    let sides = map g.S.Candidates.pairs c.args.sides.now in
+    let grown : c.push.new.self.items ≡ c.args.rows.now.items ++ c.args.row ∷ [] = c.push.ensures.items in
+    let parts : c.of.result ≡ c.push.new.self.items = c.of.ensures ∙ c.as_slice.ensures.value in
     elim c.if-agree.branch [
       | walk_on-then-agree+in_ok-walk w ↦ rw (w.visit-is, ← grown) w.in_ok-walk.ensures.ok
       | walk_on-else-agree w ↦
-          let none : walked c.args.classes.now c.args.sides.now c.push.new.self.items ≡ [] = walked-none c.args.classes.now c.args.sides.now c.push.new.self.items (rw (← parts) (sym c.agree.ensures ∙ w.if-agree.false)) in
-          rw (w.visit-is, ← grown) (grows-none (g.V.Visit.told c.args.visit.now) (g.V.Visit.list c.args.visit.now) (walked c.args.classes.now c.args.sides.now c.push.new.self.items) none)
+          let none : walked c.args.classes.now sides c.push.new.self.items ≡ [] = walked-none c.args.classes.now sides c.push.new.self.items (rw (← parts) (sym c.agree.ensures ∙ w.if-agree.false)) in
+          rw (w.visit-is, ← grown) (grows-none (g.V.Visit.told c.args.visit.now) (g.V.Visit.list c.args.visit.now) (walked c.args.classes.now sides c.push.new.self.items) none)
     ]
+
+pub walk-returns-in_err-walk_on-clause-err : goal.walk-returns-in_err-walk_on-clause-err
+walk-returns-in_err-walk_on-clause-err g t c =
+    let sides = map g.S.Candidates.pairs c.args.sides.now in
+    let more : length c.args.rows.now.items < length c.args.sides.now = rw (← c.len.ensures.value) c.if-len-sides.false in
+    let side = side-is g.S.Candidates.pairs c.args.sides.now (length c.args.rows.now.items) c.index-sides-len.result more (rw (← c.len-2.ensures.value) c.index-sides-len.is) in
+    let below : c.loop-place.place < length (get_or sides (length c.args.rows.now.items) []) = rw (← side, ← c.count-place-end.ensures) c.loop-place-test.true in
+    let row : c.lend.result ≡ row_at (get_or sides (length c.args.rows.now.items) []) c.loop-place.place = c.lend.ensures ∙ ap (λ (s : List (ℕ × List Value)). row_at s c.loop-place.place) side in
+    let f = front-more (g.V.Visit.told c.loop-place.visit) (g.V.Visit.told c.walk_on.new.visit) (g.V.Visit.list c.args.visit.now) (g.V.Visit.list c.loop-place.visit) (g.V.Visit.list c.walk_on.new.visit)
+    (walked_upto c.args.classes.now sides c.args.rows.now.items c.loop-place.place) (walked c.args.classes.now sides (c.args.rows.now.items ++ row_at (get_or sides (length c.args.rows.now.items) []) c.loop-place.place ∷ [])) (walked c.args.classes.now sides c.args.rows.now.items)
+    c.in_err-walk_on.ensures.told c.loop-place.invariant.2 (rw (← row, ← c.loop-place.invariant.0) c.in_err-walk_on.ensures.err) (upto-front c.args.classes.now sides c.args.rows.now.items c.loop-place.place (sides-more g.S.Candidates.pairs c.args.sides.now (length c.args.rows.now.items) more) below) in
+    search rules
+
+pub walk-loop-place-preserved : goal.walk-loop-place-preserved
+walk-loop-place-preserved g t c =
+    let sides = map g.S.Candidates.pairs c.args.sides.now in
+    let more : length c.args.rows.now.items < length c.args.sides.now = rw (← c.len.ensures.value) c.if-len-sides.false in
+    let side = side-is g.S.Candidates.pairs c.args.sides.now (length c.args.rows.now.items) c.index-sides-len.result more (rw (← c.len-2.ensures.value) c.index-sides-len.is) in
+    let row : c.lend.result ≡ row_at (get_or sides (length c.args.rows.now.items) []) c.loop-place.place = c.lend.ensures ∙ ap (λ (s : List (ℕ × List Value)). row_at s c.loop-place.place) side in
+    let next : List (List Value) = walked c.args.classes.now sides (c.args.rows.now.items ++ row_at (get_or sides (length c.args.rows.now.items) []) c.loop-place.place ∷ []) in (
+      c.in_ok-walk_on.ensures.rows ∙ c.loop-place.invariant.0,
+      (λ h. c.loop-place.invariant.1 (c.in_ok-walk_on.ensures.told h)),
+      grows-same (g.V.Visit.told c.walk_on.new.visit) (g.V.Visit.list c.args.visit.now) (g.V.Visit.list c.walk_on.new.visit)
+          (walked_upto c.args.classes.now sides c.args.rows.now.items c.loop-place.place ++ next)
+          (walked_upto c.args.classes.now sides c.args.rows.now.items (c.loop-place.place + 1))
+          (sym (upto-more c.args.classes.now sides c.args.rows.now.items c.loop-place.place))
+          (grows-more (g.V.Visit.told c.loop-place.visit) (g.V.Visit.told c.walk_on.new.visit) (g.V.Visit.list c.args.visit.now) (g.V.Visit.list c.loop-place.visit) (g.V.Visit.list c.walk_on.new.visit)
+          (walked_upto c.args.classes.now sides c.args.rows.now.items c.loop-place.place) next
+          c.in_ok-walk_on.ensures.told c.loop-place.invariant.2 (rw (← row, ← c.loop-place.invariant.0) c.in_ok-walk_on.ensures.ok)),
+    )
+
+pub walk-returns-clause-ok : goal.walk-returns-clause-ok
+walk-returns-clause-ok g t c =
+    let sides = map g.S.Candidates.pairs c.args.sides.now in
+    let more : length c.args.rows.now.items < length c.args.sides.now = rw (← c.len.ensures.value) c.if-len-sides.false in
+    let side = side-is g.S.Candidates.pairs c.args.sides.now (length c.args.rows.now.items) c.index-sides-len.result more (rw (← c.len-2.ensures.value) c.index-sides-len.is) in
+    let end : c.loop-place.place ≡ length (get_or sides (length c.args.rows.now.items) []) = rw (← side, ← c.count-place-end.ensures) (omega (arith, c.loop-place-test.false, c.loop-place.auto.place-end)) in
+    grows-same (g.V.Visit.told c.loop-place.visit) (g.V.Visit.list c.args.visit.now) (g.V.Visit.list c.loop-place.visit)
+    (walked_upto c.args.classes.now sides c.args.rows.now.items c.loop-place.place) (walked c.args.classes.now sides c.args.rows.now.items)
+    (upto-all c.args.classes.now sides c.args.rows.now.items c.loop-place.place (sides-more g.S.Candidates.pairs c.args.sides.now (length c.args.rows.now.items) more) end) c.loop-place.invariant.2

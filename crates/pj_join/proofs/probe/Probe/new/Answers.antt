@@ -1,10 +1,12 @@
-use Rattle.std.proofs.Common.{◌∙◌, ap}
+use Rattle.std.proofs.Common.{◌∙◌, ℕ, List, ap, subst, sym}
 use Rattle.std.specs.Arc.{arc_value}
 use Rattle.pj_shape.specs.declared.joins.JoinSpec.{JoinSpec}
+use Rattle.pj_events.specs.Join.{Value}
+use Rattle.pj_join.specs.Hops.{FindSame}
 use Rattle.pj_join.proofs.Probed.{probe_is}
 use Rattle.pj_join.proofs.probe.Probe.new.Goals as goal
 
 pub returns : goal.returns
 returns c =
     probe_is c.args.join c.ticket.result c.args.own.now (arc_value c.args.spec.now) (arc_value c.in_ok-spec.spec) c.as_slice.result.now c.args.sides.now c.in_ok-sides.sides c.new.result
-    c.new.ensures c.ticket.ensures c.in_ok-spec.ensures (c.as_slice.ensures ∙ ap (λ (s : JoinSpec). s.classes) c.deref.ensures) c.in_ok-sides.ensures.same
+    c.new.ensures c.ticket.ensures c.in_ok-spec.ensures (c.as_slice.ensures ∙ ap (λ (s : JoinSpec). s.classes) c.deref.ensures) (subst (λ (lists : List (List (ℕ × List Value))). FindSame c.as_slice.result.now c.args.own.now c.args.sides.now lists) (sym (c.in_ok-sides.ensures ∙ c.as_slice-2.ensures)) c.in_ok-lent.ensures.same)

@@ -1,24 +1,20 @@
-use Rattle.std.proofs.Common.{◌≡◌, List, subst}
+use Rattle.std.proofs.Common.{◌≡◌, ℕ, List, map, ap, subst}
 use Rattle.std.specs.Prelude.{OnOk, OnErr}
 use Rattle.std.specs.Arc.{arc_value}
+use Rattle.std.proofs.lemmas.List.{map-id}
 use Rattle.pj_events.specs.Join.{Value}
+use Rattle.pj_probe.specs.Walks.{combined, sides_at}
 use Rattle.pj_probe.specs.Visits.{Grows, GrowsByFront}
-use Rattle.pj_probe.specs.Walking.{walked}
-use Rattle.pj_probe.proofs.Combining.{walked-whole}
-use Rattle.pj_probe.proofs.Whole.{joins-none}
 use Rattle.pj_probe.proofs.probe.Probe.each.Goals as goal
-
-pub walk-requires-clause-joins : goal.walk-requires-clause-joins
-walk-requires-clause-joins g c = rw c.new-places.ensures (joins-none c.as_slice.result.now)
 
 pub returns-clause-ok : goal.returns-clause-ok
 returns-clause-ok g c =
-    let found : walked c.as_slice.result.now c.as_slice-2.result.now c.new-places.result.items ≡ c.args.self.now.rows =
-    rw (← c.self.view_is, c.new-places.ensures, c.as_slice.ensures, c.as_slice-2.ensures, c.deref.ensures) (walked-whole (arc_value c.self.inside.spec).classes c.self.inside.sides) in
-    subst (λ (rows : List (List Value)). OnOk c.walk.result (Grows (g.V.Visit.told c.walk.new.visit) (g.V.Visit.list c.args.visit.now) (g.V.Visit.list c.walk.new.visit) rows)) found c.walk.ensures.ok
+    let found : combined c.as_slice.result.now (sides_at 0 (map (λ (s : List (ℕ × List Value)). s) c.as_slice-2.result.now)) ≡ c.args.self.now.rows =
+    rw (← c.self.view_is, c.as_slice.ensures, c.as_slice-2.ensures, c.deref.ensures) (ap (λ (ss : List (List (ℕ × List Value))). combined (arc_value c.self.inside.spec).classes (sides_at 0 ss)) (map-id c.self.inside.sides)) in
+    subst (λ (rows : List (List Value)). OnOk c.walk_all.result (Grows (g.V.Visit.told c.walk_all.new.visit) (g.V.Visit.list c.args.visit.now) (g.V.Visit.list c.walk_all.new.visit) rows)) found c.walk_all.ensures.ok
 
 pub returns-clause-err : goal.returns-clause-err
 returns-clause-err g c =
-    let found : walked c.as_slice.result.now c.as_slice-2.result.now c.new-places.result.items ≡ c.args.self.now.rows =
-    rw (← c.self.view_is, c.new-places.ensures, c.as_slice.ensures, c.as_slice-2.ensures, c.deref.ensures) (walked-whole (arc_value c.self.inside.spec).classes c.self.inside.sides) in
-    subst (λ (rows : List (List Value)). OnErr c.walk.result (GrowsByFront (g.V.Visit.told c.walk.new.visit) (g.V.Visit.list c.args.visit.now) (g.V.Visit.list c.walk.new.visit) rows)) found c.walk.ensures.err
+    let found : combined c.as_slice.result.now (sides_at 0 (map (λ (s : List (ℕ × List Value)). s) c.as_slice-2.result.now)) ≡ c.args.self.now.rows =
+    rw (← c.self.view_is, c.as_slice.ensures, c.as_slice-2.ensures, c.deref.ensures) (ap (λ (ss : List (List (ℕ × List Value))). combined (arc_value c.self.inside.spec).classes (sides_at 0 ss)) (map-id c.self.inside.sides)) in
+    subst (λ (rows : List (List Value)). OnErr c.walk_all.result (GrowsByFront (g.V.Visit.told c.walk_all.new.visit) (g.V.Visit.list c.args.visit.now) (g.V.Visit.list c.walk_all.new.visit) rows)) found c.walk_all.ensures.err

@@ -2,7 +2,7 @@ use Rattle.std.proofs.Common.{List, subst}
 use Rattle.pj_events.specs.Join.{ClassCol}
 use Rattle.pj_join.specs.Hops.{LinksBy}
 use Rattle.pj_join.proofs.Hopped.{links_by_class}
-use Rattle.pj_join.proofs.choosing.find_link.Goals as goal
+use Rattle.pj_join.proofs.choosing.find_link_to.Goals as goal
 
 pub returns-in-Some : goal.returns-in-Some
 returns-in-Some c =
