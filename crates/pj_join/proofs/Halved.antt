@@ -1,5 +1,5 @@
 -- Looking for a ticket among tickets that rise.
-use Rattle.std.proofs.Common.{ℕ, zero, suc, ◌<◌, ◌≤◌, ◌≡◌, ◌⊎◌, inl, inr, false, ◌||◌, List, [], ◌∷◌, Bool, Result, Ok, Err, filter, length, get_or, nat_cmp, eqb, refl, ap, sym, subst, ◌∙◌, arith}
+use Rattle.std.proofs.Common.{ℕ, zero, suc, ◌-◌, ◌<◌, ◌≤◌, ◌≡◌, ◌⊎◌, inl, inr, false, ◌||◌, List, [], ◌∷◌, Bool, Result, Ok, Err, filter, length, get_or, nat_cmp, eqb, refl, ap, sym, subst, ◌∙◌, arith}
 use Rattle.std.specs.Result.{is_ok}
 use Rattle.std.specs.List.Sorted.{IsBinarySearchResult}
 use Rattle.std.proofs.lemmas.Bool.{eq-eqb, eqb-true, false_from_ne_true}
@@ -34,6 +34,14 @@ has_searched ns n (Err i) r found =
     split k zero = inr (omega arith)
     split zero (suc i) = inl (omega arith)
     split (suc k) (suc i) = elim (split k i) [ inl l ↦ inl (omega (arith, l)) | inr l ↦ inr (omega (arith, l)) ]
+
+-- none of the numbers is greater than the last
+pub has_past : (ns : List ℕ) (n : ℕ) → IsRising itself ns → get_or ns (length ns - 1) 0 < n → false ≡ has ns n
+has_past ns n r lt = sym (has_none ns n (λ k within e. let le = in_order ns r k (length ns - 1) (omega (arith, within)) (omega (arith, within)) in omega (arith, le, e, lt)))
+
+pub has_nothing : (ns : List ℕ) (n : ℕ) → length ns ≡ 0 → false ≡ has ns n
+has_nothing [] n e = refl
+has_nothing (m ∷ ns) n e = absurd (omega (arith, e))
 
 -- the tickets of some rows rise as those of all do
 pub some_rise : (p : Stored → Bool) (rows : List Stored) → IsRising ticket_of rows → IsRising itself (tickets_of (filter p rows))

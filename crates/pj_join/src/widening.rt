@@ -90,6 +90,13 @@ fn is_gone(gone: &[u64], ticket: u64) -> bool
     requires { IsRising itself gone.now }
     ensures { result ≡ has gone.now ticket }
 {
+    let count = gone.len();
+    if count == 0 {
+        return false;
+    }
+    if gone[count - 1] < ticket {
+        return false;
+    }
     gone.binary_search(&ticket).is_ok()
 }
 
