@@ -39,11 +39,7 @@ fn note_ticket(ticket: u64, is_found: bool, found: &mut Uncovered)
 fn found_if(is_found: bool, found: Uncovered) -> Option<Uncovered>
     ensures { result ≡ found_if is_found found }
 {
-    if is_found {
-        Some(found)
-    } else {
-        None
-    }
+    if is_found { Some(found) } else { None }
 }
 
 // What a row is judged by: the join's shape and schemes, the certificate of the row's input, the stored rows, the punctuations of

@@ -1,13 +1,13 @@
 -- Which stored tuples hold the punctuations back that wait, from step to step.
-use Rattle.std.proofs.Common.{ℕ, zero, suc, ◌+◌, ◌<◌, length, arith, rules, Bool, true, false, cond, not, ◌&&◌, ◌||◌, List, [], ◌∷◌, ◌++◌, ◌≡◌, Option, Some, None, map, filter, take, get_or, refl, sym, ap, ap₂, ◌∙◌, subst, inl, inr, eqb}
+use Rattle.std.proofs.Common.{ℕ, zero, suc, ◌+◌, ◌<◌, length, arith, rules, Bool, true, false, cond, not, ◌&&◌, ◌||◌, List, [], ◌∷◌, ◌++◌, ◌≡◌, Option, Some, None, map, filter, take, refl, sym, ap, ap₂, ◌∙◌, subst, inl, inr, eqb}
 use Rattle.std.specs.List.{slice_get}
 use Rattle.std.specs.Prelude.{OnOk, Result, Ok, Err}
-use Rattle.std.proofs.lemmas.Bool.{and_parts, eq-eqb, eqb-true, false_from_ne_true, false≢true}
-use Rattle.std.proofs.lemmas.List.{length-map, take_all, take_more}
+use Rattle.std.proofs.lemmas.Bool.{and_parts, eq-eqb, eqb-true, false≢true}
+use Rattle.std.proofs.lemmas.List.{length-map, take_more}
 use Rattle.std.proofs.lemmas.List.Elements.{filter-append}
 use Rattle.std.proofs.lemmas.Option.{get_or_from_slice_get, slice_get_within}
 use Rattle.pj_value.specs.declared.values.Value.{Value}
-use Rattle.pj_value.proofs.Members.{In-append_left, In-filter, In-filter_from, In-map, In-map_from, any_at, any_from, filter-all, in-place}
+use Rattle.pj_value.proofs.Members.{In-append_left, In-filter, In-filter_from, In-map, In-map_from, any_from, filter-all, in-place}
 use Rattle.pj_state.specs.declared.shared.Stored.{Stored}
 use Rattle.pj_state.specs.States.{StateView, has_value, rows_with}
 use Rattle.pj_events.specs.Patterns.{Pattern, matches_row}

@@ -1,15 +1,14 @@
 -- What rows that stay or go tell of punctuations.
-use Rattle.std.proofs.Common.{ℕ, suc, ◌++◌, is_some, IfSome, ◌+◌, ◌-◌, ◌<◌, ◌≤◌, Bool, true, false, cond, not, ◌&&◌, ◌||◌, ◌⊎◌, List, [], ◌∷◌, ◌≡◌, Option, Some, None, filter, length, get_or, inl, inr, refl, sym, ap, ap₂, ◌∙◌, subst, eqb, arith}
+use Rattle.std.proofs.Common.{ℕ, suc, ◌++◌, ◌+◌, ◌-◌, ◌≤◌, Bool, true, false, cond, not, ◌&&◌, ◌||◌, List, [], ◌∷◌, ◌≡◌, filter, length, inl, inr, refl, sym, ap, ap₂, ◌∙◌, subst, eqb, arith}
 use Rattle.std.specs.List.{list_any}
-use Rattle.std.proofs.lemmas.Bool.{and_parts, eq-eqb, eqb-true, false≢true}
+use Rattle.std.proofs.lemmas.Bool.{eq-eqb}
 use Rattle.std.proofs.lemmas.List.{length-map}
-use Rattle.pj_value.proofs.Members.{In-filter_from, In-map_from, any_at, any_from}
+use Rattle.pj_value.proofs.Members.{In-filter_from, In-map_from, any_from}
 use Rattle.pj_state.specs.declared.shared.Stored.{Stored}
-use Rattle.pj_state.specs.Rising.{IsRising}
-use Rattle.pj_state.specs.States.{row_under, ticket_of}
+use Rattle.pj_state.specs.States.{ticket_of}
 use Rattle.pj_events.specs.Patterns.{Pattern, matches_row}
-use Rattle.pj_events.specs.Join.{In, PunctAt, Value, has}
-use Rattle.pj_join.specs.Judging.{JudgeView, lets_go, one_if, ripe_at, ripe_tickets, rows_at}
+use Rattle.pj_events.specs.Join.{In, has}
+use Rattle.pj_join.specs.Judging.{JudgeView, one_if, ripe_at, ripe_tickets, rows_at}
 use Rattle.pj_join.specs.Sides.{stays, still_held}
 use Rattle.pj_join.specs.Watching.{AreSome}
 

@@ -1,9 +1,9 @@
 -- How combinations that join are found one tuple after the other.
-use Rattle.std.specs.Prelude.{◌≡◌, ◌<◌, true, ℕ, Bool, not, ◌==◌, nat_lt, ◌&&◌, ◌||◌, if◌then◌else◌, List, [], ◌∷◌, map, filter, slice_index_or, length, Option, Some, None}
+use Rattle.std.specs.Prelude.{◌≡◌, ◌<◌, true, ℕ, Bool, ◌==◌, nat_lt, ◌&&◌, ◌||◌, if◌then◌else◌, List, [], ◌∷◌, map, filter, slice_index_or, length}
 pub use Rattle.pj_cover.specs.Suits.{all_have, cell_value, has_there, suits, suits_class}
 use Rattle.pj_join.specs.declared.found.Found.{Found}
 use Rattle.pj_probe.specs.declared.probe.Found.{Found as ProbeFound}
-use Rattle.pj_events.specs.Join.{ClassCol, In, TupleAt, Value, agree, joined, no_value, product, upto_from, value_at}
+use Rattle.pj_events.specs.Join.{ClassCol, In, TupleAt, Value, agree, joined, product, upto_from}
 
 -- whether a tuple is older than this one and joins with it
 abbrev pub older_joins : List (List ClassCol) → TupleAt → TupleAt → Bool

@@ -6,12 +6,12 @@ use Rattle.pj_state.specs.Rising.{IsRising, itself}
 use Rattle.pj_state.specs.States.{StateView, is_value, row_under, stored, tickets_of}
 use Rattle.pj_cover.specs.Asking.{Known, entries, first_class, puncts_from, tuples_of}
 use Rattle.pj_cover.specs.declared.rows.Uncovered.{Uncovered}
-use Rattle.pj_events.specs.Patterns.{Pattern, covers, is_wild, matches_row, matches_value}
-use Rattle.pj_events.specs.Join.{CertEntry, CertStep, ClassCol, In, JoinData, PunctAt, TupleAt, agree, cert_of, constant, covered, demand, has, inputs, instance_from, is_held, older_puncts, value_at}
+use Rattle.pj_events.specs.Patterns.{Pattern, covers, is_wild, matches_value}
+use Rattle.pj_events.specs.Join.{CertEntry, CertStep, ClassCol, In, JoinData, PunctAt, TupleAt, agree, cert_of, constant, covered, demand, has, inputs, instance_from, older_puncts, value_at}
 use Rattle.pj_events.specs.KeptState.{kept_low, kept_ripe}
 use Rattle.pj_join.specs.Joins.{JoinView}
 use Rattle.pj_join.specs.Judging.{JudgeView, lets_go, ripe_at, rows_at}
-use Rattle.pj_join.specs.Sides.{row_pairs, state_at, still_held, tuple_in}
+use Rattle.pj_join.specs.Sides.{row_pairs, state_at, tuple_in}
 pub use Rattle.pj_join.specs.declared.marks.Watches.{Watches}
 pub use Rattle.pj_join.specs.declared.marks.Judged.{Judged}
 use Rattle.pj_join.specs.declared.marks.Verdict.{Verdict}

@@ -1,4 +1,4 @@
-use Rattle.std.proofs.Common.{ℕ, ◌<◌, ◌∙◌, List, ap, arith, length}
+use Rattle.std.proofs.Common.{ℕ, ◌∙◌, List, ap, arith}
 use Rattle.pj_join.specs.Leaving.{taken_out}
 use Rattle.pj_join.proofs.Holding.{go_none, no_items, stay_all}
 use Rattle.pj_join.proofs.sweeping.wait_on.Goals as goal

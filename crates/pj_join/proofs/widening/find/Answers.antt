@@ -1,4 +1,4 @@
-use Rattle.std.proofs.Common.{ℕ, List, Option, subst}
+use Rattle.std.proofs.Common.{List, subst}
 use Rattle.pj_state.specs.declared.shared.Stored.{Stored}
 use Rattle.pj_join.specs.Holding.{IsFound}
 use Rattle.pj_join.proofs.Holding.{found_among}

@@ -9,7 +9,7 @@ use Rattle.std.specs.Arc.{arc_value}
 use Rattle.pj_shape.specs.declared.joins.CertStep.{CertStep}
 use Rattle.pj_shape.specs.declared.joins.JoinSpec.{JoinSpec}
 use Rattle.pj_state.specs.States.{StateView}
-use Rattle.pj_events.specs.Join.{PunctAt, inputs, steps_of}
+use Rattle.pj_events.specs.Join.{inputs, steps_of}
 use Rattle.pj_events.specs.KeptState.{kept_low}
 use Rattle.pj_join.specs.Insides.{made_with, seen}
 use Rattle.pj_join.specs.Joins.{join_data}

@@ -1,4 +1,4 @@
-use Rattle.std.proofs.Common.{ℕ, Option, List, Some, None, false, true, ◌≡◌, ◌∙◌, sym, subst}
+use Rattle.std.proofs.Common.{ℕ, Option, List, false, true, ◌≡◌, ◌∙◌, sym, subst}
 use Rattle.pj_events.specs.Patterns.{Pattern}
 use Rattle.pj_join.specs.Holding.{IsFound, IsStaying}
 use Rattle.pj_join.specs.Judging.{widened_among}
