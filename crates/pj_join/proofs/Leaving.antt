@@ -1,103 +1,51 @@
--- What is taken out of a list, from the last place to the first.
-use Rattle.std.proofs.Common.{ℕ, zero, suc, ◌+◌, ◌-◌, ◌<◌, ◌≤◌, Bool, true, false, cond, not, List, [], ◌∷◌, ◌++◌, ◌≡◌, filter, take, drop, length, get_or, refl, sym, ap, ◌∙◌, subst, arith, append_assoc}
-use Rattle.std.specs.List.{remove}
-use Rattle.std.proofs.lemmas.List.{drop_more, take_more, at_drop_all}
-use Rattle.std.proofs.lemmas.List.Elements.{filter-append}
-use Rattle.pj_events.specs.Join.{PunctAt}
-use Rattle.pj_join.specs.Leaving.{TakesOut, taken_out}
+-- What is left of the punctuations that wait.
+use Rattle.std.proofs.Common.{ℕ, ◌<◌, Bool, true, false, cond, not, ◌&&◌, ◌||◌, List, [], ◌∷◌, ◌++◌, ◌≡◌, filter, refl, sym, ap, ◌∙◌, subst, inl, inr, eqb, arith}
+use Rattle.std.proofs.lemmas.Bool.{eq-eqb, eqb-true, false_from_ne_true, false≢true}
+use Rattle.pj_value.proofs.Members.{In-filter, In-filter_from, In-map, In-map_from, any_at, any_from, filter-agree}
+use Rattle.pj_state.specs.Rising.{IsRising}
+use Rattle.pj_events.specs.Join.{In, PunctAt, TupleAt, has, is_held}
+use Rattle.pj_join.specs.Holding.{tickets_where}
+use Rattle.pj_join.specs.Judging.{is_let_go, waiting_on}
+use Rattle.pj_join.specs.Leaving.{puncts_but, puncts_without}
+use Rattle.pj_join.specs.Sides.{heard_at}
+use Rattle.pj_join.proofs.Picked.{above-in}
 
--- ---- the loop from the back
+-- two punctuations with one ticket are the same
+pub alone : (ps : List PunctAt) (p q : PunctAt) → IsRising heard_at ps → In p ps → In q ps → p.ticket ≡ q.ticket → p ≡ q
+alone [] p q r h k e = absurd h
+alone (x ∷ ps) p q r (inl a) (inl b) e = sym a ∙ b
+alone (x ∷ ps) p q r (inl a) (inr k) e = let l : x.ticket < q.ticket = above-in heard_at x.ticket ps q r.0 k in let s : x.ticket ≡ p.ticket = ap heard_at a in absurd (omega (arith, l, s, e))
+alone (x ∷ ps) p q r (inr h) (inl b) e = let l : x.ticket < p.ticket = above-in heard_at x.ticket ps p r.0 h in let s : x.ticket ≡ q.ticket = ap heard_at b in absurd (omega (arith, l, s, e))
+alone (x ∷ ps) p q r (inr h) (inr k) e = alone ps p q r.1 h k e
 
-pub taken_begin : {A : Type 0} (goes : List ℕ) (count : ℕ) (xs : List A) → count ≡ length goes → xs ≡ taken_out (drop (count - 0) goes) xs
-taken_begin goes count xs is = sym (ap (λ (ns : List ℕ). taken_out ns xs) (at_drop_all (λ (ns : List ℕ). ns) goes (count - 0) (omega (arith, is))))
-
-pub taken_on : {A : Type 0} (goes : List ℕ) (count back one : ℕ) (first now next : List A) → count ≡ length goes → back < count → one ≡ get_or goes (count - 1 - back) one
-    → now ≡ taken_out (drop (count - back) goes) first → next ≡ remove now one → next ≡ taken_out (drop (count - (back + 1)) goes) first
-taken_on goes count back one first now next is lt at before made =
-    made ∙ ap (λ ys. remove ys one) before
-    ∙ ap (λ (ns : List ℕ). remove (taken_out ns first) one) (ap (λ n. drop n goes) e)
-    ∙ sym (ap (λ (ns : List ℕ). taken_out ns first) (drop_more goes (count - (back + 1)) one (omega (arith, is, lt)) ∙ ap (λ n. n ∷ drop (count - (back + 1) + 1) goes) same))
+-- the tickets of those that pass tell which pass
+pub tells_where : (goes : PunctAt → Bool) (ps : List PunctAt) (tickets : List ℕ) (p : PunctAt) → IsRising heard_at ps → tickets ≡ tickets_where goes ps → In p ps → has tickets p.ticket ≡ goes p
+tells_where goes ps tickets p r is h = ap (λ ns. has ns p.ticket) is ∙ go (goes p) refl
   where
-    e : count - back ≡ count - (back + 1) + 1
-    e = omega (arith, lt)
-
-    same : get_or goes (count - (back + 1)) one ≡ one
-    same = ap (λ n. get_or goes n one) f ∙ sym at
+    go : (b : Bool) → goes p ≡ b → has (tickets_where goes ps) p.ticket ≡ goes p
+    go true e = any_from (λ n. eqb n p.ticket) (tickets_where goes ps) p.ticket (In-map_from heard_at p (filter goes ps) (In-filter_from goes p ps h e)) (eq-eqb p.ticket p.ticket refl) ∙ sym e
+    go false e = false_from_ne_true (has (tickets_where goes ps) p.ticket) none ∙ sym e
       where
-        f : count - (back + 1) ≡ count - 1 - back
-        f = omega arith
+        none : has (tickets_where goes ps) p.ticket ≡ true → ⊥
+        none t =
+            let m = any_at (λ n. eqb n p.ticket) (tickets_where goes ps) t in
+            let q = In-map heard_at m.0 (filter goes ps) m.1 in
+            let inside = In-filter goes q.0 ps q.1 in
+            let same : q.0 ≡ p = alone ps q.0 p r inside.0 h (q.2 ∙ eqb-true m.0 p.ticket m.2) in
+            false≢true (sym e ∙ subst (λ (x : PunctAt). goes x ≡ true) same inside.1)
 
--- ---- one more goes
-
-taken_last : (goes : List ℕ) (one : ℕ) (xs : List PunctAt) → taken_out (goes ++ one ∷ []) xs ≡ taken_out goes (remove xs one)
-taken_last [] one xs = refl
-taken_last (at ∷ goes) one xs = ap (λ ys. remove ys at) (taken_last goes one xs)
-
-pub takes_out_one : (goes : Bool) (at : ℕ) (old new : List ℕ) → goes ≡ true → new ≡ old ++ at ∷ [] → TakesOut goes at old new
-takes_out_one goes at old new is more xs =
-    ap (λ (ns : List ℕ). taken_out ns xs) more ∙ taken_last old at xs ∙ ap (λ b. taken_out old (cond b (remove xs at) xs)) (sym is)
-
-pub takes_out_none : (goes : Bool) (at : ℕ) (old : List ℕ) → goes ≡ false → TakesOut goes at old old
-takes_out_none goes at old is xs = ap (λ b. taken_out old (cond b (remove xs at) xs)) (sym is)
-
--- ---- those that stay on
-
--- the places take out of the first so many what does not stay on, and leave what stands behind
-abbrev pub AreTaken : (PunctAt → Bool) → List PunctAt → ℕ → List ℕ → Type 0
-AreTaken goes ps i places = (behind : List PunctAt) → taken_out places (take i ps ++ behind) ≡ filter (λ p. not (goes p)) (take i ps) ++ behind
-
-pub none_taken : (goes : PunctAt → Bool) (ps : List PunctAt) → AreTaken goes ps 0 []
-none_taken goes ps behind = refl
-
-remove_last : (xs : List PunctAt) (x : PunctAt) (behind : List PunctAt) (i : ℕ) → length xs ≡ i → remove (xs ++ x ∷ behind) i ≡ xs ++ behind
-remove_last [] x behind zero e = refl
-remove_last [] x behind (suc i) e = absurd (omega (arith, e))
-remove_last (y ∷ ys) x behind zero e = absurd (omega (arith, e))
-remove_last (y ∷ ys) x behind (suc i) e = ap (λ zs. y ∷ zs) (remove_last ys x behind i (omega (arith, e)))
-
-length_take : (i : ℕ) (ps : List PunctAt) → i < length ps → length (take i ps) ≡ i
-length_take zero [] l = refl
-length_take zero (p ∷ ps) l = refl
-length_take (suc i) [] l = absurd (omega (arith, l))
-length_take (suc i) (p ∷ ps) l = ap suc (length_take i ps (omega (arith, l)))
-
-pub taken_more : (goes : PunctAt → Bool) (ps : List PunctAt) (i : ℕ) (p : PunctAt) (old new : List ℕ) → i < length ps → p ≡ get_or ps i p → AreTaken goes ps i old → TakesOut (goes p) i old new → AreTaken goes ps (i + 1) new
-taken_more goes ps i p old new lt at before out behind =
-    ap (taken_out new) front ∙ out (take i ps ++ p ∷ behind) ∙ go (goes p) refl
+pub left_waiting : (stored : List TupleAt) (input : ℕ) (ps : List PunctAt) (goes : List ℕ) → IsRising heard_at ps → goes ≡ tickets_where (is_let_go stored input) ps → puncts_without goes ps ≡ waiting_on stored input ps
+left_waiting stored input ps goes r is =
+    filter-agree (λ p. not (has goes p.ticket)) (λ p. not (eqb p.input input) || is_held stored p) ps (λ p h. ap not (tells_where (is_let_go stored input) ps goes p r is h) ∙ parts (eqb p.input input) (is_held stored p))
   where
-    front : take (i + 1) ps ++ behind ≡ take i ps ++ p ∷ behind
-    front = ap (λ zs. zs ++ behind) (take_more ps i p lt ∙ ap (λ (q : PunctAt). take i ps ++ q ∷ []) (sym at)) ∙ append_assoc (take i ps) (p ∷ []) behind
+    parts : (a b : Bool) → not (a && not b) ≡ (not a || b)
+    parts true true = refl
+    parts true false = refl
+    parts false b = refl
 
-    left : filter (λ p. not (goes p)) (take (i + 1) ps) ≡ filter (λ p. not (goes p)) (take i ps) ++ filter (λ p. not (goes p)) (p ∷ [])
-    left = ap (filter (λ p. not (goes p))) (take_more ps i p lt ∙ ap (λ (q : PunctAt). take i ps ++ q ∷ []) (sym at)) ∙ filter-append (λ p. not (goes p)) (take i ps) (p ∷ [])
-
-    whole : (b : Bool) → goes p ≡ b → filter (λ p. not (goes p)) (take i ps) ++ (cond (not b) (p ∷ []) [] ++ behind) ≡ filter (λ p. not (goes p)) (take (i + 1) ps) ++ behind
-    whole b e = sym (ap (λ zs. zs ++ behind) (left ∙ ap (λ c. filter (λ p. not (goes p)) (take i ps) ++ cond (not c) (p ∷ []) []) e) ∙ append_assoc (filter (λ p. not (goes p)) (take i ps)) (cond (not b) (p ∷ []) []) behind)
-
-    go : (b : Bool) → goes p ≡ b → taken_out old (cond (goes p) (remove (take i ps ++ p ∷ behind) i) (take i ps ++ p ∷ behind)) ≡ filter (λ p. not (goes p)) (take (i + 1) ps) ++ behind
-    go true e =
-        ap (λ c. taken_out old (cond c (remove (take i ps ++ p ∷ behind) i) (take i ps ++ p ∷ behind))) e
-        ∙ ap (taken_out old) (remove_last (take i ps) p behind i (length_take i ps lt))
-        ∙ before behind ∙ whole true e
-    go false e =
-        ap (λ c. taken_out old (cond c (remove (take i ps ++ p ∷ behind) i) (take i ps ++ p ∷ behind))) e
-        ∙ before (p ∷ behind) ∙ whole false e
-
-pub taken_same : (goes : PunctAt → Bool) (ps : List PunctAt) (i : ℕ) (p : PunctAt) (old : List ℕ) → i < length ps → p ≡ get_or ps i p → AreTaken goes ps i old → goes p ≡ false → AreTaken goes ps (i + 1) old
-taken_same goes ps i p old lt at before is = taken_more goes ps i p old old lt at before (takes_out_none (goes p) i old is)
-
-append_none : (xs : List PunctAt) → xs ++ [] ≡ xs
-append_none [] = refl
-append_none (x ∷ xs) = ap (λ ys. x ∷ ys) (append_none xs)
-
-pub all_taken : (goes : PunctAt → Bool) (ps : List PunctAt) (i : ℕ) (places : List ℕ) → AreTaken goes ps i places → length ps ≤ i → taken_out places ps ≡ filter (λ p. not (goes p)) ps
-all_taken goes ps i places before le =
-    ap (taken_out places) (sym (append_none ps))
-    ∙ subst (λ (zs : List PunctAt). taken_out places (zs ++ []) ≡ filter (λ p. not (goes p)) zs ++ []) (all ps i le) (before [])
-    ∙ append_none (filter (λ p. not (goes p)) ps)
-  where
-    all : (qs : List PunctAt) (n : ℕ) → length qs ≤ n → take n qs ≡ qs
-    all [] zero l = refl
-    all [] (suc n) l = refl
-    all (q ∷ qs) zero l = absurd (omega (arith, l))
-    all (q ∷ qs) (suc n) l = ap (λ zs. q ∷ zs) (all qs n (omega (arith, l)))
+-- one that came last is taken out again
+pub last_taken : (ps : List PunctAt) (p : PunctAt) → ((q : PunctAt) → In q ps → q.ticket < p.ticket) → puncts_but p.ticket (ps ++ p ∷ []) ≡ ps
+last_taken [] p before = ap (λ b. cond (not b) (p ∷ []) []) (eq-eqb p.ticket p.ticket refl)
+last_taken (q ∷ ps) p before =
+    ap (λ b. cond (not b) (q ∷ puncts_but p.ticket (ps ++ p ∷ [])) (puncts_but p.ticket (ps ++ p ∷ []))) (false_from_ne_true (eqb q.ticket p.ticket) (λ t. let l = before q (inl refl) in let e = eqb-true q.ticket p.ticket t in omega (arith, l, e)))
+    ∙ ap (λ (qs : List PunctAt). q ∷ qs) (last_taken ps p (λ x h. before x (inr h)))

@@ -38,3 +38,4 @@ pub mod Settled
 pub mod Leaving
 pub mod Spared
 pub mod Ranged
+pub mod Listed

@@ -5,10 +5,10 @@ use Rattle.std.proofs.lemmas.Bool.{and_parts, eq-eqb, eqb-true, false_from_ne_tr
 use Rattle.std.proofs.lemmas.List.{map-append, take_all, take_more}
 use Rattle.std.proofs.lemmas.List.Elements.{filter-append}
 use Rattle.std.proofs.lemmas.Option.{get_or_from_slice_get, slice_get_within}
-use Rattle.pj_value.proofs.Members.{In-map_from, any_from, filter-agree, filter-all, filter-filter, in-place}
+use Rattle.pj_value.proofs.Members.{In-map_from, filter-agree, filter-all, filter-filter, in-place}
 use Rattle.pj_state.specs.declared.shared.Stored.{Stored}
-use Rattle.pj_state.specs.States.{StateView, pair_of as pair_stored, row_in, row_under, stored, ticket_of}
-use Rattle.pj_state.specs.Rising.{AllAbove, IsRising, first_with, is_other, without}
+use Rattle.pj_state.specs.States.{StateView, pair_of as pair_stored, stored, ticket_of}
+use Rattle.pj_state.specs.Rising.{AllAbove, IsRising, is_other, without}
 use Rattle.pj_cover.specs.Stores.{Store}
 use Rattle.pj_shape.specs.Sound.{arities_of}
 use Rattle.pj_events.specs.declared.events.Out.{Out}
@@ -17,7 +17,7 @@ use Rattle.pj_events.specs.Patterns.{Pattern}
 use Rattle.pj_events.specs.Join.{CertStep, ClassCol, In, JoinSpec, PunctAt, TupleAt, Value, has, of_input, upto_from}
 use Rattle.pj_probe.specs.Walks.{sides_at, tuple_at}
 use Rattle.pj_join.specs.Handed.{pair_of, pairs_out}
-use Rattle.pj_join.specs.Judging.{MayJudge, lets_go, one_if, rows_without, widened_among}
+use Rattle.pj_join.specs.Judging.{MayJudge, lets_go, one_if, rows_without}
 use Rattle.pj_join.specs.Sides.{AreAllShaped, AreWide, IsShaped, IsWide, heard_of, no_state, heard_in, heard_with, state_at, stays, still_held, tuple_in, tuples_in}
 use Rattle.pj_join.specs.Walks.{IsNarrowed, may_join, older_joins, suits}
 use Rattle.pj_join.proofs.Combining.{filter-map}
@@ -91,25 +91,6 @@ not_held_more rows gone patterns i s at before none =
     ap (λ (xs : List Stored). still_held xs gone patterns) (take_more rows i s (slice_get_within rows i s at) ∙ ap (λ (t : Stored). take i rows ++ t ∷ []) (get_or_from_slice_get rows i s s at))
     ∙ any-append (stays gone patterns) (take i rows) (s ∷ [])
     ∙ ap₂ (λ a b. a || (b || false)) before none
-
-pub held_here : (rows : List Stored) (gone : List ℕ) (patterns : List Pattern) (i : ℕ) (s : Stored) → slice_get rows i ≡ Some s → stays gone patterns s ≡ true → still_held rows gone patterns ≡ true
-held_here rows gone patterns i s at t =
-    any_from (stays gone patterns) rows s (subst (λ (x : Stored). In x rows) (get_or_from_slice_get rows i s s at) (in-place rows s i (slice_get_within rows i s at))) t
-
-pub held_under : (rows : List Stored) (gone : List ℕ) (patterns : List Pattern) (ticket : ℕ) (row : List Value) → Some row ≡ row_under ticket rows → stays gone patterns (stored ticket row) ≡ true → still_held rows gone patterns ≡ true
-held_under [] gone patterns ticket row at t = absurd (cc)
-held_under (s ∷ rows) gone patterns ticket row at t = go (eqb s.ticket ticket) refl at (λ k. held_under rows gone patterns ticket row k t)
-  where
-    go : (b : Bool) → eqb s.ticket ticket ≡ b → Some row ≡ row_in (cond b (Some s) (first_with ticket_of ticket rows)) → (Some row ≡ row_under ticket rows → still_held rows gone patterns ≡ true) → (stays gone patterns s || still_held rows gone patterns) ≡ true
-    go true e k ih = ap (λ b. b || still_held rows gone patterns) (ap₂ (λ n (r : List Value). stays gone patterns (stored n r)) (eqb-true s.ticket ticket e) (same k) ∙ t)
-      where
-        same : Some row ≡ Some s.row → s.row ≡ row
-        same q = cc
-    go false e k ih = or-right (stays gone patterns s) (ih k)
-      where
-        or-right : (a : Bool) → still_held rows gone patterns ≡ true → (a || still_held rows gone patterns) ≡ true
-        or-right true q = refl
-        or-right false q = q
 
 -- ---- rows that are taken out
 
@@ -258,17 +239,6 @@ small_schema schemas i schema few lt at = let m = member schemas i lt in omega (
     member (c ∷ ss) zero l = omega (arith, sum_by-cons (λ (n : ℕ). n) (length c) (arities_of ss))
     member (c ∷ ss) (suc k) l = let m = member ss k (omega (arith, l)) in omega (arith, m, sum_by-cons (λ (n : ℕ). n) (length c) (arities_of ss))
 
--- a punctuation that is let go
-pub let_go_is : (schemas : List (List Column)) (rows : List Stored) (gone : List ℕ) (input : ℕ) (p : PunctAt) (patterns w : List Pattern) (out out' : List (List Pattern)) → lets_go rows gone input p ≡ true → patterns ≡ p.patterns
-    → ((ticket : ℕ) → w ≡ widened_among schemas (record { ticket = ticket; input = input; patterns = patterns })) → out' ≡ out ++ w ∷ [] → out' ≡ out ++ one_if (lets_go rows gone input p) (widened_among schemas p)
-let_go_is schemas rows gone input p patterns w out out' goes same wide more =
-    subst (λ b. out' ≡ out ++ one_if b (widened_among schemas p)) (sym goes)
-    (more ∙ ap (λ (v : List Pattern). out ++ v ∷ []) (wide p.ticket ∙ ap₂ (λ n (ps : List Pattern). widened_among schemas (record { ticket = p.ticket; input = n; patterns = ps })) (sym (eqb-true p.input input (and_parts (eqb p.input input) _ goes).0)) same))
-
 -- whether one of the swept input goes
 pub goes_where : (rows : List Stored) (gone : List ℕ) (input : ℕ) (p : PunctAt) (held : Bool) → p.input ≡ input → held ≡ still_held rows gone p.patterns → lets_go rows gone input p ≡ not held
 goes_where rows gone input p held own is = ap (λ n. eqb n input && not (still_held rows gone p.patterns)) own ∙ ap (λ b. b && not (still_held rows gone p.patterns)) (eq-eqb input input refl) ∙ ap not (sym is)
-
--- one of another input waits on
-pub waits_elsewhere : (rows : List Stored) (gone : List ℕ) (input : ℕ) (p : PunctAt) → eqb p.input input ≡ false → lets_go rows gone input p ≡ false
-waits_elsewhere rows gone input p other = ap (λ b. b && not (still_held rows gone p.patterns)) other

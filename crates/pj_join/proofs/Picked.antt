@@ -140,6 +140,10 @@ pub young_stop : (rows : List Stored) (list : List ℕ) (count back i from : ℕ
     → ((t : Stored) → In t (drop (count - back) rows) → In t.ticket list) → (t : Stored) → In t rows → from ≤ t.ticket → In t.ticket list
 young_stop rows list count back i from x r at n lt all t h le = all t (subst (λ k. In t (drop k rows)) n (behind rows i x t r at h (omega (arith, lt, le))))
 
+pub append_empty : (xs ys : List ℕ) → length ys ≡ 0 → xs ≡ xs ++ ys
+append_empty xs [] e = sym (append-nil xs)
+append_empty xs (y ∷ ys) e = absurd (omega (arith, e))
+
 pub judged_all : (w : Watches) (rows : List Stored) (young list tickets : List ℕ) → ((s : Stored) → In s rows → w.from ≤ s.ticket → In s.ticket young) → list ≡ young ++ w.marked → ((n : ℕ) → In n list → In n tickets)
     → (s : Stored) → In s rows → is_passed w s.ticket ≡ false → In s.ticket tickets
 judged_all w rows young list tickets all is more s h f = more s.ticket (subst (λ (ns : List ℕ). In s.ticket ns) (sym is) (go (ltb s.ticket w.from) refl (has w.marked s.ticket) refl f))

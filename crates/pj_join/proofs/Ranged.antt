@@ -167,10 +167,6 @@ any-filtered {A} p q (x ∷ xs) t = go (p x) (q x) refl t (any-filtered p q xs)
     go true false e u ih = ih (ap (λ c. c || list_any q (filter p xs)) (sym e) ∙ u)
     go false false e u ih = ih u
 
--- one that stays among those with an integer stays among all
-pub stays_there : (column : ℕ) (next : ℤ) (rows : List Stored) (gone : List ℕ) (ps : List Pattern) → still_held (rows_with column (Int next) rows) gone ps ≡ true → still_held rows gone ps ≡ true
-stays_there column next rows gone ps t = any-filtered (has_value column (Int next)) (stays gone ps) rows t
-
 -- ---- rows whose value a pattern matches
 
 pub held_by : (p : Stored → Bool) (rows : List Stored) (tickets : List ℕ) → tickets ≡ tickets_of (filter p rows) → HoldTrue p rows tickets

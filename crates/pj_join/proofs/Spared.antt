@@ -1,5 +1,5 @@
 -- What rows that stay or go tell of punctuations.
-use Rattle.std.proofs.Common.{ℕ, suc, ◌++◌, ◌+◌, ◌-◌, ◌≤◌, Bool, true, false, cond, not, ◌&&◌, ◌||◌, List, [], ◌∷◌, ◌≡◌, filter, length, inl, inr, refl, sym, ap, ap₂, ◌∙◌, subst, eqb, arith}
+use Rattle.std.proofs.Common.{ℕ, suc, ◌≤◌, Bool, true, false, cond, not, ◌&&◌, ◌||◌, List, [], ◌∷◌, ◌≡◌, filter, length, inl, inr, refl, sym, ap, ap₂, ◌∙◌, subst, eqb, arith}
 use Rattle.std.specs.List.{list_any}
 use Rattle.std.proofs.lemmas.Bool.{eq-eqb}
 use Rattle.std.proofs.lemmas.List.{length-map}
@@ -8,16 +8,9 @@ use Rattle.pj_state.specs.declared.shared.Stored.{Stored}
 use Rattle.pj_state.specs.States.{ticket_of}
 use Rattle.pj_events.specs.Patterns.{Pattern, matches_row}
 use Rattle.pj_events.specs.Join.{In, has}
-use Rattle.pj_join.specs.Judging.{JudgeView, one_if, ripe_at, ripe_tickets, rows_at}
+use Rattle.pj_join.specs.Judging.{JudgeView, ripe_at, ripe_tickets, rows_at}
 use Rattle.pj_join.specs.Sides.{stays, still_held}
 use Rattle.pj_join.specs.Watching.{AreSome}
-
-append-none : {A : Type 0} (xs : List A) → xs ++ [] ≡ xs
-append-none [] = refl
-append-none (x ∷ xs) = ap (λ ys. x ∷ ys) (append-none xs)
-
-pub adds_none : {A : Type 0} (goes : Bool) (x : A) (xs : List A) → goes ≡ false → xs ≡ xs ++ one_if goes x
-adds_none goes x xs stays-on = sym (ap (λ b. xs ++ one_if b x) stays-on ∙ append-none xs)
 
 -- ---- where all go
 

@@ -13,8 +13,9 @@ use Rattle.pj_value.proofs.Members.{In-filter, In-map_from, filter-agree, filter
 use Rattle.pj_join.specs.declared.place.Place.{Place}
 use Rattle.pj_join.specs.Joins.{JoinView, after}
 use Rattle.pj_join.specs.Insides.{IsJoin, IsOrdered, Rise, inside, lowest, made_with, seen, tickets}
-use Rattle.pj_join.specs.Judging.{JudgeView, is_let_go, letting_go, lets_go, ripe_at, ripe_rows, ripe_tickets, rows_without, staying_on, waiting_on}
-use Rattle.pj_join.specs.Sides.{IsShaped, log_of, merged, place_of, puncts_of, state_at, stays, still_held, ticket_at, tuple_in, tuples_in}
+use Rattle.pj_join.specs.Judging.{JudgeView, is_let_go, letting_go, lets_go, ripe_at, ripe_rows, ripe_tickets, rows_without, waiting_on}
+use Rattle.pj_join.specs.Sides.{IsShaped, heard_at, log_of, merged, place_of, puncts_of, state_at, stays, still_held, ticket_at, tuple_in, tuples_in}
+use Rattle.pj_join.specs.Holding.{tickets_where}
 use Rattle.pj_join.specs.Sweeping.{puncts_up, rows_off, swept_off}
 use Rattle.pj_join.proofs.Classes.{eqb-below}
 use Rattle.pj_join.proofs.Combining.{filter-map}
@@ -107,7 +108,7 @@ module _ (node : ℕ) (spec : JoinData) (limit next done : ℕ) (states : List S
       (sym (map-map (λ (x : TupleAt). x.row) (tuple_in input) (filter (ripe_at (judge-of low settled)) rows)) ∙ ap (map (λ (x : TupleAt). x.row)) (ripe-are low settled is))
 
   module _ (gone : List ℕ) (are : gone ≡ tickets (swept_off join input)) where
-    has-is : (x : TupleAt) → In x log → has gone x.ticket ≡ goes x
+    pub has-is : (x : TupleAt) → In x log → has gone x.ticket ≡ goes x
     has-is x h = ap (λ ts. has ts x.ticket) are ∙ gone-has 0 goes log next j.ordered.rising x h
 
     -- the rows that are left are the input's tuples that the sweep leaves
@@ -134,13 +135,8 @@ module _ (node : ℕ) (spec : JoinData) (limit next done : ℕ) (states : List S
         go true e = ap not (held-is p (eqb-true p.input input e))
         go false e = refl
 
-    pub waiting-are : (on : List PunctAt) → on ≡ staying_on rows gone input waiting → on ≡ waiting_on (swept spec join.kept input) input waiting
-    waiting-are on e = e ∙ filter-agree (λ p. not (lets_go rows gone input p)) (λ p. not (eqb p.input input) || is_held (swept spec join.kept input) p) waiting (λ p h. ap not (lets-go-is p) ∙ parts (eqb p.input input) (is_held (swept spec join.kept input) p))
-      where
-        parts : (a b : Bool) → not (a && not b) ≡ (not a || b)
-        parts true true = refl
-        parts true false = refl
-        parts false b = refl
+    pub goes-are : (up : List ℕ) → up ≡ tickets_where (lets_go rows gone input) waiting → up ≡ tickets_where (is_let_go (swept spec join.kept input) input) waiting
+    goes-are up e = e ∙ ap (map heard_at) (filter-agree (lets_go rows gone input) (is_let_go (swept spec join.kept input) input) waiting (λ p h. lets-go-is p))
 
     pub going-are : (old new : List (List Pattern)) → new ≡ old ++ letting_go spec.shape.inputs rows gone input waiting → new ≡ old ++ puncts_up join (Sweep input)
     going-are old new e = e ∙ ap (λ (ps : List PunctAt). old ++ map (widened spec) ps) (filter-agree (lets_go rows gone input) (is_let_go (swept spec join.kept input) input) waiting (λ p h. lets-go-is p))

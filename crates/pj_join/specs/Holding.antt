@@ -1,15 +1,45 @@
 -- Which stored tuples hold the punctuations back that wait.
-use Rattle.std.specs.Prelude.{ℕ, ◌<◌, ◌≡◌, ◌==◌, ◌&&◌, Bool, true, false, List, [], ◌∷◌, ◌++◌, length, slice_get, Option, Some, None}
+use Rattle.std.specs.Prelude.{ℕ, ◌<◌, ◌≡◌, ◌==◌, ◌&&◌, ◌⊎◌, Bool, true, false, List, [], ◌++◌, ◌∷◌, map, filter, Option, Some, None}
+use Rattle.std.specs.BTreeMap.{is_at}
+use Rattle.std.specs.List.{list_any}
+use Rattle.std.specs.Ordering.{nat_cmp, ordering_then}
+use Rattle.std.specs.declared.cmp.Ordering.{Ordering}
 use Rattle.pj_state.specs.declared.shared.Stored.{Stored}
 use Rattle.pj_events.specs.Patterns.{Pattern, matches_row}
 use Rattle.pj_events.specs.Join.{In, PunctAt, TupleAt, has}
-use Rattle.pj_events.specs.KeptState.{swept}
-use Rattle.pj_join.specs.declared.waiting.Waiting.{Waiting}
 use Rattle.pj_join.specs.declared.widening.Swept.{Swept}
-use Rattle.pj_join.specs.Joins.{JoinView}
-use Rattle.pj_join.specs.Judging.{JudgeView, rows_at, staying_on, waiting_on}
-use Rattle.pj_join.specs.Sides.{stays, still_held, tuple_in}
+use Rattle.pj_join.specs.Judging.{lets_go, widened_among}
+use Rattle.pj_join.specs.Sides.{heard_at, stays, still_held}
 use Rattle.pj_join.specs.Watching.{goes_up}
+
+-- a punctuation that waits, without its ticket
+pub record HeardView : Type 0 where
+  pub input : ℕ
+  pub patterns : List Pattern
+
+-- the punctuations that wait, in order of tickets, and what is listed: the ticket of a tuple with that of a punctuation
+pub record WaitingView : Type 0 where
+  pub puncts : List PunctAt
+  pub listed : List (ℕ × ℕ)
+
+abbrev pub waits_at : ℕ → HeardView → PunctAt
+waits_at ticket p = record { ticket = ticket; input = p.input; patterns = p.patterns }
+
+-- the punctuations of a map by tickets
+abbrev pub waiting_in : List (ℕ × HeardView) → List PunctAt
+waiting_in entries = map (λ e. waits_at e.0 e.1) entries
+
+-- by the tuple, then by the punctuation
+abbrev pub listing_cmp : ℕ × ℕ → ℕ × ℕ → Ordering
+listing_cmp x y = ordering_then (nat_cmp x.0 y.0) (nat_cmp x.1 y.1)
+
+-- whether the second ticket, of a punctuation, is listed under the first, of a tuple
+abbrev pub is_listed : WaitingView → ℕ × ℕ → Bool
+is_listed w q = list_any (is_at (listing_cmp q)) w.listed
+
+-- what was listed is
+abbrev pub KeepsLists : WaitingView → WaitingView → Type 0
+KeepsLists old new = (q : ℕ × ℕ) → is_listed old q ≡ true → is_listed new q ≡ true
 
 -- the tuple is of the punctuation's input, and matches it
 abbrev pub holds : PunctAt → TupleAt → Bool
@@ -19,12 +49,10 @@ holds p x = (x.input == p.input) && matches_row p.patterns x.row
 abbrev pub IsHolder : List TupleAt → PunctAt → ℕ → Type 0
 IsHolder stored p ticket = (x : TupleAt) × In x stored × (x.ticket ≡ ticket) × (holds p x ≡ true)
 
--- for each punctuation the one with its ticket does
-abbrev pub AreHolders : List TupleAt → List PunctAt → List ℕ → Type 0
-AreHolders stored [] [] = Unit {0}
-AreHolders stored [] (t ∷ ts) = ⊥
-AreHolders stored (p ∷ ps) [] = ⊥
-AreHolders stored (p ∷ ps) (t ∷ ts) = IsHolder stored p t × AreHolders stored ps ts
+-- each punctuation came before the next ticket, and is listed under a stored tuple that holds it back
+pub record AreHeld (next : ℕ) (stored : List TupleAt) (w : WaitingView) : Type 0 where
+  pub before : (p : PunctAt) → In p w.puncts → p.ticket < next
+  pub held : (p : PunctAt) → In p w.puncts → (t : ℕ) × IsHolder stored p t × (is_listed w (t, p.ticket) ≡ true)
 
 -- ---- rows of an input
 
@@ -37,50 +65,47 @@ abbrev pub IsFound : List Stored → List ℕ → List Pattern → Option ℕ �
 IsFound rows gone patterns None = still_held rows gone patterns ≡ false
 IsFound rows gone patterns (Some ticket) = IsStaying rows gone patterns ticket
 
--- each punctuation of the input has a row of it
-pub record AreHeldBy (rows : List Stored) (input : ℕ) (w : Waiting) : Type 0 where
-  pub count : length w.holders ≡ length w.puncts
-  pub held : (at : ℕ) (p : PunctAt) (t : ℕ) → slice_get w.puncts at ≡ Some p → slice_get w.holders at ≡ Some t → p.input ≡ input → IsStaying rows [] p.patterns t
+-- a row that is not among those that go matches the punctuation, which is listed under it
+abbrev pub IsHeldBy : List Stored → List ℕ → WaitingView → PunctAt → Type 0
+IsHeldBy rows gone w p = (t : ℕ) × IsStaying rows gone p.patterns t × (is_listed w (t, p.ticket) ≡ true)
 
--- a punctuation that comes waits with a row that matches it, where there is one
-abbrev pub IsHeldIf : Bool → List Stored → List Pattern → List ℕ → List ℕ → Type 0
-IsHeldIf true rows patterns ts us = (t : ℕ) × (us ≡ ts ++ t ∷ []) × IsStaying rows [] patterns t
-IsHeldIf false rows patterns ts us = us ≡ ts
+-- each punctuation of the input is listed under a row that matches it
+pub record AreHeldBy (rows : List Stored) (input : ℕ) (w : WaitingView) : Type 0 where
+  pub held : (p : PunctAt) → In p w.puncts → p.input ≡ input → IsHeldBy rows [] w p
 
-abbrev pub IsHeldFrom : List Stored → List Pattern → List ℕ → List ℕ → Type 0
-IsHeldFrom rows patterns ts us = IsHeldIf (still_held rows [] patterns) rows patterns ts us
+-- a punctuation that comes is listed under a row that matches it, where there is one
+abbrev pub IsListedIf : Bool → List Stored → List Pattern → ℕ → WaitingView → Type 0
+IsListedIf true rows patterns ticket w = (t : ℕ) × IsStaying rows [] patterns t × (is_listed w (t, ticket) ≡ true)
+IsListedIf false rows patterns ticket w = Unit {0}
 
 -- ---- behind a sweep
 
--- a punctuation of the input has a row that stays, and one of another input what it had
-abbrev pub HoldsOn : Swept → PunctAt → ℕ → ℕ → Type 0
-HoldsOn s p old t = (p.input ≡ s.input → IsStaying s.state.now.rows s.gone.now p.patterns t) × ((p.input == s.input) ≡ false → t ≡ old)
+-- each punctuation of the input that does not go up is listed under a row that stays
+abbrev pub StayHeld : List Stored → List ℕ → ℕ → WaitingView → Type 0
+StayHeld rows gone input w = (p : PunctAt) → In p w.puncts → p.input ≡ input → lets_go rows gone input p ≡ false → IsHeldBy rows gone w p
 
--- where it does not go up
-abbrev pub HasHolderIf : Bool → Swept → PunctAt → ℕ → List ℕ → List ℕ → Type 0
-HasHolderIf true s p old ts us = us ≡ ts
-HasHolderIf false s p old ts us = (t : ℕ) × (us ≡ ts ++ t ∷ []) × HoldsOn s p old t
+-- the tickets of the punctuations that pass
+abbrev pub tickets_where : (PunctAt → Bool) → List PunctAt → List ℕ
+tickets_where goes ps = map heard_at (filter goes ps)
 
-abbrev pub HasHolder : Swept → PunctAt → ℕ → List ℕ → List ℕ → Type 0
-HasHolder s p old ts us = HasHolderIf (goes_up s p) s p old ts us
+-- no punctuation with the ticket goes up, and one of the input is listed under a row that stays
+pub record StaysListed (s : Swept) (w : WaitingView) (ticket : ℕ) : Type 0 where
+  pub stays : (p : PunctAt) → In p w.puncts → p.ticket ≡ ticket → goes_up s p ≡ false
+  pub held : (p : PunctAt) → In p w.puncts → p.ticket ≡ ticket → p.input ≡ s.input → IsHeldBy s.state.now.rows s.gone.now w p
 
--- the tuples of other inputs are left, and the rows of the input that do not go
-pub record AreLeftBehind (input : ℕ) (rows : List Stored) (gone : List ℕ) (stored after : List TupleAt) : Type 0 where
-  pub others : (x : TupleAt) → In x stored → (x.input == input) ≡ false → In x after
-  pub own : (s : Stored) → In s rows → has gone s.ticket ≡ false → In (tuple_in input s) after
+-- it goes up, widened
+abbrev pub GoesUp : Swept → WaitingView → ℕ → List (List Pattern) → List (List Pattern) → Type 0
+GoesUp s w ticket out out' = (p : PunctAt) × In p w.puncts × (p.ticket ≡ ticket) × (goes_up s p ≡ true) × (out' ≡ out ++ widened_among s.schemas.now p ∷ [])
 
--- wherever the tuples stand of which these were holders, the new ones hold back what still waits
-abbrev pub HoldBack : ℕ → List Stored → List ℕ → Waiting → List ℕ → Type 0
-HoldBack input rows gone w us =
-    (stored after : List TupleAt) → AreLeftBehind input rows gone stored after → AreHolders stored w.puncts w.holders → AreHolders after (staying_on rows gone input w.puncts) us
+abbrev pub IsLetGo : Swept → WaitingView → ℕ → List ℕ → List ℕ → List (List Pattern) → List (List Pattern) → Type 0
+IsLetGo s w ticket goes goes' out out' =
+    ((goes' ≡ goes) × (out' ≡ out) × StaysListed s w ticket) ⊎ ((goes' ≡ goes ++ ticket ∷ []) × GoesUp s w ticket out out')
 
-abbrev pub HoldOn : Swept → Waiting → List ℕ → Type 0
-HoldOn s w us = HoldBack s.input s.state.now.rows s.gone.now w us
+-- each is listed under a tuple that goes
+abbrev pub AreFreed : List ℕ → List (ℕ × ℕ) → Type 0
+AreFreed gone freed = (q : ℕ × ℕ) → In q freed → In q.0 gone
 
-abbrev pub HoldBehind : JudgeView → List ℕ → Waiting → List ℕ → Type 0
-HoldBehind j gone w us = HoldBack j.input (rows_at j) gone w us
-
--- where a tuple goes, these hold back what waits behind the sweep
-abbrev pub HoldWhere : List ℕ → JoinView → ℕ → List ℕ → Type 0
-HoldWhere gone join input us =
-    0 < length gone → AreHolders (swept join.spec join.kept input) (waiting_on (swept join.spec join.kept input) input join.kept.waiting) us
+-- each punctuation that does not go is listed under a tuple that is left, and stays so
+abbrev pub AreHeldBehind : List TupleAt → List ℕ → List (ℕ × ℕ) → WaitingView → Type 0
+AreHeldBehind after goes freed w =
+    (p : PunctAt) → In p w.puncts → has goes p.ticket ≡ false → (t : ℕ) × IsHolder after p t × (is_listed w (t, p.ticket) ≡ true) × (In (t, p.ticket) freed → ⊥)

@@ -3,7 +3,7 @@ use Rattle.std.specs.Prelude.{ℕ, ◌≤◌, ◌≡◌, Bool, true, false, List
 use Rattle.pj_shape.specs.declared.joins.CertStep.{CertStep}
 use Rattle.pj_shape.specs.declared.joins.JoinSpec.{JoinSpec}
 pub use Rattle.pj_join.specs.declared.found.Found.{Found}
-use Rattle.pj_events.specs.Join.{In, JoinData, Step, Take, start, run, has, joined, results, AreLegalSteps}
+use Rattle.pj_events.specs.Join.{In, JoinData, PunctAt, Step, Take, start, run, has, joined, results, AreLegalSteps}
 use Rattle.pj_events.specs.KeptState.{KeptState, kept_step, JoinStands}
 
 -- its number among the nodes, what it joins by, how many elements may reach it, and what it keeps of those that did
@@ -20,6 +20,10 @@ join_data shape schemes certs = record { shape = shape; schemes = schemes; certs
 -- the join after a step
 abbrev pub after : JoinView → Step → JoinView
 after join e = record join { kept = kept_step join.spec join.kept e }
+
+-- the join with these punctuations as those that wait
+abbrev pub with_waiting : List PunctAt → JoinView → JoinView
+with_waiting ps join = record join { kept = record join.kept { waiting = ps } }
 
 -- the ticket is taken and not given
 abbrev pub IsTaken : KeptState → ℕ → Type 0

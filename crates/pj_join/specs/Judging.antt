@@ -80,9 +80,6 @@ going_up schemas stored input ps = map (widened_among schemas) (filter (is_let_g
 abbrev pub lets_go : List Stored → List ℕ → ℕ → PunctAt → Bool
 lets_go rows gone input p = (p.input == input) && not (still_held rows gone p.patterns)
 
-abbrev pub staying_on : List Stored → List ℕ → ℕ → List PunctAt → List PunctAt
-staying_on rows gone input ps = filter (λ p. not (lets_go rows gone input p)) ps
-
 abbrev pub letting_go : List (List Column) → List Stored → List ℕ → ℕ → List PunctAt → List (List Pattern)
 letting_go schemas rows gone input ps = map (widened_among schemas) (filter (lets_go rows gone input) ps)
 

@@ -1,13 +1,21 @@
 -- What a sweep takes out of the punctuations that wait.
-use Rattle.std.specs.Prelude.{ℕ, Bool, List, [], ◌∷◌, ◌≡◌, if◌then◌else◌}
-use Rattle.std.specs.List.{remove}
-use Rattle.pj_events.specs.Join.{PunctAt}
+use Rattle.std.specs.Prelude.{ℕ, ◌≡◌, ◌==◌, ◌⊎◌, true, not, List, filter}
+use Rattle.pj_events.specs.Join.{In, PunctAt, has}
+use Rattle.pj_join.specs.Holding.{WaitingView, is_listed}
 
--- the list without what stands at these places, of which the last is taken out first
-abbrev pub taken_out : {A : Type 0} → List ℕ → List A → List A
-taken_out [] xs = xs
-taken_out (at ∷ goes) xs = remove (taken_out goes xs) at
+-- the punctuations with other tickets
+abbrev pub puncts_but : ℕ → List PunctAt → List PunctAt
+puncts_but ticket ps = filter (λ p. not (p.ticket == ticket)) ps
 
--- the new places take out what the old ones do, and before that what stands at this place, where it goes
-abbrev pub TakesOut : Bool → ℕ → List ℕ → List ℕ → Type 0
-TakesOut goes at old new = (xs : List PunctAt) → taken_out new xs ≡ taken_out old (if goes then remove xs at else xs)
+abbrev pub puncts_without : List ℕ → List PunctAt → List PunctAt
+puncts_without tickets ps = filter (λ p. not (has tickets p.ticket)) ps
+
+-- what was listed and is not among these is listed
+abbrev pub KeepsOthers : List (ℕ × ℕ) → WaitingView → WaitingView → Type 0
+KeepsOthers freed old new = (q : ℕ × ℕ) → is_listed old q ≡ true → (In q freed → ⊥) → is_listed new q ≡ true
+
+-- what is listed under the tuple came to these listings, and nothing under another
+pub record HasUnder (w : WaitingView) (holder : ℕ) (old new : List (ℕ × ℕ)) : Type 0 where
+  pub all : (n : ℕ) → is_listed w (holder, n) ≡ true → In (holder, n) new
+  pub kept : (q : ℕ × ℕ) → In q old → In q new
+  pub those : (q : ℕ × ℕ) → In q new → In q old ⊎ (q.0 ≡ holder)

@@ -5,7 +5,6 @@ use pj_pattern::Punct;
 use pj_value::{NoMemory, Row};
 use std::alloc::Global;
 use std::marker::Model;
-use std::sync::Arc;
 
 /// A tuple that has come, with its ticket and its input. Its row is lent.
 #[derive(Drop)]
@@ -31,21 +30,19 @@ pub struct Coming {
     pub punct: Punct,
 }
 
-/// A punctuation that waits, with its ticket and its input. Its patterns are shared.
+/// A punctuation that waits, with its input.
 #[derive(Drop)]
 pub struct Heard {
-    ticket: u64,
     input: u32,
-    punct: Arc<Punct, Global>,
+    punct: Punct,
 }
 
 impl Model for Heard {
-    ghost use Rattle.std.specs.Arc.{arc_value};
-    ghost use Rattle.pj_events.specs.Join.{PunctAt};
+    ghost use Rattle.pj_join.specs.Holding.{HeardView};
 
-    ghost Value = { PunctAt };
+    ghost Value = { HeardView };
 
-    ghost view = { λ p. record { ticket = p.ticket; input = p.input; patterns = arc_value p.punct } };
+    ghost view = { λ p. record { input = p.input; patterns = p.punct } };
 }
 
 impl<'a> Arrived<'a> {
@@ -79,16 +76,13 @@ impl<'a> Arrived<'a> {
 }
 
 impl Heard {
-    /// A copy of a punctuation with its ticket and its input.
-    pub fn new(alloc: Global, ticket: u64, input: u32, punct: &Punct) -> Result<Heard, NoMemory>
-        ensures { IfOk result (λ p. p ≡ record { ticket = ticket; input = input; patterns = punct.now }) }
+    /// A copy of a punctuation with its input.
+    pub fn new(alloc: Global, input: u32, punct: &Punct) -> Result<Heard, NoMemory>
+        ensures { IfOk result (λ p. p ≡ record { input = input; patterns = punct.now }) }
     {
-        let punct = punct.copy(alloc)?;
-        let punct = Arc::new(alloc, punct)?;
         Ok(Heard {
-            ticket,
             input,
-            punct,
+            punct: punct.copy(alloc)?,
         })
     }
 

@@ -1,18 +1,19 @@
 // A join over plain lists.
 ghost use Rattle.std.specs.Prelude.{◌≡◌, ◌<◌, ◌≤◌, ◌+◌, ◌^◌, ◌↔◌, All, List, [], ◌∷◌, ◌++◌, length, OnOk, OnErr, IfOk, IsErrOf, IsTrue, Err, map, slice_index_or, take, ◌==◌};
+ghost use Rattle.pj_state.specs.Rising.{IsRising};
 ghost use Rattle.pj_state.specs.States.{state_of, stored};
 ghost use Rattle.pj_shape.specs.Sound.{IsSoundSpec};
 ghost use Rattle.pj_events.specs.Join.{AreCertified, Step, TupleComes, PunctComes, Take, Give, Sweep, IsNew, start, run, low, inputs, arity};
 ghost use Rattle.pj_events.specs.KeptState.{kept_of, kept_low, swept, without};
 ghost use Rattle.std.specs.List.{position};
-ghost use Rattle.pj_join.specs.Holding.{HoldWhere};
-ghost use Rattle.pj_join.specs.Leaving.{taken_out};
+ghost use Rattle.pj_join.specs.Holding.{AreHeld, AreHeldBehind, KeepsLists, tickets_where};
 ghost use Rattle.pj_join.specs.Handed.{JoinProbes, StandsProbed, rows_probed};
 ghost use Rattle.pj_join.specs.Insides.{Rise, tickets};
-ghost use Rattle.pj_join.specs.Judging.{waiting_on};
-ghost use Rattle.pj_join.specs.Joins.{IsTaken, StandsFor, JoinTakes, StandsTaken, after, join_data};
+ghost use Rattle.pj_join.specs.Judging.{is_let_go, waiting_on};
+ghost use Rattle.pj_join.specs.Joins.{IsTaken, StandsFor, JoinTakes, StandsTaken, after, join_data, with_waiting};
 ghost use Rattle.pj_join.specs.Watching.{AreOpenBut};
-ghost use Rattle.pj_join.specs.Sweeping.{GoesWhereCovered, HandsUp, HasBeenLawful, IsForgotten, puncts_up, rows_off, swept_off};
+ghost use Rattle.pj_join.specs.Sides.{heard_at};
+ghost use Rattle.pj_join.specs.Sweeping.{GoesWhereCovered, HandsUp, HasBeenLawful, IsForgotten, puncts_let_go, puncts_up, rows_off, swept_off};
 
 use crate::arrivals::Coming;
 use crate::coverage::LentPunct;
@@ -65,14 +66,14 @@ impl Model for Join {
     ghost use Rattle.pj_join.specs.Joins.{JoinView, join_data};
     ghost use Rattle.pj_join.specs.Insides.{IsJoin, inside, lowest, made_with, seen};
     ghost use Rattle.pj_join.specs.Sides.{log_of, puncts_of};
-    ghost use Rattle.pj_join.specs.Holding.{AreHolders};
+    ghost use Rattle.pj_join.specs.Holding.{AreHeld};
     ghost use Rattle.pj_join.specs.Watching.{AreWatched};
 
     ghost Value = { JoinView };
 
     ghost view = { λ j. seen (made_with j.node (join_data (arc_value j.spec) j.schemes j.certs) j.limit) j.next j.done (log_of j.states.items) (puncts_of j.stores.items) j.waiting.puncts j.taken.items };
 
-    ghost invariant = { λ j. IsJoin (join_data (arc_value j.spec) j.schemes j.certs) j.limit (inside j.next j.done j.states.items j.stores.items j.pending j.taken.items) × AreWatched (join_data (arc_value j.spec) j.schemes j.certs) j.next (lowest j.next j.done (log_of j.states.items) j.taken.items) (log_of j.states.items) (puncts_of j.stores.items) j.watches.items × AreHolders (log_of j.states.items) j.waiting.puncts j.waiting.holders };
+    ghost invariant = { λ j. IsJoin (join_data (arc_value j.spec) j.schemes j.certs) j.limit (inside j.next j.done j.states.items j.stores.items j.pending j.taken.items) × AreWatched (join_data (arc_value j.spec) j.schemes j.certs) j.next (lowest j.next j.done (log_of j.states.items) j.taken.items) (log_of j.states.items) (puncts_of j.stores.items) j.watches.items × AreHeld j.next (log_of j.states.items) j.waiting };
 }
 
 impl Join {
@@ -306,10 +307,39 @@ impl Join {
         forgetting_is_safe();
         ripeness();
         lawfulness();
+        let mut waiting = std::mem::replace(&mut self.waiting, Waiting::new(self.alloc));
+        let swept = self.sweep_rows(&mut waiting, input, removed, out);
+        self.waiting = waiting;
+        swept
+    }
+
+    // The same, where the punctuations that wait stand beside the join.
+    fn sweep_rows(
+        &mut self,
+        waiting: &mut Waiting,
+        input: u32,
+        removed: &mut List<Row>,
+        out: &mut List<Punct>,
+    ) -> Result<u64, NoMemory>
+        requires there { input < inputs self.old.spec }
+        requires beside { self.old.kept.waiting ≡ [] }
+        requires held { AreHeld self.old.kept.next self.old.kept.stored waiting.old }
+        ensures certified { OnOk result (AreCertified self.old.spec) }
+        ensures sweeps { OnOk result (self.new ≡ after self.old (Sweep input)) }
+        ensures count { IfOk result (λ count. count ≡ length (swept_off self.old input)) }
+        ensures removed { OnOk result (removed.new ≡ removed.old ++ rows_off self.old input) }
+        ensures waiting { OnOk result (waiting.new.puncts ≡ waiting_on (swept self.old.spec self.old.kept input) input waiting.old.puncts) }
+        ensures out { OnOk result (out.new ≡ out.old ++ puncts_let_go (with_waiting waiting.old.puncts self.old) input) }
+        ensures held { AreHeld self.new.kept.next self.new.kept.stored waiting.new }
+        ensures refused { OnErr result ((self.new ≡ self.old) × (waiting.new.puncts ≡ waiting.old.puncts) × (removed.new ≡ removed.old) × (out.new ≡ out.old)) }
+    {
         let before = removed.len();
         let out_before = out.len();
-        match self.judge(input, removed, out) {
-            Ok(left) => Ok(self.settle(input, left)),
+        match self.judge(waiting, input, removed, out) {
+            Ok(left) => {
+                waiting.leave(&left.waiting);
+                Ok(self.settle(input, left))
+            }
             Err(stop) => {
                 removed.truncate(before);
                 out.truncate(out_before);
@@ -322,18 +352,23 @@ impl Join {
     // are let go at the end of `out`. After a refusal both begin as before.
     fn judge(
         &self,
+        waiting: &mut Waiting,
         input: u32,
         removed: &mut List<Row>,
         out: &mut List<Punct>,
     ) -> Result<Left, NoMemory>
         requires there { input < inputs self.now.spec }
+        requires held { AreHeld self.now.kept.next self.now.kept.stored waiting.old }
         ensures certified { OnOk result (AreCertified self.now.spec) }
         ensures gone { IfOk result (λ left. left.gone ≡ tickets (swept_off self.now input)) }
         ensures marked { IfOk result (λ left. AreOpenBut self.now input left.marked) }
-        ensures waiting { IfOk result (λ left. taken_out left.waiting.goes self.now.kept.waiting ≡ waiting_on (swept self.now.spec self.now.kept input) input self.now.kept.waiting) }
-        ensures holders { IfOk result (λ left. HoldWhere left.gone self.now input left.waiting.holders) }
+        ensures goes { IfOk result (λ left. left.waiting.goes ≡ tickets_where (is_let_go (swept self.now.spec self.now.kept input) input) waiting.old.puncts) }
+        ensures held { IfOk result (λ left. AreHeldBehind (swept self.now.spec self.now.kept input) left.waiting.goes left.waiting.freed waiting.new) }
+        ensures puncts { waiting.new.puncts ≡ waiting.old.puncts }
+        ensures keeps { KeepsLists waiting.old waiting.new }
+        ensures rising { OnOk result (IsRising heard_at waiting.old.puncts) }
         ensures removed { OnOk result (removed.new ≡ removed.old ++ rows_off self.now input) }
-        ensures out { OnOk result (out.new ≡ out.old ++ puncts_up self.now (Sweep input)) }
+        ensures out { OnOk result (out.new ≡ out.old ++ puncts_let_go (with_waiting waiting.old.puncts self.now) input) }
         ensures err { OnErr result ((take (length removed.old) removed.new ≡ removed.old) × (take (length out.old) out.new ≡ out.old)) }
     {
         let none = Cert::of(List::new(self.alloc));
@@ -352,32 +387,30 @@ impl Join {
         let left = judge.sweep(
             self.alloc,
             &self.watches[input as usize],
-            &self.waiting,
+            waiting,
             removed,
             out,
         )?;
         Ok(left)
     }
 
-    // Takes over what a sweep of the input leaves, and answers how many tuples went.
+    // Takes over which tuples of the input go, and which are judged again, and answers how many go.
     fn settle(&mut self, input: u32, left: Left) -> u64
         requires there { input < inputs self.old.spec }
+        requires beside { self.old.kept.waiting ≡ [] }
         requires gone { left.gone ≡ tickets (swept_off self.old input) }
         requires marked { AreOpenBut self.old input left.marked }
-        requires waiting { taken_out left.waiting.goes self.old.kept.waiting ≡ waiting_on (swept self.old.spec self.old.kept input) input self.old.kept.waiting }
-        requires holders { HoldWhere left.gone self.old input left.waiting.holders }
         ensures sweeps { self.new ≡ after self.old (Sweep input) }
         ensures count { result ≡ length (swept_off self.old input) }
     {
         let Left {
             gone,
             marked,
-            waiting,
+            waiting: _,
         } = left;
         let count = gone.len();
         let from = self.low();
         self.done -= count;
-        self.waiting.leave(self.alloc, count, waiting);
         self.watches[input as usize] = Watches { from, marked };
         rouse(
             &mut self.watches,
@@ -416,7 +449,7 @@ impl Join {
     pub fn waiting(&self) -> u64
         ensures { result ≡ length self.now.kept.waiting }
     {
-        self.waiting.puncts.len() as u64
+        self.waiting.len() as u64
     }
 
     /// How many tickets are not taken.

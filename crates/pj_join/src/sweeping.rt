@@ -4,10 +4,10 @@ ghost use Rattle.pj_value.specs.Lists.{In};
 ghost use Rattle.pj_state.specs.declared.shared.Stored.{Stored};
 ghost use Rattle.pj_state.specs.Rising.{IsRising, itself};
 ghost use Rattle.pj_state.specs.States.{state_of, stored, ticket_of};
-ghost use Rattle.pj_join.specs.Holding.{AreHeldBy, HoldBehind, HoldOn};
-ghost use Rattle.pj_join.specs.Leaving.{taken_out};
-ghost use Rattle.pj_join.specs.Judging.{BothMore, letting_go, one_if, ripe_rows, ripe_tickets, row_in, rows_at, rows_without, staying_on};
-ghost use Rattle.pj_join.specs.Watching.{AreJudged, AreLookedAt, IsOneJudged, IsSwept, IsVerdict, NoneIsRipe, all_picked, goes_by, is_passed, marked_by, picked, verdict_on};
+ghost use Rattle.pj_join.specs.Holding.{AreFreed, AreHeldBy, KeepsLists, StayHeld, tickets_where};
+ghost use Rattle.pj_join.specs.Judging.{BothMore, letting_go, lets_go, one_if, ripe_rows, ripe_tickets, row_in, rows_at, rows_without};
+ghost use Rattle.pj_join.specs.Sides.{heard_at};
+ghost use Rattle.pj_join.specs.Watching.{AreJudged, AreLookedAt, IsOneJudged, IsVerdict, NoneIsRipe, all_picked, goes_by, is_passed, marked_by, picked, verdict_on};
 
 use crate::marks::{Judged, Verdict, Watches};
 use crate::stored::Inputs;
@@ -134,8 +134,10 @@ pub fn in_order(list: List<u64>) -> Vec<u64>
     ensures all { (n : ℕ) → In n list → In n result.items }
 {
     let mut tickets = list.into_vec();
-    tickets.sort_unstable();
-    tickets.dedup();
+    if tickets.len() > 1 {
+        tickets.sort_unstable();
+        tickets.dedup();
+    }
     tickets
 }
 
@@ -146,32 +148,10 @@ fn to_judge(alloc: Global, watches: &Watches, state: &State) -> Result<Vec<u64>,
     ensures all { IfOk result (λ tickets. (s : Stored) → In s state.now.rows → is_passed watches.now s.ticket ≡ false → In s.ticket tickets.items) }
 {
     let mut list = young(alloc, state, watches.from)?;
-    list.append(watches.marked.as_slice())?;
-    Ok(in_order(list))
-}
-
-// What is left of the punctuations that wait where these rows go; those that do not wait on are put at the end of `out`, widened.
-// Where none goes it is not told what holds them back.
-fn wait_on(
-    alloc: Global,
-    swept: &Swept<'_>,
-    waiting: &Waiting,
-    out: &mut List<Punct>,
-) -> Result<StillWaiting, NoMemory>
-    requires swept { IsSwept swept.now }
-    requires held { AreHeldBy swept.now.state.now.rows swept.now.input waiting.now }
-    ensures waiting { IfOk result (λ left. taken_out left.goes waiting.now.puncts ≡ staying_on swept.now.state.now.rows swept.now.gone.now swept.now.input waiting.now.puncts) }
-    ensures holders { 0 < length swept.now.gone.now → IfOk result (λ left. HoldOn swept.now waiting.now left.holders) }
-    ensures ok { let s = swept.now in OnOk result (out.new ≡ out.old ++ letting_go s.schemas.now s.state.now.rows s.gone.now s.input waiting.now.puncts) }
-    ensures err { OnErr result (take (length out.old) out.new ≡ out.old) }
-{
-    if swept.gone.len() == 0 {
-        return Ok(StillWaiting {
-            goes: List::new(alloc),
-            holders: List::new(alloc),
-        });
+    if watches.marked.len() > 0 {
+        list.append(watches.marked.as_slice())?;
     }
-    swept.let_go(alloc, waiting, out)
+    Ok(in_order(list))
 }
 
 impl<'a> Judge<'a> {
@@ -279,18 +259,22 @@ impl<'a> Judge<'a> {
         &self,
         alloc: Global,
         watches: &Watches,
-        waiting: &Waiting,
+        waiting: &mut Waiting,
         removed: &mut List<Row>,
         out: &mut List<Punct>,
     ) -> Result<Left, NoMemory>
         requires passed { NoneIsRipe self.now watches.now }
-        requires held { AreHeldBy (rows_at self.now) self.now.input waiting.now }
+        requires held { AreHeldBy (rows_at self.now) self.now.input waiting.old }
         ensures gone { IfOk result (λ left. left.gone ≡ ripe_tickets self.now) }
         ensures left { IfOk result (λ left. AreLookedAt self.now watches.now left.marked) }
-        ensures waiting { IfOk result (λ left. taken_out left.waiting.goes waiting.now.puncts ≡ staying_on (rows_at self.now) left.gone self.now.input waiting.now.puncts) }
-        ensures holders { IfOk result (λ left. 0 < length left.gone → HoldBehind self.now left.gone waiting.now left.waiting.holders) }
+        ensures goes { IfOk result (λ left. left.waiting.goes ≡ tickets_where (lets_go (rows_at self.now) left.gone self.now.input) waiting.old.puncts) }
+        ensures freed { IfOk result (λ left. AreFreed left.gone left.waiting.freed) }
+        ensures held { IfOk result (λ left. StayHeld (rows_at self.now) left.gone self.now.input waiting.new) }
+        ensures puncts { waiting.new.puncts ≡ waiting.old.puncts }
+        ensures keeps { KeepsLists waiting.old waiting.new }
+        ensures rising { OnOk result (IsRising heard_at waiting.old.puncts) }
         ensures removed { OnOk result (removed.new ≡ removed.old ++ ripe_rows self.now) }
-        ensures out { IfOk result (λ left. out.new ≡ out.old ++ letting_go self.now.spec.inputs (rows_at self.now) left.gone self.now.input waiting.now.puncts) }
+        ensures out { IfOk result (λ left. out.new ≡ out.old ++ letting_go self.now.spec.inputs (rows_at self.now) left.gone self.now.input waiting.old.puncts) }
         ensures err { OnErr result ((take (length removed.old) removed.new ≡ removed.old) × (take (length out.old) out.new ≡ out.old)) }
     {
         let judged = self.ripe_ones(alloc, watches, removed)?;
@@ -301,7 +285,7 @@ impl<'a> Judge<'a> {
             state: &self.states[self.input as usize],
             gone: gone.as_slice(),
         };
-        let waiting = wait_on(alloc, &swept, waiting, out)?;
+        let waiting = swept.let_go(alloc, waiting, out)?;
         Ok(Left {
             gone,
             marked,

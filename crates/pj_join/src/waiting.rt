@@ -1,96 +1,148 @@
 // The punctuations that wait at a join.
-ghost use Rattle.std.specs.Prelude.{◌≡◌, ◌<◌, ◌++◌, ◌∷◌, [], OnOk, OnErr};
-ghost use Rattle.std.specs.List.{remove};
-ghost use Rattle.pj_join.specs.Leaving.{taken_out};
+ghost use Rattle.std.specs.Prelude.{ℕ, ◌≡◌, ◌<◌, ◌≤◌, ◌++◌, ◌∷◌, [], true, false, length, IfSome, IfNone, IfOk, OnOk, OnErr};
+ghost use Rattle.pj_events.specs.Join.{In, PunctAt};
+ghost use Rattle.pj_state.specs.Rising.{IsRising, itself};
+ghost use Rattle.pj_join.specs.Holding.{AreFreed, KeepsLists, is_listed, waits_at};
+ghost use Rattle.pj_join.specs.Leaving.{HasUnder, KeepsOthers, puncts_but, puncts_without};
+ghost use Rattle.pj_join.specs.Sides.{heard_at};
 
 use crate::arrivals::Heard;
 use pj_value::{List, NoMemory};
 use std::alloc::Global;
+use std::collections::{BTreeMap, BTreeSet};
+use std::marker::Model;
+use std::ops::Bound;
 
-/// Punctuations that wait, and for each the ticket of a stored tuple that holds it back.
+/// The punctuations that wait, by their tickets. Each is listed under the ticket of a stored tuple that holds it back, so that
+/// those are found which tuples that go held back.
 #[derive(Drop)]
 pub struct Waiting {
-    pub puncts: List<Heard>,
-    pub holders: List<u64>,
+    puncts: BTreeMap<u64, Heard>,
+    lists: BTreeSet<(u64, u64)>,
 }
 
-/// What a sweep leaves of the punctuations that wait: the places of those that go up, which rise, and the holders of the others.
+/// What a sweep leaves of the punctuations that wait: the tickets of those that go up, which rise, and what was listed under
+/// the tuples that go, each time the tuple's ticket and the punctuation's.
 #[derive(Drop)]
 pub struct StillWaiting {
-    pub goes: List<usize>,
-    pub holders: List<u64>,
+    pub goes: List<u64>,
+    pub freed: List<(u64, u64)>,
+}
+
+impl Model for Waiting {
+    ghost use Rattle.pj_join.specs.Holding.{WaitingView, waiting_in};
+
+    ghost Value = { WaitingView };
+
+    ghost view = { λ w. record { puncts = waiting_in w.puncts.entries; listed = w.lists.keys } };
 }
 
 impl Waiting {
     /// None waits.
     pub fn new(alloc: Global) -> Waiting
-        ensures puncts { result.puncts ≡ [] }
-        ensures holders { result.holders ≡ [] }
+        ensures { result.puncts ≡ [] }
     {
         Waiting {
-            puncts: List::new(alloc),
-            holders: List::new(alloc),
+            puncts: BTreeMap::new(alloc),
+            lists: BTreeSet::new(alloc),
         }
     }
 
-    /// One more waits, which the tuple with this ticket holds back. On a refusal all is as it was.
-    pub fn push(&mut self, punct: Heard, holder: u64) -> Result<(), NoMemory>
-        ensures puncts { OnOk result (self.new.puncts ≡ self.old.puncts ++ punct ∷ []) }
-        ensures holders { OnOk result (self.new.holders ≡ self.old.holders ++ holder ∷ []) }
-        ensures err { OnErr result (self.new ≡ self.old) }
+    /// How many wait.
+    pub fn len(&self) -> usize
+        ensures len { result ≡ length self.now.puncts }
+        ensures rising { IsRising heard_at self.now.puncts }
     {
-        let count = self.puncts.len();
-        self.puncts.push(punct)?;
-        match self.holders.push(holder) {
-            Ok(()) => Ok(()),
-            Err(stop) => {
-                self.puncts.truncate(count);
-                Err(stop)
+        self.puncts.len()
+    }
+
+    /// One more waits, which came last.
+    pub fn push(&mut self, ticket: u64, punct: Heard) -> Result<(), NoMemory>
+        requires { (p : PunctAt) → In p self.old.puncts → p.ticket < ticket }
+        ensures ok { OnOk result (self.new.puncts ≡ self.old.puncts ++ waits_at ticket punct ∷ []) }
+        ensures err { OnErr result (self.new.puncts ≡ self.old.puncts) }
+        ensures lists { self.new.listed ≡ self.old.listed }
+    {
+        self.puncts.insert(ticket, punct)?;
+        Ok(())
+    }
+
+    /// Lists a punctuation under a tuple.
+    pub fn list(&mut self, holder: u64, ticket: u64) -> Result<(), NoMemory>
+        ensures ok { OnOk result (is_listed self.new (holder, ticket) ≡ true) }
+        ensures keeps { KeepsLists self.old self.new }
+        ensures puncts { self.new.puncts ≡ self.old.puncts }
+    {
+        self.lists.insert((holder, ticket))?;
+        Ok(())
+    }
+
+    /// What is listed under these tuples, whose tickets rise: each time the tuple's ticket and the punctuation's. Steps over
+    /// the tuples that nothing is listed under.
+    pub fn listed_under(&self, alloc: Global, holders: &[u64]) -> Result<List<(u64, u64)>, NoMemory>
+        requires { IsRising itself holders.now }
+        ensures all { IfOk result (λ listed. (t n : ℕ) → In t holders.now → is_listed self.now (t, n) ≡ true → In (t, n) listed) }
+        ensures those { IfOk result (λ listed. AreFreed holders.now listed) }
+    {
+        let mut listed = List::new(alloc);
+        let mut next = 0;
+        for holder in holders {
+            if *holder >= next {
+                match self.append_under(*holder, &mut listed)? {
+                    None => return Ok(listed),
+                    Some(first) => next = first,
+                }
             }
         }
+        Ok(listed)
     }
 
-    /// Takes over what a sweep leaves that removed so many tuples; where none went the holders are as they were.
-    pub fn leave(&mut self, alloc: Global, gone: usize, left: StillWaiting)
-        ensures puncts { self.new.puncts ≡ taken_out left.goes self.old.puncts }
-        ensures some { 0 < gone → self.new.holders ≡ left.holders }
-        ensures none { gone ≡ 0 → self.new.holders ≡ self.old.holders }
+    // Puts what is listed under a tuple at the end of `listed`. Answers the next tuple behind it that something is listed under.
+    fn append_under(
+        &self,
+        holder: u64,
+        listed: &mut List<(u64, u64)>,
+    ) -> Result<Option<u64>, NoMemory>
+        ensures found { OnOk result (HasUnder self.now holder listed.old listed.new) }
+        ensures none { IfOk result (λ next. IfNone next ((t n : ℕ) → holder < t → is_listed self.now (t, n) ≡ false)) }
+        ensures some { IfOk result (λ next. IfSome next (λ first. (t n : ℕ) → holder < t → is_listed self.now (t, n) ≡ true → first ≤ t)) }
     {
-        let StillWaiting { goes, holders } = left;
-        take_out_all(alloc, &mut self.puncts, goes.as_slice());
-        if gone > 0 {
-            self.holders = holders;
+        let from = Bound::Included((holder, 0));
+        for listing in self.lists.range((from, Bound::Unbounded)) {
+            if listing.0 != holder {
+                return Ok(Some(listing.0));
+            }
+            listed.push(*listing)?;
+        }
+        Ok(None)
+    }
+
+    /// The punctuation with a ticket; `None` exactly where none waits.
+    pub fn get(&self, ticket: u64) -> Option<&Heard>
+        ensures found { IfSome result (λ punct. In (waits_at ticket punct.now) self.now.puncts) }
+        ensures missing { IfNone result ((p : PunctAt) → In p self.now.puncts → p.ticket ≡ ticket → ⊥) }
+    {
+        self.puncts.get(&ticket)
+    }
+
+    /// Takes out the punctuation with a ticket, where one waits.
+    pub fn remove(&mut self, ticket: u64)
+        ensures puncts { self.new.puncts ≡ puncts_but ticket self.old.puncts }
+        ensures lists { self.new.listed ≡ self.old.listed }
+    {
+        self.puncts.remove(&ticket);
+    }
+
+    /// Takes over what a sweep leaves.
+    pub fn leave(&mut self, left: &StillWaiting)
+        ensures puncts { self.new.puncts ≡ puncts_without left.now.goes self.old.puncts }
+        ensures lists { KeepsOthers left.now.freed self.old self.new }
+    {
+        for ticket in left.goes.as_slice() {
+            self.remove(*ticket);
+        }
+        for listing in left.freed.as_slice() {
+            self.lists.remove(listing);
         }
     }
-}
-
-fn take_out(puncts: &mut Vec<Heard>, at: usize)
-    ensures { puncts.new.items ≡ remove puncts.old.items at }
-{
-    if at < puncts.len() {
-        puncts.remove(at);
-    }
-}
-
-// Takes out what stands at these places, the last first.
-#[tactic(auto, using(crate::proofs::Leaving::taken_begin, crate::proofs::Leaving::taken_on))]
-fn take_out_each(puncts: &mut Vec<Heard>, goes: &[usize])
-    ensures { puncts.new.items ≡ taken_out goes.now puncts.old.items }
-{
-    let count = goes.len();
-    for back in 0..count {
-        take_out(puncts, goes[count - 1 - back]);
-    }
-}
-
-// Takes out what stands at these places.
-fn take_out_all(alloc: Global, puncts: &mut List<Heard>, goes: &[usize])
-    ensures { puncts.new ≡ taken_out goes.now puncts.old }
-{
-    if goes.len() == 0 {
-        return;
-    }
-    let mut list = std::mem::replace(puncts, List::new(alloc)).into_vec();
-    take_out_each(&mut list, goes);
-    *puncts = List::of(list);
 }

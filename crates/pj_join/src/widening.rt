@@ -1,21 +1,21 @@
 // Punctuations that a join hands up, or that wait.
 ghost use Rattle.std.specs.Prelude.{◌≡◌, ◌<◌, ◌++◌, ◌∷◌, [], ℕ, not, true, false, is_some, length, map, sum, take, OnOk, OnErr, IfOk, IfSome};
-ghost use Rattle.pj_events.specs.Join.{has};
+ghost use Rattle.pj_events.specs.Join.{In, PunctAt, has};
 ghost use Rattle.pj_events.specs.Patterns.{all_wild, is_wild};
 ghost use Rattle.pj_shape.specs.Sound.{arities_of};
 ghost use Rattle.pj_state.specs.Rising.{IsRising, itself};
 ghost use Rattle.pj_state.specs.States.{stored, ticket_of};
 ghost use Rattle.pj_cover.specs.Stores.{IsAbove};
-ghost use Rattle.pj_join.specs.Holding.{AreHeldBy, HasHolder, HoldOn, HoldsOn, IsFound, IsHeldFrom, IsStaying};
-ghost use Rattle.pj_join.specs.Leaving.{TakesOut, taken_out};
-ghost use Rattle.pj_join.specs.Judging.{going_at_once, letting_go, one_if, staying_on, waiting_with, widened_among};
+ghost use Rattle.pj_join.specs.Holding.{AreFreed, AreHeldBy, IsFound, IsLetGo, IsListedIf, KeepsLists, StayHeld, is_listed, tickets_where};
+ghost use Rattle.pj_join.specs.Judging.{going_at_once, letting_go, waiting_with, widened_among};
 ghost use Rattle.pj_pattern.specs.declared.pattern.Form.TheVariants.{Constant};
-ghost use Rattle.pj_join.specs.Sides.{IsLookup, coming_punct, stays, still_held};
+ghost use Rattle.pj_join.specs.Sides.{IsLookup, coming_punct, heard_at, stays, still_held};
 ghost use Rattle.pj_join.specs.Watching.{AreSome, IsSwept, goes_up};
 
 use crate::arrivals::{Coming, Heard};
 use crate::lookups::Lookup;
 use crate::ranges::{find_among, first_stretch};
+use crate::sweeping::in_order;
 use crate::waiting::{StillWaiting, Waiting};
 use pj_cover::PunctStore;
 use pj_pattern::{Pattern, Punct, Shape};
@@ -243,107 +243,94 @@ pub struct Swept<'a> {
     pub gone: &'a [u64],
 }
 
+// The second of each of these.
+fn punct_tickets(alloc: Global, listed: &[(u64, u64)]) -> Result<List<u64>, NoMemory>
+    ensures { IfOk result (λ tickets. tickets ≡ map (λ q. q.1) listed.now) }
+{
+    let mut tickets = List::with_room(alloc, listed.len())?;
+    for listing in listed {
+        tickets.push(listing.1)?;
+    }
+    Ok(tickets)
+}
+
 impl<'a> Swept<'a> {
-    // Whether it is known that the holder of a punctuation stays. One of another input loses none.
-    fn stays_held(&self, punct: &Heard, holder: u64) -> bool
-        requires swept { IsSwept self.now }
-        requires held { punct.now.input ≡ self.now.input → IsStaying self.now.state.now.rows [] punct.now.patterns holder }
-        ensures own { result ≡ false → punct.now.input ≡ self.now.input }
-        ensures waits { result ≡ true → goes_up self.now punct.now ≡ false }
-        ensures holds { result ≡ true → HoldsOn self.now punct.now holder holder }
-    {
-        if punct.input() != self.input {
-            return true;
-        }
-        !is_gone(self.gone, holder)
-    }
-
-    // Puts the punctuation of the input at the end of those that go up, widened, where no row that stays matches it; else it has
-    // another holder.
-    #[tactic(auto, using(crate::proofs::Leaving::takes_out_one, crate::proofs::Leaving::takes_out_none, crate::proofs::Spared::adds_none, crate::proofs::Holding::holder_found, crate::proofs::Holding::holder_gone, crate::proofs::Looped::let_go_is))]
-    fn let_own_go(
-        &self,
-        alloc: Global,
-        at: usize,
-        punct: &Heard,
-        left: &mut StillWaiting,
-        out: &mut List<Punct>,
-    ) -> Result<(), NoMemory>
-        requires swept { IsSwept self.now }
-        requires own { punct.now.input ≡ self.now.input }
-        ensures goes { OnOk result (TakesOut (goes_up self.now punct.now) at left.old.goes left.new.goes) }
-        ensures holders { (old : ℕ) → OnOk result (HasHolder self.now punct.now old left.old.holders left.new.holders) }
-        ensures ok { OnOk result (out.new ≡ out.old ++ one_if (goes_up self.now punct.now) (widened_among self.now.schemas.now punct.now)) }
-        ensures err { OnErr result (out.new ≡ out.old) }
-    {
-        match find_left(self.state, self.gone, punct.punct()) {
-            None => {
-                left.goes.push(at)?;
-                let own = punct.punct().as_slice();
-                out.push(widened(alloc, self.schemas, self.input, own)?)?;
-            }
-            Some(found) => {
-                left.holders.push(found)?;
-            }
-        }
-        Ok(())
-    }
-
-    // The same of a punctuation of any input: one whose holder stays waits on.
-    #[tactic(auto, using(crate::proofs::Leaving::takes_out_none, crate::proofs::Spared::adds_none, crate::proofs::Holding::holder_kept))]
+    // Puts the punctuation of the input with a ticket at the end of those that go up, widened, where no row that stays matches
+    // it; else lists it under one.
     fn let_one_go(
         &self,
         alloc: Global,
-        at: usize,
-        punct: &Heard,
-        holder: u64,
-        left: &mut StillWaiting,
+        ticket: u64,
+        waiting: &mut Waiting,
+        goes: &mut List<u64>,
         out: &mut List<Punct>,
     ) -> Result<(), NoMemory>
         requires swept { IsSwept self.now }
-        requires held { punct.now.input ≡ self.now.input → IsStaying self.now.state.now.rows [] punct.now.patterns holder }
-        ensures goes { OnOk result (TakesOut (goes_up self.now punct.now) at left.old.goes left.new.goes) }
-        ensures holders { OnOk result (HasHolder self.now punct.now holder left.old.holders left.new.holders) }
-        ensures ok { OnOk result (out.new ≡ out.old ++ one_if (goes_up self.now punct.now) (widened_among self.now.schemas.now punct.now)) }
+        requires rising { IsRising heard_at waiting.old.puncts }
+        ensures ok { OnOk result (IsLetGo self.now waiting.new ticket goes.old goes.new out.old out.new) }
         ensures err { OnErr result (out.new ≡ out.old) }
+        ensures puncts { waiting.new.puncts ≡ waiting.old.puncts }
+        ensures keeps { KeepsLists waiting.old waiting.new }
     {
-        if self.stays_held(punct, holder) {
-            left.holders.push(holder)?;
-            return Ok(());
+        match waiting.get(ticket) {
+            None => Ok(()),
+            Some(punct) => {
+                if punct.input() != self.input {
+                    return Ok(());
+                }
+                match find_left(self.state, self.gone, punct.punct()) {
+                    None => {
+                        goes.push(ticket)?;
+                        let own = punct.punct().as_slice();
+                        out.push(widened(alloc, self.schemas, self.input, own)?)?;
+                        Ok(())
+                    }
+                    Some(found) => {
+                        waiting.list(found, ticket)?;
+                        Ok(())
+                    }
+                }
+            }
         }
-        self.let_own_go(alloc, at, punct, left, out)
     }
 
     /// Puts the waiting punctuations of the input that none of its rows but those that go matches at the end of `out`, widened,
-    /// and answers what is left of those that wait.
-    #[tactic(auto, using(crate::proofs::Leaving::none_taken, crate::proofs::Leaving::all_taken))]
+    /// and answers what is left of those that wait. Looks at those alone that are listed under a row that goes, and lists each
+    /// that waits on under one that stays.
     pub fn let_go(
         &self,
         alloc: Global,
-        waiting: &Waiting,
+        waiting: &mut Waiting,
         out: &mut List<Punct>,
     ) -> Result<StillWaiting, NoMemory>
         requires swept { IsSwept self.now }
-        requires held { AreHeldBy self.now.state.now.rows self.now.input waiting.now }
-        ensures waiting { IfOk result (λ left. taken_out left.goes waiting.now.puncts ≡ staying_on self.now.state.now.rows self.now.gone.now self.now.input waiting.now.puncts) }
-        ensures holders { IfOk result (λ left. HoldOn self.now waiting.now left.holders) }
-        ensures ok { let s = self.now in OnOk result (out.new ≡ out.old ++ letting_go s.schemas.now s.state.now.rows s.gone.now s.input waiting.now.puncts) }
+        requires held { AreHeldBy self.now.state.now.rows self.now.input waiting.old }
+        ensures goes { IfOk result (λ left. left.goes ≡ tickets_where (goes_up self.now) waiting.old.puncts) }
+        ensures freed { IfOk result (λ left. AreFreed self.now.gone.now left.freed) }
+        ensures held { OnOk result (StayHeld self.now.state.now.rows self.now.gone.now self.now.input waiting.new) }
+        ensures puncts { waiting.new.puncts ≡ waiting.old.puncts }
+        ensures keeps { KeepsLists waiting.old waiting.new }
+        ensures rising { OnOk result (IsRising heard_at waiting.old.puncts) }
+        ensures ok { let s = self.now in OnOk result (out.new ≡ out.old ++ letting_go s.schemas.now s.state.now.rows s.gone.now s.input waiting.old.puncts) }
         ensures err { OnErr result (take (length out.old) out.new ≡ out.old) }
     {
-        let puncts = waiting.puncts.as_slice();
-        let holders = waiting.holders.as_slice();
-        let mut left = StillWaiting {
-            goes: List::new(alloc),
-            holders: List::with_room(alloc, holders.len())?,
-        };
-        for at in 0..puncts.len() {
-            self.let_one_go(alloc, at, &puncts[at], holders[at], &mut left, out)?;
+        if waiting.len() == 0 || self.gone.len() == 0 {
+            return Ok(StillWaiting {
+                goes: List::new(alloc),
+                freed: List::new(alloc),
+            });
         }
-        Ok(left)
+        let freed = waiting.listed_under(alloc, self.gone)?;
+        let tickets = in_order(punct_tickets(alloc, freed.as_slice())?);
+        let mut goes = List::new(alloc);
+        for ticket in tickets.as_slice() {
+            self.let_one_go(alloc, *ticket, waiting, &mut goes, out)?;
+        }
+        Ok(StillWaiting { goes, freed })
     }
 }
 
-// Keeps a punctuation among all, and a copy among those that wait, held back by the tuple with this ticket; or neither.
+// Keeps a punctuation among all, and a copy among those that wait, listed under the tuple with this ticket; or neither.
 fn keep_waiting(
     alloc: Global,
     store: &mut PunctStore,
@@ -353,25 +340,25 @@ fn keep_waiting(
 ) -> Result<(), NoMemory>
     requires fits { length coming.punct ≡ store.old.arity }
     requires rises { IsAbove coming.ticket store.old.kept }
+    requires before { (p : PunctAt) → In p waiting.old.puncts → p.ticket < coming.ticket }
     ensures arity { store.new.arity ≡ store.old.arity }
     ensures store { OnOk result (store.new.kept ≡ store.old.kept ++ record { punct = coming.punct; number = coming.ticket } ∷ []) }
     ensures waiting { OnOk result (waiting.new.puncts ≡ waiting.old.puncts ++ coming_punct coming ∷ []) }
-    ensures holders { OnOk result (waiting.new.holders ≡ waiting.old.holders ++ holder ∷ []) }
-    ensures err { OnErr result ((store.new.kept ≡ store.old.kept) × (waiting.new ≡ waiting.old)) }
+    ensures listed { OnOk result (is_listed waiting.new (holder, coming.ticket) ≡ true) }
+    ensures keeps { KeepsLists waiting.old waiting.new }
+    ensures err { OnErr result ((store.new.kept ≡ store.old.kept) × (waiting.new.puncts ≡ waiting.old.puncts)) }
 {
     let Coming {
         ticket,
         input,
         punct,
     } = coming;
-    let count = waiting.puncts.len();
-    let held = waiting.holders.len();
-    waiting.push(Heard::new(alloc, ticket, input, &punct)?, holder)?;
+    waiting.list(holder, ticket)?;
+    waiting.push(ticket, Heard::new(alloc, input, &punct)?)?;
     match store.push(punct, ticket) {
         Ok(()) => Ok(()),
         Err(stop) => {
-            waiting.puncts.truncate(count);
-            waiting.holders.truncate(held);
+            waiting.remove(ticket);
             Err(stop)
         }
     }
@@ -410,7 +397,7 @@ fn hand_up(
 }
 
 /// Keeps a punctuation of an input with these rows: it waits where a row matches it, and is put at the end of `out` where none
-/// does, widened. On a refusal all is as before.
+/// does, widened. On a refusal all is as before, but for what is listed.
 pub fn hear(
     alloc: Global,
     schemas: &[Schema],
@@ -423,12 +410,14 @@ pub fn hear(
     requires there { coming.input < length schemas.now }
     requires fits { length coming.punct ≡ store.old.arity }
     requires rises { IsAbove coming.ticket store.old.kept }
+    requires before { (p : PunctAt) → In p waiting.old.puncts → p.ticket < coming.ticket }
     ensures arity { store.new.arity ≡ store.old.arity }
     ensures store { OnOk result (store.new.kept ≡ store.old.kept ++ record { punct = coming.punct; number = coming.ticket } ∷ []) }
     ensures waiting { let held = still_held state.now.rows [] coming.punct in OnOk result (waiting.new.puncts ≡ waiting_with held waiting.old.puncts (coming_punct coming)) }
-    ensures holders { OnOk result (IsHeldFrom state.now.rows coming.punct waiting.old.holders waiting.new.holders) }
+    ensures listed { OnOk result (IsListedIf (still_held state.now.rows [] coming.punct) state.now.rows coming.punct coming.ticket waiting.new) }
+    ensures keeps { KeepsLists waiting.old waiting.new }
     ensures out { let held = still_held state.now.rows [] coming.punct in OnOk result (out.new ≡ out.old ++ going_at_once schemas.now held (coming_punct coming)) }
-    ensures err { OnErr result ((store.new.kept ≡ store.old.kept) × (waiting.new ≡ waiting.old) × (out.new ≡ out.old)) }
+    ensures err { OnErr result ((store.new.kept ≡ store.old.kept) × (waiting.new.puncts ≡ waiting.old.puncts) × (out.new ≡ out.old)) }
 {
     match find(state, &[], &coming.punct) {
         Some(found) => keep_waiting(alloc, store, waiting, coming, found),

@@ -1,6 +1,6 @@
 use Rattle.std.proofs.Common.{true, [], ◌≡◌, ◌++◌, sym, subst}
 use Rattle.std.specs.Prelude.{OnOk}
-use Rattle.pj_join.specs.Holding.{IsHeldIf}
+use Rattle.pj_join.specs.Holding.{IsListedIf}
 use Rattle.pj_join.specs.Judging.{going_at_once, waiting_with}
 use Rattle.pj_join.specs.Sides.{coming_punct, still_held}
 use Rattle.pj_join.proofs.Holding.{append-none, found_held, on_any, on_ok}
@@ -13,10 +13,10 @@ pub returns-in-Some-clause-waiting : goal.returns-in-Some-clause-waiting
 returns-in-Some-clause-waiting c =
     subst (λ b. OnOk c.keep_waiting.result (c.keep_waiting.new.waiting.puncts ≡ waiting_with b c.args.waiting.now.puncts (coming_punct c.args.coming))) (sym (held c)) c.keep_waiting.ensures.waiting
 
-pub returns-in-Some-clause-holders : goal.returns-in-Some-clause-holders
-returns-in-Some-clause-holders c =
-    subst (λ b. OnOk c.keep_waiting.result (IsHeldIf b c.args.state.now.rows c.args.coming.punct c.args.waiting.now.holders c.keep_waiting.new.waiting.holders)) (sym (held c))
-    (on_ok c.keep_waiting.result (λ more. (c.in-Some.found, more, c.in-Some.ensures)) c.keep_waiting.ensures.holders)
+pub returns-in-Some-clause-listed : goal.returns-in-Some-clause-listed
+returns-in-Some-clause-listed c =
+    subst (λ b. OnOk c.keep_waiting.result (IsListedIf b c.args.state.now.rows c.args.coming.punct c.args.coming.ticket c.keep_waiting.new.waiting)) (sym (held c))
+    (on_ok c.keep_waiting.result (λ listed. (c.in-Some.found, c.in-Some.ensures, listed)) c.keep_waiting.ensures.listed)
 
 pub returns-in-Some-clause-out : goal.returns-in-Some-clause-out
 returns-in-Some-clause-out c =

@@ -1,9 +1,8 @@
 use Rattle.std.proofs.Common.{◌≡◌, ◌<◌, ◌∙◌, ◌++◌, [], List, ap, arith, eqb, get_or, refl, sym, subst}
 use Rattle.std.proofs.lemmas.Bool.{eqb-true}
-use Rattle.pj_join.specs.Holding.{AreHeldBy, HoldBack}
-use Rattle.pj_join.specs.Leaving.{taken_out}
+use Rattle.pj_join.specs.Holding.{AreHeld, AreHeldBy, StayHeld, tickets_where}
 use Rattle.pj_join.specs.Watching.{AreWatched, watches_at}
-use Rattle.pj_join.proofs.Holding.{held_rows, held_where}
+use Rattle.pj_join.proofs.Holding.{held_behind, held_rows}
 use Rattle.pj_join.proofs.Watched.{none_ripe, open_but, same_looked, same_none, watch_is}
 use Rattle.std.specs.Arc.{arc_value}
 use Rattle.pj_shape.specs.declared.joins.CertStep.{CertStep}
@@ -13,11 +12,11 @@ use Rattle.pj_events.specs.Join.{inputs, steps_of}
 use Rattle.pj_events.specs.KeptState.{kept_low}
 use Rattle.pj_join.specs.Insides.{made_with, seen}
 use Rattle.pj_join.specs.Joins.{join_data}
-use Rattle.pj_join.specs.Judging.{letting_go, ripe_rows, ripe_tickets, staying_on}
+use Rattle.pj_join.specs.Judging.{letting_go, lets_go, ripe_rows, ripe_tickets}
 use Rattle.pj_join.specs.Sides.{log_of, puncts_of, state_at}
 use Rattle.pj_join.proofs.Judged.{may_judge_by}
 use Rattle.pj_join.proofs.Kept.{side-is}
-use Rattle.pj_join.proofs.Swept.{going-are, gone-are, rows-are, same-judge, waiting-are}
+use Rattle.pj_join.proofs.Swept.{goes-are, going-are, gone-are, has-is, rows-are, same-judge}
 use Rattle.pj_join.proofs.join.Join.judge.Goals as goal
 
 pub invariant_of-judge : goal.invariant_of-judge
@@ -42,9 +41,11 @@ pub sweep-requires-clause-held : goal.sweep-requires-clause-held
 sweep-requires-clause-held c =
     let lt : c.args.input < inputs c.args.self.now.spec = c.requires.there in
     let there : c.args.input < inputs (join_data (arc_value c.self.inside.spec) c.self.inside.schemes c.self.inside.certs) = rw (← c.self.view_is) at lt in
-    subst (λ (ss : List StateView). AreHeldBy (state_at ss c.args.input).rows c.args.input c.self.inside.waiting) (sym c.as_slice-2.ensures.value)
-    (held_rows (log_of c.self.inside.states.items) (state_at c.self.inside.states.items c.args.input).rows c.args.input c.self.inside.waiting
-    (side-is (join_data (arc_value c.self.inside.spec) c.self.inside.schemes c.self.inside.certs) c.self.inside.limit c.self.inside.next c.self.inside.done c.self.inside.states.items c.self.inside.stores.items c.self.inside.pending c.self.inside.taken.items c.self.invariant.0 c.args.input there) c.self.invariant.2)
+    let held : AreHeld c.args.self.now.kept.next c.args.self.now.kept.stored c.args.waiting.now = c.requires.held in
+    let are : AreHeld c.self.inside.next (log_of c.self.inside.states.items) c.args.waiting.now = rw (← c.self.view_is) at held in
+    subst (λ (ss : List StateView). AreHeldBy (state_at ss c.args.input).rows c.args.input c.args.waiting.now) (sym c.as_slice-2.ensures.value)
+    (held_rows c.self.inside.next (log_of c.self.inside.states.items) (state_at c.self.inside.states.items c.args.input).rows c.args.input c.args.waiting.now
+    (side-is (join_data (arc_value c.self.inside.spec) c.self.inside.schemes c.self.inside.certs) c.self.inside.limit c.self.inside.next c.self.inside.done c.self.inside.states.items c.self.inside.stores.items c.self.inside.pending c.self.inside.taken.items c.self.invariant.0 c.args.input there) are)
 
 pub index-requires : goal.index-requires
 index-requires c =
@@ -86,32 +87,35 @@ returns-clause-removed c =
     let looks = same-judge (join_data (arc_value c.self.inside.spec) c.self.inside.schemes c.self.inside.certs) c.args.input c.low-low.result (eqb c.low-low.result c.self.inside.next) c.deref.result.now c.cert_of-cert.result.now c.as_slice-2.result.now c.self.inside.states.items c.as_slice-3.result.now c.self.inside.stores.items c.deref.ensures cert c.as_slice-2.ensures.value c.as_slice-3.ensures.value in
     rw (← c.self.view_is) (rows-are c.self.inside.node (join_data (arc_value c.self.inside.spec) c.self.inside.schemes c.self.inside.certs) c.self.inside.limit c.self.inside.next c.self.inside.done c.self.inside.states.items c.self.inside.stores.items c.self.inside.pending c.self.inside.taken.items c.self.inside.waiting.puncts c.args.input c.self.invariant.0 there c.low-low.result (eqb c.low-low.result c.self.inside.next) c.args.removed.now c.sweep.new.removed low (c.in_ok-left.ensures.removed ∙ ap (λ k. c.args.removed.now ++ ripe_rows k) looks))
 
-pub returns-clause-waiting : goal.returns-clause-waiting
-returns-clause-waiting c =
+pub returns-clause-goes : goal.returns-clause-goes
+returns-clause-goes c =
     let lt : c.args.input < inputs c.args.self.now.spec = c.requires.there in
     let there : c.args.input < inputs (join_data (arc_value c.self.inside.spec) c.self.inside.schemes c.self.inside.certs) = rw (← c.self.view_is) at lt in
     let kept : c.low-low.result ≡ kept_low c.args.self.now.kept = c.low-low.ensures.kept in
     let low : c.low-low.result ≡ kept_low (seen (made_with c.self.inside.node (join_data (arc_value c.self.inside.spec) c.self.inside.schemes c.self.inside.certs) c.self.inside.limit) c.self.inside.next c.self.inside.done (log_of c.self.inside.states.items) (puncts_of c.self.inside.stores.items) c.self.inside.waiting.puncts c.self.inside.taken.items).kept = rw (← c.self.view_is) at kept in
     let cert : c.cert_of-cert.result.now ≡ steps_of (join_data (arc_value c.self.inside.spec) c.self.inside.schemes c.self.inside.certs) c.args.input = c.cert_of-cert.ensures ∙ ap (λ (cs : List (List CertStep)). get_or cs c.args.input []) c.as_slice.ensures in
     let looks = same-judge (join_data (arc_value c.self.inside.spec) c.self.inside.schemes c.self.inside.certs) c.args.input c.low-low.result (eqb c.low-low.result c.self.inside.next) c.deref.result.now c.cert_of-cert.result.now c.as_slice-2.result.now c.self.inside.states.items c.as_slice-3.result.now c.self.inside.stores.items c.deref.ensures cert c.as_slice-2.ensures.value c.as_slice-3.ensures.value in
-    rw (← c.self.view_is) (waiting-are c.self.inside.node (join_data (arc_value c.self.inside.spec) c.self.inside.schemes c.self.inside.certs) c.self.inside.limit c.self.inside.next c.self.inside.done c.self.inside.states.items c.self.inside.stores.items c.self.inside.pending c.self.inside.taken.items c.self.inside.waiting.puncts c.args.input c.self.invariant.0 there c.in_ok-left.left.gone (gone-are c.self.inside.node (join_data (arc_value c.self.inside.spec) c.self.inside.schemes c.self.inside.certs) c.self.inside.limit c.self.inside.next c.self.inside.done c.self.inside.states.items c.self.inside.stores.items c.self.inside.pending c.self.inside.taken.items c.self.inside.waiting.puncts c.args.input c.self.invariant.0 there c.low-low.result (eqb c.low-low.result c.self.inside.next) c.in_ok-left.left.gone low (c.in_ok-left.ensures.gone ∙ ap ripe_tickets looks)) (taken_out c.in_ok-left.left.waiting.goes c.self.inside.waiting.puncts)
-    (c.in_ok-left.ensures.waiting ∙ ap (λ (ss : List StateView). staying_on (state_at ss c.args.input).rows c.in_ok-left.left.gone c.args.input c.self.inside.waiting.puncts) c.as_slice-2.ensures.value))
+    rw (← c.self.view_is) (goes-are c.self.inside.node (join_data (arc_value c.self.inside.spec) c.self.inside.schemes c.self.inside.certs) c.self.inside.limit c.self.inside.next c.self.inside.done c.self.inside.states.items c.self.inside.stores.items c.self.inside.pending c.self.inside.taken.items c.args.waiting.now.puncts c.args.input c.self.invariant.0 there c.in_ok-left.left.gone (gone-are c.self.inside.node (join_data (arc_value c.self.inside.spec) c.self.inside.schemes c.self.inside.certs) c.self.inside.limit c.self.inside.next c.self.inside.done c.self.inside.states.items c.self.inside.stores.items c.self.inside.pending c.self.inside.taken.items c.args.waiting.now.puncts c.args.input c.self.invariant.0 there c.low-low.result (eqb c.low-low.result c.self.inside.next) c.in_ok-left.left.gone low (c.in_ok-left.ensures.gone ∙ ap ripe_tickets looks)) c.in_ok-left.left.waiting.goes
+    (c.in_ok-left.ensures.goes ∙ ap (λ (ss : List StateView). tickets_where (lets_go (state_at ss c.args.input).rows c.in_ok-left.left.gone c.args.input) c.args.waiting.now.puncts) c.as_slice-2.ensures.value))
 
-pub returns-clause-holders : goal.returns-clause-holders
-returns-clause-holders c =
+pub returns-clause-held : goal.returns-clause-held
+returns-clause-held c =
     let lt : c.args.input < inputs c.args.self.now.spec = c.requires.there in
     let there : c.args.input < inputs (join_data (arc_value c.self.inside.spec) c.self.inside.schemes c.self.inside.certs) = rw (← c.self.view_is) at lt in
     let kept : c.low-low.result ≡ kept_low c.args.self.now.kept = c.low-low.ensures.kept in
     let low : c.low-low.result ≡ kept_low (seen (made_with c.self.inside.node (join_data (arc_value c.self.inside.spec) c.self.inside.schemes c.self.inside.certs) c.self.inside.limit) c.self.inside.next c.self.inside.done (log_of c.self.inside.states.items) (puncts_of c.self.inside.stores.items) c.self.inside.waiting.puncts c.self.inside.taken.items).kept = rw (← c.self.view_is) at kept in
     let cert : c.cert_of-cert.result.now ≡ steps_of (join_data (arc_value c.self.inside.spec) c.self.inside.schemes c.self.inside.certs) c.args.input = c.cert_of-cert.ensures ∙ ap (λ (cs : List (List CertStep)). get_or cs c.args.input []) c.as_slice.ensures in
     let looks = same-judge (join_data (arc_value c.self.inside.spec) c.self.inside.schemes c.self.inside.certs) c.args.input c.low-low.result (eqb c.low-low.result c.self.inside.next) c.deref.result.now c.cert_of-cert.result.now c.as_slice-2.result.now c.self.inside.states.items c.as_slice-3.result.now c.self.inside.stores.items c.deref.ensures cert c.as_slice-2.ensures.value c.as_slice-3.ensures.value in
+    let held : AreHeld c.args.self.now.kept.next c.args.self.now.kept.stored c.args.waiting.now = c.requires.held in
+    let are : AreHeld c.self.inside.next (log_of c.self.inside.states.items) c.args.waiting.now = rw (← c.self.view_is) at held in
     rw (← c.self.view_is)
-    (held_where (seen (made_with c.self.inside.node (join_data (arc_value c.self.inside.spec) c.self.inside.schemes c.self.inside.certs) c.self.inside.limit) c.self.inside.next c.self.inside.done (log_of c.self.inside.states.items) (puncts_of c.self.inside.stores.items) c.self.inside.waiting.puncts c.self.inside.taken.items) c.args.input (state_at c.self.inside.states.items c.args.input).rows c.in_ok-left.left.gone c.self.inside.waiting c.in_ok-left.left.waiting.holders
+    (held_behind (seen (made_with c.self.inside.node (join_data (arc_value c.self.inside.spec) c.self.inside.schemes c.self.inside.certs) c.self.inside.limit) c.self.inside.next c.self.inside.done (log_of c.self.inside.states.items) (puncts_of c.self.inside.stores.items) c.args.waiting.now.puncts c.self.inside.taken.items) c.args.input (state_at c.self.inside.states.items c.args.input).rows c.in_ok-left.left.gone c.in_ok-left.left.waiting.goes c.in_ok-left.left.waiting.freed c.args.waiting.now c.sweep.new.waiting
     (side-is (join_data (arc_value c.self.inside.spec) c.self.inside.schemes c.self.inside.certs) c.self.inside.limit c.self.inside.next c.self.inside.done c.self.inside.states.items c.self.inside.stores.items c.self.inside.pending c.self.inside.taken.items c.self.invariant.0 c.args.input there)
-    (gone-are c.self.inside.node (join_data (arc_value c.self.inside.spec) c.self.inside.schemes c.self.inside.certs) c.self.inside.limit c.self.inside.next c.self.inside.done c.self.inside.states.items c.self.inside.stores.items c.self.inside.pending c.self.inside.taken.items c.self.inside.waiting.puncts c.args.input c.self.invariant.0 there c.low-low.result (eqb c.low-low.result c.self.inside.next) c.in_ok-left.left.gone low (c.in_ok-left.ensures.gone ∙ ap ripe_tickets looks))
-    c.self.invariant.2
-    (waiting-are c.self.inside.node (join_data (arc_value c.self.inside.spec) c.self.inside.schemes c.self.inside.certs) c.self.inside.limit c.self.inside.next c.self.inside.done c.self.inside.states.items c.self.inside.stores.items c.self.inside.pending c.self.inside.taken.items c.self.inside.waiting.puncts c.args.input c.self.invariant.0 there c.in_ok-left.left.gone (gone-are c.self.inside.node (join_data (arc_value c.self.inside.spec) c.self.inside.schemes c.self.inside.certs) c.self.inside.limit c.self.inside.next c.self.inside.done c.self.inside.states.items c.self.inside.stores.items c.self.inside.pending c.self.inside.taken.items c.self.inside.waiting.puncts c.args.input c.self.invariant.0 there c.low-low.result (eqb c.low-low.result c.self.inside.next) c.in_ok-left.left.gone low (c.in_ok-left.ensures.gone ∙ ap ripe_tickets looks)) (staying_on (state_at c.self.inside.states.items c.args.input).rows c.in_ok-left.left.gone c.args.input c.self.inside.waiting.puncts) refl)
-    (λ some. subst (λ (ss : List StateView). HoldBack c.args.input (state_at ss c.args.input).rows c.in_ok-left.left.gone c.self.inside.waiting c.in_ok-left.left.waiting.holders) c.as_slice-2.ensures.value (c.in_ok-left.ensures.holders some)))
+    (has-is c.self.inside.node (join_data (arc_value c.self.inside.spec) c.self.inside.schemes c.self.inside.certs) c.self.inside.limit c.self.inside.next c.self.inside.done c.self.inside.states.items c.self.inside.stores.items c.self.inside.pending c.self.inside.taken.items c.args.waiting.now.puncts c.args.input c.self.invariant.0 there c.in_ok-left.left.gone (gone-are c.self.inside.node (join_data (arc_value c.self.inside.spec) c.self.inside.schemes c.self.inside.certs) c.self.inside.limit c.self.inside.next c.self.inside.done c.self.inside.states.items c.self.inside.stores.items c.self.inside.pending c.self.inside.taken.items c.args.waiting.now.puncts c.args.input c.self.invariant.0 there c.low-low.result (eqb c.low-low.result c.self.inside.next) c.in_ok-left.left.gone low (c.in_ok-left.ensures.gone ∙ ap ripe_tickets looks)))
+    c.in_ok-left.ensures.rising
+    (c.in_ok-left.ensures.goes ∙ ap (λ (ss : List StateView). tickets_where (lets_go (state_at ss c.args.input).rows c.in_ok-left.left.gone c.args.input) c.args.waiting.now.puncts) c.as_slice-2.ensures.value)
+    c.in_ok-left.ensures.freed are c.sweep.ensures.puncts c.sweep.ensures.keeps
+    (subst (λ (ss : List StateView). StayHeld (state_at ss c.args.input).rows c.in_ok-left.left.gone c.args.input c.sweep.new.waiting) c.as_slice-2.ensures.value c.in_ok-left.ensures.held))
 
 pub returns-clause-out : goal.returns-clause-out
 returns-clause-out c =
@@ -121,6 +125,6 @@ returns-clause-out c =
     let low : c.low-low.result ≡ kept_low (seen (made_with c.self.inside.node (join_data (arc_value c.self.inside.spec) c.self.inside.schemes c.self.inside.certs) c.self.inside.limit) c.self.inside.next c.self.inside.done (log_of c.self.inside.states.items) (puncts_of c.self.inside.stores.items) c.self.inside.waiting.puncts c.self.inside.taken.items).kept = rw (← c.self.view_is) at kept in
     let cert : c.cert_of-cert.result.now ≡ steps_of (join_data (arc_value c.self.inside.spec) c.self.inside.schemes c.self.inside.certs) c.args.input = c.cert_of-cert.ensures ∙ ap (λ (cs : List (List CertStep)). get_or cs c.args.input []) c.as_slice.ensures in
     let looks = same-judge (join_data (arc_value c.self.inside.spec) c.self.inside.schemes c.self.inside.certs) c.args.input c.low-low.result (eqb c.low-low.result c.self.inside.next) c.deref.result.now c.cert_of-cert.result.now c.as_slice-2.result.now c.self.inside.states.items c.as_slice-3.result.now c.self.inside.stores.items c.deref.ensures cert c.as_slice-2.ensures.value c.as_slice-3.ensures.value in
-    rw (← c.self.view_is) (going-are c.self.inside.node (join_data (arc_value c.self.inside.spec) c.self.inside.schemes c.self.inside.certs) c.self.inside.limit c.self.inside.next c.self.inside.done c.self.inside.states.items c.self.inside.stores.items c.self.inside.pending c.self.inside.taken.items c.self.inside.waiting.puncts c.args.input c.self.invariant.0 there c.in_ok-left.left.gone (gone-are c.self.inside.node (join_data (arc_value c.self.inside.spec) c.self.inside.schemes c.self.inside.certs) c.self.inside.limit c.self.inside.next c.self.inside.done c.self.inside.states.items c.self.inside.stores.items c.self.inside.pending c.self.inside.taken.items c.self.inside.waiting.puncts c.args.input c.self.invariant.0 there c.low-low.result (eqb c.low-low.result c.self.inside.next) c.in_ok-left.left.gone low (c.in_ok-left.ensures.gone ∙ ap ripe_tickets looks)) c.args.out.now c.sweep.new.out
-    (c.in_ok-left.ensures.out ∙ ap (λ (s : JoinSpec). c.args.out.now ++ letting_go s.inputs (state_at c.as_slice-2.result.now c.args.input).rows c.in_ok-left.left.gone c.args.input c.self.inside.waiting.puncts) c.deref.ensures
-    ∙ ap (λ (ss : List StateView). c.args.out.now ++ letting_go (arc_value c.self.inside.spec).inputs (state_at ss c.args.input).rows c.in_ok-left.left.gone c.args.input c.self.inside.waiting.puncts) c.as_slice-2.ensures.value))
+    rw (← c.self.view_is) (going-are c.self.inside.node (join_data (arc_value c.self.inside.spec) c.self.inside.schemes c.self.inside.certs) c.self.inside.limit c.self.inside.next c.self.inside.done c.self.inside.states.items c.self.inside.stores.items c.self.inside.pending c.self.inside.taken.items c.args.waiting.now.puncts c.args.input c.self.invariant.0 there c.in_ok-left.left.gone (gone-are c.self.inside.node (join_data (arc_value c.self.inside.spec) c.self.inside.schemes c.self.inside.certs) c.self.inside.limit c.self.inside.next c.self.inside.done c.self.inside.states.items c.self.inside.stores.items c.self.inside.pending c.self.inside.taken.items c.args.waiting.now.puncts c.args.input c.self.invariant.0 there c.low-low.result (eqb c.low-low.result c.self.inside.next) c.in_ok-left.left.gone low (c.in_ok-left.ensures.gone ∙ ap ripe_tickets looks)) c.args.out.now c.sweep.new.out
+    (c.in_ok-left.ensures.out ∙ ap (λ (s : JoinSpec). c.args.out.now ++ letting_go s.inputs (state_at c.as_slice-2.result.now c.args.input).rows c.in_ok-left.left.gone c.args.input c.args.waiting.now.puncts) c.deref.ensures
+    ∙ ap (λ (ss : List StateView). c.args.out.now ++ letting_go (arc_value c.self.inside.spec).inputs (state_at ss c.args.input).rows c.in_ok-left.left.gone c.args.input c.args.waiting.now.puncts) c.as_slice-2.ensures.value))

@@ -8,6 +8,7 @@ use Rattle.std.proofs.lemmas.List.{length-map}
 use Rattle.pj_join.specs.Sides.{heard_of, puncts_of}
 use Rattle.pj_join.specs.Watching.{AreWatched}
 use Rattle.pj_join.proofs.Watched.{watched_start}
+use Rattle.pj_join.proofs.Holding.{held_none}
 use Rattle.pj_join.proofs.Kept.{join-starts, log-none, puncts-none}
 use Rattle.pj_join.proofs.join.Join.new.Goals as goal
 
@@ -19,12 +20,12 @@ invariant_of-result c = (
   rw (c.new-4.ensures.items, c.in_ok-new.ensures.ok) (subst (λ (xs : List TupleAt). AreWatched (join_data c.args.spec c.args.schemes c.args.certs) 0 (lowest 0 0 xs []) xs (puncts_of c.in_ok-stores.stores.items) c.in_ok-watches.watches.items) (sym (log-none (join_data c.args.spec c.args.schemes c.args.certs) c.args.limit c.in_ok-states.states.items c.in_ok-stores.stores.items c.in_ok-states.ensures.rows (c.in_ok-stores.ensures.heard ∙ ap (λ (ss : List (List Column)). map (λ k. heard_of k []) (upto_from 0 (length ss))) c.as_slice.ensures)))
       (subst (λ (ps : List PunctAt). AreWatched (join_data c.args.spec c.args.schemes c.args.certs) 0 (lowest 0 0 [] []) [] ps c.in_ok-watches.watches.items) (sym (puncts-none (join_data c.args.spec c.args.schemes c.args.certs) c.args.limit c.in_ok-states.states.items c.in_ok-stores.stores.items c.in_ok-states.ensures.rows (c.in_ok-stores.ensures.heard ∙ ap (λ (ss : List (List Column)). map (λ k. heard_of k []) (upto_from 0 (length ss))) c.as_slice.ensures)))
       (watched_start (join_data c.args.spec c.args.schemes c.args.certs) c.in_ok-watches.watches.items (c.in_ok-watches.ensures.count ∙ c.len.ensures ∙ sym (length-map c.args.spec.inputs (λ schema. length schema))) c.in_ok-watches.ensures.none))),
-  rw (c.new-2.ensures.puncts, c.new-2.ensures.holders) tt,
+  held_none 0 _ c.new-2.result c.new-2.ensures,
 )
 
 pub returns : goal.returns
 returns c =
-    rw (c.new-2.ensures.puncts, c.new-4.ensures.items, c.in_ok-new.ensures.ok)
+    rw (c.new-2.ensures, c.new-4.ensures.items, c.in_ok-new.ensures.ok)
     (ap₂ (λ (xs : List TupleAt) (ps : List PunctAt). seen (made_with c.args.node (join_data c.args.spec c.args.schemes c.args.certs) c.args.limit) 0 0 xs ps [] [])
     (log-none (join_data c.args.spec c.args.schemes c.args.certs) c.args.limit c.in_ok-states.states.items c.in_ok-stores.stores.items c.in_ok-states.ensures.rows (c.in_ok-stores.ensures.heard ∙ ap (λ (ss : List (List Column)). map (λ k. heard_of k []) (upto_from 0 (length ss))) c.as_slice.ensures))
     (puncts-none (join_data c.args.spec c.args.schemes c.args.certs) c.args.limit c.in_ok-states.states.items c.in_ok-stores.stores.items c.in_ok-states.ensures.rows (c.in_ok-stores.ensures.heard ∙ ap (λ (ss : List (List Column)). map (λ k. heard_of k []) (upto_from 0 (length ss))) c.as_slice.ensures)))

@@ -1,4 +1,4 @@
-use Rattle.std.proofs.Common.{◌≡◌, ◌<◌, ◌∙◌, List, ap, arith, length, sym, subst}
+use Rattle.std.proofs.Common.{◌≡◌, ◌<◌, ◌∙◌, [], List, ap, arith, length, sym, subst}
 use Rattle.std.proofs.lemmas.List.{length-map}
 use Rattle.std.specs.Arc.{arc_value}
 use Rattle.pj_events.specs.Join.{TupleAt, inputs}
@@ -11,11 +11,9 @@ use Rattle.pj_join.specs.Sides.{AreWide, log_of, puncts_of}
 use Rattle.pj_join.specs.Sweeping.{swept_off}
 use Rattle.pj_join.proofs.Kept.{all-states, wide}
 use Rattle.pj_join.proofs.Looped.{state_is}
-use Rattle.pj_join.proofs.Swept.{few-gone, join-swept, log-left, view-left}
-use Rattle.pj_join.specs.Holding.{AreHolders, HoldWhere}
-use Rattle.pj_join.specs.Leaving.{taken_out}
+use Rattle.pj_join.proofs.Swept.{few-gone, join-swept, view-left}
 use Rattle.pj_join.specs.Watching.{AreOpenBut}
-use Rattle.pj_join.proofs.Holding.{settle_holders}
+use Rattle.pj_join.proofs.Holding.{held_none}
 use Rattle.pj_join.proofs.Settled.{settled}
 use Rattle.pj_join.proofs.join.Join.settle.Goals as goal
 
@@ -48,28 +46,27 @@ invariant_of-self c =
     let there : c.args.input < inputs (join_data (arc_value c.self.inside.spec) c.self.inside.schemes c.self.inside.certs) = rw (← c.self.view_is) at lt in
     let goes : c.args.left.gone ≡ tickets (swept_off c.args.self.now c.args.input) = c.requires.gone in
     let gone : c.args.left.gone ≡ tickets (swept_off (seen (made_with c.self.inside.node (join_data (arc_value c.self.inside.spec) c.self.inside.schemes c.self.inside.certs) c.self.inside.limit) c.self.inside.next c.self.inside.done (log_of c.self.inside.states.items) (puncts_of c.self.inside.stores.items) c.self.inside.waiting.puncts c.self.inside.taken.items) c.args.input) = rw (← c.self.view_is) at goes in
-    let waits : taken_out c.args.left.waiting.goes c.args.self.now.kept.waiting ≡ waiting_on (swept c.args.self.now.spec c.args.self.now.kept c.args.input) c.args.input c.args.self.now.kept.waiting = c.requires.waiting in
     let kept : c.low-from.result ≡ kept_low c.args.self.now.kept = c.low-from.ensures.kept in
     let low : c.low-from.result ≡ kept_low (seen (made_with c.self.inside.node (join_data (arc_value c.self.inside.spec) c.self.inside.schemes c.self.inside.certs) c.self.inside.limit) c.self.inside.next c.self.inside.done (log_of c.self.inside.states.items) (puncts_of c.self.inside.stores.items) c.self.inside.waiting.puncts c.self.inside.taken.items).kept = rw (← c.self.view_is) at kept in
-    let behind : HoldWhere c.args.left.gone c.args.self.now c.args.input c.args.left.waiting.holders = c.requires.holders in
+    let beside : c.args.self.now.kept.waiting ≡ [] = c.requires.beside in
+    let none : c.self.inside.waiting.puncts ≡ [] = rw (← c.self.view_is) at beside in
     let marks : AreOpenBut c.args.self.now c.args.input c.args.left.marked = c.requires.marked in (
       rw (c.len-count.ensures) (join-swept c.self.inside.node (join_data (arc_value c.self.inside.spec) c.self.inside.schemes c.self.inside.certs) c.self.inside.limit c.self.inside.next c.self.inside.done c.self.inside.states.items c.self.inside.stores.items c.self.inside.pending c.self.inside.taken.items c.self.inside.waiting.puncts c.args.input c.self.invariant.0 there c.args.left.gone gone c.index_mut-2.result.now c.remove_all.new.state (state_is c.self.inside.states.items c.args.input c.index_mut-2.result.now (inputs (join_data (arc_value c.self.inside.spec) c.self.inside.schemes c.self.inside.certs)) (all-states (join_data (arc_value c.self.inside.spec) c.self.inside.schemes c.self.inside.certs) c.self.inside.limit c.self.inside.next c.self.inside.done c.self.inside.states.items c.self.inside.stores.items c.self.inside.pending c.self.inside.taken.items c.self.invariant.0) there c.index_mut-2.ensures.value) (rw (← c.as_slice-5.ensures) c.remove_all.ensures)),
       rw (c.len-count.ensures)
           (settled c.self.inside.node (join_data (arc_value c.self.inside.spec) c.self.inside.schemes c.self.inside.certs) c.self.inside.limit c.self.inside.next c.self.inside.done c.self.inside.states.items c.self.inside.stores.items c.self.inside.pending c.self.inside.taken.items c.self.inside.waiting.puncts c.args.input c.self.invariant.0 there c.args.left.gone gone c.index_mut-2.result.now c.remove_all.new.state (state_is c.self.inside.states.items c.args.input c.index_mut-2.result.now (inputs (join_data (arc_value c.self.inside.spec) c.self.inside.schemes c.self.inside.certs)) (all-states (join_data (arc_value c.self.inside.spec) c.self.inside.schemes c.self.inside.certs) c.self.inside.limit c.self.inside.next c.self.inside.done c.self.inside.states.items c.self.inside.stores.items c.self.inside.pending c.self.inside.taken.items c.self.invariant.0) there c.index_mut-2.ensures.value) (rw (← c.as_slice-5.ensures) c.remove_all.ensures) c.low-from.result c.args.left.marked c.self.inside.watches.items c.rouse.new.watches.items low c.self.invariant.1 (rw (← c.self.view_is) at marks)
           c.rouse.ensures.fewer (rw (c.as_slice.ensures, c.deref.ensures, c.as_slice-2.ensures, c.as_slice-3.ensures.value, c.as_slice-4.ensures) at c.rouse.ensures.roused)),
-      subst (λ (xs : List TupleAt). AreHolders xs c.leave.new.self.puncts c.leave.new.self.holders) (sym (log-left c.self.inside.node (join_data (arc_value c.self.inside.spec) c.self.inside.schemes c.self.inside.certs) c.self.inside.limit c.self.inside.next c.self.inside.done c.self.inside.states.items c.self.inside.stores.items c.self.inside.pending c.self.inside.taken.items c.self.inside.waiting.puncts c.args.input c.self.invariant.0 there c.args.left.gone gone c.index_mut-2.result.now c.remove_all.new.state (state_is c.self.inside.states.items c.args.input c.index_mut-2.result.now (inputs (join_data (arc_value c.self.inside.spec) c.self.inside.schemes c.self.inside.certs)) (all-states (join_data (arc_value c.self.inside.spec) c.self.inside.schemes c.self.inside.certs) c.self.inside.limit c.self.inside.next c.self.inside.done c.self.inside.states.items c.self.inside.stores.items c.self.inside.pending c.self.inside.taken.items c.self.invariant.0) there c.index_mut-2.ensures.value) (rw (← c.as_slice-5.ensures) c.remove_all.ensures)))
-          (settle_holders (seen (made_with c.self.inside.node (join_data (arc_value c.self.inside.spec) c.self.inside.schemes c.self.inside.certs) c.self.inside.limit) c.self.inside.next c.self.inside.done (log_of c.self.inside.states.items) (puncts_of c.self.inside.stores.items) c.self.inside.waiting.puncts c.self.inside.taken.items) c.args.input c.len-count.result c.args.left.gone c.leave.new.self.puncts c.self.inside.waiting.holders c.args.left.waiting.holders c.leave.new.self.holders c.len-count.ensures gone c.self.invariant.2
-          (c.leave.ensures.puncts ∙ (rw (← c.self.view_is) at waits)) (rw (← c.self.view_is) at behind) c.leave.ensures.some c.leave.ensures.none),
+      held_none c.self.inside.next _ c.self.inside.waiting none,
     )
 
 pub returns-clause-sweeps : goal.returns-clause-sweeps
 returns-clause-sweeps c =
-    let waits : taken_out c.args.left.waiting.goes c.args.self.now.kept.waiting ≡ waiting_on (swept c.args.self.now.spec c.args.self.now.kept c.args.input) c.args.input c.args.self.now.kept.waiting = c.requires.waiting in
     let lt : c.args.input < inputs c.args.self.now.spec = c.requires.there in
     let there : c.args.input < inputs (join_data (arc_value c.self.inside.spec) c.self.inside.schemes c.self.inside.certs) = rw (← c.self.view_is) at lt in
     let goes : c.args.left.gone ≡ tickets (swept_off c.args.self.now c.args.input) = c.requires.gone in
     let gone : c.args.left.gone ≡ tickets (swept_off (seen (made_with c.self.inside.node (join_data (arc_value c.self.inside.spec) c.self.inside.schemes c.self.inside.certs) c.self.inside.limit) c.self.inside.next c.self.inside.done (log_of c.self.inside.states.items) (puncts_of c.self.inside.stores.items) c.self.inside.waiting.puncts c.self.inside.taken.items) c.args.input) = rw (← c.self.view_is) at goes in
-    rw (c.len-count.ensures, ← c.self.view_is) (view-left c.self.inside.node (join_data (arc_value c.self.inside.spec) c.self.inside.schemes c.self.inside.certs) c.self.inside.limit c.self.inside.next c.self.inside.done c.self.inside.states.items c.self.inside.stores.items c.self.inside.pending c.self.inside.taken.items c.self.inside.waiting.puncts c.args.input c.self.invariant.0 there c.args.left.gone gone c.index_mut-2.result.now c.remove_all.new.state (state_is c.self.inside.states.items c.args.input c.index_mut-2.result.now (inputs (join_data (arc_value c.self.inside.spec) c.self.inside.schemes c.self.inside.certs)) (all-states (join_data (arc_value c.self.inside.spec) c.self.inside.schemes c.self.inside.certs) c.self.inside.limit c.self.inside.next c.self.inside.done c.self.inside.states.items c.self.inside.stores.items c.self.inside.pending c.self.inside.taken.items c.self.invariant.0) there c.index_mut-2.ensures.value) (rw (← c.as_slice-5.ensures) c.remove_all.ensures) c.leave.new.self.puncts (c.leave.ensures.puncts ∙ (rw (← c.self.view_is) at waits)))
+    let beside : c.args.self.now.kept.waiting ≡ [] = c.requires.beside in
+    let none : c.self.inside.waiting.puncts ≡ [] = rw (← c.self.view_is) at beside in
+    rw (c.len-count.ensures, ← c.self.view_is) (view-left c.self.inside.node (join_data (arc_value c.self.inside.spec) c.self.inside.schemes c.self.inside.certs) c.self.inside.limit c.self.inside.next c.self.inside.done c.self.inside.states.items c.self.inside.stores.items c.self.inside.pending c.self.inside.taken.items c.self.inside.waiting.puncts c.args.input c.self.invariant.0 there c.args.left.gone gone c.index_mut-2.result.now c.remove_all.new.state (state_is c.self.inside.states.items c.args.input c.index_mut-2.result.now (inputs (join_data (arc_value c.self.inside.spec) c.self.inside.schemes c.self.inside.certs)) (all-states (join_data (arc_value c.self.inside.spec) c.self.inside.schemes c.self.inside.certs) c.self.inside.limit c.self.inside.next c.self.inside.done c.self.inside.states.items c.self.inside.stores.items c.self.inside.pending c.self.inside.taken.items c.self.invariant.0) there c.index_mut-2.ensures.value) (rw (← c.as_slice-5.ensures) c.remove_all.ensures) c.self.inside.waiting.puncts (none ∙ sym (ap (waiting_on (swept (seen (made_with c.self.inside.node (join_data (arc_value c.self.inside.spec) c.self.inside.schemes c.self.inside.certs) c.self.inside.limit) c.self.inside.next c.self.inside.done (log_of c.self.inside.states.items) (puncts_of c.self.inside.stores.items) c.self.inside.waiting.puncts c.self.inside.taken.items).spec (seen (made_with c.self.inside.node (join_data (arc_value c.self.inside.spec) c.self.inside.schemes c.self.inside.certs) c.self.inside.limit) c.self.inside.next c.self.inside.done (log_of c.self.inside.states.items) (puncts_of c.self.inside.stores.items) c.self.inside.waiting.puncts c.self.inside.taken.items).kept c.args.input) c.args.input) none)))
 
 pub returns-clause-count : goal.returns-clause-count
 returns-clause-count c = c.len-count.ensures ∙ ap (λ ts. length ts) c.requires.gone ∙ length-map (swept_off c.args.self.now c.args.input) (λ (x : TupleAt). x.ticket)

@@ -11,9 +11,9 @@ use Rattle.pj_join.proofs.Looped.{state_is}
 use Rattle.pj_join.proofs.Lowest.{lowest_tuple}
 use Rattle.pj_join.specs.Insides.{lowest}
 use Rattle.pj_join.proofs.Watched.{watched_tuple}
-use Rattle.pj_join.specs.Holding.{AreHolders}
+use Rattle.pj_join.specs.Holding.{AreHeld}
 use Rattle.pj_join.specs.Watching.{AreWatched}
-use Rattle.pj_join.proofs.Holding.{holders_more}
+use Rattle.pj_join.proofs.Holding.{held_more}
 use Rattle.pj_join.proofs.join.Join.tuple.Goals as goal
 
 pub index_mut-requires : goal.index_mut-requires
@@ -49,8 +49,8 @@ invariant_of-self-2 c =
       subst (λ (xs : List TupleAt). AreWatched (join_data (arc_value c.self.inside.spec) c.self.inside.schemes c.self.inside.certs) (c.self.inside.next + 1) (lowest (c.self.inside.next + 1) c.self.inside.done xs c.self.inside.taken.items) xs (puncts_of c.self.inside.stores.items) c.self.inside.watches.items) (sym (log-more (join_data (arc_value c.self.inside.spec) c.self.inside.schemes c.self.inside.certs) c.self.inside.limit c.self.inside.next c.self.inside.done c.self.inside.states.items c.self.inside.stores.items c.self.inside.pending c.self.inside.taken.items c.self.invariant.0 c.args.input c.args.row _ c.store.new.state (λ e. false≢true (c.if-is_full.ensures.1 e)) there long
           (state_is c.self.inside.states.items c.args.input _ (inputs (join_data (arc_value c.self.inside.spec) c.self.inside.schemes c.self.inside.certs)) (all-states (join_data (arc_value c.self.inside.spec) c.self.inside.schemes c.self.inside.certs) c.self.inside.limit c.self.inside.next c.self.inside.done c.self.inside.states.items c.self.inside.stores.items c.self.inside.pending c.self.inside.taken.items c.self.invariant.0) there c.index_mut.ensures.value) (rw (← c.in_ok-row.ensures) c.in_ok-store.ensures.state)))
           (watched_tuple (join_data (arc_value c.self.inside.spec) c.self.inside.schemes c.self.inside.certs) c.self.inside.next (lowest c.self.inside.next c.self.inside.done (log_of c.self.inside.states.items) c.self.inside.taken.items) (lowest (c.self.inside.next + 1) c.self.inside.done ((log_of c.self.inside.states.items) ++ (record { ticket = c.self.inside.next; input = c.args.input; row = c.args.row }) ∷ []) c.self.inside.taken.items) (log_of c.self.inside.states.items) (puncts_of c.self.inside.stores.items) c.self.inside.watches.items (record { ticket = c.self.inside.next; input = c.args.input; row = c.args.row }) refl (lowest_tuple c.self.inside.next c.self.inside.done (log_of c.self.inside.states.items) c.self.inside.taken.items (record { ticket = c.self.inside.next; input = c.args.input; row = c.args.row }) refl c.self.invariant.0.ordered.within) c.self.invariant.1),
-      subst (λ (xs : List TupleAt). AreHolders xs c.self.inside.waiting.puncts c.self.inside.waiting.holders) (sym (log-more (join_data (arc_value c.self.inside.spec) c.self.inside.schemes c.self.inside.certs) c.self.inside.limit c.self.inside.next c.self.inside.done c.self.inside.states.items c.self.inside.stores.items c.self.inside.pending c.self.inside.taken.items c.self.invariant.0 c.args.input c.args.row _ c.store.new.state (λ e. false≢true (c.if-is_full.ensures.1 e)) there long
-          (state_is c.self.inside.states.items c.args.input _ (inputs (join_data (arc_value c.self.inside.spec) c.self.inside.schemes c.self.inside.certs)) (all-states (join_data (arc_value c.self.inside.spec) c.self.inside.schemes c.self.inside.certs) c.self.inside.limit c.self.inside.next c.self.inside.done c.self.inside.states.items c.self.inside.stores.items c.self.inside.pending c.self.inside.taken.items c.self.invariant.0) there c.index_mut.ensures.value) (rw (← c.in_ok-row.ensures) c.in_ok-store.ensures.state))) (holders_more (log_of c.self.inside.states.items) (record { ticket = c.self.inside.next; input = c.args.input; row = c.args.row }) c.self.inside.waiting.puncts c.self.inside.waiting.holders c.self.invariant.2),
+      subst (λ (xs : List TupleAt). AreHeld (c.self.inside.next + 1) xs c.self.inside.waiting) (sym (log-more (join_data (arc_value c.self.inside.spec) c.self.inside.schemes c.self.inside.certs) c.self.inside.limit c.self.inside.next c.self.inside.done c.self.inside.states.items c.self.inside.stores.items c.self.inside.pending c.self.inside.taken.items c.self.invariant.0 c.args.input c.args.row _ c.store.new.state (λ e. false≢true (c.if-is_full.ensures.1 e)) there long
+          (state_is c.self.inside.states.items c.args.input _ (inputs (join_data (arc_value c.self.inside.spec) c.self.inside.schemes c.self.inside.certs)) (all-states (join_data (arc_value c.self.inside.spec) c.self.inside.schemes c.self.inside.certs) c.self.inside.limit c.self.inside.next c.self.inside.done c.self.inside.states.items c.self.inside.stores.items c.self.inside.pending c.self.inside.taken.items c.self.invariant.0) there c.index_mut.ensures.value) (rw (← c.in_ok-row.ensures) c.in_ok-store.ensures.state))) (held_more c.self.inside.next (log_of c.self.inside.states.items) (record { ticket = c.self.inside.next; input = c.args.input; row = c.args.row }) c.self.inside.waiting c.self.invariant.2),
     )
 
 pub returns-clause-keeps : goal.returns-clause-keeps

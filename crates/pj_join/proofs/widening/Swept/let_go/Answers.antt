@@ -1,45 +1,73 @@
-use Rattle.std.proofs.Common.{ℕ, List, ◌≡◌, ◌<◌, ◌∙◌, Some, ap, arith, get_or, length, refl, sym, subst}
-use Rattle.std.specs.List.{slice_get}
+use Rattle.std.proofs.Common.{ℕ, ◌≡◌, ◌∙◌, ◌++◌, ◌⊎◌, List, [], map, refl, sym, subst, take, ap, arith, inl, inr}
 use Rattle.std.proofs.lemmas.List.{take_all}
-use Rattle.std.proofs.lemmas.Option.{get_or_from_slice_get, slice_get-get_or, slice_get_within}
-use Rattle.pj_events.specs.Join.{PunctAt}
-use Rattle.pj_join.specs.Judging.{widened_among}
+use Rattle.pj_events.specs.Join.{In, PunctAt}
+use Rattle.pj_state.specs.Rising.{IsRising, itself}
+use Rattle.pj_join.specs.Holding.{tickets_where}
+use Rattle.pj_join.specs.Judging.{letting_go}
+use Rattle.pj_join.specs.Sides.{heard_at}
 use Rattle.pj_join.specs.Watching.{goes_up}
-use Rattle.pj_join.proofs.Holding.{hold_all, hold_more}
-use Rattle.pj_join.proofs.Leaving.{all_taken, taken_more}
-use Rattle.pj_join.proofs.Looped.{picked_more}
+use Rattle.pj_join.proofs.Holding.{AreLetGo, AreListed, all_let_go, all_listed, let_go_next, let_go_none, listed_next, no_items, none_let_go}
 use Rattle.pj_join.proofs.widening.Swept.let_go.Goals as goal
+use Rattle.pj_join.proofs.widening.Swept.let_go.Goals.{then-len-eq0-via-then-len-eq0, then-len-eq0-via-else-len-eq0+then-self-eq0}
 
--- the item of one list at a place, and that of another which is as long
-item-in : {A : Type 0} (xs ys : List A) (i : ℕ) (x : A) → xs ≡ ys → i < length xs → x ≡ get_or xs i x → slice_get ys i ≡ Some x
-item-in xs ys i x same lt is = subst (λ (zs : List _). slice_get zs i ≡ Some x) same (slice_get-get_or xs i x lt ∙ ap Some (sym is))
+nothing : (c : goal.After-new-then-len-eq0) → (c.args.waiting.now.puncts ≡ []) ⊎ (c.args.self.now.gone.now ≡ [])
+nothing c = elim c.then-len-eq0.branch [
+  | then-len-eq0-via-then-len-eq0 w ↦ inl (no_items c.args.waiting.now.puncts (omega (arith, w.if-len-eq0.true, c.len.ensures.len)))
+  | then-len-eq0-via-else-len-eq0+then-self-eq0 w ↦ inr (no_items c.args.self.now.gone.now (omega (arith, w.if-self-eq0.true)))
+]
 
-number-in : (ns ms : List ℕ) (i : ℕ) → ns ≡ ms → i < length ms → slice_get ms i ≡ Some (get_or ns i 0)
-number-in ns ms i same lt = slice_get-get_or ms i 0 lt ∙ ap (λ (ks : List ℕ). Some (get_or ks i 0)) (sym same)
+pub returns-then-len-eq0-clause-goes : goal.returns-then-len-eq0-clause-goes
+returns-then-len-eq0-clause-goes c = c.new.ensures ∙ (none_let_go c.args.self.now c.args.waiting.now c.args.out.now c.requires.held (nothing c)).0
 
-pub loop-at-preserved : goal.loop-at-preserved
-loop-at-preserved c =
-    let goes = goes_up c.args.self.now in
-    let at : slice_get c.args.waiting.now.puncts c.loop-at.at ≡ Some c.index-puncts-at.result = item-in c.as_slice-puncts.result.now c.args.waiting.now.puncts c.loop-at.at c.index-puncts-at.result c.as_slice-puncts.ensures c.loop-at-test.true c.index-puncts-at.is in
-    let within : c.loop-at.at < length c.args.waiting.now.puncts = slice_get_within c.args.waiting.now.puncts c.loop-at.at c.index-puncts-at.result at in
-    let of = number-in c.as_slice-holders.result.now c.args.waiting.now.holders c.loop-at.at c.as_slice-holders.ensures (omega (arith, within, c.requires.held.count)) in
+pub returns-then-len-eq0-clause-ok : goal.returns-then-len-eq0-clause-ok
+returns-then-len-eq0-clause-ok c = (none_let_go c.args.self.now c.args.waiting.now c.args.out.now c.requires.held (nothing c)).1
+
+pub returns-then-len-eq0-clause-held : goal.returns-then-len-eq0-clause-held
+returns-then-len-eq0-clause-held c = (none_let_go c.args.self.now c.args.waiting.now c.args.out.now c.requires.held (nothing c)).2
+
+pub let_one_go-requires-clause-rising : goal.let_one_go-requires-clause-rising
+let_one_go-requires-clause-rising c = subst (λ (ps : List PunctAt). IsRising heard_at ps) (sym c.loop-ticket.invariant.puncts) c.len.ensures.rising
+
+pub loop-ticket-init : goal.loop-ticket-init
+loop-ticket-init c = record {
+  goes = let_go_none c.args.self.now c.args.waiting.now.puncts c.new-goes.result c.args.out.now c.new-goes.ensures;
+  listed = λ p h k. absurd k;
+  puncts = refl;
+  keeps = λ q t. t;
+}
+
+pub loop-ticket-preserved : goal.loop-ticket-preserved
+loop-ticket-preserved c =
+    let rising : IsRising itself c.as_slice-ticket-items.result.now = subst (λ (ns : List ℕ). IsRising itself ns) (sym c.as_slice-ticket-items.ensures.value) c.in_order-tickets.ensures.rising in
     record {
-      taken = taken_more goes c.args.waiting.now.puncts c.loop-at.at c.index-puncts-at.result c.loop-at.left.goes c.let_one_go.new.left.goes within (sym (get_or_from_slice_get c.args.waiting.now.puncts c.loop-at.at c.index-puncts-at.result c.index-puncts-at.result at)) c.loop-at.invariant.taken c.in_ok-let_one_go.ensures.goes;
-      holders = hold_more c.args.self.now c.args.waiting.now c.loop-at.at c.index-puncts-at.result (get_or c.as_slice-holders.result.now c.loop-at.at 0) c.loop-at.left.holders c.let_one_go.new.left.holders at of c.loop-at.invariant.holders c.in_ok-let_one_go.ensures.holders;
-      out = picked_more goes (widened_among c.args.self.now.schemas.now) c.args.waiting.now.puncts c.loop-at.at c.index-puncts-at.result (goes c.index-puncts-at.result) c.args.out.now c.loop-at.out c.let_one_go.new.out at refl c.loop-at.invariant.out c.in_ok-let_one_go.ensures.ok;
+      goes = let_go_next c.args.self.now c.let_one_go.new.waiting c.args.waiting.now.puncts c.as_slice-ticket-items.result.now c.loop-ticket.goes c.let_one_go.new.goes c.args.out.now c.loop-ticket.out c.let_one_go.new.out c.loop-ticket.ticket-index c.loop-ticket-test.true
+          (c.let_one_go.ensures.puncts ∙ c.loop-ticket.invariant.puncts) c.len.ensures.rising rising c.loop-ticket.invariant.goes c.in_ok-let_one_go.ensures.ok;
+      listed = listed_next c.args.self.now c.loop-ticket.waiting c.let_one_go.new.waiting c.as_slice-ticket-items.result.now c.loop-ticket.goes c.let_one_go.new.goes c.loop-ticket.out c.let_one_go.new.out c.loop-ticket.ticket-index c.loop-ticket-test.true
+          c.let_one_go.ensures.puncts c.let_one_go.ensures.keeps (subst (λ (ps : List PunctAt). IsRising heard_at ps) (sym c.loop-ticket.invariant.puncts) c.len.ensures.rising) c.in_ok-let_one_go.ensures.ok c.loop-ticket.invariant.listed;
+      puncts = c.let_one_go.ensures.puncts ∙ c.loop-ticket.invariant.puncts;
+      keeps = λ q t. c.let_one_go.ensures.keeps q (c.loop-ticket.invariant.keeps q t);
     }
 
-pub returns-clause-waiting : goal.returns-clause-waiting
-returns-clause-waiting c =
-    all_taken (goes_up c.args.self.now) c.args.waiting.now.puncts c.loop-at.at c.loop-at.left.goes c.loop-at.invariant.taken (omega (arith, c.loop-at-test.false, ap (λ (ps : List PunctAt). length ps) c.as_slice-puncts.ensures))
+more : (c : goal.After-drop-tickets-2) → (n : ℕ) → In n (map (λ q. q.1) c.in_ok-freed.freed) → In n c.as_slice-ticket-items.result.now
+more c n h =
+    subst (λ (ns : List ℕ). In n ns) (sym c.as_slice-ticket-items.ensures.value)
+    (c.in_order-tickets.ensures.all n (subst (λ (ns : List ℕ). In n ns) (sym (c.in_ok-punct_tickets.ensures ∙ ap (map (λ (q : ℕ × ℕ). q.1)) c.as_slice.ensures)) h))
 
-pub returns-clause-holders : goal.returns-clause-holders
-returns-clause-holders c =
-    hold_all c.args.self.now c.args.waiting.now c.loop-at.at c.loop-at.left.holders (take_all c.loop-at.at c.args.waiting.now.puncts (omega (arith, c.loop-at-test.false, ap (λ (ps : List PunctAt). length ps) c.as_slice-puncts.ensures))) c.loop-at.invariant.holders
+looked : (c : goal.After-drop-tickets-2) → take c.loop-ticket.ticket-index c.as_slice-ticket-items.result.now ≡ c.as_slice-ticket-items.result.now
+looked c = take_all c.loop-ticket.ticket-index c.as_slice-ticket-items.result.now c.loop-ticket-test.false
 
-pub let_one_go-requires-clause-held : goal.let_one_go-requires-clause-held
-let_one_go-requires-clause-held c = λ own.
-    let at : slice_get c.args.waiting.now.puncts c.loop-at.at ≡ Some c.index-puncts-at.result = item-in c.as_slice-puncts.result.now c.args.waiting.now.puncts c.loop-at.at c.index-puncts-at.result c.as_slice-puncts.ensures c.loop-at-test.true c.index-puncts-at.is in
-    let within : c.loop-at.at < length c.args.waiting.now.puncts = slice_get_within c.args.waiting.now.puncts c.loop-at.at c.index-puncts-at.result at in
-    let of = number-in c.as_slice-holders.result.now c.args.waiting.now.holders c.loop-at.at c.as_slice-holders.ensures (omega (arith, within, c.requires.held.count)) in
-    c.requires.held.held c.loop-at.at c.index-puncts-at.result (get_or c.as_slice-holders.result.now c.loop-at.at 0) at of own
+let_go : (c : goal.After-drop-tickets-2) → (c.loop-ticket.goes ≡ tickets_where (goes_up c.args.self.now) c.args.waiting.now.puncts) × (c.loop-ticket.out ≡ c.args.out.now ++ letting_go c.args.self.now.schemas.now c.args.self.now.state.now.rows c.args.self.now.gone.now c.args.self.now.input c.args.waiting.now.puncts)
+let_go c =
+    all_let_go c.args.self.now c.args.waiting.now c.in_ok-freed.freed c.as_slice-ticket-items.result.now c.loop-ticket.goes c.args.out.now c.loop-ticket.out c.requires.held c.len.ensures.rising c.in_ok-freed.ensures.all (more c)
+    (subst (λ (ns : List ℕ). AreLetGo c.args.self.now c.args.waiting.now.puncts ns c.loop-ticket.goes c.args.out.now c.loop-ticket.out) (looked c) c.loop-ticket.invariant.goes)
+
+pub returns-clause-goes : goal.returns-clause-goes
+returns-clause-goes c = (let_go c).0
+
+pub returns-clause-ok : goal.returns-clause-ok
+returns-clause-ok c = (let_go c).1
+
+pub returns-clause-held : goal.returns-clause-held
+returns-clause-held c =
+    all_listed c.args.self.now c.args.waiting.now c.loop-ticket.waiting c.in_ok-freed.freed c.as_slice-ticket-items.result.now c.requires.held c.loop-ticket.invariant.puncts c.loop-ticket.invariant.keeps c.in_ok-freed.ensures.all (more c)
+    (subst (λ (ns : List ℕ). AreListed c.args.self.now c.loop-ticket.waiting ns) (looked c) c.loop-ticket.invariant.listed)
