@@ -1,13 +1,13 @@
 -- Groups at places that pass over none that matches: their rows are those of all groups that match, and closing them closes
 -- all that do.
-use Rattle.std.proofs.Common.{ℕ, zero, suc, ◌+◌, ◌<◌, ◌≤◌, ◌||◌, subst, Bool, true, false, cond, not, List, [], ◌∷◌, ◌++◌, Option, Some, None, ◌≡◌, map, filter, length, take, get_or, refl, sym, ap, ap₂, ◌∙◌, arith, append_assoc, append-nil, length-append}
+use Rattle.std.proofs.Common.{ℕ, zero, suc, ◌+◌, ◌<◌, ◌≤◌, ◌||◌, subst, Bool, true, false, cond, not, ◌&&◌, List, [], ◌∷◌, ◌++◌, Option, Some, None, ◌≡◌, map, filter, length, take, get_or, refl, sym, ap, ap₂, ◌∙◌, arith, append_assoc, append-nil, length-append}
 use Rattle.std.specs.Bool.{MatchBool}
 use Rattle.std.specs.Cmp.{nat_eq_equiv}
 use Rattle.std.specs.List.{Contains, flat_map, list_any, slice_get}
 use Rattle.std.specs.List.Sorted.{IsStrictlyIncreasing}
 use Rattle.std.specs.Map.{keys_of}
 use Rattle.std.specs.Option.{IfSome}
-use Rattle.std.specs.Prelude.{Result, Ok, Err, OnOk, nat_eq}
+use Rattle.std.specs.Prelude.{Result, Ok, Err, OnOk, is_some, nat_eq}
 use Rattle.std.proofs.lemmas.Bool.{and_parts, eq-eqb, eqb-false, eqb-true, false_from_ne_true, false≢true}
 use Rattle.std.proofs.lemmas.List.{take_more}
 use Rattle.std.proofs.lemmas.List.Concat.{flat_map-append}
@@ -23,10 +23,10 @@ use Rattle.pj_pattern.specs.Patterns.{matches_value}
 use Rattle.pj_events.specs.Patterns.{Pattern, matches_row}
 use Rattle.pj_events.specs.Operators.{GroupSpec}
 use Rattle.pj_events.specs.Tables.{GroupEntry, GroupTable, Tally}
-use Rattle.pj_group.specs.Indexes.{AreFound, AreFrom, NeedsValue, PassNone, closed_over, has_value, matches_slot, places_from, shut_at, shut_over}
+use Rattle.pj_group.specs.Indexes.{AreFound, AreFrom, NeedsValue, PassNone, closed_over, has_value, is_closed_by, matches_slot, places_from, shut_at, shut_over}
 use Rattle.pj_group.specs.Insides.{AllStates, AreStates}
 use Rattle.pj_group.specs.Orders.{FindsAll, NeedsInteger}
-use Rattle.pj_group.specs.Slots.{GroupSlot, open_groups, with_open}
+use Rattle.pj_group.specs.Slots.{GroupSlot, OpensNone, is_open, key_while_open, open_at, open_groups, open_key, with_open}
 use Rattle.pj_group.specs.declared.order_index.Integers.{Integers}
 use Rattle.pj_group.specs.Steps.{closed_at, closed_rows, row_tuple}
 use Rattle.pj_group.proofs.Shutting.{closed_append}
@@ -60,36 +60,44 @@ places_are_from at column value (key ∷ keys) = go (has_value column value key)
     go true h = (omega arith, h)
     go false h = h
 
--- one key more that does not match
-passes : (patterns : List Pattern) (at : ℕ) (key : List Value) (keys : List (List Value)) (places : List ℕ) → matches_row patterns key ≡ false → AreFrom (at + 1) places → PassNone patterns (at + 1) keys places → PassNone patterns at (key ∷ keys) places
-passes patterns at key keys [] m f h = (m, h)
-passes patterns at key keys (place ∷ places) m f h = go (nat_eq at place) refl
+-- one group more that is not closed
+passes : (patterns : List Pattern) (at : ℕ) (slot : GroupSlot) (slots : List GroupSlot) (places : List ℕ) → is_closed_by patterns slot ≡ false → AreFrom (at + 1) places → PassNone patterns (at + 1) slots places
+    → PassNone patterns at (slot ∷ slots) places
+passes patterns at slot slots [] m f h = (m, h)
+passes patterns at slot slots (place ∷ places) m f h = go (nat_eq at place) refl
   where
-    go : (b : Bool) → nat_eq at place ≡ b → MatchBool b (PassNone patterns (at + 1) keys places) ((matches_row patterns key ≡ false) × PassNone patterns (at + 1) keys (place ∷ places))
+    go : (b : Bool) → nat_eq at place ≡ b → MatchBool b (PassNone patterns (at + 1) slots places) ((is_closed_by patterns slot ≡ false) × PassNone patterns (at + 1) slots (place ∷ places))
     go true t = let e = eqb-true at place t in absurd (omega (arith, e, f.0))
     go false t = (m, h)
 
--- one key more, at this place
-stops : (patterns : List Pattern) (at place : ℕ) (key : List Value) (keys : List (List Value)) (places : List ℕ) → at ≡ place → PassNone patterns (at + 1) keys places → PassNone patterns at (key ∷ keys) (place ∷ places)
-stops patterns at place key keys places e h = go (nat_eq at place) (eq-eqb at place e)
+-- one group more, at this place
+stops : (patterns : List Pattern) (at place : ℕ) (slot : GroupSlot) (slots : List GroupSlot) (places : List ℕ) → at ≡ place → PassNone patterns (at + 1) slots places → PassNone patterns at (slot ∷ slots) (place ∷ places)
+stops patterns at place slot slots places e h = go (nat_eq at place) (eq-eqb at place e)
   where
-    go : (b : Bool) → b ≡ true → MatchBool b (PassNone patterns (at + 1) keys places) ((matches_row patterns key ≡ false) × PassNone patterns (at + 1) keys (place ∷ places))
+    go : (b : Bool) → b ≡ true → MatchBool b (PassNone patterns (at + 1) slots places) ((is_closed_by patterns slot ≡ false) × PassNone patterns (at + 1) slots (place ∷ places))
     go true t = h
     go false t = absurd (false≢true t)
 
-value_passes : (patterns : List Pattern) (column : ℕ) (value : Value) → NeedsValue patterns column value → (at : ℕ) (keys : List (List Value)) → PassNone patterns at keys (places_from at column value keys)
+stays_open : (patterns : List Pattern) (slot : GroupSlot) → matches_row patterns slot.0 ≡ false → is_closed_by patterns slot ≡ false
+stays_open patterns slot m = ap (λ (b : Bool). is_open slot && b) m ∙ go (is_open slot)
+  where
+    go : (b : Bool) → (b && false) ≡ false
+    go true = refl
+    go false = refl
+
+value_passes : (patterns : List Pattern) (column : ℕ) (value : Value) → NeedsValue patterns column value → (at : ℕ) (slots : List GroupSlot) → PassNone patterns at slots (places_from at column value (keys_of slots))
 value_passes patterns column value needed at [] = tt
-value_passes patterns column value needed at (key ∷ keys) = go (has_value column value key) refl (value_passes patterns column value needed (at + 1) keys)
+value_passes patterns column value needed at (slot ∷ slots) = go (has_value column value slot.0) refl (value_passes patterns column value needed (at + 1) slots)
   where
     P : List ℕ
-    P = places_from (at + 1) column value keys
+    P = places_from (at + 1) column value (keys_of slots)
 
-    go : (b : Bool) → has_value column value key ≡ b → PassNone patterns (at + 1) keys P → PassNone patterns at (key ∷ keys) (cond b (at ∷ P) P)
-    go true t h = stops patterns at at key keys P refl h
-    go false t h = passes patterns at key keys P (unmatched patterns column value key needed t) (places_are_from (at + 1) column value keys) h
+    go : (b : Bool) → has_value column value slot.0 ≡ b → PassNone patterns (at + 1) slots P → PassNone patterns at (slot ∷ slots) (cond b (at ∷ P) P)
+    go true t h = stops patterns at at slot slots P refl h
+    go false t h = passes patterns at slot slots P (stays_open patterns slot (unmatched patterns column value slot.0 needed t)) (places_are_from (at + 1) column value (keys_of slots)) h
 
-pub found_pass : (patterns : List Pattern) (column : ℕ) (value : Value) (slots : List GroupSlot) (places : List ℕ) → AreFound patterns column value slots places → PassNone patterns 0 (keys_of slots) places
-found_pass patterns column value slots places found = subst (PassNone patterns 0 (keys_of slots)) (sym found.all) (value_passes patterns column value found.needed 0 (keys_of slots))
+pub found_pass : (patterns : List Pattern) (column : ℕ) (value : Value) (slots : List GroupSlot) (places : List ℕ) → AreFound patterns column value slots places → PassNone patterns 0 slots places
+found_pass patterns column value slots places found = subst (PassNone patterns 0 slots) (sym found.all) (value_passes patterns column value found.needed 0 slots)
 
 -- ---- places that rise
 
@@ -114,45 +122,45 @@ none_below at (place ∷ places) h = go (nat_eq at place) refl (none_below at pl
     go true t ih = let e = eqb-true at place t in absurd (omega (arith, e, h.0))
     go false t ih = ih
 
--- these are places of all keys that match
-abbrev HaveAll : List Pattern → ℕ → List (List Value) → List ℕ → Type 0
-HaveAll patterns at keys places = (i : ℕ) (key : List Value) → slice_get keys i ≡ Some key → matches_row patterns key ≡ true → list_any (nat_eq (at + i)) places ≡ true
+-- these are places of all groups that are closed
+abbrev HaveAll : List Pattern → ℕ → List GroupSlot → List ℕ → Type 0
+HaveAll patterns at slots places = (i : ℕ) (slot : GroupSlot) → slice_get slots i ≡ Some slot → is_closed_by patterns slot ≡ true → list_any (nat_eq (at + i)) places ≡ true
 
-all_behind : (patterns : List Pattern) (at : ℕ) (key : List Value) (keys : List (List Value)) (places : List ℕ) → HaveAll patterns at (key ∷ keys) places → HaveAll patterns (at + 1) keys places
-all_behind patterns at key keys places all i k e m = let n : at + suc i ≡ at + 1 + i = omega arith in subst (λ j. list_any (nat_eq j) places ≡ true) n (all (suc i) k e m)
+all_behind : (patterns : List Pattern) (at : ℕ) (slot : GroupSlot) (slots : List GroupSlot) (places : List ℕ) → HaveAll patterns at (slot ∷ slots) places → HaveAll patterns (at + 1) slots places
+all_behind patterns at slot slots places all i k e m = let n : at + suc i ≡ at + 1 + i = omega arith in subst (λ j. list_any (nat_eq j) places ≡ true) n (all (suc i) k e m)
 
 -- without the first place, which is none of theirs
-all_without : (patterns : List Pattern) (at place : ℕ) (keys : List (List Value)) (places : List ℕ) → at ≡ place → HaveAll patterns (at + 1) keys (place ∷ places) → HaveAll patterns (at + 1) keys places
-all_without patterns at place keys places e all i k s m = go (nat_eq (at + 1 + i) place) refl (all i k s m)
+all_without : (patterns : List Pattern) (at place : ℕ) (slots : List GroupSlot) (places : List ℕ) → at ≡ place → HaveAll patterns (at + 1) slots (place ∷ places) → HaveAll patterns (at + 1) slots places
+all_without patterns at place slots places e all i k s m = go (nat_eq (at + 1 + i) place) refl (all i k s m)
   where
     go : (b : Bool) → nat_eq (at + 1 + i) place ≡ b → (b || list_any (nat_eq (at + 1 + i)) places) ≡ true → list_any (nat_eq (at + 1 + i)) places ≡ true
     go true t h = let f = eqb-true (at + 1 + i) place t in absurd (omega (arith, e, f))
     go false t h = h
 
--- a list that rises and has the places of all keys that match
-rising_passes : (patterns : List Pattern) (at : ℕ) (keys : List (List Value)) (places : List ℕ) → AreRising at places → HaveAll patterns at keys places → PassNone patterns at keys places
+-- a list that rises and has the places of all groups that are closed
+rising_passes : (patterns : List Pattern) (at : ℕ) (slots : List GroupSlot) (places : List ℕ) → AreRising at places → HaveAll patterns at slots places → PassNone patterns at slots places
 rising_passes patterns at [] places r all = rising_from at places r
-rising_passes patterns at (key ∷ keys) [] r all = (
-  false_from_ne_true (matches_row patterns key) (λ t. false≢true (all 0 key refl t)),
-  rising_passes patterns (at + 1) keys [] tt (all_behind patterns at key keys [] all),
+rising_passes patterns at (slot ∷ slots) [] r all = (
+  false_from_ne_true (is_closed_by patterns slot) (λ t. false≢true (all 0 slot refl t)),
+  rising_passes patterns (at + 1) slots [] tt (all_behind patterns at slot slots [] all),
 )
-rising_passes patterns at (key ∷ keys) (place ∷ places) r all =
+rising_passes patterns at (slot ∷ slots) (place ∷ places) r all =
     go (nat_eq at place) refl
-    (λ s. rising_passes patterns (at + 1) keys places s)
-    (λ s. rising_passes patterns (at + 1) keys (place ∷ places) s (all_behind patterns at key keys (place ∷ places) all))
+    (λ s. rising_passes patterns (at + 1) slots places s)
+    (λ s. rising_passes patterns (at + 1) slots (place ∷ places) s (all_behind patterns at slot slots (place ∷ places) all))
   where
-    go : (b : Bool) → nat_eq at place ≡ b → (AreRising (at + 1) places → HaveAll patterns (at + 1) keys places → PassNone patterns (at + 1) keys places)
-        → (AreRising (at + 1) (place ∷ places) → PassNone patterns (at + 1) keys (place ∷ places)) → PassNone patterns at (key ∷ keys) (place ∷ places)
+    go : (b : Bool) → nat_eq at place ≡ b → (AreRising (at + 1) places → HaveAll patterns (at + 1) slots places → PassNone patterns (at + 1) slots places)
+        → (AreRising (at + 1) (place ∷ places) → PassNone patterns (at + 1) slots (place ∷ places)) → PassNone patterns at (slot ∷ slots) (place ∷ places)
     go true t f g =
         let e = eqb-true at place t in
-        stops patterns at place key keys places e
-        (f (subst (λ n. AreRising (n + 1) places) (sym e) r.1) (all_without patterns at place keys places e (all_behind patterns at key keys (place ∷ places) all)))
+        stops patterns at place slot slots places e
+        (f (subst (λ n. AreRising (n + 1) places) (sym e) r.1) (all_without patterns at place slots places e (all_behind patterns at slot slots (place ∷ places) all)))
     go false t f g =
         let above : at + 1 ≤ place = omega (arith, r.0, eqb-false at place t) in
         let rises : AreRising (at + 1) (place ∷ places) = (above, r.1) in
         let n : at + 0 ≡ at = omega arith in
-        passes patterns at key keys (place ∷ places)
-        (false_from_ne_true (matches_row patterns key) (λ m. false≢true (sym (none_below at (place ∷ places) (rising_from (at + 1) (place ∷ places) rises)) ∙ subst (λ k. list_any (nat_eq k) (place ∷ places) ≡ true) n (all 0 key refl m))))
+        passes patterns at slot slots (place ∷ places)
+        (false_from_ne_true (is_closed_by patterns slot) (λ m. false≢true (sym (none_below at (place ∷ places) (rising_from (at + 1) (place ∷ places) rises)) ∙ subst (λ k. list_any (nat_eq k) (place ∷ places) ≡ true) n (all 0 slot refl m))))
         (rising_from (at + 1) (place ∷ places) rises) (g rises)
 
 rising_if_increasing : (at : ℕ) (places : List ℕ) → IsStrictlyIncreasing places → (0 < length places → at ≤ get_or places 0 0) → AreRising at places
@@ -165,11 +173,17 @@ rising_if_increasing at (place ∷ places) up first = (
 )
 
 -- what is found for a range, in order and each once
-pub range_passes : (patterns : List Pattern) (column : ℕ) (range : Integers) (slots : List GroupSlot) (found places : List ℕ) → NeedsInteger patterns column range → FindsAll column (keys_of slots) range found
-    → IsStrictlyIncreasing places → ((at : ℕ) → Contains found at → Contains places at) → PassNone patterns 0 (keys_of slots) places
+pub range_passes : (patterns : List Pattern) (column : ℕ) (range : Integers) (slots : List GroupSlot) (found places : List ℕ) → NeedsInteger patterns column range → FindsAll column slots range found → IsStrictlyIncreasing places
+    → ((at : ℕ) → Contains found at → Contains places at) → PassNone patterns 0 slots places
 range_passes patterns column range slots found places needed all up keeps =
-    rising_passes patterns 0 (keys_of slots) places (rising_if_increasing 0 places up (λ lt. omega arith))
-    (λ i key e m. let n : i ≡ 0 + i = omega arith in subst (λ j. list_any (nat_eq j) places ≡ true) n (list_any-from_Contains nat_eq_equiv i places (keeps i (all i key e (needed key m)))))
+    rising_passes patterns 0 slots places (rising_if_increasing 0 places up (λ lt. omega arith))
+    (λ i slot e m. let n : i ≡ 0 + i = omega arith in
+    let parts = and_parts (is_open slot) (matches_row patterns slot.0) m in
+    subst (λ j. list_any (nat_eq j) places ≡ true) n (list_any-from_Contains nat_eq_equiv i places (keeps i (all i slot.0 (ap open_key e ∙ is_there slot.0 slot.1 parts.0) (needed slot.0 parts.1)))))
+  where
+    is_there : (key : List Value) (states : Option (List Tally)) → is_some states ≡ true → key_while_open key states ≡ Some key
+    is_there key None o = absurd (false≢true o)
+    is_there key (Some ts) o = refl
 
 -- ---- a group behind others
 
@@ -187,12 +201,12 @@ set_there (p ∷ pre) s ss (suc at) w e = ap (λ (es : List GroupSlot). p ∷ es
 
 -- ---- their rows
 
-none_closed : (patterns : List Pattern) (s : GroupSlot) → matches_row patterns s.0 ≡ false → closed_rows patterns (open_groups (s ∷ [])) ≡ []
-none_closed patterns s f = go s.1
+none_closed : (patterns : List Pattern) (s : GroupSlot) → is_closed_by patterns s ≡ false → closed_rows patterns (open_groups (s ∷ [])) ≡ []
+none_closed patterns s f = go s.1 f
   where
-    go : (o : Option (List Tally)) → closed_rows patterns (with_open s.0 o []) ≡ []
-    go None = refl
-    go (Some ts) = ap (λ (b : Bool). map row_tuple (cond b ((s.0, ts) ∷ []) [])) f
+    go : (o : Option (List Tally)) → (is_some o && matches_row patterns s.0) ≡ false → closed_rows patterns (with_open s.0 o []) ≡ []
+    go None g = refl
+    go (Some ts) g = ap (λ (b : Bool). map row_tuple (cond b ((s.0, ts) ∷ []) [])) g
 
 beyond : (slots : List GroupSlot) (at : ℕ) → length slots ≤ at → slice_get slots at ≡ None
 beyond [] at le = refl
@@ -204,7 +218,7 @@ hands_beyond patterns slots at [] le h = refl
 hands_beyond patterns slots at (place ∷ places) le h =
     ap₂ (λ (xs ys : List Element). xs ++ ys) (ap (closed_at patterns) (beyond slots place (omega (arith, le, h.0)))) (hands_beyond patterns slots at places le h.1)
 
-hands_behind : (patterns : List Pattern) (pre ss : List GroupSlot) (at : ℕ) (places : List ℕ) → at ≡ length pre → PassNone patterns at (keys_of ss) places → closed_over patterns (pre ++ ss) places ≡ closed_rows patterns (open_groups ss)
+hands_behind : (patterns : List Pattern) (pre ss : List GroupSlot) (at : ℕ) (places : List ℕ) → at ≡ length pre → PassNone patterns at ss places → closed_over patterns (pre ++ ss) places ≡ closed_rows patterns (open_groups ss)
 hands_behind patterns pre [] at places e h = ap (λ (es : List GroupSlot). closed_over patterns es places) (append-nil pre) ∙ hands_beyond patterns pre at places (omega (arith, e)) h
 hands_behind patterns pre (s ∷ ss) at [] e h =
     hands_behind patterns (pre ++ s ∷ []) ss (at + 1) [] (omega (arith, e, length-append pre (s ∷ []))) h.1
@@ -217,14 +231,14 @@ hands_behind patterns pre (s ∷ ss) at (place ∷ places) e h =
     C : List Element
     C = closed_rows patterns (open_groups ss)
 
-    go : (b : Bool) → nat_eq at place ≡ b → ((ps : List ℕ) → PassNone patterns (at + 1) (keys_of ss) ps → closed_over patterns (pre ++ s ∷ ss) ps ≡ C)
-        → MatchBool b (PassNone patterns (at + 1) (keys_of ss) places) ((matches_row patterns s.0 ≡ false) × PassNone patterns (at + 1) (keys_of ss) (place ∷ places))
+    go : (b : Bool) → nat_eq at place ≡ b → ((ps : List ℕ) → PassNone patterns (at + 1) ss ps → closed_over patterns (pre ++ s ∷ ss) ps ≡ C)
+        → MatchBool b (PassNone patterns (at + 1) ss places) ((is_closed_by patterns s ≡ false) × PassNone patterns (at + 1) ss (place ∷ places))
         → closed_over patterns (pre ++ s ∷ ss) (place ∷ places) ≡ closed_rows patterns (open_groups (s ∷ ss))
     go true t rest k =
         ap₂ (λ (xs ys : List Element). xs ++ ys) (ap (closed_at patterns) (there pre s ss place (sym (eqb-true at place t) ∙ e))) (rest places k) ∙ sym (closed_append patterns (s ∷ []) ss)
     go false t rest k = rest (place ∷ places) k.1 ∙ (ap (λ (xs : List Element). xs ++ C) (sym (none_closed patterns s k.0)) ∙ sym (closed_append patterns (s ∷ []) ss))
 
-pub found_hands : (patterns : List Pattern) (slots : List GroupSlot) (places : List ℕ) → PassNone patterns 0 (keys_of slots) places → closed_over patterns slots places ≡ closed_rows patterns (open_groups slots)
+pub found_hands : (patterns : List Pattern) (slots : List GroupSlot) (places : List ℕ) → PassNone patterns 0 slots places → closed_over patterns slots places ≡ closed_rows patterns (open_groups slots)
 found_hands patterns slots places h = hands_behind patterns [] slots 0 places refl h
 
 -- the rows of one place more
@@ -245,6 +259,11 @@ over_so_far patterns slots places i place first old new lt is o n =
 abbrev left : List Pattern → GroupSlot → GroupSlot
 left patterns s = (s.0, cond (matches_row patterns s.0) None s.1)
 
+left_states : (b : Bool) (o : Option (List Tally)) → (is_some o && b) ≡ false → o ≡ cond b None o
+left_states true None m = refl
+left_states true (Some ts) m = absurd (false≢true (sym m))
+left_states false o m = refl
+
 shut_there : (patterns : List Pattern) (pre : List GroupSlot) (s : GroupSlot) (ss : List GroupSlot) (at : ℕ) → at ≡ length pre → shut_at patterns (pre ++ s ∷ ss) at ≡ pre ++ left patterns s ∷ ss
 shut_there patterns pre s ss at e =
     ap (λ (o : Option GroupSlot). cond (matches_slot patterns o) (set_value_at (pre ++ s ∷ ss) at None) (pre ++ s ∷ ss)) (there pre s ss at e) ∙ go (matches_row patterns s.0)
@@ -260,7 +279,7 @@ shut_beyond patterns slots at (place ∷ places) le h =
     (ap (λ (o : Option GroupSlot). cond (matches_slot patterns o) (set_value_at slots place None) slots) (beyond slots place (omega (arith, le, h.0))))
     ∙ shut_beyond patterns slots at places le h.1
 
-shut_behind : (patterns : List Pattern) (pre ss : List GroupSlot) (at : ℕ) (places : List ℕ) → at ≡ length pre → PassNone patterns at (keys_of ss) places → shut_over patterns (pre ++ ss) places ≡ pre ++ map (left patterns) ss
+shut_behind : (patterns : List Pattern) (pre ss : List GroupSlot) (at : ℕ) (places : List ℕ) → at ≡ length pre → PassNone patterns at ss places → shut_over patterns (pre ++ ss) places ≡ pre ++ map (left patterns) ss
 shut_behind patterns pre [] at places e h =
     ap (λ (es : List GroupSlot). shut_over patterns es places) (append-nil pre) ∙ (shut_beyond patterns pre at places (omega (arith, e)) h ∙ sym (append-nil pre))
 shut_behind patterns pre (s ∷ ss) at places e h =
@@ -274,18 +293,18 @@ shut_behind patterns pre (s ∷ ss) at places e h =
 
     -- what shutting those behind leaves, whatever stands here
     Rest : Type 0
-    Rest = (t : GroupSlot) (ps : List ℕ) → PassNone patterns (at + 1) (keys_of ss) ps → shut_over patterns (pre ++ t ∷ ss) ps ≡ pre ++ t ∷ M
+    Rest = (t : GroupSlot) (ps : List ℕ) → PassNone patterns (at + 1) ss ps → shut_over patterns (pre ++ t ∷ ss) ps ≡ pre ++ t ∷ M
 
-    passed : (ps : List ℕ) → Rest → matches_row patterns s.0 ≡ false → PassNone patterns (at + 1) (keys_of ss) ps → shut_over patterns (pre ++ s ∷ ss) ps ≡ pre ++ left patterns s ∷ M
-    passed ps rest m k = rest s ps k ∙ ap (λ (b : Bool). pre ++ (s.0, cond b None s.1) ∷ M) (sym m)
+    passed : (ps : List ℕ) → Rest → is_closed_by patterns s ≡ false → PassNone patterns (at + 1) ss ps → shut_over patterns (pre ++ s ∷ ss) ps ≡ pre ++ left patterns s ∷ M
+    passed ps rest m k = rest s ps k ∙ ap (λ (o : Option (List Tally)). pre ++ (s.0, o) ∷ M) (left_states (matches_row patterns s.0) s.1 m)
 
     go : (place : ℕ) (ps : List ℕ) (b : Bool) → nat_eq at place ≡ b → Rest
-        → MatchBool b (PassNone patterns (at + 1) (keys_of ss) ps) ((matches_row patterns s.0 ≡ false) × PassNone patterns (at + 1) (keys_of ss) (place ∷ ps))
+        → MatchBool b (PassNone patterns (at + 1) ss ps) ((is_closed_by patterns s ≡ false) × PassNone patterns (at + 1) ss (place ∷ ps))
         → shut_over patterns (pre ++ s ∷ ss) (place ∷ ps) ≡ pre ++ left patterns s ∷ M
     go place ps true t rest k = ap (λ (es : List GroupSlot). shut_over patterns es ps) (shut_there patterns pre s ss place (sym (eqb-true at place t) ∙ e)) ∙ rest (left patterns s) ps k
     go place ps false t rest k = passed (place ∷ ps) rest k.0 k.1
 
-    by_places : (ps : List ℕ) → Rest → PassNone patterns at (s.0 ∷ keys_of ss) ps → shut_over patterns (pre ++ s ∷ ss) ps ≡ pre ++ left patterns s ∷ M
+    by_places : (ps : List ℕ) → Rest → PassNone patterns at (s ∷ ss) ps → shut_over patterns (pre ++ s ∷ ss) ps ≡ pre ++ left patterns s ∷ M
     by_places [] rest k = passed [] rest k.0 k.1
     by_places (place ∷ ps) rest k = go place ps (nat_eq at place) refl rest k
 
@@ -311,7 +330,7 @@ open_left_over patterns (s ∷ ss) = go s.1 (open_left_over patterns ss)
         at true = ih
         at false = ap (λ (es : GroupTable). (s.0, ts) ∷ es) ih
 
-pub found_left : (patterns : List Pattern) (slots : List GroupSlot) (places : List ℕ) → PassNone patterns 0 (keys_of slots) places
+pub found_left : (patterns : List Pattern) (slots : List GroupSlot) (places : List ℕ) → PassNone patterns 0 slots places
     → open_groups (shut_over patterns slots places) ≡ filter (λ e. not (matches_row patterns e.0)) (open_groups slots)
 found_left patterns slots places h = ap open_groups (shut_behind patterns [] slots 0 places refl h) ∙ open_left_over patterns slots
 
@@ -322,13 +341,34 @@ keys_set [] at w = refl
 keys_set (s ∷ slots) zero w = refl
 keys_set (s ∷ slots) (suc at) w = ap (λ (ks : List (List Value)). s.0 ∷ ks) (keys_set slots at w)
 
-pub keys_shut : (patterns : List Pattern) (slots : List GroupSlot) (places : List ℕ) → keys_of (shut_over patterns slots places) ≡ keys_of slots
+keys_shut : (patterns : List Pattern) (slots : List GroupSlot) (places : List ℕ) → keys_of (shut_over patterns slots places) ≡ keys_of slots
 keys_shut patterns slots [] = refl
 keys_shut patterns slots (at ∷ places) = keys_shut patterns (shut_at patterns slots at) places ∙ go (matches_slot patterns (slice_get slots at))
   where
     go : (b : Bool) → keys_of (cond b (set_value_at slots at None) slots) ≡ keys_of slots
     go true = keys_set slots at None
     go false = refl
+
+set_none_open : (slots : List GroupSlot) (place at : ℕ) (k : List Value) → open_at (set_value_at slots place None) at ≡ Some k → open_at slots at ≡ Some k
+set_none_open [] place at k h = h
+set_none_open (s ∷ slots) zero zero k h = absurd (cc)
+set_none_open (s ∷ slots) zero (suc at) k h = h
+set_none_open (s ∷ slots) (suc place) zero k h = h
+set_none_open (s ∷ slots) (suc place) (suc at) k h = set_none_open slots place at k h
+
+shut_open : (patterns : List Pattern) (slots : List GroupSlot) (places : List ℕ) (at : ℕ) (k : List Value) → open_at (shut_over patterns slots places) at ≡ Some k → open_at slots at ≡ Some k
+shut_open patterns slots [] at k h = h
+shut_open patterns slots (place ∷ places) at k h = go (matches_slot patterns (slice_get slots place)) (shut_open patterns (shut_at patterns slots place) places at k h)
+  where
+    go : (b : Bool) → open_at (cond b (set_value_at slots place None) slots) at ≡ Some k → open_at slots at ≡ Some k
+    go true f = set_none_open slots place at k f
+    go false f = f
+
+pub shut_opens_none : (patterns : List Pattern) (slots new : List GroupSlot) (places : List ℕ) → new ≡ shut_over patterns slots places → OpensNone slots new
+shut_opens_none patterns slots new places e = record {
+  keys = ap (λ (es : List GroupSlot). keys_of es) e ∙ keys_shut patterns slots places;
+  was_open = λ at k h. shut_open patterns slots places at k (ap (λ (es : List GroupSlot). open_at es at) (sym e) ∙ h);
+}
 
 states_none : (count : ℕ) (spec : GroupSpec) (slots : List GroupSlot) (at : ℕ) → AllStates count spec slots → AllStates count spec (set_value_at slots at None)
 states_none count spec [] at h = h

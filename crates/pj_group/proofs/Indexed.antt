@@ -1,9 +1,9 @@
 -- Indexes of groups, with one group more, and with the same ones.
 use Rattle.std.proofs.Common.{ℕ, zero, suc, ◌+◌, ◌<◌, ◌≤◌, Bool, true, false, cond, List, [], ◌∷◌, ◌++◌, Option, Some, None, ◌≡◌, length, take, refl, sym, ap, ◌∙◌, subst, arith, append-nil, length-append}
 use Rattle.std.specs.List.{slice_get}
-use Rattle.std.specs.Map.{keys_of}
+use Rattle.std.specs.Map.{keys_of, lookup, set_value}
 use Rattle.std.specs.Option.{IfSome}
-use Rattle.std.proofs.lemmas.List.{length-take-le, take-append-le, take_more, take_all}
+use Rattle.std.proofs.lemmas.List.{length-take-le, map-append, take-append-le, take_more, take_all}
 use Rattle.std.proofs.lemmas.Option.{get_or_from_slice_get, slice_get_within}
 use Rattle.indexmap.specs.IndexMap.{insert_entry}
 use Rattle.pj_value.specs.declared.values.Value.{Value}
@@ -11,11 +11,11 @@ use Rattle.pj_value.specs.Values.{row_eq}
 use Rattle.pj_events.specs.Tables.{Tally}
 use Rattle.pj_group.specs.Indexes.{AreIndexesOf, HasOneMore, HasSame, IsColumnOf, IsIndexOf, IsWhole, has_value, places_from, told}
 use Rattle.pj_group.specs.Renewing.{IsRenewed}
-use Rattle.pj_group.specs.Slots.{GroupSlot}
+use Rattle.pj_group.specs.Slots.{GroupSlot, OpensNone, key_while_open, open_at}
 use Rattle.std.proofs.lemmas.Map.{keys-set_value}
 use Rattle.pj_group.specs.declared.indexes.ColumnIndex.{ColumnIndex}
 use Rattle.pj_group.specs.declared.value_index.ValueIndex.{ValueIndex}
-use Rattle.pj_group.proofs.Ordered.{order_push}
+use Rattle.pj_group.proofs.Ordered.{order_closed, order_push}
 
 -- the key of the group at a place
 pub key_at : (slots : List GroupSlot) (at : ℕ) (key : List Value) (states : Option (List Tally)) → slice_get slots at ≡ Some (key, states) → slice_get (keys_of slots) at ≡ Some key
@@ -82,44 +82,88 @@ index_empty column keys index e none = record {
 }
 
 -- an index of all
-pub index_whole : (column : ℕ) (slots : List GroupSlot) (index : ColumnIndex) → IsColumnOf column (keys_of slots) index → length (keys_of slots) ≤ index.values.upto → IsWhole column slots (Some index)
+pub index_whole : (column : ℕ) (slots : List GroupSlot) (index : ColumnIndex) → IsColumnOf column slots index → length (keys_of slots) ≤ index.values.upto → IsWhole column slots (Some index)
 index_whole column slots index is all value = is.values.places value ∙ ap (places_from 0 column value) (take_all index.values.upto (keys_of slots) all)
 
 -- ---- where groups come or change
 
-pub indexes_push : (slots new : List GroupSlot) (more : List (List Value)) (find : ℕ → Option ColumnIndex) → keys_of new ≡ keys_of slots ++ more → AreIndexesOf slots find → AreIndexesOf new find
-indexes_push slots new more find e are column = go (find column) (are column)
+-- a group more, behind the others
+pub indexes_push : (slots more : List GroupSlot) (find : ℕ → Option ColumnIndex) → AreIndexesOf slots find → AreIndexesOf (slots ++ more) find
+indexes_push slots more find are column = go (find column) (are column)
   where
-    go : (o : Option ColumnIndex) → IfSome o (IsColumnOf column (keys_of slots)) → IfSome o (IsColumnOf column (keys_of new))
+    go : (o : Option ColumnIndex) → IfSome o (IsColumnOf column slots) → IfSome o (IsColumnOf column (slots ++ more))
     go None h = h
-    go (Some index) h = subst (λ (ks : List (List Value)). IsColumnOf column ks index) (sym e) (record {
-      values = record {
-        within = omega (arith, h.values.within, length-append (keys_of slots) more);
-        places = λ value. h.values.places value ∙ ap (places_from 0 column value) (sym (take-append-le index.values.upto (keys_of slots) more h.values.within));
-      };
-      order = order_push column (keys_of slots) more index.order h.order;
-    })
+    go (Some index) h = record {
+      values = subst (λ (ks : List (List Value)). IsIndexOf column ks index.values) (sym (map-append (λ (s : GroupSlot). s.0) slots more)) (record {
+        within = omega (arith, h.values.within, length-append (keys_of slots) (keys_of more));
+        places = λ value. h.values.places value ∙ ap (places_from 0 column value) (sym (take-append-le index.values.upto (keys_of slots) (keys_of more) h.values.within));
+      });
+      order = order_push column slots more index.order h.order;
+    }
 
-pub indexes_keys : (slots new : List GroupSlot) (find : ℕ → Option ColumnIndex) → keys_of new ≡ keys_of slots → AreIndexesOf slots find → AreIndexesOf new find
-indexes_keys slots new find e are column = subst (λ (ks : List (List Value)). IfSome (find column) (IsColumnOf column ks)) (sym e) (are column)
-
-keys_put : (key : List Value) (w : Option (List Tally)) (slots : List GroupSlot) → (more : List (List Value)) × (keys_of (insert_entry row_eq slots key w) ≡ keys_of slots ++ more)
-keys_put key w [] = (key ∷ [], refl)
-keys_put key w (s ∷ slots) = go (row_eq key s.0) (keys_put key w slots)
+put_last : (key : List Value) (w : Option (List Tally)) (slots : List GroupSlot) → lookup (row_eq key) slots ≡ None → insert_entry row_eq slots key w ≡ slots ++ (key, w) ∷ []
+put_last key w [] n = refl
+put_last key w (s ∷ slots) n = go (row_eq key s.0) n (put_last key w slots)
   where
-    go : (b : Bool) → (more : List (List Value)) × (keys_of (insert_entry row_eq slots key w) ≡ keys_of slots ++ more)
-        → (more : List (List Value)) × (keys_of (cond b ((s.0, w) ∷ slots) (s ∷ insert_entry row_eq slots key w)) ≡ s.0 ∷ (keys_of slots ++ more))
-    go true h = ([], ap (λ (ks : List (List Value)). s.0 ∷ ks) (sym (append-nil (keys_of slots))))
-    go false h = (h.0, ap (λ (ks : List (List Value)). s.0 ∷ ks) h.1)
+    go : (b : Bool) → cond b (Some s.1) (lookup (row_eq key) slots) ≡ None → (lookup (row_eq key) slots ≡ None → insert_entry row_eq slots key w ≡ slots ++ (key, w) ∷ [])
+        → cond b ((s.0, w) ∷ slots) (s ∷ insert_entry row_eq slots key w) ≡ s ∷ (slots ++ (key, w) ∷ [])
+    go true h ih = absurd (cc)
+    go false h ih = ap (λ (es : List GroupSlot). s ∷ es) (ih h)
 
-pub indexes_put : (slots new : List GroupSlot) (key : List Value) (w : Option (List Tally)) (find : ℕ → Option ColumnIndex) → new ≡ insert_entry row_eq slots key w → AreIndexesOf slots find → AreIndexesOf new find
-indexes_put slots new key w find e are = let k = keys_put key w slots in indexes_push slots new k.0 find (ap keys_of e ∙ k.1) are
+pub indexes_put : (slots new : List GroupSlot) (key : List Value) (w : Option (List Tally)) (find : ℕ → Option ColumnIndex) → lookup (row_eq key) slots ≡ None → new ≡ insert_entry row_eq slots key w → AreIndexesOf slots find → AreIndexesOf new find
+indexes_put slots new key w find n e are = subst (λ (es : List GroupSlot). AreIndexesOf es find) (sym (e ∙ put_last key w slots n)) (indexes_push slots ((key, w) ∷ []) find are)
+
+pub indexes_closed : (slots new : List GroupSlot) (find : ℕ → Option ColumnIndex) → OpensNone slots new → AreIndexesOf slots find → AreIndexesOf new find
+indexes_closed slots new find none are column = go (find column) (are column)
+  where
+    go : (o : Option ColumnIndex) → IfSome o (IsColumnOf column slots) → IfSome o (IsColumnOf column new)
+    go None h = h
+    go (Some index) h = record {
+      values = subst (λ (ks : List (List Value)). IsIndexOf column ks index.values) (sym none.keys) h.values;
+      order = order_closed column slots new index.order none h.order;
+    }
 
 -- where no column has an index
 pub indexes_none : (slots : List GroupSlot) (find : ℕ → Option ColumnIndex) → ((column : ℕ) → find column ≡ None) → AreIndexesOf slots find
-indexes_none slots find none column = subst (λ (o : Option ColumnIndex). IfSome o (IsColumnOf column (keys_of slots))) (sym (none column)) tt
+indexes_none slots find none column = subst (λ (o : Option ColumnIndex). IfSome o (IsColumnOf column slots)) (sym (none column)) tt
 
--- where the states of a key that is there are renewed
+-- ---- where states are set
+
+-- a group that is open where it was
+set_opens : (key : List Value) (w : Option (List Tally)) (slots : List GroupSlot) → ((s : GroupSlot) (k : List Value) → lookup (row_eq key) slots ≡ Some s.1 → key_while_open s.0 w ≡ Some k → key_while_open s.0 s.1 ≡ Some k)
+    → (at : ℕ) (k : List Value) → open_at (set_value (row_eq key) slots w) at ≡ Some k → open_at slots at ≡ Some k
+set_opens key w [] same at k h = h
+set_opens key w (s ∷ slots) same at k h = go (row_eq key s.0) refl (set_opens key w slots) at h
+  where
+    go : (b : Bool) → row_eq key s.0 ≡ b
+        → (((t : GroupSlot) (k : List Value) → lookup (row_eq key) slots ≡ Some t.1 → key_while_open t.0 w ≡ Some k → key_while_open t.0 t.1 ≡ Some k) → (at : ℕ) (k : List Value) → open_at (set_value (row_eq key) slots w) at ≡ Some k
+        → open_at slots at ≡ Some k)
+        → (at : ℕ) → open_at (cond b ((s.0, w) ∷ slots) (s ∷ set_value (row_eq key) slots w)) at ≡ Some k → open_at (s ∷ slots) at ≡ Some k
+    go true e ih zero h = same s k (ap (λ (b : Bool). cond b (Some s.1) (lookup (row_eq key) slots)) e) h
+    go true e ih (suc at) h = h
+    go false e ih zero h = h
+    go false e ih (suc at) h = ih (λ t k f. same t k (ap (λ (b : Bool). cond b (Some s.1) (lookup (row_eq key) slots)) e ∙ f)) at k h
+
+-- the group of a key is closed
+pub closed_one : (key : List Value) (slots new : List GroupSlot) → new ≡ set_value (row_eq key) slots None → OpensNone slots new
+closed_one key slots new e = record {
+  keys = ap (λ (es : List GroupSlot). keys_of es) e ∙ keys-set_value (row_eq key) slots None;
+  was_open = λ at k h. set_opens key None slots (λ s k f n. absurd (cc)) at k (ap (λ (es : List GroupSlot). open_at es at) (sym e) ∙ h);
+}
+
+-- the states of an open group are renewed
+renewed_one : (next : List Tally → List Tally) (slots new : List GroupSlot) (key : List Value) → IsRenewed next slots key new → OpensNone slots new
+renewed_one next slots new key is = record {
+  keys = ap (λ (es : List GroupSlot). keys_of es) is.renewed ∙ keys-set_value (row_eq key) slots (Some (next is.tallies));
+  was_open = λ at k h. set_opens key (Some (next is.tallies)) slots (λ s k f n. was s k (sym f ∙ is.there) n) at k (ap (λ (es : List GroupSlot). open_at es at) (sym is.renewed) ∙ h);
+}
+  where
+    was : (s : GroupSlot) (k : List Value) → Some s.1 ≡ Some (Some is.tallies) → Some s.0 ≡ Some k → key_while_open s.0 s.1 ≡ Some k
+    was s k f n = go s.1 f
+      where
+        go : (o : Option (List Tally)) → Some o ≡ Some (Some is.tallies) → key_while_open s.0 o ≡ Some k
+        go None g = absurd (cc)
+        go (Some ts) g = n
+
 pub indexes_renewed : (next : List Tally → List Tally) (slots new : List GroupSlot) (key : List Value) (find : ℕ → Option ColumnIndex) → IsRenewed next slots key new → AreIndexesOf slots find → AreIndexesOf new find
-indexes_renewed next slots new key find is are =
-    indexes_keys slots new find (ap keys_of is.renewed ∙ keys-set_value (row_eq key) slots (Some (next is.tallies))) are
+indexes_renewed next slots new key find is are = indexes_closed slots new find (renewed_one next slots new key is) are

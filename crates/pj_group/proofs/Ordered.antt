@@ -11,8 +11,9 @@ use Rattle.std.specs.Prelude.{nat_eq}
 use Rattle.std.specs.Bound.{IsForward as AreForward}
 use Rattle.std.specs.declared.ops.Bound.{Bound}
 use Rattle.std.proofs.lemmas.Bool.Decides.{nat_tests}
-use Rattle.std.proofs.lemmas.Bool.{and_from, and_parts, eq-eqb, false≢true}
+use Rattle.std.proofs.lemmas.Bool.{and_from, and_parts, eq-eqb, false_from_ne_true, false≢true}
 use Rattle.std.proofs.lemmas.Map.Lookups.{exact_signed, exact_unsigned}
+use Rattle.std.proofs.lemmas.Map.Entries.{length-keys_of}
 use Rattle.std.proofs.lemmas.Map.Views.{Contains-from_any, exact_unsigned_eq}
 use Rattle.std.proofs.lemmas.Option.{slice_get_within}
 use Rattle.pj_value.specs.declared.values.Value.{Value}
@@ -21,7 +22,9 @@ use Rattle.pj_value.proofs.Orders.{greater_if_less}
 use Rattle.pj_pattern.specs.declared.pattern.Form.TheVariants.{Range}
 use Rattle.pj_pattern.specs.Patterns.{is_from, is_to, matches_value}
 use Rattle.pj_events.specs.Patterns.{Pattern, matches_row}
-use Rattle.pj_group.specs.Orders.{AreEnds, FindsAll, HasInteger, HasIntegerMore, HasIntegers, HaveEnd, IsForward, IsOrderOf, IsRangeSought, IsUpTo, NeedsInteger, first_of, is_between, is_kept, last_of, place_cmp}
+use Rattle.pj_events.specs.Tables.{Tally}
+use Rattle.pj_group.specs.Orders.{AreEnds, FindsAll, HasInteger, HasIntegerMore, HasIntegers, HasOthers, HaveEnd, IsForward, IsOrderOf, IsRangeSought, IsUpTo, NeedsInteger, first_of, is_between, is_kept, last_of, place_cmp}
+use Rattle.pj_group.specs.Slots.{GroupSlot, OpensNone, key_while_open, open_at, open_key}
 use Rattle.pj_group.specs.declared.order_index.Integers.{Integers}
 use Rattle.pj_group.specs.declared.order_index.OrderIndex.{OrderIndex}
 use Rattle.std.specs.Option.{IfSome, option_map}
@@ -33,29 +36,34 @@ front_get [] ys at lt = absurd (omega (arith, lt))
 front_get (x ∷ xs) ys zero lt = refl
 front_get (x ∷ xs) ys (suc at) lt = front_get xs ys at (omega (arith, lt))
 
-pub order_push : (column : ℕ) (keys more : List (List Value)) (index : OrderIndex) → IsOrderOf column keys index → IsOrderOf column (keys ++ more) index
-order_push column keys more index is = record {
-  within = omega (arith, is.within, length-append keys more);
-  kept = λ at key n lt there has. is.kept at key n lt (sym (front_get keys more at (omega (arith, lt, is.within))) ∙ there) has;
+pub order_push : (column : ℕ) (slots more : List GroupSlot) (index : OrderIndex) → IsOrderOf column slots index → IsOrderOf column (slots ++ more) index
+order_push column slots more index is = record {
+  within = omega (arith, is.within, length-append slots more);
+  kept = λ at key n lt there has. is.kept at key n lt (ap open_key (sym (front_get slots more at (omega (arith, lt, is.within)))) ∙ there) has;
 }
 
-pub order_empty : (column : ℕ) (keys : List (List Value)) (index : OrderIndex) → index.upto ≡ 0 → IsOrderOf column keys index
-order_empty column keys index e = record {
+pub order_empty : (column : ℕ) (slots : List GroupSlot) (index : OrderIndex) → index.upto ≡ 0 → IsOrderOf column slots index
+order_empty column slots index e = record {
   within = omega (arith, e);
   kept = λ at key n lt there has. absurd (omega (arith, lt, e));
 }
 
-pub order_more : (column : ℕ) (keys : List (List Value)) (key : List Value) (old new : OrderIndex) → slice_get keys old.upto ≡ Some key → IsOrderOf column keys old → HasIntegerMore column key old new → IsOrderOf column keys new
-order_more column keys key old new there is more = record {
-  within = omega (arith, slice_get_within keys old.upto key there, more.upto);
+-- the key of an open group
+is_key : (key k : List Value) (states : Option (List Tally)) → key_while_open key states ≡ Some k → key ≡ k
+is_key key k None e = absurd (cc)
+is_key key k (Some tallies) e = let f : Some key ≡ Some k = e in cc
+
+pub order_more : (column : ℕ) (slots : List GroupSlot) (key : List Value) (states : Option (List Tally)) (old new : OrderIndex) → slice_get slots old.upto ≡ Some (key, states) → IsOrderOf column slots old → HasIntegerMore column key old new
+    → IsOrderOf column slots new
+order_more column slots key states old new there is more = record {
+  within = omega (arith, slice_get_within slots old.upto (key, states) there, more.upto);
   kept = λ at k n lt t has. go at k n (nat_eq at old.upto) refl lt t has;
 }
   where
-    go : (at : ℕ) (k : List Value) (n : ℤ) (b : Bool) → nat_eq at old.upto ≡ b → at < new.upto → slice_get keys at ≡ Some k → slice_get k column ≡ Some (Int n) → is_kept new n at ≡ true
+    go : (at : ℕ) (k : List Value) (n : ℤ) (b : Bool) → nat_eq at old.upto ≡ b → at < new.upto → open_at slots at ≡ Some k → slice_get k column ≡ Some (Int n) → is_kept new n at ≡ true
     go at k n true e lt t has =
         let same : at ≡ old.upto = exact_unsigned_eq at old.upto e in
-        let is_key : Some key ≡ Some k = sym there ∙ (ap (slice_get keys) (sym same) ∙ t) in
-        let is_k : key ≡ k = cc in
+        let is_k : key ≡ k = is_key key k states (ap open_key (sym there ∙ ap (slice_get slots) (sym same)) ∙ t) in
         subst (λ i. is_kept new n i ≡ true) (sym same) (more.last n (ap (λ (ks : List Value). slice_get ks column) is_k ∙ has))
     go at k n false e lt t has = more.kept n at (is.kept at k n (below at e lt) t has)
       where
@@ -65,11 +73,33 @@ order_more column keys key old new there is more = record {
             go-below : (at ≡ old.upto → ⊥) → at < old.upto + 1 → at < old.upto
             go-below differ h = omega (arith, differ, h)
 
-pub order_same : (column : ℕ) (keys : List (List Value)) (old new : OrderIndex) → IsOrderOf column keys old → HasIntegers old new → IsOrderOf column keys new
-order_same column keys old new is same = record {
+pub order_same : (column : ℕ) (slots : List GroupSlot) (old new : OrderIndex) → IsOrderOf column slots old → HasIntegers old new → IsOrderOf column slots new
+order_same column slots old new is same = record {
   within = omega (arith, is.within, same.upto);
   kept = λ at key n lt there has. same.kept n at (is.kept at key n (omega (arith, lt, same.upto)) there has);
 }
+
+-- ---- groups that are closed
+
+pub order_closed : (column : ℕ) (old new : List GroupSlot) (index : OrderIndex) → OpensNone old new → IsOrderOf column old index → IsOrderOf column new index
+order_closed column old new index none is = record {
+  within = omega (arith, is.within, ap length none.keys, length-keys_of old, length-keys_of new);
+  kept = λ at key n lt there has. is.kept at key n lt (none.was_open at key there) has;
+}
+
+-- without the integer of a group that was closed
+pub order_forgets : (column : ℕ) (slots : List GroupSlot) (at : ℕ) (key : List Value) (old new : OrderIndex) → slice_get slots at ≡ Some (key, None) → IsOrderOf column slots old → HasOthers at old new → IsOrderOf column slots new
+order_forgets column slots at key old new closed is others = record {
+  within = omega (arith, is.within, others.upto);
+  kept = λ i k n lt there has. go i k n (nat_eq i at) refl (omega (arith, lt, others.upto)) there has;
+}
+  where
+    go : (i : ℕ) (k : List Value) (n : ℤ) (b : Bool) → nat_eq i at ≡ b → i < old.upto → open_at slots i ≡ Some k → slice_get k column ≡ Some (Int n) → is_kept new n i ≡ true
+    go i k n true e lt t has =
+        let same : i ≡ at = exact_unsigned_eq i at e in
+        let none : None ≡ Some k = ap open_key (sym closed ∙ ap (slice_get slots) (sym same)) ∙ t in
+        absurd (cc)
+    go i k n false e lt t has = others.kept n i e (is.kept i k n lt t has)
 
 -- ---- what a range of integers finds
 
@@ -166,12 +196,28 @@ pub collected_has : (range : Integers) (first last : Bound (ℤ × ℕ)) (index 
 collected_has range first last index places f l e n at lt b h =
     subst (λ (ps : List ℕ). Contains ps at) (sym (e ∙ ap₂ (λ (lo hi : Bound (ℤ × ℕ)). map (λ (k : ℤ × ℕ). k.1) (keys_between place_cmp lo hi index.places)) f l)) (between_has range index n at lt b h)
 
+open_within : (slots : List GroupSlot) (at : ℕ) (key : List Value) → open_at slots at ≡ Some key → at < length slots
+open_within [] at key e = absurd (cc)
+open_within (s ∷ slots) zero key e = omega arith
+open_within (s ∷ slots) (suc at) key e = omega (arith, open_within slots at key e)
+
 -- a whole index finds all
-pub finds_all : (column : ℕ) (keys : List (List Value)) (range : Integers) (index : OrderIndex) (places : List ℕ) → IsOrderOf column keys index → length keys ≤ index.upto → length keys < 2 ^ 63
-    → ((n : ℤ) (at : ℕ) → at < 2 ^ 63 → is_between range n ≡ true → is_kept index n at ≡ true → Contains places at) → FindsAll column keys range places
-finds_all column keys range index places is whole few told at key there has =
-    let lt : at < length keys = slice_get_within keys at key there in
+pub finds_all : (column : ℕ) (slots : List GroupSlot) (range : Integers) (index : OrderIndex) (places : List ℕ) → IsOrderOf column slots index → length slots ≤ index.upto → length slots < 2 ^ 63
+    → ((n : ℤ) (at : ℕ) → at < 2 ^ 63 → is_between range n ≡ true → is_kept index n at ≡ true → Contains places at) → FindsAll column slots range places
+finds_all column slots range index places is whole few told at key there has =
+    let lt : at < length slots = open_within slots at key there in
     told has.number at (omega (arith, lt, few)) has.within (is.kept at key has.number (omega (arith, lt, whole)) there has.there)
+
+-- without an integer at a place
+pub integer_out : (old new : OrderIndex) (number : ℤ) (at : ℕ) → new.upto ≡ old.upto → Updates place_cmp old.places new.places (number, at) false → HasOthers at old new
+integer_out old new number at upto out = record {
+  upto = upto;
+  kept = λ n other differs h. out.2 (n, other) (elsewhere n other differs) ∙ h;
+}
+  where
+    elsewhere : (n : ℤ) (other : ℕ) → nat_eq other at ≡ false → is_at (place_cmp (number, at)) (n, other) ≡ false
+    elsewhere n other differs =
+        false_from_ne_true (is_at (place_cmp (number, at)) (n, other)) (λ t. false≢true (sym differs ∙ eq-eqb other at (sym (same_place number n at other t).1)))
 
 -- an integer that was put in
 pub integer_put : (column : ℕ) (key : List Value) (old new : OrderIndex) (number : ℤ) → slice_get key column ≡ Some (Int number) → new.upto ≡ old.upto + 1 → Updates place_cmp old.places new.places (number, old.upto) true

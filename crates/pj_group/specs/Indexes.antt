@@ -1,5 +1,5 @@
 -- Groups by their values in a key column.
-use Rattle.std.specs.Prelude.{ℕ, ◌+◌, ◌≤◌, ◌≡◌, Bool, true, false, if◌then◌else◌, List, [], ◌∷◌, ◌++◌, Option, Some, None, length, take, flat_map, nat_eq, slice_get, IfSome}
+use Rattle.std.specs.Prelude.{ℕ, ◌+◌, ◌≤◌, ◌≡◌, Bool, true, false, if◌then◌else◌, List, [], ◌∷◌, ◌++◌, ◌&&◌, Option, Some, None, length, take, flat_map, nat_eq, slice_get, IfSome}
 use Rattle.std.specs.Bool.{MatchBool}
 use Rattle.std.specs.Map.{keys_of}
 use Rattle.indexmap.specs.IndexMap.{get, set_value_at}
@@ -7,7 +7,7 @@ use Rattle.pj_value.specs.declared.values.Value.{Value}
 use Rattle.pj_value.specs.Values.{value_eq}
 use Rattle.pj_pattern.specs.declared.element.Element.{Element}
 use Rattle.pj_events.specs.Patterns.{Pattern, matches_row}
-use Rattle.pj_group.specs.Slots.{GroupSlot, MatchesOnly}
+use Rattle.pj_group.specs.Slots.{GroupSlot, MatchesOnly, is_open}
 use Rattle.pj_group.specs.Steps.{closed_at}
 use Rattle.pj_group.specs.Orders.{IsOrderOf}
 use Rattle.pj_group.specs.declared.indexes.ColumnIndex.{ColumnIndex}
@@ -50,14 +50,14 @@ pub record IsIndexOf (column : ℕ) (keys : List (List Value)) (index : ValueInd
   pub within : index.upto ≤ length keys
   pub places : (value : Value) → told index value ≡ places_from 0 column value (take index.upto keys)
 
--- both indexes of a column are of these keys
-pub record IsColumnOf (column : ℕ) (keys : List (List Value)) (index : ColumnIndex) : Type 0 where
-  pub values : IsIndexOf column keys index.values
-  pub order : IsOrderOf column keys index.order
+-- both indexes of a column are of these groups: the one by values has closed ones too, the one by order at least the open ones
+pub record IsColumnOf (column : ℕ) (slots : List GroupSlot) (index : ColumnIndex) : Type 0 where
+  pub values : IsIndexOf column (keys_of slots) index.values
+  pub order : IsOrderOf column slots index.order
 
 -- what is found by a column are indexes of these groups by that column
 abbrev pub AreIndexesOf : List GroupSlot → (ℕ → Option ColumnIndex) → Type 0
-AreIndexesOf slots find = (column : ℕ) → IfSome (find column) (IsColumnOf column (keys_of slots))
+AreIndexesOf slots find = (column : ℕ) → IfSome (find column) (IsColumnOf column slots)
 
 -- the index of this column has the places of all groups
 abbrev pub IsWhole : ℕ → List GroupSlot → Option ColumnIndex → Type 0
@@ -105,19 +105,23 @@ abbrev pub AreFrom : ℕ → List ℕ → Type 0
 AreFrom at [] = Unit {0}
 AreFrom at (place ∷ places) = (at ≤ place) × AreFrom at places
 
--- these places rise, and pass over no key that matches; the keys stand at the places from this one on
-abbrev pub PassNone : List Pattern → ℕ → List (List Value) → List ℕ → Type 0
-PassNone patterns at [] places = AreFrom at places
-PassNone patterns at (key ∷ keys) [] = (matches_row patterns key ≡ false) × PassNone patterns (at + 1) keys []
-PassNone patterns at (key ∷ keys) (place ∷ places) =
-    MatchBool (nat_eq at place) (PassNone patterns (at + 1) keys places) ((matches_row patterns key ≡ false) × PassNone patterns (at + 1) keys (place ∷ places))
+-- the group is open, and its key matches
+abbrev pub is_closed_by : List Pattern → GroupSlot → Bool
+is_closed_by patterns slot = is_open slot && matches_row patterns slot.0
 
--- no other group matches than those that are looked for
+-- these places rise, and pass over no open group whose key matches; the groups stand at the places from this one on
+abbrev pub PassNone : List Pattern → ℕ → List GroupSlot → List ℕ → Type 0
+PassNone patterns at [] places = AreFrom at places
+PassNone patterns at (slot ∷ slots) [] = (is_closed_by patterns slot ≡ false) × PassNone patterns (at + 1) slots []
+PassNone patterns at (slot ∷ slots) (place ∷ places) =
+    MatchBool (nat_eq at place) (PassNone patterns (at + 1) slots places) ((is_closed_by patterns slot ≡ false) × PassNone patterns (at + 1) slots (place ∷ places))
+
+-- no other open group matches than those that are looked for
 abbrev pub Reaches : List Pattern → List GroupSlot → (ℕ → Option ColumnIndex) → Reach → Type 0
 Reaches patterns slots find AllGroups = Unit {0}
 Reaches patterns slots find (One key) = MatchesOnly patterns key
-Reaches patterns slots find (Column column value) = PassNone patterns 0 (keys_of slots) (told_by (find column) value)
-Reaches patterns slots find (Several places) = PassNone patterns 0 (keys_of slots) places
+Reaches patterns slots find (Column column value) = PassNone patterns 0 slots (told_by (find column) value)
+Reaches patterns slots find (Several column places) = PassNone patterns 0 slots places
 
 -- ---- groups at places
 

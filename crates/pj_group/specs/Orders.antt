@@ -1,5 +1,5 @@
 -- Groups by their integers in a key column, in order.
-use Rattle.std.specs.Prelude.{ℕ, ℤ, ◌+◌, ◌-◌, ◌^◌, ◌<◌, ◌≤◌, ◌≡◌, Bool, true, false, List, Option, Some, None, length, slice_get}
+use Rattle.std.specs.Prelude.{ℕ, ℤ, ◌+◌, ◌-◌, ◌^◌, ◌<◌, ◌≤◌, ◌≡◌, Bool, true, false, List, Option, Some, None, length, nat_eq, slice_get}
 use Rattle.std.specs.BTreeSet.{contains}
 use Rattle.std.specs.List.{Contains}
 use Rattle.std.specs.Option.{option_map}
@@ -12,6 +12,7 @@ use Rattle.pj_value.specs.declared.values.Value.TheVariants.{Int}
 use Rattle.pj_pattern.specs.declared.pattern.Form.TheVariants.{Range}
 use Rattle.pj_pattern.specs.Patterns.{matches_value}
 use Rattle.pj_events.specs.Patterns.{Pattern, matches_row}
+use Rattle.pj_group.specs.Slots.{GroupSlot, open_at}
 use Rattle.pj_group.specs.declared.order_index.Integers.{Integers}
 use Rattle.pj_group.specs.declared.order_index.OrderIndex.{OrderIndex}
 
@@ -57,9 +58,9 @@ pub record IsRangeSought (patterns : List Pattern) (sought : ℕ × Integers) : 
   pub forward : IsForward sought.1
   pub needed : NeedsInteger patterns sought.0 sought.1
 
--- these are the places of all such keys, and maybe others
-abbrev pub FindsAll : ℕ → List (List Value) → Integers → List ℕ → Type 0
-FindsAll column keys range places = (at : ℕ) (key : List Value) → slice_get keys at ≡ Some key → HasInteger column range key → Contains places at
+-- these are the places of all open groups with such a key, and maybe others
+abbrev pub FindsAll : ℕ → List GroupSlot → Integers → List ℕ → Type 0
+FindsAll column slots range places = (at : ℕ) (key : List Value) → open_at slots at ≡ Some key → HasInteger column range key → Contains places at
 
 -- ---- what an index has
 
@@ -71,10 +72,10 @@ place_cmp x y = ordering_then (int_cmp x.0 y.0) (nat_cmp x.1 y.1)
 abbrev pub is_kept : OrderIndex → ℤ → ℕ → Bool
 is_kept index n at = contains place_cmp index.places (n, at)
 
--- the index passes over no integer that one of so many first keys has in this column
-pub record IsOrderOf (column : ℕ) (keys : List (List Value)) (index : OrderIndex) : Type 0 where
-  pub within : index.upto ≤ length keys
-  pub kept : (at : ℕ) (key : List Value) (n : ℤ) → at < index.upto → slice_get keys at ≡ Some key → slice_get key column ≡ Some (Int n) → is_kept index n at ≡ true
+-- the index passes over no integer that an open one of so many first groups has in this column
+pub record IsOrderOf (column : ℕ) (slots : List GroupSlot) (index : OrderIndex) : Type 0 where
+  pub within : index.upto ≤ length slots
+  pub kept : (at : ℕ) (key : List Value) (n : ℤ) → at < index.upto → open_at slots at ≡ Some key → slice_get key column ≡ Some (Int n) → is_kept index n at ≡ true
 
 -- it has what it had
 pub record HasIntegers (old new : OrderIndex) : Type 0 where
@@ -86,6 +87,11 @@ pub record HasIntegerMore (column : ℕ) (key : List Value) (old new : OrderInde
   pub upto : new.upto ≡ old.upto + 1
   pub kept : (n : ℤ) (at : ℕ) → is_kept old n at ≡ true → is_kept new n at ≡ true
   pub last : (n : ℤ) → slice_get key column ≡ Some (Int n) → is_kept new n old.upto ≡ true
+
+-- it has what it had at other places
+pub record HasOthers (at : ℕ) (old new : OrderIndex) : Type 0 where
+  pub upto : new.upto ≡ old.upto
+  pub kept : (n : ℤ) (other : ℕ) → nat_eq other at ≡ false → is_kept old n other ≡ true → is_kept new n other ≡ true
 
 -- the ends of a range in the index
 abbrev pub first_of : Option ℤ → Bound (ℤ × ℕ)

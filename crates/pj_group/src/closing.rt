@@ -8,11 +8,11 @@ ghost use Rattle.pj_value.specs.Values.{row_eq};
 ghost use Rattle.pj_events.specs.Patterns.{matches_row};
 ghost use Rattle.pj_group.specs.Indexes.{AreIndexesOf, PassNone, Reaches};
 ghost use Rattle.pj_group.specs.Insides.{AllStates};
-ghost use Rattle.pj_group.specs.Slots.{open_groups};
+ghost use Rattle.pj_group.specs.Slots.{OpensNone, open_groups};
 ghost use Rattle.pj_group.specs.Steps.{table_after, table_hands};
 
 use crate::handing::hand_out;
-use crate::indexes::{Indexes, places_of};
+use crate::indexes::{Indexes, forget_closed, places_of};
 use crate::places::close_places;
 use crate::reach::Reach;
 use crate::slots::{Slots, clear_all, close_one, drop_matched};
@@ -59,7 +59,8 @@ pub fn close(
 }
 
 // Drops the groups whose keys match. Those that are looked up keep their places without states until such punctuations came to
-// more than half as many places of closed groups as there are places.
+// more than half as many places of closed groups as there are places. Those that were found by the order of a column are taken
+// out of it, so that no later range comes to their places.
 fn drop_closed(
     slots: &mut Slots,
     indexes: &mut Indexes,
@@ -89,19 +90,20 @@ fn drop_closed(
             let closed = close_found(slots, places_of(indexes, *column, value), kept);
             *closings = cleared(slots, indexes, places, closings.saturating_add(closed));
         }
-        Reach::Several(found) => {
+        Reach::Several(column, found) => {
             let closed = close_found(slots, found.as_slice(), kept);
+            forget_closed(indexes, slots, *column, found.as_slice());
             *closings = cleared(slots, indexes, places, closings.saturating_add(closed));
         }
     }
 }
 
-// Closes the groups whose keys match, which are all among these places; answers how many places they have.
+// Closes the open groups whose keys match, which are all among these places; answers how many places have keys that match.
 fn close_found(slots: &mut Slots, places: &[usize], kept: &Punct) -> usize
-    requires found { PassNone kept.now 0 (keys_of slots.old.entries) places.now }
+    requires found { PassNone kept.now 0 slots.old.entries places.now }
     ensures keeps { open_groups slots.new.entries ≡ filter (λ e. not (matches_row kept.now e.0)) (open_groups slots.old.entries) }
     ensures states { (count : ℕ) (spec : AnySpec) → AllStates count spec slots.old.entries → AllStates count spec slots.new.entries }
-    ensures keys { keys_of slots.new.entries ≡ keys_of slots.old.entries }
+    ensures opens { OpensNone slots.old.entries slots.new.entries }
 {
     close_places(slots, places, kept)
 }

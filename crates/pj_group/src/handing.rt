@@ -101,14 +101,14 @@ fn append_closed(
             append_found(alloc, spec, slots, places, kept, out)?;
             Ok(())
         }
-        Reach::Several(places) => {
+        Reach::Several(_, places) => {
             append_found(alloc, spec, slots, places.as_slice(), kept, out)?;
             Ok(())
         }
     }
 }
 
-// The rows of the groups whose keys match, which are all among these places.
+// The rows of the open groups whose keys match, which are all among these places.
 fn append_found(
     alloc: Global,
     spec: &GroupSpec,
@@ -118,7 +118,7 @@ fn append_found(
     out: &mut List<Element>,
 ) -> Result<(), NoMemory>
     requires states { AllStates (2 ^ 40) spec.now slots.now.entries }
-    requires found { PassNone kept.now 0 (keys_of slots.now.entries) places.now }
+    requires found { PassNone kept.now 0 slots.now.entries places.now }
     ensures ok { OnOk result (out.new ≡ out.old ++ closed_rows kept.now (open_groups slots.now.entries)) }
     ensures err { OnErr result (IsFront out.old out.new) }
 {

@@ -14,7 +14,7 @@ use pj_value::NoMemory;
 use std::alloc::Global;
 
 /// The indexes of a column: by its values, for constants, and by its integers in order, for ranges. Each has the groups that
-/// there were when it was last asked.
+/// there were when it was last asked; the one by order need not have those that were closed.
 #[derive(Drop)]
 pub struct ColumnIndex {
     values: ValueIndex,
@@ -27,7 +27,7 @@ pub type Indexes = IndexMap<usize, ColumnIndex>;
 impl ColumnIndex {
     // Indexes of no groups.
     fn new(alloc: Global, column: usize, slots: &Slots) -> ColumnIndex
-        ensures { IsColumnOf column (keys_of slots.now.entries) result }
+        ensures { IsColumnOf column slots.now.entries result }
     {
         ColumnIndex {
             values: ValueIndex::new(alloc),
@@ -37,14 +37,23 @@ impl ColumnIndex {
 
     // Brings the index by values up to date.
     fn catch_up(&mut self, alloc: Global, slots: &Slots, column: usize) -> Result<(), NoMemory>
-        requires { IsColumnOf column (keys_of slots.now.entries) self.old }
-        ensures same { IsColumnOf column (keys_of slots.now.entries) self.new }
+        requires { IsColumnOf column slots.now.entries self.old }
+        ensures same { IsColumnOf column slots.now.entries self.new }
         ensures ok { OnOk result (length (keys_of slots.now.entries) ≤ self.new.values.upto) }
     {
         self.values.catch_up(alloc, slots, column)
     }
 
-    // The places of the groups with an integer of a range. The index by order is brought up to date.
+    // Takes those of these groups that were closed out of the index by order.
+    fn forget_closed(&mut self, slots: &Slots, column: usize, places: &[usize])
+        requires { IsColumnOf column slots.now.entries self.old }
+        ensures { IsColumnOf column slots.now.entries self.new }
+    {
+        self.order.forget_closed(slots, column, places);
+    }
+
+    // The places of the groups with an integer of a range; those that were closed may be missing. The index by order is brought
+    // up to date.
     fn between(
         &mut self,
         alloc: Global,
@@ -53,17 +62,17 @@ impl ColumnIndex {
         range: Integers,
     ) -> Result<Vec<usize>, NoMemory>
         requires forward { IsForward range }
-        requires same { IsColumnOf column (keys_of slots.now.entries) self.old }
-        ensures same { IsColumnOf column (keys_of slots.now.entries) self.new }
+        requires same { IsColumnOf column slots.now.entries self.old }
+        ensures same { IsColumnOf column slots.now.entries self.new }
         ensures values { self.new.values ≡ self.old.values }
-        ensures ok { IfOk result (λ places. FindsAll column (keys_of slots.now.entries) range places.items) }
+        ensures ok { IfOk result (λ places. FindsAll column slots.now.entries range places.items) }
     {
         self.order.catch_up(slots, column)?;
         Ok(self.order.between(alloc, range)?)
     }
 }
 
-/// Brings the index of a column up to date; the first time it is made.
+/// Brings the index of a column by values up to date; the first time it is made.
 pub fn catch_up(
     alloc: Global,
     indexes: &mut Indexes,
@@ -99,8 +108,19 @@ pub fn places_of<'a>(indexes: &'a Indexes, column: usize, value: &ColumnValue) -
     }
 }
 
-/// The places of the groups with an integer of a range in a column. The index of the column is brought up to date; the first
-/// time it is made.
+/// Takes those of these groups that were closed out of the index of a column by order, so that no range comes to them again.
+pub fn forget_closed(indexes: &mut Indexes, slots: &Slots, column: usize, places: &[usize])
+    requires { AreIndexesOf slots.now.entries (get nat_eq indexes.old) }
+    ensures { AreIndexesOf slots.now.entries (get nat_eq indexes.new) }
+{
+    match indexes.get_mut(&column) {
+        None => {}
+        Some(index) => index.forget_closed(slots, column, places),
+    }
+}
+
+/// The places of the groups with an integer of a range in a column; those that were closed may be missing. The index of the
+/// column is brought up to date; the first time it is made.
 pub fn places_between(
     alloc: Global,
     indexes: &mut Indexes,
@@ -111,7 +131,7 @@ pub fn places_between(
     requires forward { IsForward range }
     requires indexed { AreIndexesOf slots.now.entries (get nat_eq indexes.old) }
     ensures same { AreIndexesOf slots.now.entries (get nat_eq indexes.new) }
-    ensures ok { IfOk result (λ places. FindsAll column (keys_of slots.now.entries) range places.items) }
+    ensures ok { IfOk result (λ places. FindsAll column slots.now.entries range places.items) }
 {
     match indexes.get_mut(&column) {
         Some(index) => Ok(index.between(alloc, slots, column, range)?),

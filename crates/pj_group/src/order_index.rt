@@ -5,8 +5,7 @@ ghost use Rattle.std.specs.BTreeSet.{IsUnchanged, Updates, keys_between};
 ghost use Rattle.std.specs.Bound.{IsForward as AreForward};
 ghost use Rattle.std.specs.List.{Contains};
 ghost use Rattle.std.specs.List.Sorted.{IsStrictlyIncreasing};
-ghost use Rattle.std.specs.Map.{keys_of};
-ghost use Rattle.pj_group.specs.Orders.{HasIntegerMore, HasIntegers, IsForward, IsOrderOf, first_of, is_between, is_kept, last_of, place_cmp};
+ghost use Rattle.pj_group.specs.Orders.{HasIntegerMore, HasIntegers, HasOthers, IsForward, IsOrderOf, first_of, is_between, is_kept, last_of, place_cmp};
 
 use crate::keys::Key;
 use crate::slots::Slots;
@@ -22,7 +21,8 @@ pub struct Integers {
     pub high: Option<i64>,
 }
 
-/// The integers that the first so many groups have in a key column, each with the place of its group, in order.
+/// The integers that the first so many groups have in a key column, each with the place of its group, in order. Those of groups
+/// that were closed may be missing.
 #[derive(Drop)]
 pub struct OrderIndex {
     upto: usize,
@@ -42,10 +42,10 @@ impl OrderIndex {
 
     /// Takes in the groups that came since.
     pub fn catch_up(&mut self, slots: &Slots, column: usize) -> Result<(), NoMemory>
-        requires { IsOrderOf column (keys_of slots.now.entries) self.old }
-        ensures same { IsOrderOf column (keys_of slots.now.entries) self.new }
-        ensures few { length (keys_of slots.now.entries) < 2 ^ 63 }
-        ensures ok { OnOk result (length (keys_of slots.now.entries) ≤ self.new.upto) }
+        requires { IsOrderOf column slots.now.entries self.old }
+        ensures same { IsOrderOf column slots.now.entries self.new }
+        ensures few { length slots.now.entries < 2 ^ 63 }
+        ensures ok { OnOk result (length slots.now.entries ≤ self.new.upto) }
     {
         for at in self.upto..slots.len() {
             self.take_at(slots, at, column)?;
@@ -58,8 +58,8 @@ impl OrderIndex {
         requires next { at ≡ self.old.upto }
         requires within { at < length slots.now.entries }
         requires few { at < 2 ^ 63 }
-        requires same { IsOrderOf column (keys_of slots.now.entries) self.old }
-        ensures same { IsOrderOf column (keys_of slots.now.entries) self.new }
+        requires same { IsOrderOf column slots.now.entries self.old }
+        ensures same { IsOrderOf column slots.now.entries self.new }
         ensures ok { OnOk result (self.new.upto ≡ at + 1) }
     {
         match slots.get_index(at) {
@@ -103,6 +103,47 @@ impl OrderIndex {
         let at = self.upto;
         self.places.insert((number, at))?;
         Ok(())
+    }
+
+    /// Takes out the integers of those of these groups that were closed.
+    pub fn forget_closed(&mut self, slots: &Slots, column: usize, places: &[usize])
+        requires { IsOrderOf column slots.now.entries self.old }
+        ensures { IsOrderOf column slots.now.entries self.new }
+    {
+        for place in places {
+            self.forget_at(slots, column, *place);
+        }
+    }
+
+    // Takes out the integer of the group at a place, where it was closed.
+    fn forget_at(&mut self, slots: &Slots, column: usize, at: usize)
+        requires { IsOrderOf column slots.now.entries self.old }
+        ensures { IsOrderOf column slots.now.entries self.new }
+    {
+        match slots.get_index(at) {
+            None => {}
+            Some((key, states)) => match states {
+                None => self.take_out(key, column, at),
+                Some(_) => {}
+            },
+        }
+    }
+
+    // Takes out the integer that a key has, with this place.
+    fn take_out(&mut self, key: &Key, column: usize, at: usize)
+        ensures { HasOthers at self.old self.new }
+    {
+        match key.row().get(column) {
+            None => {}
+            Some(Value::Text(_)) => {}
+            Some(Value::Int(number)) => self.remove(*number, at),
+        }
+    }
+
+    fn remove(&mut self, number: i64, at: usize)
+        ensures { HasOthers at self.old self.new }
+    {
+        self.places.remove(&(number, at));
     }
 
     /// The places of the groups with an integer of a range, in the order of the integers.

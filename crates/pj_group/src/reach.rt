@@ -14,18 +14,19 @@ use pj_pattern::{Punct, Shape};
 use pj_value::{List, NoMemory, Value};
 use std::alloc::Global;
 
-/// Where to look for groups: at one key, at the places of a value in a key column, at several places, which rise, or at all.
+/// Where to look for groups: at one key, at the places of a value in a key column, at several places, which rise, that were
+/// found by the order of a key column, or at all.
 #[derive(Drop)]
 pub enum Reach {
     One(Key),
     Column(usize, ColumnValue),
-    Several(List<usize>),
+    Several(usize, List<usize>),
     All,
 }
 
 impl Reach {
-    /// Where all groups are found that the punctuation matches: by their key where it has constants alone, else by a column in
-    /// which it has one, else by the first in which it has a range of integers, else by going through all. The indexes of
+    /// Where all open groups are found that the punctuation matches: by their key where it has constants alone, else by a column
+    /// in which it has one, else by the first in which it has a range of integers, else by going through all. The indexes of
     /// these columns are brought up to date.
     #[tactic(auto, using(crate::proofs::FoundPlaces::found_pass))]
     pub fn of(
@@ -120,8 +121,8 @@ fn constant_in(alloc: Global, punct: &Punct, column: usize) -> Result<Option<Col
     }
 }
 
-// The places of the groups with an integer of the punctuation's first range of integers. All groups are gone through where it
-// has none, or where more than half of the groups have such an integer.
+// The places of the groups with an integer of the punctuation's first range of integers, those left out that a range closed
+// before. All groups are gone through where it has none, or where these are more than half of the groups.
 fn ranged(
     alloc: Global,
     slots: &Slots,
@@ -139,7 +140,7 @@ fn ranged(
             if places.len() > slots.len() / 2 {
                 Ok(Reach::All)
             } else {
-                Ok(Reach::Several(rising(places)))
+                Ok(Reach::Several(column, rising(places)))
             }
         }
     }

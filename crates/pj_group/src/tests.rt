@@ -223,6 +223,34 @@ fn groups_close_by_ranges(rt: HostRuntime) {
     assert!(rt; agrees(&run(rt.alloc(), &[Agg::Count], &said), &want));
 }
 
+// Ranges that reach further each time, and past what was closed before; 2 is closed and comes again, and then stands last.
+#[test]
+fn watermarks_close_what_came_since(rt: HostRuntime) {
+    let said = [
+        Said::Row(3, 0),
+        Said::Row(1, 0),
+        Said::Row(8, 0),
+        Said::Row(2, 0),
+        Said::Row(5, 0),
+        Said::Row(4, 0),
+        Said::Row(7, 0),
+        Said::Row(6, 0),
+        Said::CloseBetween(None, Some(1)),
+        Said::CloseBetween(None, Some(2)),
+        Said::CloseBetween(None, Some(2)),
+        Said::CloseBetween(None, Some(4)),
+        Said::Row(9, 0),
+        Said::Row(2, 0),
+        Said::CloseBetween(None, Some(5)),
+        Said::CloseBetween(None, Some(9)),
+    ];
+    let want = [
+        1, 1, -7, -7, 2, 1, -7, -7, -7, -7, 3, 1, 4, 1, -7, -7, 5, 1, 2, 1, -7, -7, 8, 1, 7, 1, 6,
+        1, 9, 1, -7, -7,
+    ];
+    assert!(rt; agrees(&run(rt.alloc(), &[Agg::Count], &said), &want));
+}
+
 #[test]
 fn sums_are_exact_and_clamped(rt: HostRuntime) {
     let (least, greatest) = (-9223372036854775807, 9223372036854775807);

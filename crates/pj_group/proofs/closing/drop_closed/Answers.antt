@@ -1,13 +1,11 @@
 use Rattle.std.proofs.Common.{None, not, ◌&&◌, ap, sym, ◌∙◌, subst, rules}
-use Rattle.std.proofs.lemmas.Map.{keys-set_value}
 use Rattle.indexmap.specs.IndexMap.{get}
 use Rattle.std.specs.Prelude.{nat_eq}
-use Rattle.std.specs.Map.{keys_of}
 use Rattle.pj_value.specs.Values.{row_eq}
 use Rattle.pj_events.specs.Patterns.{matches_row}
 use Rattle.pj_group.specs.Insides.{AllStates}
 use Rattle.pj_group.specs.Slots.{is_open, open_groups}
-use Rattle.pj_group.proofs.Indexed.{indexes_keys}
+use Rattle.pj_group.proofs.Indexed.{closed_one, indexes_closed}
 use Rattle.pj_group.proofs.OpenGroups.{only_closed, open_left, states_filter, states_set}
 use Rattle.pj_group.proofs.closing.drop_closed.Goals as goal
 
@@ -30,6 +28,6 @@ returns-in-One-clause-states c =
 pub cleared-requires : goal.cleared-requires
 cleared-requires c = record {
   indexed =
-      indexes_keys c.args.slots.now.entries c.close_one.new.slots.entries (get nat_eq c.args.indexes.now)
-      (ap (λ es. keys_of es) c.close_one.ensures ∙ keys-set_value (row_eq c.in-One.key) c.args.slots.now.entries None) c.requires.indexed;
+      indexes_closed c.args.slots.now.entries c.close_one.new.slots.entries (get nat_eq c.args.indexes.now)
+      (closed_one c.in-One.key c.args.slots.now.entries c.close_one.new.slots.entries c.close_one.ensures) c.requires.indexed;
 }

@@ -21,4 +21,5 @@ returns-clause-states c =
     (first_states c.args.count c.args.row.now c.as_slice.result.now c.in_ok-tallies.tallies c.in_ok-tallies.ensures.is c.in_ok-tallies.ensures.bounded) c.in_ok-insert.ensures.entries
 
 pub returns-clause-indexed : goal.returns-clause-indexed
-returns-clause-indexed c = indexes_put c.args.slots.now.entries c.insert.new.self.entries c.in_ok-made.made (Some c.in_ok-tallies.tallies) (get nat_eq c.args.indexes.now) c.in_ok-insert.ensures.entries c.requires.indexed
+returns-clause-indexed c = indexes_put c.args.slots.now.entries c.insert.new.self.entries c.in_ok-made.made (Some c.in_ok-tallies.tallies) (get nat_eq c.args.indexes.now)
+    (subst (λ k. lookup (row_eq k) c.args.slots.now.entries ≡ None) (sym c.in_ok-made.ensures) c.requires.new) c.in_ok-insert.ensures.entries c.requires.indexed
