@@ -34,8 +34,10 @@ pub mod Lowest
 pub mod Through
 pub mod Triangles
 pub mod Roused
+pub mod Backward
 pub mod Settled
 pub mod Leaving
 pub mod Spared
 pub mod Ranged
 pub mod Listed
+pub mod Paths

@@ -2,7 +2,7 @@
 use Rattle.std.proofs.Common.{ℕ, zero, suc, ◌+◌, ◌-◌, ◌<◌, ◌≤◌, Bool, true, false, cond, not, ◌&&◌, ◌||◌, List, [], ◌∷◌, ◌++◌, ◌≡◌, ◌⊎◌, Option, Some, None, map, filter, flat_map, take, drop, length, get_or, refl, sym, ap, ap₂, ◌∙◌, subst, inl, inr, eqb, ltb, arith, append_assoc, append-nil, Contains, nat_cmp, IsPermutation, IsSorted}
 use Rattle.std.specs.List.{list_any, slice_get, dedup}
 use Rattle.std.specs.List.Retain.{DiffersFromLast, IsFiltered}
-use Rattle.std.proofs.lemmas.Bool.{and_from, and_right, eq-eqb, eqb-true, false_from_ne_true, false≢true, lt-ltb, ltb-false, ltb-true}
+use Rattle.std.proofs.lemmas.Bool.{and_from, and_right, eq-eqb, eqb-true, false_from_ne_true, false≢true, lt-ltb, ltb-false}
 use Rattle.std.proofs.lemmas.List.{map-append, take_more}
 use Rattle.std.proofs.lemmas.List.Filters.{dedup_is}
 use Rattle.std.proofs.lemmas.List.Kept.{AllPairs-from_increasing, Contains-dedup_nat}
@@ -15,13 +15,13 @@ use Rattle.pj_state.specs.declared.shared.Stored.{Stored}
 use Rattle.pj_state.specs.Rising.{AllAbove, IsRising, first_with, itself}
 use Rattle.pj_state.specs.States.{pair_of, row_in as row_found, row_under, stored, ticket_of, tickets_of}
 use Rattle.pj_cover.specs.declared.rows.Uncovered.{Uncovered}
-use Rattle.pj_cover.specs.Asking.{IsAsked, IsFirstUncovered, Known, all_covered, entries, known_of, tuple_of}
-use Rattle.pj_events.specs.Join.{CertEntry, Demand, In, TupleAt, covered, has, older_puncts}
+use Rattle.pj_cover.specs.Asking.{IsFirstUncovered, Known, all_covered, entries, known_of, tuple_of}
+use Rattle.pj_events.specs.Join.{In, has}
 use Rattle.pj_join.specs.declared.marks.Verdict.{Verdict}
 use Rattle.pj_join.specs.declared.marks.Verdict.TheVariants.{Ripe, Open, Marked}
 use Rattle.pj_join.specs.Judging.{JudgeView, one_if, ripe_at, row_in, rows_at}
 use Rattle.pj_join.specs.Sides.{row_pairs}
-use Rattle.pj_join.specs.Watching.{AreJudged, AreLookedAt, AsksEarly, IsLookedAt, IsOneJudged, IsVerdict, Judged, NoneIsRipe, Watches, all_picked, goes_by, is_passed, known, marked_by, picked, under_with, verdict_on}
+use Rattle.pj_join.specs.Watching.{AreJudged, AreLookedAt, IsLookedAt, IsOneJudged, IsVerdict, Judged, NoneIsRipe, Watches, all_picked, goes_by, is_passed, marked_by, picked, under_with, verdict_on}
 
 -- ---- lists that rise
 
@@ -155,23 +155,10 @@ judged_all w rows young list tickets all is more s h f = more s.ticket (subst (�
 
 -- ---- one row
 
--- what is known of the punctuations below the low-water ticket alone
-abbrev known_below : Known → Known
-known_below k = known k.classes k.stored (older_puncts k.low k.puncts) k.low
-
-open-early : (k : Known) (cert : List CertEntry) (x : TupleAt) (rows : List TupleAt) (asks : Demand) → length rows < 2 → ((y : TupleAt) → In y rows → In y k.stored) → ((y : TupleAt) → In y rows → y.ticket < k.low)
-    → IsAsked k.classes cert rows (x ∷ []) asks → covered (older_puncts k.low k.puncts) asks ≡ false → AsksEarly (known_below k) cert x
-open-early k [] x rows asks few there below asked un = absurd asked
-open-early k (e ∷ cert) x [] asks few there below asked un = inl (ap (covered (older_puncts k.low k.puncts)) asked ∙ un)
-open-early k (e ∷ []) x (y ∷ rows) asks few there below asked un = absurd asked.2
-open-early k (e ∷ f ∷ cert) x (y ∷ []) asks few there below asked un =
-    inr (y, record { there = there y (inl refl); below = below y (inl refl); of_entry = asked.0; joins = asked.1; uncovered = ap (covered (older_puncts k.low k.puncts)) asked.2 ∙ un })
-open-early k (e ∷ f ∷ cert) x (y ∷ z ∷ rows) asks few there below asked un = absurd (omega (arith, few))
-
 pub verdict_is : (j : JudgeView) (s : Stored) (found : Option Uncovered) → s.ticket < j.low
     → IsFirstUncovered (known_of j.spec (row_pairs j.states) j.stores j.low) (entries j.schemes j.cert) (tuple_of j.input (pair_of s)) found → IsVerdict j s (verdict_on found j.settled)
 verdict_is j s None lt all = and_from (ltb s.ticket j.low) _ (lt-ltb s.ticket j.low lt) all
-verdict_is j s (Some u) lt v = go (ltb u.entry 2) refl j.settled refl
+verdict_is j s (Some u) lt v = go j.settled refl
   where
     facts : Known
     facts = known_of j.spec (row_pairs j.states) j.stores j.low
@@ -179,13 +166,9 @@ verdict_is j s (Some u) lt v = go (ltb u.entry 2) refl j.settled refl
     not_ripe : ripe_at j s ≡ false
     not_ripe = and_right (ltb s.ticket j.low) (all_covered facts (entries j.schemes j.cert) (tuple_of j.input (pair_of s) ∷ [])) v.1
 
-    go : (a : Bool) → ltb u.entry 2 ≡ a → (b : Bool) → j.settled ≡ b → IsVerdict j s (cond (a && b) Open Marked)
-    go true e true q =
-        let place : 0 + length v.0.rows ≡ u.entry = v.0.place in
-        let entry : u.entry < 2 = ltb-true u.entry 2 e in
-        (not_ripe, λ l. (q, open-early facts (entries j.schemes j.cert) (tuple_of j.input (pair_of s)) v.0.rows v.0.asks (omega (arith, place, entry)) v.0.stored_in v.0.below v.0.asked v.0.uncovered))
-    go true e false q = not_ripe
-    go false e b q = not_ripe
+    go : (b : Bool) → j.settled ≡ b → IsVerdict j s (cond b Open Marked)
+    go true q = (not_ripe, λ l. (q, (v.0.rows, v.0.asks, record { there = v.0.stored_in; below = v.0.below; asked = v.0.asked; uncovered = v.0.uncovered })))
+    go false q = not_ripe
 
 pub under_at : (rows : List Stored) (ticket : ℕ) (row : List Value) → Some row ≡ row_under ticket rows → (at : ℕ) × (slice_get rows at ≡ Some (stored ticket row))
 under_at [] ticket row e = absurd (cc)

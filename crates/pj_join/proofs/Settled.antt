@@ -21,7 +21,7 @@ module _ (node : ℕ) (spec : JoinData) (limit next done : ℕ) (states : List S
 
   pub settled : (gone : List ℕ) → gone ≡ tickets (swept_off join input) → (old new : StateView) → old ≡ state_at states input → new ≡ state_of old.columns (rows_without gone old.rows)
       → (low : ℕ) (marked : List ℕ) (ws ws' : List Watches) → low ≡ kept_low join.kept → AreWatched spec next (lowest next done (log_of states) taken) (log_of states) (puncts_of stores) ws → AreOpenBut join input marked
-      → AreFewer (set ws input (record { from = low; marked = marked })) ws' → AreRoused spec.shape.classes spec.certs states input gone ws' (length (set ws input (record { from = low; marked = marked })))
+      → AreFewer (set ws input (record { from = low; marked = marked })) ws' → AreRoused spec states input gone ws' (length (set ws input (record { from = low; marked = marked })))
       → AreWatched spec next (lowest next (done - length gone) (log_of (set states input new)) taken) (log_of (set states input new)) (puncts_of stores) ws'
   settled gone are old new is left low marked ws ws' lows w marks fewer roused =
       subst (λ n. AreWatched spec next n (log_of (set states input new)) (puncts_of stores) ws') (sym (lowest-left node spec limit next done states stores pending taken waiting input j lt gone are old new is left))

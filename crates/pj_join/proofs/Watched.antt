@@ -1,5 +1,5 @@
 -- The tuples that are passed over are not ripe, from step to step.
-use Rattle.std.proofs.Common.{ℕ, zero, suc, ◌+◌, ◌<◌, ◌≤◌, Bool, true, false, cond, not, ◌&&◌, ◌||◌, List, [], ◌∷◌, ◌++◌, ◌≡◌, map, flat_map, length, get_or, set, refl, sym, ap, ap₂, ◌∙◌, subst, inl, inr, eqb, ltb, arith}
+use Rattle.std.proofs.Common.{ℕ, zero, suc, ◌+◌, ◌<◌, ◌≤◌, Bool, true, false, cond, not, ◌&&◌, ◌||◌, List, [], ◌∷◌, ◌++◌, ◌≡◌, map, length, get_or, set, refl, sym, ap, ◌∙◌, subst, inl, inr, eqb, ltb, arith}
 use Rattle.std.specs.List.{list_all, list_any}
 use Rattle.std.proofs.lemmas.Bool.{and_parts, and_right, eq-eqb, eqb-true, false_from_ne_true, false≢true, lt-ltb, ltb-true}
 use Rattle.std.proofs.lemmas.List.{length-append}
@@ -7,9 +7,9 @@ use Rattle.pj_value.proofs.Members.{In-append_cases, In-append_left, In-filter, 
 use Rattle.pj_state.specs.declared.shared.Stored.{Stored}
 use Rattle.pj_state.specs.States.{StateView}
 use Rattle.pj_cover.specs.Stores.{Store}
-use Rattle.pj_cover.specs.Asking.{puncts_from, tuples_of}
+use Rattle.pj_cover.specs.Asking.{IsAsked, puncts_from, tuples_of}
 use Rattle.pj_events.specs.Patterns.{covers}
-use Rattle.pj_events.specs.Join.{CertEntry, CertStep, ClassCol, Demand, In, JoinData, PunctAt, TupleAt, agree, cert_of, covered, demand, entry_of, grown, has, inputs, need, of_input, older, older_puncts, steps_of}
+use Rattle.pj_events.specs.Join.{CertEntry, ClassCol, Demand, In, JoinData, PunctAt, TupleAt, agree, cert_of, covered, grown, has, inputs, need, of_input, older, older_puncts}
 use Rattle.pj_events.specs.KeptState.{KeptState, kept_low, kept_ripe, least, swept}
 use Rattle.pj_join.specs.declared.place.Place.{Place}
 use Rattle.pj_join.specs.Insides.{IsJoin, inside, made_with, seen, tickets}
@@ -17,7 +17,7 @@ use Rattle.pj_join.specs.Joins.{JoinView}
 use Rattle.pj_join.specs.Judging.{JudgeView, ripe_at}
 use Rattle.pj_join.specs.Sides.{log_of, puncts_of, row_pairs, state_at, tuple_in}
 use Rattle.pj_join.specs.Sweeping.{swept_off}
-use Rattle.pj_join.specs.Watching.{AreFewer, AreLeft, AreLookedAt, AreOpenBut, AreRoused, AreWatched, AsksEarly, AsksNext, AsksOpen, PunctView, IsLeftNext, NoneIsRipe, Watches, asks_first, come_at, is_passed, known, known_at, watches_at}
+use Rattle.pj_join.specs.Watching.{AreFewer, AreLeft, AreLookedAt, AreOpenBut, AreRoused, AreStored, AreWatched, AsksStill, PunctView, NoneIsRipe, Watches, come_at, is_passed, known, known_at, watches_at}
 use Rattle.pj_join.proofs.Judged.{covered-of, judge_at, ripe-is, same-puncts, same-rows}
 use Rattle.pj_join.proofs.Kept.{below-end, shapes, side-is}
 
@@ -26,15 +26,10 @@ module _ (spec : JoinData) where
   watched_start ws count none = record { count = count; reached = λ input. (let e = none input in omega (arith, e)); asks = λ x h. absurd h }
 
   -- more is stored, and the low-water ticket is not lower
-  early-more : (stored stored' : List TupleAt) (puncts : List PunctAt) (low low' : ℕ) (cert : List CertEntry) (x : TupleAt) → ((y : TupleAt) → In y stored → In y stored') → low ≤ low'
-      → AsksEarly (known spec.shape.classes stored puncts low) cert x → AsksEarly (known spec.shape.classes stored' puncts low') cert x
-  early-more stored stored' puncts low low' cert x more le (inl first) = inl first
-  early-more stored stored' puncts low low' cert x more le (inr next) = inr (go cert next)
-    where
-      go : (cs : List CertEntry) → AsksNext (known spec.shape.classes stored puncts low) cs x → AsksNext (known spec.shape.classes stored' puncts low') cs x
-      go [] a = a
-      go (e ∷ []) a = a
-      go (e ∷ f ∷ cs) (y, w) = let b : y.ticket < low = w.below in (y, record { there = more y w.there; below = omega (arith, b, le); of_entry = w.of_entry; joins = w.joins; uncovered = w.uncovered })
+  still-more : (stored stored' : List TupleAt) (puncts : List PunctAt) (low low' : ℕ) (cert : List CertEntry) (x : TupleAt) → ((y : TupleAt) → In y stored → In y stored') → low ≤ low'
+      → AsksStill (known spec.shape.classes stored puncts low) cert x → AsksStill (known spec.shape.classes stored' puncts low') cert x
+  still-more stored stored' puncts low low' cert x more le (rows, asks, by) =
+      (rows, asks, record { there = λ y h. more y (by.there y h); below = λ y h. (let b = by.below y h in omega (arith, b, le)); asked = by.asked; uncovered = by.uncovered })
 
   -- a tuple comes
   pub watched_tuple : (next low low' : ℕ) (stored : List TupleAt) (puncts : List PunctAt) (ws : List Watches) (x : TupleAt) → x.ticket ≡ next → low ≤ low' → AreWatched spec next low stored puncts ws
@@ -43,7 +38,7 @@ module _ (spec : JoinData) where
     count = w.count;
     reached = λ input. (let l = w.reached input in omega (arith, l));
     asks = λ y h t. elim (In-append_cases y stored (x ∷ []) h) [
-      | inl k ↦ early-more stored (stored ++ x ∷ []) puncts low low' (cert_of spec y.input) y (λ z m. In-append_left z stored (x ∷ []) m) le (w.asks y k t)
+      | inl k ↦ still-more stored (stored ++ x ∷ []) puncts low low' (cert_of spec y.input) y (λ z m. In-append_left z stored (x ∷ []) m) le (w.asks y k t)
       | inr k ↦ elim k [ inl e ↦ absurd (late y e t) | inr n ↦ absurd n ]
     ];
   }
@@ -56,7 +51,7 @@ module _ (spec : JoinData) where
 
   -- the low-water ticket rises
   pub watched_rises : (next low low' : ℕ) (stored : List TupleAt) (puncts : List PunctAt) (ws : List Watches) → low ≤ low' → AreWatched spec next low stored puncts ws → AreWatched spec next low' stored puncts ws
-  watched_rises next low low' stored puncts ws le w = record { count = w.count; reached = w.reached; asks = λ x h t. early-more stored stored puncts low low' (cert_of spec x.input) x (λ z m. m) le (w.asks x h t) }
+  watched_rises next low low' stored puncts ws le w = record { count = w.count; reached = w.reached; asks = λ x h t. still-more stored stored puncts low low' (cert_of spec x.input) x (λ z m. m) le (w.asks x h t) }
 
   -- fewer are passed over
   pub watched_fewer : (next low : ℕ) (stored : List TupleAt) (puncts : List PunctAt) (ws ws' : List Watches) → AreFewer ws ws' → AreWatched spec next low stored puncts ws → AreWatched spec next low stored puncts ws'
@@ -74,35 +69,21 @@ module _ (spec : JoinData) where
       go true q ih = absurd (false≢true (sym q))
       go false q ih = ih q f
 
-  asks-both : (cert : List CertEntry) (puncts : List PunctAt) (p : PunctAt) (x : TupleAt) → AsksOpen spec.shape.classes cert puncts x → AsksOpen spec.shape.classes cert (p ∷ []) x → AsksOpen spec.shape.classes cert (puncts ++ p ∷ []) x
-  asks-both [] puncts p x a b = a
-  asks-both (e ∷ cert) puncts p x a b = any-append (λ q. eqb q.input e.input && covers q.patterns (demand spec.shape.classes e (x ∷ [])).instance) puncts (p ∷ []) a b
-
   -- a punctuation that covers nothing of what is asked for
-  early-both : (stored : List TupleAt) (states : List StateView) (low : ℕ) (cert : List CertEntry) (puncts : List PunctAt) (p : PunctAt) (x : TupleAt)
-      → ((y : TupleAt) → In y stored → (s : Stored) × In s (state_at states y.input).rows × (tuple_in y.input s ≡ y)) → AsksOpen spec.shape.classes cert (p ∷ []) x → IsLeftNext spec.shape.classes cert states p x
-      → AsksEarly (known spec.shape.classes stored puncts low) cert x → AsksEarly (known spec.shape.classes stored (puncts ++ p ∷ []) low) cert x
-  early-both stored states low cert puncts p x row a left (inl first) = inl (asks-both cert puncts p x first a)
-  early-both stored states low cert puncts p x row a left (inr next) = inr (go cert left next)
-    where
-      go : (cs : List CertEntry) → IsLeftNext spec.shape.classes cs states p x → AsksNext (known spec.shape.classes stored puncts low) cs x → AsksNext (known spec.shape.classes stored (puncts ++ p ∷ []) low) cs x
-      go [] l n = n
-      go (e ∷ []) l n = n
-      go (e ∷ f ∷ cs) l (y, w) =
-          let s = row y w.there in
-          let is : tuple_in e.input s.0 ≡ y = ap (λ i. tuple_in i s.0) (sym w.of_entry) ∙ s.2 in
-          let in_rows : In s.0 (state_at states e.input).rows = subst (λ i. In s.0 (state_at states i).rows) w.of_entry s.1 in
-          let no : covered (p ∷ []) (demand spec.shape.classes f (y ∷ x ∷ [])) ≡ false =
-          subst (λ (z : TupleAt). agree spec.shape.classes (z ∷ x ∷ []) ≡ true → covered (p ∷ []) (demand spec.shape.classes f (z ∷ x ∷ [])) ≡ false) is (l s.0 in_rows) w.joins in (
-            y,
-            record {
-              there = w.there;
-              below = w.below;
-              of_entry = w.of_entry;
-              joins = w.joins;
-              uncovered = any-append (λ q. eqb q.input f.input && covers q.patterns (demand spec.shape.classes f (y ∷ x ∷ [])).instance) puncts (p ∷ []) w.uncovered no;
-            },
-          )
+  still-both : (stored : List TupleAt) (states : List StateView) (low : ℕ) (cert : List CertEntry) (puncts : List PunctAt) (p : PunctAt) (x : TupleAt)
+      → ((y : TupleAt) → In y stored → (s : Stored) × In s (state_at states y.input).rows × (tuple_in y.input s ≡ y))
+      → ((rows : List TupleAt) (asks : Demand) → AreStored states rows → IsAsked spec.shape.classes cert rows (x ∷ []) asks → covered (p ∷ []) asks ≡ false)
+      → AsksStill (known spec.shape.classes stored puncts low) cert x → AsksStill (known spec.shape.classes stored (puncts ++ p ∷ []) low) cert x
+  still-both stored states low cert puncts p x row left (rows, asks, by) = (
+    rows,
+    asks,
+    record {
+      there = by.there;
+      below = by.below;
+      asked = by.asked;
+      uncovered = any-append (λ q. eqb q.input asks.input && covers q.patterns asks.instance) puncts (p ∷ []) by.uncovered (left rows asks (λ y h. row y (by.there y h)) by.asked);
+    },
+  )
 
   module _ (limit next done : ℕ) (states : List StateView) (stores : List Store) (pending : List Place) (taken : List ℕ) (j : IsJoin spec limit (inside next done states stores pending taken)) where
     abbrev log : List TupleAt
@@ -123,24 +104,19 @@ module _ (spec : JoinData) where
       count = f.count ∙ w.count;
       reached = λ input. (let l : (watches_at ws input).from ≤ next = w.reached input in let m : (watches_at ws' input).from ≤ (watches_at ws input).from = (f.each input).from in omega (arith, l, m));
       asks = λ x h t.
-          early-more log log (puncts_of stores ++ come_at come ticket ∷ []) low low' (cert_of spec x.input) x (λ z m. m) le
-          (early-both log states low (cert_of spec x.input) (puncts_of stores) (come_at come ticket) x in-row (new x h t) (new-next x h t) (w.asks x h ((f.each x.input).passed x.ticket t)));
+          still-more log log (puncts_of stores ++ come_at come ticket ∷ []) low low' (cert_of spec x.input) x (λ z m. m) le
+          (still-both log states low (cert_of spec x.input) (puncts_of stores) (come_at come ticket) x in-row (new x h t) (w.asks x h ((f.each x.input).passed x.ticket t)));
     }
       where
         within : (x : TupleAt) → In x log → x.input < length ws
         within x h = let l = j.ordered.placed x h in let c : length ws ≡ inputs spec = w.count in omega (arith, l, c, shapes spec limit next done states stores pending taken j)
 
-        new : (x : TupleAt) → In x log → is_passed (watches_at ws' x.input) x.ticket ≡ true → AsksOpen spec.shape.classes (cert_of spec x.input) (come_at come ticket ∷ []) x
-        new x h t =
+        new : (x : TupleAt) → In x log → is_passed (watches_at ws' x.input) x.ticket ≡ true → (rows : List TupleAt) (asks : Demand) → AreStored states rows → IsAsked spec.shape.classes (cert_of spec x.input) rows (x ∷ []) asks
+            → covered (come_at come ticket ∷ []) asks ≡ false
+        new x h t rows asks stored asked =
             let s = in-row x h in
-            subst (λ (y : TupleAt). AsksOpen spec.shape.classes (cert_of spec x.input) (come_at come ticket ∷ []) y) s.2
-            ((left x.input (within x h)).0 ticket s.0 s.1 (ap (λ (y : TupleAt). is_passed (watches_at ws' x.input) y.ticket) s.2 ∙ t))
-
-        new-next : (x : TupleAt) → In x log → is_passed (watches_at ws' x.input) x.ticket ≡ true → IsLeftNext spec.shape.classes (cert_of spec x.input) states (come_at come ticket) x
-        new-next x h t =
-            let s = in-row x h in
-            subst (λ (y : TupleAt). IsLeftNext spec.shape.classes (cert_of spec x.input) states (come_at come ticket) y) s.2
-            ((left x.input (within x h)).1 ticket s.0 s.1 (ap (λ (y : TupleAt). is_passed (watches_at ws' x.input) y.ticket) s.2 ∙ t))
+            left x.input (within x h) ticket s.0 s.1 (ap (λ (y : TupleAt). is_passed (watches_at ws' x.input) y.ticket) s.2 ∙ t) rows asks stored
+            (subst (λ (y : TupleAt). IsAsked spec.shape.classes (cert_of spec x.input) rows (y ∷ []) asks) (sym s.2) asked)
 
     -- ---- what is passed over is not ripe
 
@@ -154,43 +130,36 @@ module _ (spec : JoinData) where
         go false q f true ih = ap (λ b. b || covered (older_puncts n ps) d) q ∙ ih f
         go false q f false ih = ih f
 
-    asks-not_ripe : (classes : List (List ClassCol)) (cert : List CertEntry) (rows : List TupleAt) (puncts : List PunctAt) (n : ℕ) (x : TupleAt) → AsksOpen classes cert puncts x
-        → list_all (covered (older_puncts n puncts)) (need classes rows cert (x ∷ [])) ≡ false
-    asks-not_ripe classes [] rows puncts n x a = absurd a
-    asks-not_ripe classes (e ∷ cert) rows puncts n x a = ap (λ b. b && list_all (covered (older_puncts n puncts)) (flat_map (need classes rows cert) (grown classes rows e (x ∷ [])))) (covered-fewer n puncts (demand classes e (x ∷ [])) a)
-
-    next-not_ripe : (classes : List (List ClassCol)) (cert : List CertEntry) (stored : List TupleAt) (puncts : List PunctAt) (n : ℕ) (x : TupleAt) → AsksNext (known classes stored puncts n) cert x
-        → list_all (covered (older_puncts n puncts)) (need classes (older n stored) cert (x ∷ [])) ≡ false
-    next-not_ripe classes [] stored puncts n x a = absurd a
-    next-not_ripe classes (e ∷ []) stored puncts n x a = absurd a
-    next-not_ripe classes (e ∷ f ∷ cert) stored puncts n x (y, w) = false_from_ne_true (list_all (covered (older_puncts n puncts)) (need classes (older n stored) (e ∷ f ∷ cert) (x ∷ []))) no
+    asked-needed : (classes : List (List ClassCol)) (cert : List CertEntry) (stored rows xs : List TupleAt) (d : Demand) → ((y : TupleAt) → In y rows → In y stored) → IsAsked classes cert rows xs d → In d (need classes stored cert xs)
+    asked-needed classes [] stored rows xs d there asked = absurd asked
+    asked-needed classes (e ∷ cert) stored [] xs d there asked = inl asked
+    asked-needed classes (e ∷ cert) stored (y ∷ rows) xs d there (of, joins, on) =
+        inr (In-flat_map_from (need classes stored cert) d (y ∷ xs) (grown classes stored e xs) way (asked-needed classes cert stored rows (y ∷ xs) d (λ z h. there z (inr h)) on))
       where
-        d : Demand
-        d = demand classes f (y ∷ x ∷ [])
+        way : In (y ∷ xs) (grown classes stored e xs)
+        way = In-filter_from (agree classes) (y ∷ xs) (map (λ z. z ∷ xs) (of_input e.input stored))
+            (In-map_from (λ z. z ∷ xs) y (of_input e.input stored) (In-filter_from (λ (z : TupleAt). eqb z.input e.input) y stored (there y (inl refl)) (eq-eqb y.input e.input of))) joins
 
-        among : In y (of_input e.input (older n stored))
-        among = In-filter_from (λ (z : TupleAt). eqb z.input e.input) y (older n stored) (In-filter_from (λ (z : TupleAt). ltb z.ticket n) y stored w.there (lt-ltb y.ticket n w.below)) (eq-eqb y.input e.input w.of_entry)
+    still-not_ripe : (classes : List (List ClassCol)) (cert : List CertEntry) (stored : List TupleAt) (puncts : List PunctAt) (n : ℕ) (x : TupleAt) → AsksStill (known classes stored puncts n) cert x
+        → list_all (covered (older_puncts n puncts)) (need classes (older n stored) cert (x ∷ [])) ≡ false
+    still-not_ripe classes cert stored puncts n x (rows, asks, by) = false_from_ne_true (list_all (covered (older_puncts n puncts)) (need classes (older n stored) cert (x ∷ []))) no
+      where
+        there : In asks (need classes (older n stored) cert (x ∷ []))
+        there = asked-needed classes cert (older n stored) rows (x ∷ []) asks (λ y h. In-filter_from (λ (z : TupleAt). ltb z.ticket n) y stored (by.there y h) (lt-ltb y.ticket n (by.below y h))) by.asked
 
-        way : In (y ∷ x ∷ []) (grown classes (older n stored) e (x ∷ []))
-        way = In-filter_from (agree classes) (y ∷ x ∷ []) (map (λ z. z ∷ x ∷ []) (of_input e.input (older n stored))) (In-map_from (λ z. z ∷ x ∷ []) y (of_input e.input (older n stored)) among) w.joins
-
-        there : In d (need classes (older n stored) (e ∷ f ∷ cert) (x ∷ []))
-        there = inr (In-flat_map_from (need classes (older n stored) (f ∷ cert)) d (y ∷ x ∷ []) (grown classes (older n stored) e (x ∷ [])) way (inl refl))
-
-        no : list_all (covered (older_puncts n puncts)) (need classes (older n stored) (e ∷ f ∷ cert) (x ∷ [])) ≡ true → ⊥
-        no t = false≢true (sym (covered-fewer n puncts d w.uncovered) ∙ all_at (covered (older_puncts n puncts)) (need classes (older n stored) (e ∷ f ∷ cert) (x ∷ [])) d t there)
+        no : list_all (covered (older_puncts n puncts)) (need classes (older n stored) cert (x ∷ [])) ≡ true → ⊥
+        no t = false≢true (sym (covered-fewer n puncts asks by.uncovered) ∙ all_at (covered (older_puncts n puncts)) (need classes (older n stored) cert (x ∷ [])) asks t there)
 
     module _ (k : KeptState) (stored-are : k.stored ≡ log_of states) (puncts-are : k.puncts ≡ puncts_of stores) (low : ℕ) (is : low ≡ kept_low k) (input : ℕ) (lt : input < inputs spec) where
-      early-kept : (x : TupleAt) (cert : List CertEntry) → AsksEarly (known spec.shape.classes (log_of states) (puncts_of stores) low) cert x → list_all (covered (older_puncts (kept_low k) k.puncts)) (need spec.shape.classes (older (kept_low k) k.stored) cert (x ∷ [])) ≡ false
-      early-kept x cert (inl a) = asks-not_ripe spec.shape.classes cert (older (kept_low k) k.stored) k.puncts (kept_low k) x (subst (λ (ps : List PunctAt). AsksOpen spec.shape.classes cert ps x) (sym puncts-are) a)
-      early-kept x cert (inr a) =
-          next-not_ripe spec.shape.classes cert k.stored k.puncts (kept_low k) x
-          (subst (λ (n : ℕ). AsksNext (known spec.shape.classes k.stored k.puncts n) cert x) is
-          (subst (λ (xs : List TupleAt). AsksNext (known spec.shape.classes xs k.puncts low) cert x) (sym stored-are)
-          (subst (λ (ps : List PunctAt). AsksNext (known spec.shape.classes (log_of states) ps low) cert x) (sym puncts-are) a)))
+      still-kept : (x : TupleAt) (cert : List CertEntry) → AsksStill (known spec.shape.classes (log_of states) (puncts_of stores) low) cert x → list_all (covered (older_puncts (kept_low k) k.puncts)) (need spec.shape.classes (older (kept_low k) k.stored) cert (x ∷ [])) ≡ false
+      still-kept x cert a =
+          still-not_ripe spec.shape.classes cert k.stored k.puncts (kept_low k) x
+          (subst (λ (n : ℕ). AsksStill (known spec.shape.classes k.stored k.puncts n) cert x) is
+          (subst (λ (xs : List TupleAt). AsksStill (known spec.shape.classes xs k.puncts low) cert x) (sym stored-are)
+          (subst (λ (ps : List PunctAt). AsksStill (known spec.shape.classes (log_of states) ps low) cert x) (sym puncts-are) a)))
 
-      not_ripe : (x : TupleAt) → AsksEarly (known spec.shape.classes (log_of states) (puncts_of stores) low) (cert_of spec x.input) x → kept_ripe spec k x ≡ false
-      not_ripe x a = and_right (ltb x.ticket (kept_low k)) _ (early-kept x (cert_of spec x.input) a)
+      not_ripe : (x : TupleAt) → AsksStill (known spec.shape.classes (log_of states) (puncts_of stores) low) (cert_of spec x.input) x → kept_ripe spec k x ≡ false
+      not_ripe x a = and_right (ltb x.ticket (kept_low k)) _ (still-kept x (cert_of spec x.input) a)
 
       in-log : (s : Stored) → In s (state_at states input).rows → In (tuple_in input s) log
       in-log s h = (In-filter (λ (y : TupleAt). eqb y.input input) (tuple_in input s) log (subst (λ (xs : List TupleAt). In (tuple_in input s) xs) (side-is spec limit next done states stores pending taken j input lt) (In-map_from (tuple_in input) s (state_at states input).rows h))).0
@@ -208,23 +177,14 @@ module _ (spec : JoinData) where
           below : (p : PunctAt) → In p (puncts_of stores) → ltb p.ticket low ≡ true
           below p h = lt-ltb p.ticket low (let l : p.ticket < next = below-end 0 (map (λ q. q.ticket) (puncts_of stores)) next p.ticket j.heard.rising (In-map_from (λ (q : PunctAt). q.ticket) p (puncts_of stores) h) in omega (arith, l, last))
 
-      asks-all : low ≡ next → (cert : List CertEntry) (x : TupleAt) → AsksOpen spec.shape.classes cert (older_puncts low (puncts_from 0 stores)) x → AsksOpen spec.shape.classes cert (puncts_of stores) x
-      asks-all last [] x a = a
-      asks-all last (e ∷ cert) x a = sym (covered-all last (demand spec.shape.classes e (x ∷ []))) ∙ a
-
       in-stored : (y : TupleAt) → In y (tuples_of (row_pairs states) (length spec.shape.inputs)) → In y log
       in-stored y h =
           (In-filter (λ (z : TupleAt). eqb z.input y.input) y log
           (subst (λ (xs : List TupleAt). In y xs) (same-rows spec limit next done states stores pending taken j y.input) (In-filter_from (λ (z : TupleAt). eqb z.input y.input) y (tuples_of (row_pairs states) (length spec.shape.inputs)) h (eq-eqb y.input y.input refl)))).0
 
-      early-all : (settled : Bool) → low ≡ next → (cert : List CertEntry) (x : TupleAt) → AsksEarly (known_at (judge_at spec input states stores low settled)) cert x → AsksEarly (known spec.shape.classes log (puncts_of stores) low) cert x
-      early-all settled last cert x (inl a) = inl (asks-all last cert x a)
-      early-all settled last cert x (inr a) = inr (go cert a)
-        where
-          go : (cs : List CertEntry) → AsksNext (known_at (judge_at spec input states stores low settled)) cs x → AsksNext (known spec.shape.classes log (puncts_of stores) low) cs x
-          go [] n = n
-          go (e ∷ []) n = n
-          go (e ∷ f ∷ cs) (y, w) = (y, record { there = in-stored y w.there; below = w.below; of_entry = w.of_entry; joins = w.joins; uncovered = sym (covered-all last (demand spec.shape.classes f (y ∷ x ∷ []))) ∙ w.uncovered })
+      still-all : (settled : Bool) → low ≡ next → (cert : List CertEntry) (x : TupleAt) → AsksStill (known_at (judge_at spec input states stores low settled)) cert x → AsksStill (known spec.shape.classes log (puncts_of stores) low) cert x
+      still-all settled last cert x (rows, asks, by) =
+          (rows, asks, record { there = λ y h. in-stored y (by.there y h); below = by.below; asked = by.asked; uncovered = sym (covered-all last asks) ∙ by.uncovered })
 
       -- what was judged and is neither ripe nor marked asks for something that is not covered
       pub open_but : (node : ℕ) (waiting : List PunctAt) (ws : List Watches) (settled : Bool) (marked : List ℕ) → k ≡ (seen (made_with node spec limit) next done (log_of states) (puncts_of stores) waiting taken).kept → AreWatched spec next low log (puncts_of stores) ws → (settled ≡ true → low ≡ next)
@@ -255,14 +215,14 @@ module _ (spec : JoinData) where
           lows : low ≡ kept_low (seen (made_with node spec limit) next done (log_of states) (puncts_of stores) waiting taken).kept
           lows = is ∙ ap kept_low same
 
-          at-low : AsksEarly (known spec.shape.classes log (puncts_of stores) low) (cert_of spec input) x → AsksEarly (known spec.shape.classes log (puncts_of stores) (kept_low (seen (made_with node spec limit) next done (log_of states) (puncts_of stores) waiting taken).kept)) (cert_of spec input) x
-          at-low a = subst (λ n. AsksEarly (known spec.shape.classes log (puncts_of stores) n) (cert_of spec input) x) lows a
+          at-low : AsksStill (known spec.shape.classes log (puncts_of stores) low) (cert_of spec input) x → AsksStill (known spec.shape.classes log (puncts_of stores) (kept_low (seen (made_with node spec limit) next done (log_of states) (puncts_of stores) waiting taken).kept)) (cert_of spec input) x
+          at-low a = subst (λ n. AsksStill (known spec.shape.classes log (puncts_of stores) n) (cert_of spec input) x) lows a
 
-          by-pass : (b : Bool) → is_passed (watches_at ws input) x.ticket ≡ b → AsksEarly (known spec.shape.classes log (puncts_of stores) (kept_low (seen (made_with node spec limit) next done (log_of states) (puncts_of stores) waiting taken).kept)) (cert_of spec input) x
-          by-pass true e = at-low (subst (λ i. AsksEarly (known spec.shape.classes log (puncts_of stores) low) (cert_of spec i) x) of (w.asks x h (ap (λ i. is_passed (watches_at ws i) x.ticket) of ∙ e)))
+          by-pass : (b : Bool) → is_passed (watches_at ws input) x.ticket ≡ b → AsksStill (known spec.shape.classes log (puncts_of stores) (kept_low (seen (made_with node spec limit) next done (log_of states) (puncts_of stores) waiting taken).kept)) (cert_of spec input) x
+          by-pass true e = at-low (subst (λ i. AsksStill (known spec.shape.classes log (puncts_of stores) low) (cert_of spec i) x) of (w.asks x h (ap (λ i. is_passed (watches_at ws i) x.ticket) of ∙ e)))
           by-pass false e =
               let l = looked s.0 here (ap (is_passed (watches_at ws input)) ticket ∙ e) lower unripe (ap (has marked) ticket ∙ none) in
-              at-low (subst (λ (y : TupleAt). AsksEarly (known spec.shape.classes log (puncts_of stores) low) (cert_of spec input) y) is-x (early-all settled (last l.0) (cert_of spec input) (tuple_in input s.0) l.1))
+              at-low (subst (λ (y : TupleAt). AsksStill (known spec.shape.classes log (puncts_of stores) low) (cert_of spec input) y) is-x (still-all settled (last l.0) (cert_of spec input) (tuple_in input s.0) l.1))
 
 -- ---- a sweep
 
@@ -294,7 +254,7 @@ by-place P i k here there = go (eqb k i) refl
     go true e = subst P (sym (eqb-true k i e)) here
     go false e = there (λ q. false≢true (sym e ∙ eq-eqb k i q))
 
--- what is left of a sweep and is passed over asks early, over all that was stored
+-- what is left of a sweep and is passed over asks for something, over all that was stored
 module _ (join : JoinView) (input low : ℕ) (marked : List ℕ) (ws : List Watches) (is : low ≡ kept_low join.kept) (there : input < inputs join.spec)
     (w : AreWatched join.spec join.kept.next (kept_low join.kept) join.kept.stored join.kept.puncts ws) (open-but : AreOpenBut join input marked) where
   abbrev v : Watches
@@ -308,53 +268,42 @@ module _ (join : JoinView) (input low : ℕ) (marked : List ℕ) (ws : List Watc
   not-false false e = refl
 
   by-input : (x : TupleAt) → In x join.kept.stored → not (eqb x.input input && kept_ripe join.spec join.kept x) ≡ true → (b : Bool) → eqb x.input input ≡ b → is_passed (watches_at (set ws input v) x.input) x.ticket ≡ true
-      → AsksEarly (known join.spec.shape.classes join.kept.stored join.kept.puncts (kept_low join.kept)) (cert_of join.spec x.input) x
+      → AsksStill (known join.spec.shape.classes join.kept.stored join.kept.puncts (kept_low join.kept)) (cert_of join.spec x.input) x
   by-input x h n true e t =
       let of : x.input ≡ input = eqb-true x.input input e in
       let p : is_passed (watches_at (set ws input v) input) x.ticket ≡ true = ap (λ i. is_passed (watches_at (set ws input v) i) x.ticket) (sym of) ∙ t in
       let q : is_passed v x.ticket ≡ true = ap (λ (u : Watches). is_passed u x.ticket) (sym (watch-place ws input v lt)) ∙ p in
       let both = and_parts (ltb x.ticket low) (not (has marked x.ticket)) q in
       let below : x.ticket < low = ltb-true x.ticket low both.0 in
-      subst (λ i. AsksEarly (known join.spec.shape.classes join.kept.stored join.kept.puncts (kept_low join.kept)) (cert_of join.spec i) x) (sym of)
+      subst (λ i. AsksStill (known join.spec.shape.classes join.kept.stored join.kept.puncts (kept_low join.kept)) (cert_of join.spec i) x) (sym of)
       (open-but x h of (omega (arith, below, is)) (not-false (kept_ripe join.spec join.kept x) (ap (λ b. not (b && kept_ripe join.spec join.kept x)) (sym e) ∙ n)) (not-false (has marked x.ticket) both.1))
   by-input x h n false e t = w.asks x h (ap (λ (u : Watches). is_passed u x.ticket) (sym (watch-set ws input x.input v lt (λ q. false≢true (sym e ∙ eq-eqb x.input input q)))) ∙ t)
 
   -- one that goes leaves none that asks through it
   module _ (states : List StateView) (gone : List ℕ) (new : List Watches) (row : (y : TupleAt) → In y join.kept.stored → (s : Stored) × In s (state_at states y.input).rows × (tuple_in y.input s ≡ y))
       (placed : (y : TupleAt) → In y join.kept.stored → y.input < inputs join.spec) (are : gone ≡ tickets (swept_off join input)) (fewer : AreFewer (set ws input v) new)
-      (roused : AreRoused join.spec.shape.classes join.spec.certs states input gone new (length (set ws input v))) where
+      (roused : AreRoused join.spec states input gone new (length (set ws input v))) where
     within : (x : TupleAt) → In x join.kept.stored → x.input < length (set ws input v)
     within x h = let p = placed x h in let c : length ws ≡ inputs join.spec = w.count in let d = set-count ws input v in omega (arith, p, c, d)
 
-    witness-stays : (x y : TupleAt) → In x join.kept.stored → is_passed (watches_at new x.input) x.ticket ≡ true → asks_first (steps_of join.spec x.input) y.input ≡ true → In y join.kept.stored → agree join.spec.shape.classes (y ∷ x ∷ []) ≡ true → In y (swept join.spec join.kept input)
-    witness-stays x y h t first in-y joins = go (eqb y.input input && kept_ripe join.spec join.kept y) refl
+    path-stays : (x : TupleAt) → In x join.kept.stored → is_passed (watches_at new x.input) x.ticket ≡ true → (rows : List TupleAt) (asks : Demand) → ((y : TupleAt) → In y rows → In y join.kept.stored)
+        → IsAsked join.spec.shape.classes (cert_of join.spec x.input) rows (x ∷ []) asks → (y : TupleAt) → In y rows → In y (swept join.spec join.kept input)
+    path-stays x h t rows asks there asked y in-y = go (eqb y.input input && kept_ripe join.spec join.kept y) refl
       where
         go : (b : Bool) → (eqb y.input input && kept_ripe join.spec join.kept y) ≡ b → In y (swept join.spec join.kept input)
-        go false e = In-filter_from (λ (z : TupleAt). not (eqb z.input input && kept_ripe join.spec join.kept z)) y join.kept.stored in-y (ap not e)
+        go false e = In-filter_from (λ (z : TupleAt). not (eqb z.input input && kept_ripe join.spec join.kept z)) y join.kept.stored (there y in-y) (ap not e)
         go true e =
             let of : y.input ≡ input = eqb-true y.input input (and_parts (eqb y.input input) (kept_ripe join.spec join.kept y) e).0 in
             let s = row x h in
-            let u = row y in-y in
-            let is-y : tuple_in input u.0 ≡ y = ap (λ i. tuple_in i u.0) (sym of) ∙ u.2 in
-            let off : In y (swept_off join input) = In-filter_from (λ (z : TupleAt). eqb z.input input && kept_ripe join.spec join.kept z) y join.kept.stored in-y e in
-            let listed : In u.0.ticket gone = subst (λ (n : ℕ). In n gone) (sym (ap (λ (z : TupleAt). z.ticket) u.2)) (subst (λ (ns : List ℕ). In y.ticket ns) (sym are) (In-map_from (λ (z : TupleAt). z.ticket) y (swept_off join input) off)) in
-            let no : agree join.spec.shape.classes (tuple_in input u.0 ∷ tuple_in x.input s.0 ∷ []) ≡ false =
-            roused x.input (within x h) (subst (λ i. asks_first (steps_of join.spec x.input) i ≡ true) of first) u.0 (subst (λ i. In u.0 (state_at states i).rows) of u.1) listed s.0 s.1 (ap (λ (z : TupleAt). is_passed (watches_at new x.input) z.ticket) s.2 ∙ t) in
-            absurd (false≢true (sym no ∙ ap₂ (λ (a b : TupleAt). agree join.spec.shape.classes (a ∷ b ∷ [])) is-y s.2 ∙ joins))
+            let off : In y (swept_off join input) = In-filter_from (λ (z : TupleAt). eqb z.input input && kept_ripe join.spec join.kept z) y join.kept.stored (there y in-y) e in
+            let listed : In y.ticket gone = subst (λ (ns : List ℕ). In y.ticket ns) (sym are) (In-map_from (λ (z : TupleAt). z.ticket) y (swept_off join input) off) in
+            absurd (roused x.input (within x h) s.0 s.1 (ap (λ (z : TupleAt). is_passed (watches_at new x.input) z.ticket) s.2 ∙ t) rows asks (λ z k. row z (there z k))
+            (subst (λ (z : TupleAt). IsAsked join.spec.shape.classes (cert_of join.spec x.input) rows (z ∷ []) asks) (sym s.2) asked) y in-y of listed)
 
-    next-stays : (x : TupleAt) → In x join.kept.stored → is_passed (watches_at new x.input) x.ticket ≡ true → (steps : List CertStep) → steps ≡ steps_of join.spec x.input
-        → AsksNext (known join.spec.shape.classes join.kept.stored join.kept.puncts (kept_low join.kept)) (map (entry_of join.spec.schemes) steps) x
-        → AsksNext (known join.spec.shape.classes (swept join.spec join.kept input) join.kept.puncts (kept_low join.kept)) (map (entry_of join.spec.schemes) steps) x
-    next-stays x h t [] same a = a
-    next-stays x h t (e ∷ []) same a = a
-    next-stays x h t (e ∷ f ∷ steps) same (y, wit) =
-        (y, record { there = witness-stays x y h t (ap (λ (cs : List CertStep). asks_first cs y.input) (sym same) ∙ eq-eqb e.input y.input (sym wit.of_entry)) wit.there wit.joins; below = wit.below; of_entry = wit.of_entry; joins = wit.joins; uncovered = wit.uncovered })
-
-    early-stays : (x : TupleAt) → In x join.kept.stored → is_passed (watches_at new x.input) x.ticket ≡ true
-        → AsksEarly (known join.spec.shape.classes join.kept.stored join.kept.puncts (kept_low join.kept)) (cert_of join.spec x.input) x
-        → AsksEarly (known join.spec.shape.classes (swept join.spec join.kept input) join.kept.puncts (kept_low join.kept)) (cert_of join.spec x.input) x
-    early-stays x h t (inl a) = inl a
-    early-stays x h t (inr a) = inr (next-stays x h t (steps_of join.spec x.input) refl a)
+    still-stays : (x : TupleAt) → In x join.kept.stored → is_passed (watches_at new x.input) x.ticket ≡ true
+        → AsksStill (known join.spec.shape.classes join.kept.stored join.kept.puncts (kept_low join.kept)) (cert_of join.spec x.input) x
+        → AsksStill (known join.spec.shape.classes (swept join.spec join.kept input) join.kept.puncts (kept_low join.kept)) (cert_of join.spec x.input) x
+    still-stays x h t (rows, asks, by) = (rows, asks, record { there = path-stays x h t rows asks by.there by.asked; below = by.below; asked = by.asked; uncovered = by.uncovered })
 
     pub watched_swept : AreWatched join.spec join.kept.next (kept_low join.kept) (swept join.spec join.kept input) join.kept.puncts new
     watched_swept = record {
@@ -367,7 +316,7 @@ module _ (join : JoinView) (input low : ℕ) (marked : List ℕ) (ws : List Watc
           (λ ne. subst (λ (u : Watches). u.from ≤ join.kept.next) (sym (watch-set ws input k v lt ne)) (w.reached k)) in omega (arith, m, n);
       asks = λ x h t.
           let in-stored = In-filter (λ (z : TupleAt). not (eqb z.input input && kept_ripe join.spec join.kept z)) x join.kept.stored h in
-          early-stays x in-stored.0 t (by-input x in-stored.0 in-stored.1 (eqb x.input input) refl ((fewer.each x.input).passed x.ticket t));
+          still-stays x in-stored.0 t (by-input x in-stored.0 in-stored.1 (eqb x.input input) refl ((fewer.each x.input).passed x.ticket t));
     }
 
 -- ---- the same, of what a call is lent

@@ -1,24 +1,19 @@
 -- Which rows a punctuation marks.
-use Rattle.std.proofs.Common.{ℕ, zero, suc, ◌+◌, ◌<◌, Bool, true, false, cond, not, ◌&&◌, ◌||◌, List, [], ◌∷◌, ◌++◌, ◌≡◌, Option, Some, None, Ok, Err, Result, IfSome, OnOk, OnErr, filter, length, get_or, set, refl, sym, ap, ap₂, ◌∙◌, subst, eqb, ltb, arith}
+use Rattle.std.proofs.Common.{ℕ, zero, suc, ◌+◌, ◌<◌, Bool, true, false, cond, not, ◌&&◌, ◌||◌, List, [], ◌∷◌, ◌++◌, ◌≡◌, Option, Some, None, IfSome, length, get_or, set, refl, sym, ap, ap₂, ◌∙◌, subst, eqb, ltb, arith}
 use Rattle.std.specs.List.{list_any, slice_get}
-use Rattle.std.proofs.lemmas.Bool.{and_parts, eq-eqb, eqb-true, false_from_ne_true, false≢true, ltb-true}
+use Rattle.std.proofs.lemmas.Bool.{and_parts, eq-eqb, eqb-true, false_from_ne_true, false≢true}
 use Rattle.std.proofs.lemmas.Option.{slice_get-get_or, get_or_from_slice_get}
 use Rattle.pj_value.specs.declared.values.Value.{Value}
 use Rattle.pj_value.specs.Values.{value_eq}
-use Rattle.pj_value.proofs.Members.{In-filter_from, In-map_from, any_at, any_from}
+use Rattle.pj_value.proofs.Members.{any_at}
 use Rattle.pj_value.proofs.Orders.{same_if_equal, equal_itself}
 use Rattle.pj_pattern.specs.declared.pattern.Form.TheVariants.{Constant}
-use Rattle.pj_state.specs.declared.shared.Stored.{Stored}
-use Rattle.pj_state.specs.States.{StateView, has_value, is_value, rows_with, tickets_of, ticket_of}
-use Rattle.pj_shape.specs.declared.joins.CertStep.{CertStep}
-use Rattle.pj_cover.specs.Asking.{entries, first_class, marks_of}
+use Rattle.pj_state.specs.States.{StateView, is_value}
+use Rattle.pj_cover.specs.Asking.{first_class}
 use Rattle.pj_cover.proofs.Classes.{first_class_is}
 use Rattle.pj_events.specs.Patterns.{Pattern, covers, matches_value}
-use Rattle.pj_events.specs.Join.{CertEntry, ClassCol, In, JoinData, TupleAt, class_with, constant, demand, entry_of, has, instance_from, no_value, part_of, value_at, values}
-use Rattle.pj_join.specs.Sides.{IsWide, tuple_in}
-use Rattle.pj_join.proofs.Wanted.{all-in}
-use Rattle.pj_join.specs.Ranges.{HoldTrue}
-use Rattle.pj_join.specs.Watching.{AreFewer, AreLeft, AreLeftAt, AreLeftOpen, AreUncovered, AsksOpen, PunctView, CoverageView, IsFewer, IsKey, Limits, NonePasses, SideView, Tells, Watches, come_at, first_column, has_match, is_match, is_met, is_passed, watches_at}
+use Rattle.pj_events.specs.Join.{ClassCol, In, JoinData, TupleAt, class_with, constant, has, instance_from, no_value, part_of, value_at, values}
+use Rattle.pj_join.specs.Watching.{AreFewer, AreLeft, AreLeftAt, PunctView, CoverageView, IsFewer, IsKey, Limits, SideView, Tells, Watches, first_column, is_match, is_met, is_passed, watches_at}
 
 -- ---- what is asked for
 
@@ -107,15 +102,6 @@ some_from (Some a) P Q R S f p q r = f a p q r
 
 -- ---- what is passed over
 
-pub all_marked : (w : Watches) → w.from ≡ 0 → (ticket : ℕ) → is_passed w ticket ≡ true → ⊥
-all_marked w e ticket t = let lt = ltb-true ticket w.from (and_parts (ltb ticket w.from) (not (has w.marked ticket)) t).0 in omega (arith, lt, e)
-
-pub fewer_none : (old new : Watches) → new.from ≡ 0 → IsFewer old new
-fewer_none old new e = record { from = omega (arith, e); passed = λ ticket t. absurd (all_marked new e ticket t) }
-
-pub fewer_same : (w : Watches) → IsFewer w w
-fewer_same w = record { from = omega arith; passed = λ ticket t. t }
-
 any-append : {A : Type 0} (p : A → Bool) (xs ys : List A) → list_any p (xs ++ ys) ≡ (list_any p xs || list_any p ys)
 any-append p [] ys = refl
 any-append p (x ∷ xs) ys = go (p x) (any-append p xs ys)
@@ -139,83 +125,6 @@ passed_more old new ts from marked ticket t =
         split true b e f l n = absurd (false≢true n)
         split false true e f l n = absurd (false≢true n)
         split false false e f l n = (ap₂ (λ c d. c && not d) l e, f)
-
-pub fewer_more : (old new : Watches) (ts : List ℕ) → new.from ≡ old.from → new.marked ≡ old.marked ++ ts → IsFewer old new
-fewer_more old new ts from marked = record { from = omega (arith, from); passed = λ ticket t. (passed_more old new ts from marked ticket t).0 }
-
-pub fewer_alike : (old new : Watches) → new.from ≡ old.from → new.marked ≡ old.marked → IsFewer old new
-fewer_alike old new from marked = record { from = omega (arith, from); passed = λ ticket t. ap₂ (λ n (ms : List ℕ). ltb ticket n && not (has ms ticket)) (sym from) (sym marked) ∙ t }
-
--- a row that is passed over after some were marked is none of these
-pub unmarked : (p : Stored → Bool) (rows : List Stored) (old new : Watches) (ts : List ℕ) (s : Stored) → ts ≡ tickets_of (filter p rows) → new.from ≡ old.from → new.marked ≡ old.marked ++ ts → In s rows → is_passed new s.ticket ≡ true → p s ≡ false
-unmarked p rows old new ts s are from marked h t =
-    false_from_ne_true (p s) (λ y. false≢true (sym (passed_more old new ts from marked s.ticket t).1
-    ∙ any_from (λ m. eqb m s.ticket) ts s.ticket (subst (λ (ns : List ℕ). In s.ticket ns) (sym are) (In-map_from ticket_of s (filter p rows) (In-filter_from p s rows h y))) (eq-eqb s.ticket s.ticket refl)))
-
--- those that have the key are marked
-pub left_by_key : (side : SideView) (c : CoverageView) (own : ℕ) (v : Value) (old new : Watches) (ts : List ℕ)
-    → ((s : Stored) → In s side.state.rows → own < length s.row) → IsKey side c own v → ts ≡ tickets_of (rows_with own v side.state.rows) → new.from ≡ old.from → new.marked ≡ old.marked ++ ts
-    → AreUncovered side c new
-left_by_key side c own v old new ts wide key are from marked s h t xs tells =
-    key.1 (tuple_in side.input s) xs tells refl (wide s h) (unmarked (has_value own v) side.state.rows old new ts s are from marked h t)
-
-pub left_marked : {E V : Type 0} (r : Result V E) (side : SideView) (c : CoverageView) (own : ℕ) (v : Value) (old new : Watches) (ts : List ℕ)
-    → IsWide side.state → IsKey side c own v → ts ≡ tickets_of (rows_with own v side.state.rows) → new.from ≡ old.from → OnOk r (new.marked ≡ old.marked ++ ts)
-    → OnOk r (AreUncovered side c new)
-left_marked (Ok done) side c own v old new ts wide key are from marked =
-    left_by_key side c own v old new ts (λ s h. all-in (λ k. k < length s.row) side.state.columns (wide s h) own key.0) key are from marked
-left_marked (Err stop) side c own v old new ts wide key are from marked = tt
-
--- those that the pattern matches are marked
-pub left_matched : {E V : Type 0} (r : Result V E) (side : SideView) (c : CoverageView) (own : ℕ) (q : Pattern) (w : Watches)
-    → IsWide side.state → In own side.state.columns → Limits side c own q → OnOk r (NonePasses (has_match own q) side.state.rows w)
-    → OnOk r (AreUncovered side c w)
-left_matched (Ok done) side c own q w wide indexed limits none = λ s h t xs tells.
-    limits (tuple_in side.input s) xs tells refl (all-in (λ k. k < length s.row) side.state.columns (wide s h) own indexed) (none s h t)
-left_matched (Err stop) side c own q w wide indexed limits none = tt
-
--- none of those passes whose tickets were marked
-pub none_passes : {E V : Type 0} (r : Result V E) (p : Stored → Bool) (rows : List Stored) (old new : Watches) (ts : List ℕ) → HoldTrue p rows ts → new.from ≡ old.from → OnOk r (new.marked ≡ old.marked ++ ts) → OnOk r (NonePasses p rows new)
-none_passes (Ok done) p rows old new ts held from marked = λ s h t.
-    false_from_ne_true (p s) (λ y. false≢true (sym (passed_more old new ts from marked s.ticket t).1
-    ∙ any_from (λ m. eqb m s.ticket) ts s.ticket (held s h y) (eq-eqb s.ticket s.ticket refl)))
-none_passes (Err stop) p rows old new ts held from marked = tt
-
-pub fewer_marked : {E V : Type 0} (r : Result V E) (old new : Watches) (ts : List ℕ) → new.from ≡ old.from → OnOk r (new.marked ≡ old.marked ++ ts) → OnErr r (new.marked ≡ old.marked) → IsFewer old new
-fewer_marked (Ok done) old new ts from ok err = fewer_more old new ts from ok
-fewer_marked (Err stop) old new ts from ok err = fewer_alike old new from err
-
--- ---- the first step
-
-pub one-step : (cert : List CertStep) (step : CertStep) → slice_get cert 0 ≡ Some step → (rest : List CertStep) × (cert ≡ step ∷ rest)
-one-step [] step e = absurd (cc)
-one-step (s ∷ rest) step e = (rest, ap (λ (t : CertStep). t ∷ rest) (get_or_from_slice_get (s ∷ rest) 0 step step e))
-
-pub left_all : (classes : List (List ClassCol)) (cert : List CertEntry) (side : SideView) (c : PunctView) (w : Watches) → w.from ≡ 0 → AreLeftOpen classes cert side c w
-left_all classes cert side c w e ticket s h t = absurd (all_marked w e s.ticket t)
-
-pub left_other : (classes : List (List ClassCol)) (schemes : List (List (List Bool))) (cert : List CertStep) (step : CertStep) (side : SideView) (c : PunctView) (w : Watches)
-    → slice_get cert 0 ≡ Some step → (step.input ≡ c.input → ⊥) → AreLeftOpen classes (entries schemes cert) side c w
-left_other classes schemes cert step side c w at ne ticket s h t =
-    let rest = one-step cert step at in
-    subst (λ (cs : List CertStep). AsksOpen classes (entries schemes cs) (come_at c ticket ∷ []) (tuple_in side.input s)) (sym rest.1)
-    (ap (λ b. (b && covers c.patterns (demand classes (entry_of schemes step) (tuple_in side.input s ∷ [])).instance) || false) (false_from_ne_true (eqb c.input step.input) (λ e. ne (sym (eqb-true c.input step.input e)))))
-
-pub left_first : (classes : List (List ClassCol)) (schemes : List (List (List Bool))) (cert : List CertStep) (step : CertStep) (marks : List Bool) (side : SideView) (c : PunctView) (w : Watches)
-    → slice_get cert 0 ≡ Some step → step.input ≡ c.input → marks ≡ marks_of schemes step → AreUncovered side (record { classes = classes; input = c.input; marks = marks; patterns = c.patterns }) w → AreLeftOpen classes (entries schemes cert) side c w
-left_first classes schemes cert step marks side c w at same are uncovered ticket s h t =
-    let rest = one-step cert step at in
-    subst (λ (cs : List CertStep). AsksOpen classes (entries schemes cs) (come_at c ticket ∷ []) (tuple_in side.input s)) (sym rest.1)
-    (go (eqb c.input step.input)
-    (ap₂ (λ i (ms : List Bool). covers c.patterns (instance_from classes i 0 ms (tuple_in side.input s ∷ []))) same (sym are) ∙ uncovered s h t (tuple_in side.input s ∷ []) (tells-own classes (tuple_in side.input s))))
-  where
-    go : (b : Bool) → covers c.patterns (instance_from classes step.input 0 (marks_of schemes step) (tuple_in side.input s ∷ [])) ≡ false → ((b && covers c.patterns (instance_from classes step.input 0 (marks_of schemes step) (tuple_in side.input s ∷ []))) || false) ≡ false
-    go true e = ap (λ b. b || false) e
-    go false e = refl
-
-pub on_ok : {E V : Type 0} {P Q : Type 0} (r : Result V E) → (P → Q) → OnOk r P → OnOk r Q
-on_ok (Ok v) f p = f p
-on_ok (Err e) f p = tt
 
 -- ---- all inputs
 
@@ -250,9 +159,6 @@ by-place P i k here there = go (eqb k i) refl
     go : (b : Bool) → eqb k i ≡ b → P k
     go true e = subst P (sym (eqb-true k i e)) here
     go false e = there (λ q. false≢true (sym e ∙ eq-eqb k i q))
-
-pub fewer_start : (ws : List Watches) → AreFewer ws ws
-fewer_start ws = record { count = refl; each = λ input. fewer_same (watches_at ws input) }
 
 -- one input more was gone over
 pub fewer_next : (old cur : List Watches) (i : ℕ) (v w : Watches) → AreFewer old cur → i < length cur → v ≡ get_or cur i v → IsFewer v w → AreFewer old (set cur i w)

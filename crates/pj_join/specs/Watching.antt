@@ -1,13 +1,14 @@
 -- Which stored tuples of an input a sweep has to judge.
-use Rattle.std.specs.Prelude.{ℕ, ◌<◌, ◌≤◌, ◌≡◌, ◌==◌, if◌then◌else◌, Bool, true, false, not, nat_lt, ◌&&◌, ◌||◌, ◌⊎◌, List, [], ◌∷◌, ◌++◌, Option, Some, None, filter, flat_map, length, slice_get, slice_index_or}
+use Rattle.std.specs.Option.{option_map}
+use Rattle.std.specs.Prelude.{ℕ, zero, suc, ◌<◌, ◌≤◌, ◌≡◌, ◌==◌, if◌then◌else◌, Bool, true, false, not, nat_lt, ◌&&◌, ◌||◌, List, [], ◌∷◌, ◌++◌, Option, Some, None, filter, flat_map, length, slice_get, slice_index_or}
 use Rattle.pj_value.specs.declared.values.Value.{Value}
 use Rattle.pj_state.specs.declared.shared.Stored.{Stored}
 use Rattle.pj_state.specs.Rising.{IsRising, itself}
 use Rattle.pj_state.specs.States.{StateView, is_value, row_under, stored, tickets_of}
-use Rattle.pj_cover.specs.Asking.{Known, entries, first_class, puncts_from, tuples_of}
+use Rattle.pj_cover.specs.Asking.{IsAsked, Known, entries, first_class, puncts_from, tuples_of}
 use Rattle.pj_cover.specs.declared.rows.Uncovered.{Uncovered}
 use Rattle.pj_events.specs.Patterns.{Pattern, covers, is_wild, matches_value}
-use Rattle.pj_events.specs.Join.{CertEntry, CertStep, ClassCol, In, JoinData, PunctAt, TupleAt, agree, cert_of, constant, covered, demand, has, inputs, instance_from, older_puncts, value_at}
+use Rattle.pj_events.specs.Join.{CertEntry, ClassCol, Demand, In, JoinData, PunctAt, TupleAt, agree, cert_of, constant, covered, has, inputs, instance_from, older_puncts, value_at}
 use Rattle.pj_events.specs.KeptState.{kept_low, kept_ripe}
 use Rattle.pj_join.specs.Joins.{JoinView}
 use Rattle.pj_join.specs.Judging.{JudgeView, lets_go, ripe_at, rows_at}
@@ -29,43 +30,31 @@ watches_at ws input = slice_index_or ws input no_watches
 abbrev pub is_passed : Watches → ℕ → Bool
 is_passed w ticket = nat_lt ticket w.from && not (has w.marked ticket)
 
--- what the tuple asks for by the first entry of its certificate is not covered
-abbrev pub AsksOpen : List (List ClassCol) → List CertEntry → List PunctAt → TupleAt → Type 0
-AsksOpen classes [] puncts x = ⊥
-AsksOpen classes (e ∷ cert) puncts x = covered puncts (demand classes e (x ∷ [])) ≡ false
-
 abbrev pub known : List (List ClassCol) → List TupleAt → List PunctAt → ℕ → Known
 known classes stored puncts low = record { classes = classes; stored = stored; puncts = puncts; low = low }
 
--- y is stored, below the low-water ticket, for the entry e, and joins with x; what both ask for by the next entry is not covered
-pub record IsWitness (k : Known) (e f : CertEntry) (x y : TupleAt) : Type 0 where
-  pub there : In y k.stored
-  pub below : y.ticket < k.low
-  pub of_entry : y.input ≡ e.input
-  pub joins : agree k.classes (y ∷ x ∷ []) ≡ true
-  pub uncovered : covered k.puncts (demand k.classes f (y ∷ x ∷ [])) ≡ false
+-- through these tuples, which are stored below the low-water ticket, the tuple asks for what no punctuation covers
+pub record AsksBy (k : Known) (cert : List CertEntry) (x : TupleAt) (rows : List TupleAt) (asks : Demand) : Type 0 where
+  pub there : (y : TupleAt) → In y rows → In y k.stored
+  pub below : (y : TupleAt) → In y rows → y.ticket < k.low
+  pub asked : IsAsked k.classes cert rows (x ∷ []) asks
+  pub uncovered : covered k.puncts asks ≡ false
 
--- what the tuple asks for by the second entry through a stored tuple is not covered
-abbrev pub AsksNext : Known → List CertEntry → TupleAt → Type 0
-AsksNext k [] x = ⊥
-AsksNext k (e ∷ []) x = ⊥
-AsksNext k (e ∷ f ∷ cert) x = (y : TupleAt) × IsWitness k e f x y
+-- it does so through some
+abbrev pub AsksStill : Known → List CertEntry → TupleAt → Type 0
+AsksStill k cert x = (rows : List TupleAt) × (asks : Demand) × AsksBy k cert x rows asks
 
--- what it asks for by the first entry or by the second one is not covered
-abbrev pub AsksEarly : Known → List CertEntry → TupleAt → Type 0
-AsksEarly k cert x = AsksOpen k.classes cert k.puncts x ⊎ AsksNext k cert x
-
--- each stored tuple that is passed over asks early for something that no punctuation covers
+-- each stored tuple that is passed over asks for something that no punctuation covers
 pub record AreWatched (spec : JoinData) (next low : ℕ) (stored : List TupleAt) (puncts : List PunctAt) (ws : List Watches) : Type 0 where
   pub count : length ws ≡ inputs spec
   pub reached : (input : ℕ) → (watches_at ws input).from ≤ next
-  pub asks : (x : TupleAt) → In x stored → is_passed (watches_at ws x.input) x.ticket ≡ true → AsksEarly (known spec.shape.classes stored puncts low) (cert_of spec x.input) x
+  pub asks : (x : TupleAt) → In x stored → is_passed (watches_at ws x.input) x.ticket ≡ true → AsksStill (known spec.shape.classes stored puncts low) (cert_of spec x.input) x
 
 -- each stored tuple of the input below the low-water ticket that is neither ripe nor marked does
 abbrev pub AreOpenBut : JoinView → ℕ → List ℕ → Type 0
 AreOpenBut join input marked =
     (x : TupleAt) → In x join.kept.stored → x.input ≡ input → x.ticket < kept_low join.kept → kept_ripe join.spec join.kept x ≡ false → has marked x.ticket ≡ false
-    → AsksEarly (known join.spec.shape.classes join.kept.stored join.kept.puncts (kept_low join.kept)) (cert_of join.spec input) x
+    → AsksStill (known join.spec.shape.classes join.kept.stored join.kept.puncts (kept_low join.kept)) (cert_of join.spec input) x
 
 -- these are the tickets of some of the rows, in their order
 abbrev pub AreSome : List Stored → List ℕ → Type 0
@@ -105,26 +94,15 @@ pub record PunctView : Type 0 where
 abbrev pub come_at : PunctView → ℕ → PunctAt
 come_at c ticket = record { ticket = ticket; input = c.input; patterns = c.patterns }
 
--- whatever its ticket, the punctuation covers what none of the side's rows asks for that are passed over
-abbrev pub AreLeftOpen : List (List ClassCol) → List CertEntry → SideView → PunctView → Watches → Type 0
-AreLeftOpen classes cert side c w = (ticket : ℕ) (s : Stored) → In s side.state.rows → is_passed w s.ticket ≡ true → AsksOpen classes cert (come_at c ticket ∷ []) (tuple_in side.input s)
+-- the tuples stand in these states
+abbrev pub AreStored : List StateView → List TupleAt → Type 0
+AreStored states ys = (y : TupleAt) → In y ys → (t : Stored) × In t (state_at states y.input).rows × (tuple_in y.input t ≡ y)
 
--- the punctuation covers nothing that the tuple asks for by the second entry through a row of the first one's input
-abbrev pub IsLeftNext : List (List ClassCol) → List CertEntry → List StateView → PunctAt → TupleAt → Type 0
-IsLeftNext classes [] states p x = Unit {0}
-IsLeftNext classes (e ∷ []) states p x = Unit {0}
-IsLeftNext classes (e ∷ f ∷ cert) states p x =
-    (t : Stored) → In t (state_at states e.input).rows → agree classes (tuple_in e.input t ∷ x ∷ []) ≡ true → covered (p ∷ []) (demand classes f (tuple_in e.input t ∷ x ∷ [])) ≡ false
-
--- the same of each of the input's rows that are passed over, whatever the punctuation's ticket
-abbrev pub AreLeftNext : List (List ClassCol) → List CertEntry → ℕ → List StateView → PunctView → Watches → Type 0
-AreLeftNext classes cert input states c w = (ticket : ℕ) (s : Stored) → In s (state_at states input).rows → is_passed w s.ticket ≡ true → IsLeftNext classes cert states (come_at c ticket) (tuple_in input s)
-
--- both of the input with this number
+-- whatever its ticket, the punctuation covers nothing that a row asks for, through whatever rows, that is passed over
 abbrev pub AreLeftAt : JoinData → List StateView → PunctView → Watches → ℕ → Type 0
 AreLeftAt spec states c w input =
-    AreLeftOpen spec.shape.classes (cert_of spec input) (side_at states input) c w
-    × AreLeftNext spec.shape.classes (cert_of spec input) input states c w
+    (ticket : ℕ) (s : Stored) → In s (state_at states input).rows → is_passed w s.ticket ≡ true → (rows : List TupleAt) (asks : Demand) → AreStored states rows
+    → IsAsked spec.shape.classes (cert_of spec input) rows (tuple_in input s ∷ []) asks → covered (come_at c ticket ∷ []) asks ≡ false
 
 -- the same of the first so many inputs
 abbrev pub AreLeft : JoinData → List StateView → PunctView → List Watches → ℕ → Type 0
@@ -156,16 +134,6 @@ pub record CoverageView : Type 0 where
 abbrev pub is_met : CoverageView → List TupleAt → Bool
 is_met c xs = covers c.patterns (instance_from c.classes c.input 0 c.marks xs)
 
--- it covers nothing that tuples ask for whose values a row of the side tells that is passed over
-abbrev pub AreUncovered : SideView → CoverageView → Watches → Type 0
-AreUncovered side c w = (s : Stored) → In s side.state.rows → is_passed w s.ticket ≡ true → (xs : List TupleAt) → Tells c.classes xs (tuple_in side.input s) → is_met c xs ≡ false
-
--- nor what those of its rows that are passed over ask for with one of another side that joins with them
-abbrev pub AreUncoveredWith : SideView → SideView → CoverageView → Watches → Type 0
-AreUncoveredWith side others c w =
-    (s t : Stored) → In s side.state.rows → is_passed w s.ticket ≡ true → In t others.state.rows → agree c.classes (tuple_in others.input t ∷ tuple_in side.input s ∷ []) ≡ true
-    → is_met c (tuple_in others.input t ∷ tuple_in side.input s ∷ []) ≡ false
-
 -- there is a pattern for each mark, and a wildcard for each column that is not marked
 abbrev pub is_wild_elsewhere : List Bool → List Pattern → Bool
 is_wild_elsewhere [] [] = true
@@ -188,10 +156,6 @@ is_match pattern (Some value) = matches_value pattern value
 abbrev pub has_match : ℕ → Pattern → Stored → Bool
 has_match column pattern s = is_match pattern (slice_get s.row column)
 
--- no row that passes the test is passed over
-abbrev pub NonePasses : (Stored → Bool) → List Stored → Watches → Type 0
-NonePasses p rows w = (s : Stored) → In s rows → is_passed w s.ticket ≡ true → p s ≡ false
-
 -- the punctuation covers what tuples ask for whose values a row tells only where this pattern matches its value in this column
 abbrev pub Limits : SideView → CoverageView → ℕ → Pattern → Type 0
 Limits side c column pattern =
@@ -209,36 +173,89 @@ IsPair classes side other pair =
 abbrev pub AreMarked : List ℕ → Watches → Type 0
 AreMarked tickets w = (t : ℕ) → In t tickets → is_passed w t ≡ false
 
--- no row that is passed over has this value in this column
-abbrev pub AreUnlike : List Stored → ℕ → Value → Watches → Type 0
-AreUnlike rows column value w = (s : Stored) → In s rows → is_passed w s.ticket ≡ true → value_at s.row column ≡ value → ⊥
+-- these are the tickets of all rows that have one value in these columns with a row of these other tickets
+abbrev pub HavePartners : List Stored → List Stored → Pair → List ℕ → List ℕ → Type 0
+HavePartners rows others pair tickets found =
+    (s t : Stored) → In s rows → In t others → In t.ticket tickets → value_at s.row pair.mine ≡ value_at t.row pair.theirs → In s.ticket found
 
--- the same for the value that each row of another input with one of these tickets has
-abbrev pub AreAllUnlike : List Stored → List Stored → Pair → List ℕ → Watches → Type 0
-AreAllUnlike rows others pair tickets w = (t : Stored) → In t others → In t.ticket tickets → AreUnlike rows pair.mine (value_at t.row pair.theirs) w
+-- the rows of an input, and the certificate by which they ask
+pub record PathView : Type 0 where
+  pub classes : List (List ClassCol)
+  pub cert : List CertEntry
+  pub input : ℕ
+  pub states : List StateView
 
--- no row of the side that is passed over joins with this tuple
-abbrev pub IsAlone : List (List ClassCol) → SideView → TupleAt → Watches → Type 0
-IsAlone classes side y w = (s : Stored) → In s side.state.rows → is_passed w s.ticket ≡ true → agree classes (y ∷ tuple_in side.input s ∷ []) ≡ false
+-- the tuple is a row of the path's input, and asks for this through these rows
+pub record AsksAlong (path : PathView) (x : TupleAt) (rows : List TupleAt) (asks : Demand) : Type 0 where
+  pub own : x.input ≡ path.input
+  pub stored : AreStored path.states (x ∷ rows)
+  pub asked : IsAsked path.classes path.cert rows (x ∷ []) asks
 
--- the same of the tuples of another side with one of these tickets
-abbrev pub AreAllAlone : List (List ClassCol) → SideView → SideView → List ℕ → Watches → Type 0
-AreAllAlone classes side others tickets w = (t : Stored) → In t others.state.rows → In t.ticket tickets → IsAlone classes side (tuple_in others.input t) w
+-- the input at a position of the path: its own, and then those of the certificate
+abbrev pub input_at : PathView → ℕ → Option ℕ
+input_at path zero = Some path.input
+input_at path (suc at) = option_map (λ (e : CertEntry). e.input) (slice_get path.cert at)
 
--- the certificate begins with this input, and goes on
-abbrev pub asks_first : List CertStep → ℕ → Bool
-asks_first [] other = false
-asks_first (step ∷ []) other = false
-asks_first (step ∷ next ∷ steps) other = step.input == other
+-- these are the tickets of all rows of the input that ask through one with such a ticket at this position of the path
+abbrev pub LeadsBack : PathView → ℕ → List ℕ → List ℕ → Type 0
+LeadsBack path at tickets found =
+    (x : TupleAt) (rows : List TupleAt) (asks : Demand) → AsksAlong path x rows asks → (y : TupleAt) → slice_get (x ∷ rows) at ≡ Some y → In y.ticket tickets → In x.ticket found
 
--- where the input asks first of that one: no row of it that is passed over joins with one that goes there
-abbrev pub IsRousedAt : List (List ClassCol) → List (List CertStep) → List StateView → ℕ → List ℕ → Watches → ℕ → Type 0
-IsRousedAt classes certs states other gone w input =
-    asks_first (slice_index_or certs input []) other ≡ true → AreAllAlone classes (side_at states input) (side_at states other) gone w
+-- these are the tickets of all rows at the position before, through which rows ask for one with such a ticket at this one
+abbrev pub HopsBack : PathView → ℕ → ℕ → List ℕ → List ℕ → Type 0
+HopsBack path at before tickets found =
+    (x : TupleAt) (rows : List TupleAt) (asks : Demand) → AsksAlong path x rows asks → (y z : TupleAt) → slice_get (x ∷ rows) at ≡ Some y → slice_get (x ∷ rows) before ≡ Some z → In y.ticket tickets → In z.ticket found
+
+-- the first position is before this one, and tuples of both that join have one value in the pair's columns, of which the first one's is indexed
+pub record IsLink (path : PathView) (at before : ℕ) (pair : Pair) : Type 0 where
+  pub earlier : before < at
+  pub input : ℕ
+  pub other : ℕ
+  pub is_input : input_at path before ≡ Some input
+  pub is_other : input_at path at ≡ Some other
+  pub joins : IsPair path.classes (side_at path.states input) other pair
+
+-- these are the tickets of all rows of the input that ask by this entry for something that the punctuation covers
+abbrev pub FindCovered : PathView → ℕ → CoverageView → List ℕ → Type 0
+FindCovered path entry c found =
+    (x : TupleAt) (rows : List TupleAt) (asks : Demand) → AsksAlong path x rows asks → length rows ≡ entry → covers c.patterns asks.instance ≡ true → In x.ticket found
+
+-- whatever its ticket, the punctuation covers nothing that the path's rows ask for by this entry that are passed over
+abbrev pub IsLeftBy : PathView → ℕ → PunctView → Watches → Type 0
+IsLeftBy path entry c w =
+    (ticket : ℕ) (x : TupleAt) (rows : List TupleAt) (asks : Demand) → AsksAlong path x rows asks → length rows ≡ entry → is_passed w x.ticket ≡ true → covered (come_at c ticket ∷ []) asks ≡ false
+
+-- the same of a punctuation of the entry's input
+abbrev pub IsUnmet : PathView → ℕ → CoverageView → Watches → Type 0
+IsUnmet path entry c w = (x : TupleAt) (rows : List TupleAt) (asks : Demand) → AsksAlong path x rows asks → length rows ≡ entry → is_passed w x.ticket ≡ true → covers c.patterns asks.instance ≡ false
+
+-- the same of the first so many entries
+abbrev pub AreLeftBy : PathView → ℕ → PunctView → Watches → Type 0
+AreLeftBy path count c w = (entry : ℕ) → entry < count → IsLeftBy path entry c w
+
+-- the coverage is of what is asked for by this entry
+pub record IsOfEntry (path : PathView) (entry : ℕ) (c : CoverageView) : Type 0 where
+  pub classes : c.classes ≡ path.classes
+  pub entry_is : slice_get path.cert entry ≡ Some (record { input = c.input; marks = c.marks })
+
+-- no row of the path's input that is passed over asks through one with such a ticket at this position
+abbrev pub IsAsideAt : PathView → ℕ → List ℕ → Watches → Type 0
+IsAsideAt path at gone w =
+    (x : TupleAt) (rows : List TupleAt) (asks : Demand) → AsksAlong path x rows asks → is_passed w x.ticket ≡ true → (y : TupleAt) → slice_get (x ∷ rows) at ≡ Some y → In y.ticket gone → ⊥
+
+-- nor at any of the first so many positions, its own aside, that are of the other input
+abbrev pub AreAside : PathView → ℕ → ℕ → List ℕ → Watches → Type 0
+AreAside path count other gone w = (at : ℕ) → 0 < at → at < count → input_at path at ≡ Some other → IsAsideAt path at gone w
+
+-- no row of the input that is passed over asks through a row of the other one that goes
+abbrev pub IsRousedAt : JoinData → List StateView → ℕ → List ℕ → Watches → ℕ → Type 0
+IsRousedAt spec states other gone w input =
+    (s : Stored) → In s (state_at states input).rows → is_passed w s.ticket ≡ true → (rows : List TupleAt) (asks : Demand) → AreStored states rows
+    → IsAsked spec.shape.classes (cert_of spec input) rows (tuple_in input s ∷ []) asks → (y : TupleAt) → In y rows → y.input ≡ other → In y.ticket gone → ⊥
 
 -- the same of the first so many inputs
-abbrev pub AreRoused : List (List ClassCol) → List (List CertStep) → List StateView → ℕ → List ℕ → List Watches → ℕ → Type 0
-AreRoused classes certs states other gone ws count = (input : ℕ) → input < count → IsRousedAt classes certs states other gone (watches_at ws input) input
+abbrev pub AreRoused : JoinData → List StateView → ℕ → List ℕ → List Watches → ℕ → Type 0
+AreRoused spec states other gone ws count = (input : ℕ) → input < count → IsRousedAt spec states other gone (watches_at ws input) input
 
 -- ---- what a judge says
 
@@ -246,16 +263,16 @@ AreRoused classes certs states other gone ws count = (input : ℕ) → input < c
 abbrev pub known_at : JudgeView → Known
 known_at j = known j.spec.classes (tuples_of (row_pairs j.states) (length j.spec.inputs)) (older_puncts j.low (puncts_from 0 j.stores)) j.low
 
--- what the row asks for by one of the first two entries is not covered below the low-water ticket
+-- something that the row asks for is not covered below the low-water ticket
 abbrev pub IsOpenAt : JudgeView → Stored → Type 0
-IsOpenAt j s = AsksEarly (known_at j) (entries j.schemes j.cert) (tuple_in j.input s)
+IsOpenAt j s = AsksStill (known_at j) (entries j.schemes j.cert) (tuple_in j.input s)
 
 -- what the first instance that is not covered tells
 abbrev pub verdict_on : Option Uncovered → Bool → Verdict
 verdict_on None settled = Ripe
-verdict_on (Some u) settled = if nat_lt u.entry 2 && settled then Open else Marked
+verdict_on (Some u) settled = if settled then Open else Marked
 
--- it is ripe; or what it asks for early is not covered, where it is below the low-water ticket; or it is not ripe
+-- it is ripe; or something that it asks for is not covered, where it is below the low-water ticket; or it is not ripe
 abbrev pub IsVerdict : JudgeView → Stored → Verdict → Type 0
 IsVerdict j s Ripe = ripe_at j s ≡ true
 IsVerdict j s Open = (ripe_at j s ≡ false) × (s.ticket < j.low → (j.settled ≡ true) × IsOpenAt j s)
@@ -282,7 +299,7 @@ picked j ticket = filter (ripe_at j) (under_with ticket (row_under ticket (rows_
 abbrev pub all_picked : JudgeView → List ℕ → List Stored
 all_picked j tickets = flat_map (picked j) tickets
 
--- the row is ripe, or marked, or what it asks for early is not covered
+-- the row is ripe, or marked, or something that it asks for is not covered
 abbrev pub IsLookedAt : JudgeView → List ℕ → Stored → Type 0
 IsLookedAt j marked s = s.ticket < j.low → ripe_at j s ≡ false → has marked s.ticket ≡ false → (j.settled ≡ true) × IsOpenAt j s
 

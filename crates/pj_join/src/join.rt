@@ -413,9 +413,13 @@ impl Join {
         self.done -= count;
         self.watches[input as usize] = Watches { from, marked };
         rouse(
+            self.alloc,
             &mut self.watches,
-            self.spec.classes.as_slice(),
-            self.certs.as_slice(),
+            &Certified {
+                spec: &self.spec,
+                schemes: &self.schemes,
+                certs: self.certs.as_slice(),
+            },
             self.states.as_slice(),
             input,
             gone.as_slice(),

@@ -13,6 +13,7 @@ mod partners;
 mod place;
 mod probe;
 mod ranges;
+mod reaching;
 mod starting;
 mod stored;
 mod sweeping;

@@ -9,7 +9,7 @@ pub struct Watches {
     pub marked: List<u64>,
 }
 
-/// What a judge says of a stored row: it is ripe; or what it asks for early is not covered, or its ticket is not below the
+/// What a judge says of a stored row: it is ripe; or something that it asks for is not covered, or its ticket is not below the
 /// low-water ticket, so that it is not judged before something changes; or it is judged at the next sweep again.
 #[derive(Clone, Copy)]
 pub enum Verdict {

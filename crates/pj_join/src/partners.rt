@@ -1,18 +1,18 @@
 // Which rows of an input join with one of another.
-ghost use Rattle.std.specs.Prelude.{◌≡◌, ◌<◌, ◌^◌, ◌∷◌, [], length, IfSome};
+ghost use Rattle.std.specs.Prelude.{◌≡◌, ◌<◌, ◌≤◌, ◌^◌, length, Some, IfSome};
 ghost use Rattle.pj_value.specs.Lists.{In};
-ghost use Rattle.pj_state.specs.Rising.{IsRising};
-ghost use Rattle.pj_state.specs.States.{ticket_of};
-ghost use Rattle.pj_events.specs.Join.{value_at};
-ghost use Rattle.pj_join.specs.Sides.{AreWide, IsWide};
-ghost use Rattle.pj_join.specs.Watching.{AreAllAlone, AreAllUnlike, AreFewer, AreRoused, AreUnlike, IsFewer, IsPair, IsRousedAt, asks_first, first_column};
+ghost use Rattle.pj_join.specs.Sides.{AreWide};
+ghost use Rattle.pj_join.specs.Watching.{AreAside, AreFewer, AreRoused, IsAsideAt, IsFewer, IsPair, IsRousedAt, first_column, input_at};
 
 use crate::coverage::Side;
 use crate::marks::Watches;
+use crate::reaching::Path;
+use crate::waking::Certified;
 use crate::watches::first_column;
-use pj_shape::{Cert, ClassCol};
-use pj_state::{Spot, State};
-use pj_value::{List, Row};
+use pj_shape::ClassCol;
+use pj_state::State;
+use pj_value::List;
+use std::alloc::Global;
 
 /// A column of each of two inputs: rows of them that join have one value there.
 #[derive(Clone, Copy)]
@@ -55,96 +55,54 @@ pub fn pair_of(classes: &[List<ClassCol>], side: &Side<'_>, other: u32) -> Optio
     None
 }
 
-// Marks the rows that have this row's value in the pair's columns.
-fn mark_like(watches: &mut Watches, pair: Pair, state: &State, row: &Row)
-    requires indexed { In pair.mine state.now.columns }
-    requires wide { IsWide state.now }
+// Marks the rows that ask through one with such a ticket at a position of their path; or all.
+fn rouse_by(alloc: Global, watches: &mut Watches, path: &Path<'_>, at: usize, gone: &[u64])
+    requires wide { AreWide path.now.states }
     ensures fewer { IsFewer watches.old watches.new }
-    ensures unlike { AreUnlike state.now.rows pair.mine (value_at row.now pair.theirs) watches.new }
+    ensures aside { IsAsideAt path.now at gone.now watches.new }
 {
-    match row.get(pair.theirs as usize) {
-        None => watches.mark_all(),
-        Some(value) => watches.mark_or_all(state.tickets(pair.mine, value)),
+    match path.owners(alloc, at, gone) {
+        Ok(Some(found)) => watches.mark_or_all(found.as_slice()),
+        Ok(None) => watches.mark_all(),
+        Err(_) => watches.mark_all(),
     }
 }
 
-// The same for the row of another input with this ticket, where there is one.
-fn mark_under(
+// The same at a position, where that is of this input.
+fn rouse_on(
+    alloc: Global,
     watches: &mut Watches,
-    pair: Pair,
-    state: &State,
-    others: &State,
-    ticket: u64,
-    near: &mut Spot,
-)
-    requires indexed { In pair.mine state.now.columns }
-    requires wide { IsWide state.now }
-    requires rising { IsRising ticket_of others.now.rows }
-    ensures fewer { IsFewer watches.old watches.new }
-    ensures unlike { AreAllUnlike state.now.rows others.now.rows pair (ticket ∷ []) watches.new }
-{
-    match others.get_near(ticket, near) {
-        None => {}
-        Some(row) => mark_like(watches, pair, state, row),
-    }
-}
-
-/// Marks the rows that join with one of another input with one of these tickets, and maybe others.
-pub fn mark_partners(
-    watches: &mut Watches,
-    pair: Pair,
-    state: &State,
-    others: &State,
-    tickets: &[u64],
-)
-    requires indexed { In pair.mine state.now.columns }
-    requires wide { IsWide state.now }
-    ensures fewer { IsFewer watches.old watches.new }
-    ensures unlike { AreAllUnlike state.now.rows others.now.rows pair tickets.now watches.new }
-{
-    if others.len() == 0 {
-        return;
-    }
-    let mut near = Spot::new();
-    for ticket in tickets {
-        mark_under(watches, pair, state, others, *ticket, &mut near);
-    }
-}
-
-// Whether the certificate begins with this input, and goes on.
-#[tactic(auto, using(crate::proofs::Roused::first_short, crate::proofs::Roused::first_is))]
-fn asks_first(cert: &Cert, other: u32) -> bool
-    ensures { result ≡ asks_first cert.now other }
-{
-    if cert.len() < 2 {
-        return false;
-    }
-    cert.at(0).input == other
-}
-
-// Marks the rows of a side that join with those of another side with these tickets, and maybe others.
-fn rouse_one(
-    watches: &mut Watches,
-    classes: &[List<ClassCol>],
-    side: &Side<'_>,
-    others: &Side<'_>,
+    path: &Path<'_>,
+    at: usize,
+    other: u32,
     gone: &[u64],
 )
-    requires wide { IsWide side.now.state }
+    requires wide { AreWide path.now.states }
+    requires within { (0 < at) × (at ≤ length path.now.cert) }
     ensures fewer { IsFewer watches.old watches.new }
-    ensures alone { AreAllAlone classes.now side.now others.now gone.now watches.new }
+    ensures aside { input_at path.now at ≡ Some other → IsAsideAt path.now at gone.now watches.new }
 {
-    match pair_of(classes, side, others.input) {
-        None => watches.mark_all(),
-        Some(pair) => mark_partners(watches, pair, side.state, others.state, gone),
+    if path.cert.at(at - 1).input == other {
+        rouse_by(alloc, watches, path, at, gone);
     }
 }
 
-// The same for the input with this number, where it asks first of the other one.
+// The same at all positions but the last: nothing is asked for through rows there.
+fn rouse_along(alloc: Global, watches: &mut Watches, path: &Path<'_>, other: u32, gone: &[u64])
+    requires wide { AreWide path.now.states }
+    ensures fewer { IsFewer watches.old watches.new }
+    ensures aside { AreAside path.now (length path.now.cert) other gone.now watches.new }
+{
+    for at in 1..path.cert.len() {
+        rouse_on(alloc, watches, path, at, other, gone);
+    }
+}
+
+// The same for the input with this number.
 fn rouse_at(
+    alloc: Global,
     watches: &mut Watches,
-    classes: &[List<ClassCol>],
-    certs: &[Cert],
+    join: &Certified<'_>,
     states: &[State],
     at: usize,
     other: u32,
@@ -153,42 +111,19 @@ fn rouse_at(
     requires few { at < 2 ^ 32 }
     requires wide { AreWide states.now }
     ensures fewer { IsFewer watches.old watches.new }
-    ensures roused { IsRousedAt classes.now certs.now states.now other gone.now watches.new at }
+    ensures roused { IsRousedAt join.now states.now other gone.now watches.new at }
 {
-    match certs.get(at) {
+    match join.certs.get(at) {
         None => {}
-        Some(cert) => {
-            if !asks_first(cert, other) {
-                return;
-            }
-            match states.get(at) {
-                None => watches.mark_all(),
-                Some(state) => match states.get(other as usize) {
-                    None => watches.mark_all(),
-                    Some(others) => rouse_one(
-                        watches,
-                        classes,
-                        &Side {
-                            input: at as u32,
-                            state,
-                        },
-                        &Side {
-                            input: other,
-                            state: others,
-                        },
-                        gone,
-                    ),
-                },
-            }
-        }
+        Some(cert) => rouse_along(alloc, watches, &join.path(cert, at, states), other, gone),
     }
 }
 
-/// Marks the rows of each input that ask first of this one, and join with one of its rows that go, which have these tickets.
+/// Marks the rows of each input that ask through one of this input's rows that go, which have these tickets.
 pub fn rouse(
+    alloc: Global,
     watches: &mut Vec<Watches>,
-    classes: &[List<ClassCol>],
-    certs: &[Cert],
+    join: &Certified<'_>,
     states: &[State],
     other: u32,
     gone: &[u64],
@@ -196,12 +131,12 @@ pub fn rouse(
     requires few { length watches.old.items < 2 ^ 32 }
     requires wide { AreWide states.now }
     ensures fewer { AreFewer watches.old.items watches.new.items }
-    ensures roused { AreRoused classes.now certs.now states.now other gone.now watches.new.items (length watches.old.items) }
+    ensures roused { AreRoused join.now states.now other gone.now watches.new.items (length watches.old.items) }
 {
     if gone.len() == 0 {
         return;
     }
     for at in 0..watches.len() {
-        rouse_at(&mut watches[at], classes, certs, states, at, other, gone);
+        rouse_at(alloc, &mut watches[at], join, states, at, other, gone);
     }
 }

@@ -55,14 +55,14 @@ pub struct Left {
 }
 
 // What the first instance tells that a row asks for and that is not covered. Where no punctuation is at or above the low-water
-// ticket, one of the first two steps of the certificate stays so until a punctuation comes, or a row goes.
+// ticket, it stays so until a punctuation comes that covers it, or a row goes through which it is asked for.
 fn verdict_on(found: Option<Uncovered>, settled: bool) -> Verdict
     ensures { result ≡ verdict_on found settled }
 {
     match found {
         None => Verdict::Ripe,
-        Some(found) => {
-            if found.entry < 2 && settled {
+        Some(_found) => {
+            if settled {
                 return Verdict::Open;
             }
             Verdict::Marked

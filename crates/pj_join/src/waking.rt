@@ -1,15 +1,14 @@
 // Which stored rows a punctuation marks.
-ghost use Rattle.std.specs.Prelude.{◌≡◌, ◌<◌, ◌^◌, length, OnOk};
-ghost use Rattle.pj_value.specs.Lists.{In};
-ghost use Rattle.pj_join.specs.Sides.{AreWide, IsWide, state_at};
-ghost use Rattle.pj_join.specs.Watching.{AreFewer, AreLeft, AreLeftAt, AreLeftNext, AreLeftOpen, AreUncovered, AreUncoveredWith, IsFewer, IsPair, NonePasses, has_match, side_at};
+ghost use Rattle.std.specs.Prelude.{◌≡◌, ◌+◌, ◌<◌, ◌≤◌, ◌^◌, length, IfOk, IfSome, OnOk};
+ghost use Rattle.pj_cover.specs.Asking.{entries};
+ghost use Rattle.pj_join.specs.Sides.{AreWide};
+ghost use Rattle.pj_join.specs.Watching.{AreFewer, AreLeft, AreLeftAt, AreLeftBy, FindCovered, IsFewer, IsLeftBy, IsOfEntry, IsUnmet};
 
-use crate::coverage::{Coverage, LentPunct, Side};
+use crate::coverage::{Coverage, LentPunct};
 use crate::marks::Watches;
-use crate::partners::{Pair, mark_partners, pair_of};
+use crate::reaching::Path;
 use crate::watches::{matching_tickets, scheme_of};
-use pj_pattern::Pattern;
-use pj_shape::{Cert, ClassCol, JoinSpec, Schemes};
+use pj_shape::{Cert, JoinSpec, Schemes};
 use pj_state::State;
 use pj_value::{List, NoMemory};
 use std::alloc::Global;
@@ -32,277 +31,193 @@ impl<'a> Model for Certified<'a> {
     ghost view = { λ c. join_data c.spec.now c.schemes.now c.certs.now };
 }
 
-/// What the rows of an input ask for in turn: the steps of its certificate, each by a scheme of its input.
-#[derive(Drop)]
-pub struct Steps<'a> {
-    pub schemes: &'a Schemes,
-    pub cert: &'a Cert,
-}
-
-impl<'a> Model for Steps<'a> {
-    ghost use Rattle.std.specs.Prelude.{List};
-    ghost use Rattle.pj_cover.specs.Asking.{entries};
-    ghost use Rattle.pj_events.specs.Join.{CertEntry};
-
-    ghost Value = { List CertEntry };
-
-    ghost view = { λ s. entries s.schemes.now s.cert.now };
-}
-
-// Marks the rows whose value in a column the pattern matches, and maybe others.
-#[tactic(auto, using(crate::proofs::Woken::none_passes, crate::proofs::Woken::fewer_marked, crate::proofs::Woken::fewer_same))]
-fn mark_matching(
-    alloc: Global,
-    watches: &mut Watches,
-    state: &State,
-    column: u32,
-    pattern: &Pattern,
-) -> Result<(), NoMemory>
-    requires { In column state.now.columns }
-    ensures fewer { IsFewer watches.old watches.new }
-    ensures none { OnOk result (NonePasses (has_match column pattern.now) state.now.rows watches.new) }
-{
-    let tickets = matching_tickets(alloc, state, column, pattern)?;
-    watches.mark(tickets.as_slice())
-}
-
-// Marks the rows of a side that a marked column of the punctuation leaves; all where each is a wildcard.
-fn wake_limited(
-    alloc: Global,
-    watches: &mut Watches,
-    side: &Side<'_>,
-    coverage: &Coverage<'_>,
-) -> Result<(), NoMemory>
-    requires { IsWide side.now.state }
-    ensures fewer { IsFewer watches.old watches.new }
-    ensures left { OnOk result (AreUncovered side.now coverage.now watches.new) }
-{
-    match coverage.first_limit(side) {
-        None => {
-            watches.mark_all();
-            Ok(())
+impl<'a> Certified<'a> {
+    /// The path of the rows of an input, by its certificate.
+    pub fn path(&self, cert: &'a Cert, input: usize, states: &'a [State]) -> Path<'a>
+        requires few { input < 2 ^ 32 }
+        ensures { result ≡ record { classes = self.now.shape.classes; cert = entries self.now.schemes cert.now; input = input; states = states.now } }
+    {
+        Path {
+            classes: self.spec.classes.as_slice(),
+            schemes: self.schemes,
+            cert,
+            input: input as u32,
+            states,
         }
-        Some(limit) => mark_matching(alloc, watches, side.state, limit.column, limit.pattern),
     }
 }
 
-// Marks the rows of a side that ask for what the punctuation covers; or all.
+// The tickets of the rows that ask by an entry for what the punctuation covers, where a constant of it tells the value of the
+// rows at this position, behind the own one.
+fn by_key(
+    alloc: Global,
+    path: &Path<'_>,
+    entry: usize,
+    at: usize,
+    coverage: &Coverage<'_>,
+) -> Result<Option<List<u64>>, NoMemory>
+    requires wide { AreWide path.now.states }
+    requires of { IsOfEntry path.now entry coverage.now }
+    requires within { at ≤ entry }
+    ensures { IfOk result (λ found. IfSome found (FindCovered path.now entry coverage.now)) }
+{
+    match path.side(at) {
+        None => Ok(None),
+        Some(side) => match coverage.key(&side) {
+            None => Ok(None),
+            Some(key) => {
+                let found = path.owners(alloc, at, side.state.tickets(key.column, key.value))?;
+                Ok(found)
+            }
+        },
+    }
+}
+
+// The same where a pattern of the punctuation limits the values.
+fn by_limit(
+    alloc: Global,
+    path: &Path<'_>,
+    entry: usize,
+    at: usize,
+    coverage: &Coverage<'_>,
+) -> Result<Option<List<u64>>, NoMemory>
+    requires wide { AreWide path.now.states }
+    requires of { IsOfEntry path.now entry coverage.now }
+    requires within { at ≤ entry }
+    ensures { IfOk result (λ found. IfSome found (FindCovered path.now entry coverage.now)) }
+{
+    match path.side(at) {
+        None => Ok(None),
+        Some(side) => match coverage.first_limit(&side) {
+            None => Ok(None),
+            Some(limit) => {
+                let tickets = matching_tickets(alloc, side.state, limit.column, limit.pattern)?;
+                let found = path.owners_from(alloc, at, tickets)?;
+                Ok(found)
+            }
+        },
+    }
+}
+
+// The tickets of the rows that ask by an entry for what the punctuation covers, where a constant of it tells their own value.
+fn own_rows<'a>(path: &Path<'a>, entry: usize, coverage: &Coverage<'_>) -> Option<&'a [u64]>
+    requires wide { AreWide path.now.states }
+    requires of { IsOfEntry path.now entry coverage.now }
+    ensures { IfSome result (λ found. FindCovered path.now entry coverage.now found.now) }
+{
+    match path.side(0) {
+        None => None,
+        Some(side) => match coverage.key(&side) {
+            None => None,
+            Some(key) => Some(side.state.tickets(key.column, key.value)),
+        },
+    }
+}
+
+// The same at the first position behind the own one where a constant tells, or at the first where a pattern does; `None` where
+// none does.
+fn asking(
+    alloc: Global,
+    path: &Path<'_>,
+    entry: usize,
+    coverage: &Coverage<'_>,
+) -> Result<Option<List<u64>>, NoMemory>
+    requires wide { AreWide path.now.states }
+    requires of { IsOfEntry path.now entry coverage.now }
+    requires few { entry + 1 < 2 ^ 64 }
+    ensures { IfOk result (λ found. IfSome found (FindCovered path.now entry coverage.now)) }
+{
+    for at in 1..entry + 1 {
+        match by_key(alloc, path, entry, at, coverage)? {
+            None => {}
+            Some(found) => return Ok(Some(found)),
+        }
+    }
+    for at in 0..entry + 1 {
+        match by_limit(alloc, path, entry, at, coverage)? {
+            None => {}
+            Some(found) => return Ok(Some(found)),
+        }
+    }
+    Ok(None)
+}
+
+// Marks the rows that ask by an entry for what the punctuation covers; or all.
 fn wake_by(
     alloc: Global,
     watches: &mut Watches,
-    side: &Side<'_>,
+    path: &Path<'_>,
+    entry: usize,
     coverage: &Coverage<'_>,
 ) -> Result<(), NoMemory>
-    requires { IsWide side.now.state }
+    requires wide { AreWide path.now.states }
+    requires of { IsOfEntry path.now entry coverage.now }
+    requires few { entry + 1 < 2 ^ 64 }
     ensures fewer { IsFewer watches.old watches.new }
-    ensures left { OnOk result (AreUncovered side.now coverage.now watches.new) }
+    ensures left { OnOk result (IsUnmet path.now entry coverage.now watches.new) }
 {
     if !coverage.is_of_scheme() {
         return Ok(());
     }
-    match coverage.key(side) {
-        None => wake_limited(alloc, watches, side, coverage),
-        Some(key) => watches.mark(side.state.tickets(key.column, key.value)),
-    }
-}
-
-// Marks the rows of a side that ask first for what the punctuation of another input covers; or all.
-fn wake_first(
-    alloc: Global,
-    watches: &mut Watches,
-    classes: &[List<ClassCol>],
-    steps: &Steps<'_>,
-    side: &Side<'_>,
-    coming: &LentPunct<'_>,
-) -> Result<(), NoMemory>
-    requires { IsWide side.now.state }
-    ensures fewer { IsFewer watches.old watches.new }
-    ensures left { OnOk result (AreLeftOpen classes.now steps.now side.now coming.now watches.new) }
-{
-    if steps.cert.len() == 0 {
-        watches.mark_all();
-        return Ok(());
-    }
-    let step = *steps.cert.at(0);
-    if step.input != coming.input {
-        return Ok(());
-    }
-    match scheme_of(steps.schemes, step) {
-        None => {
-            watches.mark_all();
-            Ok(())
-        }
-        Some(scheme) => wake_by(alloc, watches, side, &coming.coverage(classes, scheme)),
-    }
-}
-
-// Marks the partners of those rows of the first step's side that a marked column of the punctuation leaves; all rows where
-// each is a wildcard.
-fn mark_through(
-    alloc: Global,
-    watches: &mut Watches,
-    side: &Side<'_>,
-    firsts: &Side<'_>,
-    pair: Pair,
-    coverage: &Coverage<'_>,
-) -> Result<(), NoMemory>
-    requires wide { IsWide side.now.state }
-    requires wide_first { IsWide firsts.now.state }
-    requires pair { IsPair coverage.now.classes side.now firsts.now.input pair }
-    ensures fewer { IsFewer watches.old watches.new }
-    ensures left { OnOk result (AreUncoveredWith side.now firsts.now coverage.now watches.new) }
-{
-    match coverage.key(firsts) {
-        Some(key) => {
-            let tickets = firsts.state.tickets(key.column, key.value);
-            mark_partners(watches, pair, side.state, firsts.state, tickets);
-            Ok(())
-        }
-        None => match coverage.first_limit(firsts) {
+    match own_rows(path, entry, coverage) {
+        Some(found) => watches.mark(found),
+        None => match asking(alloc, path, entry, coverage)? {
             None => {
                 watches.mark_all();
                 Ok(())
             }
-            Some(limit) => {
-                let tickets = matching_tickets(alloc, firsts.state, limit.column, limit.pattern)?;
-                mark_partners(watches, pair, side.state, firsts.state, tickets.as_slice());
-                Ok(())
-            }
+            Some(found) => watches.mark(found.as_slice()),
         },
     }
 }
 
-// Marks the rows of a side that a column of their own leaves, or that have a partner that one leaves; or all.
-fn wake_through(
+// The same for an entry of any input.
+fn wake_entry(
     alloc: Global,
     watches: &mut Watches,
-    side: &Side<'_>,
-    firsts: &Side<'_>,
-    coverage: &Coverage<'_>,
-) -> Result<(), NoMemory>
-    requires wide { IsWide side.now.state }
-    requires wide_first { IsWide firsts.now.state }
-    ensures fewer { IsFewer watches.old watches.new }
-    ensures left { OnOk result (AreUncoveredWith side.now firsts.now coverage.now watches.new) }
-{
-    match coverage.first_limit(side) {
-        Some(limit) => mark_matching(alloc, watches, side.state, limit.column, limit.pattern),
-        None => match pair_of(coverage.classes, side, firsts.input) {
-            None => {
-                watches.mark_all();
-                Ok(())
-            }
-            Some(pair) => mark_through(alloc, watches, side, firsts, pair, coverage),
-        },
-    }
-}
-
-// Marks the rows of a side that ask through those of the first step's side for what the punctuation covers; or all.
-fn wake_next(
-    alloc: Global,
-    watches: &mut Watches,
-    side: &Side<'_>,
-    firsts: &Side<'_>,
-    coverage: &Coverage<'_>,
-) -> Result<(), NoMemory>
-    requires wide { IsWide side.now.state }
-    requires wide_first { IsWide firsts.now.state }
-    ensures fewer { IsFewer watches.old watches.new }
-    ensures left { OnOk result (AreUncoveredWith side.now firsts.now coverage.now watches.new) }
-{
-    if !coverage.is_of_scheme() {
-        return Ok(());
-    }
-    match coverage.key(side) {
-        Some(key) => watches.mark(side.state.tickets(key.column, key.value)),
-        None => wake_through(alloc, watches, side, firsts, coverage),
-    }
-}
-
-// Marks the rows of a side that ask through those of this input for what the punctuation covers; or all.
-fn wake_after(
-    alloc: Global,
-    watches: &mut Watches,
-    side: &Side<'_>,
-    first: u32,
-    states: &[State],
-    coverage: &Coverage<'_>,
-) -> Result<(), NoMemory>
-    requires wide { AreWide states.now }
-    requires own { IsWide side.now.state }
-    ensures fewer { IsFewer watches.old watches.new }
-    ensures left { OnOk result (AreUncoveredWith side.now (side_at states.now first) coverage.now watches.new) }
-{
-    match states.get(first as usize) {
-        None => {
-            watches.mark_all();
-            Ok(())
-        }
-        Some(state) => {
-            let firsts = Side {
-                input: first,
-                state,
-            };
-            wake_next(alloc, watches, side, &firsts, coverage)
-        }
-    }
-}
-
-// Marks the rows of a side that ask by their second step for what the punctuation of another input covers; or all.
-fn wake_second(
-    alloc: Global,
-    watches: &mut Watches,
-    classes: &[List<ClassCol>],
-    steps: &Steps<'_>,
-    side: &Side<'_>,
-    states: &[State],
+    path: &Path<'_>,
+    entry: usize,
     coming: &LentPunct<'_>,
 ) -> Result<(), NoMemory>
-    requires wide { AreWide states.now }
-    requires own { IsWide side.now.state }
-    requires there { side.now.state ≡ state_at states.now side.now.input }
+    requires wide { AreWide path.now.states }
+    requires within { entry < length path.now.cert }
+    requires few { entry + 1 < 2 ^ 64 }
     ensures fewer { IsFewer watches.old watches.new }
-    ensures left { OnOk result (AreLeftNext classes.now steps.now side.now.input states.now coming.now watches.new) }
+    ensures left { OnOk result (IsLeftBy path.now entry coming.now watches.new) }
 {
-    if steps.cert.len() < 2 {
-        return Ok(());
-    }
-    let first = *steps.cert.at(0);
-    let step = *steps.cert.at(1);
+    let step = *path.cert.at(entry);
     if step.input != coming.input {
         return Ok(());
     }
-    match scheme_of(steps.schemes, step) {
+    match scheme_of(path.schemes, step) {
         None => {
             watches.mark_all();
             Ok(())
         }
-        Some(scheme) => {
-            let coverage = coming.coverage(classes, scheme);
-            wake_after(alloc, watches, side, first.input, states, &coverage)
-        }
+        Some(scheme) => wake_by(
+            alloc,
+            watches,
+            path,
+            entry,
+            &coming.coverage(path.classes, scheme),
+        ),
     }
 }
 
-// Marks the rows of a side that ask early for what the punctuation of another input covers; or all.
-fn wake_one(
+// The same for all entries.
+fn wake_along(
     alloc: Global,
     watches: &mut Watches,
-    classes: &[List<ClassCol>],
-    steps: &Steps<'_>,
-    side: &Side<'_>,
-    states: &[State],
+    path: &Path<'_>,
     coming: &LentPunct<'_>,
 ) -> Result<(), NoMemory>
-    requires wide { AreWide states.now }
-    requires own { IsWide side.now.state }
-    requires there { side.now.state ≡ state_at states.now side.now.input }
+    requires wide { AreWide path.now.states }
     ensures fewer { IsFewer watches.old watches.new }
-    ensures first { OnOk result (AreLeftOpen classes.now steps.now side.now coming.now watches.new) }
-    ensures next { OnOk result (AreLeftNext classes.now steps.now side.now.input states.now coming.now watches.new) }
+    ensures left { OnOk result (AreLeftBy path.now (length path.now.cert) coming.now watches.new) }
 {
-    wake_first(alloc, watches, classes, steps, side, coming)?;
-    wake_second(alloc, watches, classes, steps, side, states, coming)?;
+    for entry in 0..path.cert.len() {
+        wake_entry(alloc, watches, path, entry, coming)?;
+    }
     Ok(())
 }
 
@@ -321,32 +236,12 @@ fn wake_at(
     ensures left { OnOk result (AreLeftAt join.now states.now coming.now watches.new at) }
 {
     match join.certs.get(at) {
-        None => {
-            watches.mark_all();
-            Ok(())
-        }
-        Some(cert) => match states.get(at) {
-            None => {
-                watches.mark_all();
-                Ok(())
-            }
-            Some(state) => {
-                let steps = Steps {
-                    schemes: join.schemes,
-                    cert,
-                };
-                let side = Side {
-                    input: at as u32,
-                    state,
-                };
-                let classes = join.spec.classes.as_slice();
-                wake_one(alloc, watches, classes, &steps, &side, states, coming)
-            }
-        },
+        None => Ok(()),
+        Some(cert) => wake_along(alloc, watches, &join.path(cert, at, states), coming),
     }
 }
 
-/// Marks the rows of each input that ask early for what the punctuation of another one covers. On a refusal some may be
+/// Marks the rows of each input that ask for what the punctuation of another one covers. On a refusal some may be
 /// marked.
 pub fn wake(
     alloc: Global,
