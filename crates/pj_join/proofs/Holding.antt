@@ -1,23 +1,24 @@
 -- Which stored tuples hold the punctuations back that wait, from step to step.
-use Rattle.std.proofs.Common.{ℕ, zero, suc, ◌+◌, ◌<◌, arith, Bool, true, false, cond, not, ◌&&◌, List, [], ◌∷◌, ◌++◌, ◌≡◌, ◌⊎◌, Option, Some, None, map, filter, take, length, get_or, refl, sym, ap, ap₂, ◌∙◌, subst, inl, inr, eqb, append_assoc}
+use Rattle.std.proofs.Common.{ℕ, zero, suc, ◌+◌, ◌<◌, arith, Bool, true, false, cond, not, ◌&&◌, ◌||◌, List, [], ◌∷◌, ◌++◌, ◌≡◌, ◌⊎◌, Option, Some, None, map, filter, take, length, get_or, refl, sym, ap, ap₂, ◌∙◌, subst, inl, inr, eqb, append_assoc}
 use Rattle.std.specs.List.{slice_get}
 use Rattle.std.specs.Prelude.{OnOk, Result, Ok, Err}
 use Rattle.std.proofs.lemmas.Bool.{and_parts, eq-eqb, eqb-true, false_from_ne_true, false≢true}
 use Rattle.std.proofs.lemmas.List.{map-append, take_more}
 use Rattle.std.proofs.lemmas.Option.{get_or_from_slice_get, slice_get_within}
 use Rattle.pj_value.specs.declared.values.Value.{Value}
-use Rattle.pj_value.proofs.Members.{In-append_cases, In-append_left, In-append_right, In-filter, In-filter_from, In-map, In-map_from, any_at, any_from, in-place}
+use Rattle.pj_value.proofs.Members.{filter-all, In-append_cases, In-append_left, In-append_right, In-filter, In-filter_from, In-map, In-map_from, any_at, any_from, in-place}
 use Rattle.pj_state.specs.declared.shared.Stored.{Stored}
 use Rattle.pj_state.specs.Rising.{IsRising, itself}
 use Rattle.pj_state.specs.States.{StateView, has_value, rows_with}
 use Rattle.pj_events.specs.Patterns.{Pattern, matches_row}
-use Rattle.pj_events.specs.Join.{In, PunctAt, TupleAt, has, of_input}
+use Rattle.pj_events.specs.Join.{In, PunctAt, Sweep, TupleAt, has, is_held, of_input, widened}
 use Rattle.pj_events.specs.KeptState.{kept_ripe, swept}
 use Rattle.pj_join.specs.declared.widening.Swept.{Swept}
-use Rattle.pj_join.specs.Holding.{AreFreed, AreHeld, AreHeldBehind, AreHeldBy, IsFound, IsHeldBy, IsHolder, IsLetGo, IsListedIf, IsStaying, KeepsLists, StayHeld, StaysListed, WaitingView, is_listed, tickets_where}
-use Rattle.pj_join.specs.Joins.{JoinView}
+use Rattle.pj_join.specs.Holding.{AreFreed, AreHeld, AreHeldBehind, AreHeldBy, IsFound, IsHeldBy, IsHolder, IsLetGo, IsListedIf, IsStaying, KeepsLists, StayHeld, StaysListed, WaitingView, holds, is_listed, tickets_where}
+use Rattle.pj_join.specs.Joins.{JoinView, after}
 use Rattle.pj_join.specs.Judging.{letting_go, lets_go, waiting_with, widened_among}
 use Rattle.pj_join.specs.Sides.{IsLookup, heard_at, stays, still_held, tuple_in}
+use Rattle.pj_join.specs.Sweeping.{puncts_up, swept_off}
 use Rattle.pj_join.specs.Watching.{goes_up}
 use Rattle.pj_join.proofs.Leaving.{alone, tells_where}
 use Rattle.pj_join.proofs.Looked.{held-among}
@@ -396,3 +397,43 @@ held_left next stored after goes freed w w' w'' are same left keeps behind = rec
   where
     inside : (p : PunctAt) → In p w''.puncts → In p w'.puncts × (not (has goes p.ticket) ≡ true)
     inside p h = In-filter (λ q. not (has goes q.ticket)) p w'.puncts (subst (λ (ps : List PunctAt). In p ps) left h)
+
+-- ---- where no tuple goes
+
+-- a sweep changes nothing then
+pub idle : (join : JoinView) (input : ℕ) (w : WaitingView) → swept_off join input ≡ [] → w.puncts ≡ join.kept.waiting → AreHeld join.kept.next join.kept.stored w → (join ≡ after join (Sweep input)) × (puncts_up join (Sweep input) ≡ [])
+idle join input w none same are = (sym (ap₂ (λ (xs : List TupleAt) (ps : List PunctAt). record join { kept = record join.kept { stored = xs; waiting = ps } }) left on), ap (map (widened join.spec)) up)
+  where
+    goes : TupleAt → Bool
+    goes x = eqb x.input input && kept_ripe join.spec join.kept x
+
+    stays : (xs : List TupleAt) → filter goes xs ≡ [] → filter (λ x. not (goes x)) xs ≡ xs
+    stays [] e = refl
+    stays (x ∷ xs) e = go (goes x) e (stays xs)
+      where
+        go : (b : Bool) → cond b (x ∷ filter goes xs) (filter goes xs) ≡ [] → (filter goes xs ≡ [] → filter (λ y. not (goes y)) xs ≡ xs) → cond (not b) (x ∷ filter (λ y. not (goes y)) xs) (filter (λ y. not (goes y)) xs) ≡ x ∷ xs
+        go true k ih = absurd (cc)
+        go false k ih = ap (λ (ys : List TupleAt). x ∷ ys) (ih k)
+
+    left : swept join.spec join.kept input ≡ join.kept.stored
+    left = stays join.kept.stored none
+
+    held : (p : PunctAt) → In p join.kept.waiting → is_held (swept join.spec join.kept input) p ≡ true
+    held p h = ap (λ (xs : List TupleAt). is_held xs p) left ∙ by (are.held p (subst (λ (ps : List PunctAt). In p ps) (sym same) h))
+      where
+        by : (t : ℕ) × IsHolder join.kept.stored p t × (is_listed w (t, p.ticket) ≡ true) → is_held join.kept.stored p ≡ true
+        by (t, (x, i, e, m), listed) = any_from (holds p) join.kept.stored x i m
+
+    on : filter (λ p. not (eqb p.input input) || is_held (swept join.spec join.kept input) p) join.kept.waiting ≡ join.kept.waiting
+    on = filter-all (λ p. not (eqb p.input input) || is_held (swept join.spec join.kept input) p) join.kept.waiting (λ p h. ap (λ b. not (eqb p.input input) || b) (held p h) ∙ or-true (not (eqb p.input input)))
+      where
+        or-true : (a : Bool) → (a || true) ≡ true
+        or-true true = refl
+        or-true false = refl
+
+    up : filter (λ p. eqb p.input input && not (is_held (swept join.spec join.kept input) p)) join.kept.waiting ≡ []
+    up = filter-none (λ p. eqb p.input input && not (is_held (swept join.spec join.kept input) p)) join.kept.waiting (λ p h. ap (λ b. eqb p.input input && not b) (held p h) ∙ and-false (eqb p.input input))
+      where
+        and-false : (a : Bool) → (a && false) ≡ false
+        and-false true = refl
+        and-false false = refl

@@ -153,6 +153,22 @@ judged_all w rows young list tickets all is more s h f = more s.ticket (subst (�
     go true e false g q = absurd (false≢true (sym q))
     go false e b g q = In-append_left s.ticket young w.marked (all s h (ltb-false s.ticket w.from e))
 
+-- the last one has the greatest ticket
+pub last_below : (rows : List Stored) (i from : ℕ) (x : Stored) → IsRising ticket_of rows → slice_get rows i ≡ Some x → length rows ≤ i + 1 → x.ticket < from → (s : Stored) → In s rows → s.ticket < from
+last_below [] i from x r at le lt s h = absurd h
+last_below (y ∷ []) zero from x r at le lt s (inl e) = let q : s.ticket ≡ x.ticket = ap ticket_of (sym e ∙ get_or_from_slice_get (y ∷ []) 0 x x at) in omega (arith, lt, q)
+last_below (y ∷ []) zero from x r at le lt s (inr h) = absurd h
+last_below (y ∷ z ∷ rows) zero from x r at le lt s h = absurd (omega (arith, le))
+last_below (y ∷ rows) (suc i) from x r at le lt s (inr h) = last_below rows i from x r.1 at (omega (arith, le)) lt s h
+last_below (y ∷ rows) (suc i) from x r at le lt s (inl e) =
+    let a : y.ticket < x.ticket = above-in ticket_of y.ticket rows x r.0 (place rows i at) in
+    let q : y.ticket ≡ s.ticket = ap ticket_of e in omega (arith, lt, a, q)
+  where
+    place : (zs : List Stored) (k : ℕ) → slice_get zs k ≡ Some x → In x zs
+    place [] k e = absurd (cc)
+    place (z ∷ zs) zero e = inl (get_or_from_slice_get (z ∷ zs) 0 x x e)
+    place (z ∷ zs) (suc k) e = inr (place zs k e)
+
 -- ---- one row
 
 pub verdict_is : (j : JudgeView) (s : Stored) (found : Option Uncovered) → s.ticket < j.low

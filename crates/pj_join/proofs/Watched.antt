@@ -1,5 +1,5 @@
 -- The tuples that are passed over are not ripe, from step to step.
-use Rattle.std.proofs.Common.{ℕ, zero, suc, ◌+◌, ◌<◌, ◌≤◌, Bool, true, false, cond, not, ◌&&◌, ◌||◌, List, [], ◌∷◌, ◌++◌, ◌≡◌, map, length, get_or, set, refl, sym, ap, ◌∙◌, subst, inl, inr, eqb, ltb, arith}
+use Rattle.std.proofs.Common.{ℕ, zero, suc, ◌+◌, ◌<◌, ◌≤◌, Bool, true, false, cond, not, ◌&&◌, ◌||◌, List, [], ◌∷◌, ◌++◌, ◌≡◌, filter, ap₂, map, length, get_or, set, refl, sym, ap, ◌∙◌, subst, inl, inr, eqb, ltb, arith}
 use Rattle.std.specs.List.{list_all, list_any}
 use Rattle.std.proofs.lemmas.Bool.{and_parts, and_right, eq-eqb, eqb-true, false_from_ne_true, false≢true, lt-ltb, ltb-true}
 use Rattle.std.proofs.lemmas.List.{length-append}
@@ -20,6 +20,10 @@ use Rattle.pj_join.specs.Sweeping.{swept_off}
 use Rattle.pj_join.specs.Watching.{AreFewer, AreLeft, AreLookedAt, AreOpenBut, AreRoused, AreStored, AreWatched, AsksStill, PunctView, NoneIsRipe, Watches, come_at, is_passed, known, known_at, watches_at}
 use Rattle.pj_join.proofs.Judged.{covered-of, judge_at, ripe-is, same-puncts, same-rows}
 use Rattle.pj_join.proofs.Kept.{below-end, shapes, side-is}
+
+filter-none : {A : Type 0} (q : A → Bool) (xs : List A) → ((x : A) → In x xs → q x ≡ false) → filter q xs ≡ []
+filter-none q [] f = refl
+filter-none q (x ∷ xs) f = ap (λ b. cond b (x ∷ filter q xs) (filter q xs)) (f x (inl refl)) ∙ filter-none q xs (λ y h. f y (inr h))
 
 module _ (spec : JoinData) where
   pub watched_start : (ws : List Watches) → length ws ≡ inputs spec → ((input : ℕ) → (watches_at ws input).from ≡ 0) → AreWatched spec 0 0 [] [] ws
@@ -166,6 +170,30 @@ module _ (spec : JoinData) where
 
       pub none_ripe : (settled : Bool) (ws : List Watches) → AreWatched spec next low log (puncts_of stores) ws → NoneIsRipe (judge_at spec input states stores low settled) (watches_at ws input)
       none_ripe settled ws w s h t = ripe-is spec limit next done states stores pending taken j k stored-are puncts-are low is input settled s ∙ not_ripe (tuple_in input s) (w.asks (tuple_in input s) (in-log s h) t)
+
+      -- where no row is marked, and none is young, none goes
+      pub none_off : (node : ℕ) (waiting : List PunctAt) (ws : List Watches) → k ≡ (seen (made_with node spec limit) next done (log_of states) (puncts_of stores) waiting taken).kept → AreWatched spec next low log (puncts_of stores) ws
+          → (watches_at ws input).marked ≡ [] → ((s : Stored) → In s (state_at states input).rows → s.ticket < (watches_at ws input).from) → swept_off (seen (made_with node spec limit) next done (log_of states) (puncts_of stores) waiting taken) input ≡ []
+      none_off node waiting ws same w unmarked old = filter-none (λ x. eqb x.input input && kept_ripe spec (seen (made_with node spec limit) next done (log_of states) (puncts_of stores) waiting taken).kept x) log each
+        where
+          each : (x : TupleAt) → In x log → (eqb x.input input && kept_ripe spec (seen (made_with node spec limit) next done (log_of states) (puncts_of stores) waiting taken).kept x) ≡ false
+          each x h = ap (λ (q : KeptState). eqb x.input input && kept_ripe spec q x) (sym same) ∙ go (eqb x.input input) refl
+            where
+              go : (b : Bool) → eqb x.input input ≡ b → (b && kept_ripe spec k x) ≡ false
+              go false e = refl
+              go true e = not_ripe x (w.asks x h passed)
+                where
+                  of : x.input ≡ input
+                  of = eqb-true x.input input e
+
+                  s : (s : Stored) × In s (state_at states x.input).rows × (tuple_in x.input s ≡ x)
+                  s = in-row x h
+
+                  lower : x.ticket < (watches_at ws input).from
+                  lower = subst (λ n. n < (watches_at ws input).from) (ap (λ (y : TupleAt). y.ticket) s.2) (old s.0 (subst (λ i. In s.0 (state_at states i).rows) of s.1))
+
+                  passed : is_passed (watches_at ws x.input) x.ticket ≡ true
+                  passed = ap (λ i. is_passed (watches_at ws i) x.ticket) of ∙ ap₂ (λ a (ms : List ℕ). a && not (has ms x.ticket)) (lt-ltb x.ticket (watches_at ws input).from lower) unmarked
 
       covered-all : low ≡ next → (d : Demand) → covered (older_puncts low (puncts_from 0 stores)) d ≡ covered (puncts_of stores) d
       covered-all last d =

@@ -1,5 +1,5 @@
 // A join over plain lists.
-ghost use Rattle.std.specs.Prelude.{◌≡◌, ◌<◌, ◌≤◌, ◌+◌, ◌^◌, ◌↔◌, All, List, [], ◌∷◌, ◌++◌, length, OnOk, OnErr, IfOk, IsErrOf, IsTrue, Err, map, slice_index_or, take, ◌==◌};
+ghost use Rattle.std.specs.Prelude.{true, ◌≡◌, ◌<◌, ◌≤◌, ◌+◌, ◌^◌, ◌↔◌, All, List, [], ◌∷◌, ◌++◌, length, OnOk, OnErr, IfOk, IsErrOf, IsTrue, Err, map, slice_index_or, take, ◌==◌};
 ghost use Rattle.pj_state.specs.Rising.{IsRising};
 ghost use Rattle.pj_state.specs.States.{state_of, stored};
 ghost use Rattle.pj_shape.specs.Sound.{IsSoundSpec};
@@ -24,7 +24,7 @@ use crate::place::Place;
 use crate::ranges::keep_orders;
 use crate::starting::{empty_states, empty_stores, empty_watches};
 use crate::stored::first_pending;
-use crate::sweeping::{Judge, Left, remove_all};
+use crate::sweeping::{Judge, Left, has_young, remove_all};
 use crate::waiting::Waiting;
 use crate::waking::{Certified, wake};
 use crate::widening::hear;
@@ -307,10 +307,22 @@ impl Join {
         forgetting_is_safe();
         ripeness();
         lawfulness();
+        if self.is_idle(input) {
+            return Ok(0);
+        }
         let mut waiting = std::mem::replace(&mut self.waiting, Waiting::new(self.alloc));
         let swept = self.sweep_rows(&mut waiting, input, removed, out);
         self.waiting = waiting;
         swept
+    }
+
+    // Whether a sweep of the input judges no row, so that it changes nothing.
+    fn is_idle(&self, input: u32) -> bool
+        requires there { input < inputs self.now.spec }
+        ensures { result ≡ true → swept_off self.now input ≡ [] }
+    {
+        let watches = &self.watches[input as usize];
+        watches.marked.len() == 0 && !has_young(&self.states[input as usize], watches.from)
     }
 
     // The same, where the punctuations that wait stand beside the join.

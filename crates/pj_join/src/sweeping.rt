@@ -110,6 +110,18 @@ fn is_ripe(verdict: Verdict) -> bool
     }
 }
 
+/// Whether there is a row from a ticket on.
+pub fn has_young(state: &State, from: u64) -> bool
+    ensures { result ≡ false → (s : Stored) → In s state.now.rows → s.ticket < from }
+{
+    let count = state.len();
+    if count == 0 {
+        return false;
+    }
+    let (last, _) = state.nth(count - 1);
+    last >= from
+}
+
 // The tickets of the rows from a ticket on.
 fn young(alloc: Global, state: &State, from: u64) -> Result<List<u64>, NoMemory>
     ensures order { IsRising ticket_of state.now.rows }
