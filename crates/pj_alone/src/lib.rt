@@ -4,8 +4,6 @@
 mod asked;
 mod check;
 mod safety;
-#[cfg(test)]
-mod tests;
 
 pub use check::check_text;
 pub use safety::{Judged, Unsafe, judge};

@@ -5,4 +5,3 @@ pub mod Fresh
 pub mod Escaping
 pub mod Partners
 pub mod Laws
-pub mod Samples

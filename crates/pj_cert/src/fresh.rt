@@ -8,7 +8,7 @@ use pj_value::{List, NoMemory, SharedText, Value};
 use std::alloc::Global;
 
 /// The least number from 0 on that is no listed constant.
-pub(crate) fn fresh_number(alloc: Global, listed: &[Instance]) -> Result<u32, NoMemory>
+pub fn fresh_number(alloc: Global, listed: &[Instance]) -> Result<u32, NoMemory>
     requires { length (constants_of listed.now) < 2 ^ 32 }
     ensures { IfOk result (λ n. n ≡ free_number (constants_of listed.now)) }
 {
@@ -19,7 +19,7 @@ pub(crate) fn fresh_number(alloc: Global, listed: &[Instance]) -> Result<u32, No
 }
 
 /// As many `a` as one more than the longest listed text constant has bytes.
-pub(crate) fn fresh_text(alloc: Global, listed: &[Instance]) -> Result<SharedText, NoMemory>
+pub fn fresh_text(alloc: Global, listed: &[Instance]) -> Result<SharedText, NoMemory>
     ensures { IfOk result (λ text. text ≡ free_text (constants_of listed.now)) }
 {
     let count = longest_listed(listed);

@@ -16,15 +16,15 @@ use Rattle.pj_events.specs.Plan.{Operator, Stream, Select, Project, Union, Join,
 use Rattle.pj_events.specs.History.{IsEntryAllowed, closed_after, nodes_from, reached_of, stream_node}
 use Rattle.pj_events.specs.OneThread.{Turn, arrival_of}
 use Rattle.pj_events.specs.Outcomes.{goes_beyond}
-use Rattle.pj_core.specs.declared.cell.Cell.{Cell}
-use Rattle.pj_core.specs.declared.cell.Work.{Work}
-use Rattle.pj_core.specs.Cells.{AreAs, Frame, IsAs, IsKind, Kind, StreamKind, cell_at, frame_at, kind_of}
-use Rattle.pj_core.specs.Climbing.{Climbs, GoBeyond, IsClimbStop, StaysAs}
+use Rattle.pj_operator.specs.declared.cell.Cell.{Cell}
+use Rattle.pj_operator.specs.declared.cell.Work.{Work}
+use Rattle.pj_operator.specs.Cells.{AreAs, Frame, IsAs, IsKind, Kind, StreamKind, cell_at, frame_at, kind_of}
+use Rattle.pj_operator.specs.Climbing.{Climbs, GoBeyond, IsClimbStop, StaysAs}
 use Rattle.pj_core.specs.Cores.{StandsFor}
 use Rattle.pj_core.specs.Calls.{HasArrived, IsCause}
 use Rattle.pj_core.specs.Parts.{IsMadeOf, core_of, kind_for}
 use Rattle.pj_core.specs.Plans.{RunPlan, nodes_of}
-use Rattle.pj_core.proofs.Climbs.{frame-at}
+use Rattle.pj_operator.proofs.Climbs.{frame-at}
 use Rattle.pj_core.proofs.Events.{Steps, beyond-is, note, steps-still, stored_of}
 use Rattle.pj_core.proofs.Frames.{certs_at, frame-is, kind-after}
 use Rattle.pj_core.proofs.Stands.{are, long-now}

@@ -19,16 +19,16 @@ use Rattle.pj_events.specs.OneThread.{next_probe}
 use Rattle.pj_laws.proofs.NextProbe.{none-is-pending}
 use Rattle.pj_join.specs.declared.found.Found.{Found}
 use Rattle.pj_join.specs.Joins.{JoinView, join_data}
-use Rattle.pj_core.specs.declared.cell.Cell.{Cell}
-use Rattle.pj_core.specs.declared.cell.Work.{Work}
-use Rattle.pj_core.specs.declared.cell.Work.TheVariants.{Stream as StreamCell, Select as SelectCell, Project as ProjectCell, Union as UnionCell, Join as JoinCell, Group as GroupCell}
-use Rattle.pj_core.specs.Acts.{HasGivenOn, HasJoinInput, HasSweptAt, IsGiveStop, IsSweepStop, TakesFirst, first_pending}
-use Rattle.pj_core.specs.Calls.{CoreTakes, FindsNone, HasGiven, HasSwept, IsCause, IsGiveCause, IsJoinInput, IsTakenIn, pending_kept}
-use Rattle.pj_core.specs.Cells.{Frame, cell_at, frame_at, kept_seen, kind_of}
+use Rattle.pj_operator.specs.declared.cell.Cell.{Cell}
+use Rattle.pj_operator.specs.declared.cell.Work.{Work}
+use Rattle.pj_operator.specs.declared.cell.Work.TheVariants.{Stream as StreamCell, Select as SelectCell, Project as ProjectCell, Union as UnionCell, Join as JoinCell, Group as GroupCell}
+use Rattle.pj_operator.specs.Acts.{HasGivenOn, HasJoinInput, HasSweptAt, IsGiveStop, IsSweepStop, TakesFirst, first_pending}
+use Rattle.pj_core.specs.Calls.{CoreTakes, FindsNone, HasGiven, HasSwept, IsCause, IsGiveCause, IsJoinInput}
+use Rattle.pj_operator.specs.Cells.{Frame, cell_at, frame_at, kept_seen, kind_of, IsTakenIn, pending_kept}
 use Rattle.pj_core.specs.Cores.{StandsFor}
 use Rattle.pj_core.specs.Parts.{IsMadeOf, core_of, kind_for, plan_node}
 use Rattle.pj_core.specs.Plans.{RunPlan, nodes_of}
-use Rattle.pj_core.proofs.Climbs.{frame-at}
+use Rattle.pj_operator.proofs.Climbs.{frame-at}
 use Rattle.pj_core.proofs.Frames.{certs_at, frame-is}
 use Rattle.pj_core.proofs.Stands.{are}
 use Rattle.pj_core.proofs.Stops.{nothing-out, quiet-noted, same-nodes}

@@ -18,17 +18,17 @@ use Rattle.pj_laws.specs.ClimbLimits.{begun_by, begun_where}
 use Rattle.pj_laws.proofs.ClimbingKept.{stores-grow}
 use Rattle.pj_laws.proofs.ClimbingLimits.{beyond-is-climbed, levels-climb}
 use Rattle.pj_laws.proofs.Upto.{get_or-upto}
-use Rattle.pj_core.specs.declared.cell.Cell.{Cell}
-use Rattle.pj_core.specs.Cells.{AreAs, HaveLimit, IsAs, cell_at, count_seen, frame_of, frames_in, kept_seen, no_cell, peak_seen, stored_kept}
-use Rattle.pj_core.specs.Climbing.{Climbs, GoBeyond, Leaves, StaysAs, count_at}
+use Rattle.pj_operator.specs.declared.cell.Cell.{Cell}
+use Rattle.pj_operator.specs.Cells.{AreAs, HaveLimit, IsAs, cell_at, count_seen, frame_of, frames_in, kept_seen, no_cell, peak_seen, stored_kept}
+use Rattle.pj_operator.specs.Climbing.{Climbs, GoBeyond, Leaves, StaysAs, count_at}
 use Rattle.pj_core.specs.Cores.{StandsFor}
 use Rattle.pj_core.specs.Parts.{IsMadeOf, core_of}
 use Rattle.pj_core.specs.Plans.{RunPlan, nodes_of}
-use Rattle.pj_core.proofs.Climbs.{as-set, long-frames}
+use Rattle.pj_operator.proofs.Climbs.{as-set, long-frames}
 use Rattle.pj_core.proofs.Frames.{limits-of}
 use Rattle.pj_core.proofs.Planned.{nodes-long, tree}
 use Rattle.pj_core.proofs.Stands.{are, kept-is, long-now, noted, stored-is}
-use Rattle.pj_core.proofs.Ways.{way-past}
+use Rattle.pj_operator.proofs.Ways.{way-past}
 
 -- ---- a local step
 

@@ -25,7 +25,7 @@ use Rattle.pj_events.specs.declared.events.Entry.{Entry}
 use Rattle.pj_events.specs.History.{nodes_from}
 use Rattle.pj_laws.specs.Climb.{Above, above}
 use Rattle.pj_laws.proofs.Nodes.{operator-from}
-use Rattle.pj_core.specs.Cells.{AreLinked, FitsKind, Frame, GroupKind, HasLimit, HaveLimit, IsKind, IsLinked, JoinKind, Kind, ProjectKind, SelectKind, StreamKind, UnionKind, above_pair, frame_at}
+use Rattle.pj_operator.specs.Cells.{AreLinked, FitsKind, Frame, GroupKind, HasLimit, HaveLimit, IsKind, IsLinked, JoinKind, Kind, ProjectKind, SelectKind, StreamKind, UnionKind, above_pair, frame_at}
 use Rattle.pj_core.specs.Parts.{frame_for, frames_from, frames_of, kind_for}
 use Rattle.pj_core.specs.Plans.{RunPlan, certs_behind, nodes_of, nodes_with, operator_of}
 use Rattle.pj_core.proofs.Planned.{above-is}

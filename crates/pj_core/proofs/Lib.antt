@@ -1,10 +1,4 @@
 pub mod Planned
-pub mod Nodes
-pub mod Ways
-pub mod Climbs
-pub mod Firsts
-pub mod Joins
-pub mod Changes
 pub mod Makes
 pub mod Looking
 pub mod Frames
@@ -24,4 +18,3 @@ pub mod Making
 pub mod Places
 pub mod TurnEnds
 pub mod Turning
-pub mod Samples

@@ -15,15 +15,15 @@ use Rattle.pj_events.specs.Outcomes.{peak_of}
 use Rattle.pj_events.specs.OneThread.{plain}
 use Rattle.pj_events.specs.CoreKept.{CoreKept, KeptOperator, NothingKept, UnionKept, JoinKept, GroupKept, kept_in}
 use Rattle.pj_laws.proofs.Upto.{get_or-upto}
-use Rattle.pj_core.specs.declared.cell.Cell.{Cell}
-use Rattle.pj_core.specs.declared.cell.Work.{Work}
-use Rattle.pj_core.specs.declared.cell.Work.TheVariants.{Stream as StreamCell, Select as SelectCell, Project as ProjectCell, Union as UnionCell, Join as JoinCell, Group as GroupCell}
-use Rattle.pj_core.specs.declared.look.Sums.{Sums}
-use Rattle.pj_core.specs.Calls.{IsLookAt, IsPeak, Tells, ended_of, opened_in, pending_kept, stored_in, waiting_in}
-use Rattle.pj_core.specs.Cells.{IsOrderly, cell_at, kept_seen, no_cell, peak_seen, stored_kept}
-use Rattle.pj_core.specs.Climbing.{AreOrderly}
+use Rattle.pj_operator.specs.declared.cell.Cell.{Cell}
+use Rattle.pj_operator.specs.declared.cell.Work.{Work}
+use Rattle.pj_operator.specs.declared.cell.Work.TheVariants.{Stream as StreamCell, Select as SelectCell, Project as ProjectCell, Union as UnionCell, Join as JoinCell, Group as GroupCell}
+use Rattle.pj_operator.specs.declared.look.Sums.{Sums}
+use Rattle.pj_core.specs.Calls.{IsLookAt, IsPeak, Tells, ended_of, opened_in, stored_in, waiting_in}
+use Rattle.pj_operator.specs.Cells.{IsOrderly, cell_at, kept_seen, no_cell, peak_seen, stored_kept, pending_kept}
+use Rattle.pj_operator.specs.Climbing.{AreOrderly}
 use Rattle.pj_core.specs.Cores.{StandsFor}
-use Rattle.pj_core.specs.Looks.{AddsNode, AreAddable, AreFew, AreWith, opened_kept, total, waiting_kept}
+use Rattle.pj_operator.specs.Looks.{AddsNode, AreAddable, AreFew, AreWith, opened_kept, total, waiting_kept}
 use Rattle.pj_core.specs.Parts.{IsMadeOf, core_of}
 use Rattle.pj_core.specs.Plans.{RunPlan, nodes_of}
 use Rattle.pj_core.proofs.Planned.{nodes-long}

@@ -10,7 +10,7 @@ use Rattle.pj_events.specs.Outcomes.{stored_at}
 use Rattle.pj_laws.proofs.Upto.{get_or-upto, length-upto}
 use Rattle.pj_plan.specs.Nodes.{is_join}
 use Rattle.pj_core.specs.Calls.{IsFresh}
-use Rattle.pj_core.specs.Climbing.{AreOrderly, work_at}
+use Rattle.pj_operator.specs.Climbing.{AreOrderly, work_at}
 use Rattle.pj_core.proofs.Stands.{are-as, stored-is}
 use Rattle.pj_shape.specs.declared.columns.Column.{Column}
 use Rattle.pj_shape.specs.declared.joins.CertStep.{CertStep}
@@ -24,8 +24,8 @@ use Rattle.pj_scheme.specs.Derived.{inputs_schemes, schemes_of}
 use Rattle.pj_events.specs.Join.{AreCertified}
 use Rattle.pj_laws.specs.HistoryLaws.{AllAreCertified, Certified}
 use Rattle.pj_join.specs.Joins.{join_data}
-use Rattle.pj_core.specs.declared.cell.Cell.{Cell}
-use Rattle.pj_core.specs.Cells.{AreAs, Frame, GroupKind, HasLimit, IsOrderly, JoinKind, Kind, ProjectKind, SelectKind, StreamKind, UnionKind, cell_at, count_in, count_seen, frame_at, frame_of, frames_in, kept_seen, kind_of, no_cell, no_frame, peak_seen}
+use Rattle.pj_operator.specs.declared.cell.Cell.{Cell}
+use Rattle.pj_operator.specs.Cells.{AreAs, Frame, GroupKind, HasLimit, IsOrderly, JoinKind, Kind, ProjectKind, SelectKind, StreamKind, UnionKind, cell_at, count_in, count_seen, frame_at, frame_of, frames_in, kept_seen, kind_of, no_cell, no_frame, peak_seen}
 use Rattle.pj_core.specs.Fresh.{IsCertifiedKind, fresh_cell, fresh_work, joins_with}
 use Rattle.pj_core.specs.Parts.{IsMadeOf, core_of, frame_for, frames_from, frames_of, kind_for, plan_node}
 use Rattle.pj_core.specs.Plans.{RunPlan, certs_behind, nodes_of, nodes_with, operator_of}

@@ -13,7 +13,7 @@ use Rattle.pj_laws.specs.HistoryLaws.{Certified}
 use Rattle.pj_events.specs.OneThread.{plain}
 use Rattle.pj_laws.proofs.Tickets.{lacking-come, lacking-none}
 use Rattle.pj_join.specs.Joins.{IsTaken}
-use Rattle.pj_core.specs.Acts.{with_work}
+use Rattle.pj_operator.specs.Acts.{with_work}
 use Rattle.pj_core.proofs.Planned.{nodes-long}
 use Rattle.pj_events.specs.CoreKept.{JoinKept, kept_in}
 use Rattle.pj_laws.specs.Climb.{Climbed, climbed_where, local_of}
@@ -22,10 +22,10 @@ use Rattle.pj_laws.proofs.ClimbingEvents.{events-climb, leaves-nodes}
 use Rattle.pj_laws.proofs.HistoryAnswers.{adds-entry, grows-legally, trace-adds-notes}
 use Rattle.pj_laws.proofs.Stand.{lacking-cons, low-kept}
 use Rattle.pj_join.specs.Joins.{JoinView, StandsFor as JoinStandsFor, after}
-use Rattle.pj_core.specs.declared.cell.Cell.{Cell}
-use Rattle.pj_core.specs.declared.cell.Work.{Work}
-use Rattle.pj_core.specs.declared.cell.Work.TheVariants.{Join as JoinCell}
-use Rattle.pj_core.specs.Cells.{AreAs, IsAs, IsBelowIn, IsKind, JoinKind, cell_at, count_in, kind_of}
+use Rattle.pj_operator.specs.declared.cell.Cell.{Cell}
+use Rattle.pj_operator.specs.declared.cell.Work.{Work}
+use Rattle.pj_operator.specs.declared.cell.Work.TheVariants.{Join as JoinCell}
+use Rattle.pj_operator.specs.Cells.{AreAs, IsAs, IsBelowIn, IsKind, JoinKind, cell_at, count_in, kind_of}
 use Rattle.pj_core.specs.Cores.{StandsFor}
 use Rattle.pj_core.specs.Parts.{IsMadeOf, core_of}
 use Rattle.pj_core.specs.Plans.{RunPlan, nodes_of}

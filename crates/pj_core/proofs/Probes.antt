@@ -20,20 +20,19 @@ use Rattle.pj_events.specs.CoreKept.{NothingKept}
 use Rattle.pj_laws.proofs.Probes.{has-in}
 use Rattle.pj_laws.proofs.Tickets.{AreAscending, first-least, pending-ascends}
 use Rattle.pj_join.specs.Joins.{JoinView, after, found_of}
-use Rattle.pj_core.specs.declared.cell.Cell.{Cell}
-use Rattle.pj_core.specs.declared.cell.Work.{Work}
-use Rattle.pj_core.specs.declared.cell.Work.TheVariants.{Join as JoinCell}
-use Rattle.pj_core.specs.Acts.{IsProbeStop, JoinProbed, ProbesOn, found_outs, with_work}
-use Rattle.pj_core.specs.Calls.{pending_kept}
-use Rattle.pj_core.specs.Cells.{AreAs, cell_at, frames_in, kept_seen, kind_of, no_cell}
-use Rattle.pj_core.specs.Climbing.{Climbs, GoBeyond, Scene, StaysAs}
+use Rattle.pj_operator.specs.declared.cell.Cell.{Cell}
+use Rattle.pj_operator.specs.declared.cell.Work.{Work}
+use Rattle.pj_operator.specs.declared.cell.Work.TheVariants.{Join as JoinCell}
+use Rattle.pj_operator.specs.Acts.{IsProbeStop, JoinProbed, ProbesOn, found_outs, with_work}
+use Rattle.pj_operator.specs.Cells.{AreAs, cell_at, frames_in, kept_seen, kind_of, no_cell, pending_kept}
+use Rattle.pj_operator.specs.Climbing.{Climbs, GoBeyond, Scene, StaysAs}
 use Rattle.pj_core.specs.Cores.{CoreState, StandsFor}
 use Rattle.pj_core.specs.Parts.{IsMadeOf, core_of}
 use Rattle.pj_core.specs.Plans.{RunPlan, nodes_of}
 use Rattle.pj_core.specs.Turns.{MayProbeAt, ProbesAt, StopsAtProbe, StopsProbe, kept_pending}
-use Rattle.pj_core.proofs.Changes.{frames-work, opens-work}
-use Rattle.pj_core.proofs.Climbs.{outs-rows}
-use Rattle.pj_core.proofs.Joins.{took_keeps}
+use Rattle.pj_operator.proofs.Changes.{frames-work, opens-work}
+use Rattle.pj_operator.proofs.Climbs.{outs-rows}
+use Rattle.pj_operator.proofs.Joins.{took_keeps}
 use Rattle.pj_core.proofs.Own as own
 use Rattle.pj_core.proofs.Stands.{are}
 use Rattle.pj_core.proofs.Stops.{stops-now}
@@ -95,7 +94,7 @@ module _ (plan : RunPlan) (limit : ℕ) (cells : List Cell) (made : IsMadeOf pla
     made.1,
     frames-work cells place no_cell (JoinCell taken) (ap kind_of (sym P.was)) ∙ made.2,
     (opens-work cells place no_cell (JoinCell taken) there
-        (subst (λ (w : Work). Rattle.pj_core.specs.Cells.KeepsOpen w (JoinCell taken)) (sym P.was) (took_keeps (Some (found_of join ticket)) join taken P.takes)) made.3).0,
+        (subst (λ (w : Work). Rattle.pj_operator.specs.Cells.KeepsOpen w (JoinCell taken)) (sym P.was) (took_keeps (Some (found_of join ticket)) join taken P.takes)) made.3).0,
   )
 
   -- the cells behind the give

@@ -25,13 +25,13 @@ use Rattle.pj_laws.proofs.Probes.{length-from}
 use Rattle.pj_laws.proofs.Sound.{sound-start}
 use Rattle.pj_laws.proofs.Trees.{above-from, tree-from}
 use Rattle.pj_join.specs.Joins.{join_data}
-use Rattle.pj_core.specs.declared.cell.Cell.{Cell}
-use Rattle.pj_core.specs.Cells.{AreAs, Frame, IsBelow, IsBelowIn, IsKind, above_pair, cell_at, count_seen, frame_at, frame_of, frames_in, kept_seen, no_cell, peak_seen, stored_kept}
-use Rattle.pj_core.specs.Climbing.{AreCounted}
+use Rattle.pj_operator.specs.declared.cell.Cell.{Cell}
+use Rattle.pj_operator.specs.Cells.{AreAs, Frame, IsBelow, IsBelowIn, IsKind, above_pair, cell_at, count_seen, frame_at, frame_of, frames_in, kept_seen, no_cell, peak_seen, stored_kept}
+use Rattle.pj_operator.specs.Climbing.{AreCounted}
 use Rattle.pj_core.specs.Cores.{StandsFor}
 use Rattle.pj_core.specs.Parts.{IsMadeOf, all_kept, core_of, frames_of, kind_for}
 use Rattle.pj_core.specs.Plans.{RunPlan, nodes_of, operator_of}
-use Rattle.pj_core.proofs.Climbs.{frame-at}
+use Rattle.pj_operator.proofs.Climbs.{frame-at}
 use Rattle.pj_core.proofs.Frames.{above-of, certs_at, frame-is, kind-is, long-of, operator-is}
 use Rattle.pj_core.proofs.Planned.{nodes-long, one-top, planned, tree}
 

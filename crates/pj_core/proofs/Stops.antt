@@ -13,9 +13,9 @@ use Rattle.pj_laws.specs.Climb.{Climbed, climb_of, local_of}
 use Rattle.pj_laws.specs.ClimbKept.{handed_by, undrained_with}
 use Rattle.pj_laws.proofs.HistoryAnswers.{adds-entry, grows-legally, trace-adds-notes}
 use Rattle.pj_laws.proofs.Nodes.{empty-none, quiet}
-use Rattle.pj_core.specs.declared.cell.Cell.{Cell}
-use Rattle.pj_core.specs.Cells.{AreAs, cell_at, peak_seen}
-use Rattle.pj_core.specs.Climbing.{AreCounted}
+use Rattle.pj_operator.specs.declared.cell.Cell.{Cell}
+use Rattle.pj_operator.specs.Cells.{AreAs, cell_at, peak_seen}
+use Rattle.pj_operator.specs.Climbing.{AreCounted}
 use Rattle.pj_core.specs.Calls.{StaysStopped, StopsNow}
 use Rattle.pj_core.specs.Cores.{Notes, StandsFor}
 use Rattle.pj_core.specs.Parts.{IsMadeOf, core_of}
@@ -121,7 +121,7 @@ module _ (plan : RunPlan) (limit : ℕ) (cells : List Cell) (made : IsMadeOf pla
       (record {
         long = refl;
         stands = subst (λ (k : Climbed). AreAs cells k.nodes) (sym climb-is) A;
-        counts = λ m lt. plus (Rattle.pj_core.specs.Climbing.count_at cells m) ∙ ap (λ (k : Climbed). Rattle.pj_core.specs.Climbing.count_at cells m + length (get_or k.brought m [])) (sym climb-is);
+        counts = λ m lt. plus (Rattle.pj_operator.specs.Climbing.count_at cells m) ∙ ap (λ (k : Climbed). Rattle.pj_operator.specs.Climbing.count_at cells m + length (get_or k.brought m [])) (sym climb-is);
         peaks = λ m lt. raised m lt ∙ ap (λ (k : Climbed). max (peak_seen (cell_at cells m)) (stored_at k.nodes m)) (sym climb-is);
         closed = closed;
         undrained = outs;

@@ -6,7 +6,7 @@ use Rattle.pj_shape.specs.declared.joins.CertStep.{CertStep}
 use Rattle.pj_plan.specs.declared.node.Node.{Node as Operation}
 use Rattle.pj_plan.specs.declared.node.Node.TheVariants.{Stream as StreamNode, Select as SelectNode, Project as ProjectNode, Union as UnionNode, Join as JoinNode, Group as GroupNode}
 use Rattle.pj_plan.specs.declared.node.PlanNode.{PlanNode}
-use Rattle.pj_plan.specs.Nodes.{is_stream, numbers_from, streams_of}
+use Rattle.pj_plan.specs.Nodes.{is_stream, numbers_from, streams_of, stream_columns, streams_in}
 use Rattle.pj_plan.specs.Canonical.{no_node, node_schema}
 use Rattle.pj_pattern.specs.Patterns.{Pattern}
 use Rattle.pj_pattern.specs.declared.element.Element.TheVariants.{Punct}
@@ -17,7 +17,7 @@ use Rattle.pj_events.specs.declared.events.Entry.{Entry}
 use Rattle.pj_events.specs.Plan.{Node}
 use Rattle.pj_events.specs.History.{is_stream as is_stream_in, nodes_by, nodes_from, stream_node, streams_from, streams_of as streams_among}
 use Rattle.pj_laws.proofs.Steps.{streams-same}
-use Rattle.pj_core.specs.Plans.{RunPlan, certs_behind, nodes_of, nodes_with, operator_of, stream_columns, streams_in}
+use Rattle.pj_core.specs.Plans.{RunPlan, certs_behind, nodes_of, nodes_with, operator_of}
 
 -- the stream of this number stands at a place, and its columns are those of the node there
 record IsAt (n : ℕ) (nodes streams : List PlanNode) (numbers : List ℕ) (k : ℕ) : Type 0 where

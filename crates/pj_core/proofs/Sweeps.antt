@@ -21,15 +21,15 @@ use Rattle.pj_laws.proofs.ClimbingEvents.{events-climb, leaves-nodes}
 use Rattle.pj_laws.proofs.Stand.{low-kept}
 use Rattle.pj_join.specs.Joins.{JoinView, after}
 use Rattle.pj_join.specs.Sweeping.{puncts_up, rows_off, swept_off}
-use Rattle.pj_core.specs.declared.act.Swept.{Swept as SweptOff}
-use Rattle.pj_core.specs.declared.cell.Cell.{Cell}
-use Rattle.pj_core.specs.declared.cell.Work.TheVariants.{Join as JoinCell}
-use Rattle.pj_core.specs.Acts.{CellSwept, HasSweptAt, IsSweepStop, with_work}
+use Rattle.pj_operator.specs.declared.act.Swept.{Swept as SweptOff}
+use Rattle.pj_operator.specs.declared.cell.Cell.{Cell}
+use Rattle.pj_operator.specs.declared.cell.Work.TheVariants.{Join as JoinCell}
+use Rattle.pj_operator.specs.Acts.{CellSwept, HasSweptAt, IsSweepStop, with_work}
 use Rattle.pj_core.specs.Calls.{HasSwept, IsCause}
-use Rattle.pj_core.specs.Cells.{AreAs, cell_at, peak_seen}
-use Rattle.pj_core.specs.Climbing.{Climbs, GoBeyond, Scene, StaysAs}
+use Rattle.pj_operator.specs.Cells.{AreAs, cell_at, peak_seen}
+use Rattle.pj_operator.specs.Climbing.{Climbs, GoBeyond, Scene, StaysAs}
 use Rattle.pj_core.specs.Cores.{StandsFor}
-use Rattle.pj_core.specs.Handed.{notes_out}
+use Rattle.pj_operator.specs.Handed.{notes_out}
 use Rattle.pj_core.specs.Parts.{IsMadeOf, core_of}
 use Rattle.pj_core.specs.Plans.{RunPlan, nodes_of}
 use Rattle.pj_core.proofs.Events.{Steps, beyond-is, note}

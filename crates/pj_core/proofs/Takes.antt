@@ -22,17 +22,17 @@ use Rattle.pj_laws.proofs.Probes.{has-in}
 use Rattle.pj_laws.proofs.Tickets.{AreAscending, first-least, pending-ascends}
 use Rattle.pj_join.specs.declared.found.Found.{Found}
 use Rattle.pj_join.specs.Joins.{IsTaken, JoinView, after}
-use Rattle.pj_core.specs.declared.cell.Cell.{Cell}
-use Rattle.pj_core.specs.declared.cell.Work.{Work}
-use Rattle.pj_core.specs.declared.cell.Work.TheVariants.{Join as JoinCell}
-use Rattle.pj_core.specs.Acts.{FirstTook, JoinActs, first_pending, with_work}
-use Rattle.pj_core.specs.Calls.{HasGiven, IsGiveCause, IsOpen, IsTakenIn, TakesNext, pending_kept}
-use Rattle.pj_core.specs.Cells.{AreAs, Frame, cell_at, frame_at, frame_of, kept_seen, kind_of, no_cell}
-use Rattle.pj_core.specs.Climbing.{Climbs, GoBeyond, IsClimbStop, StaysAs}
+use Rattle.pj_operator.specs.declared.cell.Cell.{Cell}
+use Rattle.pj_operator.specs.declared.cell.Work.{Work}
+use Rattle.pj_operator.specs.declared.cell.Work.TheVariants.{Join as JoinCell}
+use Rattle.pj_operator.specs.Acts.{FirstTook, JoinActs, first_pending, with_work}
+use Rattle.pj_core.specs.Calls.{HasGiven, IsGiveCause, IsOpen, TakesNext}
+use Rattle.pj_operator.specs.Cells.{AreAs, Frame, cell_at, frame_at, frame_of, kept_seen, kind_of, no_cell, IsTakenIn, pending_kept}
+use Rattle.pj_operator.specs.Climbing.{Climbs, GoBeyond, IsClimbStop, StaysAs}
 use Rattle.pj_core.specs.Cores.{StandsFor}
 use Rattle.pj_core.specs.Parts.{IsMadeOf, core_of}
 use Rattle.pj_core.specs.Plans.{RunPlan, nodes_of}
-use Rattle.pj_core.proofs.Climbs.{climbs-none, frame-at, stays-none}
+use Rattle.pj_operator.proofs.Climbs.{climbs-none, frame-at, stays-none}
 use Rattle.pj_core.proofs.Events.{Steps, beyond-is, note}
 use Rattle.pj_core.proofs.Frames.{join-number, long-of}
 use Rattle.pj_core.proofs.Own as own

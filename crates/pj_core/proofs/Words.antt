@@ -10,12 +10,12 @@ use Rattle.pj_events.specs.declared.events.Event.TheVariants.{Arrive, Drain, Hal
 use Rattle.pj_pattern.specs.declared.element.Element.{Element}
 use Rattle.pj_join.specs.declared.found.Found.{Found}
 use Rattle.pj_events.specs.declared.events.Look.{Look as TheLook}
-use Rattle.pj_core.specs.declared.look.Sums.{Sums}
-use Rattle.pj_core.specs.Looks.{AreFew, AreWith}
-use Rattle.pj_core.specs.declared.cell.Cell.{Cell}
-use Rattle.pj_core.specs.Calls.{HasArrived, IsCause, IsOpen, IsJoinNode, IsLookAt, IsPeak, IsRefused, IsTakenIn, StopsNow, closing_of}
-use Rattle.pj_core.specs.Cells.{AreLinked, cell_at, frame_of, frames_in, kept_seen, no_cell, peak_seen, stored_kept}
-use Rattle.pj_core.specs.Climbing.{AreOrderly, Climbs, IsClimbStop, StayOpen, StaysAs}
+use Rattle.pj_operator.specs.declared.look.Sums.{Sums}
+use Rattle.pj_operator.specs.Looks.{AreFew, AreWith}
+use Rattle.pj_operator.specs.declared.cell.Cell.{Cell}
+use Rattle.pj_core.specs.Calls.{HasArrived, IsCause, IsOpen, IsJoinNode, IsLookAt, IsPeak, IsRefused, StopsNow, closing_of}
+use Rattle.pj_operator.specs.Cells.{AreLinked, cell_at, frame_of, frames_in, kept_seen, no_cell, peak_seen, stored_kept, IsTakenIn}
+use Rattle.pj_operator.specs.Climbing.{AreOrderly, Climbs, IsClimbStop, StayOpen, StaysAs}
 use Rattle.pj_core.specs.Cores.{CoreState, Notes}
 use Rattle.pj_core.specs.Parts.{IsMadeOf, closing_in, core_of}
 use Rattle.pj_core.specs.Plans.{RunPlan}

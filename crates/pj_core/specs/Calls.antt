@@ -1,11 +1,11 @@
 -- What the calls of a core answer, and what they make of it.
 use Rattle.std.specs.Prelude.{ℕ, ◌+◌, ◌<◌, ◌≡◌, true, false, List, [], ◌∷◌, ◌++◌, map, filter, length, slice_index_or, sum, Option, Some, None}
-use Rattle.pj_plan.specs.Nodes.{inputs_of, is_join, streams_of}
+use Rattle.pj_plan.specs.Nodes.{inputs_of, is_join, streams_of, stream_columns, streams_in}
 use Rattle.pj_plan.specs.Canonical.{node_at}
 use Rattle.pj_pattern.specs.declared.element.Element.{Element}
 use Rattle.pj_pattern.specs.declared.element.Element.TheVariants.{Punct}
 use Rattle.pj_events.specs.Patterns.{all_wild}
-use Rattle.pj_events.specs.CoreKept.{KeptOperator, NothingKept, UnionKept, JoinKept, GroupKept}
+use Rattle.pj_events.specs.CoreKept.{NothingKept}
 use Rattle.pj_events.specs.declared.events.Entry.{Entry}
 use Rattle.pj_events.specs.declared.events.Event.{Event}
 use Rattle.pj_events.specs.declared.events.Event.TheVariants.{Take as Taken, Give as Given, Sweep as Swept, Look as Looked, Stopped, Idle}
@@ -21,9 +21,9 @@ use Rattle.pj_events.specs.Outcomes.{goes_beyond, outputs_of, peak_of, results_o
 use Rattle.pj_events.specs.Limits.{StaysWithin, StopsAt}
 use Rattle.pj_events.specs.OneThread.{Turn, arrival_of, next_probe, plain, turn_entries}
 use Rattle.pj_join.specs.declared.found.Found.{Found}
-use Rattle.pj_join.specs.Joins.{IsTaken}
+use Rattle.pj_operator.specs.Cells.{IsTakenIn, pending_kept}
 use Rattle.pj_core.specs.Cores.{CoreState, MayFollow, Notes, NotesAllowed, StandsFor, nodes_after, nodes_in}
-use Rattle.pj_core.specs.Plans.{RunPlan, stream_columns, streams_in}
+use Rattle.pj_core.specs.Plans.{RunPlan}
 
 -- ---- a new core
 
@@ -75,23 +75,9 @@ pub record HasArrived (old new : CoreState) (entry : Entry) : Type 0 where
 
 -- ---- probes
 
--- the ticket is taken and not given at the join that this is kept of
-abbrev pub IsTakenIn : KeptOperator → ℕ → Type 0
-IsTakenIn (JoinKept kept) ticket = IsTaken kept ticket
-IsTakenIn NothingKept ticket = ⊥
-IsTakenIn (UnionKept union) ticket = ⊥
-IsTakenIn (GroupKept rows) ticket = ⊥
-
 -- the probe was taken from the core, and its ticket is not given
 abbrev pub IsOpen : CoreState → Found → Type 0
 IsOpen core probe = IsTakenIn (slice_index_or core.kept.nodes probe.join NothingKept) probe.ticket
-
--- how many tickets are pending at the node that this is kept of
-abbrev pub pending_kept : KeptOperator → ℕ
-pending_kept (JoinKept kept) = length kept.pending
-pending_kept NothingKept = 0
-pending_kept (UnionKept union) = 0
-pending_kept (GroupKept rows) = 0
 
 -- how many tickets are pending at all nodes
 abbrev pub all_pending : CoreState → ℕ

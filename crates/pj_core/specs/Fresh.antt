@@ -6,10 +6,10 @@ use Rattle.pj_events.specs.Join.{AreCertified, start}
 use Rattle.pj_events.specs.KeptState.{kept_of}
 use Rattle.pj_events.specs.Tables.{table_of}
 use Rattle.pj_flow.specs.Unions.{start as no_puncts}
-use Rattle.pj_core.specs.declared.cell.Cell.{Cell}
-use Rattle.pj_core.specs.declared.cell.Work.{Work}
-use Rattle.pj_core.specs.declared.cell.Work.TheVariants.{Stream as StreamCell, Select as SelectCell, Project as ProjectCell, Union as UnionCell, Join as JoinCell, Group as GroupCell}
-use Rattle.pj_core.specs.Cells.{Frame, GroupKind, JoinKind, Kind, ProjectKind, SelectKind, StreamKind, UnionKind}
+use Rattle.pj_operator.specs.declared.cell.Cell.{Cell}
+use Rattle.pj_operator.specs.declared.cell.Work.{Work}
+use Rattle.pj_operator.specs.declared.cell.Work.TheVariants.{Stream as StreamCell, Select as SelectCell, Project as ProjectCell, Union as UnionCell, Join as JoinCell, Group as GroupCell}
+use Rattle.pj_operator.specs.Cells.{Frame, GroupKind, JoinKind, Kind, ProjectKind, SelectKind, StreamKind, UnionKind}
 
 abbrev pub fresh_work : Kind → Work
 fresh_work StreamKind = StreamCell

@@ -1,12 +1,6 @@
 pub mod Plans
 pub mod Cores
 pub mod Calls
-pub mod Cells
-pub mod Climbing
-pub mod Handed
 pub mod Parts
 pub mod Fresh
-pub mod Acts
-pub mod Looks
 pub mod Turns
-pub mod Samples

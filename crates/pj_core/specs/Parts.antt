@@ -6,7 +6,7 @@ use Rattle.pj_plan.specs.declared.node.Node.{Node as Operation}
 use Rattle.pj_plan.specs.declared.node.Node.TheVariants.{Stream as StreamNode, Select as SelectNode, Project as ProjectNode, Union as UnionNode, Join as JoinNode, Group as GroupNode}
 use Rattle.pj_plan.specs.declared.node.PlanNode.{PlanNode}
 use Rattle.pj_plan.specs.Canonical.{no_node}
-use Rattle.pj_plan.specs.Nodes.{parent_of, streams_of}
+use Rattle.pj_plan.specs.Nodes.{parent_of, streams_of, stream_columns, streams_in}
 use Rattle.pj_plan.specs.Sound.{IsSoundPlan}
 use Rattle.pj_scheme.specs.Derived.{inputs_schemes, schemes_of}
 use Rattle.pj_pattern.specs.declared.element.Element.{Element}
@@ -17,11 +17,11 @@ use Rattle.pj_events.specs.declared.events.Stop.{Stop}
 use Rattle.pj_events.specs.CoreKept.{CoreKept}
 use Rattle.pj_laws.specs.HistoryLaws.{AllAreCertified}
 use Rattle.pj_join.specs.Joins.{join_data}
-use Rattle.pj_core.specs.declared.cell.Cell.{Cell}
-use Rattle.pj_core.specs.Cells.{Frame, GroupKind, JoinKind, Kind, ProjectKind, SelectKind, StreamKind, UnionKind, count_seen, frames_in, kept_seen, peak_seen}
-use Rattle.pj_core.specs.Climbing.{AreOrderly, Climbs, Scene}
+use Rattle.pj_operator.specs.declared.cell.Cell.{Cell}
+use Rattle.pj_operator.specs.Cells.{Frame, GroupKind, JoinKind, Kind, ProjectKind, SelectKind, StreamKind, UnionKind, count_seen, frames_in, kept_seen, peak_seen}
+use Rattle.pj_operator.specs.Climbing.{AreOrderly, Climbs, Scene}
 use Rattle.pj_core.specs.Cores.{CoreState}
-use Rattle.pj_core.specs.Plans.{RunPlan, certs_behind, nodes_of, stream_columns, streams_in}
+use Rattle.pj_core.specs.Plans.{RunPlan, certs_behind, nodes_of}
 
 -- ---- what is seen
 

@@ -1,29 +1,16 @@
--- The nodes of a plan as histories speak of them, its streams, and which plans a core runs.
-use Rattle.std.specs.Prelude.{ℕ, Bool, if◌then◌else◌, List, [], ◌∷◌, map, filter, drop, length, slice_index_or}
+-- The nodes of a plan as histories speak of them, and which plans a core runs.
+use Rattle.std.specs.Prelude.{ℕ, Bool, if◌then◌else◌, List, [], ◌∷◌, drop, length, slice_index_or}
 use Rattle.pj_shape.specs.declared.columns.Column.{Column}
 use Rattle.pj_plan.specs.declared.node.Node.{Node as Operation}
 use Rattle.pj_plan.specs.declared.node.Node.TheVariants.{Stream as StreamNode, Select as SelectNode, Project as ProjectNode, Union as UnionNode, Join as JoinNode, Group as GroupNode}
 use Rattle.pj_plan.specs.declared.node.PlanNode.{PlanNode}
-use Rattle.pj_plan.specs.Nodes.{inputs_of, is_stream, is_join}
+use Rattle.pj_plan.specs.Nodes.{inputs_of, is_join}
 use Rattle.pj_shape.specs.declared.joins.CertStep.{CertStep}
 use Rattle.pj_shape.specs.declared.joins.JoinSpec.{JoinSpec}
 use Rattle.pj_scheme.specs.Derived.{schemes_of, inputs_schemes}
 use Rattle.pj_events.specs.Join.{start}
 use Rattle.pj_events.specs.Plan.{Operator, Stream, Select, Project, Union, Join, Group, Node}
 use Rattle.pj_join.specs.Joins.{join_data}
-
--- ---- streams
-
--- the streams among these nodes, in order
-abbrev pub streams_in : List PlanNode → List PlanNode
-streams_in nodes = filter (λ node. is_stream node.node) nodes
-
-abbrev pub schema_in : PlanNode → List Column
-schema_in node = node.schema
-
--- the columns of one of these streams, by its number among them
-abbrev pub stream_columns : List PlanNode → ℕ → List Column
-stream_columns streams stream = slice_index_or (map schema_in streams) stream []
 
 -- ---- nodes
 

@@ -14,8 +14,8 @@ use Rattle.pj_events.specs.Outcomes.{outputs_of}
 use Rattle.pj_events.specs.Limits.{StaysWithin, StopsAt}
 use Rattle.pj_events.specs.OneThread.{Place, pending_at, places_from, plain, probes, probes_at, probes_from, sweeps_at}
 use Rattle.pj_events.specs.CoreKept.{NothingKept}
+use Rattle.pj_operator.specs.Cells.{pending_kept}
 use Rattle.pj_core.specs.Cores.{CoreState, StandsFor, nodes_after, nodes_in}
-use Rattle.pj_core.specs.Calls.{pending_kept}
 
 -- ---- one probe
 

@@ -9,10 +9,10 @@ ghost use Rattle.pj_core.specs.Plans.{nodes_of, run_plan};
 ghost use Rattle.pj_core.specs.Parts.{frame_for, frames_of, plan_node};
 ghost use Rattle.pj_core.specs.Fresh.{IsCertifiedKind, fresh_cell, fresh_work, joins_with};
 
-use crate::cell::{Cell, Work};
 use pj_flow::Union;
 use pj_group::Group;
 use pj_join::Join;
+use pj_operator::{Cell, Work};
 use pj_plan::{Node, Plan};
 use pj_scheme::{derived, join_schemes};
 use pj_shape::{Cert, Schemes};

@@ -2,16 +2,9 @@
 //! the plan's last node gives. Each call is one entry of the run's history.
 #![tactic(auto)]
 
-mod act;
 mod build;
-mod cell;
-mod climb;
-mod handed;
 mod laws;
-mod look;
 mod running;
-#[cfg(test)]
-mod tests;
 mod turns;
 
 pub use laws::settling;

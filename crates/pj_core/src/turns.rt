@@ -2,9 +2,8 @@
 ghost use Rattle.std.specs.Prelude.{◌≡◌, ◌<◌, None, length, IfErr, IfOk, OnOk};
 ghost use Rattle.pj_pattern.specs.Fitting.{FitsKinds};
 ghost use Rattle.pj_shape.specs.Columns.{kinds_of};
-ghost use Rattle.pj_plan.specs.Nodes.{streams_of};
+ghost use Rattle.pj_plan.specs.Nodes.{streams_of, stream_columns, streams_in};
 ghost use Rattle.pj_events.specs.OneThread.{is_punct as brings_punct};
-ghost use Rattle.pj_core.specs.Plans.{stream_columns, streams_in};
 ghost use Rattle.pj_core.specs.Calls.{IsJoinInput, IsTurnRefused, MakesTurn, arriving_of, closing_of};
 ghost use Rattle.pj_core.specs.Turns.{Finishes, IsSoundCore, Makes, StopsMaking, probing, probing_at, sweeping, sweeping_all, sweeping_at, swept_where, working};
 

@@ -12,7 +12,6 @@ pub mod Agreeing
 pub mod Judged
 pub mod Searching
 pub mod Tickets
-pub mod ChainIs
 pub mod Lent
 pub mod Stored
 pub mod Below

@@ -6,7 +6,6 @@ pub mod Rising
 pub mod Suits
 pub mod Asking
 pub mod Judges
-pub mod Chain
 pub mod Numbers
 pub mod Alike
 pub mod Held

@@ -14,8 +14,6 @@ mod prints;
 mod ripeness;
 mod rows;
 mod store;
-#[cfg(test)]
-mod tests;
 
 pub use given::Given;
 pub use ripeness::{first_uncovered, ripe};

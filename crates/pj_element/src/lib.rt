@@ -12,8 +12,6 @@ mod reading;
 mod spelled;
 mod storable;
 mod tally;
-#[cfg(test)]
-mod tests;
 mod written;
 
 pub use acceptance::{

@@ -1,9 +1,8 @@
 -- The words of a call, and what a run over the files that they name leaves of the call.
 use Rattle.pj_plan.specs.declared.node.Outline.{Outline}
 use Rattle.pj_plan.specs.declared.node.PlanNode.{PlanNode}
-use Rattle.pj_plan.specs.Nodes.{streams_of}
+use Rattle.pj_plan.specs.Nodes.{streams_of, streams_in}
 use Rattle.pj_alone.specs.Safety.{IsSafePlan}
-use Rattle.pj_core.specs.Plans.{streams_in}
 use Rattle.std.proofs.Common.{◌≡◌, ◌≢◌, ◌≤◌, ◌<◌, ◌+◌, ◌-◌, ◌⊎◌, ℕ, zero, suc, Bool, true, inl, inr, List, [], ◌∷◌, map, length, take, drop, Err, Some, IsTrue, refl, ap, ap₂, sym, ◌∙◌, subst, arith}
 use Rattle.std.specs.Prelude.{slice_index_or, ◌^◌}
 use Rattle.std.specs.String.{string_bytes}
@@ -15,25 +14,27 @@ use Rattle.pj_value.specs.Lists.{In}
 use Rattle.pj_io.specs.Causes.{Rose}
 use Rattle.pj_io.specs.Folders.{SameElsewhere, NoneFalls}
 use Rattle.pj_io.specs.States.{FolderState, SinkState}
-use Rattle.pj_engine.specs.declared.status.Status.TheVariants.{Done, OpenFault, ReadFault, WriteFault, NoMemory, Limit}
-use Rattle.pj_engine.specs.declared.status.LimitOf.TheVariants.{Node, File}
-use Rattle.pj_engine.specs.declared.stops.FilesStop.{FilesStop}
-use Rattle.pj_engine.specs.declared.stops.FilesStop.TheVariants.{Opening, Run}
-use Rattle.pj_engine.specs.declared.stops.OpeningStop.{OpeningStop}
-use Rattle.pj_engine.specs.declared.stops.OpeningStop.TheVariants.{Fault, NoMemory as OpeningMemory}
-use Rattle.pj_engine.specs.declared.stops.RunStop.TheVariants.{ReadFault as RunFault, TooLarge, Limit as RunLimit, WriteFailed, NoMemory as RunMemory}
-use Rattle.pj_engine.specs.Commands.{command_of, is_run, operands, operand, behind_first, plan_bytes, stream_files, files_named, AreTold, IsTold, HasToldPlan}
-use Rattle.pj_engine.specs.Ends.{AreDistinct, IsNoneOf, EndsBefore, EndsAtLimit, ArrivedOf}
-use Rattle.pj_engine.specs.Opened.{OpensFirst, IsReadToEnd}
+use Rattle.pj_report.specs.declared.status.Status.TheVariants.{Done, OpenFault, ReadFault, WriteFault, NoMemory, Limit}
+use Rattle.pj_report.specs.declared.status.LimitOf.TheVariants.{Node, File}
+use Rattle.pj_run.specs.declared.stops.FilesStop.{FilesStop}
+use Rattle.pj_run.specs.declared.stops.FilesStop.TheVariants.{Opening, Run}
+use Rattle.pj_feed.specs.declared.stops.OpeningStop.{OpeningStop}
+use Rattle.pj_feed.specs.declared.stops.OpeningStop.TheVariants.{Fault, NoMemory as OpeningMemory}
+use Rattle.pj_run.specs.declared.stops.RunStop.TheVariants.{ReadFault as RunFault, TooLarge, Limit as RunLimit, WriteFailed, NoMemory as RunMemory}
+use Rattle.pj_engine.specs.Commands.{command_of, is_run, operands, operand, behind_first, plan_bytes, stream_files, IsTold, HasToldPlan}
+use Rattle.pj_feed.specs.Named.{files_named, AreTold, AreDistinct, IsNoneOf}
+use Rattle.pj_run.specs.Ends.{EndsBefore, EndsAtLimit, ArrivedOf}
+use Rattle.pj_feed.specs.Opened.{OpensFirst, IsReadToEnd, AreReadToEnd}
 use Rattle.pj_engine.specs.Plans.{plan_of, SpellsPlan}
-use Rattle.pj_engine.specs.Report.{status_line}
-use Rattle.pj_engine.specs.RunEnds.{FilesEnd, FilesCause, FilesOpened, IsFaultOf}
-use Rattle.pj_engine.specs.Runs.{run_lines, GoesBeyond}
-use Rattle.pj_engine.specs.Stops.{files_status, IsOfFew}
-use Rattle.pj_engine.specs.Top.{AreReadToEnd, BeyondLimit, EarlyEnd, FaultLeaves, HasFault, IsBuilt, IsUnopened, IsTooLarge, OpensInOrder, StopLeaves, stop_name, limit_name}
-use Rattle.pj_engine.specs.Written.{Delivered, Leaves, files_cut, flat, FrontOf}
+use Rattle.pj_report.specs.Report.{status_line}
+use Rattle.pj_run.specs.RunEnds.{FilesEnd, FilesCause, FilesOpened, IsFaultOf}
+use Rattle.pj_run.specs.Runs.{run_lines, GoesBeyond}
+use Rattle.pj_run.specs.Stops.{files_status, IsOfFew}
+use Rattle.pj_engine.specs.Top.{BeyondLimit, EarlyEnd, FaultLeaves, HasFault, IsBuilt, IsUnopened, IsTooLarge, OpensInOrder, StopLeaves, stop_name, limit_name}
+use Rattle.pj_run.specs.Cuts.{files_cut}
+use Rattle.pj_report.specs.Written.{Delivered, Leaves, flat, FrontOf}
 use Rattle.pj_engine.proofs.RunLaws.{same_after, earlier_rose}
-use Rattle.pj_engine.proofs.StreamNodes.{count_numbers}
+use Rattle.pj_feed.proofs.StreamNodes.{count_numbers}
 
 -- ---- the words
 

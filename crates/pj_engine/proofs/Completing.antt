@@ -4,10 +4,11 @@ use Rattle.std.specs.Prelude.{slice_index_or}
 use Rattle.std.proofs.lemmas.Bool.{false≢true}
 use Rattle.std.proofs.lemmas.List.{get_or-map, length-map}
 use Rattle.pj_io.specs.States.{FolderState, SinkState}
-use Rattle.pj_engine.specs.declared.status.Status.{Status}
-use Rattle.pj_engine.specs.declared.status.Status.TheVariants.{Done, Usage, OpenFault, ReadFault, PlanRefused, FileCount, Unsafe, WriteFault, NoMemory, Limit}
-use Rattle.pj_engine.specs.declared.status.LimitOf.TheVariants.{Plan, Node, File}
-use Rattle.pj_engine.specs.Commands.{AreTold, Command, IsTold, behind_first, file_names, operand, stream_files}
+use Rattle.pj_report.specs.declared.status.Status.{Status}
+use Rattle.pj_report.specs.declared.status.Status.TheVariants.{Done, Usage, OpenFault, ReadFault, PlanRefused, FileCount, Unsafe, WriteFault, NoMemory, Limit}
+use Rattle.pj_report.specs.declared.status.LimitOf.TheVariants.{Plan, Node, File}
+use Rattle.pj_engine.specs.Commands.{Command, IsTold, behind_first, file_names, operand, stream_files}
+use Rattle.pj_feed.specs.Named.{AreTold}
 use Rattle.pj_engine.specs.Completeness.{Completes, HasRoom, NoneRose}
 use Rattle.pj_engine.specs.Refusals.{IsRefused}
 use Rattle.pj_engine.specs.Top.{BeyondLimit, HasFault, IsBuilt, IsTooLarge, IsUnopened, WriteFails}

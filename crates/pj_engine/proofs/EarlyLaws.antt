@@ -11,22 +11,23 @@ use Rattle.pj_plan.specs.declared.node.Outline.{Outline}
 use Rattle.pj_plan.specs.Nodes.{streams_of}
 use Rattle.pj_plan_text.specs.PlanRead.{plan_read}
 use Rattle.pj_alone.specs.Safety.{IsFirstStuck, IsSafeJoin, IsSafePlan}
-use Rattle.pj_engine.specs.declared.status.Status.{Status}
-use Rattle.pj_engine.specs.declared.status.Status.TheVariants.{Done, Usage, OpenFault, ReadFault, PlanRefused, FileCount, Unsafe, WriteFault, NoMemory, Limit}
-use Rattle.pj_engine.specs.declared.status.LimitOf.TheVariants.{Plan, Node, File}
-use Rattle.pj_engine.specs.declared.stops.FilesStop.{FilesStop}
-use Rattle.pj_engine.specs.declared.stops.FilesStop.TheVariants.{Opening, Run}
-use Rattle.pj_engine.specs.declared.stops.OpeningStop.TheVariants.{Fault, NoMemory as OpeningMemory}
-use Rattle.pj_engine.specs.declared.stops.RunStop.TheVariants.{ReadFault as RunFault, TooLarge, Limit as RunLimit, WriteFailed, NoMemory as RunMemory}
+use Rattle.pj_report.specs.declared.status.Status.{Status}
+use Rattle.pj_report.specs.declared.status.Status.TheVariants.{Done, Usage, OpenFault, ReadFault, PlanRefused, FileCount, Unsafe, WriteFault, NoMemory, Limit}
+use Rattle.pj_report.specs.declared.status.LimitOf.TheVariants.{Plan, Node, File}
+use Rattle.pj_run.specs.declared.stops.FilesStop.{FilesStop}
+use Rattle.pj_run.specs.declared.stops.FilesStop.TheVariants.{Opening, Run}
+use Rattle.pj_feed.specs.declared.stops.OpeningStop.TheVariants.{Fault, NoMemory as OpeningMemory}
+use Rattle.pj_run.specs.declared.stops.RunStop.TheVariants.{ReadFault as RunFault, TooLarge, Limit as RunLimit, WriteFailed, NoMemory as RunMemory}
 use Rattle.pj_engine.specs.declared.stops.FileStop.TheVariants.{OpenFault as NotOpened, ReadFault as NotRead, TooLong, NoMemory as FileMemory}
 use Rattle.pj_engine.specs.declared.stops.PlanStop.{PlanStop}
 use Rattle.pj_engine.specs.declared.stops.PlanStop.TheVariants.{Usage as NoWords, File as PlanFile, Refused, FileCount as OtherCount, Unsafe as Stuck, NoMemory as PlanMemory}
 use Rattle.pj_engine.specs.Commands.{Command, HasToldPlan, command_of, is_run, operands, operand, file_names, plan_bytes}
-use Rattle.pj_engine.specs.Opened.{OpensFirst, OpensAtMost}
+use Rattle.pj_feed.specs.Opened.{OpensFirst, OpensAtMost}
 use Rattle.pj_engine.specs.Refusals.{HasLines, IsRefused, Refuses, RefusesBytes, RefusesPlan, RefusesRead, Unprepared}
-use Rattle.pj_engine.specs.Stops.{files_status, plan_status, refusal_text}
+use Rattle.pj_engine.specs.Stops.{plan_status, refusal_text}
+use Rattle.pj_run.specs.Stops.{files_status}
 use Rattle.pj_engine.specs.Top.{AnswersRefusal, EarlyEnd, HasFault, IsBuilt, IsPlanOf, IsUnopened, OpensInOrder, StopLeaves}
-use Rattle.pj_engine.specs.Written.{Delivered}
+use Rattle.pj_report.specs.Written.{Delivered}
 use Rattle.pj_engine.proofs.CallLaws.{operands_are}
 use Rattle.pj_engine.proofs.Refusing.{read_as}
 

@@ -1,21 +1,10 @@
 -- The operands of a call.
-use Rattle.std.proofs.Common.{◌≡◌, ◌≢◌, ◌≤◌, ◌-◌, ℕ, Bool, true, false, ◌⊎◌, inl, inr, List, [], ◌∷◌, map, length, get_or, refl, ap, sym, ◌∙◌, arith}
-use Rattle.std.specs.Str.{bytes_eq}
+use Rattle.std.proofs.Common.{◌≡◌, ◌≤◌, ◌-◌, ℕ, List, [], ◌∷◌, map, length, get_or, ap, sym, ◌∙◌, arith}
 use Rattle.std.specs.String.{string_bytes}
 use Rattle.std.specs.declared.string.String.{String}
 use Rattle.std.specs.declared.alloc.Global.{Global}
 use Rattle.std.proofs.lemmas.List.{length-map}
-use Rattle.std.proofs.lemmas.Bool.Decides.{not_from_Decides}
-use Rattle.std.proofs.lemmas.Slice.Eq.{bytes_eq-Decides}
 use Rattle.pj_engine.specs.Commands.{operands, operand, behind_first}
-
--- a name is this one or another
-pub same_or_other : (a b : List ℕ) → (a ≡ b) ⊎ (a ≢ b)
-same_or_other a b = by (bytes_eq a b) refl
-  where
-    by : (t : Bool) → bytes_eq a b ≡ t → (a ≡ b) ⊎ (a ≢ b)
-    by true e = inl ((bytes_eq-Decides a b).0 e)
-    by false e = inr (not_from_Decides (bytes_eq a b) (bytes_eq-Decides a b) e)
 
 -- the operands behind the command: the plan's name, and the names of the files
 pub operands_are : (words : List (String Global)) (word : String Global) (name : List ℕ) → 3 ≤ length words → word ≡ get_or words 1 word → name ≡ string_bytes word → operands words ≡ name ∷ behind_first (operands words)

@@ -2,7 +2,7 @@
 use Rattle.pj_plan.specs.declared.node.Outline.{Outline}
 use Rattle.pj_plan.specs.declared.node.PlanNode.{PlanNode}
 use Rattle.pj_shape.specs.declared.columns.Column.{Column}
-use Rattle.pj_core.specs.Plans.{stream_columns, streams_in}
+use Rattle.pj_plan.specs.Nodes.{stream_columns, streams_in}
 use Rattle.std.proofs.Common.{◌≡◌, ◌<◌, ◌≤◌, ◌+◌, ℕ, zero, suc, false, ◌⊎◌, inl, inr, List, [], ◌∷◌, ◌++◌, length, map, get_or, refl, ap, sym, ◌∙◌, subst, append_assoc, append-nil, arith}
 use Rattle.std.proofs.lemmas.Bool.{cases_lt}
 use Rattle.std.proofs.lemmas.List.{get_or-map, length-append, length-map}
@@ -29,11 +29,11 @@ use Rattle.pj_laws.proofs.Groups.{row-in}
 use Rattle.pj_laws.proofs.FinalRows.{is-final}
 use Rattle.pj_laws.proofs.Upto.{length-upto}
 use Rattle.pj_laws.proofs.Steps.{elements-append}
-use Rattle.pj_engine.specs.Runs.{history_of, outputs_of, run_nodes}
+use Rattle.pj_run.specs.Runs.{history_of, outputs_of, run_nodes}
 use Rattle.pj_engine.specs.Top.{AllLawful, AreOfWidth, answer_after, arrived_in, gone_on, streams_after, StaysRight}
-use Rattle.pj_engine.proofs.Accepting.{count-streams, schema-is}
-use Rattle.pj_engine.proofs.OutputLaws.{whole_run}
-use Rattle.pj_engine.proofs.Planned.{IsPlanned}
+use Rattle.pj_run.proofs.Accepting.{count-streams, schema-is}
+use Rattle.pj_run.proofs.OutputLaws.{whole_run}
+use Rattle.pj_run.proofs.Planned.{IsPlanned}
 
 -- ---- what a history hands out grows
 

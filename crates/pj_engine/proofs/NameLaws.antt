@@ -8,14 +8,13 @@ use Rattle.pj_plan.specs.declared.node.Node.TheVariants.{Stream, Select, Project
 use Rattle.pj_plan.specs.declared.node.PlanNode.{PlanNode}
 use Rattle.pj_plan.specs.declared.node.Outline.{Outline}
 use Rattle.pj_plan.specs.Names.{is_name, is_column_name, is_word, begins_small, is_spelled}
-use Rattle.pj_plan.specs.Nodes.{is_stream, streams_of}
+use Rattle.pj_plan.specs.Nodes.{is_stream, streams_of, streams_in}
 use Rattle.pj_plan.specs.Canonical.{declaration, node_name, node_statements, statements_of}
 use Rattle.pj_plan.specs.Kept.{IsMadeAgain}
 use Rattle.pj_plan.specs.Sound.{IsSoundPlan}
-use Rattle.pj_core.specs.Plans.{streams_in}
-use Rattle.pj_engine.specs.PlanNames.{HasPlainNames, are_plain, is_plain}
+use Rattle.pj_run.specs.PlanNames.{HasPlainNames, are_plain, is_plain}
 use Rattle.pj_engine.specs.Top.{stream_name}
-use Rattle.pj_engine.proofs.StreamNodes.{count_numbers, few-streams, name-at}
+use Rattle.pj_feed.proofs.StreamNodes.{count_numbers, few-streams, name-at}
 
 -- ---- streams by their numbers
 

@@ -20,12 +20,12 @@ use Rattle.pj_engine.specs.declared.stops.FileStop.TheVariants.{OpenFault as Not
 use Rattle.pj_engine.specs.declared.stops.PlanStop.{PlanStop}
 use Rattle.pj_engine.specs.declared.stops.PlanStop.TheVariants.{Usage as NoWords, File as PlanFile, Refused, FileCount as OtherCount, Unsafe as Stuck, NoMemory as PlanMemory}
 use Rattle.pj_engine.specs.Commands.{Command, command_of, is_run, operands, operand, behind_first, file_names}
-use Rattle.pj_engine.specs.Opened.{OpensFirst}
-use Rattle.pj_engine.specs.PlanNames.{HasPlainNames}
+use Rattle.pj_feed.specs.Opened.{OpensFirst}
+use Rattle.pj_run.specs.PlanNames.{HasPlainNames}
 use Rattle.pj_engine.specs.Plans.{plan_of, plan_if}
 use Rattle.pj_engine.specs.Refusals.{BytesRefused, FileCause, FileOpens, HasLines, PlanCause, PlanUnfit, Unprepared}
-use Rattle.pj_engine.specs.Runs.{IsNewCore, most_arrivals, outline_in}
-use Rattle.pj_engine.proofs.Certified.{run_certified}
+use Rattle.pj_run.specs.Runs.{IsNewCore, most_arrivals, outline_in}
+use Rattle.pj_run.proofs.Certified.{run_certified}
 use Rattle.pj_engine.proofs.NameLaws.{plain_names}
 
 -- ---- a plan

@@ -1,7 +1,8 @@
 -- What a run leaves written.
 use Rattle.pj_plan.specs.declared.node.Outline.{Outline}
 use Rattle.pj_plan.specs.declared.node.PlanNode.{PlanNode}
-use Rattle.pj_core.specs.Plans.{RunPlan, nodes_of, streams_in}
+use Rattle.pj_core.specs.Plans.{RunPlan, nodes_of}
+use Rattle.pj_plan.specs.Nodes.{streams_in, joins_of}
 use Rattle.std.proofs.Common.{◌≡◌, ◌≤◌, ◌≢◌, ℕ, Bool, true, not, ◌==◌, inl, inr, List, [], ◌∷◌, ◌++◌, map, length, Some, IsTrue, refl, ap, sym, ◌∙◌, subst, append-nil, arith}
 use Rattle.std.specs.Prelude.{codes, nat_le}
 use Rattle.std.specs.List.{list_all}
@@ -24,16 +25,15 @@ use Rattle.pj_events.specs.Outcomes.{peak_of}
 use Rattle.pj_engine.specs.Commands.{Command, plan_bytes, stream_files}
 use Rattle.pj_plan.specs.Canonical.{node_name}
 use Rattle.pj_plan.specs.Names.{is_name_byte}
-use Rattle.pj_plan.specs.Nodes.{joins_of}
-use Rattle.pj_engine.specs.PlanNames.{HasPlainNames, is_plain, are_plain}
+use Rattle.pj_run.specs.PlanNames.{HasPlainNames, is_plain, are_plain}
 use Rattle.pj_engine.specs.Plans.{plan_of}
 use Rattle.pj_plan.specs.declared.fault.PlanWhy.{PlanWhy}
 use Rattle.pj_plan.specs.declared.fault.PlanWhy.TheVariants.{NotAPlan, UnknownStatement, BadShape, NameTwice, UnknownName, UnknownColumn, ColumnTwice, KindsDiffer, BadClass, BadScheme, UsedTwiceOrNever, TooMany, Output, Unreadable}
-use Rattle.pj_engine.specs.declared.status.Status.TheVariants.{PlanRefused, FileCount}
-use Rattle.pj_engine.specs.Report.{fault_words, status_line, stream_line, stream_lines, reject_line, reject_words, results_line, peak_line, counted_to}
-use Rattle.pj_engine.specs.Runs.{outputs_of, history_of, report_of, run_lines, streams_report, peak_report, plan_run}
-use Rattle.pj_engine.specs.Written.{flat, Delivered, holding}
-use Rattle.pj_engine.proofs.Fronts.{IsNoteLine, AreNotes, notes-append}
+use Rattle.pj_report.specs.declared.status.Status.TheVariants.{PlanRefused, FileCount}
+use Rattle.pj_report.specs.Report.{fault_words, status_line, stream_line, stream_lines, reject_line, reject_words, results_line, peak_line, counted_to}
+use Rattle.pj_run.specs.Runs.{outputs_of, history_of, report_of, run_lines, streams_report, peak_report, plan_run}
+use Rattle.pj_report.specs.Written.{flat, Delivered, holding}
+use Rattle.pj_report.proofs.Fronts.{IsNoteLine, AreNotes, notes-append}
 use Rattle.pj_engine.proofs.NameLaws.{name_plain, streams_plain}
 
 -- ---- a run that is done

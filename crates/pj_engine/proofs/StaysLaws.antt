@@ -1,7 +1,7 @@
 -- What was written spells outputs that stay right.
 use Rattle.pj_plan.specs.declared.node.Outline.{Outline}
 use Rattle.pj_plan.specs.declared.node.PlanNode.{PlanNode}
-use Rattle.pj_core.specs.Plans.{streams_in}
+use Rattle.pj_plan.specs.Nodes.{streams_in}
 use Rattle.std.proofs.Common.{◌≡◌, ◌≤◌, ◌+◌, ◌==◌, ℕ, true, false, ◌⊎◌, inl, inr, List, [], ◌∷◌, ◌++◌, length, Some, IsTrue, refl, ap, sym, ◌∙◌, subst, append_assoc, append-nil, arith}
 use Rattle.std.specs.Prelude.{codes}
 use Rattle.std.specs.Fmt.{decimal}
@@ -18,32 +18,34 @@ use Rattle.pj_line.proofs.Feeds.{has_no_both}
 use Rattle.pj_element.proofs.Feeds.{decimal_no_feed}
 use Rattle.pj_plan.specs.Canonical.{node_name}
 use Rattle.pj_alone.specs.Safety.{IsNote}
-use Rattle.pj_engine.specs.declared.status.Status.{Status}
-use Rattle.pj_engine.specs.declared.status.LimitOf.{LimitOf}
-use Rattle.pj_engine.specs.declared.status.LimitOf.TheVariants.{Plan, Node, File}
-use Rattle.pj_engine.specs.declared.status.Status.TheVariants.{Done, Usage, OpenFault, ReadFault, PlanRefused, FileCount, Unsafe, WriteFault, NoMemory, Limit}
-use Rattle.pj_engine.specs.declared.stops.FilesStop.{FilesStop}
-use Rattle.pj_engine.specs.declared.stops.FilesStop.TheVariants.{Opening, Run}
-use Rattle.pj_engine.specs.declared.stops.OpeningStop.TheVariants.{Fault, NoMemory as OpeningMemory}
+use Rattle.pj_report.specs.declared.status.Status.{Status}
+use Rattle.pj_report.specs.declared.status.LimitOf.{LimitOf}
+use Rattle.pj_report.specs.declared.status.LimitOf.TheVariants.{Plan, Node, File}
+use Rattle.pj_report.specs.declared.status.Status.TheVariants.{Done, Usage, OpenFault, ReadFault, PlanRefused, FileCount, Unsafe, WriteFault, NoMemory, Limit}
+use Rattle.pj_run.specs.declared.stops.FilesStop.{FilesStop}
+use Rattle.pj_run.specs.declared.stops.FilesStop.TheVariants.{Opening, Run}
+use Rattle.pj_feed.specs.declared.stops.OpeningStop.TheVariants.{Fault, NoMemory as OpeningMemory}
 use Rattle.pj_engine.specs.declared.stops.PlanStop.{PlanStop}
 use Rattle.pj_engine.specs.declared.stops.PlanStop.TheVariants.{Usage as NoWords, File as PlanFile, Refused, FileCount as OtherCount, Unsafe as Stuck, NoMemory as PlanMemory}
 use Rattle.pj_engine.specs.declared.stops.FileStop.TheVariants.{OpenFault as NotOpened, ReadFault as NotRead, TooLong, NoMemory as FileMemory}
-use Rattle.pj_engine.specs.declared.stops.RunStop.TheVariants.{ReadFault as RunFault, TooLarge, Limit as RunLimit, WriteFailed, NoMemory as RunMemory}
+use Rattle.pj_run.specs.declared.stops.RunStop.TheVariants.{ReadFault as RunFault, TooLarge, Limit as RunLimit, WriteFailed, NoMemory as RunMemory}
 use Rattle.pj_engine.specs.Commands.{Command, plan_bytes, stream_files}
-use Rattle.pj_engine.specs.PlanNames.{HasPlainNames, are_plain}
+use Rattle.pj_run.specs.PlanNames.{HasPlainNames, are_plain}
 use Rattle.pj_engine.specs.Plans.{plan_of}
-use Rattle.pj_engine.specs.Report.{status_line}
-use Rattle.pj_engine.specs.Runs.{outputs_of, report_of, run_lines}
+use Rattle.pj_report.specs.Report.{status_line}
+use Rattle.pj_run.specs.Runs.{outputs_of, report_of, run_lines}
 use Rattle.pj_engine.specs.Refusals.{HasLines}
-use Rattle.pj_engine.specs.Stops.{files_status, refusal_text}
+use Rattle.pj_engine.specs.Stops.{refusal_text}
+use Rattle.pj_run.specs.Stops.{files_status}
 use Rattle.pj_engine.specs.Top.{StaysRight, limit_name, stop_name}
-use Rattle.pj_engine.specs.Written.{flat, WholeLines, Delivered, Leaves, Spells, files_cut}
+use Rattle.pj_run.specs.Cuts.{files_cut}
+use Rattle.pj_report.specs.Written.{flat, WholeLines, Delivered, Leaves, Spells}
 use Rattle.pj_engine.proofs.FrontLaws.{stays}
-use Rattle.pj_engine.proofs.Fronts.{IsNoteLine, AreNotes, notes-append, notes_spell, FrontSpells, front_spells, FirstLines, first_lines}
-use Rattle.pj_engine.proofs.LinesWritten.{flat-append}
+use Rattle.pj_report.proofs.Fronts.{IsNoteLine, AreNotes, notes-append, notes_spell, FrontSpells, front_spells, FirstLines, first_lines}
+use Rattle.pj_report.proofs.LinesWritten.{flat-append}
 use Rattle.pj_engine.proofs.NameLaws.{name_plain, streams_plain}
-use Rattle.pj_engine.proofs.OutputLaws.{outputs_lawful}
-use Rattle.pj_engine.proofs.Planned.{IsPlanned}
+use Rattle.pj_run.proofs.OutputLaws.{outputs_lawful}
+use Rattle.pj_run.proofs.Planned.{IsPlanned}
 use Rattle.pj_engine.proofs.RunLaws.{plan_refused_note, file_count_note, no_feeds, name_no_feed, name_short, report_notes, same_after}
 use Rattle.pj_pattern.proofs.Lawful.{lawful_front}
 

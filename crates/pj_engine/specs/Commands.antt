@@ -1,10 +1,11 @@
 -- What the words of a call ask for.
-use Rattle.std.specs.Prelude.{ℕ, Bool, true, false, ◌&&◌, ◌==◌, ⊤, not, List, [], ◌∷◌, map, IsTrue, codes, slice_index_or}
+use Rattle.std.specs.Prelude.{ℕ, Bool, true, false, ◌&&◌, ◌==◌, not, List, [], ◌∷◌, map, IsTrue, codes, slice_index_or}
 use Rattle.std.specs.Str.{bytes_eq}
 use Rattle.std.specs.String.{string_bytes}
 use Rattle.std.specs.declared.string.String.{String}
 use Rattle.std.specs.declared.alloc.Global.{Global}
 use Rattle.pj_io.specs.States.{FolderState}
+use Rattle.pj_feed.specs.Named.{AreTold, files_named}
 
 -- ---- words
 
@@ -62,16 +63,8 @@ file_names command = behind_first command.names
 abbrev pub plan_bytes : Command → List ℕ
 plan_bytes command = command.folder.contents (operand command.names 1)
 
-abbrev pub files_named : List (List ℕ) → FolderState → List (List ℕ)
-files_named names folder = map folder.contents names
-
 abbrev pub stream_files : Command → List (List ℕ)
 stream_files command = files_named (file_names command) command.folder
-
--- the contents of all these names are told
-abbrev pub AreTold : List (List ℕ) → FolderState → Type 0
-AreTold [] folder = ⊤
-AreTold (name ∷ names) folder = IsTrue (folder.told name) × AreTold names folder
 
 -- the plan is told
 abbrev pub HasToldPlan : Command → Type 0

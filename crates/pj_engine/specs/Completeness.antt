@@ -4,11 +4,11 @@ use Rattle.pj_io.specs.Causes.{Rose}
 use Rattle.pj_io.specs.States.{FolderState, SinkState}
 use Rattle.pj_plan.specs.declared.node.Outline.{Outline}
 use Rattle.pj_laws.specs.Reaching.{IsCounted}
-use Rattle.pj_engine.specs.declared.status.Status.{Status}
-use Rattle.pj_engine.specs.declared.status.Status.TheVariants.{Done, NoMemory}
+use Rattle.pj_report.specs.declared.status.Status.{Status}
+use Rattle.pj_report.specs.declared.status.Status.TheVariants.{Done, NoMemory}
 use Rattle.pj_engine.specs.Commands.{Command, IsTold, operand, plan_bytes, stream_files}
 use Rattle.pj_engine.specs.Plans.{plan_of}
-use Rattle.pj_engine.specs.Runs.{elements_to, most_arrivals, run_nodes}
+use Rattle.pj_run.specs.Runs.{elements_to, most_arrivals, run_nodes}
 use Rattle.pj_engine.specs.Top.{IsBuilt}
 
 -- no count of faults rose: not that of an operand's name, and not the sink's

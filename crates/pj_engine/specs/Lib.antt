@@ -1,17 +1,6 @@
 pub mod Commands
 pub mod Completeness
-pub mod Ends
-pub mod Feeds
-pub mod Opened
-pub mod Outcome
-pub mod PlanNames
 pub mod Plans
 pub mod Refusals
-pub mod Report
-pub mod Results
-pub mod RunEnds
-pub mod Runs
 pub mod Stops
 pub mod Top
-pub mod Turning
-pub mod Written

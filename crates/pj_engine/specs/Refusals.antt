@@ -7,15 +7,15 @@ use Rattle.pj_plan.specs.declared.fault.PlanWhy.{PlanWhy}
 use Rattle.pj_plan.specs.declared.node.Outline.{Outline}
 use Rattle.pj_plan.specs.Nodes.{streams_of}
 use Rattle.pj_plan_text.specs.PlanRead.{plan_read}
-use Rattle.pj_engine.specs.declared.status.Status.{Status}
-use Rattle.pj_engine.specs.declared.status.Status.TheVariants.{Done, Usage, OpenFault, ReadFault, PlanRefused, FileCount, Unsafe, WriteFault, NoMemory, Limit}
-use Rattle.pj_engine.specs.declared.status.LimitOf.TheVariants.{Plan}
+use Rattle.pj_report.specs.declared.status.Status.{Status}
+use Rattle.pj_report.specs.declared.status.Status.TheVariants.{Done, Usage, OpenFault, ReadFault, PlanRefused, FileCount, Unsafe, WriteFault, NoMemory, Limit}
+use Rattle.pj_report.specs.declared.status.LimitOf.TheVariants.{Plan}
 use Rattle.pj_engine.specs.declared.stops.FileStop.{FileStop}
 use Rattle.pj_engine.specs.declared.stops.FileStop.TheVariants.{OpenFault, ReadFault, TooLong, NoMemory as FileMemory}
 use Rattle.pj_engine.specs.declared.stops.PlanStop.{PlanStop}
 use Rattle.pj_engine.specs.declared.stops.PlanStop.TheVariants.{Usage as NoWords, File, Refused, FileCount as OtherCount, Unsafe as Stuck, NoMemory as PlanMemory}
 use Rattle.pj_engine.specs.Commands.{Command, HasToldPlan, file_names, operand, plan_bytes}
-use Rattle.pj_engine.specs.Opened.{OpensFirst}
+use Rattle.pj_feed.specs.Opened.{OpensFirst}
 use Rattle.pj_alone.specs.Safety.{IsFirstStuck, AreUnsafeLines, HasUnsafeLines}
 
 -- ---- what is refused

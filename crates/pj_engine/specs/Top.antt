@@ -2,11 +2,10 @@
 use Rattle.std.specs.Prelude.{◌≡◌, ◌<◌, ◌≤◌, ◌+◌, ◌^◌, ℕ, true, false, ◌⊎◌, ⊤, List, [], ◌∷◌, ◌++◌, map, length, Some, Ok, IsTrue}
 use Rattle.pj_plan.specs.declared.node.Outline.{Outline}
 use Rattle.pj_plan.specs.declared.node.PlanNode.{PlanNode}
-use Rattle.pj_plan.specs.Nodes.{streams_of}
+use Rattle.pj_plan.specs.Nodes.{streams_of, streams_in}
 use Rattle.pj_plan.specs.Canonical.{node_name}
 use Rattle.pj_plan_text.specs.PlanRead.{plan_read}
 use Rattle.pj_alone.specs.Safety.{IsSafePlan, AreUnsafeLines}
-use Rattle.pj_core.specs.Plans.{streams_in}
 use Rattle.pj_io.specs.Causes.{Rose}
 use Rattle.pj_io.specs.States.{FolderState, SinkState}
 use Rattle.pj_pattern.specs.declared.element.Element.{Element}
@@ -16,21 +15,21 @@ use Rattle.pj_value.specs.Bags.{SubBag}
 use Rattle.pj_value.specs.Lists.{In}
 use Rattle.pj_value.specs.declared.values.Value.{Value}
 use Rattle.pj_events.specs.declared.events.Entry.{Entry}
-use Rattle.pj_events.specs.Outcomes.{elements_out}
-use Rattle.pj_events.specs.Outcomes.{outputs_of as handed_out, elements_of as arrived_at}
+use Rattle.pj_events.specs.Outcomes.{elements_out, outputs_of as handed_out, elements_of as arrived_at}
 use Rattle.pj_events.specs.Join.{upto_from}
-use Rattle.pj_engine.specs.declared.status.Status.{Status}
-use Rattle.pj_engine.specs.declared.status.Status.TheVariants.{Done, Usage, OpenFault, ReadFault, PlanRefused, FileCount, Unsafe, WriteFault, NoMemory, Limit}
-use Rattle.pj_engine.specs.declared.status.LimitOf.{LimitOf}
-use Rattle.pj_engine.specs.declared.status.LimitOf.TheVariants.{Plan, Node, File}
+use Rattle.pj_report.specs.declared.status.Status.{Status}
+use Rattle.pj_report.specs.declared.status.Status.TheVariants.{Done, Usage, OpenFault, ReadFault, PlanRefused, FileCount, Unsafe, WriteFault, NoMemory, Limit}
+use Rattle.pj_report.specs.declared.status.LimitOf.{LimitOf}
+use Rattle.pj_report.specs.declared.status.LimitOf.TheVariants.{Plan, Node, File}
 use Rattle.pj_engine.specs.Commands.{Command, IsTold, HasToldPlan, operand, file_names, plan_bytes, stream_files}
-use Rattle.pj_engine.specs.Ends.{EndsBefore, EndsAtLimit, ArrivedOf, AreDistinct}
-use Rattle.pj_engine.specs.Opened.{OpensFirst, IsReadToEnd}
+use Rattle.pj_run.specs.Ends.{EndsBefore, EndsAtLimit, ArrivedOf}
+use Rattle.pj_feed.specs.Named.{AreDistinct}
+use Rattle.pj_feed.specs.Opened.{OpensFirst}
 use Rattle.pj_engine.specs.Plans.{plan_of}
 use Rattle.pj_engine.specs.Refusals.{Refuses}
-use Rattle.pj_engine.specs.Report.{status_line}
-use Rattle.pj_engine.specs.Runs.{outputs_of, history_of, answer_of, run_lines, run_nodes, GoesBeyond}
-use Rattle.pj_engine.specs.Written.{flat, WholeLines, FrontOf, Delivered, Spells, holding}
+use Rattle.pj_report.specs.Report.{status_line}
+use Rattle.pj_run.specs.Runs.{outputs_of, history_of, answer_of, run_lines, run_nodes, GoesBeyond}
+use Rattle.pj_report.specs.Written.{flat, WholeLines, FrontOf, Delivered, Spells, holding}
 
 -- ---- a run that is done
 
@@ -39,11 +38,6 @@ abbrev pub Ran : (Outline → List (List ℕ) → List Element → List (List �
 Ran Holds command old new =
     IsTold command → IsTrue new.told → (plan : Outline) × (outputs : List Element) × (report : List (List ℕ)) × (plan_of (plan_bytes command) ≡ Some plan)
     × (outputs ≡ outputs_of plan (stream_files command)) × (new.written ≡ old.written ++ flat (element_lines outputs ++ report)) × Holds plan (stream_files command) outputs report
-
--- of the file of each name that was closed last, all bytes were taken, where they are told
-abbrev pub AreReadToEnd : List (List ℕ) → FolderState → FolderState → Type 0
-AreReadToEnd [] old new = ⊤
-AreReadToEnd (name ∷ names) old new = (IsTrue (old.told name) → IsReadToEnd name old new) × AreReadToEnd names old new
 
 -- ---- something to run
 

@@ -5,12 +5,12 @@ ghost use Rattle.pj_plan.specs.Nodes.{streams_of};
 ghost use Rattle.pj_plan_text.specs.PlanRead.{plan_read};
 ghost use Rattle.pj_alone.specs.Safety.{AreCertificates, IsSafePlan, certificates_of};
 ghost use Rattle.pj_engine.specs.Commands.{is_run as run_form, is_option as option_form, no_options as none_is_option, operands, operand, command_of, plan_bytes, HasToldPlan};
-ghost use Rattle.pj_engine.specs.Opened.{OpensFirst, OpensAtMost, IsReadToEnd};
+ghost use Rattle.pj_feed.specs.Opened.{OpensFirst, OpensAtMost, IsReadToEnd};
 ghost use Rattle.pj_engine.specs.Plans.{plan_of, SpellsPlan};
 ghost use Rattle.pj_engine.specs.Refusals.{BytesRefused, HasLines, PlanCause, PlanUnfit, Unprepared, counted_files};
-ghost use Rattle.pj_engine.specs.Runs.{IsNewCore, outline_in};
+ghost use Rattle.pj_run.specs.Runs.{IsNewCore, outline_in};
 
-use crate::files::read_file;
+use crate::plan_file::read_file;
 use crate::stops::PlanStop;
 use pj_alone::{Judged, judge};
 use pj_core::Core;

@@ -2,18 +2,12 @@
 #![tactic(auto)]
 
 mod commands;
-mod feeds;
-mod files;
-mod lines;
-mod report;
-mod results;
-mod run;
+mod plan_file;
+mod refusal;
 mod status;
-mod status_line;
 mod stops;
 mod top;
-mod turns;
 
 pub use pj_alone::check_text;
-pub use status::{LimitOf, Status};
+pub use pj_report::{LimitOf, Status};
 pub use top::run_words;

@@ -1,20 +1,21 @@
 // The top call.
 ghost use Rattle.std.specs.Prelude.{◌≡◌, ℕ, true, false};
-ghost use Rattle.pj_engine.specs.declared.status.LimitOf.TheVariants.{Plan as PlanFile, Node, File};
+ghost use Rattle.pj_report.specs.declared.status.LimitOf.TheVariants.{Plan as PlanFile, Node, File};
 ghost use Rattle.pj_plan.specs.Canonical.{node_name as name_of_node};
-ghost use Rattle.pj_core.specs.Plans.{streams_in};
+ghost use Rattle.pj_plan.specs.Nodes.{streams_in};
 ghost use Rattle.pj_engine.specs.Commands.{command_of, operands, is_run as run_form};
 ghost use Rattle.pj_engine.specs.Completeness.{Completes};
 ghost use Rattle.pj_engine.specs.Refusals.{IsRefused, IsRightFault, IsRightCount, IsRightlyUnsafe};
-ghost use Rattle.pj_engine.specs.Runs.{IsAnswer, ArePunctuations, AreLawful, AreTallies};
-ghost use Rattle.pj_engine.specs.Top.{Ran, AreReadToEnd, OpensInOrder, StoppedRun, EarlyEnd, NeverRetracted, AnswersRefusal, IsBuilt, IsUnopened, WriteFails, BeyondLimit, IsTooLarge, HasFault, stream_name as name_of_stream, stop_name as stop_name_of};
+ghost use Rattle.pj_run.specs.Runs.{IsAnswer, ArePunctuations, AreLawful, AreTallies};
+ghost use Rattle.pj_engine.specs.Top.{Ran, OpensInOrder, StoppedRun, EarlyEnd, NeverRetracted, AnswersRefusal, IsBuilt, IsUnopened, WriteFails, BeyondLimit, IsTooLarge, HasFault, stream_name as name_of_stream, stop_name as stop_name_of};
+ghost use Rattle.pj_feed.specs.Opened.{AreReadToEnd};
 
 use crate::commands::prepare;
-use crate::run::run_files;
-use crate::status_line::{write_refusal, write_status};
-use crate::{LimitOf, Status};
+use crate::refusal::write_refusal;
 use pj_io::{Folder, Sink};
 use pj_plan::Plan;
+use pj_report::{LimitOf, Status, write_status};
+use pj_run::run_files;
 
 /// Runs the command that the words spell: `run PLAN FILE ..` reads a plan, and a file for each of its streams, and writes
 /// what the plan's run on one thread hands out, and the report. A plan of which an input of a join does not reach all is

@@ -6,8 +6,6 @@
 mod columns;
 mod heard;
 mod select;
-#[cfg(test)]
-mod tests;
 mod union;
 
 pub use columns::{cell, project_punct, project_tuple};

@@ -6,4 +6,3 @@ pub mod Certified
 pub mod Told
 pub mod Safe
 pub mod Unique
-pub mod Samples

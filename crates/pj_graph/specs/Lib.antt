@@ -4,4 +4,3 @@ pub mod Reaching
 pub mod Search
 pub mod Saturation
 pub mod Laws
-pub mod Samples

@@ -5,8 +5,6 @@ mod answers;
 mod laws;
 mod saturation;
 mod search;
-#[cfg(test)]
-mod tests;
 
 pub use answers::Reach;
 pub use laws::{safe_where_certified, saturations_are_told};

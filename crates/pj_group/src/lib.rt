@@ -17,8 +17,6 @@ mod places;
 mod reach;
 mod slots;
 mod tally;
-#[cfg(test)]
-mod tests;
 mod value_index;
 
 pub use group::{Group, GroupStop};

@@ -5,7 +5,5 @@ mod intake;
 mod lines;
 mod seen;
 mod steps;
-#[cfg(test)]
-mod tests;
 
 pub use intake::{Intake, IntakeStop, Step};

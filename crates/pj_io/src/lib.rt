@@ -24,6 +24,3 @@ pub use sink::{Sink, write_all};
 pub use source::{Failed, Source};
 pub use standard::StdSink;
 pub use whole::{WholeStop, read_whole};
-
-#[cfg(test)]
-mod tests;

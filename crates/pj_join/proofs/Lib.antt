@@ -5,7 +5,6 @@ pub mod Standing
 pub mod Finding
 pub mod Walking
 pub mod Calling
-pub mod Triples
 pub mod Cells
 pub mod Classes
 pub mod Decided
@@ -32,7 +31,6 @@ pub mod Elsewhere
 pub mod Hopped
 pub mod Lowest
 pub mod Through
-pub mod Triangles
 pub mod Roused
 pub mod Backward
 pub mod Settled

@@ -7,7 +7,6 @@ pub mod Insides
 pub mod Handed
 pub mod Judging
 pub mod Sweeping
-pub mod Triples
 pub mod Watching
 pub mod Hops
 pub mod Leaving

@@ -28,7 +28,3 @@ pub use handing::hand_out_rows;
 pub use join::Join;
 pub use probe::Probe;
 
-#[cfg(test)]
-mod plain_sweeps;
-#[cfg(test)]
-mod tests;

@@ -20,6 +20,3 @@ pub use laws::line_bytes;
 pub use lines::{is_blank, is_skipped, line_of_piece};
 pub use quote::Quote;
 pub use splitting::first_piece;
-
-#[cfg(test)]
-mod tests;

@@ -1,11 +1,6 @@
 //! Reads a plan and its files, and writes the results to standard output.
 #![tactic(auto)]
 
-#[cfg(test)]
-mod live;
-#[cfg(test)]
-mod tests;
-
 use pj_engine::run_words;
 use pj_io::{DiskFolder, StdSink};
 use std::env;

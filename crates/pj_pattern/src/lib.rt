@@ -9,8 +9,6 @@ mod meets;
 mod normal;
 mod pattern;
 mod punct;
-#[cfg(test)]
-mod tests;
 
 pub use element::Element;
 pub use laws::{covered_is_matched, lawful_lists, meets_match_both, normal_forms, widened_matches};

@@ -1,5 +1,6 @@
--- What a node is: its inputs and its parent, and which nodes are streams and joins.
-use Rattle.std.specs.Prelude.{ℕ, ◌+◌, Bool, true, false, ◌==◌, List, [], ◌∷◌, Option, Some, None, if◌then◌else◌}
+-- What a node is: its inputs and its parent, and which nodes are streams and joins; the streams of a plan.
+use Rattle.std.specs.Prelude.{ℕ, ◌+◌, Bool, true, false, ◌==◌, List, [], ◌∷◌, Option, Some, None, if◌then◌else◌, filter, map, slice_index_or}
+use Rattle.pj_shape.specs.declared.columns.Column.{Column}
 use Rattle.pj_plan.specs.declared.node.Node.{Node}
 use Rattle.pj_plan.specs.declared.node.Node.TheVariants.{Stream, Select, Project, Union, Join, Group}
 use Rattle.pj_plan.specs.declared.node.PlanNode.{PlanNode}
@@ -60,3 +61,14 @@ parent_from at (node ∷ nodes) number = or_else (input_from at 0 (inputs_of nod
 -- the node that the node of this number feeds, and at which of its inputs; none at the output
 abbrev pub parent_of : List PlanNode → ℕ → Option (ℕ × ℕ)
 parent_of nodes number = parent_from 0 nodes number
+
+-- the streams among these nodes, in order
+abbrev pub streams_in : List PlanNode → List PlanNode
+streams_in nodes = filter (λ node. is_stream node.node) nodes
+
+abbrev pub schema_in : PlanNode → List Column
+schema_in node = node.schema
+
+-- the columns of one of these streams, by its number among them
+abbrev pub stream_columns : List PlanNode → ℕ → List Column
+stream_columns streams stream = slice_index_or (map schema_in streams) stream []

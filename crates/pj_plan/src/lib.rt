@@ -14,8 +14,6 @@ mod node;
 mod plan;
 mod schemas;
 mod statement;
-#[cfg(test)]
-mod tests;
 mod words;
 
 pub use fault::{PlanFault, PlanStop, PlanWhy};

@@ -18,6 +18,3 @@ mod writer;
 pub use laws::statements_are_read_again;
 pub use reader::read_plan;
 pub use writer::plan_text;
-
-#[cfg(test)]
-mod tests;

@@ -13,6 +13,3 @@ pub use joined::Joined;
 pub use lent::Lent;
 pub use probe::{Found, Probe, each_lent};
 pub use visit::Visit;
-
-#[cfg(test)]
-mod tests;

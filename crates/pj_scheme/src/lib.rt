@@ -4,7 +4,5 @@
 mod derive;
 mod marks;
 mod operators;
-#[cfg(test)]
-mod tests;
 
 pub use derive::{derived, join_schemes, schemes_fit};

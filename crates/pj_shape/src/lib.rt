@@ -5,8 +5,6 @@ mod columns;
 mod groups;
 mod joins;
 mod laws;
-#[cfg(test)]
-mod tests;
 
 pub use columns::{Column, Instance, Schema, Scheme, Schemes};
 pub use groups::{Agg, GroupSpec};

@@ -20,6 +20,3 @@ pub use matching::{Matching, Spot};
 pub use remaining::Remaining;
 pub use shared::{Shared, Stored};
 pub use state::{NextNumber, State};
-
-#[cfg(test)]
-mod tests;

@@ -1,5 +1,4 @@
 pub mod Meanings
 pub mod History
 pub mod Rule
-pub mod Sample
 pub mod Seats

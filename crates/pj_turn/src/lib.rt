@@ -3,8 +3,6 @@
 
 mod kept;
 mod plays;
-#[cfg(test)]
-mod tests;
 mod turn;
 mod views;
 

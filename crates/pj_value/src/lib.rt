@@ -22,6 +22,3 @@ pub use shared_text::SharedText;
 pub use spelling::Spelling;
 pub use texts::{plain_len, value_text};
 pub use values::{Kind, Value};
-
-#[cfg(test)]
-mod tests;

@@ -2,7 +2,7 @@ use Rattle.std.proofs.Common.{ℕ, [], ◌∷◌, get_or, subst, ◌∙◌}
 use Rattle.pj_pattern.specs.declared.element.Element.{Element}
 use Rattle.pj_pattern.specs.declared.element.Element.TheVariants.{Punct}
 use Rattle.pj_plan.specs.Nodes.{streams_of}
-use Rattle.pj_core.specs.Climbing.{Climbs, IsClimbStop}
+use Rattle.pj_operator.specs.Climbing.{Climbs, IsClimbStop}
 use Rattle.pj_core.proofs.Streams.{closing-is}
 use Rattle.pj_core.proofs.running.close.Goals as goal
 

@@ -1,7 +1,7 @@
 use Rattle.std.proofs.Common.{◌-◌, length}
 use Rattle.pj_engine.specs.Commands.{is_run, operands, behind_first}
 use Rattle.pj_engine.proofs.FilesLaws.{operands_are, first_operand, names_counted}
-use Rattle.pj_engine.proofs.Opening.{opens_most_of}
+use Rattle.pj_feed.proofs.Opening.{opens_most_of}
 use Rattle.pj_engine.proofs.Refusing.{is_so, unprepared_if}
 use Rattle.pj_engine.proofs.commands.prepare.Goals as goal
 

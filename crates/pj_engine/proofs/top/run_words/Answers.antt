@@ -1,19 +1,21 @@
 use Rattle.pj_core.specs.Plans.{RunPlan}
 use Rattle.std.proofs.Common.{refl, ap, sym, inl, ◌∙◌, ◌++◌, subst, Err, arith, IsTrue, List, ℕ, length}
-use Rattle.pj_engine.specs.declared.status.Status.TheVariants.{Done, PlanRefused, FileCount, Unsafe, WriteFault, Limit}
-use Rattle.pj_engine.specs.declared.status.LimitOf.TheVariants.{Plan, Node, File}
-use Rattle.pj_engine.specs.Commands.{command_of, files_named, operand, operands}
-use Rattle.pj_engine.specs.PlanNames.{HasPlainNames}
-use Rattle.pj_engine.specs.Runs.{IsAnswer, ArePunctuations, AreLawful, AreTallies, outline_in, report_of, outputs_of, run_lines}
-use Rattle.pj_engine.specs.Written.{Leaves, files_cut, flat}
+use Rattle.pj_report.specs.declared.status.Status.TheVariants.{Done, PlanRefused, FileCount, Unsafe, WriteFault, Limit}
+use Rattle.pj_report.specs.declared.status.LimitOf.TheVariants.{Plan, Node, File}
+use Rattle.pj_engine.specs.Commands.{command_of, operand, operands}
+use Rattle.pj_feed.specs.Named.{files_named}
+use Rattle.pj_run.specs.PlanNames.{HasPlainNames}
+use Rattle.pj_run.specs.Runs.{IsAnswer, ArePunctuations, AreLawful, AreTallies, outline_in, report_of, outputs_of, run_lines}
+use Rattle.pj_run.specs.Cuts.{files_cut}
+use Rattle.pj_report.specs.Written.{Leaves, flat}
 use Rattle.pj_engine.proofs.CallLaws.{names_in, files_told, files_same, all_read, built, opened_done, opened_stop, stopped, early, faulted, unopened, write_failed, beyond, too_large, of_few, names_of_streams, files_of_streams}
 use Rattle.pj_engine.proofs.Completing.{completes_by}
 use Rattle.pj_engine.proofs.EarlyLaws.{answers_built, answers_early, early_early, early_lines, fault_early, memory_early, no_words, opened_early, refused_early, refused_never, run_never, stopped_early, unopened_early, usage_early, usage_never}
-use Rattle.pj_engine.proofs.OutputLaws.{outputs_lawful, outputs_answer, outputs_puncts}
-use Rattle.pj_engine.proofs.Planned.{new_planned}
+use Rattle.pj_run.proofs.OutputLaws.{outputs_lawful, outputs_answer, outputs_puncts}
+use Rattle.pj_run.proofs.Planned.{new_planned}
 use Rattle.pj_engine.proofs.RunLaws.{ran}
 use Rattle.pj_engine.proofs.StaysLaws.{never_early, never_done, never_stopped, stop_name_by, stop_name_short}
-use Rattle.pj_engine.proofs.StreamNodes.{few-streams}
+use Rattle.pj_feed.proofs.StreamNodes.{few-streams}
 use Rattle.pj_engine.proofs.top.run_words.Goals as goal
 
 -- ---- the run begins

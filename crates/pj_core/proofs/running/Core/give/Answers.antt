@@ -1,7 +1,7 @@
 use Rattle.std.proofs.Common.{refl, reverse, rules, subst}
 use Rattle.std.proofs.lemmas.List.{places, with_items_is}
 use Rattle.pj_core.specs.Plans.{run_plan}
-use Rattle.pj_core.specs.Acts.{HasGivenOn, IsGiveStop}
+use Rattle.pj_operator.specs.Acts.{HasGivenOn, IsGiveStop}
 use Rattle.pj_core.specs.Calls.{HasGiven, IsGiveCause}
 use Rattle.pj_core.proofs.Calls.{given-cause, given-core}
 use Rattle.pj_core.proofs.Words.{holds-now, linked-cells, made-now, on-now, open-parts, refused-again, refused-now}

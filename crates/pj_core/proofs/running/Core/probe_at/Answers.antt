@@ -1,7 +1,7 @@
 use Rattle.std.proofs.Common.{reverse, rules, subst}
 use Rattle.std.proofs.lemmas.List.{places, with_items_is}
 use Rattle.pj_core.specs.Plans.{run_plan}
-use Rattle.pj_core.specs.Acts.{IsProbeStop, ProbesOn}
+use Rattle.pj_operator.specs.Acts.{IsProbeStop, ProbesOn}
 use Rattle.pj_core.specs.Turns.{MayProbeAt}
 use Rattle.pj_core.proofs.Probes.{may-probe, probe-stops-now}
 use Rattle.pj_core.proofs.Words.{holds-now, linked-cells, stop-none}

@@ -2,9 +2,9 @@ use Rattle.std.proofs.Common.{◌<◌, length, reverse, rules, subst, sym}
 use Rattle.std.proofs.lemmas.List.{places, with_items_is}
 use Rattle.pj_core.specs.Plans.{run_plan}
 use Rattle.pj_events.specs.declared.events.Event.TheVariants.{Sweep as Swept}
-use Rattle.pj_core.specs.Acts.{HasJoinInput, HasSweptAt, IsSweepStop}
+use Rattle.pj_operator.specs.Acts.{HasJoinInput, HasSweptAt, IsSweepStop}
 use Rattle.pj_core.specs.Calls.{HasSwept, IsCause, IsJoinInput}
-use Rattle.pj_core.specs.Cells.{cell_at}
+use Rattle.pj_operator.specs.Cells.{cell_at}
 use Rattle.pj_core.proofs.Calls.{input-there, swept-cause, swept-core}
 use Rattle.pj_core.proofs.Words.{holds-now, linked-cells, made-now, of-parts, opens-now, stop-none, stopped-now}
 use Rattle.pj_core.proofs.running.Core.sweep_one.Goals as goal

@@ -2,7 +2,7 @@ use Rattle.std.proofs.Common.{◌≡◌, refl, reverse, rules, subst}
 use Rattle.std.proofs.lemmas.List.{places, with_items_is}
 use Rattle.pj_core.specs.Plans.{run_plan}
 use Rattle.pj_events.specs.declared.events.Stop.TheVariants.{NoMemory}
-use Rattle.pj_core.specs.Acts.{TakesFirst}
+use Rattle.pj_operator.specs.Acts.{TakesFirst}
 use Rattle.pj_core.specs.Calls.{CoreTakes}
 use Rattle.pj_core.proofs.Calls.{core-takes}
 use Rattle.pj_core.proofs.Words.{few-cells, holds-now, refused-again, refused-now}

@@ -1,5 +1,0 @@
-use Rattle.pj_core.proofs.Changes.{frames-work}
-use Rattle.pj_core.proofs.act.give_at.Goals as goal
-
-pub returns-clause-frames : goal.returns-clause-frames
-returns-clause-frames c = frames-work c.args.cells.now c.join-place.result c.index-cells-place.result c.give.new.self c.give.ensures.kind

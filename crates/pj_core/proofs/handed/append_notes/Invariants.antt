@@ -1,6 +1,0 @@
-use Rattle.std.proofs.Common.{◌≡◌, ◌++◌, true}
-use Rattle.pj_core.specs.Handed.{notes_out}
-use Rattle.pj_core.proofs.handed.append_notes.Given as goal
-
-abbrev pub invariant-loop-row : goal.invariant-loop-row
-invariant-loop-row l = l.outs ≡ l.initial.outs ++ notes_out true l.join l.input l.yielded

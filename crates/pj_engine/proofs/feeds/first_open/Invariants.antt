@@ -1,5 +1,0 @@
-use Rattle.pj_engine.proofs.Opens.{AreShut}
-use Rattle.pj_engine.proofs.feeds.first_open.Given as goal
-
-abbrev pub invariant-loop-place : goal.invariant-loop-place
-invariant-loop-place g l = AreShut l.feeds l.from l.place

@@ -1,7 +1,0 @@
-use Rattle.std.proofs.Common.{[], ◌∷◌, ◌∙◌}
-use Rattle.pj_engine.specs.Report.{peak_line}
-use Rattle.pj_engine.proofs.LinesWritten.{one_line}
-use Rattle.pj_engine.proofs.report.write_peak_line.Goals as goal
-
-pub returns-clause-lines : goal.returns-clause-lines
-returns-clause-lines g c = c.in_ok-write_piece.ensures.lines (peak_line c.args.name.now c.args.peak ∷ []) (one_line _ _ (c.as_slice.ensures ∙ c.in_ok-peak_text.ensures))

@@ -1,0 +1,11 @@
+pub mod AllFeeds
+pub mod FeedFacts
+pub mod Feeding
+pub mod Stepping
+pub mod Turned
+pub mod Opens
+pub mod Closing
+pub mod Opening
+pub mod StreamNodes
+pub mod Names
+pub mod Answered

@@ -1,5 +1,0 @@
-use Rattle.pj_line.specs.Buffers.{KnowsEnd}
-use Rattle.pj_intake.proofs.tests.gives.Given as goal
-
-abbrev pub invariant-loop : goal.invariant-loop
-invariant-loop l = KnowsEnd l.intake.state.buffer l.intake.source.source

@@ -1,5 +1,0 @@
-use Rattle.pj_line.specs.Buffers.{KnowsEnd}
-use Rattle.pj_line.proofs.tests.are_given.Given as goal
-
-abbrev pub invariant-loop-line : goal.invariant-loop-line
-invariant-loop-line l = KnowsEnd l.buffer l.source.source

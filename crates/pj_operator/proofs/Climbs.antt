@@ -1,0 +1,487 @@
+-- What a node hands up climbs: at the top, to the node above, and one element after the other.
+use Rattle.std.proofs.Common.{ℕ, zero, suc, ◌+◌, ◌<◌, ◌≤◌, ◌≢◌, Bool, true, false, cond, ◌&&◌, List, [], ◌∷◌, ◌++◌, ◌≡◌, Option, Some, None, map, length, length-append, take, get_or, set, eqb, refl, sym, ap, ap₂, ◌∙◌, subst, inl, inr, arith, append-nil, append_assoc}
+use Rattle.std.proofs.lemmas.Bool.{cases_eq, eq-eqb, eqb-true, false≢true}
+use Rattle.std.proofs.lemmas.List.{length-set, length-map, map-append, get_or_default, length-take, take-take, get_or-set_same, get_or-set_other}
+use Rattle.std.proofs.Math.ListN.{get_or-map}
+use Rattle.std.proofs.Math.Seq.{map-set_same, take-length}
+use Rattle.pj_pattern.specs.declared.element.Element.{Element}
+use Rattle.pj_value.specs.declared.values.Value.{Value}
+use Rattle.pj_pattern.specs.declared.element.Element.TheVariants.{Tuple, Punct}
+use Rattle.pj_events.specs.Outcomes.{elements_out}
+use Rattle.pj_events.specs.declared.events.Out.TheVariants.{Tuple as RowOut, Punct as PunctOut, Purged}
+use Rattle.pj_events.specs.declared.events.Out.{Out}
+use Rattle.pj_events.specs.declared.events.Stop.{Stop}
+use Rattle.pj_events.specs.declared.events.Stop.TheVariants.{Limit, NoMemory}
+use Rattle.pj_events.specs.Plan.{Operator, Stream, Select, Project, Union, Join, Group, Node, Comes, hands, nowhere, operator_at}
+use Rattle.pj_events.specs.History.{out_of}
+use Rattle.pj_events.specs.Outcomes.{Arrival, Climb, Beyond, Below, Level, arriving, beyond_of, climb, climb_each, counts, is_full, passed, way_up}
+use Rattle.pj_laws.specs.Climb.{Above, Climbed, above, climbed, in_two, node_after, node_hands, with_brought}
+use Rattle.pj_laws.specs.ClimbLimits.{climb_then, level_at, reached_with}
+use Rattle.pj_laws.proofs.ClimbingParts.{climbs-on}
+use Rattle.pj_laws.proofs.ClimbingLimits.{climb-parts, levels-climb}
+use Rattle.pj_laws.proofs.Trees.{length-brought, length-climbed, none-before}
+use Rattle.pj_operator.specs.declared.cell.Cell.{Cell}
+use Rattle.pj_operator.specs.declared.cell.Handed.{Handed}
+use Rattle.pj_operator.specs.declared.cell.Work.{Work}
+use Rattle.pj_operator.specs.declared.cell.Work.TheVariants.{Stream as StreamCell, Select as SelectCell, Project as ProjectCell, Union as UnionCell, Join as JoinCell, Group as GroupCell}
+use Rattle.pj_operator.specs.Cells.{AreAs, AreLinked, Follows, FitsKind, Frame, IsLinked, HasLimit, HaveLimit, IsAs, IsFull, IsOrderly, KeepsOpen, above_pair, cell_at, count_in, count_seen, frame_at, frame_of, frames_in, handed_list, kept_seen, kind_of, no_cell, width_of, IsTakenIn}
+use Rattle.pj_operator.specs.Climbing.{AreCounted, Climbs, GoBeyond, HasEntered, IsClimbStop, IsEntryStop, Leaves, Scene, StayOpen, StaysAs, count_at, work_at}
+use Rattle.pj_operator.proofs.Ways.{above-same, both-at, ins, ins-climbed, ins-set, nothing-brought, tree-same, way-long, way-past, way-same}
+
+-- ---- frames
+
+pub frame-at : (cells : List Cell) (n : ℕ) → frame_at (frames_in cells) n ≡ frame_of (cell_at cells n)
+frame-at cells n = get_or-map frame_of cells n no_cell
+
+pub long-frames : (old new : List Cell) → frames_in new ≡ frames_in old → length new ≡ length old
+long-frames old new e = sym (length-map new frame_of) ∙ ap length e ∙ length-map old frame_of
+
+pub same-frame : (old new : List Cell) (n : ℕ) → frames_in new ≡ frames_in old → frame_of (cell_at new n) ≡ frame_of (cell_at old n)
+same-frame old new n e = sym (frame-at new n) ∙ ap (λ (fs : List Frame). frame_at fs n) e ∙ frame-at old n
+
+pub stays-none : (cells : List Cell) → StaysAs cells cells
+stays-none cells = record { frames = refl; peaks = refl; opens = λ b. (b, λ n t h. h) }
+
+pub stays-then : (old mid new : List Cell) → StaysAs old mid → StaysAs mid new → StaysAs old new
+stays-then old mid new a b = record { frames = b.frames ∙ a.frames; peaks = b.peaks ∙ a.peaks; opens = λ below. let o = a.opens below in let p = b.opens o.0 in (p.0, λ n t h. p.1 n t (o.1 n t h)) }
+
+pub opens-set : (cells : List Cell) (n : ℕ) (cell : Cell) → n < length cells → KeepsOpen (cell_at cells n).work cell.work → StayOpen cells (set cells n cell)
+opens-set cells n cell lt keeps orderly = ((λ m. one m), (λ m t h. two m t h))
+  where
+    K : IsOrderly cell.work × ((t : ℕ) → IsTakenIn (kept_seen (cell_at cells n).work) t → IsTakenIn (kept_seen cell.work) t)
+    K = keeps (orderly n)
+
+    here : cell_at (set cells n cell) n ≡ cell
+    here = get_or-set_same cells n cell no_cell lt
+
+    one : (m : ℕ) → IsOrderly (work_at (set cells n cell) m)
+    one m = elim (cases_eq m n) [
+      | inl q ↦ subst (λ (k : ℕ). IsOrderly (work_at (set cells n cell) k)) (sym q) (subst (λ (x : Cell). IsOrderly x.work) (sym here) K.0)
+      | inr ne ↦ subst (λ (x : Cell). IsOrderly x.work) (sym (get_or-set_other cells n m cell no_cell ne)) (orderly m)
+    ]
+
+    two : (m t : ℕ) → IsTakenIn (kept_seen (work_at cells m)) t → IsTakenIn (kept_seen (work_at (set cells n cell) m)) t
+    two m t h = elim (cases_eq m n) [
+      | inl q ↦
+          subst (λ (k : ℕ). IsTakenIn (kept_seen (work_at (set cells n cell) k)) t) (sym q)
+          (subst (λ (x : Cell). IsTakenIn (kept_seen x.work) t) (sym here) (K.1 t (subst (λ (k : ℕ). IsTakenIn (kept_seen (work_at cells k)) t) q h)))
+      | inr ne ↦ subst (λ (x : Cell). IsTakenIn (kept_seen x.work) t) (sym (get_or-set_other cells n m cell no_cell ne)) h
+    ]
+
+-- one node changes, and stays what it is
+pub stays_set : (cells : List Cell) (n : ℕ) (d cell : Cell) → n < length cells → frame_of cell ≡ frame_of (get_or cells n d) → cell.peak ≡ (get_or cells n d).peak → KeepsOpen (get_or cells n d).work cell.work
+    → StaysAs cells (set cells n cell)
+stays_set cells n d cell lt frame peak keeps = record {
+  frames = map-set_same frame_of cells n cell d frame;
+  peaks = map-set_same (λ (x : Cell). x.peak) cells n cell d peak;
+  opens = opens-set cells n cell lt (subst (λ (x : Cell). KeepsOpen x.work cell.work) (get_or_default cells n d no_cell lt) keeps);
+}
+
+-- what feeds a node above
+pub linked-at : (cells : List Cell) (n place input : ℕ) → AreLinked (frames_in cells) → n < length cells → (cell_at cells n).above ≡ Some (place, input)
+    → (n < place) × (place < length cells) × FitsKind (frame_at (frames_in cells) place).kind input (cell_at cells n).width
+linked-at cells n place input linked lt e =
+    let l = linked n (omega (arith, lt, length-map cells frame_of)) in
+    let m : (n < place) × (place < length (frames_in cells)) × FitsKind (frame_at (frames_in cells) place).kind input (cell_at cells n).width =
+    subst (λ (o : Option (ℕ × ℕ)). IsLinked (frames_in cells) n o (cell_at cells n).width) e
+    (subst (λ (f : Frame). IsLinked (frames_in cells) n f.above f.width) (frame-at cells n) l) in
+    (m.0, (let b = m.1 in omega (arith, b, length-map cells frame_of)), m.2)
+
+-- a node and its cell change together
+pub as-set : (cells : List Cell) (nodes : List Node) (n : ℕ) (cell : Cell) (node : Node) → AreAs cells nodes → n < length cells → node.inputs ≡ (get_or nodes n nowhere).inputs → IsAs cell.work node.operator
+    → frame_of cell ≡ frame_of (cell_at cells n) → AreAs (set cells n cell) (set nodes n node)
+as-set cells nodes n cell node A lt inputs is frame = record {
+  tree = tree-same nodes (set nodes n node) (sym same) A.tree;
+  long = length-set cells n cell ∙ A.long ∙ sym (length-set nodes n node);
+  links = λ m l.
+      above-same (set nodes n node) nodes m same ∙ A.links m (omega (arith, l, length-set cells n cell))
+      ∙ ap (λ (f : Frame). above_pair f.above) (sym (same-frame cells (set cells n cell) m (map-set_same frame_of cells n cell no_cell frame)));
+  each = λ m l. elim (cases_eq m n) [
+    | inl q ↦
+        subst (λ (k : ℕ). IsAs (cell_at (set cells n cell) k).work (operator_at (set nodes n node) k)) (sym q)
+        (subst (λ (c : Cell). IsAs c.work (operator_at (set nodes n node) n)) (sym (get_or-set_same cells n cell no_cell lt))
+        (subst (λ (x : Node). IsAs cell.work x.operator) (sym (get_or-set_same nodes n node nowhere (omega (arith, lt, A.long)))) is))
+    | inr ne ↦
+        subst (λ (c : Cell). IsAs c.work (operator_at (set nodes n node) m)) (sym (get_or-set_other cells n m cell no_cell ne))
+        (subst (λ (x : Node). IsAs (cell_at cells m).work x.operator) (sym (get_or-set_other nodes n m node nowhere ne)) (A.each m (omega (arith, l, length-set cells n cell))))
+  ];
+}
+  where
+    same : ins (set nodes n node) ≡ ins nodes
+    same = ins-set nodes n node inputs
+
+-- ---- at the top
+
+climb-top : (depth limit : ℕ) (es : List Element) → beyond_of (climb depth limit [] es) ≡ None
+climb-top zero limit es = refl
+climb-top (suc depth) limit es = refl
+
+abbrev nothing_to : Node → List Arrival
+nothing_to x = []
+
+none-brought : (nodes : List Node) (n : ℕ) → get_or (map nothing_to nodes) n [] ≡ []
+none-brought nodes n = get_or-map nothing_to nodes n nowhere
+
+plus-none : (n : ℕ) → n + 0 ≡ n
+plus-none n = omega arith
+
+still-counted : (cells : List Cell) (brought : List (List Arrival)) → ((n : ℕ) → get_or brought n [] ≡ []) → AreCounted cells cells brought
+still-counted cells brought none n lt = sym (plus-none (count_at cells n)) ∙ ap (λ (came : List Arrival). count_at cells n + length came) (sym (none n))
+
+-- an element that the last node hands up is handed out
+pub climbs-out : (cells : List Cell) (outs outs' : List Out) (from : ℕ) (e : Element) → from < length cells → (cell_at cells from).above ≡ None → outs' ≡ outs ++ out_of e ∷ []
+    → Climbs (record { cells = cells; outs = outs }) (record { cells = cells; outs = outs' }) from (e ∷ [])
+climbs-out cells outs outs' from e lt none handed = record {
+  climbs = λ nodes A.
+      subst (λ (c : Climbed). Leaves (record { cells = cells; outs = outs }) (record { cells = cells; outs = outs' }) c)
+      (sym ((climbs-on nodes A.tree).ends from (e ∷ []) (top nodes A)))
+      (record { stands = A; hands = handed; counts = still-counted cells (map nothing_to nodes) (none-brought nodes) });
+  within = λ limit have nodes A depth le.
+      ap (λ (levels : List Level). beyond_of (climb depth limit levels (e ∷ []))) ((levels-climb nodes A.tree (count_at cells) limit).ends from (top nodes A))
+      ∙ climb-top depth limit (e ∷ []);
+}
+  where
+    top : (nodes : List Node) → AreAs cells nodes → above nodes from ≡ None
+    top nodes A = A.links from lt ∙ ap above_pair none
+
+-- ---- to the node above
+
+full-is : (work : Work) (operator : Operator) (limit number : ℕ) → IsAs work operator → HasLimit limit (kind_of work) → (counts operator && eqb (count_in work number) limit) ≡ true → IsFull work
+full-is StreamCell (Stream schema sent) limit number a h e = absurd (false≢true e)
+full-is (SelectCell own) (Select test) limit number a h e = absurd (false≢true e)
+full-is (ProjectCell own) (Project columns) limit number a h e = absurd (false≢true e)
+full-is (UnionCell own) (Union n u) limit number a h e = absurd (false≢true e)
+full-is (JoinCell own) (Join spec s) limit number a h e = eqb-true own.kept.next limit e ∙ sym h
+full-is (GroupCell own) (Group spec rows) limit number a h e = eqb-true own.count limit e ∙ sym h
+full-is work operator limit number a h e = absurd a.kind
+
+is-full : (work : Work) (operator : Operator) (limit number : ℕ) → IsAs work operator → HasLimit limit (kind_of work) → IsFull work → (counts operator && eqb (count_in work number) limit) ≡ true
+is-full (JoinCell own) (Join spec s) limit number a h f = eq-eqb own.kept.next limit (f ∙ h)
+is-full (JoinCell own) operator limit number a h f = absurd a.kind
+is-full (GroupCell own) (Group spec rows) limit number a h f = eq-eqb own.count limit (f ∙ h)
+is-full (GroupCell own) operator limit number a h f = absurd a.kind
+is-full work operator limit number a h f = absurd f
+
+not-full : (work : Work) (operator : Operator) (limit number : ℕ) → IsAs work operator → HasLimit limit (kind_of work) → ¬ IsFull work → (counts operator && eqb (count_in work number) limit) ≡ false
+not-full work operator limit number a h room = go (counts operator && eqb (count_in work number) limit) refl
+  where
+    go : (b : Bool) → (counts operator && eqb (count_in work number) limit) ≡ b → b ≡ false
+    go true e = absurd (room (full-is work operator limit number a h e))
+    go false e = refl
+
+-- one element goes up into a level
+one-up : (depth limit : ℕ) (level : Level) (levels : List Level) (e : Element) → is_full limit level ≡ false
+    → beyond_of (climb (suc depth) limit (level ∷ levels) (e ∷ [])) ≡ beyond_of (climb depth limit levels (hands level.operator (Comes level.input e)))
+one-up depth limit level levels e room = go (is_full limit level) (climb depth limit levels (hands level.operator (Comes level.input e))) room
+  where
+    go : (b : Bool) (c : Climb) → b ≡ false
+        → beyond_of (cond b (Beyond level.place) (elim c as (λ _. Climb) [
+          | Beyond place ↦ Beyond place
+          | Below higher ↦ climb_each (climb depth limit) limit (passed level e) higher []
+        ])) ≡ beyond_of c
+    go true c q = absurd (false≢true (sym q))
+    go false (Beyond place) q = refl
+    go false (Below higher) q = refl
+
+none-up : (depth limit : ℕ) (level : Level) (levels : List Level) (e : Element) → is_full limit level ≡ true → beyond_of (climb (suc depth) limit (level ∷ levels) (e ∷ [])) ≡ Some level.place
+none-up depth limit level levels e full = go (is_full limit level) full
+  where
+    go : (b : Bool) → b ≡ true
+        → beyond_of (cond b (Beyond level.place) (elim (climb depth limit levels (hands level.operator (Comes level.input e))) as (λ _. Climb) [
+          | Beyond place ↦ Beyond place
+          | Below higher ↦ climb_each (climb depth limit) limit (passed level e) higher []
+        ])) ≡ Some level.place
+    go true q = refl
+    go false q = absurd (false≢true q)
+
+module _ (old mid : List Cell) (from place input : ℕ) (e : Element) (up : Handed) (lt : from < length old) (linked : AreLinked (frames_in old))
+    (feeds : (cell_at old from).above ≡ Some (place, input)) (H : HasEntered old mid place input e up) where
+  there : (from < place) × (place < length old) × FitsKind (frame_at (frames_in old) place).kind input (cell_at old from).width
+  there = linked-at old from place input linked lt feeds
+
+  abbrev came : List Arrival
+  came = arriving input e ∷ []
+
+  abbrev met : Above
+  met = record { place = place; input = input }
+
+  long-mid : length mid ≡ length old
+  long-mid = ap length H.changes ∙ length-set old place H.cell
+
+  mid-here : cell_at mid place ≡ H.cell
+  mid-here = ap (λ (cells : List Cell). cell_at cells place) H.changes ∙ get_or-set_same old place H.cell no_cell there.1
+
+  mid-other : (n : ℕ) → n ≢ place → cell_at mid n ≡ cell_at old n
+  mid-other n ne = ap (λ (cells : List Cell). cell_at cells n) H.changes ∙ get_or-set_other old place n H.cell no_cell ne
+
+  pub frames-mid : frames_in mid ≡ frames_in old
+  frames-mid = ap frames_in H.changes ∙ map-set_same frame_of old place H.cell no_cell H.frame
+
+  module _ (nodes : List Node) (A : AreAs old nodes) where
+    abbrev node : Node
+    node = get_or nodes place nowhere
+
+    abbrev nodes-mid : List Node
+    nodes-mid = set nodes place (node_after node came)
+
+    met-there : above nodes from ≡ Some met
+    met-there = A.links from lt ∙ ap above_pair feeds
+
+    below : place < length nodes
+    below = let a = there.1 in omega (arith, a, A.long)
+
+    F : Follows H.cell.work up node.operator input e
+    F = H.follows node.operator (A.each place there.1)
+
+    B : AreAs mid nodes-mid
+    B = subst (λ (cells : List Cell). AreAs cells nodes-mid) (sym H.changes) (as-set old nodes place H.cell (node_after node came) A there.1 refl F.stands H.frame)
+
+    handed-up : node_hands node came ≡ handed_list up
+    handed-up = append-nil (hands node.operator (Comes input e)) ∙ sym F.hands
+
+    behind : climbed nodes from (e ∷ []) ≡ with_brought place came (climbed nodes-mid place (handed_list up))
+    behind = (climbs-on nodes A.tree).goes_on from (e ∷ []) met met-there ∙ ap (λ (es : List Element). with_brought place came (climbed nodes-mid place es)) handed-up
+
+    leaves : (outs outs' : List Out) (new : List Cell) → Leaves (record { cells = mid; outs = outs }) (record { cells = new; outs = outs' }) (climbed nodes-mid place (handed_list up))
+        → Leaves (record { cells = old; outs = outs }) (record { cells = new; outs = outs' }) (climbed nodes from (e ∷ []))
+    leaves outs outs' new L =
+        subst (λ (c : Climbed). Leaves (record { cells = old; outs = outs }) (record { cells = new; outs = outs' }) c) (sym behind) (record { stands = L.stands; hands = L.hands; counts = more })
+      where
+        c : Climbed
+        c = climbed nodes-mid place (handed_list up)
+
+        long-brought : length c.brought ≡ length nodes
+        long-brought = length-brought 0 (record { from = place; elements = handed_list up }) nodes-mid ∙ length-set nodes place (node_after node came)
+
+        nothing : get_or c.brought place [] ≡ []
+        nothing = none-before 0 (record { from = place; elements = handed_list up }) nodes-mid place B.tree.behind (omega arith)
+
+        more : (n : ℕ) → n < length old → count_at new n ≡ count_at old n + length (get_or (set c.brought place came) n [])
+        more n l = elim (cases_eq n place) [
+          | inl q ↦
+              let here = ap (count_at new) q ∙ L.counts place (let a = there.1 in omega (arith, a, long-mid)) in
+              let one = ap count_seen mid-here ∙ H.count in
+              let none = ap length nothing in
+              let set-here = ap length (ap (λ (m : ℕ). get_or (set c.brought place came) m []) q ∙ get_or-set_same c.brought place came [] (omega (arith, below, long-brought))) in
+              let same = ap (count_at old) q in
+              omega (arith, here, one, none, set-here, same)
+          | inr ne ↦
+              L.counts n (omega (arith, l, long-mid)) ∙ ap (λ (x : Cell). count_seen x + length (get_or c.brought n [])) (mid-other n ne)
+              ∙ ap (λ (xs : List Arrival). count_at old n + length xs) (sym (get_or-set_other c.brought place n came [] ne))
+        ]
+
+    -- the levels above the node are those behind the element
+    levels-mid : way_up (count_at old) 0 place nodes ≡ way_up (count_at mid) 0 place nodes-mid
+    levels-mid = way-past (count_at old) (count_at mid) 0 place place nodes (node_after node came) A.tree.behind (omega arith) refl
+        (λ m l lt'. ap count_seen (sym (mid-other m (λ q. omega (arith, l, q)))))
+
+    limit-there : (limit : ℕ) → HaveLimit limit (frames_in old) → HasLimit limit (kind_of (cell_at old place).work)
+    limit-there limit have =
+        subst (λ (f : Frame). HasLimit limit f.kind) (frame-at old place) (have place (let a = there.1 in omega (arith, a, length-map old frame_of)))
+
+  pub climbs-above : (new : List Cell) (outs outs' : List Out) → Climbs (record { cells = mid; outs = outs }) (record { cells = new; outs = outs' }) place (handed_list up)
+      → (nodes : List Node) → AreAs old nodes → Leaves (record { cells = old; outs = outs }) (record { cells = new; outs = outs' }) (climbed nodes from (e ∷ []))
+  climbs-above new outs outs' C nodes A = leaves nodes A outs outs' new (C.climbs (nodes-mid nodes A) (B nodes A))
+
+  pub beyond-above : (o : Option ℕ) → GoBeyond mid place (handed_list up) o → GoBeyond old from (e ∷ []) o
+  beyond-above o G limit have nodes A zero le =
+      absurd (let l = ap length ((levels-climb nodes A.tree (count_at old) limit).goes_on from met (met-there nodes A)) in omega (arith, le, l))
+  beyond-above o G limit have nodes A (suc depth) le =
+      let L = (levels-climb nodes A.tree (count_at old) limit).goes_on from met (met-there nodes A) in
+      let long = ap length L in
+      ap (λ (levels : List Level). beyond_of (climb (suc depth) limit levels (e ∷ []))) L
+      ∙ one-up depth limit (level_at (count_at old) nodes met) (way_up (count_at old) 0 place nodes) e
+      (not-full (cell_at old place).work (operator_at nodes place) limit (cell_at old place).passed (A.each place there.1) (limit-there nodes A limit have) H.room)
+      ∙ ap₂ (λ (levels : List Level) (es : List Element). beyond_of (climb depth limit levels es)) (levels-mid nodes A) (sym (F nodes A).hands)
+      ∙ G limit (subst (HaveLimit limit) (sym frames-mid) have) (nodes-mid nodes A) (B nodes A) depth (omega (arith, le, long, ap length (levels-mid nodes A)))
+
+  pub climbs-up : (new : List Cell) (outs outs' : List Out) → Climbs (record { cells = mid; outs = outs }) (record { cells = new; outs = outs' }) place (handed_list up)
+      → Climbs (record { cells = old; outs = outs }) (record { cells = new; outs = outs' }) from (e ∷ [])
+  climbs-up new outs outs' C = record { climbs = climbs-above new outs outs' C; within = beyond-above None C.within }
+
+  pub stops-up : (stop : Stop) → IsClimbStop mid place (handed_list up) stop → IsClimbStop old from (e ∷ []) stop
+  stops-up (Limit node) g = beyond-above (Some node) g
+  stops-up NoMemory g = tt
+
+-- an element that comes to a full node goes beyond the limit there
+pub stops-there : (cells : List Cell) (from place input : ℕ) (e : Element) → from < length cells → AreLinked (frames_in cells) → (cell_at cells from).above ≡ Some (place, input)
+    → IsFull (cell_at cells place).work → GoBeyond cells from (e ∷ []) (Some place)
+stops-there cells from place input e lt linked feeds full limit have nodes A zero le =
+    absurd (let l = ap length ((levels-climb nodes A.tree (count_at cells) limit).goes_on from (record { place = place; input = input }) (A.links from lt ∙ ap above_pair feeds)) in omega (arith, le, l))
+stops-there cells from place input e lt linked feeds full limit have nodes A (suc depth) le =
+    let there = (linked-at cells from place input linked lt feeds).1 in
+    let met : Above = record { place = place; input = input } in
+    ap (λ (levels : List Level). beyond_of (climb (suc depth) limit levels (e ∷ []))) ((levels-climb nodes A.tree (count_at cells) limit).goes_on from met (A.links from lt ∙ ap above_pair feeds))
+    ∙ none-up depth limit (level_at (count_at cells) nodes met) (way_up (count_at cells) 0 place nodes) e
+    (is-full (cell_at cells place).work (operator_at nodes place) limit (cell_at cells place).passed (A.each place there)
+    (subst (λ (f : Frame). HasLimit limit f.kind) (frame-at cells place) (have place (omega (arith, there, length-map cells frame_of)))) full)
+
+-- ---- one after the other
+
+pub climbs-none : (scene : Scene) (from : ℕ) → Climbs scene scene from []
+climbs-none scene from = record {
+  climbs = λ nodes A.
+      let n = (climbs-on nodes A.tree).nothing from in
+      record {
+        stands = subst (AreAs scene.cells) (sym n.0) A;
+        hands = sym (append-nil scene.outs) ∙ ap (λ (es : List Element). scene.outs ++ map out_of es) (sym n.1);
+        counts = still-counted scene.cells (climbed nodes from []).brought (nothing-brought nodes from);
+      };
+  within = λ limit have nodes A depth le. nothing depth limit (way_up (count_at scene.cells) 0 from nodes);
+}
+  where
+    nothing : (depth limit : ℕ) (levels : List Level) → beyond_of (climb depth limit levels []) ≡ None
+    nothing zero limit levels = refl
+    nothing (suc depth) limit [] = refl
+    nothing (suc depth) limit (level ∷ levels) = refl
+
+leaves-both : (old mid new : Scene) (c d : Climbed) → length old.cells ≡ length mid.cells → length c.brought ≡ length d.brought → Leaves old mid c → Leaves mid new d → Leaves old new (in_two c d)
+leaves-both old mid new c d long same L M = record {
+  stands = M.stands;
+  hands = M.hands ∙ ap (λ (outs : List Out). outs ++ map out_of d.left.elements) L.hands ∙ append_assoc old.outs (map out_of c.left.elements) (map out_of d.left.elements)
+      ∙ ap (λ (outs : List Out). old.outs ++ outs) (sym (map-append out_of c.left.elements d.left.elements));
+  counts = λ n lt.
+      let a = L.counts n lt in
+      let b = M.counts n (omega (arith, lt, long)) in
+      let both = ap length (both-at c.brought d.brought n same) in
+      omega (arith, a, b, both, length-append (get_or c.brought n []) (get_or d.brought n []));
+}
+
+module _ (old mid : Scene) (from : ℕ) (es fs : List Element) (C : Climbs old mid from es) (same : frames_in mid.cells ≡ frames_in old.cells) where
+  -- the levels behind the first of these are those of the nodes behind them
+  pub then-beyond : (o : Option ℕ) → GoBeyond mid.cells from fs o → GoBeyond old.cells from (es ++ fs) o
+  then-beyond o G limit have nodes A depth le =
+      ap beyond_of (climb-parts depth limit levels es fs) ∙ go (climb depth limit levels es) refl (C.within limit have nodes A depth le)
+    where
+      levels : List Level
+      levels = way_up (count_at old.cells) 0 from nodes
+
+      c : Climbed
+      c = climbed nodes from es
+
+      L : Leaves old mid c
+      L = C.climbs nodes A
+
+      long : length (way_up (count_at mid.cells) 0 from c.nodes) ≤ depth
+      long = let l = way-long (count_at mid.cells) (count_at old.cells) 0 from c.nodes nodes (ins-climbed 0 (record { from = from; elements = es }) nodes) in omega (arith, l, le)
+
+      go : (k : Climb) → climb depth limit levels es ≡ k → beyond_of k ≡ None → beyond_of (climb_then depth limit k fs) ≡ o
+      go (Beyond place) q e = cc
+      go (Below hs) q e =
+          let is = (levels-climb nodes A.tree (count_at old.cells) limit).below depth from es hs le q in
+          let counted = way-same (reached_with (count_at old.cells) c.brought) (count_at mid.cells) 0 from c.nodes
+          (λ m l lt. sym (L.counts m (omega (arith, lt, length-climbed 0 (record { from = from; elements = es }) nodes, A.long)))) in
+          ap (λ (ls : List Level). beyond_of (climb depth limit ls fs)) (is ∙ counted)
+          ∙ G limit (subst (HaveLimit limit) (sym same) have) c.nodes L.stands depth long
+
+  pub climbs-then : (new : Scene) → Climbs mid new from fs → Climbs old new from (es ++ fs)
+  climbs-then new D = record {
+    climbs = λ nodes A.
+        let L = C.climbs nodes A in
+        subst (Leaves old new) (sym ((climbs-on nodes A.tree).parts from es fs))
+        (leaves-both old mid new (climbed nodes from es) (climbed (climbed nodes from es).nodes from fs)
+        (sym (long-frames old.cells mid.cells same))
+        (length-brought 0 (record { from = from; elements = es }) nodes ∙ sym (length-climbed 0 (record { from = from; elements = es }) nodes)
+        ∙ sym (length-brought 0 (record { from = from; elements = fs }) (climbed nodes from es).nodes))
+        L (D.climbs (climbed nodes from es).nodes L.stands));
+    within = then-beyond None D.within;
+  }
+
+  pub stops-then : (stop : Stop) → IsClimbStop mid.cells from fs stop → IsClimbStop old.cells from (es ++ fs) stop
+  stops-then (Limit node) g = then-beyond (Some node) g
+  stops-then NoMemory g = tt
+
+-- where the first of these stop, so do all
+pub stops-front : (cells : List Cell) (from : ℕ) (es fs : List Element) (stop : Stop) → IsClimbStop cells from es stop → IsClimbStop cells from (es ++ fs) stop
+stops-front cells from es fs NoMemory g = tt
+stops-front cells from es fs (Limit at) g = λ limit have nodes A depth le.
+    ap beyond_of (climb-parts depth limit (way_up (count_at cells) 0 from nodes) es fs)
+    ∙ go depth limit (climb depth limit (way_up (count_at cells) 0 from nodes) es) (g limit have nodes A depth le)
+  where
+    go : (depth limit : ℕ) (k : Climb) → beyond_of k ≡ Some at → beyond_of (climb_then depth limit k fs) ≡ Some at
+    go depth limit (Beyond place) e = e
+    go depth limit (Below hs) e = cc
+
+-- ---- calls
+
+-- of all these elements, the first climbed so far
+pub record Rose (old now : Scene) (from : ℕ) (es rest all : List Element) : Type 0 where
+  pub climbs : Climbs old now from es
+  pub stays : StaysAs old.cells now.cells
+  pub front : take (length old.outs) now.outs ≡ old.outs
+  pub parts : all ≡ es ++ rest
+
+pub rose-none : (scene : Scene) (from : ℕ) (rest all : List Element) → all ≡ rest → Rose scene scene from [] rest all
+rose-none scene from rest all e = record { climbs = climbs-none scene from; stays = stays-none scene.cells; front = take-length scene.outs; parts = e }
+
+pub front-then : (old mid new : List Out) → take (length old) mid ≡ old → take (length mid) new ≡ mid → take (length old) new ≡ old
+front-then old mid new a b =
+    let le : length old ≤ length mid = (let l = ap length a in omega (arith, l, length-take (length old) mid)) in
+    sym (take-take (length old) (length mid) new le) ∙ ap (take (length old)) b ∙ a
+
+pub rose-then : (old mid new : Scene) (from : ℕ) (es : List Element) (e : Element) (rest rest' all : List Element) → Rose old mid from es rest all → rest ≡ e ∷ rest' → Climbs mid new from (e ∷ [])
+    → StaysAs mid.cells new.cells → take (length mid.outs) new.outs ≡ mid.outs → Rose old new from (es ++ e ∷ []) rest' all
+rose-then old mid new from es e rest rest' all R q C stays front = record {
+  climbs = climbs-then old mid from es (e ∷ []) R.climbs R.stays.frames new C;
+  stays = stays-then old.cells mid.cells new.cells R.stays stays;
+  front = front-then old.outs mid.outs new.outs R.front front;
+  parts = R.parts ∙ ap (λ (xs : List Element). es ++ xs) q ∙ sym (append_assoc es (e ∷ []) rest');
+}
+
+pub rose-stop : (old mid : Scene) (from : ℕ) (es : List Element) (e : Element) (rest rest' all : List Element) (stop : Stop) → Rose old mid from es rest all → rest ≡ e ∷ rest' → IsClimbStop mid.cells from (e ∷ []) stop
+    → IsClimbStop old.cells from all stop
+rose-stop old mid from es e rest rest' all stop R q s =
+    subst (λ (xs : List Element). IsClimbStop old.cells from xs stop) (sym (R.parts ∙ ap (λ (xs : List Element). es ++ xs) q))
+    (stops-then old mid from es (e ∷ rest') R.climbs R.stays.frames stop (stops-front mid.cells from (e ∷ []) rest' stop s))
+
+pub rose-these : (old mid new : Scene) (from : ℕ) (es fs rest rest' all : List Element) → Rose old mid from es rest all → rest ≡ fs ++ rest' → Climbs mid new from fs
+    → StaysAs mid.cells new.cells → take (length mid.outs) new.outs ≡ mid.outs → Rose old new from (es ++ fs) rest' all
+rose-these old mid new from es fs rest rest' all R q C stays front = record {
+  climbs = climbs-then old mid from es fs R.climbs R.stays.frames new C;
+  stays = stays-then old.cells mid.cells new.cells R.stays stays;
+  front = front-then old.outs mid.outs new.outs R.front front;
+  parts = R.parts ∙ ap (λ (xs : List Element). es ++ xs) q ∙ sym (append_assoc es fs rest');
+}
+
+pub rose-stop-these : (old mid : Scene) (from : ℕ) (es fs rest rest' all : List Element) (stop : Stop) → Rose old mid from es rest all → rest ≡ fs ++ rest' → IsClimbStop mid.cells from fs stop → IsClimbStop old.cells from all stop
+rose-stop-these old mid from es fs rest rest' all stop R q s =
+    subst (λ (xs : List Element). IsClimbStop old.cells from xs stop) (sym (R.parts ∙ ap (λ (xs : List Element). es ++ xs) q))
+    (stops-then old mid from es (fs ++ rest') R.climbs R.stays.frames stop (stops-front mid.cells from fs rest' stop s))
+
+-- the elements among what is handed out
+pub outs-append : (xs ys : List Out) → elements_out (xs ++ ys) ≡ elements_out xs ++ elements_out ys
+outs-append [] ys = refl
+outs-append (RowOut row ∷ xs) ys = ap (λ (es : List Element). Tuple row ∷ es) (outs-append xs ys)
+outs-append (PunctOut patterns ∷ xs) ys = ap (λ (es : List Element). Punct patterns ∷ es) (outs-append xs ys)
+outs-append (Purged join input row ∷ xs) ys = outs-append xs ys
+
+pub outs-rows : (rows : List (List Value)) → elements_out (map RowOut rows) ≡ map Tuple rows
+outs-rows [] = refl
+outs-rows (row ∷ rows) = ap (λ (es : List Element). Tuple row ∷ es) (outs-rows rows)
+
+-- the node above, as it is read
+pub feeds-at : (cells : List Cell) (n : ℕ) (d : Cell) (o : Option (ℕ × ℕ)) → n < length cells → (get_or cells n d).above ≡ o → (cell_at cells n).above ≡ o
+feeds-at cells n d o lt e = ap (λ (x : Cell). x.above) (sym (get_or_default cells n d no_cell lt)) ∙ e
+
+pub fits-at : (cells : List Cell) (n place input w : ℕ) (d : Cell) (e : Element) → AreLinked (frames_in cells) → n < length cells → (cell_at cells n).above ≡ Some (place, input) → w ≡ width_of e → w ≡ (get_or cells n d).width
+    → (n < place) × (place < length cells) × FitsKind (frame_at (frames_in cells) place).kind input (width_of e)
+fits-at cells n place input w d e linked lt feeds wide same =
+    let l = linked-at cells n place input linked lt feeds in
+    (l.0, l.1, subst (λ (m : ℕ). FitsKind (frame_at (frames_in cells) place).kind input m) (ap (λ (x : Cell). x.width) (sym (get_or_default cells n d no_cell lt)) ∙ sym same ∙ wide) l.2)
+
+-- where an element stops at the node above
+pub entry-stop : (cells : List Cell) (from place input : ℕ) (e : Element) (stop : Stop) → from < length cells → AreLinked (frames_in cells) → (cell_at cells from).above ≡ Some (place, input)
+    → IsEntryStop cells place stop → IsClimbStop cells from (e ∷ []) stop
+entry-stop cells from place input e (Limit at) lt linked feeds s = subst (λ (n : ℕ). GoBeyond cells from (e ∷ []) (Some n)) (sym s.0) (stops-there cells from place input e lt linked feeds s.1)
+entry-stop cells from place input e NoMemory lt linked feeds s = tt
+
+-- rows that the last node hands up are handed out
+pub climbs-rows-out : (cells : List Cell) (rows : List (List Value)) (outs : List Out) (from : ℕ) → from < length cells → (cell_at cells from).above ≡ None
+    → Climbs (record { cells = cells; outs = outs }) (record { cells = cells; outs = outs ++ map RowOut rows }) from (elements_out (map RowOut rows))
+climbs-rows-out cells [] outs from lt none =
+    subst (λ (os : List Out). Climbs (record { cells = cells; outs = outs }) (record { cells = cells; outs = os }) from []) (sym (append-nil outs)) (climbs-none (record { cells = cells; outs = outs }) from)
+climbs-rows-out cells (row ∷ rows) outs from lt none =
+    climbs-then (record { cells = cells; outs = outs }) (record { cells = cells; outs = outs ++ RowOut row ∷ [] }) from (Tuple row ∷ []) (elements_out (map RowOut rows))
+    (climbs-out cells outs (outs ++ RowOut row ∷ []) from (Tuple row) lt none refl) refl (record { cells = cells; outs = outs ++ map RowOut (row ∷ rows) })
+    (subst (λ (os : List Out). Climbs (record { cells = cells; outs = outs ++ RowOut row ∷ [] }) (record { cells = cells; outs = os }) from (elements_out (map RowOut rows)))
+    (append_assoc outs (RowOut row ∷ []) (map RowOut rows)) (climbs-rows-out cells rows (outs ++ RowOut row ∷ []) from lt none))

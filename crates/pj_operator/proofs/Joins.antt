@@ -1,0 +1,119 @@
+-- What a join does of its own, as a node of a core.
+use Rattle.std.proofs.Common.{ℕ, suc, ◌≤◌, Bool, true, false, cond, not, ◌&&◌, ◌||◌, List, [], ◌∷◌, ◌++◌, ◌≡◌, Option, Some, None, map, filter, length, eqb, refl, sym, ap, ◌∙◌, subst, arith, append-nil}
+use Rattle.std.proofs.lemmas.Bool.{false≢true}
+use Rattle.pj_events.specs.declared.events.Out.{Out}
+use Rattle.pj_events.specs.Join.{Give, PunctAt, Step, Sweep, Take, TupleAt, has, is_held, joined, results, run, start}
+use Rattle.pj_events.specs.KeptState.{kept_ripe, swept, without}
+use Rattle.pj_join.specs.declared.found.Found.{Found}
+use Rattle.pj_join.specs.Handed.{JoinProbes, StandsProbed, rows_probed}
+use Rattle.pj_join.specs.Joins.{IsTaken, JoinTakes, JoinView, StandsFor as JoinStandsFor, StandsTaken, after}
+use Rattle.pj_operator.specs.declared.cell.Work.TheVariants.{Join as JoinCell}
+use Rattle.pj_operator.specs.Acts.{WorkProbes, WorkTakes}
+use Rattle.pj_operator.specs.Cells.{IsOrderly, IsOrderlyJoin, KeepsOpen}
+
+-- ---- lists
+
+filter-less : {A : Type 0} (p : A → Bool) (xs : List A) → length (filter p xs) ≤ length xs
+filter-less p [] = omega arith
+filter-less {A} p (x ∷ xs) = go (p x) (filter-less p xs)
+  where
+    go : (b : Bool) → length (filter p xs) ≤ length xs → length (cond b (x ∷ filter p xs) (filter p xs)) ≤ suc (length xs)
+    go true l = omega (arith, l)
+    go false l = omega (arith, l)
+
+without-has : (ts : List ℕ) (u t : ℕ) → has (without ts u) t ≡ true → has ts t ≡ true
+without-has [] u t h = h
+without-has (v ∷ ts) u t h = go (eqb v u) h (without-has ts u t)
+  where
+    go : (b : Bool) → has (cond (not b) (v ∷ without ts u) (without ts u)) t ≡ true → (has (without ts u) t ≡ true → has ts t ≡ true) → (eqb v t || has ts t) ≡ true
+    go true q ih = later (eqb v t) (ih q)
+      where
+        later : (b : Bool) → has ts t ≡ true → (b || has ts t) ≡ true
+        later true e = refl
+        later false e = e
+    go false q ih = both (eqb v t) q
+      where
+        both : (b : Bool) → (b || has (without ts u) t) ≡ true → (b || has ts t) ≡ true
+        both true e = refl
+        both false e = ih e
+
+without-none : (ts : List ℕ) (u t : ℕ) → has ts t ≡ false → has (without ts u) t ≡ false
+without-none ts u t h = go (has (without ts u) t) refl
+  where
+    go : (b : Bool) → has (without ts u) t ≡ b → b ≡ false
+    go true e = absurd (false≢true (sym h ∙ without-has ts u t e))
+    go false e = refl
+
+-- ---- an orderly join stays so
+
+orderly-take : (join : JoinView) (u : ℕ) → IsOrderlyJoin join → IsOrderlyJoin (after join (Take u))
+orderly-take join u o = record {
+  below = o.below;
+  next = o.next;
+  limit = o.limit;
+  pending = (let l = filter-less (λ t. not (eqb t u)) join.kept.pending in omega (arith, l, o.pending));
+  opened = o.opened;
+  stored = o.stored;
+  waiting = o.waiting;
+}
+
+orderly-give : (join : JoinView) (u : ℕ) → IsOrderlyJoin join → IsOrderlyJoin (after join (Give u))
+orderly-give join u o = record {
+  below = λ t h. o.below t (without-has join.kept.opened u t h);
+  next = o.next;
+  limit = o.limit;
+  pending = o.pending;
+  opened = (let l = filter-less (λ t. not (eqb t u)) join.kept.opened in omega (arith, l, o.opened));
+  stored = o.stored;
+  waiting = o.waiting;
+}
+
+orderly-sweep : (join : JoinView) (input : ℕ) → IsOrderlyJoin join → IsOrderlyJoin (after join (Sweep input))
+orderly-sweep join input o = record {
+  below = o.below;
+  next = o.next;
+  limit = o.limit;
+  pending = o.pending;
+  opened = o.opened;
+  stored = (let l = filter-less (λ (x : TupleAt). not (eqb x.input input && kept_ripe join.spec join.kept x)) join.kept.stored in omega (arith, l, o.stored));
+  waiting = (let l = filter-less (λ (p : PunctAt). not (eqb p.input input) || is_held (swept join.spec join.kept input) p) join.kept.waiting in omega (arith, l, o.waiting));
+}
+
+pub took_keeps : (answer : Option Found) (old new : JoinView) → JoinTakes old new answer → KeepsOpen (JoinCell old) (JoinCell new)
+took_keeps None old new t = subst (λ (j : JoinView). KeepsOpen (JoinCell old) (JoinCell j)) (sym t.1) (λ o. (o, λ u h. h))
+took_keeps (Some found) old new t =
+    subst (λ (j : JoinView). KeepsOpen (JoinCell old) (JoinCell j)) (sym t.changes) (λ o. (orderly-take old found.ticket o, λ u h. (h.0, without-none old.kept.pending found.ticket u h.1)))
+
+pub gave_orderly : (old new : JoinView) (u : ℕ) → new ≡ after old (Give u) → IsOrderly (JoinCell old) → IsOrderly (JoinCell new)
+gave_orderly old new u e o = subst (λ (j : JoinView). IsOrderlyJoin j) (sym e) (orderly-give old u o)
+
+pub swept_keeps : (old new : JoinView) (input : ℕ) → new ≡ after old (Sweep input) → KeepsOpen (JoinCell old) (JoinCell new)
+swept_keeps old new input e = subst (λ (j : JoinView). KeepsOpen (JoinCell old) (JoinCell j)) (sym e) (λ o. (orderly-sweep old input o, λ u h. h))
+
+pub probed_orderly : (answer : Option ℕ) (old new : JoinView) → JoinProbes old new answer → IsOrderly (JoinCell old) → IsOrderly (JoinCell new)
+probed_orderly None old new p o = subst (λ (j : JoinView). IsOrderlyJoin j) (sym p.1) o
+probed_orderly (Some u) old new p o = subst (λ (j : JoinView). IsOrderlyJoin j) (sym p.1) (orderly-give (after old (Take u)) u (orderly-take old u o))
+
+-- ---- takes and probes
+
+pub work_takes : (answer : Option Found) (old new : JoinView) → JoinTakes old new answer → ((steps : List Step) → JoinStandsFor old steps → StandsTaken new steps answer) → WorkTakes (JoinCell old) (JoinCell new) answer
+work_takes None old new t s = (ap JoinCell t.1, ap length t.0)
+work_takes (Some found) old new t s = record {
+  join = old;
+  was = refl;
+  takes = record { pending = t.pending; least = t.least; finds = t.finds; changes = refl; taken = subst (λ (j : JoinView). IsTaken j.kept found.ticket) t.changes t.taken };
+  finds = λ steps st. subst (λ (j : JoinView). found.rows ≡ map joined (results j.spec (run j.spec start steps).tuples (run j.spec start steps).tuples found.ticket)) t.changes (s steps st).1;
+  is = ap JoinCell t.changes;
+}
+
+pub work_probes : (answer : Option ℕ) (old new : JoinView) (before behind : List Out) → JoinProbes old new answer → behind ≡ before ++ map Out.Tuple (rows_probed old answer) → ((steps : List Step) → JoinStandsFor old steps → StandsProbed old new steps answer)
+    → WorkProbes (JoinCell old) (JoinCell new) before behind answer
+work_probes None old new before behind p h s = (ap JoinCell p.1, h ∙ append-nil before, ap length p.0)
+work_probes (Some u) old new before behind p h s = record {
+  join = old;
+  was = refl;
+  takes = p.0;
+  finds = λ steps st. (s steps st).1;
+  is = ap JoinCell p.1;
+  hands = h;
+}

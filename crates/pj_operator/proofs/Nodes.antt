@@ -1,0 +1,184 @@
+-- What an element does to one node.
+use Rattle.std.proofs.Common.{ℕ, ◌+◌, ◌<◌, ◌≤◌, ◌≢◌, Bool, true, false, cond, not, ◌&&◌, ◌||◌, List, [], ◌∷◌, ◌++◌, ◌≡◌, map, filter, length, eqb, refl, sym, ap, ap₂, ◌∙◌, subst, inl, inr, arith}
+use Rattle.std.proofs.lemmas.Bool.{cases_eq, false≢true, false_from_ne_true, ne_eqb}
+use Rattle.std.proofs.lemmas.List.{length_push, map-append}
+use Rattle.std.proofs.lemmas.List.Elements.{filter-append}
+use Rattle.pj_value.specs.declared.values.Value.{Value}
+use Rattle.pj_pattern.specs.Patterns.{Pattern}
+use Rattle.pj_pattern.specs.declared.element.Element.{Element}
+use Rattle.pj_pattern.specs.declared.element.Element.TheVariants.{Tuple, Punct}
+use Rattle.pj_events.specs.Join.{JoinData, JoinState, TupleAt, goes_out, hands_up, has, is_held, new_punct, new_tuple, step, widened}
+use Rattle.pj_events.specs.KeptState.{KeptState, kept_of, kept_step, lacking}
+use Rattle.pj_events.specs.Operators.{UnionState, group_after, group_hands, project_hands, select_hands, union_after, union_hands}
+use Rattle.pj_events.specs.Plan.{Group, Join, Operator, Project, Select, Stream, Union, join_step}
+use Rattle.pj_events.specs.CoreKept.{GroupKept, JoinKept, UnionKept}
+use Rattle.pj_events.specs.Tables.{table_of}
+use Rattle.pj_flow.specs.Unions.{UnionView}
+use Rattle.pj_group.specs.Tables.{GroupView, StandsFor as HoldsGroup}
+use Rattle.pj_join.specs.Joins.{JoinView, after}
+use Rattle.pj_join.specs.Sweeping.{puncts_up}
+use Rattle.pj_operator.specs.declared.cell.Handed.{Handed}
+use Rattle.pj_operator.specs.declared.cell.Work.TheVariants.{Stream as StreamCell, Select as SelectCell, Project as ProjectCell, Union as UnionCell, Join as JoinCell, Group as GroupCell}
+use Rattle.pj_operator.specs.Cells.{Follows, IsAs, IsBelow, IsOrderlyJoin, KeepsOpen, handed_list, IsTakenIn}
+
+-- ---- streams, selects and projects
+
+pub stream_follows : (up : Handed) (operator : Operator) (input : ℕ) (e : Element) → handed_list up ≡ [] → IsAs StreamCell operator → Follows StreamCell up operator input e
+stream_follows up (Stream schema sent) input e n a = record { stands = a; hands = n }
+stream_follows up operator input e n a = absurd a.kind
+
+pub select_follows : (test : List Pattern) (up : Handed) (operator : Operator) (input : ℕ) (e : Element) → handed_list up ≡ select_hands test e → IsAs (SelectCell test) operator → Follows (SelectCell test) up operator input e
+select_follows own up (Select test) input e h a = record { stands = a; hands = h ∙ ap (λ (t : List Pattern). select_hands t e) a.kind }
+select_follows own up operator input e h a = absurd a.kind
+
+pub project_follows : (columns : List ℕ) (up : Handed) (operator : Operator) (input : ℕ) (e : Element) → handed_list up ≡ project_hands columns e → IsAs (ProjectCell columns) operator → Follows (ProjectCell columns) up operator input e
+project_follows own up (Project columns) input e h a = record { stands = a; hands = h ∙ ap (λ (cs : List ℕ). project_hands cs e) a.kind }
+project_follows own up operator input e h a = absurd a.kind
+
+-- ---- unions
+
+pub union_follows : (old new : UnionView) (up : Handed) (operator : Operator) (input : ℕ) (e : Element) → new ≡ record old { state = union_after old.inputs old.state input e }
+    → handed_list up ≡ union_hands old.inputs old.state input e → IsAs (UnionCell old) operator → Follows (UnionCell new) up operator input e
+union_follows old new up (Union n u) input e is h a =
+    let state : old.state ≡ u = (let k : UnionKept old.state ≡ UnionKept u = a.kept in cc) in
+    record {
+      stands = record {
+        kind = ap (λ (v : UnionView). v.inputs) is ∙ a.kind;
+        kept = ap (λ (v : UnionView). UnionKept v.state) is ∙ ap₂ (λ (m : ℕ) (s : UnionState). UnionKept (union_after m s input e)) a.kind state;
+        below = tt;
+      };
+      hands = h ∙ ap₂ (λ (m : ℕ) (s : UnionState). union_hands m s input e) a.kind state;
+    }
+union_follows old new up operator input e is h a = absurd a.kind
+
+-- ---- groups
+
+pub group_follows : (old new : GroupView) (up : Handed) (operator : Operator) (input : ℕ) (e : Element) → new ≡ record old { count = old.count + 1; table = new.table }
+    → ((rows : List (List Value)) → HoldsGroup old rows → HoldsGroup new (group_after old.spec rows e)) → ((rows : List (List Value)) → HoldsGroup old rows → handed_list up ≡ group_hands old.spec rows e)
+    → IsAs (GroupCell old) operator → Follows (GroupCell new) up operator input e
+group_follows old new up (Group spec rows) input e is keeps h a =
+    let spec-is : new.spec ≡ old.spec = ap (λ (v : GroupView). v.spec) is in
+    let table : old.table ≡ table_of spec rows = (let k : GroupKept old.table ≡ GroupKept (table_of spec rows) = a.kept in cc) in
+    let holds : HoldsGroup old rows = table ∙ ap (λ (s : _). table_of s rows) (sym a.kind) in
+    record {
+      stands = record {
+        kind = spec-is ∙ a.kind;
+        kept = ap GroupKept (keeps rows holds ∙ ap₂ (λ (s t : _). table_of s (group_after t rows e)) (spec-is ∙ a.kind) a.kind);
+        below = tt;
+      };
+      hands = h rows holds ∙ ap (λ (s : _). group_hands s rows e) a.kind;
+    }
+group_follows old new up operator input e is keeps h a = absurd a.kind
+
+-- ---- joins
+
+has-new : (ns : List ℕ) (n : ℕ) → ((u : ℕ) → has ns u ≡ true → u < n) → has ns n ≡ false
+has-new ns n f = false_from_ne_true (has ns n) (λ t. let l : n < n = f n t in omega arith)
+
+lacking-more : (ns : List ℕ) (xs : List TupleAt) (x : TupleAt) → has ns x.ticket ≡ false → lacking ns (xs ++ x ∷ []) ≡ lacking ns xs ++ x.ticket ∷ []
+lacking-more ns xs x h =
+    ap (map (λ z. z.ticket)) (filter-append (λ z. not (has ns z.ticket)) xs (x ∷ []) ∙ ap (λ b. filter (λ z. not (has ns z.ticket)) xs ++ cond (not b) (x ∷ []) []) h)
+    ∙ map-append (λ z. z.ticket) (filter (λ z. not (has ns z.ticket)) xs) (x ∷ [])
+
+kept-come : (spec : JoinData) (s : JoinState) (input : ℕ) (e : Element) → IsBelow s → kept_step spec (kept_of s) (join_step input e) ≡ kept_of (step spec s (join_step input e))
+kept-come spec s input (Tuple row) b =
+    λ i. record {
+      next = s.next + 1;
+      stored = s.stored ++ new_tuple s input row ∷ [];
+      puncts = s.puncts;
+      pending = sym (lacking-more s.taken s.tuples (new_tuple s input row) (has-new s.taken s.next b.0)) i;
+      opened = sym (lacking-more s.given s.tuples (new_tuple s input row) (has-new s.given s.next b.1)) i;
+      waiting = s.waiting;
+    }
+kept-come spec s input (Punct patterns) b = refl
+
+below-come : (spec : JoinData) (s : JoinState) (input : ℕ) (e : Element) → IsBelow s → IsBelow (step spec s (join_step input e))
+below-come spec s input (Tuple row) b = ((λ u h. let l = b.0 u h in omega (arith, l)), (λ u h. let l = b.1 u h in omega (arith, l)))
+below-come spec s input (Punct patterns) b = ((λ u h. let l = b.0 u h in omega (arith, l)), (λ u h. let l = b.1 u h in omega (arith, l)))
+
+ups-come : (join : JoinView) (s : JoinState) (input : ℕ) (e : Element) → join.kept ≡ kept_of s → map Punct (puncts_up join (join_step input e)) ≡ hands_up join.spec s (join_step input e) ++ []
+ups-come join s input (Tuple row) k = refl
+ups-come join s input (Punct patterns) k =
+    ap (λ (q : KeptState). map Punct (puncts_up (record { node = join.node; spec = join.spec; limit = join.limit; kept = q }) (join_step input (Punct patterns)))) k
+    ∙ go (goes_out join.spec s (new_punct s input patterns))
+  where
+    go : (b : Bool) → map Punct (cond b (widened join.spec (new_punct s input patterns) ∷ []) []) ≡ cond b (Punct (widened join.spec (new_punct s input patterns)) ∷ []) [] ++ []
+    go true = refl
+    go false = refl
+
+pub join_follows : (old new : JoinView) (up : Handed) (operator : Operator) (input : ℕ) (e : Element) → new ≡ after old (join_step input e) → handed_list up ≡ map Punct (puncts_up old (join_step input e))
+    → IsAs (JoinCell old) operator → Follows (JoinCell new) up operator input e
+join_follows old new up (Join spec s) input e is h a =
+    let kept : old.kept ≡ kept_of s = (let k : JoinKept old.kept ≡ JoinKept (kept_of s) = a.kept in cc) in
+    record {
+      stands = record {
+        kind = ap (λ (j : JoinView). j.spec) is ∙ a.kind;
+        kept = ap (λ (j : JoinView). JoinKept j.kept) is ∙ ap₂ (λ (d : JoinData) (k : KeptState). JoinKept (kept_step d k (join_step input e))) a.kind kept ∙ ap JoinKept (kept-come spec s input e a.below);
+        below = below-come spec s input e a.below;
+      };
+      hands = h ∙ ups-come old s input e kept ∙ ap (λ (d : JoinData). hands_up d s (join_step input e) ++ []) a.kind;
+    }
+join_follows old new up operator input e is h a = absurd a.kind
+
+-- ---- an orderly join
+
+has-append : (xs ys : List ℕ) (n : ℕ) → has (xs ++ ys) n ≡ (has xs n || has ys n)
+has-append [] ys n = refl
+has-append (x ∷ xs) ys n = ap (λ (b : Bool). eqb x n || b) (has-append xs ys n) ∙ go (eqb x n) (has xs n) (has ys n)
+  where
+    go : (a b c : Bool) → (a || (b || c)) ≡ ((a || b) || c)
+    go true b c = refl
+    go false b c = refl
+
+-- a pushed number
+pushed-one : (xs : List ℕ) (m n : ℕ) → has (xs ++ m ∷ []) n ≡ true → n ≢ m → has xs n ≡ true
+pushed-one xs m n h ne = go (has xs n) (sym (has-append xs (m ∷ []) n) ∙ h)
+  where
+    go : (b : Bool) → (b || (eqb m n || false)) ≡ true → b ≡ true
+    go true e = refl
+    go false e = absurd (false≢true (ap (λ (c : Bool). c || false) (sym (ne_eqb m n (λ q. ne (sym q)))) ∙ e))
+
+pushed-true : (xs : List ℕ) (m n : ℕ) → has xs n ≡ true → has (xs ++ m ∷ []) n ≡ true
+pushed-true xs m n h = has-append xs (m ∷ []) n ∙ ap (λ (b : Bool). b || (eqb m n || false)) h
+
+pushed-false : (xs : List ℕ) (m n : ℕ) → has xs n ≡ false → n ≢ m → has (xs ++ m ∷ []) n ≡ false
+pushed-false xs m n h ne = has-append xs (m ∷ []) n ∙ ap₂ (λ (b c : Bool). b || (c || false)) h (ne_eqb m n (λ q. ne (sym q)))
+
+pub join_keeps : (old new : JoinView) (input : ℕ) (e : Element) → new ≡ after old (join_step input e) → old.kept.next ≢ old.limit → KeepsOpen (JoinCell old) (JoinCell new)
+join_keeps old new input e is room o = subst (λ (j : JoinView). IsOrderlyJoin j × ((t : ℕ) → IsTakenIn (JoinKept old.kept) t → IsTakenIn (JoinKept j.kept) t)) (sym is) (go e)
+  where
+    below : (ts : List ℕ) (t : ℕ) → has (ts ++ old.kept.next ∷ []) t ≡ true → ((v : ℕ) → has ts v ≡ true → v < old.kept.next) → t < old.kept.next + 1
+    below ts t h f = elim (cases_eq t old.kept.next) [
+      | inl q ↦ omega (arith, q)
+      | inr ne ↦ (let l = f t (pushed-one ts old.kept.next t h ne) in omega (arith, l))
+    ]
+
+    go : (x : Element) → IsOrderlyJoin (after old (join_step input x)) × ((t : ℕ) → IsTakenIn (JoinKept old.kept) t → IsTakenIn (JoinKept (after old (join_step input x)).kept) t)
+    go (Tuple row) = (
+      record {
+        below = λ t h. below old.kept.opened t h o.below;
+        next = omega (arith, o.next, room);
+        limit = o.limit;
+        pending = omega (arith, o.pending, length_push old.kept.pending old.kept.next);
+        opened = omega (arith, o.opened, length_push old.kept.opened old.kept.next);
+        stored = omega (arith, o.stored, length_push old.kept.stored (record { ticket = old.kept.next; input = input; row = row }));
+        waiting = omega (arith, o.waiting);
+      },
+      λ t h. (pushed-true old.kept.opened old.kept.next t h.0, pushed-false old.kept.pending old.kept.next t h.1 (λ q. let l = o.below t h.0 in omega (arith, l, q))),
+    )
+    go (Punct patterns) = (
+      record {
+        below = λ t h. (let l = o.below t h in omega (arith, l));
+        next = omega (arith, o.next, room);
+        limit = o.limit;
+        pending = omega (arith, o.pending);
+        opened = omega (arith, o.opened);
+        stored = omega (arith, o.stored);
+        waiting = held (old.spec.propagates && is_held old.kept.stored (record { ticket = old.kept.next; input = input; patterns = patterns }));
+      },
+      λ t h. h,
+    )
+      where
+        held : (b : Bool) → length (cond b (old.kept.waiting ++ record { ticket = old.kept.next; input = input; patterns = patterns } ∷ []) old.kept.waiting) ≤ old.kept.next + 1
+        held true = omega (arith, o.waiting, length_push old.kept.waiting (record { ticket = old.kept.next; input = input; patterns = patterns }))
+        held false = omega (arith, o.waiting)

@@ -1,0 +1,25 @@
+use Rattle.std.proofs.Common.{subst, sym, ◌∙◌}
+use Rattle.pj_operator.specs.Cells.{AreLinked}
+use Rattle.pj_operator.proofs.Changes.{frames-cell, opens-cell, opens-then}
+use Rattle.pj_operator.proofs.act.sweep_on.Goals as goal
+
+pub climb_puncts-requires-clause-linked : goal.climb_puncts-requires-clause-linked
+climb_puncts-requires-clause-linked c = subst AreLinked (sym (frames-cell c.args.cells.now c.args.place c.index-cells-place.result c.sweep.new.self c.sweep.ensures.frame)) c.requires.linked
+
+pub returns-in-Ok-climb_puncts-clause-frames : goal.returns-in-Ok-climb_puncts-clause-frames
+returns-in-Ok-climb_puncts-clause-frames c = c.climb_puncts.ensures.stays.frames ∙ frames-cell c.args.cells.now c.args.place c.index-cells-place.result c.sweep.new.self c.sweep.ensures.frame
+
+pub returns-in-Ok-climb_puncts-clause-opens : goal.returns-in-Ok-climb_puncts-clause-opens
+returns-in-Ok-climb_puncts-clause-opens c = opens-then _ _ _ (opens-cell c.args.cells.now c.args.place c.index-cells-place.result c.sweep.new.self c.requires.there c.in-Ok.ensures.open) c.climb_puncts.ensures.stays.opens
+
+pub returns-in-Err-climb_puncts-clause-frames : goal.returns-in-Err-climb_puncts-clause-frames
+returns-in-Err-climb_puncts-clause-frames c = c.climb_puncts.ensures.stays.frames ∙ frames-cell c.args.cells.now c.args.place c.index-cells-place.result c.sweep.new.self c.sweep.ensures.frame
+
+pub returns-in-Err-climb_puncts-clause-opens : goal.returns-in-Err-climb_puncts-clause-opens
+returns-in-Err-climb_puncts-clause-opens c = opens-then _ _ _ (opens-cell c.args.cells.now c.args.place c.index-cells-place.result c.sweep.new.self c.requires.there c.in-Ok.ensures.open) c.climb_puncts.ensures.stays.opens
+
+pub returns-in-Err-hand_out_notes-clause-frames : goal.returns-in-Err-hand_out_notes-clause-frames
+returns-in-Err-hand_out_notes-clause-frames c = frames-cell c.args.cells.now c.args.place c.index-cells-place.result c.sweep.new.self c.sweep.ensures.frame
+
+pub returns-in-Err-clause-frames : goal.returns-in-Err-clause-frames
+returns-in-Err-clause-frames c = frames-cell c.args.cells.now c.args.place c.index-cells-place.result c.sweep.new.self c.sweep.ensures.frame

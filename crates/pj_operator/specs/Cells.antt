@@ -1,0 +1,239 @@
+-- What is seen of the nodes of a core, and which nodes of a history they stand for.
+use Rattle.std.specs.Prelude.{ℕ, ◌+◌, ◌^◌, ◌<◌, ◌≤◌, ◌≡◌, true, List, [], ◌∷◌, map, length, max, slice_index_or, Option, Some, None, All}
+use Rattle.pj_pattern.specs.Patterns.{Pattern}
+use Rattle.pj_pattern.specs.declared.element.Element.{Element}
+use Rattle.pj_pattern.specs.declared.element.Element.TheVariants.{Tuple, Punct}
+use Rattle.pj_events.specs.Join.{JoinData, JoinState, has, inputs, arity}
+use Rattle.pj_events.specs.Operators.{GroupSpec}
+use Rattle.pj_group.specs.Steps.{Fits}
+use Rattle.pj_events.specs.Plan.{Operator, Stream, Select, Project, Union, Join, Group, Node, Comes, after, hands, operator_at}
+use Rattle.pj_events.specs.CoreKept.{KeptOperator, NothingKept, UnionKept, JoinKept, GroupKept, kept_in}
+use Rattle.pj_laws.specs.Climb.{Above, above, IsTree}
+use Rattle.pj_group.specs.declared.group.GroupStop.{GroupStop}
+use Rattle.pj_group.specs.declared.group.GroupStop.TheVariants.{Limit as GroupFull, NoMemory as GroupWants}
+use Rattle.pj_join.specs.Joins.{IsTaken, JoinView}
+use Rattle.pj_join.specs.declared.found.JoinStop.{JoinStop}
+use Rattle.pj_join.specs.declared.found.JoinStop.TheVariants.{Limit as JoinFull, NoMemory as JoinWants}
+use Rattle.pj_operator.specs.declared.cell.Work.{Work}
+use Rattle.pj_operator.specs.declared.cell.Work.TheVariants.{Stream as StreamCell, Select as SelectCell, Project as ProjectCell, Union as UnionCell, Join as JoinCell, Group as GroupCell}
+use Rattle.pj_operator.specs.declared.cell.Cell.{Cell}
+use Rattle.pj_operator.specs.declared.cell.Handed.{Handed}
+use Rattle.pj_operator.specs.declared.cell.Handed.TheVariants.{Nothing, One, Puncts, All as AllHanded}
+
+-- ---- tickets
+
+-- the ticket is taken and not given at the join that this is kept of
+abbrev pub IsTakenIn : KeptOperator → ℕ → Type 0
+IsTakenIn (JoinKept kept) ticket = IsTaken kept ticket
+IsTakenIn NothingKept ticket = ⊥
+IsTakenIn (UnionKept union) ticket = ⊥
+IsTakenIn (GroupKept rows) ticket = ⊥
+
+-- how many tickets are pending at the node that this is kept of
+abbrev pub pending_kept : KeptOperator → ℕ
+pending_kept (JoinKept kept) = length kept.pending
+pending_kept NothingKept = 0
+pending_kept (UnionKept union) = 0
+pending_kept (GroupKept rows) = 0
+
+-- ---- what stays of a node whatever comes to it
+
+-- of a union the number of its inputs and of their columns, of a join its number, what it joins by, and its limit
+pub data Kind : Type 0 where
+  StreamKind : Kind
+  SelectKind : List Pattern → Kind
+  ProjectKind : List ℕ → Kind
+  UnionKind : ℕ → ℕ → Kind
+  JoinKind : ℕ → JoinData → ℕ → Kind
+  GroupKind : GroupSpec → ℕ → Kind
+
+abbrev pub kind_of : Work → Kind
+kind_of StreamCell = StreamKind
+kind_of (SelectCell test) = SelectKind test
+kind_of (ProjectCell columns) = ProjectKind columns
+kind_of (UnionCell union) = UnionKind union.inputs union.arity
+kind_of (JoinCell join) = JoinKind join.node join.spec join.limit
+kind_of (GroupCell group) = GroupKind group.spec group.limit
+
+-- the kind of a node, the node and the input that it feeds, and how many columns it hands up
+pub record Frame : Type 0 where
+  pub kind : Kind
+  pub above : Option (ℕ × ℕ)
+  pub width : ℕ
+
+abbrev pub frame_of : Cell → Frame
+frame_of cell = record { kind = kind_of cell.work; above = cell.above; width = cell.width }
+
+abbrev pub frames_in : List Cell → List Frame
+frames_in cells = map frame_of cells
+
+-- stands for a node where there is none
+abbrev pub no_cell : Cell
+no_cell = record { work = StreamCell; above = None; width = 0; passed = 0; peak = 0 }
+
+abbrev pub cell_at : List Cell → ℕ → Cell
+cell_at cells n = slice_index_or cells n no_cell
+
+abbrev pub no_frame : Frame
+no_frame = record { kind = StreamKind; above = None; width = 0 }
+
+abbrev pub frame_at : List Frame → ℕ → Frame
+frame_at frames n = slice_index_or frames n no_frame
+
+-- an element of so many columns may come to a node of this kind at this input
+abbrev pub FitsKind : Kind → ℕ → ℕ → Type 0
+FitsKind StreamKind input width = Unit {0}
+FitsKind (SelectKind test) input width = Unit {0}
+FitsKind (ProjectKind columns) input width = All (λ column. column < width) columns
+FitsKind (UnionKind n arity) input width = (input < n) × (width ≡ arity)
+FitsKind (JoinKind node spec limit) input width = (input < inputs spec) × (width ≡ arity spec input)
+FitsKind (GroupKind spec limit) input width = Fits spec width × (length spec.keys + length spec.aggs ≤ 120)
+
+-- a join or a group has this limit
+abbrev pub HasLimit : ℕ → Kind → Type 0
+HasLimit limit StreamKind = Unit {0}
+HasLimit limit (SelectKind test) = Unit {0}
+HasLimit limit (ProjectKind columns) = Unit {0}
+HasLimit limit (UnionKind n arity) = Unit {0}
+HasLimit limit (JoinKind node spec own) = own ≡ limit
+HasLimit limit (GroupKind spec own) = own ≡ limit
+
+abbrev pub HaveLimit : ℕ → List Frame → Type 0
+HaveLimit limit frames = (n : ℕ) → n < length frames → HasLimit limit (frame_at frames n).kind
+
+-- where a node feeds another, that one stands behind it and takes what it hands up
+abbrev pub IsLinked : List Frame → ℕ → Option (ℕ × ℕ) → ℕ → Type 0
+IsLinked frames n None width = Unit {0}
+IsLinked frames n (Some (place, input)) width = (n < place) × (place < length frames) × FitsKind (frame_at frames place).kind input width
+
+abbrev pub AreLinked : List Frame → Type 0
+AreLinked frames = (n : ℕ) → n < length frames → IsLinked frames n (frame_at frames n).above (frame_at frames n).width
+
+-- ---- what is kept
+
+abbrev pub kept_seen : Work → KeptOperator
+kept_seen StreamCell = NothingKept
+kept_seen (SelectCell test) = NothingKept
+kept_seen (ProjectCell columns) = NothingKept
+kept_seen (UnionCell union) = UnionKept union.state
+kept_seen (JoinCell join) = JoinKept join.kept
+kept_seen (GroupCell group) = GroupKept group.table
+
+-- joins and groups count what reaches them
+abbrev pub count_in : Work → ℕ → ℕ
+count_in StreamCell passed = passed
+count_in (SelectCell test) passed = passed
+count_in (ProjectCell columns) passed = passed
+count_in (UnionCell union) passed = passed
+count_in (JoinCell join) passed = join.kept.next
+count_in (GroupCell group) passed = group.count
+
+abbrev pub count_seen : Cell → ℕ
+count_seen cell = count_in cell.work cell.passed
+
+abbrev pub stored_kept : KeptOperator → ℕ
+stored_kept NothingKept = 0
+stored_kept (UnionKept union) = 0
+stored_kept (JoinKept kept) = length kept.stored
+stored_kept (GroupKept rows) = 0
+
+-- the peak is raised before a sweep alone, so that what is stored now may be more
+abbrev pub peak_seen : Cell → ℕ
+peak_seen cell = max cell.peak (stored_kept (kept_seen cell.work))
+
+-- ---- what nodes stand for
+
+-- no tuple is taken or given before it comes
+abbrev pub IsBelow : JoinState → Type 0
+IsBelow s = ((u : ℕ) → has s.taken u ≡ true → u < s.next) × ((u : ℕ) → has s.given u ≡ true → u < s.next)
+
+abbrev pub IsBelowIn : Operator → Type 0
+IsBelowIn (Stream schema sent) = Unit {0}
+IsBelowIn (Select test) = Unit {0}
+IsBelowIn (Project columns) = Unit {0}
+IsBelowIn (Union n u) = Unit {0}
+IsBelowIn (Join spec s) = IsBelow s
+IsBelowIn (Group spec rows) = Unit {0}
+
+-- the operator is of this kind
+abbrev pub IsKind : Kind → Operator → Type 0
+IsKind StreamKind (Stream schema sent) = Unit {0}
+IsKind (SelectKind own) (Select test) = own ≡ test
+IsKind (ProjectKind own) (Project columns) = own ≡ columns
+IsKind (UnionKind own arity) (Union n u) = own ≡ n
+IsKind (JoinKind node own limit) (Join spec s) = own ≡ spec
+IsKind (GroupKind own limit) (Group spec rows) = own ≡ spec
+IsKind _ _ = ⊥
+
+-- the node is of the operator's kind, and keeps what it has to
+pub record IsAs (work : Work) (operator : Operator) : Type 0 where
+  pub kind : IsKind (kind_of work) operator
+  pub kept : kept_seen work ≡ kept_in operator
+  pub below : IsBelowIn operator
+
+abbrev pub above_pair : Option (ℕ × ℕ) → Option Above
+above_pair None = None
+above_pair (Some (place, input)) = Some (record { place = place; input = input })
+
+-- the nodes are a tree, each feeds what is seen of it, and each is as it is seen
+pub record AreAs (cells : List Cell) (nodes : List Node) : Type 0 where
+  pub tree : IsTree nodes
+  pub long : length cells ≡ length nodes
+  pub links : (n : ℕ) → n < length cells → above nodes n ≡ above_pair (cell_at cells n).above
+  pub each : (n : ℕ) → n < length cells → IsAs (cell_at cells n).work (operator_at nodes n)
+
+-- ---- an element comes to one node
+
+abbrev pub width_of : Element → ℕ
+width_of (Tuple row) = length row
+width_of (Punct patterns) = length patterns
+
+-- what a node hands up
+abbrev pub handed_list : Handed → List Element
+handed_list Nothing = []
+handed_list (One element) = element ∷ []
+handed_list (Puncts puncts) = map Punct puncts
+handed_list (AllHanded elements) = elements
+
+-- the node is as the operator after the element, and hands up what that does
+pub record Follows (work : Work) (up : Handed) (operator : Operator) (input : ℕ) (element : Element) : Type 0 where
+  pub stands : IsAs work (after operator (Comes input element))
+  pub hands : handed_list up ≡ hands operator (Comes input element)
+
+-- as many elements as may have reached the node
+abbrev pub IsFull : Work → Type 0
+IsFull StreamCell = ⊥
+IsFull (SelectCell test) = ⊥
+IsFull (ProjectCell columns) = ⊥
+IsFull (UnionCell union) = ⊥
+IsFull (JoinCell join) = join.kept.next ≡ join.limit
+IsFull (GroupCell group) = group.count ≡ group.limit
+
+-- why a node takes no element, where it is a group
+abbrev pub stop_of_group : GroupStop → JoinStop
+stop_of_group GroupFull = JoinFull
+stop_of_group GroupWants = JoinWants
+
+-- ---- what always holds of a join
+
+-- every ticket that is not given is below the next, no more elements came than may, and of no sort are there more than came
+pub record IsOrderlyJoin (join : JoinView) : Type 0 where
+  pub below : (t : ℕ) → has join.kept.opened t ≡ true → t < join.kept.next
+  pub next : join.kept.next ≤ join.limit
+  pub limit : join.limit ≤ 2 ^ 40
+  pub pending : length join.kept.pending ≤ join.kept.next
+  pub opened : length join.kept.opened ≤ join.kept.next
+  pub stored : length join.kept.stored ≤ join.kept.next
+  pub waiting : length join.kept.waiting ≤ join.kept.next
+
+abbrev pub IsOrderly : Work → Type 0
+IsOrderly StreamCell = Unit {0}
+IsOrderly (SelectCell test) = Unit {0}
+IsOrderly (ProjectCell columns) = Unit {0}
+IsOrderly (UnionCell union) = Unit {0}
+IsOrderly (JoinCell join) = IsOrderlyJoin join
+IsOrderly (GroupCell group) = Unit {0}
+
+-- an orderly node stays so, and what is taken and not given there stays so
+abbrev pub KeepsOpen : Work → Work → Type 0
+KeepsOpen old new = IsOrderly old → IsOrderly new × ((t : ℕ) → IsTakenIn (kept_seen old) t → IsTakenIn (kept_seen new) t)

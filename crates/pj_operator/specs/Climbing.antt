@@ -1,0 +1,83 @@
+-- How what a node of a core hands up climbs.
+use Rattle.std.specs.Prelude.{ℕ, ◌+◌, ◌<◌, ◌≤◌, ◌≡◌, List, [], ◌++◌, map, length, slice_index_or, slice_set, Option, Some, None}
+use Rattle.pj_pattern.specs.declared.element.Element.{Element}
+use Rattle.pj_events.specs.declared.events.Out.{Out}
+use Rattle.pj_events.specs.declared.events.Stop.{Stop}
+use Rattle.pj_events.specs.declared.events.Stop.TheVariants.{Limit, NoMemory}
+use Rattle.pj_events.specs.History.{out_of}
+use Rattle.pj_events.specs.Plan.{Operator, Node}
+use Rattle.pj_events.specs.Outcomes.{Arrival, beyond_of, climb, way_up}
+use Rattle.pj_laws.specs.Climb.{Climbed, climbed}
+use Rattle.pj_operator.specs.declared.cell.Cell.{Cell}
+use Rattle.pj_operator.specs.declared.cell.Handed.{Handed}
+use Rattle.pj_operator.specs.declared.cell.Work.{Work}
+use Rattle.pj_operator.specs.Cells.{AreAs, Follows, HaveLimit, IsAs, IsFull, IsOrderly, cell_at, kept_seen, count_seen, frame_of, frames_in, IsTakenIn}
+
+-- the nodes of a core, and what is to be drained
+pub record Scene : Type 0 where
+  pub cells : List Cell
+  pub outs : List Out
+
+-- how many elements have reached a node
+abbrev pub count_at : List Cell → ℕ → ℕ
+count_at cells n = count_seen (cell_at cells n)
+
+-- as many more elements have reached each node as these brought there
+abbrev pub AreCounted : List Cell → List Cell → List (List Arrival) → Type 0
+AreCounted old new brought = (n : ℕ) → n < length old → count_at new n ≡ count_at old n + length (slice_index_or brought n [])
+
+-- the cells stand for the nodes after the climb, as many elements have reached each as it brought, and what is left is handed out
+pub record Leaves (old new : Scene) (c : Climbed) : Type 0 where
+  pub stands : AreAs new.cells c.nodes
+  pub hands : new.outs ≡ old.outs ++ map out_of c.left.elements
+  pub counts : AreCounted old.cells new.cells c.brought
+
+-- the node at which the first of these elements goes beyond the limit on its way up, through at most so many levels
+abbrev pub beyond_in : ℕ → ℕ → List Cell → List Node → ℕ → List Element → Option ℕ
+beyond_in depth limit cells nodes from es = beyond_of (climb depth limit (way_up (count_at cells) 0 from nodes) es)
+
+-- wherever the cells stand, with whatever limit they have, that node is this
+abbrev pub GoBeyond : List Cell → ℕ → List Element → Option ℕ → Type 0
+GoBeyond cells from es node =
+    (limit : ℕ) → HaveLimit limit (frames_in cells) → (nodes : List Node) → AreAs cells nodes
+    → (depth : ℕ) → length (way_up (count_at cells) 0 from nodes) ≤ depth → beyond_in depth limit cells nodes from es ≡ node
+
+-- what a node handed up climbed as far as it goes, and nothing of it went beyond the limit
+pub record Climbs (old new : Scene) (from : ℕ) (es : List Element) : Type 0 where
+  pub climbs : (nodes : List Node) → AreAs old.cells nodes → Leaves old new (climbed nodes from es)
+  pub within : GoBeyond old.cells from es None
+
+-- a limit stops the climb that brings one element beyond it, at that node; memory may be wanting at any time
+abbrev pub IsClimbStop : List Cell → ℕ → List Element → Stop → Type 0
+IsClimbStop cells from es (Limit node) = GoBeyond cells from es (Some node)
+IsClimbStop cells from es NoMemory = Unit {0}
+
+abbrev pub work_at : List Cell → ℕ → Work
+work_at cells n = (cell_at cells n).work
+
+abbrev pub AreOrderly : List Cell → Type 0
+AreOrderly cells = (n : ℕ) → IsOrderly (work_at cells n)
+
+-- orderly nodes stay so, and what is taken and not given stays so
+abbrev pub StayOpen : List Cell → List Cell → Type 0
+StayOpen old new = AreOrderly old → AreOrderly new × ((n t : ℕ) → IsTakenIn (kept_seen (work_at old n)) t → IsTakenIn (kept_seen (work_at new n)) t)
+
+-- what stays in a climb
+pub record StaysAs (old new : List Cell) : Type 0 where
+  pub frames : frames_in new ≡ frames_in old
+  pub peaks : map (λ cell. cell.peak) new ≡ map (λ cell. cell.peak) old
+  pub opens : StayOpen old new
+
+-- an element came to a node, and this is what it hands up
+pub record HasEntered (old new : List Cell) (place input : ℕ) (element : Element) (up : Handed) : Type 0 where
+  pub cell : Cell
+  pub changes : new ≡ slice_set old place cell
+  pub frame : frame_of cell ≡ frame_of (cell_at old place)
+  pub follows : (operator : Operator) → IsAs (cell_at old place).work operator → Follows cell.work up operator input element
+  pub count : count_seen cell ≡ count_at old place + 1
+  pub room : ¬ IsFull (cell_at old place).work
+
+-- where an element that comes to a node stops
+abbrev pub IsEntryStop : List Cell → ℕ → Stop → Type 0
+IsEntryStop cells place (Limit node) = (node ≡ place) × IsFull (cell_at cells place).work
+IsEntryStop cells place NoMemory = Unit {0}

@@ -1,0 +1,5 @@
+pub mod Cells
+pub mod Climbing
+pub mod Acts
+pub mod Handed
+pub mod Looks

@@ -1,0 +1,203 @@
+// A node of a core.
+ghost use Rattle.std.specs.Prelude.{◌≡◌, ◌↔◌, ◌<◌, ◌+◌, ℕ, ◌≤◌, List, All, IfOk, OnOk, OnErr, IsErrOf, length, map};
+ghost use Rattle.pj_events.specs.Join.{arity, inputs};
+ghost use Rattle.pj_events.specs.Operators.{group_after, group_hands, project_hands, select_hands, union_after, union_hands};
+ghost use Rattle.pj_events.specs.Plan.{Operator, join_step};
+ghost use Rattle.pj_value.specs.declared.values.Value.{Value};
+ghost use Rattle.pj_group.specs.Steps.{Fits};
+ghost use Rattle.pj_group.specs.Tables.{StandsFor as HoldsGroup};
+ghost use Rattle.pj_join.specs.Joins.{after};
+ghost use Rattle.pj_join.specs.Sweeping.{puncts_up};
+ghost use Rattle.pj_operator.specs.Cells.{FitsKind, Follows, IsAs, IsFull, KeepsOpen, count_in, count_seen, frame_of, handed_list, kind_of, stop_of_group, width_of};
+
+use pj_flow::{Union, project_punct, project_tuple, select_tuple};
+use pj_group::{Group, GroupStop};
+use pj_join::{Join, JoinStop};
+use pj_pattern::{Element, Punct};
+use pj_value::{List, NoMemory};
+use std::alloc::Global;
+
+/// What a node does with the elements that come to it. A stream, a select and a project keep nothing.
+#[derive(Drop)]
+pub enum Work {
+    Stream,
+    Select(Punct),
+    Project(List<u32>),
+    Union(Union),
+    Join(Join),
+    Group(Group),
+}
+
+/// A node: its work, the node and the input that it feeds, how many columns it hands up, how many elements have reached it,
+/// and, of a join, the greatest number of tuples that was stored before any of its sweeps. Joins and groups count what reaches them
+/// themselves.
+#[derive(Drop)]
+pub struct Cell {
+    pub work: Work,
+    pub above: Option<(u32, u32)>,
+    pub width: u32,
+    pub passed: u64,
+    pub peak: u64,
+}
+
+/// What a node hands up at an element: most often one, and then in no list.
+#[derive(Drop)]
+pub enum Handed {
+    Nothing,
+    One(Element),
+    Puncts(List<Punct>),
+    All(List<Element>),
+}
+
+impl Cell {
+    /// An element comes from an input.
+    ///
+    /// `Limit` comes exactly where as many elements as may have come to a join or a group.
+    pub fn comes(&mut self, alloc: Global, input: u32, element: Element) -> Result<Handed, JoinStop>
+        requires { FitsKind (kind_of self.old.work) input (width_of element) }
+        ensures ok { IfOk result (λ up. (operator : Operator) → IsAs self.old.work operator → Follows self.new.work up operator input element) }
+        ensures count { OnOk result (count_seen self.new ≡ count_seen self.old + 1) }
+        ensures room { OnOk result (¬ IsFull self.old.work) }
+        ensures full { IsErrOf result JoinStop.Limit → IsFull self.old.work }
+        ensures frame { frame_of self.new ≡ frame_of self.old }
+        ensures peak { self.new.peak ≡ self.old.peak }
+        ensures open { KeepsOpen self.old.work self.new.work }
+    {
+        if self.passed == u64::MAX {
+            return Err(JoinStop::NoMemory);
+        }
+        let up = self.work.comes(alloc, input, element)?;
+        self.passed += 1;
+        Ok(up)
+    }
+}
+
+impl Work {
+    // The same of the work alone.
+    #[tactic(auto, using(crate::proofs::Nodes::stream_follows, crate::proofs::Nodes::select_follows, crate::proofs::Nodes::project_follows, crate::proofs::Nodes::union_follows, crate::proofs::Nodes::group_follows, crate::proofs::Nodes::join_follows, crate::proofs::Nodes::join_keeps))]
+    fn comes(&mut self, alloc: Global, input: u32, element: Element) -> Result<Handed, JoinStop>
+        requires { FitsKind (kind_of self.old) input (width_of element) }
+        ensures ok { IfOk result (λ up. (operator : Operator) → IsAs self.old operator → Follows self.new up operator input element) }
+        ensures count { OnOk result ((passed : ℕ) → count_in self.new (passed + 1) ≡ count_in self.old passed + 1) }
+        ensures room { OnOk result (¬ IsFull self.old) }
+        ensures full { IsErrOf result JoinStop.Limit → IsFull self.old }
+        ensures kind { kind_of self.new ≡ kind_of self.old }
+        ensures open { KeepsOpen self.old self.new }
+    {
+        match self {
+            Work::Stream => Ok(Handed::Nothing),
+            Work::Select(test) => Ok(selected(test, element)),
+            Work::Project(columns) => Ok(projected(alloc, columns.as_slice(), element)?),
+            Work::Union(union) => Ok(united(alloc, union, input, element)?),
+            Work::Join(join) => Ok(joined(alloc, join, input, element)?),
+            Work::Group(group) => Ok(grouped(alloc, group, element)?),
+        }
+    }
+}
+
+// What a select hands up: a tuple that matches, itself, and every punctuation.
+fn selected(test: &Punct, element: Element) -> Handed
+    ensures { handed_list result ≡ select_hands test.now element }
+{
+    match element {
+        Element::Tuple(row) => match select_tuple(test, row) {
+            Some(row) => Handed::One(Element::Tuple(row)),
+            None => Handed::Nothing,
+        },
+        Element::Punct(punct) => Handed::One(Element::Punct(punct)),
+    }
+}
+
+// What a project hands up: the kept columns, of a punctuation where it is a wildcard in every other.
+fn projected(alloc: Global, columns: &[u32], element: Element) -> Result<Handed, NoMemory>
+    requires { All (λ column. column < width_of element) columns.now }
+    ensures { IfOk result (λ up. handed_list up ≡ project_hands columns.now element) }
+{
+    match element {
+        Element::Tuple(row) => {
+            let kept = project_tuple(alloc, columns, &row)?;
+            Ok(Handed::One(Element::Tuple(kept)))
+        }
+        Element::Punct(punct) => match project_punct(alloc, columns, &punct)? {
+            Some(kept) => Ok(Handed::One(Element::Punct(kept))),
+            None => Ok(Handed::Nothing),
+        },
+    }
+}
+
+// A union takes an element, and hands up a tuple itself, and the punctuations that no input holds back any more.
+fn united(
+    alloc: Global,
+    union: &mut Union,
+    input: u32,
+    element: Element,
+) -> Result<Handed, NoMemory>
+    requires { (input < union.old.inputs) × (width_of element ≡ union.old.arity) }
+    ensures keeps { OnOk result (union.new ≡ record union.old { state = union_after union.old.inputs union.old.state input element }) }
+    ensures hands { IfOk result (λ up. handed_list up ≡ union_hands union.old.inputs union.old.state input element) }
+    ensures refused { OnErr result (union.new ≡ union.old) }
+{
+    match element {
+        Element::Tuple(row) => Ok(Handed::One(Element::Tuple(row))),
+        Element::Punct(punct) => {
+            let mut up = List::new(alloc);
+            union.punct(input, punct, &mut up)?;
+            Ok(Handed::Puncts(up))
+        }
+    }
+}
+
+// A join takes an element, and hands up a punctuation that none of its stored tuples matches.
+fn joined(alloc: Global, join: &mut Join, input: u32, element: Element) -> Result<Handed, JoinStop>
+    requires { (input < inputs join.old.spec) × (width_of element ≡ arity join.old.spec input) }
+    ensures keeps { OnOk result (join.new ≡ after join.old (join_step input element)) }
+    ensures hands { IfOk result (λ up. handed_list up ≡ map Element.Punct (puncts_up join.old (join_step input element))) }
+    ensures limit { IsErrOf result JoinStop.Limit ↔ (join.old.kept.next ≡ join.old.limit) }
+    ensures refused { OnErr result (join.new ≡ join.old) }
+{
+    match element {
+        Element::Tuple(row) => {
+            join.tuple(input, row)?;
+            Ok(Handed::Nothing)
+        }
+        Element::Punct(punct) => {
+            let mut up = List::new(alloc);
+            join.punct(input, punct, &mut up)?;
+            Ok(Handed::Puncts(up))
+        }
+    }
+}
+
+// A group takes an element, and hands up the rows of the groups that a punctuation closes, and that punctuation.
+fn grouped(alloc: Global, group: &mut Group, element: Element) -> Result<Handed, JoinStop>
+    requires fits { Fits group.old.spec (width_of element) }
+    requires few { length group.old.spec.keys + length group.old.spec.aggs ≤ 120 }
+    ensures keeps { OnOk result ((rows : List (List Value)) → HoldsGroup group.old rows → HoldsGroup group.new (group_after group.old.spec rows element)) }
+    ensures hands { IfOk result (λ up. (rows : List (List Value)) → HoldsGroup group.old rows → handed_list up ≡ group_hands group.old.spec rows element) }
+    ensures counts { OnOk result (group.new ≡ record group.old { count = group.old.count + 1; table = group.new.table }) }
+    ensures limit { IsErrOf result JoinStop.Limit ↔ (group.old.count ≡ group.old.limit) }
+    ensures refused { OnErr result (group.new ≡ group.old) }
+{
+    match element {
+        Element::Tuple(row) => match group.tuple(row) {
+            Ok(()) => Ok(Handed::Nothing),
+            Err(stop) => Err(as_join_stop(stop)),
+        },
+        Element::Punct(punct) => {
+            let mut up = List::new(alloc);
+            match group.punct(punct, &mut up) {
+                Ok(()) => Ok(Handed::All(up)),
+                Err(stop) => Err(as_join_stop(stop)),
+            }
+        }
+    }
+}
+
+fn as_join_stop(stop: GroupStop) -> JoinStop
+    ensures { result ≡ stop_of_group stop }
+{
+    match stop {
+        GroupStop::Limit => JoinStop::Limit,
+        GroupStop::NoMemory => JoinStop::NoMemory,
+    }
+}

@@ -1,0 +1,4 @@
+pub mod LinesWritten
+pub mod Counting
+pub mod StopLaws
+pub mod Fronts

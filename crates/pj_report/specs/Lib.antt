@@ -1,0 +1,3 @@
+pub mod Report
+pub mod Results
+pub mod Written

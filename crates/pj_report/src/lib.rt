@@ -1,0 +1,16 @@
+//! The lines that a run writes: those of its results, of its report and of its status.
+#![tactic(auto)]
+
+mod lines;
+mod report;
+mod results;
+mod status;
+mod status_line;
+mod stops;
+
+pub use lines::write_piece;
+pub use report::{write_peak_line, write_results, write_stream};
+pub use results::{Counts, write_outs};
+pub use status::{LimitOf, Status};
+pub use status_line::{write_lines, write_status};
+pub use stops::WriteStop;

@@ -1,0 +1,84 @@
+// The lines of what a core hands out.
+ghost use Rattle.std.specs.Prelude.{◌≡◌, ◌≤◌, ◌++◌, ◌∷◌, [], List, length, IsTrue, OnOk, Err};
+ghost use Rattle.pj_pattern.specs.declared.element.Element.{Element};
+ghost use Rattle.pj_pattern.specs.Elements.{rows_of, puncts_of};
+ghost use Rattle.pj_io.specs.Causes.{Rose};
+ghost use Rattle.pj_events.specs.Outcomes.{elements_out};
+ghost use Rattle.pj_report.specs.Results.{out_lines, counts_of};
+ghost use Rattle.pj_report.specs.Written.{flat, WritesBy, write_cut};
+
+use crate::lines::write_piece;
+use crate::stops::WriteStop;
+use pj_element::{punct_text, row_text};
+use pj_events::Out;
+use pj_io::Sink;
+use pj_value::{List as Items, NoMemory};
+use std::alloc::Global;
+
+/// How many result rows and result punctuations there were. Each count stays at the greatest number once it is there.
+#[derive(Clone, Copy, Debug, PartialEq, Eq)]
+pub struct Counts {
+    pub rows: u64,
+    pub puncts: u64,
+}
+
+/// Writes the line of each element that was handed out, and counts them. `text` is where lines are made.
+pub fn write_outs<K: Sink>(
+    alloc: Global,
+    outs: &[Out],
+    counts: &mut Counts,
+    text: &mut Items<u8>,
+    out: &mut K,
+) -> Result<(), WriteStop>
+    ensures told { IsTrue (K.state out.new).told → IsTrue (K.state out.old).told }
+    ensures lines { IsTrue (K.state out.new).told → WritesBy write_cut (out_lines outs.now) (K.state out.old) (K.state out.new) result }
+    ensures counted { OnOk result ((before : List Element) → counts.old ≡ counts_of before → counts.new ≡ counts_of (before ++ elements_out outs.now)) }
+    ensures later { (K.state out.old).faults ≤ (K.state out.new).faults }
+    ensures fault { result ≡ Err WriteStop.Failed → Rose (K.state out.old).faults (K.state out.new).faults }
+{
+    for handed in outs {
+        out_text(alloc, handed, text)?;
+        write_piece(out, text.as_slice())?;
+        count(handed, counts);
+    }
+    Ok(())
+}
+
+fn out_text(alloc: Global, handed: &Out, text: &mut Items<u8>) -> Result<(), NoMemory>
+    ensures { OnOk result (text.new ≡ flat (out_lines (handed.now ∷ []))) }
+{
+    text.truncate(0);
+    match handed {
+        Out::Tuple(row) => {
+            row_text(alloc, row, text)?;
+            text.push(b'\n')?;
+        }
+        Out::Punct(punct) => {
+            punct_text(alloc, punct, text)?;
+            text.push(b'\n')?;
+        }
+        Out::Purged { .. } => {}
+    }
+    Ok(())
+}
+
+#[tactic(auto, using(crate::proofs::Counting::counted_more))]
+fn count(handed: &Out, counts: &mut Counts)
+    ensures { (before : List Element) → counts.old ≡ counts_of before → counts.new ≡ counts_of (before ++ elements_out (handed.now ∷ [])) }
+{
+    let (rows, puncts) = kinds(handed);
+    counts.rows = counts.rows.saturating_add(rows);
+    counts.puncts = counts.puncts.saturating_add(puncts);
+}
+
+// Whether it is a row, and whether it is a punctuation, as numbers.
+fn kinds(handed: &Out) -> (u64, u64)
+    ensures rows { result.0 ≡ length (rows_of (elements_out (handed.now ∷ []))) }
+    ensures puncts { result.1 ≡ length (puncts_of (elements_out (handed.now ∷ []))) }
+{
+    match handed {
+        Out::Tuple(_) => (1, 0),
+        Out::Punct(_) => (0, 1),
+        Out::Purged { .. } => (0, 0),
+    }
+}

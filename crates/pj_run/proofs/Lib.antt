@@ -1,0 +1,15 @@
+pub mod AcceptedLaws
+pub mod Accepting
+pub mod Arrivals
+pub mod Carried
+pub mod Certified
+pub mod Ending
+pub mod FilesRun
+pub mod JoinNodes
+pub mod OutputLaws
+pub mod Planned
+pub mod RunClosing
+pub mod Running
+pub mod Tallies
+pub mod TurnLaws
+pub mod StreamNodes

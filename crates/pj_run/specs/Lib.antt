@@ -1,0 +1,8 @@
+pub mod Ends
+pub mod Outcome
+pub mod PlanNames
+pub mod RunEnds
+pub mod Runs
+pub mod Turning
+pub mod Cuts
+pub mod Stops

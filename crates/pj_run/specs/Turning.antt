@@ -1,0 +1,99 @@
+-- What a turn of a core hands out, and how it ends.
+use Rattle.std.specs.Prelude.{◌≡◌, ◌<◌, ℕ, ⊤, List, ◌++◌, length, Option, Some, None, Result, IsTrue, slice_get}
+use Rattle.pj_plan.specs.declared.node.Outline.{Outline}
+use Rattle.pj_plan.specs.declared.node.PlanNode.{PlanNode}
+use Rattle.pj_plan.specs.Nodes.{stream_columns}
+use Rattle.pj_pattern.specs.declared.element.Element.{Element}
+use Rattle.pj_events.specs.declared.events.Entry.{Entry}
+use Rattle.pj_events.specs.declared.events.Out.{Out}
+use Rattle.pj_events.specs.declared.events.Stop.{Stop}
+use Rattle.pj_pattern.specs.Fitting.{FitsKinds}
+use Rattle.pj_shape.specs.Columns.{kinds_of}
+use Rattle.pj_events.specs.Outcomes.{elements_out, outputs_of, elements_of as arrived_at}
+use Rattle.pj_events.specs.Limits.{StaysWithin, BeginsBeyond, StopsAt}
+use Rattle.pj_events.specs.OneThread.{Turn, arrival_of}
+use Rattle.pj_core.specs.Cores.{CoreState, StandsFor, MayFollow, nodes_after, nodes_in}
+use Rattle.pj_core.specs.Calls.{MakesTurn, turn_behind}
+use Rattle.pj_report.specs.declared.results.Counts.{Counts}
+use Rattle.pj_run.specs.declared.stops.TurnStop.{TurnStop}
+use Rattle.pj_run.specs.declared.stops.TurnStop.TheVariants.{Limit as TurnLimit, WriteFailed as TurnFailed, NoMemory as TurnMemory}
+use Rattle.pj_run.specs.declared.stops.RunStop.{RunStop}
+use Rattle.pj_run.specs.declared.stops.RunStop.TheVariants.{ReadFault, TooLarge, Limit, WriteFailed, NoMemory}
+use Rattle.pj_feed.specs.Feeds.{FeedState, fed_elements}
+use Rattle.pj_io.specs.States.{SinkState}
+use Rattle.pj_report.specs.Results.{counts_of, out_lines}
+use Rattle.pj_run.specs.Cuts.{turn_cut}
+use Rattle.pj_report.specs.Written.{flat, WritesBy}
+use Rattle.pj_run.specs.Ends.{EndsBefore, EndsAtLimit}
+
+-- the turn is of one of these streams, and what it brings fits the columns, where it is no closing
+abbrev pub IsTurnOf : List PlanNode → Turn → Type 0
+IsTurnOf streams turn = (turn.stream < length streams) × (turn.closing ≡ 0 → FitsKinds (kinds_of (stream_columns streams turn.stream)) turn.element)
+
+-- all that the turn hands out behind this history
+abbrev pub turn_outs : CoreState → List Entry → Turn → List Out
+turn_outs core history turn = outputs_of core.plan.trace (nodes_after core history) (turn_behind core history turn)
+
+-- the outputs of a front of the turn's entries, none of which brings an element beyond a limit, up to the stop
+pub record HandsFront (core : CoreState) (history : List Entry) (turn : Turn) (outs : List Out) (stop : Stop) : Type 0 where
+  pub front : List Entry
+  pub back : List Entry
+  pub parts : turn_behind core history turn ≡ front ++ back
+  pub within : StaysWithin core.limit (nodes_in core) history front
+  pub stops : StopsAt core.limit (nodes_in core) (history ++ front) back stop
+  pub outs_are : outs ≡ outputs_of core.plan.trace (nodes_after core history) front
+
+-- the core stopped in the turn, and handed out what it had until then: exactly the outputs of the front of the turn's entries
+-- that were made
+pub record StopsBehind (old : CoreState) (turn : Turn) (outs : List Out) (stop : Stop) : Type 0 where
+  pub hands : (history : List Entry) → StandsFor old history → MayFollow old history (arrival_of turn) → HandsFront old history turn outs stop
+
+-- the whole turn was made, or the core stopped in it
+abbrev pub Turned : CoreState → CoreState → Turn → List Out → Option Stop → Type 0
+Turned old new turn outs None = MakesTurn old new turn outs
+Turned old new turn outs (Some stop) = StopsBehind old turn outs stop
+
+-- the whole turn was made, and what it handed out is counted
+pub record TurnDone (old new : CoreState) (turn : Turn) (before after : Counts) : Type 0 where
+  pub outs : List Out
+  pub makes : MakesTurn old new turn outs
+  pub counted : (es : List Element) → before ≡ counts_of es → after ≡ counts_of (es ++ elements_out outs)
+
+-- where the sink is told: behind each history that the core stands for and that the turn may follow, the lines of what the turn hands
+-- out were written, or as much of them as the stop leaves
+abbrev pub TurnWrites : {T : Type 0} → CoreState → Turn → SinkState → SinkState → Result T TurnStop → Type 0
+TurnWrites core turn old new result =
+    IsTrue new.told → (history : List Entry) → StandsFor core history → MayFollow core history (arrival_of turn)
+    → WritesBy turn_cut (out_lines (turn_outs core history turn)) old new result
+
+-- Where a limit stopped the turn, an entry of it is the first that brings an element beyond the limit, at this node, and where the
+-- sink is told exactly the lines of the outputs up to it were written
+pub record EndsTurn (core : CoreState) (history : List Entry) (turn : Turn) (node : ℕ) (old new : SinkState) : Type 0 where
+  pub front : List Entry
+  pub back : List Entry
+  pub parts : turn_behind core history turn ≡ front ++ back
+  pub within : StaysWithin core.limit (nodes_in core) history front
+  pub beyond : BeginsBeyond core.limit (nodes_in core) (history ++ front) back node
+  pub written : IsTrue new.told → new.written ≡ old.written ++ flat (out_lines (outputs_of core.plan.trace (nodes_after core history) front))
+
+abbrev pub TurnStops : TurnStop → CoreState → List Entry → Turn → SinkState → SinkState → Type 0
+TurnStops (TurnLimit node) core history turn old new = EndsTurn core history turn node old new
+TurnStops TurnFailed core history turn old new = ⊤
+TurnStops TurnMemory core history turn old new = ⊤
+
+-- what the stop leaves behind each history that the core stands for and that the turn may follow
+abbrev pub TurnStopsBehind : TurnStop → CoreState → Turn → SinkState → SinkState → Type 0
+TurnStopsBehind stop core turn old new =
+    (history : List Entry) → StandsFor core history → MayFollow core history (arrival_of turn) → TurnStops stop core history turn old new
+
+-- What the stop of a run's turns leaves: where a stream's turn could not be made, the lines of the outputs up to it, and where a
+-- read of its file failed, exactly the elements arrived that are accepted of the lines which end with a line feed in the bytes
+-- taken; at a limit, the lines of the outputs up to the entry that brought one element beyond it
+abbrev pub TurnsEnd : RunStop → Outline → List (List ℕ) → List FeedState → List ℕ → List ℕ → Type 0
+TurnsEnd (ReadFault stream) plan files feeds before lines =
+    (feed : FeedState) × (slice_get feeds stream ≡ Some feed) × (ends : EndsBefore plan files stream before lines)
+    × (arrived_at stream ends.front ≡ fed_elements feed.intake.columns feed.source.taken)
+TurnsEnd (TooLarge stream) plan files feeds before lines = EndsBefore plan files stream before lines
+TurnsEnd (Limit node) plan files feeds before lines = EndsAtLimit plan files node before lines
+TurnsEnd WriteFailed plan files feeds before lines = ⊤
+TurnsEnd NoMemory plan files feeds before lines = ⊤

@@ -1,0 +1,11 @@
+//! The run of a plan over its files, in rounds: one turn of a stream after the other, its results, and the report.
+#![tactic(auto)]
+
+mod report;
+mod run;
+mod status;
+mod stops;
+mod turns;
+
+pub use run::run_files;
+pub use stops::{FilesStop, RunStop, TurnStop};

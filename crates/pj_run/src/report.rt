@@ -1,0 +1,70 @@
+// The report of a run.
+ghost use Rattle.std.specs.Prelude.{◌≡◌, ◌≤◌, length, IsTrue, Err};
+ghost use Rattle.pj_plan.specs.Nodes.{streams_in};
+ghost use Rattle.pj_io.specs.Causes.{Rose};
+ghost use Rattle.pj_run.specs.Outcome.{Reports, ReportsPeaks, tally_lines};
+ghost use Rattle.pj_report.specs.Written.{WritesBy, write_cut};
+
+use pj_core::Core;
+use pj_element::Tally;
+use pj_io::Sink;
+use pj_plan::Plan;
+use pj_report::{Counts, WriteStop, write_peak_line, write_results, write_stream};
+use pj_value::List;
+
+/// Writes the report: the lines of each stream, the counts of results, and the peak of each join after the history that the core
+/// stands for. `text` is where lines are made.
+pub fn write_report<K: Sink>(
+    core: &Core,
+    tallies: &[Tally],
+    counts: Counts,
+    text: &mut List<u8>,
+    out: &mut K,
+) -> Result<(), WriteStop>
+    requires on { core.now.kept.stop ≡ None }
+    requires each { length tallies.now ≡ length (streams_in core.now.plan.nodes) }
+    ensures told { IsTrue (K.state out.new).told → IsTrue (K.state out.old).told }
+    ensures lines { Reports core.now tallies.now counts (K.state out.old) (K.state out.new) result }
+    ensures later { (K.state out.old).faults ≤ (K.state out.new).faults }
+    ensures fault { result ≡ Err WriteStop.Failed → Rose (K.state out.old).faults (K.state out.new).faults }
+{
+    write_streams(core.plan(), tallies, text, out)?;
+    write_results(counts.rows, counts.puncts, text, out)?;
+    write_peaks(core, text, out)?;
+    Ok(())
+}
+
+// Writes the lines of the streams, in order.
+#[tactic(auto, using(pj_feed::proofs::StreamNodes::count_numbers))]
+fn write_streams<K: Sink>(
+    plan: &Plan,
+    tallies: &[Tally],
+    text: &mut List<u8>,
+    out: &mut K,
+) -> Result<(), WriteStop>
+    requires { length tallies.now ≡ length (streams_in plan.now.nodes) }
+    ensures told { IsTrue (K.state out.new).told → IsTrue (K.state out.old).told }
+    ensures lines { IsTrue (K.state out.new).told → WritesBy write_cut (tally_lines (streams_in plan.now.nodes) tallies.now) (K.state out.old) (K.state out.new) result }
+    ensures later { (K.state out.old).faults ≤ (K.state out.new).faults }
+    ensures fault { result ≡ Err WriteStop.Failed → Rose (K.state out.old).faults (K.state out.new).faults }
+{
+    let streams = plan.streams();
+    for i in 0..streams.len() {
+        write_stream(plan.name(streams[i]), &tallies[i], text, out)?;
+    }
+    Ok(())
+}
+
+// Writes the lines of the joins' peaks, in order of declaration.
+fn write_peaks<K: Sink>(core: &Core, text: &mut List<u8>, out: &mut K) -> Result<(), WriteStop>
+    requires { core.now.kept.stop ≡ None }
+    ensures told { IsTrue (K.state out.new).told → IsTrue (K.state out.old).told }
+    ensures lines { ReportsPeaks core.now (K.state out.old) (K.state out.new) result }
+    ensures later { (K.state out.old).faults ≤ (K.state out.new).faults }
+    ensures fault { result ≡ Err WriteStop.Failed → Rose (K.state out.old).faults (K.state out.new).faults }
+{
+    for join in core.plan().joins() {
+        write_peak_line(core.plan().name(*join), core.peak(*join), text, out)?;
+    }
+    Ok(())
+}

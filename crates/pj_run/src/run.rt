@@ -1,0 +1,150 @@
+// The run of a plan over its files.
+ghost use Rattle.std.specs.Prelude.{◌≡◌, ◌≤◌, map, length, IsTrue, IfErr, IfOk, OnOk, Err, Some};
+ghost use Rattle.pj_plan.specs.Nodes.{streams_in};
+ghost use Rattle.std.specs.String.{string_bytes};
+ghost use Rattle.pj_io.specs.Causes.{Rose};
+ghost use Rattle.pj_io.specs.Folders.{NoneFalls, SameEverywhere};
+ghost use Rattle.pj_element.specs.Runs.{element_lines};
+ghost use Rattle.pj_core.specs.Cores.{StandsFor};
+ghost use Rattle.pj_feed.specs.Feeds.{AreFeeds, AreNew, AreSameFeeds, AllTold, AreAllTaken, files_of, tallies_in};
+ghost use Rattle.pj_feed.specs.Opened.{AreOpened, StayReadToEnd};
+ghost use Rattle.pj_run.specs.Outcome.{IsOutcome, Reports};
+ghost use Rattle.pj_run.specs.RunEnds.{AreRead, FeedsCause, FeedsWrite, FilesCause, FilesOpened, FilesWrite, StoppedFeeds, StoppedFiles, StoppedTurns, TurnsCause};
+ghost use Rattle.pj_run.specs.Runs.{IsNewCore, history_of, outline_in, outputs_of, run_lines};
+ghost use Rattle.pj_feed.specs.Opened.{AreReadToEnd};
+ghost use Rattle.pj_report.specs.Written.{WritesBy, write_cut};
+
+use crate::report::write_report;
+use crate::stops::{FilesStop, RunStop};
+use crate::turns::take_turn;
+use pj_core::Core;
+use pj_element::Tally;
+use pj_feed::{Feed, Feeds, OpeningStop, close_feeds, open_feeds};
+use pj_io::{Folder, Sink, Source};
+use pj_report::{Counts, WriteStop};
+use pj_value::List as Items;
+use std::alloc::Global;
+
+/// Runs the plan of a new core over the files of these names, one for each stream, which are read as the run goes on: writes the
+/// outputs of the run on one thread, and then the report, each line by a `write_all` of its own, and hands on what the sink holds
+/// back. The files are opened in order, and each that was opened is closed.
+pub fn run_files<F: Folder, K: Sink>(
+    alloc: Global,
+    core: &mut Core,
+    names: &[String],
+    folder: &mut F,
+    out: &mut K,
+) -> Result<(), FilesStop>
+    requires fresh { IsNewCore core.old }
+    requires each { length names.now ≡ length (streams_in core.old.plan.nodes) }
+    ensures plan { core.new.plan ≡ core.old.plan }
+    ensures told { IsTrue (K.state out.new).told → IsTrue (K.state out.old).told }
+    ensures lines { FilesWrite (outline_in core.old) (map string_bytes names.now) (F.state folder.old) (K.state out.old) (K.state out.new) result }
+    ensures ends { StoppedFiles (outline_in core.old) (map string_bytes names.now) (F.state folder.old) (F.state folder.new) (K.state out.old) (K.state out.new) result }
+    ensures unopened { (stop : OpeningStop) → result ≡ Err (FilesStop.Opening stop) → out.new ≡ out.old }
+    ensures last { OnOk result (AreReadToEnd (map string_bytes names.now) (F.state folder.old) (F.state folder.new)) }
+    ensures keeps { StayReadToEnd (F.state folder.old) (F.state folder.new) result }
+    ensures opened { FilesOpened result (map string_bytes names.now) (F.state folder.old) (F.state folder.new) }
+    ensures causes { IfErr result (λ stop. FilesCause stop (outline_in core.old) (map string_bytes names.now) (F.state folder.old) (F.state folder.new) (K.state out.old) (K.state out.new)) }
+    ensures folder_later { NoneFalls (F.state folder.old).faults (F.state folder.new).faults }
+    ensures later { (K.state out.old).faults ≤ (K.state out.new).faults }
+{
+    let Ok(mut feeds) = Vec::with_capacity(alloc, names.len()) else {
+        return Err(FilesStop::Opening {
+            stop: OpeningStop::NoMemory,
+        });
+    };
+    match open_feeds(alloc, folder, core.plan(), names, &mut feeds) {
+        Ok(()) => match run_feeds(alloc, core, feeds, folder, out) {
+            Ok(()) => Ok(()),
+            Err(stop) => Err(FilesStop::Run { stop }),
+        },
+        Err(stop) => {
+            let _ = close_feeds(alloc, folder, feeds);
+            Err(FilesStop::Opening { stop })
+        }
+    }
+}
+
+// Runs the plan over files that were opened, and closes them before the report.
+fn run_feeds<F: Folder, K: Sink>(
+    alloc: Global,
+    core: &mut Core,
+    feeds: Vec<Feed<F::File>>,
+    folder: &mut F,
+    out: &mut K,
+) -> Result<(), RunStop>
+    requires fresh { IsNewCore core.old }
+    requires feeds { AreFeeds 0 (streams_in core.old.plan.nodes) feeds.items }
+    requires none { AreNew feeds.items }
+    requires opened { AreOpened (F.state folder.old).opened feeds.items }
+    ensures plan { core.new.plan ≡ core.old.plan }
+    ensures told { IsTrue (K.state out.new).told → IsTrue (K.state out.old).told }
+    ensures lines { FeedsWrite feeds.items (run_lines (outline_in core.old) (files_of feeds.items)) (K.state out.old) (K.state out.new) result }
+    ensures ends { StoppedFeeds (outline_in core.old) feeds.items (F.state folder.old) (F.state folder.new) (K.state out.old) (K.state out.new) result }
+    ensures last { OnOk result (AreRead feeds.items (F.state folder.old) (F.state folder.new)) }
+    ensures causes { IfErr result (λ stop. FeedsCause stop (outline_in core.old) feeds.items (F.state folder.old) (F.state folder.new) (K.state out.old) (K.state out.new)) }
+    ensures still_opened { SameEverywhere (F.state folder.old).opened (F.state folder.new).opened }
+    ensures folder_later { NoneFalls (F.state folder.old).faults (F.state folder.new).faults }
+    ensures later { (K.state out.old).faults ≤ (K.state out.new).faults }
+{
+    let mut text = Items::new(alloc);
+    let mut feeds = Feeds { feeds, at: 0 };
+    let ran = run_streams(alloc, core, &mut feeds, &mut text, out);
+    let Feeds { feeds, at: _ } = feeds;
+    let closed = close_feeds(alloc, folder, feeds);
+    let counts = ran?;
+    let tallies = closed?;
+    Ok(finish(core, tallies.as_slice(), counts, &mut text, out)?)
+}
+
+// Writes the report, and hands on what the sink holds back.
+fn finish<K: Sink>(
+    core: &Core,
+    tallies: &[Tally],
+    counts: Counts,
+    text: &mut Items<u8>,
+    out: &mut K,
+) -> Result<(), WriteStop>
+    requires on { core.now.kept.stop ≡ None }
+    requires each { length tallies.now ≡ length (streams_in core.now.plan.nodes) }
+    ensures told { IsTrue (K.state out.new).told → IsTrue (K.state out.old).told }
+    ensures lines { Reports core.now tallies.now counts (K.state out.old) (K.state out.new) result }
+    ensures later { (K.state out.old).faults ≤ (K.state out.new).faults }
+    ensures fault { result ≡ Err WriteStop.Failed → Rose (K.state out.old).faults (K.state out.new).faults }
+{
+    write_report(core, tallies, counts, text, out)?;
+    out.flush()?;
+    Ok(())
+}
+
+// Runs the plan on one thread over its streams, and writes the lines of its outputs, which are handed on before a read.
+fn run_streams<S: Source, K: Sink>(
+    alloc: Global,
+    core: &mut Core,
+    feeds: &mut Feeds<S>,
+    text: &mut Items<u8>,
+    out: &mut K,
+) -> Result<Counts, RunStop>
+    requires fresh { IsNewCore core.old }
+    requires feeds { AreFeeds 0 (streams_in core.old.plan.nodes) feeds.old.feeds.items }
+    requires none { AreNew feeds.old.feeds.items }
+    requires first { feeds.old.at ≡ 0 }
+    ensures plan { core.new.plan ≡ core.old.plan }
+    ensures on { OnOk result (core.new.kept.stop ≡ None) }
+    ensures same { AreSameFeeds feeds.old.feeds.items feeds.new.feeds.items }
+    ensures told { IsTrue (K.state out.new).told → IsTrue (K.state out.old).told }
+    ensures lines { FeedsWrite feeds.old.feeds.items (element_lines (outputs_of (outline_in core.old) (files_of feeds.old.feeds.items))) (K.state out.old) (K.state out.new) result }
+    ensures ends { StoppedTurns (outline_in core.old) feeds.old.feeds.items feeds.new.feeds.items (K.state out.old) (K.state out.new) result }
+    ensures outcome { AllTold feeds.old.feeds.items → IfOk result (λ counts. IsOutcome (outline_in core.old) (files_of feeds.old.feeds.items) (tallies_in feeds.new.feeds.items) counts) }
+    ensures stands { AllTold feeds.old.feeds.items → OnOk result (StandsFor core.new (history_of (outline_in core.old) (files_of feeds.old.feeds.items))) }
+    ensures taken { OnOk result (AreAllTaken feeds.new.feeds.items) }
+    ensures causes { IfErr result (λ stop. TurnsCause stop (outline_in core.old) feeds.old.feeds.items feeds.new.feeds.items (K.state out.old) (K.state out.new)) }
+    ensures later { (K.state out.old).faults ≤ (K.state out.new).faults }
+{
+    let mut counts = Counts { rows: 0, puncts: 0 };
+    while let Some(next) = feeds.next(out)? {
+        take_turn(alloc, core, next, &mut counts, text, out)?;
+    }
+    Ok(counts)
+}

@@ -1,0 +1,108 @@
+// Why a run, or a turn of it, ended before its end.
+ghost use Rattle.std.specs.Prelude.{◌≡◌};
+
+use pj_feed::{FeedStop, FeedWhy, OpeningStop};
+use pj_intake::IntakeStop;
+use pj_report::WriteStop;
+use pj_value::NoMemory;
+
+/// Why a turn was not made to its end, or its lines were not written.
+#[derive(Clone, Copy, Debug, PartialEq, Eq)]
+pub enum TurnStop {
+    /// More elements came to this node than may.
+    Limit { node: u32 },
+    /// The output failed.
+    WriteFailed,
+    /// Memory could not be had.
+    NoMemory,
+}
+
+/// Why a run over files that were opened ended before its end.
+#[derive(Clone, Copy, Debug, PartialEq, Eq)]
+pub enum RunStop {
+    /// A read of this stream's file failed.
+    ReadFault { stream: u32 },
+    /// The file of this stream is too large.
+    TooLarge { stream: u32 },
+    /// More elements came to this node than may.
+    Limit { node: u32 },
+    /// The output failed.
+    WriteFailed,
+    /// Memory could not be had.
+    NoMemory,
+}
+
+/// Why a run over the files of its operands ended before its end.
+#[derive(Clone, Copy, Debug, PartialEq, Eq)]
+pub enum FilesStop {
+    /// Not all files were opened.
+    Opening { stop: OpeningStop },
+    /// All were, and the run ended.
+    Run { stop: RunStop },
+}
+
+impl From<WriteStop> for TurnStop {
+    ghost use Rattle.pj_run.specs.Stops.{of_write};
+
+    ghost from_gives = { λ stop turn. turn ≡ of_write stop };
+
+    fn from(stop: WriteStop) -> TurnStop {
+        match stop {
+            WriteStop::Failed => TurnStop::WriteFailed,
+            WriteStop::NoMemory => TurnStop::NoMemory,
+        }
+    }
+}
+
+impl From<TurnStop> for RunStop {
+    ghost use Rattle.pj_run.specs.Stops.{of_turn};
+
+    ghost from_gives = { λ stop run. run ≡ of_turn stop };
+
+    fn from(stop: TurnStop) -> RunStop {
+        match stop {
+            TurnStop::Limit { node } => RunStop::Limit { node },
+            TurnStop::WriteFailed => RunStop::WriteFailed,
+            TurnStop::NoMemory => RunStop::NoMemory,
+        }
+    }
+}
+
+impl From<FeedStop> for RunStop {
+    ghost use Rattle.pj_run.specs.Stops.{of_feed};
+
+    ghost from_gives = { λ stop run. run ≡ of_feed stop };
+
+    fn from(stop: FeedStop) -> RunStop {
+        let FeedStop { stream, why } = stop;
+        match why {
+            FeedWhy::Intake(IntakeStop::ReadFault) => RunStop::ReadFault { stream },
+            FeedWhy::Intake(IntakeStop::ByteLimit) => RunStop::TooLarge { stream },
+            FeedWhy::Intake(IntakeStop::NoMemory) => RunStop::NoMemory,
+            FeedWhy::WriteFailed => RunStop::WriteFailed,
+        }
+    }
+}
+
+impl From<WriteStop> for RunStop {
+    ghost use Rattle.pj_run.specs.Stops.{of_write, of_turn};
+
+    ghost from_gives = { λ stop run. run ≡ of_turn (of_write stop) };
+
+    fn from(stop: WriteStop) -> RunStop {
+        match stop {
+            WriteStop::Failed => RunStop::WriteFailed,
+            WriteStop::NoMemory => RunStop::NoMemory,
+        }
+    }
+}
+
+impl From<NoMemory> for RunStop {
+    ghost use Rattle.pj_run.specs.declared.stops.RunStop.TheVariants.{NoMemory as OutOfMemory};
+
+    ghost from_gives = { λ _ stop. stop ≡ OutOfMemory };
+
+    fn from(_: NoMemory) -> RunStop {
+        RunStop::NoMemory
+    }
+}

@@ -1,0 +1,4 @@
+pub mod ChainIs
+pub mod Triples
+pub mod Triangles
+pub mod SamplePlans

@@ -1,0 +1,4 @@
+pub mod Chain
+pub mod Triples
+pub mod SamplePlans
+pub mod Appends

@@ -1,0 +1,382 @@
+// What no clause says: that the calls succeed with ample memory, and that many of them agree with a plain list.
+ghost use Rattle.std.specs.Prelude.{◌≡◌, ◌<◌, All, IfOk, IfSome, IsTrue, [], ◌∷◌, length};
+ghost use Rattle.pj_value.specs.Lists.{In};
+
+use pj_state::{Matching, NextNumber, Shared, Spot, State};
+use pj_value::{List, NoMemory, Row, SharedText, Value};
+use std::alloc::Global;
+
+// The step at which an order is first kept.
+const KEPT: u64 = 40;
+
+// A row of the plain list: an integer, and a text of one byte.
+#[derive(Clone, Copy)]
+struct Plain {
+    ticket: u64,
+    number: i64,
+    letter: u8,
+}
+
+// What is looked for.
+#[derive(Clone, Copy)]
+enum Wanted {
+    Any,
+    Number(i64),
+    Letter(u8),
+}
+
+impl Wanted {
+    fn fits(&self, plain: &Plain) -> bool {
+        match self {
+            Wanted::Any => true,
+            Wanted::Number(number) => plain.number == *number,
+            Wanted::Letter(letter) => plain.letter == *letter,
+        }
+    }
+}
+
+fn text(alloc: Global, letter: u8) -> Result<Value, NoMemory> {
+    Ok(Value::Text(SharedText::copy_of(alloc, &[letter])?))
+}
+
+fn shared(alloc: Global, plain: Plain) -> Result<Shared, NoMemory>
+    ensures { IfOk result (λ r. length r ≡ 2) }
+{
+    let mut values = List::new(alloc);
+    values.push(Value::Int(plain.number))?;
+    values.push(text(alloc, plain.letter)?)?;
+    Shared::new(alloc, Row::of(values))
+}
+
+fn is_row(row: &Row, plain: &Plain) -> bool {
+    match (row.get(0), row.get(1)) {
+        (Some(Value::Int(number)), Some(Value::Text(bytes))) => {
+            *number == plain.number && bytes.as_slice() == [plain.letter].as_slice()
+        }
+        _ => false,
+    }
+}
+
+// Whether the ticket is greater than all that are there.
+fn is_later(state: &State, ticket: u64) -> bool
+    ensures { IsTrue result → All (λ s. s.ticket < ticket) state.now.rows }
+{
+    for at in 0..state.len() {
+        if state.nth(at).0 >= ticket {
+            return false;
+        }
+    }
+    true
+}
+
+fn put(alloc: Global, state: &mut State, plain: Plain) -> Result<bool, NoMemory>
+    requires { state.old.columns ≡ 0 ∷ 1 ∷ [] }
+    ensures { state.new.columns ≡ 0 ∷ 1 ∷ [] }
+{
+    if !is_later(state, plain.ticket) {
+        return Ok(false);
+    }
+    let row = shared(alloc, plain)?.share(alloc)?;
+    state.insert(plain.ticket, row)?;
+    Ok(true)
+}
+
+fn place_in(list: &[Plain], ticket: u64) -> Option<usize>
+    ensures { IfSome result (λ at. at < length list.now) }
+{
+    for (at, plain) in list.iter().enumerate() {
+        if plain.ticket == ticket {
+            return Some(at);
+        }
+    }
+    None
+}
+
+// Takes a ticket out of both.
+fn pull(state: &mut State, list: &mut Vec<Plain>, ticket: u64) -> bool
+    requires { state.old.columns ≡ 0 ∷ 1 ∷ [] }
+    ensures { state.new.columns ≡ 0 ∷ 1 ∷ [] }
+{
+    match (state.remove(ticket), place_in(list.as_slice(), ticket)) {
+        (Some(row), Some(at)) => is_row(row.row(), &list.remove(at)),
+        (None, None) => state.get(ticket).is_none(),
+        _ => false,
+    }
+}
+
+// Whether the state has the rows of the list, in order.
+fn is_same(state: &State, list: &[Plain]) -> bool {
+    if state.len() != list.len() {
+        return false;
+    }
+    for at in 0..state.len() {
+        let (ticket, row) = state.nth(at);
+        if ticket != list[at].ticket || !is_row(row, &list[at]) {
+            return false;
+        }
+    }
+    true
+}
+
+// Whether a cursor that jumps from either end to the other finds the rows of the list.
+fn is_jumped_through(state: &State, list: &[Plain]) -> bool {
+    let count = state.len();
+    if count != list.len() {
+        return false;
+    }
+    let mut cursor = state.cursor();
+    for at in 0..count {
+        let place = if at % 2 == 0 { at } else { count - at };
+        let (ticket, row) = cursor.nth(place);
+        if ticket != list[place].ticket || !is_row(row, &list[place]) {
+            return false;
+        }
+    }
+    true
+}
+
+// Whether these are the rows of the list with smaller tickets that fit, in order.
+fn are_found(found: &[(u64, Shared)], list: &[Plain], wanted: Wanted, below: u64) -> bool {
+    let mut at = 0;
+    for plain in list {
+        if plain.ticket < below && wanted.fits(plain) {
+            if at >= found.len() {
+                return false;
+            }
+            if found[at].0 != plain.ticket || !is_row(found[at].1.row(), plain) {
+                return false;
+            }
+            at += 1;
+        }
+    }
+    at == found.len()
+}
+
+// Whether these are the tickets of the rows that fit, in order.
+fn are_tickets(tickets: &[u64], list: &[Plain], wanted: Wanted) -> bool {
+    let mut at = 0;
+    for plain in list {
+        if wanted.fits(plain) {
+            if at >= tickets.len() || tickets[at] != plain.ticket {
+                return false;
+            }
+            at += 1;
+        }
+    }
+    at == tickets.len()
+}
+
+fn finds_all(alloc: Global, state: &State, list: &[Plain], below: u64) -> Result<bool, NoMemory> {
+    let found = state.all(alloc, below)?;
+    Ok(are_found(found.as_slice(), list, Wanted::Any, below))
+}
+
+fn finds_value(
+    alloc: Global,
+    state: &State,
+    list: &[Plain],
+    wanted: Wanted,
+    below: u64,
+) -> Result<bool, NoMemory>
+    requires { state.now.columns ≡ 0 ∷ 1 ∷ [] }
+{
+    match wanted {
+        Wanted::Any => finds_all(alloc, state, list, below),
+        Wanted::Number(number) => {
+            finds(alloc, state, list, wanted, 0, &Value::Int(number), below)
+        }
+        Wanted::Letter(letter) => {
+            finds(alloc, state, list, wanted, 1, &text(alloc, letter)?, below)
+        }
+    }
+}
+
+fn finds(
+    alloc: Global,
+    state: &State,
+    list: &[Plain],
+    wanted: Wanted,
+    column: u32,
+    value: &Value,
+    below: u64,
+) -> Result<bool, NoMemory>
+    requires { In column state.now.columns }
+{
+    if !are_tickets(state.tickets(column, value), list, wanted) {
+        return Ok(false);
+    }
+    let found = state.candidates(alloc, column, value, below)?;
+    Ok(are_found(found.as_slice(), list, wanted, below))
+}
+
+// The next number of a small generator.
+fn next(seed: u64) -> u64 {
+    seed.wrapping_mul(6364136223846793005)
+        .wrapping_add(1442695040888963407)
+}
+
+fn number(draw: u64) -> i64 {
+    (draw % 97) as i64 - 48
+}
+
+fn letter(draw: u64) -> u8 {
+    match draw % 3 {
+        0 => b'a',
+        1 => b'b',
+        _ => b'c',
+    }
+}
+
+// Puts a row into both, or takes one out of both.
+fn change(
+    alloc: Global,
+    state: &mut State,
+    list: &mut Vec<Plain>,
+    ticket: u64,
+    draw: u64,
+) -> Result<bool, NoMemory>
+    requires { state.old.columns ≡ 0 ∷ 1 ∷ [] }
+    ensures { state.new.columns ≡ 0 ∷ 1 ∷ [] }
+{
+    if draw % 5 > 2 {
+        return Ok(pull(state, list, ticket.saturating_sub(draw % 200)));
+    }
+    let plain = Plain {
+        ticket,
+        number: number(draw),
+        letter: letter(draw / 8),
+    };
+    list.push(plain)?;
+    put(alloc, state, plain)
+}
+
+// Whether the state agrees with the list, and finds what is there.
+fn agrees(alloc: Global, state: &State, list: &[Plain], draw: u64) -> Result<bool, NoMemory>
+    requires { state.now.columns ≡ 0 ∷ 1 ∷ [] }
+{
+    let below = draw % 600;
+    for wanted in [
+        Wanted::Any,
+        Wanted::Number(number(draw)),
+        Wanted::Letter(letter(draw)),
+    ] {
+        if !finds_value(alloc, state, list, wanted, below)? {
+            return Ok(false);
+        }
+    }
+    Ok(is_same(state, list) && is_jumped_through(state, list))
+}
+
+// The least integer of the list from one on, or of all.
+fn next_in(list: &[Plain], from: Option<i64>) -> NextNumber {
+    let mut least = NextNumber::Nothing;
+    for plain in list {
+        if is_from(plain.number, from) && is_less(plain.number, least) {
+            least = NextNumber::At(plain.number);
+        }
+    }
+    least
+}
+
+fn is_from(number: i64, from: Option<i64>) -> bool {
+    match from {
+        None => true,
+        Some(from) => from <= number,
+    }
+}
+
+fn is_less(number: i64, least: NextNumber) -> bool {
+    match least {
+        NextNumber::At(least) => number < least,
+        _ => true,
+    }
+}
+
+// Whether the state tells the next integer as the list does, where an order is kept, and nothing where none is.
+fn tells_next(state: &State, list: &[Plain], is_kept: bool, draw: u64) -> bool
+    requires { state.now.columns ≡ 0 ∷ 1 ∷ [] }
+{
+    let from = Some(number(draw));
+    if !is_kept {
+        return state.next_number(0, from) == NextNumber::Untold;
+    }
+    state.next_number(0, from) == next_in(list, from)
+        && state.next_number(0, None) == next_in(list, None)
+}
+
+// Whether each row is the same one where it is looked for near the last.
+fn is_near_same(matching: &Matching<'_>, near: &mut Spot) -> bool {
+    for at in 0..matching.len() {
+        let (ticket, row) = matching.nth(at);
+        let (near_ticket, near_row) = matching.nth_near(at, near);
+        if ticket != near_ticket || !row.same(near_row) {
+            return false;
+        }
+    }
+    true
+}
+
+// How many of these steps agree with the list, up to the first that does not.
+fn run(alloc: Global, state: &mut State, list: &mut Vec<Plain>, count: u64) -> Result<u64, NoMemory>
+    requires { state.old.columns ≡ 0 ∷ 1 ∷ [] }
+{
+    let wanted = text(alloc, b'a')?;
+    let mut near = Spot::new();
+    let mut seed = 7;
+    for ticket in 0..count {
+        seed = next(seed);
+        if ticket == KEPT {
+            state.keep_order(0);
+        }
+        if !change(alloc, state, list, ticket, seed >> 33)? {
+            return Ok(ticket);
+        }
+        if !agrees(alloc, state, list.as_slice(), seed >> 40)? {
+            return Ok(ticket);
+        }
+        if !tells_next(state, list.as_slice(), ticket >= KEPT, seed >> 40) {
+            return Ok(ticket);
+        }
+        if !is_near_same(&state.matching(1, &wanted), &mut near) {
+            return Ok(ticket);
+        }
+    }
+    Ok(count)
+}
+
+// Whether rows stand in order, and are found and taken out, whose tickets lie far apart.
+fn far(alloc: Global, tickets: &[u64], taken: u64) -> Result<bool, NoMemory> {
+    let mut state = State::new(alloc, &[0, 1])?;
+    let mut list = Vec::new(alloc);
+    for ticket in tickets {
+        let plain = Plain {
+            ticket: *ticket,
+            number: 1,
+            letter: b'a',
+        };
+        list.push(plain)?;
+        if !put(alloc, &mut state, plain)? {
+            return Ok(false);
+        }
+    }
+    Ok(pull(&mut state, &mut list, taken) && is_same(&state, list.as_slice()))
+}
+
+fn steps(alloc: Global, count: u64) -> Result<u64, NoMemory> {
+    let mut state = State::new(alloc, &[0, 1])?;
+    let mut list = Vec::new(alloc);
+    run(alloc, &mut state, &mut list, count)
+}
+
+#[test]
+fn steps_agree_with_a_plain_list(rt: HostRuntime) {
+    assert_eq!(rt; steps(rt.alloc(), 600), Ok(600));
+}
+
+#[test]
+fn tickets_may_lie_far_apart(rt: HostRuntime) {
+    let tickets = [3, 4, 4294967299, 4294967300, u64::MAX - 1, u64::MAX];
+    for taken in [3, 4294967299, u64::MAX] {
+        assert_eq!(rt; far(rt.alloc(), tickets.as_slice(), taken), Ok(true));
+    }
+}

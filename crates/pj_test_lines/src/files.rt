@@ -1,0 +1,96 @@
+// The adapters on real files, and each call that takes memory, once with ample memory.
+use pj_io::{
+    DiskFolder, Folder, MemFolder, MemSink, MemSource, StdSink, WholeStop, read_whole, write_all,
+};
+use pj_value::{Bytes, NoMemory};
+use std::alloc::Global;
+use std::fs;
+
+// All bytes of a file, if it is opened and read.
+fn bytes_of<F: Folder>(alloc: Global, folder: &mut F, name: &[u8]) -> Option<Bytes> {
+    match folder.open_file(alloc, name) {
+        Ok(mut file) => {
+            let whole = read_whole(alloc, &mut file, 100);
+            folder.close_file(file);
+            whole.ok()
+        }
+        Err(_) => None,
+    }
+}
+
+// Whether the file of the name has these bytes, or can't be read.
+fn has<F: Folder>(alloc: Global, folder: &mut F, name: &[u8], want: Option<&[u8]>) -> bool {
+    match (bytes_of(alloc, folder, name), want) {
+        (Some(bytes), Some(want)) => bytes.as_slice() == want,
+        (None, None) => true,
+        (Some(_), None) => false,
+        (None, Some(_)) => false,
+    }
+}
+
+#[test]
+fn disk_files_are_read(rt: HostRuntime) {
+    let path = "pj_io_disk_files_are_read";
+    assert!(rt; fs::write(&rt, path, b"t 1 \"a\"\n\xff").is_ok());
+    let mut folder = DiskFolder::new(rt.alloc(), &rt);
+    for (name, want) in [
+        (path.as_bytes(), Some(b"t 1 \"a\"\n\xff".as_slice())),
+        (b"pj_io_no_such_file".as_slice(), None),
+        (b"\xff".as_slice(), None),
+    ] {
+        assert!(rt; has(rt.alloc(), &mut folder, name, want));
+    }
+    assert!(rt; fs::remove_file(&rt, path).is_ok());
+    assert!(rt; StdSink::new(rt.alloc(), &rt).is_ok());
+}
+
+fn one_file(alloc: Global) -> Result<MemFolder, NoMemory> {
+    let mut folder = MemFolder::new(alloc, &[1])?;
+    folder.add(alloc, b"a", b"xyz", 2, &[])?;
+    Ok(folder)
+}
+
+#[test]
+fn folders_give_what_was_added(rt: HostRuntime) {
+    match one_file(rt.alloc()) {
+        Ok(mut folder) => {
+            for (name, want) in [(b"a", Some(b"xyz".as_slice())), (b"a", None), (b"b", None)] {
+                assert!(rt; has(rt.alloc(), &mut folder, name, want));
+            }
+        }
+        Err(_) => assert!(rt; false),
+    }
+}
+
+fn read_of(alloc: Global, fails: &[u64], limit: u32) -> Result<Bytes, WholeStop> {
+    let mut source = MemSource::new(alloc, b"abcde", 2, fails)?;
+    read_whole(alloc, &mut source, limit as u64)
+}
+
+#[test]
+fn sources_are_read_whole(rt: HostRuntime) {
+    let whole = read_of(rt.alloc(), &[9], 5);
+    assert!(rt; matches!(&whole, Ok(whole) if whole.as_slice() == b"abcde".as_slice()));
+    for (limit, stop) in [(4, WholeStop::TooLong), (9, WholeStop::Fault)] {
+        assert!(rt; read_of(rt.alloc(), &[3], limit).err() == Some(stop));
+    }
+}
+
+// Whether these bytes are what is written of five, and it fails where they are fewer.
+fn is_written(alloc: Global, fails: &[u64], room: usize, want: &[u8]) -> Result<bool, NoMemory> {
+    let mut sink = MemSink::new(alloc, 2, fails)?;
+    sink.room(room)?;
+    let all = write_all(&mut sink, b"abcde").is_ok();
+    Ok(sink.bytes() == want && all == (want.len() == 5))
+}
+
+#[test]
+fn sinks_keep_what_is_written(rt: HostRuntime) {
+    for (fail, room, want) in [
+        (9, 5, b"abcde".as_slice()),
+        (1, 100, b"ab"),
+        (9, 4, b"abcd"),
+    ] {
+        assert!(rt; matches!(is_written(rt.alloc(), &[fail], room, want), Ok(true)));
+    }
+}

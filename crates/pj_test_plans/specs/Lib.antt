@@ -1,0 +1,2 @@
+pub mod ThreeInputs
+pub mod MixedKinds

@@ -1,0 +1,15 @@
+//! Tests over the public calls of plans, their texts, schemes, certificates and safety.
+#![tactic(auto)]
+
+#[cfg(test)]
+mod certificates;
+#[cfg(test)]
+mod graphs;
+#[cfg(test)]
+mod plan_texts;
+#[cfg(test)]
+mod plans;
+#[cfg(test)]
+mod safety;
+#[cfg(test)]
+mod schemes;

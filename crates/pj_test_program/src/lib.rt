@@ -1,0 +1,7 @@
+//! Tests over the call that the program makes.
+#![tactic(auto)]
+
+#[cfg(test)]
+mod live;
+#[cfg(test)]
+mod runs;
