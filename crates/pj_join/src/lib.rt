@@ -27,4 +27,3 @@ pub use found::{Found, JoinStop};
 pub use handing::hand_out_rows;
 pub use join::Join;
 pub use probe::Probe;
-

@@ -5,6 +5,7 @@ mod kept;
 mod plays;
 mod turn;
 mod views;
+mod waiting;
 
 pub use kept::{Act, Kept};
 pub use turn::{Turn, TurnSeat};

@@ -8,6 +8,7 @@ ghost use Rattle.pj_turn.specs.Rule.{now, all_pairs, entry_at, idle_view, SeatTa
 use crate::kept::{Act, Kept};
 use crate::plays::{Another, Draw, Gather, Look, Note, Noted, Order, Serve};
 use crate::views::{Opening, SeatView};
+use crate::waiting::{Patience, Waiting};
 use atomic_table::{Refused, Seat, Table};
 use pj_value::{List, NoMemory};
 use std::alloc::Global;
@@ -22,9 +23,6 @@ const SERVING: usize = 1;
 
 const COUNT: usize = 2;
 
-// After so many looks a waiter parks before each further one.
-const LOOKS: u32 = 100;
-
 /// A state that threads share by turns, and the one history of what was done on it.
 ///
 /// Whatever the threads do, what they did is one list of entries: each act was made on a state that stood for the list so
@@ -33,6 +31,7 @@ const LOOKS: u32 = 100;
 pub struct Turn<T: Kept + Drop> {
     table: Table<Option<T>, SeatView<T::Fixed, T::Entry>, Opening<T>, Order, Global>,
     seats: u32,
+    waiting: Waiting,
     ghost sized: { (table.shared.table_id.words ≡ 3) × (table.shared.table_id.slots ≡ 1) × (table.shared.key.seats ≡ seats) × (1 ≤ seats) × (seats ≤ 64) },
 }
 
@@ -70,7 +69,11 @@ impl<T: Kept + Drop> Turn<T> {
             Ok(made) => made,
             Err(Refused { slots: _ }) => return Err(NoMemory),
         };
-        let turn = Turn { table, seats };
+        let turn = Turn {
+            table,
+            seats,
+            waiting: Waiting::new(),
+        };
         let all = turn.deal(alloc, first)?;
         Ok((turn, List::of(all)))
     }
@@ -143,7 +146,11 @@ impl<T: Kept + Drop> Turn<T> {
         requires pairs { (n : ℕ) → n < self.seats → (k : ℕ) × (seen : List T.Entry) × (get_elem? (all_pairs first.me.0) k ≡ some (n, seen)) }
         ensures { Closed T.meaning (turn_fixed T.meaning.fixed self) self.seats (λ n seen. (k : ℕ) × (get_elem? (all_pairs first.me.0) k ≡ some (n, seen))) result }
     {
-        let Turn { table, seats: _ } = self;
+        let Turn {
+            table,
+            seats: _,
+            waiting: _,
+        } = self;
         let mut closed = table.close_with(first);
         let state = closed.take(0);
         closed.free();
@@ -160,6 +167,7 @@ impl<T: Kept + Drop> Turn<T> {
         ensures same { (seat_name seat.new ≡ seat_name seat.old) × (seat_number seat.new ≡ seat_number seat.old) }
         ensures turned { Turned T.meaning (A.meaning act) result (turn_fixed T.meaning.fixed self.now) (seat_number seat.old) (seat_seen seat.old) (seat_seen seat.new) }
     {
+        self.await_calm(rt);
         let ticket = self.draw(&mut seat.seat);
         self.await_turn(rt, &mut seat.seat, ticket);
         let mut state = self.lift(&mut seat.seat);
@@ -204,18 +212,41 @@ impl<T: Kept + Drop> Turn<T> {
         ensures name { seat.new.table_id ≡ seat.old.table_id }
         ensures takes { SeatTakes T.meaning seat.old.me seat.new.me }
     {
-        let mut looks = 1;
+        let mut patience = Patience::new();
         for _ in rt.forever() {
             let found = self.look(seat);
             if found == ticket {
                 return;
             }
-            if looks < LOOKS {
-                looks += 1;
-            } else {
+            if !patience.looks_on() {
+                self.waiting.ticket_parks();
                 self.table
                     .shared
                     .park(rt, SERVING, (found % (1 << 32)) as u32);
+                self.waiting.ticket_wakes();
+            }
+        }
+        unreachable!()
+    }
+
+    // Waits before a ticket is drawn, until nobody holds one, or has looked for long: who has a ticket is served in its turn,
+    // and a processor may not have come to it yet.
+    fn await_calm<R: Wait>(&self, rt: &R) {
+        let mut patience = Patience::new();
+        for _ in rt.forever() {
+            let serving = self.table.shared.peek(SERVING);
+            if self.table.shared.peek(TICKET) == serving {
+                return;
+            }
+            if !patience.looks_on() {
+                self.waiting.seat_rests();
+                self.table.shared.park_timeout(
+                    rt,
+                    SERVING,
+                    (serving % (1 << 32)) as u32,
+                    self.waiting.rest(),
+                );
+                self.waiting.seat_rises();
             }
         }
         unreachable!()
@@ -268,7 +299,16 @@ impl<T: Kept + Drop> Turn<T> {
         ensures served { seat.new.me ≡ (now seat.old.me.0 false seat.old.me.0.ticket false seat.old.me.0.seen, []) }
     {
         self.table.shared.fetch_add::<Serve>(seat, SERVING, 1);
-        self.table.shared.wake_all(SERVING);
+        self.wake();
+    }
+
+    // Wakes who waits for what was just served: all that have tickets, else one that has none.
+    fn wake(&self) {
+        if self.waiting.has_tickets() {
+            self.table.shared.wake_all(SERVING);
+        } else if self.waiting.has_seats() {
+            self.table.shared.wake_one(SERVING);
+        }
     }
 }
 
