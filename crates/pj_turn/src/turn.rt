@@ -229,8 +229,8 @@ impl<T: Kept + Drop> Turn<T> {
         unreachable!()
     }
 
-    // Waits before a ticket is drawn, until nobody holds one, or has looked for long: who has a ticket is served in its turn,
-    // and a processor may not have come to it yet.
+    // Waits before a ticket is drawn, until nobody holds one: who has a ticket is served in its turn, though no processor may
+    // have come to it yet.
     fn await_calm<R: Wait>(&self, rt: &R) {
         let mut patience = Patience::new();
         for _ in rt.forever() {
