@@ -4,7 +4,7 @@ use Rattle.std.proofs.lemmas.List.{reverse-append}
 use Rattle.std.proofs.lemmas.List.Elements.{filter-append}
 use Rattle.pj_events.specs.Join.{has, upto_from}
 use Rattle.pj_core.specs.Calls.{ended_of}
-use Rattle.pj_laws.proofs.Upto.{upto-push}
+use Rattle.pj_join_laws.proofs.Upto.{upto-push}
 
 has-append : (xs ys : List ℕ) (n : ℕ) → has (xs ++ ys) n ≡ (has xs n || has ys n)
 has-append [] ys n = refl

@@ -17,7 +17,7 @@ use Rattle.pj_laws.specs.ClimbKept.{handed_by, undrained_with}
 use Rattle.pj_laws.specs.ClimbLimits.{begun_by, begun_where}
 use Rattle.pj_laws.proofs.ClimbingKept.{stores-grow}
 use Rattle.pj_laws.proofs.ClimbingLimits.{beyond-is-climbed, levels-climb}
-use Rattle.pj_laws.proofs.Upto.{get_or-upto}
+use Rattle.pj_join_laws.proofs.Upto.{get_or-upto}
 use Rattle.pj_operator.specs.declared.cell.Cell.{Cell}
 use Rattle.pj_operator.specs.Cells.{AreAs, HaveLimit, IsAs, cell_at, count_seen, frame_of, frames_in, kept_seen, no_cell, peak_seen, stored_kept}
 use Rattle.pj_operator.specs.Climbing.{Climbs, GoBeyond, Leaves, StaysAs, count_at}

@@ -14,7 +14,7 @@ use Rattle.pj_events.specs.History.{nodes_from, pending_in, state_in}
 use Rattle.pj_events.specs.Outcomes.{peak_of}
 use Rattle.pj_events.specs.OneThread.{plain}
 use Rattle.pj_events.specs.CoreKept.{CoreKept, KeptOperator, NothingKept, UnionKept, JoinKept, GroupKept, kept_in}
-use Rattle.pj_laws.proofs.Upto.{get_or-upto}
+use Rattle.pj_join_laws.proofs.Upto.{get_or-upto}
 use Rattle.pj_operator.specs.declared.cell.Cell.{Cell}
 use Rattle.pj_operator.specs.declared.cell.Work.{Work}
 use Rattle.pj_operator.specs.declared.cell.Work.TheVariants.{Stream as StreamCell, Select as SelectCell, Project as ProjectCell, Union as UnionCell, Join as JoinCell, Group as GroupCell}

@@ -7,7 +7,7 @@ use Rattle.pj_events.specs.Join.{upto_from}
 use Rattle.pj_events.specs.Plan.{Node}
 use Rattle.pj_events.specs.CoreKept.{KeptOperator, kept_in}
 use Rattle.pj_events.specs.Outcomes.{stored_at}
-use Rattle.pj_laws.proofs.Upto.{get_or-upto, length-upto}
+use Rattle.pj_join_laws.proofs.Upto.{get_or-upto, length-upto}
 use Rattle.pj_plan.specs.Nodes.{is_join}
 use Rattle.pj_core.specs.Calls.{IsFresh}
 use Rattle.pj_operator.specs.Climbing.{AreOrderly, work_at}

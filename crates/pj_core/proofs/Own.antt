@@ -11,7 +11,7 @@ use Rattle.pj_events.specs.declared.events.Event.TheVariants.{Take as Taken, Giv
 use Rattle.pj_events.specs.History.{IsEntryAllowed, IsLegal, IsOn, data_in, nodes_from, reached_of, state_in}
 use Rattle.pj_laws.specs.HistoryLaws.{Certified}
 use Rattle.pj_events.specs.OneThread.{plain}
-use Rattle.pj_laws.proofs.Tickets.{lacking-come, lacking-none}
+use Rattle.pj_join_laws.proofs.Tickets.{lacking-come, lacking-none}
 use Rattle.pj_join.specs.Joins.{IsTaken}
 use Rattle.pj_operator.specs.Acts.{with_work}
 use Rattle.pj_core.proofs.Planned.{nodes-long}
@@ -20,7 +20,7 @@ use Rattle.pj_laws.specs.Climb.{Climbed, climbed_where, local_of}
 use Rattle.pj_events.specs.Outcomes.{origin_of, results_of}
 use Rattle.pj_laws.proofs.ClimbingEvents.{events-climb, leaves-nodes}
 use Rattle.pj_laws.proofs.HistoryAnswers.{adds-entry, grows-legally, trace-adds-notes}
-use Rattle.pj_laws.proofs.Stand.{lacking-cons, low-kept}
+use Rattle.pj_join_laws.proofs.Stand.{lacking-cons, low-kept}
 use Rattle.pj_join.specs.Joins.{JoinView, StandsFor as JoinStandsFor, after}
 use Rattle.pj_operator.specs.declared.cell.Cell.{Cell}
 use Rattle.pj_operator.specs.declared.cell.Work.{Work}

@@ -18,7 +18,7 @@ use Rattle.pj_events.specs.Outcomes.{elements_out, goes_beyond, results_of}
 use Rattle.pj_events.specs.OneThread.{Pending, first_of, pending_at, plain, probes_at}
 use Rattle.pj_events.specs.CoreKept.{NothingKept}
 use Rattle.pj_laws.proofs.Probes.{has-in}
-use Rattle.pj_laws.proofs.Tickets.{AreAscending, first-least, pending-ascends}
+use Rattle.pj_join_laws.proofs.Tickets.{AreAscending, first-least, pending-ascends}
 use Rattle.pj_join.specs.Joins.{JoinView, after, found_of}
 use Rattle.pj_operator.specs.declared.cell.Cell.{Cell}
 use Rattle.pj_operator.specs.declared.cell.Work.{Work}

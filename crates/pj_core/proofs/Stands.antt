@@ -18,11 +18,11 @@ use Rattle.pj_events.specs.CoreKept.{CoreKept, KeptOperator, NothingKept, core_k
 use Rattle.pj_laws.specs.Climb.{climb_of}
 use Rattle.pj_laws.specs.ClimbKept.{counted, handed_by, kept_with, raised, undrained_with}
 use Rattle.pj_laws.proofs.ClimbingKept.{adds-climb}
-use Rattle.pj_laws.proofs.Complete.{IsCounted, counted-run, counted-start}
+use Rattle.pj_join_laws.proofs.Complete.{IsCounted, counted-run, counted-start}
 use Rattle.pj_laws.proofs.HistoryAnswers.{grows-legally}
 use Rattle.pj_laws.proofs.JoinRuns.{join-runs}
 use Rattle.pj_laws.proofs.Probes.{length-from}
-use Rattle.pj_laws.proofs.Sound.{sound-start}
+use Rattle.pj_join_laws.proofs.Sound.{sound-start}
 use Rattle.pj_laws.proofs.Trees.{above-from, tree-from}
 use Rattle.pj_join.specs.Joins.{join_data}
 use Rattle.pj_operator.specs.declared.cell.Cell.{Cell}

@@ -18,7 +18,7 @@ use Rattle.pj_events.specs.History.{data_in, nodes_by, nodes_from, notes_of, sta
 use Rattle.pj_events.specs.Outcomes.{goes_beyond, stored_at}
 use Rattle.pj_events.specs.OneThread.{plain}
 use Rattle.pj_laws.proofs.ClimbingEvents.{events-climb, leaves-nodes}
-use Rattle.pj_laws.proofs.Stand.{low-kept}
+use Rattle.pj_join_laws.proofs.Stand.{low-kept}
 use Rattle.pj_join.specs.Joins.{JoinView, after}
 use Rattle.pj_join.specs.Sweeping.{puncts_up, rows_off, swept_off}
 use Rattle.pj_operator.specs.declared.act.Swept.{Swept as SweptOff}

@@ -19,7 +19,7 @@ use Rattle.pj_events.specs.Outcomes.{goes_beyond, results_of}
 use Rattle.pj_events.specs.OneThread.{Pending, first_of, next_from, next_probe, pending_at, plain}
 use Rattle.pj_events.specs.CoreKept.{JoinKept, KeptOperator, NothingKept, UnionKept, GroupKept, kept_in}
 use Rattle.pj_laws.proofs.Probes.{has-in}
-use Rattle.pj_laws.proofs.Tickets.{AreAscending, first-least, pending-ascends}
+use Rattle.pj_join_laws.proofs.Tickets.{AreAscending, first-least, pending-ascends}
 use Rattle.pj_join.specs.declared.found.Found.{Found}
 use Rattle.pj_join.specs.Joins.{IsTaken, JoinView, after}
 use Rattle.pj_operator.specs.declared.cell.Cell.{Cell}

@@ -11,7 +11,7 @@ use Rattle.pj_cover.specs.Suits.{has_there, all_have, suits_class, suits}
 use Rattle.pj_shape.proofs.Joining.{all_equal-from}
 use Rattle.pj_value.proofs.Orders.{same_if_equal, equal_if_same}
 use Rattle.pj_value.proofs.Members.{In-append_left, In-append_right, In-append_cases, In-map, In-flat_map, all_at, all_from}
-use Rattle.pj_laws.proofs.Matching.{value-in, agree-at, agree-mono}
+use Rattle.pj_join_laws.proofs.Matching.{value-in, agree-at, agree-mono}
 
 -- ---- the values of tuples in a class
 

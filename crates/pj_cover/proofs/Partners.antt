@@ -13,7 +13,7 @@ use Rattle.pj_shape.specs.declared.joins.JoinSpec.{JoinSpec}
 use Rattle.pj_shape.specs.Joining.{values_in}
 use Rattle.pj_shape.specs.Sound.{IsSoundSpec, arities_of}
 use Rattle.pj_events.specs.Join.{In, TupleAt, ClassCol, CertEntry, CertStep, agree, entry_of, no_value, part_of, value_at, values}
-use Rattle.pj_laws.proofs.Matching.{agree-at, value-in}
+use Rattle.pj_join_laws.proofs.Matching.{agree-at, value-in}
 use Rattle.pj_cover.specs.declared.rows.Uncovered.{Uncovered}
 use Rattle.pj_cover.specs.Stores.{Store}
 use Rattle.pj_cover.specs.Rising.{AreAbove, AreRisingRows, has_there_value, is_there, row_with, ticket_in, tickets_with}

@@ -27,7 +27,7 @@ use Rattle.pj_laws.proofs.HistoryAnswers.{fronts-are-legal}
 use Rattle.pj_laws.proofs.Extensions.{none-behind}
 use Rattle.pj_laws.proofs.Groups.{row-in}
 use Rattle.pj_laws.proofs.FinalRows.{is-final}
-use Rattle.pj_laws.proofs.Upto.{length-upto}
+use Rattle.pj_join_laws.proofs.Upto.{length-upto}
 use Rattle.pj_laws.proofs.Steps.{elements-append}
 use Rattle.pj_run.specs.Runs.{history_of, outputs_of, run_nodes}
 use Rattle.pj_engine.specs.Top.{AllLawful, AreOfWidth, answer_after, arrived_in, gone_on, streams_after, StaysRight}

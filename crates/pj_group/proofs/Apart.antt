@@ -7,7 +7,7 @@ use Rattle.pj_value.specs.Values.{row_eq}
 use Rattle.pj_value.proofs.Members.{any_at, none_at}
 use Rattle.pj_value.proofs.Orders.{row_equal_if_same, row_same_if_equal}
 use Rattle.pj_events.specs.Operators.{GroupSpec, keys_from}
-use Rattle.pj_laws.proofs.Groups.{key_of}
+use Rattle.pj_events.proofs.Keys.{key_of}
 
 swap : (a b c : Bool) → ((a || b) || c) ≡ (b || (a || c))
 swap true true c = refl

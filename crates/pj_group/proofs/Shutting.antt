@@ -17,7 +17,7 @@ use Rattle.pj_group.specs.Tables.{GroupView, StandsFor}
 use Rattle.pj_events.specs.Tables.{GroupEntry, kept_for, rows_of_table, rows_with_key, table_of, tally, value_of, Tally}
 use Rattle.pj_group.specs.Slots.{GroupSlot, open_groups, with_open}
 use Rattle.pj_group.specs.Steps.{closed_at, closed_rows, row_tuple, table_after, table_hands}
-use Rattle.pj_laws.proofs.Groups.{key_of}
+use Rattle.pj_events.proofs.Keys.{key_of}
 
 value_same : (rows : List (List Value)) (agg : Agg) → value_of (tally rows agg) ≡ aggregate rows agg
 value_same rows Count = refl

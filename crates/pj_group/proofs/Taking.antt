@@ -13,13 +13,13 @@ use Rattle.pj_value.specs.Values.{row_eq}
 use Rattle.pj_value.proofs.Members.{map-same}
 use Rattle.pj_value.proofs.Orders.{row_equal_if_same, row_same_if_equal}
 use Rattle.pj_events.specs.Operators.{Agg, GroupSpec, keys_from, picked_cells}
-use Rattle.pj_laws.proofs.UnionsAndGroups.{key-from}
+use Rattle.pj_events.proofs.Keys.{key-from}
 use Rattle.pj_events.specs.Tables.{GroupEntry, Tally, kept_for, rows_with_key, table_of, tally}
 use Rattle.pj_group.specs.Slots.{GroupSlot, IsReady, is_open, open_groups, states_in}
 use Rattle.pj_group.specs.Renewing.{IsLeft, IsRenewed}
 use Rattle.pj_group.specs.Steps.{first_tally, next_tallies, tallies_after}
 use Rattle.pj_group.proofs.OpenGroups.{new_after_clearing, open_found, open_put, set_put}
-use Rattle.pj_laws.proofs.Groups.{AreApart, key_of, keys-apart}
+use Rattle.pj_events.proofs.Keys.{AreApart, key_of, keys-apart}
 use Rattle.pj_group.proofs.Apart.{keys_more, none_with, some_with}
 use Rattle.pj_group.proofs.States.{tallies_first, tallies_more}
 

@@ -36,12 +36,12 @@ use Rattle.pj_core.proofs.Planned.{planned}
 use Rattle.pj_turn.specs.History.{Did, Ready}
 use Rattle.pj_turn.proofs.Lists.{own_seen}
 use Rattle.std.specs.declared.snapshot.Snapshot.{Snapshot}
-use Rattle.pj_seats.specs.Seats.{Holds, IsInputOf, KeptBySeats, MayFeed, giver_by, givers, is_closed, made_by, seated, stop_of, takers}
+use Rattle.pj_laws.specs.Seats.{Holds, IsInputOf, KeptBySeats, MayFeed, giver_by, givers, is_closed, made_by, seated, stop_of, takers}
 use Rattle.pj_seats.specs.Answers.{Goes, IsCauseOf, refused}
-use Rattle.pj_seats.proofs.Arriving.{closes-entry, feeds-entry}
-use Rattle.pj_seats.proofs.Held.{IsOpenAt, held-open, held-results, holds-new, sweep-allowed}
-use Rattle.pj_seats.proofs.Quiet.{quiet-within, take-within}
-use Rattle.pj_seats.proofs.Lists.{stop-reached}
+use Rattle.pj_laws.proofs.Arriving.{closes-entry, feeds-entry}
+use Rattle.pj_laws.proofs.Held.{IsOpenAt, held-open, held-results, holds-new, sweep-allowed}
+use Rattle.pj_laws.proofs.Quiet.{quiet-within, take-within}
+use Rattle.pj_laws.proofs.Lists.{stop-reached}
 use Rattle.pj_hub.specs.declared.made.MadeWith.{MadeWith}
 use Rattle.pj_hub.specs.Hubs.{CoreAct, HubStands, arrives, closes_stream, core_meaning, drains, gives, halts, hub_with, looks, made_with, plan_of, sweeps, takes}
 use Rattle.pj_hub.proofs.Making.{Made, did-made, is-tree, refusal, refused-made, refused-same, same-made, stop-is}
@@ -78,7 +78,7 @@ module _ (old new : CoreState) (answer : Result (Option Found) Stop) (on : OnOk 
       stays probe e p =
           e ∙ ap (λ (q : Rattle.pj_core.specs.Plans.RunPlan). results_of (nodes_of q) (log ++ plain (Taken probe.join probe.ticket) ∷ []) probe.join probe.ticket) p
           ∙ ap (λ (ns : List Node). Rattle.std.proofs.Common.map Rattle.pj_events.specs.Join.joined (Rattle.pj_events.specs.Join.results (Rattle.pj_events.specs.History.data_at (nodes_in old) probe.join) (Rattle.pj_events.specs.History.join_at ns probe.join).tuples (Rattle.pj_events.specs.History.join_at ns probe.join).tuples probe.ticket))
-          (Rattle.pj_seats.proofs.Reseat.nodes-same (nodes_in old) log (Taken probe.join probe.ticket) 0 0 n)
+          (Rattle.pj_laws.proofs.Reseat.nodes-same (nodes_in old) log (Taken probe.join probe.ticket) 0 0 n)
 
       go : (a : Result (Option Found) Stop) → OnOk a (old.kept.stop ≡ None) → IfOk a (λ x. CoreTakes old new x) → IfErr a (λ stop. IsRefused old.kept.stop old new stop (stop ≡ NoMemory))
           → Did core_meaning takes n log (record { core = old }) a (record { core = new })
@@ -111,11 +111,11 @@ module _ (old new : CoreState) (answer : Result (Option Found) Stop) (on : OnOk 
             o.next log S.stands,
             stays probe (o.keeps log S.stands) o.notes.plan,
             holds-new (nodes_in old) (planned old.plan S.sound) log r.keeps.given n probe.join probe.ticket
-                (Rattle.pj_seats.proofs.Reseat.legal-same (nodes_in old) log (Taken probe.join probe.ticket) 0 0 n (subst (λ (q : Rattle.pj_core.specs.Plans.RunPlan). IsLegal (nodes_of q) (log ++ plain (Taken probe.join probe.ticket) ∷ [])) o.notes.plan (o.notes.stands log S.stands).legal)),
+                (Rattle.pj_laws.proofs.Reseat.legal-same (nodes_in old) log (Taken probe.join probe.ticket) 0 0 n (subst (λ (q : Rattle.pj_core.specs.Plans.RunPlan). IsLegal (nodes_of q) (log ++ plain (Taken probe.join probe.ticket) ∷ [])) o.notes.plan (o.notes.stands log S.stands).legal)),
           )
       go (Err stop) none o e =
           did-made old new log n (refused log stop) 0 S
-          (refused-made old new log n stop (stop ≡ NoMemory) S e (λ on' w. subst (λ (s : Stop). Rattle.pj_seats.specs.Seats.IsStopDue old.limit (nodes_in old) log s) (sym w) tt))
+          (refused-made old new log n stop (stop ≡ NoMemory) S e (λ on' w. subst (λ (s : Stop). Rattle.pj_laws.specs.Seats.IsStopDue old.limit (nodes_in old) log s) (sym w) tt))
           takes (Err stop) refl r.keeps
           (refusal old new log n stop (stop ≡ NoMemory) S e (stop ≡ NoMemory) (λ w. w))
 
@@ -240,7 +240,7 @@ module _ (core : CoreState) (n : ℕ) (seen log : List Entry) (probe found : Fou
   gave-own j u a i = go (eqb probe.join j && eqb probe.ticket u) refl i
     where
       all : In n (takers probe.join probe.ticket log)
-      all = Rattle.pj_seats.proofs.Held.takers-made n log probe.join probe.ticket n took-log
+      all = Rattle.pj_laws.proofs.Held.takers-made n log probe.join probe.ticket n took-log
 
       go : (b : Bool) → (eqb probe.join j && eqb probe.ticket u) ≡ b → In a (cond b (n ∷ []) []) → In a (takers j u log)
       go true q (inl e) =
@@ -252,7 +252,7 @@ module _ (core : CoreState) (n : ℕ) (seen log : List Entry) (probe found : Fou
       go false q h = absurd h
 
   open-event : IsOn (reached_of false (nodes_in core) log) → Rattle.pj_events.specs.History.IsEventAllowed (reached_of false (nodes_in core) log) (Given probe.join probe.ticket)
-  open-event on = Rattle.pj_seats.proofs.Held.give-allowed (nodes_in core) (planned core.plan S.sound) log on probe.join probe.ticket is-open
+  open-event on = Rattle.pj_laws.proofs.Held.give-allowed (nodes_in core) (planned core.plan S.sound) log on probe.join probe.ticket is-open
 
   pub give-did : (new : CoreState) (answer : Result ⊤ Stop) → OnOk answer (HasGiven core new probe found) → IfErr answer (λ stop. IsRefused core.kept.stop core new stop (IsGiveCause core probe found stop))
       → Did core_meaning (gives probe found) n log (record { core = core }) answer (record { core = new })
@@ -275,7 +275,7 @@ module _ (core : CoreState) (n : ℕ) (seen log : List Entry) (probe found : Fou
       (gives probe found) (Err stop) refl r.keeps
       (refusal core new log n stop (IsGiveCause core probe found stop) S err (IsCauseOf (plan_of core) log (Given probe.join probe.ticket) stop) (given-cause-told core log probe found stop S give-rows))
     where
-      due : (s : Stop) → IsOn (reached_of false (nodes_in core) log) → IsGiveCause core probe found s → Rattle.pj_seats.specs.Seats.IsStopDue core.limit (nodes_in core) log s
+      due : (s : Stop) → IsOn (reached_of false (nodes_in core) log) → IsGiveCause core probe found s → Rattle.pj_laws.specs.Seats.IsStopDue core.limit (nodes_in core) log s
       due (Limit node) on c = record { event = Given probe.join probe.ticket; allowed = open-event on; beyond = c log S.stands give-rows }
       due NoMemory on c = tt
 
@@ -292,7 +292,7 @@ cause-told core log event NoMemory S c = tt
 
 -- a stop for this event is due where the event is allowed
 cause-due : (core : CoreState) (log : List Entry) (event : Event) (stop : Stop) → HubStands core log → (IsOn (reached_of false (nodes_in core) log) → Rattle.pj_events.specs.History.IsEventAllowed (reached_of false (nodes_in core) log) event)
-    → stop_of log ≡ None → IsCause core event stop → Rattle.pj_seats.specs.Seats.IsStopDue core.limit (nodes_in core) log stop
+    → stop_of log ≡ None → IsCause core event stop → Rattle.pj_laws.specs.Seats.IsStopDue core.limit (nodes_in core) log stop
 cause-due core log event (Limit node) S may on c = record { event = event; allowed = may (stop-reached false (begun (nodes_in core)) log ∙ on); beyond = c log S.stands }
 cause-due core log event NoMemory S may on c = tt
 

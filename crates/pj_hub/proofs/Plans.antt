@@ -23,7 +23,7 @@ use Rattle.pj_core.specs.Plans.{RunPlan, certs_behind, nodes_of, nodes_with, ope
 use Rattle.pj_core.proofs.Frames.{certs_at, operator-is}
 use Rattle.pj_core.proofs.Planned.{nodes-long}
 use Rattle.pj_core.proofs.Streams.{columns_there, number_below, stream-number, stream-there}
-use Rattle.pj_seats.specs.Seats.{HasInput, IsInputOf}
+use Rattle.pj_laws.specs.Seats.{HasInput, IsInputOf}
 
 -- ---- streams
 

@@ -6,7 +6,7 @@ use Rattle.pj_cover.specs.Suits.{suits}
 use Rattle.pj_cover.proofs.Agreeing.{source-of, suits-from}
 use Rattle.pj_shape.proofs.Joining.{all_equal-from}
 use Rattle.pj_value.proofs.Members.{all_from}
-use Rattle.pj_laws.proofs.Matching.{agree-mono}
+use Rattle.pj_join_laws.proofs.Matching.{agree-mono}
 
 -- no tuples join
 pub agree-none : (classes : List (List ClassCol)) → agree classes [] ≡ true

@@ -14,7 +14,7 @@ use Rattle.pj_state.specs.States.{StateView, has_value, is_value, row_under, row
 use Rattle.pj_shape.specs.declared.joins.CertStep.{CertStep}
 use Rattle.pj_cover.specs.Asking.{IsAsked, entries}
 use Rattle.pj_events.specs.Join.{CertEntry, ClassCol, Demand, In, TupleAt, agree, entry_of, no_value, value_at}
-use Rattle.pj_laws.proofs.Matching.{agree-mono}
+use Rattle.pj_join_laws.proofs.Matching.{agree-mono}
 use Rattle.pj_join.specs.declared.partners.Pair.{Pair}
 use Rattle.pj_join.specs.Sides.{IsWide, state_at, tuple_in}
 use Rattle.pj_join.specs.Watching.{AsksAlong, HavePartners, HopsBack, IsLink, LeadsBack, PathView, SideView, input_at, side_at}

@@ -17,8 +17,8 @@ use Rattle.pj_join.specs.Walks.{choices}
 use Rattle.pj_join.specs.Insides.{tickets, seen, Rise, IsOrdered, made_with}
 use Rattle.pj_join.proofs.Orders.{ordered-tuple, ordered-take, ordered-probe, seen-probe, seen-tuple, rise-front, rise-to, rise-length, rise-has, least-first, pending-first, seen-take, taken-first, IsTakenFirst}
 use Rattle.pj_join.proofs.Finding.{choices-results}
-use Rattle.pj_laws.proofs.Upto.{length-upto}
-use Rattle.pj_laws.proofs.NextProbe.{without-all}
+use Rattle.pj_join_laws.proofs.Upto.{length-upto}
+use Rattle.pj_join_laws.proofs.Stand.{without-all}
 
 -- ---- the low-water ticket
 

@@ -10,8 +10,8 @@ use Rattle.pj_value.proofs.Members.{In-flat_map, In-map, all_from, filter-agree,
 use Rattle.pj_join.proofs.Agreeing.{pair-suits}
 use Rattle.pj_join.proofs.Combining.{product-filter}
 use Rattle.pj_join.proofs.Orders.{only-of}
-use Rattle.pj_laws.proofs.Upto.{length-upto, get_or-upto, map-upto}
-use Rattle.pj_laws.proofs.Matching.{agree-mono}
+use Rattle.pj_join_laws.proofs.Upto.{length-upto, get_or-upto, map-upto}
+use Rattle.pj_join_laws.proofs.Matching.{agree-mono}
 
 -- ---- numbers from one on
 

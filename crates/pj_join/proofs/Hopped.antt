@@ -14,15 +14,15 @@ use Rattle.pj_state.specs.Rising.{IsRising, itself}
 use Rattle.pj_state.specs.States.{StateView, is_below, is_value, has_value, pair_of, pairs, row_under, rows_below, rows_with, stored, ticket_of, tickets_of}
 use Rattle.pj_probe.specs.Walks.{sides_at, tuple_at}
 use Rattle.pj_events.specs.Join.{ClassCol, In, TupleAt, Value, agree, has, no_value, product, upto_from, value_at}
-use Rattle.pj_laws.proofs.Matching.{agree-at, value-in}
+use Rattle.pj_join_laws.proofs.Matching.{agree-at, value-in}
 use Rattle.pj_join.proofs.Halved.{some_rise}
 use Rattle.pj_join.specs.Hops.{AreChosen, AreKnown, AreLinked, AreMore, BeginsWith, FindSame, HaveTickets, IsChoice, KnowsMore, LacksOne, Links, LinksBy, all_older, all_under, has_ticket, is_among, older_at, older_under, ticket_in}
 use Rattle.pj_join.specs.Sides.{IsWide, state_at}
 use Rattle.pj_join.specs.Watching.{under_with}
 use Rattle.pj_join.specs.Sides.{no_state, tuple_in, tuples_in}
 use Rattle.pj_join.specs.Walks.{AreNarrowed, IsNarrowed, may_join, older_joins, suits}
-use Rattle.pj_laws.proofs.Upto.{length-upto, get_or-upto, map-upto}
-use Rattle.pj_laws.proofs.Results.{product-filter}
+use Rattle.pj_join_laws.proofs.Upto.{length-upto, get_or-upto, map-upto}
+use Rattle.pj_join_laws.proofs.Results.{product-filter}
 use Rattle.pj_join.proofs.Combining.{filter-map}
 use Rattle.pj_join.proofs.Calling.{same-at}
 use Rattle.pj_join.proofs.Finding.{as-upto, map-map_upto, narrowed-finds}

@@ -12,7 +12,7 @@ use Rattle.pj_cover.specs.Asking.{HaveLength, Known, data_of, entries, is_covere
 use Rattle.pj_events.specs.Join.{In, CertEntry, CertStep, ClassCol, Demand, IsWalk, JoinData, JoinSpec, PunctAt, TupleAt, Value, agree, arities, covered, demand, grown, inputs, need, of_input, older, older_puncts, steps_of}
 use Rattle.pj_events.specs.Patterns.{covers}
 use Rattle.pj_events.specs.KeptState.{KeptState, kept_low, kept_ripe}
-use Rattle.pj_laws.proofs.Upto.{get_or-upto}
+use Rattle.pj_join_laws.proofs.Upto.{get_or-upto}
 use Rattle.pj_join.specs.declared.place.Place.{Place}
 use Rattle.pj_join.specs.Insides.{IsJoin, inside}
 use Rattle.pj_join.specs.Judging.{JudgeView, MayJudge, ripe_at}

@@ -15,7 +15,7 @@ use Rattle.pj_shape.specs.Sound.{IsSoundSpec}
 use Rattle.pj_events.specs.Join.{AreCertified, In, JoinData, PunctAt, TupleAt, Value, arities, arity, has, inputs, of_input, upto_from}
 use Rattle.pj_events.specs.KeptState.{without}
 use Rattle.pj_events.specs.Patterns.{Pattern}
-use Rattle.pj_laws.proofs.Upto.{get_or-upto}
+use Rattle.pj_join_laws.proofs.Upto.{get_or-upto}
 use Rattle.pj_value.proofs.Members.{In-append_cases, In-filter, In-filter_from, In-map_from, in-place}
 use Rattle.pj_join.specs.declared.place.Place.{Place}
 use Rattle.pj_join.specs.Insides.{AreHeard, IsJoin, IsOrdered, Rise, inside, tickets}

@@ -9,7 +9,7 @@ use Rattle.pj_events.specs.KeptState.{least, without}
 use Rattle.pj_join.specs.Joins.{JoinView, after}
 use Rattle.pj_join.specs.Insides.{tickets, seen, Rise, IsOrdered, made_with}
 use Rattle.pj_value.proofs.Members.{In-append_cases}
-use Rattle.pj_laws.proofs.NextProbe.{without-all}
+use Rattle.pj_join_laws.proofs.Stand.{without-all}
 use Rattle.pj_join.proofs.Classes.{eqb-apart, eqb-below, classes-more}
 
 -- ---- numbers that rise

@@ -4,7 +4,7 @@ use Rattle.std.proofs.lemmas.Bool.{and_parts, eqb-true, eq-eqb, false≢true}
 use Rattle.std.proofs.lemmas.List.{map-append}
 use Rattle.pj_value.proofs.Members.{In-filter, In-flat_map, In-map, filter-all}
 use Rattle.pj_events.specs.Join.{In, TupleAt, ClassCol, Value, agree, joined, product, upto_from}
-use Rattle.pj_laws.proofs.Matching.{agree-mono}
+use Rattle.pj_join_laws.proofs.Matching.{agree-mono}
 use Rattle.pj_join.specs.Walks.{AllJoin, choice, choices, pair, pairs, suits}
 use Rattle.pj_state.specs.States.{StateView}
 use Rattle.pj_join.specs.Sides.{tuples_in}

@@ -9,7 +9,7 @@ use Rattle.pj_state.specs.States.{StateView}
 use Rattle.pj_shape.specs.declared.joins.CertStep.{CertStep}
 use Rattle.pj_cover.specs.Asking.{IsAsked, entries}
 use Rattle.pj_events.specs.Join.{CertEntry, ClassCol, Demand, In, JoinData, TupleAt, agree, cert_of, value_at}
-use Rattle.pj_laws.proofs.Matching.{agree-at, value-in}
+use Rattle.pj_join_laws.proofs.Matching.{agree-at, value-in}
 use Rattle.pj_join.specs.declared.partners.Pair.{Pair}
 use Rattle.pj_join.specs.Sides.{state_at, tuple_in}
 use Rattle.pj_join.specs.Watching.{AreAside, AreMarked, AreStored, IsPair, IsRousedAt, PathView, SideView, Watches, first_column, input_at, is_passed}

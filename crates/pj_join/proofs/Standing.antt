@@ -3,15 +3,15 @@ use Rattle.std.proofs.Common.{ℕ, ◌<◌, Bool, true, false, cond, ◌||◌, �
 use Rattle.std.proofs.lemmas.Bool.{eq-eqb, eqb-true, false≢true, or_left}
 use Rattle.pj_events.specs.Join.{In, Value, JoinData, JoinState, TupleAt, Step, TupleComes, PunctComes, Take, Give, Sweep, start, run, has, low, inputs, arity, combinations, joined, results, AreCertified, IsAllowed, IsNew}
 use Rattle.pj_events.specs.KeptState.{KeptState, kept_low, lacking}
-use Rattle.pj_laws.specs.Laws.{StepsStand, StoredSuffice}
+use Rattle.pj_join_laws.specs.Laws.{StepsStand, StoredSuffice}
 use Rattle.pj_join.specs.Joins.{JoinView, JoinTakes, StandsFor, StandsTaken, IsTaken, Found, after, found_of}
 use Rattle.pj_join.specs.Handed.{JoinProbes, StandsProbed}
 use Rattle.pj_events.specs.Patterns.{Pattern}
-use Rattle.pj_laws.proofs.Tickets.{lacking-come}
-use Rattle.pj_laws.proofs.Stand.{least-lacking}
-use Rattle.pj_laws.proofs.Forget.{IsSound}
-use Rattle.pj_laws.proofs.Results.{open-kept}
-use Rattle.pj_laws.proofs.Sound.{legal-more, sound-run, sound-start}
+use Rattle.pj_join_laws.proofs.Tickets.{lacking-come}
+use Rattle.pj_join_laws.proofs.Stand.{least-lacking}
+use Rattle.pj_join_laws.proofs.Forget.{IsSound}
+use Rattle.pj_join_laws.proofs.Results.{open-kept}
+use Rattle.pj_join_laws.proofs.Sound.{legal-more, sound-run, sound-start}
 use Rattle.pj_value.proofs.Members.{filter-agree, filter-filter}
 
 -- an allowed step leads on

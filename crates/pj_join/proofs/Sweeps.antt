@@ -5,10 +5,10 @@ use Rattle.std.proofs.lemmas.Bool.{and_from, eq-eqb, false≢true}
 use Rattle.pj_events.specs.Patterns.{Pattern}
 use Rattle.pj_events.specs.Join.{In, JoinData, JoinState, TupleAt, PunctAt, Punct, Step, PunctComes, Sweep, AreLegalSteps, covered, inputs, is_held, kept, low, need_of, older, older_puncts, ripe, run, start, widened}
 use Rattle.pj_events.specs.KeptState.{KeptState, kept_low, kept_of, kept_ripe, swept}
-use Rattle.pj_laws.specs.Laws.{NeverNeeded, RipeWhenCovered}
-use Rattle.pj_laws.proofs.Forget.{stored-in}
-use Rattle.pj_laws.proofs.Sound.{run-append, sound-run, sound-start}
-use Rattle.pj_laws.proofs.Stand.{low-kept}
+use Rattle.pj_join_laws.specs.Laws.{NeverNeeded, RipeWhenCovered}
+use Rattle.pj_join_laws.proofs.Forget.{stored-in}
+use Rattle.pj_join_laws.proofs.Sound.{run-append, sound-run, sound-start}
+use Rattle.pj_join_laws.proofs.Stand.{low-kept}
 use Rattle.pj_value.proofs.Members.{In-filter, In-filter_from, filter-agree}
 use Rattle.pj_join.specs.Joins.{JoinView, StandsFor, after}
 use Rattle.pj_join.specs.Insides.{made_with, seen}

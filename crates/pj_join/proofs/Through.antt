@@ -5,7 +5,7 @@ use Rattle.pj_value.specs.declared.values.Value.{Value}
 use Rattle.pj_shape.specs.Joining.{has_column}
 use Rattle.pj_cover.specs.Asking.{first_class}
 use Rattle.pj_events.specs.Join.{ClassCol, In, TupleAt, agree, constant, no_value, part_of, value_at, values}
-use Rattle.pj_laws.proofs.Matching.{agree-at, value-in}
+use Rattle.pj_join_laws.proofs.Matching.{agree-at, value-in}
 use Rattle.pj_join.specs.Watching.{Tells, first_column}
 
 -- ---- values of tuples that join

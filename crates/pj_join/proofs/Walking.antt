@@ -2,7 +2,7 @@
 use Rattle.std.proofs.Common.{ℕ, ◌+◌, List, [], ◌∷◌, ◌++◌, ◌≡◌, map, arith, ap, sym, ◌∙◌, add-one}
 use Rattle.std.proofs.lemmas.List.{map-append}
 use Rattle.pj_events.specs.Join.{upto_from}
-use Rattle.pj_laws.proofs.Upto.{upto-push}
+use Rattle.pj_join_laws.proofs.Upto.{upto-push}
 
 -- one more number
 pub more-choices : {A : Type 0} (f : ℕ → A) (i : ℕ) (found new : List A) (x : A) → found ≡ map f (upto_from 0 i) → x ≡ f i → new ≡ found ++ x ∷ [] → new ≡ map f (upto_from 0 (i + 1))

@@ -31,7 +31,7 @@ use crate::widening::hear;
 use crate::{JoinStop, Probe};
 use pj_cover::PunctStore;
 use pj_events::Out;
-use pj_laws::{forgetting_is_safe, lawfulness, ripeness, standing};
+use pj_join_laws::{forgetting_is_safe, lawfulness, ripeness, standing};
 use pj_pattern::Punct;
 use pj_shape::{Cert, JoinSpec, Schemes};
 use pj_state::{Remaining, Shared, State};

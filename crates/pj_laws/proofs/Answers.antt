@@ -11,11 +11,11 @@ use Rattle.pj_value.specs.Bags.{weigh, SameBag}
 use Rattle.pj_events.specs.Join.{In, Value, Part, part_of, joins, joined_row, TupleAt, ClassCol, JoinData, JoinState, Step, TupleComes, PunctComes, Take, Give, Sweep, start, step, run, inputs, AreLegalSteps, of_input, agree, product, upto_from, has, Element, Tuple, Punct, joined, rows_of, new_tuple}
 use Rattle.pj_events.specs.Operators.{picked_cells, union_after, all_sent_from, UnionState, Sent, select_hands, project_hands, picked_patterns}
 use Rattle.pj_events.specs.Plan.{Union, Join, Local, Comes, Fed, Own, hands_all, IsOwn}
-use Rattle.pj_laws.proofs.Bags.{weigh-product}
+use Rattle.pj_join_laws.proofs.Bags.{weigh-product}
 use Rattle.pj_laws.proofs.Glue.{from_input}
 use Rattle.pj_laws.proofs.Operators.{AreWithin, join_steps, join-hands}
-use Rattle.pj_laws.proofs.Complete.{all-rows-given}
-use Rattle.pj_laws.proofs.Upto.{length-upto, get_or-upto}
+use Rattle.pj_join_laws.proofs.Complete.{all-rows-given}
+use Rattle.pj_join_laws.proofs.Upto.{length-upto, get_or-upto}
 
 -- ---- plain operators
 

@@ -6,7 +6,7 @@ use Rattle.pj_events.specs.Join.{In, has, AreDistinct, Element}
 use Rattle.pj_events.specs.Plan.{Operator, Select, Node, Local, Comes, Fed, Own, PlanStep, Feed, Act, after, hands, after_all, hands_all, own, brought_from, locals, handed_at, batches, moved, nowhere, operator_at}
 use Rattle.pj_events.specs.Outcomes.{Arrival, arriving, arrivals_in, place_in}
 use Rattle.pj_laws.specs.Climb.{all_inputs, StandBehind, IsTree, local_at, node_after, node_hands, stepped, Load, coming, going_on, Climbed, behind_node, climbed_from, ClimbsFrom, StepsClimb}
-use Rattle.pj_laws.proofs.Complete.{eqb-sym}
+use Rattle.pj_join_laws.proofs.Complete.{eqb-sym}
 use Rattle.pj_laws.proofs.Glue.{batches-keep}
 use Rattle.pj_laws.proofs.Nodes.{AreEmpty, empty-none, empty-push, brought-none}
 use Rattle.pj_laws.proofs.Probes.{in-has}

@@ -17,7 +17,7 @@ use Rattle.pj_laws.proofs.Glue.{from_input}
 use Rattle.pj_laws.proofs.Operators.{AllFit, join_steps, join-hands}
 use Rattle.pj_laws.proofs.UnionsAndGroups.{group_all}
 use Rattle.pj_laws.proofs.Groups.{group_end}
-use Rattle.pj_laws.proofs.Ripe.{puncts-on}
+use Rattle.pj_join_laws.proofs.Ripe.{puncts-on}
 
 abbrev pub HasWild : ℕ → List Element → Type 0
 HasWild width es = In (Punct (all_wild width)) es

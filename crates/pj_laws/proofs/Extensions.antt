@@ -22,7 +22,7 @@ use Rattle.pj_laws.proofs.Whole.{IsGood, AreLocalsAllowed, allowed-append, broug
 use Rattle.pj_laws.proofs.WholeAnswers.{fed_in, stream-hands, group-after, operator-rows}
 use Rattle.pj_laws.proofs.Groups.{group_end, rows-map, row-in}
 use Rattle.pj_laws.proofs.Closing.{group-empty}
-use Rattle.pj_laws.proofs.Upto.{length-upto}
+use Rattle.pj_join_laws.proofs.Upto.{length-upto}
 
 -- behind these elements the rows are lawful and fit, and with them the rows are those of the answer, as a bag
 pub record GoesOnBy (width : ℕ) (es : List Element) (rest answer : List (List Value)) : Type 0 where

@@ -24,7 +24,7 @@ use Rattle.pj_laws.proofs.Groups.{row-in}
 use Rattle.pj_laws.proofs.HistoryAnswers.{root-there, stream-member}
 use Rattle.pj_laws.proofs.Steps.{legal-steps, outputs-handed, all-rise, rising-place, member-place, fed-elements}
 use Rattle.pj_laws.proofs.Extensions.{GoesOnBy, none-behind, operator-goes-on}
-use Rattle.pj_laws.proofs.Upto.{get_or-upto}
+use Rattle.pj_join_laws.proofs.Upto.{get_or-upto}
 
 -- ---- node after node
 

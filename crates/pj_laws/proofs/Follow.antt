@@ -13,7 +13,7 @@ use Rattle.pj_laws.specs.HistoryLaws.{JoinFollows, Joined, TicketsCount}
 use Rattle.pj_laws.proofs.Glue.{batches-keep, length-moved}
 use Rattle.pj_laws.proofs.Operators.{join_steps, join-hands, join-after}
 use Rattle.pj_laws.proofs.Probes.{AllOperators, all-at}
-use Rattle.pj_laws.proofs.Sound.{run-append}
+use Rattle.pj_join_laws.proofs.Sound.{run-append}
 
 pub planned-behind : (ws : List ℕ) (n : ℕ) (nodes : List Node) → length ws ≡ n → ArePlanned ws nodes → StandBehind n nodes
 planned-behind ws n [] l p = tt

@@ -2,7 +2,6 @@
 use Rattle.std.proofs.Common.{ℕ, ◌+◌, Bool, true, false, cond, ◌&&◌, not, List, [], ◌∷◌, ◌++◌, ◌≡◌, ◌⊎◌, map, filter, length, refl, sym, ap, ap₂, ◌∙◌, subst, inl, inr, arith, append_assoc, append-nil}
 use Rattle.pj_value.proofs.Orders.{row_same_if_equal, row_equal_itself}
 use Rattle.pj_value.proofs.Bags.{member-of, weigh-append, weigh-map, weigh-agree, weigh-split}
-use Rattle.std.specs.List.{list_any}
 use Rattle.std.proofs.lemmas.Bool.{false≢true, false_from_ne_true, not-true}
 use Rattle.std.proofs.lemmas.List.Elements.{filter-append}
 use Rattle.std.specs.Prelude.{pos, ◌-ℤ◌}
@@ -13,20 +12,16 @@ use Rattle.pj_value.specs.Bags.{weigh, SameBag}
 use Rattle.pj_events.specs.Join.{In, Value, value_at, Element, Tuple, Punct, rows_of}
 use Rattle.pj_pattern.specs.Elements.{IsLawful}
 use Rattle.pj_pattern.proofs.Lawful.{none_at as clear_at}
-use Rattle.pj_events.specs.Operators.{column_of, above_zero, below_zero, Sum, Min, Max, picked_cells, picked_patterns, Agg, Count, GroupSpec, aggregate, keys_from, group_row, group_rows, group_after}
+use Rattle.pj_events.specs.Operators.{column_of, above_zero, below_zero, Sum, Min, Max, picked_patterns, Agg, Count, GroupSpec, aggregate, keys_from, group_row, group_rows, group_after}
 use Rattle.pj_value.specs.Values.{row_eq}
 use Rattle.pj_pattern.specs.Columns.{others_wild}
-use Rattle.pj_laws.proofs.UnionsAndGroups.{group_all, key-from}
+use Rattle.pj_events.proofs.Keys.{AreApart, key-from, key-in, key_of, keys-apart}
+use Rattle.pj_laws.proofs.UnionsAndGroups.{group_all}
 use Rattle.pj_laws.proofs.Operators.{AllFit, picked-at, picked-matches}
 use Rattle.pj_laws.proofs.Answers.{bag-filter, bag-map}
 use Rattle.pj_pattern.proofs.Elements.{rows_of-append}
 use Rattle.pj_laws.proofs.Order.{least-same, greatest-same}
-use Rattle.pj_value.proofs.Members.{In-filter, In-filter_from, any_at, none_at, filter-agree, filter-filter, filter-all, map-same}
-
--- no list of the list stands in it again
-abbrev pub AreApart : List (List Value) → Type 0
-AreApart [] = Unit {0}
-AreApart (x ∷ xs) = (In x xs → ⊥) × AreApart xs
+use Rattle.pj_value.proofs.Members.{In-filter, In-filter_from, filter-agree, filter-filter, filter-all, map-same}
 
 weigh-absent : (f : List Value → ℕ) (x : List Value) (ys : List (List Value)) → (In x ys → ⊥) → weigh f (filter (row_eq x) ys) ≡ 0
 weigh-absent f x [] n = refl
@@ -71,46 +66,6 @@ weigh-members f (x ∷ xs) ys a b to from =
             | inr k ↦ k
           ]),
     )
-
--- ---- keys
-
-abbrev pub key_of : GroupSpec → List Value → List Value
-key_of spec row = picked_cells spec.keys row
-
-key-to : (seen : List (List Value)) (spec : GroupSpec) (rows : List (List Value)) (row : List Value) → In row rows → In (key_of spec row) seen ⊎ In (key_of spec row) (keys_from seen spec rows)
-key-to seen spec [] row h = absurd h
-key-to seen spec (r ∷ rows) row h = go (list_any (row_eq (key_of spec r)) seen) refl h (λ k. key-to seen spec rows row k) (λ k. key-to (key_of spec r ∷ seen) spec rows row k)
-  where
-    Goal : List (List Value) → Type 0
-    Goal ks = In (key_of spec row) seen ⊎ In (key_of spec row) ks
-
-    go : (b : Bool) → list_any (row_eq (key_of spec r)) seen ≡ b → In row (r ∷ rows) → (In row rows → Goal (keys_from seen spec rows)) → (In row rows → In (key_of spec row) (key_of spec r ∷ seen) ⊎ In (key_of spec row) (keys_from (key_of spec r ∷ seen) spec rows))
-        → Goal (cond b (keys_from seen spec rows) (key_of spec r ∷ keys_from (key_of spec r ∷ seen) spec rows))
-    go true e (inl q) f g = let a = any_at (row_eq (key_of spec r)) seen e in inl (subst (λ (z : List Value). In z seen) (sym (row_same_if_equal (key_of spec r) a.0 a.2) ∙ ap (key_of spec) q) a.1)
-    go true e (inr k) f g = f k
-    go false e (inl q) f g = inr (inl (ap (key_of spec) q))
-    go false e (inr k) f g = elim (g k) [ inl m ↦ elim m [ inl q ↦ inr (inl q) | inr m' ↦ inl m' ] | inr m ↦ inr (inr m) ]
-
-keys-fresh : (seen : List (List Value)) (spec : GroupSpec) (rows : List (List Value)) (key : List Value) → In key (keys_from seen spec rows) → In key seen → ⊥
-keys-fresh seen spec [] key h m = h
-keys-fresh seen spec (r ∷ rows) key h m = go (list_any (row_eq (key_of spec r)) seen) refl h (λ k. keys-fresh seen spec rows key k m) (λ k. keys-fresh (key_of spec r ∷ seen) spec rows key k (inr m))
-  where
-    go : (b : Bool) → list_any (row_eq (key_of spec r)) seen ≡ b → In key (cond b (keys_from seen spec rows) (key_of spec r ∷ keys_from (key_of spec r ∷ seen) spec rows))
-        → (In key (keys_from seen spec rows) → ⊥) → (In key (keys_from (key_of spec r ∷ seen) spec rows) → ⊥) → ⊥
-    go true e k f g = f k
-    go false e (inl q) f g = none_at (row_eq (key_of spec r)) seen key e m (ap (row_eq (key_of spec r)) (sym q) ∙ row_equal_itself (key_of spec r))
-    go false e (inr k) f g = g k
-
-pub keys-apart : (seen : List (List Value)) (spec : GroupSpec) (rows : List (List Value)) → AreApart (keys_from seen spec rows)
-keys-apart seen spec [] = tt
-keys-apart seen spec (r ∷ rows) = go (list_any (row_eq (key_of spec r)) seen) (keys-apart seen spec rows) (keys-apart (key_of spec r ∷ seen) spec rows)
-  where
-    go : (b : Bool) → AreApart (keys_from seen spec rows) → AreApart (keys_from (key_of spec r ∷ seen) spec rows) → AreApart (cond b (keys_from seen spec rows) (key_of spec r ∷ keys_from (key_of spec r ∷ seen) spec rows))
-    go true f g = f
-    go false f g = (λ h. keys-fresh (key_of spec r ∷ seen) spec rows (key_of spec r) h (inl refl), g)
-
-key-in : (spec : GroupSpec) (rows : List (List Value)) (row : List Value) → In row rows → In (key_of spec row) (keys_from [] spec rows)
-key-in spec rows row h = elim (key-to [] spec rows row h) [ inl k ↦ absurd k | inr k ↦ k ]
 
 -- ---- the rows of a group, of any order of its input
 

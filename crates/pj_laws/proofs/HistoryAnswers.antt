@@ -25,7 +25,7 @@ use Rattle.pj_laws.proofs.WholeAnswers.{rows-are-answers}
 use Rattle.pj_laws.proofs.Settled.{complete-answers}
 use Rattle.pj_laws.proofs.Steps.{legal-steps, nodes-run, outputs-handed, streams-same, all-rise, rising-place, member-place, stream_node-same, fed-elements, answers-agree}
 use Rattle.pj_laws.proofs.Nodes.{operator-from, schema-all, no_group-all, drain-silent}
-use Rattle.pj_laws.proofs.Upto.{get_or-upto}
+use Rattle.pj_join_laws.proofs.Upto.{get_or-upto}
 
 pub root-there : (plan : List Node) → 0 < length plan → root_of plan < length plan
 root-there [] lt = absurd (omega arith)

@@ -12,7 +12,7 @@ use Rattle.pj_events.specs.Outcomes.{elements_out, elements_of, outputs_of, plac
 use Rattle.pj_events.specs.OneThread.{one_thread_of}
 use Rattle.pj_events.specs.Punctuations.{operator_puncts, puncts_in, puncts_from, puncts_at, puncts_answers, puncts_answer, puncts_lists}
 use Rattle.pj_laws.specs.HistoryLaws.{AllPropagate, AllAreCertified, closed_list, closed_lists, CompleteIsPuncts, SweptIsPuncts}
-use Rattle.pj_laws.proofs.Upto.{get_or-upto, map-upto}
+use Rattle.pj_join_laws.proofs.Upto.{get_or-upto, map-upto}
 use Rattle.pj_laws.proofs.Steps.{legal-steps, outputs-handed, all-rise, rising-place, member-place, fed-elements}
 use Rattle.pj_laws.proofs.Answers.{map-twice}
 use Rattle.pj_laws.proofs.Puncts.{complete-puncts}

@@ -13,7 +13,7 @@ use Rattle.pj_laws.proofs.Operators.{AreWithin, AreOwnAllowed, IsFlow, join_step
 use Rattle.pj_laws.proofs.Whole.{IsGood, AreLocalsAllowed, AreGood, locals-allowed, within-all, fed-join, node-good, front-good}
 use Rattle.pj_laws.proofs.Steps.{legal-steps}
 use Rattle.pj_laws.proofs.Follow.{planned-behind, behind-moved, steps-append, brought-steps, own-steps, follows-behind}
-use Rattle.pj_laws.proofs.Sound.{run-append}
+use Rattle.pj_join_laws.proofs.Sound.{run-append}
 use Rattle.pj_value.proofs.Members.{in-place, map-at}
 
 -- ---- the steps of a node

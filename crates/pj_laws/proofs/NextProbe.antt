@@ -1,17 +1,17 @@
 -- Probes one by one.
-use Rattle.std.proofs.Common.{ℕ, zero, suc, ◌+◌, ◌<◌, ◌≤◌, Bool, true, false, cond, ◌||◌, not, List, [], ◌∷◌, ◌++◌, ◌≡◌, Some, None, map, length, get_or, refl, sym, ap, ap₂, ◌∙◌, subst, eqb, arith, append-nil, append_assoc}
-use Rattle.std.proofs.lemmas.Bool.{eq-eqb, false≢true}
+use Rattle.std.proofs.Common.{ℕ, zero, suc, ◌+◌, ◌<◌, ◌≤◌, Bool, cond, ◌||◌, not, List, [], ◌∷◌, ◌++◌, ◌≡◌, Some, None, map, length, get_or, refl, sym, ap, ap₂, ◌∙◌, subst, arith, append-nil, append_assoc}
+use Rattle.std.proofs.lemmas.Bool.{eq-eqb}
 use Rattle.std.proofs.lemmas.List.{length_push, get_or_at}
 use Rattle.std.proofs.lemmas.List.Sums.{sum_by-cons}
-use Rattle.pj_events.specs.Join.{In, Element, Step, Take, Give, TupleAt, JoinData, JoinState, TupleComes, PunctComes, Sweep, has, step, run}
+use Rattle.pj_events.specs.Join.{In, Element, Step, Take, Give, TupleAt, JoinData, JoinState, TupleComes, PunctComes, Sweep, step, run}
 use Rattle.pj_events.specs.KeptState.{lacking, without}
 use Rattle.pj_events.specs.Plan.{Operator, Stream, Select, Project, Union, Join, Group, Node, Local, Comes, Fed, Own, PlanStep, Act, join_local, after, after_all, hands_all, own, locals, handed_at, moved, operator_at, nowhere, IsWellMade, node_width, ArePlanned}
 use Rattle.pj_events.specs.declared.events.Entry.{Entry}
 use Rattle.pj_events.specs.History.{state_in, pending_in, step_of, nodes_by, nodes_from}
 use Rattle.pj_events.specs.OneThread.{Pending, probes_at, pending_at, probes_from, first_of, next_from}
 use Rattle.pj_laws.specs.HistoryLaws.{probe_of, ProbesGoOn, NoneIsPending}
-use Rattle.pj_laws.proofs.Bags.{AreDistinct}
-use Rattle.pj_laws.proofs.Stand.{lacking-cons}
+use Rattle.pj_join_laws.proofs.Bags.{AreDistinct}
+use Rattle.pj_join_laws.proofs.Stand.{lacking-cons, without-all}
 use Rattle.pj_laws.proofs.Glue.{length-moved}
 use Rattle.pj_laws.proofs.Histories.{nodes-append}
 use Rattle.pj_laws.proofs.Nodes.{AreEmpty, empty-none, empty-push, brought-none}
@@ -116,14 +116,6 @@ probed-before nodes j u n lt l =
     ap lack_in (
     act-before (moved (Act j (Take u)) [] nodes) j n (Give u) lt (omega (arith, l, length-moved (Act j (Take u)) [] nodes))
     ∙ act-before nodes j n (Take u) lt l)
-
-pub without-all : (ns : List ℕ) (u : ℕ) → has ns u ≡ false → without ns u ≡ ns
-without-all [] u h = refl
-without-all (n ∷ ns) u h = go (eqb n u) h (without-all ns u)
-  where
-    go : (b : Bool) → (b || has ns u) ≡ false → (has ns u ≡ false → without ns u ≡ ns) → cond (not b) (n ∷ without ns u) (without ns u) ≡ n ∷ ns
-    go true h f = absurd (false≢true (sym h))
-    go false h f = ap (λ (ms : List ℕ). n ∷ ms) (f h)
 
 -- the first ticket is taken, and the others are left
 probed-operator : (m : Operator) (u : ℕ) (us : List ℕ) → Ticketed m → lack_in m ≡ u ∷ us → lack_in (after (after m (Own (Take u))) (Own (Give u))) ≡ us

@@ -25,7 +25,7 @@ use Rattle.pj_laws.proofs.Rounds.{mine, mine-in_rounds, in_rounds-below, all-tag
 use Rattle.pj_laws.proofs.Probes.{all-from, IsSteady, Rested, AllOperators, all-at as operators-at, length-from}
 use Rattle.pj_laws.proofs.OneRun.{AllProbed, FitsFrom, IsReady, IsRun, turns-run, stream-node-there, streams-hold-from}
 use Rattle.pj_laws.proofs.HistoryAnswers.{given-is-answer}
-use Rattle.pj_laws.proofs.Upto.{map-upto}
+use Rattle.pj_join_laws.proofs.Upto.{map-upto}
 
 -- ---- accepted elements fit
 

@@ -13,11 +13,11 @@ use Rattle.pj_events.specs.Plan.{Join, Local, Comes, Fed, Own, join_step, join_l
 use Rattle.pj_pattern.specs.Elements.{IsLawful}
 use Rattle.pj_pattern.proofs.Covering.{wild_matches}
 use Rattle.pj_pattern.proofs.Rows.{wilds-length}
-use Rattle.pj_laws.proofs.Forget.{IsSound}
-use Rattle.pj_laws.proofs.Sound.{sound-start, sound-step, run-append}
-use Rattle.pj_laws.proofs.Results.{IsPicked, picked, candidates-own, is-combination}
-use Rattle.pj_laws.proofs.Widen.{lengths-from, joined-length}
-use Rattle.pj_laws.proofs.Lawful.{run-lawful}
+use Rattle.pj_join_laws.proofs.Forget.{IsSound}
+use Rattle.pj_join_laws.proofs.Sound.{sound-start, sound-step, run-append}
+use Rattle.pj_join_laws.proofs.Results.{IsPicked, picked, candidates-own, is-combination}
+use Rattle.pj_join_laws.proofs.Widen.{lengths-from, joined-length}
+use Rattle.pj_join_laws.proofs.Lawful.{run-lawful}
 use Rattle.pj_laws.proofs.Glue.{from_input}
 
 abbrev pub AllFit : ℕ → List Element → Type 0

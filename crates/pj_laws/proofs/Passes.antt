@@ -4,7 +4,7 @@ use Rattle.pj_laws.proofs.Histories.{nodes-append}
 use Rattle.std.proofs.lemmas.Bool.{cases_lt}
 use Rattle.pj_events.specs.Join.{In, TupleAt, JoinData, JoinState, Take, Give, Sweep, has, step, run, upto_from}
 use Rattle.pj_events.specs.KeptState.{lacking}
-use Rattle.pj_laws.specs.Laws.{sweeps_from}
+use Rattle.pj_join_laws.specs.Laws.{sweeps_from}
 use Rattle.pj_events.specs.Plan.{Operator, Stream, Select, Project, Union, Join, Group, Node, Own, Act, after, moved, operator_at}
 use Rattle.pj_events.specs.declared.events.Entry.{Entry}
 use Rattle.pj_events.specs.declared.events.Event.TheVariants.{Sweep as Swept}

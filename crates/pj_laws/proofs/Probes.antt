@@ -13,7 +13,7 @@ use Rattle.pj_events.specs.declared.events.Event.TheVariants.{Take as Taken, Giv
 use Rattle.pj_events.specs.History.{state_in, step_of, nodes_by, nodes_from}
 use Rattle.pj_events.specs.OneThread.{probes_at, probes_from, probes}
 use Rattle.pj_value.proofs.Members.{In-append_cases, In-filter, In-filter_from, In-map, In-map_from}
-use Rattle.pj_laws.proofs.Bags.{AreDistinct}
+use Rattle.pj_join_laws.proofs.Bags.{AreDistinct}
 use Rattle.pj_laws.proofs.Glue.{moved-append, length-batches, length-moved, after-append}
 use Rattle.pj_laws.proofs.Nodes.{AreEmpty, empty-none, brought-none, quiet}
 use Rattle.pj_laws.proofs.Histories.{nodes-append}

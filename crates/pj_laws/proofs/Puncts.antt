@@ -13,7 +13,7 @@ use Rattle.pj_events.specs.Plan.{Operator, Stream, Select, Project, Union, Join,
 use Rattle.pj_events.specs.Punctuations.{widened_at, join_puncts, project_puncts, group_punct, group_puncts, operator_puncts, puncts_in, puncts_from}
 use Rattle.pj_laws.proofs.Glue.{from_input, locals_all, handed-is, handed-front, from-is, operator-is}
 use Rattle.pj_laws.proofs.Operators.{AllFit, AreWithin, AreOwnAllowed, join_steps, join-hands, join-after, join-legal}
-use Rattle.pj_laws.proofs.Complete.{hands_up-all_puncts}
+use Rattle.pj_join_laws.proofs.Complete.{hands_up-all_puncts}
 use Rattle.pj_laws.proofs.UnionsAndGroups.{group_all, group-hands, from-first, from-tail}
 use Rattle.pj_laws.proofs.Whole.{IsGood, AreLocalsAllowed, AreGood, locals-allowed, within-all, select-hands, project-hands, fed-join, node-good, front-good}
 use Rattle.pj_laws.proofs.Answers.{bag-filter, bag-map}

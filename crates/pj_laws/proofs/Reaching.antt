@@ -19,7 +19,7 @@ use Rattle.pj_laws.specs.HistoryLaws.{AllAreCertified, AllPropagate, closed_list
 use Rattle.pj_laws.specs.Reaching.{counted_in, elements_to, LimitsTell}
 use Rattle.pj_laws.proofs.Glue.{hands-append}
 use Rattle.pj_laws.proofs.Answers.{map-twice}
-use Rattle.pj_laws.proofs.Upto.{map-upto}
+use Rattle.pj_join_laws.proofs.Upto.{map-upto}
 use Rattle.pj_laws.proofs.Histories.{arrivals-append}
 use Rattle.pj_laws.proofs.Steps.{legal-steps}
 use Rattle.pj_laws.proofs.Probes.{length-from}

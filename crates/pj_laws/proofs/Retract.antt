@@ -14,8 +14,8 @@ use Rattle.pj_events.specs.Plan.{Operator, Stream, Select, Project, Union, Join,
 use Rattle.pj_events.specs.History.{is_stream, streams_of, stream_node, root_of, begun, steps_from}
 use Rattle.pj_events.specs.Outcomes.{elements_of, place_in, list_at}
 use Rattle.pj_laws.specs.HistoryLaws.{IsNoGroup, HasNoGroup, NeverRetracts}
-use Rattle.pj_laws.proofs.Bags.{weigh-product}
-use Rattle.pj_laws.proofs.Complete.{some-rows-given}
+use Rattle.pj_join_laws.proofs.Bags.{weigh-product}
+use Rattle.pj_join_laws.proofs.Complete.{some-rows-given}
 use Rattle.pj_laws.proofs.Glue.{from_input, locals_all, handed-is, handed-front, from-is}
 use Rattle.pj_laws.proofs.Operators.{AreWithin, AreOwnAllowed, join_steps, join-hands, join-legal}
 use Rattle.pj_laws.proofs.Whole.{IsGood, AreLocalsAllowed, AreGood, locals-allowed, within-all, select-hands, project-hands, fed-join, node-good, front-good}
@@ -24,7 +24,7 @@ use Rattle.pj_laws.proofs.WholeAnswers.{fed_in, stream-hands, own-of, one-list, 
 use Rattle.pj_laws.proofs.HistoryAnswers.{root-there, stream-member}
 use Rattle.pj_laws.proofs.Steps.{legal-steps, outputs-handed, all-rise, rising-place, member-place, fed-elements}
 use Rattle.pj_value.proofs.Bags.{weigh-append, weigh-le, sub-filter, sub-map, sub-front}
-use Rattle.pj_laws.proofs.Upto.{length-upto, get_or-upto}
+use Rattle.pj_join_laws.proofs.Upto.{length-upto, get_or-upto}
 
 -- ---- products and unions of fewer
 

@@ -5,7 +5,7 @@ use Rattle.std.proofs.lemmas.Bool.{cases_eq}
 use Rattle.std.proofs.lemmas.List.{length-map, length_push, get_or_at}
 use Rattle.pj_events.specs.Patterns.{all_wild}
 use Rattle.pj_events.specs.Join.{In, Element, Punct, PunctAt, JoinData, JoinState, AllGiven, IsSettled, AreCertified, AreLegalSteps, inputs, arities, arity, start, run, upto_from}
-use Rattle.pj_laws.specs.Laws.{sweeps_from}
+use Rattle.pj_join_laws.specs.Laws.{sweeps_from}
 use Rattle.pj_events.specs.Plan.{Operator, Stream, Select, Project, Union, Join, Group, Node, Local, Comes, Fed, Own, PlanStep, Feed, Act, Pass, after, after_all, batches, moved, plan_run, handed, fed_to, operator_at, nowhere, IsWellMade, node_width, ArePlanned, AreStepsLegal, IsClosedBy, IsDone}
 use Rattle.pj_events.specs.declared.events.Entry.{Entry}
 use Rattle.pj_events.specs.declared.events.Event.TheVariants.{Sweep as Swept}
@@ -13,8 +13,8 @@ use Rattle.pj_events.specs.History.{Reached, is_stream, state_in, step_of, nodes
 use Rattle.pj_events.specs.OneThread.{Place, plain, probes, sweeps_at, places_in, places_from, schema_of}
 use Rattle.pj_laws.specs.HistoryLaws.{Propagates, AllPropagate, Certified, AllAreCertified}
 use Rattle.pj_value.proofs.Members.{In-append_left, in-place, map-at}
-use Rattle.pj_laws.proofs.Sound.{sound-start, sound-run}
-use Rattle.pj_laws.proofs.Late.{settled-from}
+use Rattle.pj_join_laws.proofs.Sound.{sound-start, sound-run}
+use Rattle.pj_join_laws.proofs.Late.{settled-from}
 use Rattle.pj_laws.proofs.Glue.{from_input, locals_all, from-is, operator-is}
 use Rattle.pj_laws.proofs.Operators.{join_steps, join-after}
 use Rattle.pj_laws.proofs.Whole.{AreGood, node-good, front-good}

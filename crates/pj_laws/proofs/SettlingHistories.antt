@@ -5,7 +5,7 @@ use Rattle.std.proofs.lemmas.List.{length-map, length_push, get_or_at}
 use Rattle.pj_value.proofs.Members.{In-append_left, in-place, map-at}
 use Rattle.pj_events.specs.Patterns.{all_wild}
 use Rattle.pj_events.specs.Join.{In, Element, Punct, PunctAt, JoinData, JoinState, Step, TupleComes, PunctComes, Take, Give, Sweep, AllGiven, AreCertified, AreLegalSteps, HasCome, IsAllowed, has, inputs, arities, arity, new_tuple, start, step, run, upto_from}
-use Rattle.pj_laws.specs.Laws.{sweeps_from}
+use Rattle.pj_join_laws.specs.Laws.{sweeps_from}
 use Rattle.pj_events.specs.Plan.{Operator, Stream, Select, Project, Union, Join, Group, Node, Local, Own, PlanStep, Act, after, after_all, moved, plan_run, handed, fed_to, operator_at, nowhere, IsStepAllowed, IsWellMade, MayAct, node_width, ArePlanned, AreStepsLegal, IsClosedBy, IsDone}
 use Rattle.pj_events.specs.declared.events.Entry.{Entry}
 use Rattle.pj_events.specs.declared.events.Event.{Event}
@@ -16,8 +16,8 @@ use Rattle.pj_laws.specs.HistoryLaws.{AllAreGiven, AllPropagate, AllAreCertified
 use Rattle.pj_laws.specs.SettlingHistories.{AreProbing, IsProbing, IsSettling, NoneIsLeft, SettlingIsComplete, SweepsEach}
 use Rattle.pj_laws.proofs.Histories.{nodes-append, reached-append, reached-nodes}
 use Rattle.pj_laws.proofs.HistoryAnswers.{closed-by, closings, fronts-are-legal, grows-legally, is-done, propagates-all}
-use Rattle.pj_laws.proofs.Sound.{sound-start, sound-run}
-use Rattle.pj_laws.proofs.Late.{settled-from}
+use Rattle.pj_join_laws.proofs.Sound.{sound-start, sound-run}
+use Rattle.pj_join_laws.proofs.Late.{settled-from}
 use Rattle.pj_laws.proofs.Glue.{from_input, locals_all, from-is, operator-is}
 use Rattle.pj_laws.proofs.Operators.{join_steps, join-after}
 use Rattle.pj_laws.proofs.Whole.{AreGood, node-good, front-good}
@@ -29,7 +29,7 @@ use Rattle.pj_laws.proofs.Probes.{length-from}
 use Rattle.pj_laws.proofs.JoinRuns.{join-runs, node-runs}
 use Rattle.pj_laws.proofs.NextProbe.{act-before, act-here}
 use Rattle.pj_laws.proofs.Passes.{place_of}
-use Rattle.pj_laws.proofs.Tickets.{lacking-none}
+use Rattle.pj_join_laws.proofs.Tickets.{lacking-none}
 use Rattle.pj_laws.proofs.SettledRun.{Closings, IsNoJoin, NoneWaits, fed-both, no_join-all, no_join-waits, steps-both, wild-on}
 
 -- ---- what is taken has come, and what is given was taken

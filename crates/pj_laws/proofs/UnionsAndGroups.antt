@@ -14,6 +14,7 @@ use Rattle.pj_events.specs.Plan.{Union, Group, Local, Comes, Fed, Own, hands_all
 use Rattle.pj_value.specs.Values.{row_eq}
 use Rattle.pj_pattern.proofs.Rows.{matches-append}
 use Rattle.pj_pattern.specs.Columns.{others_wild}
+use Rattle.pj_events.proofs.Keys.{key-from}
 use Rattle.pj_laws.proofs.Glue.{from_input}
 use Rattle.pj_laws.proofs.Operators.{AllFit, picked-at, picked-matches, AreWithin}
 
@@ -133,19 +134,6 @@ group-hands spec rows (Comes i e ∷ ls) w =
     let z : i ≡ 0 = omega (arith, w.0) in
     ap (λ es. group_hands spec rows e ++ es) (group-hands spec (group_after spec rows e) ls w.1)
     ∙ sym (ap (λ b. group_all spec rows (cond b (e ∷ from_input 0 ls) (from_input 0 ls))) (eq-eqb i 0 z))
-
-pub key-from : (seen : List (List Value)) (spec : GroupSpec) (rows : List (List Value)) (key : List Value) → In key (keys_from seen spec rows) → (row : List Value) × In row rows × (picked_cells spec.keys row ≡ key)
-key-from seen spec [] key h = absurd h
-key-from seen spec (row ∷ rows) key h = go (list_any (row_eq (picked_cells spec.keys row)) seen) h (key-from seen spec rows key) (key-from (picked_cells spec.keys row ∷ seen) spec rows key)
-  where
-    Found : List (List Value) → Type 0
-    Found xs = (x : List Value) × In x xs × (picked_cells spec.keys x ≡ key)
-
-    go : (b : Bool) → In key (cond b (keys_from seen spec rows) (picked_cells spec.keys row ∷ keys_from (picked_cells spec.keys row ∷ seen) spec rows))
-        → (In key (keys_from seen spec rows) → Found rows) → (In key (keys_from (picked_cells spec.keys row ∷ seen) spec rows) → Found rows) → Found (row ∷ rows)
-    go true k f g = let r = f k in (r.0, inr r.1, r.2)
-    go false (inl q) f g = (row, inl refl, q)
-    go false (inr k) f g = let r = g k in (r.0, inr r.1, r.2)
 
 -- a group's row has the key of a row that is held, or that comes
 group-source : (spec : GroupSpec) (rows : List (List Value)) (es : List Element) (out : List Value) → In (Tuple out) (group_all spec rows es)

@@ -19,7 +19,8 @@ use Rattle.pj_pattern.proofs.Rows.{wilds-length}
 use Rattle.pj_pattern.specs.Columns.{others_wild}
 use Rattle.pj_laws.proofs.Glue.{from_input, locals_all, handed-is, handed-front, from-is, moved-append, length-batches, locals-inputs}
 use Rattle.pj_laws.proofs.Operators.{AllFit, AreWithin, AreOwnAllowed, select-lawful, project-lawful, join-lawful}
-use Rattle.pj_laws.proofs.UnionsAndGroups.{union-lawful, group_all, group-hands, group-lawful, key-from, from-first, from-tail}
+use Rattle.pj_events.proofs.Keys.{key-from}
+use Rattle.pj_laws.proofs.UnionsAndGroups.{union-lawful, group_all, group-hands, group-lawful, from-first, from-tail}
 
 -- ---- what a operator may do by itself
 

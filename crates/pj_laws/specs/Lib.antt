@@ -1,4 +1,3 @@
-pub mod Laws
 pub mod Climb
 pub mod ClimbLimits
 pub mod ClimbKept
@@ -6,3 +5,5 @@ pub mod HistoryLaws
 pub mod Reaching
 pub mod Finality
 pub mod SettlingHistories
+pub mod Seats
+pub mod SeatLaws

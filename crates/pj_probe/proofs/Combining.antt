@@ -5,7 +5,7 @@ use Rattle.std.proofs.lemmas.List.{drop_all, length-append, map-append, take_mor
 use Rattle.std.proofs.lemmas.List.Elements.{filter-append}
 use Rattle.pj_shape.specs.Joining.{joined_row}
 use Rattle.pj_events.specs.Join.{Value, TupleAt, ClassCol, Part, agree, joined, joins, part_of, product}
-use Rattle.pj_laws.proofs.Matching.{agree-mono}
+use Rattle.pj_join_laws.proofs.Matching.{agree-mono}
 use Rattle.pj_value.proofs.Members.{In-append_left}
 use Rattle.pj_probe.specs.Walks.{combined, end_to_end, no_row, numbered, row_at, sides_at, tuple_at}
 use Rattle.pj_probe.specs.Walking.{LacksOne, completed, tuples_of, walked, walked_upto}

@@ -21,7 +21,7 @@ use Rattle.pj_laws.proofs.HistoryPuncts.{swept-is-puncts}
 use Rattle.pj_laws.proofs.OneThreadAnswer.{swept-whole}
 use Rattle.pj_laws.proofs.Reaching.{limits-tell}
 use Rattle.pj_laws.proofs.SweptRun.{swept-groups}
-use Rattle.pj_laws.proofs.Upto.{get_or-upto, length-upto}
+use Rattle.pj_join_laws.proofs.Upto.{get_or-upto, length-upto}
 use Rattle.pj_plan.specs.Nodes.{stream_columns, streams_in}
 use Rattle.pj_run.specs.Runs.{elements_of, history_of, most_arrivals, outputs_of, run_nodes, with_closings, GoesBeyond, IsAnswer, ArePunctuations}
 use Rattle.pj_feed.specs.Feeds.{accepted_of}

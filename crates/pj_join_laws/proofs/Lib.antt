@@ -1,0 +1,15 @@
+pub mod Upto
+pub mod PatternFacts
+pub mod Matching
+pub mod Forget
+pub mod Sound
+pub mod Results
+pub mod Ripe
+pub mod Late
+pub mod Widen
+pub mod Lawful
+pub mod Bags
+pub mod Complete
+pub mod Stand
+pub mod NoSweeps
+pub mod Tickets

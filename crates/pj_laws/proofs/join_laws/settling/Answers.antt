@@ -1,5 +1,0 @@
-use Rattle.pj_laws.proofs.Late.{settles}
-use Rattle.pj_laws.proofs.join_laws.settling.Goals as goal
-
-pub returns : goal.returns
-returns c = settles

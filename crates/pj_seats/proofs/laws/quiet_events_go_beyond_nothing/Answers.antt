@@ -1,8 +1,0 @@
-use Rattle.pj_seats.proofs.Quiet.{quiet-within, take-within}
-use Rattle.pj_seats.proofs.laws.quiet_events_go_beyond_nothing.Goals as goal
-
-pub returns-clause-quiet : goal.returns-clause-quiet
-returns-clause-quiet c = quiet-within
-
-pub returns-clause-takes : goal.returns-clause-takes
-returns-clause-takes c = take-within
