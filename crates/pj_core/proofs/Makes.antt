@@ -194,7 +194,7 @@ counts-fresh (f ∷ frames) k = ap₂ (λ (x : ℕ) (xs : List ℕ). x ∷ xs) (
     of (GroupKind spec limit) = refl
 
 pub is-fresh : (plan : RunPlan) (limit : ℕ) (cells : List Cell) → IsMadeOf plan limit cells → cells ≡ map fresh_cell (frames_of plan limit) → IsFresh (core_of plan limit cells [] false [] None) plan limit
-is-fresh plan limit cells made e = record { of_plan = refl; with_limit = refl; undrained = refl; halted = refl; on = refl; stands = record { legal = tt; stands = (λ o i. record { nodes = nodes i; counts = counts i; peaks = peaks i; closed = []; undrained = []; halted = false; stop = None }, refl, refl, refl) } }
+is-fresh plan limit cells made e = record { of_plan = refl; with_limit = refl; sound = made.0; certified = made.1; undrained = refl; halted = refl; on = refl; stands = record { legal = tt; stands = (λ o i. record { nodes = nodes i; counts = counts i; peaks = peaks i; closed = []; undrained = []; halted = false; stop = None }, refl, refl, refl) } }
   where
     nodes : map (λ (x : Cell). kept_seen x.work) cells ≡ map (λ (x : Node). kept_in x.operator) (nodes_of plan)
     nodes = ap (map (λ (x : Cell). kept_seen x.work)) e ∙ kept-fresh-all plan.nodes limit 0 plan.certs plan.nodes

@@ -18,6 +18,8 @@ use Rattle.pj_events.specs.Outcomes.{elements_out, goes_beyond, results_of}
 use Rattle.pj_events.specs.OneThread.{Pending, first_of, pending_at, plain, probes_at}
 use Rattle.pj_events.specs.CoreKept.{NothingKept}
 use Rattle.pj_laws.proofs.Probes.{has-in}
+use Rattle.pj_laws.proofs.Quiet.{take-within}
+use Rattle.pj_core.proofs.Planned.{tree}
 use Rattle.pj_join_laws.proofs.Tickets.{AreAscending, first-least, pending-ascends}
 use Rattle.pj_join.specs.Joins.{JoinView, after, found_of}
 use Rattle.pj_operator.specs.declared.cell.Cell.{Cell}
@@ -36,7 +38,7 @@ use Rattle.pj_operator.proofs.Joins.{took_keeps}
 use Rattle.pj_core.proofs.Own as own
 use Rattle.pj_core.proofs.Stands.{are}
 use Rattle.pj_core.proofs.Stops.{stops-now}
-use Rattle.pj_core.proofs.Takes.{give-beyond, gives, pending-long, results-stay, take-within, takes, tickets, tickets-are}
+use Rattle.pj_core.proofs.Takes.{give-beyond, gives, pending-long, results-stay, takes, tickets, tickets-are}
 
 set-twice : {X : Type 0} (xs : List X) (n : ℕ) (x y : X) → set (set xs n x) n y ≡ set xs n y
 set-twice [] n x y = refl
@@ -128,7 +130,7 @@ module _ (plan : RunPlan) (limit : ℕ) (cells : List Cell) (made : IsMadeOf pla
         (subst (λ (xs : List Cell). GoBeyond xs place (map Tuple rows) o) behind-is (subst (λ (es : List Element). GoBeyond (with_work cells place work peak) place es o) elements-are G))
 
     within-take : goes_beyond limit (nodes_of plan) history (Taken place ticket) ≡ None
-    within-take = take-within plan limit cells made c halt u history S place there join P.was ticket P.takes.pending
+    within-take = take-within limit (nodes_of plan) (tree plan made.0) history place ticket
 
     pub starts : StartsWith (pending_at (nodes_from (nodes_of plan) history) place) ticket
     starts =

@@ -66,7 +66,7 @@ sort-same schemes certs columns (UnionNode inputs) = refl
 sort-same schemes certs columns (JoinNode inputs spec) = refl
 sort-same schemes certs columns (GroupNode input spec) = refl
 
-streams-with : (schemes : List (List (List Bool))) (certs : List (List (List CertStep))) (k : ℕ) (nodes : List PlanNode) → streams_from k (nodes_with schemes certs nodes) ≡ numbers_from is_stream k nodes
+pub streams-with : (schemes : List (List (List Bool))) (certs : List (List (List CertStep))) (k : ℕ) (nodes : List PlanNode) → streams_from k (nodes_with schemes certs nodes) ≡ numbers_from is_stream k nodes
 streams-with schemes certs k [] = refl
 streams-with schemes certs k (node ∷ nodes) =
     ap₂ (λ (b : Bool) (ns : List ℕ). cond b (k ∷ ns) ns) (sort-same schemes (get_or certs 0 []) node.schema node.node) (streams-with schemes (certs_behind node certs) (k + 1) nodes)

@@ -19,6 +19,7 @@ use Rattle.pj_events.specs.Outcomes.{goes_beyond, results_of}
 use Rattle.pj_events.specs.OneThread.{Pending, first_of, next_from, next_probe, pending_at, plain}
 use Rattle.pj_events.specs.CoreKept.{JoinKept, KeptOperator, NothingKept, UnionKept, GroupKept, kept_in}
 use Rattle.pj_laws.proofs.Probes.{has-in}
+use Rattle.pj_laws.proofs.Quiet.{take-within}
 use Rattle.pj_join_laws.proofs.Tickets.{AreAscending, first-least, pending-ascends}
 use Rattle.pj_join.specs.declared.found.Found.{Found}
 use Rattle.pj_join.specs.Joins.{IsTaken, JoinView, after}
@@ -36,6 +37,7 @@ use Rattle.pj_operator.proofs.Climbs.{climbs-none, frame-at, stays-none}
 use Rattle.pj_core.proofs.Events.{Steps, beyond-is, note}
 use Rattle.pj_core.proofs.Frames.{join-number, long-of}
 use Rattle.pj_core.proofs.Own as own
+use Rattle.pj_core.proofs.Planned.{tree}
 use Rattle.pj_core.proofs.Own.{IsJoinWith}
 use Rattle.pj_core.proofs.Stands.{are}
 
@@ -169,15 +171,6 @@ module _ (plan : RunPlan) (limit : ℕ) (cells : List Cell) (made : IsMadeOf pla
       silent true = sym (append-nil u)
       silent false = sym (append-nil u)
 
-  pub take-within : (t : ℕ) → has join.kept.pending t ≡ true → goes_beyond limit (nodes_of plan) history (Taken place t) ≡ None
-  take-within t p =
-      beyond-is plan limit cells made c halt u history S (Taken place t) place (Own (Take t)) refl refl mid (take-steps t p) None
-      (subst (λ (es : List Element). GoBeyond mid place es None) (sym (own.handed-own plan limit cells made c halt u history S place there join at (Take t)))
-      (climbs-none (record { cells = mid; outs = u }) place).within)
-    where
-      mid : List Cell
-      mid = with_work cells place (JoinCell (after join (Take t))) peak
-
   -- the results of a ticket that is taken stay
   pub results-stay : (t : ℕ) → has join.kept.pending t ≡ true → results_of (nodes_of plan) (history ++ plain (Taken place t) ∷ []) place t ≡ results_of (nodes_of plan) history place t
   results-stay t p =
@@ -239,6 +232,7 @@ takes-next plan limit cells new c halt u found made F =
           ∙ results-stay plan limit cells made c halt u history S F.place F.there join F.took.was found.ticket F.took.takes.pending
           ∙ ap (λ (n : ℕ). results_of (nodes_of plan) history n found.ticket) (sym joins));
       opens = opens;
+      within = λ history S. take-within limit (nodes_of plan) (tree plan made.0) history found.join found.ticket;
       notes = record {
         plan = refl;
         limit = refl;
@@ -304,11 +298,6 @@ pub open-there : (cells : List Cell) (n t : ℕ) → IsTakenIn (get_or (map (λ 
 open-there [] n t h = absurd h
 open-there (x ∷ cells) zero t h = (omega arith, h)
 open-there (x ∷ cells) (suc n) t h = let r = open-there cells n t h in (let l = r.0 in omega (arith, l), r.1)
-
-pub open-kept : (cells : List Cell) (n t : ℕ) → IsTakenIn (kept_seen (cell_at cells n).work) t → IsTakenIn (get_or (map (λ (x : Cell). kept_seen x.work) cells) n NothingKept) t
-open-kept [] n t h = h
-open-kept (x ∷ cells) zero t h = h
-open-kept (x ∷ cells) (suc n) t h = open-kept cells n t h
 
 module _ (plan : RunPlan) (limit : ℕ) (cells : List Cell) (c : List ℕ) (halt : Bool) (u : List Out) (probe found : Found) (work : Work) (made : IsMadeOf plan limit cells)
     (there : probe.join < length cells) (taken : IsTakenIn (kept_seen (cell_at cells probe.join).work) probe.ticket) (acts : JoinActs (cell_at cells probe.join).work work (Give probe.ticket)) where

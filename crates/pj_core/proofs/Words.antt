@@ -15,7 +15,7 @@ use Rattle.pj_operator.specs.Looks.{AreFew, AreWith}
 use Rattle.pj_operator.specs.declared.cell.Cell.{Cell}
 use Rattle.pj_core.specs.Calls.{HasArrived, IsCause, IsOpen, IsJoinNode, IsLookAt, IsPeak, IsRefused, StopsNow, closing_of}
 use Rattle.pj_operator.specs.Cells.{AreLinked, cell_at, frame_of, frames_in, kept_seen, no_cell, peak_seen, stored_kept, IsTakenIn}
-use Rattle.pj_operator.specs.Climbing.{AreOrderly, Climbs, IsClimbStop, StayOpen, StaysAs}
+use Rattle.pj_operator.specs.Climbing.{AreOrderly, Climbs, IsClimbStop, StaysAs}
 use Rattle.pj_core.specs.Cores.{CoreState, Notes}
 use Rattle.pj_core.specs.Parts.{IsMadeOf, closing_in, core_of}
 use Rattle.pj_core.specs.Plans.{RunPlan}
@@ -24,7 +24,7 @@ use Rattle.pj_core.proofs.Frames.{links-of, long-of}
 use Rattle.pj_core.proofs.Looking.{HasNumbers, are_few, is-look, is-peak}
 use Rattle.pj_core.proofs.Streams.{streams-few}
 use Rattle.pj_core.proofs.Stops.{notes-drain, notes-halt, stays-stopped, stops-now}
-use Rattle.pj_core.proofs.Takes.{open-kept, open-there}
+use Rattle.pj_core.proofs.Takes.{open-there}
 
 -- a core with these parts
 module _ (plan : RunPlan) (limit : ℕ) (cells : List Cell) (c : List ℕ) (halt : Bool) (u : List Out) (t : Option Stop) (old : CoreState) (is : core_of plan limit cells c halt u t ≡ old) (made : IsMadeOf plan limit cells) where
@@ -73,14 +73,6 @@ module _ (plan : RunPlan) (limit : ℕ) (cells : List Cell) (c : List ℕ) (halt
       arrival-stop plan limit cells c halt u stream x s made (subst (λ (o : CoreState). stream < length (streams_of o.plan.nodes)) (sym is) there)
       (subst (λ (ys : List Cell). IsClimbStop ys (get_or (streams_of plan.nodes) stream 0) (x ∷ []) s) same
       (subst (λ (m : ℕ). IsClimbStop xs m (x ∷ []) s) at g))
-
-  -- what was taken and not given stays so
-  pub opens-now : (xs new new' : List Cell) (c' : List ℕ) (u' : List Out) (t' : Option Stop) → xs ≡ cells → new' ≡ new → StayOpen xs new → (probe : Found) → IsOpen old probe → IsOpen (core_of plan limit new' c' halt u' t') probe
-  opens-now xs new new' c' u' t' same same' stays probe was-open =
-      let was = open-there cells probe.join probe.ticket (subst (λ (o : CoreState). IsOpen o probe) (sym is) was-open) in
-      let keeps = (subst (λ (ys : List Cell). StayOpen ys new) same stays) made.3 in
-      subst (λ (ys : List Cell). IsOpen (core_of plan limit ys c' halt u' t') probe) (sym same')
-      (open-kept new probe.join probe.ticket (keeps.1 probe.join probe.ticket was.1))
 
   -- what a core is made of stays
   pub made-now : (xs new new' : List Cell) → xs ≡ cells → new' ≡ new → frames_in new ≡ frames_in xs → (AreOrderly xs → AreOrderly new) → IsMadeOf plan limit new'

@@ -2,6 +2,7 @@
 use Rattle.std.specs.Prelude.{ℕ, ◌+◌, ◌<◌, ◌≡◌, true, false, List, [], ◌∷◌, ◌++◌, map, filter, length, slice_index_or, sum, Option, Some, None}
 use Rattle.pj_plan.specs.Nodes.{inputs_of, is_join, streams_of, stream_columns, streams_in}
 use Rattle.pj_plan.specs.Canonical.{node_at}
+use Rattle.pj_plan.specs.Sound.{IsSoundPlan}
 use Rattle.pj_pattern.specs.declared.element.Element.{Element}
 use Rattle.pj_pattern.specs.declared.element.Element.TheVariants.{Punct}
 use Rattle.pj_events.specs.Patterns.{all_wild}
@@ -20,6 +21,8 @@ use Rattle.pj_events.specs.History.{nodes_by, pending_in, reached_of, state_in}
 use Rattle.pj_events.specs.Outcomes.{goes_beyond, outputs_of, peak_of, results_of, stored_at}
 use Rattle.pj_events.specs.Limits.{StaysWithin, StopsAt}
 use Rattle.pj_events.specs.OneThread.{Turn, arrival_of, next_probe, plain, turn_entries}
+use Rattle.pj_laws.specs.HistoryLaws.{AllAreCertified}
+use Rattle.pj_laws.specs.Seats.{IsUnderWay}
 use Rattle.pj_join.specs.declared.found.Found.{Found}
 use Rattle.pj_operator.specs.Cells.{IsTakenIn, pending_kept}
 use Rattle.pj_core.specs.Cores.{CoreState, MayFollow, Notes, NotesAllowed, StandsFor, nodes_after, nodes_in}
@@ -27,10 +30,12 @@ use Rattle.pj_core.specs.Plans.{RunPlan}
 
 -- ---- a new core
 
--- nothing has happened yet
+-- nothing has happened yet at a core of this sound plan, each of whose joins has certificates
 pub record IsFresh (core : CoreState) (plan : RunPlan) (limit : ℕ) : Type 0 where
   pub of_plan : core.plan ≡ plan
   pub with_limit : core.limit ≡ limit
+  pub sound : IsSoundPlan core.plan.nodes
+  pub certified : AllAreCertified (nodes_in core)
   pub undrained : core.kept.undrained ≡ []
   pub halted : core.kept.halted ≡ false
   pub on : core.kept.stop ≡ None
@@ -79,6 +84,11 @@ pub record HasArrived (old new : CoreState) (entry : Entry) : Type 0 where
 abbrev pub IsOpen : CoreState → Found → Type 0
 IsOpen core probe = IsTakenIn (slice_index_or core.kept.nodes probe.join NothingKept) probe.ticket
 
+-- a probe whose ticket is under way in a history that a core stands for is open there, while nothing stopped
+abbrev pub OpensWhatIsUnderWay : Type 0
+OpensWhatIsUnderWay = (core : CoreState) → IsSoundPlan core.plan.nodes → core.kept.stop ≡ None → (history : List Entry) → StandsFor core history
+    → (probe : Found) → IsUnderWay (nodes_in core) history probe.join probe.ticket → IsOpen core probe
+
 -- how many tickets are pending at all nodes
 abbrev pub all_pending : CoreState → ℕ
 all_pending core = sum (map pending_kept core.kept.nodes)
@@ -90,7 +100,8 @@ pub record FindsNone (old new : CoreState) : Type 0 where
   pub stays : new ≡ old
   pub notes : Notes old new (plain Idle)
 
--- the probe is that of the next ticket, and its work finds the results of the ticket over all that arrived
+-- the probe is that of the next ticket, its work finds the results of the ticket over all that arrived, and nothing goes beyond
+-- the limit
 pub record TakesNext (old new : CoreState) (probe : Found) : Type 0 where
   pub next : (history : List Entry) → StandsFor old history
       → next_probe (nodes_after old history) ≡ Some (record { join = probe.join; ticket = probe.ticket })
@@ -98,6 +109,7 @@ pub record TakesNext (old new : CoreState) (probe : Found) : Type 0 where
   pub keeps : (history : List Entry) → StandsFor old history
       → probe.rows ≡ results_of (nodes_in new) (history ++ plain (Taken probe.join probe.ticket) ∷ []) probe.join probe.ticket
   pub opens : IsOpen new probe
+  pub within : HasRoomFor old (Taken probe.join probe.ticket)
   pub notes : Notes old new (plain (Taken probe.join probe.ticket))
   pub on : new.kept.stop ≡ None
   pub undrained : new.kept.undrained ≡ old.kept.undrained

@@ -1,4 +1,5 @@
 pub mod Plans
+pub mod Answers
 pub mod Cores
 pub mod Calls
 pub mod Parts

@@ -5,7 +5,6 @@ ghost use Rattle.pj_laws.specs.HistoryLaws.{AllAreCertified};
 ghost use Rattle.pj_events.specs.Patterns.{all_wild};
 ghost use Rattle.pj_events.specs.Join.{has};
 ghost use Rattle.pj_events.specs.OneThread.{arrival_of, plain};
-ghost use Rattle.pj_join.specs.declared.found.Found.{Found};
 ghost use Rattle.pj_pattern.specs.Fitting.{FitsKinds};
 ghost use Rattle.pj_shape.specs.Columns.{kinds_of};
 ghost use Rattle.pj_plan.specs.Nodes.{streams_of, stream_columns, streams_in};
@@ -64,7 +63,7 @@ impl Model for Core {
 
 impl Core {
     /// A core of this plan, at each of whose joins and groups at most `limit` elements may arrive, from 1 to 2^40. It stands for
-    /// the empty history. `certs` has a list for each join, in order, with a certificate of each of its inputs for the schemes
+    /// the empty history, and its plan is sound. `certs` has a list for each join, in order, with a certificate of each of its inputs for the schemes
     /// that are derived for them. With `trace` the rows that sweeps remove are noted among what is handed out.
     pub fn new(
         alloc: Global,
@@ -100,7 +99,6 @@ impl Core {
         requires there { stream < length (streams_of self.old.plan.nodes) }
         requires fits { FitsKinds (kinds_of (stream_columns (streams_in self.old.plan.nodes) stream)) element }
         ensures ok { OnOk result (HasArrived self.old self.new (arrival_of (arriving_of stream element))) }
-        ensures open { OnOk result ((probe : Found) → IsOpen self.old probe → IsOpen self.new probe) }
         ensures err { IfErr result (λ stop. IsRefused self.old.kept.stop self.old self.new stop (IsCause self.old (Arrives stream element) stop)) }
     {
         match self.stop {
@@ -130,7 +128,6 @@ impl Core {
     pub fn close_stream(&mut self, stream: u32) -> Result<(), Stop>
         requires there { stream < length (streams_of self.old.plan.nodes) }
         ensures ok { OnOk result (HasArrived self.old self.new (arrival_of (closing_of self.old stream))) }
-        ensures open { OnOk result ((probe : Found) → IsOpen self.old probe → IsOpen self.new probe) }
         ensures err { IfErr result (λ stop. IsRefused self.old.kept.stop self.old self.new stop (IsCause self.old (Arrives stream (closing_of self.old stream).element) stop)) }
     {
         match self.stop {
@@ -173,7 +170,7 @@ impl Core {
     }
 
     /// Hands up what the work of a probe found, as far as it goes, and gives its ticket. The probe was taken from this core and
-    /// is not given yet, and `found` is of its join and ticket.
+    /// is not given yet (`probes_under_way` tells it of any history), and `found` is of its join and ticket.
     ///
     /// The stops are those of an arrival.
     pub fn give(&mut self, probe: Probe, found: Found) -> Result<(), Stop>
@@ -201,13 +198,12 @@ impl Core {
     }
 
     /// Sweeps an input of a join: its ripe rows are removed, and the punctuations that none of those left matches go up. Answers
-    /// how many rows were removed. A probe that was taken stays open.
+    /// how many rows were removed.
     ///
     /// The stops are those of an arrival.
     pub fn sweep(&mut self, join: u32, input: u32) -> Result<u64, Stop>
         requires there { IsJoinInput self.old join input }
         ensures ok { IfOk result (λ count. HasSwept self.old self.new join input count) }
-        ensures open { OnOk result ((probe : Found) → IsOpen self.old probe → IsOpen self.new probe) }
         ensures err { IfErr result (λ stop. IsRefused self.old.kept.stop self.old self.new stop (IsCause self.old (Sweeps join input) stop)) }
     {
         match self.stop {
@@ -239,7 +235,6 @@ impl Core {
         requires on { self.old.kept.stop ≡ None }
         requires there { IsJoinInput self.old join input }
         ensures ok { IfOk result (λ count. HasSwept self.old self.new join input count) }
-        ensures open { OnOk result ((probe : Found) → IsOpen self.old probe → IsOpen self.new probe) }
         ensures err { IfErr result (λ stop. StopsNow self.old self.new stop × IsCause self.old (Sweeps join input) stop) }
     {
         match sweep_at(

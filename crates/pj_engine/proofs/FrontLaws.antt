@@ -29,7 +29,8 @@ use Rattle.pj_laws.proofs.Groups.{row-in}
 use Rattle.pj_laws.proofs.FinalRows.{is-final}
 use Rattle.pj_join_laws.proofs.Upto.{length-upto}
 use Rattle.pj_laws.proofs.Steps.{elements-append}
-use Rattle.pj_run.specs.Runs.{history_of, outputs_of, run_nodes}
+use Rattle.pj_core.proofs.PlainAnswers.{answers-are-plain}
+use Rattle.pj_run.specs.Runs.{history_of, outputs_of, plan_run, run_nodes}
 use Rattle.pj_engine.specs.Top.{AllLawful, AreOfWidth, answer_after, arrived_in, gone_on, streams_after, StaysRight}
 use Rattle.pj_run.proofs.Accepting.{count-streams, schema-is}
 use Rattle.pj_run.proofs.OutputLaws.{whole_run}
@@ -159,7 +160,8 @@ right_front : (plan : Outline) (files : List (List ℕ)) (first others : List El
 right_front plan files first others front back p run among more lawful f =
     let legal = fronts-are-legal (run_nodes plan) front back (subst (IsLegal (run_nodes plan)) (sym run) (whole_run plan files p).legal) in
     let sub = is-final (run_nodes plan) p.well_made p.some false front legal (map rows_of (streams_after plan front more)) (go_on plan front more lawful) f in
-    omega (arith, sub, rows_front first others (given_out (run_nodes plan) front) among f)
+    let plain = ap (weigh f) (answers-are-plain (plan_run plan) (map rows_of (streams_after plan front more))).answer in
+    omega (arith, sub, plain, rows_front first others (given_out (run_nodes plan) front) among f)
 
 stays_by : (plan : Outline) (files : List (List ℕ)) (first others : List Element) → IsPlanned plan → first ++ others ≡ outputs_of plan files
     → IsLeast (run_nodes plan) (history_of plan files) (length first) → StaysRight plan files first

@@ -25,7 +25,7 @@ use Rattle.pj_run.specs.PlanNames.{HasPlainNames}
 use Rattle.pj_engine.specs.Plans.{plan_of, plan_if}
 use Rattle.pj_engine.specs.Refusals.{BytesRefused, FileCause, FileOpens, HasLines, PlanCause, PlanUnfit, Unprepared}
 use Rattle.pj_run.specs.Runs.{IsNewCore, most_arrivals, outline_in}
-use Rattle.pj_run.proofs.Certified.{run_certified}
+use Rattle.pj_safe_core.proofs.Certified.{run_certified}
 use Rattle.pj_engine.proofs.NameLaws.{plain_names}
 
 -- ---- a plan

@@ -5,6 +5,7 @@ use Rattle.pj_plan.specs.declared.node.PlanNode.{PlanNode}
 use Rattle.pj_plan.specs.Nodes.{streams_of, streams_in}
 use Rattle.pj_plan.specs.Canonical.{node_name}
 use Rattle.pj_plan_text.specs.PlanRead.{plan_read}
+use Rattle.pj_algebra.specs.Answers.{answer_of}
 use Rattle.pj_alone.specs.Safety.{IsSafePlan, AreUnsafeLines}
 use Rattle.pj_io.specs.Causes.{Rose}
 use Rattle.pj_io.specs.States.{FolderState, SinkState}
@@ -28,7 +29,7 @@ use Rattle.pj_feed.specs.Opened.{OpensFirst}
 use Rattle.pj_engine.specs.Plans.{plan_of}
 use Rattle.pj_engine.specs.Refusals.{Refuses}
 use Rattle.pj_report.specs.Report.{status_line}
-use Rattle.pj_run.specs.Runs.{outputs_of, history_of, answer_of, run_lines, run_nodes, GoesBeyond}
+use Rattle.pj_run.specs.Runs.{outputs_of, history_of, run_lines, run_nodes, GoesBeyond}
 use Rattle.pj_report.specs.Written.{flat, WholeLines, FrontOf, Delivered, Spells, holding}
 
 -- ---- a run that is done
@@ -192,7 +193,7 @@ AllLawful (stream ∷ streams) (es ∷ lists) = IsLawful es × AreOfWidth (lengt
 
 -- the rows of the plan's answer, where its streams go on with more elements
 abbrev pub answer_after : Outline → List Entry → List (List Element) → List (List Value)
-answer_after plan front more = answer_of plan (map rows_of (streams_after plan front more))
+answer_after plan front more = answer_of plan.nodes (map rows_of (streams_after plan front more))
 
 -- the history is as long as it must be to hand out this many elements: with one entry less it hands out fewer
 abbrev pub IsShortest : Outline → List Entry → ℕ → Type 0

@@ -23,7 +23,7 @@ use Rattle.pj_join_laws.proofs.Tickets.{lacking-come, lacking-none}
 use Rattle.pj_laws.specs.Seats.{GivenByTakers, HasInput, Holds, IsInputOf, IsUnderWay, seated, giver_by, givers, made_by, taker_by, takers}
 use Rattle.pj_laws.proofs.Lists.{givers-append, takers-append}
 use Rattle.pj_laws.proofs.Stay.{results-stay}
-use Rattle.pj_laws.proofs.Takers.{give-from, has-come, is-taken, one-taker, take-among, was-given}
+use Rattle.pj_laws.proofs.Takers.{give-from, has-come, is-taken, one-taker, take-among, was-given, was-taken}
 
 -- ---- joins of a plan
 
@@ -131,14 +131,11 @@ none-in (x ∷ xs) f = absurd (f x (inl refl))
 
 -- ---- the ticket
 
--- a ticket that was taken and not given at the join of a plan: where the join came to, and that the ticket is open
+-- a ticket under way at the join of a plan, as the join tells its tickets
 pub record IsOpenAt (plan : List Node) (h : List Entry) (j u : ℕ) : Type 0 where
   pub there : j < length plan
   pub spec : JoinData
   pub starts : operator_at plan j ≡ Join spec start
-  pub come : HasCome (run spec start (join_steps_of plan h j)) u
-  pub was_taken : has (run spec start (join_steps_of plan h j)).taken u ≡ true
-  pub not_given : has (run spec start (join_steps_of plan h j)).given u ≡ false
   pub opened : has (lacking (run spec start (join_steps_of plan h j)).given (run spec start (join_steps_of plan h j)).tuples) u ≡ true
   pub taken : has (lacking (run spec start (join_steps_of plan h j)).taken (run spec start (join_steps_of plan h j)).tuples) u ≡ false
 
@@ -149,6 +146,24 @@ not-true false f = refl
 not-false : (b : Bool) → (b ≡ false → ⊥) → b ≡ true
 not-false true f = refl
 not-false false f = absurd (f refl)
+
+pub open-under-way : (plan : List Node) → ArePlanned [] plan → (log : List Entry) → IsLegal plan log → (j u : ℕ) → IsUnderWay plan log j u → IsOpenAt plan log j u
+open-under-way plan planned log legal j u way = record {
+  there = way.there;
+  spec = way.spec;
+  starts = way.starts;
+  opened = not-false (has (lacking s.given s.tuples) u) (λ f. false≢true (sym way.not_given ∙ lacking-none s.given s.tuples u come f));
+  taken = not-true (has (lacking s.taken s.tuples) u) (λ t. false≢true (sym (lacking-come s.taken s.tuples u t).1 ∙ way.taken));
+}
+  where
+    s : JoinState
+    s = run way.spec start (join_steps_of plan log j)
+
+    come : HasCome s u
+    come = elim (was-taken way.spec start (join_steps_of plan log j) u way.taken) [
+      | inl k ↦ absurd (false≢true k)
+      | inr i ↦ has-come way.spec start (join_steps_of plan log j) u ((join-runs plan planned).legal log j way.spec legal way.there way.starts) i
+    ]
 
 module _ (plan : List Node) (planned : ArePlanned [] plan) (h : List Entry) (legal : IsLegal plan h) (j u a : ℕ) (took : In a (takers j u h)) where
   there : (j < length plan) × IsJoin (operator_at plan j)
@@ -167,39 +182,27 @@ module _ (plan : List Node) (planned : ArePlanned [] plan) (h : List Entry) (leg
   pub taker-is : (b : ℕ) → In b (takers j u h) → b ≡ a
   taker-is b i = one-taker plan h j u b a there.1.spec start legal-here i took
 
-  pub is-open : givers j u h ≡ [] → IsOpenAt plan h j u
-  is-open none =
+  pub is-under_way : givers j u h ≡ [] → IsUnderWay plan h j u
+  is-under_way none =
       let s = run there.1.spec start (join_steps_of plan h j) in
-      let among = take-among plan h j u a took in
-      let come = has-come there.1.spec start (join_steps_of plan h j) u legal-here among in
-      let not-given : has s.given u ≡ false = not-true (has s.given u) (λ t. elim (was-given there.1.spec start (join_steps_of plan h j) u t) [
-        | inl k ↦ false≢true k
-        | inr k ↦ (let g = give-from plan h j u k in subst (λ (ns : List ℕ). In g.0 ns) none g.1)
-      ]) in
       record {
         there = there.0;
         spec = there.1.spec;
         starts = starts;
-        come = come;
-        was_taken = is-taken there.1.spec start (join_steps_of plan h j) u among;
-        not_given = not-given;
-        opened = not-false (has (lacking s.given s.tuples) u) (λ f. false≢true (sym not-given ∙ lacking-none s.given s.tuples u come f));
-        taken = not-true (has (lacking s.taken s.tuples) u) (λ t. false≢true (sym (lacking-come s.taken s.tuples u t).1 ∙ is-taken there.1.spec start (join_steps_of plan h j) u among));
+        taken = is-taken there.1.spec start (join_steps_of plan h j) u (take-among plan h j u a took);
+        not_given = not-true (has s.given u) (λ t. elim (was-given there.1.spec start (join_steps_of plan h j) u t) [
+          | inl k ↦ false≢true k
+          | inr k ↦ (let g = give-from plan h j u k in subst (λ (ns : List ℕ). In g.0 ns) none g.1)
+        ]);
       }
 
 -- what a seat took and did not give, by its own entries in what it has seen, nobody gave since
-pub held-open : (plan : List Node) → ArePlanned [] plan → (log : List Entry) → IsLegal plan log → GivenByTakers log → (n j u : ℕ) → In n (takers j u (made_by n log)) → givers j u (made_by n log) ≡ [] → IsOpenAt plan log j u
-held-open plan planned log legal given n j u took none =
-    let all = takers-made n log j u n took in
-    is-open plan planned log legal j u n all
-    (none-in (givers j u log) (λ b i. subst (λ (ns : List ℕ). In n ns) none
-    (givers-made n log j u (subst (λ (x : ℕ). In x (givers j u log)) (taker-is plan planned log legal j u n all b (given j u b i)) i))))
-
--- so it is under way
 pub under-way : (plan : List Node) → ArePlanned [] plan → (log : List Entry) → IsLegal plan log → GivenByTakers log → (n j u : ℕ) → Holds n j u (made_by n log) → IsUnderWay plan log j u
 under-way plan planned log legal given n j u holds =
-    let o = held-open plan planned log legal given n j u holds.took holds.not_given in
-    record { there = o.there; spec = o.spec; starts = o.starts; taken = o.was_taken; not_given = o.not_given }
+    let all = takers-made n log j u n holds.took in
+    is-under_way plan planned log legal j u n all
+    (none-in (givers j u log) (λ b i. subst (λ (ns : List ℕ). In n ns) holds.not_given
+    (givers-made n log j u (subst (λ (x : ℕ). In x (givers j u log)) (taker-is plan planned log legal j u n all b (given j u b i)) i))))
 
 -- and its results are those over what the seat has seen
 pub held-results : (plan : List Node) → ArePlanned [] plan → (seen more : List Entry) → IsLegal plan (seen ++ more) → (n j u : ℕ) → In n (takers j u (made_by n seen)) → results_of plan (seen ++ more) j u ≡ results_of plan seen j u
@@ -224,8 +227,8 @@ join-allowed plan planned log j spec s own lt is may =
       subst (λ (o : Operator). MayAct o s) (sym ((join-runs plan planned).state log j spec lt is)) (own, may),
     )
 
-pub give-allowed : (plan : List Node) → ArePlanned [] plan → (log : List Entry) → IsOn (reached_of false plan log) → (j u : ℕ) → IsOpenAt plan log j u → IsEventAllowed (reached_of false plan log) (Given j u)
-give-allowed plan planned log on j u o = (on, join-allowed plan planned log j o.spec (Give u) tt o.there o.starts (o.was_taken, o.not_given))
+pub give-allowed : (plan : List Node) → ArePlanned [] plan → (log : List Entry) → IsOn (reached_of false plan log) → (j u : ℕ) → IsUnderWay plan log j u → IsEventAllowed (reached_of false plan log) (Given j u)
+give-allowed plan planned log on j u way = (on, join-allowed plan planned log j way.spec (Give u) tt way.there way.starts (way.taken, way.not_given))
 
 has-join : (o : Operator) (input : ℕ) → HasInput o input → IsJoin o
 has-join (Join spec s) input h = record { spec = spec; state = s; is = refl }

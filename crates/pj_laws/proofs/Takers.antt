@@ -60,6 +60,19 @@ was-given spec s (Give t ∷ es) u h = elim (was-given spec (step spec s (Give t
     here false q k = inl k
 was-given spec s (Sweep input ∷ es) u h = elim (was-given spec (step spec s (Sweep input)) es u h) [ inl k ↦ inl k | inr k ↦ inr (inr k) ]
 
+-- a ticket that is taken was taken by one of the steps
+pub was-taken : (spec : JoinData) (s : JoinState) (es : List Step) (u : ℕ) → has (run spec s es).taken u ≡ true → (has s.taken u ≡ true) ⊎ In (Take u) es
+was-taken spec s [] u h = inl h
+was-taken spec s (TupleComes input row ∷ es) u h = elim (was-taken spec (step spec s (TupleComes input row)) es u h) [ inl k ↦ inl k | inr k ↦ inr (inr k) ]
+was-taken spec s (PunctComes input patterns ∷ es) u h = elim (was-taken spec (step spec s (PunctComes input patterns)) es u h) [ inl k ↦ inl k | inr k ↦ inr (inr k) ]
+was-taken spec s (Take t ∷ es) u h = elim (was-taken spec (step spec s (Take t)) es u h) [ inl k ↦ here (eqb t u) refl k | inr k ↦ inr (inr k) ]
+  where
+    here : (b : Bool) → eqb t u ≡ b → (b || has s.taken u) ≡ true → (has s.taken u ≡ true) ⊎ In (Take u) (Take t ∷ es)
+    here true q k = inr (inl (ap Take (eqb-true t u q)))
+    here false q k = inl k
+was-taken spec s (Give t ∷ es) u h = elim (was-taken spec (step spec s (Give t)) es u h) [ inl k ↦ inl k | inr k ↦ inr (inr k) ]
+was-taken spec s (Sweep input ∷ es) u h = elim (was-taken spec (step spec s (Sweep input)) es u h) [ inl k ↦ inl k | inr k ↦ inr (inr k) ]
+
 -- ---- entries
 
 alone : (b : Bool) (n a : ℕ) → In a (cond b (n ∷ []) []) → (b ≡ true) × (n ≡ a)

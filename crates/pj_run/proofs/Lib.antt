@@ -2,7 +2,6 @@ pub mod AcceptedLaws
 pub mod Accepting
 pub mod Arrivals
 pub mod Carried
-pub mod Certified
 pub mod Ending
 pub mod FilesRun
 pub mod JoinNodes

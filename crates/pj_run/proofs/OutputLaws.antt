@@ -23,7 +23,8 @@ use Rattle.pj_laws.proofs.Reaching.{limits-tell}
 use Rattle.pj_laws.proofs.SweptRun.{swept-groups}
 use Rattle.pj_join_laws.proofs.Upto.{get_or-upto, length-upto}
 use Rattle.pj_plan.specs.Nodes.{stream_columns, streams_in}
-use Rattle.pj_run.specs.Runs.{elements_of, history_of, most_arrivals, outputs_of, run_nodes, with_closings, GoesBeyond, IsAnswer, ArePunctuations}
+use Rattle.pj_run.specs.Runs.{elements_of, history_of, most_arrivals, outputs_of, plan_run, run_nodes, with_closings, GoesBeyond, IsAnswer, ArePunctuations}
+use Rattle.pj_core.proofs.PlainAnswers.{answers-are-plain, counts-are-plain, punctuations-are-plain}
 use Rattle.pj_feed.specs.Feeds.{accepted_of}
 use Rattle.pj_run.proofs.Accepting.{accepted_lists, count-streams, schema-is}
 use Rattle.pj_run.proofs.Planned.{IsPlanned}
@@ -36,7 +37,9 @@ pub outputs_lawful : (plan : Outline) (files : List (List ℕ)) → IsPlanned pl
 outputs_lawful plan files p = hands_out-lawfully (run_nodes plan) p.well_made p.some false (history_of plan files) (whole_run plan files p).legal
 
 pub outputs_answer : (plan : Outline) (files : List (List ℕ)) → IsPlanned plan → (report : List (List ℕ)) → IsAnswer plan files (outputs_of plan files) report
-outputs_answer plan files p report = swept-groups (run_nodes plan) p.well_made p.some p.certified p.propagates (accepted_of (streams_in plan.nodes) files) (accepted_lists plan files) false
+outputs_answer plan files p report =
+    subst (SameBag (rows_of (outputs_of plan files))) (answers-are-plain (plan_run plan) (map rows_of (accepted_of (streams_in plan.nodes) files))).answer
+    (swept-groups (run_nodes plan) p.well_made p.some p.certified p.propagates (accepted_of (streams_in plan.nodes) files) (accepted_lists plan files) false)
 
 -- ---- punctuations
 
@@ -84,7 +87,8 @@ closed_so plan files = same_lists (closed_lists nodes lists) (elements_of plan f
 
 pub outputs_puncts : (plan : Outline) (files : List (List ℕ)) → IsPlanned plan → (report : List (List ℕ)) → ArePunctuations plan files (outputs_of plan files) report
 outputs_puncts plan files p report =
-    subst (λ (ls : List (List Element)). SameBag (puncts_of (outputs_of plan files)) (puncts_answer (run_nodes plan) (map puncts_of ls))) (closed_so plan files)
+    subst (SameBag (puncts_of (outputs_of plan files)))
+    (ap (λ (ls : List (List Element)). puncts_answer (run_nodes plan) (map puncts_of ls)) (closed_so plan files) ∙ (punctuations-are-plain (plan_run plan) (map puncts_of (elements_of plan files))).output)
     (swept-is-puncts (run_nodes plan) p.well_made p.some p.certified p.propagates (accepted_of (streams_in plan.nodes) files) (accepted_lists plan files) false)
 
 -- ---- limits
@@ -97,5 +101,8 @@ goes_beyond plan files p node r =
     record {
       reaches = r;
       counted = t.0;
-      many = subst (λ (ls : List (List Element)). most_arrivals < coming_to (run_nodes plan) (map rows_of lists) (map puncts_of ls) node) (closed_so plan files) t.1;
+      many = subst (λ (n : ℕ). most_arrivals < n)
+          (ap (λ (ls : List (List Element)). coming_to (run_nodes plan) (map rows_of lists) (map puncts_of ls) node) (closed_so plan files)
+          ∙ counts-are-plain (plan_run plan) (map rows_of lists) (map puncts_of (elements_of plan files)) node)
+          t.1;
     }

@@ -16,7 +16,7 @@ use Rattle.pj_core.proofs.Planned.{nodes-long, not-empty, planned, tree as is_tr
 use Rattle.pj_alone.specs.Safety.{certificates_at}
 use Rattle.pj_core.specs.Cores.{CoreState}
 use Rattle.pj_run.specs.Runs.{IsNewCore, outline_in, plan_run, run_nodes}
-use Rattle.pj_run.proofs.Certified.{run_operator}
+use Rattle.pj_safe_core.proofs.Certified.{run_operator}
 
 -- the joins of a run hand up punctuations
 propagate : (schemes : List (List (List Bool))) (certs : List (List CertStep)) (schema : List Column) (operation : Operation) → Propagates (operator_of schemes certs schema operation)

@@ -4,8 +4,8 @@ use Rattle.pj_plan.specs.declared.node.Outline.{Outline}
 use Rattle.pj_plan.specs.declared.node.PlanNode.{PlanNode}
 use Rattle.pj_plan.specs.Nodes.{joins_of, streams_in}
 use Rattle.pj_plan.specs.Canonical.{node_name}
+use Rattle.pj_algebra.specs.Answers.{answer_of, elements_to as coming_to, punctuations_of}
 use Rattle.pj_core.specs.Plans.{RunPlan, nodes_of, run_plan}
-use Rattle.pj_value.specs.declared.values.Value.{Value}
 use Rattle.pj_value.specs.Bags.{SameBag}
 use Rattle.pj_pattern.specs.declared.element.Element.{Element}
 use Rattle.pj_pattern.specs.declared.element.Element.TheVariants.{Punct}
@@ -13,11 +13,10 @@ use Rattle.pj_element.specs.Runs.{rows_of, puncts_of, IsLawful, element_lines, c
 use Rattle.pj_element.specs.Accepted.{fates_of, tally_of}
 use Rattle.pj_events.specs.Plan.{Node}
 use Rattle.pj_laws.specs.HistoryLaws.{AllAreCertified}
-use Rattle.pj_events.specs.Punctuations.{puncts_answer}
 use Rattle.pj_events.specs.declared.events.Entry.{Entry}
 use Rattle.pj_events.specs.Limits.{ReachesLimit}
-use Rattle.pj_laws.specs.Reaching.{IsCounted, elements_to as coming_to}
-use Rattle.pj_events.specs.Outcomes.{elements_out, peak_of, outputs_of as handed_out, answer_of as plan_answer}
+use Rattle.pj_laws.specs.Reaching.{IsCounted}
+use Rattle.pj_events.specs.Outcomes.{elements_out, peak_of, outputs_of as handed_out}
 use Rattle.pj_events.specs.OneThread.{one_thread_of}
 use Rattle.pj_core.specs.Cores.{CoreState}
 use Rattle.pj_core.specs.Calls.{IsFresh}
@@ -48,10 +47,6 @@ with_closings (stream ∷ streams) (es ∷ lists) = (es ++ Punct (closing stream
 -- the accepted elements of each stream, with the closing punctuation
 abbrev pub elements_of : Outline → List (List ℕ) → List (List Element)
 elements_of plan files = with_closings (streams_in plan.nodes) (accepted_of (streams_in plan.nodes) files)
-
--- the nested-loop answer of a plan over complete lists of rows, one for each stream
-abbrev pub answer_of : Outline → List (List (List Value)) → List (List Value)
-answer_of plan lists = plan_answer (run_nodes plan) lists
 
 -- the history of the run on one thread, with sweeps
 abbrev pub history_of : Outline → List (List ℕ) → List Entry
@@ -90,11 +85,11 @@ run_lines plan files = element_lines (outputs_of plan files) ++ report_of plan f
 
 -- the rows are the plan's answer over exactly the accepted rows, as a bag
 abbrev pub IsAnswer : Outline → List (List ℕ) → List Element → List (List ℕ) → Type 0
-IsAnswer plan files outputs report = SameBag (rows_of outputs) (answer_of plan (map rows_of (accepted_of (streams_in plan.nodes) files)))
+IsAnswer plan files outputs report = SameBag (rows_of outputs) (answer_of plan.nodes (map rows_of (accepted_of (streams_in plan.nodes) files)))
 
 -- the punctuations are the plan's over those that were accepted and the closings, as a bag
 abbrev pub ArePunctuations : Outline → List (List ℕ) → List Element → List (List ℕ) → Type 0
-ArePunctuations plan files outputs report = SameBag (puncts_of outputs) (puncts_answer (run_nodes plan) (map puncts_of (elements_of plan files)))
+ArePunctuations plan files outputs report = SameBag (puncts_of outputs) (punctuations_of plan.nodes (map puncts_of (elements_of plan files)))
 
 -- no row matches a punctuation before it
 abbrev pub AreLawful : Outline → List (List ℕ) → List Element → List (List ℕ) → Type 0
@@ -124,7 +119,7 @@ pub record IsNewCore (core : CoreState) : Type 0 where
 -- how many elements come to a node in all: the rows of its inputs' answers over the accepted rows, and its inputs' punctuations
 abbrev pub elements_to : Outline → List (List ℕ) → ℕ → ℕ
 elements_to plan files node =
-    coming_to (run_nodes plan) (map rows_of (accepted_of (streams_in plan.nodes) files)) (map puncts_of (elements_of plan files)) node
+    coming_to plan.nodes (map rows_of (accepted_of (streams_in plan.nodes) files)) (map puncts_of (elements_of plan files)) node
 
 -- a step of the run on one thread is the first that brings an element beyond the limit, and this is its node: a join or a group,
 -- to which more elements come in all than may

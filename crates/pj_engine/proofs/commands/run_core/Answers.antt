@@ -2,7 +2,7 @@ use Rattle.std.proofs.Common.{List, false, subst, sym}
 use Rattle.pj_shape.specs.declared.joins.CertStep.{CertStep}
 use Rattle.pj_laws.specs.HistoryLaws.{AllAreCertified}
 use Rattle.pj_core.specs.Plans.{nodes_of, run_plan}
-use Rattle.pj_run.proofs.Certified.{run_certified}
+use Rattle.pj_safe_core.proofs.Certified.{run_certified}
 use Rattle.pj_engine.proofs.Refusing.{new_core}
 use Rattle.pj_engine.proofs.commands.run_core.Goals as goal
 

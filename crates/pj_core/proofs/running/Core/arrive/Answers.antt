@@ -3,7 +3,7 @@ use Rattle.std.proofs.lemmas.List.{places, with_items_is}
 use Rattle.pj_core.specs.Calls.{IsCause, arriving_of}
 use Rattle.pj_core.specs.Plans.{run_plan}
 use Rattle.pj_events.specs.declared.events.Event.TheVariants.{Arrive}
-use Rattle.pj_core.proofs.Words.{arrival-cause, arrived-now, below-cells, linked-cells, opens-now, refused-again, refused-now}
+use Rattle.pj_core.proofs.Words.{arrival-cause, arrived-now, below-cells, linked-cells, refused-again, refused-now}
 use Rattle.pj_core.proofs.running.Core.arrive.Goals as goal
 
 pub lift-requires-clause-there : goal.lift-requires-clause-there
@@ -26,11 +26,6 @@ returns-in-Ok-clause-ok c =
     arrived-now (run_plan c.self.inside.plan.nodes c.self.inside.certs c.self.inside.trace) c.self.inside.limit c.self.inside.cells.items (reverse c.self.inside.closed) c.self.inside.halted c.self.inside.undrained c.self.inside.stop c.args.self.now c.self.view_is c.self.invariant
     c.in-None.is (arriving_of c.args.stream c.args.element) c.requires.there c.as_mut_slice.result.now c.lift.new.cells _ c.number_of-from.result _ c.lift.new.outs c.as_mut_slice.ensures.value (with_items_is c.self.inside.cells c.lift.new.cells (search (rules, places))) c.number_of-from.ensures.is
     c.in-Ok.ensures.ok c.lift.ensures.stays refl
-
-pub returns-in-Ok-clause-open : goal.returns-in-Ok-clause-open
-returns-in-Ok-clause-open c =
-    opens-now (run_plan c.self.inside.plan.nodes c.self.inside.certs c.self.inside.trace) c.self.inside.limit c.self.inside.cells.items (reverse c.self.inside.closed) c.self.inside.halted c.self.inside.undrained c.self.inside.stop c.args.self.now c.self.view_is c.self.invariant
-    c.as_mut_slice.result.now c.lift.new.cells _ (reverse c.self.inside.closed) c.lift.new.outs c.self.inside.stop c.as_mut_slice.ensures.value (with_items_is c.self.inside.cells c.lift.new.cells (search (rules, places))) c.lift.ensures.stays.opens
 
 pub returns-in-Err-clause-err : goal.returns-in-Err-clause-err
 returns-in-Err-clause-err c =

@@ -4,7 +4,7 @@ use Rattle.pj_events.specs.declared.events.Event.TheVariants.{Arrive}
 use Rattle.pj_core.specs.Calls.{IsCause, closing_of}
 use Rattle.pj_core.specs.Parts.{closing_in}
 use Rattle.pj_core.specs.Plans.{run_plan}
-use Rattle.pj_core.proofs.Words.{arrival-cause, closed-now, linked-cells, long-cells, opens-now, refused-again, refused-now, streams-here}
+use Rattle.pj_core.proofs.Words.{arrival-cause, closed-now, linked-cells, long-cells, refused-again, refused-now, streams-here}
 use Rattle.pj_core.proofs.running.Core.close_stream.Goals as goal
 
 pub close-requires-clause-there : goal.close-requires-clause-there
@@ -24,11 +24,6 @@ returns-in-Ok-clause-ok c =
     closed-now (run_plan c.self.inside.plan.nodes c.self.inside.certs c.self.inside.trace) c.self.inside.limit c.self.inside.cells.items (reverse c.self.inside.closed) c.self.inside.halted c.self.inside.undrained c.self.inside.stop c.args.self.now c.self.view_is c.self.invariant
     c.in-None.is c.args.stream c.requires.there c.as_mut_slice.result.now c.close.new.cells _ _ _ c.close.new.outs c.as_mut_slice.ensures.value (with_items_is c.self.inside.cells c.close.new.cells (search (rules, places))) refl
     c.in-Ok.ensures.ok c.close.ensures.stays (ap reverse c.in-Ok.ensures.closed ∙ reverse-append c.self.inside.closed (c.args.stream ∷ []))
-
-pub returns-in-Ok-clause-open : goal.returns-in-Ok-clause-open
-returns-in-Ok-clause-open c =
-    opens-now (run_plan c.self.inside.plan.nodes c.self.inside.certs c.self.inside.trace) c.self.inside.limit c.self.inside.cells.items (reverse c.self.inside.closed) c.self.inside.halted c.self.inside.undrained c.self.inside.stop c.args.self.now c.self.view_is c.self.invariant
-    c.as_mut_slice.result.now c.close.new.cells _ (reverse c.close.new.closed) c.close.new.outs c.self.inside.stop c.as_mut_slice.ensures.value (with_items_is c.self.inside.cells c.close.new.cells (search (rules, places))) c.close.ensures.stays.opens
 
 pub returns-in-Err-clause-err : goal.returns-in-Err-clause-err
 returns-in-Err-clause-err c =

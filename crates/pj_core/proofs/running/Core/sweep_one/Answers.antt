@@ -6,7 +6,7 @@ use Rattle.pj_operator.specs.Acts.{HasJoinInput, HasSweptAt, IsSweepStop}
 use Rattle.pj_core.specs.Calls.{HasSwept, IsCause, IsJoinInput}
 use Rattle.pj_operator.specs.Cells.{cell_at}
 use Rattle.pj_core.proofs.Calls.{input-there, swept-cause, swept-core}
-use Rattle.pj_core.proofs.Words.{holds-now, linked-cells, made-now, of-parts, opens-now, stop-none, stopped-now}
+use Rattle.pj_core.proofs.Words.{holds-now, linked-cells, made-now, of-parts, stop-none, stopped-now}
 use Rattle.pj_core.proofs.running.Core.sweep_one.Goals as goal
 
 pub sweep_at-requires-clause-there : goal.sweep_at-requires-clause-there
@@ -33,10 +33,6 @@ returns-in-Ok-clause-ok c =
     (swept-core (run_plan c.self.inside.plan.nodes c.self.inside.certs c.self.inside.trace) c.self.inside.limit c.self.inside.cells.items (reverse c.self.inside.closed) c.self.inside.halted c.self.inside.undrained c.self.invariant c.sweep_at.new.cells c.sweep_at.new.outs c.args.join c.args.input c.in-Ok.count
     (of-parts (run_plan c.self.inside.plan.nodes c.self.inside.certs c.self.inside.trace) c.self.inside.limit c.self.inside.cells.items (reverse c.self.inside.closed) c.self.inside.halted c.self.inside.undrained c.self.inside.stop c.args.self.now c.self.view_is c.self.invariant (λ o. IsJoinInput o c.args.join c.args.input) (stop-none (run_plan c.self.inside.plan.nodes c.self.inside.certs c.self.inside.trace) c.self.inside.limit c.self.inside.cells.items (reverse c.self.inside.closed) c.self.inside.halted c.self.inside.undrained c.self.inside.stop c.args.self.now c.self.view_is c.self.invariant c.requires.on) c.requires.there)
     (subst (λ ys. HasSweptAt c.self.inside.trace (record { cells = ys; outs = c.self.inside.undrained }) (record { cells = c.sweep_at.new.cells; outs = c.sweep_at.new.outs }) c.args.join c.args.input c.in-Ok.count) c.as_mut_slice.ensures.value c.in-Ok.ensures.ok))
-
-pub returns-in-Ok-clause-open : goal.returns-in-Ok-clause-open
-returns-in-Ok-clause-open c =
-    opens-now (run_plan c.self.inside.plan.nodes c.self.inside.certs c.self.inside.trace) c.self.inside.limit c.self.inside.cells.items (reverse c.self.inside.closed) c.self.inside.halted c.self.inside.undrained c.self.inside.stop c.args.self.now c.self.view_is c.self.invariant c.as_mut_slice.result.now c.sweep_at.new.cells _ (reverse c.self.inside.closed) c.sweep_at.new.outs c.self.inside.stop c.as_mut_slice.ensures.value (with_items_is c.self.inside.cells c.sweep_at.new.cells (search (rules, places))) c.sweep_at.ensures.opens
 
 pub returns-in-Err-clause-err : goal.returns-in-Err-clause-err
 returns-in-Err-clause-err c =
