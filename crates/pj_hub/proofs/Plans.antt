@@ -1,5 +1,5 @@
 -- The streams and the joins of a core's plan, as the histories of a hub speak of them.
-use Rattle.std.proofs.Common.{ℕ, ◌+◌, ◌<◌, Bool, true, cond, List, [], ◌∷◌, ◌≡◌, length, get_or, refl, ap, ap₂, ◌∙◌, subst, arith}
+use Rattle.std.proofs.Common.{ℕ, ◌+◌, ◌<◌, Bool, true, List, [], ◌∷◌, ◌≡◌, length, get_or, refl, ap, ◌∙◌, subst, arith}
 use Rattle.std.proofs.lemmas.Bool.{false≢true}
 use Rattle.std.proofs.lemmas.List.{length-map}
 use Rattle.pj_shape.specs.declared.columns.Column.{Column}
@@ -8,37 +8,24 @@ use Rattle.pj_plan.specs.declared.node.Node.{Node as Operation}
 use Rattle.pj_plan.specs.declared.node.Node.TheVariants.{Stream as StreamNode, Select as SelectNode, Project as ProjectNode, Union as UnionNode, Join as JoinNode, Group as GroupNode}
 use Rattle.pj_plan.specs.declared.node.PlanNode.{PlanNode}
 use Rattle.pj_plan.specs.Canonical.{no_node, node_schema}
-use Rattle.pj_plan.specs.Nodes.{inputs_of, is_join, is_stream, numbers_from, streams_of, stream_columns, streams_in}
+use Rattle.pj_plan.specs.Nodes.{inputs_of, is_join, is_stream, streams_of, stream_columns, streams_in}
 use Rattle.pj_plan.specs.Sound.{IsSoundOperator, IsSoundPlan}
 use Rattle.pj_scheme.specs.Derived.{inputs_schemes, schemes_of}
 use Rattle.pj_events.specs.Join.{inputs}
 use Rattle.pj_events.specs.Plan.{Operator, operator_at}
-use Rattle.pj_events.specs.History.{is_stream as is_stream_in, streams_from, streams_of as streams_among}
+use Rattle.pj_events.specs.History.{streams_of as streams_among}
 use Rattle.pj_events.specs.OneThread.{schema_of}
 use Rattle.pj_laws.specs.HistoryLaws.{schema_at}
 use Rattle.pj_join.specs.Joins.{join_data}
 use Rattle.pj_core.specs.Calls.{IsJoinInput}
 use Rattle.pj_core.specs.Cores.{CoreState}
-use Rattle.pj_core.specs.Plans.{RunPlan, certs_behind, nodes_of, nodes_with, operator_of}
+use Rattle.pj_core.specs.Plans.{RunPlan, nodes_of, operator_of}
 use Rattle.pj_core.proofs.Frames.{certs_at, operator-is}
 use Rattle.pj_core.proofs.Planned.{nodes-long}
-use Rattle.pj_core.proofs.Streams.{columns_there, number_below, stream-number, stream-there}
+use Rattle.pj_core.proofs.Streams.{columns_there, number_below, stream-number, stream-there, streams-with}
 use Rattle.pj_laws.specs.Seats.{HasInput, IsInputOf}
 
 -- ---- streams
-
-sort-same : (schemes : List (List (List Bool))) (certs : List (List CertStep)) (columns : List Column) (operation : Operation) → is_stream_in (operator_of schemes certs columns operation) ≡ is_stream operation
-sort-same schemes certs columns (StreamNode stated) = refl
-sort-same schemes certs columns (SelectNode input test) = refl
-sort-same schemes certs columns (ProjectNode input kept) = refl
-sort-same schemes certs columns (UnionNode ins) = refl
-sort-same schemes certs columns (JoinNode ins spec) = refl
-sort-same schemes certs columns (GroupNode input spec) = refl
-
-streams-with : (schemes : List (List (List Bool))) (certs : List (List (List CertStep))) (k : ℕ) (nodes : List PlanNode) → streams_from k (nodes_with schemes certs nodes) ≡ numbers_from is_stream k nodes
-streams-with schemes certs k [] = refl
-streams-with schemes certs k (node ∷ nodes) =
-    ap₂ (λ (b : Bool) (ns : List ℕ). cond b (k ∷ ns) ns) (sort-same schemes (get_or certs 0 []) node.schema node.node) (streams-with schemes (certs_behind node certs) (k + 1) nodes)
 
 -- the numbers of the streams are those of the plan
 pub streams-are : (plan : RunPlan) → streams_among (nodes_of plan) ≡ streams_of plan.nodes

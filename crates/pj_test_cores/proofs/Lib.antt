@@ -1,4 +1,1 @@
-pub mod ChainIs
-pub mod Triples
-pub mod Triangles
 pub mod SamplePlans

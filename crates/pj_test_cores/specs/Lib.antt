@@ -1,4 +1,1 @@
-pub mod Chain
-pub mod Triples
 pub mod SamplePlans
-pub mod Appends

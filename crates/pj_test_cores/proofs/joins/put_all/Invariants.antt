@@ -1,6 +1,0 @@
-use Rattle.std.proofs.Common.{◌≡◌}
-use Rattle.pj_test_cores.specs.Triples.{triple_join}
-use Rattle.pj_test_cores.proofs.joins.put_all.Given as goal
-
-abbrev pub invariant-loop-input : goal.invariant-loop-input
-invariant-loop-input l = l.join.spec ≡ triple_join

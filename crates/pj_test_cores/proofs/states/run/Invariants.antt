@@ -1,5 +1,0 @@
-use Rattle.std.proofs.Common.{◌≡◌, [], ◌∷◌}
-use Rattle.pj_test_cores.proofs.states.run.Given as goal
-
-abbrev pub invariant-loop-ticket : goal.invariant-loop-ticket
-invariant-loop-ticket l = l.state.columns ≡ 0 ∷ 1 ∷ []

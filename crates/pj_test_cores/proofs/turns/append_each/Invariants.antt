@@ -1,6 +1,0 @@
-use Rattle.std.proofs.Common.{◌≡◌}
-use Rattle.pj_turn.specs.Seats.{seat_name, seat_number}
-use Rattle.pj_test_cores.proofs.turns.append_each.Given as goal
-
-abbrev pub invariant-loop-value : goal.invariant-loop-value
-invariant-loop-value g l = (seat_name l.seat ≡ seat_name l.initial.seat) × (seat_number l.seat ≡ seat_number l.initial.seat)

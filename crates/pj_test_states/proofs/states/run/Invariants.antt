@@ -1,0 +1,5 @@
+use Rattle.std.proofs.Common.{◌≡◌, [], ◌∷◌}
+use Rattle.pj_test_states.proofs.states.run.Given as goal
+
+abbrev pub invariant-loop-ticket : goal.invariant-loop-ticket
+invariant-loop-ticket l = l.state.columns ≡ 0 ∷ 1 ∷ []
