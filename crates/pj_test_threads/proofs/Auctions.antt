@@ -1,15 +1,11 @@
--- The auction's plan behind a hub, and what may be fed to it.
-use Rattle.std.proofs.Common.{ℕ, ◌<◌, ◌≡◌, ◌++◌, Bool, true, false, List, [], ◌∷◌, Result, Ok, Err, length, get_or, refl, sym, ap, ◌∙◌, subst, arith}
+-- The auction's plan behind a hub.
+use Rattle.std.proofs.Common.{ℕ, ◌<◌, ◌≡◌, ◌++◌, Bool, true, false, List, [], ◌∷◌, Result, Ok, Err, length, get_or, sym, ap, ◌∙◌, subst, arith}
 use Rattle.std.specs.Prelude.{IfOk}
 use Rattle.std.proofs.lemmas.Bool.{false≢true}
 use Rattle.std.proofs.lemmas.List.{length-map}
-use Rattle.pj_value.specs.declared.values.Kind.{Kind}
 use Rattle.pj_shape.specs.declared.columns.Column.{Column}
 use Rattle.pj_shape.specs.declared.joins.CertStep.{CertStep}
 use Rattle.pj_shape.specs.Columns.{kinds_of}
-use Rattle.pj_pattern.specs.Fitting.{FitsKinds}
-use Rattle.pj_pattern.specs.declared.element.Element.{Element}
-use Rattle.pj_pattern.specs.declared.element.Element.TheVariants.{Tuple, Punct}
 use Rattle.pj_plan.specs.declared.node.Node.{Node as Operation}
 use Rattle.pj_plan.specs.declared.node.Node.TheVariants.{Stream as StreamNode, Select as SelectNode, Project as ProjectNode, Union as UnionNode, Join as JoinNode, Group as GroupNode}
 use Rattle.pj_plan.specs.declared.node.PlanNode.{PlanNode}
@@ -17,19 +13,15 @@ use Rattle.pj_plan.specs.Canonical.{no_node, node_schema}
 use Rattle.pj_plan.specs.Nodes.{inputs_of, is_join}
 use Rattle.pj_plan.specs.Sound.{IsSoundOperator, IsSoundPlan}
 use Rattle.pj_scheme.specs.Derived.{inputs_schemes, schemes_of}
-use Rattle.pj_events.specs.declared.events.Entry.{Entry}
-use Rattle.pj_events.specs.declared.events.Event.TheVariants.{Arrive}
 use Rattle.pj_events.specs.Join.{inputs}
-use Rattle.pj_events.specs.Plan.{IsClearOf, Node, Operator}
+use Rattle.pj_events.specs.Plan.{Operator}
 use Rattle.pj_join.specs.Joins.{join_data}
-use Rattle.pj_laws.specs.HistoryLaws.{schema_at}
-use Rattle.pj_laws.specs.Seats.{HasInput, IsInputOf, MayFeed, MayFeedAll, is_closed, seated}
-use Rattle.pj_laws.proofs.Feeding.{arrived-unclosed}
+use Rattle.pj_laws.specs.Seats.{HasInput, IsInputOf}
 use Rattle.pj_core.specs.Plans.{RunPlan, nodes_of, operator_of}
 use Rattle.pj_core.proofs.Frames.{certs_at, operator-is}
 use Rattle.pj_core.proofs.Planned.{nodes-long}
 use Rattle.pj_hub.proofs.Plans.{schema-is, streams-are}
-use Rattle.pj_test_threads.specs.Auctions.{HasJoin, IsAuction, IsAuctionPlan, IsPair}
+use Rattle.pj_test_threads.specs.Auctions.{HasJoin, IsAuction, IsAuctionPlan}
 
 -- ---- the plan
 
@@ -60,37 +52,6 @@ auction-of plan limit sound is = record {
   first = input-of plan sound 2 0 is.join (omega arith);
   second = input-of plan sound 2 1 is.join (omega arith);
 }
-
--- ---- what may be fed
-
--- an element may come first
-pub may-first : (nodes : List Node) (stream : ℕ) (kinds : List Kind) (own : List Entry) (element : Element) → kinds_of (schema_at nodes stream) ≡ kinds → own ≡ [] → FitsKinds kinds element → MayFeed nodes stream own element
-may-first nodes stream kinds own element same none fits =
-    subst (λ (es : List Entry). MayFeed nodes stream es element) (sym none)
-    (record { fits = subst (λ (ks : List Kind). FitsKinds ks element) (sym same) fits; clear = clear element; unclosed = refl })
-  where
-    clear : (e : Element) → IsClearOf [] e
-    clear (Tuple row) = λ punct i. absurd i
-    clear (Punct punct) = tt
-
--- a tuple and then a punctuation
-pub may-pair : (nodes : List Node) (stream : ℕ) (kinds : List Kind) (own : List Entry) (elements : List Element) → kinds_of (schema_at nodes stream) ≡ kinds → own ≡ [] → IsPair kinds elements → MayFeedAll nodes stream own elements
-may-pair nodes stream kinds own elements same none pair =
-    subst (MayFeedAll nodes stream own) (sym pair.is)
-    (subst (λ (es : List Entry). MayFeedAll nodes stream es (Tuple pair.row ∷ Punct pair.punct ∷ [])) (sym none)
-    (may-first nodes stream kinds [] (Tuple pair.row) same refl pair.row_fits, (second, closed-behind)))
-  where
-    one : List Entry
-    one = seated stream (Arrive stream (Tuple pair.row)) 0 ∷ []
-
-    unclosed : is_closed stream one ≡ false
-    unclosed = arrived-unclosed stream stream (Tuple pair.row) [] one refl refl
-
-    second : MayFeed nodes stream one (Punct pair.punct)
-    second = record { fits = subst (λ (ks : List Kind). FitsKinds ks (Punct pair.punct)) (sym same) pair.punct_fits; clear = tt; unclosed = unclosed }
-
-    closed-behind : is_closed stream (one ++ seated stream (Arrive stream (Punct pair.punct)) 0 ∷ []) ≡ false
-    closed-behind = arrived-unclosed stream stream (Punct pair.punct) one _ unclosed refl
 
 -- what holds of the one holds of the other
 pub if-ok : {A E : Type 0} (r : Result A E) (P Q : A → Type 0) → IfOk r P → ((a : A) → P a → Q a) → IfOk r Q
