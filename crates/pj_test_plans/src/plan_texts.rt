@@ -48,11 +48,11 @@ fn append_fault(fault: PlanFault, out: &mut List<u8>) -> Result<(), NoMemory> {
     out.append(words(fault.why).as_bytes())
 }
 
-// The canonical text of the plan that the bytes spell, or its fault.
+// The canonical text of a copy of the plan that the bytes spell, or its fault.
 fn answer(alloc: Global, bytes: &[u8]) -> Result<List<u8>, NoMemory> {
     let mut out = List::new(alloc);
     match read_plan(alloc, bytes) {
-        Ok(plan) => plan_text(alloc, &plan, &mut out)?,
+        Ok(plan) => plan_text(alloc, &plan.copy(alloc)?, &mut out)?,
         Err(PlanStop::Fault(fault)) => append_fault(fault, &mut out)?,
         Err(PlanStop::NoMemory) => return Err(NoMemory),
     }
@@ -88,7 +88,8 @@ fn good_plans() -> &'static str {
         "plan 1;stream s x:int y:text;select p s where x {2|1|1} y [\"\"..];output p => plan 1;stream s x:int y:text;select p s where x {1|2};output p;\n",
         "plan 1;stream s x:int y:text;select p s where y [\"\"..];output p => plan 1;stream s x:int y:text;select p s where x *;output p;\n",
         "plan 1;stream s x:int;select p s where x [..40] x [..9];output p => plan 1;stream s x:int;select p s where x [..9];output p;\n",
-        "plan 1;stream s x:int by:text;group g s by by of n=count m=min:x;output g => plan 1;stream s x:int by:text;group g s by by of n=count m=min:x;output g;",
+        "plan 1;stream s x:int by:text;group g s by by of n=count m=min:x;output g => plan 1;stream s x:int by:text;group g s by by of n=count m=min:x;output g;\n",
+        "plan 1;stream a x:int;scheme a +;stream b x:int;stream c y:int;union u a b;select f u where x [1..];project p f x;join j p c on x=y;group g j by x of n=count;output g; => =",
     )
 }
 
