@@ -6,7 +6,7 @@ use Rattle.pj_value.specs.Values.{value_eq}
 use Rattle.pj_shape.specs.Joining.{values_in, all_equal}
 use Rattle.pj_shape.specs.declared.joins.JoinSpec.{JoinSpec}
 use Rattle.pj_shape.specs.Sound.{AreOfOtherInputs, IsSoundSpec}
-use Rattle.pj_events.specs.Join.{In, TupleAt, ClassCol, Value, Part, no_value, values, part_of, agree}
+use Rattle.pj_events.specs.Join.{In, TupleAt, ClassCol, Value, Part, no_value, values, part_of, agree, CertEntry, need}
 use Rattle.pj_cover.specs.Suits.{has_there, all_have, suits_class, suits}
 use Rattle.pj_shape.proofs.Joining.{all_equal-from}
 use Rattle.pj_value.proofs.Orders.{same_if_equal, equal_if_same}
@@ -165,3 +165,7 @@ alone_agree spec x sound =
         let i : a.at.input ≡ b.at.input = sym a.same_input ∙ ap (λ (z : TupleAt). z.input) (sym p ∙ q) ∙ b.same_input in
         let same : a.at ≡ b.at = one-each class a.at b.at (sound.sound_classes class h).one_each a.of_class b.of_class i in
         sym a.value ∙ ap (λ (z : TupleAt). get_or z.row a.at.column no_value) (sym p ∙ q) ∙ ap (λ (c : ClassCol). get_or b.tuple.row c.column no_value) same ∙ b.value
+
+-- so it asks for what it asks for where it joins
+pub need_alone : (spec : JoinSpec) (rows : List TupleAt) (cert : List CertEntry) (x : TupleAt) → IsSoundSpec spec → need spec.classes rows cert (x ∷ []) ≡ cond (agree spec.classes (x ∷ [])) (need spec.classes rows cert (x ∷ [])) []
+need_alone spec rows cert x sound = ap (λ b. cond b (need spec.classes rows cert (x ∷ [])) []) (sym (alone_agree spec x sound))

@@ -9,12 +9,13 @@ use Rattle.pj_value.specs.declared.values.Value.{Value}
 use Rattle.pj_value.specs.Values.{value_eq}
 use Rattle.pj_value.proofs.Members.{In-append_cases, In-append_left, In-append_right}
 use Rattle.pj_value.proofs.Orders.{equal_itself, same_if_equal}
+use Rattle.pj_value.specs.Options.{is_value}
 use Rattle.pj_pattern.specs.declared.pattern.Form.TheVariants.{Wild, Empty, Constant as Fixed, Range, Members}
 use Rattle.pj_events.specs.Patterns.{Pattern, all_wild, covers, is_wild, matches_value}
 use Rattle.pj_cover.specs.Prints.{cell_at, constant_in}
 use Rattle.pj_cover.specs.Stores.{AllAbove, AreRising, IsAbove}
 use Rattle.pj_cover.specs.Indexed.{IsCovering, IsFiled, IsUnfiled, first_covering, is_below, least}
-use Rattle.pj_cover.specs.Numbers.{HasNone, are_wild, constant, has_only, is_alone, is_value, number_of, numbers_in, numbers_with, same_constant, told, with_last}
+use Rattle.pj_cover.specs.Numbers.{HasNone, are_wild, constant, has_only, is_alone, number_of, numbers_in, numbers_with, same_constant, told, with_last}
 use Rattle.pj_cover.specs.Alone.{AreSame, HasMore, HasTaken, IsAlone, IsStored, alone, entered, first_in_cell, first_told, in_order, kept_of, least_in, only, placed}
 use Rattle.pj_cover.specs.Alike.{constant_equal_itself, constant_same_if_equal}
 use Rattle.pj_cover.specs.declared.index.Index.{Index}

@@ -1,7 +1,8 @@
 -- Whether a punctuation of an input covers an instance, by the input's own store.
-use Rattle.std.proofs.Common.{ℕ, zero, suc, ◌+◌, ◌<◌, ◌≤◌, Bool, true, false, cond, ◌&&◌, ◌||◌, List, [], ◌∷◌, ◌++◌, ◌≡◌, Option, map, filter, length, get_or, refl, sym, ap, ap₂, ◌∙◌, inl, inr, eqb, ltb, arith}
+use Rattle.std.proofs.Common.{ℕ, zero, suc, ◌+◌, ◌<◌, ◌≤◌, Bool, true, false, cond, ◌&&◌, ◌||◌, List, [], ◌∷◌, ◌≡◌, Option, map, filter, length, get_or, refl, sym, ap, ap₂, ◌∙◌, inl, inr, eqb, ltb, arith}
 use Rattle.std.specs.List.{list_any}
 use Rattle.std.proofs.lemmas.Bool.{eqb-true, eq-eqb, false_from_ne_true, and_parts}
+use Rattle.std.proofs.lemmas.List.Folds.{list_any-append}
 use Rattle.pj_value.specs.declared.values.Value.{Value}
 use Rattle.pj_value.proofs.Members.{In-append_cases, In-map, none_from}
 use Rattle.pj_events.specs.Patterns.{covers}
@@ -19,17 +20,9 @@ any-filter {A} p q (x ∷ xs) = go (p x) (any-filter p q xs)
     go true e = ap (λ (b : Bool). q x || b) e
     go false e = e
 
-or-assoc : (a b c : Bool) → ((a || b) || c) ≡ (a || (b || c))
-or-assoc true b c = refl
-or-assoc false b c = refl
-
 or-false : (a : Bool) → (a || false) ≡ a
 or-false true = refl
 or-false false = refl
-
-any-append : {A : Type 0} (p : A → Bool) (xs ys : List A) → list_any p (xs ++ ys) ≡ (list_any p xs || list_any p ys)
-any-append p [] ys = refl
-any-append p (x ∷ xs) ys = ap (λ b. p x || b) (any-append p xs ys) ∙ sym (or-assoc (p x) (list_any p xs) (list_any p ys))
 
 -- whether a punctuation of this input, below the low-water ticket, covers the instance
 abbrev test : ℕ → ℕ → List (Option Value) → PunctAt → Bool
@@ -61,14 +54,14 @@ own-only [] from k low instance d lt = absurd (omega (arith, lt))
 own-only (s ∷ stores) from zero low instance d lt =
     let n : from + 0 ≡ from = omega arith in
     ap (λ i. list_any (test i low instance) (puncts_from from (s ∷ stores))) n
-    ∙ any-append (test from low instance) (map (punct_of from) s.kept) (puncts_from (from + 1) stores)
+    ∙ list_any-append (test from low instance) (map (punct_of from) s.kept) (puncts_from (from + 1) stores)
     ∙ ap₂ (λ a b. a || b) (own from low instance s.kept)
     (none_from (test from low instance) (puncts_from (from + 1) stores) (λ p h. other-fails from low instance p (λ e. let le : from + 1 ≤ p.input = from-on stores (from + 1) p h in omega (arith, le, e))))
     ∙ or-false (covered_below s.kept low instance)
 own-only (s ∷ stores) from (suc k) low instance d lt =
     let n : from + suc k ≡ from + 1 + k = omega arith in
     ap (λ i. list_any (test i low instance) (puncts_from from (s ∷ stores))) n
-    ∙ any-append (test (from + 1 + k) low instance) (map (punct_of from) s.kept) (puncts_from (from + 1) stores)
+    ∙ list_any-append (test (from + 1 + k) low instance) (map (punct_of from) s.kept) (puncts_from (from + 1) stores)
     ∙ ap₂ (λ a b. a || b)
     (none_from (test (from + 1 + k) low instance) (map (punct_of from) s.kept) (λ p h. other-fails (from + 1 + k) low instance p (λ e.
     let m = In-map (punct_of from) p s.kept h in

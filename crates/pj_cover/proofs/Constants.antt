@@ -2,18 +2,16 @@
 use Rattle.std.proofs.Common.{◌≡◌, ◌+◌, ◌≤◌, ℕ, suc, zero, Bool, true, false, List, [], ◌∷◌, ◌++◌, length, take, Some, None, refl, sym, ap, ◌∙◌, arith, append_assoc, length-append}
 use Rattle.std.specs.List.{slice_get}
 use Rattle.std.proofs.lemmas.Option.{get_or_from_slice_get}
+use Rattle.std.proofs.lemmas.List.{append-nil}
 use Rattle.pj_value.specs.declared.values.Value.{Value}
 use Rattle.pj_events.specs.Join.{TupleAt, ClassCol, class_with, constant, instance_from}
-use Rattle.pj_cover.specs.Givens.{instance_of, marked}
+use Rattle.pj_cover.specs.Givens.{marked}
 use Rattle.pj_cover.specs.Asking.{constant_if, constants_in}
+use Rattle.pj_shape.specs.Instances.{instance_of}
 
 if-length : (mark : Bool) (classes : List (List ClassCol)) (input column : ℕ) (xs : List TupleAt) → length (constant_if mark classes input column xs) ≤ 1
 if-length true classes input column xs = omega arith
 if-length false classes input column xs = omega arith
-
-append-nil : {A : Type 0} (xs : List A) → xs ++ [] ≡ xs
-append-nil [] = refl
-append-nil (x ∷ xs) = ap (λ ys. x ∷ ys) (append-nil xs)
 
 constants-more : (classes : List (List ClassCol)) (input column : ℕ) (marks : List Bool) (xs : List TupleAt) (k : ℕ) (mark : Bool) → slice_get marks k ≡ Some mark
     → constants_in classes input column (take (k + 1) marks) xs ≡ constants_in classes input column (take k marks) xs ++ constant_if mark classes input (column + k) xs

@@ -5,7 +5,8 @@ use Rattle.pj_value.specs.declared.values.Value.{Value}
 use Rattle.std.proofs.Math.Bool.{and-false}
 use Rattle.std.proofs.lemmas.Option.{get_or_from_slice_get}
 use Rattle.pj_events.specs.Patterns.{Pattern, covers, is_wild, matches_value}
-use Rattle.pj_cover.specs.Givens.{instance_of, cell_of, covers_cell}
+use Rattle.pj_cover.specs.Givens.{cell_of, covers_cell}
+use Rattle.pj_shape.specs.Instances.{instance_of}
 
 pub instance_length : (marks : List Bool) (vs : List Value) → length (instance_of marks vs) ≡ length marks
 instance_length [] vs = refl

@@ -1,7 +1,7 @@
 -- One punctuation more in an index.
 use Rattle.std.proofs.Common.{◌≡◌, ◌⊎◌, ℕ, zero, suc, ◌+◌, ◌<◌, ◌≤◌, Bool, true, false, cond, List, [], ◌∷◌, ◌++◌, Option, Some, None, Result, Ok, Err, IfOk, OnErr, inl, inr, length, get_or, set, eqb, refl, ap, sym, ◌∙◌, subst, arith, length-append}
 use Rattle.std.specs.List.{slice_get}
-use Rattle.std.proofs.lemmas.Bool.{cases_lt, eqb-true}
+use Rattle.std.proofs.lemmas.Bool.{cases_lt}
 use Rattle.std.proofs.lemmas.List.{get_or_append_left, get_or_default, set-get_or}
 use Rattle.std.proofs.lemmas.Option.{slice_get-get_or}
 use Rattle.indexmap.specs.IndexMap.{get}
@@ -82,18 +82,6 @@ slot_leads_here kept at print s q fits lt is print_is found k cells e u =
       ap (get eqb s.places) (print_same s.marks q.punct cells (fits q (there kept at q lt is)) own ∙ sym print_is) ∙ found,
       record { punct = k; there = e; covers_too = u },
     )
-
--- what was found under other prints still is
-pub slot_grows : (old new : ConstantSet) (print : ℕ) (o : Option ℕ) → new.marks ≡ old.marks → get eqb old.places print ≡ None → ((p : ℕ) → get eqb new.places p ≡ cond (eqb print p) o (get eqb old.places p)) → Grows (IsInSlot old) (IsInSlot new)
-slot_grows old new print o marks none writes cells a h =
-    ap (λ (ms : List Bool). get eqb new.places (print_of ms cells)) marks ∙ (writes (print_of old.marks cells) ∙ go (eqb print (print_of old.marks cells)) refl)
-  where
-    go : (b : Bool) → eqb print (print_of old.marks cells) ≡ b → cond b o (get eqb old.places (print_of old.marks cells)) ≡ Some a
-    go false e = h
-    go true e = absurd (none-some a (sym none ∙ (ap (get eqb old.places) (eqb-true print (print_of old.marks cells) e) ∙ h)))
-      where
-        none-some : (n : ℕ) → None ≡ Some n → ⊥
-        none-some n q = cc
 
 in-sets-set : (xs : List ConstantSet) (i : ℕ) (s d : ConstantSet) (cells : List (Option Value)) (a : ℕ) → (slot cells (get_or xs i d) ≡ Some a → slot cells s ≡ Some a) → InSets cells a xs → InSets cells a (set xs i s)
 in-sets-set [] i s d cells a f h = h

@@ -98,10 +98,6 @@ done_more k e cert at xs ys i y o here done j none z h m =
 pub found_with : (k : Known) (e : CertEntry) (cert : List CertEntry) (at : ℕ) (xs ys : List TupleAt) (y : TupleAt) (o : Option Uncovered) (u : Uncovered) → IsJudgedWith k (e ∷ cert) at xs y o → o ≡ Some u → IsJudgedThrough k (e ∷ cert) at xs ys (Some u)
 found_with k e cert at xs ys y o u j some = subst (λ (p : Option Uncovered). IsJudgedWith k (e ∷ cert) at xs y p) some j
 
--- a row that may not stand for the entry
-pub judged_late : (k : Known) (e : CertEntry) (cert : List CertEntry) (at : ℕ) (xs : List TupleAt) (y : TupleAt) → k.low ≤ y.ticket → IsJudgedWith k (e ∷ cert) at xs y None
-judged_late k e cert at xs y le m = let lt : y.ticket < k.low = m.below in absurd (omega (arith, le, lt))
-
 pub judged_apart : (k : Known) (e : CertEntry) (cert : List CertEntry) (at : ℕ) (xs : List TupleAt) (y : TupleAt) → (agree k.classes (y ∷ xs) ≡ true → ⊥) → IsJudgedWith k (e ∷ cert) at xs y None
 judged_apart k e cert at xs y f m = absurd (f m.joins)
 

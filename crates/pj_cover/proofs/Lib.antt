@@ -1,4 +1,3 @@
-pub mod CellValues
 pub mod Cellwise
 pub mod Chains
 pub mod Lookups

@@ -9,6 +9,7 @@ use Rattle.pj_value.specs.declared.values.Value.{Value}
 use Rattle.pj_value.specs.Values.{value_eq}
 use Rattle.pj_value.proofs.Members.{in-place, In-append_cases, In-append_right, In-filter_from, In-flat_map_from, In-map, In-map_from}
 use Rattle.pj_value.proofs.Orders.{equal_itself}
+use Rattle.pj_value.specs.Options.{is_value}
 use Rattle.pj_shape.specs.declared.joins.JoinSpec.{JoinSpec}
 use Rattle.pj_shape.specs.Joining.{values_in}
 use Rattle.pj_shape.specs.Sound.{IsSoundSpec, arities_of}
@@ -16,15 +17,10 @@ use Rattle.pj_events.specs.Join.{In, TupleAt, ClassCol, CertEntry, CertStep, agr
 use Rattle.pj_join_laws.proofs.Matching.{agree-at, value-in}
 use Rattle.pj_cover.specs.declared.rows.Uncovered.{Uncovered}
 use Rattle.pj_cover.specs.Stores.{Store}
-use Rattle.pj_cover.specs.Rising.{AreAbove, AreRisingRows, has_there_value, is_there, row_with, ticket_in, tickets_with}
-use Rattle.pj_cover.specs.Asking.{Known, AreDoneUnder, AreParts, IsOnWalk, ClassTells, HaveLength, HavePartners, IsJudgedThrough, IsJudgedUnder, IsJudgedWith, IsOpen, IsPartnerKey, MayStand, all_covered, entries, first_there, or_else, there, tuple_of}
+use Rattle.pj_cover.specs.Rising.{AreAbove, AreRisingRows, has_there_value, row_with, ticket_in, tickets_with}
+use Rattle.pj_cover.specs.Asking.{Known, AreDoneUnder, AreParts, IsOnWalk, ClassTells, HaveLength, HavePartners, IsJudgedThrough, IsJudgedUnder, IsJudgedWith, IsPartnerKey, MayStand, all_covered, entries, first_there, or_else, there, tuple_of}
 use Rattle.pj_cover.proofs.Bound.{class-cells, there-values}
 use Rattle.pj_cover.proofs.Steps.{drop_here, length-map}
-
--- a column that stands at a place of a class
-pub found_column : (class : List ClassCol) (i : ℕ) (d : ClassCol) (input : ℕ) → i < length class → (get_or class i d).input ≡ input → In (record { input = input; column = (get_or class i d).column }) class
-found_column class i d input lt same =
-    subst (λ (c : ClassCol). In c class) (ap (λ (n : ℕ). record { input = n; column = (get_or class i d).column }) same) (in-place class d i lt)
 
 pub told_by_class : (classes : List (List ClassCol)) (xs : List TupleAt) (class : List ClassCol) (i input column : ℕ) (value : Value) → i < length classes → class ≡ get_or classes i class → ClassTells class xs input column value
     → IsPartnerKey classes xs input column value
@@ -72,9 +68,9 @@ have_partners spec xs rows input column value sound fit key y h joins =
       | inr n ↦ absurd n
     ] in
     let lt : column < length y.row = class-cells spec key.0 (y ∷ []) sound key.1 fits (record { input = input; column = column }) key.2.0 y (inl refl) of in
-    let have : is_there value (slice_get y.row column) ≡ true =
-    ap (is_there value) (slice_get-get_or y.row column no_value lt) ∙ ap (λ (v : Value). value_eq v value) (partner-value spec.classes xs y input column value key of joins) ∙ equal_itself value in
-    let its : has_there_value column value r.0 ≡ true = ap (λ (z : TupleAt). is_there value (slice_get z.row column)) r.2 ∙ have in
+    let have : is_value value (slice_get y.row column) ≡ true =
+    ap (is_value value) (slice_get-get_or y.row column no_value lt) ∙ ap (λ (v : Value). value_eq v value) (partner-value spec.classes xs y input column value key of joins) ∙ equal_itself value in
+    let its : has_there_value column value r.0 ≡ true = ap (λ (z : TupleAt). is_value value (slice_get z.row column)) r.2 ∙ have in
     subst (λ (n : ℕ). In n (tickets_with column value rows)) (ap (λ (z : TupleAt). z.ticket) r.2) (In-map_from ticket_in r.0 (filter (has_there_value column value) rows) (In-filter_from (has_there_value column value) r.0 rows r.1 its))
 
 pub partners_told : (spec : JoinSpec) (xs : List TupleAt) (rows : List (ℕ × List Value)) (input column : ℕ) (value : Value) (tickets : Option (Bor (List ℕ))) → IsSoundSpec spec → HaveLength (get_or (arities_of spec.inputs) input 0) rows
@@ -174,10 +170,6 @@ one_more_under k cert at xs zs ys tickets n ticket o here same done j none =
     subst (λ (ws : List TupleAt). AreDoneUnder k cert ws ys (ticket ∷ [])) same (subst (λ (p : Option Uncovered). IsJudgedUnder k cert at zs ys (ticket ∷ []) p) none j) in
     subst (λ (ts : List ℕ). AreDoneUnder k cert xs ys ts) (sym (take_more tickets n ticket (slice_get_within tickets n ticket here) ∙ ap (λ t. take n tickets ++ t ∷ []) (get_or_from_slice_get tickets n ticket ticket here)))
     (under-more k cert xs ys (take n tickets) ticket done now)
-
-pub found_under : (k : Known) (cert : List CertEntry) (at : ℕ) (xs zs ys : List TupleAt) (tickets : List ℕ) (o : Option Uncovered) (u : Uncovered) → zs ≡ xs → IsJudgedUnder k cert at zs ys tickets o → o ≡ Some u → IsOpen k cert at xs u
-found_under k cert at xs zs ys tickets o u same j some =
-    subst (λ (ws : List TupleAt). IsOpen k cert at ws u) same (subst (λ (p : Option Uncovered). IsJudgedUnder k cert at zs ys tickets p) some j)
 
 under-whole : (k : Known) (cert : List CertEntry) (at : ℕ) (xs ys : List TupleAt) (tickets : List ℕ) (o : Option Uncovered) → HavePartners k.classes xs ys tickets → IsJudgedUnder k cert at xs ys tickets o → IsJudgedThrough k cert at xs ys o
 under-whole k cert at xs ys tickets (Some u) have j = j

@@ -15,7 +15,7 @@ use Rattle.pj_cover.specs.Asking.{Known, AreParts, AreDone, IsJudged, IsJudgedTh
 use Rattle.pj_cover.proofs.Agreeing.{front_agree, front_suits}
 use Rattle.pj_cover.proofs.Stored.{in-tuples, tuples-in}
 use Rattle.pj_cover.proofs.Steps.{length-map, drop_here, step_ready, walk_more}
-use Rattle.pj_cover.proofs.Judged.{judged_here, judged_through, done_last, done_start, done_more, found_with, judged_late, judged_apart, judged_with, open_fewer}
+use Rattle.pj_cover.proofs.Judged.{judged_here, judged_through, done_last, done_start, done_more, judged_apart, judged_with, open_fewer}
 
 abbrev pub Rows : Type 0
 Rows = ℕ → List (ℕ × List Value)
@@ -89,19 +89,7 @@ one_more k schemes cert at step xs zs rs n r o here row same done j none =
 pub all_gone : (k : Known) (cert : List CertEntry) (xs ys : List TupleAt) (n : ℕ) → length ys ≤ n → AreDone k cert xs (take n ys) → AreDone k cert xs ys
 all_gone k cert xs ys n le done = subst (λ (zs : List TupleAt). AreDone k cert xs zs) (take_all n ys le) done
 
-pub found_through : (k : Known) (schemes : List (List (List Bool))) (cert : List CertStep) (at : ℕ) (step : CertStep) (xs zs : List TupleAt) (y : TupleAt) (o : Option Uncovered) (u : Uncovered)
-    → slice_get cert at ≡ Some step → zs ≡ xs → IsJudgedWith k (entries schemes (drop at cert)) at zs y o → o ≡ Some u → IsOpen k (entries schemes (drop at cert)) at xs u
-found_through k schemes cert at step xs zs y o u here same j some =
-    subst (λ (steps : List CertStep). IsOpen k (entries schemes steps) at xs u) (sym (drop_here cert at step here))
-    (found_with k (entry_of schemes step) (entries schemes (drop (at + 1) cert)) at xs [] y o u
-    (subst (λ (steps : List CertStep). IsJudgedWith k (entries schemes steps) at xs y o) (drop_here cert at step here)
-    (subst (λ (ws : List TupleAt). IsJudgedWith k (entries schemes (drop at cert)) at ws y o) same j)) some)
-
 -- ---- with one row
-
-pub too_late : (k : Known) (schemes : List (List (List Bool))) (cert : List CertStep) (at : ℕ) (step : CertStep) (xs : List TupleAt) (y : TupleAt) → slice_get cert at ≡ Some step → k.low ≤ y.ticket
-    → IsJudgedWith k (entries schemes (drop at cert)) at xs y None
-too_late k schemes cert at step xs y here le = subst (λ (steps : List CertStep). IsJudgedWith k (entries schemes steps) at xs y None) (sym (drop_here cert at step here)) (judged_late k (entry_of schemes step) (entries schemes (drop (at + 1) cert)) at xs y le)
 
 pub not_suited : (k : Known) (schemes : List (List (List Bool))) (cert : List CertStep) (at : ℕ) (step : CertStep) (xs : List TupleAt) (y : TupleAt) → slice_get cert at ≡ Some step → suits k.classes xs y ≡ false
     → IsJudgedWith k (entries schemes (drop at cert)) at xs y None

@@ -9,12 +9,15 @@ use Rattle.std.proofs.lemmas.Map.Steps.{length-le_from_distinct_below}
 use Rattle.pj_value.specs.declared.values.Value.{Value}
 use Rattle.pj_value.proofs.Members.{any_at, any_from}
 use Rattle.pj_shape.specs.declared.joins.JoinSpec.{JoinSpec}
-use Rattle.pj_shape.specs.Sound.{arities_of}
-use Rattle.pj_events.specs.Join.{In, TupleAt, CertStep, AreListedOnce, IsCertified, IsWalk, agree}
+use Rattle.pj_shape.specs.Sound.{arities_of, FitSchemes}
+use Rattle.pj_shape.specs.Certificates.{IsCertificate}
+use Rattle.pj_events.specs.Join.{In, TupleAt, CertStep, agree}
 use Rattle.pj_cover.specs.Stores.{Store}
-use Rattle.pj_cover.specs.Asking.{AreParts, IsOnWalk, IsStep, data_of, entries, inputs_of, marks_of}
+use Rattle.pj_cover.specs.Asking.{AreParts, IsOnWalk, IsStep, entries, inputs_of, marks_of}
 use Rattle.pj_cover.proofs.Agreeing.{alone_agree}
 use Rattle.pj_cover.proofs.Bound.{are_found}
+use Rattle.pj_join_laws.specs.Walks.{AreListedOnce, IsWalk}
+use Rattle.pj_join_laws.proofs.Walks.{is_certified}
 
 pub listed_input : {A : Type 0} (schemes : List (List A)) (input scheme : ℕ) → scheme < length (get_or schemes input []) → input < length schemes
 listed_input [] input scheme lt = absurd (omega (arith, lt))
@@ -68,7 +71,7 @@ walk_more spec schemes step steps xs y walk i fit joined =
     let few : length xs + length (step ∷ steps) ≤ 16 = walk.few in
     record {
       listed = subst (λ (n : ℕ). AreListedOnce schemes steps (n ∷ inputs_of xs)) (sym i) walk.listed.2;
-      walk = subst (λ (n : ℕ). IsWalk (data_of spec schemes) (entries schemes steps) (n ∷ inputs_of xs)) (sym i) walk.walk.3;
+      walk = subst (λ (n : ℕ). IsWalk spec (entries schemes steps) (n ∷ inputs_of xs)) (sym i) walk.walk.3;
       fit = λ x h. elim h [ inl q ↦ subst (λ (z : TupleAt). length z.row ≡ get_or (arities_of spec.inputs) z.input 0) q fit | inr k ↦ walk.fit x k ];
       joined = joined;
       few = omega (arith, few);
@@ -80,7 +83,7 @@ apart-from : (x : ℕ) (ns : List ℕ) → ¬ In x ns → AllByRecursion (λ y. 
 apart-from x [] f = tt
 apart-from x (n ∷ ns) f = (false_from_ne_true (eqb x n) (λ t. f (inl (sym (eqb-true x n t)))), apart-from x ns (λ h. f (inr h)))
 
-pub few_steps : (spec : JoinSpec) (schemes : List (List (List Bool))) (steps : List CertStep) (known : List ℕ) → AreListedOnce schemes steps known → IsWalk (data_of spec schemes) (entries schemes steps) known
+pub few_steps : (spec : JoinSpec) (schemes : List (List (List Bool))) (steps : List CertStep) (known : List ℕ) → AreListedOnce schemes steps known → IsWalk spec (entries schemes steps) known
     → IsDistinct eqb known → ((q : ℕ) → list_any (eqb q) known ≡ true → q < length (arities_of spec.inputs)) → length known + length steps ≤ length (arities_of spec.inputs)
 few_steps spec schemes [] known listed walk apart below = let le : length known ≤ length (arities_of spec.inputs) = length-le_from_distinct_below known (length (arities_of spec.inputs)) apart below in omega (arith, le)
 few_steps spec schemes (step ∷ steps) known listed walk apart below =
@@ -95,16 +98,17 @@ few_steps spec schemes (step ∷ steps) known listed walk apart below =
 
 -- the certificate of a row that fits its input
 pub walk_starts : (spec : JoinSpec) (schemes : List (List (List Bool))) (rows : ℕ → List (ℕ × List Value)) (stores : List Store) (steps : List CertStep) (x : TupleAt)
-    → AreParts spec rows stores → x.input < length spec.inputs → IsCertified (data_of spec schemes) x.input steps → length x.row ≡ get_or (arities_of spec.inputs) x.input 0 → IsOnWalk spec schemes steps (x ∷ [])
+    → AreParts spec rows stores → x.input < length spec.inputs → FitSchemes spec.inputs schemes → IsCertificate spec schemes x.input steps → length x.row ≡ get_or (arities_of spec.inputs) x.input 0 → IsOnWalk spec schemes steps (x ∷ [])
 unfolding IsDistinct
-walk_starts spec schemes rows stores steps x parts within cert fit =
+walk_starts spec schemes rows stores steps x parts within schemed certificate fit =
+    let cert = is_certified spec schemes x.input steps parts.sound.apart schemed certificate in
     let count : length (arities_of spec.inputs) ≡ length spec.inputs = length-map length spec.inputs in
     let most : length spec.inputs ≤ 16 = parts.sound.few_inputs.1 in
-    let few : 1 + length steps ≤ length (arities_of spec.inputs) = few_steps spec schemes steps (x.input ∷ []) cert.0 cert.1 (IsDistinct-cons eqb x.input [] tt tt)
+    let few : 1 + length steps ≤ length (arities_of spec.inputs) = few_steps spec schemes steps (x.input ∷ []) cert.listed cert.walk (IsDistinct-cons eqb x.input [] tt tt)
     (λ q t. let m = any_at (eqb q) (x.input ∷ []) t in let e : q ≡ m.0 = eqb-true q m.0 m.2 in only q m.0 m.1 e) in
     record {
-      listed = cert.0;
-      walk = cert.1;
+      listed = cert.listed;
+      walk = cert.walk;
       fit = λ z h. elim h [ inl q ↦ subst (λ (y : TupleAt). length y.row ≡ get_or (arities_of spec.inputs) y.input 0) q fit | inr n ↦ absurd n ];
       joined = alone_agree spec x parts.sound;
       few = omega (arith, few, most, count);

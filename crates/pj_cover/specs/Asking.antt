@@ -6,10 +6,11 @@ use Rattle.pj_value.specs.Lists.{In}
 use Rattle.pj_shape.specs.declared.joins.JoinSpec.{JoinSpec}
 use Rattle.pj_shape.specs.Joining.{has_column}
 use Rattle.pj_shape.specs.Sound.{IsSoundSpec, arities_of}
-use Rattle.pj_events.specs.Join.{TupleAt, PunctAt, ClassCol, CertStep, CertEntry, JoinData, Demand, AreListedOnce, IsWalk, agree, constant, class_with, covered, demand, entry_of, need, older, older_puncts}
+use Rattle.pj_events.specs.Join.{TupleAt, PunctAt, ClassCol, CertStep, CertEntry, Demand, agree, constant, class_with, covered, demand, entry_of, need, older, older_puncts}
 use Rattle.pj_cover.specs.Stores.{Store}
 use Rattle.pj_cover.specs.declared.store.NumberedPunct.{NumberedPunct}
 use Rattle.pj_cover.specs.declared.rows.Uncovered.{Uncovered}
+use Rattle.pj_join_laws.specs.Walks.{AreListedOnce, IsWalk}
 
 -- ---- rows and punctuations of all inputs
 
@@ -32,10 +33,6 @@ punct_of input k = record { ticket = k.number; input = input; patterns = k.punct
 abbrev pub puncts_from : ℕ → List Store → List PunctAt
 puncts_from input [] = []
 puncts_from input (s ∷ stores) = map (punct_of input) s.kept ++ puncts_from (input + 1) stores
-
--- a join of this shape whose inputs have these schemes
-abbrev pub data_of : JoinSpec → List (List (List Bool)) → JoinData
-data_of spec schemes = record { shape = spec; schemes = schemes; certs = []; propagates = false }
 
 -- the certificate of these steps
 abbrev pub entries : List (List (List Bool)) → List CertStep → List CertEntry
@@ -194,7 +191,7 @@ inputs_of xs = map (λ x. x.input) xs
 -- these steps go on with a certificate from these rows, which fit, and join
 pub record IsOnWalk (spec : JoinSpec) (schemes : List (List (List Bool))) (steps : List CertStep) (xs : List TupleAt) : Type 0 where
   pub listed : AreListedOnce schemes steps (inputs_of xs)
-  pub walk : IsWalk (data_of spec schemes) (entries schemes steps) (inputs_of xs)
+  pub walk : IsWalk spec (entries schemes steps) (inputs_of xs)
   pub fit : (x : TupleAt) → In x xs → length x.row ≡ slice_index (arities_of spec.inputs) x.input
   pub joined : agree spec.classes xs ≡ true
   pub few : length xs + length steps ≤ 16

@@ -15,13 +15,6 @@ AreLent [] = Unit {0}
 AreLent (None ∷ places) = ⊥
 AreLent (Some v ∷ places) = AreLent places
 
--- the instance of the scheme with these marks whose constants are these values, in order
-abbrev pub instance_of : List Bool → List Value → List (Option Value)
-instance_of [] vs = []
-instance_of (false ∷ marks) vs = None ∷ instance_of marks vs
-instance_of (true ∷ marks) [] = None ∷ instance_of marks []
-instance_of (true ∷ marks) (v ∷ vs) = Some v ∷ instance_of marks vs
-
 -- the cell of a column in an instance: the next constant where it is marked
 abbrev pub cell_of : Bool → Option Value → Option Value
 cell_of false constant = None

@@ -3,16 +3,12 @@ use Rattle.std.specs.Prelude.{ℕ, zero, suc, ◌≡◌, Bool, true, false, ◌&
 use Rattle.indexmap.specs.IndexMap.{get}
 use Rattle.pj_value.specs.Values.{value_eq}
 use Rattle.pj_value.specs.declared.values.Value.{Value}
+use Rattle.pj_value.specs.Options.{is_value}
 use Rattle.pj_events.specs.Patterns.{Pattern, is_wild}
 use Rattle.pj_cover.specs.Prints.{constant_in, with_value}
 use Rattle.pj_cover.specs.declared.store.NumberedPunct.{NumberedPunct}
 use Rattle.pj_cover.specs.declared.numbers.Constant.{Constant}
 use Rattle.pj_cover.specs.declared.numbers.NumberLists.{NumberLists}
-
--- the value is there, and is this one
-abbrev pub is_value : Value → Option Value → Bool
-is_value value None = false
-is_value value (Some there) = value_eq there value
 
 -- wildcards alone
 abbrev pub are_wild : List Pattern → Bool

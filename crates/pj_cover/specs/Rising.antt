@@ -1,7 +1,7 @@
 -- Rows in order of their tickets.
-use Rattle.std.specs.Prelude.{ℕ, ◌<◌, ◌==◌, if◌then◌else◌, Bool, false, Option, Some, None, List, [], ◌∷◌, filter, map, slice_get}
+use Rattle.std.specs.Prelude.{ℕ, ◌<◌, ◌==◌, if◌then◌else◌, Bool, Option, Some, None, List, [], ◌∷◌, filter, map, slice_get}
 use Rattle.pj_value.specs.declared.values.Value.{Value}
-use Rattle.pj_value.specs.Values.{value_eq}
+use Rattle.pj_value.specs.Options.{is_value}
 
 -- each row has a ticket above this one
 abbrev pub AreAbove : ℕ → List (ℕ × List Value) → Type 0
@@ -18,14 +18,9 @@ AreRisingRows (r ∷ rs) = AreAbove r.0 rs × AreRisingRows rs
 abbrev pub ticket_in : ℕ × List Value → ℕ
 ticket_in r = r.0
 
--- the value is there, and is this one
-abbrev pub is_there : Value → Option Value → Bool
-is_there value None = false
-is_there value (Some there) = value_eq there value
-
 -- the row has this value in this column
 abbrev pub has_there_value : ℕ → Value → ℕ × List Value → Bool
-has_there_value column value r = is_there value (slice_get r.1 column)
+has_there_value column value r = is_value value (slice_get r.1 column)
 
 -- the tickets of the rows with this value in this column
 abbrev pub tickets_with : ℕ → Value → List (ℕ × List Value) → List ℕ

@@ -1,13 +1,9 @@
 -- Whether a row joins with rows that join.
-use Rattle.std.specs.Prelude.{Bool, not, ◌==◌, ◌&&◌, ◌||◌, List, [], Option, Some, None}
+pub use Rattle.pj_shape.specs.Joining.{cell_value}
+use Rattle.std.specs.Prelude.{Bool, not, ◌==◌, ◌&&◌, ◌||◌, List}
 use Rattle.std.specs.List.{list_all}
 use Rattle.pj_value.specs.Values.{value_eq}
-use Rattle.pj_events.specs.Join.{ClassCol, TupleAt, Value, no_value, value_at}
-
--- the value of a cell, where one that is not there has the empty text
-abbrev pub cell_value : Option Value → Value
-cell_value None = no_value
-cell_value (Some v) = v
+use Rattle.pj_events.specs.Join.{ClassCol, TupleAt, Value, value_at}
 
 -- the row has this value in the column, where that is a column of its input
 abbrev pub has_there : Value → ClassCol → TupleAt → Bool
@@ -24,8 +20,3 @@ suits_class xs more class = list_all (λ at. not (more.input == at.input) || all
 -- whether the row joins with these, which join with each other
 abbrev pub suits : List (List ClassCol) → List TupleAt → TupleAt → Bool
 suits classes xs more = list_all (suits_class xs more) classes
-
--- the values of a row that is there
-abbrev pub row_or_none : Option (List Value) → List Value
-row_or_none None = []
-row_or_none (Some row) = row

@@ -25,11 +25,11 @@ pub struct Lent<'a> {
 impl<'a> Model for Lent<'a> {
     ghost use Rattle.std.specs.Option.{option_copied};
     ghost use Rattle.pj_events.specs.Join.{TupleAt};
-    ghost use Rattle.pj_cover.specs.Suits.{row_or_none};
+    ghost use Rattle.pj_value.specs.Options.{row_there};
 
     ghost Value = { TupleAt };
 
-    ghost view = { λ l. record { ticket = l.ticket; input = l.input; row = row_or_none (option_copied l.row) } };
+    ghost view = { λ l. record { ticket = l.ticket; input = l.input; row = row_there (option_copied l.row) } };
 }
 
 impl<'a> Default for Lent<'a> {

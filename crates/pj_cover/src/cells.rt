@@ -3,8 +3,9 @@ ghost use Rattle.std.specs.Prelude.{◌≡◌, ◌<◌, ◌≤◌, List, Option,
 ghost use Rattle.std.specs.Option.{option_copied};
 ghost use Rattle.pj_value.specs.declared.values.Value.{Value as AnyValue};
 ghost use Rattle.pj_events.specs.Patterns.{covers, is_wild};
-ghost use Rattle.pj_cover.specs.Givens.{cell_of, covers_cell, instance_of, marked};
+ghost use Rattle.pj_cover.specs.Givens.{cell_of, covers_cell, marked};
 ghost use Rattle.pj_cover.specs.Prints.{cell_at, constant_in, constants_of, print_of, row_cells};
+ghost use Rattle.pj_shape.specs.Instances.{instance_of};
 
 use crate::Given;
 use crate::prints::with_cell;
@@ -71,7 +72,7 @@ impl Cells for Row {
 }
 
 impl<'a, 'b> Cells for Instance<'a, 'b> {
-    ghost use Rattle.pj_cover.specs.Givens.{instance_of};
+    ghost use Rattle.pj_shape.specs.Instances.{instance_of};
 
     ghost cells = { λ i. instance_of i.scheme.now i.given.now };
 
@@ -198,23 +199,10 @@ pub fn covers_cell(pattern: &Pattern, is_marked: bool, constant: Option<&Value>)
     ensures { result ≡ covers_cell pattern.now (cell_of is_marked (option_copied constant.entry)) }
 {
     if !is_marked {
-        return is_wild(pattern);
+        return pattern.is_wild();
     }
     match constant {
-        None => is_wild(pattern),
+        None => pattern.is_wild(),
         Some(v) => pattern.matches(v),
-    }
-}
-
-/// Whether it matches every value.
-pub fn is_wild(pattern: &Pattern) -> bool
-    ensures { result ≡ is_wild pattern.now }
-{
-    match pattern.shape() {
-        Shape::Wild => true,
-        Shape::Empty => false,
-        Shape::Constant(_) => false,
-        Shape::Range(_, _) => false,
-        Shape::Members(_) => false,
     }
 }

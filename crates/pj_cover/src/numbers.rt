@@ -8,7 +8,7 @@ ghost use Rattle.pj_cover.specs.Alone.{AreAmong, AreSame, IsAdded, IsOneMore, Is
 ghost use Rattle.pj_cover.specs.Numbers.{AreTold, Changes, HasNone, IsOnly, are_wild, constant, constant_print, first_filled, same_constant, told, with_last};
 ghost use Rattle.pj_cover.specs.Alike.{constant_prints_agree, constants_equal};
 
-use crate::cells::{Cells, constant_in, is_wild};
+use crate::cells::{Cells, constant_in};
 use crate::index::least;
 use crate::number_list::NumberList;
 use crate::prints::with_value;
@@ -237,7 +237,7 @@ fn first_filled(patterns: &[Pattern]) -> usize
     ensures { result ≡ first_filled patterns.now }
 {
     for column in 0..patterns.len() {
-        if !is_wild(&patterns[column]) {
+        if !patterns[column].is_wild() {
             return column;
         }
     }
@@ -250,7 +250,7 @@ fn are_wild_from(patterns: &[Pattern], from: usize) -> bool
     ensures { result ≡ are_wild (drop from patterns.now) }
 {
     for column in from..patterns.len() {
-        if !is_wild(&patterns[column]) {
+        if !patterns[column].is_wild() {
             return false;
         }
     }

@@ -1,10 +1,11 @@
 // Whether a stored row is ripe: whether all that it asks for by the certificate of its input is covered.
 ghost use Rattle.std.specs.Prelude.{◌≡◌, ◌<◌, ◌≤◌, ◌+◌, ◌^◌, ◌∷◌, [], ℕ, drop, length, slice_get, slice_index, slice_index_or, Some, IfSome};
 ghost use Rattle.pj_value.specs.Lists.{In};
-ghost use Rattle.pj_shape.specs.Sound.{IsSoundSpec, arities_of};
-ghost use Rattle.pj_events.specs.Join.{IsCertified, agree, demand, entry_of};
+ghost use Rattle.pj_shape.specs.Sound.{FitSchemes, IsSoundSpec, arities_of};
+ghost use Rattle.pj_shape.specs.Certificates.{IsCertificate};
+ghost use Rattle.pj_events.specs.Join.{agree, demand, entry_of};
 ghost use Rattle.pj_cover.specs.Rising.{AreRisingRows};
-ghost use Rattle.pj_cover.specs.Asking.{AreParts, HaveLength, HavePartners, IsFirstUncovered, IsJudged, IsStep, data_of, entries, found_if, is_covered, is_ripe, known_of, marks_of, tuple_of, tuples_at, with_ticket};
+ghost use Rattle.pj_cover.specs.Asking.{AreParts, HaveLength, HavePartners, IsFirstUncovered, IsJudged, IsStep, entries, found_if, is_covered, is_ripe, known_of, marks_of, tuple_of, tuples_at, with_ticket};
 ghost use Rattle.pj_cover.specs.Judges.{IsJudgedAmong, IsJudgedAt, IsJudgedBy, IsWalkAt, MayJudge, known_by, steps_from};
 
 use crate::asked::{Lent, partner_key, suits};
@@ -296,7 +297,8 @@ pub fn first_uncovered<R: StoredRows>(
 ) -> Option<Uncovered>
     requires parts { AreParts spec.now (R.rows rows.now) stores.now }
     requires input { input < length spec.now.inputs }
-    requires certified { IsCertified (data_of spec.now schemes.now) input cert.now }
+    requires schemes { FitSchemes spec.now.inputs schemes.now }
+    requires certified { IsCertificate spec.now schemes.now input cert.now }
     requires fits { length row.now ≡ slice_index (arities_of spec.now.inputs) input }
     ensures { (ticket : ℕ) → IsFirstUncovered (known_of spec.now (R.rows rows.now) stores.now low) (entries schemes.now cert.now) (tuple_of input (ticket, row.now)) result }
 {
@@ -327,7 +329,8 @@ pub fn ripe<R: StoredRows>(
 ) -> bool
     requires parts { AreParts spec.now (R.rows rows.now) stores.now }
     requires input { input < length spec.now.inputs }
-    requires certified { IsCertified (data_of spec.now schemes.now) input cert.now }
+    requires schemes { FitSchemes spec.now.inputs schemes.now }
+    requires certified { IsCertificate spec.now schemes.now input cert.now }
     requires fits { length row.now ≡ slice_index (arities_of spec.now.inputs) input }
     ensures { result ≡ is_ripe (known_of spec.now (R.rows rows.now) stores.now low) (entries schemes.now cert.now) (tuple_of input (ticket, row.now)) }
 {

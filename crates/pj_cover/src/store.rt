@@ -1,9 +1,10 @@
 // A store of punctuations with numbers.
 ghost use Rattle.std.specs.Prelude.{◌≡◌, ◌<◌, ◌+◌, [], ◌∷◌, ◌++◌, length, IfOk, OnOk, OnErr};
-ghost use Rattle.pj_cover.specs.Givens.{instance_of, marked, one_cell};
+ghost use Rattle.pj_cover.specs.Givens.{marked, one_cell};
 ghost use Rattle.pj_cover.specs.Indexed.{is_below};
 ghost use Rattle.pj_cover.specs.Numbers.{numbers_with};
 ghost use Rattle.pj_cover.specs.Stores.{covered_below, first_match_of, IsAbove, IsLeastMatch};
+ghost use Rattle.pj_shape.specs.Instances.{instance_of};
 
 use crate::Given;
 use crate::cells::Instance;

@@ -1,6 +1,6 @@
 -- What a core has to keep of a history.
-use Rattle.std.specs.Prelude.{ℕ, ◌≡◌, Bool, List, [], ◌∷◌, map, length, Option}
-use Rattle.std.specs.Prelude.{None, ◌++◌, ◌<◌, ◌≤◌}
+use Rattle.std.specs.Prelude.{ℕ, ◌≡◌, Bool, List, map, length, Option}
+use Rattle.std.specs.Prelude.{None}
 use Rattle.pj_events.specs.Join.{upto_from}
 use Rattle.pj_events.specs.KeptState.{KeptState, kept_of}
 use Rattle.pj_events.specs.Operators.{UnionState}

@@ -11,13 +11,17 @@ pub use Rattle.pj_events.specs.declared.events.Out.TheVariants.{Tuple as RowOut,
 use Rattle.pj_events.specs.Patterns.{all_wild}
 use Rattle.pj_events.specs.Join.{JoinData, JoinState, Take, Give, Sweep, start, has, removed, IsSettled}
 use Rattle.pj_events.specs.KeptState.{lacking}
-use Rattle.pj_events.specs.Plan.{Operator, Stream, Join, Node, PlanStep, Feed, Act, Pass, batches, moved, operator_at, IsStepAllowed}
+use Rattle.pj_events.specs.Plan.{Operator, Stream, Join, Node, PlanStep, Feed, Act, Pass, batches, moved, operator_at, IsStepAllowed, Select, Project, Union, Group}
 
 -- ---- the streams and the joins of a plan
 
 abbrev pub is_stream : Operator → Bool
 is_stream (Stream schema sent) = true
-is_stream _ = false
+is_stream (Select test) = false
+is_stream (Project columns) = false
+is_stream (Union n u) = false
+is_stream (Join spec s) = false
+is_stream (Group spec rows) = false
 
 -- the numbers of the nodes that are streams, from this number on
 abbrev pub streams_from : ℕ → List Node → List ℕ
@@ -38,16 +42,24 @@ root_of nodes = pred (length nodes)
 
 -- the state of a join; of any other operator that of a join at its start
 abbrev pub state_in : Operator → JoinState
+state_in (Stream schema sent) = start
+state_in (Select test) = start
+state_in (Project columns) = start
+state_in (Union n u) = start
 state_in (Join spec s) = s
-state_in _ = start
+state_in (Group spec rows) = start
 
 -- a join of no inputs stands for one where there is none
 abbrev pub no_join : JoinData
-no_join = record { shape = record { inputs = []; classes = [] }; schemes = []; certs = []; propagates = false }
+no_join = record { shape = record { inputs = []; classes = [] }; schemes = []; certs = [] }
 
 abbrev pub data_in : Operator → JoinData
+data_in (Stream schema sent) = no_join
+data_in (Select test) = no_join
+data_in (Project columns) = no_join
+data_in (Union n u) = no_join
 data_in (Join spec s) = spec
-data_in _ = no_join
+data_in (Group spec rows) = no_join
 
 -- the state of the join at a node
 abbrev pub join_at : List Node → ℕ → JoinState
@@ -153,8 +165,13 @@ pending_in nodes = sum (map (λ node. length (lacking (state_in node.operator).t
 
 -- the element is a punctuation of wildcards alone, and the operator a stream
 abbrev pub Closes : Operator → Element → Type 0
+Closes (Stream schema sent) (Tuple row) = ⊥
 Closes (Stream schema sent) (Punct patterns) = patterns ≡ all_wild (length schema)
-Closes _ _ = ⊥
+Closes (Select test) e = ⊥
+Closes (Project columns) e = ⊥
+Closes (Union n u) e = ⊥
+Closes (Join spec s) e = ⊥
+Closes (Group spec rows) e = ⊥
 
 -- a punctuation of wildcards alone arrives at a stream
 abbrev pub IsClosing : List Node → Event → Type 0

@@ -1,6 +1,6 @@
 -- One join of any number of inputs: what has arrived, what is stored, what may be forgotten and what is handed up.
-use Rattle.std.specs.Prelude.{ℕ, zero, suc, ◌+◌, ◌<◌, ◌≤◌, ◌≡◌, ◌≢◌, Bool, true, false, not, ◌==◌, nat_lt, ◌&&◌, ◌||◌, if◌then◌else◌, List, [], ◌∷◌, ◌++◌, map, length, take, drop, slice_index, slice_index_or, Option, Some, None, filter, flat_map, sum, min}
-pub use Rattle.pj_value.specs.Lists.{In}
+use Rattle.std.specs.Prelude.{ℕ, zero, suc, ◌+◌, ◌<◌, ◌≤◌, ◌≡◌, Bool, true, false, not, ◌==◌, nat_lt, ◌&&◌, ◌||◌, if◌then◌else◌, List, [], ◌∷◌, ◌++◌, map, length, take, drop, slice_index, slice_index_or, Option, Some, None, filter, flat_map, sum, min}
+pub use Rattle.pj_value.specs.Lists.{In, has}
 use Rattle.std.specs.List.{list_all, list_any}
 pub use Rattle.pj_value.specs.declared.values.Value.{Value}
 pub use Rattle.pj_shape.specs.declared.joins.ClassCol.{ClassCol}
@@ -8,7 +8,8 @@ pub use Rattle.pj_shape.specs.declared.joins.CertStep.{CertStep}
 pub use Rattle.pj_shape.specs.declared.joins.JoinSpec.{JoinSpec}
 pub use Rattle.pj_shape.specs.Lists.{product}
 pub use Rattle.pj_shape.specs.Joining.{Part, value_at, no_value, values, joins, joined_row, class_of}
-use Rattle.pj_shape.specs.Sound.{arities_of}
+use Rattle.pj_shape.specs.Sound.{AreApart, FitSchemes, arities_of}
+use Rattle.pj_shape.specs.Certificates.{IsCertificate}
 pub use Rattle.pj_pattern.specs.declared.element.Element.{Element}
 pub use Rattle.pj_pattern.specs.declared.element.Element.TheVariants.{Tuple, Punct}
 pub use Rattle.pj_pattern.specs.Elements.{rows_of, puncts_of}
@@ -16,13 +17,12 @@ use Rattle.pj_events.specs.Patterns.{Pattern, all_wild, matches_row, covers}
 
 -- ---- what a join is
 
--- The shape of a join, and beside it for each input its schemes and its certificate; and whether it hands up punctuations.
+-- The shape of a join, and beside it for each input its schemes and its certificate.
 -- A join without certificates is never swept.
 pub record JoinData : Type 0 where
   pub shape : JoinSpec
   pub schemes : List (List (List Bool))
   pub certs : List (List CertStep)
-  pub propagates : Bool
 
 -- the numbers of columns of the inputs
 abbrev pub arities : JoinData → List ℕ
@@ -127,9 +127,10 @@ abbrev pub need : List (List ClassCol) → List TupleAt → List CertEntry → L
 need classes rows [] xs = []
 need classes rows (e ∷ cert) xs = demand classes e xs ∷ flat_map (need classes rows cert) (grown classes rows e xs)
 
--- what a row asks for under the certificate of its input, over these rows
+-- what a row asks for under the certificate of its input, over these rows; nothing, where it joins with no rows at all
 abbrev pub need_of : JoinData → List TupleAt → TupleAt → List Demand
-need_of spec rows x = need spec.shape.classes rows (cert_of spec x.input) (x ∷ [])
+need_of spec rows x =
+    if agree spec.shape.classes (x ∷ []) then need spec.shape.classes rows (cert_of spec x.input) (x ∷ []) else []
 
 -- one of these punctuations covers the instance
 abbrev pub covered : List PunctAt → Demand → Bool
@@ -156,9 +157,6 @@ pub data Step : Type 0 where
   Take : ℕ → Step
   Give : ℕ → Step
   Sweep : ℕ → Step
-
-abbrev pub has : List ℕ → ℕ → Bool
-has ns n = list_any (λ m. m == n) ns
 
 -- no number of the list stands in it again
 abbrev pub AreDistinct : List ℕ → Type 0
@@ -191,14 +189,6 @@ removed spec s input = filter (λ x. (x.input == input) && ripe spec s x) s.stor
 abbrev pub is_held : List TupleAt → PunctAt → Bool
 is_held stored p = list_any (λ x. (x.input == p.input) && matches_row p.patterns x.row) stored
 
--- the punctuation is handed up at once
-abbrev pub goes_out : JoinData → JoinState → PunctAt → Bool
-goes_out spec s p = spec.propagates && not (is_held s.stored p)
-
--- the punctuation waits until no stored tuple matches it
-abbrev pub must_wait : JoinData → JoinState → PunctAt → Bool
-must_wait spec s p = spec.propagates && is_held s.stored p
-
 abbrev pub new_tuple : JoinState → ℕ → List Value → TupleAt
 new_tuple s input row = record { ticket = s.next; input = input; row = row }
 
@@ -213,7 +203,7 @@ step spec s (PunctComes input patterns) =
     record s {
       next = s.next + 1;
       puncts = s.puncts ++ new_punct s input patterns ∷ [];
-      waiting = if must_wait spec s (new_punct s input patterns) then s.waiting ++ new_punct s input patterns ∷ [] else s.waiting;
+      waiting = if is_held s.stored (new_punct s input patterns) then s.waiting ++ new_punct s input patterns ∷ [] else s.waiting;
     }
 step spec s (Take u) = record s { taken = u ∷ s.taken }
 step spec s (Give u) = record s { given = u ∷ s.given }
@@ -229,36 +219,11 @@ run spec s (e ∷ es) = run spec (step spec s e) es
 
 -- ---- certificates
 
--- each marked column lies in a class with a column of an input that is known
-abbrev pub AreBound : List (List ClassCol) → ℕ → ℕ → List Bool → List ℕ → Type 0
-AreBound classes input column [] known = Unit {0}
-AreBound classes input column (true ∷ marks) known =
-    ((c : ClassCol) × In c (class_with classes input column) × In c.input known) × AreBound classes input (column + 1) marks known
-AreBound classes input column (false ∷ marks) known = AreBound classes input (column + 1) marks known
-
--- each entry's marked columns are bound by the known inputs or by those of earlier entries
-abbrev pub IsWalk : JoinData → List CertEntry → List ℕ → Type 0
-IsWalk spec [] known = Unit {0}
-IsWalk spec (e ∷ cert) known =
-    (e.input < inputs spec) × (length e.marks ≡ arity spec e.input) × AreBound spec.shape.classes e.input 0 e.marks known
-    × IsWalk spec cert (e.input ∷ known)
-
--- each step names a scheme that its input has, and an input that is none of these and of no other step
-abbrev pub AreListedOnce : List (List (List Bool)) → List CertStep → List ℕ → Type 0
-AreListedOnce schemes [] known = Unit {0}
-AreListedOnce schemes (step ∷ steps) known =
-    (step.scheme < length (slice_index_or schemes step.input [])) × (¬ In step.input known) × AreListedOnce schemes steps (step.input ∷ known)
-
--- the certificate lists every other input once with a scheme of it, and marked columns are bound by the input or by earlier entries
-abbrev pub IsCertified : JoinData → ℕ → List CertStep → Type 0
-IsCertified spec input steps =
-    AreListedOnce spec.schemes steps (input ∷ [])
-    × IsWalk spec (map (entry_of spec.schemes) steps) (input ∷ [])
-    × ((k : ℕ) → k < inputs spec → k ≢ input → (e : CertEntry) × In e (map (entry_of spec.schemes) steps) × (e.input ≡ k))
-
--- every input has a certificate
-abbrev pub AreCertified : JoinData → Type 0
-AreCertified spec = (input : ℕ) → input < inputs spec → IsCertified spec input (steps_of spec input)
+-- no column stands in two classes, the schemes are as wide as their inputs, and every input has a certificate
+pub record AreCertified (spec : JoinData) : Type 0 where
+  pub apart : AreApart spec.shape.classes
+  pub fitting : FitSchemes spec.shape.inputs spec.schemes
+  pub each : (input : ℕ) → input < inputs spec → IsCertificate spec.shape spec.schemes input (steps_of spec input)
 
 -- ---- which steps are allowed, and which rows may still come
 
@@ -323,7 +288,7 @@ widened spec p =
 abbrev pub hands_up : JoinData → JoinState → Step → List Element
 hands_up spec s (TupleComes input row) = []
 hands_up spec s (PunctComes input patterns) =
-    if goes_out spec s (new_punct s input patterns) then (Punct (widened spec (new_punct s input patterns)) ∷ []) else []
+    if not (is_held s.stored (new_punct s input patterns)) then (Punct (widened spec (new_punct s input patterns)) ∷ []) else []
 hands_up spec s (Take u) = []
 hands_up spec s (Give u) = map (λ c. Tuple (joined c)) (results spec s.tuples s.tuples u)
 hands_up spec s (Sweep input) =

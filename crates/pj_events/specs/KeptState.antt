@@ -55,17 +55,17 @@ tuple_kept k input row = record k {
   opened = k.opened ++ k.next ∷ [];
 }
 
-abbrev pub punct_kept : JoinData → KeptState → PunctAt → KeptState
-punct_kept spec k p = record k {
+abbrev pub punct_kept : KeptState → PunctAt → KeptState
+punct_kept k p = record k {
   next = k.next + 1;
   puncts = k.puncts ++ p ∷ [];
-  waiting = if spec.propagates && is_held k.stored p then k.waiting ++ p ∷ [] else k.waiting;
+  waiting = if is_held k.stored p then k.waiting ++ p ∷ [] else k.waiting;
 }
 
 -- what is to be kept after a step
 abbrev pub kept_step : JoinData → KeptState → Step → KeptState
 kept_step spec k (TupleComes input row) = tuple_kept k input row
-kept_step spec k (PunctComes input patterns) = punct_kept spec k (record { ticket = k.next; input = input; patterns = patterns })
+kept_step spec k (PunctComes input patterns) = punct_kept k (record { ticket = k.next; input = input; patterns = patterns })
 kept_step spec k (Take u) = record k { pending = without k.pending u }
 kept_step spec k (Give u) = record k { opened = without k.opened u }
 kept_step spec k (Sweep input) =

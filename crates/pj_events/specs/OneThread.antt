@@ -6,7 +6,7 @@ use Rattle.pj_shape.specs.declared.columns.Column.{Column}
 use Rattle.pj_events.specs.Patterns.{all_wild}
 use Rattle.pj_events.specs.Join.{inputs, upto_from}
 use Rattle.pj_events.specs.KeptState.{lacking}
-use Rattle.pj_events.specs.Plan.{Operator, Stream, Join, Node, operator_at}
+use Rattle.pj_events.specs.Plan.{Operator, Stream, Join, Node, operator_at, Select, Project, Union, Group}
 use Rattle.pj_events.specs.History.{Entry, Event, Arrive, Taken, Given, Swept, Drain, streams_of, join_at, nodes_from}
 
 -- an entry that closes no stream, made where there are no seats
@@ -103,8 +103,12 @@ pub record Place : Type 0 where
   pub input : ℕ
 
 abbrev pub places_in : ℕ → Operator → List Place
+places_in join (Stream schema sent) = []
+places_in join (Select test) = []
+places_in join (Project columns) = []
+places_in join (Union n u) = []
 places_in join (Join spec s) = map (λ k. record { join = join; input = k }) (upto_from 0 (inputs spec))
-places_in join _ = []
+places_in join (Group spec rows) = []
 
 -- the inputs of all joins, in order of the nodes from this number on
 abbrev pub places_from : ℕ → List Node → List Place
@@ -145,7 +149,11 @@ turns_entries sweeps nodes (turn ∷ turns) =
 
 abbrev pub schema_of : Operator → List Column
 schema_of (Stream schema sent) = schema
-schema_of _ = []
+schema_of (Select test) = []
+schema_of (Project columns) = []
+schema_of (Union n u) = []
+schema_of (Join spec s) = []
+schema_of (Group spec rows) = []
 
 -- the turns of the streams from this number on, which stand at these nodes
 abbrev pub all_turns : List Node → ℕ → List ℕ → List (List Element) → List (List Turn)

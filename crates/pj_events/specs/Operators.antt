@@ -1,5 +1,5 @@
 -- What each operator does with rows and punctuations.
-use Rattle.std.specs.Prelude.{ℕ, zero, suc, ◌+◌, Bool, true, not, ◌==◌, ◌&&◌, ◌||◌, if◌then◌else◌, List, [], ◌∷◌, ◌++◌, map, length, slice_index_or, filter, ℤ, pos, negsuc, ◌-ℤ◌}
+use Rattle.std.specs.Prelude.{ℕ, zero, suc, ◌+◌, Bool, true, not, ◌==◌, ◌&&◌, ◌||◌, if◌then◌else◌, List, [], ◌∷◌, ◌++◌, map, length, filter, ℤ, pos, negsuc, ◌-ℤ◌}
 use Rattle.std.specs.List.{list_any}
 use Rattle.std.specs.Int.{saturate_signed, w64}
 use Rattle.std.specs.Ordering.{is_gt}
@@ -13,16 +13,13 @@ use Rattle.pj_shape.specs.Joining.{value_at, no_value}
 use Rattle.pj_pattern.specs.declared.element.Element.{Element}
 use Rattle.pj_pattern.specs.declared.element.Element.TheVariants.{Tuple, Punct}
 use Rattle.pj_value.specs.Bags.{weigh}
-use Rattle.pj_pattern.specs.Columns.{others_wild}
-use Rattle.pj_events.specs.Patterns.{Pattern, wild, all_wild, matches_row, covers_punct}
+use Rattle.pj_pattern.specs.Columns.{others_wild, picked_patterns}
+use Rattle.pj_events.specs.Patterns.{Pattern, all_wild, matches_row, covers_punct}
 
 -- ---- columns that are kept
 
 abbrev pub picked_cells : List ℕ → List Value → List Value
 picked_cells columns row = map (value_at row) columns
-
-abbrev pub picked_patterns : List ℕ → List Pattern → List Pattern
-picked_patterns columns patterns = map (λ c. slice_index_or patterns c wild) columns
 
 -- ---- selects and projects
 

@@ -1,11 +1,13 @@
 -- What a history has brought to each node, what stands there, and what it handed out.
-use Rattle.std.specs.Prelude.{ℕ, zero, suc, ◌+◌, Bool, true, false, ◌==◌, ◌&&◌, if◌then◌else◌, List, [], ◌∷◌, ◌++◌, map, length, slice_index_or, flat_map, max, Option, Some, None}
+use Rattle.std.specs.Prelude.{ℕ, zero, suc, ◌+◌, Bool, true, false, ◌==◌, ◌&&◌, if◌then◌else◌, List, [], ◌∷◌, ◌++◌, map, length, slice_index_or, flat_map, max, Option, Some, None, sum, filter}
 use Rattle.pj_value.specs.declared.values.Value.{Value}
+use Rattle.pj_value.specs.Lists.{has}
 use Rattle.pj_pattern.specs.declared.element.Element.{Element}
 use Rattle.pj_pattern.specs.declared.element.Element.TheVariants.{Tuple, Punct}
 use Rattle.pj_events.specs.Join.{Step, Take, Give, Sweep, low, results, joined, rows_of, upto_from}
-use Rattle.pj_events.specs.Plan.{Operator, Join, Group, Node, Comes, join_step, batches, after, hands, nowhere, answers_from}
-use Rattle.pj_events.specs.History.{Entry, Event, Arrive, Taken, Given, Swept, Drain, Out, RowOut, PunctOut, Purged, streams_of, stream_node, root_of, join_at, data_at, step_of, nodes_by, gained, Reached, begun, next, nodes_from}
+use Rattle.pj_events.specs.Plan.{Operator, Join, Group, Node, Comes, join_step, batches, after, hands, nowhere, answers_from, Stream, Select, Project, Union}
+use Rattle.pj_events.specs.History.{Entry, Event, Arrive, Taken, Given, Swept, Drain, Out, RowOut, PunctOut, Purged, streams_of, stream_node, root_of, join_at, data_at, step_of, nodes_by, gained, Reached, begun, next, nodes_from, state_in}
+use Rattle.pj_events.specs.KeptState.{lacking}
 
 -- ---- arrivals
 
@@ -146,9 +148,12 @@ pub record Level : Type 0 where
 
 -- joins and groups count what reaches them
 abbrev pub counts : Operator → Bool
+counts (Stream schema sent) = false
+counts (Select test) = false
+counts (Project columns) = false
+counts (Union n u) = false
 counts (Join spec s) = true
 counts (Group spec rows) = true
-counts _ = false
 
 abbrev pub is_full : ℕ → Level → Bool
 is_full limit level = counts level.operator && (level.count == limit)
@@ -205,3 +210,19 @@ goes_beyond limit plan history event =
     let origin = origin_of nodes event in
     beyond_of (climb (length nodes) limit (way_up (λ n. length (arrivals_at plan history n)) 0 origin nodes)
     (slice_index_or (batches (step_of nodes event) [] nodes) origin []))
+
+-- ---- what a look counts
+
+-- the number of tuples that are stored at these nodes, of those that are not given, and of punctuations that wait
+abbrev pub stored_in : List Node → ℕ
+stored_in nodes = sum (map (λ node. length (state_in node.operator).stored) nodes)
+
+abbrev pub opened_in : List Node → ℕ
+opened_in nodes = sum (map (λ node. length (lacking (state_in node.operator).given (state_in node.operator).tuples)) nodes)
+
+abbrev pub waiting_in : List Node → ℕ
+waiting_in nodes = sum (map (λ node. length (state_in node.operator).waiting) nodes)
+
+-- how many of so many streams are among the closed
+abbrev pub ended_of : ℕ → List ℕ → ℕ
+ended_of streams closed = length (filter (has closed) (upto_from 0 streams))

@@ -1,5 +1,5 @@
 -- All that is said of the inside of a pattern; every other file uses these words alone.
-use Rattle.std.specs.Prelude.{Bool, true, false, ◌&&◌, List, [], ◌∷◌, Option, Some, None, ◌≡◌}
+use Rattle.std.specs.Prelude.{Bool, true, false, ◌&&◌, List, [], ◌∷◌, Option, Some, None}
 use Rattle.pj_value.specs.declared.values.Value.{Value}
 use Rattle.pj_pattern.specs.declared.pattern.Form.TheVariants.{Wild}
 pub use Rattle.pj_pattern.specs.Patterns.{Pattern, matches_value, is_wild, covers_pattern}
@@ -9,19 +9,11 @@ pub use Rattle.pj_pattern.specs.Columns.{matches_row, covers_punct, all_wild}
 abbrev pub wild : Pattern
 wild = Wild
 
--- An instance of a scheme is its constant in each marked column, and None in every other.
--- Whether the punctuation covers it: a wildcard in each unmarked column, and a match of the constant in each marked one
+-- whether the punctuation covers the instance of a scheme: a wildcard in each unmarked column, and a match of the constant in
+-- each marked one
 abbrev pub covers : List Pattern → List (Option Value) → Bool
 covers [] [] = true
 covers [] (cell ∷ cells) = false
 covers (p ∷ ps) [] = false
 covers (p ∷ ps) (Some v ∷ cells) = matches_value p v && covers ps cells
 covers (p ∷ ps) (None ∷ cells) = is_wild p && covers ps cells
-
--- the row matches the instance: its values in the marked columns are the constants
-abbrev pub MatchesInstance : List Value → List (Option Value) → Type 0
-MatchesInstance [] [] = Unit {0}
-MatchesInstance [] (cell ∷ cells) = ⊥
-MatchesInstance (v ∷ vs) [] = ⊥
-MatchesInstance (v ∷ vs) (None ∷ cells) = MatchesInstance vs cells
-MatchesInstance (v ∷ vs) (Some w ∷ cells) = (v ≡ w) × MatchesInstance vs cells

@@ -1,5 +1,5 @@
 -- A plan of operators, the steps of a run, and what each node hands up.
-use Rattle.std.specs.Prelude.{ℕ, ◌+◌, ◌<◌, ◌≡◌, true, false, ◌==◌, if◌then◌else◌, List, [], ◌∷◌, ◌++◌, map, length, slice_index, slice_index_or, filter, flat_map, sum}
+use Rattle.std.specs.Prelude.{ℕ, ◌+◌, ◌<◌, ◌≡◌, false, ◌==◌, if◌then◌else◌, List, [], ◌∷◌, ◌++◌, map, length, slice_index, slice_index_or, filter, flat_map, sum}
 use Rattle.pj_pattern.specs.Elements.{IsLawful}
 use Rattle.pj_value.specs.declared.values.Value.{Value}
 use Rattle.pj_shape.specs.declared.columns.Column.{Column}
@@ -269,13 +269,13 @@ IsClosedBy (Union n u) es = Unit {0}
 IsClosedBy (Join spec s) es = Unit {0}
 IsClosedBy (Group spec rows) es = Unit {0}
 
--- a join is settled, and hands up punctuations
+-- a join is settled
 abbrev pub IsDone : Operator → Type 0
 IsDone (Stream schema sent) = Unit {0}
 IsDone (Select test) = Unit {0}
 IsDone (Project columns) = Unit {0}
 IsDone (Union n u) = Unit {0}
-IsDone (Join spec s) = IsSettled s × (spec.propagates ≡ true)
+IsDone (Join spec s) = IsSettled s
 IsDone (Group spec rows) = Unit {0}
 
 -- every stream is closed, every join has given every tuple, and no punctuation waits at a join

@@ -1,9 +1,9 @@
 -- The punctuations that a plan hands out of those that arrived at its streams.
 use Rattle.std.specs.Prelude.{ℕ, ◌+◌, List, [], ◌∷◌, ◌++◌, map, filter, flat_map, length, slice_index_or, Option, Some, None}
-use Rattle.pj_pattern.specs.Columns.{others_wild}
+use Rattle.pj_pattern.specs.Columns.{others_wild, picked_patterns}
 use Rattle.pj_events.specs.Patterns.{Pattern, all_wild}
 use Rattle.pj_events.specs.Join.{JoinData, widened, upto_from, puncts_of}
-use Rattle.pj_events.specs.Operators.{GroupSpec, picked_patterns}
+use Rattle.pj_events.specs.Operators.{GroupSpec}
 use Rattle.pj_events.specs.Plan.{Operator, Stream, Select, Project, Union, Join, Group, Node}
 use Rattle.pj_events.specs.History.{Entry, streams_of, root_of}
 use Rattle.pj_events.specs.Outcomes.{elements_of, place_in}

@@ -8,11 +8,3 @@ err_is (Err x) e h = ap Err h
 pub if_err : {T E : Type 0} (P : E → Type 0) (result : Result T E) (e : E) → IsErrAnd result (λ x. x ≡ e) → P e → IfErr result P
 if_err P (Ok x) e is p = tt
 if_err P (Err x) e is p = subst P (sym is) p
-
-pub if_err_map : {T E : Type 0} (P Q : E → Type 0) (result : Result T E) → ((e : E) → result ≡ Err e → P e → Q e) → IfErr result P → IfErr result Q
-if_err_map P Q (Ok x) f p = tt
-if_err_map P Q (Err e) f p = f e refl p
-
-pub on_ok_map : {T E : Type 0} (P Q : Type 0) (result : Result T E) → (P → Q) → OnOk result P → OnOk result Q
-on_ok_map P Q (Ok x) f p = f p
-on_ok_map P Q (Err e) f p = tt

@@ -10,14 +10,7 @@ use Rattle.pj_events.specs.Operators.{Sent, all_sent_from, union_after}
 use Rattle.pj_flow.specs.Unions.{UnionView, bears_on, puncts}
 use Rattle.pj_flow.specs.Insides.{AreAsked, AreHeld, IsAsked, IsHeld, is_ready, newest, nobody, patterns_at, seen, sent_at, with_newest}
 use Rattle.pj_flow.proofs.Asking.{unaffected}
-
-filter-map : {A B : Type 0} (p : B → Bool) (f : A → B) (xs : List A) → filter p (map f xs) ≡ map f (filter (λ x. p (f x)) xs)
-filter-map p f [] = refl
-filter-map {A} {B} p f (x ∷ xs) = go (p (f x)) (filter-map p f xs)
-  where
-    go : (b : Bool) → filter p (map f xs) ≡ map f (filter (λ y. p (f y)) xs) → cond b (f x ∷ filter p (map f xs)) (filter p (map f xs)) ≡ map f (cond b (x ∷ filter (λ y. p (f y)) xs) (filter (λ y. p (f y)) xs))
-    go true e = ap (λ (ys : List B). f x ∷ ys) e
-    go false e = e
+use Rattle.pj_value.proofs.Members.{filter_map_swap}
 
 last_place : (came : List Sent) (q : Sent) → newest (came ++ q ∷ []) ≡ length came
 last_place came q = omega (arith, length-append came (q ∷ []))
@@ -72,7 +65,7 @@ places_seen n came q waiting held =
 pub stay_seen : (n : ℕ) (came : List Sent) (q : Sent) (waiting : List ℕ) → AreHeld n came waiting
     → map (sent_at (came ++ q ∷ [])) (filter (λ at. not (is_ready n (came ++ q ∷ []) at)) (with_newest (came ++ q ∷ []) waiting)) ≡ filter (λ p. not (all_sent_from 0 n (came ++ q ∷ []) p)) (map (sent_at came) waiting ++ q ∷ [])
 stay_seen n came q waiting held =
-    sym (filter-map (λ (p : Sent). not (all_sent_from 0 n (came ++ q ∷ []) p)) (sent_at (came ++ q ∷ [])) (with_newest (came ++ q ∷ []) waiting))
+    sym (filter_map_swap (λ (p : Sent). not (all_sent_from 0 n (came ++ q ∷ []) p)) (sent_at (came ++ q ∷ [])) (with_newest (came ++ q ∷ []) waiting))
     ∙ ap (λ (ps : List Sent). filter (λ p. not (all_sent_from 0 n (came ++ q ∷ []) p)) ps) (places_seen n came q waiting held)
 
 shown : (came : List Sent) (places : List ℕ) → puncts (map (patterns_at came) places) ≡ map (λ (p : Sent). Punct p.patterns) (map (sent_at came) places)
@@ -89,7 +82,7 @@ go_seen n came q waiting out held =
     ∙ ap (λ (es : List Element). puncts out ++ es)
     (shown all (filter (is_ready n all) places)
     ∙ ap (λ (ps : List Sent). map (λ (p : Sent). Punct p.patterns) ps)
-    (sym (filter-map (all_sent_from 0 n all) (sent_at all) places) ∙ ap (λ (ps : List Sent). filter (all_sent_from 0 n all) ps) (places_seen n came q waiting held)))
+    (sym (filter_map_swap (all_sent_from 0 n all) (sent_at all) places) ∙ ap (λ (ps : List Sent). filter (all_sent_from 0 n all) ps) (places_seen n came q waiting held)))
 
 -- the places that stay, whatever they were read from
 left_is : (n : ℕ) (came : List Sent) (q : Sent) (waiting : List ℕ) (all : List Sent) (places left : List ℕ) → all ≡ came ++ q ∷ [] → places ≡ waiting

@@ -19,14 +19,6 @@ constants_only (v ∷ values) (w ∷ row) = ap (λ b. value_eq v w && b) (consta
 pub matches_only : (patterns : List Pattern) (values : List Value) → map Constant values ≡ patterns → MatchesOnly patterns values
 matches_only patterns values e = subst (λ (ps : List Pattern). MatchesOnly ps values) e (constants_only values)
 
--- one constant more
-pub constants_more : (patterns : List Pattern) (at : ℕ) (p : Pattern) (values more : List Value) (v w : Value) → slice_get patterns at ≡ Some p → p ≡ Constant v → w ≡ v → map Constant values ≡ take at patterns → more ≡ values ++ w ∷ []
-    → map Constant more ≡ take (at + 1) patterns
-constants_more patterns at p values more v w e c s h m =
-    ap (map Constant) m ∙ map-append Constant values (w ∷ [])
-    ∙ ap₂ (λ (xs : List Pattern) (y : Pattern). xs ++ y ∷ []) h (ap Constant s ∙ sym c ∙ sym (get_or_from_slice_get patterns at p p e))
-    ∙ sym (take_more patterns at p (slice_get_within patterns at p e))
-
 -- all of them
 pub constants_all : (patterns items : List Pattern) (at : ℕ) (values key : List Value) → items ≡ patterns → length items ≤ at → map Constant values ≡ take at patterns → key ≡ values → MatchesOnly patterns key
 constants_all patterns items at values key s n h k =

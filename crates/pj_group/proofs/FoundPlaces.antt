@@ -241,19 +241,6 @@ hands_behind patterns pre (s ∷ ss) at (place ∷ places) e h =
 pub found_hands : (patterns : List Pattern) (slots : List GroupSlot) (places : List ℕ) → PassNone patterns 0 slots places → closed_over patterns slots places ≡ closed_rows patterns (open_groups slots)
 found_hands patterns slots places h = hands_behind patterns [] slots 0 places refl h
 
--- the rows of one place more
-pub over_so_far : (patterns : List Pattern) (slots : List GroupSlot) (places : List ℕ) (i place : ℕ) (first old new : List Element) → i < length places → get_or places i 0 ≡ place → old ≡ first ++ closed_over patterns slots (take i places)
-    → new ≡ old ++ closed_at patterns (slice_get slots place) → new ≡ first ++ closed_over patterns slots (take (i + 1) places)
-over_so_far patterns slots places i place first old new lt is o n =
-    n ∙ (ap (λ (es : List Element). es ++ f place) o
-    ∙ (append_assoc first (closed_over patterns slots (take i places)) (f place)
-    ∙ ap (λ (es : List Element). first ++ es)
-    (ap (λ (es : List Element). closed_over patterns slots (take i places) ++ es) (sym (append-nil (f place)) ∙ ap (λ k. flat_map f (k ∷ [])) (sym is))
-    ∙ (sym (flat_map-append f (take i places) (get_or places i 0 ∷ [])) ∙ ap (closed_over patterns slots) (sym (take_more places i 0 lt))))))
-  where
-    f : ℕ → List Element
-    f at = closed_at patterns (slice_get slots at)
-
 -- ---- what closing them leaves
 
 abbrev left : List Pattern → GroupSlot → GroupSlot

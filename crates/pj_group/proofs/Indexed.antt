@@ -74,17 +74,6 @@ index_same column keys old new is same = record {
   places = λ value. same.places value ∙ (is.places value ∙ ap (λ n. places_from 0 column value (take n keys)) (sym same.upto));
 }
 
--- an index of no keys
-pub index_empty : (column : ℕ) (keys : List (List Value)) (index : ValueIndex) → index.upto ≡ 0 → ((value : Value) → told index value ≡ []) → IsIndexOf column keys index
-index_empty column keys index e none = record {
-  within = omega (arith, e);
-  places = λ value. none value ∙ ap (λ n. places_from 0 column value (take n keys)) (sym e);
-}
-
--- an index of all
-pub index_whole : (column : ℕ) (slots : List GroupSlot) (index : ColumnIndex) → IsColumnOf column slots index → length (keys_of slots) ≤ index.values.upto → IsWhole column slots (Some index)
-index_whole column slots index is all value = is.values.places value ∙ ap (places_from 0 column value) (take_all index.values.upto (keys_of slots) all)
-
 -- ---- where groups come or change
 
 -- a group more, behind the others
@@ -122,10 +111,6 @@ indexes_closed slots new find none are column = go (find column) (are column)
       values = subst (λ (ks : List (List Value)). IsIndexOf column ks index.values) (sym none.keys) h.values;
       order = order_closed column slots new index.order none h.order;
     }
-
--- where no column has an index
-pub indexes_none : (slots : List GroupSlot) (find : ℕ → Option ColumnIndex) → ((column : ℕ) → find column ≡ None) → AreIndexesOf slots find
-indexes_none slots find none column = subst (λ (o : Option ColumnIndex). IfSome o (IsColumnOf column slots)) (sym (none column)) tt
 
 -- ---- where states are set
 

@@ -47,19 +47,6 @@ open_filter (s ∷ slots) = go s.0 s.1 (open_filter slots)
     go k None ih = ih
     go k (Some ts) ih = ap (λ (es : GroupTable). (k, ts) ∷ es) ih
 
--- what is left is ready
-pub ready_filter : (test : List Value → Bool) (slots : List GroupSlot) → IsReady (lookup test (filter is_open slots))
-ready_filter test [] = tt
-ready_filter test (s ∷ slots) = go s.0 s.1 (ready_filter test slots)
-  where
-    go : (k : List Value) (o : Option (List Tally)) → IsReady (lookup test (filter is_open slots)) → IsReady (lookup test (cond (is_some o) ((k, o) ∷ filter is_open slots) (filter is_open slots)))
-    go k None ih = ih
-    go k (Some ts) ih = at (test k)
-      where
-        at : (b : Bool) → IsReady (cond b (Some (Some ts)) (lookup test (filter is_open slots)))
-        at true = tt
-        at false = ih
-
 pub states_filter : (count : ℕ) (spec : GroupSpec) (p : GroupSlot → Bool) (slots : List GroupSlot) → AllStates count spec slots → AllStates count spec (filter p slots)
 states_filter count spec p slots h = All-filter p (λ (s : GroupSlot). IfSome s.1 (AreStates count (length spec.aggs))) slots h
 

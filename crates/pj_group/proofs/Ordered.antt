@@ -18,7 +18,7 @@ use Rattle.std.proofs.lemmas.Map.Views.{Contains-from_any, exact_unsigned_eq}
 use Rattle.std.proofs.lemmas.Option.{slice_get_within}
 use Rattle.pj_value.specs.declared.values.Value.{Value}
 use Rattle.pj_value.specs.declared.values.Value.TheVariants.{Int, Text}
-use Rattle.pj_value.proofs.Orders.{greater_if_less}
+use Rattle.pj_value.proofs.Orders.{greater_if_less, is_tied}
 use Rattle.pj_pattern.specs.declared.pattern.Form.TheVariants.{Range}
 use Rattle.pj_pattern.specs.Patterns.{is_from, is_to, matches_value}
 use Rattle.pj_events.specs.Patterns.{Pattern, matches_row}
@@ -40,12 +40,6 @@ pub order_push : (column : ℕ) (slots more : List GroupSlot) (index : OrderInde
 order_push column slots more index is = record {
   within = omega (arith, is.within, length-append slots more);
   kept = λ at key n lt there has. is.kept at key n lt (ap open_key (sym (front_get slots more at (omega (arith, lt, is.within)))) ∙ there) has;
-}
-
-pub order_empty : (column : ℕ) (slots : List GroupSlot) (index : OrderIndex) → index.upto ≡ 0 → IsOrderOf column slots index
-order_empty column slots index e = record {
-  within = omega (arith, e);
-  kept = λ at key n lt there has. absurd (omega (arith, lt, e));
 }
 
 -- the key of an open group
@@ -87,31 +81,12 @@ order_closed column old new index none is = record {
   kept = λ at key n lt there has. is.kept at key n lt (none.was_open at key there) has;
 }
 
--- without the integer of a group that was closed
-pub order_forgets : (column : ℕ) (slots : List GroupSlot) (at : ℕ) (key : List Value) (old new : OrderIndex) → slice_get slots at ≡ Some (key, None) → IsOrderOf column slots old → HasOthers at old new → IsOrderOf column slots new
-order_forgets column slots at key old new closed is others = record {
-  within = omega (arith, is.within, others.upto);
-  kept = λ i k n lt there has. go i k n (nat_eq i at) refl (omega (arith, lt, others.upto)) there has;
-}
-  where
-    go : (i : ℕ) (k : List Value) (n : ℤ) (b : Bool) → nat_eq i at ≡ b → i < old.upto → open_at slots i ≡ Some k → slice_get k column ≡ Some (Int n) → is_kept new n i ≡ true
-    go i k n true e lt t has =
-        let same : i ≡ at = exact_unsigned_eq i at e in
-        let none : None ≡ Some k = ap open_key (sym closed ∙ ap (slice_get slots) (sym same)) ∙ t in
-        absurd (cc)
-    go i k n false e lt t has = others.kept n i e (is.kept i k n lt t has)
-
 -- ---- what a range of integers finds
 
 both_equal : (o p : Ordering) → ordering_then o p ≡ Equal → (o ≡ Equal) × (p ≡ Equal)
 both_equal Less p e = absurd (cc)
 both_equal Equal p e = (refl, e)
 both_equal Greater p e = absurd (cc)
-
-equal_if_eq : (o : Ordering) → is_eq o ≡ true → o ≡ Equal
-equal_if_eq Less e = absurd (false≢true e)
-equal_if_eq Equal e = refl
-equal_if_eq Greater e = absurd (false≢true e)
 
 -- an integer from the low end on is from the first place on
 zero_first : (at : ℕ) → is_le (nat_cmp 0 at) ≡ true
@@ -140,7 +115,7 @@ to_last (Some high) n at lt h = ap not (go (int_cmp high n) refl)
     go Greater e = refl
 
 same_place : (n m : ℤ) (at place : ℕ) → is_eq (place_cmp (n, at) (m, place)) ≡ true → (n ≡ m) × (at ≡ place)
-same_place n m at place e = let b = both_equal (int_cmp n m) (nat_cmp at place) (equal_if_eq (place_cmp (n, at) (m, place)) e) in (exact_signed n m b.0, exact_unsigned at place b.1)
+same_place n m at place e = let b = both_equal (int_cmp n m) (nat_cmp at place) (is_tied (place_cmp (n, at) (m, place)) e) in (exact_signed n m b.0, exact_unsigned at place b.1)
 
 any_found : (p : ℤ × ℕ → Bool) (n : ℤ) (at : ℕ) (ks : List (ℤ × ℕ)) → p (n, at) ≡ true → list_any (is_at (place_cmp (n, at))) ks ≡ true → list_any (nat_eq at) (map (λ k. k.1) (filter p ks)) ≡ true
 any_found p n at [] t h = h
@@ -218,19 +193,6 @@ integer_out old new number at upto out = record {
     elsewhere : (n : ℤ) (other : ℕ) → nat_eq other at ≡ false → is_at (place_cmp (number, at)) (n, other) ≡ false
     elsewhere n other differs =
         false_from_ne_true (is_at (place_cmp (number, at)) (n, other)) (λ t. false≢true (sym differs ∙ eq-eqb other at (sym (same_place number n at other t).1)))
-
--- an integer that was put in
-pub integer_put : (column : ℕ) (key : List Value) (old new : OrderIndex) (number : ℤ) → slice_get key column ≡ Some (Int number) → new.upto ≡ old.upto + 1 → Updates place_cmp old.places new.places (number, old.upto) true
-    → HasIntegerMore column key old new
-integer_put column key old new number there upto put = record {
-  upto = upto;
-  kept = λ n at h. put.0 (n, at) ∙ stays (is_at (place_cmp (number, old.upto)) (n, at)) (is_kept old n at) h;
-  last = λ n has. let e : Some (Int number) ≡ Some (Int n) = sym there ∙ has in let same : number ≡ n = cc in subst (λ m. is_kept new m old.upto ≡ true) same put.1;
-}
-  where
-    stays : (b c : Bool) → c ≡ true → cond b true c ≡ true
-    stays true c h = refl
-    stays false c h = h
 
 -- what a range of integers needs
 pub needs_integer : (patterns : List Pattern) (column : ℕ) (p : Pattern) (low high : Option Value) (range : Integers) → slice_get patterns column ≡ Some p → p ≡ Range low high → AreEnds low high range → NeedsInteger patterns column range

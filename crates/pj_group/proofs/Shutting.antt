@@ -10,9 +10,9 @@ use Rattle.pj_value.proofs.Members.{In-filter, filter-agree, filter-filter, map-
 use Rattle.pj_value.proofs.Orders.{row_same_if_equal}
 use Rattle.pj_pattern.specs.declared.element.Element.{Element}
 use Rattle.pj_pattern.specs.declared.element.Element.TheVariants.{Tuple, Punct}
-use Rattle.pj_pattern.specs.Columns.{others_wild}
+use Rattle.pj_pattern.specs.Columns.{others_wild, picked_patterns}
 use Rattle.pj_events.specs.Patterns.{Pattern, all_wild, matches_row}
-use Rattle.pj_events.specs.Operators.{Agg, Count, Sum, Min, Max, GroupSpec, aggregate, group_after, group_hands, group_row, group_rows, keys_from, picked_patterns}
+use Rattle.pj_events.specs.Operators.{Agg, Count, Sum, Min, Max, GroupSpec, aggregate, group_after, group_hands, group_row, group_rows, keys_from}
 use Rattle.pj_group.specs.Tables.{GroupView, StandsFor}
 use Rattle.pj_events.specs.Tables.{GroupEntry, kept_for, rows_of_table, rows_with_key, table_of, tally, value_of, Tally}
 use Rattle.pj_group.specs.Slots.{GroupSlot, open_groups, with_open}

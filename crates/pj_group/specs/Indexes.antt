@@ -5,6 +5,7 @@ use Rattle.std.specs.Map.{keys_of}
 use Rattle.indexmap.specs.IndexMap.{get, set_value_at}
 use Rattle.pj_value.specs.declared.values.Value.{Value}
 use Rattle.pj_value.specs.Values.{value_eq}
+use Rattle.pj_value.specs.Options.{is_value}
 use Rattle.pj_pattern.specs.declared.element.Element.{Element}
 use Rattle.pj_events.specs.Patterns.{Pattern, matches_row}
 use Rattle.pj_group.specs.Slots.{GroupSlot, MatchesOnly, is_open}
@@ -14,11 +15,6 @@ use Rattle.pj_group.specs.declared.indexes.ColumnIndex.{ColumnIndex}
 use Rattle.pj_group.specs.declared.value_index.ValueIndex.{ValueIndex}
 use Rattle.pj_group.specs.declared.reach.Reach.{Reach}
 use Rattle.pj_group.specs.declared.reach.Reach.TheVariants.{One, Column, Several, All as AllGroups}
-
--- the value is there, and is this one
-abbrev pub is_value : Value → Option Value → Bool
-is_value value None = false
-is_value value (Some there) = value_eq there value
 
 -- the key has this value in this column
 abbrev pub has_value : ℕ → Value → List Value → Bool

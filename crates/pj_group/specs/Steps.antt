@@ -3,10 +3,10 @@ use Rattle.std.specs.Prelude.{ℕ, ◌+◌, ◌<◌, List, [], ◌∷◌, ◌++�
 use Rattle.pj_value.specs.declared.values.Value.{Value}
 use Rattle.pj_value.specs.declared.values.Value.TheVariants.{Int, Text}
 use Rattle.pj_shape.specs.Joining.{value_at}
-use Rattle.pj_events.specs.Operators.{Agg, Count, Sum, Min, Max, GroupSpec, greater, lesser, picked_patterns}
+use Rattle.pj_events.specs.Operators.{Agg, Count, Sum, Min, Max, GroupSpec, greater, lesser}
 use Rattle.pj_pattern.specs.declared.element.Element.{Element}
 use Rattle.pj_pattern.specs.declared.element.Element.TheVariants.{Tuple, Punct}
-use Rattle.pj_pattern.specs.Columns.{others_wild}
+use Rattle.pj_pattern.specs.Columns.{others_wild, picked_patterns}
 use Rattle.pj_events.specs.Patterns.{Pattern, all_wild, matches_row}
 use Rattle.pj_group.specs.Slots.{GroupSlot, open_groups}
 use Rattle.pj_events.specs.Tables.{Greatest, GroupEntry, Least, Rows, Tally, Total, row_of}

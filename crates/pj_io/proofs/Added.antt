@@ -4,7 +4,8 @@ use Rattle.std.specs.Str.{bytes_eq}
 use Rattle.pj_io.specs.declared.memory_file.MemFile.{MemFile}
 use Rattle.pj_io.specs.MemoryFolders.{Added, added_of}
 use Rattle.pj_io.specs.Plans.{fresh_plan}
-use Rattle.pj_io.proofs.Notes.{same_bytes, other_bytes}
+use Rattle.pj_io.proofs.Notes.{same_bytes}
+use Rattle.pj_value.proofs.Bytes.{other_bytes}
 
 -- where the first choice is none, the second is the answer
 behind_none : (b : Bool) (here there : Added) (o p : Option Added) → (o ≡ None → p ≡ Some there) → cond b (Some here) o ≡ None → cond b (Some here) p ≡ Some there

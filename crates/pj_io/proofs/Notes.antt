@@ -8,12 +8,10 @@ use Rattle.std.proofs.lemmas.Option.{same_Some}
 use Rattle.std.proofs.Common.{◌≤◌}
 use Rattle.pj_io.specs.Folders.{SameElsewhere, NoneFalls, KeepsNames}
 use Rattle.pj_io.specs.Books.{place_of, noted, opened_in, has_note, behind}
+use Rattle.pj_value.proofs.Bytes.{other_bytes}
 
 pub same_bytes : (xs : List ℕ) → bytes_eq xs xs ≡ true
 same_bytes xs = (bytes_eq-Decides xs xs).1 refl
-
-pub other_bytes : (xs ys : List ℕ) → (xs ≡ ys → ⊥) → bytes_eq xs ys ≡ false
-other_bytes xs ys differ = false_from_ne_true (bytes_eq xs ys) (λ e. differ ((bytes_eq-Decides xs ys).0 e))
 
 -- a note with nothing yet, added at the end
 pub noted_push : {A : Type 0} (f : Note → A) (z : A) (ns : List Note) (n : Note) (name : List ℕ) → f n ≡ z → noted f z (ns ++ n ∷ []) name ≡ noted f z ns name

@@ -1,13 +1,13 @@
 -- A join that gives every tuple hands up each combination once.
-use Rattle.std.proofs.Common.{ℕ, zero, suc, ◌+◌, ◌<◌, ◌≤◌, Bool, true, false, cond, ◌&&◌, ◌||◌, not, List, [], ◌∷◌, ◌++◌, ◌≡◌, map, filter, flat_map, refl, sym, ap, ap₂, ◌∙◌, subst, inl, inr, eqb, ltb, arith}
+use Rattle.std.proofs.Common.{ℕ, zero, suc, ◌+◌, ◌<◌, ◌≤◌, Bool, true, false, cond, ◌&&◌, ◌||◌, not, List, [], ◌∷◌, ◌++◌, ◌≡◌, map, filter, flat_map, refl, sym, ap, ◌∙◌, subst, inl, inr, eqb, ltb, arith}
 use Rattle.pj_value.proofs.Bags.{weigh-append, weigh-map, weigh-flat_map, weigh-filter, weigh-agree, weigh-plus, weigh-swap, weigh-split, weigh-le}
 use Rattle.std.proofs.lemmas.Bool.{or_cases, or_right, false≢true, eqb-true, eq-eqb, ne_eqb, cases_eq, lt-ltb, le-ltb}
 use Rattle.std.proofs.lemmas.List.{append-nil}
 use Rattle.std.proofs.lemmas.List.Elements.{filter-append}
 use Rattle.pj_events.specs.Patterns.{Pattern}
 use Rattle.pj_value.specs.Bags.{weigh, SameBag, SubBag}
-use Rattle.pj_events.specs.Join.{In, Value, goes_out, TupleAt, PunctAt, JoinData, JoinState, Step, TupleComes, PunctComes, Take, Give, Sweep, start, inputs, of_input, older, agree, has, kept, is_held, new_tuple, new_punct, step, run, IsAllowed, AreLegalSteps, product, upto_from, candidates, combinations, results, Element, Tuple, Punct, joined, widened, hands_up, outputs, rows_of, puncts_of, all_combinations}
-use Rattle.pj_join_laws.specs.Laws.{HandsUpAllRows, HandsUpAllPuncts, HandsUpNoPuncts}
+use Rattle.pj_events.specs.Join.{In, Value, TupleAt, PunctAt, JoinData, JoinState, Step, TupleComes, PunctComes, Take, Give, Sweep, start, inputs, of_input, older, agree, has, kept, is_held, new_tuple, new_punct, step, run, IsAllowed, AreLegalSteps, product, upto_from, candidates, combinations, results, Element, Tuple, Punct, joined, widened, hands_up, outputs, rows_of, puncts_of, all_combinations}
+use Rattle.pj_join_laws.specs.Laws.{HandsUpAllRows, HandsUpAllPuncts}
 use Rattle.pj_value.proofs.Members.{In-filter, filter-agree, filter-all, map-same}
 use Rattle.pj_join_laws.proofs.Bags.{weigh-product, AreDistinct, weigh-once, weigh-at_most}
 use Rattle.pj_join_laws.proofs.Forget.{IsSound}
@@ -236,7 +236,7 @@ rows-run spec s (e ∷ es) i k l f =
         → ((u : ℕ) → u < s.next → results spec (run spec (step spec s e) es).tuples (run spec (step spec s e) es).tuples u ≡ results spec s.tuples s.tuples u)
         → weigh f (rows_of (hands_up spec s e ++ outputs spec (step spec s e) es)) + weigh (R (run spec (step spec s e) es)) s.given ≡ weigh (R (run spec (step spec s e) es)) (run spec (step spec s e) es).given
     go (TupleComes input row) a ih same = ih
-    go (PunctComes input patterns) a ih same = shut (goes_out spec s (new_punct s input patterns)) ∙ ih
+    go (PunctComes input patterns) a ih same = shut (not (is_held s.stored (new_punct s input patterns))) ∙ ih
       where
         rest : List Element
         rest = outputs spec (step spec s (PunctComes input patterns)) es
@@ -345,12 +345,12 @@ puncts-closed : (spec : JoinData) (ps : List PunctAt) → puncts_of (map (λ p. 
 puncts-closed spec [] = refl
 puncts-closed spec (p ∷ ps) = ap (λ qs. widened spec p ∷ qs) (puncts-closed spec ps)
 
--- what a step of a join that hands up punctuations hands up and what waits after it: what came and what waited before it
-puncts-step : (spec : JoinData) (s : JoinState) (e : Step) (f : List Pattern → ℕ) → spec.propagates ≡ true
+-- what a step of a join hands up and what waits after it: what came and what waited before it
+puncts-step : (spec : JoinData) (s : JoinState) (e : Step) (f : List Pattern → ℕ)
     → weigh f (puncts_of (hands_up spec s e)) + weigh (λ p. f (widened spec p)) (step spec s e).waiting + weigh (λ p. f (widened spec p)) s.puncts
     ≡ weigh (λ p. f (widened spec p)) (step spec s e).puncts + weigh (λ p. f (widened spec p)) s.waiting
-puncts-step spec s (TupleComes input row) f on = omega arith
-puncts-step spec s (PunctComes input patterns) f on = go spec.propagates (is_held s.stored p) on
+puncts-step spec s (TupleComes input row) f = omega arith
+puncts-step spec s (PunctComes input patterns) f = go (is_held s.stored p)
   where
     p : PunctAt
     p = new_punct s input patterns
@@ -358,13 +358,12 @@ puncts-step spec s (PunctComes input patterns) f on = go spec.propagates (is_hel
     g : PunctAt → ℕ
     g q = f (widened spec q)
 
-    go : (a b : Bool) → a ≡ true → weigh f (puncts_of (cond (a && not b) (Punct (widened spec p) ∷ []) [])) + weigh g (cond (a && b) (s.waiting ++ p ∷ []) s.waiting) + weigh g s.puncts ≡ weigh g (s.puncts ++ p ∷ []) + weigh g s.waiting
-    go false b e = absurd (false≢true e)
-    go true true e = omega (arith, weigh-append g s.waiting (p ∷ []), weigh-append g s.puncts (p ∷ []))
-    go true false e = omega (arith, weigh-append g s.puncts (p ∷ []))
-puncts-step spec s (Take u) f on = omega arith
-puncts-step spec s (Give u) f on = omega (arith, ap (weigh f) (puncts-rows (results spec s.tuples s.tuples u)))
-puncts-step spec s (Sweep input) f on =
+    go : (b : Bool) → weigh f (puncts_of (cond (not b) (Punct (widened spec p) ∷ []) [])) + weigh g (cond b (s.waiting ++ p ∷ []) s.waiting) + weigh g s.puncts ≡ weigh g (s.puncts ++ p ∷ []) + weigh g s.waiting
+    go true = omega (arith, weigh-append g s.waiting (p ∷ []), weigh-append g s.puncts (p ∷ []))
+    go false = omega (arith, weigh-append g s.puncts (p ∷ []))
+puncts-step spec s (Take u) f = omega arith
+puncts-step spec s (Give u) f = omega (arith, ap (weigh f) (puncts-rows (results spec s.tuples s.tuples u)))
+puncts-step spec s (Sweep input) f =
     omega (
       arith,
       ap (weigh f) (puncts-closed spec (filter ready s.waiting)),
@@ -384,15 +383,15 @@ puncts-step spec s (Sweep input) f on =
     de_morgan true false = refl
     de_morgan false b = refl
 
-puncts-run : (spec : JoinData) (s : JoinState) (es : List Step) (f : List Pattern → ℕ) → spec.propagates ≡ true
+puncts-run : (spec : JoinData) (s : JoinState) (es : List Step) (f : List Pattern → ℕ)
     → weigh f (puncts_of (outputs spec s es)) + weigh (λ p. f (widened spec p)) (run spec s es).waiting + weigh (λ p. f (widened spec p)) s.puncts
     ≡ weigh (λ p. f (widened spec p)) (run spec s es).puncts + weigh (λ p. f (widened spec p)) s.waiting
-puncts-run spec s [] f on = omega arith
-puncts-run spec s (e ∷ es) f on =
+puncts-run spec s [] f = omega arith
+puncts-run spec s (e ∷ es) f =
     omega (
       arith,
-      puncts-run spec (step spec s e) es f on,
-      puncts-step spec s e f on,
+      puncts-run spec (step spec s e) es f,
+      puncts-step spec s e f,
       ap (weigh f) (puncts_of-append (hands_up spec s e) (outputs spec (step spec s e) es)),
       weigh-append f (puncts_of (hands_up spec s e)) (puncts_of (outputs spec (step spec s e) es)),
     )
@@ -401,42 +400,7 @@ pub hands_up-all_rows : (spec : JoinData) → HandsUpAllRows spec
 hands_up-all_rows spec lt steps legal done = all-rows-given spec lt steps legal done
 
 pub hands_up-all_puncts : (spec : JoinData) → HandsUpAllPuncts spec
-hands_up-all_puncts spec on steps legal done f =
-    let e = puncts-run spec start steps f on in
+hands_up-all_puncts spec steps legal done f =
+    let e = puncts-run spec start steps f in
     let w = ap (weigh (λ (p : PunctAt). f (widened spec p))) done in
     omega (arith, e, w, weigh-map f (widened spec) (run spec start steps).puncts)
-
--- ---- a join that hands up no punctuations
-
-no_puncts-run : (spec : JoinData) (s : JoinState) (es : List Step) → spec.propagates ≡ false → s.waiting ≡ [] → puncts_of (outputs spec s es) ≡ []
-no_puncts-run spec s [] off none = refl
-no_puncts-run spec s (TupleComes input row ∷ es) off none = no_puncts-run spec (step spec s (TupleComes input row)) es off none
-no_puncts-run spec s (PunctComes input patterns ∷ es) off none =
-    puncts_of-append (hands_up spec s (PunctComes input patterns)) (outputs spec s' es)
-    ∙ ap₂ (λ (xs ys : List (List Pattern)). xs ++ ys) (silent spec.propagates off) (no_puncts-run spec s' es off (still spec.propagates off))
-  where
-    p : PunctAt
-    p = new_punct s input patterns
-
-    s' : JoinState
-    s' = step spec s (PunctComes input patterns)
-
-    silent : (a : Bool) → a ≡ false → puncts_of (cond (a && not (is_held s.stored p)) (Punct (widened spec p) ∷ []) []) ≡ []
-    silent false e = refl
-    silent true e = absurd (false≢true (sym e))
-
-    still : (a : Bool) → a ≡ false → cond (a && is_held s.stored p) (s.waiting ++ p ∷ []) s.waiting ≡ []
-    still false e = none
-    still true e = absurd (false≢true (sym e))
-no_puncts-run spec s (Take u ∷ es) off none = no_puncts-run spec (step spec s (Take u)) es off none
-no_puncts-run spec s (Give u ∷ es) off none =
-    puncts_of-append (hands_up spec s (Give u)) (outputs spec (step spec s (Give u)) es)
-    ∙ ap₂ (λ (xs ys : List (List Pattern)). xs ++ ys) (puncts-rows (results spec s.tuples s.tuples u)) (no_puncts-run spec (step spec s (Give u)) es off none)
-no_puncts-run spec s (Sweep input ∷ es) off none =
-    puncts_of-append (hands_up spec s (Sweep input)) (outputs spec (step spec s (Sweep input)) es)
-    ∙ ap₂ (λ (xs ys : List (List Pattern)). xs ++ ys)
-    (ap (λ (ws : List PunctAt). puncts_of (map (λ p. Punct (widened spec p)) (filter (λ p. eqb p.input input && not (is_held (kept spec s input) p)) ws))) none)
-    (no_puncts-run spec (step spec s (Sweep input)) es off (ap (filter (λ p. not (eqb p.input input) || is_held (kept spec s input) p)) none))
-
-pub hands_up-no_puncts : (spec : JoinData) → HandsUpNoPuncts spec
-hands_up-no_puncts spec off steps legal = no_puncts-run spec start steps off refl

@@ -3,9 +3,11 @@ use Rattle.std.proofs.Common.{ℕ, ◌<◌, ◌≤◌, min, Bool, true, false, c
 use Rattle.std.specs.List.{list_all}
 use Rattle.std.proofs.lemmas.Bool.{and_parts, false≢true, eqb-true, eq-eqb, cases_Bool, cases_lt, cases_eq, ltb-true, lt-ltb}
 use Rattle.pj_events.specs.Patterns.{Pattern, matches_row, covers}
-use Rattle.pj_events.specs.Join.{In, TupleAt, PunctAt, ClassCol, CertEntry, JoinData, JoinState, Demand, inputs, arity, cert_of, steps_of, need_of, of_input, older, older_puncts, agree, demand, grown, need, covered, has, least_open, low, ripe, IsNew, MayCome, IsCombination, IsWalk, IsCertified, AreCertified}
+use Rattle.pj_events.specs.Join.{In, TupleAt, PunctAt, ClassCol, CertEntry, JoinData, JoinState, Demand, inputs, arity, cert_of, steps_of, need_of, of_input, older, older_puncts, agree, demand, grown, need, covered, has, least_open, low, ripe, IsNew, MayCome, IsCombination, AreCertified}
 use Rattle.pj_value.proofs.Members.{In-filter, In-filter_from, In-map_from, In-flat_map_from, all_at, all_from, any_at}
 use Rattle.pj_join_laws.proofs.Matching.{agree-mono, AreInputs, asked-matches}
+use Rattle.pj_join_laws.specs.Walks.{IsWalk, IsCertified}
+use Rattle.pj_join_laws.proofs.Walks.{certified_at}
 
 -- ---- what is asked for
 
@@ -33,7 +35,7 @@ pub walk : (spec : JoinData) (rows : List TupleAt) (puncts : List PunctAt) (boun
     → ((x : TupleAt) → In x full → length x.row ≡ arity spec x.input)
     → ((x : TupleAt) → In x full → x.ticket < bound → In x rows)
     → ((x : TupleAt) → In x full → bound ≤ x.ticket → IsNew puncts x.input x.row)
-    → (cert : List CertEntry) (known : List ℕ) (parts : List TupleAt) → IsWalk spec cert known → AreInputs known parts
+    → (cert : List CertEntry) (known : List ℕ) (parts : List TupleAt) → IsWalk spec.shape cert known → AreInputs known parts
     → ((x : TupleAt) → In x parts → In x full)
     → list_all (covered puncts) (need spec.shape.classes rows cert parts) ≡ true
     → (e : CertEntry) → In e cert → (x : TupleAt) → In x full → x.input ≡ e.input → x.ticket < bound
@@ -78,6 +80,20 @@ walk spec rows puncts bound full comb fit early late (d ∷ cert) known parts w 
 
     t' : y.ticket < bound → list_all (covered puncts) (need spec.shape.classes rows cert (y ∷ parts)) ≡ true
     t' lt = need-more (covered puncts) spec.shape.classes rows d cert parts y t (early y iny lt) inp j
+
+-- ---- what a row asks for where it joins by itself
+
+pub all-where : {A : Type 0} (b : Bool) (q : A → Bool) (xs : List A) → b ≡ true → list_all q (cond b xs []) ≡ true → list_all q xs ≡ true
+all-where true q xs e t = t
+all-where false q xs e t = absurd (false≢true e)
+
+pub where-all : {A : Type 0} (b : Bool) (q : A → Bool) (xs : List A) → list_all q xs ≡ true → list_all q (cond b xs []) ≡ true
+where-all true q xs t = t
+where-all false q xs t = refl
+
+pub where-both : {A : Type 0} (b : Bool) (p q : A → Bool) (xs ys : List A) → (list_all p xs ≡ true → list_all q ys ≡ true) → list_all p (cond b xs []) ≡ true → list_all q (cond b ys []) ≡ true
+where-both true p q xs ys f t = f t
+where-both false p q xs ys f t = refl
 
 -- ---- the low-water ticket
 
@@ -155,8 +171,8 @@ ripe-forgotten spec s certs i x hx t parts comb inp reach y hy = go (cases_lt y.
     x-low : x.ticket < low s
     x-low = ltb-true x.ticket (low s) both.0
 
-    cert : IsCertified spec x.input (steps_of spec x.input)
-    cert = certs x.input (i.fit x hx).0
+    cert : IsCertified spec.shape spec.schemes x.input (steps_of spec x.input)
+    cert = certified_at spec certs x.input (i.fit x hx).0
 
     fit : (z : TupleAt) → In z parts → length z.row ≡ arity spec z.input
     fit z hz = elim (reach z hz) [ inl k ↦ (i.fit z k).1 | inr m ↦ m.1 ]
@@ -180,6 +196,9 @@ ripe-forgotten spec s certs i x hx t parts comb inp reach y hy = go (cases_lt y.
     sub z (inl q) = subst (λ (v : TupleAt). In v parts) q inp
     sub z (inr q) = absurd q
 
+    asked : list_all (covered (older_puncts (low s) s.puncts)) (need spec.shape.classes (older (low s) s.stored) (cert_of spec x.input) (x ∷ [])) ≡ true
+    asked = all-where (agree spec.shape.classes (x ∷ [])) _ _ (agree-mono spec.shape.classes (x ∷ []) parts sub comb.joining) both.1
+
     known : AreInputs (x.input ∷ []) (x ∷ [])
     known k (inl q) = (x, inl refl, q)
     known k (inr q) = absurd q
@@ -188,6 +207,6 @@ ripe-forgotten spec s certs i x hx t parts comb inp reach y hy = go (cases_lt y.
     go (inl lt) = lt
     go (inr ge) = elim (cases_eq y.input x.input) [
       | inl same ↦ subst (λ (z : TupleAt). z.ticket < low s) (comb.single x y inp hy (sym same)) x-low
-      | inr other ↦ let e = cert.2 y.input (comb.within y hy) other in
-          walk spec (older (low s) s.stored) (older_puncts (low s) s.puncts) (low s) parts comb fit (early ge) late (cert_of spec x.input) (x.input ∷ []) (x ∷ []) cert.1 known sub both.1 e.0 e.1 y hy (sym e.2)
+      | inr other ↦ let e = cert.others y.input (comb.within y hy) other in
+          walk spec (older (low s) s.stored) (older_puncts (low s) s.puncts) (low s) parts comb fit (early ge) late (cert_of spec x.input) (x.input ∷ []) (x ∷ []) cert.walk known sub asked e.0 e.1 y hy (sym e.2)
     ]

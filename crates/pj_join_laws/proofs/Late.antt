@@ -3,12 +3,14 @@ use Rattle.std.proofs.Common.{ℕ, zero, suc, ◌+◌, ◌<◌, ◌≤◌, ◌�
 use Rattle.std.specs.List.{list_all}
 use Rattle.std.proofs.lemmas.Bool.{and_parts, and_from, false≢true, eqb-true, eq-eqb, cases_eq, lt-ltb, not-true, false_from_ne_true}
 use Rattle.pj_events.specs.Patterns.{Pattern, all_wild, matches_row, covers}
-use Rattle.pj_events.specs.Join.{In, need_of, AllGiven, TupleAt, PunctAt, ClassCol, CertEntry, JoinData, JoinState, Demand, Sweep, start, inputs, arity, cert_of, older, older_puncts, instance_from, demand, grown, need, covered, low, ripe, kept, is_held, step, run, IsSettled, IsWalk, AreCertified}
+use Rattle.pj_events.specs.Join.{In, need_of, AllGiven, TupleAt, PunctAt, ClassCol, CertEntry, JoinData, JoinState, Demand, Sweep, start, inputs, arity, cert_of, older, older_puncts, instance_from, demand, grown, need, covered, low, ripe, kept, is_held, step, run, IsSettled, AreCertified, agree}
 use Rattle.pj_join_laws.specs.Laws.{Settles, sweeps_from}
 use Rattle.pj_join_laws.proofs.PatternFacts.{wilds-cover}
 use Rattle.pj_value.proofs.Members.{In-filter, In-filter_from, In-flat_map, all_from, any_from, none_from}
-use Rattle.pj_join_laws.proofs.Forget.{least_open-from, IsSound, stored-in}
+use Rattle.pj_join_laws.proofs.Forget.{least_open-from, IsSound, stored-in, where-all}
 use Rattle.pj_join_laws.proofs.Sound.{sound-start, sound-run, sound-step, run-append}
+use Rattle.pj_join_laws.specs.Walks.{IsWalk}
+use Rattle.pj_join_laws.proofs.Walks.{certified_at}
 
 instance-length : (classes : List (List ClassCol)) (input column : ℕ) (marks : List Bool) (parts : List TupleAt) → length (instance_from classes input column marks parts) ≡ length marks
 instance-length classes input column [] parts = refl
@@ -20,7 +22,7 @@ abbrev pub HasEnded : JoinData → List PunctAt → Type 0
 HasEnded spec puncts = (k : ℕ) → k < inputs spec → (p : PunctAt) × In p puncts × (p.input ≡ k) × (p.patterns ≡ all_wild (arity spec k))
 
 -- all is covered then
-all-covered : (spec : JoinData) (puncts : List PunctAt) (rows : List TupleAt) → HasEnded spec puncts → (cert : List CertEntry) (known : List ℕ) (parts : List TupleAt) → IsWalk spec cert known
+all-covered : (spec : JoinData) (puncts : List PunctAt) (rows : List TupleAt) → HasEnded spec puncts → (cert : List CertEntry) (known : List ℕ) (parts : List TupleAt) → IsWalk spec.shape cert known
     → list_all (covered puncts) (need spec.shape.classes rows cert parts) ≡ true
 all-covered spec puncts rows ended [] known parts w = refl
 all-covered spec puncts rows ended (e ∷ cert) known parts w =
@@ -47,7 +49,8 @@ ended-ripe : (spec : JoinData) (s : JoinState) → AreCertified spec → IsSound
 ended-ripe spec s certs i given ended x h =
     and_from (ltb x.ticket (low s)) (list_all (covered (older_puncts (low s) s.puncts)) (need_of spec (older (low s) s.stored) x))
     (lt-ltb x.ticket (low s) (omega (arith, top, (stored-in spec s i x h).1)))
-    (all-covered spec (older_puncts (low s) s.puncts) (older (low s) s.stored) ended' (cert_of spec x.input) (x.input ∷ []) (x ∷ []) (certs x.input (i.fit x (stored-in spec s i x h).0).0).1)
+    (where-all (agree spec.shape.classes (x ∷ [])) _ _
+    (all-covered spec (older_puncts (low s) s.puncts) (older (low s) s.stored) ended' (cert_of spec x.input) (x.input ∷ []) (x ∷ []) (certified_at spec certs x.input (i.fit x (stored-in spec s i x h).0).0).walk))
   where
     top : s.next ≤ low s
     top = least_open-from s.given s.next s.next s.tuples (omega arith) (λ y m o. absurd (false≢true (sym o ∙ given y m)))

@@ -3,7 +3,7 @@ use Rattle.std.proofs.Common.{ℕ, ◌+◌, ◌<◌, Bool, true, false, cond, �
 use Rattle.pj_value.proofs.Members.{In-append_left, In-append_right, In-append_cases, In-filter, In-filter_from, In-map, In-flat_map, all_at, none_from, none_at}
 use Rattle.std.proofs.lemmas.Bool.{and_parts, and_from, false≢true, eqb-true, eq-eqb, not-true, false_from_ne_true}
 use Rattle.pj_events.specs.Patterns.{Pattern, all_wild, matches_row}
-use Rattle.pj_events.specs.Join.{In, Value, arities, goes_out, TupleAt, PunctAt, JoinData, JoinState, Step, TupleComes, PunctComes, Take, Give, Sweep, start, inputs, arity, agree, has, ripe, kept, is_held, new_tuple, new_punct, step, IsAllowed, AreLegalSteps, IsCombination, product, upto_from, candidates, combinations, results, Tuple, Punct, joined, widened, hands_up, outputs}
+use Rattle.pj_events.specs.Join.{In, Value, arities, TupleAt, PunctAt, JoinData, JoinState, Step, TupleComes, PunctComes, Take, Give, Sweep, start, inputs, arity, agree, has, ripe, kept, is_held, new_tuple, new_punct, step, IsAllowed, AreLegalSteps, IsCombination, product, upto_from, candidates, combinations, results, Tuple, Punct, joined, widened, hands_up, outputs}
 use Rattle.pj_join_laws.specs.Laws.{HandsUpLawfully}
 use Rattle.pj_pattern.specs.Elements.{IsLawful, NoneMatches}
 use Rattle.pj_pattern.proofs.Lawful.{lawful_append, no_punct, no_row, rows_lawful, puncts_lawful, none_from as none_matches}
@@ -96,7 +96,7 @@ held-on spec s (Sweep input) a p hp o = (
 -- the rows of one step
 step-clear : (spec : JoinData) (s : JoinState) (e : Step) → IsSound spec s → IsAllowed spec s e → (p : PunctAt) → In p s.puncts → is_held s.stored p ≡ false → (r : List Value) → In (Tuple r) (hands_up spec s e) → matches_row (widened spec p) r ≡ false
 step-clear spec s (TupleComes input row) i a p hp o r h = absurd h
-step-clear spec s (PunctComes input patterns) i a p hp o r h = absurd (go (goes_out spec s (new_punct s input patterns)) h)
+step-clear spec s (PunctComes input patterns) i a p hp o r h = absurd (go (not (is_held s.stored (new_punct s input patterns))) h)
   where
     go : (b : Bool) → In (Tuple r) (cond b (Punct (widened spec (new_punct s input patterns)) ∷ []) []) → ⊥
     go false k = k
@@ -122,14 +122,14 @@ run-clear spec s (e ∷ es) i l p hp o r h =
 handed-clear : (spec : JoinData) (s : JoinState) (e : Step) → IsSound spec s → (ps : List Pattern) → In (Punct ps) (hands_up spec s e)
     → (p : PunctAt) × (widened spec p ≡ ps) × In p (step spec s e).puncts × (is_held (step spec s e).stored p ≡ false)
 handed-clear spec s (TupleComes input row) i ps h = absurd h
-handed-clear spec s (PunctComes input patterns) i ps h = go (goes_out spec s p) refl h
+handed-clear spec s (PunctComes input patterns) i ps h = go (not (is_held s.stored p)) refl h
   where
     p : PunctAt
     p = new_punct s input patterns
 
-    go : (b : Bool) → goes_out spec s p ≡ b → In (Punct ps) (cond b (Punct (widened spec p) ∷ []) []) → (q : PunctAt) × (widened spec q ≡ ps) × In q (s.puncts ++ p ∷ []) × (is_held s.stored q ≡ false)
+    go : (b : Bool) → not (is_held s.stored p) ≡ b → In (Punct ps) (cond b (Punct (widened spec p) ∷ []) []) → (q : PunctAt) × (widened spec q ≡ ps) × In q (s.puncts ++ p ∷ []) × (is_held s.stored q ≡ false)
     go false e k = absurd k
-    go true e (inl q) = (p, cc q, In-append_right p s.puncts (p ∷ []) (inl refl), not-true (is_held s.stored p) (and_parts spec.propagates (not (is_held s.stored p)) e).1)
+    go true e (inl q) = (p, cc q, In-append_right p s.puncts (p ∷ []) (inl refl), not-true (is_held s.stored p) e)
     go true e (inr k) = absurd k
 handed-clear spec s (Take u) i ps h = absurd h
 handed-clear spec s (Give u) i ps h = absurd (no_punct joined (results spec s.tuples s.tuples u) ps h)
@@ -140,7 +140,7 @@ handed-clear spec s (Sweep input) i ps h =
 
 step-lawful : (spec : JoinData) (s : JoinState) (e : Step) → IsLawful (hands_up spec s e)
 step-lawful spec s (TupleComes input row) = tt
-step-lawful spec s (PunctComes input patterns) = go (goes_out spec s (new_punct s input patterns))
+step-lawful spec s (PunctComes input patterns) = go (not (is_held s.stored (new_punct s input patterns)))
   where
     go : (b : Bool) → IsLawful (cond b (Punct (widened spec (new_punct s input patterns)) ∷ []) [])
     go false = tt

@@ -13,3 +13,4 @@ pub mod Complete
 pub mod Stand
 pub mod NoSweeps
 pub mod Tickets
+pub mod Walks

@@ -3,11 +3,13 @@ use Rattle.std.proofs.Common.{ℕ, suc, ◌+◌, Bool, true, false, cond, ◌&&�
 use Rattle.std.proofs.lemmas.Bool.{and_parts, eqb-true, eq-eqb}
 use Rattle.pj_value.specs.declared.values.Value.{Value}
 use Rattle.pj_shape.specs.Joining.{Part, values_in, values, all_equal, has_column, no_value, class_of, class_from}
-use Rattle.pj_events.specs.Patterns.{Pattern, matches_row, covers, MatchesInstance}
-use Rattle.pj_events.specs.Join.{In, TupleAt, ClassCol, part_of, agree, class_at, class_with, constant, instance_from, AreBound}
+use Rattle.pj_events.specs.Patterns.{Pattern, matches_row, covers}
+use Rattle.pj_events.specs.Join.{In, TupleAt, ClassCol, part_of, agree, class_at, class_with, constant, instance_from}
 use Rattle.pj_value.proofs.Members.{In-flat_map, In-flat_map_from, In-map, In-map_from, all_at, all_from, any_at}
 use Rattle.pj_shape.proofs.Joining.{all_equal-at, all_equal-from}
+use Rattle.pj_shape.specs.Instances.{MatchesInstance}
 use Rattle.pj_join_laws.proofs.PatternFacts.{covers-matches}
+use Rattle.pj_join_laws.specs.Walks.{AreBound}
 
 -- ---- rows that join
 

@@ -1,7 +1,9 @@
 -- Joins that are never swept.
-use Rattle.std.proofs.Common.{◌<◌, ◌++◌, List, [], ◌∷◌, ◌≡◌, map, get_or, refl, ap, subst, arith}
-use Rattle.pj_events.specs.Join.{In, Step, TupleComes, PunctComes, Take, Give, Sweep, JoinData, JoinState, CertStep, CertEntry, entry_of, inputs, new_tuple, step, run, start, AreCertified, AreLegalSteps, TupleAt}
+use Rattle.std.proofs.Common.{◌<◌, ◌++◌, List, [], ◌∷◌, ◌≡◌, get_or, refl, ap, subst, arith, length, zero, suc}
+use Rattle.std.proofs.lemmas.List.{length-map}
+use Rattle.pj_events.specs.Join.{Step, TupleComes, PunctComes, Take, Give, Sweep, JoinData, JoinState, CertStep, inputs, new_tuple, step, run, start, AreCertified, AreLegalSteps, TupleAt}
 use Rattle.pj_join_laws.specs.Laws.{AreNoSweeps, AllIsStored, IsNeverSwept}
+use Rattle.pj_shape.specs.Certificates.{steps_at}
 
 stored-run : (spec : JoinData) (s : JoinState) (es : List Step) → s.stored ≡ s.tuples → AreNoSweeps es → (run spec s es).stored ≡ (run spec s es).tuples
 stored-run spec s [] same n = same
@@ -16,10 +18,12 @@ pub all-is-stored : (spec : JoinData) → AllIsStored spec
 all-is-stored spec steps n = stored-run spec start steps refl n
 
 no-certificates : (spec : JoinData) → spec.certs ≡ [] → 1 < inputs spec → AreCertified spec → ⊥
-no-certificates spec none lt certs = found.1
+no-certificates spec none lt certs = omega (arith, found)
   where
-    found : (e : CertEntry) × In e [] × (e.input ≡ 1)
-    found = subst (λ (all : List (List CertStep)). (e : CertEntry) × In e (map (entry_of spec.schemes) (get_or all 0 [])) × (e.input ≡ 1)) none ((certs 0 (omega arith)).2 1 lt (λ e. omega (arith, e)))
+    found : zero ≡ suc zero
+    found =
+        subst (λ (all : List (List CertStep)). steps_at (get_or all 0 []) 1 ≡ 1) none
+        ((certs.each 0 (omega (arith, lt))).once 1 (let long = length-map spec.shape.inputs length in omega (arith, lt, long)) (λ e. omega (arith, e)))
 
 never-run : (spec : JoinData) (s : JoinState) (es : List Step) → (AreCertified spec → ⊥) → AreLegalSteps spec s es → AreNoSweeps es
 never-run spec s [] not-certified l = tt

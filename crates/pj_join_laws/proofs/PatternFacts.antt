@@ -2,8 +2,9 @@
 use Rattle.std.proofs.Common.{ℕ, zero, suc, true, List, [], ◌∷◌, ◌≡◌, Option, Some, None, length, refl, ap, ◌∙◌, arith}
 use Rattle.std.proofs.lemmas.Bool.{and_parts, and_from, false≢true}
 use Rattle.pj_value.specs.declared.values.Value.{Value}
-use Rattle.pj_events.specs.Patterns.{Pattern, all_wild, is_wild, matches_value, matches_row, covers, MatchesInstance}
+use Rattle.pj_events.specs.Patterns.{Pattern, all_wild, is_wild, matches_value, matches_row, covers}
 use Rattle.pj_pattern.proofs.Covering.{wild_matches}
+use Rattle.pj_shape.specs.Instances.{MatchesInstance}
 
 -- wildcards alone cover each instance of their length
 pub wilds-cover : (n : ℕ) (cells : List (Option Value)) → length cells ≡ n → covers (all_wild n) cells ≡ true

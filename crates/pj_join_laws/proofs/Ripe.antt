@@ -3,12 +3,14 @@ use Rattle.std.proofs.Common.{ℕ, ◌≤◌, Bool, true, ◌&&◌, not, List, [
 use Rattle.std.specs.List.{list_all}
 use Rattle.std.proofs.lemmas.Bool.{and_parts, and_from, false≢true, eqb-true, cases_lt, ltb-true, lt-ltb}
 use Rattle.pj_events.specs.Patterns.{matches_row, covers}
-use Rattle.pj_events.specs.Join.{need_of, In, TupleAt, PunctAt, CertEntry, JoinData, JoinState, Demand, Step, TupleComes, PunctComes, Take, Give, Sweep, start, arity, cert_of, of_input, older, older_puncts, agree, demand, grown, need, covered, low, ripe, new_tuple, new_punct, step, run, IsNew, AreLegalSteps, IsWalk, AreCertified}
+use Rattle.pj_events.specs.Join.{need_of, In, TupleAt, PunctAt, CertEntry, JoinData, JoinState, Demand, Step, TupleComes, PunctComes, Take, Give, Sweep, start, arity, cert_of, of_input, older, older_puncts, agree, demand, grown, need, covered, low, ripe, new_tuple, new_punct, step, run, IsNew, AreLegalSteps, AreCertified}
 use Rattle.pj_join_laws.specs.Laws.{StaysRipe, RipeWhenCovered}
 use Rattle.pj_value.proofs.Members.{In-append_left, In-append_cases, In-filter, In-filter_from, In-map, In-flat_map, all_at, all_from, any_at, any_from}
 use Rattle.pj_join_laws.proofs.Matching.{AreInputs, asked-matches}
-use Rattle.pj_join_laws.proofs.Forget.{need-more, covered-at, least_open-le, IsSound, stored-in, ripe-low}
+use Rattle.pj_join_laws.proofs.Forget.{need-more, covered-at, least_open-le, IsSound, stored-in, ripe-low, where-both}
 use Rattle.pj_join_laws.proofs.Sound.{sound-start, sound-run, low-run}
+use Rattle.pj_join_laws.specs.Walks.{IsWalk}
+use Rattle.pj_join_laws.proofs.Walks.{certified_at}
 
 -- the row cannot meet what these punctuations cover
 abbrev pub IsBarred : JoinData → List PunctAt → TupleAt → Type 0
@@ -17,7 +19,7 @@ IsBarred spec puncts y = (length y.row ≡ arity spec y.input) × IsNew puncts y
 -- one more row is among those before, or cannot meet what was covered
 shrink_each : (spec : JoinData) (rows : List TupleAt) (puncts : List PunctAt) (q : Demand → Bool) (rows' : List TupleAt)
     → ((y : TupleAt) → In y rows' → In y rows ⊎ IsBarred spec puncts y)
-    → (e : CertEntry) (cert : List CertEntry) (known : List ℕ) (parts : List TupleAt) → IsWalk spec (e ∷ cert) known → AreInputs known parts
+    → (e : CertEntry) (cert : List CertEntry) (known : List ℕ) (parts : List TupleAt) → IsWalk spec.shape (e ∷ cert) known → AreInputs known parts
     → list_all (covered puncts) (need spec.shape.classes rows (e ∷ cert) parts) ≡ true
     → ((y : TupleAt) → AreInputs (e.input ∷ known) (y ∷ parts) → list_all (covered puncts) (need spec.shape.classes rows cert (y ∷ parts)) ≡ true → list_all q (need spec.shape.classes rows' cert (y ∷ parts)) ≡ true)
     → (more : List TupleAt) → In more (grown spec.shape.classes rows' e parts) → list_all q (need spec.shape.classes rows' cert more) ≡ true
@@ -59,7 +61,7 @@ shrink_each spec rows puncts q rows' old e cert known parts w ks t ih more h =
 pub shrink : (spec : JoinData) (rows : List TupleAt) (puncts : List PunctAt) (q : Demand → Bool) (rows' : List TupleAt)
     → ((y : TupleAt) → In y rows' → In y rows ⊎ IsBarred spec puncts y)
     → ((d : Demand) → covered puncts d ≡ true → q d ≡ true)
-    → (cert : List CertEntry) (known : List ℕ) (parts : List TupleAt) → IsWalk spec cert known → AreInputs known parts
+    → (cert : List CertEntry) (known : List ℕ) (parts : List TupleAt) → IsWalk spec.shape cert known → AreInputs known parts
     → list_all (covered puncts) (need spec.shape.classes rows cert parts) ≡ true → list_all q (need spec.shape.classes rows' cert parts) ≡ true
 shrink spec rows puncts q rows' old mono [] known parts w ks t = refl
 shrink spec rows puncts q rows' old mono (e ∷ cert) known parts w ks t =
@@ -120,9 +122,10 @@ pub ripe-on : (spec : JoinData) (s : JoinState) (es : List Step) → AreCertifie
 ripe-on spec s es certs i legal i' x hx t =
     and_from (ltb x.ticket (low s')) (list_all (covered (older_puncts (low s') s'.puncts)) (need_of spec (older (low s') s'.stored) x))
     (lt-ltb x.ticket (low s') (omega (arith, up, ripe-low spec s x t)))
+    (where-both (agree spec.shape.classes (x ∷ [])) _ _ _ _
     (shrink spec (older (low s) s.stored) (older_puncts (low s) s.puncts) (covered (older_puncts (low s') s'.puncts)) (older (low s') s'.stored)
     rows (covered-mono (older_puncts (low s) s.puncts) (older_puncts (low s') s'.puncts) more) (cert_of spec x.input) (x.input ∷ []) (x ∷ [])
-    (certs x.input (i.fit x hx).0).1 (known-one x)
+    (certified_at spec certs x.input (i.fit x hx).0).walk (known-one x))
     (and_parts (ltb x.ticket (low s)) (list_all (covered (older_puncts (low s) s.puncts)) (need_of spec (older (low s) s.stored) x)) t).1)
   where
     s' : JoinState
@@ -169,10 +172,11 @@ pub ripe-when_covered : (spec : JoinData) → AreCertified spec → RipeWhenCove
 ripe-when_covered spec certs steps legal x hx lt t =
     and_from (ltb x.ticket (low s)) (list_all (covered (older_puncts (low s) s.puncts)) (need_of spec (older (low s) s.stored) x))
     (lt-ltb x.ticket (low s) lt)
+    (where-both (agree spec.shape.classes (x ∷ [])) _ _ _ _
     (shrink spec (older (low s) s.tuples) (older_puncts (low s) s.puncts) (covered (older_puncts (low s) s.puncts)) (older (low s) s.stored)
     (λ y h. let q = In-filter (λ (z : TupleAt). ltb z.ticket (low s)) y s.stored h in
     inl (In-filter_from (λ (z : TupleAt). ltb z.ticket (low s)) y s.tuples (stored-in spec s sound y q.0).0 q.1))
-    (λ d k. k) (cert_of spec x.input) (x.input ∷ []) (x ∷ []) (certs x.input (sound.fit x hx).0).1 (known-one x) t)
+    (λ d k. k) (cert_of spec x.input) (x.input ∷ []) (x ∷ []) (certified_at spec certs x.input (sound.fit x hx).0).walk (known-one x)) t)
   where
     s : JoinState
     s = run spec start steps

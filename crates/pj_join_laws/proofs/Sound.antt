@@ -3,7 +3,7 @@ use Rattle.std.proofs.Common.{ℕ, ◌+◌, ◌<◌, ◌≤◌, Bool, true, fals
 use Rattle.std.proofs.lemmas.Bool.{and_parts, and_cases, or_parts, or_right, false≢true, eq-eqb, ne_eqb, cases_Bool, not-false}
 use Rattle.std.proofs.lemmas.List.Elements.{filter-append}
 use Rattle.pj_events.specs.Patterns.{matches_row}
-use Rattle.pj_events.specs.Join.{In, TupleAt, PunctAt, JoinData, JoinState, Step, TupleComes, PunctComes, Take, Give, Sweep, start, inputs, arity, has, low, ripe, kept, is_held, must_wait, new_tuple, new_punct, step, run, IsAllowed, AreLegalSteps, MayCome, AreCertified}
+use Rattle.pj_events.specs.Join.{In, TupleAt, PunctAt, JoinData, JoinState, Step, TupleComes, PunctComes, Take, Give, Sweep, start, inputs, arity, has, low, ripe, kept, is_held, new_tuple, new_punct, step, run, IsAllowed, AreLegalSteps, MayCome, AreCertified}
 use Rattle.pj_join_laws.specs.Laws.{NeverNeeded}
 use Rattle.pj_value.proofs.Members.{In-append_left, In-append_right, In-append_cases, In-filter, In-filter_from, filter-agree, filter-filter}
 use Rattle.pj_join_laws.proofs.Forget.{least_open-le, least_open-below, least_open-from, Reached, WasForgotten, IsSound, ripe-low, stored-in, ripe-forgotten}
@@ -96,7 +96,7 @@ sound-step spec s (PunctComes input patterns) i a = record {
     | inr m ↦ absurd (omega (arith, l, i.numbered x h, late p m))
   ];
   punct_fit = λ p h. elim (In-append_cases p s.puncts (new_punct s input patterns ∷ []) h) [ inl k ↦ i.punct_fit p k | inr k ↦ fits' p k ];
-  waits = wait (must_wait spec s (new_punct s input patterns));
+  waits = wait (is_held s.stored (new_punct s input patterns));
   keep = i.keep;
   stored_is = i.stored_is;
   forgotten = λ x h e. forgotten-on spec s (PunctComes input patterns) a x (i.forgotten x h e);
@@ -189,6 +189,10 @@ run-append spec s (x ∷ xs) ys = run-append spec (step spec s x) xs ys
 pub legal-more : (spec : JoinData) (s : JoinState) (steps : List Step) (e : Step) → AreLegalSteps spec s steps → IsAllowed spec (run spec s steps) e → AreLegalSteps spec s (steps ++ e ∷ [])
 legal-more spec s [] e l a = (a, tt)
 legal-more spec s (d ∷ steps) e l a = (l.0, legal-more spec (step spec s d) steps e l.1 a)
+
+pub legal-front : (spec : JoinData) (s : JoinState) (before later : List Step) → AreLegalSteps spec s (before ++ later) → AreLegalSteps spec s before × AreLegalSteps spec (run spec s before) later
+legal-front spec s [] later l = (tt, l)
+legal-front spec s (e ∷ before) later l = let r = legal-front spec (step spec s e) before later l.1 in ((l.0, r.0), r.1)
 
 pub reached-all : (spec : JoinData) (s : JoinState) (es : List Step) → AreLegalSteps spec s es → (y : TupleAt) → Reached spec (run spec s es) y → Reached spec s y
 reached-all spec s [] l y h = h

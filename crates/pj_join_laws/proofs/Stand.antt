@@ -1,14 +1,15 @@
 -- Steps on what is kept.
-use Rattle.std.proofs.Common.{ℕ, ◌+◌, ◌<◌, min, Bool, true, false, cond, ◌&&◌, ◌||◌, not, List, [], ◌∷◌, ◌++◌, ◌≡◌, map, filter, refl, sym, ap, ◌∙◌, eqb, ltb, arith}
+use Rattle.std.proofs.Common.{ℕ, ◌+◌, ◌<◌, min, Bool, true, false, cond, ◌&&◌, ◌||◌, not, List, [], ◌∷◌, ◌++◌, ◌≡◌, map, filter, refl, sym, ap, ◌∙◌, eqb, ltb}
 use Rattle.std.specs.List.{list_all}
-use Rattle.std.proofs.lemmas.Bool.{false≢true, false_from_ne_true}
+use Rattle.std.proofs.lemmas.Bool.{false≢true}
 use Rattle.std.proofs.lemmas.List.{map-append}
 use Rattle.std.proofs.lemmas.List.Elements.{filter-append}
-use Rattle.pj_events.specs.Join.{need_of, TupleAt, JoinData, JoinState, Step, TupleComes, PunctComes, Take, Give, Sweep, start, inputs, older, older_puncts, covered, has, least_open, low, kept, is_held, new_tuple, step, run}
-use Rattle.pj_events.specs.KeptState.{KeptState, lacking, kept_of, least, kept_low, swept, without, kept_step}
+use Rattle.pj_events.specs.Join.{need_of, TupleAt, JoinData, JoinState, Step, TupleComes, PunctComes, Take, Give, Sweep, start, inputs, older, older_puncts, covered, has, least_open, low, kept, is_held, new_tuple, step, run, ripe}
+use Rattle.pj_events.specs.KeptState.{KeptState, lacking, kept_of, least, kept_low, swept, without, kept_step, kept_ripe}
 use Rattle.pj_join_laws.specs.Laws.{StepsStand}
 use Rattle.pj_join_laws.proofs.Sound.{sound-start, run-append}
 use Rattle.pj_join_laws.proofs.Complete.{IsCounted, counted-start, counted-run, eqb-sym}
+use Rattle.pj_value.proofs.Numbers.{has-new}
 
 pub least-lacking : (given : List ℕ) (next : ℕ) (xs : List TupleAt) → least next (lacking given xs) ≡ least_open given next xs
 least-lacking given next [] = refl
@@ -47,15 +48,15 @@ lacking-cons u ns (x ∷ xs) = go (eqb u x.ticket) (eqb x.ticket u) (has ns x.ti
     go false b true e t ih = ih
     go false b false e t ih = ap (λ ts. x.ticket ∷ ts) ih ∙ sym (without-keep x.ticket u (lacking ns xs) (t ∙ sym e))
 
-has-new : (ns : List ℕ) (n : ℕ) → ((u : ℕ) → has ns u ≡ true → u < n) → has ns n ≡ false
-has-new ns n f = false_from_ne_true (has ns n) (λ t. let l : n < n = f n t in omega arith)
-
-lacking-more : (ns : List ℕ) (xs : List TupleAt) (x : TupleAt) → has ns x.ticket ≡ false → lacking ns (xs ++ x ∷ []) ≡ lacking ns xs ++ x.ticket ∷ []
+pub lacking-more : (ns : List ℕ) (xs : List TupleAt) (x : TupleAt) → has ns x.ticket ≡ false → lacking ns (xs ++ x ∷ []) ≡ lacking ns xs ++ x.ticket ∷ []
 lacking-more ns xs x h =
     ap (map (λ z. z.ticket)) (filter-append (λ z. not (has ns z.ticket)) xs (x ∷ []) ∙ ap (λ b. filter (λ z. not (has ns z.ticket)) xs ++ cond (not b) (x ∷ []) []) h)
     ∙ map-append (λ z. z.ticket) (filter (λ z. not (has ns z.ticket)) xs) (x ∷ [])
 
-swept-same : (spec : JoinData) (s : JoinState) (input : ℕ) → swept spec (kept_of s) input ≡ kept spec s input
+pub ripe-same : (spec : JoinData) (s : JoinState) (x : TupleAt) → kept_ripe spec (kept_of s) x ≡ ripe spec s x
+ripe-same spec s x = ap (λ l. ltb x.ticket l && list_all (covered (older_puncts l s.puncts)) (need_of spec (older l s.stored) x)) (low-kept s)
+
+pub swept-same : (spec : JoinData) (s : JoinState) (input : ℕ) → swept spec (kept_of s) input ≡ kept spec s input
 swept-same spec s input = ap (λ l. filter (λ x. not (eqb x.input input && (ltb x.ticket l && list_all (covered (older_puncts l s.puncts)) (need_of spec (older l s.stored) x)))) s.stored) (low-kept s)
 
 pub kept-step : (spec : JoinData) (s : JoinState) (e : Step) → IsCounted spec s → kept_step spec (kept_of s) e ≡ kept_of (step spec s e)

@@ -1,15 +1,12 @@
 -- A joined row matches_row a widened punctuation exactly where the row of its input matches_row the punctuation.
-use Rattle.std.proofs.Common.{ℕ, zero, suc, ◌+◌, Bool, true, false, ◌&&◌, List, [], ◌∷◌, ◌++◌, ◌≡◌, take, drop, length, get_or, sum, refl, sym, ap, ◌∙◌, inl, inr, arith, append_assoc}
+use Rattle.std.proofs.Common.{ℕ, zero, suc, ◌+◌, ◌&&◌, List, [], ◌∷◌, ◌++◌, ◌≡◌, take, drop, length, get_or, sum, refl, sym, ap, ◌∙◌, inl, inr, arith, append_assoc}
 use Rattle.std.proofs.lemmas.List.{replicate-append-replicate, length-append}
 use Rattle.std.proofs.lemmas.List.Sums.{sum_by-cons}
+use Rattle.std.proofs.Math.Bool.{and-true}
 use Rattle.pj_events.specs.Patterns.{Pattern, wild, all_wild, matches_row}
 use Rattle.pj_events.specs.Join.{In, TupleAt, joined}
 use Rattle.pj_pattern.proofs.Rows.{matches-append, wilds-match, wilds-length}
 use Rattle.pj_join_laws.proofs.Results.{AreInOrder, order-within}
-
-and_true : (b : Bool) → (b && true) ≡ b
-and_true true = refl
-and_true false = refl
 
 abbrev pub HaveLengths : List ℕ → List TupleAt → Type 0
 HaveLengths [] [] = Unit {0}
@@ -43,7 +40,7 @@ widen-matches k (a ∷ lens) (x ∷ c) zero z ps o h (inr m) e l = absurd (let r
 widen-matches k (a ∷ lens) (x ∷ c) zero z ps o h (inl q) e l =
     matches-append ps (all_wild (sum lens)) x.row (joined c) (l ∙ ap (λ (y : TupleAt). length y.row) (sym q))
     ∙ ap (λ b. matches_row ps x.row && b) (wilds-match (joined c) (sum lens) (joined-length lens c h.1))
-    ∙ and_true (matches_row ps x.row) ∙ ap (λ (y : TupleAt). matches_row ps y.row) q
+    ∙ and-true (matches_row ps x.row) ∙ ap (λ (y : TupleAt). matches_row ps y.row) q
 widen-matches k (a ∷ lens) (x ∷ c) (suc i) z ps o h (inl q) e l = absurd (omega (arith, o.0, e, ap (λ (y : TupleAt). y.input) q))
 widen-matches k (a ∷ lens) (x ∷ c) (suc i) z ps o h (inr m) e l =
     ap (λ qs. matches_row qs (x.row ++ joined c)) shape

@@ -48,16 +48,11 @@ HandsUpAllRows spec =
     0 < inputs spec → (steps : List Step) → AreLegalSteps spec start steps → AllGiven (run spec start steps)
     → SameBag (rows_of (outputs spec start steps)) (map joined (all_combinations spec (run spec start steps).tuples))
 
--- A join that hands up punctuations hands up each of them once, widened, as a bag, once none waits
+-- A join hands up each punctuation once, widened, as a bag, once none waits
 abbrev pub HandsUpAllPuncts : JoinData → Type 0
 HandsUpAllPuncts spec =
-    spec.propagates ≡ true → (steps : List Step) → AreLegalSteps spec start steps → (run spec start steps).waiting ≡ []
+    (steps : List Step) → AreLegalSteps spec start steps → (run spec start steps).waiting ≡ []
     → SameBag (puncts_of (outputs spec start steps)) (map (widened spec) (run spec start steps).puncts)
-
--- A join that hands up no punctuations hands up none
-abbrev pub HandsUpNoPuncts : JoinData → Type 0
-HandsUpNoPuncts spec =
-    spec.propagates ≡ false → (steps : List Step) → AreLegalSteps spec start steps → puncts_of (outputs spec start steps) ≡ []
 
 -- no step is a sweep
 abbrev pub IsNoSweep : Step → Type 0

@@ -1,7 +1,7 @@
 // Laws of one join, over its definitions alone.
 ghost use Rattle.std.specs.Prelude.{◌<◌};
 ghost use Rattle.pj_events.specs.Join.{AreCertified, JoinData, inputs};
-ghost use Rattle.pj_join_laws.specs.Laws.{AllIsStored, HandsUpAllPuncts, HandsUpAllRows, HandsUpLawfully, HandsUpNoPuncts, IsNeverSwept, NeverNeeded, RipeWhenCovered, Settles, StaysRipe, StepsStand, StoredSuffice};
+ghost use Rattle.pj_join_laws.specs.Laws.{AllIsStored, HandsUpAllPuncts, HandsUpAllRows, HandsUpLawfully, IsNeverSwept, NeverNeeded, RipeWhenCovered, Settles, StaysRipe, StepsStand, StoredSuffice};
 
 /// A row that a sweep removes is never needed again, and what is stored gives all results of a tuple that is not given.
 pub fn forgetting_is_safe()
@@ -21,11 +21,10 @@ pub fn lawfulness()
 {}
 
 /// Whatever the order of takes and gives: once every tuple is given the join has handed up each combination once, and
-/// once no punctuation waits each punctuation once, or none where it hands up none.
+/// once no punctuation waits each punctuation once.
 pub fn completeness()
     ensures rows { (spec : JoinData) → HandsUpAllRows spec }
     ensures puncts { (spec : JoinData) → HandsUpAllPuncts spec }
-    ensures no_puncts { (spec : JoinData) → HandsUpNoPuncts spec }
 {}
 
 /// A join without certificates is never swept, and stores all that arrived.

@@ -1,7 +1,7 @@
 -- The rows that a plan hands up are those of its answer.
 use Rattle.std.proofs.Common.{ℕ, zero, suc, ◌+◌, ◌<◌, ◌≤◌, Bool, true, false, cond, List, [], ◌∷◌, ◌++◌, ◌≡◌, map, filter, flat_map, length, get_or, refl, sym, ap, ap₂, ◌∙◌, subst, inl, inr, eqb, arith, append_assoc, append-nil}
 use Rattle.pj_value.proofs.Bags.{weigh-append, weigh-map, weigh-filter, weigh-agree}
-use Rattle.pj_pattern.specs.Columns.{others_wild}
+use Rattle.pj_pattern.specs.Columns.{others_wild, picked_patterns}
 use Rattle.std.proofs.lemmas.Bool.{eqb-true, eq-eqb, ne_eqb, cases_eq}
 use Rattle.std.proofs.lemmas.List.{map-append, length-map}
 use Rattle.std.proofs.lemmas.List.Elements.{filter-append}
@@ -9,7 +9,7 @@ use Rattle.pj_shape.specs.Joining.{parts_from, join_answer}
 use Rattle.pj_events.specs.Patterns.{Pattern, matches_row}
 use Rattle.pj_value.specs.Bags.{weigh, SameBag}
 use Rattle.pj_events.specs.Join.{In, Value, Part, part_of, joins, joined_row, TupleAt, ClassCol, JoinData, JoinState, Step, TupleComes, PunctComes, Take, Give, Sweep, start, step, run, inputs, AreLegalSteps, of_input, agree, product, upto_from, has, Element, Tuple, Punct, joined, rows_of, new_tuple}
-use Rattle.pj_events.specs.Operators.{picked_cells, union_after, all_sent_from, UnionState, Sent, select_hands, project_hands, picked_patterns}
+use Rattle.pj_events.specs.Operators.{picked_cells, union_after, all_sent_from, UnionState, Sent, select_hands, project_hands}
 use Rattle.pj_events.specs.Plan.{Union, Join, Local, Comes, Fed, Own, hands_all, IsOwn}
 use Rattle.pj_join_laws.proofs.Bags.{weigh-product}
 use Rattle.pj_laws.proofs.Glue.{from_input}

@@ -9,7 +9,7 @@ use Rattle.pj_laws.specs.Climb.{all_inputs, StandBehind, IsTree, local_at, node_
 use Rattle.pj_join_laws.proofs.Complete.{eqb-sym}
 use Rattle.pj_laws.proofs.Glue.{batches-keep}
 use Rattle.pj_laws.proofs.Nodes.{AreEmpty, empty-none, empty-push, brought-none}
-use Rattle.pj_laws.proofs.Probes.{in-has}
+use Rattle.pj_value.proofs.Numbers.{in-has}
 
 -- ---- lists of numbers
 

@@ -149,10 +149,10 @@ adds-climb plan tree history entry = record {
 
 -- ---- what is stored grows in a climb
 
-abbrev stored_in : Operator → ℕ
-stored_in o = length (state_in o).stored
+abbrev pub stored_of : Operator → ℕ
+stored_of o = length (state_in o).stored
 
-stores-one : (o : Operator) (input : ℕ) (e : Element) → stored_in o ≤ stored_in (after o (Comes input e))
+stores-one : (o : Operator) (input : ℕ) (e : Element) → stored_of o ≤ stored_of (after o (Comes input e))
 stores-one (Stream schema sent) input e = omega arith
 stores-one (Select test) input e = omega arith
 stores-one (Project columns) input e = omega arith
@@ -161,7 +161,7 @@ stores-one (Join spec s) input (Tuple row) = omega (arith, length_push s.stored 
 stores-one (Join spec s) input (Punct patterns) = omega arith
 stores-one (Group spec rows) input e = omega arith
 
-stores-all : (o : Operator) (came : List Arrival) → stored_in o ≤ stored_in (after_all o (map local_at came))
+stores-all : (o : Operator) (came : List Arrival) → stored_of o ≤ stored_of (after_all o (map local_at came))
 stores-all o [] = omega arith
 stores-all o (a ∷ came) = omega (arith, stores-one o a.input a.element, stores-all (after o (local_at a)) came)
 

@@ -1,14 +1,14 @@
 -- A punctuation of wildcards alone goes up from every place of a complete run.
 use Rattle.std.proofs.Common.{ℕ, zero, suc, ◌+◌, ◌<◌, ◌≤◌, Bool, true, false, cond, ◌&&◌, ◌||◌, not, List, [], ◌∷◌, ◌++◌, ◌≡◌, ◌⊎◌, map, filter, length, get_or, take, drop, sum, refl, sym, ap, ap₂, ◌∙◌, subst, inl, inr, eqb, arith}
 use Rattle.pj_value.proofs.Members.{In-append_left, In-append_right, In-append_cases, In-filter, In-filter_from, In-map_from, any_from}
-use Rattle.pj_pattern.specs.Columns.{others_wild}
+use Rattle.pj_pattern.specs.Columns.{others_wild, picked_patterns}
 use Rattle.std.specs.List.{list_any}
 use Rattle.std.proofs.lemmas.Bool.{and_from, or_right, false≢true, eqb-true, eq-eqb, cases_Bool, not-true}
 use Rattle.std.proofs.lemmas.List.{replicate-append-replicate, length-map}
 use Rattle.std.proofs.lemmas.List.Sums.{sum_by-take-drop, sum_by-drop_more}
 use Rattle.pj_events.specs.Patterns.{Pattern, wild, all_wild, matches_row, covers_punct}
-use Rattle.pj_events.specs.Join.{In, Value, no_value, arities, must_wait, PunctAt, JoinData, JoinState, Step, TupleComes, PunctComes, Take, Give, Sweep, start, step, run, inputs, arity, is_held, kept, new_punct, Element, Tuple, Punct, widened, hands_up, outputs}
-use Rattle.pj_events.specs.Operators.{picked_cells, picked_patterns, GroupSpec, group_rows, group_after, group_hands, Sent, UnionState, all_sent_from, union_after, union_hands}
+use Rattle.pj_events.specs.Join.{In, Value, no_value, arities, PunctAt, JoinData, JoinState, Step, TupleComes, PunctComes, Take, Give, Sweep, start, step, run, inputs, arity, is_held, kept, new_punct, Element, Tuple, Punct, widened, hands_up, outputs}
+use Rattle.pj_events.specs.Operators.{picked_cells, GroupSpec, group_rows, group_after, group_hands, Sent, UnionState, all_sent_from, union_after, union_hands}
 use Rattle.pj_events.specs.Plan.{Union, Join, Local, Comes, Fed, Own, join_step, hands_all}
 use Rattle.pj_pattern.proofs.Rows.{wilds-match, wilds-cover_punct}
 use Rattle.pj_pattern.specs.Elements.{IsLawful}
@@ -105,7 +105,7 @@ group-wild width spec rows (Punct ps ∷ es) (inl q) =
 waits-out : (spec : JoinData) (s : JoinState) (sts : List Step) (p : PunctAt) → In p s.waiting → In p (run spec s sts).waiting ⊎ In (Punct (widened spec p)) (outputs spec s sts)
 waits-out spec s [] p h = inl h
 waits-out spec s (TupleComes i row ∷ sts) p h = waits-out spec (step spec s (TupleComes i row)) sts p h
-waits-out spec s (PunctComes i ps ∷ sts) p h = elim (waits-out spec (step spec s (PunctComes i ps)) sts p (go (must_wait spec s (new_punct s i ps)))) [
+waits-out spec s (PunctComes i ps ∷ sts) p h = elim (waits-out spec (step spec s (PunctComes i ps)) sts p (go (is_held s.stored (new_punct s i ps)))) [
   | inl k ↦ inl k
   | inr k ↦ inr (In-append_right (Punct (widened spec p)) (hands_up spec s (PunctComes i ps)) (outputs spec (step spec s (PunctComes i ps)) sts) k)
 ]
@@ -140,10 +140,10 @@ waits-out spec s (Sweep i ∷ sts) p h =
     turn false b e = absurd (false≢true (sym e))
 
 -- a punctuation that came is from before, waits or is handed up
-come-out : (spec : JoinData) (s : JoinState) (sts : List Step) (p : PunctAt) → spec.propagates ≡ true → In p (run spec s sts).puncts → In p s.puncts ⊎ (In p (run spec s sts).waiting ⊎ In (Punct (widened spec p)) (outputs spec s sts))
-come-out spec s [] p on h = inl h
-come-out spec s (TupleComes i row ∷ sts) p on h = come-out spec (step spec s (TupleComes i row)) sts p on h
-come-out spec s (PunctComes i ps ∷ sts) p on h = go (come-out spec (step spec s (PunctComes i ps)) sts p on h)
+come-out : (spec : JoinData) (s : JoinState) (sts : List Step) (p : PunctAt) → In p (run spec s sts).puncts → In p s.puncts ⊎ (In p (run spec s sts).waiting ⊎ In (Punct (widened spec p)) (outputs spec s sts))
+come-out spec s [] p h = inl h
+come-out spec s (TupleComes i row ∷ sts) p h = come-out spec (step spec s (TupleComes i row)) sts p h
+come-out spec s (PunctComes i ps ∷ sts) p h = go (come-out spec (step spec s (PunctComes i ps)) sts p h)
   where
     q : PunctAt
     q = new_punct s i ps
@@ -159,9 +159,9 @@ come-out spec s (PunctComes i ps ∷ sts) p on h = go (come-out spec (step spec 
     later (inr k) = inr (In-append_right (Punct (widened spec p)) (hands_up spec s (PunctComes i ps)) (outputs spec s' sts) k)
 
     here : (b : Bool) → is_held s.stored q ≡ b → q ≡ p → W
-    here true e r = later (waits-out spec s' sts p (subst (λ (b : Bool). In p (cond b (s.waiting ++ q ∷ []) s.waiting)) (sym (and_from spec.propagates (is_held s.stored q) on e)) (In-append_right p s.waiting (q ∷ []) (inl r))))
+    here true e r = later (waits-out spec s' sts p (subst (λ (b : Bool). In p (cond b (s.waiting ++ q ∷ []) s.waiting)) (sym e) (In-append_right p s.waiting (q ∷ []) (inl r))))
     here false e r = inr (In-append_left (Punct (widened spec p)) (hands_up spec s (PunctComes i ps)) (outputs spec s' sts)
-        (subst (λ (b : Bool). In (Punct (widened spec p)) (cond b (Punct (widened spec q) ∷ []) [])) (sym (and_from spec.propagates (not (is_held s.stored q)) on (ap not e))) (inl (ap (λ (z : PunctAt). Punct (widened spec z)) r))))
+        (subst (λ (b : Bool). In (Punct (widened spec p)) (cond b (Punct (widened spec q) ∷ []) [])) (sym (ap not e)) (inl (ap (λ (z : PunctAt). Punct (widened spec z)) r))))
 
     go : In p (s.puncts ++ q ∷ []) ⊎ (In p (run spec s' sts).waiting ⊎ In (Punct (widened spec p)) (outputs spec s' sts)) → In p s.puncts ⊎ W
     go (inr k) = inr (later k)
@@ -170,12 +170,12 @@ come-out spec s (PunctComes i ps ∷ sts) p on h = go (come-out spec (step spec 
         one : In p (q ∷ []) → q ≡ p
         one (inl r) = r
         one (inr r) = absurd r
-come-out spec s (Take u ∷ sts) p on h = come-out spec (step spec s (Take u)) sts p on h
-come-out spec s (Give u ∷ sts) p on h = elim (come-out spec (step spec s (Give u)) sts p on h) [
+come-out spec s (Take u ∷ sts) p h = come-out spec (step spec s (Take u)) sts p h
+come-out spec s (Give u ∷ sts) p h = elim (come-out spec (step spec s (Give u)) sts p h) [
   | inl k ↦ inl k
   | inr k ↦ inr (elim k [ inl m ↦ inl m | inr m ↦ inr (In-append_right (Punct (widened spec p)) (hands_up spec s (Give u)) (outputs spec (step spec s (Give u)) sts) m) ])
 ]
-come-out spec s (Sweep i ∷ sts) p on h = elim (come-out spec (step spec s (Sweep i)) sts p on h) [
+come-out spec s (Sweep i ∷ sts) p h = elim (come-out spec (step spec s (Sweep i)) sts p h) [
   | inl k ↦ inl k
   | inr k ↦ inr (elim k [ inl m ↦ inl m | inr m ↦ inr (In-append_right (Punct (widened spec p)) (hands_up spec s (Sweep i)) (outputs spec (step spec s (Sweep i)) sts) m) ])
 ]
@@ -212,10 +212,10 @@ wild-widened spec p lt e =
     behind : ℕ
     behind = sum (drop (p.input + 1) (arities spec))
 
-pub join-wild : (spec : JoinData) (ls : List Local) → spec.propagates ≡ true → 0 < inputs spec → HasWild (arity spec 0) (from_input 0 ls) → (run spec start (join_steps ls)).waiting ≡ [] → HasWild (sum (arities spec)) (hands_all (Join spec start) ls)
-join-wild spec ls on lt h done =
+pub join-wild : (spec : JoinData) (ls : List Local) → 0 < inputs spec → HasWild (arity spec 0) (from_input 0 ls) → (run spec start (join_steps ls)).waiting ≡ [] → HasWild (sum (arities spec)) (hands_all (Join spec start) ls)
+join-wild spec ls lt h done =
     subst (HasWild (sum (arities spec))) (sym (join-hands spec start ls))
-    (elim (come-out spec start (join_steps ls) c.0 on c.1) [
+    (elim (come-out spec start (join_steps ls) c.0 c.1) [
       | inl k ↦ absurd k
       | inr k ↦ elim k [
         | inl m ↦ absurd (subst (λ (xs : List PunctAt). In c.0 xs) done m)

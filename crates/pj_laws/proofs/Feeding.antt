@@ -1,6 +1,6 @@
 -- What arrived at a stream is what its seat made arrive.
 use Rattle.std.proofs.Common.{ℕ, Bool, true, false, cond, ◌&&◌, ◌||◌, List, [], ◌∷◌, ◌++◌, ◌≡◌, eqb, refl, sym, ap, ◌∙◌}
-use Rattle.std.proofs.lemmas.Bool.{false≢true}
+use Rattle.std.proofs.lemmas.Bool.{false≢true, or_parts}
 use Rattle.pj_events.specs.declared.events.Entry.{Entry}
 use Rattle.pj_events.specs.declared.events.Event.{Event}
 use Rattle.pj_events.specs.declared.events.Event.TheVariants.{Arrive, Take as Taken, Give as Given, Sweep as Swept, Drain, Halt, Look, Stopped, Idle}
@@ -58,14 +58,10 @@ closed-next stream mark closed (Look p) h c = h
 closed-next stream mark closed (Stopped s) h c = h
 closed-next stream mark closed Idle h c = h
 
-none-parts : (a b : Bool) → (a || b) ≡ false → (a ≡ false) × (b ≡ false)
-none-parts true b e = absurd (false≢true (sym e))
-none-parts false b e = (refl, e)
-
 pub not-closed : (trace : Bool) (r : Reached) (h : List Entry) (stream : ℕ) → has r.closed stream ≡ false → is_closed stream h ≡ false → has (reached_from trace r h).closed stream ≡ false
 not-closed trace r [] stream h c = h
 not-closed trace r (e ∷ es) stream h c =
-    let p = none-parts (closes stream e.closing e.event) (is_closed stream es) c in
+    let p = or_parts (closes stream e.closing e.event) (is_closed stream es) c in
     not-closed trace (next trace r e) es stream (closed-next stream e.closing r.closed e.event h p.0) p.1
 
 -- ---- one entry more
@@ -73,7 +69,7 @@ not-closed trace r (e ∷ es) stream h c =
 pub closed-more : (stream : ℕ) (h : List Entry) (e : Entry) → is_closed stream h ≡ false → closes stream e.closing e.event ≡ false → is_closed stream (h ++ e ∷ []) ≡ false
 closed-more stream [] e o c = ap (λ (b : Bool). b || false) c
 closed-more stream (x ∷ h) e o c =
-    let p = none-parts (closes stream x.closing x.event) (is_closed stream h) o in
+    let p = or_parts (closes stream x.closing x.event) (is_closed stream h) o in
     ap (λ (b : Bool). b || is_closed stream (h ++ e ∷ [])) p.0 ∙ closed-more stream h e p.1 c
 
 -- an arrival that is no closing leaves a stream as it is

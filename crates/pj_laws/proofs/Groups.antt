@@ -1,5 +1,5 @@
 -- A group hands up each of its groups once, whole.
-use Rattle.std.proofs.Common.{ℕ, ◌+◌, Bool, true, false, cond, ◌&&◌, not, List, [], ◌∷◌, ◌++◌, ◌≡◌, ◌⊎◌, map, filter, length, refl, sym, ap, ap₂, ◌∙◌, subst, inl, inr, arith, append_assoc, append-nil}
+use Rattle.std.proofs.Common.{ℕ, ◌+◌, Bool, true, false, cond, ◌&&◌, not, List, [], ◌∷◌, ◌++◌, ◌≡◌, map, filter, length, refl, sym, ap, ap₂, ◌∙◌, subst, inl, inr, arith, append_assoc, append-nil}
 use Rattle.pj_value.proofs.Orders.{row_same_if_equal, row_equal_itself}
 use Rattle.pj_value.proofs.Bags.{member-of, weigh-append, weigh-map, weigh-agree, weigh-split}
 use Rattle.std.proofs.lemmas.Bool.{false≢true, false_from_ne_true, not-true}
@@ -12,9 +12,9 @@ use Rattle.pj_value.specs.Bags.{weigh, SameBag}
 use Rattle.pj_events.specs.Join.{In, Value, value_at, Element, Tuple, Punct, rows_of}
 use Rattle.pj_pattern.specs.Elements.{IsLawful}
 use Rattle.pj_pattern.proofs.Lawful.{none_at as clear_at}
-use Rattle.pj_events.specs.Operators.{column_of, above_zero, below_zero, Sum, Min, Max, picked_patterns, Agg, Count, GroupSpec, aggregate, keys_from, group_row, group_rows, group_after}
+use Rattle.pj_events.specs.Operators.{column_of, above_zero, below_zero, Sum, Min, Max, Agg, Count, GroupSpec, aggregate, keys_from, group_row, group_rows, group_after}
 use Rattle.pj_value.specs.Values.{row_eq}
-use Rattle.pj_pattern.specs.Columns.{others_wild}
+use Rattle.pj_pattern.specs.Columns.{others_wild, picked_patterns}
 use Rattle.pj_events.proofs.Keys.{AreApart, key-from, key-in, key_of, keys-apart}
 use Rattle.pj_laws.proofs.UnionsAndGroups.{group_all}
 use Rattle.pj_laws.proofs.Operators.{AllFit, picked-at, picked-matches}

@@ -1,6 +1,6 @@
 -- A ticket that a seat took and did not give is open at its join, and its results are those that the seat has seen.
 use Rattle.std.proofs.Common.{ℕ, zero, suc, ◌+◌, ◌<◌, ◌≤◌, Bool, true, false, cond, ◌&&◌, List, [], ◌∷◌, ◌++◌, ◌≡◌, ◌⊎◌, length, get_or, eqb, refl, sym, ap, ◌∙◌, subst, inl, inr, arith, append-nil}
-use Rattle.std.proofs.lemmas.Bool.{eq-eqb, eqb-true, false≢true}
+use Rattle.std.proofs.lemmas.Bool.{eq-eqb, eqb-true, false≢true, false_from_ne_true}
 use Rattle.std.proofs.lemmas.List.Elements.{filter-append}
 use Rattle.pj_value.proofs.Members.{In-append_cases, In-append_left, In-append_right}
 use Rattle.pj_events.specs.declared.events.Entry.{Entry}
@@ -139,10 +139,6 @@ pub record IsOpenAt (plan : List Node) (h : List Entry) (j u : ℕ) : Type 0 whe
   pub opened : has (lacking (run spec start (join_steps_of plan h j)).given (run spec start (join_steps_of plan h j)).tuples) u ≡ true
   pub taken : has (lacking (run spec start (join_steps_of plan h j)).taken (run spec start (join_steps_of plan h j)).tuples) u ≡ false
 
-not-true : (b : Bool) → (b ≡ true → ⊥) → b ≡ false
-not-true true f = absurd (f refl)
-not-true false f = refl
-
 not-false : (b : Bool) → (b ≡ false → ⊥) → b ≡ true
 not-false true f = refl
 not-false false f = absurd (f refl)
@@ -153,7 +149,7 @@ open-under-way plan planned log legal j u way = record {
   spec = way.spec;
   starts = way.starts;
   opened = not-false (has (lacking s.given s.tuples) u) (λ f. false≢true (sym way.not_given ∙ lacking-none s.given s.tuples u come f));
-  taken = not-true (has (lacking s.taken s.tuples) u) (λ t. false≢true (sym (lacking-come s.taken s.tuples u t).1 ∙ way.taken));
+  taken = false_from_ne_true (has (lacking s.taken s.tuples) u) (λ t. false≢true (sym (lacking-come s.taken s.tuples u t).1 ∙ way.taken));
 }
   where
     s : JoinState
@@ -190,7 +186,7 @@ module _ (plan : List Node) (planned : ArePlanned [] plan) (h : List Entry) (leg
         spec = there.1.spec;
         starts = starts;
         taken = is-taken there.1.spec start (join_steps_of plan h j) u (take-among plan h j u a took);
-        not_given = not-true (has s.given u) (λ t. elim (was-given there.1.spec start (join_steps_of plan h j) u t) [
+        not_given = false_from_ne_true (has s.given u) (λ t. elim (was-given there.1.spec start (join_steps_of plan h j) u t) [
           | inl k ↦ false≢true k
           | inr k ↦ (let g = give-from plan h j u k in subst (λ (ns : List ℕ). In g.0 ns) none g.1)
         ]);

@@ -8,7 +8,7 @@ use Rattle.pj_shape.specs.declared.columns.Column.{Column}
 use Rattle.pj_events.specs.Patterns.{all_wild}
 use Rattle.pj_value.specs.Bags.{weigh}
 use Rattle.pj_events.specs.Join.{In, Element, Tuple, Punct, AllGiven, IsSettled, has, rows_of}
-use Rattle.pj_events.specs.Plan.{Operator, Stream, Select, Project, Union, Join, Group, Node, Local, Comes, Fed, Own, after, after_all, fed_to, answers, HasGiven, IsClosedBy, IsDone, IsCompleteRun, ArePlanned, operator_at}
+use Rattle.pj_events.specs.Plan.{Operator, Stream, Select, Project, Union, Join, Group, Node, fed_to, answers, HasGiven, IsClosedBy, IsDone, IsCompleteRun, ArePlanned, operator_at}
 use Rattle.pj_events.specs.declared.events.Entry.{Entry}
 use Rattle.pj_events.specs.declared.events.Event.{Event}
 use Rattle.pj_events.specs.declared.events.Out.{Out}
@@ -17,7 +17,7 @@ use Rattle.pj_events.specs.declared.events.Event.TheVariants.{Arrive, Take as Ta
 use Rattle.pj_events.specs.History.{reached_of, is_stream, streams_from, streams_of, stream_node, root_of, state_in, nodes_by, gained, Reached, begun, closed_after, undrained_after, halted_after, stop_after, next, reached_from, nodes_from, steps_from, Closes, IsMarked, IsEntryAllowed, AreEntriesLegal, IsLegal, IsComplete}
 use Rattle.pj_events.specs.Outcomes.{Arrival, arrivals_by, arrivals_at, stored_at, peak_of, outputs_of, drained_by, drained_from, element_at, elements_of, place_in, list_at, answers_of, lists_of}
 use Rattle.pj_events.specs.OneThread.{schema_of}
-use Rattle.pj_laws.specs.HistoryLaws.{HandsOutLawfully, IsNoGroup, HasNoGroup, GivenIsAnswer, Propagates, AllPropagate, CompleteIsAnswer, AddsEntry, AreMadeBy, DrainsHandOutAll, GrowsLegally, FrontsAreLegal, TraceAddsNotes}
+use Rattle.pj_laws.specs.HistoryLaws.{HandsOutLawfully, IsNoGroup, HasNoGroup, GivenIsAnswer, CompleteIsAnswer, AddsEntry, AreMadeBy, DrainsHandOutAll, GrowsLegally, FrontsAreLegal, TraceAddsNotes}
 use Rattle.pj_laws.specs.Finality.{EmptiedIsAnswer}
 use Rattle.pj_pattern.specs.Elements.{IsLawful}
 use Rattle.pj_laws.proofs.Whole.{plan-lawful}
@@ -168,31 +168,13 @@ stream-member n (suc k) (node ∷ nodes) lt e = go (is_stream node.operator) (le
     go true h = inr h
     go false h = h
 
-pub is-done : (m : Operator) → Propagates m → IsSettled (state_in m) → IsDone m
-is-done (Stream schema sent) p s = tt
-is-done (Select test) p s = tt
-is-done (Project columns) p s = tt
-is-done (Union n u) p s = tt
-is-done (Join spec st) p s = (s, p)
-is-done (Group spec rows) p s = tt
-
-pub propagates-after : (m : Operator) (l : Local) → Propagates m → Propagates (after m l)
-propagates-after (Stream schema sent) (Comes k e) p = tt
-propagates-after (Stream schema sent) (Fed e) p = tt
-propagates-after (Stream schema sent) (Own s) p = tt
-propagates-after (Select test) l p = tt
-propagates-after (Project columns) l p = tt
-propagates-after (Union n u) (Comes k e) p = tt
-propagates-after (Union n u) (Fed e) p = tt
-propagates-after (Union n u) (Own s) p = tt
-propagates-after (Join spec s) l p = p
-propagates-after (Group spec rows) (Comes k e) p = tt
-propagates-after (Group spec rows) (Fed e) p = tt
-propagates-after (Group spec rows) (Own s) p = tt
-
-pub propagates-all : (m : Operator) (ls : List Local) → Propagates m → Propagates (after_all m ls)
-propagates-all m [] p = p
-propagates-all m (l ∷ ls) p = propagates-all (after m l) ls (propagates-after m l p)
+pub is-done : (m : Operator) → IsSettled (state_in m) → IsDone m
+is-done (Stream schema sent) s = tt
+is-done (Select test) s = tt
+is-done (Project columns) s = tt
+is-done (Union n u) s = tt
+is-done (Join spec st) s = s
+is-done (Group spec rows) s = tt
 
 pub closed-by : (m : Operator) (es : List Element) → (is_stream m ≡ true → In (Punct (all_wild (length (schema_of m)))) es) → IsClosedBy m es
 closed-by (Stream schema sent) es f = f refl
@@ -213,19 +195,19 @@ closings plan h l closed n k e =
     ]
 
 -- a complete history makes a complete run
-pub complete-run : (plan : List Node) → AllPropagate plan → (h : List Entry) → IsLegal plan h → IsComplete plan h → IsCompleteRun plan (steps_from plan h)
-complete-run plan on h l complete n k =
+pub complete-run : (plan : List Node) → (h : List Entry) → IsLegal plan h → IsComplete plan h → IsCompleteRun plan (steps_from plan h)
+complete-run plan h l complete n k =
     let o = operator-from plan h n k in (
       closed-by (operator_at plan n) (fed_to n (steps_from plan h)) (closings plan h l complete.closed n k),
       subst (λ (nodes : List Node). IsDone (operator_at nodes n)) (nodes-run plan h)
-          (is-done (operator_at (nodes_from plan h) n) (subst Propagates (sym o.1) (propagates-all (operator_at plan n) o.0 (on n k))) (complete.settled n k)),
+          (is-done (operator_at (nodes_from plan h) n) (complete.settled n k)),
     )
 
-pub complete-is-answer : (plan : List Node) → ArePlanned [] plan → 0 < length plan → AllPropagate plan → CompleteIsAnswer plan
-complete-is-answer plan planned lt on trace h l complete =
+pub complete-is-answer : (plan : List Node) → ArePlanned [] plan → 0 < length plan → CompleteIsAnswer plan
+complete-is-answer plan planned lt trace h l complete =
     (λ f.
     ap (λ es. weigh f (rows_of es)) (outputs-handed trace plan h)
-    ∙ complete-answers plan planned (steps_from plan h) (legal-steps (begun plan) h l) (complete-run plan on h l complete) (root_of plan) (root-there plan lt) f
+    ∙ complete-answers plan planned (steps_from plan h) (legal-steps (begun plan) h l) (complete-run plan h l complete) (root_of plan) (root-there plan lt) f
     ∙ ap (λ evs. weigh f (get_or evs (root_of plan) [])) (answers-are plan h l))
 
 -- ---- one more entry

@@ -11,7 +11,7 @@ use Rattle.pj_events.specs.History.{is_stream, streams_from, streams_of, root_of
 use Rattle.pj_events.specs.Outcomes.{elements_out, elements_of, outputs_of, place_in}
 use Rattle.pj_events.specs.OneThread.{one_thread_of}
 use Rattle.pj_events.specs.Punctuations.{operator_puncts, puncts_in, puncts_from, puncts_at, puncts_answers, puncts_answer, puncts_lists}
-use Rattle.pj_laws.specs.HistoryLaws.{AllPropagate, AllAreCertified, closed_list, closed_lists, CompleteIsPuncts, SweptIsPuncts}
+use Rattle.pj_laws.specs.HistoryLaws.{AllAreCertified, closed_list, closed_lists, CompleteIsPuncts, SweptIsPuncts}
 use Rattle.pj_join_laws.proofs.Upto.{get_or-upto, map-upto}
 use Rattle.pj_laws.proofs.Steps.{legal-steps, outputs-handed, all-rise, rising-place, member-place, fed-elements}
 use Rattle.pj_laws.proofs.Answers.{map-twice}
@@ -73,17 +73,17 @@ puncts-are plan h l = puncts-agree f g 0 [] plan refl same
 
 -- ---- complete histories
 
-pub complete-is-puncts : (plan : List Node) → ArePlanned [] plan → 0 < length plan → AllPropagate plan → CompleteIsPuncts plan
-complete-is-puncts plan planned lt on trace h l complete =
+pub complete-is-puncts : (plan : List Node) → ArePlanned [] plan → 0 < length plan → CompleteIsPuncts plan
+complete-is-puncts plan planned lt trace h l complete =
     (λ f.
     ap (λ es. weigh f (puncts_of es)) (outputs-handed trace plan h)
-    ∙ complete-puncts plan planned (steps_from plan h) (legal-steps (begun plan) h l) (complete-run plan on h l complete) (root_of plan) (root-there plan lt) f
+    ∙ complete-puncts plan planned (steps_from plan h) (legal-steps (begun plan) h l) (complete-run plan h l complete) (root_of plan) (root-there plan lt) f
     ∙ ap (λ evs. weigh f (get_or evs (root_of plan) [])) (puncts-are plan h l))
 
-pub swept-is-puncts : (plan : List Node) → ArePlanned [] plan → 0 < length plan → AllAreCertified plan → AllPropagate plan → SweptIsPuncts plan
-swept-is-puncts plan planned lt certs props lists accepted trace =
+pub swept-is-puncts : (plan : List Node) → ArePlanned [] plan → 0 < length plan → AllAreCertified plan → SweptIsPuncts plan
+swept-is-puncts plan planned lt certs lists accepted trace =
     subst (λ (all : List (List (List Pattern))). SameBag (puncts_of (elements_out (outputs_of trace plan h))) (puncts_answer plan all)) arrived
-    (complete-is-puncts plan planned lt props trace h (swept-whole plan planned certs lists accepted).legal (swept-complete plan planned lt certs props lists accepted))
+    (complete-is-puncts plan planned lt trace h (swept-whole plan planned certs lists accepted).legal (swept-complete plan planned lt certs lists accepted))
   where
     h : List Entry
     h = one_thread_of true plan lists

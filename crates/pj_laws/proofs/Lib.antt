@@ -36,8 +36,6 @@ pub mod ClimbingEvents
 pub mod ClimbingKept
 pub mod ClimbingParts
 pub mod ClimbingLimits
-pub mod ClimbExample
-pub mod Example
 pub mod Reaching
 pub mod Extensions
 pub mod FinalRows

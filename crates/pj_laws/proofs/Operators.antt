@@ -2,13 +2,13 @@
 use Rattle.std.proofs.Common.{ℕ, suc, ◌+◌, ◌<◌, Bool, true, false, cond, ◌&&◌, ◌||◌, not, List, [], ◌∷◌, ◌++◌, ◌≡◌, ◌⊎◌, map, filter, flat_map, length, get_or, take, drop, sum, refl, sym, ap, ap₂, ◌∙◌, subst, inl, inr, eqb, arith, append_assoc, length-append}
 use Rattle.pj_pattern.proofs.Lawful.{none_at as clear_at, none_from as clear_from, lawful_tail, lawful_append}
 use Rattle.pj_value.proofs.Members.{In-append_cases, In-filter, In-map, In-flat_map, any_at}
-use Rattle.pj_pattern.specs.Columns.{others_wild}
+use Rattle.pj_pattern.specs.Columns.{others_wild, picked_patterns}
 use Rattle.std.specs.List.{list_any}
 use Rattle.std.proofs.lemmas.Bool.{and_parts, and_from, or_cases, false≢true, eqb-true, eq-eqb, false_from_ne_true}
 use Rattle.std.proofs.lemmas.List.Sums.{sum_by-take-drop, sum_by-drop_more}
 use Rattle.pj_events.specs.Patterns.{Pattern, wild, all_wild, is_wild, matches_value, matches_row}
-use Rattle.pj_events.specs.Join.{In, Value, no_value, arities, goes_out, TupleAt, PunctAt, JoinData, JoinState, Step, TupleComes, PunctComes, Take, Give, Sweep, start, step, run, inputs, arity, agree, is_held, kept, new_punct, IsAllowed, AreLegalSteps, IsCombination, product, upto_from, candidates, combinations, results, Element, Tuple, Punct, joined, widened, hands_up, outputs}
-use Rattle.pj_events.specs.Operators.{picked_cells, picked_patterns, select_hands, project_hands}
+use Rattle.pj_events.specs.Join.{In, Value, no_value, arities, TupleAt, PunctAt, JoinData, JoinState, Step, TupleComes, PunctComes, Take, Give, Sweep, start, step, run, inputs, arity, agree, is_held, kept, new_punct, IsAllowed, AreLegalSteps, IsCombination, product, upto_from, candidates, combinations, results, Element, Tuple, Punct, joined, widened, hands_up, outputs}
+use Rattle.pj_events.specs.Operators.{picked_cells, select_hands, project_hands}
 use Rattle.pj_events.specs.Plan.{Join, Local, Comes, Fed, Own, join_step, join_local, after_all, hands_all, IsOwn, Fits}
 use Rattle.pj_pattern.specs.Elements.{IsLawful}
 use Rattle.pj_pattern.proofs.Covering.{wild_matches}
@@ -189,7 +189,7 @@ results-fit spec s i u c h = joined-length (arities spec) c (lengths-from 0 (ari
 
 hands_up-fit : (spec : JoinData) (s : JoinState) (st : Step) → IsSound spec s → IsAllowed spec s st → AllFit (sum (arities spec)) (hands_up spec s st)
 hands_up-fit spec s (TupleComes input row) i a e h = absurd h
-hands_up-fit spec s (PunctComes input patterns) i a e h = go (goes_out spec s (new_punct s input patterns)) h
+hands_up-fit spec s (PunctComes input patterns) i a e h = go (not (is_held s.stored (new_punct s input patterns))) h
   where
     go : (b : Bool) → In e (cond b (Punct (widened spec (new_punct s input patterns)) ∷ []) []) → Fits (sum (arities spec)) e
     go false k = absurd k

@@ -1,5 +1,5 @@
 -- All probes: they are allowed, give every tuple, and leave streams as they are.
-use Rattle.std.proofs.Common.{ℕ, zero, suc, ◌+◌, ◌<◌, ◌≤◌, ◌≢◌, Bool, true, false, cond, ◌||◌, not, List, [], ◌∷◌, ◌++◌, ◌≡◌, map, filter, length, get_or, refl, sym, ap, ap₂, ◌∙◌, subst, inl, inr, eqb, arith, append_assoc, append-nil, length-append}
+use Rattle.std.proofs.Common.{ℕ, zero, suc, ◌+◌, ◌<◌, ◌≤◌, ◌≢◌, Bool, true, false, cond, not, List, [], ◌∷◌, ◌++◌, ◌≡◌, map, filter, length, get_or, refl, sym, ap, ap₂, ◌∙◌, subst, inl, inr, eqb, arith, append_assoc, append-nil, length-append}
 use Rattle.std.proofs.lemmas.Bool.{or_cases, or_right, or_parts, eqb-true, eq-eqb, ne_eqb, cases_Bool, false≢true, false_from_ne_true, not-true}
 use Rattle.std.proofs.lemmas.List.{get_or_at, length_push}
 use Rattle.pj_value.specs.declared.values.Value.{Value}
@@ -13,6 +13,7 @@ use Rattle.pj_events.specs.declared.events.Event.TheVariants.{Take as Taken, Giv
 use Rattle.pj_events.specs.History.{state_in, step_of, nodes_by, nodes_from}
 use Rattle.pj_events.specs.OneThread.{probes_at, probes_from, probes}
 use Rattle.pj_value.proofs.Members.{In-append_cases, In-filter, In-filter_from, In-map, In-map_from}
+use Rattle.pj_value.proofs.Numbers.{has-in, in-has}
 use Rattle.pj_join_laws.proofs.Bags.{AreDistinct}
 use Rattle.pj_laws.proofs.Glue.{moved-append, length-batches, length-moved, after-append}
 use Rattle.pj_laws.proofs.Nodes.{AreEmpty, empty-none, brought-none, quiet}
@@ -64,19 +65,6 @@ all-from P [] f = tt
 all-from P (node ∷ nodes) f = (f 0 (omega arith), all-from P nodes (λ n lt. f (suc n) (omega arith)))
 
 -- ---- what comes from below
-
-pub has-in : (ns : List ℕ) (n : ℕ) → has ns n ≡ true → In n ns
-has-in [] n t = absurd (false≢true t)
-has-in (m ∷ ns) n t = elim (or_cases (eqb m n) (has ns n) t) [ inl e ↦ inl (eqb-true m n e) | inr h ↦ inr (has-in ns n h) ]
-
-pub in-has : (ns : List ℕ) (n : ℕ) → In n ns → has ns n ≡ true
-in-has [] n h = absurd h
-in-has (m ∷ ns) n (inl e) = go (eqb m n) (eq-eqb m n e)
-  where
-    go : (b : Bool) → b ≡ true → (b || has ns n) ≡ true
-    go true e = refl
-    go false e = absurd (false≢true e)
-in-has (m ∷ ns) n (inr h) = or_right (eqb m n) (has ns n) (in-has ns n h)
 
 -- a number that is not there goes behind
 distinct-push : (ns : List ℕ) (n : ℕ) → AreDistinct ns → has ns n ≡ false → AreDistinct (ns ++ n ∷ [])

@@ -2,13 +2,13 @@
 use Rattle.std.proofs.Common.{ℕ, zero, suc, ◌+◌, ◌<◌, ◌≤◌, Bool, true, false, cond, not, List, [], ◌∷◌, ◌++◌, ◌≡◌, map, filter, flat_map, length, get_or, refl, sym, ap, ap₂, ◌∙◌, subst, inl, inr, eqb, arith, append_assoc, append-nil, length-append}
 use Rattle.pj_value.proofs.Bags.{weigh-append, weigh-map, weigh-split}
 use Rattle.pj_value.proofs.Members.{In-filter, In-append_cases, in-place, map-at}
-use Rattle.pj_pattern.specs.Columns.{others_wild}
+use Rattle.pj_pattern.specs.Columns.{others_wild, picked_patterns}
 use Rattle.std.proofs.lemmas.Bool.{eq-eqb, ne_eqb, cases_eq, false≢true, not-true}
 use Rattle.std.proofs.lemmas.List.{length-map, length_push, get_or_append_left, get_or_at}
 use Rattle.pj_events.specs.Patterns.{Pattern, all_wild, matches_row}
 use Rattle.pj_value.specs.Bags.{weigh, SameBag}
 use Rattle.pj_events.specs.Join.{In, Value, PunctAt, JoinData, JoinState, Step, TupleComes, PunctComes, Take, Give, Sweep, start, step, run, inputs, arity, AreLegalSteps, Element, Tuple, Punct, widened, puncts_of}
-use Rattle.pj_events.specs.Operators.{picked_patterns, select_hands, project_hands, GroupSpec, group_rows, picked_cells, Sent, UnionState, all_sent_from, union_after}
+use Rattle.pj_events.specs.Operators.{select_hands, project_hands, GroupSpec, group_rows, picked_cells, Sent, UnionState, all_sent_from, union_after}
 use Rattle.pj_events.specs.Plan.{Operator, Stream, Select, Project, Union, Join, Group, Node, Local, Comes, Fed, Own, after_all, hands_all, IsOwn, PlanStep, plan_run, handed, fed_to, IsDone, IsClosedBy, IsCompleteRun, IsWellMade, node_width, ArePlanned, AreStepsLegal, nowhere}
 use Rattle.pj_events.specs.Punctuations.{widened_at, join_puncts, project_puncts, group_punct, group_puncts, operator_puncts, puncts_in, puncts_from}
 use Rattle.pj_laws.proofs.Glue.{from_input, locals_all, handed-is, handed-front, from-is, operator-is}
@@ -227,13 +227,13 @@ arrived-puncts spec f s (Comes i (Punct ps) ∷ ls) w o =
       weigh-punct (input_weight spec f) 0 (inputs spec) i ps ls (omega arith) (omega (arith, w.0)),
     )
 
-join-all_puncts : (spec : JoinData) (ls : List Local) (lists : List (List (List Pattern))) → spec.propagates ≡ true → length lists ≡ inputs spec → AreWithin (inputs spec) ls
+join-all_puncts : (spec : JoinData) (ls : List Local) (lists : List (List (List Pattern))) → length lists ≡ inputs spec → AreWithin (inputs spec) ls
     → AreLegalSteps spec start (join_steps ls) → ((st : Step) → In (Own st) ls → IsOwn st) → (run spec start (join_steps ls)).waiting ≡ []
     → ((k : ℕ) → k < inputs spec → SameBag (puncts_of (from_input k ls)) (get_or lists k []))
     → SameBag (puncts_of (hands_all (Join spec start) ls)) (join_puncts spec 0 lists)
-join-all_puncts spec ls lists on long w legal o done same f =
+join-all_puncts spec ls lists long w legal o done same f =
     ap (λ es. weigh f (puncts_of es)) (join-hands spec start ls)
-    ∙ hands_up-all_puncts spec on (join_steps ls) legal done f
+    ∙ hands_up-all_puncts spec (join_steps ls) legal done f
     ∙ weigh-map f (widened spec) (run spec start (join_steps ls)).puncts
     ∙ arrived-puncts spec f start ls w o
     ∙ (let z : inputs_weigh (input_weight spec f) 0 (inputs spec) ls + 0 ≡ inputs_weigh (input_weight spec f) 0 (inputs spec) ls = omega arith in z)
@@ -274,7 +274,7 @@ operator-all_puncts (Union n u) ws ls lists made w a done flow long same g =
         subst (λ (width : ℕ). IsGood width (from_input k ls) × HasWild width (from_input k ls)) (made.1 (get_or ws k 0) (in-place ws 0 k lt')) (flow k lt')
 operator-all_puncts (Join spec s) ws ls lists made w a done flow long same h =
     subst (λ (z : JoinState). SameBag (puncts_of (hands_all (Join spec z) ls)) (join_puncts spec 0 lists)) (sym made.2)
-    (join-all_puncts spec ls lists joined.1 (long ∙ ap length made.0) within legal (own-of spec start ls mine) joined.0.1
+    (join-all_puncts spec ls lists (long ∙ ap length made.0) within legal (own-of spec start ls mine) joined.1
     (λ k lt. same k (subst (λ (xs : List ℕ). k < length xs) (sym made.0) lt))) h
   where
     mine : AreOwnAllowed spec start ls

@@ -15,7 +15,7 @@ use Rattle.pj_events.specs.OneThread.{one_thread_of}
 use Rattle.pj_laws.specs.Climb.{StandBehind, IsTree, node_hands, stepped, coming, going_on, climbed_from, climbed, climbed_where, local_of}
 use Rattle.pj_laws.specs.ClimbLimits.{begun_by, begun_where}
 use Rattle.pj_events.specs.Punctuations.{puncts_answers, puncts_from, puncts_lists}
-use Rattle.pj_laws.specs.HistoryLaws.{AllAreCertified, AllPropagate, closed_list, closed_lists}
+use Rattle.pj_laws.specs.HistoryLaws.{AllAreCertified, closed_list, closed_lists}
 use Rattle.pj_laws.specs.Reaching.{counted_in, elements_to, LimitsTell}
 use Rattle.pj_laws.proofs.Glue.{hands-append}
 use Rattle.pj_laws.proofs.Answers.{map-twice}
@@ -348,12 +348,12 @@ before-at k [] n m b h = absurd h
 before-at k (node ∷ nodes) zero m b h = let lt = b.0 m h in omega (arith, lt)
 before-at k (node ∷ nodes) (suc n) m b h = let lt = before-at (k + 1) nodes n m b.1 h in omega (arith, lt)
 
-module _ (plan : List Node) (planned : ArePlanned [] plan) (props : AllPropagate plan) (h : List Entry) (legal : IsLegal plan h) (complete : IsComplete plan h) where
+module _ (plan : List Node) (planned : ArePlanned [] plan) (h : List Entry) (legal : IsLegal plan h) (complete : IsComplete plan h) where
   -- a node hands up its answer's rows and its punctuations
   node-long : (m : ℕ) → m < length plan → length (handed m plan (steps_from plan h)) ≡ length (get_or (answers_of plan (lists_of plan h)) m []) + length (get_or (puncts_answers plan (puncts_lists plan h)) m [])
   node-long m lt =
       let es : List Element = handed m plan (steps_from plan h) in
-      let whole = complete-run plan props h legal complete in
+      let whole = complete-run plan h legal complete in
       let legal-run = legal-steps (begun plan) h legal in
       let rows = same-long (rows_of es) (get_or (answers plan (steps_from plan h)) m []) (complete-answers plan planned (steps_from plan h) legal-run whole m lt)
       ∙ ap (λ (lists : List (List (List Value))). length (get_or lists m [])) (answers-are plan h legal) in
@@ -373,8 +373,8 @@ module _ (plan : List Node) (planned : ArePlanned [] plan) (props : AllPropagate
 
 -- ---- the run on one thread
 
-pub limits-tell : (plan : List Node) → ArePlanned [] plan → IsTree plan → 0 < length plan → AllAreCertified plan → AllPropagate plan → LimitsTell plan
-limits-tell plan planned tree some certs props lists accepted limit node r = (
+pub limits-tell : (plan : List Node) → ArePlanned [] plan → IsTree plan → 0 < length plan → AllAreCertified plan → LimitsTell plan
+limits-tell plan planned tree some certs lists accepted limit node r = (
   sym counted ∙ o.counted,
   omega (arith, below, all),
 )
@@ -408,5 +408,5 @@ limits-tell plan planned tree some certs props lists accepted limit node r = (
 
     all : length (arrivals_at plan h node) ≡ elements_to plan (map rows_of lists) (map puncts_of (closed_lists plan lists)) node
     all =
-        total plan planned props h (swept-whole plan planned certs lists accepted).legal (swept-complete plan planned some certs props lists accepted) tree.behind node
+        total plan planned h (swept-whole plan planned certs lists accepted).legal (swept-complete plan planned some certs lists accepted) tree.behind node
         ∙ ap₂ (λ (rows : List (List (List Value))) (puncts : List (List (List Pattern))). elements_to plan rows puncts node) (lists-are true plan planned (λ e. certs) lists accepted) arrived

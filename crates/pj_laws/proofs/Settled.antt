@@ -4,7 +4,7 @@ use Rattle.std.proofs.lemmas.Bool.{cases_eq}
 use Rattle.std.proofs.lemmas.List.{length-map, length_push, get_or_append_left, get_or_at}
 use Rattle.pj_events.specs.Patterns.{all_wild}
 use Rattle.pj_events.specs.Join.{In, Value, run, arities, JoinState, start, Element, Punct, rows_of}
-use Rattle.pj_events.specs.Operators.{Sent, UnionState, union_after, select_hands, project_hands, picked_patterns}
+use Rattle.pj_events.specs.Operators.{Sent, UnionState, union_after, select_hands, project_hands}
 use Rattle.pj_events.specs.Plan.{Operator, Stream, Select, Project, Union, Join, Group, Node, Local, Comes, Fed, Own, after_all, hands_all, PlanStep, plan_run, handed, inputs_of, operator_answer, answers_from, fed_to, HasGiven, IsDone, IsClosedBy, IsCompleteRun, CompleteAnswers, operator_width, IsWellMade, node_width, ArePlanned, AreStepsLegal, nowhere}
 use Rattle.pj_value.proofs.Members.{In-flat_map_from, in-place, map-at}
 use Rattle.pj_laws.proofs.Glue.{from_input, locals_all, handed-is, handed-front, from-is, operator-is}
@@ -13,6 +13,7 @@ use Rattle.pj_laws.proofs.UnionsAndGroups.{group-hands}
 use Rattle.pj_laws.proofs.Whole.{IsGood, AreGood, within-all, select-hands, project-hands, node-good, front-good}
 use Rattle.pj_laws.proofs.WholeAnswers.{fed_in, fed-is, stream-hands, group-after, AreAnswers, node-rows, front-rows}
 use Rattle.pj_laws.proofs.Closing.{HasWild, wild-picked, wild-drops, group-empty, group-wild, join-wild, union-wild}
+use Rattle.pj_pattern.specs.Columns.{picked_patterns}
 
 -- a closed place hands up a punctuation of wildcards alone
 operator-wild : (m : Operator) (ws : List ℕ) (ls : List Local) → IsWellMade m ws → AreWithin (length ws) ls → IsDone (after_all m ls) → IsClosedBy m (fed_in ls)
@@ -32,8 +33,8 @@ operator-wild (Union n u) ws ls made w done c f =
     flow k lt = let lt' : k < length ws = omega (arith, lt, made.0) in subst (λ (width : ℕ). HasWild width (from_input k ls)) (made.1 (get_or ws k 0) (in-place ws 0 k lt')) (f k lt')
 operator-wild (Join spec s) ws ls made w done c f =
     subst (λ (z : JoinState). HasWild (sum (arities spec)) (hands_all (Join spec z) ls)) (sym made.2)
-    (join-wild spec ls joined.1 made.1 (subst (λ (xs : List ℕ). HasWild (get_or xs 0 0) (from_input 0 ls)) made.0 (f 0 (subst (λ (xs : List ℕ). 0 < length xs) (sym made.0) made.1)))
-    joined.0.1)
+    (join-wild spec ls made.1 (subst (λ (xs : List ℕ). HasWild (get_or xs 0 0) (from_input 0 ls)) made.0 (f 0 (subst (λ (xs : List ℕ). 0 < length xs) (sym made.0) made.1)))
+    joined.1)
   where
     joined : IsDone (Join spec (run spec start (join_steps ls)))
     joined = subst IsDone (join-after spec start ls) (subst (λ (z : JoinState). IsDone (after_all (Join spec z) ls)) made.2 done)
@@ -67,7 +68,7 @@ operator-given (Union n u) ws ls made w done g f = go u ls
     go v (Comes k e ∷ ls) = go (union_after n v k e) ls
     go v (Fed e ∷ ls) = go v ls
     go v (Own s ∷ ls) = go v ls
-operator-given (Join spec s) ws ls made w done g f = subst HasGiven (sym (join-after spec s ls)) (subst IsDone (join-after spec s ls) done).0.0
+operator-given (Join spec s) ws ls made w done g f = subst HasGiven (sym (join-after spec s ls)) (subst IsDone (join-after spec s ls) done).0
 operator-given (Group spec rows) ws ls made w done g f =
     subst HasGiven (sym (group-after spec rows ls (subst (λ n. AreWithin n ls) made.0 w)))
     (group-empty (get_or ws 0 0) spec rows (from_input 0 ls) (λ row h. absurd (subst (λ (xs : List (List Value)). In row xs) made.2 h)) (g 0 (omega (arith, made.0))).1 (g 0 (omega (arith, made.0))).0 (f 0 (omega (arith, made.0))))

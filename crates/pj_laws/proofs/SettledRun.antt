@@ -11,7 +11,7 @@ use Rattle.pj_events.specs.declared.events.Entry.{Entry}
 use Rattle.pj_events.specs.declared.events.Event.TheVariants.{Sweep as Swept}
 use Rattle.pj_events.specs.History.{Reached, is_stream, state_in, step_of, nodes_by, begun, reached_of, nodes_from, steps_from, IsOn, IsLegal}
 use Rattle.pj_events.specs.OneThread.{Place, plain, probes, sweeps_at, places_in, places_from, schema_of}
-use Rattle.pj_laws.specs.HistoryLaws.{Propagates, AllPropagate, Certified, AllAreCertified}
+use Rattle.pj_laws.specs.HistoryLaws.{Certified, AllAreCertified}
 use Rattle.pj_value.proofs.Members.{In-append_left, in-place, map-at}
 use Rattle.pj_join_laws.proofs.Sound.{sound-start, sound-run}
 use Rattle.pj_join_laws.proofs.Late.{settled-from}
@@ -22,7 +22,7 @@ use Rattle.pj_laws.proofs.Closing.{HasWild, came-in}
 use Rattle.pj_laws.proofs.Settled.{AreWild, node-wild, front-wild}
 use Rattle.pj_laws.proofs.Steps.{legal-steps, nodes-run}
 use Rattle.pj_laws.proofs.Nodes.{operator-from}
-use Rattle.pj_laws.proofs.HistoryAnswers.{closed-by, is-done, propagates-all}
+use Rattle.pj_laws.proofs.HistoryAnswers.{closed-by, is-done}
 use Rattle.pj_laws.proofs.Probes.{Rested, AllOperators, AreActsLegal, all-at, all-from, length-from}
 use Rattle.pj_laws.proofs.OneRun.{acts-still, IsStill, sweeps-rest, all-places, places-on, certified-from}
 use Rattle.pj_laws.proofs.OneThreadAnswer.{rested-given}
@@ -189,16 +189,16 @@ settled-of m r w = (rested-given m r, w)
 
 abbrev pub SettlesFrom : List Node → List ℕ → List Node → List Entry → List Node → Type 0
 SettlesFrom front ws back h plan =
-    AllAreCertified plan → AllPropagate plan → IsLate plan h → ((es : List PlanStep) → AreStepsLegal plan es → AreGood front ws es) → AreWild front ws (steps_from plan h)
+    AllAreCertified plan → IsLate plan h → ((es : List PlanStep) → AreStepsLegal plan es → AreGood front ws es) → AreWild front ws (steps_from plan h)
     → ((m : ℕ) → m < length front → NoneWaits (operator_at (nodes_from plan h) m))
     → (m : ℕ) → m < length plan → NoneWaits (operator_at (nodes_from (nodes_from plan h) (sweeps_at (nodes_from plan h) (places_from (length front) back))) m)
 
 settles-node : (front : List Node) (ws : List ℕ) (node : Node) (back : List Node) (h : List Entry) → length ws ≡ length front → ArePlanned ws (node ∷ back)
     → ((h' : List Entry) → SettlesFrom (front ++ node ∷ []) (ws ++ node_width ws node ∷ []) back h' (front ++ node ∷ back)) → SettlesFrom front ws (node ∷ back) h (front ++ node ∷ back)
-settles-node front ws node back h long planned go-on certs props late good wilds before m lt =
+settles-node front ws node back h long planned go-on certs late good wilds before m lt =
     subst (λ (nodes : List Node). NoneWaits (operator_at nodes m)) (sym end)
     (subst (λ (k : ℕ). NoneWaits (operator_at (nodes_from N' (sweeps_at N' (places_from k back))) m)) (length_push front node)
-    (go-on h' certs props late' good' wild' before' m lt))
+    (go-on h' certs late' good' wild' before' m lt))
   where
     plan : List Node
     plan = front ++ node ∷ back
@@ -273,7 +273,7 @@ settles-node front ws node back h long planned go-on certs props late good wilds
         let l' : length front < length N' = omega (arith, there, length-from plan h') in (
           closed-by (operator_at plan (length front)) (fed_to (length front) (steps_from plan h')) (late'.closed (length front) there),
           subst (λ (nodes : List Node). IsDone (operator_at nodes (length front))) (nodes-run plan h')
-              (is-done (operator_at N' (length front)) (subst Propagates (sym o.1) (propagates-all (operator_at plan (length front)) o.0 (props (length front) there)))
+              (is-done (operator_at N' (length front))
               (settled-of (operator_at N' (length front)) (all-at Rested N' (length front) l' late'.rested) (before' (length front) (omega (arith, length_push front node))))),
         )
 
@@ -284,7 +284,7 @@ settles-node front ws node back h long planned go-on certs props late good wilds
     wild' = front-wild front ws node back (steps_from plan h') long wilds' (node-wild front ws node back (steps_from plan h') long planned.0 planned.1 mine (good (steps_from plan h') steps') wilds')
 
 pub settles-all : (front : List Node) (ws : List ℕ) (back : List Node) (h : List Entry) → length ws ≡ length front → ArePlanned ws back → SettlesFrom front ws back h (front ++ back)
-settles-all front ws [] h long planned = λ certs props late good wilds before m lt. before m (omega (arith, lt, ap length (append-nil front)))
+settles-all front ws [] h long planned = λ certs late good wilds before m lt. before m (omega (arith, lt, ap length (append-nil front)))
 settles-all front ws (node ∷ back) h long planned =
     settles-node front ws node back h long planned (λ h'.
     subst (SettlesFrom (front ++ node ∷ []) (ws ++ node_width ws node ∷ []) back h') (append_assoc front (node ∷ []) back)

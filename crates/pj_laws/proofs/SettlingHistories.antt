@@ -12,10 +12,10 @@ use Rattle.pj_events.specs.declared.events.Event.{Event}
 use Rattle.pj_events.specs.declared.events.Event.TheVariants.{Arrive, Take as Taken, Give as Given, Sweep as Swept, Drain, Halt, Look, Stopped, Idle}
 use Rattle.pj_events.specs.History.{Reached, state_in, nodes_by, begun, next, reached_from, reached_of, nodes_from, steps_from, closed_after, IsEntryAllowed, IsEventAllowed, IsOn, IsLegal, IsComplete}
 use Rattle.pj_events.specs.OneThread.{Place, first_of, next_from, pending_at, places_in, places_from, schema_of}
-use Rattle.pj_laws.specs.HistoryLaws.{AllAreGiven, AllPropagate, AllAreCertified, Certified, JoinRuns, Propagates}
+use Rattle.pj_laws.specs.HistoryLaws.{AllAreGiven, AllAreCertified, Certified, JoinRuns}
 use Rattle.pj_laws.specs.SettlingHistories.{AreProbing, IsProbing, IsSettling, NoneIsLeft, SettlingIsComplete, SweepsEach}
 use Rattle.pj_laws.proofs.Histories.{nodes-append, reached-append, reached-nodes}
-use Rattle.pj_laws.proofs.HistoryAnswers.{closed-by, closings, fronts-are-legal, grows-legally, is-done, propagates-all}
+use Rattle.pj_laws.proofs.HistoryAnswers.{closed-by, closings, fronts-are-legal, grows-legally, is-done}
 use Rattle.pj_join_laws.proofs.Sound.{sound-start, sound-run}
 use Rattle.pj_join_laws.proofs.Late.{settled-from}
 use Rattle.pj_laws.proofs.Glue.{from_input, locals_all, from-is, operator-is}
@@ -378,9 +378,9 @@ module _ (plan : List Node) (planned : ArePlanned [] plan) where
       → ((m : ℕ) → m < length front → NoneWaits (operator_at (nodes_from plan h) m)) → SweepsEach plan h (places_from (length front) back) es
       → (m : ℕ) → m < length plan → NoneWaits (operator_at (nodes_from plan (h ++ es)) m)
 
-  settles-node : (front : List Node) (ws : List ℕ) (node : Node) (back : List Node) → AllAreCertified plan → AllPropagate plan → plan ≡ front ++ node ∷ back → length ws ≡ length front → ArePlanned ws (node ∷ back)
+  settles-node : (front : List Node) (ws : List ℕ) (node : Node) (back : List Node) → AllAreCertified plan → plan ≡ front ++ node ∷ back → length ws ≡ length front → ArePlanned ws (node ∷ back)
       → SettlesFrom (front ++ node ∷ []) (ws ++ node_width ws node ∷ []) back → SettlesFrom front ws (node ∷ back)
-  settles-node front ws node back certs props is long-ws made go-on h es late good wilds before w m lt =
+  settles-node front ws node back certs is long-ws made go-on h es late good wilds before w m lt =
       subst (λ (g : List Entry). NoneWaits (operator_at (nodes_from plan g) m)) (append_assoc h two.xs two.ys ∙ ap (λ (xs : List Entry). h ++ xs) (sym two.parts))
       (go-on h' two.ys late' good' wild' before' (subst (λ (k : ℕ). SweepsEach plan h' (places_from k back) two.ys) (sym (length_push front node)) two.second) m lt)
     where
@@ -452,7 +452,7 @@ module _ (plan : List Node) (planned : ArePlanned [] plan) where
           let o = operator-from plan h' n there in (
             closed-by (operator_at plan n) (fed_to n (steps_from plan h')) (late'.closed n there),
             subst (λ (nodes : List Node). IsDone (operator_at nodes n)) (nodes-run plan h')
-                (is-done (operator_at (nodes_from plan h') n) (subst Propagates (sym o.1) (propagates-all (operator_at plan n) o.0 (props n there))) (late'.given n there, before' n (omega (arith, length_push front node)))),
+                (is-done (operator_at (nodes_from plan h') n) (late'.given n there, before' n (omega (arith, length_push front node)))),
           )
 
       good' : (xs : List PlanStep) → AreStepsLegal plan xs → AreGood (front ++ node ∷ []) (ws ++ node_width ws node ∷ []) xs
@@ -466,13 +466,13 @@ module _ (plan : List Node) (planned : ArePlanned [] plan) where
           (subst (λ (ns : List Node). IsClosedBy (operator_at ns n) (fed_to n (steps_from plan h')) × IsDone (operator_at (plan_run ns (steps_from plan h')) n)) is mine)
           (good (steps_from plan h') steps') wilds')
 
-  settles-all : (front : List Node) (ws : List ℕ) (back : List Node) → AllAreCertified plan → AllPropagate plan → plan ≡ front ++ back → length ws ≡ length front → ArePlanned ws back → SettlesFrom front ws back
-  settles-all front ws [] certs props is long-ws made = λ h es late good wilds before w m lt.
+  settles-all : (front : List Node) (ws : List ℕ) (back : List Node) → AllAreCertified plan → plan ≡ front ++ back → length ws ≡ length front → ArePlanned ws back → SettlesFrom front ws back
+  settles-all front ws [] certs is long-ws made = λ h es late good wilds before w m lt.
       subst (λ (g : List Entry). NoneWaits (operator_at (nodes_from plan g) m)) (sym (append-nil h) ∙ ap (λ (xs : List Entry). h ++ xs) (sym w))
       (before m (let z = ap length is in let y = ap length (append-nil front) in omega (arith, lt, z, y)))
-  settles-all front ws (node ∷ back) certs props is long-ws made =
-      settles-node front ws node back certs props is long-ws made
-      (settles-all (front ++ node ∷ []) (ws ++ node_width ws node ∷ []) back certs props (is ∙ sym (append_assoc front (node ∷ []) back)) (omega (arith, long-ws, length_push ws (node_width ws node), length_push front node)) made.2)
+  settles-all front ws (node ∷ back) certs is long-ws made =
+      settles-node front ws node back certs is long-ws made
+      (settles-all (front ++ node ∷ []) (ws ++ node_width ws node ∷ []) back certs (is ∙ sym (append_assoc front (node ∷ []) back)) (omega (arith, long-ws, length_push ws (node_width ws node), length_push front node)) made.2)
 
   -- ---- the whole
 
@@ -495,15 +495,15 @@ module _ (plan : List Node) (planned : ArePlanned [] plan) where
       kept (Stopped stop) = c
       kept Idle = c
 
-  settled-whole : AllAreCertified plan → AllPropagate plan → (h : List Entry) → IsLegal plan h → IsOn (reached_of false plan h) → IsSettling plan h → IsComplete plan h
-  settled-whole certs props h legal on s = record {
+  settled-whole : AllAreCertified plan → (h : List Entry) → IsLegal plan h → IsOn (reached_of false plan h) → IsSettling plan h → IsComplete plan h
+  settled-whole certs h legal on s = record {
     closed = λ stream lt. subst (λ (g : List Entry). has (reached_of false plan g).closed stream ≡ true) (sym whole)
         (subst (λ (r : Reached). has r.closed stream ≡ true) (sym (reached-append false (begun plan) s.front (s.probing ++ s.sweeping)))
         (closed-kept (reached_of false plan s.front) (s.probing ++ s.sweeping) stream (s.closed stream lt)));
     settled = λ n lt. (
       subst (AllAreGiven plan) (sym s.parts) (given-on (s.front ++ s.probing) (places_from 0 plan) s.sweeping s.probed.given s.swept) n lt,
       subst (λ (g : List Entry). NoneWaits (operator_at (nodes_from plan g) n)) (sym s.parts)
-          (settles-all [] [] plan certs props refl refl planned (s.front ++ s.probing) s.sweeping late (λ xs l k j. absurd (omega (arith, j))) (λ k j. absurd (omega (arith, j))) (λ k j. absurd (omega (arith, j))) s.swept n lt),
+          (settles-all [] [] plan certs refl refl planned (s.front ++ s.probing) s.sweeping late (λ xs l k j. absurd (omega (arith, j))) (λ k j. absurd (omega (arith, j))) (λ k j. absurd (omega (arith, j))) s.swept n lt),
     );
     on = on;
   }
@@ -520,8 +520,8 @@ module _ (plan : List Node) (planned : ArePlanned [] plan) where
       late : IsLate (s.front ++ s.probing) s.sweeping
       late = record { legal = legal'; closed = closings-on s.front s.probing (closings plan s.front front-legal s.closed); given = s.probed.given }
 
-pub settling-is-complete : (plan : List Node) → ArePlanned [] plan → AllAreCertified plan → AllPropagate plan → SettlingIsComplete plan
-settling-is-complete plan planned certs props h legal on s = settled-whole plan planned certs props h legal on s
+pub settling-is-complete : (plan : List Node) → ArePlanned [] plan → AllAreCertified plan → SettlingIsComplete plan
+settling-is-complete plan planned certs h legal on s = settled-whole plan planned certs h legal on s
 
 -- ---- when all probes are done
 

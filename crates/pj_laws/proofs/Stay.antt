@@ -12,7 +12,7 @@ use Rattle.pj_join_laws.proofs.Complete.{combinations-before}
 use Rattle.pj_join_laws.proofs.Forget.{IsSound}
 use Rattle.pj_laws.proofs.JoinRuns.{join-runs}
 use Rattle.pj_join_laws.proofs.Ripe.{next-mono}
-use Rattle.pj_join_laws.proofs.Sound.{run-append, sound-run, sound-start, sound-step}
+use Rattle.pj_join_laws.proofs.Sound.{run-append, sound-run, sound-start, sound-step, legal-front}
 
 flat-same : (f g : TupleAt → List (List TupleAt)) (xs : List TupleAt) → ((x : TupleAt) → In x xs → f x ≡ g x) → flat_map f xs ≡ flat_map g xs
 flat-same f g [] s = refl
@@ -38,10 +38,6 @@ run-stays spec s [] u i l lt = refl
 run-stays spec s (e ∷ es) u i l lt =
     run-stays spec (step spec s e) es u (sound-step spec s e i l.0) l.1 (let m = next-mono spec s e in omega (arith, lt, m))
     ∙ step-stays spec s e u i lt
-
-pub legal-front : (spec : JoinData) (s : JoinState) (xs ys : List Step) → AreLegalSteps spec s (xs ++ ys) → AreLegalSteps spec s xs × AreLegalSteps spec (run spec s xs) ys
-legal-front spec s [] ys l = (tt, l)
-legal-front spec s (x ∷ xs) ys l = let r = legal-front spec (step spec s x) xs ys l.1 in ((l.0, r.0), r.1)
 
 pub steps-append : (nodes : List Node) (xs ys : List Entry) (j : ℕ) → join_steps_of nodes (xs ++ ys) j ≡ join_steps_of nodes xs j ++ join_steps_of (nodes_from nodes xs) ys j
 steps-append nodes [] ys j = refl

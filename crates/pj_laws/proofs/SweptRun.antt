@@ -12,7 +12,7 @@ use Rattle.pj_events.specs.declared.events.Stop.{Stop}
 use Rattle.pj_events.specs.declared.events.Event.TheVariants.{Arrive, Take as Taken, Give as Given, Sweep as Swept, Drain, Halt, Look, Stopped, Idle}
 use Rattle.pj_events.specs.History.{is_stream, streams_from, Reached, begun, next, stop_after, reached_of, reached_from, nodes_from, nodes_by, step_of, streams_of, IsOn, AreEntriesLegal, IsLegal, IsComplete}
 use Rattle.pj_events.specs.OneThread.{Place, Turn, is_punct, plain, arrival_of, probes, sweeps_at, places_in, places_from, follow_up, turn_entries, turns_entries, one_thread_of}
-use Rattle.pj_laws.specs.HistoryLaws.{OneThreadIsAnswer, AllAreCertified, AllPropagate, AreAcceptedLists, IsWholeRun, Certified}
+use Rattle.pj_laws.specs.HistoryLaws.{OneThreadIsAnswer, AllAreCertified, AreAcceptedLists, IsWholeRun, Certified}
 use Rattle.pj_laws.proofs.Histories.{reached-nodes, nodes-append, reached-append}
 use Rattle.pj_laws.proofs.Nodes.{drain-still}
 use Rattle.pj_laws.proofs.HistoryAnswers.{closings, complete-is-answer}
@@ -132,7 +132,7 @@ some-stream [] planned lt = absurd (omega (arith, lt))
 some-stream (node ∷ nodes) planned lt =
     subst (λ (b : Bool). 0 < length (cond b (0 ∷ streams_from 1 nodes) (streams_from 1 nodes))) (sym (first-stream node.operator node.inputs planned.0 planned.1)) (omega arith)
 
-module _ (plan : List Node) (planned : ArePlanned [] plan) (some : 0 < length plan) (certs : AllAreCertified plan) (props : AllPropagate plan) (lists : List (List Element)) (accepted : AreAcceptedLists plan lists) where
+module _ (plan : List Node) (planned : ArePlanned [] plan) (some : 0 < length plan) (certs : AllAreCertified plan) (lists : List (List Element)) (accepted : AreAcceptedLists plan lists) where
   whole : IsWholeRun true plan lists
   whole = swept-whole plan planned certs lists accepted
 
@@ -179,7 +179,7 @@ module _ (plan : List Node) (planned : ArePlanned [] plan) (some : 0 < length pl
   rest : AllRest (nodes_from N (sweeps_at N (places_from 0 plan)))
   unfolding N
   rest m l =
-      settles-all [] [] plan end.front refl planned certs props late (λ es l k j. absurd (omega (arith, j))) (λ k j. absurd (omega (arith, j))) (λ k j. absurd (omega (arith, j)))
+      settles-all [] [] plan end.front refl planned certs late (λ es l k j. absurd (omega (arith, j))) (λ k j. absurd (omega (arith, j))) (λ k j. absurd (omega (arith, j)))
       m (omega (arith, l, length-from N (sweeps_at N (places_from 0 plan)), length-from plan end.front))
 
   same : nodes_from plan (one_thread_of true plan lists) ≡ nodes_from N (sweeps_at N (places_from 0 plan))
@@ -200,7 +200,7 @@ module _ (plan : List Node) (planned : ArePlanned [] plan) (some : 0 < length pl
   }
 
 -- with groups too, its rows are the answer
-pub swept-groups : (plan : List Node) → ArePlanned [] plan → 0 < length plan → AllAreCertified plan → AllPropagate plan → OneThreadIsAnswer true plan
-swept-groups plan planned lt certs props lists accepted trace =
+pub swept-groups : (plan : List Node) → ArePlanned [] plan → 0 < length plan → AllAreCertified plan → OneThreadIsAnswer true plan
+swept-groups plan planned lt certs lists accepted trace =
     subst (λ (all : List (List (List Value))). SameBag (rows_out (outputs_of trace plan (one_thread_of true plan lists))) (answer_of plan all)) (lists-are true plan planned (λ e. certs) lists accepted)
-    (complete-is-answer plan planned lt props trace (one_thread_of true plan lists) (swept-whole plan planned certs lists accepted).legal (swept-complete plan planned lt certs props lists accepted))
+    (complete-is-answer plan planned lt trace (one_thread_of true plan lists) (swept-whole plan planned certs lists accepted).legal (swept-complete plan planned lt certs lists accepted))

@@ -10,7 +10,7 @@ use Rattle.pj_events.specs.Plan.{Node}
 use Rattle.pj_events.specs.History.{nodes_by}
 use Rattle.pj_events.specs.Outcomes.{Arrival, arrivals_by, join_steps_by, join_steps_of, own_step, step_at}
 use Rattle.pj_laws.specs.Seats.{giver_by, givers, taker_by, takers}
-use Rattle.pj_laws.proofs.Stay.{legal-front}
+use Rattle.pj_join_laws.proofs.Sound.{legal-front}
 
 -- ---- steps
 

@@ -9,11 +9,11 @@ use Rattle.pj_pattern.proofs.Covering.{row_covered}
 use Rattle.pj_events.specs.Patterns.{Pattern, wild, all_wild, matches_row, covers_punct}
 use Rattle.pj_events.specs.Join.{In, Value, no_value, Element, Tuple, Punct}
 use Rattle.pj_pattern.specs.Elements.{IsLawful}
-use Rattle.pj_events.specs.Operators.{picked_cells, picked_patterns, aggregate, keys_from, group_row, group_rows, GroupSpec, Sent, UnionState, all_sent_from, union_after, union_hands, group_after, group_hands}
+use Rattle.pj_events.specs.Operators.{picked_cells, aggregate, keys_from, group_row, group_rows, GroupSpec, Sent, UnionState, all_sent_from, union_after, union_hands, group_after, group_hands}
 use Rattle.pj_events.specs.Plan.{Union, Group, Local, Comes, Fed, Own, hands_all}
 use Rattle.pj_value.specs.Values.{row_eq}
 use Rattle.pj_pattern.proofs.Rows.{matches-append}
-use Rattle.pj_pattern.specs.Columns.{others_wild}
+use Rattle.pj_pattern.specs.Columns.{others_wild, picked_patterns}
 use Rattle.pj_events.proofs.Keys.{key-from}
 use Rattle.pj_laws.proofs.Glue.{from_input}
 use Rattle.pj_laws.proofs.Operators.{AllFit, picked-at, picked-matches, AreWithin}

@@ -12,11 +12,11 @@ use Rattle.pj_shape.specs.declared.columns.Column.{Column}
 use Rattle.pj_events.specs.Patterns.{Pattern, wild, all_wild, matches_row}
 use Rattle.pj_events.specs.Join.{In, Value, no_value, arities, JoinData, JoinState, Step, start, step, IsAllowed, Element, Tuple, Punct}
 use Rattle.pj_pattern.specs.Elements.{IsLawful}
-use Rattle.pj_events.specs.Operators.{picked_cells, picked_patterns, GroupSpec, Sent, UnionState, keys_from, group_row, group_rows, aggregate, union_after, union_hands, all_sent_from, group_after, group_hands, select_hands, project_hands}
+use Rattle.pj_events.specs.Operators.{picked_cells, GroupSpec, Sent, UnionState, keys_from, group_row, group_rows, aggregate, union_after, union_hands, all_sent_from, group_after, group_hands, select_hands, project_hands}
 use Rattle.pj_events.specs.Plan.{Operator, Stream, Select, Project, Union, Join, Group, Node, Local, Comes, Fed, Own, join_step, after, after_all, hands_all, PlanStep, Feed, Act, Pass, own, brought_from, locals, handed_at, batches, moved, handed, IsOwn, Fits, IsClearOf, MayArrive, MayAct, nowhere, IsStepAllowed, AreStepsLegal, operator_width, IsWellMade, node_width, ArePlanned, PlanIsLawful}
 use Rattle.pj_value.specs.Values.{row_eq}
 use Rattle.pj_pattern.proofs.Rows.{wilds-length}
-use Rattle.pj_pattern.specs.Columns.{others_wild}
+use Rattle.pj_pattern.specs.Columns.{others_wild, picked_patterns}
 use Rattle.pj_laws.proofs.Glue.{from_input, locals_all, handed-is, handed-front, from-is, moved-append, length-batches, locals-inputs}
 use Rattle.pj_laws.proofs.Operators.{AllFit, AreWithin, AreOwnAllowed, select-lawful, project-lawful, join-lawful}
 use Rattle.pj_events.proofs.Keys.{key-from}

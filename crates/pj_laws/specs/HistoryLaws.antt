@@ -1,5 +1,5 @@
 -- What holds of every legal history of a plan.
-use Rattle.std.specs.Prelude.{◌==◌, if◌then◌else◌, ℕ, ◌<◌, ◌≡◌, Bool, true, false, List, [], ◌∷◌, ◌++◌, map, length, max, slice_index_or, ◌↔◌, Some, None}
+use Rattle.std.specs.Prelude.{ℕ, ◌<◌, ◌≡◌, Bool, true, false, List, [], ◌∷◌, ◌++◌, map, length, max, slice_index_or, ◌↔◌, Some, None}
 use Rattle.pj_shape.specs.Columns.{kinds_of}
 use Rattle.pj_pattern.specs.Fitting.{FitsKinds}
 use Rattle.pj_pattern.specs.Elements.{IsLawful}
@@ -8,7 +8,7 @@ use Rattle.pj_value.specs.declared.values.Value.{Value}
 use Rattle.pj_shape.specs.declared.columns.Column.{Column}
 use Rattle.pj_events.specs.Patterns.{all_wild}
 use Rattle.pj_events.specs.Join.{AreCertified, AreLegalSteps, start, In, JoinData, JoinState, Element, run, outputs, Punct, AllGiven, has, rows_of, puncts_of, upto_from}
-use Rattle.pj_events.specs.Plan.{Operator, Stream, Join, Group, Node, batches, operator_at}
+use Rattle.pj_events.specs.Plan.{Operator, Stream, Join, Group, Node, batches, operator_at, Select, Project, Union}
 use Rattle.pj_events.specs.declared.events.Entry.{Entry}
 use Rattle.pj_events.specs.declared.events.Event.{Event}
 use Rattle.pj_events.specs.declared.events.Event.TheVariants.{Take as Taken, Give as Given}
@@ -22,8 +22,12 @@ abbrev pub HandsOutLawfully : List Node → Type 0
 HandsOutLawfully plan = (trace : Bool) (history : List Entry) → IsLegal plan history → IsLawful (elements_out (outputs_of trace plan history))
 
 abbrev pub IsNoGroup : Operator → Type 0
+IsNoGroup (Stream schema sent) = Unit {0}
+IsNoGroup (Select test) = Unit {0}
+IsNoGroup (Project columns) = Unit {0}
+IsNoGroup (Union n u) = Unit {0}
+IsNoGroup (Join spec s) = Unit {0}
 IsNoGroup (Group spec rows) = ⊥
-IsNoGroup _ = Unit {0}
 
 -- the plan has no group
 abbrev pub HasNoGroup : List Node → Type 0
@@ -38,14 +42,6 @@ abbrev pub GivenIsAnswer : List Node → Type 0
 GivenIsAnswer plan =
     (trace : Bool) (history : List Entry) → IsLegal plan history → AllAreGiven plan history
     → SameBag (rows_out (outputs_of trace plan history)) (answer_of plan (lists_of plan history))
-
-abbrev pub Propagates : Operator → Type 0
-Propagates (Join spec s) = spec.propagates ≡ true
-Propagates _ = Unit {0}
-
--- every join of the plan hands up punctuations
-abbrev pub AllPropagate : List Node → Type 0
-AllPropagate plan = (n : ℕ) → n < length plan → Propagates (operator_at plan n)
 
 -- The rows that a complete history hands out are the nested-loop answer over all that arrived, as a bag
 abbrev pub CompleteIsAnswer : List Node → Type 0
@@ -111,8 +107,12 @@ OneThreadIsAnswer sweeps plan =
     → SameBag (rows_out (outputs_of trace plan (one_thread_of sweeps plan lists))) (answer_of plan (map rows_of lists))
 
 abbrev pub Certified : Operator → Type 0
+Certified (Stream schema sent) = Unit {0}
+Certified (Select test) = Unit {0}
+Certified (Project columns) = Unit {0}
+Certified (Union n u) = Unit {0}
 Certified (Join spec s) = AreCertified spec
-Certified _ = Unit {0}
+Certified (Group spec rows) = Unit {0}
 
 -- every input of every join of the plan has a certificate
 abbrev pub AllAreCertified : List Node → Type 0
@@ -153,8 +153,12 @@ NeverRetracts plan =
 -- ---- one join within a plan
 
 abbrev pub Joined : Operator → Type 0
+Joined (Stream schema sent) = ⊥
+Joined (Select test) = ⊥
+Joined (Project columns) = ⊥
+Joined (Union n u) = ⊥
 Joined (Join spec s) = Unit {0}
-Joined _ = ⊥
+Joined (Group spec rows) = ⊥
 
 -- What an event makes of the join at a node, and what the node hands up: the join's own steps and its arrivals, in order
 abbrev pub JoinFollows : List Node → Type 0

@@ -7,3 +7,4 @@ pub mod Finality
 pub mod SettlingHistories
 pub mod Seats
 pub mod SeatLaws
+pub mod Worked

@@ -4,7 +4,7 @@ ghost use Rattle.pj_events.specs.Plan.{Node, ArePlanned};
 ghost use Rattle.pj_pattern.specs.declared.element.Element.{Element};
 ghost use Rattle.pj_events.specs.declared.events.Entry.{Entry};
 ghost use Rattle.pj_events.specs.History.{nodes_from};
-ghost use Rattle.pj_laws.specs.HistoryLaws.{AddsEntry, AllAreCertified, AllPropagate, CompleteIsAnswer, CompleteIsPuncts, DrainsHandOutAll, FrontsAreLegal, GivenIsAnswer, GrowsLegally, HandsOutLawfully, HasNoGroup, AreAcceptedLists, IsWholeRun, JoinFollows, JoinRuns, NeverRetracts, NoneIsPending, OneThreadIsAnswer, ProbesGoOn, RoundsGoOn, StreamsHold, SweptIsComplete, SweptIsPuncts, TicketsCount, TraceAddsNotes, TurnsGoOn};
+ghost use Rattle.pj_laws.specs.HistoryLaws.{AddsEntry, AllAreCertified, CompleteIsAnswer, CompleteIsPuncts, DrainsHandOutAll, FrontsAreLegal, GivenIsAnswer, GrowsLegally, HandsOutLawfully, HasNoGroup, AreAcceptedLists, IsWholeRun, JoinFollows, JoinRuns, NeverRetracts, NoneIsPending, OneThreadIsAnswer, ProbesGoOn, RoundsGoOn, StreamsHold, SweptIsComplete, SweptIsPuncts, TicketsCount, TraceAddsNotes, TurnsGoOn};
 ghost use Rattle.pj_laws.specs.Finality.{AnswerGoesOn, EmptiedIsAnswer, IsAmongArrived, IsFinal, IsFinalWhereAccepted};
 
 /// No row that a legal history hands out matches a punctuation that was handed out before it.
@@ -18,14 +18,14 @@ pub fn history_lawfulness()
 pub fn history_answers()
     ensures given { (plan : List Node) → ArePlanned [] plan → 0 < length plan → HasNoGroup plan → GivenIsAnswer plan }
     ensures emptied { (plan : List Node) → ArePlanned [] plan → 0 < length plan → EmptiedIsAnswer plan }
-    ensures complete { (plan : List Node) → ArePlanned [] plan → 0 < length plan → AllPropagate plan → CompleteIsAnswer plan }
+    ensures complete { (plan : List Node) → ArePlanned [] plan → 0 < length plan → CompleteIsAnswer plan }
 {}
 
 /// The punctuations that a complete history hands out are those of the plan over all that arrived at its streams, as a bag,
 /// and so are those of the run on one thread with sweeps over accepted elements.
 pub fn history_punctuations()
-    ensures complete { (plan : List Node) → ArePlanned [] plan → 0 < length plan → AllPropagate plan → CompleteIsPuncts plan }
-    ensures swept { (plan : List Node) → ArePlanned [] plan → 0 < length plan → AllAreCertified plan → AllPropagate plan → SweptIsPuncts plan }
+    ensures complete { (plan : List Node) → ArePlanned [] plan → 0 < length plan → CompleteIsPuncts plan }
+    ensures swept { (plan : List Node) → ArePlanned [] plan → 0 < length plan → AllAreCertified plan → SweptIsPuncts plan }
 {}
 
 /// What one more entry adds to a history and when it may come, what the drains of one seat hand out, and what a trace adds.
@@ -67,8 +67,8 @@ pub fn one_thread()
     ensures answer { (plan : List Node) → ArePlanned [] plan → 0 < length plan → HasNoGroup plan → OneThreadIsAnswer false plan }
     ensures swept_whole { (plan : List Node) → ArePlanned [] plan → AllAreCertified plan → (lists : List (List Element)) → AreAcceptedLists plan lists → IsWholeRun true plan lists }
     ensures swept_answer { (plan : List Node) → ArePlanned [] plan → 0 < length plan → HasNoGroup plan → AllAreCertified plan → OneThreadIsAnswer true plan }
-    ensures swept_complete { (plan : List Node) → ArePlanned [] plan → 0 < length plan → AllAreCertified plan → AllPropagate plan → SweptIsComplete plan }
-    ensures swept_groups { (plan : List Node) → ArePlanned [] plan → 0 < length plan → AllAreCertified plan → AllPropagate plan → OneThreadIsAnswer true plan }
+    ensures swept_complete { (plan : List Node) → ArePlanned [] plan → 0 < length plan → AllAreCertified plan → SweptIsComplete plan }
+    ensures swept_groups { (plan : List Node) → ArePlanned [] plan → 0 < length plan → AllAreCertified plan → OneThreadIsAnswer true plan }
 {}
 
 /// At any moment all probes are the next one and then all probes, and there is a next one where a ticket is pending.

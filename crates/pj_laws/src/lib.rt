@@ -7,6 +7,7 @@ mod limits_laws;
 mod plan_laws;
 mod seat_laws;
 mod settling_laws;
+mod worked;
 
 pub use climb_laws::{climbs_of_histories, climbs_of_steps};
 pub use history_laws::{
@@ -20,3 +21,4 @@ pub use seat_laws::{
     streams_of_seats, tickets_of_seats,
 };
 pub use settling_laws::histories_settle;
+pub use worked::{worked_climbs, worked_runs};

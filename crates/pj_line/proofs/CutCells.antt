@@ -63,12 +63,6 @@ one_more_cell line cells from c before room cut le within is = record {
   ends = end_more 0 cells c;
 }
 
-pub no_more_cell : (line : List ℕ) (cells : List Span) (from : ℕ) → CutTo line cells from → cells_of (drop from line) ≡ Some [] → cells_of line ≡ Some (bytes_in cells)
-no_more_cell line cells from before none = before.cut ∙ (ap (with_front (bytes_in cells)) none ∙ ap Some (append-nil (bytes_in cells)))
-
-pub open_cell : (line : List ℕ) (cells : List Span) (from : ℕ) → CutTo line cells from → cells_of (drop from line) ≡ None → cells_of line ≡ None
-open_cell line cells from before none = before.cut ∙ ap (with_front (bytes_in cells)) none
-
 -- where 128 cells were cut and another one follows, a line that is closed has more than 128
 pub too_many_cells : (line : List ℕ) (cells : List Span) (from : ℕ) (c : List ℕ) (rest : Option (List (List ℕ))) (all : List (List ℕ)) → CutTo line cells from → cells_of (drop from line) ≡ with_first c rest → length cells ≡ 128 → cells_of line ≡ Some all → 128 < length all
 too_many_cells line cells from c rest all before next full is = go rest (sym is ∙ (before.cut ∙ ap (with_front (bytes_in cells)) next))

@@ -39,9 +39,6 @@ folded_cell_none (x ∷ xs) = ap (onto_cell x) (folded_cell_none xs)
 
 -- ---- runs of bytes
 
-pub leads_none : (q : Quote) (bytes : List ℕ) → Leads q q bytes 0
-leads_none q bytes = refl
-
 pub leads_more : (p q : Quote) (bytes : List ℕ) (i : ℕ) → i < length bytes → Leads p q bytes i → (is_outside q && is_blank (get_or bytes i 0)) ≡ false → Leads p (after q (get_or bytes i 0)) bytes (i + 1)
 leads_more p q bytes i lt before e = folded_turn onto_cell _ (cells_from (Some q)) (cells_from (Some (after q (get_or bytes i 0)))) bytes i lt before (λ rest. cell_goes_on q (get_or bytes i 0) rest e)
 

@@ -178,7 +178,8 @@ impl Pattern {
         })
     }
 
-    pub(crate) fn is_wild(&self) -> bool
+    /// Whether it is the wildcard, which matches every value.
+    pub fn is_wild(&self) -> bool
         ensures { result ≡ is_wild self.now }
     {
         form_is_wild(&self.form)

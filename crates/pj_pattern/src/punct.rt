@@ -1,6 +1,7 @@
 // A punctuation: a pattern for each column.
 ghost use Rattle.std.specs.Prelude.{◌≡◌, ◌<◌, ◌≤◌, ◌+◌, ◌++◌, ◌||◌, All, IfOk, OnOk, length, slice_get, Some};
-ghost use Rattle.pj_pattern.specs.Columns.{all_wild, covers_punct, is_named, keep_of, matches_row, others_wild, picked, widen_of};
+ghost use Rattle.pj_value.specs.Lists.{has};
+ghost use Rattle.pj_pattern.specs.Columns.{all_wild, covers_punct, keep_of, matches_row, others_wild, picked_patterns, widen_of};
 ghost use Rattle.pj_pattern.specs.Patterns.{is_wild};
 
 use crate::Pattern;
@@ -178,13 +179,13 @@ fn others_are_wild(patterns: &[Pattern], columns: &[u32]) -> bool
 }
 
 fn is_named_or_wild(columns: &[u32], at: usize, pattern: &Pattern) -> bool
-    ensures { result ≡ (is_named columns.now at || is_wild pattern.now) }
+    ensures { result ≡ (has columns.now at || is_wild pattern.now) }
 {
     is_named(columns, at) || pattern.is_wild()
 }
 
 fn is_named(columns: &[u32], at: usize) -> bool
-    ensures { result ≡ is_named columns.now at }
+    ensures { result ≡ has columns.now at }
 {
     columns.iter().any(|column| *column as usize == at)
 }
@@ -192,7 +193,7 @@ fn is_named(columns: &[u32], at: usize) -> bool
 // The patterns of these columns, in their order.
 fn pick(alloc: Global, patterns: &[Pattern], columns: &[u32]) -> Result<List<Pattern>, NoMemory>
     requires { All (λ column. column < length patterns.now) columns.now }
-    ensures { IfOk result (λ l. l ≡ picked patterns.now columns.now) }
+    ensures { IfOk result (λ l. l ≡ picked_patterns columns.now patterns.now) }
 {
     let mut chosen = List::new(alloc);
     for column in columns {

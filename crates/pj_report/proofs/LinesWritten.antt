@@ -16,10 +16,6 @@ piece_written lines old new piece is grew = grew ∙ ap (λ (xs : List ℕ). old
 pub piece_cut : (lines : List (List ℕ)) (before after piece : List ℕ) → flat lines ≡ piece → GrewByLess before after piece → Leaves anywhere lines before after
 piece_cut lines before after piece is grew = record { front = take grew.0 piece; others = drop grew.0 piece; all = take-append-drop grew.0 piece ∙ sym is; written = grew.1.grew }
 
--- nothing was written, once and again
-pub nothing_yet : (sink : SinkState) → WritesNothing sink sink
-nothing_yet sink = record { told = λ t. t; same = λ t. refl; later = omega arith }
-
 pub nothing_then : (old mid new : SinkState) → WritesNothing old mid → WritesNothing mid new → WritesNothing old new
 nothing_then old mid new a b = record { told = λ t. a.told (b.told t); same = λ t. b.same t ∙ a.same (b.told t); later = omega (arith, a.later, b.later) }
 

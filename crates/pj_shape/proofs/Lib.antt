@@ -1,2 +1,6 @@
+pub mod Cells
+pub mod Certificates
+pub mod Classes
 pub mod Joining
 pub mod KindsOf
+pub mod Tested

@@ -66,3 +66,13 @@ class_from n (class ∷ classes) at = if has_column class at then Some n else cl
 -- the number of the first class that has the column
 abbrev pub class_of : List (List ClassCol) → ClassCol → Option ℕ
 class_of classes at = class_from 0 classes at
+
+-- the value of a cell, where one that is not there has the empty text
+abbrev pub cell_value : Option Value → Value
+cell_value None = no_value
+cell_value (Some v) = v
+
+-- rows as parts of the inputs from this one on
+abbrev pub parts_on : ℕ → List (List Value) → List Part
+parts_on input [] = []
+parts_on input (row ∷ rows) = record { input = input; row = row } ∷ parts_on (input + 1) rows

@@ -1,5 +1,5 @@
--- Which joins are sound.
-use Rattle.std.specs.Prelude.{ℕ, ◌≤◌, ◌≡◌, ◌≢◌, List, [], ◌∷◌, map, length, sum, slice_get, Some}
+-- Which joins are sound, and which schemes fit them.
+use Rattle.std.specs.Prelude.{ℕ, ◌≤◌, ◌≡◌, ◌≢◌, Bool, List, [], ◌∷◌, map, length, sum, slice_get, Some}
 use Rattle.pj_value.specs.declared.values.Kind.{Kind}
 use Rattle.pj_value.specs.Lists.{In}
 use Rattle.pj_shape.specs.declared.columns.Column.{Column}
@@ -40,3 +40,11 @@ pub record IsSoundSpec (spec : JoinSpec) : Type 0 where
   pub few_columns : sum (arities_of spec.inputs) ≤ 120
   pub sound_classes : (class : List ClassCol) → In class spec.classes → IsSoundClass spec.inputs class
   pub apart : AreApart spec.classes
+
+-- one list of schemes for each input, each scheme as long as its input's schema
+abbrev pub FitSchemes : List (List Column) → List (List (List Bool)) → Type 0
+FitSchemes [] [] = Unit {0}
+FitSchemes [] (list ∷ lists) = ⊥
+FitSchemes (schema ∷ schemas) [] = ⊥
+FitSchemes (schema ∷ schemas) (list ∷ lists) =
+    ((marks : List Bool) → In marks list → length marks ≡ length schema) × FitSchemes schemas lists

@@ -29,11 +29,6 @@ filled-set [] k b lt h = tt
 filled-set (c ∷ bs) zero b lt h = (lt, h.1)
 filled-set (c ∷ bs) (suc k) b lt h = (h.0, filled-set bs k b lt h.1)
 
-pub filled-kept : (bs : List (List Place)) (k : ℕ) (b : List Place) → b ≡ get_or bs k b → AreFilled bs → AreFilled (set bs k b)
-filled-kept [] k b is h = tt
-filled-kept (c ∷ bs) zero b is h = (subst (λ (ps : List Place). 0 < length ps) (sym is) h.0, h.1)
-filled-kept (c ∷ bs) (suc k) b is h = (h.0, filled-kept bs k b is h.1)
-
 pub filled-removed : (bs : List (List Place)) (k : ℕ) (b : List Place) → k < length bs → AreFilled bs → AreFilled (remove (set bs k b) k)
 filled-removed [] k b lt h = absurd (omega (arith, lt))
 filled-removed (c ∷ bs) zero b lt h = h.1
@@ -173,12 +168,6 @@ pub record IsBefore (bs : List (List Place)) (at behind left : ℕ) : Type 0 whe
   pub within : behind ≤ length bs
   pub rest : length (flat bs) - 1 - at + left + 1 ≡ length (flat (take behind bs))
 
-pub before-all : (bs : List (List Place)) (all : List Place) (at behind : ℕ) → flat bs ≡ all → at < length all → behind ≡ length bs → IsBefore bs at behind at
-before-all bs all at behind e lt is = record {
-  within = omega (arith, is);
-  rest = omega (arith, lt, ap length e, ap (λ n. length (flat (take n bs))) is, ap (λ (cs : List (List Place)). length (flat cs)) (take-all bs));
-}
-
 length-take : (bs : List (List Place)) (i behind : ℕ) (b : List Place) → i + 1 ≡ behind → i < length bs → b ≡ get_or bs i b → length (flat (take behind bs)) ≡ length (flat (take i bs)) + length b
 length-take bs i behind b e lt is =
     ap (λ n. length (flat (take n bs))) (sym e) ∙ (ap length (flat-take bs i b lt is) ∙ length-append (flat (take i bs)) b)
@@ -205,12 +194,6 @@ before-here bs all at behind left i b p whole h e is here there =
     ∙ (ap (slice_get (flat (drop i bs))) same
     ∙ (ap (λ (ps : List Place). slice_get ps (length b - 1 - left)) (flat-drop bs i b lt ∙ ap (λ (ps : List Place). ps ++ flat (drop (i + 1) bs)) (sym is))
     ∙ (get_front b (flat (drop (i + 1) bs)) (length b - 1 - left) (omega (arith, here)) ∙ there)))))
-
-pub before-none : (bs : List (List Place)) (at behind left : ℕ) → IsBefore bs at behind left → behind ≤ 0 → ⊥
-before-none bs at behind left h done = omega (arith, h.rest, ap (λ n. length (flat (take n bs))) (zero-is behind done))
-  where
-    zero-is : (n : ℕ) → n ≤ 0 → n ≡ 0
-    zero-is n le = omega (arith, le)
 
 -- ---- what is found and taken by halving
 

@@ -1,10 +1,10 @@
 -- Indexes of no rows.
-use Rattle.std.proofs.Common.{◌≡◌, ℕ, ◌+◌, List, [], ◌∷◌, ◌++◌, length, ap, ◌∙◌, arith}
+use Rattle.std.proofs.Common.{◌≡◌, ℕ, ◌+◌, List, [], ◌∷◌, ◌++◌, length, ap, ◌∙◌}
 use Rattle.std.specs.List.{All}
 use Rattle.std.proofs.lemmas.List.{length-append}
 use Rattle.std.proofs.lemmas.List.Elements.{All-push}
 use Rattle.pj_value.specs.declared.values.Value.{Value}
-use Rattle.pj_state.specs.Indexes.{IsKept, told}
+use Rattle.pj_state.specs.Indexes.{told}
 use Rattle.pj_state.specs.declared.index.ValueIndex.{ValueIndex}
 
 -- so many indexes, of no tickets
@@ -16,10 +16,4 @@ pub empty-more : (xs : List ValueIndex) (i : ℕ) (x : ValueIndex) → AreEmpty 
 empty-more xs i x h e = record {
   long = length-append xs (x ∷ []) ∙ ap (λ n. n + 1) h.long;
   empty = All-push (λ (y : ValueIndex). (v : Value) → told y v ≡ []) xs x h.empty e;
-}
-
-pub empty-kept : (columns : List ℕ) (xs : List ValueIndex) (i : ℕ) → AreEmpty xs i → i ≡ length columns → IsKept columns [] xs
-empty-kept columns xs i h e = record {
-  rising = tt;
-  indexed = record { count = h.long ∙ e; each = λ k d low lt. h.empty k d (omega (arith, lt, h.long, e)) };
 }

@@ -7,9 +7,10 @@ use Rattle.std.proofs.lemmas.List.Elements.{filter-append}
 use Rattle.pj_value.specs.Lists.{In}
 use Rattle.pj_value.specs.declared.values.Value.{Value}
 use Rattle.pj_value.specs.Values.{value_eq}
+use Rattle.pj_value.specs.Options.{is_value}
 use Rattle.pj_state.specs.Indexes.{AreIndexes, HasFewer, HasMore, HasSame, IsIndexOf, IsIndexed, IsKept, SameBehind, told}
 use Rattle.pj_state.specs.Rising.{AllAbove, AllBelow, IsRising, first_with, is_other, itself, without}
-use Rattle.pj_state.specs.States.{has_value, is_value, rows_with, ticket_of, tickets_of}
+use Rattle.pj_state.specs.States.{has_value, rows_with, ticket_of, tickets_of}
 use Rattle.pj_state.specs.declared.index.ValueIndex.{ValueIndex}
 use Rattle.pj_state.specs.declared.shared.Stored.{Stored}
 use Rattle.pj_state.proofs.Rising.{above-weaker, first-push, rising-filter, rising-push, without-above, without-push}
@@ -98,9 +99,6 @@ pub record IsTaken (columns : List ℕ) (old new : List ValueIndex) (at : ℕ) (
   pub taken : (rows : List Stored) → IsRising ticket_of rows → first_with ticket_of s.ticket rows ≡ Some s → (k : ℕ) (d : ValueIndex) → k < at → IsIndexOf (get_or columns k 0) rows (get_or old k d)
       → IsIndexOf (get_or columns k 0) (without ticket_of s.ticket rows) (get_or new k d)
 
-pub taken-none : (columns : List ℕ) (xs : List ValueIndex) (s : Stored) → IsTaken columns xs xs 0 s
-taken-none columns xs s = record { long = refl; others = λ k d le. refl; taken = λ rows rising first k d lt. absurd (omega (arith, lt)) }
-
 -- one index more had its row taken, or never had it
 pub taken-more : (columns : List ℕ) (old mid new : List ValueIndex) (at : ℕ) (s : Stored) → IsTaken columns old mid at s → at < length old → length new ≡ length mid
     → ((k : ℕ) (d : ValueIndex) → (k ≡ at → ⊥) → get_or new k d ≡ get_or mid k d)
@@ -144,9 +142,6 @@ pub record IsAdded (columns : List ℕ) (old new : List ValueIndex) (at : ℕ) (
   pub others : SameBehind old new at
   pub added : (rows : List Stored) → (k : ℕ) (d : ValueIndex) → k < at → IsIndexOf (get_or columns k 0) rows (get_or old k d) → IsIndexOf (get_or columns k 0) (rows ++ s ∷ []) (get_or new k d)
 
-pub added-none : (columns : List ℕ) (xs : List ValueIndex) (s : Stored) → IsAdded columns xs xs 0 s
-added-none columns xs s = record { long = refl; others = λ k d le. refl; added = λ rows k d lt. absurd (omega (arith, lt)) }
-
 pub added-more : (columns : List ℕ) (old mid : List ValueIndex) (at : ℕ) (x y : ValueIndex) (value : Value) (s : Stored) → IsAdded columns old mid at s → at < length old
     → x ≡ get_or mid at x → slice_get s.row (get_or columns at 0) ≡ Some value → HasMore (told y) (told x) value s.ticket → IsAdded columns old (set mid at y) (at + 1) s
 added-more columns old mid at x y value s h lt is there more = record {
@@ -175,12 +170,6 @@ added-more columns old mid at x y value s h lt is there more = record {
 pub all-taken : (columns : List ℕ) (old new : List ValueIndex) (count : ℕ) (s : Stored) → IsTaken columns old new count s → (rows : List Stored) → IsRising ticket_of rows → first_with ticket_of s.ticket rows ≡ Some s
     → AreIndexes columns rows old 0 count → AreIndexes columns (without ticket_of s.ticket rows) new 0 count
 all-taken columns old new count s h rows rising first was k d low lt = h.taken rows rising first k d lt (was k d low lt)
-
-pub all-added : (columns : List ℕ) (old new : List ValueIndex) (at : ℕ) (s : Stored) → IsAdded columns old new at s → length columns ≤ at → (rows : List Stored) → IsIndexed columns rows old → IsIndexed columns (rows ++ s ∷ []) new
-all-added columns old new at s h le rows was = record {
-  count = h.long ∙ was.count;
-  each = λ k d low lt. h.added rows k d (omega (arith, le, lt)) (was.each k d low lt);
-}
 
 -- where one index refuses a row, those before it let it go again
 pub all-same : (columns : List ℕ) (old mid put new : List ValueIndex) (at : ℕ) (s : Stored) (y : ValueIndex) → IsAdded columns old mid at s → at < length old → (d : ValueIndex) → HasSame (told y) (told (get_or mid at d)) → put ≡ set mid at y

@@ -1,6 +1,6 @@
 -- Rows that are looked up by their tickets.
 use Rattle.std.proofs.Common.{◌≡◌, ℕ, zero, suc, ◌+◌, ◌<◌, ◌≤◌, Bool, true, false, cond, List, [], ◌∷◌, ◌++◌, Option, None, Some, length, drop, filter, get_or, ltb, refl, ap, sym, ◌∙◌, subst, arith, append-nil, append_assoc}
-use Rattle.std.proofs.lemmas.Bool.{eq-eqb, le-ltb, lt-ltb, ltb-false}
+use Rattle.std.proofs.lemmas.Bool.{eq-eqb, le-ltb, lt-ltb, ltb-false, ne_eqb}
 use Rattle.std.proofs.lemmas.List.{drop_more}
 use Rattle.pj_value.specs.declared.values.Value.{Value}
 use Rattle.pj_state.specs.Rising.{AllAbove, IsRising, first_with}
@@ -9,7 +9,7 @@ use Rattle.pj_state.specs.declared.shared.Stored.{Stored}
 use Rattle.pj_state.specs.Indexes.{IsMatching}
 use Rattle.std.specs.List.{slice_get}
 use Rattle.std.specs.Option.{IfNone, IfSome, IsSome}
-use Rattle.pj_state.proofs.Rising.{eqb-apart, rising-filter}
+use Rattle.pj_state.proofs.Rising.{rising-filter}
 
 -- a ticket with its row, where there is one, and others behind it
 abbrev pub with_row : ℕ → Option Stored → List (ℕ × List Value) → List (ℕ × List Value)
@@ -70,7 +70,7 @@ AreFirst rows (s ∷ xs) = (first_with ticket_of s.ticket rows ≡ Some s) × Ar
 first-more : (x : Stored) (rows xs : List Stored) → AllAbove ticket_of x.ticket xs → AreFirst rows xs → AreFirst (x ∷ rows) xs
 first-more x rows [] above h = tt
 first-more x rows (s ∷ xs) above h =
-    (ap (λ b. cond b (Some x) (first_with ticket_of s.ticket rows)) (eqb-apart x.ticket s.ticket (λ e. omega (arith, e, above.0))) ∙ h.0, first-more x rows xs above.1 h.1)
+    (ap (λ b. cond b (Some x) (first_with ticket_of s.ticket rows)) (ne_eqb x.ticket s.ticket (λ e. omega (arith, e, above.0))) ∙ h.0, first-more x rows xs above.1 h.1)
 
 are-first : (rows : List Stored) → IsRising ticket_of rows → AreFirst rows rows
 are-first [] h = tt

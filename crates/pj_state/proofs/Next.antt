@@ -6,11 +6,12 @@ use Rattle.pj_value.specs.Lists.{In}
 use Rattle.pj_value.specs.declared.values.Value.{Value}
 use Rattle.pj_value.specs.declared.values.Value.TheVariants.{Int}
 use Rattle.pj_value.proofs.Orders.{equal_itself, same_if_equal}
+use Rattle.pj_value.specs.Options.{is_value}
 use Rattle.pj_state.specs.Indexes.{IsIndexOf, IsKept, told}
 use Rattle.pj_state.specs.Least.{TellsLeast}
 use Rattle.pj_state.specs.Numbers.{has_tickets}
 use Rattle.pj_state.specs.Ordered.{HasNumber, IsNumberThere, TellsNext}
-use Rattle.pj_state.specs.States.{has_value, is_value, tickets_of}
+use Rattle.pj_state.specs.States.{has_value, tickets_of}
 use Rattle.pj_state.specs.declared.index.ValueIndex.{ValueIndex}
 use Rattle.pj_state.specs.declared.shared.Stored.{Stored}
 use Rattle.pj_state.specs.declared.state.NextNumber.{NextNumber}

@@ -17,15 +17,6 @@ pub record IsOrderTo (entries : List Entry) (order : BTreeSet ℤ) (at : ℕ) : 
   pub within : (n : ℤ) → contains int_cmp order n ≡ true → are_there (number_tickets entries) n ≡ true
   pub to : (k : ℕ) (d : Entry) → k < at → k < length entries → are_there (number_tickets entries) (get_or entries k d).0 ≡ true → contains int_cmp order (get_or entries k d).0 ≡ true
 
-pub order-none : (entries : List Entry) (order : BTreeSet ℤ) → order.keys ≡ [] → IsOrderTo entries order 0
-order-none entries order e = record {
-  within = λ n h. absurd (true≢false (sym h ∙ empty n));
-  to = λ k d lt. absurd (omega (arith, lt));
-}
-  where
-    empty : (n : ℤ) → contains int_cmp order n ≡ false
-    empty n = ap (λ (ks : List ℤ). contains int_cmp (record { keys = ks }) n) e
-
 itself : (n : ℤ) → int_eq n n ≡ true
 itself n = (Decides-int_eq n n).1 refl
 

@@ -1,5 +1,5 @@
 -- Blocks that are reached one from the other.
-use Rattle.std.proofs.Common.{◌≡◌, ℕ, ◌+◌, ◌-◌, ◌<◌, ◌≤◌, List, [], ◌∷◌, ◌++◌, Some, length, get_or, take, drop, refl, ap, sym, ◌∙◌, arith}
+use Rattle.std.proofs.Common.{◌≡◌, ℕ, ◌+◌, ◌-◌, ◌<◌, ◌≤◌, List, [], ◌++◌, Some, length, get_or, take, drop, ap, sym, ◌∙◌, arith}
 use Rattle.std.specs.List.{slice_get}
 use Rattle.std.proofs.lemmas.List.{get_or_default, length-append}
 use Rattle.pj_value.proofs.Slices.{get_front, get_behind}
@@ -8,11 +8,6 @@ use Rattle.pj_state.specs.Stores.{flat}
 use Rattle.pj_state.specs.declared.cursor.Reached.{Reached}
 use Rattle.pj_state.specs.declared.places.Place.{Place}
 use Rattle.pj_state.proofs.Blocks.{flat-drop, flat-split, flat-take, take-all}
-
--- at the first block
-pub before-first : (bs : List (List Place)) → AreBefore bs 0 0
-before-first [] = (omega arith, refl)
-before-first (b ∷ bs) = (omega arith, refl)
 
 -- behind the last block
 pub before_last : (bs : List (List Place)) (i count : ℕ) → i ≡ length bs → count ≡ length (flat bs) → AreBefore bs i count
@@ -41,12 +36,6 @@ pub before-end : (bs : List (List Place)) (i before at : ℕ) → length bs ≤ 
 before-end bs i before at le h from lt =
     let same : length bs ≡ i = omega (arith, le, h.0) in
     omega (arith, lt, from, h.1, ap (λ n. length (flat (take n bs))) same, ap (λ (cs : List (List Place)). length (flat cs)) (take-all bs))
-
--- no place is before the first block
-pub before-start : (bs : List (List Place)) (i before at : ℕ) → i ≤ 0 → AreBefore bs i before → at < before → ⊥
-before-start bs i before at le h lt =
-    let zero-is : i ≡ 0 = omega (arith, le) in
-    omega (arith, lt, h.1, ap (λ n. length (flat (take n bs))) zero-is)
 
 -- the place at a position stands in its block
 pub place-in : (bs : List (List Place)) (i before at : ℕ) (b : List Place) (p : Place) → AreBefore bs i before → i < length bs → before ≤ at → at < before + length b → b ≡ get_or bs i b

@@ -1,11 +1,8 @@
 -- Lists whose items have numbers that rise.
 use Rattle.std.proofs.Common.{◌≡◌, ℕ, zero, suc, ◌+◌, ◌<◌, ◌≤◌, Bool, true, false, not, cond, List, [], ◌∷◌, ◌++◌, Option, Some, None, length, filter, get_or, eqb, refl, ap, sym, ◌∙◌, arith}
 use Rattle.std.specs.List.{remove}
-use Rattle.std.proofs.lemmas.Bool.{eqb-true, eq-eqb, false_from_ne_true}
+use Rattle.std.proofs.lemmas.Bool.{eqb-true, eq-eqb, ne_eqb}
 use Rattle.pj_state.specs.Rising.{AllAbove, AllBelow, IsRising, SplitsAt, first_with, without}
-
-pub eqb-apart : (m n : ℕ) → (m ≡ n → ⊥) → eqb m n ≡ false
-eqb-apart m n ne = false_from_ne_true (eqb m n) (λ e. ne (eqb-true m n e))
 
 module _ {A : Type 0} (number : A → ℕ) where
   pub above-weaker : (m n : ℕ) (xs : List A) → m ≤ n → AllAbove number n xs → AllAbove number m xs
@@ -46,13 +43,13 @@ module _ {A : Type 0} (number : A → ℕ) where
   pub without-above : (n : ℕ) (xs : List A) → AllAbove number n xs → without number n xs ≡ xs
   without-above n [] h = refl
   without-above n (x ∷ xs) h =
-      ap (λ b. cond (not b) (x ∷ without number n xs) (without number n xs)) (eqb-apart (number x) n (λ e. omega (arith, e, h.0)))
+      ap (λ b. cond (not b) (x ∷ without number n xs) (without number n xs)) (ne_eqb (number x) n (λ e. omega (arith, e, h.0)))
       ∙ ap (λ (ys : List A). x ∷ ys) (without-above n xs h.1)
 
   pub without-below : (n : ℕ) (xs : List A) → AllBelow number n xs → without number n xs ≡ xs
   without-below n [] h = refl
   without-below n (x ∷ xs) h =
-      ap (λ b. cond (not b) (x ∷ without number n xs) (without number n xs)) (eqb-apart (number x) n (λ e. omega (arith, e, h.0)))
+      ap (λ b. cond (not b) (x ∷ without number n xs) (without number n xs)) (ne_eqb (number x) n (λ e. omega (arith, e, h.0)))
       ∙ ap (λ (ys : List A). x ∷ ys) (without-below n xs h.1)
 
   pub without-append : (n : ℕ) (xs ys : List A) → without number n (xs ++ ys) ≡ without number n xs ++ without number n ys
@@ -68,7 +65,7 @@ module _ {A : Type 0} (number : A → ℕ) where
   pub without-push : (n : ℕ) (xs : List A) (x : A) → AllBelow number n xs → number x ≡ n → without number n (xs ++ x ∷ []) ≡ xs
   without-push n [] x h e = ap (λ b. cond (not b) (x ∷ []) []) (eq-eqb (number x) n e)
   without-push n (y ∷ ys) x h e =
-      ap (λ b. cond (not b) (y ∷ without number n (ys ++ x ∷ [])) (without number n (ys ++ x ∷ []))) (eqb-apart (number y) n (λ q. omega (arith, q, h.0)))
+      ap (λ b. cond (not b) (y ∷ without number n (ys ++ x ∷ [])) (without number n (ys ++ x ∷ []))) (ne_eqb (number y) n (λ q. omega (arith, q, h.0)))
       ∙ ap (λ (zs : List A). y ∷ zs) (without-push n ys x h.1 e)
 
   pub above-filter : (p : A → Bool) (n : ℕ) (xs : List A) → AllAbove number n xs → AllAbove number n (filter p xs)
@@ -92,12 +89,12 @@ module _ {A : Type 0} (number : A → ℕ) where
   pub first-above : (n : ℕ) (xs : List A) → AllAbove number n xs → first_with number n xs ≡ None
   first-above n [] h = refl
   first-above n (x ∷ xs) h =
-      ap (λ b. cond b (Some x) (first_with number n xs)) (eqb-apart (number x) n (λ e. omega (arith, e, h.0))) ∙ first-above n xs h.1
+      ap (λ b. cond b (Some x) (first_with number n xs)) (ne_eqb (number x) n (λ e. omega (arith, e, h.0))) ∙ first-above n xs h.1
 
   pub first-behind : (n : ℕ) (xs ys : List A) → AllBelow number n xs → first_with number n (xs ++ ys) ≡ first_with number n ys
   first-behind n [] ys h = refl
   first-behind n (x ∷ xs) ys h =
-      ap (λ b. cond b (Some x) (first_with number n (xs ++ ys))) (eqb-apart (number x) n (λ e. omega (arith, e, h.0))) ∙ first-behind n xs ys h.1
+      ap (λ b. cond b (Some x) (first_with number n (xs ++ ys))) (ne_eqb (number x) n (λ e. omega (arith, e, h.0))) ∙ first-behind n xs ys h.1
 
   pub first-front : (n : ℕ) (xs ys : List A) → AllAbove number n ys → first_with number n (xs ++ ys) ≡ first_with number n xs
   first-front n [] ys h = first-above n ys h
@@ -118,7 +115,7 @@ module _ {A : Type 0} (number : A → ℕ) where
   pub first-later : (n : ℕ) (xs ys : List A) (p : A) → IsRising number (xs ++ ys) → first_with number n ys ≡ Some p → first_with number n (xs ++ ys) ≡ Some p
   first-later n [] ys p rising h = h
   first-later n (x ∷ xs) ys p rising h =
-      ap (λ b. cond b (Some x) (first_with number n (xs ++ ys))) (eqb-apart (number x) n other) ∙ first-later n xs ys p rising.1 h
+      ap (λ b. cond b (Some x) (first_with number n (xs ++ ys))) (ne_eqb (number x) n other) ∙ first-later n xs ys p rising.1 h
     where
       other : number x ≡ n → ⊥
       other e =
@@ -140,7 +137,7 @@ module _ {A : Type 0} (number : A → ℕ) where
   first-at n (x ∷ xs) zero d h lt e = ap (λ b. cond b (Some x) (first_with number n xs)) (eq-eqb (number x) n e)
   first-at n (x ∷ xs) (suc k) d h lt e =
       let there : k < length xs = omega (arith, lt) in
-      ap (λ b. cond b (Some x) (first_with number n xs)) (eqb-apart (number x) n (λ q. omega (arith, q, e, above-at (number x) xs k d h.0 there)))
+      ap (λ b. cond b (Some x) (first_with number n xs)) (ne_eqb (number x) n (λ q. omega (arith, q, e, above-at (number x) xs k d h.0 there)))
       ∙ first-at n xs k d h.1 there e
 
   pub without-at : (n : ℕ) (xs : List A) (k : ℕ) (d : A) → IsRising number xs → k < length xs → number (get_or xs k d) ≡ n → without number n xs ≡ remove xs k
@@ -150,7 +147,7 @@ module _ {A : Type 0} (number : A → ℕ) where
       ∙ without-above n xs (above-weaker n (number x) xs (omega (arith, e)) h.0)
   without-at n (x ∷ xs) (suc k) d h lt e =
       let there : k < length xs = omega (arith, lt) in
-      ap (λ b. cond (not b) (x ∷ without number n xs) (without number n xs)) (eqb-apart (number x) n (λ q. omega (arith, q, e, above-at (number x) xs k d h.0 there)))
+      ap (λ b. cond (not b) (x ∷ without number n xs) (without number n xs)) (ne_eqb (number x) n (λ q. omega (arith, q, e, above-at (number x) xs k d h.0 there)))
       ∙ ap (λ (ys : List A). x ∷ ys) (without-at n xs k d h.1 there e)
 
   pub without-missing : (n : ℕ) (xs : List A) → first_with number n xs ≡ None → without number n xs ≡ xs
@@ -179,7 +176,7 @@ module _ {A : Type 0} (number : A → ℕ) where
       let here : n < number x = s.behind x (omega arith) in
       first-above n (x ∷ xs) (here, above-weaker n (number x) xs (omega (arith, here)) h.0)
   first-missing n (x ∷ xs) (suc k) h s other =
-      ap (λ b. cond b (Some x) (first_with number n xs)) (eqb-apart (number x) n (less k s.within (s.before k x (omega arith)) (other k x (omega arith))))
+      ap (λ b. cond b (Some x) (first_with number n xs)) (ne_eqb (number x) n (less k s.within (s.before k x (omega arith)) (other k x (omega arith))))
       ∙ first-missing n xs k h.1 (rest s) (λ j d e. other (suc j) d (omega (arith, e)))
     where
       less : (j : ℕ) → suc j ≤ length (x ∷ xs) → number (get_or (x ∷ xs) j x) ≤ n → (number (get_or (x ∷ xs) j x) ≡ n → ⊥) → number x ≡ n → ⊥

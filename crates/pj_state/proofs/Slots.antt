@@ -7,10 +7,11 @@ use Rattle.std.proofs.lemmas.List.Elements.{filter-append}
 use Rattle.std.proofs.lemmas.Bool.{eqb-true, lt-ltb, le-ltb}
 use Rattle.slab.specs.Slab.{Slab, Updates, get as slab_get, slab_len}
 use Rattle.pj_value.specs.declared.values.Value.{Value}
+use Rattle.pj_value.specs.Options.{row_there}
 use Rattle.pj_state.proofs.Rising.{above-weaker, first-number, length-without, rising-filter, rising-push, without-above, without-missing}
 use Rattle.pj_state.specs.Rising.{AllAbove, AllBelow, IsRising, first_with, is_other, without}
 use Rattle.pj_state.specs.States.{is_below, pair_of, pairs, rows_below, stored, ticket_of}
-use Rattle.pj_state.specs.Stores.{AreApart, AreHeld, IsStore, NoneAt, flat, place_ticket, row_there, rows_at, slot_at, stored_at}
+use Rattle.pj_state.specs.Stores.{AreApart, AreHeld, IsStore, NoneAt, flat, place_ticket, rows_at, slot_at, stored_at}
 use Rattle.pj_state.specs.declared.places.Place.{Place}
 use Rattle.pj_state.specs.declared.shared.Stored.{Stored}
 

@@ -1,19 +1,14 @@
 -- The tickets that an index tells, and what a change under one key changes.
-use Rattle.std.proofs.Common.{◌≡◌, ℕ, ℤ, Bool, true, false, cond, List, [], ◌∷◌, ◌++◌, Option, None, Some, length, refl, ap, sym, ◌∙◌, arith}
+use Rattle.std.proofs.Common.{◌≡◌, ℕ, ℤ, Bool, true, false, cond, List, [], ◌∷◌, ◌++◌, Option, None, Some, length, refl, ap, sym, ◌∙◌}
 use Rattle.std.specs.Ordering.{int_eq}
-use Rattle.std.proofs.lemmas.Bool.Decides.{Decides-int_eq}
-use Rattle.pj_value.specs.declared.values.Value.{Value}
+use Rattle.std.proofs.lemmas.List.{nil_from_length}
 use Rattle.pj_value.specs.declared.values.Value.TheVariants.{Int, Text}
 use Rattle.pj_state.specs.Alike.{text_same_if_equal}
-use Rattle.pj_state.specs.Indexes.{HasFewer, HasFewerAt, HasMore, HasMoreAt, HasSame, HasSameAt, told_by}
+use Rattle.pj_state.specs.Indexes.{HasFewerAt, HasMore, HasMoreAt, HasSameAt, told_by}
 use Rattle.pj_state.specs.Numbers.{listed}
-use Rattle.pj_state.specs.Keys.{same_text, text_key}
+use Rattle.pj_state.specs.Keys.{same_text}
 use Rattle.pj_state.specs.Rising.{itself, without}
 use Rattle.pj_state.specs.declared.texts.TextKey.{TextKey}
-
-pub none-left : (ts : List ℕ) → length ts ≡ 0 → ts ≡ []
-none-left [] e = refl
-none-left (t ∷ ts) e = absurd (omega (arith, e))
 
 -- the second finds the same as the first, but this under the key
 abbrev pub Writes : {K : Type 0} → (K → K → Bool) → (K → Option (List ℕ)) → (K → Option (List ℕ)) → K → Option (List ℕ) → Type 0
@@ -22,9 +17,6 @@ Writes {K} same old new key slot = (q : K) → new q ≡ cond (same key q) slot 
 -- a test that tells equal keys
 abbrev pub Tells : {K : Type 0} → (K → K → Bool) → Type 0
 Tells {K} same = (x y : K) → same x y ≡ true → x ≡ y
-
-pub int_tells : Tells int_eq
-int_tells x y e = (Decides-int_eq x y).0 e
 
 pub text_tells : Tells same_text
 text_tells x y e = text_same_if_equal x y e
@@ -58,7 +50,7 @@ module _ {K : Type 0} (same : K → K → Bool) (tells : Tells same) where
   pub fewer-gone : (old mid new : K → Option (List ℕ)) (key : K) (ticket : ℕ) (was left : List ℕ) → Writes same old mid key (Some left) → Writes same mid new key None → Some was ≡ old key → left ≡ without itself ticket was → length left ≡ 0
       → HasFewerAt same (λ k. listed (new k)) (λ k. listed (old k)) key ticket
   fewer-gone old mid new key ticket was left writes gone is less nothing =
-      fewer-at old new key ticket (Some was) None (λ q. gone q ∙ go q (same key q) (writes q)) (sym is) (sym (sym less ∙ none-left left nothing))
+      fewer-at old new key ticket (Some was) None (λ q. gone q ∙ go q (same key q) (writes q)) (sym is) (sym (sym less ∙ nil_from_length left nothing))
     where
       go : (q : K) (b : Bool) → mid q ≡ cond b (Some left) (old q) → cond b None (mid q) ≡ cond b None (old q)
       go q true e = refl
@@ -77,29 +69,3 @@ module _ {K : Type 0} (same : K → K → Bool) (tells : Tells same) where
 pub number-more : (numbers new : ℤ → List ℕ) (texts : TextKey → List ℕ) (n : ℤ) (ticket : ℕ) → HasMoreAt int_eq new numbers n ticket → HasMore (told_by new texts) (told_by numbers texts) (Int n) ticket
 number-more numbers new texts n ticket h (Int k) = h k
 number-more numbers new texts n ticket h (Text bytes) = refl
-
-pub text-more : (numbers : ℤ → List ℕ) (texts new : TextKey → List ℕ) (bytes : List ℕ) (ticket : ℕ) → HasMoreAt same_text new texts (text_key bytes) ticket
-    → HasMore (told_by numbers new) (told_by numbers texts) (Text bytes) ticket
-text-more numbers texts new bytes ticket h (Int k) = refl
-text-more numbers texts new bytes ticket h (Text more) = h (text_key more)
-
-pub number-fewer : (numbers new : ℤ → List ℕ) (texts : TextKey → List ℕ) (n : ℤ) (ticket : ℕ) → HasFewerAt int_eq new numbers n ticket → HasFewer (told_by new texts) (told_by numbers texts) (Int n) ticket
-number-fewer numbers new texts n ticket h (Int k) = h k
-number-fewer numbers new texts n ticket h (Text bytes) = refl
-
-pub text-fewer : (numbers : ℤ → List ℕ) (texts new : TextKey → List ℕ) (bytes : List ℕ) (ticket : ℕ) → HasFewerAt same_text new texts (text_key bytes) ticket
-    → HasFewer (told_by numbers new) (told_by numbers texts) (Text bytes) ticket
-text-fewer numbers texts new bytes ticket h (Int k) = refl
-text-fewer numbers texts new bytes ticket h (Text more) = h (text_key more)
-
-pub number-same : (numbers new : ℤ → List ℕ) (texts : TextKey → List ℕ) → HasSameAt new numbers → HasSame (told_by new texts) (told_by numbers texts)
-number-same numbers new texts h (Int k) = h k
-number-same numbers new texts h (Text bytes) = refl
-
-pub text-same : (numbers : ℤ → List ℕ) (texts new : TextKey → List ℕ) → HasSameAt new texts → HasSame (told_by numbers new) (told_by numbers texts)
-text-same numbers texts new h (Int k) = refl
-text-same numbers texts new h (Text more) = h (text_key more)
-
-pub told-nothing : (numbers : ℤ → List ℕ) (texts : TextKey → List ℕ) → ((n : ℤ) → numbers n ≡ []) → ((t : TextKey) → texts t ≡ []) → (v : Value) → told_by numbers texts v ≡ []
-told-nothing numbers texts p q (Int n) = p n
-told-nothing numbers texts p q (Text bytes) = q (text_key bytes)

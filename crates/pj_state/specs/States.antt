@@ -2,6 +2,7 @@
 use Rattle.std.specs.Prelude.{ℕ, Bool, false, nat_lt, List, Option, Some, None, map, filter, slice_get}
 use Rattle.pj_value.specs.declared.values.Value.{Value}
 use Rattle.pj_value.specs.Values.{value_eq}
+use Rattle.pj_value.specs.Options.{is_value}
 use Rattle.pj_state.specs.Rising.{first_with}
 use Rattle.pj_state.specs.declared.shared.Stored.{Stored}
 
@@ -22,11 +23,6 @@ ticket_of s = s.ticket
 
 abbrev pub tickets_of : List Stored → List ℕ
 tickets_of rows = map ticket_of rows
-
--- the value is there, and is this one
-abbrev pub is_value : Value → Option Value → Bool
-is_value value None = false
-is_value value (Some there) = value_eq there value
 
 -- the row has this value in this column
 abbrev pub has_value : ℕ → Value → Stored → Bool

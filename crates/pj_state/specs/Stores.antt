@@ -1,6 +1,7 @@
 -- How rows are kept in order of their tickets.
 use Rattle.std.specs.Prelude.{◌≡◌, ℕ, ◌<◌, List, [], ◌∷◌, ◌++◌, Option, Some, None, is_some, count_by, length, slice_index_or, slice_set}
 use Rattle.pj_value.specs.declared.values.Value.{Value}
+use Rattle.pj_value.specs.Options.{row_there}
 use Rattle.pj_state.specs.Rising.{IsRising, without}
 use Rattle.pj_state.specs.States.{stored}
 use Rattle.pj_state.specs.declared.shared.Stored.{Stored}
@@ -31,11 +32,6 @@ less_one blocks at ticket = slice_set blocks at (without place_ticket ticket (sl
 -- what stands under a key
 abbrev pub slot_at : List (Option (List Value)) → ℕ → Option (List Value)
 slot_at slots key = slice_index_or slots key None
-
--- the row that stands there
-abbrev pub row_there : Option (List Value) → List Value
-row_there None = []
-row_there (Some row) = row
 
 -- the row that a place leads to, under its ticket
 abbrev pub stored_at : List (Option (List Value)) → Place → Stored

@@ -5,11 +5,13 @@ use Rattle.pj_value.specs.declared.values.Value.{Value}
 use Rattle.pj_value.specs.declared.values.Kind.TheVariants.{Int}
 use Rattle.pj_shape.specs.declared.joins.ClassCol.{ClassCol}
 use Rattle.pj_value.specs.Lists.{In}
-use Rattle.pj_shape.specs.Sound.{IsSoundSpec, IsSoundClass, IsOfKind, arities_of}
-use Rattle.pj_events.specs.Join.{CertEntry, IsCertified, entry_of}
+use Rattle.pj_shape.specs.Sound.{IsSoundSpec, IsSoundClass, IsOfKind, FitSchemes, arities_of}
+use Rattle.pj_shape.specs.Certificates.{IsCertificate}
+use Rattle.pj_shape.proofs.Tested.{fit_if}
 use Rattle.pj_cover.specs.Stores.{Store}
-use Rattle.pj_cover.specs.Asking.{AreParts, HaveLength, data_of}
+use Rattle.pj_cover.specs.Asking.{AreParts, HaveLength}
 use Rattle.pj_test_states.specs.Chain.{number, pair, pairs, at, firsts, seconds, chain, chain_schemes, chain_cert, two_rows}
+use Rattle.pj_cert.proofs.TestedSteps.{verified}
 
 chain-class : (a b c d : ℕ) → (a ≡ b → ⊥) → IsOfKind pairs (at a c) Int → IsOfKind pairs (at b d) Int → IsSoundClass pairs (at a c ∷ at b d ∷ [])
 chain-class a b c d apart one two = record {
@@ -55,27 +57,11 @@ chain-sound = record {
     columns other (inl e) c k m = omega (arith, column c k, other_column c (subst (λ (l : List ClassCol). In c l) (sym e) m))
     columns other (inr e) c k m = absurd e
 
-pub chain_certified : IsCertified (data_of chain chain_schemes) 0 chain_cert
-chain_certified = (
-  (omega arith, (λ h. other h), (omega arith, (λ h. neither h), tt)),
-  (omega arith, refl, ((at 0 0, inl refl, inl refl), tt), (omega arith, refl, ((at 1 1, inl refl, inl refl), tt), tt)),
-  (λ k lt apart. each k lt apart),
-)
-  where
-    other : In {A = ℕ} 1 (0 ∷ []) → ⊥
-    other (inl e) = omega (arith, e)
-    other (inr e) = absurd e
+pub chain_fits : FitSchemes chain.inputs chain_schemes
+chain_fits = fit_if chain.inputs chain_schemes refl
 
-    neither : In {A = ℕ} 2 (1 ∷ 0 ∷ []) → ⊥
-    neither (inl e) = omega (arith, e)
-    neither (inr (inl e)) = omega (arith, e)
-    neither (inr (inr e)) = absurd e
-
-    each : (k : ℕ) → k < 3 → k ≢ 0 → (e : CertEntry) × In e (map (entry_of chain_schemes) chain_cert) × (e.input ≡ k)
-    each zero lt apart = absurd (apart refl)
-    each (suc zero) lt apart = (record { input = 1; marks = true ∷ false ∷ [] }, inl refl, refl)
-    each (suc (suc zero)) lt apart = (record { input = 2; marks = false ∷ true ∷ [] }, inr (inl refl), refl)
-    each (suc (suc (suc k))) lt apart = absurd (omega (arith, lt))
+pub chain_certified : IsCertificate chain chain_schemes 0 chain_cert
+chain_certified = (verified chain chain_schemes 0 chain_cert refl).0 refl
 
 -- two rows of two columns, and stores of that arity, fit it
 pub chain_parts : (one other : List Value) (stores : List Store) → length one ≡ 2 → length other ≡ 2 → map (λ s. s.arity) stores ≡ 2 ∷ 2 ∷ 2 ∷ [] → AreParts chain (two_rows one other) stores

@@ -3,7 +3,7 @@ ghost use Rattle.std.specs.Prelude.{◌≡◌, ◌<◌, ◌+◌, ◌∷◌, [], 
 ghost use Rattle.pj_cover.specs.Givens.{marked};
 ghost use Rattle.pj_cover.specs.Stores.{IsAbove};
 ghost use Rattle.pj_test_states.specs.Chain.{at, chain, chain_cert, chain_schemes, firsts, number, pair, pairs, seconds, two_rows};
-ghost use Rattle.pj_cover.specs.Rising.{is_there};
+ghost use Rattle.pj_value.specs.Options.{is_value};
 
 use pj_cover::{Given, NumberedPunct, PunctStore, StoredRows, Uncovered, first_uncovered, ripe};
 use pj_pattern::{Pattern, Punct, Shape};
@@ -502,7 +502,7 @@ struct TwoRows {
 }
 
 fn has_value(row: &Row, column: u32, value: &Value) -> bool
-    ensures { result ≡ is_there value.now (slice_get row.now column) }
+    ensures { result ≡ is_value value.now (slice_get row.now column) }
 {
     match row.get(column as usize) {
         None => false,

@@ -1,6 +1,7 @@
 -- Each step keeps the rule.
 use Rattle.std.proofs.Common.{◌≡◌, ◌≢◌, ◌⊎◌, ℕ, zero, suc, ◌+◌, ◌%◌, ◌^◌, ◌<◌, ◌≤◌, Bool, true, false, true≢false, List, [], ◌∷◌, ◌++◌, length, set, Option, Some, None, slice_set, slice_index, refl, sym, ap, ◌∙◌, subst, inl, inr, ⊎_elim, length-append, le_refl, arith}
 use Rattle.std.proofs.Math.Nat.{mod-add-mod}
+use Rattle.std.proofs.lemmas.Bool.{false_from_ne_true}
 use mathlib.Core.Option.{some, some-injective, some-ne-none}
 use mathlib.Core.Option as maybe
 use mathlib.Core.Logic.{dite}
@@ -19,10 +20,6 @@ bit_le true true h = le_refl 1
 bit_le true false h = omega arith
 bit_le false true h = absurd (true≢false (h refl))
 bit_le false false h = le_refl 0
-
-pub not_true : (b : Bool) → (b ≡ true → ⊥) → b ≡ false
-not_true true h = absurd (h refl)
-not_true false h = refl
 
 inner : {A : Type 0} → A → Option A → A
 inner d None = d
@@ -314,7 +311,7 @@ module _ {T E F : Type 0} (kept : KeptMeaning T E F) (first : F) (seats : ℕ) w
       let w = now v false v.ticket false v.seen in
       let words = ap (λ ws. slice_set ws 1 ((slice_index ws 1 + 1) % 2 ^ 64)) r.words_are ∙ ap (λ k. r.next % 2 ^ 64 ∷ k ∷ length r.log % 2 ^ 64 ∷ []) (mod-add-mod r.serving (2 ^ 64) 1) in
       let first_is : kept.fixed x ≡ first = same_inside (kept.fixed x) first (sym known ∙ (f.seated live).2) in
-      let others_not : (j : ℕ) (u : K) → j ≢ id → get_elem? s.views j ≡ some u → u.turn ≡ false = λ j u apart at'. not_true u.turn (λ t. apart (only_one s r id v at waits turned.1 j u at' t)) in (
+      let others_not : (j : ℕ) (u : K) → j ≢ id → get_elem? s.views j ≡ some u → u.turn ≡ false = λ j u apart at'. false_from_ne_true u.turn (λ t. apart (only_one s r id v at waits turned.1 j u at' t)) in (
         w,
         gives,
         tt,

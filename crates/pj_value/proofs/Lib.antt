@@ -1,5 +1,7 @@
 pub mod Bags
+pub mod Bytes
 pub mod Members
+pub mod Numbers
 pub mod Orders
 pub mod PartValues
 pub mod Plain

@@ -1,5 +1,5 @@
 -- Membership in lists that `++`, `filter`, `map` and `flat_map` make, and the tests `list_all` and `list_any`.
-use Rattle.std.proofs.Common.{ℕ, zero, suc, ◌<◌, length, get_or, arith, Bool, true, false, cond, ◌&&◌, ◌||◌, List, [], ◌∷◌, ◌++◌, ◌≡◌, ◌⊎◌, map, filter, flat_map, refl, sym, ap, ◌∙◌, subst, inl, inr}
+use Rattle.std.proofs.Common.{ℕ, zero, suc, ◌<◌, ◌≤◌, Some, slice_get, length, get_or, arith, Bool, true, false, cond, ◌&&◌, ◌||◌, List, [], ◌∷◌, ◌++◌, ◌≡◌, ◌⊎◌, map, filter, flat_map, refl, sym, ap, ◌∙◌, subst, inl, inr}
 use Rattle.std.specs.List.{list_all, list_any}
 use Rattle.std.proofs.lemmas.Bool.{and_parts, and_from, or_cases, or_left, or_right, false≢true}
 use Rattle.pj_value.specs.Lists.{In}
@@ -122,3 +122,24 @@ pub map-at : {A : Type 0} (xs : List A) (d : A) (ms : List ℕ) (k : ℕ) → k 
 map-at xs d [] k lt = absurd (omega arith)
 map-at xs d (m ∷ ms) zero lt = refl
 map-at xs d (m ∷ ms) (suc k) lt = map-at xs d ms k (omega arith)
+
+pub in_at : {A : Type 0} (xs : List A) (i : ℕ) (x : A) → slice_get xs i ≡ Some x → In x xs
+in_at [] i x e = absurd (cc)
+in_at (y ∷ ys) zero x e = inl (cc)
+in_at (y ∷ ys) (suc i) x e = inr (in_at ys i x e)
+
+pub filter_map_swap : {A B : Type 0} (p : B → Bool) (f : A → B) (xs : List A) → filter p (map f xs) ≡ map f (filter (λ x. p (f x)) xs)
+filter_map_swap p f [] = refl
+filter_map_swap {A} {B} p f (x ∷ xs) = go (p (f x)) (filter_map_swap p f xs)
+  where
+    go : (b : Bool) → filter p (map f xs) ≡ map f (filter (λ y. p (f y)) xs) → cond b (f x ∷ filter p (map f xs)) (filter p (map f xs)) ≡ map f (cond b (x ∷ filter (λ y. p (f y)) xs) (filter (λ y. p (f y)) xs))
+    go true e = ap (λ (ys : List B). f x ∷ ys) e
+    go false e = e
+
+pub filter_few : {A : Type 0} (p : A → Bool) (xs : List A) → length (filter p xs) ≤ length xs
+filter_few p [] = omega arith
+filter_few {A} p (x ∷ xs) = go (p x) (filter_few p xs)
+  where
+    go : (b : Bool) → length (filter p xs) ≤ length xs → length (cond b (x ∷ filter p xs) (filter p xs)) ≤ suc (length xs)
+    go true l = omega (arith, l)
+    go false l = omega (arith, l)

@@ -97,7 +97,7 @@ eq_is (Int m) (Text y) = refl
 eq_is (Text x) (Int n) = refl
 eq_is (Text x) (Text y) = sym (is_eq-slice_cmp x y)
 
-is_tied : (o : Ordering) → is_eq o ≡ true → o ≡ Equal
+pub is_tied : (o : Ordering) → is_eq o ≡ true → o ≡ Equal
 is_tied Less e = absurd (cc)
 is_tied Equal e = refl
 is_tied Greater e = absurd (cc)

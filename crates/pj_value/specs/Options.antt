@@ -1,5 +1,7 @@
--- Lists that may not be there, with more in front. They go by cases, so that proofs see their arguments.
-use Rattle.std.specs.Prelude.{ℕ, ◌+◌, List, ◌∷◌, ◌++◌, Option, Some, None}
+-- Lists, rows and values that may not be there. They go by cases, so that proofs see their arguments.
+use Rattle.std.specs.Prelude.{ℕ, ◌+◌, Bool, false, List, [], ◌∷◌, ◌++◌, Option, Some, None}
+use Rattle.pj_value.specs.declared.values.Value.{Value}
+use Rattle.pj_value.specs.Values.{value_eq}
 
 -- with one more item at the front, where there is a list
 abbrev pub with_first : {A : Type 0} → A → Option (List A) → Option (List A)
@@ -20,3 +22,13 @@ both (Some x) others = with_first x others
 abbrev pub plus : ℕ → Option ℕ → Option ℕ
 plus n None = None
 plus n (Some m) = Some (n + m)
+
+-- the values of a row that is there
+abbrev pub row_there : Option (List Value) → List Value
+row_there None = []
+row_there (Some row) = row
+
+-- the value is there, and is this one
+abbrev pub is_value : Value → Option Value → Bool
+is_value value None = false
+is_value value (Some there) = value_eq there value

@@ -64,9 +64,10 @@ impl JoinedParts {
         }
     }
 
-    // Puts the values of these parts at the end.
+    // Puts the values of these parts at the end. On a refusal some of them may stand.
     pub(crate) fn append(&mut self, more: &JoinedParts) -> Result<(), NoMemory>
-        ensures { OnOk result (self.new ≡ self.old ++ more.now) }
+        ensures ok { OnOk result (self.new ≡ self.old ++ more.now) }
+        ensures err { OnErr result (IsFront self.old self.new) }
     {
         for part in more.parts.as_slice() {
             self.push(Arc::try_clone(part)?)?;

@@ -92,9 +92,10 @@ impl Pair {
         })
     }
 
-    // Puts second handles of its parts at the end.
+    // Puts second handles of its parts at the end. On a refusal the first may stand.
     pub(crate) fn join_to(&self, parts: &mut JoinedParts) -> Result<(), NoMemory>
-        ensures { OnOk result (parts.new ≡ parts.old ++ self.now) }
+        ensures ok { OnOk result (parts.new ≡ parts.old ++ self.now) }
+        ensures err { OnErr result (IsFront parts.old parts.new) }
     {
         parts.push(Arc::try_clone(&self.first)?)?;
         parts.push(Arc::try_clone(&self.second)?)

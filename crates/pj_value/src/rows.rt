@@ -244,9 +244,11 @@ impl Row {
         }
     }
 
-    /// Puts the row's values at the end of the parts: second handles, where the row shares them.
+    /// Puts the row's values at the end of the parts: second handles, where the row shares them. On a refusal what was there
+    /// is, and some of the row's values may stand behind it.
     pub fn join_to(&self, alloc: Global, parts: &mut JoinedParts) -> Result<(), NoMemory>
-        ensures { OnOk result (parts.new ≡ parts.old ++ self.now) }
+        ensures ok { OnOk result (parts.new ≡ parts.old ++ self.now) }
+        ensures err { OnErr result (IsFront parts.old parts.new) }
     {
         match &self.parts {
             Parts::Own(values) => {

@@ -1,4 +1,4 @@
-use Rattle.pj_cover.proofs.Partners.{found_column}
+use Rattle.pj_shape.proofs.Classes.{found_column}
 use Rattle.pj_cover.proofs.asked.column_of.Goals as goal
 
 pub returns-then-at-input : goal.returns-then-at-input

@@ -1,7 +1,7 @@
 use Rattle.std.proofs.Common.{◌+◌, ◌≤◌, sym, ◌∙◌, true, false, refl, cond, Bool, ℕ, arith}
 use Rattle.std.specs.Option.{option_copied}
-use Rattle.pj_cover.specs.Givens.{instance_of}
 use Rattle.pj_cover.proofs.Covering.{IsRead, covers_length, instance_length, not_covered, covered_so_far}
+use Rattle.pj_shape.specs.Instances.{instance_of}
 use Rattle.pj_cover.proofs.cells.covers.Goals as goal
 
 few : (b : Bool) (n m : ℕ) → n ≤ m → n + cond b 1 0 ≤ m + 1

@@ -1,7 +1,8 @@
 use Rattle.std.proofs.Common.{◌≡◌, ◌≤◌, ◌+◌, ℕ, Bool, true, false, cond, ◌∙◌, sym, ap, length, arith}
-use Rattle.pj_cover.specs.Givens.{cell_of, instance_of}
+use Rattle.pj_cover.specs.Givens.{cell_of}
 use Rattle.pj_cover.proofs.Cellwise.{instance_step, print_ends, print_of_equal, print_of_other}
 use Rattle.pj_cover.proofs.Covering.{instance_length}
+use Rattle.pj_shape.specs.Instances.{instance_of}
 use Rattle.pj_cover.proofs.cells.instance_print.Goals as goal
 
 few : (b : Bool) (n m : ℕ) → n ≤ m → n + cond b 1 0 ≤ m + 1

@@ -1,6 +1,6 @@
 use Rattle.std.proofs.Common.{◌≡◌, ◌≤◌, drop}
-use Rattle.pj_cover.specs.Givens.{instance_of}
 use Rattle.pj_cover.specs.Prints.{print_from}
+use Rattle.pj_shape.specs.Instances.{instance_of}
 use Rattle.pj_cover.proofs.cells.instance_print.Given as goal
 
 abbrev pub invariant-loop-column : goal.invariant-loop-column

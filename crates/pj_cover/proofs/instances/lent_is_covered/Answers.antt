@@ -1,8 +1,8 @@
 use Rattle.std.proofs.Common.{List, Option, ap, ◌∙◌}
 use Rattle.pj_value.specs.declared.values.Value.{Value}
-use Rattle.pj_cover.specs.Givens.{instance_of}
 use Rattle.pj_cover.specs.Stores.{covered_below}
 use Rattle.pj_cover.proofs.Constants.{constants_count, constants_instance}
+use Rattle.pj_shape.specs.Instances.{instance_of}
 use Rattle.pj_cover.proofs.instances.lent_is_covered.Goals as goal
 
 pub covers-requires-clause-constants : goal.covers-requires-clause-constants

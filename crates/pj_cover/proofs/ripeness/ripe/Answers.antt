@@ -8,7 +8,7 @@ use Rattle.pj_cover.proofs.ripeness.ripe.Goals as goal
 pub judge-requires-clause-walk : goal.judge-requires-clause-walk
 judge-requires-clause-walk g c =
     subst (λ (x : TupleAt). IsOnWalk c.args.spec.now c.args.schemes.now c.args.cert.now (x ∷ [])) (sym c.of.ensures)
-    (walk_starts c.args.spec.now c.args.schemes.now (g.R.StoredRows.rows c.args.rows.now) c.args.stores.now c.args.cert.now (tuple_of c.args.input (c.args.ticket, c.args.row.now)) c.requires.parts c.requires.input c.requires.certified c.requires.fits)
+    (walk_starts c.args.spec.now c.args.schemes.now (g.R.StoredRows.rows c.args.rows.now) c.args.stores.now c.args.cert.now (tuple_of c.args.input (c.args.ticket, c.args.row.now)) c.requires.parts c.requires.input c.requires.schemes c.requires.certified c.requires.fits)
 
 pub returns-in-None : goal.returns-in-None
 returns-in-None g c =

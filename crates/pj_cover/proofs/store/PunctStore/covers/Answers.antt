@@ -1,11 +1,11 @@
 use Rattle.std.proofs.Common.{◌≡◌, ◌∙◌, List, Option, ℕ, IfSome, true, false, ap, sym, subst}
 use Rattle.pj_cover.specs.declared.store.NumberedPunct.{NumberedPunct}
 use Rattle.pj_cover.specs.Alone.{first_told, kept_of}
-use Rattle.pj_cover.specs.Givens.{instance_of}
 use Rattle.pj_cover.specs.Indexed.{IsCovering, first_covering, is_below}
 use Rattle.pj_cover.specs.Stores.{Store, covered_below}
 use Rattle.pj_cover.proofs.Alone.{among_all, below_left, below_right, first_of_all}
 use Rattle.pj_cover.proofs.Lookups.{covered_at_once, first_below}
+use Rattle.pj_shape.specs.Instances.{instance_of}
 use Rattle.pj_cover.proofs.store.PunctStore.covers.Goals as goal
 
 pub returns : goal.returns
