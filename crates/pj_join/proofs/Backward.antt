@@ -6,11 +6,12 @@ use Rattle.std.proofs.lemmas.List.{take_more}
 use Rattle.std.proofs.lemmas.Option.{none-some, same_Some, slice_get-get_or, slice_get-map, slice_get_within, get_or_from_slice_get}
 use Rattle.pj_value.specs.declared.values.Value.{Value}
 use Rattle.pj_value.specs.Values.{value_eq}
-use Rattle.pj_value.proofs.Members.{In-append_cases, In-append_left, In-append_right, In-filter_from, In-map_from}
+use Rattle.pj_value.proofs.Members.{In-append_cases, In-append_left, In-append_right, In-filter_from, In-map_from, in_at}
 use Rattle.pj_value.proofs.Orders.{equal_itself}
+use Rattle.pj_value.specs.Options.{is_value}
 use Rattle.pj_state.specs.declared.shared.Stored.{Stored}
 use Rattle.pj_state.specs.Rising.{IsRising}
-use Rattle.pj_state.specs.States.{StateView, has_value, is_value, row_under, rows_with, tickets_of, ticket_of}
+use Rattle.pj_state.specs.States.{StateView, has_value, row_under, rows_with, tickets_of, ticket_of}
 use Rattle.pj_shape.specs.declared.joins.CertStep.{CertStep}
 use Rattle.pj_cover.specs.Asking.{IsAsked, entries}
 use Rattle.pj_events.specs.Join.{CertEntry, ClassCol, Demand, In, TupleAt, agree, entry_of, no_value, value_at}
@@ -124,11 +125,6 @@ along-joins path x rows asks zero before y z along lt ey ez = absurd (omega (ari
 along-joins path x rows asks (suc at) zero y z along lt ey ez = asked-joins path.classes path.cert rows (x ∷ []) asks at y z along.asked ey (inl (same_Some x z ez))
 along-joins path x rows asks (suc at) (suc before) y z along lt ey ez = asked-both path.classes path.cert rows (x ∷ []) asks at before y z along.asked (omega (arith, lt)) ey ez
 
-in-at : {A : Type 0} (xs : List A) (i : ℕ) (x : A) → slice_get xs i ≡ Some x → In x xs
-in-at [] i x e = absurd (none-some x e)
-in-at (y ∷ ys) zero x e = inl (same_Some y x e)
-in-at (y ∷ ys) (suc i) x e = inr (in-at ys i x e)
-
 -- ---- one hop back
 
 hop_back : (path : PathView) (at before : ℕ) (pair : Pair) (input other : ℕ) (tickets found : List ℕ) → IsLink path at before pair → input_at path before ≡ Some input → input_at path at ≡ Some other
@@ -142,10 +138,10 @@ hop_back path at before pair input other tickets found link is-input is-other ar
     (ap (λ (u : TupleAt). value_at u.row pair.mine) stored-z.2 ∙ same ∙ sym (ap (λ (u : TupleAt). value_at u.row pair.theirs) stored-y.2)))
   where
     stored-y : (t : Stored) × In t (state_at path.states y.input).rows × (tuple_in y.input t ≡ y)
-    stored-y = along.stored y (in-at (x ∷ rows) at y ey)
+    stored-y = along.stored y (in_at (x ∷ rows) at y ey)
 
     stored-z : (s : Stored) × In s (state_at path.states z.input).rows × (tuple_in z.input s ≡ z)
-    stored-z = along.stored z (in-at (x ∷ rows) before z ez)
+    stored-z = along.stored z (in_at (x ∷ rows) before z ez)
 
     own-y : y.input ≡ other
     own-y = same_Some y.input other (sym (along-input path x rows asks at y along ey) ∙ is-other)

@@ -1,5 +1,5 @@
 -- What the calls of a join cite.
-use Rattle.std.proofs.Common.{ℕ, zero, suc, ◌+◌, ◌<◌, ◌≤◌, ◌^◌, Bool, true, false, cond, ◌||◌, not, List, [], ◌∷◌, ◌++◌, ◌≡◌, Option, Some, None, map, filter, take, drop, length, get_or, set, refl, sym, ap, ◌∙◌, subst, eqb, ltb, arith}
+use Rattle.std.proofs.Common.{ℕ, zero, suc, ◌+◌, ◌<◌, ◌≤◌, ◌^◌, Bool, true, false, cond, ◌||◌, not, List, [], ◌∷◌, ◌++◌, ◌≡◌, Option, Some, None, map, filter, take, drop, length, get_or, refl, sym, ap, ◌∙◌, subst, eqb, ltb, arith}
 use Rattle.std.specs.List.{slice_get, position, position_or_len}
 use Rattle.std.proofs.lemmas.Bool.{eqb-true, eq-eqb, false_from_ne_true, ltb-false}
 use Rattle.std.proofs.lemmas.List.Sums.{fails_before_first}
@@ -7,7 +7,7 @@ use Rattle.std.proofs.lemmas.List.{length-map}
 use Rattle.std.proofs.lemmas.List.Quantifiers.{position-Some}
 use Rattle.std.proofs.lemmas.Option.{slice_get_within, get_or_from_slice_get}
 use Rattle.pj_shape.specs.declared.columns.Column.{Column}
-use Rattle.pj_events.specs.Join.{JoinData, Value, TupleAt, PunctAt, Take, TupleComes, results, agree, product, joined, has, inputs, of_input, upto_from}
+use Rattle.pj_events.specs.Join.{JoinData, Value, TupleAt, PunctAt, Take, TupleComes, results, agree, product, joined, has, inputs}
 use Rattle.pj_events.specs.KeptState.{least, without}
 use Rattle.pj_join.specs.Joins.{Found, JoinView, TakesLeast, after, found_of}
 use Rattle.pj_events.specs.declared.events.Out.{Out}
@@ -15,9 +15,8 @@ use Rattle.pj_events.specs.declared.events.Out.TheVariants.{Tuple}
 use Rattle.pj_join.specs.Handed.{JoinProbes, behind_probe, found_out, rows_probed}
 use Rattle.pj_join.specs.Walks.{choices}
 use Rattle.pj_join.specs.Insides.{tickets, seen, Rise, IsOrdered, made_with}
-use Rattle.pj_join.proofs.Orders.{ordered-tuple, ordered-take, ordered-probe, seen-probe, seen-tuple, rise-front, rise-to, rise-length, rise-has, least-first, pending-first, seen-take, taken-first, IsTakenFirst}
+use Rattle.pj_join.proofs.Orders.{seen-probe, seen-tuple, rise-front, rise-to, rise-length, rise-has, least-first, pending-first, seen-take, taken-first, IsTakenFirst}
 use Rattle.pj_join.proofs.Finding.{choices-results}
-use Rattle.pj_join_laws.proofs.Upto.{length-upto}
 use Rattle.pj_join_laws.proofs.Stand.{without-all}
 
 -- ---- the low-water ticket
@@ -154,36 +153,10 @@ tuple-keeps node spec limit next done log more puncts waiting taken input row x 
     ap (λ (l : List TupleAt). seen (made_with node spec limit) (next + 1) done l puncts waiting taken) (m ∙ ap (λ (y : TupleAt). log ++ y ∷ []) e)
     ∙ seen-tuple node spec limit next done log puncts waiting taken input row le
 
-pub tuple-ordered : (spec : JoinData) (limit next done : ℕ) (log more : List TupleAt) (sides all : List (List TupleAt)) (taken : List ℕ) (input : ℕ) (row : List Value) (x : TupleAt)
-    → IsOrdered spec limit next done log sides taken → (next ≡ limit → ⊥) → input < inputs spec → x ≡ record { ticket = next; input = input; row = row } → more ≡ log ++ x ∷ []
-    → all ≡ set sides input (get_or sides input [] ++ x ∷ []) → IsOrdered spec limit (next + 1) done more all taken
-tuple-ordered spec limit next done log more sides all taken input row x o ne lt e m s =
-    subst (λ (l : List TupleAt). IsOrdered spec limit (next + 1) done l all taken) (sym (m ∙ ap (λ (y : TupleAt). log ++ y ∷ []) e))
-    (subst (λ (a : List (List TupleAt)). IsOrdered spec limit (next + 1) done (log ++ record { ticket = next; input = input; row = row } ∷ []) a taken) (sym (s ∙ ap (λ (y : TupleAt). set sides input (get_or sides input [] ++ y ∷ [])) e))
-    (ordered-tuple spec limit next done log sides taken (record { ticket = next; input = input; row = row }) o o.below ne refl (omega (arith, lt, length-map spec.shape.inputs (λ (schema : List Column). length schema)))))
-
--- an input has its side
-pub has-side : (spec : JoinData) (limit next done : ℕ) (log : List TupleAt) (sides : List (List TupleAt)) (taken : List ℕ) (input : ℕ) → IsOrdered spec limit next done log sides taken → input < inputs spec → input < length sides
-has-side spec limit next done log sides taken input o lt =
-    omega (arith, lt, length-map spec.shape.inputs (λ (schema : List Column). length schema), length-upto 0 (length spec.shape.inputs), length-map (upto_from 0 (length spec.shape.inputs)) (λ k. of_input k log), ap (λ (s : List (List TupleAt)). length s) o.by_input)
-
 pub same-at : {A : Type 0} (xs : List A) (i : ℕ) (d e : A) → i < length xs → get_or xs i d ≡ get_or xs i e
 same-at [] i d e lt = absurd (omega (arith, lt))
 same-at (x ∷ xs) zero d e lt = refl
 same-at (x ∷ xs) (suc i) d e lt = same-at xs i d e (omega (arith, lt))
-
--- a ticket is taken
-pub take-ordered : (node : ℕ) (spec : JoinData) (limit next done : ℕ) (log : List TupleAt) (sides : List (List TupleAt)) (taken new : List ℕ) (x : TupleAt) (found : Found) (rows : List (List Value)) (t : ℕ)
-    → IsOrdered spec limit next done log sides taken → Some x ≡ slice_get log done → found ≡ record { join = node; ticket = x.ticket; rows = rows } → t ≡ found.ticket → new ≡ taken ++ t ∷ []
-    → IsOrdered spec limit next (done + 1) log sides new
-take-ordered node spec limit next done log sides taken new x found rows t o here is e n =
-    subst (λ ts. IsOrdered spec limit next (done + 1) log sides ts) (sym (n ∙ ap (λ u. taken ++ u ∷ []) (e ∙ ap (λ (f : Found). f.ticket) is ∙ sym (ap (λ (y : TupleAt). y.ticket) (get_or_from_slice_get log done x x (sym here))))))
-    (ordered-take spec limit next done log sides taken x o (slice_get_within log done x (sym here)))
-
--- a ticket is taken, worked on and given at once
-pub probe-ordered : (spec : JoinData) (limit next done : ℕ) (log : List TupleAt) (sides : List (List TupleAt)) (taken : List ℕ) (x : TupleAt)
-    → IsOrdered spec limit next done log sides taken → Some x ≡ slice_get log done → IsOrdered spec limit next (done + 1) log sides taken
-probe-ordered spec limit next done log sides taken x o here = ordered-probe spec limit next done log sides taken x o (slice_get_within log done x (sym here))
 
 probe-does : (node : ℕ) (spec : JoinData) (limit next done : ℕ) (log : List TupleAt) (sides : List (List TupleAt)) (puncts waiting : List PunctAt) (taken : List ℕ) (x : TupleAt)
     → IsOrdered spec limit next done log sides taken → Some x ≡ slice_get log done

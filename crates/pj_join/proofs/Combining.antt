@@ -4,20 +4,13 @@ use Rattle.std.specs.List.{list_all}
 use Rattle.std.proofs.lemmas.Bool.{and_parts, false≢true, false_from_ne_true}
 use Rattle.std.proofs.lemmas.List.Elements.{filter-append}
 use Rattle.pj_events.specs.Join.{product}
+use Rattle.pj_value.proofs.Members.{filter_map_swap}
 
 -- ---- lists that were looked through before
 
 filter-flat : {A B : Type 0} (p : B → Bool) (f : A → List B) (xs : List A) → filter p (flat_map f xs) ≡ flat_map (λ x. filter p (f x)) xs
 filter-flat p f [] = refl
 filter-flat {A} {B} p f (x ∷ xs) = filter-append p (f x) (flat_map f xs) ∙ ap (λ (ys : List B). filter p (f x) ++ ys) (filter-flat p f xs)
-
-pub filter-map : {A B : Type 0} (p : B → Bool) (f : A → B) (xs : List A) → filter p (map f xs) ≡ map f (filter (λ x. p (f x)) xs)
-filter-map p f [] = refl
-filter-map {A} {B} p f (x ∷ xs) = go (p (f x)) (filter-map p f xs)
-  where
-    go : (b : Bool) → filter p (map f xs) ≡ map f (filter (λ y. p (f y)) xs) → cond b (f x ∷ filter p (map f xs)) (filter p (map f xs)) ≡ map f (cond b (x ∷ filter (λ y. p (f y)) xs) (filter (λ y. p (f y)) xs))
-    go true e = ap (λ (ys : List B). f x ∷ ys) e
-    go false e = e
 
 pub flat_map-agree : {A B : Type 0} (f g : A → List B) (xs : List A) → ((x : A) → f x ≡ g x) → flat_map f xs ≡ flat_map g xs
 flat_map-agree f g [] e = refl
@@ -49,11 +42,11 @@ product-filter {A} q p (xs ∷ lists) f =
     inner : (x : A) → filter (λ (c : List A). p (x ∷ c)) (product lists) ≡ filter (λ (c : List A). p (x ∷ c)) (product (map (filter q) lists))
         → filter p (map (λ c. x ∷ c) (product lists)) ≡ filter p (map (λ c. x ∷ c) (product (map (filter q) lists)))
     inner x ih =
-        filter-map p (λ (c : List A). x ∷ c) (product lists)
+        filter_map_swap p (λ (c : List A). x ∷ c) (product lists)
         ∙ ap (map (λ (c : List A). x ∷ c)) ih
-        ∙ sym (filter-map p (λ (c : List A). x ∷ c) (product (map (filter q) lists)))
+        ∙ sym (filter_map_swap p (λ (c : List A). x ∷ c) (product (map (filter q) lists)))
 
     gone : (x : A) → q x ≡ false → filter p (map (λ c. x ∷ c) (product (map (filter q) lists))) ≡ []
     gone x e =
-        filter-map p (λ (c : List A). x ∷ c) (product (map (filter q) lists))
+        filter_map_swap p (λ (c : List A). x ∷ c) (product (map (filter q) lists))
         ∙ ap (map (λ (c : List A). x ∷ c)) (filter-none (λ (c : List A). p (x ∷ c)) (product (map (filter q) lists)) (λ c. false_from_ne_true (p (x ∷ c)) (λ t. false≢true (sym e ∙ (and_parts (q x) (list_all q c) (f (x ∷ c) t)).0))))

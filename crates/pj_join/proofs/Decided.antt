@@ -3,11 +3,12 @@ use Rattle.std.proofs.Common.{◌≡◌, ℕ, Bool, true, false, not, ◌==◌, 
 use Rattle.std.specs.List.{slice_get}
 use Rattle.std.proofs.lemmas.Option.{get_or_from_slice_get}
 use Rattle.pj_value.specs.declared.values.Value.{Value}
-use Rattle.pj_state.specs.States.{is_value}
 use Rattle.pj_join.specs.Sides.{tuple_in}
 use Rattle.std.proofs.lemmas.Bool.{eq-eqb, eqb-true, false_from_ne_true, false≢true}
+use Rattle.std.proofs.Math.Bool.{and-true}
 use Rattle.pj_value.specs.Values.{value_eq}
 use Rattle.pj_value.proofs.Orders.{equal_itself, same_if_equal}
+use Rattle.pj_value.specs.Options.{is_value}
 use Rattle.pj_events.specs.Join.{ClassCol, TupleAt, no_value, value_at}
 use Rattle.pj_join.specs.Walks.{all_have, suits, suits_class}
 use Rattle.pj_join.specs.Decided.{AllJoinAt, ClassDecides, ColumnsDecide}
@@ -42,10 +43,6 @@ second_decides a b own input eb ea differ = λ x y ex ey.
     let v = value_at y.row a.column in
     both_second (y.input == a.input) (y.input == b.input) (x.input == a.input) (x.input == b.input) (value_eq v v) (all_have (a ∷ b ∷ []) (x ∷ []) y (value_at y.row b.column)) (value_eq v (value_at x.row a.column)) (value_eq v (value_at x.row b.column)) (value_eq v (value_at y.row b.column))
     (eq-eqb y.input a.input (ey ∙ sym ea)) (apart y.input b.input (λ e. differ (sym eb ∙ (sym e ∙ ey)))) (apart x.input a.input (λ e. differ (sym ex ∙ (e ∙ ea)))) (eq-eqb x.input b.input (ex ∙ sym eb)) (equal_itself v)
-
-and-true : (b : Bool) → (b && true) ≡ b
-and-true true = refl
-and-true false = refl
 
 pub one_class : (class : List ClassCol) (x : TupleAt) (input mine theirs : ℕ) → ClassDecides class x.input input mine theirs → ColumnsDecide (class ∷ []) x input mine theirs
 one_class class x input mine theirs decides = λ y of. and-true (suits_class (x ∷ []) y class) ∙ decides x y refl of

@@ -6,8 +6,6 @@ use Rattle.pj_events.specs.declared.events.Out.TheVariants.{Tuple}
 use Rattle.pj_events.specs.Join.{TupleAt, ClassCol, Value, agree, joined, product, upto_from}
 use Rattle.pj_join.specs.Handed.{AreTuples, found_out, pair_of, pairs_out, rows_of}
 use Rattle.std.proofs.lemmas.List.{map-append}
-use Rattle.pj_probe.specs.Walks.{combined, sides_at}
-use Rattle.pj_join.specs.Hops.{FindSame}
 use Rattle.pj_join.specs.Walks.{AllJoin, choice, choices, older_joins, pair, pairs}
 use Rattle.pj_join.proofs.Calling.{same-at}
 use Rattle.pj_join.proofs.Pairs.{pairs-found}
@@ -109,8 +107,3 @@ rows_more outs row are = ap (λ (xs : List Out). rows_of (xs ++ Tuple row ∷ []
 pub tuples_more : (outs : List Out) (row : List Value) → AreTuples outs → AreTuples (outs ++ Tuple row ∷ [])
 tuples_more outs row are =
     ap (λ (xs : List Out). xs ++ Tuple row ∷ []) are ∙ sym (map-append Tuple (rows_of outs) (row ∷ [])) ∙ ap (map Tuple) (sym (rows_more outs row are))
-
--- what was found over lists that find the same as all
-pub found_same : (classes : List (List ClassCol)) (own : TupleAt) (states : List StateView) (lists : List (List (ℕ × List Value))) (rows : List (List Value)) → FindSame classes own states lists → rows ≡ combined classes (sides_at 0 lists)
-    → map Tuple rows ≡ found_out classes own (tuples_in 0 states)
-found_same classes own states lists rows same is = ap (map Tuple) (is ∙ ap (map joined) same)

@@ -2,8 +2,8 @@
 use Rattle.std.proofs.Common.{ℕ, zero, suc, ◌+◌, ◌<◌, arith, Bool, true, false, cond, not, ◌&&◌, ◌||◌, List, [], ◌∷◌, ◌++◌, ◌≡◌, ◌⊎◌, Option, Some, None, map, filter, take, length, get_or, refl, sym, ap, ap₂, ◌∙◌, subst, inl, inr, eqb, append_assoc}
 use Rattle.std.specs.List.{slice_get}
 use Rattle.std.specs.Prelude.{OnOk, Result, Ok, Err}
-use Rattle.std.proofs.lemmas.Bool.{and_parts, eq-eqb, eqb-true, false_from_ne_true, false≢true}
-use Rattle.std.proofs.lemmas.List.{map-append, take_more}
+use Rattle.std.proofs.lemmas.Bool.{and_parts, eq-eqb, eqb-true, false_from_ne_true, false≢true, not-true}
+use Rattle.std.proofs.lemmas.List.{map-append, take_more, append-nil}
 use Rattle.std.proofs.lemmas.Option.{get_or_from_slice_get, slice_get_within}
 use Rattle.pj_value.specs.declared.values.Value.{Value}
 use Rattle.pj_value.proofs.Members.{filter-all, In-append_cases, In-append_left, In-append_right, In-filter, In-filter_from, In-map, In-map_from, any_at, any_from, in-place}
@@ -23,10 +23,6 @@ use Rattle.pj_join.specs.Watching.{goes_up}
 use Rattle.pj_join.proofs.Leaving.{alone, tells_where}
 use Rattle.pj_join.proofs.Looked.{held-among}
 use Rattle.pj_join.proofs.Picked.{above-in, rising-append, rising-filter, rising-same}
-
-turned : (b : Bool) → not b ≡ true → b ≡ false
-turned true e = absurd (false≢true e)
-turned false e = refl
 
 -- ---- a row that is found
 
@@ -146,7 +142,7 @@ stays_where rows gone input p held = ap (λ b. eqb p.input input && not b) held 
     and-false false = refl
 
 goes_parts : (rows : List Stored) (gone : List ℕ) (input : ℕ) (p : PunctAt) → lets_go rows gone input p ≡ true → (p.input ≡ input) × (still_held rows gone p.patterns ≡ false)
-goes_parts rows gone input p t = let parts = and_parts (eqb p.input input) (not (still_held rows gone p.patterns)) t in (eqb-true p.input input parts.0, turned (still_held rows gone p.patterns) parts.1)
+goes_parts rows gone input p t = let parts = and_parts (eqb p.input input) (not (still_held rows gone p.patterns)) t in (eqb-true p.input input parts.0, not-true (still_held rows gone p.patterns) parts.1)
 
 -- ---- one punctuation
 
@@ -187,12 +183,8 @@ pub record AreLetGo (s : Swept) (ps : List PunctAt) (tickets goes : List ℕ) (f
 abbrev pub AreListed : Swept → WaitingView → List ℕ → Type 0
 AreListed s w tickets = (p : PunctAt) → In p w.puncts → In p.ticket tickets → p.input ≡ s.input → goes_up s p ≡ false → IsHeldBy s.state.now.rows s.gone.now w p
 
-pub append-none : {A : Type 0} (xs : List A) → xs ++ [] ≡ xs
-append-none [] = refl
-append-none (x ∷ xs) = ap (λ ys. x ∷ ys) (append-none xs)
-
 pub let_go_none : (s : Swept) (ps : List PunctAt) (goes : List ℕ) (out : List (List Pattern)) → goes ≡ [] → AreLetGo s ps [] goes out out
-let_go_none s ps goes out none = record { up = []; goes_are = none; out_are = sym (append-none out); rises = tt; sound = λ p h. absurd h; all = λ p h t k. k }
+let_go_none s ps goes out none = record { up = []; goes_are = none; out_are = sym (append-nil out); rises = tt; sound = λ p h. absurd h; all = λ p h t k. k }
 
 pub let_go_more : (s : Swept) (w : WaitingView) (ps : List PunctAt) (tickets goes goes' : List ℕ) (first out out' : List (List Pattern)) (ticket : ℕ) → w.puncts ≡ ps → IsRising heard_at ps → ((n : ℕ) → In n tickets → n < ticket)
     → AreLetGo s ps tickets goes first out → IsLetGo s w ticket goes goes' out out' → AreLetGo s ps (tickets ++ ticket ∷ []) goes' first out'
@@ -340,7 +332,7 @@ filter-none q (x ∷ xs) f = ap (λ b. cond b (x ∷ filter q xs) (filter q xs))
 pub none_let_go : (s : Swept) (w : WaitingView) (out : List (List Pattern)) → AreHeldBy s.state.now.rows s.input w → w.puncts ≡ [] ⊎ s.gone.now ≡ []
     → ([] ≡ tickets_where (goes_up s) w.puncts) × (out ≡ out ++ letting_go s.schemas.now s.state.now.rows s.gone.now s.input w.puncts) × StayHeld s.state.now.rows s.gone.now s.input w
 none_let_go s w out by none =
-    (sym (ap (map heard_at) up), sym (ap (λ (ps : List PunctAt). out ++ map (widened_among s.schemas.now) ps) up ∙ append-none out), λ p h own waits. (all_stay s w by none p h).1 own)
+    (sym (ap (map heard_at) up), sym (ap (λ (ps : List PunctAt). out ++ map (widened_among s.schemas.now) ps) up ∙ append-nil out), λ p h own waits. (all_stay s w by none p h).1 own)
   where
     up : filter (goes_up s) w.puncts ≡ []
     up = filter-none (goes_up s) w.puncts (λ p h. (all_stay s w by none p h).0)
@@ -374,7 +366,7 @@ held_behind join input rows gone goes freed w w' side tells r goes-are of are sa
     own e (t, (s, i, same-ticket, m), listed) =
         let parts = and_parts (matches_row p.patterns s.row) (not (has gone s.ticket)) m in
         let stored = (In-filter (λ y. eqb y.input input) (tuple_in input s) join.kept.stored (subst (λ (xs : List TupleAt). In (tuple_in input s) xs) side (In-map_from (tuple_in input) s rows i))).0 in
-        let there = turned (has gone s.ticket) parts.1 in
+        let there = not-true (has gone s.ticket) parts.1 in
         (t, (tuple_in input s, left (tuple_in input s) stored there, same-ticket, ap₂ (λ a b. a && b) (eq-eqb input p.input (sym e)) parts.0), listed, not-freed t (ap (has gone) (sym same-ticket) ∙ there))
 
     other : eqb p.input input ≡ false → (t : ℕ) × IsHolder join.kept.stored p t × (is_listed w (t, p.ticket) ≡ true) → Held
@@ -392,7 +384,7 @@ pub held_left : (next : ℕ) (stored after : List TupleAt) (goes : List ℕ) (fr
     → ((q : ℕ × ℕ) → is_listed w' q ≡ true → (In q freed → ⊥) → is_listed w'' q ≡ true) → AreHeldBehind after goes freed w' → AreHeld next after w''
 held_left next stored after goes freed w w' w'' are same left keeps behind = record {
   before = λ p h. are.before p (subst (λ (ps : List PunctAt). In p ps) same (inside p h).0);
-  held = λ p h. let i = inside p h in let t = behind p i.0 (turned (has goes p.ticket) i.1) in (t.0, t.1, keeps (t.0, p.ticket) t.2 t.3);
+  held = λ p h. let i = inside p h in let t = behind p i.0 (not-true (has goes p.ticket) i.1) in (t.0, t.1, keeps (t.0, p.ticket) t.2 t.3);
 }
   where
     inside : (p : PunctAt) → In p w''.puncts → In p w'.puncts × (not (has goes p.ticket) ≡ true)

@@ -7,40 +7,36 @@ use Rattle.std.proofs.lemmas.List.Elements.{filter-append}
 use Rattle.std.proofs.lemmas.List.{get_or_past, get_or-set_other, get_or-set_same, length-append, length-map, map-append, take_more}
 use Rattle.std.proofs.lemmas.Option.{get_or_from_slice_get, slice_get_within, slice_get-get_or}
 use Rattle.pj_value.specs.Values.{value_eq}
-use Rattle.pj_value.proofs.Members.{In-append_left, In-append_right, In-append_cases, In-filter, In-filter_from, In-flat_map, In-flat_map_from, In-map, In-map_from, all_from, any_at, any_from, filter-agree, filter-all, filter-filter, in-place}
+use Rattle.pj_value.proofs.Members.{In-append_left, In-append_right, In-append_cases, In-filter, In-filter_from, In-flat_map, In-flat_map_from, In-map, In-map_from, all_from, filter-agree, filter-all, filter-filter, in-place, filter_map_swap}
 use Rattle.pj_value.proofs.Orders.{equal_itself}
+use Rattle.pj_value.proofs.Numbers.{has-in, in-has}
+use Rattle.pj_value.specs.Options.{is_value}
 use Rattle.pj_state.specs.declared.shared.Stored.{Stored}
 use Rattle.pj_state.specs.Rising.{IsRising, itself}
-use Rattle.pj_state.specs.States.{StateView, is_below, is_value, has_value, pair_of, pairs, row_under, rows_below, rows_with, stored, ticket_of, tickets_of}
+use Rattle.pj_state.specs.States.{StateView, is_below, has_value, pair_of, pairs, row_under, rows_below, rows_with, stored, ticket_of, tickets_of}
 use Rattle.pj_probe.specs.Walks.{sides_at, tuple_at}
 use Rattle.pj_events.specs.Join.{ClassCol, In, TupleAt, Value, agree, has, no_value, product, upto_from, value_at}
 use Rattle.pj_join_laws.proofs.Matching.{agree-at, value-in}
 use Rattle.pj_join.proofs.Halved.{some_rise}
-use Rattle.pj_join.specs.Hops.{AreChosen, AreKnown, AreLinked, AreMore, BeginsWith, FindSame, HaveTickets, IsChoice, KnowsMore, LacksOne, Links, LinksBy, all_older, all_under, has_ticket, is_among, older_at, older_under, ticket_in}
+use Rattle.pj_join.specs.Hops.{AreChosen, AreKnown, AreLinked, AreMore, BeginsWith, FindSame, HaveTickets, IsChoice, KnowsMore, LacksOne, Links, LinksBy, all_older, all_under, has_ticket, is_among, older_at, older_under}
 use Rattle.pj_join.specs.Sides.{IsWide, state_at}
 use Rattle.pj_join.specs.Watching.{under_with}
 use Rattle.pj_join.specs.Sides.{no_state, tuple_in, tuples_in}
 use Rattle.pj_join.specs.Walks.{AreNarrowed, IsNarrowed, may_join, older_joins, suits}
 use Rattle.pj_join_laws.proofs.Upto.{length-upto, get_or-upto, map-upto}
 use Rattle.pj_join_laws.proofs.Results.{product-filter}
-use Rattle.pj_join.proofs.Combining.{filter-map}
 use Rattle.pj_join.proofs.Calling.{same-at}
 use Rattle.pj_join.proofs.Finding.{as-upto, map-map_upto, narrowed-finds}
 use Rattle.pj_join.proofs.Kept.{tuples-length}
 use Rattle.pj_join.proofs.Looped.{narrowed_choice, picked_stop, side_at, sides-length}
 use Rattle.pj_join.proofs.Wanted.{all_hold}
 use Rattle.pj_join.proofs.Picked.{above-in, flat-more, rising-append, rising-filter, rising-same, under-in, under-own}
+use Rattle.pj_cover.specs.Rising.{ticket_in}
 
 abbrev pub Pairs : Type 0
 Pairs = List (ℕ × List Value)
 
 -- ---- tickets
-
-has-in : (ns : List ℕ) (n : ℕ) → has ns n ≡ true → In n ns
-has-in ns n t = let at = any_at (λ m. eqb m n) ns t in subst (λ m. In m ns) (eqb-true at.0 n at.2) at.1
-
-in-has : (ns : List ℕ) (n : ℕ) → In n ns → has ns n ≡ true
-in-has ns n h = any_from (λ m. eqb m n) ns n h (eq-eqb n n refl)
 
 -- ---- links
 
@@ -226,7 +222,7 @@ among-from i ys s h = in-has (map ticket_in (pairs ys)) s.ticket (subst (λ (ns 
 cut-by : (tickets : List ℕ) (i : ℕ) (xs : List Stored) → map (tuple_at i) (pairs (filter (has_ticket tickets) xs)) ≡ filter (is_among (pairs (filter (has_ticket tickets) xs))) (map (tuple_at i) (pairs xs))
 cut-by tickets i xs =
     ap (λ (ys : List Stored). map (tuple_at i) (pairs ys)) (filter-agree (has_ticket tickets) (λ s. is_among found (tuple_at i (pair_of s))) xs same)
-    ∙ sym (filter-map (is_among found) (tuple_at i) (pairs xs) ∙ ap (map (tuple_at i)) (filter-map (λ p. is_among found (tuple_at i p)) pair_of xs))
+    ∙ sym (filter_map_swap (is_among found) (tuple_at i) (pairs xs) ∙ ap (map (tuple_at i)) (filter_map_swap (λ p. is_among found (tuple_at i p)) pair_of xs))
   where
     found : Pairs
     found = pairs (filter (has_ticket tickets) xs)
@@ -295,14 +291,6 @@ none_chosen classes own states known lists input found chosen lacks is =
     nothing : (ys : List TupleAt) → filter (is_among []) ys ≡ []
     nothing [] = refl
     nothing (y ∷ ys) = nothing ys
-
--- a list without a row
-pub lacks_here : (known : List Bool) (lists : List Pairs) (input : ℕ) (rows : Pairs) → slice_get known input ≡ Some true → get_or lists input [] ≡ rows → length rows ≡ 0 → LacksOne known lists
-lacks_here known lists input rows is there none = (input, is, there ∙ nothing rows none)
-  where
-    nothing : (rs : Pairs) → length rs ≡ 0 → rs ≡ []
-    nothing [] e = refl
-    nothing (r ∷ rs) e = absurd (omega (arith, e))
 
 -- all older rows
 pub all_chosen : (classes : List (List ClassCol)) (own : TupleAt) (states : List StateView) (input : ℕ) (found : Pairs) → (input ≡ own.input → ⊥) → found ≡ pairs (rows_below own.ticket (state_at states input).rows) → IsChoice classes own states input found
@@ -392,13 +380,6 @@ knows_more known known' input lt e = record {
     go : (k : ℕ) → slice_get known k ≡ Some true → (b : Bool) → eqb k input ≡ b → slice_get (set known input true) k ≡ Some true
     go k h true q = ap (slice_get (set known input true)) (eqb-true k input q) ∙ set-there known input true lt
     go k h false q = set-others known input k true (λ s. false≢true (sym q ∙ eq-eqb k input s)) ∙ h
-
-pub known_more : (count : ℕ) (old new : List Bool) → AreKnown count old → KnowsMore count old new → AreKnown (count + 1) new
-known_more count old new before more k lt = go (eqb k count) refl
-  where
-    go : (b : Bool) → eqb k count ≡ b → slice_get new k ≡ Some true
-    go true q = subst (λ (i : ℕ). slice_get new i ≡ Some true) (sym (eqb-true k count q)) more.here
-    go false q = let ne : k ≡ count → ⊥ = λ s. false≢true (sym q ∙ eq-eqb k count s) in more.others k (before k (omega (arith, lt, ne)))
 
 -- a row that is not known is not the tuple's own
 pub not_own : (classes : List (List ClassCol)) (own : TupleAt) (states : List StateView) (known : List Bool) (lists : List Pairs) (input : ℕ) (d : Bool) → AreChosen classes own states known lists → get_or known input d ≡ false → input ≡ own.input → ⊥

@@ -1,15 +1,16 @@
 -- What a judge finds over the rows of each input is what it finds over the list of all stored tuples.
 use Rattle.std.proofs.Common.{ℕ, zero, suc, ◌+◌, ◌<◌, ◌≤◌, Bool, true, false, cond, ◌&&◌, ◌||◌, List, [], ◌∷◌, ◌++◌, ◌≡◌, map, filter, flat_map, length, get_or, refl, sym, ap, ap₂, ◌∙◌, subst, inl, inr, eqb, ltb, arith, append-nil}
 use Rattle.std.specs.List.{list_all, list_any}
-use Rattle.std.proofs.lemmas.Bool.{eq-eqb, eqb-true, false_from_ne_true, ltb-false, ltb-true}
+use Rattle.std.proofs.lemmas.Bool.{eq-eqb, eqb-true, ltb-false, ltb-true, ne_eqb}
 use Rattle.std.proofs.lemmas.List.{length-map}
 use Rattle.std.proofs.lemmas.List.Elements.{filter-append}
 use Rattle.pj_value.proofs.Members.{In-map}
 use Rattle.pj_state.specs.declared.shared.Stored.{Stored}
 use Rattle.pj_state.specs.States.{StateView, pair_of, pairs}
 use Rattle.pj_cover.specs.Stores.{Store}
-use Rattle.pj_cover.specs.Asking.{HaveLength, Known, data_of, entries, is_covered, known_of, punct_of, puncts_from, tuple_of, tuples_of}
-use Rattle.pj_events.specs.Join.{In, CertEntry, CertStep, ClassCol, Demand, IsWalk, JoinData, JoinSpec, PunctAt, TupleAt, Value, agree, arities, covered, demand, grown, inputs, need, of_input, older, older_puncts, steps_of}
+use Rattle.pj_cover.specs.Asking.{HaveLength, Known, entries, is_covered, known_of, punct_of, puncts_from, tuple_of, tuples_of}
+use Rattle.pj_cover.proofs.Agreeing.{need_alone}
+use Rattle.pj_events.specs.Join.{In, CertEntry, CertStep, ClassCol, Demand, JoinData, JoinSpec, PunctAt, TupleAt, Value, agree, arities, covered, demand, grown, inputs, need, of_input, older, older_puncts, steps_of}
 use Rattle.pj_events.specs.Patterns.{covers}
 use Rattle.pj_events.specs.KeptState.{KeptState, kept_low, kept_ripe}
 use Rattle.pj_join_laws.proofs.Upto.{get_or-upto}
@@ -22,9 +23,6 @@ use Rattle.pj_join.proofs.Kept.{all-states, all-stores, heard-length, shaped-at,
 
 -- ---- lists
 
-eqb-not : (m n : ℕ) → (m ≡ n → ⊥) → eqb m n ≡ false
-eqb-not m n ne = false_from_ne_true (eqb m n) (λ e. ne (eqb-true m n e))
-
 module _ {A B : Type 0} (input : B → ℕ) (f : A → B) (n : ℕ) (is : (x : A) → input (f x) ≡ n) where
   all-here : (xs : List A) → filter (λ y. eqb (input y) n) (map f xs) ≡ map f xs
   all-here [] = refl
@@ -32,7 +30,7 @@ module _ {A B : Type 0} (input : B → ℕ) (f : A → B) (n : ℕ) (is : (x : A
 
   none-here : (m : ℕ) → (n ≡ m → ⊥) → (xs : List A) → filter (λ y. eqb (input y) m) (map f xs) ≡ []
   none-here m ne [] = refl
-  none-here m ne (x ∷ xs) = ap (λ b. cond b (f x ∷ filter (λ y. eqb (input y) m) (map f xs)) (filter (λ y. eqb (input y) m) (map f xs))) (eqb-not (input (f x)) m (λ e. ne (sym (is x) ∙ e))) ∙ none-here m ne xs
+  none-here m ne (x ∷ xs) = ap (λ b. cond b (f x ∷ filter (λ y. eqb (input y) m) (map f xs)) (filter (λ y. eqb (input y) m) (map f xs))) (ne_eqb (input (f x)) m (λ e. ne (sym (is x) ∙ e))) ∙ none-here m ne xs
 
 pub filter-swap : {A : Type 0} (p q : A → Bool) (xs : List A) → filter p (filter q xs) ≡ filter q (filter p xs)
 filter-swap p q [] = refl
@@ -52,7 +50,7 @@ all-same p q (x ∷ xs) same = ap₂ (λ a b. a && b) (same x) (all-same p q xs 
 none-past : {A : Type 0} (input : A → ℕ) (k : ℕ) (xs : List A) → ((x : A) → In x xs → input x ≡ k → ⊥) → filter (λ x. eqb (input x) k) xs ≡ []
 none-past input k [] ne = refl
 none-past input k (x ∷ xs) ne =
-    ap (λ b. cond b (x ∷ filter (λ y. eqb (input y) k) xs) (filter (λ y. eqb (input y) k) xs)) (eqb-not (input x) k (ne x (inl refl))) ∙ none-past input k xs (λ y h. ne y (inr h))
+    ap (λ b. cond b (x ∷ filter (λ y. eqb (input y) k) xs) (filter (λ y. eqb (input y) k) xs)) (ne_eqb (input x) k (ne x (inl refl))) ∙ none-past input k xs (λ y h. ne y (inr h))
 
 -- ---- rows
 
@@ -137,10 +135,6 @@ need-same classes xs ys same (e ∷ cert) zs =
     (ap (λ (rows : List TupleAt). flat_map (need classes xs cert) (filter (agree classes) (map (λ x. x ∷ zs) rows))) (same e.input)
     ∙ flat_map-agree (need classes xs cert) (need classes ys cert) (grown classes ys e zs) (need-same classes xs ys same cert))
 
-walk-same : (spec : JoinData) (cert : List CertEntry) (known : List ℕ) → IsWalk spec cert known → IsWalk (data_of spec.shape spec.schemes) cert known
-walk-same spec [] known w = tt
-walk-same spec (e ∷ cert) known w = (w.0, w.1, w.2, walk-same spec cert (e.input ∷ known) w.3)
-
 -- a judge of an input over these rows and punctuations
 abbrev pub judge_at : JoinData → ℕ → List StateView → List Store → ℕ → Bool → JudgeView
 judge_at spec input states stores low settled =
@@ -189,6 +183,7 @@ module _ (spec : JoinData) (limit next done : ℕ) (states : List StateView) (st
       ∙ ap (list_all (covered (older_puncts low (puncts_of stores)))) (need-same spec.shape.classes (older low known.stored) (older low (log_of states)) same-older cert (x ∷ [])))
       ∙ ap₂ (λ (xs : List TupleAt) (ps : List PunctAt). ltb s.ticket low && list_all (covered (older_puncts low ps)) (need spec.shape.classes (older low xs) cert (x ∷ []))) (sym rows) (sym puncts)
       ∙ ap (λ l. ltb s.ticket l && list_all (covered (older_puncts l k.puncts)) (need spec.shape.classes (older l k.stored) cert (x ∷ []))) is
+      ∙ ap (λ (ds : List Demand). ltb s.ticket (kept_low k) && list_all (covered (older_puncts (kept_low k) k.puncts)) ds) (need_alone spec.shape (older (kept_low k) k.stored) cert x j.ordered.sound)
     where
       known : Known
       known = known_of spec.shape (row_pairs states) stores low
@@ -210,7 +205,8 @@ module _ (spec : JoinData) (limit next done : ℕ) (states : List StateView) (st
     parts = record { sound = j.ordered.sound; fit = fit; one_each = j.heard.arities };
     count = all-states spec limit next done states stores pending taken j ∙ shapes;
     there = omega (arith, lt, shapes);
-    certified = let c = j.ordered.certified input lt in (c.0, walk-same spec (entries spec.schemes (steps_of spec input)) (input ∷ []) c.1, c.2);
+    fitting = j.ordered.certified.fitting;
+    certified = j.ordered.certified.each input lt;
   }
     where
       fit : (k : ℕ) → k < length spec.shape.inputs → HaveLength (get_or (arities spec) k 0) (row_pairs states k)

@@ -11,6 +11,7 @@ use Rattle.pj_state.specs.States.{StateView, row_in, row_under, state_of, stored
 use Rattle.pj_state.specs.Rising.{first_with}
 use Rattle.pj_cover.specs.Stores.{IsAbove, Store}
 use Rattle.pj_cover.specs.declared.store.NumberedPunct.{NumberedPunct}
+use Rattle.pj_cover.specs.Asking.{punct_of}
 use Rattle.pj_shape.specs.Sound.{IsSoundSpec}
 use Rattle.pj_events.specs.Join.{AreCertified, In, JoinData, PunctAt, TupleAt, Value, arities, arity, has, inputs, of_input, upto_from}
 use Rattle.pj_events.specs.KeptState.{without}
@@ -19,7 +20,7 @@ use Rattle.pj_join_laws.proofs.Upto.{get_or-upto}
 use Rattle.pj_value.proofs.Members.{In-append_cases, In-filter, In-filter_from, In-map_from, in-place}
 use Rattle.pj_join.specs.declared.place.Place.{Place}
 use Rattle.pj_join.specs.Insides.{AreHeard, IsJoin, IsOrdered, Rise, inside, tickets}
-use Rattle.pj_join.specs.Sides.{AreAllShaped, AreWide, IsShaped, arrived_at, arrived_with, first_of, heard_at, heard_in, heard_of, heard_with, log_of, merged, place_of, puncts_of, state_at, ticket_at, tuple_in, tuples_in}
+use Rattle.pj_join.specs.Sides.{AreAllShaped, AreWide, IsShaped, arrived_at, arrived_with, first_of, heard_at, heard_in, heard_of, log_of, merged, place_of, puncts_of, state_at, ticket_at, tuple_in, tuples_in}
 use Rattle.pj_join.proofs.Classes.{classes-more, eqb-below}
 use Rattle.pj_join.proofs.Merging.{merged-is}
 use Rattle.pj_join.proofs.Orders.{drop-more_end, ordered-give, ordered-probe, ordered-start, ordered-punct, ordered-take, ordered-tuple, rise-end, rise-in, rise-more, rise-widen}
@@ -45,16 +46,16 @@ pub heard-length : (base : ℕ) (stores : List Store) → length (heard_in base 
 heard-length base [] = refl
 heard-length base (s ∷ ss) = ap suc (heard-length (base + 1) ss)
 
-pub heard-get : (base : ℕ) (stores : List Store) (k : ℕ) (d : Store) → k < length stores → get_or (heard_in base stores) k [] ≡ map (heard_with (base + k)) (get_or stores k d).kept
+pub heard-get : (base : ℕ) (stores : List Store) (k : ℕ) (d : Store) → k < length stores → get_or (heard_in base stores) k [] ≡ map (punct_of (base + k)) (get_or stores k d).kept
 heard-get base [] k d lt = absurd (omega (arith, lt))
-heard-get base (s ∷ ss) zero d lt = ap (λ (n : ℕ). map (heard_with n) s.kept) (omega arith)
-heard-get base (s ∷ ss) (suc k) d lt = heard-get (base + 1) ss k d (omega (arith, lt)) ∙ ap (λ (n : ℕ). map (heard_with n) (get_or ss k d).kept) (omega arith)
+heard-get base (s ∷ ss) zero d lt = ap (λ (n : ℕ). map (punct_of n) s.kept) (omega arith)
+heard-get base (s ∷ ss) (suc k) d lt = heard-get (base + 1) ss k d (omega (arith, lt)) ∙ ap (λ (n : ℕ). map (punct_of n) (get_or ss k d).kept) (omega arith)
 
-heard-set : (base : ℕ) (stores : List Store) (k : ℕ) (s : Store) → heard_in base (set stores k s) ≡ set (heard_in base stores) k (map (heard_with (base + k)) s.kept)
+heard-set : (base : ℕ) (stores : List Store) (k : ℕ) (s : Store) → heard_in base (set stores k s) ≡ set (heard_in base stores) k (map (punct_of (base + k)) s.kept)
 heard-set base [] k s = refl
-heard-set base (r ∷ rs) zero s = ap (λ (n : ℕ). map (heard_with n) s.kept ∷ heard_in (base + 1) rs) (omega arith)
+heard-set base (r ∷ rs) zero s = ap (λ (n : ℕ). map (punct_of n) s.kept ∷ heard_in (base + 1) rs) (omega arith)
 heard-set base (r ∷ rs) (suc k) s =
-    ap (λ (xs : List (List PunctAt)). map (heard_with base) r.kept ∷ xs) (heard-set (base + 1) rs k s ∙ ap (λ (n : ℕ). set (heard_in (base + 1) rs) k (map (heard_with n) s.kept)) (omega arith))
+    ap (λ (xs : List (List PunctAt)). map (punct_of base) r.kept ∷ xs) (heard-set (base + 1) rs k s ∙ ap (λ (n : ℕ). set (heard_in (base + 1) rs) k (map (punct_of n) s.kept)) (omega arith))
 
 arities-set : (stores : List Store) (k : ℕ) (d s : Store) → k < length stores → s.arity ≡ (get_or stores k d).arity → map (λ t. t.arity) (set stores k s) ≡ map (λ t. t.arity) stores
 arities-set [] k d s lt e = refl
@@ -330,9 +331,9 @@ module _ (spec : JoinData) (limit next done : ℕ) (states : List StateView) (st
     heard-now =
         heard-set 0 stores input new
         ∙ ap (set (heard_in 0 stores) input)
-        (ap₂ (λ n (ks : List NumberedPunct). map (heard_with n) ks) (omega arith) (more ∙ ap (λ (s : Store). s.kept ++ record { punct = patterns; number = next } ∷ []) (is old))
-        ∙ map-append (heard_with input) (get_or stores input old).kept (record { punct = patterns; number = next } ∷ [])
-        ∙ ap (λ (ps : List PunctAt). ps ++ said ∷ []) (ap (λ n. map (heard_with n) (get_or stores input old).kept) (omega arith) ∙ sym (heard-get 0 stores input old there)))
+        (ap₂ (λ n (ks : List NumberedPunct). map (punct_of n) ks) (omega arith) (more ∙ ap (λ (s : Store). s.kept ++ record { punct = patterns; number = next } ∷ []) (is old))
+        ∙ map-append (punct_of input) (get_or stores input old).kept (record { punct = patterns; number = next } ∷ [])
+        ∙ ap (λ (ps : List PunctAt). ps ++ said ∷ []) (ap (λ n. map (punct_of n) (get_or stores input old).kept) (omega arith) ∙ sym (heard-get 0 stores input old there)))
         ∙ ap (λ (hs : List (List PunctAt)). set hs input (get_or hs input [] ++ said ∷ [])) j.heard.by_input
         ∙ classes-more (λ (p : PunctAt). p.input) 0 (inputs spec) input (puncts_of stores) said (omega arith) lt
 
@@ -385,9 +386,9 @@ module _ (spec : JoinData) (limit next done : ℕ) (states : List StateView) (st
   pub above-all : (k : ℕ) (d : Store) → k < inputs spec → IsAbove next (get_or stores k d).kept
   above-all k d lt = go (get_or stores k d).kept below
     where
-      kept-in : map (heard_with k) (get_or stores k d).kept ≡ heard_of k (puncts_of stores)
+      kept-in : map (punct_of k) (get_or stores k d).kept ≡ heard_of k (puncts_of stores)
       kept-in =
-          ap (λ n. map (heard_with n) (get_or stores k d).kept) (omega arith)
+          ap (λ n. map (punct_of n) (get_or stores k d).kept) (omega arith)
           ∙ sym (heard-get 0 stores k d (omega (arith, lt, all-stores)))
           ∙ ap (λ (hs : List (List PunctAt)). get_or hs k []) j.heard.by_input
           ∙ get_or-upto (λ i. heard_of i (puncts_of stores)) 0 (inputs spec) k [] lt
@@ -396,8 +397,8 @@ module _ (spec : JoinData) (limit next done : ℕ) (states : List StateView) (st
       below : (q : NumberedPunct) → In q (get_or stores k d).kept → q.number < next
       below q h =
           below-end 0 (map (λ (p : PunctAt). p.ticket) (puncts_of stores)) next q.number j.heard.rising
-          (In-map_from (λ (p : PunctAt). p.ticket) (heard_with k q) (puncts_of stores)
-          (In-filter (λ (p : PunctAt). eqb p.input k) (heard_with k q) (puncts_of stores) (subst (λ (ps : List PunctAt). In (heard_with k q) ps) kept-in (In-map_from (heard_with k) q (get_or stores k d).kept h))).0)
+          (In-map_from (λ (p : PunctAt). p.ticket) (punct_of k q) (puncts_of stores)
+          (In-filter (λ (p : PunctAt). eqb p.input k) (punct_of k q) (puncts_of stores) (subst (λ (ps : List PunctAt). In (punct_of k q) ps) kept-in (In-map_from (punct_of k) q (get_or stores k d).kept h))).0)
 
       go : (ks : List NumberedPunct) → ((q : NumberedPunct) → In q ks → q.number < next) → IsAbove next ks
       go [] all = tt

@@ -16,7 +16,7 @@ use Rattle.std.proofs.lemmas.Bool.{and_parts, eq-eqb, eqb-true, false≢true}
 use Rattle.std.proofs.lemmas.Bool.Decides.{nat_tests}
 use Rattle.std.proofs.lemmas.Cmp.{nat_eq_equiv}
 use Rattle.std.proofs.lemmas.List.Kept.{IsStrictlySortedBy-filter}
-use Rattle.std.proofs.lemmas.List.{append_assoc, drop_more, take_all, take_more, take-append-drop}
+use Rattle.std.proofs.lemmas.List.{append_assoc, drop_more, take_more, take-append-drop}
 use Rattle.std.proofs.lemmas.Map.Keys.{le_from_not_gt}
 use Rattle.std.proofs.lemmas.Map.Lookups.{exact_pairs, exact_unsigned}
 use Rattle.pj_value.proofs.Members.{In-append_cases, In-append_left, In-append_right, In-filter, In-filter_from, any_at, filter-agree, filter-all, filter-filter}
@@ -356,6 +356,3 @@ module _ (w : WaitingView) (holders : List ℕ) (i next holder d : ℕ) (listed 
         go : In t (take i holders) ⊎ In t (drop i holders) → In (t, n) listed'
         go (inl k) = has.kept (t, n) (so.all t n k l)
         go (inr k) = of (subst (λ (ns : List ℕ). In t ns) now_drop k)
-
-pub lists_all : (w : WaitingView) (holders : List ℕ) (i next : ℕ) (listed : List (ℕ × ℕ)) → ListsUnder w holders i next listed → length holders ≤ i → (t n : ℕ) → In t holders → is_listed w (t, n) ≡ true → In (t, n) listed
-lists_all w holders i next listed so le t n h l = so.all t n (subst (λ (ns : List ℕ). In t ns) (sym (take_all i holders le)) h) l

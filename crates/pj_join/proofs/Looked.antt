@@ -5,9 +5,10 @@ use Rattle.std.proofs.lemmas.Bool.{and_parts, false≢true}
 use Rattle.pj_value.specs.declared.values.Value.{Value}
 use Rattle.pj_value.specs.Values.{value_eq}
 use Rattle.pj_value.proofs.Orders.{equal_itself, same_if_equal}
+use Rattle.pj_value.specs.Options.{is_value}
 use Rattle.pj_pattern.specs.declared.pattern.Form.TheVariants.{Constant}
 use Rattle.pj_state.specs.declared.shared.Stored.{Stored}
-use Rattle.pj_state.specs.States.{StateView, has_value, is_value, rows_with}
+use Rattle.pj_state.specs.States.{StateView, has_value, rows_with}
 use Rattle.pj_events.specs.Patterns.{Pattern, matches_row, matches_value}
 use Rattle.pj_events.specs.Join.{has}
 use Rattle.pj_join.specs.Sides.{IsLookup, stays, still_held}

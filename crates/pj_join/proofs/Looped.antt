@@ -1,15 +1,16 @@
 -- What the loops of a join cite.
 use Rattle.std.proofs.Common.{ℕ, zero, suc, ◌+◌, ◌<◌, ◌≤◌, Bool, true, false, cond, not, ◌&&◌, ◌||◌, List, [], ◌∷◌, ◌++◌, ◌≡◌, Some, map, filter, sum, take, length, get_or, refl, sym, ap, ap₂, ◌∙◌, subst, eqb, ltb, arith, append_assoc}
-use Rattle.std.specs.List.{list_any, slice_get}
+use Rattle.std.specs.List.{slice_get}
 use Rattle.std.proofs.lemmas.Bool.{and_parts, eq-eqb, eqb-true, false_from_ne_true, false≢true, ltb-true}
 use Rattle.std.proofs.lemmas.List.{map-append, take_all, take_more}
 use Rattle.std.proofs.lemmas.List.Elements.{filter-append}
 use Rattle.std.proofs.lemmas.Option.{get_or_from_slice_get, slice_get_within}
-use Rattle.pj_value.proofs.Members.{In-map_from, filter-agree, filter-all, filter-filter, in-place}
+use Rattle.pj_value.proofs.Members.{In-map_from, filter-agree, filter-all, filter-filter, in-place, filter_map_swap}
 use Rattle.pj_state.specs.declared.shared.Stored.{Stored}
 use Rattle.pj_state.specs.States.{StateView, pair_of as pair_stored, stored, ticket_of}
 use Rattle.pj_state.specs.Rising.{AllAbove, IsRising, is_other, without}
 use Rattle.pj_cover.specs.Stores.{Store}
+use Rattle.pj_cover.specs.Asking.{punct_of}
 use Rattle.pj_shape.specs.Sound.{arities_of}
 use Rattle.pj_events.specs.declared.events.Out.{Out}
 use Rattle.pj_events.specs.declared.events.Out.TheVariants.{Tuple}
@@ -18,12 +19,12 @@ use Rattle.pj_events.specs.Join.{CertStep, ClassCol, In, JoinSpec, PunctAt, Tupl
 use Rattle.pj_probe.specs.Walks.{sides_at, tuple_at}
 use Rattle.pj_join.specs.Handed.{pair_of, pairs_out}
 use Rattle.pj_join.specs.Judging.{MayJudge, lets_go, one_if, rows_without}
-use Rattle.pj_join.specs.Sides.{AreAllShaped, AreWide, IsShaped, IsWide, heard_of, no_state, heard_in, heard_with, state_at, stays, still_held, tuple_in, tuples_in}
+use Rattle.pj_join.specs.Sides.{AreAllShaped, AreWide, IsShaped, IsWide, heard_of, no_state, heard_in, state_at, stays, still_held, tuple_in, tuples_in}
 use Rattle.pj_join.specs.Walks.{IsNarrowed, may_join, older_joins, suits}
-use Rattle.pj_join.proofs.Combining.{filter-map}
 use Rattle.pj_join.proofs.Calling.{same-at}
 use Rattle.pj_shape.specs.declared.columns.Column.{Column}
 use Rattle.std.proofs.lemmas.List.Sums.{sum_by-cons}
+use Rattle.std.proofs.lemmas.List.Folds.{list_any-append}
 use Rattle.pj_join.proofs.Walking.{more-choices}
 use Rattle.pj_join.proofs.Kept.{shaped-push, tuples-at}
 
@@ -77,19 +78,11 @@ row_fits spec schemes cert input states stores ticket row may (at, e) =
 
 -- ---- rows that match
 
-any-append : {A : Type 0} (p : A → Bool) (xs ys : List A) → list_any p (xs ++ ys) ≡ (list_any p xs || list_any p ys)
-any-append p [] ys = refl
-any-append p (x ∷ xs) ys = go (p x) (any-append p xs ys)
-  where
-    go : (b : Bool) → list_any p (xs ++ ys) ≡ (list_any p xs || list_any p ys) → (b || list_any p (xs ++ ys)) ≡ ((b || list_any p xs) || list_any p ys)
-    go true ih = refl
-    go false ih = ih
-
 pub not_held_more : (rows : List Stored) (gone : List ℕ) (patterns : List Pattern) (i : ℕ) (s : Stored) → slice_get rows i ≡ Some s → still_held (take i rows) gone patterns ≡ false → stays gone patterns s ≡ false
     → still_held (take (i + 1) rows) gone patterns ≡ false
 not_held_more rows gone patterns i s at before none =
     ap (λ (xs : List Stored). still_held xs gone patterns) (take_more rows i s (slice_get_within rows i s at) ∙ ap (λ (t : Stored). take i rows ++ t ∷ []) (get_or_from_slice_get rows i s s at))
-    ∙ any-append (stays gone patterns) (take i rows) (s ∷ [])
+    ∙ list_any-append (stays gone patterns) (take i rows) (s ∷ [])
     ∙ ap₂ (λ a b. a || (b || false)) before none
 
 -- ---- rows that are taken out
@@ -116,7 +109,7 @@ without_more gone i t d rows lt is =
     each b s =
         ap (λ c. not (has (take i gone) s.ticket) && not c) (eqb-turned s.ticket t)
         ∙ parts (has (take i gone) s.ticket) (eqb t s.ticket)
-        ∙ ap not (sym (any-append (λ m. eqb m s.ticket) (take i gone) (t ∷ [])))
+        ∙ ap not (sym (list_any-append (λ m. eqb m s.ticket) (take i gone) (t ∷ [])))
       where
         parts : (a c : Bool) → (not a && not c) ≡ not (a || (c || false))
         parts true c = refl
@@ -144,9 +137,9 @@ pub pairs_stop : (classes : List (List ClassCol)) (own : TupleAt) (input : ℕ) 
     → pairs_out classes own (map (tuple_in input) (take i rows)) ≡ pairs_out classes own (map (tuple_in input) rows)
 pairs_stop classes own input rows i s rising at le =
     ap (λ (zs : List TupleAt). map Tuple (map (pair_of own) zs))
-    (filter-map (older_joins classes own) (tuple_in input) (take i rows)
+    (filter_map_swap (older_joins classes own) (tuple_in input) (take i rows)
     ∙ ap (map (tuple_in input)) (picked_stop (λ t. older_joins classes own (tuple_in input t)) ticket_of own.ticket rows i s rising (λ t k. ltb-true t.ticket own.ticket (and_parts (ltb t.ticket own.ticket) _ k).0) at le)
-    ∙ sym (filter-map (older_joins classes own) (tuple_in input) rows))
+    ∙ sym (filter_map_swap (older_joins classes own) (tuple_in input) rows))
 
 pub pairs_end : (classes : List (List ClassCol)) (own : TupleAt) (input i : ℕ) (rows : List Stored) → length rows ≤ i → pairs_out classes own (map (tuple_in input) (take i rows)) ≡ pairs_out classes own (map (tuple_in input) rows)
 pairs_end classes own input i rows le = ap (λ (xs : List Stored). pairs_out classes own (map (tuple_in input) xs)) (take_all i rows le)
@@ -174,15 +167,6 @@ narrowed_choice classes own sides input rows side ne at e = record {
         ap (λ b. cond (b || suits classes (own ∷ []) (tuple_at input r)) (tuple_at input r ∷ filter (may_join classes own) (map (tuple_at input) rs)) (filter (may_join classes own) (map (tuple_at input) rs))) apart
         ∙ ap (λ (xs : List TupleAt). cond (suits classes (own ∷ []) (tuple_at input r)) (tuple_at input r ∷ xs) xs) (suit rs)
 
-pub own_choice : (classes : List (List ClassCol)) (own : TupleAt) (sides : List (List TupleAt)) (input : ℕ) (found : List TupleAt) → input ≡ own.input → found ≡ own ∷ [] → IsNarrowed classes own sides input found
-own_choice classes own sides input found is e = record {
-  alone = λ q. e;
-  among =
-      ap (filter (may_join classes own)) e
-      ∙ ap (λ b. cond (b || suits classes (own ∷ []) own) (own ∷ []) []) (eq-eqb own.input own.input refl)
-      ∙ sym (ap (λ b. cond b (own ∷ []) (filter (older_joins classes own) (get_or sides input []))) (eq-eqb input own.input is));
-}
-
 -- ---- a new join
 
 pub tuples_push : (base : ℕ) (states : List StateView) (s : StateView) → s.rows ≡ [] → tuples_in base (states ++ s ∷ []) ≡ tuples_in base states ++ [] ∷ []
@@ -190,8 +174,8 @@ tuples_push base [] s e = ap (λ (rs : List Stored). map (tuple_in base) rs ∷ 
 tuples_push base (r ∷ rs) s e = ap (λ (xs : List (List TupleAt)). map (tuple_in base) r.rows ∷ xs) (tuples_push (base + 1) rs s e)
 
 pub heard_push : (base : ℕ) (stores : List Store) (s : Store) → s.kept ≡ [] → heard_in base (stores ++ s ∷ []) ≡ heard_in base stores ++ [] ∷ []
-heard_push base [] s e = ap (λ ks. map (heard_with base) ks ∷ []) e
-heard_push base (r ∷ rs) s e = ap (λ (xs : List (List PunctAt)). map (heard_with base) r.kept ∷ xs) (heard_push (base + 1) rs s e)
+heard_push base [] s e = ap (λ ks. map (punct_of base) ks ∷ []) e
+heard_push base (r ∷ rs) s e = ap (λ (xs : List (List PunctAt)). map (punct_of base) r.kept ∷ xs) (heard_push (base + 1) rs s e)
 
 -- ---- states in their places
 

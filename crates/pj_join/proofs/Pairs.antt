@@ -97,13 +97,6 @@ two_choices classes own sides lt two alone =
     subst (λ n. AllJoin classes (map (choice classes own sides) (upto_from 0 n))) (sym two)
     (two-of classes (choice classes own sides 0) (choice classes own sides 1) (λ x y hx hy. two-join classes own sides x y lt alone hx hy))
 
--- two lists are their first and their second
-pub both-lists : (lists : List (List TupleAt)) (xs ys : List TupleAt) → length lists ≡ 2 → xs ≡ get_or lists 0 xs → ys ≡ get_or lists 1 ys → lists ≡ xs ∷ ys ∷ []
-both-lists [] xs ys l e f = absurd (omega (arith, l))
-both-lists (a ∷ []) xs ys l e f = absurd (omega (arith, l))
-both-lists (a ∷ b ∷ []) xs ys l e f = ap₂ (λ (u v : List TupleAt). u ∷ v ∷ []) (sym e) (sym f)
-both-lists (a ∷ b ∷ c ∷ more) xs ys l e f = absurd (omega (arith, l))
-
 -- the same over states
 pub two_states : (classes : List (List ClassCol)) (own : TupleAt) (states : List StateView) → own.input < 2 → length states ≡ 2 → suits classes [] own ≡ true → AllJoin classes (choices classes own (tuples_in 0 states))
 two_states classes own states lt two alone = two_choices classes own (tuples_in 0 states) lt (tuples-length 0 states ∙ two) alone

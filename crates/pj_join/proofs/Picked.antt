@@ -1,14 +1,15 @@
 -- What a sweep finds over the rows that it judges.
 use Rattle.std.proofs.Common.{ℕ, zero, suc, ◌+◌, ◌-◌, ◌<◌, ◌≤◌, Bool, true, false, cond, not, ◌&&◌, ◌||◌, List, [], ◌∷◌, ◌++◌, ◌≡◌, ◌⊎◌, Option, Some, None, map, filter, flat_map, take, drop, length, get_or, refl, sym, ap, ap₂, ◌∙◌, subst, inl, inr, eqb, ltb, arith, append_assoc, append-nil, Contains, nat_cmp, IsPermutation, IsSorted}
-use Rattle.std.specs.List.{list_any, slice_get, dedup}
+use Rattle.std.specs.List.{slice_get, dedup}
 use Rattle.std.specs.List.Retain.{DiffersFromLast, IsFiltered}
-use Rattle.std.proofs.lemmas.Bool.{and_from, and_right, eq-eqb, eqb-true, false_from_ne_true, false≢true, lt-ltb, ltb-false}
+use Rattle.std.proofs.lemmas.Bool.{and_from, and_right, eq-eqb, eqb-true, false_from_ne_true, false≢true, lt-ltb, ltb-false, or_parts}
 use Rattle.std.proofs.lemmas.List.{map-append, take_more}
 use Rattle.std.proofs.lemmas.List.Filters.{dedup_is}
 use Rattle.std.proofs.lemmas.List.Kept.{AllPairs-from_increasing, Contains-dedup_nat}
 use Rattle.std.proofs.lemmas.List.Sorted.{Contains-permutation}
 use Rattle.std.proofs.lemmas.Map.Keys.{IsStrictlyIncreasing-dedup}
 use Rattle.std.proofs.lemmas.Option.{get_or_from_slice_get}
+use Rattle.std.proofs.lemmas.List.Folds.{list_any-append}
 use Rattle.pj_value.specs.declared.values.Value.{Value}
 use Rattle.pj_value.proofs.Members.{In-append_left, In-append_right, In-append_cases, In-filter, In-filter_from, In-flat_map, In-flat_map_from, any_at, in-place}
 use Rattle.pj_state.specs.declared.shared.Stored.{Stored}
@@ -198,20 +199,8 @@ under_at (s ∷ rows) ticket row e = go (eqb s.ticket ticket) refl e (under_at r
         same q = cc
     go false f k ih = let r = ih k in (suc r.0, r.1)
 
-any-append : {A : Type 0} (p : A → Bool) (xs ys : List A) → list_any p (xs ++ ys) ≡ (list_any p xs || list_any p ys)
-any-append p [] ys = refl
-any-append p (x ∷ xs) ys = go (p x) (any-append p xs ys)
-  where
-    go : (b : Bool) → list_any p (xs ++ ys) ≡ (list_any p xs || list_any p ys) → (b || list_any p (xs ++ ys)) ≡ ((b || list_any p xs) || list_any p ys)
-    go true ih = refl
-    go false ih = ih
-
-left-false : (a b : Bool) → (a || b) ≡ false → (a ≡ false) × (b ≡ false)
-left-false true b e = absurd (false≢true (sym e))
-left-false false b e = (refl, e)
-
 has-split : (ns ms : List ℕ) (n : ℕ) → has (ns ++ ms) n ≡ false → (has ns n ≡ false) × (has ms n ≡ false)
-has-split ns ms n e = left-false (has ns n) (has ms n) (sym (any-append (λ m. eqb m n) ns ms) ∙ e)
+has-split ns ms n e = or_parts (has ns n) (has ms n) (sym (list_any-append (λ m. eqb m n) ns ms) ∙ e)
 
 pub judged_none : (j : JudgeView) (ticket : ℕ) (old : Judged) → None ≡ row_under ticket (rows_at j) → IsOneJudged j ticket old old
 judged_none j ticket old e = record {
@@ -244,19 +233,6 @@ judged_row j ticket row v old new at is gone marked = record {
     look Open t m lt f none = t.1 lt
     look Marked t m lt f none =
         absurd (false≢true (sym ((has-split old.marked (ticket ∷ []) ticket (ap (λ ns. has ns ticket) (sym m) ∙ none)).1) ∙ ap (λ b. b || false) (eq-eqb ticket ticket refl)))
-
-pub picked_rows : (j : JudgeView) (ticket : ℕ) (row : List Value) (v : Verdict) (old new : List (List Value)) → Some row ≡ row_under ticket (rows_at j) → IsVerdict j (stored ticket row) v
-    → new ≡ old ++ one_if (goes_by v) row → new ≡ old ++ map row_in (picked j ticket)
-picked_rows j ticket row v old new at is e =
-    e ∙ ap (λ (rs : List (List Value)). old ++ rs) (picks v is ∙ ap (λ (o : Option (List Value)). map row_in (filter (ripe_at j) (under_with ticket o))) at)
-  where
-    picks : (w : Verdict) → IsVerdict j (stored ticket row) w → one_if (goes_by w) row ≡ map row_in (filter (ripe_at j) (stored ticket row ∷ []))
-    picks Ripe t = sym (ap (λ b. map row_in (cond b (stored ticket row ∷ []) [])) t)
-    picks Open t = sym (ap (λ b. map row_in (cond b (stored ticket row ∷ []) [])) t.0)
-    picks Marked t = sym (ap (λ b. map row_in (cond b (stored ticket row ∷ []) [])) t)
-
-pub picked_none : (j : JudgeView) (ticket : ℕ) (old : List (List Value)) → None ≡ row_under ticket (rows_at j) → old ≡ old ++ map row_in (picked j ticket)
-picked_none j ticket old e = sym (append-nil old) ∙ ap (λ (o : Option (List Value)). old ++ map row_in (filter (ripe_at j) (under_with ticket o))) e
 
 -- ---- all of them
 

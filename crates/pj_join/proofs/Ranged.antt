@@ -1,5 +1,5 @@
 -- Rows that are found by a range of integers.
-use Rattle.std.proofs.Common.{ℕ, zero, suc, Bool, true, false, cond, not, ◌&&◌, ◌||◌, List, [], ◌∷◌, ◌++◌, ◌≡◌, ◌⊎◌, inl, inr, Option, Some, None, filter, refl, sym, ap, subst, ◌∙◌, ℤ, pos, ◌+ℤ◌, ◌≤ℤ◌, ◌<ℤ◌, arith}
+use Rattle.std.proofs.Common.{ℕ, zero, suc, Bool, true, false, not, ◌&&◌, ◌||◌, List, [], ◌∷◌, ◌++◌, ◌≡◌, ◌⊎◌, inl, inr, Option, Some, None, filter, refl, sym, ap, subst, ◌∙◌, ℤ, pos, ◌+ℤ◌, ◌≤ℤ◌, ◌<ℤ◌, arith}
 use Rattle.std.specs.List.{list_any, slice_get}
 use Rattle.std.specs.Ordering.{MatchOrdering, int_cmp, is_gt}
 use Rattle.std.specs.Cmp.{int_ranks}
@@ -11,12 +11,13 @@ use Rattle.pj_value.specs.declared.values.Value.{Value}
 use Rattle.pj_value.specs.declared.values.Value.TheVariants.{Int, Text}
 use Rattle.pj_value.proofs.Members.{In-filter_from, In-map_from, any_at}
 use Rattle.pj_value.proofs.Orders.{equal_itself}
+use Rattle.pj_value.specs.Options.{is_value}
 use Rattle.pj_pattern.specs.declared.pattern.Form.TheVariants.{Range}
 use Rattle.pj_pattern.specs.Patterns.{up_to}
 use Rattle.pj_events.specs.Patterns.{Pattern, matches_row, matches_value}
 use Rattle.pj_events.specs.Join.{In, has}
 use Rattle.pj_state.specs.declared.shared.Stored.{Stored}
-use Rattle.pj_state.specs.States.{has_value, is_value, rows_with, ticket_of, tickets_of}
+use Rattle.pj_state.specs.States.{has_value, rows_with, ticket_of, tickets_of}
 use Rattle.pj_state.specs.Ordered.{HasNumber, IsFrom, NoneBetween}
 use Rattle.pj_join.specs.declared.ranges.Numbers.{Numbers}
 use Rattle.pj_join.specs.Watching.{has_match, is_match}
@@ -100,9 +101,6 @@ has-number column n s at = ap (is_value (Int n)) at ∙ equal_itself (Int n)
 
 -- ---- the tickets of rows
 
-pub hold_start : (column : ℕ) (low : Option ℤ) (rows : List Stored) (tickets : List ℕ) → HoldAll (IsBefore column low low) rows tickets
-hold_start column low rows tickets s h before = absurd (none-before column low s before)
-
 in-front : (t : ℕ) (xs ys : List ℕ) → In t xs → In t (xs ++ ys)
 in-front t [] ys h = absurd h
 in-front t (x ∷ xs) ys (inl e) = inl e
@@ -126,9 +124,6 @@ pub hold_all : (column : ℕ) (numbers left : Numbers) (rows : List Stored) (tic
 hold_all column numbers left rows tickets hold same none s h among = hold s h (among-before column numbers left rows s same none h among)
 
 -- ---- a row that stays
-
-pub stay_start : (column : ℕ) (low : Option ℤ) (rows : List Stored) (gone : List ℕ) (ps : List Pattern) → NoneStays (IsBefore column low low) rows gone ps
-stay_start column low rows gone ps s h before = absurd (none-before column low s before)
 
 none-of : {A : Type 0} (p : A → Bool) (xs : List A) (x : A) → list_any p xs ≡ false → In x xs → p x ≡ false
 none-of p [] x e h = absurd h
@@ -157,15 +152,6 @@ stay_none column numbers left rows gone ps needs stay same none = false_from_ne_
         let found = any_at (stays gone ps) rows t in
         let among = needs found.0.row (and_parts (matches_row ps found.0.row) (not (has gone found.0.ticket)) found.2).0 in
         false≢true (sym (stay found.0 found.1 (among-before column numbers left rows found.0 same none found.1 (among.0, among.1, among.2))) ∙ found.2)
-
-any-filtered : {A : Type 0} (p q : A → Bool) (xs : List A) → list_any q (filter p xs) ≡ true → list_any q xs ≡ true
-any-filtered p q [] t = t
-any-filtered {A} p q (x ∷ xs) t = go (p x) (q x) refl t (any-filtered p q xs)
-  where
-    go : (a b : Bool) → q x ≡ b → list_any q (cond a (x ∷ filter p xs) (filter p xs)) ≡ true → (list_any q (filter p xs) ≡ true → list_any q xs ≡ true) → (b || list_any q xs) ≡ true
-    go a true e u ih = refl
-    go true false e u ih = ih (ap (λ c. c || list_any q (filter p xs)) (sym e) ∙ u)
-    go false false e u ih = ih u
 
 -- ---- rows whose value a pattern matches
 

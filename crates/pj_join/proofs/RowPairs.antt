@@ -4,11 +4,12 @@ use Rattle.std.proofs.lemmas.Bool.{false≢true}
 use Rattle.std.specs.List.{slice_get}
 use Rattle.pj_state.specs.declared.shared.Stored.{Stored}
 use Rattle.pj_state.specs.Rising.{AllAbove, IsRising, first_with}
-use Rattle.pj_state.specs.States.{StateView, is_value, pair_of, pairs, row_in, row_under, rows_with, stored, ticket_of, tickets_of}
-use Rattle.pj_cover.specs.Rising.{AreAbove, AreRisingRows, has_there_value, is_there, row_with, ticket_in, tickets_with}
+use Rattle.pj_state.specs.States.{StateView, pair_of, pairs, row_in, row_under, rows_with, stored, ticket_of, tickets_of}
+use Rattle.pj_cover.specs.Rising.{AreAbove, AreRisingRows, has_there_value, row_with, ticket_in, tickets_with}
 use Rattle.pj_events.specs.Join.{Value}
 use Rattle.pj_join.specs.Sides.{no_state, row_pairs, state_at}
 use Rattle.pj_join.proofs.Calling.{same-at}
+use Rattle.pj_value.specs.Options.{is_value}
 
 rising-rows : (rows : List Stored) → IsRising ticket_of rows → AreRisingRows (pairs rows)
 rising-rows [] r = tt
@@ -64,9 +65,9 @@ none_there (s ∷ ss) (suc k) ticket le = none_there ss k ticket (omega (arith, 
 
 with-pairs : (rows : List Stored) (column : ℕ) (value : Value) → tickets_of (rows_with column value rows) ≡ tickets_with column value (pairs rows)
 with-pairs [] column value = refl
-with-pairs (s ∷ rows) column value = go (is_value value (slice_get s.row column)) (is_there value (slice_get s.row column)) (same (slice_get s.row column)) (with-pairs rows column value)
+with-pairs (s ∷ rows) column value = go (is_value value (slice_get s.row column)) (is_value value (slice_get s.row column)) (same (slice_get s.row column)) (with-pairs rows column value)
   where
-    same : (o : Option Value) → is_value value o ≡ is_there value o
+    same : (o : Option Value) → is_value value o ≡ is_value value o
     same None = refl
     same (Some v) = refl
 

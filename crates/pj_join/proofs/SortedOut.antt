@@ -1,8 +1,6 @@
 -- Lists that are gone through one element after the other.
-use Rattle.std.proofs.Common.{Some, ℕ, zero, suc, ◌+◌, ◌<◌, List, [], ◌∷◌, ◌++◌, ◌≡◌, map, take, drop, length, get_or, sum, refl, sym, ap, ◌∙◌, arith, append_assoc}
+use Rattle.std.proofs.Common.{ℕ, zero, suc, ◌+◌, ◌<◌, List, [], ◌∷◌, ◌++◌, ◌≡◌, map, take, drop, length, get_or, sum, refl, sym, ap, ◌∙◌, arith, append_assoc}
 use Rattle.std.proofs.lemmas.List.{map-append, take_more, take-map, replicate-append-replicate}
-use Rattle.std.specs.List.{slice_get}
-use Rattle.std.proofs.lemmas.Option.{get_or_from_slice_get}
 use Rattle.std.proofs.lemmas.List.Sums.{sum_by-cons}
 use Rattle.pj_shape.specs.declared.columns.Column.{Column}
 use Rattle.pj_shape.specs.Sound.{arities_of}
@@ -11,15 +9,6 @@ use Rattle.pj_events.specs.Join.{PunctAt}
 use Rattle.pj_join.specs.Judging.{widened_among}
 
 -- ---- copies
-
--- one more is copied
-pub copied_more : {A : Type 0} (xs : List A) (i : ℕ) (x : A) (ys ys' : List A) → i < length xs → slice_get xs i ≡ Some x → ys ≡ take i xs → ys' ≡ ys ++ x ∷ [] → ys' ≡ take (i + 1) xs
-copied_more {A} xs i x ys ys' lt at e p =
-    p ∙ ap (λ (zs : List A). zs ++ x ∷ []) e ∙ ap (λ (z : A). take i xs ++ z ∷ []) (sym (get_or_from_slice_get xs i x x at)) ∙ sym (take_more xs i x lt)
-
-pub mapped_more : {A B : Type 0} (f : A → B) (xs : List A) (i : ℕ) (x : A) (ys ys' : List B) → i < length xs → slice_get xs i ≡ Some x → ys ≡ map f (take i xs) → ys' ≡ ys ++ f x ∷ [] → ys' ≡ map f (take (i + 1) xs)
-mapped_more {A} {B} f xs i x ys ys' lt at e p =
-    p ∙ ap (λ (zs : List B). zs ++ f x ∷ []) e ∙ sym (map-append f (take i xs) (x ∷ [])) ∙ ap (map f) (copied_more xs i x (take i xs) (take i xs ++ x ∷ []) lt at refl refl)
 
 -- ---- wildcards
 

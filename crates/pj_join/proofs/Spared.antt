@@ -1,9 +1,8 @@
 -- What rows that stay or go tell of punctuations.
-use Rattle.std.proofs.Common.{ℕ, suc, ◌≤◌, Bool, true, false, cond, not, ◌&&◌, ◌||◌, List, [], ◌∷◌, ◌≡◌, filter, length, inl, inr, refl, sym, ap, ap₂, ◌∙◌, subst, eqb, arith}
-use Rattle.std.specs.List.{list_any}
+use Rattle.std.proofs.Common.{ℕ, suc, ◌≤◌, Bool, true, false, cond, not, ◌&&◌, List, [], ◌∷◌, ◌≡◌, filter, length, inl, inr, refl, sym, ap, ◌∙◌, subst, eqb, arith}
 use Rattle.std.proofs.lemmas.Bool.{eq-eqb}
 use Rattle.std.proofs.lemmas.List.{length-map}
-use Rattle.pj_value.proofs.Members.{In-filter_from, In-map_from, any_from}
+use Rattle.pj_value.proofs.Members.{In-filter_from, In-map_from, any_from, none_from}
 use Rattle.pj_state.specs.declared.shared.Stored.{Stored}
 use Rattle.pj_state.specs.States.{ticket_of}
 use Rattle.pj_events.specs.Patterns.{Pattern, matches_row}
@@ -31,12 +30,8 @@ full keep (r ∷ rows) e s h = go (keep r) refl e h (λ l k. full keep rows l s 
     go true t l (inr k) ih = ih (omega (arith, l)) k
     go false t l k ih = absurd (omega (arith, l, short keep rows))
 
-any_none : {A : Type 0} (p : A → Bool) (xs : List A) → ((x : A) → In x xs → p x ≡ false) → list_any p xs ≡ false
-any_none p [] f = refl
-any_none p (x ∷ xs) f = ap₂ (λ a b. a || b) (f x (inl refl)) (any_none p xs (λ y h. f y (inr h)))
-
 pub all_gone : (rows : List Stored) (gone : List ℕ) (patterns : List Pattern) → AreSome rows gone → length gone ≡ length rows → still_held rows gone patterns ≡ false
-all_gone rows gone patterns (keep, is) as-many = any_none (stays gone patterns) rows each
+all_gone rows gone patterns (keep, is) as-many = none_from (stays gone patterns) rows each
   where
     all : length (filter keep rows) ≡ length rows
     all = sym (length-map (filter keep rows) ticket_of) ∙ sym (ap (λ (ts : List ℕ). length ts) is) ∙ as-many

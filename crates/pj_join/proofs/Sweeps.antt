@@ -1,32 +1,24 @@
 -- What a sweep makes of a join, and what it says of its history.
-use Rattle.std.proofs.Common.{ℕ, ◌+◌, ◌<◌, Bool, true, false, cond, ◌&&◌, not, List, [], ◌∷◌, ◌++◌, ◌≡◌, map, filter, refl, sym, ap, ap₂, ◌∙◌, subst, eqb, ltb}
-use Rattle.std.specs.List.{list_all}
+use Rattle.std.proofs.Common.{ℕ, ◌+◌, ◌<◌, Bool, true, false, cond, ◌&&◌, not, List, [], ◌∷◌, ◌++◌, ◌≡◌, map, filter, refl, sym, ap, ap₂, ◌∙◌, subst, eqb}
 use Rattle.std.proofs.lemmas.Bool.{and_from, eq-eqb, false≢true}
 use Rattle.pj_events.specs.Patterns.{Pattern}
-use Rattle.pj_events.specs.Join.{In, JoinData, JoinState, TupleAt, PunctAt, Punct, Step, PunctComes, Sweep, AreLegalSteps, covered, inputs, is_held, kept, low, need_of, older, older_puncts, ripe, run, start, widened}
+use Rattle.pj_events.specs.Join.{In, JoinData, JoinState, TupleAt, PunctAt, Punct, Step, PunctComes, Sweep, AreLegalSteps, inputs, is_held, kept, low, ripe, run, start, step, widened}
 use Rattle.pj_events.specs.KeptState.{KeptState, kept_low, kept_of, kept_ripe, swept}
-use Rattle.pj_join_laws.specs.Laws.{NeverNeeded, RipeWhenCovered}
+use Rattle.pj_join_laws.specs.Laws.{NeverNeeded, RipeWhenCovered, StaysRipe}
 use Rattle.pj_join_laws.proofs.Forget.{stored-in}
-use Rattle.pj_join_laws.proofs.Sound.{run-append, sound-run, sound-start}
-use Rattle.pj_join_laws.proofs.Stand.{low-kept}
+use Rattle.pj_join_laws.proofs.Sound.{run-append, sound-run, sound-start, legal-front}
+use Rattle.pj_join_laws.proofs.Stand.{low-kept, swept-same, ripe-same}
 use Rattle.pj_value.proofs.Members.{In-filter, In-filter_from, filter-agree}
 use Rattle.pj_join.specs.Joins.{JoinView, StandsFor, after}
 use Rattle.pj_join.specs.Insides.{made_with, seen}
 use Rattle.pj_join.specs.Judging.{going_at_once, waiting_with}
-use Rattle.pj_join.specs.Sweeping.{GoesWhereCovered, HandsUp, IsForgotten, next_punct, puncts_at_once, puncts_up, swept_off}
+use Rattle.pj_join.specs.Sweeping.{GoesWhereCovered, HandsUp, IsForgotten, StaysRipeUntil, next_punct, puncts_at_once, puncts_up, swept_off}
 
 -- ---- what goes up
 
 map-map : {A B C : Type 0} (g : B → C) (f : A → B) (xs : List A) → map g (map f xs) ≡ map (λ x. g (f x)) xs
 map-map g f [] = refl
 map-map {A} {B} {C} g f (x ∷ xs) = ap (λ (ys : List C). g (f x) ∷ ys) (map-map g f xs)
-
-ripe-same : (spec : JoinData) (s : JoinState) (x : TupleAt) → kept_ripe spec (kept_of s) x ≡ ripe spec s x
-ripe-same spec s x = ap (λ l. ltb x.ticket l && list_all (covered (older_puncts l s.puncts)) (need_of spec (older l s.stored) x)) (low-kept s)
-
-swept-same : (spec : JoinData) (s : JoinState) (input : ℕ) → swept spec (kept_of s) input ≡ kept spec s input
-swept-same spec s input =
-    filter-agree (λ x. not (eqb x.input input && kept_ripe spec (kept_of s) x)) (λ x. not (eqb x.input input && ripe spec s x)) s.stored (λ x h. ap (λ b. not (eqb x.input input && b)) (ripe-same spec s x))
 
 pub hands-sweep : (join : JoinView) (input : ℕ) (steps : List Step) → StandsFor join steps → HandsUp join steps (Sweep input)
 hands-sweep join input steps st =
@@ -36,8 +28,8 @@ hands-sweep join input steps st =
 
 pub hands-punct : (join : JoinView) (input : ℕ) (patterns : List Pattern) (steps : List Step) → StandsFor join steps → HandsUp join steps (PunctComes input patterns)
 hands-punct join input patterns steps st =
-    ap (λ (k : KeptState). map Punct (at-once (join.spec.propagates && not (is_held k.stored (come k))) (come k))) st.1
-    ∙ one (join.spec.propagates && not (is_held (kept_of (run join.spec start steps)).stored (come (kept_of (run join.spec start steps))))) (come (kept_of (run join.spec start steps)))
+    ap (λ (k : KeptState). map Punct (at-once (not (is_held k.stored (come k))) (come k))) st.1
+    ∙ one (not (is_held (kept_of (run join.spec start steps)).stored (come (kept_of (run join.spec start steps))))) (come (kept_of (run join.spec start steps)))
   where
     come : KeptState → PunctAt
     come k = record { ticket = k.next; input = input; patterns = patterns }
@@ -89,11 +81,24 @@ goes-where-covered join input covers steps st = λ x h is lt whole.
     (and_from (eqb x.input input) (kept_ripe join.spec join.kept x) (eq-eqb x.input input is)
     (ap (λ (k : KeptState). kept_ripe join.spec k x) st.1 ∙ ripe-same join.spec (run join.spec start steps) x ∙ ripe_now))
 
+pub stays-ripe : (join : JoinView) (input : ℕ) → StaysRipe join.spec → (steps : List Step) → StandsFor join steps → StaysRipeUntil join steps input
+stays-ripe join input stays steps st = λ before later e x h was here.
+    let legal = legal-front join.spec start before later (subst (λ (es : List Step). AreLegalSteps join.spec start es) e st.0) in
+    let after_all : run join.spec start steps ≡ run join.spec (run join.spec start before) later = ap (λ (es : List Step). run join.spec start es) e ∙ run-append join.spec start before later in
+    let there : In x (run join.spec start steps).stored = subst (λ (k : KeptState). In x k.stored) st.1 here in
+    let still : ripe join.spec (run join.spec start steps) x ≡ true =
+    subst (λ (s : JoinState). ripe join.spec s x ≡ true) (sym after_all) (stays before later legal.0 legal.1 x h was (subst (λ (s : JoinState). In x s.stored) after_all there)) in
+    let ripe_now : kept_ripe join.spec join.kept x ≡ true = ap (λ (k : KeptState). kept_ripe join.spec k x) st.1 ∙ ripe-same join.spec (run join.spec start steps) x ∙ still in (
+      ripe_now,
+      λ is. In-filter_from (λ z. eqb z.input input && kept_ripe join.spec join.kept z) x join.kept.stored here
+          (and_from (eqb x.input input) (kept_ripe join.spec join.kept x) (eq-eqb x.input input is) ripe_now),
+    )
+
 -- ---- punctuations
 
 -- a join that hands up punctuations
-at-once : (join : JoinView) (p : PunctAt) → join.spec.propagates ≡ true → going_at_once join.spec.shape.inputs (is_held join.kept.stored p) p ≡ puncts_at_once join p
-at-once join p e = go (is_held join.kept.stored p) ∙ ap (λ b. cond (b && not (is_held join.kept.stored p)) (widened join.spec p ∷ []) []) (sym e)
+at-once : (join : JoinView) (p : PunctAt) → going_at_once join.spec.shape.inputs (is_held join.kept.stored p) p ≡ puncts_at_once join p
+at-once join p = go (is_held join.kept.stored p)
   where
     go : (b : Bool) → cond b [] (widened join.spec p ∷ []) ≡ cond (not b) (widened join.spec p ∷ []) []
     go true = refl
@@ -101,11 +106,11 @@ at-once join p e = go (is_held join.kept.stored p) ∙ ap (λ b. cond (b && not 
 
 -- what is kept once a punctuation has come
 pub punct_view : (node : ℕ) (spec : JoinData) (limit next done : ℕ) (log : List TupleAt) (puncts puncts' waiting waiting' : List PunctAt) (taken : List ℕ) (held : Bool) (p : PunctAt)
-    → spec.propagates ≡ true → held ≡ is_held log p → p.ticket ≡ next → puncts' ≡ puncts ++ p ∷ [] → waiting' ≡ waiting_with held waiting p
+    → held ≡ is_held log p → p.ticket ≡ next → puncts' ≡ puncts ++ p ∷ [] → waiting' ≡ waiting_with held waiting p
     → seen (made_with node spec limit) (next + 1) done log puncts' waiting' taken ≡ after (seen (made_with node spec limit) next done log puncts waiting taken) (PunctComes p.input p.patterns)
-punct_view node spec limit next done log puncts puncts' waiting waiting' taken held p up is ticket all on =
+punct_view node spec limit next done log puncts puncts' waiting waiting' taken held p is ticket all on =
     ap₂ (λ (ps ws : List PunctAt). seen (made_with node spec limit) (next + 1) done log ps ws taken) (all ∙ ap (λ (q : PunctAt). puncts ++ q ∷ []) come)
-    (on ∙ ap₂ (λ b (q : PunctAt). cond b (waiting ++ q ∷ []) waiting) (is ∙ ap (is_held log) come) come ∙ ap (λ b. cond (b && is_held log said) (waiting ++ said ∷ []) waiting) (sym up))
+    (on ∙ ap₂ (λ b (q : PunctAt). cond b (waiting ++ q ∷ []) waiting) (is ∙ ap (is_held log) come) come)
   where
     said : PunctAt
     said = record { ticket = next; input = p.input; patterns = p.patterns }
@@ -114,8 +119,8 @@ punct_view node spec limit next done log puncts puncts' waiting waiting' taken h
     come = ap (λ n. record { ticket = n; input = p.input; patterns = p.patterns }) ticket
 
 -- what goes up of it
-pub punct_out : (join : JoinView) (input : ℕ) (patterns : List Pattern) (held : Bool) (p : PunctAt) (out out' : List (List Pattern)) → join.spec.propagates ≡ true → held ≡ is_held join.kept.stored p
+pub punct_out : (join : JoinView) (input : ℕ) (patterns : List Pattern) (held : Bool) (p : PunctAt) (out out' : List (List Pattern)) → held ≡ is_held join.kept.stored p
     → p ≡ next_punct join input patterns → out' ≡ out ++ going_at_once join.spec.shape.inputs held p → out' ≡ out ++ puncts_up join (PunctComes input patterns)
-punct_out join input patterns held p out out' up is come e =
+punct_out join input patterns held p out out' is come e =
     e ∙ ap₂ (λ b (q : PunctAt). out ++ going_at_once join.spec.shape.inputs b q) (is ∙ ap (is_held join.kept.stored) come) come
-    ∙ ap (λ (ps : List (List Pattern)). out ++ ps) (at-once join (next_punct join input patterns) up)
+    ∙ ap (λ (ps : List (List Pattern)). out ++ ps) (at-once join (next_punct join input patterns))

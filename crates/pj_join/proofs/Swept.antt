@@ -9,7 +9,7 @@ use Rattle.pj_cover.specs.Stores.{Store}
 use Rattle.pj_events.specs.Patterns.{Pattern, matches_row}
 use Rattle.pj_events.specs.Join.{CertStep, In, JoinData, JoinSpec, PunctAt, Sweep, TupleAt, Value, arities, has, inputs, is_held, of_input, steps_of, widened}
 use Rattle.pj_events.specs.KeptState.{kept_low, kept_ripe, swept}
-use Rattle.pj_value.proofs.Members.{In-filter, In-map_from, filter-agree, filter-filter}
+use Rattle.pj_value.proofs.Members.{In-filter, In-map_from, filter-agree, filter-filter, filter_map_swap}
 use Rattle.pj_join.specs.declared.place.Place.{Place}
 use Rattle.pj_join.specs.Joins.{JoinView, after}
 use Rattle.pj_join.specs.Insides.{IsJoin, IsOrdered, Rise, inside, lowest, made_with, seen, tickets}
@@ -18,7 +18,6 @@ use Rattle.pj_join.specs.Sides.{IsShaped, heard_at, log_of, merged, place_of, pu
 use Rattle.pj_join.specs.Holding.{tickets_where}
 use Rattle.pj_join.specs.Sweeping.{puncts_up, rows_off, swept_off}
 use Rattle.pj_join.proofs.Classes.{eqb-below}
-use Rattle.pj_join.proofs.Combining.{filter-map}
 use Rattle.pj_join.proofs.Judged.{filter-swap, judge_at, ripe-is}
 use Rattle.pj_join.proofs.Kept.{shaped-at, shaped-set, side-is, tuples-set}
 use Rattle.pj_join.proofs.Merging.{merged-is}
@@ -95,7 +94,7 @@ module _ (node : ℕ) (spec : JoinData) (limit next done : ℕ) (states : List S
   ripe-are : (low : ℕ) (settled : Bool) → low ≡ kept_low join.kept → map (tuple_in input) (filter (ripe_at (judge-of low settled)) rows) ≡ swept_off join input
   ripe-are low settled is =
       ap (map (tuple_in input)) (filter-agree (ripe_at (judge-of low settled)) (λ s. kept_ripe spec join.kept (tuple_in input s)) rows (λ s h. ripe-is spec limit next done states stores pending taken j join.kept refl refl low is input settled s))
-      ∙ sym (filter-map (kept_ripe spec join.kept) (tuple_in input) rows)
+      ∙ sym (filter_map_swap (kept_ripe spec join.kept) (tuple_in input) rows)
       ∙ ap (filter (kept_ripe spec join.kept)) side
       ∙ filter-filter (λ (x : TupleAt). eqb x.input input) (kept_ripe spec join.kept) log
 
@@ -114,7 +113,7 @@ module _ (node : ℕ) (spec : JoinData) (limit next done : ℕ) (states : List S
     -- the rows that are left are the input's tuples that the sweep leaves
     pub left-are : map (tuple_in input) (rows_without gone rows) ≡ of_input input (swept spec join.kept input)
     left-are =
-        sym (filter-map (λ (x : TupleAt). not (has gone x.ticket)) (tuple_in input) rows)
+        sym (filter_map_swap (λ (x : TupleAt). not (has gone x.ticket)) (tuple_in input) rows)
         ∙ ap (filter (λ (x : TupleAt). not (has gone x.ticket))) side
         ∙ filter-agree (λ (x : TupleAt). not (has gone x.ticket)) (λ x. not (goes x)) (of_input input log) (λ x h. ap not (has-is x (In-filter (λ (y : TupleAt). eqb y.input input) x log h).0))
         ∙ filter-swap (λ x. not (goes x)) (λ (x : TupleAt). eqb x.input input) log

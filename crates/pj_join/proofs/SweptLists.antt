@@ -155,11 +155,6 @@ seen-sweep node spec limit next done log stay puncts waiting on taken p input le
 
 -- ---- the call
 
--- as many are left as stay, and those that go are taken
-pub stay_few : (spec : JoinData) (k : KeptState) (input : ℕ) (stay : List TupleAt) → stay ≡ swept spec k input → length stay ≤ length k.stored
-stay_few spec k input stay e =
-    omega (arith, gone_count (λ x. eqb x.input input && kept_ripe spec k x) k.stored stay e, ap (λ (xs : List TupleAt). length xs) e, length-filter_both (λ x. eqb x.input input && kept_ripe spec k x) (λ x. not (eqb x.input input && kept_ripe spec k x)) (λ x. refl) k.stored)
-
 pub count_gone : (join : JoinView) (input : ℕ) (stay : List TupleAt) → stay ≡ swept join.spec join.kept input → length join.kept.stored - length stay ≡ length (swept_off join input)
 count_gone join input stay e = gone_count (λ x. eqb x.input input && kept_ripe join.spec join.kept x) join.kept.stored stay e
 

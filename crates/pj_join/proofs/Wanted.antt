@@ -3,7 +3,7 @@ use Rattle.std.proofs.Common.{◌≡◌, ℕ, suc, ◌<◌, Bool, true, false, c
 use Rattle.std.proofs.lemmas.Option.{slice_get-get_or}
 use Rattle.pj_value.specs.declared.values.Value.{Value}
 use Rattle.pj_state.specs.declared.shared.Stored.{Stored}
-use Rattle.pj_state.specs.States.{StateView, has_value, is_below, is_value, pairs, rows_below, rows_with}
+use Rattle.pj_state.specs.States.{StateView, has_value, is_below, pairs, rows_below, rows_with}
 use Rattle.pj_probe.specs.Walks.{tuple_at}
 use Rattle.pj_join.specs.Sides.{IsWide, tuple_in}
 use Rattle.std.specs.List.{list_all, list_any}
@@ -12,14 +12,11 @@ use Rattle.std.proofs.lemmas.Bool.Decides.{nat_tests}
 use Rattle.pj_value.specs.Values.{value_eq}
 use Rattle.pj_value.proofs.Members.{all_at, any_at, in-place}
 use Rattle.pj_value.proofs.Orders.{equal_itself, same_if_equal}
+use Rattle.pj_value.specs.Options.{is_value}
 use Rattle.pj_events.specs.Join.{ClassCol, In, TupleAt, no_value, value_at}
 use Rattle.pj_join.specs.Walks.{all_have, has_there, older_joins, suits, suits_class}
 use Rattle.pj_join.specs.Lookups.{ClassWants, IsWanted}
-use Rattle.pj_join.proofs.Cells.{cell_there}
-
-pub found_column : (class : List ClassCol) (i : ℕ) (d : ClassCol) (input : ℕ) → i < length class → (get_or class i d).input ≡ input → In (record { input = input; column = (get_or class i d).column }) class
-found_column class i d input lt same =
-    subst (λ (c : ClassCol). In c class) (ap (λ (n : ℕ). record { input = n; column = (get_or class i d).column }) same) (in-place class d i lt)
+use Rattle.pj_shape.proofs.Cells.{cell_there}
 
 same_number : (n : ℕ) → (n == n) ≡ true
 same_number n = grind (arith, nat_tests)

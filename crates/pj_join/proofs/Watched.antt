@@ -8,6 +8,7 @@ use Rattle.pj_state.specs.declared.shared.Stored.{Stored}
 use Rattle.pj_state.specs.States.{StateView}
 use Rattle.pj_cover.specs.Stores.{Store}
 use Rattle.pj_cover.specs.Asking.{IsAsked, puncts_from, tuples_of}
+use Rattle.pj_cover.proofs.Agreeing.{need_alone}
 use Rattle.pj_events.specs.Patterns.{covers}
 use Rattle.pj_events.specs.Join.{CertEntry, ClassCol, Demand, In, JoinData, PunctAt, TupleAt, agree, cert_of, covered, grown, has, inputs, need, of_input, older, older_puncts}
 use Rattle.pj_events.specs.KeptState.{KeptState, kept_low, kept_ripe, least, swept}
@@ -163,7 +164,8 @@ module _ (spec : JoinData) where
           (subst (λ (ps : List PunctAt). AsksStill (known spec.shape.classes (log_of states) ps low) cert x) (sym puncts-are) a)))
 
       not_ripe : (x : TupleAt) → AsksStill (known spec.shape.classes (log_of states) (puncts_of stores) low) (cert_of spec x.input) x → kept_ripe spec k x ≡ false
-      not_ripe x a = and_right (ltb x.ticket (kept_low k)) _ (still-kept x (cert_of spec x.input) a)
+      not_ripe x a = and_right (ltb x.ticket (kept_low k)) _
+          (ap (list_all (covered (older_puncts (kept_low k) k.puncts))) (sym (need_alone spec.shape (older (kept_low k) k.stored) (cert_of spec x.input) x j.ordered.sound)) ∙ still-kept x (cert_of spec x.input) a)
 
       in-log : (s : Stored) → In s (state_at states input).rows → In (tuple_in input s) log
       in-log s h = (In-filter (λ (y : TupleAt). eqb y.input input) (tuple_in input s) log (subst (λ (xs : List TupleAt). In (tuple_in input s) xs) (side-is spec limit next done states stores pending taken j input lt) (In-map_from (tuple_in input) s (state_at states input).rows h))).0

@@ -3,12 +3,14 @@ use Rattle.std.proofs.Common.{ℕ, zero, suc, ◌+◌, ◌<◌, Bool, true, fals
 use Rattle.std.specs.List.{list_any, slice_get}
 use Rattle.std.proofs.lemmas.Bool.{and_parts, eq-eqb, eqb-true, false_from_ne_true, false≢true}
 use Rattle.std.proofs.lemmas.Option.{slice_get-get_or, get_or_from_slice_get}
+use Rattle.std.proofs.lemmas.List.Folds.{list_any-append}
 use Rattle.pj_value.specs.declared.values.Value.{Value}
 use Rattle.pj_value.specs.Values.{value_eq}
 use Rattle.pj_value.proofs.Members.{any_at}
 use Rattle.pj_value.proofs.Orders.{same_if_equal, equal_itself}
+use Rattle.pj_value.specs.Options.{is_value}
 use Rattle.pj_pattern.specs.declared.pattern.Form.TheVariants.{Constant}
-use Rattle.pj_state.specs.States.{StateView, is_value}
+use Rattle.pj_state.specs.States.{StateView}
 use Rattle.pj_cover.specs.Asking.{first_class}
 use Rattle.pj_cover.proofs.Classes.{first_class_is}
 use Rattle.pj_events.specs.Patterns.{Pattern, covers, matches_value}
@@ -102,14 +104,6 @@ some_from (Some a) P Q R S f p q r = f a p q r
 
 -- ---- what is passed over
 
-any-append : {A : Type 0} (p : A → Bool) (xs ys : List A) → list_any p (xs ++ ys) ≡ (list_any p xs || list_any p ys)
-any-append p [] ys = refl
-any-append p (x ∷ xs) ys = go (p x) (any-append p xs ys)
-  where
-    go : (b : Bool) → list_any p (xs ++ ys) ≡ (list_any p xs || list_any p ys) → (b || list_any p (xs ++ ys)) ≡ ((b || list_any p xs) || list_any p ys)
-    go true ih = refl
-    go false ih = ih
-
 -- a ticket that is passed over is among none of those that were marked, and was passed over before
 pub passed_more : (old new : Watches) (ts : List ℕ) → new.from ≡ old.from → new.marked ≡ old.marked ++ ts → (ticket : ℕ) → is_passed new ticket ≡ true → (is_passed old ticket ≡ true) × (has ts ticket ≡ false)
 passed_more old new ts from marked ticket t =
@@ -118,7 +112,7 @@ passed_more old new ts from marked ticket t =
     go : (a : Bool) → has old.marked ticket ≡ a → (b : Bool) → has ts ticket ≡ b → (ltb ticket old.from && not (has (old.marked ++ ts) ticket)) ≡ true → (is_passed old ticket ≡ true) × (has ts ticket ≡ false)
     go a e b f u =
         let both = and_parts (ltb ticket old.from) (not (has (old.marked ++ ts) ticket)) u in
-        let none : not (a || b) ≡ true = ap₂ (λ c d. not (c || d)) (sym e) (sym f) ∙ ap not (sym (any-append (λ m. eqb m ticket) old.marked ts)) ∙ both.1 in
+        let none : not (a || b) ≡ true = ap₂ (λ c d. not (c || d)) (sym e) (sym f) ∙ ap not (sym (list_any-append (λ m. eqb m ticket) old.marked ts)) ∙ both.1 in
         split a b e f both.0 none
       where
         split : (a b : Bool) → has old.marked ticket ≡ a → has ts ticket ≡ b → ltb ticket old.from ≡ true → not (a || b) ≡ true → (is_passed old ticket ≡ true) × (has ts ticket ≡ false)

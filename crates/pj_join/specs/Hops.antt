@@ -7,9 +7,7 @@ use Rattle.pj_events.specs.Join.{ClassCol, In, TupleAt, Value, agree, has, produ
 use Rattle.pj_join.specs.Sides.{state_at, tuples_in}
 use Rattle.pj_join.specs.Walks.{choices}
 use Rattle.pj_join.specs.Watching.{under_with}
-
-abbrev pub ticket_in : ℕ × List Value → ℕ
-ticket_in r = r.0
+use Rattle.pj_cover.specs.Rising.{ticket_in}
 
 -- the older tuples of an input; of the tuple's own input itself alone
 abbrev pub older_at : TupleAt → List StateView → ℕ → List TupleAt

@@ -2,7 +2,7 @@
 use Rattle.std.specs.Prelude.{ℕ, ◌≤◌, ◌≡◌, Bool, true, false, List, [], ◌∷◌, ◌++◌, map, Option, Some, None}
 use Rattle.pj_shape.specs.declared.joins.CertStep.{CertStep}
 use Rattle.pj_shape.specs.declared.joins.JoinSpec.{JoinSpec}
-pub use Rattle.pj_join.specs.declared.found.Found.{Found}
+pub use Rattle.pj_probe.specs.declared.probe.Found.{Found}
 use Rattle.pj_events.specs.Join.{In, JoinData, PunctAt, Step, Take, start, run, has, joined, results, AreLegalSteps}
 use Rattle.pj_events.specs.KeptState.{KeptState, kept_step, JoinStands}
 
@@ -15,7 +15,7 @@ pub record JoinView : Type 0 where
 
 -- a join of this shape with these schemes and certificates of its inputs, which hands up rows and punctuations
 abbrev pub join_data : JoinSpec → List (List (List Bool)) → List (List CertStep) → JoinData
-join_data shape schemes certs = record { shape = shape; schemes = schemes; certs = certs; propagates = true }
+join_data shape schemes certs = record { shape = shape; schemes = schemes; certs = certs }
 
 -- the join after a step
 abbrev pub after : JoinView → Step → JoinView

@@ -2,13 +2,14 @@
 use Rattle.std.specs.Prelude.{ℕ, ◌≡◌, ◌<◌, Bool, not, ◌==◌, ◌&&◌, ◌||◌, ◌+◌, if◌then◌else◌, List, [], ◌∷◌, ◌++◌, map, filter, length, sum, take, drop}
 use Rattle.pj_value.specs.declared.values.Value.{Value}
 use Rattle.pj_shape.specs.declared.columns.Column.{Column}
-use Rattle.pj_shape.specs.Sound.{arities_of}
+use Rattle.pj_shape.specs.Sound.{FitSchemes, arities_of}
+use Rattle.pj_shape.specs.Certificates.{IsCertificate}
 use Rattle.pj_state.specs.declared.shared.Stored.{Stored}
 use Rattle.pj_state.specs.States.{StateView, pair_of, tickets_of}
 use Rattle.pj_cover.specs.Stores.{Store}
-use Rattle.pj_cover.specs.Asking.{AreParts, data_of, entries, is_ripe, known_of, tuple_of}
+use Rattle.pj_cover.specs.Asking.{AreParts, entries, is_ripe, known_of, tuple_of}
 use Rattle.pj_events.specs.Patterns.{Pattern, all_wild}
-use Rattle.pj_events.specs.Join.{CertStep, IsCertified, JoinSpec, PunctAt, TupleAt, has, is_held}
+use Rattle.pj_events.specs.Join.{CertStep, JoinSpec, PunctAt, TupleAt, has, is_held}
 use Rattle.pj_join.specs.Sides.{row_pairs, state_at, still_held}
 
 -- what the rows of an input are judged by: the join's shape and schemes, the input's certificate, all stored rows, the
@@ -23,12 +24,13 @@ pub record JudgeView : Type 0 where
   pub low : ℕ
   pub settled : Bool
 
--- these can be judged by: the parts fit, and the certificate is one of the input
+-- these can be judged by: the parts and the schemes fit, and the certificate is one of the input
 pub record MayJudge (spec : JoinSpec) (schemes : List (List (List Bool))) (cert : List CertStep) (input : ℕ) (states : List StateView) (stores : List Store) : Type 0 where
   pub parts : AreParts spec (row_pairs states) stores
   pub count : length states ≡ length spec.inputs
   pub there : input < length spec.inputs
-  pub certified : IsCertified (data_of spec schemes) input cert
+  pub fitting : FitSchemes spec.inputs schemes
+  pub certified : IsCertificate spec schemes input cert
 
 -- the rows of the input
 abbrev pub rows_at : JudgeView → List Stored

@@ -2,13 +2,15 @@
 use Rattle.std.specs.Prelude.{ℕ, ◌+◌, ◌<◌, ◌≡◌, All, Bool, true, not, nat_lt, ◌==◌, ◌&&◌, if◌then◌else◌, List, [], ◌∷◌, Option, Some, None, filter, length, map, slice_get, slice_index_or}
 use Rattle.std.specs.List.{list_any}
 use Rattle.pj_state.specs.declared.shared.Stored.{Stored}
-use Rattle.pj_state.specs.States.{StateView, is_value, pairs, row_under, state_of}
+use Rattle.pj_state.specs.States.{StateView, pairs, row_under, state_of}
 use Rattle.pj_cover.specs.Stores.{Store}
 use Rattle.pj_cover.specs.declared.store.NumberedPunct.{NumberedPunct}
+use Rattle.pj_cover.specs.Asking.{punct_of}
 use Rattle.pj_events.specs.Patterns.{Pattern, matches_row}
 use Rattle.pj_events.specs.Join.{In, PunctAt, TupleAt, Value, has}
 use Rattle.pj_join.specs.declared.arrivals.Coming.{Coming}
 use Rattle.pj_join.specs.declared.place.Place.{Place}
+use Rattle.pj_value.specs.Options.{is_value}
 
 -- ---- one list of several, in order of numbers
 
@@ -92,9 +94,6 @@ AreAllShaped (n ∷ ns) (s ∷ ss) = IsShaped n s × AreAllShaped ns ss
 
 -- ---- punctuations
 
-abbrev pub heard_with : ℕ → NumberedPunct → PunctAt
-heard_with input k = record { ticket = k.number; input = input; patterns = k.punct }
-
 -- the punctuation that comes
 abbrev pub coming_punct : Coming → PunctAt
 coming_punct p = record { ticket = p.ticket; input = p.input; patterns = p.punct }
@@ -102,7 +101,7 @@ coming_punct p = record { ticket = p.ticket; input = p.input; patterns = p.punct
 -- the punctuations of the inputs from this one on, which stand in these stores
 abbrev pub heard_in : ℕ → List Store → List (List PunctAt)
 heard_in input [] = []
-heard_in input (s ∷ ss) = map (heard_with input) s.kept ∷ heard_in (input + 1) ss
+heard_in input (s ∷ ss) = map (punct_of input) s.kept ∷ heard_in (input + 1) ss
 
 abbrev pub heard_at : PunctAt → ℕ
 heard_at p = p.ticket

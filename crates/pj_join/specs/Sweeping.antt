@@ -3,7 +3,7 @@ use Rattle.std.specs.Prelude.{ℕ, ◌<◌, ◌≡◌, ◌==◌, ◌&&◌, not, 
 use Rattle.std.specs.List.{list_all}
 use Rattle.pj_value.specs.declared.values.Value.{Value}
 use Rattle.pj_pattern.specs.Patterns.{Pattern}
-use Rattle.pj_events.specs.Join.{In, TupleAt, PunctAt, Step, TupleComes, PunctComes, Take, Give, Sweep, Punct, JoinState, run, start, low, is_held, widened, hands_up, outputs, AreLegalSteps, IsCombination, older, older_puncts, need_of, covered}
+use Rattle.pj_events.specs.Join.{In, TupleAt, PunctAt, Step, TupleComes, PunctComes, Take, Give, Sweep, Punct, JoinState, run, start, low, is_held, widened, hands_up, outputs, ripe, AreLegalSteps, IsCombination, older, older_puncts, need_of, covered}
 use Rattle.pj_events.specs.KeptState.{kept_low, kept_ripe, swept}
 use Rattle.pj_pattern.specs.Elements.{IsLawful}
 use Rattle.pj_join.specs.Joins.{JoinView}
@@ -21,7 +21,7 @@ next_punct join input patterns = record { ticket = join.kept.next; input = input
 
 -- a punctuation that comes goes up at once where no stored tuple of its input matches it
 abbrev pub puncts_at_once : JoinView → PunctAt → List (List Pattern)
-puncts_at_once join p = if join.spec.propagates && not (is_held join.kept.stored p) then widened join.spec p ∷ [] else []
+puncts_at_once join p = if not (is_held join.kept.stored p) then widened join.spec p ∷ [] else []
 
 -- those that waited go up at the first sweep of their input that leaves no tuple which matches them, in order of tickets
 abbrev pub puncts_let_go : JoinView → ℕ → List (List Pattern)
@@ -66,3 +66,9 @@ abbrev pub GoesWhereCovered : JoinView → List Step → ℕ → Type 0
 GoesWhereCovered join steps input =
     (x : TupleAt) → In x join.kept.stored → x.input ≡ input → x.ticket < kept_low join.kept → IsCoveredWhole join (state_after join steps) x
     → In x (swept_off join input)
+
+-- a tuple that was stored and ripe after a front of the steps, and is stored still, is ripe still; one of the input is removed
+abbrev pub StaysRipeUntil : JoinView → List Step → ℕ → Type 0
+StaysRipeUntil join steps input =
+    (before later : List Step) → steps ≡ before ++ later → (x : TupleAt) → In x (state_after join before).stored → ripe join.spec (state_after join before) x ≡ true
+    → In x join.kept.stored → (kept_ripe join.spec join.kept x ≡ true) × (x.input ≡ input → In x (swept_off join input))

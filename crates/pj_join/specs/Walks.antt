@@ -1,8 +1,6 @@
 -- How combinations that join are found one tuple after the other.
 use Rattle.std.specs.Prelude.{◌≡◌, ◌<◌, true, ℕ, Bool, ◌==◌, nat_lt, ◌&&◌, ◌||◌, if◌then◌else◌, List, [], ◌∷◌, map, filter, slice_index_or, length}
 pub use Rattle.pj_cover.specs.Suits.{all_have, cell_value, has_there, suits, suits_class}
-use Rattle.pj_join.specs.declared.found.Found.{Found}
-use Rattle.pj_probe.specs.declared.probe.Found.{Found as ProbeFound}
 use Rattle.pj_events.specs.Join.{ClassCol, In, TupleAt, Value, agree, joined, product, upto_from}
 
 -- whether a tuple is older than this one and joins with it
@@ -29,14 +27,6 @@ pair x y = joined (x ∷ y ∷ [])
 -- the rows of a tuple with each of these
 abbrev pub pairs : List TupleAt → TupleAt → List (List Value)
 pairs ys x = map (pair x) ys
-
--- what the work of a ticket finds over the choice of each input: the ways to take one of each that join, as rows
-abbrev pub found_in : ℕ → ℕ → List (List ClassCol) → List (List TupleAt) → Found
-found_in join ticket classes lists = record { join = join; ticket = ticket; rows = map joined (filter (agree classes) (product lists)) }
-
--- the same as another crate has it
-abbrev pub found_as : ProbeFound → Found
-found_as f = record { join = f.join; ticket = f.ticket; rows = f.rows }
 
 -- the tuple is of this one's input, or joins with it
 abbrev pub may_join : List (List ClassCol) → TupleAt → TupleAt → Bool

@@ -2,9 +2,10 @@
 use Rattle.std.specs.Option.{option_map}
 use Rattle.std.specs.Prelude.{ℕ, zero, suc, ◌<◌, ◌≤◌, ◌≡◌, ◌==◌, if◌then◌else◌, Bool, true, false, not, nat_lt, ◌&&◌, ◌||◌, List, [], ◌∷◌, ◌++◌, Option, Some, None, filter, flat_map, length, slice_get, slice_index_or}
 use Rattle.pj_value.specs.declared.values.Value.{Value}
+use Rattle.pj_value.specs.Options.{is_value}
 use Rattle.pj_state.specs.declared.shared.Stored.{Stored}
 use Rattle.pj_state.specs.Rising.{IsRising, itself}
-use Rattle.pj_state.specs.States.{StateView, is_value, row_under, stored, tickets_of}
+use Rattle.pj_state.specs.States.{StateView, row_under, stored, tickets_of}
 use Rattle.pj_cover.specs.Asking.{IsAsked, Known, entries, first_class, puncts_from, tuples_of}
 use Rattle.pj_cover.specs.declared.rows.Uncovered.{Uncovered}
 use Rattle.pj_events.specs.Patterns.{Pattern, covers, is_wild, matches_value}

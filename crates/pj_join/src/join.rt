@@ -1,4 +1,4 @@
-// A join over plain lists.
+// A join of two and more inputs: its calls.
 ghost use Rattle.std.specs.Prelude.{true, ◌≡◌, ◌<◌, ◌≤◌, ◌+◌, ◌^◌, ◌↔◌, All, List, [], ◌∷◌, ◌++◌, length, OnOk, OnErr, IfOk, IsErrOf, IsTrue, Err, map, slice_index_or, take, ◌==◌};
 ghost use Rattle.pj_state.specs.Rising.{IsRising};
 ghost use Rattle.pj_state.specs.States.{state_of, stored};
@@ -13,14 +13,16 @@ ghost use Rattle.pj_join.specs.Judging.{is_let_go, waiting_on};
 ghost use Rattle.pj_join.specs.Joins.{IsTaken, StandsFor, JoinTakes, StandsTaken, after, join_data, with_waiting};
 ghost use Rattle.pj_join.specs.Watching.{AreOpenBut};
 ghost use Rattle.pj_join.specs.Sides.{heard_at};
-ghost use Rattle.pj_join.specs.Sweeping.{GoesWhereCovered, HandsUp, HasBeenLawful, IsForgotten, puncts_let_go, puncts_up, rows_off, swept_off};
+ghost use Rattle.pj_join.specs.Sweeping.{GoesWhereCovered, HandsUp, HasBeenLawful, IsForgotten, StaysRipeUntil, puncts_let_go, puncts_up, rows_off, swept_off};
 
+use crate::JoinStop;
 use crate::arrivals::Coming;
 use crate::coverage::LentPunct;
 use crate::handing::hand_out_found;
 use crate::marks::Watches;
 use crate::partners::rouse;
 use crate::place::Place;
+use crate::probe::probe_of;
 use crate::ranges::keep_orders;
 use crate::starting::{empty_states, empty_stores, empty_watches};
 use crate::stored::first_pending;
@@ -28,11 +30,11 @@ use crate::sweeping::{Judge, Left, has_young, remove_all};
 use crate::waiting::Waiting;
 use crate::waking::{Certified, wake};
 use crate::widening::hear;
-use crate::{JoinStop, Probe};
 use pj_cover::PunctStore;
 use pj_events::Out;
 use pj_join_laws::{forgetting_is_safe, lawfulness, ripeness, standing};
 use pj_pattern::Punct;
+use pj_probe::Probe;
 use pj_shape::{Cert, JoinSpec, Schemes};
 use pj_state::{Remaining, Shared, State};
 use pj_value::{List, NoMemory, Row};
@@ -231,7 +233,7 @@ impl Join {
         match first_pending(self.states.as_slice(), &self.pending) {
             None => Ok(None),
             Some(own) => {
-                let probe = Probe::new(
+                let probe = probe_of(
                     self.alloc,
                     self.node,
                     &self.spec,
@@ -284,7 +286,8 @@ impl Join {
     /// of `out`, widened. Both are in order of tickets. Answers how many tuples were removed. On a refusal all is as before.
     ///
     /// A tuple is ripe where its ticket is below the low-water ticket, and each instance that it asks for by the certificate of
-    /// its input, over the tuples that are stored below that ticket, is covered by one punctuation below it.
+    /// its input, over the tuples that are stored below that ticket, is covered by one punctuation below it. Once it is ripe
+    /// it stays so until a sweep of its input, which removes it.
     pub fn sweep(
         &mut self,
         input: u32,
@@ -300,6 +303,7 @@ impl Join {
         ensures hands { OnOk result ((steps : List Step) → StandsFor self.old steps → HandsUp self.old steps (Sweep input)) }
         ensures forgets { OnOk result ((steps : List Step) → StandsFor self.old steps → IsForgotten self.old steps input) }
         ensures covered { OnOk result ((steps : List Step) → StandsFor self.old steps → GoesWhereCovered self.old steps input) }
+        ensures stays { OnOk result ((steps : List Step) → StandsFor self.old steps → StaysRipeUntil self.old steps input) }
         ensures lawful { OnOk result ((steps : List Step) → StandsFor self.new steps → HasBeenLawful self.new steps) }
         ensures refused { OnErr result ((self.new ≡ self.old) × (removed.new ≡ removed.old) × (out.new ≡ out.old)) }
     {

@@ -4,7 +4,6 @@
 mod arrivals;
 mod choosing;
 mod coverage;
-mod found;
 mod handing;
 mod join;
 mod lookups;
@@ -15,6 +14,7 @@ mod probe;
 mod ranges;
 mod reaching;
 mod starting;
+mod stop;
 mod stored;
 mod sweeping;
 mod waiting;
@@ -23,7 +23,6 @@ mod walk;
 mod watches;
 mod widening;
 
-pub use found::{Found, JoinStop};
-pub use handing::hand_out_rows;
 pub use join::Join;
-pub use probe::Probe;
+pub use pj_probe::{Found, Probe};
+pub use stop::JoinStop;

@@ -1,83 +1,38 @@
-// A tuple on its way through the work of a join.
+// The probe of a tuple over the stored tuples of a join.
 ghost use Rattle.std.specs.Prelude.{◌≡◌, ◌<◌, ◌≤◌, length, IfOk};
 ghost use Rattle.std.specs.Arc.{arc_value};
 ghost use Rattle.pj_join.specs.Sides.{AreWide, tuples_in};
-ghost use Rattle.pj_join.specs.Walks.{choices, found_in};
+ghost use Rattle.pj_join.specs.Walks.{choices};
+ghost use Rattle.pj_probe.specs.Walks.{found_in};
 
-use crate::Found;
 use crate::arrivals::Arrived;
 use crate::choosing::{Rows, choices};
-use pj_probe::Lent;
+use pj_probe::{Lent, Probe};
 use pj_shape::JoinSpec;
 use pj_state::{Shared, State};
 use pj_value::{List, NoMemory};
 use std::alloc::Global;
-use std::marker::Model;
 use std::sync::Arc;
 
-/// A tuple that was taken, with the stored rows that may join with it. It is seen as what its work finds.
-#[derive(Drop)]
-pub struct Probe {
-    probe: pj_probe::Probe,
-}
-
-impl Model for Probe {
-    ghost use Rattle.pj_join.specs.declared.found.Found.{Found};
-    ghost use Rattle.pj_join.specs.Walks.{found_as};
-
-    ghost Value = { Found };
-
-    ghost view = { λ p. found_as p.probe };
-}
-
-impl Probe {
-    /// A probe of this tuple at the join with this number, over the stored tuples of each input.
-    pub(crate) fn new(
-        alloc: Global,
-        join: u32,
-        spec: &Arc<JoinSpec, Global>,
-        own: &Arrived<'_>,
-        sides: &[State],
-    ) -> Result<Probe, NoMemory>
-        requires few { length sides.now ≤ 16 }
-        requires there { own.now.input < length sides.now }
-        requires wide { AreWide sides.now }
-        ensures { let classes = (arc_value spec.now).classes in IfOk result (λ probe. probe ≡ found_in join own.now.ticket classes (choices classes own.now (tuples_in 0 sides.now))) }
-    {
-        let spec = share_spec(spec)?;
-        let lent = choices(alloc, spec.classes.as_slice(), own, sides)?;
-        let sides = share_all(alloc, lent.as_slice())?;
-        Ok(Probe {
-            probe: pj_probe::Probe::new(join, own.ticket(), spec, sides),
-        })
-    }
-
-    /// The number of its join.
-    pub fn join(&self) -> u32
-        ensures { result ≡ self.now.join }
-    {
-        self.probe.join()
-    }
-
-    /// Its ticket there.
-    pub fn ticket(&self) -> u64
-        ensures { result ≡ self.now.ticket }
-    {
-        self.probe.ticket()
-    }
-
-    /// Finds its results: each combination with one older tuple of each other input in which all classes agree, joined
-    /// to a row, in the order of their tickets.
-    pub fn work(&self, alloc: Global) -> Result<Found, NoMemory>
-        ensures { IfOk result (λ found. found ≡ self.now) }
-    {
-        let found = self.probe.work(alloc)?;
-        Ok(Found {
-            join: found.join,
-            ticket: found.ticket,
-            rows: found.rows,
-        })
-    }
+/// The probe of this tuple at the join with this number, over the stored tuples of each of at most 16 inputs; or `NoMemory`.
+/// It keeps handles of the rows that may join with the tuple: of another input those that are older, and of its own the
+/// tuple's alone.
+pub fn probe_of(
+    alloc: Global,
+    join: u32,
+    spec: &Arc<JoinSpec, Global>,
+    own: &Arrived<'_>,
+    sides: &[State],
+) -> Result<Probe, NoMemory>
+    requires few { length sides.now ≤ 16 }
+    requires there { own.now.input < length sides.now }
+    requires wide { AreWide sides.now }
+    ensures { let classes = (arc_value spec.now).classes in IfOk result (λ probe. probe ≡ found_in join own.now.ticket classes (choices classes own.now (tuples_in 0 sides.now))) }
+{
+    let spec = share_spec(spec)?;
+    let lent = choices(alloc, spec.classes.as_slice(), own, sides)?;
+    let sides = share_all(alloc, lent.as_slice())?;
+    Ok(Probe::new(join, own.ticket(), spec, sides))
 }
 
 /// A second handle of the same shape.

@@ -15,7 +15,7 @@ use crate::coverage::{Coverage, Side};
 use crate::lookups::Lookup;
 use crate::marks::Watches;
 use crate::ranges::{numbers_of, tickets_among};
-use crate::widening::{constant_of, is_wild};
+use crate::widening::constant_of;
 use pj_pattern::{Pattern, Punct};
 use pj_shape::{CertStep, ClassCol, Scheme, Schemes};
 use pj_state::State;
@@ -173,7 +173,7 @@ impl<'a> Coverage<'a> {
             return None;
         }
         let pattern = self.punct.at(column);
-        if is_wild(pattern) {
+        if pattern.is_wild() {
             return None;
         }
         let at = ClassCol {
@@ -291,7 +291,7 @@ pub fn scheme_of(schemes: &Schemes, step: CertStep) -> Option<&Scheme>
 fn is_marked_or_wild(mark: bool, pattern: &Pattern) -> bool
     ensures { result ≡ (mark || is_wild pattern.now) }
 {
-    mark || is_wild(pattern)
+    mark || pattern.is_wild()
 }
 
 // Whether the punctuation is a wildcard in each column that the scheme does not mark.

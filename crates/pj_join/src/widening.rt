@@ -1,7 +1,7 @@
 // Punctuations that a join hands up, or that wait.
 ghost use Rattle.std.specs.Prelude.{◌≡◌, ◌<◌, ◌++◌, ◌∷◌, [], ℕ, not, true, false, is_some, length, map, sum, take, OnOk, OnErr, IfOk, IfSome};
 ghost use Rattle.pj_events.specs.Join.{In, PunctAt, has};
-ghost use Rattle.pj_events.specs.Patterns.{all_wild, is_wild};
+ghost use Rattle.pj_events.specs.Patterns.{all_wild};
 ghost use Rattle.pj_shape.specs.Sound.{arities_of};
 ghost use Rattle.pj_state.specs.Rising.{IsRising, itself};
 ghost use Rattle.pj_state.specs.States.{stored, ticket_of};
@@ -118,19 +118,6 @@ pub fn constant_of(pattern: &Pattern) -> Option<&Value>
         Shape::Constant(value) => Some(value),
         Shape::Range(_, _) => None,
         Shape::Members(_) => None,
-    }
-}
-
-/// Whether a pattern is the wildcard.
-pub fn is_wild(pattern: &Pattern) -> bool
-    ensures { result ≡ is_wild pattern.now }
-{
-    match pattern.shape() {
-        Shape::Wild => true,
-        Shape::Empty => false,
-        Shape::Constant(_) => false,
-        Shape::Range(_, _) => false,
-        Shape::Members(_) => false,
     }
 }
 

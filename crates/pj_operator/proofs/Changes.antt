@@ -3,7 +3,7 @@ use Rattle.std.proofs.Common.{ℕ, zero, suc, ◌+◌, ◌<◌, ◌++◌, Bool, 
 use Rattle.std.proofs.lemmas.Bool.{eq-eqb, false≢true}
 use Rattle.std.proofs.lemmas.List.{get_or_default}
 use Rattle.std.proofs.Math.Seq.{map-set_same}
-use Rattle.pj_join.specs.declared.found.Found.{Found}
+use Rattle.pj_probe.specs.declared.probe.Found.{Found}
 use Rattle.pj_operator.specs.declared.cell.Cell.{Cell}
 use Rattle.pj_operator.specs.declared.cell.Work.{Work}
 use Rattle.pj_value.specs.declared.values.Value.{Value}

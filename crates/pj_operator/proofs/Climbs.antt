@@ -6,9 +6,9 @@ use Rattle.std.proofs.Math.ListN.{get_or-map}
 use Rattle.std.proofs.Math.Seq.{map-set_same, take-length}
 use Rattle.pj_pattern.specs.declared.element.Element.{Element}
 use Rattle.pj_value.specs.declared.values.Value.{Value}
-use Rattle.pj_pattern.specs.declared.element.Element.TheVariants.{Tuple, Punct}
+use Rattle.pj_pattern.specs.declared.element.Element.TheVariants.{Tuple}
 use Rattle.pj_events.specs.Outcomes.{elements_out}
-use Rattle.pj_events.specs.declared.events.Out.TheVariants.{Tuple as RowOut, Punct as PunctOut, Purged}
+use Rattle.pj_events.specs.declared.events.Out.TheVariants.{Tuple as RowOut}
 use Rattle.pj_events.specs.declared.events.Out.{Out}
 use Rattle.pj_events.specs.declared.events.Stop.{Stop}
 use Rattle.pj_events.specs.declared.events.Stop.TheVariants.{Limit, NoMemory}
@@ -447,13 +447,6 @@ pub rose-stop-these : (old mid : Scene) (from : ℕ) (es fs rest rest' all : Lis
 rose-stop-these old mid from es fs rest rest' all stop R q s =
     subst (λ (xs : List Element). IsClimbStop old.cells from xs stop) (sym (R.parts ∙ ap (λ (xs : List Element). es ++ xs) q))
     (stops-then old mid from es (fs ++ rest') R.climbs R.stays.frames stop (stops-front mid.cells from fs rest' stop s))
-
--- the elements among what is handed out
-pub outs-append : (xs ys : List Out) → elements_out (xs ++ ys) ≡ elements_out xs ++ elements_out ys
-outs-append [] ys = refl
-outs-append (RowOut row ∷ xs) ys = ap (λ (es : List Element). Tuple row ∷ es) (outs-append xs ys)
-outs-append (PunctOut patterns ∷ xs) ys = ap (λ (es : List Element). Punct patterns ∷ es) (outs-append xs ys)
-outs-append (Purged join input row ∷ xs) ys = outs-append xs ys
 
 pub outs-rows : (rows : List (List Value)) → elements_out (map RowOut rows) ≡ map Tuple rows
 outs-rows [] = refl

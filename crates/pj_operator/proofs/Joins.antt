@@ -1,25 +1,18 @@
 -- What a join does of its own, as a node of a core.
-use Rattle.std.proofs.Common.{ℕ, suc, ◌≤◌, Bool, true, false, cond, not, ◌&&◌, ◌||◌, List, [], ◌∷◌, ◌++◌, ◌≡◌, Option, Some, None, map, filter, length, eqb, refl, sym, ap, ◌∙◌, subst, arith, append-nil}
+use Rattle.std.proofs.Common.{ℕ, Bool, true, false, cond, not, ◌&&◌, ◌||◌, List, [], ◌∷◌, ◌++◌, ◌≡◌, Option, Some, None, map, length, eqb, refl, sym, ap, ◌∙◌, subst, arith, append-nil}
 use Rattle.std.proofs.lemmas.Bool.{false≢true}
 use Rattle.pj_events.specs.declared.events.Out.{Out}
 use Rattle.pj_events.specs.Join.{Give, PunctAt, Step, Sweep, Take, TupleAt, has, is_held, joined, results, run, start}
 use Rattle.pj_events.specs.KeptState.{kept_ripe, swept, without}
-use Rattle.pj_join.specs.declared.found.Found.{Found}
+use Rattle.pj_probe.specs.declared.probe.Found.{Found}
 use Rattle.pj_join.specs.Handed.{JoinProbes, StandsProbed, rows_probed}
 use Rattle.pj_join.specs.Joins.{IsTaken, JoinTakes, JoinView, StandsFor as JoinStandsFor, StandsTaken, after}
 use Rattle.pj_operator.specs.declared.cell.Work.TheVariants.{Join as JoinCell}
 use Rattle.pj_operator.specs.Acts.{WorkProbes, WorkTakes}
 use Rattle.pj_operator.specs.Cells.{IsOrderly, IsOrderlyJoin, KeepsOpen}
+use Rattle.pj_value.proofs.Members.{filter_few}
 
 -- ---- lists
-
-filter-less : {A : Type 0} (p : A → Bool) (xs : List A) → length (filter p xs) ≤ length xs
-filter-less p [] = omega arith
-filter-less {A} p (x ∷ xs) = go (p x) (filter-less p xs)
-  where
-    go : (b : Bool) → length (filter p xs) ≤ length xs → length (cond b (x ∷ filter p xs) (filter p xs)) ≤ suc (length xs)
-    go true l = omega (arith, l)
-    go false l = omega (arith, l)
 
 without-has : (ts : List ℕ) (u t : ℕ) → has (without ts u) t ≡ true → has ts t ≡ true
 without-has [] u t h = h
@@ -51,7 +44,7 @@ orderly-take join u o = record {
   below = o.below;
   next = o.next;
   limit = o.limit;
-  pending = (let l = filter-less (λ t. not (eqb t u)) join.kept.pending in omega (arith, l, o.pending));
+  pending = (let l = filter_few (λ t. not (eqb t u)) join.kept.pending in omega (arith, l, o.pending));
   opened = o.opened;
   stored = o.stored;
   waiting = o.waiting;
@@ -63,7 +56,7 @@ orderly-give join u o = record {
   next = o.next;
   limit = o.limit;
   pending = o.pending;
-  opened = (let l = filter-less (λ t. not (eqb t u)) join.kept.opened in omega (arith, l, o.opened));
+  opened = (let l = filter_few (λ t. not (eqb t u)) join.kept.opened in omega (arith, l, o.opened));
   stored = o.stored;
   waiting = o.waiting;
 }
@@ -75,8 +68,8 @@ orderly-sweep join input o = record {
   limit = o.limit;
   pending = o.pending;
   opened = o.opened;
-  stored = (let l = filter-less (λ (x : TupleAt). not (eqb x.input input && kept_ripe join.spec join.kept x)) join.kept.stored in omega (arith, l, o.stored));
-  waiting = (let l = filter-less (λ (p : PunctAt). not (eqb p.input input) || is_held (swept join.spec join.kept input) p) join.kept.waiting in omega (arith, l, o.waiting));
+  stored = (let l = filter_few (λ (x : TupleAt). not (eqb x.input input && kept_ripe join.spec join.kept x)) join.kept.stored in omega (arith, l, o.stored));
+  waiting = (let l = filter_few (λ (p : PunctAt). not (eqb p.input input) || is_held (swept join.spec join.kept input) p) join.kept.waiting in omega (arith, l, o.waiting));
 }
 
 pub took_keeps : (answer : Option Found) (old new : JoinView) → JoinTakes old new answer → KeepsOpen (JoinCell old) (JoinCell new)

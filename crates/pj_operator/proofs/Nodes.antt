@@ -1,14 +1,14 @@
 -- What an element does to one node.
-use Rattle.std.proofs.Common.{ℕ, ◌+◌, ◌<◌, ◌≤◌, ◌≢◌, Bool, true, false, cond, not, ◌&&◌, ◌||◌, List, [], ◌∷◌, ◌++◌, ◌≡◌, map, filter, length, eqb, refl, sym, ap, ap₂, ◌∙◌, subst, inl, inr, arith}
-use Rattle.std.proofs.lemmas.Bool.{cases_eq, false≢true, false_from_ne_true, ne_eqb}
-use Rattle.std.proofs.lemmas.List.{length_push, map-append}
-use Rattle.std.proofs.lemmas.List.Elements.{filter-append}
+use Rattle.std.proofs.Common.{ℕ, ◌+◌, ◌<◌, ◌≤◌, ◌≢◌, Bool, true, false, cond, not, ◌||◌, List, [], ◌∷◌, ◌++◌, ◌≡◌, map, length, eqb, refl, sym, ap, ap₂, ◌∙◌, subst, inl, inr, arith}
+use Rattle.std.proofs.lemmas.Bool.{cases_eq, false≢true, ne_eqb}
+use Rattle.std.proofs.lemmas.List.{length_push}
 use Rattle.pj_value.specs.declared.values.Value.{Value}
+use Rattle.pj_value.proofs.Numbers.{has-append, has-new}
 use Rattle.pj_pattern.specs.Patterns.{Pattern}
 use Rattle.pj_pattern.specs.declared.element.Element.{Element}
 use Rattle.pj_pattern.specs.declared.element.Element.TheVariants.{Tuple, Punct}
-use Rattle.pj_events.specs.Join.{JoinData, JoinState, TupleAt, goes_out, hands_up, has, is_held, new_punct, new_tuple, step, widened}
-use Rattle.pj_events.specs.KeptState.{KeptState, kept_of, kept_step, lacking}
+use Rattle.pj_events.specs.Join.{JoinData, JoinState, hands_up, has, is_held, new_punct, new_tuple, step, widened}
+use Rattle.pj_events.specs.KeptState.{KeptState, kept_of, kept_step}
 use Rattle.pj_events.specs.Operators.{UnionState, group_after, group_hands, project_hands, select_hands, union_after, union_hands}
 use Rattle.pj_events.specs.Plan.{Group, Join, Operator, Project, Select, Stream, Union, join_step}
 use Rattle.pj_events.specs.CoreKept.{GroupKept, JoinKept, UnionKept}
@@ -20,6 +20,7 @@ use Rattle.pj_join.specs.Sweeping.{puncts_up}
 use Rattle.pj_operator.specs.declared.cell.Handed.{Handed}
 use Rattle.pj_operator.specs.declared.cell.Work.TheVariants.{Stream as StreamCell, Select as SelectCell, Project as ProjectCell, Union as UnionCell, Join as JoinCell, Group as GroupCell}
 use Rattle.pj_operator.specs.Cells.{Follows, IsAs, IsBelow, IsOrderlyJoin, KeepsOpen, handed_list, IsTakenIn}
+use Rattle.pj_join_laws.proofs.Stand.{lacking-more}
 
 -- ---- streams, selects and projects
 
@@ -72,14 +73,6 @@ group_follows old new up operator input e is keeps h a = absurd a.kind
 
 -- ---- joins
 
-has-new : (ns : List ℕ) (n : ℕ) → ((u : ℕ) → has ns u ≡ true → u < n) → has ns n ≡ false
-has-new ns n f = false_from_ne_true (has ns n) (λ t. let l : n < n = f n t in omega arith)
-
-lacking-more : (ns : List ℕ) (xs : List TupleAt) (x : TupleAt) → has ns x.ticket ≡ false → lacking ns (xs ++ x ∷ []) ≡ lacking ns xs ++ x.ticket ∷ []
-lacking-more ns xs x h =
-    ap (map (λ z. z.ticket)) (filter-append (λ z. not (has ns z.ticket)) xs (x ∷ []) ∙ ap (λ b. filter (λ z. not (has ns z.ticket)) xs ++ cond (not b) (x ∷ []) []) h)
-    ∙ map-append (λ z. z.ticket) (filter (λ z. not (has ns z.ticket)) xs) (x ∷ [])
-
 kept-come : (spec : JoinData) (s : JoinState) (input : ℕ) (e : Element) → IsBelow s → kept_step spec (kept_of s) (join_step input e) ≡ kept_of (step spec s (join_step input e))
 kept-come spec s input (Tuple row) b =
     λ i. record {
@@ -100,7 +93,7 @@ ups-come : (join : JoinView) (s : JoinState) (input : ℕ) (e : Element) → joi
 ups-come join s input (Tuple row) k = refl
 ups-come join s input (Punct patterns) k =
     ap (λ (q : KeptState). map Punct (puncts_up (record { node = join.node; spec = join.spec; limit = join.limit; kept = q }) (join_step input (Punct patterns)))) k
-    ∙ go (goes_out join.spec s (new_punct s input patterns))
+    ∙ go (not (is_held s.stored (new_punct s input patterns)))
   where
     go : (b : Bool) → map Punct (cond b (widened join.spec (new_punct s input patterns) ∷ []) []) ≡ cond b (Punct (widened join.spec (new_punct s input patterns)) ∷ []) [] ++ []
     go true = refl
@@ -121,14 +114,6 @@ join_follows old new up (Join spec s) input e is h a =
 join_follows old new up operator input e is h a = absurd a.kind
 
 -- ---- an orderly join
-
-has-append : (xs ys : List ℕ) (n : ℕ) → has (xs ++ ys) n ≡ (has xs n || has ys n)
-has-append [] ys n = refl
-has-append (x ∷ xs) ys n = ap (λ (b : Bool). eqb x n || b) (has-append xs ys n) ∙ go (eqb x n) (has xs n) (has ys n)
-  where
-    go : (a b c : Bool) → (a || (b || c)) ≡ ((a || b) || c)
-    go true b c = refl
-    go false b c = refl
 
 -- a pushed number
 pushed-one : (xs : List ℕ) (m n : ℕ) → has (xs ++ m ∷ []) n ≡ true → n ≢ m → has xs n ≡ true
@@ -174,7 +159,7 @@ join_keeps old new input e is room o = subst (λ (j : JoinView). IsOrderlyJoin j
         pending = omega (arith, o.pending);
         opened = omega (arith, o.opened);
         stored = omega (arith, o.stored);
-        waiting = held (old.spec.propagates && is_held old.kept.stored (record { ticket = old.kept.next; input = input; patterns = patterns }));
+        waiting = held (is_held old.kept.stored (record { ticket = old.kept.next; input = input; patterns = patterns }));
       },
       λ t h. h,
     )

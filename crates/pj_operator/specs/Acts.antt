@@ -4,7 +4,7 @@ use Rattle.pj_value.specs.declared.values.Value.{Value}
 use Rattle.pj_events.specs.declared.events.Out.{Out}
 use Rattle.pj_events.specs.Join.{Step, Take, Give, Sweep, inputs, joined, results, run, start}
 use Rattle.pj_events.specs.Outcomes.{elements_out}
-use Rattle.pj_join.specs.declared.found.Found.{Found}
+use Rattle.pj_probe.specs.declared.probe.Found.{Found}
 use Rattle.pj_join.specs.Handed.{behind_probe}
 use Rattle.pj_join.specs.Joins.{JoinView, StandsFor as JoinStandsFor, TakesLeast, after, found_of}
 use Rattle.pj_pattern.specs.declared.element.Element.TheVariants.{Punct, Tuple}

@@ -12,8 +12,8 @@ use Rattle.pj_laws.specs.Climb.{Above, above, IsTree}
 use Rattle.pj_group.specs.declared.group.GroupStop.{GroupStop}
 use Rattle.pj_group.specs.declared.group.GroupStop.TheVariants.{Limit as GroupFull, NoMemory as GroupWants}
 use Rattle.pj_join.specs.Joins.{IsTaken, JoinView}
-use Rattle.pj_join.specs.declared.found.JoinStop.{JoinStop}
-use Rattle.pj_join.specs.declared.found.JoinStop.TheVariants.{Limit as JoinFull, NoMemory as JoinWants}
+use Rattle.pj_join.specs.declared.stop.JoinStop.{JoinStop}
+use Rattle.pj_join.specs.declared.stop.JoinStop.TheVariants.{Limit as JoinFull, NoMemory as JoinWants}
 use Rattle.pj_operator.specs.declared.cell.Work.{Work}
 use Rattle.pj_operator.specs.declared.cell.Work.TheVariants.{Stream as StreamCell, Select as SelectCell, Project as ProjectCell, Union as UnionCell, Join as JoinCell, Group as GroupCell}
 use Rattle.pj_operator.specs.declared.cell.Cell.{Cell}

@@ -7,10 +7,9 @@ use Rattle.pj_value.specs.Lists.{In}
 use Rattle.pj_value.specs.Values.{value_eq}
 use Rattle.pj_value.proofs.Members.{In-append_cases, In-append_left, In-append_right}
 use Rattle.pj_value.proofs.Orders.{same_if_equal, equal_if_same}
-use Rattle.pj_shape.specs.Joining.{Part, all_equal, values, values_in}
+use Rattle.pj_shape.specs.Joining.{Part, all_equal, values, values_in, parts_on}
 use Rattle.pj_shape.proofs.Joining.{all_equal-at, all_equal-from}
 use Rattle.pj_events.specs.Join.{ClassCol, Value, value_at}
-use Rattle.pj_probe.specs.Walks.{numbered}
 use Rattle.pj_probe.specs.Cells.{cell_in}
 
 -- ---- a column of a row
@@ -18,25 +17,25 @@ use Rattle.pj_probe.specs.Cells.{cell_in}
 other-part : (k : ℕ) (row : List Value) (at : ClassCol) → (k ≡ at.input → ⊥) → cond (eqb k at.input) (value_at row at.column ∷ []) [] ≡ []
 other-part k row at ne = ap (λ b. cond b (value_at row at.column ∷ []) []) (false_from_ne_true (eqb k at.input) (λ t. ne (eqb-true k at.input t)))
 
-none-below : (k : ℕ) (rows : List (List Value)) (at : ClassCol) → at.input < k → values_in (numbered k rows) at ≡ []
+none-below : (k : ℕ) (rows : List (List Value)) (at : ClassCol) → at.input < k → values_in (parts_on k rows) at ≡ []
 none-below k [] at lt = refl
 none-below k (r ∷ rs) at lt = ap₂ (λ (vs ws : List Value). vs ++ ws) (other-part k r at (λ e. omega (arith, e, lt))) (none-below (k + 1) rs at (omega (arith, lt)))
 
-none-above : (k : ℕ) (rows : List (List Value)) (at : ClassCol) → k + length rows ≤ at.input → values_in (numbered k rows) at ≡ []
+none-above : (k : ℕ) (rows : List (List Value)) (at : ClassCol) → k + length rows ≤ at.input → values_in (parts_on k rows) at ≡ []
 none-above k [] at le = refl
 none-above k (r ∷ rs) at le = ap₂ (λ (vs ws : List Value). vs ++ ws) (other-part k r at (λ e. omega (arith, e, le))) (none-above (k + 1) rs at (omega (arith, le)))
 
-one-there : (k i : ℕ) (rows : List (List Value)) (at : ClassCol) → at.input ≡ k + i → i < length rows → values_in (numbered k rows) at ≡ value_at (get_or rows i []) at.column ∷ []
+one-there : (k i : ℕ) (rows : List (List Value)) (at : ClassCol) → at.input ≡ k + i → i < length rows → values_in (parts_on k rows) at ≡ value_at (get_or rows i []) at.column ∷ []
 one-there k i [] at e lt = absurd (omega (arith, lt))
 one-there k zero (r ∷ rs) at e lt =
     ap₂ (λ (vs ws : List Value). vs ++ ws) (ap (λ b. cond b (value_at r at.column ∷ []) []) (eq-eqb k at.input (omega (arith, e)))) (none-below (k + 1) rs at (omega (arith, e)))
 one-there k (suc i) (r ∷ rs) at e lt =
     ap₂ (λ (vs ws : List Value). vs ++ ws) (other-part k r at (λ h. omega (arith, e, h))) (one-there (k + 1) i rs at (omega (arith, e)) (omega (arith, lt)))
 
-here : (rows : List (List Value)) (at : ClassCol) → at.input < length rows → values_in (numbered 0 rows) at ≡ cell_in rows at ∷ []
+here : (rows : List (List Value)) (at : ClassCol) → at.input < length rows → values_in (parts_on 0 rows) at ≡ cell_in rows at ∷ []
 here rows at lt = one-there 0 at.input rows at (omega arith) lt
 
-nowhere : (rows : List (List Value)) (at : ClassCol) → length rows ≤ at.input → values_in (numbered 0 rows) at ≡ []
+nowhere : (rows : List (List Value)) (at : ClassCol) → length rows ≤ at.input → values_in (parts_on 0 rows) at ≡ []
 nowhere rows at le = none-above 0 rows at (omega (arith, le))
 
 values-one : (parts : List Part) (at : ClassCol) → values parts (at ∷ []) ≡ values_in parts at
@@ -44,11 +43,11 @@ values-one parts at = append-nil (values_in parts at)
 
 -- the values of one column more
 values-more : (rows : List (List Value)) (class : List ClassCol) (i : ℕ) (at d : ClassCol) → i < length class → at ≡ get_or class i d
-    → values (numbered 0 rows) (take (i + 1) class) ≡ values (numbered 0 rows) (take i class) ++ values_in (numbered 0 rows) at
+    → values (parts_on 0 rows) (take (i + 1) class) ≡ values (parts_on 0 rows) (take i class) ++ values_in (parts_on 0 rows) at
 values-more rows class i at d lt is =
-    ap (values (numbered 0 rows)) (take_more class i d lt)
-    ∙ flat_map-append (values_in (numbered 0 rows)) (take i class) (get_or class i d ∷ [])
-    ∙ ap (λ (vs : List Value). values (numbered 0 rows) (take i class) ++ vs) (values-one (numbered 0 rows) (get_or class i d) ∙ ap (values_in (numbered 0 rows)) (sym is))
+    ap (values (parts_on 0 rows)) (take_more class i d lt)
+    ∙ flat_map-append (values_in (parts_on 0 rows)) (take i class) (get_or class i d ∷ [])
+    ∙ ap (λ (vs : List Value). values (parts_on 0 rows) (take i class) ++ vs) (values-one (parts_on 0 rows) (get_or class i d) ∙ ap (values_in (parts_on 0 rows)) (sym is))
 
 -- ---- what was looked through
 
@@ -59,12 +58,12 @@ Seen rows (Some from) vs = (from.input < length rows) × In (cell_in rows from) 
 
 -- so far in the class
 abbrev pub SeenTo : List (List Value) → List ClassCol → ℕ → Option ClassCol → Type 0
-SeenTo rows class i first = Seen rows first (values (numbered 0 rows) (take i class))
+SeenTo rows class i first = Seen rows first (values (parts_on 0 rows) (take i class))
 
 -- the column is of an input that has no row
 pub seen_outside : (rows : List (List Value)) (class : List ClassCol) (i : ℕ) (at d : ClassCol) (first : Option ClassCol) → i < length class → at ≡ get_or class i d → length rows ≤ at.input → SeenTo rows class i first → SeenTo rows class (i + 1) first
 seen_outside rows class i at d first lt is out h =
-    subst (Seen rows first) (sym (values-more rows class i at d lt is ∙ ap (λ (vs : List Value). values (numbered 0 rows) (take i class) ++ vs) (nowhere rows at out) ∙ append-nil (values (numbered 0 rows) (take i class)))) h
+    subst (Seen rows first) (sym (values-more rows class i at d lt is ∙ ap (λ (vs : List Value). values (parts_on 0 rows) (take i class) ++ vs) (nowhere rows at out) ∙ append-nil (values (parts_on 0 rows) (take i class)))) h
 
 -- it has the first value
 pub seen_first : (rows : List (List Value)) (class : List ClassCol) (i : ℕ) (at d : ClassCol) → i < length class → at ≡ get_or class i d → at.input < length rows → SeenTo rows class i None → SeenTo rows class (i + 1) (Some at)
@@ -78,33 +77,33 @@ seen_first rows class i at d lt is within h =
 -- it has the same value
 pub seen_same : (rows : List (List Value)) (class : List ClassCol) (i : ℕ) (at from d : ClassCol) → i < length class → at ≡ get_or class i d → at.input < length rows → value_eq (cell_in rows from) (cell_in rows at) ≡ true → SeenTo rows class i (Some from) → SeenTo rows class (i + 1) (Some from)
 seen_same rows class i at from d lt is within same h =
-    subst (Seen rows (Some from)) (sym (values-more rows class i at d lt is ∙ ap (λ (vs : List Value). values (numbered 0 rows) (take i class) ++ vs) (here rows at within)))
-    (h.0, In-append_left (cell_in rows from) (values (numbered 0 rows) (take i class)) (cell_in rows at ∷ []) h.1, (λ w k. all w (In-append_cases w (values (numbered 0 rows) (take i class)) (cell_in rows at ∷ []) k)))
+    subst (Seen rows (Some from)) (sym (values-more rows class i at d lt is ∙ ap (λ (vs : List Value). values (parts_on 0 rows) (take i class) ++ vs) (here rows at within)))
+    (h.0, In-append_left (cell_in rows from) (values (parts_on 0 rows) (take i class)) (cell_in rows at ∷ []) h.1, (λ w k. all w (In-append_cases w (values (parts_on 0 rows) (take i class)) (cell_in rows at ∷ []) k)))
   where
-    all : (w : Value) → In w (values (numbered 0 rows) (take i class)) ⊎ In w (cell_in rows at ∷ []) → cell_in rows from ≡ w
+    all : (w : Value) → In w (values (parts_on 0 rows) (take i class)) ⊎ In w (cell_in rows at ∷ []) → cell_in rows from ≡ w
     all w (inl k) = h.2 w k
     all w (inr (inl e)) = same_if_equal (cell_in rows from) (cell_in rows at) same ∙ e
     all w (inr (inr e)) = absurd e
 
 -- it has another value, so that not all are equal
-pub seen_other : (rows : List (List Value)) (class : List ClassCol) (i : ℕ) (at from d : ClassCol) → i < length class → at ≡ get_or class i d → at.input < length rows → value_eq (cell_in rows from) (cell_in rows at) ≡ false → SeenTo rows class i (Some from) → all_equal (values (numbered 0 rows) class) ≡ false
+pub seen_other : (rows : List (List Value)) (class : List ClassCol) (i : ℕ) (at from d : ClassCol) → i < length class → at ≡ get_or class i d → at.input < length rows → value_eq (cell_in rows from) (cell_in rows at) ≡ false → SeenTo rows class i (Some from) → all_equal (values (parts_on 0 rows) class) ≡ false
 seen_other rows class i at from d lt is within other h =
-    false_from_ne_true (all_equal (values (numbered 0 rows) class)) (λ t. false≢true (sym other ∙ equal_if_same (cell_in rows from) (cell_in rows at) (all_equal-at (values (numbered 0 rows) class) (cell_in rows from) (cell_in rows at) t (first-in h.1) at-in)))
+    false_from_ne_true (all_equal (values (parts_on 0 rows) class)) (λ t. false≢true (sym other ∙ equal_if_same (cell_in rows from) (cell_in rows at) (all_equal-at (values (parts_on 0 rows) class) (cell_in rows from) (cell_in rows at) t (first-in h.1) at-in)))
   where
-    front : (w : Value) → In w (values (numbered 0 rows) (take (i + 1) class)) → In w (values (numbered 0 rows) class)
-    front w k = subst (λ (cs : List ClassCol). In w (values (numbered 0 rows) cs)) (take-append-drop (i + 1) class)
-        (subst (λ (vs : List Value). In w vs) (sym (flat_map-append (values_in (numbered 0 rows)) (take (i + 1) class) (drop (i + 1) class))) (In-append_left w (values (numbered 0 rows) (take (i + 1) class)) (values (numbered 0 rows) (drop (i + 1) class)) k))
+    front : (w : Value) → In w (values (parts_on 0 rows) (take (i + 1) class)) → In w (values (parts_on 0 rows) class)
+    front w k = subst (λ (cs : List ClassCol). In w (values (parts_on 0 rows) cs)) (take-append-drop (i + 1) class)
+        (subst (λ (vs : List Value). In w vs) (sym (flat_map-append (values_in (parts_on 0 rows)) (take (i + 1) class) (drop (i + 1) class))) (In-append_left w (values (parts_on 0 rows) (take (i + 1) class)) (values (parts_on 0 rows) (drop (i + 1) class)) k))
 
-    first-in : In (cell_in rows from) (values (numbered 0 rows) (take i class)) → In (cell_in rows from) (values (numbered 0 rows) class)
-    first-in k = front (cell_in rows from) (subst (λ (vs : List Value). In (cell_in rows from) vs) (sym (values-more rows class i at d lt is)) (In-append_left (cell_in rows from) (values (numbered 0 rows) (take i class)) (values_in (numbered 0 rows) at) k))
+    first-in : In (cell_in rows from) (values (parts_on 0 rows) (take i class)) → In (cell_in rows from) (values (parts_on 0 rows) class)
+    first-in k = front (cell_in rows from) (subst (λ (vs : List Value). In (cell_in rows from) vs) (sym (values-more rows class i at d lt is)) (In-append_left (cell_in rows from) (values (parts_on 0 rows) (take i class)) (values_in (parts_on 0 rows) at) k))
 
-    at-in : In (cell_in rows at) (values (numbered 0 rows) class)
-    at-in = front (cell_in rows at) (subst (λ (vs : List Value). In (cell_in rows at) vs) (sym (values-more rows class i at d lt is ∙ ap (λ (vs : List Value). values (numbered 0 rows) (take i class) ++ vs) (here rows at within))) (In-append_right (cell_in rows at) (values (numbered 0 rows) (take i class)) (cell_in rows at ∷ []) (inl refl)))
+    at-in : In (cell_in rows at) (values (parts_on 0 rows) class)
+    at-in = front (cell_in rows at) (subst (λ (vs : List Value). In (cell_in rows at) vs) (sym (values-more rows class i at d lt is ∙ ap (λ (vs : List Value). values (parts_on 0 rows) (take i class) ++ vs) (here rows at within))) (In-append_right (cell_in rows at) (values (parts_on 0 rows) (take i class)) (cell_in rows at ∷ []) (inl refl)))
 
 -- the whole class was looked through, so all are equal
-pub seen_all : (rows : List (List Value)) (class : List ClassCol) (i : ℕ) (first : Option ClassCol) → length class ≤ i → SeenTo rows class i first → all_equal (values (numbered 0 rows) class) ≡ true
-seen_all rows class i first le h = go first (subst (λ (cs : List ClassCol). Seen rows first (values (numbered 0 rows) cs)) (take_all i class le) h)
+pub seen_all : (rows : List (List Value)) (class : List ClassCol) (i : ℕ) (first : Option ClassCol) → length class ≤ i → SeenTo rows class i first → all_equal (values (parts_on 0 rows) class) ≡ true
+seen_all rows class i first le h = go first (subst (λ (cs : List ClassCol). Seen rows first (values (parts_on 0 rows) cs)) (take_all i class le) h)
   where
-    go : (f : Option ClassCol) → Seen rows f (values (numbered 0 rows) class) → all_equal (values (numbered 0 rows) class) ≡ true
+    go : (f : Option ClassCol) → Seen rows f (values (parts_on 0 rows) class) → all_equal (values (parts_on 0 rows) class) ≡ true
     go None e = ap all_equal e
-    go (Some from) k = all_equal-from (values (numbered 0 rows) class) (λ v w hv hw. sym (k.2 v hv) ∙ k.2 w hw)
+    go (Some from) k = all_equal-from (values (parts_on 0 rows) class) (λ v w hv hw. sym (k.2 v hv) ∙ k.2 w hw)

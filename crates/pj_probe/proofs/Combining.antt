@@ -3,11 +3,11 @@ use Rattle.std.proofs.Common.{◌≡◌, ℕ, zero, suc, ◌+◌, ◌-◌, ◌<�
 use Rattle.std.proofs.lemmas.Bool.{false_from_ne_true, false≢true}
 use Rattle.std.proofs.lemmas.List.{drop_all, length-append, map-append, take_more, take_all}
 use Rattle.std.proofs.lemmas.List.Elements.{filter-append}
-use Rattle.pj_shape.specs.Joining.{joined_row}
+use Rattle.pj_shape.specs.Joining.{joined_row, parts_on}
 use Rattle.pj_events.specs.Join.{Value, TupleAt, ClassCol, Part, agree, joined, joins, part_of, product}
 use Rattle.pj_join_laws.proofs.Matching.{agree-mono}
 use Rattle.pj_value.proofs.Members.{In-append_left}
-use Rattle.pj_probe.specs.Walks.{combined, end_to_end, no_row, numbered, row_at, sides_at, tuple_at}
+use Rattle.pj_probe.specs.Walks.{combined, end_to_end, no_row, row_at, sides_at, tuple_at}
 use Rattle.pj_probe.specs.Walking.{LacksOne, completed, tuples_of, walked, walked_upto}
 use Rattle.pj_probe.proofs.Whole.{joins-none}
 
@@ -57,11 +57,11 @@ each-push classes xs lists (y ∷ zs) z =
 
 -- ---- rows as tuples
 
-tuples-parts : (k : ℕ) (rows : List (List Value)) → map part_of (tuples_of k rows) ≡ numbered k rows
+tuples-parts : (k : ℕ) (rows : List (List Value)) → map part_of (tuples_of k rows) ≡ parts_on k rows
 tuples-parts k [] = refl
 tuples-parts k (r ∷ rs) = ap (λ (rest : List Part). part_of (tuple_at k (0, r)) ∷ rest) (tuples-parts (k + 1) rs)
 
-tuples-agree : (classes : List (List ClassCol)) (rows : List (List Value)) → agree classes (tuples_of 0 rows) ≡ joins classes (numbered 0 rows)
+tuples-agree : (classes : List (List ClassCol)) (rows : List (List Value)) → agree classes (tuples_of 0 rows) ≡ joins classes (parts_on 0 rows)
 tuples-agree classes rows = ap (joins classes) (tuples-parts 0 rows)
 
 tuples-joined : (k : ℕ) (rows : List (List Value)) → joined (tuples_of k rows) ≡ end_to_end rows
@@ -171,14 +171,14 @@ upto-front classes sides rows n lt below =
     (h.0, sym (upto-all classes sides rows (length (get_or sides (length rows) [])) lt refl) ∙ ap (walked_upto classes sides rows) (sym e) ∙ h.1 ∙ ap (λ (before : List (List Value)). before ++ h.0) (upto-more classes sides rows n))
 
 -- rows of all sides that join are one combination
-pub walked-end : (classes : List (List ClassCol)) (sides : List (List (ℕ × List Value))) (rows : List (List Value)) → length sides ≤ length rows → joins classes (numbered 0 rows) ≡ true → walked classes sides rows ≡ end_to_end rows ∷ []
+pub walked-end : (classes : List (List ClassCol)) (sides : List (List (ℕ × List Value))) (rows : List (List Value)) → length sides ≤ length rows → joins classes (parts_on 0 rows) ≡ true → walked classes sides rows ≡ end_to_end rows ∷ []
 walked-end classes sides rows le t =
     ap (λ (ls : List (List TupleAt)). map joined (completed classes (tuples_of 0 rows) ls)) (rest-end sides rows le)
     ∙ ap (map joined) (completed-nil classes (tuples_of 0 rows) (tuples-agree classes rows ∙ t))
     ∙ ap (λ (row : List Value). row ∷ []) (tuples-joined 0 rows)
 
 -- rows that do not join begin no combination
-pub walked-none : (classes : List (List ClassCol)) (sides : List (List (ℕ × List Value))) (rows : List (List Value)) → joins classes (numbered 0 rows) ≡ false → walked classes sides rows ≡ []
+pub walked-none : (classes : List (List ClassCol)) (sides : List (List (ℕ × List Value))) (rows : List (List Value)) → joins classes (parts_on 0 rows) ≡ false → walked classes sides rows ≡ []
 walked-none classes sides rows f = ap (map joined) (completed-none classes (tuples_of 0 rows) (product (drop (length rows) (sides_at 0 sides))) (tuples-agree classes rows ∙ f))
 
 -- from no row on all combinations are found

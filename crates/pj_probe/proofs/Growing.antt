@@ -1,5 +1,5 @@
 -- How the list of a visitor grows along a walk.
-use Rattle.std.proofs.Common.{◌≡◌, Bool, IsTrue, List, [], ◌++◌, refl, sym, ap, ◌∙◌, append_assoc, append-nil}
+use Rattle.std.proofs.Common.{◌≡◌, Bool, IsTrue, List, [], ◌++◌, sym, ap, ◌∙◌, append_assoc, append-nil}
 use Rattle.pj_events.specs.Join.{Value}
 use Rattle.pj_probe.specs.Visits.{Grows, GrowsByFront}
 
@@ -18,10 +18,6 @@ front-more before after old mid new rows more all told first then behind t =
       behind.1 ∙ ap (λ (rs : List (List Value)). (rows ++ rs) ++ behind.0) f.2 ∙ ap (λ (rs : List (List Value)). rs ++ behind.0) (sym (append_assoc rows f.0 f.1)) ∙ append_assoc (rows ++ f.0) f.1 behind.0,
       f.3 ∙ ap (λ (rs : List (List Value)). rs ++ f.0) (first (told t)) ∙ append_assoc old rows f.0,
     )
-
--- by none of them
-pub front-none : (told : Bool) (old new all : List (List Value)) → Grows told old new [] → GrowsByFront told old new all
-front-none told old new all same t = ([], all, refl, same t)
 
 -- nothing changed
 pub grows-none : (told : Bool) (old rows : List (List Value)) → rows ≡ [] → Grows told old old rows

@@ -34,8 +34,3 @@ no_row = (0, [])
 -- the row at a place of a side
 abbrev pub row_at : List (ℕ × List Value) → ℕ → List Value
 row_at side place = (slice_index_or side place no_row).1
-
--- rows as parts of the inputs from this one on
-abbrev pub numbered : ℕ → List (List Value) → List Part
-numbered input [] = []
-numbered input (row ∷ rows) = record { input = input; row = row } ∷ numbered (input + 1) rows

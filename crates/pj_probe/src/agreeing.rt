@@ -4,9 +4,8 @@ ghost use Rattle.std.specs.Option.{option_copied};
 ghost use Rattle.pj_value.specs.declared.values.Value.{Value};
 ghost use Rattle.pj_value.specs.Values.{value_eq};
 ghost use Rattle.pj_events.specs.Join.{joins, value_at};
-ghost use Rattle.pj_shape.specs.Joining.{all_equal, values};
-ghost use Rattle.pj_probe.specs.Walks.{numbered};
-ghost use Rattle.pj_probe.specs.Cells.{cell_in, cell_value};
+ghost use Rattle.pj_shape.specs.Joining.{all_equal, values, cell_value, parts_on};
+ghost use Rattle.pj_probe.specs.Cells.{cell_in};
 
 use crate::Joined;
 use pj_shape::ClassCol;
@@ -71,7 +70,7 @@ fn same_columns(parts: &Joined<'_>, a: ClassCol, b: ClassCol) -> bool
 
 // Whether the parts have one value in all columns of the class that are of their inputs.
 fn class_agrees(class: &[ClassCol], parts: &Joined<'_>) -> bool
-    ensures { result ≡ all_equal (values (numbered 0 parts.now) class.now) }
+    ensures { result ≡ all_equal (values (parts_on 0 parts.now) class.now) }
 {
     let mut first: Option<ClassCol> = None;
     for at in class {
@@ -91,7 +90,7 @@ fn class_agrees(class: &[ClassCol], parts: &Joined<'_>) -> bool
 
 /// Whether the parts have one value in each class.
 pub fn agree(classes: &[List<ClassCol>], parts: &Joined<'_>) -> bool
-    ensures { result ≡ joins classes.now (numbered 0 parts.now) }
+    ensures { result ≡ joins classes.now (parts_on 0 parts.now) }
 {
     classes
         .iter()

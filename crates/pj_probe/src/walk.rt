@@ -1,9 +1,10 @@
 // A walk through the combinations that join, one row after the other.
 ghost use Rattle.std.specs.Prelude.{◌≡◌, ◌<◌, ◌≤◌, ◌++◌, ◌∷◌, [], true, length, map, IsTrue, OnOk, OnErr};
 ghost use Rattle.pj_events.specs.Join.{joins};
-ghost use Rattle.pj_probe.specs.Walks.{combined, numbered, sides_at};
+ghost use Rattle.pj_probe.specs.Walks.{combined, sides_at};
 ghost use Rattle.pj_probe.specs.Walking.{LacksOne, walked};
 ghost use Rattle.pj_probe.specs.Visits.{Grows, GrowsByFront};
+ghost use Rattle.pj_shape.specs.Joining.{parts_on};
 
 use crate::agreeing::agree;
 use crate::lent::Candidates;
@@ -62,7 +63,7 @@ fn walk<'a, S: Candidates, V: Visit>(
     visit: &mut V,
 ) -> Result<(), NoMemory>
     requires few { length sides.now ≤ 16 }
-    requires joins { joins classes.now (numbered 0 rows.old.items) ≡ true }
+    requires joins { joins classes.now (parts_on 0 rows.old.items) ≡ true }
     ensures rows { OnOk result (rows.new.items ≡ rows.old.items) }
     ensures told { IsTrue (V.told visit.new) → IsTrue (V.told visit.old) }
     ensures ok { OnOk result (Grows (V.told visit.new) (V.list visit.old) (V.list visit.new) (walked classes.now (map S.pairs sides.now) rows.old.items)) }

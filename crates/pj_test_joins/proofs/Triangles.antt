@@ -6,10 +6,11 @@ use Rattle.pj_shape.specs.declared.joins.CertStep.{CertStep}
 use Rattle.pj_shape.specs.declared.joins.ClassCol.{ClassCol}
 use Rattle.pj_shape.specs.declared.joins.JoinSpec.{JoinSpec}
 use Rattle.pj_shape.specs.Sound.{IsSoundSpec, IsSoundClass, IsOfKind}
-use Rattle.pj_events.specs.Join.{CertEntry, AreCertified, entry_of, steps_of}
+use Rattle.pj_shape.proofs.Tested.{apart_if, fit_if}
+use Rattle.pj_events.specs.Join.{AreCertified}
 use Rattle.pj_join.specs.Joins.{join_data}
 use Rattle.pj_test_joins.specs.Triples.{number, pair, at, triangle, triangle_certs, triangle_join, triangle_schemes}
-use Rattle.pj_test_joins.proofs.Triples.{not_one, not_two}
+use Rattle.pj_cert.proofs.TestedSteps.{all_verified}
 
 -- a class of two columns
 of_two : (a b : ClassCol) → (a.input ≡ b.input → ⊥) → IsOfKind (pair ∷ pair ∷ pair ∷ []) a Int → IsOfKind (pair ∷ pair ∷ pair ∷ []) b Int → IsSoundClass (pair ∷ pair ∷ pair ∷ []) (a ∷ b ∷ [])
@@ -75,40 +76,11 @@ triangle_sound = record {
     second other (inr e) c k m = absurd e
 
 pub triangle_certified : AreCertified triangle_join
-triangle_certified zero lt = (
-  (omega arith, not_one 1 0 (λ e. omega (arith, e)), (omega arith, not_two 2 1 0 (λ e. omega (arith, e)) (λ e. omega (arith, e)), tt)),
-  (omega arith, refl, ((at 0 0, inl refl, inl refl), tt), (omega arith, refl, ((at 1 1, inl refl, inl refl), tt), tt)),
-  λ k l ne. others k l ne,
-)
-  where
-    others : (k : ℕ) → k < 3 → k ≢ 0 → (e : CertEntry) × In e (map (entry_of triangle_join.schemes) (steps_of triangle_join 0)) × (e.input ≡ k)
-    others zero l ne = absurd (ne refl)
-    others (suc zero) l ne = (entry_of triangle_join.schemes (record { input = 1; scheme = 0 }), inl refl, refl)
-    others (suc (suc zero)) l ne = (entry_of triangle_join.schemes (record { input = 2; scheme = 0 }), inr (inl refl), refl)
-    others (suc (suc (suc k))) l ne = absurd (omega (arith, l))
-triangle_certified (suc zero) lt = (
-  (omega arith, not_one 0 1 (λ e. omega (arith, e)), (omega arith, not_two 2 0 1 (λ e. omega (arith, e)) (λ e. omega (arith, e)), tt)),
-  (omega arith, refl, ((at 1 0, inr (inl refl), inl refl), tt), (omega arith, refl, ((at 0 1, inl refl, inl refl), tt), tt)),
-  λ k l ne. others k l ne,
-)
-  where
-    others : (k : ℕ) → k < 3 → k ≢ 1 → (e : CertEntry) × In e (map (entry_of triangle_join.schemes) (steps_of triangle_join 1)) × (e.input ≡ k)
-    others zero l ne = (entry_of triangle_join.schemes (record { input = 0; scheme = 0 }), inl refl, refl)
-    others (suc zero) l ne = absurd (ne refl)
-    others (suc (suc zero)) l ne = (entry_of triangle_join.schemes (record { input = 2; scheme = 1 }), inr (inl refl), refl)
-    others (suc (suc (suc k))) l ne = absurd (omega (arith, l))
-triangle_certified (suc (suc zero)) lt = (
-  (omega arith, not_one 1 2 (λ e. omega (arith, e)), (omega arith, not_two 0 1 2 (λ e. omega (arith, e)) (λ e. omega (arith, e)), tt)),
-  (omega arith, refl, ((at 2 0, inr (inl refl), inl refl), tt), (omega arith, refl, ((at 1 0, inr (inl refl), inl refl), tt), tt)),
-  λ k l ne. others k l ne,
-)
-  where
-    others : (k : ℕ) → k < 3 → k ≢ 2 → (e : CertEntry) × In e (map (entry_of triangle_join.schemes) (steps_of triangle_join 2)) × (e.input ≡ k)
-    others zero l ne = (entry_of triangle_join.schemes (record { input = 0; scheme = 0 }), inr (inl refl), refl)
-    others (suc zero) l ne = (entry_of triangle_join.schemes (record { input = 1; scheme = 1 }), inl refl, refl)
-    others (suc (suc zero)) l ne = absurd (ne refl)
-    others (suc (suc (suc k))) l ne = absurd (omega (arith, l))
-triangle_certified (suc (suc (suc k))) lt = absurd (omega (arith, lt))
+triangle_certified = record {
+  apart = apart_if triangle_join.shape.classes refl;
+  fitting = fit_if triangle_join.shape.inputs triangle_join.schemes refl;
+  each = all_verified triangle_join.shape triangle_join.schemes triangle_join.certs refl 3 refl;
+}
 
 -- as the test makes it
 pub triangle_is_certified : (spec : JoinSpec) (schemes : List (List (List Bool))) (certs : List (List CertStep)) → spec ≡ triangle → schemes ≡ triangle_schemes → certs ≡ triangle_certs → AreCertified (join_data spec schemes certs)

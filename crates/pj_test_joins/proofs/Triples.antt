@@ -5,11 +5,13 @@ use Rattle.pj_shape.specs.declared.columns.Column.{Column}
 use Rattle.pj_shape.specs.declared.joins.CertStep.{CertStep}
 use Rattle.pj_shape.specs.declared.joins.ClassCol.{ClassCol}
 use Rattle.pj_shape.specs.declared.joins.JoinSpec.{JoinSpec}
-use Rattle.pj_events.specs.Join.{CertEntry, AreCertified, entry_of, steps_of}
+use Rattle.pj_events.specs.Join.{AreCertified}
 use Rattle.pj_value.specs.Lists.{In}
 use Rattle.pj_shape.specs.Sound.{IsSoundSpec, IsSoundClass, IsOfKind}
+use Rattle.pj_shape.proofs.Tested.{apart_if, fit_if}
 use Rattle.pj_join.specs.Joins.{join_data}
 use Rattle.pj_test_joins.specs.Triples.{number, pair, named, at, triple, triple_certs, triple_join, triple_schemes, double, double_certs, double_join, double_schemes}
+use Rattle.pj_cert.proofs.TestedSteps.{all_verified}
 
 first : IsSoundClass (pair ∷ pair ∷ pair ∷ []) (at 0 0 ∷ at 1 0 ∷ [])
 first = record {
@@ -73,49 +75,12 @@ triple_sound = record {
 
 -- ---- certificates
 
-pub not_one : (n m : ℕ) → (n ≢ m) → In n (m ∷ []) → ⊥
-not_one n m ne (inl e) = ne (sym e)
-not_one n m ne (inr h) = absurd h
-
-pub not_two : (n m k : ℕ) → (n ≢ m) → (n ≢ k) → In n (m ∷ k ∷ []) → ⊥
-not_two n m k ne nf (inl e) = ne (sym e)
-not_two n m k ne nf (inr h) = not_one n k nf h
-
 pub triple_certified : AreCertified triple_join
-triple_certified zero lt = (
-  (omega arith, not_one 1 0 (λ e. omega (arith, e)), (omega arith, not_two 2 1 0 (λ e. omega (arith, e)) (λ e. omega (arith, e)), tt)),
-  (omega arith, refl, ((at 0 0, inl refl, inl refl), tt), (omega arith, refl, ((at 1 1, inl refl, inl refl), tt), tt)),
-  λ k l ne. others k l ne,
-)
-  where
-    others : (k : ℕ) → k < 3 → k ≢ 0 → (e : CertEntry) × In e (map (entry_of triple_join.schemes) (steps_of triple_join 0)) × (e.input ≡ k)
-    others zero l ne = absurd (ne refl)
-    others (suc zero) l ne = (entry_of triple_join.schemes (record { input = 1; scheme = 0 }), inl refl, refl)
-    others (suc (suc zero)) l ne = (entry_of triple_join.schemes (record { input = 2; scheme = 0 }), inr (inl refl), refl)
-    others (suc (suc (suc k))) l ne = absurd (omega (arith, l))
-triple_certified (suc zero) lt = (
-  (omega arith, not_one 0 1 (λ e. omega (arith, e)), (omega arith, not_two 2 0 1 (λ e. omega (arith, e)) (λ e. omega (arith, e)), tt)),
-  (omega arith, refl, ((at 1 0, inr (inl refl), inl refl), tt), (omega arith, refl, ((at 1 1, inl refl, inr (inl refl)), tt), tt)),
-  λ k l ne. others k l ne,
-)
-  where
-    others : (k : ℕ) → k < 3 → k ≢ 1 → (e : CertEntry) × In e (map (entry_of triple_join.schemes) (steps_of triple_join 1)) × (e.input ≡ k)
-    others zero l ne = (entry_of triple_join.schemes (record { input = 0; scheme = 0 }), inl refl, refl)
-    others (suc zero) l ne = absurd (ne refl)
-    others (suc (suc zero)) l ne = (entry_of triple_join.schemes (record { input = 2; scheme = 0 }), inr (inl refl), refl)
-    others (suc (suc (suc k))) l ne = absurd (omega (arith, l))
-triple_certified (suc (suc zero)) lt = (
-  (omega arith, not_one 1 2 (λ e. omega (arith, e)), (omega arith, not_two 0 1 2 (λ e. omega (arith, e)) (λ e. omega (arith, e)), tt)),
-  (omega arith, refl, ((at 2 1, inr (inl refl), inl refl), tt), (omega arith, refl, ((at 1 0, inr (inl refl), inl refl), tt), tt)),
-  λ k l ne. others k l ne,
-)
-  where
-    others : (k : ℕ) → k < 3 → k ≢ 2 → (e : CertEntry) × In e (map (entry_of triple_join.schemes) (steps_of triple_join 2)) × (e.input ≡ k)
-    others zero l ne = (entry_of triple_join.schemes (record { input = 0; scheme = 0 }), inr (inl refl), refl)
-    others (suc zero) l ne = (entry_of triple_join.schemes (record { input = 1; scheme = 1 }), inl refl, refl)
-    others (suc (suc zero)) l ne = absurd (ne refl)
-    others (suc (suc (suc k))) l ne = absurd (omega (arith, l))
-triple_certified (suc (suc (suc k))) lt = absurd (omega (arith, lt))
+triple_certified = record {
+  apart = apart_if triple_join.shape.classes refl;
+  fitting = fit_if triple_join.shape.inputs triple_join.schemes refl;
+  each = all_verified triple_join.shape triple_join.schemes triple_join.certs refl 3 refl;
+}
 
 -- ---- two inputs
 
@@ -149,27 +114,11 @@ double_sound = record {
     classes class (inr e) = absurd e
 
 pub double_certified : AreCertified double_join
-double_certified zero lt = (
-  (omega arith, not_one 1 0 (λ e. omega (arith, e)), tt),
-  (omega arith, refl, ((at 0 0, inl refl, inl refl), tt), tt),
-  λ k l ne. others k l ne,
-)
-  where
-    others : (k : ℕ) → k < 2 → k ≢ 0 → (e : CertEntry) × In e (map (entry_of double_join.schemes) (steps_of double_join 0)) × (e.input ≡ k)
-    others zero l ne = absurd (ne refl)
-    others (suc zero) l ne = (entry_of double_join.schemes (record { input = 1; scheme = 0 }), inl refl, refl)
-    others (suc (suc k)) l ne = absurd (omega (arith, l))
-double_certified (suc zero) lt = (
-  (omega arith, not_one 0 1 (λ e. omega (arith, e)), tt),
-  (omega arith, refl, ((at 1 0, inr (inl refl), inl refl), tt), tt),
-  λ k l ne. others k l ne,
-)
-  where
-    others : (k : ℕ) → k < 2 → k ≢ 1 → (e : CertEntry) × In e (map (entry_of double_join.schemes) (steps_of double_join 1)) × (e.input ≡ k)
-    others zero l ne = (entry_of double_join.schemes (record { input = 0; scheme = 0 }), inl refl, refl)
-    others (suc zero) l ne = absurd (ne refl)
-    others (suc (suc k)) l ne = absurd (omega (arith, l))
-double_certified (suc (suc k)) lt = absurd (omega (arith, lt))
+double_certified = record {
+  apart = apart_if double_join.shape.classes refl;
+  fitting = fit_if double_join.shape.inputs double_join.schemes refl;
+  each = all_verified double_join.shape double_join.schemes double_join.certs refl 2 refl;
+}
 
 -- ---- as the tests make them
 

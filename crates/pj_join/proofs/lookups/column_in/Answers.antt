@@ -1,4 +1,4 @@
-use Rattle.pj_join.proofs.Wanted.{found_column}
+use Rattle.pj_shape.proofs.Classes.{found_column}
 use Rattle.pj_join.proofs.lookups.column_in.Goals as goal
 
 pub returns-then-at-input : goal.returns-then-at-input

@@ -1,9 +1,10 @@
 use Rattle.std.proofs.Common.{true, [], ◌≡◌, ◌++◌, sym, subst}
 use Rattle.std.specs.Prelude.{OnOk}
+use Rattle.std.proofs.lemmas.List.{append-nil}
 use Rattle.pj_join.specs.Holding.{IsListedIf}
 use Rattle.pj_join.specs.Judging.{going_at_once, waiting_with}
 use Rattle.pj_join.specs.Sides.{coming_punct, still_held}
-use Rattle.pj_join.proofs.Holding.{append-none, found_held, on_any, on_ok}
+use Rattle.pj_join.proofs.Holding.{found_held, on_any, on_ok}
 use Rattle.pj_join.proofs.widening.hear.Goals as goal
 
 held : (c : goal.After-keep_waiting) → still_held c.args.state.now.rows [] c.args.coming.punct ≡ true
@@ -20,4 +21,4 @@ returns-in-Some-clause-listed c =
 
 pub returns-in-Some-clause-out : goal.returns-in-Some-clause-out
 returns-in-Some-clause-out c =
-    subst (λ b. OnOk c.keep_waiting.result (c.args.out.now ≡ c.args.out.now ++ going_at_once c.args.schemas.now b (coming_punct c.args.coming))) (sym (held c)) (on_any c.keep_waiting.result (sym (append-none c.args.out.now)))
+    subst (λ b. OnOk c.keep_waiting.result (c.args.out.now ≡ c.args.out.now ++ going_at_once c.args.schemas.now b (coming_punct c.args.coming))) (sym (held c)) (on_any c.keep_waiting.result (sym (append-nil c.args.out.now)))

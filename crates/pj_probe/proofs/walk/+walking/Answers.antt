@@ -1,10 +1,11 @@
 use Rattle.std.proofs.Common.{rules, arith, ◌≡◌, ◌<◌, ◌≤◌, ◌+◌, ◌++◌, ◌∷◌, [], ◌∙◌, true, ℕ, List, length, get_or, map, sym, ap}
 use Rattle.pj_events.specs.Join.{Value, joins}
-use Rattle.pj_probe.specs.Walks.{end_to_end, numbered, row_at}
+use Rattle.pj_probe.specs.Walks.{end_to_end, row_at}
 use Rattle.pj_probe.specs.Walking.{walked, walked_upto}
 use Rattle.pj_probe.proofs.Combining.{upto-all, upto-front, upto-more, walked-end, walked-none}
 use Rattle.pj_probe.proofs.Growing.{front-more, grows-more, grows-none, grows-same}
 use Rattle.pj_probe.proofs.Placing.{side-is, sides-full, sides-more}
+use Rattle.pj_shape.specs.Joining.{parts_on}
 use Rattle.pj_probe.proofs.walk.+walking.Goals.{walk_on-then-agree+in_ok-walk, walk_on-else-agree}
 use Rattle.pj_probe.proofs.walk.+walking.Goals as goal
 
@@ -21,7 +22,7 @@ pub walk_on-walk-requires : goal.walk_on-walk-requires
 walk_on-walk-requires g t c κs within =
     let grown : c.push.new.self.items ≡ c.args.rows.now.items ++ c.args.row ∷ [] = c.push.ensures.items in
     let parts : c.of.result ≡ c.push.new.self.items = c.of.ensures ∙ c.as_slice.ensures.value in
-    let agrees : joins c.args.classes.now (numbered 0 c.push.new.self.items) ≡ true = rw (← parts) (sym c.agree.ensures ∙ c.if-agree.true) in
+    let agrees : joins c.args.classes.now (parts_on 0 c.push.new.self.items) ≡ true = rw (← parts) (sym c.agree.ensures ∙ c.if-agree.true) in
     (search rules, (search rules, (search rules, (c.requires.few, agrees))))
 
 pub walk_on-returns-clause-ok : goal.walk_on-returns-clause-ok

@@ -65,7 +65,7 @@ returns-clause-keeps c =
     let there : c.args.input < inputs (join_data (arc_value c.self.inside.spec) c.self.inside.schemes c.self.inside.certs) = rw (← c.self.view_is) at lt in
     rw (← c.self.view_is)
     (punct_view c.self.inside.node (join_data (arc_value c.self.inside.spec) c.self.inside.schemes c.self.inside.certs) c.self.inside.limit c.self.inside.next c.self.inside.done (log_of c.self.inside.states.items) (puncts_of c.self.inside.stores.items) _ c.self.inside.waiting.puncts c.hear.new.waiting.puncts c.self.inside.taken.items _ (record { ticket = c.self.inside.next; input = c.args.input; patterns = c.args.punct })
-    refl (held-at-first (join_data (arc_value c.self.inside.spec) c.self.inside.schemes c.self.inside.certs) c.self.inside.limit c.self.inside.next c.self.inside.done c.self.inside.states.items c.self.inside.stores.items c.self.inside.pending c.self.inside.taken.items c.self.invariant.0 c.index.result.now (record { ticket = c.self.inside.next; input = c.args.input; patterns = c.args.punct }) there (state_is c.self.inside.states.items c.args.input c.index.result.now (inputs (join_data (arc_value c.self.inside.spec) c.self.inside.schemes c.self.inside.certs)) (all-states (join_data (arc_value c.self.inside.spec) c.self.inside.schemes c.self.inside.certs) c.self.inside.limit c.self.inside.next c.self.inside.done c.self.inside.states.items c.self.inside.stores.items c.self.inside.pending c.self.inside.taken.items c.self.invariant.0) there c.index.ensures)) refl
+    (held-at-first (join_data (arc_value c.self.inside.spec) c.self.inside.schemes c.self.inside.certs) c.self.inside.limit c.self.inside.next c.self.inside.done c.self.inside.states.items c.self.inside.stores.items c.self.inside.pending c.self.inside.taken.items c.self.invariant.0 c.index.result.now (record { ticket = c.self.inside.next; input = c.args.input; patterns = c.args.punct }) there (state_is c.self.inside.states.items c.args.input c.index.result.now (inputs (join_data (arc_value c.self.inside.spec) c.self.inside.schemes c.self.inside.certs)) (all-states (join_data (arc_value c.self.inside.spec) c.self.inside.schemes c.self.inside.certs) c.self.inside.limit c.self.inside.next c.self.inside.done c.self.inside.states.items c.self.inside.stores.items c.self.inside.pending c.self.inside.taken.items c.self.invariant.0) there c.index.ensures)) refl
     (puncts-more (join_data (arc_value c.self.inside.spec) c.self.inside.schemes c.self.inside.certs) c.self.inside.limit c.self.inside.next c.self.inside.done c.self.inside.states.items c.self.inside.stores.items c.self.inside.pending c.self.inside.taken.items c.self.invariant.0 c.args.input c.args.punct c.index_mut.result.now c.hear.new.store there (λ d. c.index_mut.ensures.value ∙ same-at c.self.inside.stores.items c.args.input c.index_mut.result.now d (omega (arith, there, all-stores (join_data (arc_value c.self.inside.spec) c.self.inside.schemes c.self.inside.certs) c.self.inside.limit c.self.inside.next c.self.inside.done c.self.inside.states.items c.self.inside.stores.items c.self.inside.pending c.self.inside.taken.items c.self.invariant.0))) c.in_ok-hear.ensures.arity c.in_ok-hear.ensures.store) c.in_ok-hear.ensures.waiting)
 
 pub returns-clause-stands : goal.returns-clause-stands
@@ -79,7 +79,7 @@ returns-clause-out c =
     let there : c.args.input < inputs (join_data (arc_value c.self.inside.spec) c.self.inside.schemes c.self.inside.certs) = rw (← c.self.view_is) at lt in
     rw (← c.self.view_is)
     (punct_out (seen (made_with c.self.inside.node (join_data (arc_value c.self.inside.spec) c.self.inside.schemes c.self.inside.certs) c.self.inside.limit) c.self.inside.next c.self.inside.done (log_of c.self.inside.states.items) (puncts_of c.self.inside.stores.items) c.self.inside.waiting.puncts c.self.inside.taken.items) c.args.input c.args.punct
-    (still_held c.index.result.now.rows [] c.args.punct) (record { ticket = c.self.inside.next; input = c.args.input; patterns = c.args.punct }) c.args.out.now c.hear.new.out refl (held-at-first (join_data (arc_value c.self.inside.spec) c.self.inside.schemes c.self.inside.certs) c.self.inside.limit c.self.inside.next c.self.inside.done c.self.inside.states.items c.self.inside.stores.items c.self.inside.pending c.self.inside.taken.items c.self.invariant.0 c.index.result.now (record { ticket = c.self.inside.next; input = c.args.input; patterns = c.args.punct }) there (state_is c.self.inside.states.items c.args.input c.index.result.now (inputs (join_data (arc_value c.self.inside.spec) c.self.inside.schemes c.self.inside.certs)) (all-states (join_data (arc_value c.self.inside.spec) c.self.inside.schemes c.self.inside.certs) c.self.inside.limit c.self.inside.next c.self.inside.done c.self.inside.states.items c.self.inside.stores.items c.self.inside.pending c.self.inside.taken.items c.self.invariant.0) there c.index.ensures)) refl
+    (still_held c.index.result.now.rows [] c.args.punct) (record { ticket = c.self.inside.next; input = c.args.input; patterns = c.args.punct }) c.args.out.now c.hear.new.out (held-at-first (join_data (arc_value c.self.inside.spec) c.self.inside.schemes c.self.inside.certs) c.self.inside.limit c.self.inside.next c.self.inside.done c.self.inside.states.items c.self.inside.stores.items c.self.inside.pending c.self.inside.taken.items c.self.invariant.0 c.index.result.now (record { ticket = c.self.inside.next; input = c.args.input; patterns = c.args.punct }) there (state_is c.self.inside.states.items c.args.input c.index.result.now (inputs (join_data (arc_value c.self.inside.spec) c.self.inside.schemes c.self.inside.certs)) (all-states (join_data (arc_value c.self.inside.spec) c.self.inside.schemes c.self.inside.certs) c.self.inside.limit c.self.inside.next c.self.inside.done c.self.inside.states.items c.self.inside.stores.items c.self.inside.pending c.self.inside.taken.items c.self.invariant.0) there c.index.ensures)) refl
     (c.in_ok-hear.ensures.out ∙ ap (λ schemas. c.args.out.now ++ going_at_once schemas (still_held c.index.result.now.rows [] c.args.punct) (record { ticket = c.self.inside.next; input = c.args.input; patterns = c.args.punct })) (c.as_slice-3.ensures ∙ ap (λ (s : JoinSpec). s.inputs) c.deref-2.ensures)))
 
 pub returns-clause-hands : goal.returns-clause-hands

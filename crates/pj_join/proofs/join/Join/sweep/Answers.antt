@@ -1,5 +1,6 @@
 use Rattle.std.proofs.Common.{◌≡◌, ◌<◌, ◌∙◌, ◌++◌, [], List, ap, arith, refl, sym}
 use Rattle.std.specs.Arc.{arc_value}
+use Rattle.std.proofs.lemmas.List.{append-nil}
 use Rattle.pj_events.specs.Patterns.{Pattern}
 use Rattle.pj_events.specs.Join.{PunctAt, Sweep, inputs}
 use Rattle.pj_events.specs.KeptState.{swept}
@@ -8,9 +9,9 @@ use Rattle.pj_join.specs.Joins.{after, join_data, with_waiting}
 use Rattle.pj_join.specs.Judging.{waiting_on}
 use Rattle.pj_join.specs.Sides.{log_of, puncts_of}
 use Rattle.pj_join.specs.Sweeping.{swept_off}
-use Rattle.pj_join.proofs.Holding.{append-none, idle, on_both, on_ok}
+use Rattle.pj_join.proofs.Holding.{idle, on_both, on_ok}
 use Rattle.pj_join.proofs.Standing.{stands-sweep}
-use Rattle.pj_join.proofs.Sweeps.{forgets, goes-where-covered, hands-sweep}
+use Rattle.pj_join.proofs.Sweeps.{forgets, goes-where-covered, hands-sweep, stays-ripe}
 use Rattle.pj_join.proofs.join.Join.sweep.Goals as goal
 
 pub returns-clause-sweeps : goal.returns-clause-sweeps
@@ -45,6 +46,10 @@ pub returns-clause-covered : goal.returns-clause-covered
 returns-clause-covered c =
     on_ok c.sweep_rows-swept.result (λ certified. goes-where-covered c.args.self.now c.args.input (c.ripeness.ensures.when_covered c.args.self.now.spec (rw (← c.self.view_is) certified))) c.sweep_rows-swept.ensures.certified
 
+pub returns-clause-stays : goal.returns-clause-stays
+returns-clause-stays c =
+    on_ok c.sweep_rows-swept.result (λ certified. stays-ripe c.args.self.now c.args.input (c.ripeness.ensures.stays c.args.self.now.spec (rw (← c.self.view_is) certified))) c.sweep_rows-swept.ensures.certified
+
 -- ---- where no row is judged
 
 pub returns-then-is_idle-clause-sweeps : goal.returns-then-is_idle-clause-sweeps
@@ -57,7 +62,7 @@ pub returns-then-is_idle-clause-out : goal.returns-then-is_idle-clause-out
 returns-then-is_idle-clause-out c =
     let none : swept_off c.args.self.now c.args.input ≡ [] = c.is_idle.ensures c.if-is_idle.true in
     let off : swept_off (seen (made_with c.self.inside.node (join_data (arc_value c.self.inside.spec) c.self.inside.schemes c.self.inside.certs) c.self.inside.limit) c.self.inside.next c.self.inside.done (log_of c.self.inside.states.items) (puncts_of c.self.inside.stores.items) c.self.inside.waiting.puncts c.self.inside.taken.items) c.args.input ≡ [] = rw (← c.self.view_is) at none in
-    rw (← c.self.view_is) (sym (ap (λ (ps : List (List Pattern)). c.args.out.now ++ ps) (idle (seen (made_with c.self.inside.node (join_data (arc_value c.self.inside.spec) c.self.inside.schemes c.self.inside.certs) c.self.inside.limit) c.self.inside.next c.self.inside.done (log_of c.self.inside.states.items) (puncts_of c.self.inside.stores.items) c.self.inside.waiting.puncts c.self.inside.taken.items) c.args.input c.self.inside.waiting off refl c.self.invariant.2).1 ∙ append-none c.args.out.now))
+    rw (← c.self.view_is) (sym (ap (λ (ps : List (List Pattern)). c.args.out.now ++ ps) (idle (seen (made_with c.self.inside.node (join_data (arc_value c.self.inside.spec) c.self.inside.schemes c.self.inside.certs) c.self.inside.limit) c.self.inside.next c.self.inside.done (log_of c.self.inside.states.items) (puncts_of c.self.inside.stores.items) c.self.inside.waiting.puncts c.self.inside.taken.items) c.args.input c.self.inside.waiting off refl c.self.invariant.2).1 ∙ append-nil c.args.out.now))
 
 pub returns-then-is_idle-clause-stands : goal.returns-then-is_idle-clause-stands
 returns-then-is_idle-clause-stands c =
@@ -72,3 +77,6 @@ returns-then-is_idle-clause-forgets c = forgets c.args.self.now c.args.input (c.
 
 pub returns-then-is_idle-clause-covered : goal.returns-then-is_idle-clause-covered
 returns-then-is_idle-clause-covered c = goes-where-covered c.args.self.now c.args.input (c.ripeness.ensures.when_covered c.args.self.now.spec (rw (← c.self.view_is) c.self.invariant.0.ordered.certified))
+
+pub returns-then-is_idle-clause-stays : goal.returns-then-is_idle-clause-stays
+returns-then-is_idle-clause-stays c = stays-ripe c.args.self.now c.args.input (c.ripeness.ensures.stays c.args.self.now.spec (rw (← c.self.view_is) c.self.invariant.0.ordered.certified))

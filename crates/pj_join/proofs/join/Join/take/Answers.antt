@@ -12,14 +12,14 @@ use Rattle.pj_join.proofs.Lowest.{lowest_take}
 use Rattle.pj_join.proofs.Watched.{watched_rises}
 use Rattle.pj_join.proofs.join.Join.take.Goals as goal
 
-pub new-requires-clause-few : goal.new-requires-clause-few
-new-requires-clause-few c = omega (arith, ap (λ (ss : List StateView). length ss) c.as_slice-in-Some.ensures.value, all-states (join_data (arc_value c.self.inside.spec) c.self.inside.schemes c.self.inside.certs) c.self.inside.limit c.self.inside.next c.self.inside.done c.self.inside.states.items c.self.inside.stores.items c.self.inside.pending c.self.inside.taken.items c.self.invariant.0, c.self.invariant.0.ordered.sound.few_inputs.1, shapes (join_data (arc_value c.self.inside.spec) c.self.inside.schemes c.self.inside.certs) c.self.inside.limit c.self.inside.next c.self.inside.done c.self.inside.states.items c.self.inside.stores.items c.self.inside.pending c.self.inside.taken.items c.self.invariant.0)
+pub probe_of-requires-clause-few : goal.probe_of-requires-clause-few
+probe_of-requires-clause-few c = omega (arith, ap (λ (ss : List StateView). length ss) c.as_slice-in-Some.ensures.value, all-states (join_data (arc_value c.self.inside.spec) c.self.inside.schemes c.self.inside.certs) c.self.inside.limit c.self.inside.next c.self.inside.done c.self.inside.states.items c.self.inside.stores.items c.self.inside.pending c.self.inside.taken.items c.self.invariant.0, c.self.invariant.0.ordered.sound.few_inputs.1, shapes (join_data (arc_value c.self.inside.spec) c.self.inside.schemes c.self.inside.certs) c.self.inside.limit c.self.inside.next c.self.inside.done c.self.inside.states.items c.self.inside.stores.items c.self.inside.pending c.self.inside.taken.items c.self.invariant.0)
 
-pub new-requires-clause-there : goal.new-requires-clause-there
-new-requires-clause-there c = subst (λ (ss : List StateView). c.in-Some.own.input < length ss) (sym c.as_slice-in-Some.ensures.value) (own-there (join_data (arc_value c.self.inside.spec) c.self.inside.schemes c.self.inside.certs) c.self.inside.limit c.self.inside.next c.self.inside.done c.self.inside.states.items c.self.inside.stores.items c.self.inside.pending c.self.inside.taken.items c.self.invariant.0 c.in-Some.own (c.in-Some.ensures ∙ ap (λ (ss : List StateView). first_of ss c.self.inside.pending) c.as_slice.ensures.value ∙ first-is (join_data (arc_value c.self.inside.spec) c.self.inside.schemes c.self.inside.certs) c.self.inside.limit c.self.inside.next c.self.inside.done c.self.inside.states.items c.self.inside.stores.items c.self.inside.pending c.self.inside.taken.items c.self.invariant.0))
+pub probe_of-requires-clause-there : goal.probe_of-requires-clause-there
+probe_of-requires-clause-there c = subst (λ (ss : List StateView). c.in-Some.own.input < length ss) (sym c.as_slice-in-Some.ensures.value) (own-there (join_data (arc_value c.self.inside.spec) c.self.inside.schemes c.self.inside.certs) c.self.inside.limit c.self.inside.next c.self.inside.done c.self.inside.states.items c.self.inside.stores.items c.self.inside.pending c.self.inside.taken.items c.self.invariant.0 c.in-Some.own (c.in-Some.ensures ∙ ap (λ (ss : List StateView). first_of ss c.self.inside.pending) c.as_slice.ensures.value ∙ first-is (join_data (arc_value c.self.inside.spec) c.self.inside.schemes c.self.inside.certs) c.self.inside.limit c.self.inside.next c.self.inside.done c.self.inside.states.items c.self.inside.stores.items c.self.inside.pending c.self.inside.taken.items c.self.invariant.0))
 
-pub new-requires-clause-wide : goal.new-requires-clause-wide
-new-requires-clause-wide c = subst (λ (ss : List StateView). AreWide ss) (sym c.as_slice-in-Some.ensures.value) (wide (join_data (arc_value c.self.inside.spec) c.self.inside.schemes c.self.inside.certs) c.self.inside.limit c.self.inside.next c.self.inside.done c.self.inside.states.items c.self.inside.stores.items c.self.inside.pending c.self.inside.taken.items c.self.invariant.0)
+pub probe_of-requires-clause-wide : goal.probe_of-requires-clause-wide
+probe_of-requires-clause-wide c = subst (λ (ss : List StateView). AreWide ss) (sym c.as_slice-in-Some.ensures.value) (wide (join_data (arc_value c.self.inside.spec) c.self.inside.schemes c.self.inside.certs) c.self.inside.limit c.self.inside.next c.self.inside.done c.self.inside.states.items c.self.inside.stores.items c.self.inside.pending c.self.inside.taken.items c.self.invariant.0)
 
 pub overflow_add-self : goal.overflow_add-self
 overflow_add-self c = let f : c.self.inside.done < 2 ^ 40 + 1 = done-fits (join_data (arc_value c.self.inside.spec) c.self.inside.schemes c.self.inside.certs) c.self.inside.limit c.self.inside.next c.self.inside.done (log_of c.self.inside.states.items) (tuples_in 0 c.self.inside.states.items) c.self.inside.taken.items c.self.invariant.0.ordered in omega (arith, f)

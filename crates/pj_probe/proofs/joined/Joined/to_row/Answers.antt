@@ -9,4 +9,4 @@ returns-then-count-eq2 c =
 pub loop-input-preserved : goal.loop-input-preserved
 loop-input-preserved c =
     let there : c.loop-input.input < length c.args.self.now = rw (← c.parts-count.ensures) c.loop-input-test.true in
-    one-row-more c.args.self.now c.loop-input.input c.nth.result.now c.loop-input.values c.join_to.new.parts there c.nth.ensures c.loop-input.invariant c.in_ok-join_to.ensures
+    one-row-more c.args.self.now c.loop-input.input c.nth.result.now c.loop-input.values c.join_to.new.parts there c.nth.ensures c.loop-input.invariant c.in_ok-join_to.ensures.ok

@@ -4,7 +4,7 @@ use Rattle.pj_shape.specs.declared.joins.JoinSpec.{JoinSpec}
 use Rattle.pj_events.specs.Join.{Value}
 use Rattle.pj_join.specs.Hops.{FindSame}
 use Rattle.pj_join.proofs.Probed.{probe_is}
-use Rattle.pj_join.proofs.probe.Probe.new.Goals as goal
+use Rattle.pj_join.proofs.probe.probe_of.Goals as goal
 
 pub returns : goal.returns
 returns c =
