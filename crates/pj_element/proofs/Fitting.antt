@@ -1,8 +1,8 @@
 -- What a line says fits the columns.
-use Rattle.std.proofs.Common.{◌≡◌, ◌≤◌, ◌<◌, ◌^◌, ℕ, ◌+◌, Bool, true, false, cond, ◌==◌, ◌&&◌, nat_lt, List, [], ◌∷◌, Option, Some, None, Result, Ok, Err, length, refl, sym, arith}
+use Rattle.std.proofs.Common.{◌≡◌, ◌≤◌, ◌<◌, ◌^◌, ℕ, ◌+◌, Bool, true, false, cond, ◌==◌, nat_lt, List, [], ◌∷◌, Option, Some, None, Result, Ok, Err, length, refl, sym, arith}
 use Rattle.std.specs.Bool.{⊤}
 use Rattle.std.specs.Str.{bytes_eq}
-use Rattle.std.proofs.lemmas.Bool.{eqb-true, ltb-false}
+use Rattle.std.proofs.lemmas.Bool.{eqb-true, ltb-false, and_from}
 use Rattle.pj_value.specs.declared.values.Value.{Value}
 use Rattle.pj_value.specs.Values.{is_kind}
 use Rattle.pj_shape.specs.declared.columns.Column.{Column}
@@ -72,20 +72,17 @@ pattern-fits c cell p e = go (form_of cell) e
     go None is = cc
     go (Some w) is = of w (is_of_kind c.kind w) refl is
 
-and-both : (a b : Bool) → a ≡ true → b ≡ true → (a && b) ≡ true
-and-both a b s t = rw (s, t) refl
-
 row-of : (columns : List Column) (row : List Value) → AreOf (λ c v. is_kind c.kind v ≡ true) columns (Ok row) → row_fits (kinds_of columns) row ≡ true
 row-of [] [] all = refl
 row-of [] (v ∷ vs) all = absurd all
 row-of (c ∷ cs) [] all = absurd all
-row-of (c ∷ cs) (v ∷ vs) all = and-both (is_kind c.kind v) (row_fits (kinds_of cs) vs) all.0 (row-of cs vs all.1)
+row-of (c ∷ cs) (v ∷ vs) all = and_from (is_kind c.kind v) (row_fits (kinds_of cs) vs) all.0 (row-of cs vs all.1)
 
 punct-of : (columns : List Column) (punct : List Pattern) → AreOf (λ c p. is_of_kind c.kind p ≡ true) columns (Ok punct) → punct_fits (kinds_of columns) punct ≡ true
 punct-of [] [] all = refl
 punct-of [] (p ∷ ps) all = absurd all
 punct-of (c ∷ cs) [] all = absurd all
-punct-of (c ∷ cs) (p ∷ ps) all = and-both (is_of_kind c.kind p) (punct_fits (kinds_of cs) ps) all.0 (punct-of cs ps all.1)
+punct-of (c ∷ cs) (p ∷ ps) all = and_from (is_of_kind c.kind p) (punct_fits (kinds_of cs) ps) all.0 (punct-of cs ps all.1)
 
 -- what is read fits the columns, and a punctuation has as many patterns as their width says
 abbrev pub FitsBoth : List Column → Read → Type 0

@@ -1,5 +1,5 @@
 -- Digits after a number that is too large.
-use Rattle.std.proofs.Common.{◌≡◌, ℕ, zero, suc, ◌+◌, ◌-◌, ◌*◌, ◌^◌, ◌<◌, ◌≤◌, add-one, subst, true, false, List, [], ◌∷◌, None, refl, arith, ap, ◌∙◌}
+use Rattle.std.proofs.Common.{◌≡◌, ℕ, zero, suc, ◌+◌, ◌-◌, ◌*◌, ◌^◌, ◌<◌, ◌≤◌, subst, true, false, List, [], ◌∷◌, None, refl, arith, ap, ◌∙◌}
 use Rattle.std.proofs.lemmas.Bool.Decides.{nat_tests}
 use Rattle.std.proofs.Math.Nat.{pow-suc}
 use Rattle.std.specs.Prelude.{option_and_then}
@@ -22,10 +22,6 @@ too_large digits i limit number lt before e large =
     ∙ stays_too_large limit (10 * number + (get_or digits i 0 - 48)) (drop (i + 1) digits) (omega arith)
 
 -- ---- few digits
-
--- a number of i digits with one more
-pub one_more_digit : (i n d : ℕ) → n < 10 ^ i → d < 10 → n * 10 + d < 10 ^ (i + 1)
-one_more_digit i n d lt small = rw (add-one i, pow-suc 10 i) (omega (arith, lt, small))
 
 ten_power : (i k : ℕ) → 10 ^ i ≤ 10 ^ (i + k)
 ten_power i zero = subst (λ (n : ℕ). 10 ^ i ≤ 10 ^ n) {x = i} {y = i + zero} (omega arith) (omega arith)

@@ -3,12 +3,12 @@ use Rattle.std.proofs.Common.{◌≡◌, ◌≢◌, ℕ, ◌+◌, ◌<◌, ◌�
 use Rattle.std.specs.Prelude.{◌↔◌, codes}
 use Rattle.std.specs.Str.{bytes_eq}
 use Rattle.std.proofs.lemmas.Bool.Decides.{nat_tests}
-use Rattle.std.proofs.lemmas.Slice.Eq.{bytes_eq-Decides}
 use Rattle.pj_value.specs.Values.{is_kind}
 use Rattle.pj_value.specs.declared.values.Kind.{Kind}
 use Rattle.pj_value.specs.declared.values.Kind.TheVariants.{Int as IntKind, Text as TextKind}
 use Rattle.pj_value.specs.declared.values.Value.{Value}
 use Rattle.pj_value.specs.declared.values.Value.TheVariants.{Int, Text}
+use Rattle.pj_value.proofs.Bytes.{bytes_same}
 use Rattle.pj_shape.specs.declared.columns.Column.{Column}
 use Rattle.pj_pattern.specs.declared.pattern.Form.{Form}
 use Rattle.pj_pattern.specs.Patterns.{Pattern, is_of_kind}
@@ -29,9 +29,6 @@ use Rattle.pj_element.proofs.ReadCells.{cells_are, cells_exact, unclosed_is, unc
 use Rattle.pj_element.proofs.ReadValues.{value_sound, value_complete}
 use Rattle.pj_element.proofs.ReadForms.{form_sound, form_complete}
 use Rattle.pj_element.proofs.Lines.{tag_other, few_cells, many_cells, unskipped}
-
-same_bytes : (xs ys : List ℕ) → bytes_eq xs ys ≡ true → xs ≡ ys
-same_bytes xs ys e = (bytes_eq-Decides xs ys).0 e
 
 -- ---- what a cell says of a column
 
@@ -249,7 +246,7 @@ unlike : (xs ys : List ℕ) → xs ≢ ys → bytes_eq xs ys ≡ false
 unlike xs ys differ = go (bytes_eq xs ys) refl
   where
     go : (t : Bool) → bytes_eq xs ys ≡ t → bytes_eq xs ys ≡ false
-    go true h = absurd (differ (same_bytes xs ys h))
+    go true h = absurd (differ (bytes_same xs ys h))
     go false h = h
 
 untagged_is : (columns : List Column) (cells : List (List ℕ)) → IsUntagged cells → judged columns (Some cells) ≡ Bad NotElement
@@ -315,10 +312,10 @@ by_tag columns line tag cells e c few = go (bytes_eq tag (codes "t")) refl (byte
   where
     go : (t : Bool) → bytes_eq tag (codes "t") ≡ t → (p : Bool) → bytes_eq tag (codes "p") ≡ p → ReadsAs columns line (tagged columns (tag ∷ cells))
     go true h p hp =
-        let same = same_bytes tag (codes "t") h in
+        let same = bytes_same tag (codes "t") h in
         subst (λ (x : List ℕ). ReadsAs columns line (tagged columns (x ∷ cells))) (sym same) (tuple_line columns line cells (e, subst (λ (x : List ℕ). AreCells line (x ∷ cells)) same c, few))
     go false h true hp =
-        let same = same_bytes tag (codes "p") hp in
+        let same = bytes_same tag (codes "p") hp in
         subst (λ (x : List ℕ). ReadsAs columns line (tagged columns (x ∷ cells))) (sym same) (punct_line_reads columns line cells (e, subst (λ (x : List ℕ). AreCells line (x ∷ cells)) same c, few))
     go false h false hp =
         let no_t : tag ≢ codes "t" = λ is. absurd (cc) in

@@ -82,9 +82,10 @@ pub(crate) fn see_pattern(pattern: &Pattern)
     }
 }
 
-/// The patterns of a punctuation are in normal form, and their values are storable.
+/// The patterns are in normal form, and their values are storable: so they are read again as they are printed. It only looks,
+/// for a proof.
 #[tactic(auto, using(crate::proofs::Stored::kept_more, crate::proofs::Stored::kept_end))]
-pub(crate) fn see_patterns(patterns: &[Pattern])
+pub fn see_patterns(patterns: &[Pattern])
     ensures { AreKeptPatterns patterns.now }
 {
     for pattern in patterns {

@@ -1,10 +1,9 @@
 -- The draft of the statements so far, and what is left of them.
-use Rattle.std.proofs.Common.{ℕ, ◌≡◌, ◌+◌, ◌<◌, List, ◌∷◌, Option, Some, None, Err, map, drop, get_or, length, ap, sym, ◌∙◌, subst}
+use Rattle.std.proofs.Common.{ℕ, ◌≡◌, ◌+◌, ◌<◌, List, ◌∷◌, Option, None, map, drop, get_or, length, ap, sym, ◌∙◌, subst}
 use Rattle.std.specs.List.{list_all}
 use Rattle.std.proofs.lemmas.Bool.{and_parts}
 use Rattle.std.proofs.lemmas.List.{drop_more}
 use Rattle.pj_plan.specs.declared.fault.PlanWhy.{PlanWhy}
-use Rattle.pj_plan.specs.declared.fault.PlanFault.{PlanFault}
 use Rattle.pj_plan.specs.declared.node.Draft.{Draft}
 use Rattle.pj_plan.specs.declared.statement.Stated.{Stated}
 use Rattle.pj_plan.specs.Names.{is_spelled, AreSpelled}
@@ -39,12 +38,3 @@ building_on statements at stated draft next building lt is none made =
       after_sound draft stated.what both.0 here.1 none,
       both.1,
     )
-
-pub building_fails : (statements : List Stated) (at : ℕ) (stated : Stated) (draft : Draft) (fault : PlanFault) → IsBuilding statements draft (drop at statements)
-    → at < length statements → stated ≡ get_or statements at stated → fault_of draft stated.what ≡ Some fault.why → fault.line ≡ stated.line
-    → (end : ℕ) → built statements end ≡ Err fault
-building_fails statements at stated draft fault building lt is why line end =
-    let here : IsBuilding statements draft (stated ∷ drop (at + 1) statements) = subst (IsBuilding statements draft) (more statements at stated lt is) building in
-    here.0 end
-    ∙ (ap (λ (o : Option PlanWhy). built_if o stated.line (built_from (after draft stated.what) (drop (at + 1) statements) end)) why
-    ∙ ap (λ (n : ℕ). Err (record { line = n; why = fault.why })) (sym line))

@@ -4,6 +4,7 @@ use Rattle.std.specs.Str.{bytes_eq}
 use Rattle.std.proofs.lemmas.Bool.{false≢true}
 use Rattle.pj_value.specs.Lists.{In}
 use Rattle.pj_value.proofs.Members.{In-map_from, any_from}
+use Rattle.pj_value.proofs.Bytes.{bytes_same, other_bytes}
 use Rattle.pj_shape.specs.declared.columns.Column.{Column}
 use Rattle.pj_plan.specs.declared.node.PlanNode.{PlanNode}
 use Rattle.pj_plan.specs.Words.{is_among, repeats}
@@ -11,7 +12,7 @@ use Rattle.pj_plan.specs.Made.{number_of, schema_of, column_number, column_kind}
 use Rattle.pj_plan.specs.Canonical.{no_node, node_name, node_schema, column_name}
 use Rattle.pj_plan.specs.Faults.{has_column, share_a_name, is_known}
 use Rattle.pj_plan.specs.Sound.{AreDistinct, name_of, kind_at}
-use Rattle.pj_plan.proofs.Lists.{bytes_same, same_bytes, other_bytes, repeats_distinct, distinct_repeats}
+use Rattle.pj_plan.proofs.Lists.{same_bytes, repeats_distinct, distinct_repeats}
 
 -- ---- columns
 

@@ -3,13 +3,14 @@ use Rattle.std.proofs.Common.{ℕ, zero, suc, ◌<◌, ◌≡◌, length, get_or
 use Rattle.std.specs.Str.{bytes_eq}
 use Rattle.pj_value.specs.Lists.{In}
 use Rattle.pj_value.proofs.Members.{In-map, In-map_from, any_from, in-place}
+use Rattle.pj_value.proofs.Bytes.{other_bytes}
 use Rattle.pj_shape.specs.declared.columns.Column.{Column}
 use Rattle.pj_plan.specs.declared.node.PlanNode.{PlanNode}
 use Rattle.pj_plan.specs.Made.{number_of, schema_of, columns_of, first_schema, column_number, column_kind}
 use Rattle.pj_plan.specs.Canonical.{no_column, no_node, node_name, node_schema, column_name}
 use Rattle.pj_plan.specs.Faults.{has_column, is_known}
 use Rattle.pj_plan.specs.Sound.{AreDistinct, name_of, name_of_node, kind_at, columns_of_first}
-use Rattle.pj_plan.proofs.Lists.{same_bytes, other_bytes}
+use Rattle.pj_plan.proofs.Lists.{same_bytes}
 use Rattle.pj_plan.proofs.ByName.{there_column, number_kind, number_schema}
 
 -- ---- columns

@@ -8,7 +8,7 @@ use Rattle.std.proofs.lemmas.Option.{get_or_from_slice_get}
 use Rattle.pj_value.specs.Lists.{In}
 use Rattle.pj_value.specs.declared.values.Kind.{Kind}
 use Rattle.pj_value.specs.declared.values.Kind.TheVariants.{Int, Text}
-use Rattle.pj_value.proofs.Members.{In-append_cases, In-map, In-filter, In-filter_from, In-flat_map_from, none_at}
+use Rattle.pj_value.proofs.Members.{In-append_cases, In-map, In-filter, In-filter_from, In-flat_map_from, none_at, in_at}
 use Rattle.pj_shape.specs.declared.columns.Column.{Column}
 use Rattle.pj_shape.specs.declared.joins.ClassCol.{ClassCol}
 use Rattle.pj_shape.specs.Sound.{IsOfKind, AreOfOtherInputs, IsSoundClass, AreApart}
@@ -17,7 +17,7 @@ use Rattle.pj_plan.specs.Made.{column_kind, class_in, class_from, class_of}
 use Rattle.pj_plan.specs.Canonical.{no_column, column_name, class_word, class_words}
 use Rattle.pj_plan.specs.Faults.{has_column, kind_eq, is_of, has_two_kinds, has_two_of, has_one_input_twice}
 use Rattle.pj_plan.specs.Sound.{AreDistinct, name_of}
-use Rattle.pj_plan.proofs.Lists.{among_in, in_among, distinct_left, distinct_right, distinct_between, in_at}
+use Rattle.pj_plan.proofs.Lists.{among_in, in_among, distinct_left, distinct_right, distinct_between}
 use Rattle.pj_plan.proofs.ByName.{has_among, kind_of_column}
 
 -- the columns of these schemas, end to end

@@ -6,8 +6,9 @@ use Rattle.std.proofs.lemmas.Bool.{and_parts, or_parts, not-false, leb-false, eq
 use Rattle.std.proofs.lemmas.List.{map-append}
 use Rattle.std.proofs.lemmas.List.Concat.{flat_map-append}
 use Rattle.std.proofs.lemmas.List.Elements.{filter-append}
-use Rattle.pj_value.specs.Lists.{In}
+use Rattle.pj_value.specs.Lists.{In, has}
 use Rattle.pj_value.proofs.Members.{In-append_cases, In-map, any_at, any_from}
+use Rattle.pj_value.proofs.Numbers.{has-in}
 use Rattle.pj_plan.specs.declared.fault.PlanWhy.{PlanWhy}
 use Rattle.pj_plan.specs.declared.node.PlanNode.{PlanNode}
 use Rattle.pj_plan.specs.declared.node.Draft.{Draft}
@@ -18,7 +19,7 @@ use Rattle.pj_plan.specs.declared.statement.Stated.{Stated}
 use Rattle.pj_plan.specs.Names.{is_spelled, AreSpelled}
 use Rattle.pj_plan.specs.Nodes.{inputs_of, is_stream}
 use Rattle.pj_plan.specs.Made.{number_of, schema_of, node_of, after}
-use Rattle.pj_plan.specs.Faults.{is_known, is_there, is_in, uses, output_use, has_unused, is_marked, stream_count, scheme_count, fault_of}
+use Rattle.pj_plan.specs.Faults.{is_known, is_there, uses, output_use, has_unused, is_marked, stream_count, scheme_count, fault_of}
 use Rattle.pj_plan.specs.Built.{with_output, ended, built_if, built_from}
 use Rattle.pj_plan.specs.Sound.{AreDistinct, name_of_node, all_inputs, IsSoundScheme, IsSoundNode}
 use Rattle.pj_plan.specs.Laws.{what_of}
@@ -122,19 +123,16 @@ with_marks draft stream marks sound none =
 
 -- ---- the output
 
-used_or : (used : List ℕ) (from : ℕ) (nodes : List PlanNode) → has_unused used from nodes ≡ false → (n : ℕ) → n < length nodes → is_in used (from + n) ≡ true
+used_or : (used : List ℕ) (from : ℕ) (nodes : List PlanNode) → has_unused used from nodes ≡ false → (n : ℕ) → n < length nodes → has used (from + n) ≡ true
 used_or used from [] e n lt = absurd (omega (arith, lt))
 used_or used from (node ∷ nodes) e zero lt =
-    let both = or_parts (not (is_in used from)) (has_unused used (from + 1) nodes) e in
+    let both = or_parts (not (has used from)) (has_unused used (from + 1) nodes) e in
     let same : from + 0 ≡ from = omega arith in
-    rw same (not-false (is_in used from) both.0)
+    rw same (not-false (has used from) both.0)
 used_or used from (node ∷ nodes) e (suc n) lt =
-    let both = or_parts (not (is_in used from)) (has_unused used (from + 1) nodes) e in
+    let both = or_parts (not (has used from)) (has_unused used (from + 1) nodes) e in
     let same : from + 1 + n ≡ from + suc n = omega arith in
-    subst (λ (k : ℕ). is_in used k ≡ true) same (used_or used (from + 1) nodes both.1 n (omega (arith, lt)))
-
-pub is_in_in : (numbers : List ℕ) (n : ℕ) → is_in numbers n ≡ true → In n numbers
-is_in_in numbers n t = let r = any_at (λ (m : ℕ). m == n) numbers t in subst (λ (k : ℕ). In k numbers) (eqb-true r.0 n r.2) r.1
+    subst (λ (k : ℕ). has used k ≡ true) same (used_or used (from + 1) nodes both.1 n (omega (arith, lt)))
 
 pub in_uses : (draft : Draft) (n : ℕ) → draft.output ≡ None → In n (uses draft) → In n (all_inputs draft.nodes)
 in_uses draft n e h = go (In-append_cases n (all_inputs draft.nodes) (output_use draft.output) h)
@@ -153,17 +151,17 @@ with_end draft name sound none free = record {
   ended = record {
     there = free.before output (inl refl);
     feeds_none = free.free output (inl refl);
-    others_feed = λ n lt other. feeds n other (is_in_in (output ∷ uses draft) n (used n lt));
+    others_feed = λ n lt other. feeds n other (has-in (output ∷ uses draft) n (used n lt));
   };
 }
   where
     output : ℕ
     output = number_of draft.nodes name
 
-    used : (n : ℕ) → n < length draft.nodes → is_in (number_of draft.nodes name ∷ uses draft) n ≡ true
+    used : (n : ℕ) → n < length draft.nodes → has (number_of draft.nodes name ∷ uses draft) n ≡ true
     used n lt =
         let same : 0 + n ≡ n = omega arith in
-        subst (λ (k : ℕ). is_in (number_of draft.nodes name ∷ uses draft) k ≡ true) same (used_or (number_of draft.nodes name ∷ uses draft) 0 draft.nodes none.all_used n lt)
+        subst (λ (k : ℕ). has (number_of draft.nodes name ∷ uses draft) k ≡ true) same (used_or (number_of draft.nodes name ∷ uses draft) 0 draft.nodes none.all_used n lt)
 
     feeds : (n : ℕ) → (n ≡ number_of draft.nodes name → ⊥) → In n (number_of draft.nodes name ∷ uses draft) → In n (all_inputs draft.nodes)
     feeds n other (inl e) = absurd (other (sym e))

@@ -27,3 +27,4 @@ pub mod JoinsAgain
 pub mod ReadAgain
 pub mod SpelledPlans
 pub mod Remade
+pub mod Views

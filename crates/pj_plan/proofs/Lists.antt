@@ -1,25 +1,20 @@
 -- Lists in which nothing stands twice, places in lists, and names among names.
-use Rattle.std.proofs.Common.{ℕ, zero, suc, ◌≡◌, true, false, ◌||◌, List, [], ◌∷◌, ◌++◌, Some, flat_map, slice_get, refl, sym, ap, ◌∙◌, subst, inl, inr}
+use Rattle.std.proofs.Common.{ℕ, suc, ◌≡◌, true, false, ◌||◌, List, [], ◌∷◌, ◌++◌, Some, flat_map, slice_get, refl, sym, ap, ◌∙◌, subst, inl, inr}
 use Rattle.std.specs.Str.{bytes_eq}
 use Rattle.std.specs.List.{list_any}
 use Rattle.std.proofs.lemmas.Bool.{or_parts, or_from, false≢true, false_from_ne_true}
 use Rattle.std.proofs.lemmas.Slice.Eq.{bytes_eq-Decides}
 use Rattle.pj_value.specs.Lists.{In}
 use Rattle.pj_value.proofs.Members.{In-append_left, In-append_right, In-append_cases, In-flat_map, In-flat_map_from, any_at, any_from, none_at, none_from}
+use Rattle.pj_value.proofs.Bytes.{bytes_same}
 use Rattle.pj_plan.specs.Words.{is_among, repeats}
 use Rattle.pj_plan.specs.Faults.{meets, share_a_column}
 use Rattle.pj_plan.specs.Sound.{AreDistinct}
 
 -- ---- bytes
 
-pub bytes_same : (xs ys : List ℕ) → bytes_eq xs ys ≡ true → xs ≡ ys
-bytes_same xs ys t = (bytes_eq-Decides xs ys).0 t
-
 pub same_bytes : (xs ys : List ℕ) → xs ≡ ys → bytes_eq xs ys ≡ true
 same_bytes xs ys e = (bytes_eq-Decides xs ys).1 e
-
-pub other_bytes : (xs ys : List ℕ) → (xs ≡ ys → ⊥) → bytes_eq xs ys ≡ false
-other_bytes xs ys n = false_from_ne_true (bytes_eq xs ys) (λ t. n (bytes_same xs ys t))
 
 -- ---- names among names
 
@@ -86,8 +81,3 @@ pub place_of : {A : Type 0} (x : A) (xs : List A) → In x xs → (i : ℕ) × (
 place_of x [] h = absurd h
 place_of x (y ∷ xs) (inl e) = (0, ap Some e)
 place_of x (y ∷ xs) (inr h) = let r = place_of x xs h in (suc r.0, r.1)
-
-pub in_at : {A : Type 0} (xs : List A) (i : ℕ) (x : A) → slice_get xs i ≡ Some x → In x xs
-in_at [] i x e = cc
-in_at (y ∷ xs) zero x e = inl cc
-in_at (y ∷ xs) (suc i) x e = inr (in_at xs i x e)

@@ -2,7 +2,7 @@
 use Rattle.std.proofs.Common.{ℕ, ◌<◌, ◌≤◌, ◌≡◌, length, Bool, true, false, cond, ◌||◌, List, [], ◌∷◌, Some, None, map, nat_le, nat_lt, refl, sym, ap, ◌∙◌, subst, inl, inr, ◌==◌}
 use Rattle.std.specs.List.{list_any}
 use Rattle.std.proofs.lemmas.Bool.{or_parts, not-false, eq-eqb, leb-false, ltb-false, false_from_ne_true}
-use Rattle.pj_value.specs.Lists.{In}
+use Rattle.pj_value.specs.Lists.{In, has}
 use Rattle.pj_value.proofs.Members.{In-append_left, In-map, any_from, none_at}
 use Rattle.pj_shape.specs.declared.columns.Column.{Column}
 use Rattle.pj_plan.specs.declared.fault.PlanWhy.{PlanWhy}
@@ -13,7 +13,7 @@ use Rattle.pj_plan.specs.declared.statement.Statement.{Statement}
 use Rattle.pj_plan.specs.Words.{repeats, used_names, named_columns}
 use Rattle.pj_plan.specs.Made.{number_of, schema_of, columns_of, result_schema}
 use Rattle.pj_plan.specs.Canonical.{node_name}
-use Rattle.pj_plan.specs.Faults.{is_known, is_unknown_name, has_no_stream, has_no_column, has_column, has_unknown_column, has_column_twice, has_kinds_that_differ, has_bad_class, is_bad_scheme, is_too_many, is_too_wide, is_behind_output, is_not_a_plan, takes_a_name, is_in, uses, output_use, was_used, leaves_unused, has_fault, all_whys, first_fault, fault_of}
+use Rattle.pj_plan.specs.Faults.{is_known, is_unknown_name, has_no_stream, has_no_column, has_column, has_unknown_column, has_column_twice, has_kinds_that_differ, has_bad_class, is_bad_scheme, is_too_many, is_too_wide, is_behind_output, is_not_a_plan, takes_a_name, uses, output_use, was_used, leaves_unused, has_fault, all_whys, first_fault, fault_of}
 use Rattle.pj_plan.specs.Sound.{AreDistinct, all_inputs, IsSoundSchema, IsSoundNode}
 use Rattle.pj_plan.proofs.Lists.{repeats_distinct}
 use Rattle.pj_plan.proofs.ByName.{number_schema, known_number, known_name}
@@ -87,7 +87,7 @@ numbers_distinct nodes (n ∷ ns) known d = (
   numbers_distinct nodes ns (λ x h. known x (inr h)) d.1,
 )
 
-used_in : (draft : Draft) (m : ℕ) → In m (all_inputs draft.nodes) → is_in (uses draft) m ≡ true
+used_in : (draft : Draft) (m : ℕ) → In m (all_inputs draft.nodes) → has (uses draft) m ≡ true
 used_in draft m h = any_from (λ (k : ℕ). k == m) (uses draft) m (In-append_left m (all_inputs draft.nodes) (output_use draft.output) h) (eq-eqb m m refl)
 
 pub inputs_free : (draft : Draft) (statement : Statement) → HasNone draft statement → AreFree draft.nodes (map (number_of draft.nodes) (used_names statement))

@@ -8,6 +8,7 @@ use Rattle.pj_value.specs.Lists.{In}
 use Rattle.pj_value.specs.declared.values.Kind.{Kind}
 use Rattle.pj_value.specs.declared.values.Kind.TheVariants.{Int, Text}
 use Rattle.pj_value.proofs.Members.{In-map, none_at}
+use Rattle.pj_value.proofs.Bytes.{bytes_same}
 use Rattle.pj_shape.specs.declared.columns.Column.{Column}
 use Rattle.pj_shape.specs.declared.joins.JoinSpec.{JoinSpec}
 use Rattle.pj_shape.specs.declared.groups.GroupSpec.{GroupSpec}
@@ -30,7 +31,7 @@ use Rattle.pj_plan.specs.Made.{column_kind, column_number, renamed_column, key_c
 use Rattle.pj_plan.specs.Canonical.{column_name}
 use Rattle.pj_plan.specs.Faults.{has_column, kind_eq, are_alike, misses_kind, misses_its_kind, sums_text, names_text_sum}
 use Rattle.pj_plan.specs.Sound.{AreDistinct, name_of, kind_at, column_at, IsSoundAgg, IsSoundGroup, agg_kind_at, group_kinds}
-use Rattle.pj_plan.proofs.Lists.{bytes_same, distinct_left}
+use Rattle.pj_plan.proofs.Lists.{distinct_left}
 use Rattle.pj_plan.proofs.ByName.{number_there, number_name, number_kind, kind_of_column}
 use Rattle.pj_plan.proofs.Classes.{joined, IsGoodClass, sound_class, classes_apart}
 use Rattle.pj_plan.proofs.MeetKinds.{meet_kind}

@@ -6,8 +6,10 @@ use Rattle.std.proofs.lemmas.Bool.{or_parts, or_from, or_right, not_from_true, l
 use Rattle.std.proofs.lemmas.List.{map-append}
 use Rattle.std.proofs.lemmas.List.Concat.{flat_map-append}
 use Rattle.std.proofs.lemmas.List.Elements.{filter-append}
-use Rattle.pj_value.specs.Lists.{In}
-use Rattle.pj_value.proofs.Members.{In-append_left, In-append_right, In-map_from, In-flat_map_from, any_at, any_from, map-same, in-place}
+use Rattle.pj_value.specs.Lists.{In, has}
+use Rattle.pj_value.proofs.Members.{In-append_left, In-append_right, In-map_from, In-flat_map_from, any_at, any_from, map-same, in-place, in_at}
+use Rattle.pj_value.proofs.Bytes.{bytes_same}
+use Rattle.pj_value.proofs.Numbers.{has-in, in-has}
 use Rattle.pj_shape.specs.declared.columns.Column.{Column}
 use Rattle.pj_plan.specs.declared.node.Node.{Node}
 use Rattle.pj_plan.specs.declared.node.Node.TheVariants.{Stream as StreamNode, Select as SelectNode, Project as ProjectNode, Union as UnionNode, Join as JoinNode, Group as GroupNode}
@@ -21,15 +23,15 @@ use Rattle.pj_plan.specs.Names.{is_spelled, AreSpelled}
 use Rattle.pj_plan.specs.Nodes.{inputs_of, is_stream}
 use Rattle.pj_plan.specs.Made.{number_of, schema_of, more_schemes, with_scheme, after}
 use Rattle.pj_plan.specs.Canonical.{no_node, node_at, node_name, node_schema, column_name, renamed_of, aggs_of, declaration, scheme_statements, node_statements, last_name, statements_of, lines_from, tests_of, class_words}
-use Rattle.pj_plan.specs.Faults.{is_known, is_unknown_name, is_stream_name, is_marked, schemes_of, scheme_count, stream_count, is_in, uses, was_used, has_unused, fault_of}
+use Rattle.pj_plan.specs.Faults.{is_known, is_unknown_name, is_stream_name, is_marked, schemes_of, scheme_count, stream_count, uses, was_used, has_unused, fault_of}
 use Rattle.pj_plan.specs.Built.{no_draft, built}
 use Rattle.pj_plan.specs.Sound.{AreDistinct, name_of_node, all_inputs, IsSoundScheme, IsSoundNode, IsSoundPlan, IsSoundSchema, IsSoundOperator}
 use Rattle.pj_plan.specs.Laws.{what_of, CanonicalIsReadAgain}
-use Rattle.pj_plan.proofs.Lists.{bytes_same, same_bytes, distinct_left, distinct_right, distinct_between, in_at}
+use Rattle.pj_plan.proofs.Lists.{same_bytes, distinct_left, distinct_right, distinct_between}
 use Rattle.pj_plan.proofs.ByName.{at_append}
 use Rattle.pj_plan.proofs.ByNumber.{node_number, name_known_at}
 use Rattle.pj_plan.proofs.Places.{operator_same}
-use Rattle.pj_plan.proofs.Drafts.{IsSoundDraft, after_sound, is_in_in, in_uses, IsDone, built_keeps}
+use Rattle.pj_plan.proofs.Drafts.{IsSoundDraft, after_sound, in_uses, IsDone, built_keeps}
 use Rattle.pj_plan.proofs.SoundPlans.{led_from, draft_sound, nothing_sound}
 use Rattle.pj_plan.proofs.Reaches.{without_fault, Reaches, reaches_append, reaches_built}
 use Rattle.pj_plan.proofs.Written.{AreWritten, IsWrittenDraft, after_written}
@@ -224,16 +226,13 @@ last_at (n ∷ []) (suc k) e = absurd (omega (arith, e))
 last_at (n ∷ m ∷ ns) zero e = absurd (omega (arith, e))
 last_at (n ∷ m ∷ ns) (suc k) e = last_at (m ∷ ns) k (omega (arith, e))
 
-none_unused : (used : List ℕ) (from : ℕ) (nodes : List PlanNode) → ((n : ℕ) → n < length nodes → is_in used (from + n) ≡ true) → has_unused used from nodes ≡ false
+none_unused : (used : List ℕ) (from : ℕ) (nodes : List PlanNode) → ((n : ℕ) → n < length nodes → has used (from + n) ≡ true) → has_unused used from nodes ≡ false
 none_unused used from [] all = refl
 none_unused used from (node ∷ nodes) all =
     let same : from + 0 ≡ from = omega arith in
-    or_from (not (is_in used from)) (has_unused used (from + 1) nodes)
-    (not_from_true (is_in used from) (subst (λ (k : ℕ). is_in used k ≡ true) same (all 0 (omega arith))))
-    (none_unused used (from + 1) nodes (λ n lt. let next : from + suc n ≡ from + 1 + n = omega arith in subst (λ (k : ℕ). is_in used k ≡ true) next (all (suc n) (omega (arith, lt)))))
-
-in_is_in : (numbers : List ℕ) (n : ℕ) → In n numbers → is_in numbers n ≡ true
-in_is_in numbers n h = any_from (λ (m : ℕ). m == n) numbers n h (eq-eqb n n refl)
+    or_from (not (has used from)) (has_unused used (from + 1) nodes)
+    (not_from_true (has used from) (subst (λ (k : ℕ). has used k ≡ true) same (all 0 (omega arith))))
+    (none_unused used (from + 1) nodes (λ n lt. let next : from + suc n ≡ from + 1 + n = omega arith in subst (λ (k : ℕ). has used k ≡ true) next (all (suc n) (omega (arith, lt)))))
 
 feeds_one : (nodes : List PlanNode) (n : ℕ) → IsSoundPlan nodes → n + 1 < length nodes → In n (all_inputs nodes)
 feeds_one nodes n plan lt =
@@ -243,13 +242,13 @@ feeds_one nodes n plan lt =
     node_at_place : ℕ → PlanNode
     node_at_place m = get_or nodes m no_node
 
-output_free : (nodes : List PlanNode) (k : ℕ) → IsSoundPlan nodes → length nodes ≡ suc k → is_in (uses (draft_of nodes)) k ≡ false
+output_free : (nodes : List PlanNode) (k : ℕ) → IsSoundPlan nodes → length nodes ≡ suc k → has (uses (draft_of nodes)) k ≡ false
 output_free nodes k plan e =
-    false_from_ne_true (is_in (uses (draft_of nodes)) k)
-    (λ t. let r = led_from nodes plan.each k (in_uses (draft_of nodes) k refl (is_in_in (uses (draft_of nodes)) k t)) in absurd (omega (arith, e, r.3, r.4)))
+    false_from_ne_true (has (uses (draft_of nodes)) k)
+    (λ t. let r = led_from nodes plan.each k (in_uses (draft_of nodes) k refl (has-in (uses (draft_of nodes)) k t)) in absurd (omega (arith, e, r.3, r.4)))
 
 all_feed : (nodes : List PlanNode) (k : ℕ) → IsSoundPlan nodes → length nodes ≡ suc k → has_unused (k ∷ uses (draft_of nodes)) 0 nodes ≡ false
-all_feed nodes k plan e = none_unused (k ∷ uses (draft_of nodes)) 0 nodes (λ n lt. let same : n ≡ 0 + n = omega arith in subst (λ (m : ℕ). is_in (k ∷ uses (draft_of nodes)) m ≡ true) same (in_is_in (k ∷ uses (draft_of nodes)) n (go n lt (cases_eq k n))))
+all_feed nodes k plan e = none_unused (k ∷ uses (draft_of nodes)) 0 nodes (λ n lt. let same : n ≡ 0 + n = omega arith in subst (λ (m : ℕ). has (k ∷ uses (draft_of nodes)) m ≡ true) same (in-has (k ∷ uses (draft_of nodes)) n (go n lt (cases_eq k n))))
   where
     go : (n : ℕ) → n < length nodes → (k ≡ n) ⊎ (k ≡ n → ⊥) → In n (k ∷ uses (draft_of nodes))
     go n lt (inl f) = inl f
@@ -268,7 +267,7 @@ ends : (nodes : List PlanNode) (k : ℕ) → IsSoundPlan nodes → length nodes 
 ends nodes k plan e =
     let number : number_of nodes (last_name nodes) ≡ k = ap (number_of nodes) (last_at nodes k e) ∙ node_number nodes k plan.names (omega (arith, e)) in
     let known : is_known nodes (last_name nodes) ≡ true = subst (λ (n : List ℕ). is_known nodes n ≡ true) (sym (last_at nodes k e)) (name_known_at nodes k (omega (arith, e))) in
-    let free : was_used (draft_of nodes) (last_name nodes) ≡ false = ap (is_in (uses (draft_of nodes))) number ∙ output_free nodes k plan e in (
+    let free : was_used (draft_of nodes) (last_name nodes) ≡ false = ap (has (uses (draft_of nodes))) number ∙ output_free nodes k plan e in (
       without_fault (draft_of nodes) (Output (last_name nodes)) (record { known = refl; shaped = refl; readable = refl }) (record {
         plan = refl;
         name = refl;

@@ -7,6 +7,7 @@ use Rattle.pj_value.specs.Lists.{In}
 use Rattle.pj_value.specs.declared.values.Kind.{Kind}
 use Rattle.pj_value.specs.declared.values.Kind.TheVariants.{Int, Text}
 use Rattle.pj_value.proofs.Members.{In-map, none_from}
+use Rattle.pj_value.proofs.Numbers.{has-in}
 use Rattle.pj_shape.specs.declared.columns.Column.{Column}
 use Rattle.pj_shape.specs.Columns.{kinds_of}
 use Rattle.pj_pattern.specs.declared.pattern.Form.{Form}
@@ -28,7 +29,7 @@ use Rattle.pj_plan.proofs.ByName.{none_shared}
 use Rattle.pj_plan.proofs.ByNumber.{named_there, node_number, name_schema, name_known_at, numbers_again as nodes_again, schemas_again, first_again, names_distinct}
 use Rattle.pj_plan.proofs.NoFaults.{AreFree}
 use Rattle.pj_plan.proofs.Declared.{IsGoodNode, AreSound, columns_of_one}
-use Rattle.pj_plan.proofs.Drafts.{is_in_in, in_uses}
+use Rattle.pj_plan.proofs.Drafts.{in_uses}
 use Rattle.pj_plan.proofs.Reaches.{without_fault}
 use Rattle.pj_plan.proofs.TestsAgain.{in_tests, test_known, test_kind, tests_again}
 use Rattle.pj_plan.proofs.ColumnsAgain.{renamed_again, numbers_again, renamed_is}
@@ -75,7 +76,7 @@ inputs_by_name front numbers d free = record {
     not_used : (m : ℕ) → In m numbers → was_used (draft_of front) (node_name front m) ≡ false
     not_used m h =
         false_from_ne_true (was_used (draft_of front) (node_name front m))
-        (λ t. free.free m h (subst (λ (k : ℕ). In k (all_inputs front)) (node_number front m d (free.before m h)) (in_uses (draft_of front) (number_of front (node_name front m)) refl (is_in_in (uses (draft_of front)) (number_of front (node_name front m)) t))))
+        (λ t. free.free m h (subst (λ (k : ℕ). In k (all_inputs front)) (node_number front m d (free.before m h)) (in_uses (draft_of front) (number_of front (node_name front m)) refl (has-in (uses (draft_of front)) (number_of front (node_name front m)) t))))
 
 pub no_unknown : (columns : List Column) (names : List (List ℕ)) → ((name : List ℕ) → In name names → has_column columns name ≡ true) → list_any (has_no_column columns) names ≡ false
 no_unknown columns names known = none_from (has_no_column columns) names (λ name h. not_from_true (has_column columns name) (known name h))

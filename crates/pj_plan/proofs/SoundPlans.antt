@@ -2,7 +2,7 @@
 use Rattle.std.proofs.Common.{ℕ, zero, suc, ◌+◌, ◌<◌, ◌≡◌, ◌⊎◌, length, arith, Bool, true, false, cond, ◌==◌, List, [], ◌∷◌, Some, None, Option, MatchOption, slice_get, refl, sym, ap, ◌∙◌, subst, inl, inr}
 use Rattle.std.proofs.lemmas.Bool.{eqb-true, eq-eqb, false≢true, cases_eq}
 use Rattle.pj_value.specs.Lists.{In}
-use Rattle.pj_value.proofs.Members.{In-append_left, In-append_right, In-append_cases}
+use Rattle.pj_value.proofs.Members.{In-append_left, In-append_right, In-append_cases, in_at}
 use Rattle.pj_plan.specs.declared.node.PlanNode.{PlanNode}
 use Rattle.pj_plan.specs.declared.node.Draft.{Draft}
 use Rattle.pj_plan.specs.Nodes.{inputs_of, input_from, or_else, parent_from}
@@ -10,7 +10,6 @@ use Rattle.pj_plan.specs.Canonical.{node_at}
 use Rattle.pj_plan.specs.Built.{no_draft}
 use Rattle.pj_plan.specs.Sound.{all_inputs, HasParent, IsSoundPlan, IsSoundNode}
 use Rattle.pj_plan.specs.Laws.{PlanIsSound}
-use Rattle.pj_plan.proofs.Lists.{in_at}
 use Rattle.pj_plan.proofs.Drafts.{IsEnd, IsSoundDraft, after_sound, IsDone, built_keeps}
 
 -- ---- where a node leads

@@ -5,6 +5,7 @@ use Rattle.std.proofs.lemmas.Bool.{and_parts, false≢true, not_from_true}
 use Rattle.pj_value.specs.Lists.{In}
 use Rattle.pj_value.specs.declared.values.Kind.{Kind}
 use Rattle.pj_value.proofs.Members.{In-map_from, map-same}
+use Rattle.pj_value.proofs.Bytes.{other_bytes}
 use Rattle.pj_shape.specs.declared.columns.Column.{Column}
 use Rattle.pj_shape.specs.Columns.{kinds_of}
 use Rattle.pj_pattern.specs.declared.pattern.Form.{Form}
@@ -18,7 +19,7 @@ use Rattle.pj_plan.specs.Made.{column_kind, test_pattern, met_with, column_test}
 use Rattle.pj_plan.specs.Canonical.{tests_from, first_test, or_first, tests_of}
 use Rattle.pj_plan.specs.Faults.{has_column, misses_kind, misses_its_kind}
 use Rattle.pj_plan.specs.Sound.{AreDistinct, name_of}
-use Rattle.pj_plan.proofs.Lists.{same_bytes, other_bytes}
+use Rattle.pj_plan.proofs.Lists.{same_bytes}
 use Rattle.pj_plan.proofs.ByName.{there_column, kind_of_column}
 
 wild_is : (p : Form) → is_wild p ≡ true → p ≡ Wild

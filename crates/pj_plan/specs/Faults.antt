@@ -4,6 +4,7 @@ use Rattle.std.specs.List.{list_any}
 use Rattle.std.specs.Str.{bytes_eq}
 use Rattle.pj_value.specs.declared.values.Kind.{Kind}
 use Rattle.pj_value.specs.declared.values.Kind.TheVariants.{Int, Text}
+use Rattle.pj_value.specs.Lists.{has}
 use Rattle.pj_shape.specs.declared.columns.Column.{Column}
 use Rattle.pj_pattern.specs.Patterns.{is_of_kind}
 use Rattle.pj_plan.specs.declared.fault.PlanWhy.{PlanWhy}
@@ -284,18 +285,14 @@ output_use (Some number) = number ∷ []
 abbrev pub uses : Draft → List ℕ
 uses draft = flat_map (λ node. inputs_of node.node) draft.nodes ++ output_use draft.output
 
--- the number is one of these
-abbrev pub is_in : List ℕ → ℕ → Bool
-is_in numbers n = list_any (λ m. m == n) numbers
-
 -- the node of this name was used
 abbrev pub was_used : Draft → List ℕ → Bool
-was_used draft name = is_in (uses draft) (number_of draft.nodes name)
+was_used draft name = has (uses draft) (number_of draft.nodes name)
 
 -- one of so many nodes, from this number on, is not among these
 abbrev pub has_unused : List ℕ → ℕ → List PlanNode → Bool
 has_unused used number [] = false
-has_unused used number (node ∷ nodes) = not (is_in used number) || has_unused used (number + 1) nodes
+has_unused used number (node ∷ nodes) = not (has used number) || has_unused used (number + 1) nodes
 
 -- at `output`, another node that was never used
 abbrev pub leaves_unused : Draft → Statement → Bool

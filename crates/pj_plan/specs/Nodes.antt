@@ -1,6 +1,7 @@
 -- What a node is: its inputs and its parent, and which nodes are streams and joins; the streams of a plan.
 use Rattle.std.specs.Prelude.{ℕ, ◌+◌, Bool, true, false, ◌==◌, List, [], ◌∷◌, Option, Some, None, if◌then◌else◌, filter, map, slice_index_or}
 use Rattle.pj_shape.specs.declared.columns.Column.{Column}
+use Rattle.pj_shape.specs.declared.joins.JoinSpec.{JoinSpec}
 use Rattle.pj_plan.specs.declared.node.Node.{Node}
 use Rattle.pj_plan.specs.declared.node.Node.TheVariants.{Stream, Select, Project, Union, Join, Group}
 use Rattle.pj_plan.specs.declared.node.PlanNode.{PlanNode}
@@ -13,6 +14,24 @@ inputs_of (Project input columns) = input ∷ []
 inputs_of (Union inputs) = inputs
 inputs_of (Join inputs spec) = inputs
 inputs_of (Group input spec) = input ∷ []
+
+-- the schemes that a stream states; none where it is no stream
+abbrev pub stated_in : Node → Option (List (List Bool))
+stated_in (Stream schemes) = Some schemes
+stated_in (Select input test) = None
+stated_in (Project input columns) = None
+stated_in (Union inputs) = None
+stated_in (Join inputs spec) = None
+stated_in (Group input spec) = None
+
+-- the shape of a join; none where it is no join
+abbrev pub join_in : Node → Option JoinSpec
+join_in (Stream schemes) = None
+join_in (Select input test) = None
+join_in (Project input columns) = None
+join_in (Union inputs) = None
+join_in (Join inputs spec) = Some spec
+join_in (Group input spec) = None
 
 abbrev pub is_stream : Node → Bool
 is_stream (Stream schemes) = true

@@ -3,28 +3,15 @@ ghost use Rattle.std.specs.Prelude.{◌≡◌, ◌<◌, ◌≤◌, ◌∷◌, �
 ghost use Rattle.std.specs.List.{list_any};
 ghost use Rattle.pj_plan.specs.Made.{result_schema, number_of as number};
 ghost use Rattle.pj_plan.specs.Nodes.{inputs_of as inputs, is_stream as stream};
-ghost use Rattle.pj_plan.specs.Faults.{is_used_twice_or_never as twice_or_never, was_used as used, uses, is_in as within, has_unused as unused, leaves_unused as leaves, stream_count as streams, is_too_wide as too_wide, schemes_of as schemes, scheme_count as schemes_named, goes_beyond as beyond, output_use};
+ghost use Rattle.pj_plan.specs.Faults.{is_used_twice_or_never as twice_or_never, was_used as used, uses, has_unused as unused, leaves_unused as leaves, stream_count as streams, is_too_wide as too_wide, schemes_of as schemes, scheme_count as schemes_named, goes_beyond as beyond, output_use};
+ghost use Rattle.pj_value.specs.Lists.{has as within};
 
+use crate::links::is_input;
 use crate::names::{is_stream, number_of, repeats};
 use crate::words::used_names;
 use crate::{Draft, Node, PlanNode, Statement};
 use pj_shape::Column;
 use pj_value::Bytes;
-use std::slice::from_ref;
-
-/// The numbers of the nodes that feed it, in order of its inputs.
-pub(crate) fn inputs_of(node: &Node) -> &[u32]
-    ensures { result.now ≡ inputs node.now }
-{
-    match node {
-        Node::Stream { .. } => &[],
-        Node::Select { input, .. } => from_ref(input),
-        Node::Project { input, .. } => from_ref(input),
-        Node::Union { inputs } => inputs.as_slice(),
-        Node::Join { inputs, .. } => inputs.as_slice(),
-        Node::Group { input, .. } => from_ref(input),
-    }
-}
 
 /// Whether an input or output was used before or stands twice, or an output leaves another node unused.
 pub(crate) fn is_used_twice_or_never(draft: &Draft, statement: &Statement) -> bool
@@ -52,17 +39,23 @@ fn feeds(nodes: &[PlanNode], number: usize) -> bool
     ensures { result ≡ within (flat_map (λ node. inputs node.node) nodes.now) number }
 {
     for node in nodes {
-        if is_in(inputs_of(&node.node), number) {
+        if is_fed_by(&node.node, number) {
             return true;
         }
     }
     false
 }
 
-fn is_in(numbers: &[u32], number: usize) -> bool
-    ensures { result ≡ within numbers.now number }
+// Whether the node of this number feeds the node.
+fn is_fed_by(node: &Node, number: usize) -> bool
+    ensures { result ≡ within (inputs node.now) number }
 {
-    numbers.iter().any(|other| *other as usize == number)
+    for at in 0..node.inputs() {
+        if is_input(node, at, number) {
+            return true;
+        }
+    }
+    false
 }
 
 fn is_output(output: Option<u32>, number: usize) -> bool
@@ -165,15 +158,12 @@ fn scheme_count(nodes: &[PlanNode], name: &[u8]) -> usize
     0
 }
 
+#[tactic(auto, using(crate::proofs::Views::schemes_counted, crate::proofs::Views::none_counted))]
 fn schemes_of(node: &Node) -> usize
     ensures { result ≡ schemes node.now }
 {
-    match node {
-        Node::Stream { schemes } => schemes.len(),
-        Node::Select { .. } => 0,
-        Node::Project { .. } => 0,
-        Node::Union { .. } => 0,
-        Node::Join { .. } => 0,
-        Node::Group { .. } => 0,
+    match node.schemes() {
+        None => 0,
+        Some(schemes) => schemes.len(),
     }
 }

@@ -1,9 +1,8 @@
 // Where the nodes of a plan lead, and which are streams and joins.
-ghost use Rattle.std.specs.Prelude.{ℕ, ◌≡◌, ◌<◌, ◌≤◌, All, Some, IfOk, length, slice_get};
+ghost use Rattle.std.specs.Prelude.{ℕ, ◌≡◌, ◌<◌, ◌≤◌, ◌==◌, All, Some, IfOk, length, slice_get, slice_index};
 ghost use Rattle.pj_plan.specs.Nodes.{inputs_of, is_join as join, input_from as place_from, parent_of as leads_to, numbers_from};
 ghost use Rattle.pj_plan.specs.Sorts.{is_of as of_sort};
 
-use crate::limits::inputs_of;
 use crate::names::is_stream;
 use crate::{Node, PlanNode};
 use pj_value::{List, NoMemory};
@@ -79,7 +78,7 @@ fn parent_of(nodes: &[PlanNode], number: usize) -> Option<(u32, u32)>
     ensures { result ≡ leads_to nodes.now number }
 {
     for at in 0..nodes.len() {
-        match input_from(at as u32, inputs_of(&nodes[at].node), number) {
+        match input_from(at as u32, &nodes[at].node, number) {
             Some(place) => return Some(place),
             None => {}
         }
@@ -87,15 +86,27 @@ fn parent_of(nodes: &[PlanNode], number: usize) -> Option<(u32, u32)>
     None
 }
 
-// The place of the node of this number among a node's inputs.
-fn input_from(node: u32, inputs: &[u32], number: usize) -> Option<(u32, u32)>
-    requires { length inputs.now ≤ 16 }
-    ensures { result ≡ place_from node 0 inputs.now number }
+// The place of the node of this number among a node's inputs, beside the node's own number.
+fn input_from(at: u32, node: &Node, number: usize) -> Option<(u32, u32)>
+    requires { length (inputs_of node.now) ≤ 16 }
+    ensures { result ≡ place_from at 0 (inputs_of node.now) number }
 {
-    for at in 0..inputs.len() {
-        if inputs[at] as usize == number {
-            return Some((node, at as u32));
+    for place in 0..node.inputs() {
+        if is_input(node, place, number) {
+            return Some((at, place as u32));
         }
     }
     None
+}
+
+/// Whether the node of this number feeds the input at a place.
+#[tactic(auto, using(crate::proofs::Views::input_is, crate::proofs::Views::input_there))]
+pub(crate) fn is_input(node: &Node, place: usize, number: usize) -> bool
+    requires { place < length (inputs_of node.now) }
+    ensures { result ≡ (slice_index (inputs_of node.now) place == number) }
+{
+    match node.input(place) {
+        None => false,
+        Some(input) => input as usize == number,
+    }
 }

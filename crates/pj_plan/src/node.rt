@@ -1,5 +1,7 @@
 // The nodes of a plan.
-ghost use Rattle.std.specs.Prelude.{◌≡◌, IfOk};
+ghost use Rattle.std.specs.Prelude.{◌≡◌, ◌∷◌, [], IfOk, length, slice_get};
+ghost use Rattle.std.specs.Option.{option_copied};
+ghost use Rattle.pj_plan.specs.Nodes.{inputs_of, join_in, stated_in};
 
 use pj_pattern::Punct;
 use pj_shape::{GroupSpec, JoinSpec, Schema, Scheme};
@@ -41,6 +43,62 @@ pub struct Draft {
 }
 
 impl Node {
+    /// How many nodes feed it.
+    pub fn inputs(&self) -> usize
+        ensures { result ≡ length (inputs_of self.now) }
+    {
+        match self {
+            Node::Stream { .. } => 0,
+            Node::Select { .. } => 1,
+            Node::Project { .. } => 1,
+            Node::Union { inputs } => inputs.len(),
+            Node::Join { inputs, .. } => inputs.len(),
+            Node::Group { .. } => 1,
+        }
+    }
+
+    /// The number of the node that feeds an input, counted from 0; `None` exactly where it has no such input.
+    pub fn input(&self, at: usize) -> Option<u32>
+        ensures { result ≡ slice_get (inputs_of self.now) at }
+    {
+        match self {
+            Node::Stream { .. } => None,
+            Node::Select { input, .. } => alone(*input, at),
+            Node::Project { input, .. } => alone(*input, at),
+            Node::Union { inputs } => inputs.get(at).copied(),
+            Node::Join { inputs, .. } => inputs.get(at).copied(),
+            Node::Group { input, .. } => alone(*input, at),
+        }
+    }
+
+    /// The shape of a join; `None` exactly where it is no join.
+    pub fn join(&self) -> Option<&JoinSpec>
+        ensures { option_copied result ≡ join_in self.now }
+    {
+        match self {
+            Node::Stream { .. } => None,
+            Node::Select { .. } => None,
+            Node::Project { .. } => None,
+            Node::Union { .. } => None,
+            Node::Join { spec, .. } => Some(spec),
+            Node::Group { .. } => None,
+        }
+    }
+
+    /// The schemes that a stream states; `None` exactly where it is no stream.
+    pub fn schemes(&self) -> Option<&[Scheme]>
+        ensures { option_copied result ≡ stated_in self.now }
+    {
+        match self {
+            Node::Stream { schemes } => Some(schemes.as_slice()),
+            Node::Select { .. } => None,
+            Node::Project { .. } => None,
+            Node::Union { .. } => None,
+            Node::Join { .. } => None,
+            Node::Group { .. } => None,
+        }
+    }
+
     /// An equal operator, or `NoMemory`.
     pub fn copy(&self, alloc: Global) -> Result<Node, NoMemory>
         ensures { IfOk result (λ copy. copy ≡ self.now) }
@@ -70,6 +128,14 @@ impl Node {
             }),
         }
     }
+}
+
+// The input at a place where there is only this one.
+#[tactic(auto, using(crate::proofs::Views::only_first, crate::proofs::Views::none_behind))]
+fn alone(input: u32, at: usize) -> Option<u32>
+    ensures { result ≡ slice_get (input ∷ []) at }
+{
+    if at == 0 { Some(input) } else { None }
 }
 
 impl TryClone for PlanNode {

@@ -80,6 +80,13 @@ impl Plan {
         self.outline.nodes.len() as u32
     }
 
+    /// Its version and its nodes, as they were declared.
+    pub fn outline(&self) -> &Outline
+        ensures { result.now ≡ self.now }
+    {
+        &self.outline
+    }
+
     /// The operator of a node, whose number is below that of the nodes.
     pub fn node(&self, n: u32) -> &Node
         requires { n < length self.now.nodes }

@@ -1,7 +1,6 @@
 pub mod CellLoops
 pub mod CellTexts
 pub mod CellsAgain
-pub mod LineTexts
 pub mod LinesAgain
 pub mod Parting
 pub mod PlanFits
@@ -9,4 +8,3 @@ pub mod PlanLines
 pub mod PlansAgain
 pub mod SpelledLines
 pub mod Stored
-pub mod TestTexts

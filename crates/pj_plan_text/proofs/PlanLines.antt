@@ -54,9 +54,6 @@ pub record LinesSoFar (bytes : List ℕ) (done : List Stated) (line : ℕ) (rest
   pub count : length (pieces bytes) + 1 ≡ line + length (pieces rest)
   pub bound : line + length rest ≤ length bytes + 1
 
-pub lines_start : (bytes : List ℕ) → LinesSoFar bytes [] 1 bytes
-lines_start bytes = record { stated = refl; count = omega arith; bound = omega arith }
-
 next : (line : ℕ) (piece : List ℕ) (ps : List (List ℕ)) (b : Bool) → is_passed piece ≡ b
     → stated_from line (piece ∷ ps) ≡ cond b (stated_from (line + 1) ps) (record { line = line; what = line_stated piece } ∷ stated_from (line + 1) ps)
 next line piece ps b is = rw is refl

@@ -3,7 +3,7 @@ use Rattle.std.proofs.Common.{◌≡◌, ℕ, ◌+◌, ◌*◌, ◌≤◌, Bool,
 use Rattle.std.specs.Prelude.{nat_le, codes}
 use Rattle.std.specs.List.{list_all}
 use Rattle.std.specs.Str.{bytes_eq}
-use Rattle.std.proofs.lemmas.Bool.{and_parts}
+use Rattle.std.proofs.lemmas.Bool.{and_parts, and_from}
 use Rattle.std.proofs.lemmas.Bool.Decides.{nat_tests}
 use Rattle.std.proofs.lemmas.Option.{none-some}
 use Rattle.pj_value.specs.declared.values.Kind.{Kind}
@@ -31,9 +31,6 @@ use Rattle.pj_plan_text.specs.PlanRead.{is_passed, is_short, line_stated, stated
 
 -- ---- tests
 
-and_both : (a b : Bool) → a ≡ true → b ≡ true → (a && b) ≡ true
-and_both a b p q = rw (p, q) refl
-
 -- what is said under a test
 if_said : {A : Type 0} (b : Bool) (y x : A) → (if b then Some y else None) ≡ Some x → (b ≡ true) × (y ≡ x)
 if_said true y x is = (refl, cc is)
@@ -51,7 +48,7 @@ all_said f good each [] zs is = let none : [] ≡ zs = cc is in subst (λ (l : L
 all_said f good each (c ∷ cs) zs is =
     let parts = both_parts (f c) (all_of f cs) zs is in
     subst (λ (l : List _). list_all good l ≡ true) (sym parts.4)
-    (and_both (good parts.0) (list_all good parts.1) (each c parts.0 parts.2) (all_said f good each cs parts.1 parts.3))
+    (and_from (good parts.0) (list_all good parts.1) (each c parts.0 parts.2) (all_said f good each cs parts.1 parts.3))
 
 as_many : {A : Type 0} {B : Type 0} (f : A → Option B) (cells : List A) (zs : List B) → all_of f cells ≡ Some zs → length zs ≡ length cells
 as_many f [] zs is = let none : zs ≡ [] = cc is in ap length none
@@ -85,9 +82,6 @@ column_in_good (Some (name, word)) x is = kind_good name (kind_of word) x is
 column_good : (cell : List ℕ) (x : ColumnWord) → column_of cell ≡ Some x → is_column_name x.name ≡ true
 column_good cell x is = column_in_good (cut_at (is_byte 58) cell) x is
 
-mark_good : (cell : List ℕ) (x : Bool) → mark_of cell ≡ Some x → true ≡ true
-mark_good cell x is = refl
-
 renamed_good : (new old : List ℕ) (x : Renamed) → renamed new old ≡ Some x → (is_column_name x.new && is_column_name x.old) ≡ true
 renamed_good new old x is =
     let said = if_said (is_column_name new && is_column_name old) (record { new = new; old = old }) x is in
@@ -106,7 +100,7 @@ class_in_good parts x is = go (nat_le 2 (length parts)) refl is
     go : (b : Bool) → nat_le 2 (length parts) ≡ b → (if b then all_of column_name_of parts else None) ≡ Some x → is_class x ≡ true
     go true two said =
         let same = as_many column_name_of parts x said in
-        and_both (nat_le 2 (length x)) (list_all is_column_name x) (subst (λ (n : ℕ). nat_le 2 n ≡ true) (sym same) two) (all_said column_name_of is_column_name column_name_good parts x said)
+        and_from (nat_le 2 (length x)) (list_all is_column_name x) (subst (λ (n : ℕ). nat_le 2 n ≡ true) (sym same) two) (all_said column_name_of is_column_name column_name_good parts x said)
     go false two said = absurd (none-some x said)
 
 class_good : (cell : List ℕ) (x : List (List ℕ)) → class_of cell ≡ Some x → is_class x ≡ true
@@ -143,7 +137,7 @@ with_agg_good : (name : List ℕ) (o : Option AggWord) (x : NamedAgg) → ((agg 
 with_agg_good name None x good is = absurd (none-some x is)
 with_agg_good name (Some agg) x good is =
     let said = if_said (is_column_name name) (record { name = name; agg = agg }) x is in
-    subst (λ (w : NamedAgg). good_agg w ≡ true) said.1 (and_both (is_column_name name) (is_agg agg) said.0 (good agg refl))
+    subst (λ (w : NamedAgg). good_agg w ≡ true) said.1 (and_from (is_column_name name) (is_agg agg) said.0 (good agg refl))
 
 named_agg_in_good : (o : Option (List ℕ × List ℕ)) (x : NamedAgg) → named_agg_in o ≡ Some x → good_agg x ≡ true
 named_agg_in_good None x is = absurd (none-some x is)
@@ -174,7 +168,7 @@ pairs_good (column ∷ cell ∷ cells) zs is =
     let parts = both_parts (test_of column cell) (pairs_of cells) zs is in
     let others = pairs_good cells parts.1 parts.3 in (
       subst (λ (l : List TestWord). list_all (λ test. is_column_name test.column) l ≡ true) (sym parts.4)
-          (and_both (is_column_name parts.0.column) (list_all (λ test. is_column_name test.column) parts.1) (test_good column cell parts.0 parts.2) others.0),
+          (and_from (is_column_name parts.0.column) (list_all (λ test. is_column_name test.column) parts.1) (test_good column cell parts.0 parts.2) others.0),
       omega (arith, ap length parts.4, others.1),
     )
 
@@ -191,7 +185,7 @@ inputs_good cells zs is = go (nat_le 2 (length cells)) refl is
     go : (b : Bool) → nat_le 2 (length cells) ≡ b → (if b then all_of name_of cells else None) ≡ Some zs → are_inputs zs ≡ true
     go true two said =
         let same = as_many name_of cells zs said in
-        and_both (nat_le 2 (length zs)) (list_all is_name zs) (subst (λ (n : ℕ). nat_le 2 n ≡ true) (sym same) two) (all_said name_of is_name name_good cells zs said)
+        and_from (nat_le 2 (length zs)) (list_all is_name zs) (subst (λ (n : ℕ). nat_le 2 n ≡ true) (sym same) two) (all_said name_of is_name name_good cells zs said)
     go false two said = absurd (none-some zs said)
 
 -- ---- statements
@@ -208,11 +202,11 @@ stream_good : (name : List ℕ) (cells : List (List ℕ)) (o : Option (List Colu
 stream_good name cells None is good = refl
 stream_good name cells (Some zs) is good =
     let many = some_many column_of cells zs is in
-    and_both (is_name name) _ good (and_both (has_some zs) _ many.0 (all_said column_of (λ column. is_column_name column.name) column_good cells zs many.1))
+    and_from (is_name name) _ good (and_from (has_some zs) _ many.0 (all_said column_of (λ column. is_column_name column.name) column_good cells zs many.1))
 
 scheme_good : (name : List ℕ) (cells : List (List ℕ)) (o : Option (List Bool)) → some_of mark_of cells ≡ o → is_name name ≡ true → IsGood (with_marks name o)
 scheme_good name cells None is good = refl
-scheme_good name cells (Some zs) is good = and_both (is_name name) (has_some zs) good (some_many mark_of cells zs is).0
+scheme_good name cells (Some zs) is good = and_from (is_name name) (has_some zs) good (some_many mark_of cells zs is).0
 
 few_tests : (n m : ℕ) → 2 * n ≤ m → m ≤ 124 → nat_le n 62 ≡ true
 few_tests n m half few = grind (arith, nat_tests)
@@ -222,27 +216,27 @@ select_good name input cells None is few good = refl
 select_good name input cells (Some zs) is few good =
     let many = some_pairs_many cells zs is in
     let all = pairs_good cells zs many.1 in
-    and_both (is_name name && is_name input) _ good
-    (and_both (has_some zs && nat_le (length zs) 62) _ (and_both (has_some zs) (nat_le (length zs) 62) many.0 (few_tests (length zs) (length cells) all.1 few)) all.0)
+    and_from (is_name name && is_name input) _ good
+    (and_from (has_some zs && nat_le (length zs) 62) _ (and_from (has_some zs) (nat_le (length zs) 62) many.0 (few_tests (length zs) (length cells) all.1 few)) all.0)
 
 project_good : (name input : List ℕ) (cells : List (List ℕ)) (o : Option (List Renamed)) → some_of renamed_of cells ≡ o → (is_name name && is_name input) ≡ true → IsGood (with_renamed name input o)
 project_good name input cells None is good = refl
 project_good name input cells (Some zs) is good =
     let many = some_many renamed_of cells zs is in
-    and_both (is_name name && is_name input) _ good
-    (and_both (has_some zs) _ many.0 (all_said renamed_of (λ column. is_column_name column.new && is_column_name column.old) renamed_cell_good cells zs many.1))
+    and_from (is_name name && is_name input) _ good
+    (and_from (has_some zs) _ many.0 (all_said renamed_of (λ column. is_column_name column.new && is_column_name column.old) renamed_cell_good cells zs many.1))
 
 union_good : (name : List ℕ) (cells : List (List ℕ)) (o : Option (List (List ℕ))) → inputs_of cells ≡ o → is_name name ≡ true → IsGood (with_inputs name o)
 union_good name cells None is good = refl
-union_good name cells (Some zs) is good = and_both (is_name name) (are_inputs zs) good (inputs_good cells zs is)
+union_good name cells (Some zs) is good = and_from (is_name name) (are_inputs zs) good (inputs_good cells zs is)
 
 classes_good : (name : List ℕ) (inputs classes : List (List ℕ)) (o : Option (List (List ℕ))) (p : Option (List (List (List ℕ)))) → inputs_of inputs ≡ o → some_of class_of classes ≡ p → is_name name ≡ true → IsGood (with_classes name o p)
 classes_good name inputs classes None p is so good = refl
 classes_good name inputs classes (Some zs) None is so good = refl
 classes_good name inputs classes (Some zs) (Some cs) is so good =
     let many = some_many class_of classes cs so in
-    and_both (is_name name && are_inputs zs) _ (and_both (is_name name) (are_inputs zs) good (inputs_good inputs zs is))
-    (and_both (has_some cs) (list_all is_class cs) many.0 (all_said class_of is_class class_good classes cs many.1))
+    and_from (is_name name && are_inputs zs) _ (and_from (is_name name) (are_inputs zs) good (inputs_good inputs zs is))
+    (and_from (has_some cs) (list_all is_class cs) many.0 (all_said class_of is_class class_good classes cs many.1))
 
 join_good : (name : List ℕ) (o : Option (List (List ℕ) × List (List ℕ))) → is_name name ≡ true → IsGood (join_in name o)
 join_good name None good = refl
@@ -254,9 +248,9 @@ aggs_good name input keys aggs (Some ks) None is so good = refl
 aggs_good name input keys aggs (Some ks) (Some zs) is so good =
     let named = some_many column_name_of keys ks is in
     let many = some_many named_agg_of aggs zs so in
-    and_both (is_name name && is_name input) _ good
-    (and_both (has_some ks && list_all is_column_name ks) _ (and_both (has_some ks) _ named.0 (all_said column_name_of is_column_name column_name_good keys ks named.1))
-    (and_both (has_some zs) _ many.0 (all_said named_agg_of good_agg named_agg_good aggs zs many.1)))
+    and_from (is_name name && is_name input) _ good
+    (and_from (has_some ks && list_all is_column_name ks) _ (and_from (has_some ks) _ named.0 (all_said column_name_of is_column_name column_name_good keys ks named.1))
+    (and_from (has_some zs) _ many.0 (all_said named_agg_of good_agg named_agg_good aggs zs many.1)))
 
 group_good : (name input : List ℕ) (o : Option (List (List ℕ) × List (List ℕ))) → (is_name name && is_name input) ≡ true → IsGood (group_in name input o)
 group_good name input None good = refl
@@ -352,7 +346,7 @@ all_spelled line (piece ∷ ps) = go (is_passed piece) (all_spelled (line + 1) p
     go : (b : Bool) → AreSpelled (map (λ stated. stated.what) (stated_from (line + 1) ps))
         → AreSpelled (map (λ stated. stated.what) (if b then stated_from (line + 1) ps else record { line = line; what = line_stated piece } ∷ stated_from (line + 1) ps))
     go true others = others
-    go false others = and_both (is_spelled (line_stated piece)) (list_all is_spelled (map (λ stated. stated.what) (stated_from (line + 1) ps))) (line_spelled piece) others
+    go false others = and_from (is_spelled (line_stated piece)) (list_all is_spelled (map (λ stated. stated.what) (stated_from (line + 1) ps))) (line_spelled piece) others
 
 pub lines_spelled : (bytes : List ℕ) (statements : List Stated) → statements ≡ stated_from 1 (pieces bytes) → AreSpelled (map (λ stated. stated.what) statements)
 lines_spelled bytes statements is = subst (λ (ss : List Stated). AreSpelled (map (λ stated. stated.what) ss)) (sym is) (all_spelled 1 (pieces bytes))

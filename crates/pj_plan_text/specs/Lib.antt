@@ -3,6 +3,5 @@ pub mod CellWords
 pub mod Statements
 pub mod PlanRead
 pub mod Spelling
-pub mod Pairs
 pub mod Kept
 pub mod Laws

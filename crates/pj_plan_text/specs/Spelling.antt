@@ -1,13 +1,10 @@
 -- The canonical spelling of statements and plans.
-use Rattle.std.specs.Prelude.{ℕ, Bool, true, false, List, [], ◌∷◌, ◌++◌, map, drop, length, if◌then◌else◌, codes}
+use Rattle.std.specs.Prelude.{ℕ, Bool, true, false, List, [], ◌∷◌, ◌++◌, map, if◌then◌else◌, codes}
 use Rattle.std.specs.Fmt.{decimal}
 use Rattle.std.specs.Str.{bytes_eq}
 use Rattle.pj_value.specs.declared.values.Kind.{Kind}
 use Rattle.pj_value.specs.declared.values.Kind.TheVariants.{Int, Text}
-use Rattle.pj_shape.specs.declared.columns.Column.{Column}
-use Rattle.pj_shape.specs.declared.groups.GroupSpec.{GroupSpec}
 use Rattle.pj_element.specs.Elements.{pattern_spelling}
-use Rattle.pj_plan.specs.declared.node.PlanNode.{PlanNode}
 use Rattle.pj_plan.specs.declared.node.Outline.{Outline}
 use Rattle.pj_plan.specs.declared.statement.Statement.{Statement}
 use Rattle.pj_plan.specs.declared.statement.Statement.TheVariants.{Plan, Stream, Scheme, Select, Project, Union, Join, Group, Output, Bad}
@@ -19,7 +16,7 @@ use Rattle.pj_plan.specs.declared.statement.Test.TheVariants.{One, Mixed}
 use Rattle.pj_plan.specs.declared.statement.AggWord.{AggWord}
 use Rattle.pj_plan.specs.declared.statement.AggWord.TheVariants.{Count, Sum, Min, Max}
 use Rattle.pj_plan.specs.declared.statement.NamedAgg.{NamedAgg}
-use Rattle.pj_plan.specs.Canonical.{aggs_of, column_name, node_name, node_schema, statements_of}
+use Rattle.pj_plan.specs.Canonical.{statements_of}
 
 -- words, each behind this byte
 abbrev pub each_behind : ℕ → List (List ℕ) → List ℕ
@@ -104,8 +101,3 @@ lines_of (statement ∷ statements) = fed statement ++ lines_of statements
 -- the canonical text of a plan
 abbrev pub plan_spelling : Outline → List ℕ
 plan_spelling plan = lines_of (statements_of plan)
-
--- the statement of a group
-abbrev pub group_line : List PlanNode → List ℕ → ℕ → List Column → GroupSpec → Statement
-group_line nodes name input schema spec =
-    Group name (node_name nodes input) (map (column_name (node_schema nodes input)) spec.keys) (aggs_of (drop (length spec.keys) schema) (node_schema nodes input) spec.aggs)

@@ -1,18 +1,10 @@
 // The cells of canonical lines, each behind a space. On a refusal some of them may stand.
-ghost use Rattle.std.specs.Prelude.{◌≡◌, ◌++◌, [], ◌∷◌, IfOk, OnOk, map};
-ghost use Rattle.pj_plan.specs.Names.{has_some};
-ghost use Rattle.pj_plan.specs.Canonical.{agg_word, aggs_of, class_word, class_words, column_name, column_word, first_test, node_name, renamed_of, tests_from, tests_of};
-ghost use Rattle.pj_plan_text.specs.Spelling.{agg_cell, class_cell, column_cell, each_behind, kind_word, mark_cell, named_agg_cell, parted, renamed_cell, test_cells};
-ghost use Rattle.pj_pattern.specs.Patterns.{is_wild as matches_all};
-ghost use Rattle.pj_plan_text.specs.Pairs.{ArePairs, IsPair};
-ghost use Rattle.pj_element.specs.Elements.{pattern_spelling};
+ghost use Rattle.std.specs.Prelude.{◌≡◌, ◌++◌, [], ◌∷◌, OnOk, map};
+ghost use Rattle.pj_plan_text.specs.Spelling.{agg_cell, class_cell, column_cell, each_behind, kind_word, mark_cell, named_agg_cell, renamed_cell, test_cell, test_cells};
 
-use crate::named::{class_column, column_at, name_at};
 use pj_element::pattern_text;
-use pj_pattern::{Pattern, Shape};
-use pj_plan::Plan;
-use pj_shape::{Agg, ClassCol, Column, Schema, Scheme};
-use pj_value::{Kind, List, NoMemory};
+use pj_plan::{AggWord, ColumnWord, NamedAgg, Renamed, Test, TestWord};
+use pj_value::{Bytes, Kind, List, NoMemory};
 use std::alloc::Global;
 
 pub(crate) fn append_cell(cell: &[u8], out: &mut List<u8>) -> Result<(), NoMemory>
@@ -23,10 +15,27 @@ pub(crate) fn append_cell(cell: &[u8], out: &mut List<u8>) -> Result<(), NoMemor
     Ok(())
 }
 
+/// Names, each behind this byte.
+pub(crate) fn append_names(mark: u8, names: &[Bytes], out: &mut List<u8>) -> Result<(), NoMemory>
+    ensures { OnOk result (out.new ≡ out.old ++ each_behind mark names.now) }
+{
+    for name in names {
+        append_name(mark, name.as_slice(), out)?;
+    }
+    Ok(())
+}
+
+fn append_name(mark: u8, name: &[u8], out: &mut List<u8>) -> Result<(), NoMemory>
+    ensures { OnOk result (out.new ≡ out.old ++ mark ∷ name.now) }
+{
+    out.push(mark)?;
+    out.append(name)?;
+    Ok(())
+}
+
 /// `COL:KIND ..`
-#[tactic(auto, using(crate::proofs::CellTexts::wrote_none, crate::proofs::CellTexts::wrote_more, crate::proofs::CellTexts::wrote_twice))]
-pub(crate) fn append_columns(columns: &[Column], out: &mut List<u8>) -> Result<(), NoMemory>
-    ensures { OnOk result (out.new ≡ out.old ++ each_behind 32 (map column_cell (map column_word columns.now))) }
+pub(crate) fn append_columns(columns: &[ColumnWord], out: &mut List<u8>) -> Result<(), NoMemory>
+    ensures { OnOk result (out.new ≡ out.old ++ each_behind 32 (map column_cell columns.now)) }
 {
     for column in columns {
         append_column(column, out)?;
@@ -34,8 +43,8 @@ pub(crate) fn append_columns(columns: &[Column], out: &mut List<u8>) -> Result<(
     Ok(())
 }
 
-fn append_column(column: &Column, out: &mut List<u8>) -> Result<(), NoMemory>
-    ensures { OnOk result (out.new ≡ out.old ++ 32 ∷ column_cell (column_word column.now)) }
+fn append_column(column: &ColumnWord, out: &mut List<u8>) -> Result<(), NoMemory>
+    ensures { OnOk result (out.new ≡ out.old ++ 32 ∷ column_cell column.now) }
 {
     append_cell(column.name.as_slice(), out)?;
     out.push(b':')?;
@@ -53,12 +62,11 @@ fn kind_text(kind: Kind) -> &'static [u8]
 }
 
 /// `MARK ..`
-#[tactic(auto, using(crate::proofs::CellTexts::wrote_none, crate::proofs::CellTexts::wrote_at, crate::proofs::CellTexts::wrote_all))]
-pub(crate) fn append_marks(scheme: &Scheme, out: &mut List<u8>) -> Result<(), NoMemory>
-    ensures { OnOk result (out.new ≡ out.old ++ each_behind 32 (map mark_cell scheme.now)) }
+pub(crate) fn append_marks(marks: &[bool], out: &mut List<u8>) -> Result<(), NoMemory>
+    ensures { OnOk result (out.new ≡ out.old ++ each_behind 32 (map mark_cell marks.now)) }
 {
-    for at in 0..scheme.len() {
-        append_cell(mark_text(*scheme.at(at)), out)?;
+    for mark in marks {
+        append_cell(mark_text(*mark), out)?;
     }
     Ok(())
 }
@@ -69,207 +77,68 @@ fn mark_text(mark: bool) -> &'static [u8]
     if mark { b"+" } else { b"_" }
 }
 
-/// `INPUT ..`
-#[tactic(auto, using(crate::proofs::CellTexts::wrote_none, crate::proofs::CellTexts::wrote_more, crate::proofs::CellTexts::wrote_all))]
-pub(crate) fn append_inputs(plan: &Plan, inputs: &[u32], out: &mut List<u8>) -> Result<(), NoMemory>
-    ensures { OnOk result (out.new ≡ out.old ++ each_behind 32 (map (node_name plan.now.nodes) inputs.now)) }
-{
-    for input in inputs {
-        append_cell(name_at(plan, *input), out)?;
-    }
-    Ok(())
-}
-
-/// `COL ..`
-#[tactic(auto, using(crate::proofs::CellTexts::wrote_none, crate::proofs::CellTexts::wrote_more, crate::proofs::CellTexts::wrote_all))]
-pub(crate) fn append_keys(
-    columns: &[Column],
-    keys: &[u32],
-    out: &mut List<u8>,
-) -> Result<(), NoMemory>
-    ensures { OnOk result (out.new ≡ out.old ++ each_behind 32 (map (column_name columns.now) keys.now)) }
-{
-    for key in keys {
-        append_cell(column_at(columns, *key), out)?;
-    }
-    Ok(())
-}
-
 /// `CLASS ..`
-#[tactic(auto, using(crate::proofs::CellTexts::wrote_none))]
-pub(crate) fn append_classes(
-    schemas: &[Schema],
-    classes: &[List<ClassCol>],
-    out: &mut List<u8>,
-) -> Result<(), NoMemory>
-    ensures { OnOk result (out.new ≡ out.old ++ each_behind 32 (map class_cell (map (class_words schemas.now) classes.now))) }
+pub(crate) fn append_classes(classes: &[List<Bytes>], out: &mut List<u8>) -> Result<(), NoMemory>
+    ensures { OnOk result (out.new ≡ out.old ++ each_behind 32 (map class_cell classes.now)) }
 {
     for class in classes {
-        append_class(schemas, class.as_slice(), out)?;
+        append_class(class.as_slice(), out)?;
     }
     Ok(())
 }
 
-fn append_class(schemas: &[Schema], class: &[ClassCol], out: &mut List<u8>) -> Result<(), NoMemory>
-    ensures { OnOk result (out.new ≡ out.old ++ 32 ∷ class_cell (class_words schemas.now class.now)) }
+fn append_class(names: &[Bytes], out: &mut List<u8>) -> Result<(), NoMemory>
+    ensures { OnOk result (out.new ≡ out.old ++ 32 ∷ class_cell names.now) }
 {
     out.push(b' ')?;
-    match class {
+    match names {
         [] => Ok(()),
         [first, others @ ..] => {
-            out.append(class_column(schemas, *first))?;
-            append_equals(schemas, others, out)?;
+            out.append(first.as_slice())?;
+            append_names(b'=', others, out)?;
             Ok(())
         }
     }
 }
 
-// Columns, each behind a `=`.
-#[tactic(auto, using(crate::proofs::CellTexts::wrote_none, crate::proofs::CellTexts::wrote_all))]
-fn append_equals(schemas: &[Schema], class: &[ClassCol], out: &mut List<u8>) -> Result<(), NoMemory>
-    ensures { OnOk result (out.new ≡ out.old ++ each_behind 61 (class_words schemas.now class.now)) }
-{
-    for at in class {
-        append_equal(class_column(schemas, *at), out)?;
-    }
-    Ok(())
-}
-
-fn append_equal(name: &[u8], out: &mut List<u8>) -> Result<(), NoMemory>
-    ensures { OnOk result (out.new ≡ out.old ++ 61 ∷ name.now) }
-{
-    out.push(b'=')?;
-    out.append(name)?;
-    Ok(())
-}
-
-/// `COL PATTERN ..`, a pair for each pattern that is no wildcard, or else one for the first column.
-#[tactic(auto, using(crate::proofs::TestTexts::none_written, crate::proofs::TestTexts::some_written))]
+/// `COL PATTERN ..`
 pub(crate) fn append_tests(
     alloc: Global,
-    columns: &[Column],
-    patterns: &[Pattern],
+    tests: &[TestWord],
     out: &mut List<u8>,
 ) -> Result<(), NoMemory>
-    ensures { OnOk result (out.new ≡ out.old ++ each_behind 32 (test_cells (tests_of columns.now patterns.now))) }
+    ensures { OnOk result (out.new ≡ out.old ++ each_behind 32 (test_cells tests.now)) }
 {
-    if append_pairs(alloc, columns, patterns, out)? {
-        return Ok(());
+    for test in tests {
+        append_pair(alloc, test, out)?;
     }
-    append_first(alloc, columns, patterns, out)?;
     Ok(())
 }
 
-// A pair for each pattern that is no wildcard, and whether there is one.
-#[tactic(auto, using(crate::proofs::TestTexts::pairs_start, crate::proofs::TestTexts::pairs_more, crate::proofs::TestTexts::no_columns, crate::proofs::TestTexts::no_patterns))]
-fn append_pairs(
-    alloc: Global,
-    columns: &[Column],
-    patterns: &[Pattern],
-    out: &mut List<u8>,
-) -> Result<bool, NoMemory>
-    ensures { IfOk result (λ some. ArePairs columns.now patterns.now out.old out.new some) }
+fn append_pair(alloc: Global, word: &TestWord, out: &mut List<u8>) -> Result<(), NoMemory>
+    ensures { OnOk result (out.new ≡ out.old ++ each_behind 32 (word.now.column ∷ test_cell word.now.test ∷ [])) }
 {
-    let mut some = false;
-    let mut columns_left = columns;
-    let mut patterns_left = patterns;
-    while let [column, columns_behind @ ..] = columns_left {
-        match patterns_left {
-            [] => return Ok(some),
-            [pattern, patterns_behind @ ..] => {
-                some = append_pair(alloc, column, pattern, some, out)?;
-                columns_left = columns_behind;
-                patterns_left = patterns_behind;
-            }
-        }
-    }
-    Ok(some)
-}
-
-// The pair of a column where its pattern is no wildcard; and whether there is one now.
-fn append_pair(
-    alloc: Global,
-    column: &Column,
-    pattern: &Pattern,
-    some: bool,
-    out: &mut List<u8>,
-) -> Result<bool, NoMemory>
-    ensures { IfOk result (λ now. IsPair column.now pattern.now some out.old out.new now) }
-{
-    if is_wild(pattern) {
-        return Ok(some);
-    }
-    append_test(alloc, column, pattern, out)?;
-    Ok(true)
-}
-
-fn append_first(
-    alloc: Global,
-    columns: &[Column],
-    patterns: &[Pattern],
-    out: &mut List<u8>,
-) -> Result<(), NoMemory>
-    ensures { OnOk result (out.new ≡ out.old ++ each_behind 32 (test_cells (first_test columns.now patterns.now))) }
-{
-    match columns {
-        [] => Ok(()),
-        [column, ..] => match patterns {
-            [] => Ok(()),
-            [pattern, ..] => {
-                append_test(alloc, column, pattern, out)?;
-                Ok(())
-            }
-        },
-    }
-}
-
-fn append_test(
-    alloc: Global,
-    column: &Column,
-    pattern: &Pattern,
-    out: &mut List<u8>,
-) -> Result<(), NoMemory>
-    ensures { OnOk result (out.new ≡ out.old ++ each_behind 32 (column.now.name ∷ pattern_spelling pattern.now ∷ [])) }
-{
-    append_cell(column.name.as_slice(), out)?;
+    append_cell(word.column.as_slice(), out)?;
     out.push(b' ')?;
-    pattern_text(alloc, pattern, out)?;
+    append_test(alloc, &word.test, out)?;
     Ok(())
 }
 
-fn is_wild(pattern: &Pattern) -> bool
-    ensures { result ≡ matches_all pattern.now }
+fn append_test(alloc: Global, test: &Test, out: &mut List<u8>) -> Result<(), NoMemory>
+    ensures { OnOk result (out.new ≡ out.old ++ test_cell test.now) }
 {
-    match pattern.shape() {
-        Shape::Wild => true,
-        Shape::Empty => false,
-        Shape::Constant(_) => false,
-        Shape::Range(_, _) => false,
-        Shape::Members(_) => false,
+    match test {
+        Test::One(pattern) => pattern_text(alloc, pattern, out),
+        Test::Mixed => out.append(b"{0|\"\"}"),
     }
 }
 
-/// `COL ..` of a project: the columns with these numbers under their new names.
-#[tactic(auto, using(crate::proofs::TestTexts::left_start, crate::proofs::TestTexts::renamed_more, crate::proofs::TestTexts::left_end))]
-pub(crate) fn append_renamed(
-    news: &[Column],
-    columns: &[Column],
-    numbers: &[u32],
-    out: &mut List<u8>,
-) -> Result<(), NoMemory>
-    ensures { OnOk result (out.new ≡ out.old ++ each_behind 32 (map renamed_cell (renamed_of news.now columns.now numbers.now))) }
+/// `COL ..` of a project.
+pub(crate) fn append_renamed(columns: &[Renamed], out: &mut List<u8>) -> Result<(), NoMemory>
+    ensures { OnOk result (out.new ≡ out.old ++ each_behind 32 (map renamed_cell columns.now)) }
 {
-    let mut news_left = news;
-    let mut numbers_left = numbers;
-    while let [new, news_behind @ ..] = news_left {
-        match numbers_left {
-            [] => return Ok(()),
-            [number, numbers_behind @ ..] => {
-                append_as(new.name.as_slice(), column_at(columns, *number), out)?;
-                news_left = news_behind;
-                numbers_left = numbers_behind;
-            }
-        }
+    for column in columns {
+        append_as(column.new.as_slice(), column.old.as_slice(), out)?;
     }
     Ok(())
 }
@@ -283,58 +152,44 @@ fn append_as(new: &[u8], old: &[u8], out: &mut List<u8>) -> Result<(), NoMemory>
         return Ok(());
     }
     append_cell(new, out)?;
-    append_equal(old, out)?;
+    append_name(b'=', old, out)?;
     Ok(())
 }
 
-/// `NEW=AGG ..`: the aggregates under their names.
-#[tactic(auto, using(crate::proofs::TestTexts::left_start, crate::proofs::TestTexts::aggs_more, crate::proofs::TestTexts::left_end))]
-pub(crate) fn append_aggs(
-    news: &[Column],
-    columns: &[Column],
-    aggs: &[Agg],
-    out: &mut List<u8>,
-) -> Result<(), NoMemory>
-    ensures { OnOk result (out.new ≡ out.old ++ each_behind 32 (map named_agg_cell (aggs_of news.now columns.now aggs.now))) }
+/// `NEW=AGG ..`
+pub(crate) fn append_aggs(aggs: &[NamedAgg], out: &mut List<u8>) -> Result<(), NoMemory>
+    ensures { OnOk result (out.new ≡ out.old ++ each_behind 32 (map named_agg_cell aggs.now)) }
 {
-    let mut news_left = news;
-    let mut aggs_left = aggs;
-    while let [new, news_behind @ ..] = news_left {
-        match aggs_left {
-            [] => return Ok(()),
-            [agg, aggs_behind @ ..] => {
-                append_agg(new.name.as_slice(), columns, *agg, out)?;
-                news_left = news_behind;
-                aggs_left = aggs_behind;
-            }
-        }
+    for word in aggs {
+        append_named_agg(word, out)?;
     }
     Ok(())
 }
 
-fn append_agg(name: &[u8], columns: &[Column], agg: Agg, out: &mut List<u8>) -> Result<(), NoMemory>
-    ensures { OnOk result (out.new ≡ out.old ++ 32 ∷ named_agg_cell (record { name = name.now; agg = agg_word columns.now agg })) }
+fn append_named_agg(word: &NamedAgg, out: &mut List<u8>) -> Result<(), NoMemory>
+    ensures { OnOk result (out.new ≡ out.old ++ 32 ∷ named_agg_cell word.now) }
 {
-    append_cell(name, out)?;
+    append_cell(word.name.as_slice(), out)?;
+    out.push(b'=')?;
+    append_agg(&word.agg, out)?;
+    Ok(())
+}
+
+fn append_agg(agg: &AggWord, out: &mut List<u8>) -> Result<(), NoMemory>
+    ensures { OnOk result (out.new ≡ out.old ++ agg_cell agg.now) }
+{
     match agg {
-        Agg::Count => {
-            out.append(b"=count")?;
-            Ok(())
-        }
-        Agg::Sum(column) => {
-            out.append(b"=sum:")?;
-            out.append(column_at(columns, column))?;
-            Ok(())
-        }
-        Agg::Min(column) => {
-            out.append(b"=min:")?;
-            out.append(column_at(columns, column))?;
-            Ok(())
-        }
-        Agg::Max(column) => {
-            out.append(b"=max:")?;
-            out.append(column_at(columns, column))?;
-            Ok(())
-        }
+        AggWord::Count => out.append(b"count"),
+        AggWord::Sum(column) => append_over(b"sum:", column.as_slice(), out),
+        AggWord::Min(column) => append_over(b"min:", column.as_slice(), out),
+        AggWord::Max(column) => append_over(b"max:", column.as_slice(), out),
     }
+}
+
+fn append_over(word: &[u8], column: &[u8], out: &mut List<u8>) -> Result<(), NoMemory>
+    ensures { OnOk result (out.new ≡ out.old ++ (word.now ++ column.now)) }
+{
+    out.append(word)?;
+    out.append(column)?;
+    Ok(())
 }

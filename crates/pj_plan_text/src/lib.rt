@@ -7,7 +7,6 @@ mod cuts;
 mod laws;
 mod line_texts;
 mod lists;
-mod named;
 mod names;
 mod reader;
 mod statements;

@@ -1,16 +1,12 @@
 // The canonical text of a plan.
-ghost use Rattle.std.specs.Prelude.{◌≡◌, ◌<◌, ◌++◌, OnOk, OnErr, flat_map, length, slice_index_or};
-ghost use Rattle.pj_plan.specs.Canonical.{no_node, node_statements};
+ghost use Rattle.std.specs.Prelude.{◌≡◌, ◌++◌, OnOk, OnErr};
 ghost use Rattle.pj_plan_text.specs.Laws.{PlanIsReadAgain};
 ghost use Rattle.pj_plan_text.specs.Spelling.{lines_of, plan_spelling};
 
-use crate::line_texts::{
-    append_group, append_join, append_output, append_project, append_schemes, append_select,
-    append_stream, append_union, append_version,
-};
-use crate::named::{columns_at, name_at};
+use crate::line_texts::append_line;
 use crate::storable::see_nodes;
-use pj_plan::{Node, Plan};
+use pj_plan::{Plan, Statement};
+use pj_statements::statements;
 use pj_value::{List, NoMemory};
 use std::alloc::Global;
 
@@ -33,63 +29,20 @@ pub fn plan_text(alloc: Global, plan: &Plan, out: &mut List<u8>) -> Result<(), N
     Ok(())
 }
 
-#[tactic(auto, using(crate::proofs::LineTexts::plan_lines))]
 fn append_plan(alloc: Global, plan: &Plan, out: &mut List<u8>) -> Result<(), NoMemory>
     ensures { OnOk result (out.new ≡ out.old ++ plan_spelling plan.now) }
 {
-    append_version(alloc, plan.version(), out)?;
-    append_nodes(alloc, plan, out)?;
-    append_output(name_at(plan, plan.root()), out)?;
+    let statements = statements(alloc, plan)?;
+    append_lines(alloc, statements.as_slice(), out)?;
     Ok(())
 }
 
-// The statements of all nodes.
-#[tactic(auto, using(crate::proofs::LineTexts::nodes_none, crate::proofs::LineTexts::nodes_more, crate::proofs::LineTexts::nodes_all))]
-fn append_nodes(alloc: Global, plan: &Plan, out: &mut List<u8>) -> Result<(), NoMemory>
-    ensures { OnOk result (out.new ≡ out.old ++ lines_of (flat_map (node_statements plan.now.nodes) plan.now.nodes)) }
+// A line for each statement.
+fn append_lines(alloc: Global, statements: &[Statement], out: &mut List<u8>) -> Result<(), NoMemory>
+    ensures { OnOk result (out.new ≡ out.old ++ lines_of statements.now) }
 {
-    for number in 0..plan.nodes() {
-        append_node(alloc, plan, number, out)?;
-    }
-    Ok(())
-}
-
-// The statement of a node, and those of its schemes.
-#[tactic(auto, using(crate::proofs::LineTexts::one_line))]
-fn append_node(alloc: Global, plan: &Plan, number: u32, out: &mut List<u8>) -> Result<(), NoMemory>
-    requires { number < length plan.now.nodes }
-    ensures { OnOk result (out.new ≡ out.old ++ lines_of (node_statements plan.now.nodes (slice_index_or plan.now.nodes number no_node))) }
-{
-    let name = plan.name(number);
-    let schema = plan.schema(number).columns();
-    match plan.node(number) {
-        Node::Stream { schemes } => {
-            append_stream(name, schema, out)?;
-            append_schemes(name, schemes.as_slice(), out)?;
-        }
-        Node::Select { input, test } => {
-            append_select(alloc, name, name_at(plan, *input), schema, test, out)?;
-        }
-        Node::Project { input, columns } => {
-            let from = columns_at(plan, *input);
-            append_project(
-                name,
-                name_at(plan, *input),
-                schema,
-                from,
-                columns.as_slice(),
-                out,
-            )?;
-        }
-        Node::Union { inputs } => {
-            append_union(plan, name, inputs.as_slice(), out)?;
-        }
-        Node::Join { inputs, spec } => {
-            append_join(plan, name, inputs.as_slice(), spec, out)?;
-        }
-        Node::Group { input, spec } => {
-            append_group(plan, name, *input, schema, spec, out)?;
-        }
+    for statement in statements {
+        append_line(alloc, statement, out)?;
     }
     Ok(())
 }

@@ -5,6 +5,7 @@ use Rattle.std.proofs.lemmas.List.{append_assoc, drop_more, length-map, length-a
 use Rattle.std.proofs.lemmas.List.Concat.{length-flat_map}
 use Rattle.std.proofs.lemmas.List.Sums.{sum_by-cons, sum_by-append, sum_by_push, sum_by-le-sum_by}
 use Rattle.pj_value.specs.Lists.{In}
+use Rattle.pj_value.proofs.Members.{filter_few}
 use Rattle.pj_shape.specs.declared.columns.Column.{Column}
 use Rattle.pj_shape.specs.Sound.{arities_of}
 use Rattle.pj_plan.specs.declared.node.Node.{Node}
@@ -72,14 +73,6 @@ distinct_counts (list ∷ done) numbers d =
     omega (arith, counts_with_first list done numbers d, sum_by-cons length list done, distinct_counts done (lowered numbers) (lowered_distinct numbers d))
 
 -- ---- one node
-
-filter_few : {A : Type 0} (p : A → Bool) (xs : List A) → length (filter p xs) ≤ length xs
-filter_few p [] = omega arith
-filter_few {A} p (x ∷ xs) = go (p x) (filter_few p xs)
-  where
-    go : (b : Bool) → length (filter p xs) ≤ length xs → length (cond b (x ∷ filter p xs) (filter p xs)) ≤ suc (length xs)
-    go true h = omega (arith, h)
-    go false h = omega (arith, h)
 
 projected_few : (columns : List ℕ) (schemes : List (List Bool)) → length (projected columns schemes) ≤ length schemes
 projected_few columns schemes = omega (arith, length-map (filter (are_kept columns) schemes) (cut columns), filter_few (are_kept columns) schemes)

@@ -5,7 +5,7 @@ use Rattle.std.proofs.lemmas.List.Sums.{sum_by-cons}
 use Rattle.pj_value.specs.Lists.{In}
 use Rattle.pj_value.proofs.Members.{In-append_cases, In-filter, In-flat_map, In-map}
 use Rattle.pj_shape.specs.declared.columns.Column.{Column}
-use Rattle.pj_shape.specs.Sound.{arities_of}
+use Rattle.pj_shape.specs.Sound.{arities_of, FitSchemes}
 use Rattle.pj_shape.proofs.KindsOf.{kinds_length}
 use Rattle.pj_plan.specs.declared.node.Node.{Node}
 use Rattle.pj_plan.specs.declared.node.Node.TheVariants.{Stream, Select, Project, Union, Join, Group}
@@ -14,7 +14,7 @@ use Rattle.pj_plan.specs.Nodes.{inputs_of}
 use Rattle.pj_plan.specs.Canonical.{no_node, node_at, node_schema}
 use Rattle.pj_plan.specs.Sound.{IsSoundPlan, IsSoundOperator, kind_at, agg_kind_at}
 use Rattle.pj_scheme.specs.Derived.{mark_at, cut, are_kept, widened, schemes_at, inputs_schemes, projected, others_have, joined, node_schemes, derived_from, schemes_of}
-use Rattle.pj_scheme.specs.Fitting.{AreAsWide, FitInputs}
+use Rattle.pj_scheme.specs.Fitting.{AreAsWide}
 use Rattle.pj_scheme.specs.Laws.{NodesFit, JoinsFit}
 
 -- each scheme so far is as long as its node's schema
@@ -131,7 +131,7 @@ as_wide [] (list ∷ lists) e wide = absurd (omega arith)
 as_wide (node ∷ nodes) [] e wide = absurd (omega arith)
 as_wide (node ∷ nodes) (list ∷ lists) e wide = ((λ marks h. wide 0 marks h), as_wide nodes lists (omega arith) (λ m marks h. wide (suc m) marks h))
 
-inputs_fit : (nodes : List PlanNode) (all : List (List (List Bool))) (inputs : List ℕ) → AreWide nodes all → FitInputs (map (node_schema nodes) inputs) (inputs_schemes all inputs)
+inputs_fit : (nodes : List PlanNode) (all : List (List (List Bool))) (inputs : List ℕ) → AreWide nodes all → FitSchemes (map (node_schema nodes) inputs) (inputs_schemes all inputs)
 inputs_fit nodes all [] wide = tt
 inputs_fit nodes all (input ∷ inputs) wide = ((λ marks h. wide input marks h), inputs_fit nodes all inputs wide)
 

@@ -6,7 +6,7 @@ use Rattle.pj_shape.specs.Sound.{arities_of}
 use Rattle.pj_plan.specs.declared.node.Node.{Node}
 use Rattle.pj_plan.specs.declared.node.Node.TheVariants.{Stream, Select, Project, Union, Join, Group}
 use Rattle.pj_plan.specs.declared.node.PlanNode.{PlanNode}
-use Rattle.pj_plan.specs.Faults.{is_in}
+use Rattle.pj_value.specs.Lists.{has}
 
 -- ---- marks
 
@@ -25,7 +25,7 @@ marks_among marks others = each_marked (mark_at others) 0 marks
 
 -- each marked column of the scheme is one of these
 abbrev pub are_kept : List ℕ → List Bool → Bool
-are_kept columns scheme = each_marked (is_in columns) 0 scheme
+are_kept columns scheme = each_marked (has columns) 0 scheme
 
 -- the marks at these columns, in their order
 abbrev pub cut : List ℕ → List Bool → List Bool

@@ -1,7 +1,6 @@
 -- Schemes that are as long as the rows that they speak of.
 use Rattle.std.specs.Prelude.{◌≡◌, ◌≤◌, Bool, List, [], ◌∷◌, length, sum}
 use Rattle.pj_value.specs.Lists.{In}
-use Rattle.pj_shape.specs.declared.columns.Column.{Column}
 use Rattle.pj_shape.specs.Sound.{arities_of}
 use Rattle.pj_plan.specs.declared.node.Node.{Node}
 use Rattle.pj_plan.specs.declared.node.Node.TheVariants.{Stream, Select, Project, Union, Join, Group}
@@ -14,14 +13,6 @@ AreAsWide [] (list ∷ lists) = ⊥
 AreAsWide (node ∷ nodes) [] = ⊥
 AreAsWide (node ∷ nodes) (list ∷ lists) =
     ((marks : List Bool) → In marks list → length marks ≡ length node.schema) × AreAsWide nodes lists
-
--- one list of schemes for each input, each scheme as long as its input's schema
-abbrev pub FitInputs : List (List Column) → List (List (List Bool)) → Type 0
-FitInputs [] [] = Unit {0}
-FitInputs [] (list ∷ lists) = ⊥
-FitInputs (schema ∷ schemas) [] = ⊥
-FitInputs (schema ∷ schemas) (list ∷ lists) =
-    ((marks : List Bool) → In marks list → length marks ≡ length schema) × FitInputs schemas lists
 
 -- a join has at most 120 columns in all
 abbrev pub IsNarrow : Node → Type 0

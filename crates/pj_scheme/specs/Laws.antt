@@ -5,7 +5,8 @@ use Rattle.pj_plan.specs.Nodes.{inputs_of, is_join}
 use Rattle.pj_plan.specs.Canonical.{node_at, node_schema}
 use Rattle.pj_plan.specs.Sound.{IsSoundPlan}
 use Rattle.pj_scheme.specs.Derived.{schemes_at, schemes_of, inputs_schemes}
-use Rattle.pj_scheme.specs.Fitting.{AreAsWide, FitInputs}
+use Rattle.pj_scheme.specs.Fitting.{AreAsWide}
+use Rattle.pj_shape.specs.Sound.{FitSchemes}
 
 -- each scheme of a node is as long as the node's schema
 abbrev pub NodesFit : Type 0
@@ -13,7 +14,7 @@ NodesFit = (nodes : List PlanNode) → IsSoundPlan nodes → AreAsWide nodes (sc
 
 -- these schemes of inputs fit the inputs
 abbrev pub InputsFit : List PlanNode → List ℕ → Type 0
-InputsFit nodes inputs = FitInputs (map (node_schema nodes) inputs) (inputs_schemes (schemes_of nodes) inputs)
+InputsFit nodes inputs = FitSchemes (map (node_schema nodes) inputs) (inputs_schemes (schemes_of nodes) inputs)
 
 -- each scheme of an input of a join is as long as the input's schema
 abbrev pub JoinsFit : Type 0

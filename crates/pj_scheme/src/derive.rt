@@ -1,5 +1,5 @@
 // The schemes of all nodes of a plan, and those of a join's inputs.
-ghost use Rattle.std.specs.Prelude.{◌≡◌, ◌<◌, true, IfOk, length};
+ghost use Rattle.std.specs.Prelude.{◌≡◌, ◌<◌, true, IfOk, length, slice_index};
 ghost use Rattle.pj_plan.specs.Nodes.{inputs_of as inputs, is_join};
 ghost use Rattle.pj_plan.specs.Canonical.{node_at};
 ghost use Rattle.pj_scheme.specs.Derived.{schemes_of, schemes_at as schemes_of_node, inputs_schemes};
@@ -41,10 +41,10 @@ pub fn join_schemes(
 {
     // A sound plan has the nodes that feed its joins.
     let _count = plan.nodes();
-    let inputs = inputs_of(plan.node(join));
-    let mut schemes = List::with_room(alloc, inputs.len())?;
-    for input in inputs {
-        schemes.push(schemes_at(all, *input).try_clone(alloc)?)?;
+    let node = plan.node(join);
+    let mut schemes = List::with_room(alloc, node.inputs())?;
+    for at in 0..node.inputs() {
+        schemes.push(schemes_of_input(alloc, all, node, at)?)?;
     }
     Ok(Schemes::of(schemes))
 }
@@ -58,18 +58,20 @@ fn schemes_at(all: &Schemes, number: u32) -> &List<Scheme>
     all.at(number as usize)
 }
 
-// The numbers of the nodes that feed it.
-fn inputs_of(node: &Node) -> &[u32]
-    requires { is_join node.now ≡ true }
-    ensures { result.now ≡ inputs node.now }
+// The schemes of the node that feeds an input.
+fn schemes_of_input(
+    alloc: Global,
+    all: &Schemes,
+    node: &Node,
+    at: usize,
+) -> Result<List<Scheme>, NoMemory>
+    requires there { at < length (inputs node.now) }
+    requires known { slice_index (inputs node.now) at < length all.now }
+    ensures { IfOk result (λ schemes. schemes ≡ schemes_of_node all.now (slice_index (inputs node.now) at)) }
 {
-    match node {
-        Node::Stream { .. } => &[],
-        Node::Select { .. } => &[],
-        Node::Project { .. } => &[],
-        Node::Union { .. } => &[],
-        Node::Join { inputs, .. } => inputs.as_slice(),
-        Node::Group { .. } => &[],
+    match node.input(at) {
+        None => unreachable!(),
+        Some(input) => schemes_at(all, input).try_clone(alloc),
     }
 }
 

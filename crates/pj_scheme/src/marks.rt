@@ -1,7 +1,7 @@
 // The marks of one scheme.
 ghost use Rattle.std.specs.Prelude.{◌≡◌, ◌++◌, IfOk, OnOk};
-ghost use Rattle.pj_plan.specs.Faults.{is_in as one_of};
 ghost use Rattle.pj_scheme.specs.Derived.{mark_at, marks_among as among, are_kept as kept, cut as cut_to, widened as wider, unmarked};
+ghost use Rattle.pj_value.specs.Lists.{has as one_of};
 
 use pj_shape::Scheme;
 use pj_value::{List, NoMemory};

@@ -1,6 +1,6 @@
-use Rattle.pj_plan_text.specs.Spelling.{mark_cell}
-use Rattle.pj_plan_text.proofs.CellTexts.{Wrote}
+use Rattle.std.proofs.Common.{◌≡◌, ◌++◌, drop, map}
+use Rattle.pj_plan_text.specs.Spelling.{each_behind, mark_cell}
 use Rattle.pj_plan_text.proofs.cell_texts.append_marks.Given as goal
 
-abbrev pub invariant-loop-at : goal.invariant-loop-at
-invariant-loop-at l = Wrote mark_cell 32 l.scheme l.at l.fn.out l.out
+abbrev pub invariant-loop-mark : goal.invariant-loop-mark
+invariant-loop-mark l = l.out ++ each_behind 32 (map mark_cell (drop l.mark-index l.marks)) ≡ l.fn.out ++ each_behind 32 (map mark_cell l.marks)
