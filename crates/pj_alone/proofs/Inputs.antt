@@ -4,16 +4,17 @@ use Rattle.std.proofs.lemmas.List.FromFn.{map-range_with_len_more}
 use Rattle.pj_shape.specs.declared.joins.CertStep.{CertStep}
 use Rattle.pj_graph.specs.declared.answers.Reach.{Reach}
 use Rattle.pj_graph.specs.declared.answers.Reach.TheVariants.{All, Stuck}
-use Rattle.pj_graph.specs.Sets.{IsSafe, Reaches, among}
-use Rattle.pj_graph.specs.Certificates.{IsCertificate}
+use Rattle.pj_shape.specs.Sets.{IsSafe, Reaches}
+use Rattle.pj_shape.specs.Certificates.{IsCertificate}
 use Rattle.pj_graph.specs.Laws.{SaturationsAreTold}
 use Rattle.pj_graph.specs.Saturation.{certificate_of}
 use Rattle.pj_graph.specs.Reaching.{IsReach, IsStuck, IsWhole}
-use Rattle.pj_graph.proofs.Saturations.{in_among}
 use Rattle.pj_alone.specs.declared.safety.Unsafe.{Unsafe}
 use Rattle.pj_alone.specs.declared.safety.Verdict.TheVariants.{Refused}
 use Rattle.pj_alone.specs.Asked.{AreCertified, Asked, FirstGoEverywhere, IsFirstOf, IsJoinJudged, IsStuckAt, first_certificates, or_stuck, stuck_lines}
 use Rattle.pj_alone.specs.Safety.{HasUnsafeLines}
+use Rattle.pj_value.specs.Lists.{has}
+use Rattle.pj_value.proofs.Numbers.{in-has}
 
 pub one_more : (asked : Asked) (n : ℕ) (cert : List CertStep) → FirstGoEverywhere asked n → IsWhole asked.spec asked.schemes n cert → FirstGoEverywhere asked (n + 1)
 one_more asked n cert before whole from lt to there = below_more (λ (k : ℕ). (m : ℕ) → m < length asked.spec.inputs → Reaches asked.spec asked.schemes k m) n before whole.all from lt to there
@@ -38,8 +39,8 @@ first_more asked n None (All cert) is lt whole = one_more asked n cert is whole
 first_more asked n None (Stuck reached missing) is lt stuck = stuck_at asked n missing reached is lt stuck
 
 -- an input reaches itself
-pub inside : (asked : Asked) (n missing : ℕ) (reached : List ℕ) → n < length asked.spec.inputs → IsStuck asked.spec asked.schemes n reached missing → among reached n ≡ true
-inside asked n missing reached lt stuck = in_among reached n ((stuck.exactly n).1 (lt, λ set closed here. here))
+pub inside : (asked : Asked) (n missing : ℕ) (reached : List ℕ) → n < length asked.spec.inputs → IsStuck asked.spec asked.schemes n reached missing → has reached n ≡ true
+inside asked n missing reached lt stuck = in-has reached n ((stuck.exactly n).1 (lt, λ set closed here. here))
 
 -- ---- what is found of a join
 

@@ -2,11 +2,11 @@
 use Rattle.std.proofs.Common.{ℕ, zero, suc, ◌+◌, ◌<◌, ◌≡◌, length, get_or, take, arith, Bool, true, false, ◌&&◌, cond, List, [], ◌∷◌, map, flat_map, refl, sym, ap, ◌∙◌, subst, inl, inr}
 use Rattle.std.specs.List.{list_all}
 use Rattle.std.proofs.lemmas.Bool.{and_parts, and_from, false≢true}
-use Rattle.pj_value.specs.Lists.{In}
+use Rattle.pj_value.specs.Lists.{In, AreRising}
 use Rattle.pj_value.proofs.Members.{In-append_left, In-flat_map_from, all_at, in-place}
 use Rattle.pj_shape.specs.declared.columns.Column.{Column}
 use Rattle.pj_shape.specs.declared.joins.JoinSpec.{JoinSpec}
-use Rattle.pj_shape.specs.Sound.{IsSoundSpec}
+use Rattle.pj_shape.specs.Sound.{IsSoundSpec, FitSchemes}
 use Rattle.pj_plan.specs.declared.node.Node.{Node}
 use Rattle.pj_plan.specs.declared.node.Node.TheVariants.{Stream, Select, Project, Union, Join, Group}
 use Rattle.pj_plan.specs.declared.node.Outline.{Outline}
@@ -17,10 +17,10 @@ use Rattle.pj_plan.specs.Names.{AreSpelled, begins_small, is_column_name, is_nam
 use Rattle.pj_plan.specs.Nodes.{inputs_of, is_join, joins_of, numbers_from}
 use Rattle.pj_plan.specs.Sound.{IsSoundOperator, IsSoundPlan}
 use Rattle.pj_scheme.specs.Derived.{inputs_schemes, schemes_of}
-use Rattle.pj_scheme.specs.Fitting.{AreAsWide, FitInputs}
-use Rattle.pj_scheme.specs.Laws.{JoinsFit, NodesFit}
-use Rattle.pj_graph.specs.Sets.{FitSchemes}
-use Rattle.pj_alone.specs.Safety.{AreRising, schemes_at, spec_at, spec_in}
+use Rattle.pj_scheme.specs.Fitting.{AreAsWide}
+use Rattle.pj_scheme.specs.Laws.{JoinsFit, NodesFit, SchemesAreFew}
+use Rattle.pj_graph.specs.Reaching.{AreFewSchemes}
+use Rattle.pj_alone.specs.Safety.{schemes_at, spec_at, spec_in}
 use Rattle.pj_alone.specs.Asked.{Asked, IsAskable, asked_of, has_plain_names, is_plain}
 
 -- ---- their numbers
@@ -107,16 +107,19 @@ spec_sound : (nodes : List PlanNode) (join : ℕ) → IsSoundPlan nodes → In j
 spec_sound nodes join sound h =
     sound_join nodes (node_schema nodes join) (node_at nodes join) (join_is nodes join h) (sound.each join (join_below nodes join h)).operator
 
-fitting : (schemas : List (List Column)) (lists : List (List (List Bool))) → FitInputs schemas lists → FitSchemes schemas lists
-fitting [] [] fit = tt
-fitting [] (list ∷ lists) fit = absurd fit
-fitting (schema ∷ schemas) [] fit = absurd fit
-fitting (schema ∷ schemas) (list ∷ lists) fit = (fit.0, fitting schemas lists fit.1)
-
 join_fitting : (nodes : List PlanNode) (join : ℕ) → IsSoundPlan nodes → JoinsFit → In join (joins_of nodes) → FitSchemes (spec_at nodes join).inputs (schemes_at nodes join)
 join_fitting nodes join sound fit h =
     subst (λ (schemas : List (List Column)). FitSchemes schemas (schemes_at nodes join)) (sym (spec_sound nodes join sound h).1)
-    (fitting (map (node_schema nodes) (inputs_of (node_at nodes join))) (schemes_at nodes join) (fit nodes sound join (join_below nodes join h) (join_is nodes join h)))
+    (fit nodes sound join (join_below nodes join h) (join_is nodes join h))
+
+picked_few : (nodes : List PlanNode) (inputs : List ℕ) → IsSoundPlan nodes → SchemesAreFew → ((k : ℕ) → k < length inputs → get_or inputs k 0 < length nodes)
+    → AreFewSchemes (inputs_schemes (schemes_of nodes) inputs)
+picked_few nodes [] sound few there i = omega arith
+picked_few nodes (input ∷ inputs) sound few there zero = few nodes sound input (there 0 (omega arith))
+picked_few nodes (input ∷ inputs) sound few there (suc i) = picked_few nodes inputs sound few (λ k lt. there (suc k) (omega (arith, lt))) i
+
+join_few : (nodes : List PlanNode) (join : ℕ) → IsSoundPlan nodes → SchemesAreFew → In join (joins_of nodes) → AreFewSchemes (schemes_at nodes join)
+join_few nodes join sound few h = picked_few nodes (inputs_of (node_at nodes join)) sound few (λ k lt. input_below nodes join k sound h lt)
 
 -- ---- their names
 
@@ -155,10 +158,12 @@ plain_names plan join made h =
 
 -- ---- what is asked of them
 
-askable : (plan : Outline) (join : ℕ) → IsSoundPlan plan.nodes → IsMadeAgain plan → JoinsFit → In join (joins_of plan.nodes) → IsAskable (asked_of plan.nodes join)
-askable plan join sound made fit h = record {
+askable : (plan : Outline) (join : ℕ) → IsSoundPlan plan.nodes → IsMadeAgain plan → JoinsFit → SchemesAreFew → In join (joins_of plan.nodes)
+    → IsAskable (asked_of plan.nodes join)
+askable plan join sound made fit few h = record {
   sound = (spec_sound plan.nodes join sound h).0;
   fitting = join_fitting plan.nodes join sound fit h;
+  few = join_few plan.nodes join sound few h;
   plain = plain_names plan join made h;
 }
 
@@ -178,5 +183,5 @@ parts_asked nodes join asked parts = go asked.spec asked.schemes asked.name aske
     go spec schemes name names e f g h = cc
 
 pub parts_askable : (plan : Outline) (join : ℕ) (asked : Asked) → AreParts plan.nodes join asked → IsSoundPlan plan.nodes → IsMadeAgain plan → JoinsFit
-    → In join (joins_of plan.nodes) → IsAskable asked
-parts_askable plan join asked parts sound made fit h = subst IsAskable (sym (parts_asked plan.nodes join asked parts)) (askable plan join sound made fit h)
+    → SchemesAreFew → In join (joins_of plan.nodes) → IsAskable asked
+parts_askable plan join asked parts sound made fit few h = subst IsAskable (sym (parts_asked plan.nodes join asked parts)) (askable plan join sound made fit few h)

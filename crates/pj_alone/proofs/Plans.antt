@@ -1,18 +1,17 @@
 -- The first unsafe join of a plan.
 use Rattle.std.proofs.Common.{ℕ, ◌+◌, ◌<◌, ◌≤◌, ◌≡◌, ◌⊎◌, length, get_or, take, arith, List, [], ◌∷◌, ◌++◌, map, Option, Some, None, refl, sym, ap, ◌∙◌, subst, inl, inr}
 use Rattle.std.proofs.lemmas.List.{map-append, take_all, take_more}
-use Rattle.pj_value.specs.Lists.{In}
+use Rattle.pj_value.specs.Lists.{In, AreRising}
 use Rattle.pj_value.proofs.Members.{In-append_cases, in-place}
 use Rattle.pj_shape.specs.declared.joins.CertStep.{CertStep}
 use Rattle.pj_plan.specs.declared.node.PlanNode.{PlanNode}
 use Rattle.pj_plan.specs.Nodes.{joins_of}
-use Rattle.pj_graph.specs.Reaching.{IsRising}
 use Rattle.pj_alone.specs.declared.safety.Judged.TheVariants.{Safe, Unsafe as PlanRefused}
 use Rattle.pj_alone.specs.declared.safety.Unsafe.{Unsafe}
 use Rattle.pj_alone.specs.declared.safety.Verdict.TheVariants.{Certified, Refused}
 use Rattle.pj_alone.specs.Asked.{AreStuckLines, IsFirstIn, IsFirstStuckOf, IsJoinJudged, IsStuckAt, asked_of, or_join}
 use Rattle.pj_alone.specs.Checks.{IsAnswer}
-use Rattle.pj_alone.specs.Safety.{AreCertificatesAt, AreRising, AreUnsafeLines, HasUnsafeLines, IsFirstStuck, IsJudgment, IsSafeJoin, IsSafePlan, certificates_at}
+use Rattle.pj_alone.specs.Safety.{AreCertificatesAt, AreUnsafeLines, HasUnsafeLines, IsFirstStuck, IsJudgment, IsSafeJoin, IsSafePlan, certificates_at}
 use Rattle.pj_alone.proofs.Inputs.{all_safe}
 use Rattle.pj_alone.proofs.Joins.{before_taken, joins_rise}
 
@@ -82,7 +81,7 @@ pub answered : (nodes : List PlanNode) (first : Option (ℕ × ℕ × ℕ)) → 
 answered nodes None is = plan_safe nodes is
 answered nodes (Some first) is = is
 
-rising : (ns : List ℕ) → IsRising ns → AreRising ns
+rising : (ns : List ℕ) → AreRising ns → AreRising ns
 rising [] r = tt
 rising (n ∷ ns) r = (r.0, rising ns r.1)
 

@@ -4,16 +4,16 @@ use Rattle.std.specs.List.{list_all, range_with_len}
 use Rattle.pj_value.specs.Lists.{In}
 use Rattle.pj_shape.specs.declared.joins.CertStep.{CertStep}
 use Rattle.pj_shape.specs.declared.joins.JoinSpec.{JoinSpec}
-use Rattle.pj_shape.specs.Sound.{IsSoundSpec}
+use Rattle.pj_shape.specs.Sound.{IsSoundSpec, FitSchemes}
 use Rattle.pj_plan.specs.declared.node.PlanNode.{PlanNode}
 use Rattle.pj_plan.specs.Canonical.{node_name}
 use Rattle.pj_plan.specs.Names.{is_name_byte}
 use Rattle.pj_plan.specs.Nodes.{joins_of}
 use Rattle.pj_graph.specs.declared.answers.Reach.{Reach}
 use Rattle.pj_graph.specs.declared.answers.Reach.TheVariants.{All, Stuck}
-use Rattle.pj_graph.specs.Reaching.{IsStuck}
-use Rattle.pj_graph.specs.Sets.{FitSchemes, Reaches}
-use Rattle.pj_graph.specs.Certificates.{IsCertificate}
+use Rattle.pj_graph.specs.Reaching.{AreFewSchemes, IsStuck}
+use Rattle.pj_shape.specs.Sets.{Reaches}
+use Rattle.pj_shape.specs.Certificates.{IsCertificate}
 use Rattle.pj_graph.specs.Saturation.{certificate_of}
 use Rattle.pj_cert.specs.Verdicts.{reached_text, unreached_text}
 use Rattle.pj_alone.specs.declared.safety.Unsafe.{Unsafe}
@@ -47,10 +47,11 @@ is_plain name = list_all is_name_byte name
 abbrev pub has_plain_names : Asked → Bool
 has_plain_names asked = is_plain asked.name && list_all is_plain asked.names
 
--- the shape is sound, the schemes are as long as its inputs' columns, and the names are plain
+-- the shape is sound, the schemes are as long as its inputs' columns, at most 256 for each input, and the names are plain
 pub record IsAskable (asked : Asked) : Type 0 where
   pub sound : IsSoundSpec asked.spec
   pub fitting : FitSchemes asked.spec.inputs asked.schemes
+  pub few : AreFewSchemes asked.schemes
   pub plain : has_plain_names asked ≡ true
 
 -- ---- its first stuck input

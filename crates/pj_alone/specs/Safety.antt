@@ -1,7 +1,7 @@
 -- Which plans are safe, and what is told of one that is not.
 use Rattle.std.specs.Prelude.{ℕ, ◌<◌, ◌≡◌, ◌↔◌, ◌==◌, Bool, false, List, [], ◌∷◌, ◌++◌, map, length, codes}
 use Rattle.std.specs.List.{list_any, range_with_len}
-use Rattle.pj_value.specs.Lists.{In}
+use Rattle.pj_value.specs.Lists.{In, AreRising}
 use Rattle.pj_shape.specs.declared.joins.CertStep.{CertStep}
 use Rattle.pj_shape.specs.declared.joins.JoinSpec.{JoinSpec}
 use Rattle.pj_plan.specs.declared.node.Node.{Node}
@@ -10,8 +10,8 @@ use Rattle.pj_plan.specs.declared.node.PlanNode.{PlanNode}
 use Rattle.pj_plan.specs.Nodes.{inputs_of, joins_of}
 use Rattle.pj_plan.specs.Canonical.{node_at, node_name}
 use Rattle.pj_scheme.specs.Derived.{inputs_schemes, schemes_of}
-use Rattle.pj_graph.specs.Sets.{IsSafe, Reaches}
-use Rattle.pj_graph.specs.Certificates.{IsCertificate}
+use Rattle.pj_shape.specs.Sets.{IsSafe, Reaches}
+use Rattle.pj_shape.specs.Certificates.{IsCertificate}
 use Rattle.pj_graph.specs.Saturation.{certificate_of}
 use Rattle.pj_cert.specs.Verdicts.{reached_text, unreached_text}
 use Rattle.pj_alone.specs.declared.safety.Judged.{Judged}
@@ -92,11 +92,6 @@ abbrev pub AreCertificates : List PlanNode → Type 0
 AreCertificates nodes = (join : ℕ) → In join (joins_of nodes) → AreCertificatesAt nodes join
 
 -- ---- what is told
-
--- each number is greater than those before it
-abbrev pub AreRising : List ℕ → Type 0
-AreRising [] = Unit {0}
-AreRising (n ∷ ns) = ((m : ℕ) → In m ns → n < m) × AreRising ns
 
 -- these are the inputs that an input of the join reaches, in their order
 pub record AreReached (nodes : List PlanNode) (join input : ℕ) (reached : List ℕ) : Type 0 where

@@ -5,6 +5,7 @@ ghost use Rattle.pj_plan.specs.Nodes.{inputs_of, is_join, joins_of};
 ghost use Rattle.pj_plan.specs.Canonical.{node_at, node_name};
 ghost use Rattle.pj_scheme.specs.Derived.{schemes_of};
 ghost use Rattle.pj_graph.specs.Reaching.{IsReach};
+ghost use Rattle.pj_graph.specs.Saturation.{reach_of};
 ghost use Rattle.pj_alone.specs.Safety.{spec_in};
 ghost use Rattle.pj_alone.specs.Asked.{asked_of, IsAskable};
 
@@ -63,7 +64,8 @@ impl<'a> Asked<'a> {
     /// What an input reaches.
     pub(crate) fn reach(&self, alloc: Global, input: u32) -> Result<Reach, NoMemory>
         requires { input < length self.now.spec.inputs }
-        ensures { IfOk result (λ found. IsReach self.now.spec self.now.schemes input found) }
+        ensures reached { IfOk result (λ found. IsReach self.now.spec self.now.schemes input found) }
+        ensures told { IfOk result (λ found. found ≡ reach_of self.now.spec self.now.schemes input) }
     {
         reach(alloc, self.spec, &self.schemes, input)
     }

@@ -1,13 +1,14 @@
 // The text that tells what each input of each join of a plan reaches.
 ghost use Rattle.std.specs.Prelude.{◌≡◌, ◌<◌, ◌++◌, true, IfOk, OnOk, OnErr, length};
-ghost use Rattle.pj_value.specs.Lists.{In};
+ghost use Rattle.std.specs.List.{concat};
+ghost use Rattle.pj_value.specs.Lists.{In, has};
 ghost use Rattle.pj_plan.specs.Nodes.{joins_of};
 ghost use Rattle.pj_scheme.specs.Derived.{schemes_of};
-ghost use Rattle.pj_graph.specs.Sets.{IsClosed, among};
+ghost use Rattle.pj_shape.specs.Sets.{IsClosed};
 ghost use Rattle.pj_graph.specs.Reaching.{IsReach};
 ghost use Rattle.pj_cert.specs.Partners.{partners_of};
 ghost use Rattle.pj_alone.specs.Asked.{asked_of, IsFirstStuckOf, or_join as first_join, or_stuck as first_stuck};
-ghost use Rattle.pj_alone.specs.Checks.{IsAnswer, IsCheckOf, IsJoinTold, IsPutBehind, partner_lines, partner_rows, printed, told_of};
+ghost use Rattle.pj_alone.specs.Checks.{IsAnswer, asked_lines, check_lines, join_lines, partner_lines, partner_rows, printed, told_of};
 
 use crate::asked::Asked;
 use pj_cert::{blank_instances, blank_row, escape, partners_text, verdict_text};
@@ -33,7 +34,7 @@ pub fn check_text(
     out: &mut List<u8>,
 ) -> Result<Option<(u32, u32, u32)>, NoMemory>
     ensures answer { IfOk result (λ found. IsAnswer plan.now.nodes found) }
-    ensures text { OnOk result (IsPutBehind (IsCheckOf print plan.now) out.old out.new) }
+    ensures text { OnOk result (out.new ≡ out.old ++ concat (check_lines print plan.now)) }
     ensures err { OnErr result (out.new ≡ out.old) }
 {
     let all = derived(alloc, plan)?;
@@ -68,7 +69,7 @@ fn append_join(
     requires join { In join (joins_of plan.now.nodes) }
     requires all { all.now ≡ schemes_of plan.now.nodes }
     ensures answer { IfOk result (λ found. IsFirstStuckOf (asked_of plan.now.nodes join) found) }
-    ensures text { OnOk result (IsPutBehind (IsJoinTold (asked_of plan.now.nodes join)) text.old text.new) }
+    ensures text { OnOk result (text.new ≡ text.old ++ concat (join_lines plan.now.nodes join)) }
 {
     let asked = Asked::of(alloc, plan, all, join)?;
     let found = append_inputs(alloc, &asked, text)?;
@@ -82,7 +83,7 @@ fn append_inputs(
     text: &mut List<u8>,
 ) -> Result<Option<(u32, u32)>, NoMemory>
     ensures answer { IfOk result (λ found. IsFirstStuckOf asked.now found) }
-    ensures text { OnOk result (IsPutBehind (IsJoinTold asked.now) text.old text.new) }
+    ensures text { OnOk result (text.new ≡ text.old ++ concat (asked_lines asked.now)) }
 {
     let mut first = None;
     for input in 0..asked.inputs() {
@@ -128,7 +129,7 @@ fn append_partners(
 ) -> Result<(), NoMemory>
     requires input { input < length asked.now.spec.inputs }
     requires found { IsReach asked.now.spec asked.now.schemes input found.now }
-    ensures { OnOk result (text.new ≡ text.old ++ partner_lines asked.now input found.now) }
+    ensures { OnOk result (text.new ≡ text.old ++ concat (partner_lines asked.now input found.now)) }
 {
     match found {
         Reach::All(_) => {}
@@ -147,10 +148,10 @@ fn append_stuck(
     reached: &[u32],
     text: &mut List<u8>,
 ) -> Result<(), NoMemory>
-    requires closed { IsClosed asked.now.spec asked.now.schemes (among reached.now) }
-    requires inside { among reached.now input ≡ true }
+    requires closed { IsClosed asked.now.spec asked.now.schemes (has reached.now) }
+    requires inside { has reached.now input ≡ true }
     requires input { input < length asked.now.spec.inputs }
-    ensures { OnOk result (text.new ≡ text.old ++ partners_of asked.now.names input (partner_rows asked.now input reached.now)) }
+    ensures { OnOk result (text.new ≡ text.old ++ concat (partners_of asked.now.names input (partner_rows asked.now input reached.now))) }
 {
     let spec = asked.spec;
     let row = blank_row(alloc, &spec.inputs.as_slice()[input as usize])?;

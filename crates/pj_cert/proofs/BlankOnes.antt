@@ -1,13 +1,14 @@
 -- Rows and instances of zeros and empty texts.
-use Rattle.std.proofs.Common.{ℕ, zero, suc, ◌+◌, ◌<◌, ◌≤◌, ◌≡◌, ◌⊎◌, length, get_or, min, arith, Bool, true, false, cond, List, [], ◌∷◌, ◌++◌, Some, drop, slice_get, refl, sym, ap, ◌∙◌, subst, inl, inr, append_assoc, append-nil}
+use Rattle.std.proofs.Common.{ℕ, zero, suc, ◌+◌, ◌*◌, ◌^◌, ◌<◌, ◌≤◌, ◌≡◌, ◌⊎◌, length, get_or, min, arith, Bool, true, false, cond, List, [], ◌∷◌, ◌++◌, Some, drop, slice_get, sum, refl, sym, ap, ◌∙◌, subst, inl, inr, append_assoc, append-nil}
 use Rattle.std.proofs.Math.Seq.{drop-nil}
 use Rattle.std.proofs.lemmas.Bool.{and_from}
-use Rattle.std.proofs.lemmas.List.{length-map}
+use Rattle.std.proofs.lemmas.Grind.{flat_map-append}
+use Rattle.std.proofs.lemmas.List.{length-append, length-map}
 use Rattle.std.proofs.lemmas.Option.{slice_get-get_or}
 use Rattle.pj_value.specs.declared.values.Kind.{Kind}
 use Rattle.pj_value.specs.declared.values.Kind.TheVariants.{Int as KInt, Text as KText}
 use Rattle.pj_value.specs.declared.values.Value.{Value}
-use Rattle.pj_value.specs.Lists.{In}
+use Rattle.pj_value.specs.Lists.{In, has}
 use Rattle.pj_value.specs.Values.{is_kind}
 use Rattle.pj_value.proofs.Members.{In-append_cases}
 use Rattle.pj_shape.specs.declared.columns.Column.{Column}
@@ -15,10 +16,12 @@ use Rattle.pj_shape.specs.declared.columns.Instance.{Instance}
 use Rattle.pj_shape.specs.declared.joins.JoinSpec.{JoinSpec}
 use Rattle.pj_shape.specs.Columns.{kinds_of}
 use Rattle.pj_shape.proofs.KindsOf.{kinds_length}
+use Rattle.pj_shape.specs.Sound.{arities_of, FitSchemes, IsSoundSpec}
 use Rattle.pj_pattern.specs.Fitting.{row_fits}
-use Rattle.pj_graph.specs.Sets.{FitSchemes, among, schemes_of}
-use Rattle.pj_graph.proofs.Steps.{drop_at, drop_got}
-use Rattle.pj_cert.specs.Instances.{AreInstances, blank, blank_input, blank_instances_from, blank_instances_of, blank_ones, blanks, marked}
+use Rattle.pj_shape.specs.Sets.{schemes_of}
+use Rattle.pj_graph.specs.Reaching.{AreFewSchemes}
+use Rattle.pj_graph.proofs.Steps.{drop_at, drop_got, sum_on}
+use Rattle.pj_cert.specs.Instances.{AreInstances, blank, blank_input, blank_instances_from, blank_instances_of, blank_ones, blanks, constants_of, marked}
 
 -- ---- they fit
 
@@ -132,7 +135,7 @@ record IsOneFrom (n : ℕ) (schemas : List (List Column)) (lists : List (List (L
 
 in_input : (reached : List ℕ) (input : ℕ) (kinds : List Kind) (list : List (List Bool)) (instance : Instance) → ((marks : List Bool) → In marks list → length marks ≡ length kinds)
     → In instance (blank_input reached input kinds list) → IsOne input 0 list instance
-in_input reached input kinds list instance fit h = go (among reached input) h
+in_input reached input kinds list instance fit h = go (has reached input) h
   where
     go : (b : Bool) → In instance (cond b [] (blank_ones input kinds 0 list)) → IsOne input 0 list instance
     go true k = absurd k
@@ -182,3 +185,49 @@ blank_given spec schemes reached fit instance h =
           one.filled
           ∙ ap (λ (m : ℕ). length (marked (get_or (schemes_of schemes instance.input) m []) (get_or (schemes_of schemes instance.input) m []))) scheme;
     }
+
+-- ---- they have few constants
+
+marked_few : {A : Type 0} (marks : List Bool) (items : List A) → length (marked marks items) ≤ length items
+marked_few [] items = omega arith
+marked_few (mark ∷ marks) [] = omega arith
+marked_few (true ∷ marks) (item ∷ items) = omega (arith, marked_few marks items)
+marked_few (false ∷ marks) (item ∷ items) = omega (arith, marked_few marks items)
+
+constants_both : (ones others : List Instance) → length (constants_of (ones ++ others)) ≡ length (constants_of ones) + length (constants_of others)
+constants_both ones others =
+    ap length (flat_map-append (λ (i : Instance). i.constants) ones others) ∙ length-append (constants_of ones) (constants_of others)
+
+ones_few : (input : ℕ) (kinds : List Kind) (n : ℕ) (list : List (List Bool)) → length kinds ≤ 120 → length (constants_of (blank_ones input kinds n list)) ≤ 120 * length list
+ones_few input kinds n [] few = omega arith
+ones_few input kinds n (marks ∷ list) few =
+    let values : List Value = blanks (marked marks kinds) in
+    omega (arith, few, length-append values (constants_of (blank_ones input kinds (n + 1) list)), length-map (marked marks kinds) blank, marked_few marks kinds, ones_few input kinds (n + 1) list few)
+
+input_few : (reached : List ℕ) (input : ℕ) (kinds : List Kind) (list : List (List Bool)) → length kinds ≤ 120
+    → length (constants_of (blank_input reached input kinds list)) ≤ 120 * length list
+input_few reached input kinds list few = go (has reached input)
+  where
+    go : (b : Bool) → length (constants_of (cond b [] (blank_ones input kinds 0 list))) ≤ 120 * length list
+    go true = omega arith
+    go false = ones_few input kinds 0 list few
+
+from_few : (reached : List ℕ) (n : ℕ) (schemas : List (List Column)) (lists : List (List (List Bool))) → sum (arities_of schemas) ≤ 120 → AreFewSchemes lists
+    → length (constants_of (blank_instances_from reached n schemas lists)) ≤ 30720 * length schemas
+from_few reached n [] lists narrow few = omega arith
+from_few reached n (schema ∷ schemas) [] narrow few = omega arith
+from_few reached n (schema ∷ schemas) (list ∷ lists) narrow few =
+    let first : length list ≤ 256 = few 0 in
+    let all = sum_on (length schema) (arities_of schemas) in
+    let width : length (kinds_of schema) ≤ 120 = omega (arith, narrow, all, kinds_length schema) in
+    omega (
+      arith,
+      first,
+      constants_both (blank_input reached n (kinds_of schema) list) (blank_instances_from reached (n + 1) schemas lists),
+      input_few reached n (kinds_of schema) list width,
+      from_few reached (n + 1) schemas lists (omega (arith, narrow, all)) (λ i. few (suc i)),
+    )
+
+pub blank_few : (spec : JoinSpec) (schemes : List (List (List Bool))) (reached : List ℕ) → IsSoundSpec spec → AreFewSchemes schemes
+    → length (constants_of (blank_instances_of spec schemes reached)) < 2 ^ 32
+blank_few spec schemes reached sound few = omega (arith, from_few reached 0 spec.inputs schemes sound.few_columns few, sound.few_inputs.1)

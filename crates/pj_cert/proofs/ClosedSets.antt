@@ -2,13 +2,13 @@
 use Rattle.std.proofs.Common.{ℕ, zero, suc, ◌+◌, ◌<◌, ◌≤◌, ◌≡◌, length, get_or, arith, Bool, true, false, not, ◌&&◌, ◌||◌, List, [], ◌∷◌, Some, drop, slice_get, sum, fold, All, refl, sym, ap, ◌∙◌, subst, inl, inr}
 use Rattle.std.proofs.lemmas.Bool.{and_parts, and_from, false_from_ne_true, false≢true}
 use Rattle.pj_value.proofs.Members.{in-place, none_at, none_from}
-use Rattle.pj_value.specs.Lists.{In}
+use Rattle.pj_value.specs.Lists.{In, has}
 use Rattle.std.proofs.lemmas.Option.{get_or_from_slice_get}
-use Rattle.pj_shape.specs.Sound.{arities_of}
+use Rattle.pj_shape.specs.Sound.{arities_of, FitSchemes}
 use Rattle.pj_shape.specs.declared.columns.Column.{Column}
 use Rattle.pj_shape.specs.declared.joins.ClassCol.{ClassCol}
 use Rattle.pj_shape.specs.declared.joins.JoinSpec.{JoinSpec}
-use Rattle.pj_graph.specs.Sets.{among, are_bound, FitSchemes, is_bound, IsClosed, schemes_of}
+use Rattle.pj_shape.specs.Sets.{are_bound, is_bound, IsClosed, schemes_of}
 use Rattle.pj_graph.proofs.Steps.{drop_got, few_columns}
 use Rattle.pj_cert.specs.Tests.{any_usable, closed_from, passes}
 
@@ -46,7 +46,7 @@ short_at schemas lists j list fit few e =
 -- the input at each place, counted from this number, is known or has no scheme that can be used
 abbrev ClosedFrom : List (List ClassCol) → List ℕ → ℕ → List (List (List Bool)) → Type 0
 ClosedFrom classes known k lists =
-    (i s : ℕ) → among known (k + i) ≡ false → s < length (get_or lists i []) → are_bound (among known) classes (k + i) 0 (get_or (get_or lists i []) s []) ≡ false
+    (i s : ℕ) → has known (k + i) ≡ false → s < length (get_or lists i []) → are_bound (has known) classes (k + i) 0 (get_or (get_or lists i []) s []) ≡ false
 
 place_of : {A : Type 0} (xs : List A) (d x : A) → In x xs → (s : ℕ) × (s < length xs) × (get_or xs s d ≡ x)
 place_of [] d x h = absurd h
@@ -57,59 +57,59 @@ tested : (classes : List (List ClassCol)) (known : List ℕ) (k : ℕ) (lists : 
 tested classes known k [] t = λ i s out lt. absurd (omega (arith, lt))
 tested classes known k (list ∷ lists) t = each (tested classes known (k + 1) lists both.1)
   where
-    both : ((among known k || not (any_usable classes known k list)) ≡ true) × (closed_from classes known (k + 1) lists ≡ true)
-    both = and_parts (among known k || not (any_usable classes known k list)) (closed_from classes known (k + 1) lists) t
+    both : ((has known k || not (any_usable classes known k list)) ≡ true) × (closed_from classes known (k + 1) lists ≡ true)
+    both = and_parts (has known k || not (any_usable classes known k list)) (closed_from classes known (k + 1) lists) t
 
     none : (b c : Bool) → (b || not c) ≡ true → b ≡ false → c ≡ false
     none true c u e = absurd (false≢true (sym e))
     none false true u e = absurd (false≢true u)
     none false false u e = refl
 
-    here : (j s : ℕ) → j ≡ k → among known j ≡ false → s < length list → are_bound (among known) classes j 0 (get_or list s []) ≡ false
+    here : (j s : ℕ) → j ≡ k → has known j ≡ false → s < length list → are_bound (has known) classes j 0 (get_or list s []) ≡ false
     here j s e out lt =
-        ap (λ (n : ℕ). are_bound (among known) classes n 0 (get_or list s [])) e
-        ∙ false_from_ne_true (are_bound (among known) classes k 0 (get_or list s []))
-        (none_at (λ marks. are_bound (among known) classes k 0 marks) list (get_or list s [])
-        (none (among known k) (any_usable classes known k list) both.0 (sym (ap (among known) e) ∙ out)) (in-place list [] s lt))
+        ap (λ (n : ℕ). are_bound (has known) classes n 0 (get_or list s [])) e
+        ∙ false_from_ne_true (are_bound (has known) classes k 0 (get_or list s []))
+        (none_at (λ marks. are_bound (has known) classes k 0 marks) list (get_or list s [])
+        (none (has known k) (any_usable classes known k list) both.0 (sym (ap (has known) e) ∙ out)) (in-place list [] s lt))
 
     each : ClosedFrom classes known (k + 1) lists → ClosedFrom classes known k (list ∷ lists)
     each later zero s out lt = here (k + 0) s (omega arith) out lt
     each later (suc i) s out lt =
         let e : k + suc i ≡ k + 1 + i = omega arith in
-        ap (λ (n : ℕ). are_bound (among known) classes n 0 (get_or (get_or lists i []) s [])) e ∙ later i s (sym (ap (among known) e) ∙ out) lt
+        ap (λ (n : ℕ). are_bound (has known) classes n 0 (get_or (get_or lists i []) s [])) e ∙ later i s (sym (ap (has known) e) ∙ out) lt
 
 untested : (classes : List (List ClassCol)) (known : List ℕ) (k : ℕ) (lists : List (List (List Bool))) → ClosedFrom classes known k lists → closed_from classes known k lists ≡ true
 untested classes known k [] f = refl
 untested classes known k (list ∷ lists) f =
-    and_from (among known k || not (any_usable classes known k list)) (closed_from classes known (k + 1) lists)
-    (go (among known k) refl) (untested classes known (k + 1) lists later)
+    and_from (has known k || not (any_usable classes known k list)) (closed_from classes known (k + 1) lists)
+    (go (has known k) refl) (untested classes known (k + 1) lists later)
   where
     at_zero : k + 0 ≡ k
     at_zero = omega arith
 
-    unusable : among known k ≡ false → (marks : List Bool) → In marks list → are_bound (among known) classes k 0 marks ≡ false
+    unusable : has known k ≡ false → (marks : List Bool) → In marks list → are_bound (has known) classes k 0 marks ≡ false
     unusable out marks h =
         let r = place_of list [] marks h in
-        ap (λ (ms : List Bool). are_bound (among known) classes k 0 ms) (sym r.2)
-        ∙ ap (λ (n : ℕ). are_bound (among known) classes n 0 (get_or list r.0 [])) (sym at_zero)
-        ∙ f 0 r.0 (ap (among known) at_zero ∙ out) r.1
+        ap (λ (ms : List Bool). are_bound (has known) classes k 0 ms) (sym r.2)
+        ∙ ap (λ (n : ℕ). are_bound (has known) classes n 0 (get_or list r.0 [])) (sym at_zero)
+        ∙ f 0 r.0 (ap (has known) at_zero ∙ out) r.1
 
-    go : (b : Bool) → among known k ≡ b → (b || not (any_usable classes known k list)) ≡ true
+    go : (b : Bool) → has known k ≡ b → (b || not (any_usable classes known k list)) ≡ true
     go true e = refl
-    go false e = ap not (none_from (λ marks. are_bound (among known) classes k 0 marks) list (unusable e))
+    go false e = ap not (none_from (λ marks. are_bound (has known) classes k 0 marks) list (unusable e))
 
     later : ClosedFrom classes known (k + 1) lists
     later i s out lt =
         let e : k + suc i ≡ k + 1 + i = omega arith in
-        sym (ap (λ (n : ℕ). are_bound (among known) classes n 0 (get_or (get_or lists i []) s [])) e) ∙ f (suc i) s (ap (among known) e ∙ out) lt
+        sym (ap (λ (n : ℕ). are_bound (has known) classes n 0 (get_or (get_or lists i []) s [])) e) ∙ f (suc i) s (ap (has known) e ∙ out) lt
 
-pub closed_if : (spec : JoinSpec) (schemes : List (List (List Bool))) (known : List ℕ) → closed_from spec.classes known 0 schemes ≡ true → IsClosed spec schemes (among known)
+pub closed_if : (spec : JoinSpec) (schemes : List (List (List Bool))) (known : List ℕ) → closed_from spec.classes known 0 schemes ≡ true → IsClosed spec schemes (has known)
 closed_if spec schemes known t k s out lt =
     let e : k ≡ 0 + k = omega arith in
-    ap (λ (n : ℕ). are_bound (among known) spec.classes n 0 (get_or (schemes_of schemes k) s [])) e
-    ∙ tested spec.classes known 0 schemes t k s (sym (ap (among known) e) ∙ out) lt
+    ap (λ (n : ℕ). are_bound (has known) spec.classes n 0 (get_or (schemes_of schemes k) s [])) e
+    ∙ tested spec.classes known 0 schemes t k s (sym (ap (has known) e) ∙ out) lt
 
-pub if_closed : (spec : JoinSpec) (schemes : List (List (List Bool))) (known : List ℕ) → IsClosed spec schemes (among known) → closed_from spec.classes known 0 schemes ≡ true
+pub if_closed : (spec : JoinSpec) (schemes : List (List (List Bool))) (known : List ℕ) → IsClosed spec schemes (has known) → closed_from spec.classes known 0 schemes ≡ true
 if_closed spec schemes known closed = untested spec.classes known 0 schemes (λ i s out lt.
     let e : 0 + i ≡ i = omega arith in
-    ap (λ (n : ℕ). are_bound (among known) spec.classes n 0 (get_or (get_or schemes i []) s [])) e ∙ closed i s (sym (ap (among known) e) ∙ out) lt)
+    ap (λ (n : ℕ). are_bound (has known) spec.classes n 0 (get_or (get_or schemes i []) s [])) e ∙ closed i s (sym (ap (has known) e) ∙ out) lt)

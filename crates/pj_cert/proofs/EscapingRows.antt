@@ -1,38 +1,31 @@
 -- The rows that escape fit their inputs, join, and match no listed instance of an input that is not reached.
-use Rattle.std.proofs.Common.{ℕ, zero, suc, ◌+◌, ◌<◌, ◌≡◌, ◌≢◌, ◌⊎◌, length, get_or, arith, Bool, true, false, cond, ◌&&◌, ◌||◌, List, [], ◌∷◌, Option, Some, None, slice_get, refl, sym, ap, ◌∙◌, subst, inl, inr}
+use Rattle.std.proofs.Common.{ℕ, zero, suc, ◌+◌, ◌<◌, ◌≡◌, ◌≢◌, ◌⊎◌, length, get_or, arith, Bool, true, false, cond, ◌&&◌, ◌||◌, List, [], ◌∷◌, Option, Some, None, slice_get, refl, sym, ap, ◌∙◌, subst, inl, inr, ap₂}
 use Rattle.std.specs.Prelude.{◌==◌}
 use Rattle.std.proofs.lemmas.Bool.{and_from, and_parts, cases_eq, eq-eqb, eqb-true, false_from_ne_true, false≢true, ne_eqb}
 use Rattle.std.proofs.lemmas.Option.{slice_get-get_or, slice_get_within}
 use Rattle.pj_value.specs.declared.values.Kind.{Kind}
 use Rattle.pj_value.specs.declared.values.Kind.TheVariants.{Int as KInt, Text as KText}
 use Rattle.pj_value.specs.declared.values.Value.{Value}
-use Rattle.pj_value.specs.Lists.{In}
+use Rattle.pj_value.specs.Lists.{In, has}
 use Rattle.pj_value.specs.Values.{is_kind}
-use Rattle.pj_value.proofs.Members.{any_at, any_from, In-flat_map, In-flat_map_from, in-place}
+use Rattle.pj_value.proofs.Members.{any_from, In-flat_map, In-flat_map_from, in-place}
 use Rattle.pj_shape.specs.declared.columns.Column.{Column}
 use Rattle.pj_shape.specs.declared.columns.Instance.{Instance}
 use Rattle.pj_shape.specs.declared.joins.ClassCol.{ClassCol}
 use Rattle.pj_shape.specs.declared.joins.JoinSpec.{JoinSpec}
 use Rattle.pj_shape.specs.Columns.{kinds_of}
-use Rattle.pj_shape.specs.Joining.{Joins, Part, has_column, value_at, values, values_in}
-use Rattle.pj_shape.specs.Sound.{AreApart, AreOfOtherInputs, IsOfKind, IsSoundClass, IsSoundSpec}
+use Rattle.pj_shape.specs.Joining.{Joins, Part, has_column, value_at, values, values_in, parts_on}
+use Rattle.pj_shape.specs.Sound.{AreApart, AreOfOtherInputs, IsOfKind, IsSoundClass, IsSoundSpec, FitSchemes}
+use Rattle.pj_shape.proofs.Classes.{has_in}
 use Rattle.pj_pattern.specs.Fitting.{row_fits}
-use Rattle.pj_graph.specs.Sets.{FitSchemes, IsClosed, among, are_bound, is_bound, schemes_of, touches}
-use Rattle.pj_cert.specs.Escaping.{Case, Escapes, escape_rows, FitRows, MatchNone, case_of, class_value, class_with, column_of, column_value, fresh, other_value, parts_on, row_at, row_of, rows_from, value_or, values_from}
+use Rattle.pj_shape.specs.Sets.{IsClosed, are_bound, is_bound, schemes_of, touches}
+use Rattle.pj_shape.specs.Instances.{MatchesInstance, instance_of}
+use Rattle.pj_cert.specs.Escaping.{Case, Escapes, escape_rows, FitRows, MatchNone, case_of, class_value, class_with, column_of, column_value, fresh, other_value, row_at, row_of, rows_from, value_or, values_from}
 use Rattle.pj_cert.specs.Instances.{AreInstances, blank, constants_of, marked, scheme_of}
 use Rattle.pj_cert.specs.Laws.{EscapesAll, IsCut, schema_of}
 use Rattle.pj_cert.proofs.FreeValues.{number_is_free, text_is_free}
 
 -- ---- the class of a column
-
-has_in : (class : List ClassCol) (at : ClassCol) → has_column class at ≡ true → In at class
-has_in class at t =
-    let r = any_at (λ c. (c.input == at.input) && (c.column == at.column)) class t in
-    let both = and_parts (r.0.input == at.input) (r.0.column == at.column) r.2 in
-    subst (λ (z : ClassCol). In z class) (same r.0 at (eqb-true r.0.input at.input both.0) (eqb-true r.0.column at.column both.1)) r.1
-  where
-    same : (c d : ClassCol) → c.input ≡ d.input → c.column ≡ d.column → c ≡ d
-    same c d e f = ap (λ (n : ℕ). let z : ClassCol = record { input = n; column = c.column } in z) e ∙ ap (λ (n : ℕ). let z : ClassCol = record { input = d.input; column = n } in z) f
 
 in_has : (class : List ClassCol) (at : ClassCol) → In at class → has_column class at ≡ true
 in_has class at h =
@@ -231,7 +224,7 @@ fresh_kind case KInt = refl
 fresh_kind case KText = refl
 
 other_kind : (case : Case) (kind : Kind) (class : List ClassCol) → is_kind kind (other_value case kind class) ≡ true
-other_kind case kind class = go (touches (among case.reached) class)
+other_kind case kind class = go (touches (has case.reached) class)
   where
     go : (b : Bool) → is_kind kind (cond b (blank kind) (fresh case kind)) ≡ true
     go true = blank_kind kind
@@ -370,13 +363,13 @@ untouched inside (class ∷ classes) input column e out =
     go true ih f = (or_false (touches inside class) (is_bound inside classes input column) f).0
     go false ih f = ih f out
 
-fresh_there : (case : Case) (input column : ℕ) (kind : Kind) → is_bound (among case.reached) case.classes input column ≡ false
-    → among case.reached input ≡ false → among case.reached case.input ≡ true
+fresh_there : (case : Case) (input column : ℕ) (kind : Kind) → is_bound (has case.reached) case.classes input column ≡ false
+    → has case.reached input ≡ false → has case.reached case.input ≡ true
     → column_value case (record { input = input; column = column }) kind ≡ fresh case kind
 fresh_there case input column kind free out inside =
-    let not_touched = untouched (among case.reached) case.classes input column free out in
+    let not_touched = untouched (has case.reached) case.classes input column free out in
     ap (λ (o : Option ℕ). value_or case.row o (other_value case kind (class_with case.classes (record { input = input; column = column }))))
-    (column_none (among case.reached) (class_with case.classes (record { input = input; column = column })) case.input not_touched inside)
+    (column_none (has case.reached) (class_with case.classes (record { input = input; column = column })) case.input not_touched inside)
     ∙ ap (λ (b : Bool). cond b (blank kind) (fresh case kind)) not_touched
 
 in_marked : (marks : List Bool) (row : List Value) (k : ℕ) → slice_get marks k ≡ Some true → k < length row → In (value_at row k) (marked marks row)
@@ -410,7 +403,7 @@ other_is case schemas input schema e differ =
 -- a listed instance of an input that is not reached has the fresh value among its constants, if a row of it matches
 fresh_among : (case : Case) (schemas : List (List Column)) (input k : ℕ) (schema : List Column) (column : Column) (marks : List Bool) (constants : List Value)
     → slice_get schemas input ≡ Some schema → slice_get schema k ≡ Some column → slice_get marks k ≡ Some true
-    → is_bound (among case.reached) case.classes input k ≡ false → among case.reached input ≡ false → among case.reached case.input ≡ true
+    → is_bound (has case.reached) case.classes input k ≡ false → has case.reached input ≡ false → has case.reached case.input ≡ true
     → marked marks (row_at (rows_from case 0 schemas) input) ≡ constants → In (fresh case column.kind) constants
 fresh_among case schemas input k schema column marks constants e f m free out inside match =
     subst (λ (vs : List Value). In (fresh case column.kind) vs) match
@@ -418,7 +411,7 @@ fresh_among case schemas input k schema column marks constants e f m free out in
     (in_marked marks (row_at (rows_from case 0 schemas) input) k m within))
   where
     differ : input ≢ case.input
-    differ q = false≢true (sym out ∙ (ap (among case.reached) q ∙ inside))
+    differ q = false≢true (sym out ∙ (ap (has case.reached) q ∙ inside))
 
     value : value_at (row_at (rows_from case 0 schemas) input) k ≡ fresh case column.kind
     value = value_is case schemas input k schema column e f differ ∙ fresh_there case input k column.kind free out inside
@@ -439,14 +432,26 @@ escape_column spec schemes inside input scheme schema closed fit out lt e =
     let none : Column = record { name = []; kind = KInt } in
     (r.0, get_or schema r.0 none, slice_get-get_or schema r.0 none within, r.1, sym (ap (is_bound inside spec.classes input) at) ∙ r.2)
 
+-- the constants of an instance that a row matches are the row's values in the marked columns
+constants_are : (marks : List Bool) (row constants : List Value) → length constants ≡ length (marked marks marks) → MatchesInstance row (instance_of marks constants) → marked marks row ≡ constants
+constants_are [] row [] filled match = refl
+constants_are [] row (c ∷ constants) filled match = absurd (omega (arith, filled))
+constants_are (false ∷ marks) [] constants filled match = absurd match
+constants_are (false ∷ marks) (v ∷ row) constants filled match = constants_are marks row constants filled match
+constants_are (true ∷ marks) [] [] filled match = absurd match
+constants_are (true ∷ marks) [] (c ∷ constants) filled match = absurd match
+constants_are (true ∷ marks) (v ∷ row) [] filled match = absurd (omega (arith, filled))
+constants_are (true ∷ marks) (v ∷ row) (c ∷ constants) filled match = ap₂ (λ (w : Value) ws. w ∷ ws) match.0 (constants_are marks row constants (omega (arith, filled)) match.1)
+
 they_are_apart : (spec : JoinSpec) (schemes : List (List (List Bool))) (input : ℕ) (reached : List ℕ) (row : List Value) (listed : List Instance)
     → IsCut spec schemes input reached row → AreInstances spec schemes listed
     → MatchNone schemes reached listed (rows_from (case_of spec input reached row listed) 0 spec.inputs)
 they_are_apart spec schemes input reached row listed cut all instance h out match =
     let e = slice_get-get_or spec.inputs instance.input [] (all instance h).of_input in
-    let c = escape_column spec schemes (among reached) instance.input instance.scheme (schema_of spec instance.input) cut.closed cut.fitting out (all instance h).of_scheme e in
+    let c = escape_column spec schemes (has reached) instance.input instance.scheme (schema_of spec instance.input) cut.closed cut.fitting out (all instance h).of_scheme e in
+    let values = constants_are (scheme_of schemes instance) (row_at (rows_from (case_of spec input reached row listed) 0 spec.inputs) instance.input) instance.constants (all instance h).filled match in
     let fresh_in = fresh_among (case_of spec input reached row listed) spec.inputs instance.input c.0 (schema_of spec instance.input) c.1 (scheme_of schemes instance)
-    instance.constants e c.2 c.3 c.4 out cut.inside match in
+    instance.constants e c.2 c.3 c.4 out cut.inside values in
     fresh_is_new spec input reached row listed c.1.kind
     (In-flat_map_from (λ (i : Instance). i.constants) (fresh (case_of spec input reached row listed) c.1.kind) instance listed h fresh_in)
 
@@ -466,7 +471,7 @@ they_escape spec schemes input reached row listed cut all =
 
 -- the rows of the definition escape
 pub escapes_if : (spec : JoinSpec) (schemes : List (List (List Bool))) (input : ℕ) (reached : List ℕ) (row : List Value) (listed : List Instance) (rows : List (List Value))
-    → IsSoundSpec spec → FitSchemes spec.inputs schemes → IsClosed spec schemes (among reached) → among reached input ≡ true → input < length spec.inputs
+    → IsSoundSpec spec → FitSchemes spec.inputs schemes → IsClosed spec schemes (has reached) → has reached input ≡ true → input < length spec.inputs
     → row_fits (kinds_of (schema_of spec input)) row ≡ true → AreInstances spec schemes listed → rows ≡ escape_rows spec input reached row listed
     → Escapes spec schemes input reached row listed rows
 escapes_if spec schemes input reached row listed rows sound fit closed inside is_input fits all e =

@@ -3,6 +3,7 @@ use Rattle.std.proofs.Common.{ℕ, zero, suc, ◌+◌, ◌<◌, ◌≤◌, ◌�
 use Rattle.std.proofs.lemmas.Bool.{cases_eq, false_from_ne_true, false≢true, lt-ltb, ltb-true}
 use Rattle.std.proofs.lemmas.List.{get_or-replicate, length-replicate}
 use Rattle.std.proofs.Math.ListN.{length-set}
+use Rattle.std.proofs.Math.Bool.{or_assoc}
 use Rattle.pj_value.specs.Bags.{weigh}
 use Rattle.pj_value.specs.declared.values.Value.{Value}
 use Rattle.pj_value.specs.declared.values.Value.TheVariants.{Int, Text}
@@ -179,10 +180,6 @@ or_nothing false = refl
 or_other : (b c : Bool) → c ≡ false → b ≡ (b || c)
 or_other b c e = or_nothing b ∙ ap (λ (d : Bool). b || d) (sym e)
 
-or_three : (a b c : Bool) → ((a || b) || c) ≡ (a || (b || c))
-or_three true b c = refl
-or_three false b c = refl
-
 or_true : (b c : Bool) → c ≡ true → true ≡ (b || c)
 or_true true c e = refl
 or_true false c e = sym e
@@ -209,7 +206,7 @@ marks_at taken [] k lt = or_nothing (get_or taken k false)
 marks_at taken (v ∷ vs) k lt =
     marks_at (with_mark taken v) vs k (omega (arith, lt, mark_length taken v))
     ∙ (ap (λ (b : Bool). b || has_number vs k) (mark_at taken v k lt)
-    ∙ or_three (get_or taken k false) (value_eq (Int (pos k)) v) (has_number vs k))
+    ∙ or_assoc (get_or taken k false) (value_eq (Int (pos k)) v) (has_number vs k))
 
 first_at : (marks : List Bool) (n : ℕ) (values : List Value) → ((k : ℕ) → k < length marks → get_or marks k false ≡ has_number values (n + k))
     → first_free n marks ≡ free_from values n (length marks)

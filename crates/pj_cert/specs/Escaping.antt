@@ -4,17 +4,18 @@ use Rattle.pj_value.specs.declared.values.Kind.{Kind}
 use Rattle.pj_value.specs.declared.values.Kind.TheVariants.{Int as KInt, Text as KText}
 use Rattle.pj_value.specs.declared.values.Value.{Value}
 use Rattle.pj_value.specs.declared.values.Value.TheVariants.{Int, Text}
-use Rattle.pj_value.specs.Lists.{In}
+use Rattle.pj_value.specs.Lists.{In, has}
 use Rattle.pj_shape.specs.declared.columns.Column.{Column}
 use Rattle.pj_shape.specs.declared.columns.Instance.{Instance}
 use Rattle.pj_shape.specs.declared.joins.ClassCol.{ClassCol}
 use Rattle.pj_shape.specs.declared.joins.JoinSpec.{JoinSpec}
 use Rattle.pj_shape.specs.Columns.{kinds_of}
-use Rattle.pj_shape.specs.Joining.{Joins, Part, has_column, value_at}
+use Rattle.pj_shape.specs.Joining.{Joins, Part, has_column, value_at, parts_on}
 use Rattle.pj_pattern.specs.Fitting.{row_fits}
-use Rattle.pj_graph.specs.Sets.{among, touches}
+use Rattle.pj_shape.specs.Sets.{touches}
+use Rattle.pj_shape.specs.Instances.{MatchesInstance}
 use Rattle.pj_cert.specs.Fresh.{free_number, free_text}
-use Rattle.pj_cert.specs.Instances.{MatchesInstance, blank, constants_of, scheme_of}
+use Rattle.pj_cert.specs.Instances.{blank, cells_of, constants_of}
 
 -- what decides the values: the classes, the given row and its input, the inputs that are reached, a fresh number and a fresh text
 pub record Case : Type 0 where
@@ -53,7 +54,7 @@ value_or row (Some column) other = value_at row column
 
 -- 0 or the empty text for a class with a column of a reached input, the fresh value for another
 abbrev pub other_value : Case → Kind → List ClassCol → Value
-other_value case kind class = if touches (among case.reached) class then blank kind else fresh case kind
+other_value case kind class = if touches (has case.reached) class then blank kind else fresh case kind
 
 -- the value of a class of columns: the given row's, where it has a column in the class
 abbrev pub class_value : Case → Kind → List ClassCol → Value
@@ -93,11 +94,6 @@ escape_rows spec input reached row listed = rows_from (case_of spec input reache
 abbrev pub row_at : List (List Value) → ℕ → List Value
 row_at rows input = slice_index_or rows input []
 
--- the rows as parts of the inputs from this one on
-abbrev pub parts_on : ℕ → List (List Value) → List Part
-parts_on input [] = []
-parts_on input (row ∷ rows) = record { input = input; row = row } ∷ parts_on (input + 1) rows
-
 -- a row for each schema, with a value of its kind in each column
 abbrev pub FitRows : List (List Column) → List (List Value) → Type 0
 FitRows [] [] = Unit {0}
@@ -108,8 +104,8 @@ FitRows (schema ∷ schemas) (row ∷ rows) = (row_fits (kinds_of schema) row �
 -- no row of an input that is not reached matches a listed instance
 abbrev pub MatchNone : List (List (List Bool)) → List ℕ → List Instance → List (List Value) → Type 0
 MatchNone schemes reached listed rows =
-    (instance : Instance) → In instance listed → among reached instance.input ≡ false
-    → ¬ MatchesInstance (scheme_of schemes instance) (row_at rows instance.input) instance.constants
+    (instance : Instance) → In instance listed → has reached instance.input ≡ false
+    → ¬ MatchesInstance (row_at rows instance.input) (cells_of schemes instance)
 
 -- one row for each input, the given one at its input; together they join, and none of an input that is not reached matches a
 -- listed instance

@@ -1,16 +1,17 @@
 -- Instances of the schemes of a join's inputs, and which rows match them.
-use Rattle.std.specs.Prelude.{ℕ, ◌+◌, ◌<◌, ◌≡◌, Bool, true, false, if◌then◌else◌, List, [], ◌∷◌, ◌++◌, map, flat_map, length, slice_index_or}
+use Rattle.std.specs.Prelude.{ℕ, ◌+◌, ◌<◌, ◌≡◌, Bool, true, false, if◌then◌else◌, List, [], ◌∷◌, ◌++◌, map, flat_map, length, slice_index_or, Option}
 use Rattle.std.specs.Prelude.{pos}
 use Rattle.pj_value.specs.declared.values.Kind.{Kind}
 use Rattle.pj_value.specs.declared.values.Kind.TheVariants.{Int as KInt, Text as KText}
 use Rattle.pj_value.specs.declared.values.Value.{Value}
 use Rattle.pj_value.specs.declared.values.Value.TheVariants.{Int, Text}
-use Rattle.pj_value.specs.Lists.{In}
+use Rattle.pj_value.specs.Lists.{In, has}
 use Rattle.pj_shape.specs.declared.columns.Column.{Column}
 use Rattle.pj_shape.specs.declared.columns.Instance.{Instance}
 use Rattle.pj_shape.specs.declared.joins.JoinSpec.{JoinSpec}
 use Rattle.pj_shape.specs.Columns.{kinds_of}
-use Rattle.pj_graph.specs.Sets.{among, schemes_of}
+use Rattle.pj_shape.specs.Instances.{instance_of}
+use Rattle.pj_shape.specs.Sets.{schemes_of}
 
 -- the items at the marked places
 abbrev pub marked : {A : Type 0} → List Bool → List A → List A
@@ -23,9 +24,9 @@ marked (false ∷ marks) (item ∷ items) = marked marks items
 abbrev pub scheme_of : List (List (List Bool)) → Instance → List Bool
 scheme_of schemes instance = slice_index_or (schemes_of schemes instance.input) instance.scheme []
 
--- the row's values in the marked columns are the constants
-abbrev pub MatchesInstance : List Bool → List Value → List Value → Type 0
-MatchesInstance marks row constants = marked marks row ≡ constants
+-- the constant in each marked column of the instance's scheme
+abbrev pub cells_of : List (List (List Bool)) → Instance → List (Option Value)
+cells_of schemes instance = instance_of (scheme_of schemes instance) instance.constants
 
 -- the instance is of a scheme that is given for its input, with a constant for each marked column
 pub record IsInstance (spec : JoinSpec) (schemes : List (List (List Bool))) (instance : Instance) : Type 0 where
@@ -58,7 +59,7 @@ blank_ones input kinds scheme (marks ∷ list) =
 
 -- the same, where the input is not reached
 abbrev pub blank_input : List ℕ → ℕ → List Kind → List (List Bool) → List Instance
-blank_input reached input kinds list = if among reached input then [] else blank_ones input kinds 0 list
+blank_input reached input kinds list = if has reached input then [] else blank_ones input kinds 0 list
 
 -- the same for each input from this one on
 abbrev pub blank_instances_from : List ℕ → ℕ → List (List Column) → List (List (List Bool)) → List Instance

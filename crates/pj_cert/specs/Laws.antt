@@ -2,14 +2,14 @@
 use Rattle.std.specs.Prelude.{ℕ, ◌<◌, ◌≡◌, pos, Bool, true, List, [], length, slice_index_or}
 use Rattle.pj_value.specs.declared.values.Value.{Value}
 use Rattle.pj_value.specs.declared.values.Value.TheVariants.{Int, Text}
-use Rattle.pj_value.specs.Lists.{In}
+use Rattle.pj_value.specs.Lists.{In, has}
 use Rattle.pj_shape.specs.declared.columns.Column.{Column}
 use Rattle.pj_shape.specs.declared.columns.Instance.{Instance}
 use Rattle.pj_shape.specs.declared.joins.JoinSpec.{JoinSpec}
 use Rattle.pj_shape.specs.Columns.{kinds_of}
-use Rattle.pj_shape.specs.Sound.{IsSoundSpec}
+use Rattle.pj_shape.specs.Sound.{IsSoundSpec, FitSchemes}
 use Rattle.pj_pattern.specs.Fitting.{row_fits}
-use Rattle.pj_graph.specs.Sets.{FitSchemes, IsClosed, among}
+use Rattle.pj_shape.specs.Sets.{IsClosed}
 use Rattle.pj_cert.specs.Escaping.{Escapes, escape_rows}
 use Rattle.pj_cert.specs.Fresh.{free_number, free_text}
 use Rattle.pj_cert.specs.Instances.{AreInstances}
@@ -22,8 +22,8 @@ schema_of spec input = slice_index_or spec.inputs input []
 pub record IsCut (spec : JoinSpec) (schemes : List (List (List Bool))) (input : ℕ) (reached : List ℕ) (row : List Value) : Type 0 where
   pub sound : IsSoundSpec spec
   pub fitting : FitSchemes spec.inputs schemes
-  pub closed : IsClosed spec schemes (among reached)
-  pub inside : among reached input ≡ true
+  pub closed : IsClosed spec schemes (has reached)
+  pub inside : has reached input ≡ true
   pub is_input : input < length spec.inputs
   pub row_fits_it : row_fits (kinds_of (schema_of spec input)) row ≡ true
 

@@ -4,7 +4,7 @@ use Rattle.std.specs.List.{flat_map}
 use Rattle.pj_shape.specs.declared.joins.CertStep.{CertStep}
 use Rattle.pj_graph.specs.declared.answers.Reach.{Reach}
 use Rattle.pj_graph.specs.declared.answers.Reach.TheVariants.{All, Stuck}
-use Rattle.pj_graph.specs.Sets.{schemes_of}
+use Rattle.pj_shape.specs.Sets.{schemes_of}
 
 -- a mark behind a space: a plus, or a low line for a column that is not marked
 abbrev pub mark_text : Bool → List ℕ

@@ -1,13 +1,13 @@
 // What is asked of `escape` where nothing else is known: a row and instances of zeros and empty texts.
-ghost use Rattle.std.specs.Prelude.{◌≡◌, ◌<◌, ◌^◌, ◌++◌, IfOk, OnOk, IsTrue, length, true};
+ghost use Rattle.std.specs.Prelude.{◌≡◌, ◌<◌, ◌≤◌, ◌^◌, ◌++◌, IfOk, OnOk, length, true};
 ghost use Rattle.pj_shape.specs.Columns.{kinds_of};
-ghost use Rattle.pj_shape.specs.Sound.{IsSoundSpec};
+ghost use Rattle.pj_shape.specs.Sound.{IsSoundSpec, FitSchemes};
+ghost use Rattle.pj_graph.specs.Reaching.{AreFewSchemes};
 ghost use Rattle.pj_pattern.specs.Fitting.{row_fits};
-ghost use Rattle.pj_graph.specs.Sets.{FitSchemes};
 ghost use Rattle.pj_cert.specs.Instances.{AreInstances, blanks, blank_instances_of, blank_instances_from, blank_input, blank_ones as ones_of, constants_of, marked};
 
-use crate::checks::is_among;
 use crate::escaping::blank;
+use pj_graph::is_among;
 use pj_shape::{Instance, JoinSpec, Schema, Scheme, Schemes};
 use pj_value::{List, NoMemory, Row, Value};
 use std::alloc::Global;
@@ -32,8 +32,8 @@ fn blank_values(alloc: Global, schema: &Schema) -> Result<List<Value>, NoMemory>
 }
 
 /// For each input that is not reached, in order, and each of its schemes in order, the instance whose constants are 0 and the
-/// empty text, by the kinds of the marked columns. `NoMemory` comes for 2^32 constants and more, too.
-#[tactic(auto, using(crate::proofs::BlankOnes::blank_given))]
+/// empty text, by the kinds of the marked columns.
+#[tactic(auto, using(crate::proofs::BlankOnes::blank_given, crate::proofs::BlankOnes::blank_few))]
 pub fn blank_instances(
     alloc: Global,
     spec: &JoinSpec,
@@ -42,16 +42,13 @@ pub fn blank_instances(
 ) -> Result<List<Instance>, NoMemory>
     requires sound { IsSoundSpec spec.now }
     requires fitting { FitSchemes spec.now.inputs schemes.now }
+    requires few { AreFewSchemes schemes.now }
     ensures instances { IfOk result (λ listed. listed ≡ blank_instances_of spec.now schemes.now reached.now) }
     ensures given { IfOk result (λ listed. AreInstances spec.now schemes.now listed) }
     ensures few { IfOk result (λ listed. length (constants_of listed) < 2 ^ 32) }
 {
     let listed = instances_of(alloc, spec, schemes, reached)?;
-    if are_few(listed.as_slice()) {
-        Ok(listed)
-    } else {
-        Err(NoMemory)
-    }
+    Ok(listed)
 }
 
 fn instances_of(
@@ -62,6 +59,7 @@ fn instances_of(
 ) -> Result<List<Instance>, NoMemory>
     requires sound { IsSoundSpec spec.now }
     requires fitting { FitSchemes spec.now.inputs schemes.now }
+    requires few { AreFewSchemes schemes.now }
     ensures { IfOk result (λ listed. listed ≡ blank_instances_of spec.now schemes.now reached.now) }
 {
     let mut listed = List::new(alloc);
@@ -81,6 +79,7 @@ fn append_input(
     list: &[Scheme],
     listed: &mut List<Instance>,
 ) -> Result<(), NoMemory>
+    requires { length list.now ≤ 256 }
     ensures { OnOk result (listed.new ≡ listed.old ++ blank_input reached.now input (kinds_of schema.now) list.now) }
 {
     if is_among(reached, input) {
@@ -98,13 +97,14 @@ fn append_ones(
     list: &[Scheme],
     listed: &mut List<Instance>,
 ) -> Result<(), NoMemory>
+    requires { length list.now ≤ 256 }
     ensures { OnOk result (listed.new ≡ listed.old ++ ones_of input (kinds_of schema.now) 0 list.now) }
 {
     for (n, scheme) in list.iter().enumerate() {
         let constants = blank_constants(alloc, schema, scheme)?;
         listed.push(Instance {
             input,
-            scheme: number_of(n)?,
+            scheme: n as u32,
             constants,
         })?;
     }
@@ -121,29 +121,4 @@ fn blank_constants(alloc: Global, schema: &Schema, scheme: &Scheme) -> Result<Li
         }
     }
     Ok(constants)
-}
-
-fn number_of(n: usize) -> Result<u32, NoMemory>
-    ensures { IfOk result (λ m. m ≡ n) }
-{
-    if n < 4294967296 {
-        Ok(n as u32)
-    } else {
-        Err(NoMemory)
-    }
-}
-
-// Whether these instances have fewer than 2^32 constants in all.
-fn are_few(listed: &[Instance]) -> bool
-    ensures { IsTrue result → length (constants_of listed.now) < 2 ^ 32 }
-{
-    let mut room: usize = 4294967295;
-    for instance in listed {
-        let count = instance.constants.len();
-        if count > room {
-            return false;
-        }
-        room -= count;
-    }
-    true
 }

@@ -1,10 +1,12 @@
 // Whether a set of inputs of a join is closed.
 ghost use Rattle.std.specs.Prelude.{◌≡◌, ◌<◌, ◌≤◌, ◌↔◌, IsTrue, All, length};
-ghost use Rattle.pj_shape.specs.Sound.{IsSoundSpec};
+ghost use Rattle.pj_shape.specs.Sound.{IsSoundSpec, FitSchemes};
 ghost use Rattle.pj_shape.specs.Joining.{has_column};
-ghost use Rattle.pj_graph.specs.Sets.{FitSchemes, IsClosed, among, touches as touched, is_bound as bound, are_bound as all_bound};
+ghost use Rattle.pj_shape.specs.Sets.{IsClosed, is_bound as bound, are_bound as all_bound};
 ghost use Rattle.pj_cert.specs.Tests.{is_met as met, any_usable as some_usable, closed_from, passes};
+ghost use Rattle.pj_value.specs.Lists.{has};
 
+use pj_graph::{is_among, touches};
 use pj_shape::{ClassCol, JoinSpec, Scheme, Schemes};
 use pj_value::List;
 
@@ -13,7 +15,7 @@ use pj_value::List;
 pub fn closed(spec: &JoinSpec, schemes: &Schemes, reached: &[u32]) -> bool
     requires sound { IsSoundSpec spec.now }
     requires fitting { FitSchemes spec.now.inputs schemes.now }
-    ensures { IsTrue result ↔ IsClosed spec.now schemes.now (among reached.now) }
+    ensures { IsTrue result ↔ IsClosed spec.now schemes.now (has reached.now) }
 {
     none_escapes(spec, schemes, reached)
 }
@@ -59,7 +61,7 @@ pub(crate) fn are_bound(
     scheme: &Scheme,
 ) -> bool
     requires { length scheme.now ≤ 120 }
-    ensures { result ≡ all_bound (among known.now) classes.now input 0 scheme.now }
+    ensures { result ≡ all_bound (has known.now) classes.now input 0 scheme.now }
 {
     for column in 0..scheme.len() {
         let at = ClassCol {
@@ -80,7 +82,7 @@ fn is_met(classes: &[List<ClassCol>], known: &[u32], at: ClassCol, mark: bool) -
 }
 
 fn is_bound(classes: &[List<ClassCol>], known: &[u32], at: ClassCol) -> bool
-    ensures { result ≡ bound (among known.now) classes.now at.input at.column }
+    ensures { result ≡ bound (has known.now) classes.now at.input at.column }
 {
     classes.iter().any(|class| holds(class.as_slice(), at) && touches(class.as_slice(), known))
 }
@@ -92,18 +94,4 @@ pub(crate) fn holds(class: &[ClassCol], at: ClassCol) -> bool
     class
         .iter()
         .any(|c| c.input == at.input && c.column == at.column)
-}
-
-/// Whether the class has a column of a known input.
-pub(crate) fn touches(class: &[ClassCol], known: &[u32]) -> bool
-    ensures { result ≡ touched (among known.now) class.now }
-{
-    class.iter().any(|c| is_among(known, c.input))
-}
-
-/// Whether the number is one of these.
-pub(crate) fn is_among(numbers: &[u32], k: u32) -> bool
-    ensures { result ≡ among numbers.now k }
-{
-    numbers.iter().any(|m| *m == k)
 }

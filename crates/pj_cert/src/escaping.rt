@@ -2,16 +2,18 @@
 ghost use Rattle.std.specs.Prelude.{◌≡◌, ◌<◌, ◌≤◌, ◌^◌, ◌∷◌, [], IfOk, length, true};
 ghost use Rattle.pj_shape.specs.Columns.{kinds_of};
 ghost use Rattle.pj_shape.specs.Joining.{value_at};
-ghost use Rattle.pj_shape.specs.Sound.{IsSoundSpec};
+ghost use Rattle.pj_shape.specs.Sound.{IsSoundSpec, FitSchemes};
 ghost use Rattle.pj_pattern.specs.Fitting.{row_fits};
-ghost use Rattle.pj_graph.specs.Sets.{FitSchemes, IsClosed, among};
+ghost use Rattle.pj_shape.specs.Sets.{IsClosed};
 ghost use Rattle.pj_cert.specs.Instances.{AreInstances, blank as blank_of, constants_of};
 ghost use Rattle.pj_cert.specs.Escaping.{Escapes, escape_rows, class_value as value_of_class, class_with as class_of, column_of as column_in, column_value as value_of_column};
 ghost use Rattle.pj_cert.specs.Escaping.{fresh, other_value as value_of_other, row_of as row_for, rows_from, values_from};
 ghost use Rattle.pj_cert.specs.Laws.{schema_of};
+ghost use Rattle.pj_value.specs.Lists.{has};
 
-use crate::checks::{holds, touches};
+use crate::checks::holds;
 use crate::fresh::{fresh_number, fresh_text};
+use pj_graph::touches;
 use pj_shape::{ClassCol, Instance, JoinSpec, Schema, Schemes};
 use pj_value::{Kind, List, NoMemory, Row, SharedText, Value};
 use std::alloc::Global;
@@ -34,8 +36,8 @@ pub fn escape(
 ) -> Result<List<Row>, NoMemory>
     requires sound { IsSoundSpec spec.now }
     requires fitting { FitSchemes spec.now.inputs schemes.now }
-    requires closed { IsClosed spec.now schemes.now (among reached.now) }
-    requires inside { among reached.now input ≡ true }
+    requires closed { IsClosed spec.now schemes.now (has reached.now) }
+    requires inside { has reached.now input ≡ true }
     requires input { input < length spec.now.inputs }
     requires row { row_fits (kinds_of (schema_of spec.now input)) row.now ≡ true }
     requires listed { AreInstances spec.now schemes.now listed.now }

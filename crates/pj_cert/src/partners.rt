@@ -1,5 +1,6 @@
 // The lines of the rows with which an input is stuck.
 ghost use Rattle.std.specs.Prelude.{◌≡◌, ◌++◌, OnOk, OnErr};
+ghost use Rattle.std.specs.List.{concat};
 ghost use Rattle.pj_cert.specs.Partners.{partner_line, partner_of, partners_from, partners_of};
 
 use crate::verdicts::name_at;
@@ -16,7 +17,7 @@ pub fn partners_text(
     rows: &[Row],
     out: &mut List<u8>,
 ) -> Result<(), NoMemory>
-    ensures ok { OnOk result (out.new ≡ out.old ++ partners_of names.now input rows.now) }
+    ensures ok { OnOk result (out.new ≡ out.old ++ concat (partners_of names.now input rows.now)) }
     ensures err { OnErr result (out.new ≡ out.old) }
 {
     let mut text = List::new(alloc);
@@ -32,7 +33,7 @@ fn append_partners(
     rows: &[Row],
     text: &mut List<u8>,
 ) -> Result<(), NoMemory>
-    ensures { OnOk result (text.new ≡ text.old ++ partners_of names.now input rows.now) }
+    ensures { OnOk result (text.new ≡ text.old ++ concat (partners_of names.now input rows.now)) }
 {
     for (other, row) in rows.iter().enumerate() {
         append_other(alloc, names, input, other, row, text)?;
@@ -40,6 +41,7 @@ fn append_partners(
     Ok(())
 }
 
+#[tactic(auto, using(crate::proofs::Appended::partner_same, crate::proofs::Appended::partner_other))]
 fn append_other(
     alloc: Global,
     names: &[Bytes],
@@ -48,7 +50,7 @@ fn append_other(
     row: &Row,
     text: &mut List<u8>,
 ) -> Result<(), NoMemory>
-    ensures { OnOk result (text.new ≡ text.old ++ partner_of names.now input other row.now) }
+    ensures { OnOk result (text.new ≡ text.old ++ concat (partner_of names.now input other row.now)) }
 {
     if other == input as usize {
         return Ok(());

@@ -3,7 +3,7 @@ ghost use Rattle.std.specs.Prelude.{◌≡◌, ◌++◌, drop, IfOk, OnOk, OnErr
 ghost use Rattle.std.specs.List.{flat_map};
 ghost use Rattle.pj_cert.specs.Verdicts.{mark_text as mark_bytes, name_of as named, marks_of, step_text, steps_text, more_text, names_text};
 ghost use Rattle.pj_cert.specs.Verdicts.{head_text, whole_text, stuck_text, missing_text, unreached_text, reached_text, verdict_of};
-ghost use Rattle.pj_graph.specs.Sets.{schemes_of};
+ghost use Rattle.pj_shape.specs.Sets.{schemes_of};
 
 use pj_graph::Reach;
 use pj_shape::{Cert, CertStep, JoinSpec, Scheme, Schemes};

@@ -1,12 +1,12 @@
 // Whether a list of steps is a certificate.
 ghost use Rattle.std.specs.Prelude.{◌≡◌, ◌<◌, ◌≤◌, ◌↔◌, ◌∷◌, [], All, IsTrue, length};
-ghost use Rattle.pj_shape.specs.Sound.{IsSoundSpec};
-ghost use Rattle.pj_graph.specs.Sets.{FitSchemes};
-ghost use Rattle.pj_graph.specs.Certificates.{IsCertificate};
+ghost use Rattle.pj_shape.specs.Sound.{IsSoundSpec, FitSchemes};
+ghost use Rattle.pj_shape.specs.Certificates.{IsCertificate};
 ghost use Rattle.pj_cert.specs.Tests.{all_known as knows_all, can_use as usable, step_holds as holds, steps_hold as all_hold};
 
-use crate::checks::{are_bound, is_among};
+use crate::checks::are_bound;
 use arrayvec::ArrayVec;
+use pj_graph::is_among;
 use pj_shape::{Cert, CertStep, ClassCol, JoinSpec, Scheme, Schemes};
 use pj_value::List;
 

@@ -3,12 +3,13 @@ use Rattle.std.proofs.Common.{ℕ, zero, suc, ◌+◌, ◌<◌, ◌≡◌, lengt
 use Rattle.std.proofs.lemmas.Bool.{false≢true}
 use Rattle.pj_shape.specs.declared.joins.CertStep.{CertStep}
 use Rattle.pj_shape.specs.declared.joins.JoinSpec.{JoinSpec}
-use Rattle.pj_shape.specs.Sound.{AreApart}
-use Rattle.pj_graph.specs.Sets.{FitSchemes, among, is_usable, touches}
+use Rattle.pj_shape.specs.Sound.{AreApart, FitSchemes}
+use Rattle.pj_shape.specs.Sets.{is_usable, touches}
 use Rattle.pj_graph.specs.Certificates.{IsNextStep}
 use Rattle.pj_graph.specs.Search.{IsNext, all_marked, class_numbers, first_from, first_of_both, step_from, step_of, with_input}
 use Rattle.pj_graph.proofs.Numbers.{numbers_length, usable_by_number}
 use Rattle.pj_graph.proofs.Steps.{lists_length}
+use Rattle.pj_value.specs.Lists.{has}
 
 -- ---- the schemes of one input
 
@@ -59,8 +60,8 @@ first_is bound numbers n (marks ∷ list) m e = go (all_marked bound numbers mar
 -- ---- the step that adds an input
 
 passed_if : (bound : List Bool) (known : List ℕ) (k : ℕ) (numbers : List (Option ℕ)) (list : List (List Bool))
-    → step_of bound known k numbers list ≡ None → among known k ≡ false → NoneIn bound numbers list
-passed_if bound known k numbers list e out = go (among known k) out e
+    → step_of bound known k numbers list ≡ None → has known k ≡ false → NoneIn bound numbers list
+passed_if bound known k numbers list e out = go (has known k) out e
   where
     without : (o : Option ℕ) → first_from bound numbers 0 list ≡ o → with_input k o ≡ None → NoneIn bound numbers list
     without None f g = none_from bound numbers 0 list f
@@ -73,14 +74,14 @@ passed_if bound known k numbers list e out = go (among known k) out e
 -- the step adds this input, which is not known, by the first of these schemes that can be used
 record IsAdding (bound : List Bool) (known : List ℕ) (k : ℕ) (numbers : List (Option ℕ)) (list : List (List Bool)) (step : CertStep) : Type 0 where
   adds : step.input ≡ k
-  out : among known k ≡ false
+  out : has known k ≡ false
   first : IsFirst bound numbers list step.scheme
 
 adding_if : (bound : List Bool) (known : List ℕ) (k : ℕ) (numbers : List (Option ℕ)) (list : List (List Bool)) (step : CertStep)
     → step_of bound known k numbers list ≡ Some step → IsAdding bound known k numbers list step
-adding_if bound known k numbers list step e = go (among known k) refl e
+adding_if bound known k numbers list step e = go (has known k) refl e
   where
-    with_first : (o : Option ℕ) → first_from bound numbers 0 list ≡ o → among known k ≡ false → with_input k o ≡ Some step → IsAdding bound known k numbers list step
+    with_first : (o : Option ℕ) → first_from bound numbers 0 list ≡ o → has known k ≡ false → with_input k o ≡ Some step → IsAdding bound known k numbers list step
     with_first None f out g = cc
     with_first (Some m) f out g =
         let found = first_is bound numbers 0 list m f in
@@ -89,7 +90,7 @@ adding_if bound known k numbers list step e = go (among known k) refl e
         let number : found.0 ≡ step.scheme = omega (arith, found.1, ap (λ (c : CertStep). c.scheme) same) in
         record { adds = sym (ap (λ (c : CertStep). c.input) same); out = out; first = subst (IsFirst bound numbers list) number found.2 }
 
-    go : (b : Bool) → among known k ≡ b → cond b None (with_input k (first_from bound numbers 0 list)) ≡ Some step → IsAdding bound known k numbers list step
+    go : (b : Bool) → has known k ≡ b → cond b None (with_input k (first_from bound numbers 0 list)) ≡ Some step → IsAdding bound known k numbers list step
     go true t f = cc
     go false t f = with_first (first_from bound numbers 0 list) refl t f
 
@@ -97,7 +98,7 @@ adding_if bound known k numbers list step e = go (among known k) refl e
 
 -- the input with this place is known, or none of its schemes can be used
 abbrev IsPassed : List Bool → List ℕ → ℕ → List (List (Option ℕ)) → List (List (List Bool)) → ℕ → Type 0
-IsPassed bound known k table lists i = among known (k + i) ≡ false → NoneIn bound (get_or table i []) (get_or lists i [])
+IsPassed bound known k table lists i = has known (k + i) ≡ false → NoneIn bound (get_or table i []) (get_or lists i [])
 
 all_passed : (bound : List Bool) (known : List ℕ) (k : ℕ) (table : List (List (Option ℕ))) (lists : List (List (List Bool))) → length table ≡ length lists
     → step_from bound known k table lists ≡ None → (i : ℕ) → IsPassed bound known k table lists i
@@ -108,11 +109,11 @@ all_passed bound known k (ns ∷ table) (list ∷ lists) l e =
     go (step_of bound known k ns list) refl (all_passed bound known (k + 1) table lists (omega (arith, l))) e
   where
     later : (i : ℕ) → IsPassed bound known (k + 1) table lists i → IsPassed bound known k (ns ∷ table) (list ∷ lists) (suc i)
-    later i passed out = let e : k + suc i ≡ k + 1 + i = omega arith in passed (sym (ap (among known) e) ∙ out)
+    later i passed out = let e : k + suc i ≡ k + 1 + i = omega arith in passed (sym (ap (has known) e) ∙ out)
 
     each : step_of bound known k ns list ≡ None → ((i : ℕ) → IsPassed bound known (k + 1) table lists i)
         → (i : ℕ) → IsPassed bound known k (ns ∷ table) (list ∷ lists) i
-    each f ih zero out = passed_if bound known k ns list f (let e : k ≡ k + 0 = omega arith in ap (among known) e ∙ out)
+    each f ih zero out = passed_if bound known k ns list f (let e : k ≡ k + 0 = omega arith in ap (has known) e ∙ out)
     each f ih (suc i) out = later i (ih i) out
 
     go : (o : Option CertStep) → step_of bound known k ns list ≡ o
@@ -144,8 +145,8 @@ found_if bound known k (ns ∷ table) (list ∷ lists) step e = go (step_of boun
 
     before : step_of bound known k ns list ≡ None → (place : ℕ) → ((i : ℕ) → i < place → IsPassed bound known (k + 1) table lists i)
         → (i : ℕ) → i < suc place → IsPassed bound known k (ns ∷ table) (list ∷ lists) i
-    before f place passed zero lt out = passed_if bound known k ns list f (let e : k ≡ k + 0 = omega arith in ap (among known) e ∙ out)
-    before f place passed (suc i) lt out = passed i (omega arith) (let e : k + suc i ≡ k + 1 + i = omega arith in sym (ap (among known) e) ∙ out)
+    before f place passed zero lt out = passed_if bound known k ns list f (let e : k ≡ k + 0 = omega arith in ap (has known) e ∙ out)
+    before f place passed (suc i) lt out = passed i (omega arith) (let e : k + suc i ≡ k + 1 + i = omega arith in sym (ap (has known) e) ∙ out)
 
     later : step_of bound known k ns list ≡ None → IsFound bound known (k + 1) table lists step → IsFound bound known k (ns ∷ table) (list ∷ lists) step
     later f found =
@@ -166,12 +167,12 @@ found_if bound known k (ns ∷ table) (list ∷ lists) step e = go (step_of boun
 
 pub next_is : (spec : JoinSpec) (schemes : List (List (List Bool))) (known : List ℕ) (next : Option CertStep)
     → AreApart spec.classes → FitSchemes spec.inputs schemes
-    → next ≡ step_from (map (touches (among known)) spec.classes) known 0 (class_numbers spec.classes 0 spec.inputs) schemes
+    → next ≡ step_from (map (touches (has known)) spec.classes) known 0 (class_numbers spec.classes 0 spec.inputs) schemes
     → IsNext spec schemes known next
 next_is spec schemes known next apart fit e = go next e
   where
     bound : List Bool
-    bound = map (touches (among known)) spec.classes
+    bound = map (touches (has known)) spec.classes
 
     table : List (List (Option ℕ))
     table = class_numbers spec.classes 0 spec.inputs
@@ -179,11 +180,11 @@ next_is spec schemes known next apart fit e = go next e
     same_length : length table ≡ length schemes
     same_length = numbers_length spec.classes 0 spec.inputs ∙ sym (lists_length spec.inputs schemes fit)
 
-    by_number : (j s : ℕ) → s < length (get_or schemes j []) → is_usable (among known) spec schemes j s ≡ all_marked bound (get_or table j []) (get_or (get_or schemes j []) s [])
-    by_number j s lt = usable_by_number (among known) spec schemes j s apart fit lt
+    by_number : (j s : ℕ) → s < length (get_or schemes j []) → is_usable (has known) spec schemes j s ≡ all_marked bound (get_or table j []) (get_or (get_or schemes j []) s [])
+    by_number j s lt = usable_by_number (has known) spec schemes j s apart fit lt
 
-    out_at : (j : ℕ) → among known j ≡ false → among known (0 + j) ≡ false
-    out_at j out = let e : 0 + j ≡ j = omega arith in ap (among known) e ∙ out
+    out_at : (j : ℕ) → has known j ≡ false → has known (0 + j) ≡ false
+    out_at j out = let e : 0 + j ≡ j = omega arith in ap (has known) e ∙ out
 
     step_is : (step : CertStep) → IsFound bound known 0 table schemes step → IsNextStep spec schemes known step
     step_is step found = at found.place (found.adding.adds ∙ zero_plus found.place)
@@ -197,7 +198,7 @@ next_is spec schemes known next apart fit e = go next e
             let first = subst (λ (j : ℕ). IsFirst bound (get_or table j []) (get_or schemes j []) step.scheme) (sym e) adding.first in
             record {
               is_step = record { given = first.within; usable = by_number step.input step.scheme first.within ∙ first.holds };
-              is_new = ap (among known) (found.adding.adds) ∙ adding.out;
+              is_new = ap (has known) (found.adding.adds) ∙ adding.out;
               first = λ s lt. by_number step.input s (omega (arith, lt, first.within)) ∙ first.before s lt;
               least = λ j s lt out within. by_number j s within ∙ found.passed j (omega (arith, lt, e)) (out_at j out) s within;
             }

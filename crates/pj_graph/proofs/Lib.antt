@@ -4,5 +4,7 @@ pub mod Numbers
 pub mod Found
 pub mod Certified
 pub mod Told
+pub mod Existing
 pub mod Safe
 pub mod Unique
+pub mod Reached

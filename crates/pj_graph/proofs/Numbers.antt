@@ -1,17 +1,16 @@
 -- The table of class numbers tells which columns are bound.
-use Rattle.std.proofs.Common.{ℕ, zero, suc, ◌+◌, ◌-◌, ◌<◌, ◌≤◌, ◌≡◌, length, get_or, arith, Bool, true, false, cond, not, ◌&&◌, ◌||◌, List, [], ◌∷◌, Option, Some, None, map, refl, sym, ap, ◌∙◌, subst}
-use Rattle.std.specs.Prelude.{◌==◌}
+use Rattle.std.proofs.Common.{ℕ, zero, suc, ◌+◌, ◌-◌, ◌<◌, ◌≤◌, ◌≡◌, length, get_or, arith, Bool, true, false, cond, not, ◌&&◌, ◌||◌, List, [], ◌∷◌, Option, Some, None, map, refl, sym, ap, ◌∙◌}
 use Rattle.std.proofs.Math.Nat.{sub_self}
 use Rattle.std.proofs.Math.Nat.{add-zero}
-use Rattle.std.proofs.lemmas.Bool.{and_parts, and_left, eqb-true, false_from_ne_true}
-use Rattle.pj_value.specs.Lists.{In}
-use Rattle.pj_value.proofs.Members.{any_at, none_from, in-place}
+use Rattle.std.proofs.lemmas.Bool.{and_left, false_from_ne_true}
+use Rattle.pj_value.proofs.Members.{none_from, in-place}
 use Rattle.pj_shape.specs.declared.columns.Column.{Column}
 use Rattle.pj_shape.specs.declared.joins.ClassCol.{ClassCol}
 use Rattle.pj_shape.specs.declared.joins.JoinSpec.{JoinSpec}
-use Rattle.pj_shape.specs.Sound.{AreApart}
+use Rattle.pj_shape.specs.Sound.{AreApart, FitSchemes}
 use Rattle.pj_shape.specs.Joining.{has_column, class_from, class_of}
-use Rattle.pj_graph.specs.Sets.{FitSchemes, are_bound, is_bound, is_usable, touches}
+use Rattle.pj_shape.proofs.Classes.{has_in}
+use Rattle.pj_shape.specs.Sets.{are_bound, is_bound, is_usable, touches}
 use Rattle.pj_graph.specs.Search.{all_marked, class_numbers, column_numbers, is_marked}
 
 pub numbers_length : (classes : List (List ClassCol)) (k : ℕ) (schemas : List (List Column)) → length (class_numbers classes k schemas) ≡ length schemas
@@ -19,15 +18,6 @@ numbers_length classes k [] = refl
 numbers_length classes k (s ∷ schemas) = ap suc (numbers_length classes (k + 1) schemas)
 
 -- ---- one column
-
-has_in : (class : List ClassCol) (at : ClassCol) → has_column class at ≡ true → In at class
-has_in class at t =
-    let r = any_at (λ c. (c.input == at.input) && (c.column == at.column)) class t in
-    let both = and_parts (r.0.input == at.input) (r.0.column == at.column) r.2 in
-    subst (λ (z : ClassCol). In z class) (same r.0 at (eqb-true r.0.input at.input both.0) (eqb-true r.0.column at.column both.1)) r.1
-  where
-    same : (c d : ClassCol) → c.input ≡ d.input → c.column ≡ d.column → c ≡ d
-    same c d e f = ap (λ (n : ℕ). let z : ClassCol = record { input = n; column = c.column } in z) e ∙ ap (λ (n : ℕ). let z : ClassCol = record { input = d.input; column = n } in z) f
 
 -- the mark of a class, where the first of the marks is that of this number
 abbrev by_number : ℕ → List Bool → Option ℕ → Bool

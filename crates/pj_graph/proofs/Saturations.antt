@@ -2,32 +2,25 @@
 use Rattle.std.specs.Prelude.{◌==◌}
 use Rattle.std.proofs.Common.{ℕ, zero, suc, ◌+◌, ◌<◌, ◌≤◌, ◌≡◌, ◌≢◌, length, get_or, arith, Bool, true, false, not, ◌&&◌, ◌||◌, List, [], ◌∷◌, ◌++◌, Some, refl, sym, ap, ◌∙◌, subst, inl, inr, append_assoc, append-nil}
 use Rattle.std.specs.List.{list_any}
-use Rattle.std.proofs.lemmas.Bool.{and_parts, and_from, eqb-true, eqb-false, eq-eqb, false≢true}
-use Rattle.pj_value.specs.Lists.{In}
+use Rattle.std.proofs.lemmas.Bool.{and_parts, and_from, eqb-true, eqb-false, false≢true}
+use Rattle.pj_value.specs.Lists.{In, has}
 use Rattle.pj_value.proofs.Members.{In-append_cases, In-append_left, In-append_right, any_at, any_from}
+use Rattle.pj_value.proofs.Numbers.{has-in, in-has}
 use Rattle.pj_shape.specs.declared.joins.CertStep.{CertStep}
 use Rattle.pj_shape.specs.declared.joins.ClassCol.{ClassCol}
 use Rattle.pj_shape.specs.declared.joins.JoinSpec.{JoinSpec}
 use Rattle.pj_shape.specs.Joining.{has_column}
-use Rattle.pj_graph.specs.Sets.{among, are_bound, is_bound, is_usable, IsClosed, Reaches, schemes_of, touches}
-use Rattle.pj_graph.specs.Certificates.{AreSteps, IsStep, inputs_of}
+use Rattle.pj_shape.specs.Sets.{are_bound, is_bound, is_usable, IsClosed, Reaches, schemes_of, touches}
+use Rattle.pj_shape.specs.Certificates.{AreSteps, IsStep, inputs_of}
 use Rattle.pj_graph.specs.Search.{IsNext}
 
 -- ---- numbers among numbers
 
-pub among_in : (numbers : List ℕ) (k : ℕ) → among numbers k ≡ true → In k numbers
-among_in numbers k t =
-    let r = any_at (λ m. m == k) numbers t in
-    subst (λ (m : ℕ). In m numbers) (eqb-true r.0 k r.2) r.1
+pub among_left : (numbers others : List ℕ) (k : ℕ) → has numbers k ≡ true → has (numbers ++ others) k ≡ true
+among_left numbers others k t = in-has (numbers ++ others) k (In-append_left k numbers others (has-in numbers k t))
 
-pub in_among : (numbers : List ℕ) (k : ℕ) → In k numbers → among numbers k ≡ true
-in_among numbers k h = any_from (λ m. m == k) numbers k h (eq-eqb k k refl)
-
-pub among_left : (numbers others : List ℕ) (k : ℕ) → among numbers k ≡ true → among (numbers ++ others) k ≡ true
-among_left numbers others k t = in_among (numbers ++ others) k (In-append_left k numbers others (among_in numbers k t))
-
-pub among_last : (numbers : List ℕ) (k : ℕ) → among (numbers ++ k ∷ []) k ≡ true
-among_last numbers k = in_among (numbers ++ k ∷ []) k (In-append_right k numbers (k ∷ []) (inl refl))
+pub among_last : (numbers : List ℕ) (k : ℕ) → has (numbers ++ k ∷ []) k ≡ true
+among_last numbers k = in-has (numbers ++ k ∷ []) k (In-append_right k numbers (k ∷ []) (inl refl))
 
 -- ---- the search ends
 
@@ -39,7 +32,7 @@ one_if_out false = 1
 -- how many of the first n numbers are none of these
 abbrev pub unknown : List ℕ → ℕ → ℕ
 unknown known zero = 0
-unknown known (suc n) = one_if_out (among known n) + unknown known n
+unknown known (suc n) = one_if_out (has known n) + unknown known n
 
 fewer_or_same : (a b : Bool) → (a ≡ true → b ≡ true) → one_if_out b ≤ one_if_out a
 fewer_or_same true b f = let e : one_if_out b ≡ 0 = ap (λ (c : Bool). one_if_out c) (f refl) in omega (arith, e)
@@ -48,32 +41,32 @@ fewer_or_same false false f = omega arith
 
 no_more : (known : List ℕ) (k n : ℕ) → unknown (known ++ k ∷ []) n ≤ unknown known n
 no_more known k zero = omega arith
-no_more known k (suc n) = omega (arith, no_more known k n, fewer_or_same (among known n) (among (known ++ k ∷ []) n) (among_left known (k ∷ []) n))
+no_more known k (suc n) = omega (arith, no_more known k n, fewer_or_same (has known n) (has (known ++ k ∷ []) n) (among_left known (k ∷ []) n))
 
-pub one_fewer : (known : List ℕ) (k n : ℕ) → k < n → among known k ≡ false → unknown (known ++ k ∷ []) n < unknown known n
+pub one_fewer : (known : List ℕ) (k n : ℕ) → k < n → has known k ≡ false → unknown (known ++ k ∷ []) n < unknown known n
 one_fewer known k zero lt out = absurd (omega arith)
 one_fewer known k (suc n) lt out = go (n == k) refl (one_fewer known k n)
   where
-    now : one_if_out (among known k) ≡ 1
+    now : one_if_out (has known k) ≡ 1
     now = ap (λ (b : Bool). one_if_out b) out
 
-    then : one_if_out (among (known ++ k ∷ []) k) ≡ 0
+    then : one_if_out (has (known ++ k ∷ []) k) ≡ 0
     then = ap (λ (b : Bool). one_if_out b) (among_last known k)
 
     same : n ≡ k → unknown (known ++ k ∷ []) (suc n) < unknown known (suc n)
     same e =
-        let now_n : one_if_out (among known n) ≡ 1 = ap (λ (m : ℕ). one_if_out (among known m)) e ∙ now in
-        let then_n : one_if_out (among (known ++ k ∷ []) n) ≡ 0 = ap (λ (m : ℕ). one_if_out (among (known ++ k ∷ []) m)) e ∙ then in
+        let now_n : one_if_out (has known n) ≡ 1 = ap (λ (m : ℕ). one_if_out (has known m)) e ∙ now in
+        let then_n : one_if_out (has (known ++ k ∷ []) n) ≡ 0 = ap (λ (m : ℕ). one_if_out (has (known ++ k ∷ []) m)) e ∙ then in
         omega (arith, now_n, then_n, no_more known k n)
 
-    go : (b : Bool) → (n == k) ≡ b → (k < n → among known k ≡ false → unknown (known ++ k ∷ []) n < unknown known n)
+    go : (b : Bool) → (n == k) ≡ b → (k < n → has known k ≡ false → unknown (known ++ k ∷ []) n < unknown known n)
         → unknown (known ++ k ∷ []) (suc n) < unknown known (suc n)
     go true t ih = same (eqb-true n k t)
     go false t ih =
         let differ : n ≢ k = eqb-false n k t in
-        omega (arith, ih (omega (arith, lt, differ)) out, fewer_or_same (among known n) (among (known ++ k ∷ []) n) (among_left known (k ∷ []) n))
+        omega (arith, ih (omega (arith, lt, differ)) out, fewer_or_same (has known n) (has (known ++ k ∷ []) n) (among_left known (k ∷ []) n))
 
-no_scheme : (schemes : List (List (List Bool))) (k s : ℕ) → s < length (schemes_of schemes k) → k < length schemes
+pub no_scheme : (schemes : List (List (List Bool))) (k s : ℕ) → s < length (schemes_of schemes k) → k < length schemes
 no_scheme [] k s lt = absurd (omega (arith, lt))
 no_scheme (list ∷ lists) zero s lt = omega arith
 no_scheme (list ∷ lists) (suc k) s lt = omega (arith, no_scheme lists k s lt)
@@ -130,7 +123,7 @@ known_inside spec schemes inside known (step ∷ steps) closed (first, others) f
     reached : (b : Bool) → inside step.input ≡ b → inside step.input ≡ true
     reached true t = t
     reached false t = absurd (false≢true (sym (closed step.input step.scheme t first.given)
-        ∙ usable_more (among known) inside (λ m u. f m (among_in known m u)) spec schemes step.input step.scheme first.usable))
+        ∙ usable_more (has known) inside (λ m u. f m (has-in known m u)) spec schemes step.input step.scheme first.usable))
 
     added : (m : ℕ) → In m (known ++ step.input ∷ []) → inside m ≡ true
     added m i = elim (In-append_cases m known (step.input ∷ []) i) [

@@ -5,8 +5,7 @@ use Rattle.std.proofs.Math.Seq.{drop-cons, drop-nil}
 use Rattle.std.proofs.lemmas.Option.{get_or_from_slice_get, slice_get_within}
 use Rattle.pj_shape.specs.declared.columns.Column.{Column}
 use Rattle.pj_shape.specs.declared.joins.CertStep.{CertStep}
-use Rattle.pj_shape.specs.Sound.{arities_of}
-use Rattle.pj_graph.specs.Sets.{FitSchemes}
+use Rattle.pj_shape.specs.Sound.{arities_of, FitSchemes}
 use Rattle.pj_graph.specs.Search.{all_marked, is_met, step_of, step_from, first_of_both}
 
 pub drop_at : {A : Type 0} (xs : List A) (k : ℕ) (x : A) → k < length xs → x ≡ get_or xs k x → drop k xs ≡ x ∷ drop (k + 1) xs
@@ -61,7 +60,7 @@ step_taken bound known k table lists ns list step lt e f g =
 
 -- ---- how many columns and lists there are
 
-sum_on : (n : ℕ) (xs : List ℕ) → sum (n ∷ xs) ≡ n + sum xs
+pub sum_on : (n : ℕ) (xs : List ℕ) → sum (n ∷ xs) ≡ n + sum xs
 sum_on n xs = omega (arith, sum_from (0 + n) xs)
   where
     sum_from : (m : ℕ) (ys : List ℕ) → fold ◌+◌ m ys ≡ m + sum ys

@@ -2,10 +2,10 @@
 use Rattle.std.proofs.Common.{ℕ, zero, suc, ◌+◌, ◌<◌, ◌≤◌, ◌≡◌, ◌≢◌, ◌⊎◌, length, arith, Bool, true, false, not, cond, ◌&&◌, List, [], ◌∷◌, ◌++◌, Option, Some, None, map, refl, sym, ap, ◌∙◌, inl, inr}
 use Rattle.std.specs.List.{find, flat_map, range_with_len}
 use Rattle.std.proofs.lemmas.Bool.{cases_eq}
-use Rattle.pj_value.specs.Lists.{In}
+use Rattle.pj_value.specs.Lists.{In, has}
 use Rattle.pj_shape.specs.declared.joins.CertStep.{CertStep}
 use Rattle.pj_shape.specs.declared.joins.JoinSpec.{JoinSpec}
-use Rattle.pj_graph.specs.Sets.{among, IsClosed, is_usable, schemes_of}
+use Rattle.pj_shape.specs.Sets.{IsClosed, is_usable, schemes_of}
 use Rattle.pj_graph.specs.Certificates.{IsNextStep, IsSaturation}
 use Rattle.pj_graph.specs.Saturation.{can_add, next_step, next_steps, step_by, steps_by, with_step}
 use Rattle.pj_graph.specs.Laws.{SaturationsAreTold}
@@ -73,23 +73,23 @@ not_both false c f = f refl
 both : (b c : Bool) → b ≡ false → c ≡ true → (not b && c) ≡ true
 both b c e f = ap (λ (d : Bool). not d && c) e ∙ f
 
-none_next : (spec : JoinSpec) (schemes : List (List (List Bool))) (known : List ℕ) → IsClosed spec schemes (among known) → next_step spec schemes known ≡ None
+none_next : (spec : JoinSpec) (schemes : List (List (List Bool))) (known : List ℕ) → IsClosed spec schemes (has known) → next_step spec schemes known ≡ None
 none_next spec schemes known closed =
     none_found (can_add spec schemes known) schemes 0 (length schemes)
-    (λ k s lt. not_both (among known k) (is_usable (among known) spec schemes k s) (λ out. closed k s out lt))
+    (λ k s lt. not_both (has known k) (is_usable (has known) spec schemes k s) (λ out. closed k s out lt))
 
 is_next : (spec : JoinSpec) (schemes : List (List (List Bool))) (known : List ℕ) (step : CertStep) → IsNextStep spec schemes known step
     → next_step spec schemes known ≡ Some step
 is_next spec schemes known step next =
     found_at (can_add spec schemes known) schemes 0 (length schemes) step.input step.scheme (omega arith) (omega (arith, step_in_range spec schemes known step next.is_step))
     next.is_step.given
-    (λ j r less lt. not_both (among known j) (is_usable (among known) spec schemes j r) (λ out. next.least j r less out lt))
-    (λ r less. not_both (among known step.input) (is_usable (among known) spec schemes step.input r) (λ out. next.first r less))
-    (both (among known step.input) (is_usable (among known) spec schemes step.input step.scheme) next.is_new next.is_step.usable)
+    (λ j r less lt. not_both (has known j) (is_usable (has known) spec schemes j r) (λ out. next.least j r less out lt))
+    (λ r less. not_both (has known step.input) (is_usable (has known) spec schemes step.input r) (λ out. next.first r less))
+    (both (has known step.input) (is_usable (has known) spec schemes step.input step.scheme) next.is_new next.is_step.usable)
 
 -- ---- all steps
 
-unique : (spec : JoinSpec) (schemes : List (List (List Bool))) (inputs most : ℕ) (known : List ℕ) (steps : List CertStep) → IsSaturation spec schemes known steps
+pub unique : (spec : JoinSpec) (schemes : List (List (List Bool))) (inputs most : ℕ) (known : List ℕ) (steps : List CertStep) → IsSaturation spec schemes known steps
     → ((step : CertStep) → In step steps → step.input < inputs) → unknown known inputs ≤ most → steps ≡ next_steps spec schemes most known
 unique spec schemes inputs zero known [] h within few = refl
 unique spec schemes inputs (suc most) known [] h within few =
@@ -102,9 +102,9 @@ unique spec schemes inputs (suc most) known (step ∷ steps) (next, h) within fe
     (omega (arith, few, one_fewer known step.input inputs (within step (inl refl)) next.is_new)))
     ∙ sym (ap (λ (o : Option CertStep). with_step known o (next_steps spec schemes most)) (is_next spec schemes known step next))
 
-few_unknown : (known : List ℕ) (n : ℕ) → unknown known n ≤ n
+pub few_unknown : (known : List ℕ) (n : ℕ) → unknown known n ≤ n
 few_unknown known zero = omega arith
-few_unknown known (suc n) = go (among known n) (few_unknown known n)
+few_unknown known (suc n) = go (has known n) (few_unknown known n)
   where
     go : (b : Bool) → unknown known n ≤ n → one_if_out b + unknown known n ≤ suc n
     go true le = omega (arith, le)

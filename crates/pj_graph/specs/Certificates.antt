@@ -1,47 +1,21 @@
--- Certificates of an input of a join.
-use Rattle.std.specs.Prelude.{ℕ, ◌<◌, ◌≡◌, ◌≢◌, Bool, true, false, ◌==◌, if◌then◌else◌, List, [], ◌∷◌, ◌++◌, map, length}
-use Rattle.pj_value.specs.Lists.{In}
-use Rattle.pj_value.specs.Bags.{weigh}
+-- Steps of the search for a certificate.
+use Rattle.std.specs.Prelude.{ℕ, ◌<◌, ◌≡◌, Bool, false, List, [], ◌∷◌, ◌++◌, length}
+use Rattle.pj_value.specs.Lists.{has}
 use Rattle.pj_shape.specs.declared.joins.CertStep.{CertStep}
 use Rattle.pj_shape.specs.declared.joins.JoinSpec.{JoinSpec}
-use Rattle.pj_graph.specs.Sets.{among, IsClosed, is_usable, schemes_of}
-
--- the inputs of these steps
-abbrev pub inputs_of : List CertStep → List ℕ
-inputs_of steps = map (λ step. step.input) steps
-
--- how many of these steps are of the input
-abbrev pub steps_of : List CertStep → ℕ → ℕ
-steps_of steps input = weigh (λ step. if step.input == input then 1 else 0) steps
-
--- the step's scheme is one of its input, and its marked columns lie in classes with a column of a known input
-pub record IsStep (spec : JoinSpec) (schemes : List (List (List Bool))) (known : List ℕ) (step : CertStep) : Type 0 where
-  pub given : step.scheme < length (schemes_of schemes step.input)
-  pub usable : is_usable (among known) spec schemes step.input step.scheme ≡ true
-
--- each step is one, where these inputs and those of the steps before it are known
-abbrev pub AreSteps : JoinSpec → List (List (List Bool)) → List ℕ → List CertStep → Type 0
-AreSteps spec schemes known [] = Unit {0}
-AreSteps spec schemes known (step ∷ steps) =
-    IsStep spec schemes known step × AreSteps spec schemes (known ++ step.input ∷ []) steps
-
--- every other input stands in the list once and nothing else does, and each step's scheme is one of its input, with its
--- marked columns in classes with a column of this input or of that of an earlier step
-pub record IsCertificate (spec : JoinSpec) (schemes : List (List (List Bool))) (input : ℕ) (cert : List CertStep) : Type 0 where
-  pub once : (other : ℕ) → other < length spec.inputs → other ≢ input → steps_of cert other ≡ 1
-  pub only : (step : CertStep) → In step cert → (step.input < length spec.inputs) × (step.input ≢ input)
-  pub steps : AreSteps spec schemes (input ∷ []) cert
+use Rattle.pj_shape.specs.Sets.{IsClosed, is_usable, schemes_of}
+use Rattle.pj_shape.specs.Certificates.{IsStep}
 
 -- the step adds the least input that is not known and has a scheme that can be used, by the first such scheme
 pub record IsNextStep (spec : JoinSpec) (schemes : List (List (List Bool))) (known : List ℕ) (step : CertStep) : Type 0 where
   pub is_step : IsStep spec schemes known step
-  pub is_new : among known step.input ≡ false
-  pub first : (scheme : ℕ) → scheme < step.scheme → is_usable (among known) spec schemes step.input scheme ≡ false
-  pub least : (input scheme : ℕ) → input < step.input → among known input ≡ false → scheme < length (schemes_of schemes input)
-      → is_usable (among known) spec schemes input scheme ≡ false
+  pub is_new : has known step.input ≡ false
+  pub first : (scheme : ℕ) → scheme < step.scheme → is_usable (has known) spec schemes step.input scheme ≡ false
+  pub least : (input scheme : ℕ) → input < step.input → has known input ≡ false → scheme < length (schemes_of schemes input)
+      → is_usable (has known) spec schemes input scheme ≡ false
 
 -- each step is the next one, where these inputs and those of the steps before it are known, and none comes after the last
 abbrev pub IsSaturation : JoinSpec → List (List (List Bool)) → List ℕ → List CertStep → Type 0
-IsSaturation spec schemes known [] = IsClosed spec schemes (among known)
+IsSaturation spec schemes known [] = IsClosed spec schemes (has known)
 IsSaturation spec schemes known (step ∷ steps) =
     IsNextStep spec schemes known step × IsSaturation spec schemes (known ++ step.input ∷ []) steps

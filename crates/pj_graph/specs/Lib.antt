@@ -1,4 +1,3 @@
-pub mod Sets
 pub mod Certificates
 pub mod Reaching
 pub mod Search

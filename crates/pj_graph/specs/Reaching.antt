@@ -1,17 +1,17 @@
 -- What is answered for an input of a join.
-use Rattle.std.specs.Prelude.{ℕ, ◌<◌, ◌↔◌, Bool, List, [], ◌∷◌, length}
-use Rattle.pj_value.specs.Lists.{In}
+use Rattle.std.specs.Prelude.{ℕ, ◌<◌, ◌≤◌, ◌↔◌, Bool, List, [], ◌∷◌, length}
+use Rattle.pj_value.specs.Lists.{In, has, AreRising}
 use Rattle.pj_shape.specs.declared.joins.CertStep.{CertStep}
 use Rattle.pj_shape.specs.declared.joins.JoinSpec.{JoinSpec}
 use Rattle.pj_graph.specs.declared.answers.Reach.{Reach}
 use Rattle.pj_graph.specs.declared.answers.Reach.TheVariants.{All, Stuck}
-use Rattle.pj_graph.specs.Sets.{among, IsClosed, Reaches}
-use Rattle.pj_graph.specs.Certificates.{IsCertificate, IsSaturation}
+use Rattle.pj_shape.specs.Sets.{IsClosed, Reaches, schemes_of}
+use Rattle.pj_shape.specs.Certificates.{IsCertificate}
+use Rattle.pj_graph.specs.Certificates.{IsSaturation}
 
--- each number is below those behind it
-abbrev pub IsRising : List ℕ → Type 0
-IsRising [] = Unit {0}
-IsRising (k ∷ numbers) = ((other : ℕ) → In other numbers → k < other) × IsRising numbers
+-- each input has at most 256 schemes
+abbrev pub AreFewSchemes : List (List (List Bool)) → Type 0
+AreFewSchemes schemes = (input : ℕ) → length (schemes_of schemes input) ≤ 256
 
 -- every input is reached, and the certificate is that of the saturation from the input alone
 pub record IsWhole (spec : JoinSpec) (schemes : List (List (List Bool))) (input : ℕ) (cert : List CertStep) : Type 0 where
@@ -22,8 +22,8 @@ pub record IsWhole (spec : JoinSpec) (schemes : List (List (List Bool))) (input 
 -- these are exactly the inputs that are reached, in order, and the least of the others is missing
 pub record IsStuck (spec : JoinSpec) (schemes : List (List (List Bool))) (input : ℕ) (reached : List ℕ) (missing : ℕ) : Type 0 where
   pub exactly : (other : ℕ) → In other reached ↔ ((other < length spec.inputs) × Reaches spec schemes input other)
-  pub in_order : IsRising reached
-  pub closed : IsClosed spec schemes (among reached)
+  pub in_order : AreRising reached
+  pub closed : IsClosed spec schemes (has reached)
   pub missing_is_input : missing < length spec.inputs
   pub missed : ¬ Reaches spec schemes input missing
   pub least : (other : ℕ) → other < missing → Reaches spec schemes input other

@@ -1,5 +1,5 @@
 -- What the search for the next step finds.
-use Rattle.std.specs.Prelude.{ℕ, zero, suc, ◌+◌, ◌<◌, ◌≡◌, Bool, true, false, not, ◌&&◌, ◌||◌, if◌then◌else◌, List, [], ◌∷◌, ◌++◌, Option, Some, None, slice_index_or}
+use Rattle.std.specs.Prelude.{ℕ, ◌+◌, ◌<◌, ◌≡◌, Bool, true, false, not, ◌&&◌, ◌||◌, if◌then◌else◌, List, [], ◌∷◌, Option, Some, None, slice_index_or}
 use Rattle.pj_shape.specs.declared.columns.Column.{Column}
 use Rattle.pj_shape.specs.declared.joins.CertStep.{CertStep}
 use Rattle.pj_shape.specs.declared.joins.ClassCol.{ClassCol}
@@ -8,7 +8,9 @@ use Rattle.pj_shape.specs.declared.joins.JoinSpec.{JoinSpec}
 use Rattle.pj_graph.specs.declared.answers.Reach.{Reach}
 use Rattle.pj_graph.specs.declared.answers.Reach.TheVariants.{All, Stuck}
 use Rattle.pj_graph.specs.Certificates.{IsNextStep}
-use Rattle.pj_graph.specs.Sets.{among, IsClosed}
+use Rattle.pj_graph.specs.Saturation.{sorted_below}
+use Rattle.pj_shape.specs.Sets.{IsClosed}
+use Rattle.pj_value.specs.Lists.{has}
 
 -- the numbers of the classes of so many columns of an input, from this column on
 abbrev pub column_numbers : List (List ClassCol) → ℕ → ℕ → List Column → List (Option ℕ)
@@ -50,7 +52,7 @@ with_input input (Some scheme) = Some (record { input = input; scheme = scheme }
 
 -- the step that adds this input
 abbrev pub step_of : List Bool → List ℕ → ℕ → List (Option ℕ) → List (List Bool) → Option CertStep
-step_of bound known input numbers list = if among known input then None else with_input input (first_from bound numbers 0 list)
+step_of bound known input numbers list = if has known input then None else with_input input (first_from bound numbers 0 list)
 
 -- the first that is there
 abbrev pub first_of_both : Option CertStep → Option CertStep → Option CertStep
@@ -64,19 +66,14 @@ step_from bound known input (numbers ∷ table) [] = None
 step_from bound known input (numbers ∷ table) (list ∷ lists) =
     first_of_both (step_of bound known input numbers list) (step_from bound known (input + 1) table lists)
 
--- those of the first so many numbers that are among these, in order
-abbrev pub sorted_below : List ℕ → ℕ → List ℕ
-sorted_below known zero = []
-sorted_below known (suc n) = sorted_below known n ++ (if among known n then n ∷ [] else [])
-
 -- the least of the first so many numbers that is none of these
 abbrev pub IsMissing : List ℕ → ℕ → Option ℕ → Type 0
-IsMissing known n None = (k : ℕ) → k < n → among known k ≡ true
-IsMissing known n (Some missing) = (missing < n) × (among known missing ≡ false) × ((k : ℕ) → k < missing → among known k ≡ true)
+IsMissing known n None = (k : ℕ) → k < n → has known k ≡ true
+IsMissing known n (Some missing) = (missing < n) × (has known missing ≡ false) × ((k : ℕ) → k < missing → has known k ≡ true)
 
 -- what comes next where these inputs are known: the next step, or none where they are closed
 abbrev pub IsNext : JoinSpec → List (List (List Bool)) → List ℕ → Option CertStep → Type 0
-IsNext spec schemes known None = IsClosed spec schemes (among known)
+IsNext spec schemes known None = IsClosed spec schemes (has known)
 IsNext spec schemes known (Some step) = IsNextStep spec schemes known step
 
 -- the answer by the steps of the saturation and the inputs that it knows, of so many

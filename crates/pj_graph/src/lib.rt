@@ -2,10 +2,12 @@
 #![tactic(auto)]
 
 mod answers;
+mod known;
 mod laws;
 mod saturation;
 mod search;
 
 pub use answers::Reach;
-pub use laws::{safe_where_certified, saturations_are_told};
+pub use known::{is_among, touches};
+pub use laws::{reaches_are_told, safe_where_certified, saturations_are_told};
 pub use saturation::reach;

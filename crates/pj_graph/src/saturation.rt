@@ -1,13 +1,15 @@
 // The inputs that an input reaches, added one by one.
 ghost use Rattle.std.specs.Prelude.{◌≡◌, ◌<◌, ◌≤◌, IfOk, length, [], ◌∷◌};
-ghost use Rattle.pj_shape.specs.Sound.{IsSoundSpec};
-ghost use Rattle.pj_graph.specs.Sets.{FitSchemes};
-ghost use Rattle.pj_graph.specs.Certificates.{IsSaturation, inputs_of};
-ghost use Rattle.pj_graph.specs.Reaching.{IsReach};
-ghost use Rattle.pj_graph.specs.Search.{class_numbers as numbers_from, sorted_below, IsNext, IsMissing, IsAnswer};
+ghost use Rattle.pj_shape.specs.Sound.{IsSoundSpec, FitSchemes};
+ghost use Rattle.pj_graph.specs.Certificates.{IsSaturation};
+ghost use Rattle.pj_graph.specs.Reaching.{AreFewSchemes, IsReach};
+ghost use Rattle.pj_graph.specs.Saturation.{reach_of, sorted_below};
+ghost use Rattle.pj_graph.specs.Search.{class_numbers as numbers_from, IsNext, IsMissing, IsAnswer};
+ghost use Rattle.pj_shape.specs.Certificates.{inputs_of};
 
 use crate::Reach;
-use crate::search::{class_numbers, first_step, is_among, touched_classes};
+use crate::known::is_among;
+use crate::search::{class_numbers, first_step, touched_classes};
 use pj_shape::{Cert, CertStep, JoinSpec, Schemes};
 use pj_value::{List, NoMemory};
 use std::alloc::Global;
@@ -31,8 +33,10 @@ pub fn reach(
 ) -> Result<Reach, NoMemory>
     requires sound { IsSoundSpec spec.now }
     requires fitting { FitSchemes spec.now.inputs schemes.now }
+    requires few { AreFewSchemes schemes.now }
     requires input { input < length spec.now.inputs }
-    ensures { IfOk result (λ found. IsReach spec.now schemes.now input found) }
+    ensures reached { IfOk result (λ found. IsReach spec.now schemes.now input found) }
+    ensures told { IfOk result (λ found. found ≡ reach_of spec.now schemes.now input) }
 {
     let found = saturate(alloc, spec, schemes, input)?;
     let told = answer(alloc, found, spec.inputs.len())?;
@@ -47,6 +51,7 @@ fn saturate(
 ) -> Result<Saturation, NoMemory>
     requires sound { IsSoundSpec spec.now }
     requires fitting { FitSchemes spec.now.inputs schemes.now }
+    requires few { AreFewSchemes schemes.now }
     ensures known { IfOk result (λ found. found.known ≡ input ∷ inputs_of found.steps) }
     ensures saturated { IfOk result (λ found. IsSaturation spec.now schemes.now (input ∷ []) found.steps) }
 {
@@ -74,11 +79,12 @@ fn next_step(
 ) -> Result<Option<CertStep>, NoMemory>
     requires sound { IsSoundSpec spec.now }
     requires fitting { FitSchemes spec.now.inputs schemes.now }
+    requires few { AreFewSchemes schemes.now }
     requires table { table.now ≡ numbers_from spec.now.classes 0 spec.now.inputs }
     ensures { IfOk result (λ step. IsNext spec.now schemes.now known.now step) }
 {
     let bound = touched_classes(alloc, spec.classes.as_slice(), known)?;
-    let step = first_step(table, schemes, bound.as_slice(), known)?;
+    let step = first_step(table, schemes, bound.as_slice(), known);
     Ok(step)
 }
 

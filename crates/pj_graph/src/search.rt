@@ -1,9 +1,12 @@
 // The search for the input that can be added next.
-ghost use Rattle.std.specs.Prelude.{◌≡◌, ◌<◌, ◌≤◌, IfOk, length, map};
+ghost use Rattle.std.specs.Prelude.{◌≡◌, ◌<◌, ◌≤◌, IfOk, IfSome, length, map};
 ghost use Rattle.pj_shape.specs.Sound.{IsSoundSpec};
-ghost use Rattle.pj_graph.specs.Sets.{among, touches as touched};
+ghost use Rattle.pj_shape.specs.Sets.{touches as touched};
 ghost use Rattle.pj_graph.specs.Search.{class_numbers as numbers_from, column_numbers as numbers_in, is_marked as marked, is_met as met, all_marked as marks_hold, first_from, step_of as step_at, step_from};
+ghost use Rattle.pj_graph.specs.Reaching.{AreFewSchemes};
+ghost use Rattle.pj_value.specs.Lists.{has};
 
+use crate::known::{is_among, touches};
 use pj_shape::{CertStep, ClassCol, JoinSpec, Schema, Scheme, Schemes};
 use pj_value::{List, NoMemory};
 use std::alloc::Global;
@@ -47,7 +50,7 @@ pub(crate) fn touched_classes(
     classes: &[List<ClassCol>],
     known: &[u32],
 ) -> Result<List<bool>, NoMemory>
-    ensures { IfOk result (λ bound. bound ≡ map (touched (among known.now)) classes.now) }
+    ensures { IfOk result (λ bound. bound ≡ map (touched (has known.now)) classes.now) }
 {
     let mut bound = List::new(alloc);
     for class in classes {
@@ -56,39 +59,27 @@ pub(crate) fn touched_classes(
     Ok(bound)
 }
 
-fn touches(class: &[ClassCol], known: &[u32]) -> bool
-    ensures { result ≡ touched (among known.now) class.now }
-{
-    class.iter().any(|c| is_among(known, c.input))
-}
-
-/// Whether the number is one of these.
-pub(crate) fn is_among(numbers: &[u32], k: u32) -> bool
-    ensures { result ≡ among numbers.now k }
-{
-    numbers.iter().any(|m| *m == k)
-}
-
 /// The step that adds the least input that is not known and has a scheme whose marked columns all lie in marked classes,
-/// by the first such scheme. `NoMemory` also where its number is no `u32`.
+/// by the first such scheme.
 pub(crate) fn first_step(
     table: &[List<Option<u32>>],
     schemes: &Schemes,
     bound: &[bool],
     known: &[u32],
-) -> Result<Option<CertStep>, NoMemory>
+) -> Option<CertStep>
     requires all { length table.now ≡ length schemes.now }
     requires few { length table.now ≤ 16 }
-    ensures { IfOk result (λ step. step ≡ step_from bound.now known.now 0 table.now schemes.now) }
+    requires schemes { AreFewSchemes schemes.now }
+    ensures { result ≡ step_from bound.now known.now 0 table.now schemes.now }
 {
     for input in 0..table.len() {
         let list = schemes.at(input).as_slice();
-        match step_of(table[input].as_slice(), list, bound, known, input as u32)? {
-            Some(step) => return Ok(Some(step)),
+        match step_of(table[input].as_slice(), list, bound, known, input as u32) {
+            Some(step) => return Some(step),
             None => {}
         }
     }
-    Ok(None)
+    None
 }
 
 fn step_of(
@@ -97,33 +88,25 @@ fn step_of(
     bound: &[bool],
     known: &[u32],
     input: u32,
-) -> Result<Option<CertStep>, NoMemory>
-    ensures { IfOk result (λ step. step ≡ step_at bound.now known.now input numbers.now list.now) }
+) -> Option<CertStep>
+    requires { length list.now ≤ 256 }
+    ensures { result ≡ step_at bound.now known.now input numbers.now list.now }
 {
     if is_among(known, input) {
-        return Ok(None);
+        return None;
     }
     match first_usable(numbers, list, bound) {
-        None => Ok(None),
-        Some(scheme) => {
-            let scheme = number_of(scheme)?;
-            Ok(Some(CertStep { input, scheme }))
-        }
-    }
-}
-
-fn number_of(n: usize) -> Result<u32, NoMemory>
-    ensures { IfOk result (λ m. m ≡ n) }
-{
-    if n < 4294967296 {
-        Ok(n as u32)
-    } else {
-        Err(NoMemory)
+        None => None,
+        Some(scheme) => Some(CertStep {
+            input,
+            scheme: scheme as u32,
+        }),
     }
 }
 
 fn first_usable(numbers: &[Option<u32>], list: &[Scheme], bound: &[bool]) -> Option<usize>
-    ensures { result ≡ first_from bound.now numbers.now 0 list.now }
+    ensures first { result ≡ first_from bound.now numbers.now 0 list.now }
+    ensures there { IfSome result (λ n. n < length list.now) }
 {
     for (n, scheme) in list.iter().enumerate() {
         if all_marked(numbers, scheme, bound) {

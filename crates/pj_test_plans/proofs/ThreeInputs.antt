@@ -1,12 +1,11 @@
 -- The join of the tests is sound, its schemes fit it, and its certificates are those of the tests.
-use Rattle.std.proofs.Common.{◌≡◌, Bool, true, false, List, [], ◌∷◌, length, refl, sym, ap, inl, inr, arith, subst}
+use Rattle.std.proofs.Common.{ℕ, zero, suc, ◌≡◌, Bool, true, false, List, [], ◌∷◌, length, refl, sym, ap, inl, inr, arith, subst}
 use Rattle.pj_value.specs.declared.values.Kind.TheVariants.{Int}
 use Rattle.pj_shape.specs.declared.joins.ClassCol.{ClassCol}
 use Rattle.pj_value.specs.Lists.{In}
-use Rattle.pj_shape.specs.Sound.{IsSoundSpec, IsSoundClass, IsOfKind}
-use Rattle.pj_graph.specs.Sets.{FitSchemes}
+use Rattle.pj_shape.specs.Sound.{IsSoundSpec, IsSoundClass, IsOfKind, FitSchemes}
 use Rattle.pj_test_plans.specs.ThreeInputs.{number, pair, pairs, at, firsts, seconds, sample, sample_schemes}
-use Rattle.pj_graph.specs.Saturation.{certificate_of, step_by}
+use Rattle.pj_graph.specs.Reaching.{AreFewSchemes}
 
 first : IsSoundClass pairs firsts
 first = record {
@@ -91,14 +90,8 @@ sample_fits a b = ((λ marks h. two marks h), ((λ marks h. both marks h), ((λ 
     last marks (inl e) = sym (ap length e)
     last marks (inr e) = absurd e
 
-first_certificate : certificate_of sample (sample_schemes true false) 0 ≡ step_by 2 0 ∷ step_by 1 0 ∷ []
-first_certificate = refl
-
-second_certificate : certificate_of sample (sample_schemes true false) 1 ≡ step_by 0 1 ∷ step_by 2 0 ∷ []
-second_certificate = refl
-
-third_certificate : certificate_of sample (sample_schemes true false) 2 ≡ step_by 0 1 ∷ step_by 1 0 ∷ []
-third_certificate = refl
-
-stuck_at_once : certificate_of sample (sample_schemes false true) 0 ≡ []
-stuck_at_once = refl
+pub sample_few : (a b : Bool) → AreFewSchemes (sample_schemes a b)
+sample_few a b zero = omega arith
+sample_few a b (suc zero) = omega arith
+sample_few a b (suc (suc zero)) = omega arith
+sample_few a b (suc (suc (suc input))) = omega arith

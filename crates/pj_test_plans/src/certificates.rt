@@ -232,7 +232,7 @@ fn first_row(alloc: Global) -> Result<Row, NoMemory>
 }
 
 // The rows that show why the first input is stuck.
-#[tactic(auto, using(crate::proofs::ThreeInputs::sample_sound, crate::proofs::ThreeInputs::sample_fits))]
+#[tactic(auto, using(crate::proofs::ThreeInputs::sample_sound, crate::proofs::ThreeInputs::sample_fits, crate::proofs::ThreeInputs::sample_few))]
 fn rows_of(alloc: Global, spec: &JoinSpec, schemes: &Schemes) -> Result<List<Row>, NoMemory>
     requires spec { spec.now ≡ sample }
     requires schemes { schemes.now ≡ sample_schemes false true }

@@ -1,6 +1,6 @@
 // Worked joins: what each input of a join reaches.
 ghost use Rattle.std.specs.Prelude.{◌≡◌, ◌<◌, ◌∷◌, [], true, false, IfOk};
-ghost use Rattle.pj_test_plans.specs.ThreeInputs.{at, number, pair, pairs, firsts, seconds, sample, sample_schemes};
+ghost use Rattle.pj_test_plans.specs.ThreeInputs.{SampleReaches, at, number, pair, pairs, firsts, seconds, sample, sample_schemes};
 
 use pj_graph::{Reach, reach};
 use pj_shape::{CertStep, ClassCol, Column, JoinSpec, Schema, Scheme, Schemes};
@@ -100,7 +100,7 @@ fn schemes(alloc: Global, a: bool, b: bool) -> Result<Schemes, NoMemory>
 }
 
 // What an input of the join reaches where the third input has this scheme.
-#[tactic(auto, using(crate::proofs::ThreeInputs::sample_sound, crate::proofs::ThreeInputs::sample_fits))]
+#[tactic(auto, using(crate::proofs::ThreeInputs::sample_sound, crate::proofs::ThreeInputs::sample_fits, crate::proofs::ThreeInputs::sample_few))]
 fn reached_by(alloc: Global, a: bool, b: bool, input: u32) -> Result<Reach, NoMemory>
     requires { input < 3 }
 {
@@ -145,3 +145,8 @@ fn an_input_is_stuck_where_one_of_two_marked_columns_is_bound(rt: HostRuntime) {
     assert!(rt; matches!(&first, Ok(found) if is_stuck(found, &[0], 1)));
     assert!(rt; matches!(&second, Ok(found) if are_steps(found, &[step(0, 1), step(2, 0)])));
 }
+
+// The definition gives the worked answers.
+fn sample_reaches_are_the_worked_ones()
+    ensures { SampleReaches }
+{}

@@ -1,9 +1,10 @@
 use Rattle.std.proofs.Common.{◌≡◌, ℕ, List, ◌+◌, ◌++◌, take, length, get_or, arith, ap, sym, subst, ◌∙◌}
+use Rattle.std.specs.List.{concat}
 use Rattle.pj_plan.specs.Nodes.{joins_of}
 use Rattle.pj_alone.specs.Asked.{IsFirstIn}
-use Rattle.pj_alone.specs.Checks.{AreTold, IsPutBehind, printed}
+use Rattle.pj_alone.specs.Checks.{joins_lines, printed}
 use Rattle.pj_alone.proofs.Plans.{IsPlace, answered, first_more, is_end, is_place}
-use Rattle.pj_alone.proofs.Texts.{all_joins, check_put, join_more}
+use Rattle.pj_alone.proofs.Texts.{check_put, join_more}
 use Rattle.pj_alone.proofs.check.check_text.Goals as goal
 
 pub append_join-requires-clause-join : goal.append_join-requires-clause-join
@@ -39,7 +40,6 @@ returns-clause-text c =
     is_end c.args.plan.now.nodes c.joins-join-items.result.now c.loop-join.join-index c.joins-join-items.ensures (omega arith) (omega arith)
     in
     let before : List ℕ = printed c.args.print c.args.plan.now in
-    let told = λ (n : ℕ). IsPutBehind (AreTold c.args.plan.now.nodes (take n (joins_of c.args.plan.now.nodes))) before c.loop-join.text in
     check_put c.args.print c.args.plan.now c.args.out.now c.loop-join.text c.append.new.self
-    (all_joins c.args.plan.now.nodes before c.loop-join.text (subst told end c.loop-join.invariant.told))
+    (c.loop-join.invariant.told ∙ ap (λ (n : ℕ). before ++ concat (joins_lines c.args.plan.now.nodes (take n (joins_of c.args.plan.now.nodes)))) end)
     (c.in_ok-append.ensures.ok ∙ ap (λ (t : List ℕ). c.args.out.now ++ t) c.as_slice.ensures)

@@ -7,7 +7,7 @@ use Rattle.pj_alone.proofs.safety.judge_inputs.Goals as goal
 pub loop-input-preserved : goal.loop-input-preserved
 loop-input-preserved c =
     one_certified c.args.asked.now c.loop-input.input c.in-All.cert c.loop-input.certs c.push.new.self c.saturations_are_told.ensures c.loop-input.invariant
-    (subst (IsReach c.args.asked.now.spec c.args.asked.now.schemes c.loop-input.input) c.in-All.is c.in_ok-cert.ensures) c.in_ok-push-in-All.ensures.ok
+    (subst (IsReach c.args.asked.now.spec c.args.asked.now.schemes c.loop-input.input) c.in-All.is c.in_ok-cert.ensures.reached) c.in_ok-push-in-All.ensures.ok
 
 pub returns : goal.returns
 returns c =

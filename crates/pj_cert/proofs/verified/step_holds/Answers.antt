@@ -1,9 +1,9 @@
 use Rattle.std.proofs.Common.{◌≡◌, ◌≤◌, Bool, false, not, ◌&&◌, List, [], length, get_or, sym, ap, subst, ◌∙◌, All}
 use Rattle.std.proofs.lemmas.Option.{get_or_from_slice_get}
 use Rattle.pj_shape.specs.declared.joins.ClassCol.{ClassCol}
-use Rattle.pj_graph.specs.Sets.{among}
 use Rattle.pj_cert.specs.Tests.{can_use}
 use Rattle.pj_cert.proofs.ClosedSets.{short_at}
+use Rattle.pj_value.specs.Lists.{has}
 use Rattle.pj_cert.proofs.verified.step_holds.Goals as goal
 
 pub can_use-requires : goal.can_use-requires
@@ -13,7 +13,7 @@ can_use-requires c =
 
 pub returns : goal.returns
 returns c =
-    let new : among c.args.known.now c.args.step.input ≡ false = sym c.is_among.ensures ∙ c.if-is_among.false in
+    let new : has c.args.known.now c.args.step.input ≡ false = sym c.is_among.ensures ∙ c.if-is_among.false in
     c.can_use.ensures
     ∙ ap (λ (classes : List (List ClassCol)). can_use classes c.args.known.now c.args.step.input c.as_slice-list.result.now c.args.step.scheme) c.as_slice.ensures
     ∙ ap (λ (list : List (List Bool)). can_use c.args.spec.now.classes c.args.known.now c.args.step.input list c.args.step.scheme)

@@ -1,6 +1,7 @@
 use Rattle.std.proofs.Common.{◌≡◌, List, [], ◌∷◌, ◌++◌, length}
 use Rattle.pj_shape.specs.declared.joins.CertStep.{CertStep}
-use Rattle.pj_graph.specs.Certificates.{IsSaturation, inputs_of}
+use Rattle.pj_shape.specs.Certificates.{inputs_of}
+use Rattle.pj_graph.specs.Certificates.{IsSaturation}
 use Rattle.pj_graph.proofs.Saturations.{unknown}
 use Rattle.pj_graph.proofs.saturation.saturate.Given as goal
 

@@ -1,5 +1,5 @@
 use Rattle.std.proofs.Common.{◌≡◌}
-use Rattle.pj_graph.specs.Search.{sorted_below}
+use Rattle.pj_graph.specs.Saturation.{sorted_below}
 use Rattle.pj_graph.proofs.saturation.sorted.Given as goal
 
 abbrev pub invariant-loop-k : goal.invariant-loop-k

@@ -21,4 +21,4 @@ invariant_of-result c =
       name = c.name.ensures;
       names = c.in_ok-names.ensures;
     })
-    c.nodes-count.ensures.sound c.nodes-count.ensures.made c.schemes_fit.ensures.inputs c.requires.join
+    c.nodes-count.ensures.sound c.nodes-count.ensures.made c.schemes_fit.ensures.inputs c.schemes_fit.ensures.few c.requires.join
