@@ -1,11 +1,11 @@
 -- What a plan answers over complete lists, node by node: rows by nested loops, and the punctuations that go with them.
-use Rattle.std.specs.Prelude.{ℕ, ◌+◌, List, [], ◌∷◌, ◌++◌, if◌then◌else◌, map, filter, flat_map, length, pred, sum, take, drop, slice_index_or}
+use Rattle.std.specs.Prelude.{ℕ, ◌+◌, ◌≡◌, Bool, true, false, List, [], ◌∷◌, ◌++◌, if◌then◌else◌, map, filter, flat_map, length, pred, sum, take, drop, slice_index_or}
 use Rattle.pj_value.specs.declared.values.Value.{Value}
 use Rattle.pj_shape.specs.Sound.{arities_of}
 use Rattle.pj_shape.specs.Joining.{join_answer}
 use Rattle.pj_pattern.specs.Patterns.{Pattern}
-use Rattle.pj_pattern.specs.Columns.{matches_row, others_wild, widen_of}
-use Rattle.pj_events.specs.Operators.{picked_cells, picked_patterns, group_rows}
+use Rattle.pj_pattern.specs.Columns.{matches_row, others_wild, widen_of, picked_patterns}
+use Rattle.pj_events.specs.Operators.{picked_cells, group_rows}
 use Rattle.pj_plan.specs.declared.node.Node.{Node}
 use Rattle.pj_plan.specs.declared.node.Node.TheVariants.{Stream, Select, Project, Union, Join, Group}
 use Rattle.pj_plan.specs.declared.node.PlanNode.{PlanNode}
@@ -82,3 +82,16 @@ abbrev pub elements_to : List PlanNode → List (List (List Value)) → List (Li
 elements_to nodes rows puncts number =
     let inputs = inputs_of (node_at nodes number) in
     length (flat_map (list_of (rows_by_node nodes rows)) inputs) + length (flat_map (list_of (puncts_by_node nodes puncts)) inputs)
+
+-- joins and groups count the elements that reach them
+abbrev pub is_counted : Node → Bool
+is_counted (Stream schemes) = false
+is_counted (Select input test) = false
+is_counted (Project input columns) = false
+is_counted (Union inputs) = false
+is_counted (Join inputs spec) = true
+is_counted (Group input spec) = true
+
+-- the node is a join or a group
+abbrev pub IsCounted : List PlanNode → ℕ → Type 0
+IsCounted nodes node = is_counted (node_at nodes node) ≡ true

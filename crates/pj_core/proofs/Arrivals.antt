@@ -25,10 +25,11 @@ use Rattle.pj_core.specs.Calls.{HasArrived, IsCause}
 use Rattle.pj_core.specs.Parts.{IsMadeOf, core_of, kind_for}
 use Rattle.pj_core.specs.Plans.{RunPlan, nodes_of}
 use Rattle.pj_operator.proofs.Climbs.{frame-at}
-use Rattle.pj_core.proofs.Events.{Steps, beyond-is, note, steps-still, stored_of}
+use Rattle.pj_core.proofs.Events.{Steps, beyond-is, note, steps-still}
 use Rattle.pj_core.proofs.Frames.{certs_at, frame-is, kind-after}
 use Rattle.pj_core.proofs.Stands.{are, long-now}
 use Rattle.pj_core.proofs.Streams.{number_below, stream-number, stream-there}
+use Rattle.pj_laws.proofs.ClimbingKept.{stored_of}
 
 -- ---- at the stream
 

@@ -17,7 +17,7 @@ use Rattle.pj_events.specs.Join.{inputs}
 use Rattle.pj_events.specs.History.{nodes_from, pending_in}
 use Rattle.pj_events.specs.OneThread.{next_probe}
 use Rattle.pj_laws.proofs.NextProbe.{none-is-pending}
-use Rattle.pj_join.specs.declared.found.Found.{Found}
+use Rattle.pj_probe.specs.declared.probe.Found.{Found}
 use Rattle.pj_join.specs.Joins.{JoinView, join_data}
 use Rattle.pj_operator.specs.declared.cell.Cell.{Cell}
 use Rattle.pj_operator.specs.declared.cell.Work.{Work}

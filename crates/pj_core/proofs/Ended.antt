@@ -3,16 +3,9 @@ use Rattle.std.proofs.Common.{ℕ, suc, ◌+◌, Bool, true, false, cond, ◌||�
 use Rattle.std.proofs.lemmas.List.{reverse-append}
 use Rattle.std.proofs.lemmas.List.Elements.{filter-append}
 use Rattle.pj_events.specs.Join.{has, upto_from}
-use Rattle.pj_core.specs.Calls.{ended_of}
+use Rattle.pj_events.specs.Outcomes.{ended_of}
 use Rattle.pj_join_laws.proofs.Upto.{upto-push}
-
-has-append : (xs ys : List ℕ) (n : ℕ) → has (xs ++ ys) n ≡ (has xs n || has ys n)
-has-append [] ys n = refl
-has-append (x ∷ xs) ys n = ap (λ (b : Bool). eqb x n || b) (has-append xs ys n) ∙ go (eqb x n) (has xs n) (has ys n)
-  where
-    go : (a b c : Bool) → (a || (b || c)) ≡ ((a || b) || c)
-    go true b c = refl
-    go false b c = refl
+use Rattle.pj_value.proofs.Numbers.{has-append}
 
 or-turned : (a b : Bool) → (a || (b || false)) ≡ (b || a)
 or-turned true true = refl

@@ -15,7 +15,7 @@ use Rattle.pj_events.specs.CoreKept.{CoreKept}
 use Rattle.pj_laws.specs.Climb.{Climbed, climb_of, climbed_by, climbed_where, local_of, stepped}
 use Rattle.pj_laws.specs.ClimbKept.{handed_by, undrained_with}
 use Rattle.pj_laws.specs.ClimbLimits.{begun_by, begun_where}
-use Rattle.pj_laws.proofs.ClimbingKept.{stores-grow}
+use Rattle.pj_laws.proofs.ClimbingKept.{stores-grow, stored_of}
 use Rattle.pj_laws.proofs.ClimbingLimits.{beyond-is-climbed, levels-climb}
 use Rattle.pj_join_laws.proofs.Upto.{get_or-upto}
 use Rattle.pj_operator.specs.declared.cell.Cell.{Cell}
@@ -44,9 +44,6 @@ pub record Steps (cells mid : List Cell) (nodes : List Node) (n : ℕ) (l : Loca
   pub frames : frames_in mid ≡ frames_in cells
   pub peaks : (m : ℕ) → m < length cells
       → (((cell_at mid m).peak ≡ (cell_at cells m).peak) × (stored_at nodes m ≤ stored_at (stepped nodes n l) m)) ⊎ ((cell_at mid m).peak ≡ peak_seen (cell_at cells m))
-
-abbrev pub stored_of : Operator → ℕ
-stored_of operator = length (state_in operator).stored
 
 -- the peak stays where the step removes nothing, or it is raised before
 abbrev pub KeepsPeak : ℕ → Cell → Operator → Operator → Type 0

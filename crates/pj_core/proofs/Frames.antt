@@ -17,6 +17,7 @@ use Rattle.pj_plan.specs.Sound.{IsSoundAgg, IsSoundOperator, IsSoundPlan, agg_ki
 use Rattle.pj_shape.specs.Columns.{kinds_of}
 use Rattle.pj_shape.specs.declared.groups.Agg.{Agg}
 use Rattle.pj_shape.specs.declared.groups.Agg.TheVariants.{Count, Sum, Min, Max}
+use Rattle.pj_shape.proofs.KindsOf.{kinds_length}
 use Rattle.pj_group.specs.Steps.{Fits, IsInRange}
 use Rattle.pj_scheme.specs.Derived.{schemes_of}
 use Rattle.pj_events.specs.Join.{JoinData}
@@ -140,10 +141,6 @@ all-in : {A : Type 0} (P : A → Type 0) (xs : List A) → ((x : A) → In x xs 
 all-in P [] f = All-nil P
 all-in P (x ∷ xs) f = All-cons P x xs (f x (inl refl)) (all-in P xs (λ y h. f y (inr h)))
 
-kinds-long : (columns : List Column) → length (kinds_of columns) ≡ length columns
-kinds-long [] = refl
-kinds-long (c ∷ columns) = ap suc (kinds-long columns)
-
 one-input : (input position n : ℕ) → slice_get (input ∷ []) position ≡ Some n → input ≡ n
 one-input input zero n e = cc
 one-input input (suc position) n e = cc
@@ -180,7 +177,7 @@ kind-takes nodes limit m certs schema (SelectNode input test) position n few s e
 kind-takes nodes limit m certs schema (ProjectNode input columns) position n few s e =
     all-in (λ c. c < length (node_schema nodes n)) columns (λ c h. subst (λ (i : ℕ). c < length (node_schema nodes i)) (one-input input position n e) (s.0 c h))
 kind-takes nodes limit m certs schema (UnionNode inputs) position n few s e =
-    (got-below inputs position n e, sym (kinds-long (node_schema nodes n)) ∙ ap length (s.3 n (got-in inputs position n e)) ∙ kinds-long schema)
+    (got-below inputs position n e, sym (kinds_length (node_schema nodes n)) ∙ ap length (s.3 n (got-in inputs position n e)) ∙ kinds_length schema)
 kind-takes nodes limit m certs schema (JoinNode inputs spec) position n few s e =
     let long : length (map length spec.inputs) ≡ length inputs = length-map spec.inputs length ∙ ap length s.1 ∙ length-map inputs (node_schema nodes) in (
       (let l = got-below inputs position n e in omega (arith, l, long)),
@@ -192,7 +189,7 @@ kind-takes nodes limit m certs schema (JoinNode inputs spec) position n few s e 
     mapped (i ∷ is) = ap (λ (ns : List ℕ). length (node_schema nodes i) ∷ ns) (mapped is)
 kind-takes nodes limit m certs schema (GroupNode input spec) position n few s e =
     let columns = node_schema nodes input in
-    let kinds = sym (kinds-long schema) ∙ ap length s.2 ∙ length-append (map (kind_at columns) spec.keys) (map (agg_kind_at columns) spec.aggs) in (
+    let kinds = sym (kinds_length schema) ∙ ap length s.2 ∙ length-append (map (kind_at columns) spec.keys) (map (agg_kind_at columns) spec.aggs) in (
       subst (λ (i : ℕ). Fits spec (length (node_schema nodes i))) (one-input input position n e)
           (record { keys = all-in (λ c. c < length columns) spec.keys s.0.keys_there; aggs = in-range columns spec.aggs s.0.sound_aggs }),
       omega (arith, kinds, few, length-map spec.keys (kind_at columns), length-map spec.aggs (agg_kind_at columns)),

@@ -5,7 +5,6 @@ pub mod Frames
 pub mod Stands
 pub mod Events
 pub mod Streams
-pub mod PlainAnswers
 pub mod Arrivals
 pub mod Own
 pub mod Takes
@@ -19,4 +18,3 @@ pub mod Making
 pub mod Places
 pub mod TurnEnds
 pub mod Turning
-pub mod UnderWay

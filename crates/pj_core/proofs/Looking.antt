@@ -11,7 +11,7 @@ use Rattle.pj_events.specs.declared.events.Stop.{Stop}
 use Rattle.pj_events.specs.KeptState.{lacking}
 use Rattle.pj_events.specs.Plan.{Node, Operator, Stream, Select, Project, Union, Join, Group}
 use Rattle.pj_events.specs.History.{nodes_from, pending_in, state_in}
-use Rattle.pj_events.specs.Outcomes.{peak_of}
+use Rattle.pj_events.specs.Outcomes.{peak_of, stored_in, opened_in, waiting_in, ended_of}
 use Rattle.pj_events.specs.OneThread.{plain}
 use Rattle.pj_events.specs.CoreKept.{CoreKept, KeptOperator, NothingKept, UnionKept, JoinKept, GroupKept, kept_in}
 use Rattle.pj_join_laws.proofs.Upto.{get_or-upto}
@@ -19,7 +19,7 @@ use Rattle.pj_operator.specs.declared.cell.Cell.{Cell}
 use Rattle.pj_operator.specs.declared.cell.Work.{Work}
 use Rattle.pj_operator.specs.declared.cell.Work.TheVariants.{Stream as StreamCell, Select as SelectCell, Project as ProjectCell, Union as UnionCell, Join as JoinCell, Group as GroupCell}
 use Rattle.pj_operator.specs.declared.look.Sums.{Sums}
-use Rattle.pj_core.specs.Calls.{IsLookAt, IsPeak, Tells, ended_of, opened_in, stored_in, waiting_in}
+use Rattle.pj_core.specs.Calls.{IsLookAt, IsPeak, Tells}
 use Rattle.pj_operator.specs.Cells.{IsOrderly, cell_at, kept_seen, no_cell, peak_seen, stored_kept, pending_kept}
 use Rattle.pj_operator.specs.Climbing.{AreOrderly}
 use Rattle.pj_core.specs.Cores.{StandsFor}
@@ -36,18 +36,6 @@ total-cons : (f : KeptOperator → ℕ) (cell : Cell) (cells : List Cell) → to
 total-cons f cell cells =
     sum-map (λ (x : Cell). f (kept_seen x.work)) (cell ∷ cells) ∙ sum_by-cons (λ (x : Cell). f (kept_seen x.work)) cell cells
     ∙ ap (λ (n : ℕ). f (kept_seen cell.work) + n) (sym (sum-map (λ (x : Cell). f (kept_seen x.work)) cells))
-
--- one node more
-pub with_more : (old new : Sums) (cell : Cell) (rest all : List Cell) → AreWith old (cell ∷ rest) all → AddsNode old new cell.work → AreWith new rest all
-with_more old new cell rest all w a =
-    let p = w.pending in let o = w.opened in let s = w.stored in let v = w.waiting in
-    let p' = a.pending in let t' = a.taken in let s' = a.stored in let v' = a.waiting in
-    record {
-      pending = omega (arith, p, p', total-cons pending_kept cell rest);
-      opened = omega (arith, o, p', t', total-cons opened_kept cell rest);
-      stored = omega (arith, s, s', total-cons stored_kept cell rest);
-      waiting = omega (arith, v, v', total-cons waiting_kept cell rest);
-    }
 
 pub can_add : (sums : Sums) (cell : Cell) (rest all : List Cell) → AreWith sums (cell ∷ rest) all → AreFew all → AreAddable sums cell.work
 can_add sums cell rest all w few =

@@ -51,9 +51,6 @@ makes-as a b f g e m = record {
   stands = λ h S. subst (λ (es : List Entry). StandsFor b (h ++ es)) (e h S) (m.stands h S);
 }
 
-pub makes-none : (a : CoreState) → a.kept.stop ≡ None → Makes a a (λ h. [])
-makes-none a on = record { plan = refl; limit = refl; on = on; within = λ h S. tt; stands = λ h S. subst (StandsFor a) (sym (append-nil h)) S }
-
 pub makes-then : (a b c : CoreState) (f g : List Entry → List Entry) → Makes a b f → Makes b c g → Makes a c (then f g)
 makes-then a b c f g m n = record {
   plan = n.plan ∙ m.plan;

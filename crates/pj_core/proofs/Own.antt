@@ -20,7 +20,8 @@ use Rattle.pj_laws.specs.Climb.{Climbed, climbed_where, local_of}
 use Rattle.pj_events.specs.Outcomes.{origin_of, results_of}
 use Rattle.pj_laws.proofs.ClimbingEvents.{events-climb, leaves-nodes}
 use Rattle.pj_laws.proofs.HistoryAnswers.{adds-entry, grows-legally, trace-adds-notes}
-use Rattle.pj_join_laws.proofs.Stand.{lacking-cons, low-kept}
+use Rattle.pj_laws.proofs.ClimbingKept.{stored_of}
+use Rattle.pj_join_laws.proofs.Stand.{lacking-cons, low-kept, swept-same}
 use Rattle.pj_join.specs.Joins.{JoinView, StandsFor as JoinStandsFor, after}
 use Rattle.pj_operator.specs.declared.cell.Cell.{Cell}
 use Rattle.pj_operator.specs.declared.cell.Work.{Work}
@@ -29,13 +30,10 @@ use Rattle.pj_operator.specs.Cells.{AreAs, IsAs, IsBelowIn, IsKind, JoinKind, ce
 use Rattle.pj_core.specs.Cores.{StandsFor}
 use Rattle.pj_core.specs.Parts.{IsMadeOf, core_of}
 use Rattle.pj_core.specs.Plans.{RunPlan, nodes_of}
-use Rattle.pj_core.proofs.Events.{KeepsPeak, Steps, steps-at, stored_of}
+use Rattle.pj_core.proofs.Events.{KeepsPeak, Steps, steps-at}
 use Rattle.pj_core.proofs.Stands.{are, below-at, join-start, join-steps, long-now}
 
 -- ---- on what is kept
-
-swept-same : (spec : JoinData) (s : JoinState) (input : ℕ) → swept spec (kept_of s) input ≡ kept spec s input
-swept-same spec s input = ap (λ (l : ℕ). filter (λ x. not (eqb x.input input && (ltb x.ticket l && list_all (covered (older_puncts l s.puncts)) (need_of spec (older l s.stored) x)))) s.stored) (low-kept s)
 
 -- a step of its own on what is kept keeps what is to be kept after it
 pub kept-own : (spec : JoinData) (s : JoinState) (e : Step) → IsOwn e → kept_step spec (kept_of s) e ≡ kept_of (step spec s e)

@@ -4,11 +4,14 @@ use Rattle.std.specs.Prelude.{slice_index}
 use Rattle.std.proofs.Math.Seq.{get_or-append_seam}
 use Rattle.std.proofs.lemmas.List.{length-append, length-map, map-append}
 use Rattle.std.proofs.lemmas.List.Sums.{sum-map, sum_by-cons}
+use Rattle.std.proofs.lemmas.Bool.{false_from_ne_true}
 use Rattle.pj_value.specs.Lists.{In}
 use Rattle.pj_value.proofs.Members.{In-map}
+use Rattle.pj_value.proofs.Numbers.{has-in}
 use Rattle.pj_shape.specs.declared.columns.Column.{Column}
 use Rattle.pj_shape.specs.declared.joins.CertStep.{CertStep}
 use Rattle.pj_shape.specs.Columns.{kinds_of}
+use Rattle.pj_shape.proofs.KindsOf.{kinds_length}
 use Rattle.pj_pattern.proofs.Fitting.{punct_length}
 use Rattle.pj_plan.specs.declared.node.Node.{Node as Operation}
 use Rattle.pj_plan.specs.declared.node.Node.TheVariants.{Stream as StreamNode, Select as SelectNode, Project as ProjectNode, Union as UnionNode, Join as JoinNode, Group as GroupNode}
@@ -19,18 +22,12 @@ use Rattle.pj_plan.specs.Sound.{AreDistinct as AreApart, IsSoundOperator, IsSoun
 use Rattle.pj_scheme.specs.Derived.{schemes_of}
 use Rattle.pj_events.specs.Join.{AreDistinct, has}
 use Rattle.pj_events.specs.Plan.{ArePlanned, IsWellMade, operator_at, operator_width}
-use Rattle.pj_laws.specs.HistoryLaws.{AllPropagate, Propagates}
 use Rattle.pj_events.specs.Outcomes.{place_in}
 use Rattle.pj_laws.specs.Climb.{Above, HasOneTop, IsTree, above_from, all_inputs, first_above}
-use Rattle.pj_laws.proofs.Probes.{has-in}
 use Rattle.pj_laws.proofs.Trees.{planned-tree}
 use Rattle.pj_core.specs.Plans.{RunPlan, certs_behind, nodes_of, nodes_with, operator_of}
 
 -- ---- numbers of columns
-
-kinds_long : (columns : List Column) → length (kinds_of columns) ≡ length columns
-kinds_long [] = refl
-kinds_long (c ∷ columns) = ap suc (kinds_long columns)
 
 abbrev wide : PlanNode → ℕ
 wide node = length node.schema
@@ -64,7 +61,7 @@ union_made : (schemes : List (List (List Bool))) (certs : List (List CertStep)) 
     → ((m : ℕ) → In m inputs → widths m ≡ length (node_schema nodes m)) → IsMade schemes certs schema widths (UnionNode inputs)
 union_made schemes certs schema widths nodes [] s same = absurd (let two = s.0 in omega (arith, two))
 union_made schemes certs schema widths nodes (m ∷ ms) s same =
-    let all : (k : ℕ) → In k (m ∷ ms) → widths k ≡ length schema = λ k h. same k h ∙ (sym (kinds_long (node_schema nodes k)) ∙ (ap length (s.3 k h) ∙ kinds_long schema)) in
+    let all : (k : ℕ) → In k (m ∷ ms) → widths k ≡ length schema = λ k h. same k h ∙ (sym (kinds_length (node_schema nodes k)) ∙ (ap length (s.3 k h) ∙ kinds_length schema)) in
     record {
       made = (
         ap suc (length-map ms widths),
@@ -81,10 +78,10 @@ node_made : (schemes : List (List (List Bool))) (certs : List (List CertStep)) (
 node_made schemes certs schema widths nodes (StreamNode stated) s same = record { made = (refl, refl); width = refl }
 node_made schemes certs schema widths nodes (SelectNode input test) s same =
     let one : widths input ≡ length schema = same input (inl refl) ∙ ap length (sym s.0) in
-    record { made = (refl, punct_length (kinds_of schema) test s.1 ∙ (kinds_long schema ∙ sym one)); width = one }
+    record { made = (refl, punct_length (kinds_of schema) test s.1 ∙ (kinds_length schema ∙ sym one)); width = one }
 node_made schemes certs schema widths nodes (ProjectNode input columns) s same =
     let one = same input (inl refl) in
-    record { made = (refl, λ c h. let lt = s.0 c h in omega (arith, lt, one)); width = sym (length-map columns (kind_at (node_schema nodes input))) ∙ (ap length (sym s.1) ∙ kinds_long schema) }
+    record { made = (refl, λ c h. let lt = s.0 c h in omega (arith, lt, one)); width = sym (length-map columns (kind_at (node_schema nodes input))) ∙ (ap length (sym s.1) ∙ kinds_length schema) }
 node_made schemes certs schema widths nodes (UnionNode inputs) s same = union_made schemes certs schema widths nodes inputs s same
 node_made schemes certs schema widths nodes (JoinNode inputs spec) s same =
     let arities : map widths inputs ≡ map length spec.inputs = widths_same widths (node_schema nodes) inputs same ∙ ap (map length) (sym s.1) in
@@ -100,7 +97,7 @@ node_made schemes certs schema widths nodes (GroupNode input spec) s same =
     let keys = length-map spec.keys (kind_at columns) in
     let aggs = length-map spec.aggs (agg_kind_at columns) in
     let all = length-append (map (kind_at columns) spec.keys) (map (agg_kind_at columns) spec.aggs) in
-    let kinds = sym (kinds_long schema) ∙ ap length s.2 in
+    let kinds = sym (kinds_length schema) ∙ ap length s.2 in
     record { made = (refl, (λ c h. let lt = s.0.keys_there c h in omega (arith, lt, one)), refl); width = omega (arith, keys, aggs, all, kinds) }
 
 -- ---- all nodes
@@ -153,13 +150,9 @@ inputs-same : (schemes : List (List (List Bool))) (certs : List (List (List Cert
 inputs-same schemes certs [] = refl
 inputs-same schemes certs (node ∷ nodes) = ap (λ (ms : List ℕ). inputs_of node.node ++ ms) (inputs-same schemes (certs_behind node certs) nodes)
 
-not-true : (b : Bool) → (b ≡ true → ⊥) → b ≡ false
-not-true true f = absurd (f refl)
-not-true false f = refl
-
 apart : (ns : List ℕ) → AreApart ns → AreDistinct ns
 apart [] d = tt
-apart (n ∷ ns) d = (not-true (has ns n) (λ t. d.0 (has-in ns n t)), apart ns d.1)
+apart (n ∷ ns) d = (false_from_ne_true (has ns n) (λ t. d.0 (has-in ns n t)), apart ns d.1)
 
 pub tree : (plan : RunPlan) → IsSoundPlan plan.nodes → IsTree (nodes_of plan)
 tree plan sound = planned-tree (nodes_of plan) (planned plan sound) (subst AreDistinct (sym (inputs-same (schemes_of plan.nodes) plan.certs plan.nodes)) (apart (inputs_in plan.nodes) sound.once))
@@ -206,22 +199,3 @@ one-top plan sound n lt =
     go : (o : Option Above) → above_from 0 (nodes_of plan) n ≡ o → (m position : ℕ) → told o ≡ Some (m, position) → (a : Above) × (above_from 0 (nodes_of plan) n ≡ Some a)
     go None e m position t = absurd cc
     go (Some a) e m position t = (a, e)
-
--- ---- punctuations
-
-propagate : (schemes : List (List (List Bool))) (certs : List (List CertStep)) (schema : List Column) (operation : Operation) → Propagates (operator_of schemes certs schema operation)
-propagate schemes certs schema (StreamNode stated) = tt
-propagate schemes certs schema (SelectNode input test) = tt
-propagate schemes certs schema (ProjectNode input columns) = tt
-propagate schemes certs schema (UnionNode inputs) = tt
-propagate schemes certs schema (JoinNode inputs spec) = refl
-propagate schemes certs schema (GroupNode input spec) = tt
-
-propagates-at : (schemes : List (List (List Bool))) (certs : List (List (List CertStep))) (nodes : List PlanNode) (n : ℕ) → n < length nodes → Propagates (operator_at (nodes_with schemes certs nodes) n)
-propagates-at schemes certs [] n lt = absurd (omega (arith, lt))
-propagates-at schemes certs (node ∷ nodes) zero lt = propagate schemes (get_or certs 0 []) node.schema node.node
-propagates-at schemes certs (node ∷ nodes) (suc n) lt = propagates-at schemes (certs_behind node certs) nodes n (omega (arith, lt))
-
--- the joins of a plan hand up punctuations
-pub all-propagate : (plan : RunPlan) → AllPropagate (nodes_of plan)
-all-propagate plan n lt = let long = nodes-long plan in propagates-at (schemes_of plan.nodes) plan.certs plan.nodes n (omega (arith, lt, long))

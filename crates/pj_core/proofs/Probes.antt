@@ -1,8 +1,9 @@
 -- A probe at a join of a core: a take and a give at once.
 use Rattle.std.proofs.Common.{ℕ, zero, suc, inl, inr, ◌⊎◌, ◌<◌, ◌≤◌, Bool, true, false, List, [], ◌∷◌, ◌++◌, ◌≡◌, Option, Some, None, map, length, get_or, set, refl, sym, ap, ◌∙◌, subst, arith, append-nil, append_assoc}
 use Rattle.std.proofs.lemmas.Bool.{cases_lt}
-use Rattle.std.proofs.lemmas.List.{get_or-set_same, length-set}
+use Rattle.std.proofs.lemmas.List.{get_or-set_same, length-set, nil_from_length}
 use Rattle.pj_value.specs.declared.values.Value.{Value}
+use Rattle.pj_value.proofs.Numbers.{has-in}
 use Rattle.pj_pattern.specs.declared.element.Element.{Element}
 use Rattle.pj_pattern.specs.declared.element.Element.TheVariants.{Tuple}
 use Rattle.pj_events.specs.declared.events.Entry.{Entry}
@@ -17,7 +18,6 @@ use Rattle.pj_events.specs.History.{nodes_from}
 use Rattle.pj_events.specs.Outcomes.{elements_out, goes_beyond, results_of}
 use Rattle.pj_events.specs.OneThread.{Pending, first_of, pending_at, plain, probes_at}
 use Rattle.pj_events.specs.CoreKept.{NothingKept}
-use Rattle.pj_laws.proofs.Probes.{has-in}
 use Rattle.pj_laws.proofs.Quiet.{take-within}
 use Rattle.pj_core.proofs.Planned.{tree}
 use Rattle.pj_join_laws.proofs.Tickets.{AreAscending, first-least, pending-ascends}
@@ -191,10 +191,6 @@ kept-at [] n = refl
 kept-at (x ∷ cells) zero = refl
 kept-at (x ∷ cells) (suc n) = kept-at cells n
 
-none-in : (ts : List ℕ) → length ts ≡ 0 → ts ≡ []
-none-in [] e = refl
-none-in (t ∷ ts) e = absurd (omega (arith, e))
-
 module _ (plan : RunPlan) (limit : ℕ) (cells : List Cell) (c : List ℕ) (halt : Bool) (u : List Out) (made : IsMadeOf plan limit cells) where
   -- none is pending at the node
   none-at : (place : ℕ) → pending_kept (kept_seen (cell_at cells place).work) ≡ 0 → (history : List Entry) → StandsFor (core_of plan limit cells c halt u None) history → pending_at (nodes_from (nodes_of plan) history) place ≡ []
@@ -204,7 +200,7 @@ module _ (plan : RunPlan) (limit : ℕ) (cells : List Cell) (c : List ℕ) (halt
       A = are plan limit cells made c halt u history S
 
       go : (place < length cells) ⊎ (length cells ≤ place) → pending_at (nodes_from (nodes_of plan) history) place ≡ []
-      go (inl lt) = tickets-are cells (nodes_from (nodes_of plan) history) place A lt ∙ none-in (tickets (kept_seen (cell_at cells place).work)) (sym (pending-long (kept_seen (cell_at cells place).work)) ∙ e)
+      go (inl lt) = tickets-are cells (nodes_from (nodes_of plan) history) place A lt ∙ nil_from_length (tickets (kept_seen (cell_at cells place).work)) (sym (pending-long (kept_seen (cell_at cells place).work)) ∙ e)
       go (inr ge) = beyond (nodes_from (nodes_of plan) history) place (let l = A.long in omega (arith, ge, l))
         where
           beyond : (nodes : List Node) (n : ℕ) → length nodes ≤ n → pending_at nodes n ≡ []

@@ -18,7 +18,7 @@ use Rattle.pj_events.specs.History.{data_in, nodes_by, nodes_from, notes_of, sta
 use Rattle.pj_events.specs.Outcomes.{goes_beyond, stored_at}
 use Rattle.pj_events.specs.OneThread.{plain}
 use Rattle.pj_laws.proofs.ClimbingEvents.{events-climb, leaves-nodes}
-use Rattle.pj_join_laws.proofs.Stand.{low-kept}
+use Rattle.pj_join_laws.proofs.Stand.{low-kept, swept-same, ripe-same}
 use Rattle.pj_join.specs.Joins.{JoinView, after}
 use Rattle.pj_join.specs.Sweeping.{puncts_up, rows_off, swept_off}
 use Rattle.pj_operator.specs.declared.act.Swept.{Swept as SweptOff}
@@ -38,9 +38,6 @@ use Rattle.pj_core.proofs.Own.{IsJoinWith}
 
 -- ---- what a sweep removes and leaves, on what is kept
 
-ripe-same : (spec : JoinData) (s : JoinState) (x : TupleAt) → kept_ripe spec (kept_of s) x ≡ ripe spec s x
-ripe-same spec s x = ap (λ (l : ℕ). ltb x.ticket l && list_all (covered (older_puncts l s.puncts)) (need_of spec (older l s.stored) x)) (low-kept s)
-
 filter-same : {A : Type 0} (p q : A → Bool) (xs : List A) → ((x : A) → p x ≡ q x) → filter p xs ≡ filter q xs
 filter-same p q [] f = refl
 filter-same {A} p q (x ∷ xs) f = ap₂ (λ (b : Bool) (ys : List A). cond b (x ∷ ys) ys) (f x) (filter-same p q xs f)
@@ -52,11 +49,6 @@ off spec k input = filter (λ x. eqb x.input input && kept_ripe spec k x) k.stor
 off-same : (spec : JoinData) (s : JoinState) (input : ℕ) → off spec (kept_of s) input ≡ removed spec s input
 off-same spec s input =
     filter-same (λ x. eqb x.input input && kept_ripe spec (kept_of s) x) (λ x. eqb x.input input && ripe spec s x) s.stored (λ x. ap (λ (b : Bool). eqb x.input input && b) (ripe-same spec s x))
-
-left-same : (spec : JoinData) (s : JoinState) (input : ℕ) → swept spec (kept_of s) input ≡ kept spec s input
-left-same spec s input =
-    filter-same (λ x. not (eqb x.input input && kept_ripe spec (kept_of s) x)) (λ x. not (eqb x.input input && ripe spec s x)) s.stored
-    (λ x. ap (λ (b : Bool). not (eqb x.input input && b)) (ripe-same spec s x))
 
 -- what passes a test and what does not are all
 halves : {A : Type 0} (p : A → Bool) (xs : List A) → length (filter p xs) + length (filter (λ x. not (p x)) xs) ≡ length xs
@@ -79,7 +71,7 @@ puncts-mapped spec (p ∷ ps) = ap (λ (es : List Element). Punct (widened spec 
 up-same : (join : JoinView) (s : JoinState) (input : ℕ) → join.kept ≡ kept_of s → hands_up join.spec s (Sweep input) ≡ map Punct (puncts_up join (Sweep input))
 up-same join s input k =
     puncts-mapped join.spec (filter (λ p. eqb p.input input && not (is_held (kept join.spec s input) p)) s.waiting)
-    ∙ ap (λ (xs : List TupleAt). map Punct (map (widened join.spec) (filter (λ p. eqb p.input input && not (is_held xs p)) s.waiting))) (sym (left-same join.spec s input))
+    ∙ ap (λ (xs : List TupleAt). map Punct (map (widened join.spec) (filter (λ p. eqb p.input input && not (is_held xs p)) s.waiting))) (sym (swept-same join.spec s input))
     ∙ ap (λ (q : KeptState). map Punct (map (widened join.spec) (filter (λ p. eqb p.input input && not (is_held (swept join.spec q input) p)) q.waiting))) (sym k)
 
 -- ---- behind a history
@@ -134,7 +126,7 @@ module _ (plan : RunPlan) (limit : ℕ) (cells : List Cell) (made : IsMadeOf pla
       let behind = ap (λ (ns : List Node). stored_at ns place) (events-climb nodes A.tree (Swept place input)).moves
       ∙ ap (λ (o : Operator). length (state_in o).stored) ((leaves-nodes nodes A.tree place (Own (Sweep input))).first (let a = A.long in omega (arith, there, a)))
       ∙ ap (λ (o : Operator). length (state_in (after_local o (Own (Sweep input)))).stored) state-of.is
-      ∙ ap length (sym (left-same join.spec state-of.state input)) ∙ ap (λ (q : KeptState). length (swept join.spec q input)) (sym state-of.kept) in
+      ∙ ap length (sym (swept-same join.spec state-of.state input)) ∙ ap (λ (q : KeptState). length (swept join.spec q input)) (sym state-of.kept) in
       omega (arith, h, before, behind)
     where
       A : AreAs cells nodes

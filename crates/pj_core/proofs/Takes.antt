@@ -4,6 +4,7 @@ use Rattle.std.proofs.lemmas.Bool.{eq-eqb, false≢true, ne_eqb}
 use Rattle.std.proofs.lemmas.List.{get_or-map, get_or-set_same, length-map, length-set}
 use Rattle.std.proofs.lemmas.List.Sums.{sum-map, sum_by-cons}
 use Rattle.pj_value.specs.declared.values.Value.{Value}
+use Rattle.pj_value.proofs.Numbers.{has-in}
 use Rattle.pj_pattern.specs.declared.element.Element.{Element}
 use Rattle.pj_pattern.specs.declared.element.Element.TheVariants.{Tuple}
 use Rattle.pj_events.specs.declared.events.Entry.{Entry}
@@ -18,10 +19,9 @@ use Rattle.pj_events.specs.History.{data_at, nodes_from, state_in}
 use Rattle.pj_events.specs.Outcomes.{goes_beyond, results_of}
 use Rattle.pj_events.specs.OneThread.{Pending, first_of, next_from, next_probe, pending_at, plain}
 use Rattle.pj_events.specs.CoreKept.{JoinKept, KeptOperator, NothingKept, UnionKept, GroupKept, kept_in}
-use Rattle.pj_laws.proofs.Probes.{has-in}
 use Rattle.pj_laws.proofs.Quiet.{take-within}
 use Rattle.pj_join_laws.proofs.Tickets.{AreAscending, first-least, pending-ascends}
-use Rattle.pj_join.specs.declared.found.Found.{Found}
+use Rattle.pj_probe.specs.declared.probe.Found.{Found}
 use Rattle.pj_join.specs.Joins.{IsTaken, JoinView, after}
 use Rattle.pj_operator.specs.declared.cell.Cell.{Cell}
 use Rattle.pj_operator.specs.declared.cell.Work.{Work}

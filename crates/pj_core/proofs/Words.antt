@@ -1,5 +1,6 @@
 -- What the calls of a core answer, as its parts are seen.
-use Rattle.std.proofs.Common.{true, Bool, ℕ, max, ◌<◌, ◌≤◌, ◌∷◌, [], List, ◌≡◌, Option, Some, None, length, get_or, sym, ap, ◌∙◌, subst, arith}
+use Rattle.std.proofs.Common.{true, Bool, ℕ, max, ◌<◌, ◌≤◌, ◌∷◌, [], List, ◌≡◌, Option, Some, None, length, get_or, refl, sym, ap, ◌∙◌, subst, arith}
+use Rattle.std.specs.Prelude.{IfSome}
 use Rattle.std.proofs.lemmas.List.{get_or_default, length-map}
 use Rattle.pj_plan.specs.Nodes.{streams_of}
 use Rattle.pj_events.specs.declared.events.Out.{Out}
@@ -8,12 +9,12 @@ use Rattle.pj_events.specs.OneThread.{Turn, arrival_of, plain}
 use Rattle.pj_events.specs.History.{closed_after}
 use Rattle.pj_events.specs.declared.events.Event.TheVariants.{Arrive, Drain, Halt}
 use Rattle.pj_pattern.specs.declared.element.Element.{Element}
-use Rattle.pj_join.specs.declared.found.Found.{Found}
+use Rattle.pj_probe.specs.declared.probe.Found.{Found}
 use Rattle.pj_events.specs.declared.events.Look.{Look as TheLook}
 use Rattle.pj_operator.specs.declared.look.Sums.{Sums}
 use Rattle.pj_operator.specs.Looks.{AreFew, AreWith}
 use Rattle.pj_operator.specs.declared.cell.Cell.{Cell}
-use Rattle.pj_core.specs.Calls.{HasArrived, IsCause, IsOpen, IsJoinNode, IsLookAt, IsPeak, IsRefused, StopsNow, closing_of}
+use Rattle.pj_core.specs.Calls.{HasArrived, IsCause, IsOpen, IsJoinNode, IsLookAt, IsPeak, IsRefused, StaysStopped, StopsNow, closing_of}
 use Rattle.pj_operator.specs.Cells.{AreLinked, cell_at, frame_of, frames_in, kept_seen, no_cell, peak_seen, stored_kept, IsTakenIn}
 use Rattle.pj_operator.specs.Climbing.{AreOrderly, Climbs, IsClimbStop, StaysAs}
 use Rattle.pj_core.specs.Cores.{CoreState, Notes}
@@ -25,6 +26,8 @@ use Rattle.pj_core.proofs.Looking.{HasNumbers, are_few, is-look, is-peak}
 use Rattle.pj_core.proofs.Streams.{streams-few}
 use Rattle.pj_core.proofs.Stops.{notes-drain, notes-halt, stays-stopped, stops-now}
 use Rattle.pj_core.proofs.Takes.{open-there}
+use Rattle.pj_core.specs.Settling.{IsSettlingRefused}
+use Rattle.pj_core.specs.Turns.{StopsMaking, working}
 
 -- a core with these parts
 module _ (plan : RunPlan) (limit : ℕ) (cells : List Cell) (c : List ℕ) (halt : Bool) (u : List Out) (t : Option Stop) (old : CoreState) (is : core_of plan limit cells c halt u t ≡ old) (made : IsMadeOf plan limit cells) where
@@ -38,6 +41,14 @@ module _ (plan : RunPlan) (limit : ℕ) (cells : List Cell) (c : List ℕ) (halt
   pub refused-again : (s : Stop) (cause : Type 0) → t ≡ Some s → IsRefused old.kept.stop old old s cause
   refused-again s cause e =
       subst (λ (o : CoreState). IsRefused o.kept.stop o o s cause) (ap (core_of plan limit cells c halt u) (sym e) ∙ is) (stays-stopped plan limit cells c halt u s)
+
+  -- where there is one, answering it again changes nothing
+  pub stays-where : IfSome t (λ s. StaysStopped old old s s)
+  stays-where = go t refl
+    where
+      go : (x : Option Stop) → t ≡ x → IfSome x (λ s. StaysStopped old old s s)
+      go None e = tt
+      go (Some s) e = subst (λ (o : Option Stop). IsRefused o old old s ⊥) (sym (ap (λ (o : CoreState). o.kept.stop) is) ∙ e) (refused-again s ⊥ e)
 
   -- a stop now
   pub refused-now : (cells' : List Cell) (c' : List ℕ) (u' : List Out) (s : Stop) (cause : CoreState → Type 0) → t ≡ None → u' ≡ u → cause (core_of plan limit cells c halt u None) → IsRefused old.kept.stop old (core_of plan limit cells' c' halt u' (Some s)) s (cause old)
@@ -152,3 +163,10 @@ module _ (plan : RunPlan) (limit : ℕ) (cells : List Cell) (c : List ℕ) (halt
   closed-now e stream there xs new new' from c' u' same same' at C stays closed =
       subst (λ (o : CoreState). HasArrived old (core_of plan limit new' c' halt u' t) (arrival_of (closing_of o stream))) is
       (arrived-now e (record { stream = stream; element = closing_in plan.nodes stream; closing = 1 }) there xs new new' from c' u' same same' at C stays closed)
+
+pub settling-again : (t : Option Stop) (old : CoreState) (stop : Stop) → t ≡ Some stop → StaysStopped old old stop stop → IsSettlingRefused t old old stop
+settling-again t old stop e s = subst (λ (o : Option Stop). IsSettlingRefused o old old stop) (sym e) s
+
+pub settling-stopped : (t : Option Stop) (old new : CoreState) (stop : Stop) → t ≡ None → StopsMaking old new (working true old) stop → IsSettlingRefused t old new stop
+settling-stopped None old new stop e s = s
+settling-stopped (Some before) old new stop e s = cc

@@ -18,12 +18,12 @@ use Rattle.pj_events.specs.Join.{has, upto_from}
 use Rattle.pj_events.specs.KeptState.{lacking}
 use Rattle.pj_events.specs.Plan.{Node}
 use Rattle.pj_events.specs.History.{nodes_by, pending_in, reached_of, state_in}
-use Rattle.pj_events.specs.Outcomes.{goes_beyond, outputs_of, peak_of, results_of, stored_at}
+use Rattle.pj_events.specs.Outcomes.{goes_beyond, outputs_of, peak_of, results_of, stored_at, stored_in, opened_in, waiting_in, ended_of}
 use Rattle.pj_events.specs.Limits.{StaysWithin, StopsAt}
 use Rattle.pj_events.specs.OneThread.{Turn, arrival_of, next_probe, plain, turn_entries}
 use Rattle.pj_laws.specs.HistoryLaws.{AllAreCertified}
 use Rattle.pj_laws.specs.Seats.{IsUnderWay}
-use Rattle.pj_join.specs.declared.found.Found.{Found}
+use Rattle.pj_probe.specs.declared.probe.Found.{Found}
 use Rattle.pj_operator.specs.Cells.{IsTakenIn, pending_kept}
 use Rattle.pj_core.specs.Cores.{CoreState, MayFollow, Notes, NotesAllowed, StandsFor, nodes_after, nodes_in}
 use Rattle.pj_core.specs.Plans.{RunPlan}
@@ -166,21 +166,21 @@ pub record HasSwept (old new : CoreState) (join input count : ℕ) : Type 0 wher
   pub within : HasRoomFor old (Swept join input)
   pub removes : (history : List Entry) → StandsFor old history → count + stored_behind old history join input ≡ stored_before old history join
 
+-- ---- which steps are allowed
+
+-- while nothing stopped, the sweep of an input of a join may follow each history that the core stands for
+abbrev pub SweepsMayFollow : CoreState → Type 0
+SweepsMayFollow core =
+    core.kept.stop ≡ None → (history : List Entry) → StandsFor core history → (join input : ℕ) → IsJoinInput core join input
+    → MayFollow core history (plain (Swept join input))
+
+-- and so may the give of a ticket that is under way there
+abbrev pub GivesMayFollow : CoreState → Type 0
+GivesMayFollow core =
+    core.kept.stop ≡ None → (history : List Entry) → StandsFor core history → (join ticket : ℕ) → IsUnderWay (nodes_in core) history join ticket
+    → MayFollow core history (plain (Given join ticket))
+
 -- ---- looks
-
--- the number of tuples that are stored at these nodes, of those that are not given, and of punctuations that wait
-abbrev pub stored_in : List Node → ℕ
-stored_in nodes = sum (map (λ node. length (state_in node.operator).stored) nodes)
-
-abbrev pub opened_in : List Node → ℕ
-opened_in nodes = sum (map (λ node. length (lacking (state_in node.operator).given (state_in node.operator).tuples)) nodes)
-
-abbrev pub waiting_in : List Node → ℕ
-waiting_in nodes = sum (map (λ node. length (state_in node.operator).waiting) nodes)
-
--- how many of so many streams are among the closed
-abbrev pub ended_of : ℕ → List ℕ → ℕ
-ended_of streams closed = length (filter (has closed) (upto_from 0 streams))
 
 -- what a look tells of a core that has not stopped; what is not given is taken or pending
 pub record Tells (core : CoreState) (history : List Entry) (look : Look) : Type 0 where

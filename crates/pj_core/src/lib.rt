@@ -3,11 +3,9 @@
 #![tactic(auto)]
 
 mod build;
-mod laws;
 mod running;
 mod turns;
 
-pub use laws::{answers_are_plain, probes_under_way, settling};
 pub use pj_events::{Entry, Event, Look, Out, Stop};
 pub use pj_join::{Found, Probe};
 pub use running::Core;

@@ -1,5 +1,5 @@
 // The core of a run.
-ghost use Rattle.std.specs.Prelude.{true, ◌≡◌, ◌<◌, ◌≤◌, ◌^◌, [], ◌∷◌, ◌++◌, None, length, slice_index_or, IfErr, IfOk, OnErr, OnOk};
+ghost use Rattle.std.specs.Prelude.{true, ◌≡◌, ◌<◌, ◌≤◌, ◌^◌, [], ◌∷◌, ◌++◌, None, length, slice_index_or, IfErr, IfOk, IfSome, OnErr, OnOk};
 ghost use Rattle.pj_events.specs.declared.events.Event.TheVariants.{Arrive as Arrives, Drain as Drains, Halt as Halts, Sweep as Sweeps};
 ghost use Rattle.pj_laws.specs.HistoryLaws.{AllAreCertified};
 ghost use Rattle.pj_events.specs.Patterns.{all_wild};
@@ -15,7 +15,8 @@ ghost use Rattle.pj_core.specs.Cores.{Notes};
 ghost use Rattle.pj_core.specs.Parts.{closing_in, StreamCloses};
 ghost use Rattle.pj_core.specs.Turns.{MayProbeAt, StopsProbe, places_total};
 ghost use Rattle.pj_plan.specs.Canonical.{node_at};
-ghost use Rattle.pj_core.specs.Calls.{CoreTakes, HasArrived, HasGiven, HasSwept, IsCause, IsFresh, IsGiveCause, IsJoinInput, IsJoinNode, IsLookAt, IsOpen, IsPeak, IsRefused, StopsNow, arriving_of, closing_of, ended_of};
+ghost use Rattle.pj_core.specs.Calls.{CoreTakes, HasArrived, HasGiven, HasSwept, IsCause, IsFresh, IsGiveCause, IsJoinInput, IsJoinNode, IsLookAt, IsOpen, IsPeak, IsRefused, StaysStopped, StopsNow, arriving_of, closing_of};
+ghost use Rattle.pj_events.specs.Outcomes.{ended_of};
 
 use crate::build::new_cells;
 use pj_events::{Look, Out, Stop};
@@ -228,6 +229,14 @@ impl Core {
         ensures notes { Notes self.old self.new (plain Halts) }
     {
         self.halted = true;
+    }
+
+    // The stop that was answered before; where there is one, answering it again changes nothing.
+    pub(crate) fn stopped(&self) -> Option<Stop>
+        ensures is { result ≡ self.now.kept.stop }
+        ensures again { IfSome result (λ stop. StaysStopped self.now self.now stop stop) }
+    {
+        self.stop
     }
 
     // One sweep of an input of a join.

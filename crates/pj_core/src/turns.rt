@@ -1,10 +1,11 @@
 // Whole turns of a run on one thread.
-ghost use Rattle.std.specs.Prelude.{◌≡◌, ◌<◌, None, length, IfErr, IfOk, OnOk};
+ghost use Rattle.std.specs.Prelude.{true, ◌≡◌, ◌<◌, None, length, IfErr, IfOk, OnOk};
 ghost use Rattle.pj_pattern.specs.Fitting.{FitsKinds};
 ghost use Rattle.pj_shape.specs.Columns.{kinds_of};
 ghost use Rattle.pj_plan.specs.Nodes.{streams_of, stream_columns, streams_in};
 ghost use Rattle.pj_events.specs.OneThread.{is_punct as brings_punct};
 ghost use Rattle.pj_core.specs.Calls.{IsJoinInput, IsTurnRefused, MakesTurn, arriving_of, closing_of};
+ghost use Rattle.pj_core.specs.Settling.{IsSettlingRefused};
 ghost use Rattle.pj_core.specs.Turns.{Finishes, IsSoundCore, Makes, StopsMaking, probing, probing_at, sweeping, sweeping_all, sweeping_at, swept_where, working};
 
 use crate::Core;
@@ -48,6 +49,25 @@ impl Core {
                 Err(stop) => Err(stop),
             },
             Err(stop) => Err(stop),
+        }
+    }
+
+    /// Settles the run: every pending ticket is taken, worked on and given, in order; each join is then swept, input by input, and
+    /// all that is pending after each sweep is done; and all that was not drained is handed out. Where every stream is closed and
+    /// no probe is under way, the history is then complete (`work_settles`).
+    ///
+    /// The stops are those of a turn.
+    pub fn settle(&mut self) -> Result<List<Out>, Stop>
+        ensures on { OnOk result (self.old.kept.stop ≡ None) }
+        ensures ok { IfOk result (λ outs. Finishes true self.old self.new outs) }
+        ensures err { IfErr result (λ stop. IsSettlingRefused self.old.kept.stop self.old self.new stop) }
+    {
+        match self.stopped() {
+            Some(stop) => Err(stop),
+            None => match self.finish_turn(true) {
+                Ok(outs) => Ok(outs),
+                Err(stop) => Err(stop),
+            },
         }
     }
 

@@ -114,11 +114,6 @@ none_at first (n ∷ ns) (suc i) none lt = none_at first ns i none.1 (omega (ari
 
 -- ---- what is opened
 
-name_in : (name : List ℕ) (first : List ℕ) (names : List (List ℕ)) (count : ℕ) → (In name (take 1 (first ∷ [])) ⊎ In name (take count names)) → In name (take (suc count) (first ∷ names))
-name_in name first names count (inl (inl is)) = inl is
-name_in name first names count (inl (inr none)) = absurd none
-name_in name first names count (inr more) = inr more
-
 -- the first operand, and then some of the others
 opens_on : (first : List ℕ) (names : List (List ℕ)) (count : ℕ) (old mid new : FolderState) → OpensFirst 1 (first ∷ names) old mid → OpensFirst count names mid new → OpensFirst (suc count) (first ∷ names) old new
 opens_on first names count old mid new one more name = (

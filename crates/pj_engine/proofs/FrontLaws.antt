@@ -29,7 +29,7 @@ use Rattle.pj_laws.proofs.Groups.{row-in}
 use Rattle.pj_laws.proofs.FinalRows.{is-final}
 use Rattle.pj_join_laws.proofs.Upto.{length-upto}
 use Rattle.pj_laws.proofs.Steps.{elements-append}
-use Rattle.pj_core.proofs.PlainAnswers.{answers-are-plain}
+use Rattle.pj_core_laws.proofs.PlainAnswers.{answers-are-plain}
 use Rattle.pj_run.specs.Runs.{history_of, outputs_of, plan_run, run_nodes}
 use Rattle.pj_engine.specs.Top.{AllLawful, AreOfWidth, answer_after, arrived_in, gone_on, streams_after, StaysRight}
 use Rattle.pj_run.proofs.Accepting.{count-streams, schema-is}

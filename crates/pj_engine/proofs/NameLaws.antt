@@ -12,7 +12,7 @@ use Rattle.pj_plan.specs.Nodes.{is_stream, streams_of, streams_in}
 use Rattle.pj_plan.specs.Canonical.{declaration, node_name, node_statements, statements_of}
 use Rattle.pj_plan.specs.Kept.{IsMadeAgain}
 use Rattle.pj_plan.specs.Sound.{IsSoundPlan}
-use Rattle.pj_run.specs.PlanNames.{HasPlainNames, are_plain, is_plain}
+use Rattle.pj_run.specs.PlanNames.{HasShortNames, are_short, is_short}
 use Rattle.pj_engine.specs.Top.{stream_name}
 use Rattle.pj_feed.proofs.StreamNodes.{count_numbers, few-streams, name-at}
 
@@ -39,10 +39,10 @@ unnamed_stream nodes s past = let e = count_numbers nodes in unnamed (streams_in
 
 -- ---- plain names
 
-plain : (name : List ℕ) → is_name name ≡ true → is_plain name ≡ true
-plain name e = (and_parts (begins_small name) (is_plain name) (and_parts (is_word name) _ (and_parts (is_column_name name) _ e).0).0).1
+plain : (name : List ℕ) → is_name name ≡ true → is_short name ≡ true
+plain name e = (and_parts (begins_small name) (is_short name) (and_parts (is_word name) _ (and_parts (is_column_name name) _ e).0).0).1
 
-plain_of : (nodes : List PlanNode) (x : PlanNode) (node : Node) → is_spelled (declaration nodes x node) ≡ true → is_plain x.name ≡ true
+plain_of : (nodes : List PlanNode) (x : PlanNode) (node : Node) → is_spelled (declaration nodes x node) ≡ true → is_short x.name ≡ true
 plain_of nodes x (Stream schemes) e = plain x.name (and_parts (is_name x.name) _ e).0
 plain_of nodes x (Select input test) e = plain x.name (and_parts (is_name x.name) _ (and_parts _ _ e).0).0
 plain_of nodes x (Project input columns) e = plain x.name (and_parts (is_name x.name) _ (and_parts _ _ e).0).0
@@ -58,18 +58,18 @@ declared plan node made there =
     (In-flat_map_from (node_statements plan.nodes) (declaration plan.nodes node node.node) node plan.nodes there (inl refl))))
 
 -- the names of a plan that is made again by its canonical statements
-pub plain_names : (plan : Outline) → IsMadeAgain plan → HasPlainNames plan.nodes
-plain_names plan made = all_from (λ node. is_plain node.name) plan.nodes (λ node there. plain_of plan.nodes node node.node (declared plan node made there))
+pub plain_names : (plan : Outline) → IsMadeAgain plan → HasShortNames plan.nodes
+plain_names plan made = all_from (λ node. is_short node.name) plan.nodes (λ node there. plain_of plan.nodes node node.node (declared plan node made there))
 
-pub name_plain : (nodes : List PlanNode) (n : ℕ) → are_plain nodes ≡ true → is_plain (node_name nodes n) ≡ true
+pub name_plain : (nodes : List PlanNode) (n : ℕ) → are_short nodes ≡ true → is_short (node_name nodes n) ≡ true
 name_plain [] n e = refl
-name_plain (node ∷ nodes) zero e = (and_parts (is_plain node.name) (are_plain nodes) e).0
-name_plain (node ∷ nodes) (suc n) e = name_plain nodes n (and_parts (is_plain node.name) (are_plain nodes) e).1
+name_plain (node ∷ nodes) zero e = (and_parts (is_short node.name) (are_short nodes) e).0
+name_plain (node ∷ nodes) (suc n) e = name_plain nodes n (and_parts (is_short node.name) (are_short nodes) e).1
 
-pub streams_plain : (nodes : List PlanNode) → are_plain nodes ≡ true → are_plain (streams_in nodes) ≡ true
+pub streams_plain : (nodes : List PlanNode) → are_short nodes ≡ true → are_short (streams_in nodes) ≡ true
 streams_plain [] e = refl
-streams_plain (node ∷ nodes) e = let p = and_parts (is_plain node.name) (are_plain nodes) e in go (is_stream node.node) p.0 (streams_plain nodes p.1)
+streams_plain (node ∷ nodes) e = let p = and_parts (is_short node.name) (are_short nodes) e in go (is_stream node.node) p.0 (streams_plain nodes p.1)
   where
-    go : (b : Bool) → is_plain node.name ≡ true → are_plain (streams_in nodes) ≡ true → are_plain (cond b (node ∷ streams_in nodes) (streams_in nodes)) ≡ true
-    go true one more = and_from (is_plain node.name) (are_plain (streams_in nodes)) one more
+    go : (b : Bool) → is_short node.name ≡ true → are_short (streams_in nodes) ≡ true → are_short (cond b (node ∷ streams_in nodes) (streams_in nodes)) ≡ true
+    go true one more = and_from (is_short node.name) (are_short (streams_in nodes)) one more
     go false one more = more

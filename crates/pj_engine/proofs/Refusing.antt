@@ -21,7 +21,7 @@ use Rattle.pj_engine.specs.declared.stops.PlanStop.{PlanStop}
 use Rattle.pj_engine.specs.declared.stops.PlanStop.TheVariants.{Usage as NoWords, File as PlanFile, Refused, FileCount as OtherCount, Unsafe as Stuck, NoMemory as PlanMemory}
 use Rattle.pj_engine.specs.Commands.{Command, command_of, is_run, operands, operand, behind_first, file_names}
 use Rattle.pj_feed.specs.Opened.{OpensFirst}
-use Rattle.pj_run.specs.PlanNames.{HasPlainNames}
+use Rattle.pj_run.specs.PlanNames.{HasShortNames}
 use Rattle.pj_engine.specs.Plans.{plan_of, plan_if}
 use Rattle.pj_engine.specs.Refusals.{BytesRefused, FileCause, FileOpens, HasLines, PlanCause, PlanUnfit, Unprepared}
 use Rattle.pj_run.specs.Runs.{IsNewCore, most_arrivals, outline_in}
@@ -35,7 +35,7 @@ pub new_core : (core : CoreState) (plan : Outline) (certs : List (List (List Cer
     → certs ≡ certificates_of plan.nodes → AreCertificates plan.nodes → IsNewCore core
 new_core core plan certs fresh sound made found are =
     let same : core.plan.nodes ≡ plan.nodes = ap (λ (p : RunPlan). p.nodes) fresh.of_plan in
-    subst (λ (ns : List PlanNode). IsFresh core (run_plan ns (certificates_of ns) false) most_arrivals → AllAreCertified (nodes_of (run_plan ns (certificates_of ns) false)) → HasPlainNames ns → IsSoundPlan ns → IsNewCore core)
+    subst (λ (ns : List PlanNode). IsFresh core (run_plan ns (certificates_of ns) false) most_arrivals → AllAreCertified (nodes_of (run_plan ns (certificates_of ns) false)) → HasShortNames ns → IsSoundPlan ns → IsNewCore core)
     same (λ f c p s. record { fresh = f; certified = c; names = p; sound = s })
     (subst (λ (cs : List (List (List CertStep))). IsFresh core (run_plan plan.nodes cs false) most_arrivals) found fresh) (run_certified plan.nodes sound are) (plain_names plan made) sound
 

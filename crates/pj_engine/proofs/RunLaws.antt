@@ -25,7 +25,7 @@ use Rattle.pj_events.specs.Outcomes.{peak_of}
 use Rattle.pj_engine.specs.Commands.{Command, plan_bytes, stream_files}
 use Rattle.pj_plan.specs.Canonical.{node_name}
 use Rattle.pj_plan.specs.Names.{is_name_byte}
-use Rattle.pj_run.specs.PlanNames.{HasPlainNames, is_plain, are_plain}
+use Rattle.pj_run.specs.PlanNames.{HasShortNames, is_short, are_short}
 use Rattle.pj_engine.specs.Plans.{plan_of}
 use Rattle.pj_plan.specs.declared.fault.PlanWhy.{PlanWhy}
 use Rattle.pj_plan.specs.declared.fault.PlanWhy.TheVariants.{NotAPlan, UnknownStatement, BadShape, NameTwice, UnknownName, UnknownColumn, ColumnTwice, KindsDiffer, BadClass, BadScheme, UsedTwiceOrNever, TooMany, Output, Unreadable}
@@ -80,7 +80,7 @@ no_feeds (x ∷ xs) e =
     (elim (eqb_tells x 10) [ inl same ↦ absurd (false≢true (ap not (sym same.0) ∙ p.0)) | inr other ↦ other.1 ], no_feeds xs p.1)
 
 -- a name of small letters, digits and `_`
-pub name_no_feed : (xs : List ℕ) → is_plain xs ≡ true → HasNo 10 xs
+pub name_no_feed : (xs : List ℕ) → is_short xs ≡ true → HasNo 10 xs
 name_no_feed xs e = go xs (and_parts (nat_le (length xs) 32) (list_all is_name_byte xs) e).1
   where
     name_byte : (x : ℕ) → is_name_byte x ≡ true → x ≢ 10
@@ -90,7 +90,7 @@ name_no_feed xs e = go xs (and_parts (nat_le (length xs) 32) (list_all is_name_b
     go [] e = tt
     go (x ∷ xs) e = let p = and_parts (is_name_byte x) (list_all is_name_byte xs) e in (name_byte x p.0, go xs p.1)
 
-pub name_short : (xs : List ℕ) → is_plain xs ≡ true → length xs ≤ 32
+pub name_short : (xs : List ℕ) → is_short xs ≡ true → length xs ≤ 32
 name_short xs e = let p = (and_parts (nat_le (length xs) 32) (list_all is_name_byte xs) e).0 in grind (arith, nat_tests)
 
 -- no byte is a line feed
@@ -174,23 +174,23 @@ peak_note name peak none =
     let all : NoFeed (codes "# peak " ++ name ++ codes " " ++ decimal peak) = and_then (and_then (and_then (literal (codes "# peak ") refl) named) (literal (codes " ") refl)) (number peak) in
     record { words = codes "# peak " ++ name ++ codes " " ++ decimal peak; is = refl; note = refl; whole = all.it }
 
-streams_note : (streams : List PlanNode) (files : List (List ℕ)) → are_plain streams ≡ true → AreNotes (streams_report streams files)
+streams_note : (streams : List PlanNode) (files : List (List ℕ)) → are_short streams ≡ true → AreNotes (streams_report streams files)
 streams_note [] files plain = tt
 streams_note (stream ∷ streams) [] plain = tt
 streams_note (stream ∷ streams) (bytes ∷ files) plain =
-    let p = and_parts (is_plain stream.name) (are_plain streams) plain in
+    let p = and_parts (is_short stream.name) (are_short streams) plain in
     let none = name_no_feed stream.name p.0 in
     let tally = tally_of (fates_of stream.schema bytes) in
     notes-append (stream_lines stream.name tally) _ (stream_note stream.name tally none, rejects_note stream.name tally.listed none) (streams_note streams files p.1)
 
-peaks_note : (plan : RunPlan) (history : List Entry) (joins : List ℕ) → HasPlainNames plan.nodes → AreNotes (map (peak_report plan history) joins)
+peaks_note : (plan : RunPlan) (history : List Entry) (joins : List ℕ) → HasShortNames plan.nodes → AreNotes (map (peak_report plan history) joins)
 peaks_note plan history [] plain = tt
 peaks_note plan history (join ∷ joins) plain = (
   peak_note (node_name plan.nodes join) (peak_of (nodes_of plan) history join) (name_no_feed (node_name plan.nodes join) (name_plain plan.nodes join plain)),
   peaks_note plan history joins plain,
 )
 
-pub report_notes : (plan : Outline) (files : List (List ℕ)) (outputs : List Element) → HasPlainNames plan.nodes → AreNotes (report_of plan files outputs)
+pub report_notes : (plan : Outline) (files : List (List ℕ)) (outputs : List Element) → HasShortNames plan.nodes → AreNotes (report_of plan files outputs)
 report_notes plan files outputs plain =
     notes-append (streams_report (streams_in plan.nodes) files ++ results_line outputs ∷ []) _
     (notes-append (streams_report (streams_in plan.nodes) files) (results_line outputs ∷ []) (streams_note (streams_in plan.nodes) files (streams_plain plan.nodes plain)) (results_note outputs, tt))

@@ -30,7 +30,7 @@ use Rattle.pj_engine.specs.declared.stops.PlanStop.TheVariants.{Usage as NoWords
 use Rattle.pj_engine.specs.declared.stops.FileStop.TheVariants.{OpenFault as NotOpened, ReadFault as NotRead, TooLong, NoMemory as FileMemory}
 use Rattle.pj_run.specs.declared.stops.RunStop.TheVariants.{ReadFault as RunFault, TooLarge, Limit as RunLimit, WriteFailed, NoMemory as RunMemory}
 use Rattle.pj_engine.specs.Commands.{Command, plan_bytes, stream_files}
-use Rattle.pj_run.specs.PlanNames.{HasPlainNames, are_plain}
+use Rattle.pj_run.specs.PlanNames.{HasShortNames, are_short}
 use Rattle.pj_engine.specs.Plans.{plan_of}
 use Rattle.pj_report.specs.Report.{status_line}
 use Rattle.pj_run.specs.Runs.{outputs_of, report_of, run_lines}
@@ -53,7 +53,7 @@ use Rattle.pj_pattern.proofs.Lawful.{lawful_front}
 pub record IsReady (plan : Outline) (command : Command) : Type 0 where
   pub read : plan_of (plan_bytes command) ≡ Some plan
   pub planned : IsPlanned plan
-  pub names : HasPlainNames plan.nodes
+  pub names : HasShortNames plan.nodes
 
 -- what was written behind these bytes spells outputs that stay right
 abbrev pub NoneRetracted : Command → List ℕ → List ℕ → Type 0
@@ -124,10 +124,10 @@ limit_note (File stream) name none = record {
   whole = has_no_both 10 (codes "# stopped limit file ") name (no_feeds (codes "# stopped limit file ") refl) none;
 }
 
-name_at_no_feed : (nodes : List PlanNode) (n : ℕ) → are_plain nodes ≡ true → HasNo 10 (node_name nodes n)
+name_at_no_feed : (nodes : List PlanNode) (n : ℕ) → are_short nodes ≡ true → HasNo 10 (node_name nodes n)
 name_at_no_feed nodes n plain = name_no_feed (node_name nodes n) (name_plain nodes n plain)
 
-limit_name_no_feed : (plan : Outline) (what : LimitOf) → HasPlainNames plan.nodes → HasNo 10 (limit_name plan what)
+limit_name_no_feed : (plan : Outline) (what : LimitOf) → HasShortNames plan.nodes → HasNo 10 (limit_name plan what)
 limit_name_no_feed plan Plan plain = tt
 limit_name_no_feed plan (Node node) plain = name_at_no_feed plan.nodes node plain
 limit_name_no_feed plan (File stream) plain = name_at_no_feed (streams_in plan.nodes) stream (streams_plain plan.nodes plain)
@@ -152,10 +152,10 @@ note_lines [] each = tt
 note_lines (line ∷ lines) each = (note_line line (each line (inl refl)), note_lines lines (λ l there. each l (inr there)))
 
 -- the name of a status' line is short
-name_at_short : (nodes : List PlanNode) (n : ℕ) → are_plain nodes ≡ true → length (node_name nodes n) ≤ 32
+name_at_short : (nodes : List PlanNode) (n : ℕ) → are_short nodes ≡ true → length (node_name nodes n) ≤ 32
 name_at_short nodes n plain = name_short (node_name nodes n) (name_plain nodes n plain)
 
-pub stop_name_short : (plan : Outline) (status : Status) → HasPlainNames plan.nodes → length (stop_name plan status) ≤ 32
+pub stop_name_short : (plan : Outline) (status : Status) → HasShortNames plan.nodes → length (stop_name plan status) ≤ 32
 stop_name_short plan Done plain = omega arith
 stop_name_short plan Usage plain = omega arith
 stop_name_short plan (PlanRefused line why) plain = omega arith

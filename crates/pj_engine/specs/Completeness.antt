@@ -3,13 +3,13 @@ use Rattle.std.specs.Prelude.{ℕ, ◌≡◌, ◌<◌, ◌≤◌, ◌^◌, ◌�
 use Rattle.pj_io.specs.Causes.{Rose}
 use Rattle.pj_io.specs.States.{FolderState, SinkState}
 use Rattle.pj_plan.specs.declared.node.Outline.{Outline}
-use Rattle.pj_laws.specs.Reaching.{IsCounted}
 use Rattle.pj_report.specs.declared.status.Status.{Status}
 use Rattle.pj_report.specs.declared.status.Status.TheVariants.{Done, NoMemory}
 use Rattle.pj_engine.specs.Commands.{Command, IsTold, operand, plan_bytes, stream_files}
 use Rattle.pj_engine.specs.Plans.{plan_of}
-use Rattle.pj_run.specs.Runs.{elements_to, most_arrivals, run_nodes}
+use Rattle.pj_run.specs.Runs.{elements_to, most_arrivals}
 use Rattle.pj_engine.specs.Top.{IsBuilt}
+use Rattle.pj_algebra.specs.Answers.{IsCounted}
 
 -- no count of faults rose: not that of an operand's name, and not the sink's
 pub record NoneRose (command : Command) (after : FolderState) (old new : SinkState) : Type 0 where
@@ -20,7 +20,7 @@ pub record NoneRose (command : Command) (after : FolderState) (old new : SinkSta
 -- than may
 pub record IsWithinLimits (plan : Outline) (files : List (List ℕ)) : Type 0 where
   pub bytes : (stream : ℕ) → stream < length files → length (slice_index_or files stream []) < 2 ^ 40
-  pub elements : (node : ℕ) → IsCounted (run_nodes plan) node → elements_to plan files node ≤ most_arrivals
+  pub elements : (node : ℕ) → IsCounted plan.nodes node → elements_to plan files node ≤ most_arrivals
 
 -- where the command is told, its plan and its files go beyond no limit
 abbrev pub HasRoom : Command → Type 0

@@ -24,7 +24,7 @@ use Rattle.pj_laws.proofs.SweptRun.{swept-groups}
 use Rattle.pj_join_laws.proofs.Upto.{get_or-upto, length-upto}
 use Rattle.pj_plan.specs.Nodes.{stream_columns, streams_in}
 use Rattle.pj_run.specs.Runs.{elements_of, history_of, most_arrivals, outputs_of, plan_run, run_nodes, with_closings, GoesBeyond, IsAnswer, ArePunctuations}
-use Rattle.pj_core.proofs.PlainAnswers.{answers-are-plain, counts-are-plain, punctuations-are-plain}
+use Rattle.pj_core_laws.proofs.PlainAnswers.{answers-are-plain, counts-are-plain, punctuations-are-plain, counted-are-plain}
 use Rattle.pj_feed.specs.Feeds.{accepted_of}
 use Rattle.pj_run.proofs.Accepting.{accepted_lists, count-streams, schema-is}
 use Rattle.pj_run.proofs.Planned.{IsPlanned}
@@ -39,7 +39,7 @@ outputs_lawful plan files p = hands_out-lawfully (run_nodes plan) p.well_made p.
 pub outputs_answer : (plan : Outline) (files : List (List ℕ)) → IsPlanned plan → (report : List (List ℕ)) → IsAnswer plan files (outputs_of plan files) report
 outputs_answer plan files p report =
     subst (SameBag (rows_of (outputs_of plan files))) (answers-are-plain (plan_run plan) (map rows_of (accepted_of (streams_in plan.nodes) files))).answer
-    (swept-groups (run_nodes plan) p.well_made p.some p.certified p.propagates (accepted_of (streams_in plan.nodes) files) (accepted_lists plan files) false)
+    (swept-groups (run_nodes plan) p.well_made p.some p.certified (accepted_of (streams_in plan.nodes) files) (accepted_lists plan files) false)
 
 -- ---- punctuations
 
@@ -89,7 +89,7 @@ pub outputs_puncts : (plan : Outline) (files : List (List ℕ)) → IsPlanned pl
 outputs_puncts plan files p report =
     subst (SameBag (puncts_of (outputs_of plan files)))
     (ap (λ (ls : List (List Element)). puncts_answer (run_nodes plan) (map puncts_of ls)) (closed_so plan files) ∙ (punctuations-are-plain (plan_run plan) (map puncts_of (elements_of plan files))).output)
-    (swept-is-puncts (run_nodes plan) p.well_made p.some p.certified p.propagates (accepted_of (streams_in plan.nodes) files) (accepted_lists plan files) false)
+    (swept-is-puncts (run_nodes plan) p.well_made p.some p.certified (accepted_of (streams_in plan.nodes) files) (accepted_lists plan files) false)
 
 -- ---- limits
 
@@ -97,10 +97,10 @@ outputs_puncts plan files p report =
 pub goes_beyond : (plan : Outline) (files : List (List ℕ)) → IsPlanned plan → (node : ℕ) → ReachesLimit most_arrivals (run_nodes plan) (history_of plan files) node → GoesBeyond plan files node
 goes_beyond plan files p node r =
     let lists : List (List Element) = accepted_of (streams_in plan.nodes) files in
-    let t = limits-tell (run_nodes plan) p.well_made p.tree p.some p.certified p.propagates lists (accepted_lists plan files) most_arrivals node r in
+    let t = limits-tell (run_nodes plan) p.well_made p.tree p.some p.certified lists (accepted_lists plan files) most_arrivals node r in
     record {
       reaches = r;
-      counted = t.0;
+      counted = sym (counted-are-plain (plan_run plan) node) ∙ t.0;
       many = subst (λ (n : ℕ). most_arrivals < n)
           (ap (λ (ls : List (List Element)). coming_to (run_nodes plan) (map rows_of lists) (map puncts_of ls) node) (closed_so plan files)
           ∙ counts-are-plain (plan_run plan) (map rows_of lists) (map puncts_of (elements_of plan files)) node)

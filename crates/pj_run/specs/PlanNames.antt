@@ -5,12 +5,12 @@ use Rattle.pj_plan.specs.Names.{is_name_byte}
 use Rattle.pj_plan.specs.declared.node.PlanNode.{PlanNode}
 
 -- at most 32 bytes, only small letters, digits and `_`
-abbrev pub is_plain : List ℕ → Bool
-is_plain name = nat_le (length name) 32 && list_all is_name_byte name
+abbrev pub is_short : List ℕ → Bool
+is_short name = nat_le (length name) 32 && list_all is_name_byte name
 
-abbrev pub are_plain : List PlanNode → Bool
-are_plain nodes = list_all (λ node. is_plain node.name) nodes
+abbrev pub are_short : List PlanNode → Bool
+are_short nodes = list_all (λ node. is_short node.name) nodes
 
 -- the names of the nodes have at most 32 bytes, only small letters, digits and `_`
-abbrev pub HasPlainNames : List PlanNode → Type 0
-HasPlainNames nodes = are_plain nodes ≡ true
+abbrev pub HasShortNames : List PlanNode → Type 0
+HasShortNames nodes = are_short nodes ≡ true

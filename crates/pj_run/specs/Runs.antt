@@ -4,7 +4,7 @@ use Rattle.pj_plan.specs.declared.node.Outline.{Outline}
 use Rattle.pj_plan.specs.declared.node.PlanNode.{PlanNode}
 use Rattle.pj_plan.specs.Nodes.{joins_of, streams_in}
 use Rattle.pj_plan.specs.Canonical.{node_name}
-use Rattle.pj_algebra.specs.Answers.{answer_of, elements_to as coming_to, punctuations_of}
+use Rattle.pj_algebra.specs.Answers.{answer_of, elements_to as coming_to, punctuations_of, IsCounted}
 use Rattle.pj_core.specs.Plans.{RunPlan, nodes_of, run_plan}
 use Rattle.pj_value.specs.Bags.{SameBag}
 use Rattle.pj_pattern.specs.declared.element.Element.{Element}
@@ -15,14 +15,13 @@ use Rattle.pj_events.specs.Plan.{Node}
 use Rattle.pj_laws.specs.HistoryLaws.{AllAreCertified}
 use Rattle.pj_events.specs.declared.events.Entry.{Entry}
 use Rattle.pj_events.specs.Limits.{ReachesLimit}
-use Rattle.pj_laws.specs.Reaching.{IsCounted}
 use Rattle.pj_events.specs.Outcomes.{elements_out, peak_of, outputs_of as handed_out}
 use Rattle.pj_events.specs.OneThread.{one_thread_of}
 use Rattle.pj_core.specs.Cores.{CoreState}
 use Rattle.pj_core.specs.Calls.{IsFresh}
 use Rattle.pj_plan.specs.Sound.{IsSoundPlan}
 use Rattle.pj_alone.specs.Safety.{certificates_of}
-use Rattle.pj_run.specs.PlanNames.{HasPlainNames}
+use Rattle.pj_run.specs.PlanNames.{HasShortNames}
 use Rattle.pj_report.specs.Report.{stream_lines, results_line, peak_line}
 use Rattle.pj_feed.specs.Feeds.{accepted_of}
 
@@ -113,7 +112,7 @@ outline_in core = record { version = 1; nodes = core.plan.nodes }
 pub record IsNewCore (core : CoreState) : Type 0 where
   pub fresh : IsFresh core (plan_run (outline_in core)) most_arrivals
   pub certified : AllAreCertified (run_nodes (outline_in core))
-  pub names : HasPlainNames core.plan.nodes
+  pub names : HasShortNames core.plan.nodes
   pub sound : IsSoundPlan core.plan.nodes
 
 -- how many elements come to a node in all: the rows of its inputs' answers over the accepted rows, and its inputs' punctuations
@@ -125,5 +124,5 @@ elements_to plan files node =
 -- to which more elements come in all than may
 pub record GoesBeyond (plan : Outline) (files : List (List ℕ)) (node : ℕ) : Type 0 where
   pub reaches : ReachesLimit most_arrivals (run_nodes plan) (history_of plan files) node
-  pub counted : IsCounted (run_nodes plan) node
+  pub counted : IsCounted plan.nodes node
   pub many : most_arrivals < elements_to plan files node

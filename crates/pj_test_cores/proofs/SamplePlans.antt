@@ -6,25 +6,21 @@ use Rattle.pj_value.specs.Lists.{In}
 use Rattle.pj_shape.specs.declared.columns.Column.{Column}
 use Rattle.pj_shape.specs.declared.joins.CertStep.{CertStep}
 use Rattle.pj_shape.specs.declared.joins.JoinSpec.{JoinSpec}
+use Rattle.pj_shape.proofs.Tested.{apart_if, fit_if}
 use Rattle.pj_plan.specs.declared.node.Node.{Node as Operation}
 use Rattle.pj_plan.specs.declared.node.Node.TheVariants.{Stream as StreamNode, Join as JoinNode}
 use Rattle.pj_plan.specs.declared.node.Outline.{Outline}
 use Rattle.pj_plan.specs.declared.node.PlanNode.{PlanNode}
 use Rattle.pj_plan.specs.declared.statement.Stated.{Stated}
 use Rattle.pj_plan.specs.Built.{built}
-use Rattle.pj_events.specs.Join.{AreCertified, CertEntry, ClassCol, JoinData, entry_of}
+use Rattle.pj_events.specs.Join.{AreCertified, ClassCol, JoinData}
 use Rattle.pj_laws.specs.HistoryLaws.{AllAreCertified}
 use Rattle.pj_join.specs.Joins.{join_data}
 use Rattle.pj_core.specs.Plans.{nodes_of, run_plan}
-use Rattle.pj_test_cores.specs.SamplePlans.{IsSample, chain_certs, chain_statements, lone_statements, pair_certs, pair_statements, step, tower_certs, tower_statements}
+use Rattle.pj_test_cores.specs.SamplePlans.{IsSample, chain_certs, chain_statements, lone_statements, node, number, pair_certs, pair_join, pair_nodes, pair_statements, step, tower_certs, tower_statements}
+use Rattle.pj_cert.proofs.TestedSteps.{all_verified}
 
 -- ---- plans
-
-abbrev number : List ℕ → Column
-number name = record { name = name; kind = Int }
-
-abbrev node : List ℕ → List Column → Operation → PlanNode
-node name schema operation = record { name = name; schema = schema; node = operation }
 
 abbrev at : ℕ → ℕ → ClassCol
 at input column = record { input = input; column = column }
@@ -34,22 +30,6 @@ outline nodes = record { version = 1; nodes = nodes }
 
 abbrev lone_nodes : List PlanNode
 lone_nodes = node (codes "a") (number (codes "x") ∷ []) (StreamNode []) ∷ []
-
-abbrev items : List Column
-items = number (codes "item") ∷ number (codes "seller") ∷ []
-
-abbrev bids : List Column
-bids = number (codes "bitem") ∷ number (codes "price") ∷ []
-
-abbrev pair_join : JoinSpec
-pair_join = record { inputs = items ∷ bids ∷ []; classes = (at 0 0 ∷ at 1 0 ∷ []) ∷ [] }
-
-abbrev pair_nodes : List PlanNode
-pair_nodes =
-    node (codes "items") items (StreamNode ((true ∷ false ∷ []) ∷ []))
-    ∷ node (codes "bids") bids (StreamNode ((true ∷ false ∷ []) ∷ []))
-    ∷ node (codes "j") (number (codes "item") ∷ number (codes "seller") ∷ number (codes "bitem") ∷ number (codes "price") ∷ []) (JoinNode (0 ∷ 1 ∷ []) pair_join)
-    ∷ []
 
 abbrev a_columns : List Column
 a_columns = number (codes "x") ∷ []
@@ -101,37 +81,12 @@ tower_nodes =
 abbrev pair_data : JoinData
 pair_data = join_data pair_join (((true ∷ false ∷ []) ∷ []) ∷ ((true ∷ false ∷ []) ∷ []) ∷ []) ((step 1 0 ∷ []) ∷ (step 0 0 ∷ []) ∷ [])
 
-apart : (n m : ℕ) → (n ≡ m → ⊥) → ¬ In m (n ∷ [])
-apart n m f (inl e) = f e
-apart n m f (inr h) = absurd h
-
-neither : (n k m : ℕ) → (n ≡ m → ⊥) → (k ≡ m → ⊥) → ¬ In m (n ∷ k ∷ [])
-neither n k m f g (inl e) = f e
-neither n k m f g (inr (inl e)) = g e
-neither n k m f g (inr (inr h)) = absurd h
-
 pair_certified : AreCertified pair_data
-pair_certified zero lt = (
-  (omega arith, apart 0 1 (λ e. omega (arith, e)), tt),
-  (omega arith, refl, ((at 0 0, inl refl, inl refl), tt), tt),
-  λ k below other. reached k below other,
-)
-  where
-    reached : (k : ℕ) → k < 2 → k ≢ 0 → (e : CertEntry) × In e (map (entry_of pair_data.schemes) (step 1 0 ∷ [])) × (e.input ≡ k)
-    reached zero below other = absurd (other refl)
-    reached (suc zero) below other = (record { input = 1; marks = true ∷ false ∷ [] }, inl refl, refl)
-    reached (suc (suc k)) below other = absurd (omega (arith, below))
-pair_certified (suc zero) lt = (
-  (omega arith, apart 1 0 (λ e. omega (arith, e)), tt),
-  (omega arith, refl, ((at 1 0, inr (inl refl), inl refl), tt), tt),
-  λ k below other. reached k below other,
-)
-  where
-    reached : (k : ℕ) → k < 2 → k ≢ 1 → (e : CertEntry) × In e (map (entry_of pair_data.schemes) (step 0 0 ∷ [])) × (e.input ≡ k)
-    reached zero below other = (record { input = 0; marks = true ∷ false ∷ [] }, inl refl, refl)
-    reached (suc zero) below other = absurd (other refl)
-    reached (suc (suc k)) below other = absurd (omega (arith, below))
-pair_certified (suc (suc n)) lt = absurd (omega (arith, lt))
+pair_certified = record {
+  apart = apart_if pair_data.shape.classes refl;
+  fitting = fit_if pair_data.shape.inputs pair_data.schemes refl;
+  each = all_verified pair_data.shape pair_data.schemes pair_data.certs refl 2 refl;
+}
 
 -- the chain
 abbrev chain_data : JoinData
@@ -140,40 +95,11 @@ chain_data =
     ((step 1 0 ∷ step 2 0 ∷ []) ∷ (step 0 0 ∷ step 2 0 ∷ []) ∷ (step 1 1 ∷ step 0 0 ∷ []) ∷ [])
 
 chain_certified : AreCertified chain_data
-chain_certified zero lt = (
-  (omega arith, apart 0 1 (λ e. omega (arith, e)), (omega arith, neither 1 0 2 (λ e. omega (arith, e)) (λ e. omega (arith, e)), tt)),
-  (omega arith, refl, ((at 0 0, inl refl, inl refl), tt), (omega arith, refl, ((at 1 1, inl refl, inl refl), tt), tt)),
-  λ k below other. reached k below other,
-)
-  where
-    reached : (k : ℕ) → k < 3 → k ≢ 0 → (e : CertEntry) × In e (map (entry_of chain_data.schemes) (step 1 0 ∷ step 2 0 ∷ [])) × (e.input ≡ k)
-    reached zero below other = absurd (other refl)
-    reached (suc zero) below other = (record { input = 1; marks = true ∷ false ∷ [] }, inl refl, refl)
-    reached (suc (suc zero)) below other = (record { input = 2; marks = true ∷ [] }, inr (inl refl), refl)
-    reached (suc (suc (suc k))) below other = absurd (omega (arith, below))
-chain_certified (suc zero) lt = (
-  (omega arith, apart 1 0 (λ e. omega (arith, e)), (omega arith, neither 0 1 2 (λ e. omega (arith, e)) (λ e. omega (arith, e)), tt)),
-  (omega arith, refl, ((at 1 0, inr (inl refl), inl refl), tt), (omega arith, refl, ((at 1 1, inl refl, inr (inl refl)), tt), tt)),
-  λ k below other. reached k below other,
-)
-  where
-    reached : (k : ℕ) → k < 3 → k ≢ 1 → (e : CertEntry) × In e (map (entry_of chain_data.schemes) (step 0 0 ∷ step 2 0 ∷ [])) × (e.input ≡ k)
-    reached zero below other = (record { input = 0; marks = true ∷ [] }, inl refl, refl)
-    reached (suc zero) below other = absurd (other refl)
-    reached (suc (suc zero)) below other = (record { input = 2; marks = true ∷ [] }, inr (inl refl), refl)
-    reached (suc (suc (suc k))) below other = absurd (omega (arith, below))
-chain_certified (suc (suc zero)) lt = (
-  (omega arith, apart 2 1 (λ e. omega (arith, e)), (omega arith, neither 1 2 0 (λ e. omega (arith, e)) (λ e. omega (arith, e)), tt)),
-  (omega arith, refl, ((at 2 0, inr (inl refl), inl refl), tt), (omega arith, refl, ((at 1 0, inr (inl refl), inl refl), tt), tt)),
-  λ k below other. reached k below other,
-)
-  where
-    reached : (k : ℕ) → k < 3 → k ≢ 2 → (e : CertEntry) × In e (map (entry_of chain_data.schemes) (step 1 1 ∷ step 0 0 ∷ [])) × (e.input ≡ k)
-    reached zero below other = (record { input = 0; marks = true ∷ [] }, inr (inl refl), refl)
-    reached (suc zero) below other = (record { input = 1; marks = false ∷ true ∷ [] }, inl refl, refl)
-    reached (suc (suc zero)) below other = absurd (other refl)
-    reached (suc (suc (suc k))) below other = absurd (omega (arith, below))
-chain_certified (suc (suc (suc n))) lt = absurd (omega (arith, lt))
+chain_certified = record {
+  apart = apart_if chain_data.shape.classes refl;
+  fitting = fit_if chain_data.shape.inputs chain_data.schemes refl;
+  each = all_verified chain_data.shape chain_data.schemes chain_data.certs refl 3 refl;
+}
 
 -- the join below, and the one above it
 abbrev low_data : JoinData
@@ -183,50 +109,18 @@ abbrev high_data : JoinData
 high_data = join_data high_join (((true ∷ false ∷ []) ∷ (false ∷ true ∷ []) ∷ []) ∷ ((true ∷ []) ∷ []) ∷ []) ((step 1 0 ∷ []) ∷ (step 0 0 ∷ []) ∷ [])
 
 low_certified : AreCertified low_data
-low_certified zero lt = (
-  (omega arith, apart 0 1 (λ e. omega (arith, e)), tt),
-  (omega arith, refl, ((at 0 0, inl refl, inl refl), tt), tt),
-  λ k below other. reached k below other,
-)
-  where
-    reached : (k : ℕ) → k < 2 → k ≢ 0 → (e : CertEntry) × In e (map (entry_of low_data.schemes) (step 1 0 ∷ [])) × (e.input ≡ k)
-    reached zero below other = absurd (other refl)
-    reached (suc zero) below other = (record { input = 1; marks = true ∷ [] }, inl refl, refl)
-    reached (suc (suc k)) below other = absurd (omega (arith, below))
-low_certified (suc zero) lt = (
-  (omega arith, apart 1 0 (λ e. omega (arith, e)), tt),
-  (omega arith, refl, ((at 1 0, inr (inl refl), inl refl), tt), tt),
-  λ k below other. reached k below other,
-)
-  where
-    reached : (k : ℕ) → k < 2 → k ≢ 1 → (e : CertEntry) × In e (map (entry_of low_data.schemes) (step 0 0 ∷ [])) × (e.input ≡ k)
-    reached zero below other = (record { input = 0; marks = true ∷ [] }, inl refl, refl)
-    reached (suc zero) below other = absurd (other refl)
-    reached (suc (suc k)) below other = absurd (omega (arith, below))
-low_certified (suc (suc n)) lt = absurd (omega (arith, lt))
+low_certified = record {
+  apart = apart_if low_data.shape.classes refl;
+  fitting = fit_if low_data.shape.inputs low_data.schemes refl;
+  each = all_verified low_data.shape low_data.schemes low_data.certs refl 2 refl;
+}
 
 high_certified : AreCertified high_data
-high_certified zero lt = (
-  (omega arith, apart 0 1 (λ e. omega (arith, e)), tt),
-  (omega arith, refl, ((at 0 0, inl refl, inl refl), tt), tt),
-  λ k below other. reached k below other,
-)
-  where
-    reached : (k : ℕ) → k < 2 → k ≢ 0 → (e : CertEntry) × In e (map (entry_of high_data.schemes) (step 1 0 ∷ [])) × (e.input ≡ k)
-    reached zero below other = absurd (other refl)
-    reached (suc zero) below other = (record { input = 1; marks = true ∷ [] }, inl refl, refl)
-    reached (suc (suc k)) below other = absurd (omega (arith, below))
-high_certified (suc zero) lt = (
-  (omega arith, apart 1 0 (λ e. omega (arith, e)), tt),
-  (omega arith, refl, ((at 1 0, inr (inl refl), inl refl), tt), tt),
-  λ k below other. reached k below other,
-)
-  where
-    reached : (k : ℕ) → k < 2 → k ≢ 1 → (e : CertEntry) × In e (map (entry_of high_data.schemes) (step 0 0 ∷ [])) × (e.input ≡ k)
-    reached zero below other = (record { input = 0; marks = true ∷ false ∷ [] }, inl refl, refl)
-    reached (suc zero) below other = absurd (other refl)
-    reached (suc (suc k)) below other = absurd (omega (arith, below))
-high_certified (suc (suc n)) lt = absurd (omega (arith, lt))
+high_certified = record {
+  apart = apart_if high_data.shape.classes refl;
+  fitting = fit_if high_data.shape.inputs high_data.schemes refl;
+  each = all_verified high_data.shape high_data.schemes high_data.certs refl 2 refl;
+}
 
 -- ---- samples
 
@@ -267,6 +161,10 @@ sample-of statements certs nodes is all plan e = only-plan statements nodes is (
 
 pub lone_sample : IsSample lone_statements []
 lone_sample = record { spelled = refl; certified = sample-of lone_statements [] lone_nodes refl lone-all }
+
+-- the plan of the pair's statements
+pub pair_is : (plan : Outline) → built pair_statements 9 ≡ Ok plan → plan.nodes ≡ pair_nodes
+pair_is plan e = only-plan pair_statements pair_nodes refl (λ ns. ns ≡ pair_nodes) refl plan e
 
 pub pair_sample : IsSample pair_statements pair_certs
 pair_sample = record { spelled = refl; certified = sample-of pair_statements pair_certs pair_nodes refl pair-all }

@@ -1,1 +1,2 @@
 pub mod SamplePlans
+pub mod Holding

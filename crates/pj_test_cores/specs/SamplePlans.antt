@@ -2,8 +2,13 @@
 use Rattle.std.specs.Prelude.{ℕ, ◌≡◌, Bool, true, false, if◌then◌else◌, List, [], ◌∷◌, map, codes, Ok}
 use Rattle.pj_value.specs.declared.values.Kind.{Kind}
 use Rattle.pj_value.specs.declared.values.Kind.TheVariants.{Int}
+use Rattle.pj_shape.specs.declared.columns.Column.{Column}
 use Rattle.pj_shape.specs.declared.joins.CertStep.{CertStep}
+use Rattle.pj_shape.specs.declared.joins.JoinSpec.{JoinSpec}
+use Rattle.pj_plan.specs.declared.node.Node.{Node as Operation}
+use Rattle.pj_plan.specs.declared.node.Node.TheVariants.{Stream as StreamNode, Join as JoinNode}
 use Rattle.pj_plan.specs.declared.node.Outline.{Outline}
+use Rattle.pj_plan.specs.declared.node.PlanNode.{PlanNode}
 use Rattle.pj_plan.specs.declared.statement.ColumnWord.{ColumnWord}
 use Rattle.pj_plan.specs.declared.statement.Statement.{Statement}
 use Rattle.pj_plan.specs.declared.statement.Statement.TheVariants.{Plan, Stream, Scheme, Join, Output}
@@ -69,6 +74,29 @@ pair_statements =
 
 abbrev pub pair_certs : List (List (List CertStep))
 pair_certs = ((step 1 0 ∷ []) ∷ (step 0 0 ∷ []) ∷ []) ∷ []
+
+abbrev pub node : List ℕ → List Column → Operation → PlanNode
+node name schema operation = record { name = name; schema = schema; node = operation }
+
+abbrev pub number : List ℕ → Column
+number name = record { name = name; kind = Int }
+
+abbrev pub items : List Column
+items = number (codes "item") ∷ number (codes "seller") ∷ []
+
+abbrev pub bids : List Column
+bids = number (codes "bitem") ∷ number (codes "price") ∷ []
+
+abbrev pub pair_join : JoinSpec
+pair_join = record { inputs = items ∷ bids ∷ []; classes = (record { input = 0; column = 0 } ∷ record { input = 1; column = 0 } ∷ []) ∷ [] }
+
+-- the nodes of the plan that the statements make
+abbrev pub pair_nodes : List PlanNode
+pair_nodes =
+    node (codes "items") items (StreamNode ((true ∷ false ∷ []) ∷ []))
+    ∷ node (codes "bids") bids (StreamNode ((true ∷ false ∷ []) ∷ []))
+    ∷ node (codes "j") (number (codes "item") ∷ number (codes "seller") ∷ number (codes "bitem") ∷ number (codes "price") ∷ []) (JoinNode (0 ∷ 1 ∷ []) pair_join)
+    ∷ []
 
 -- ---- a chain of three streams
 

@@ -136,7 +136,7 @@ fn pair_join(alloc: Global) -> Result<Stated, NoMemory>
     join(alloc, inputs, classes)
 }
 
-fn pair(alloc: Global) -> Result<List<Stated>, NoMemory>
+pub(crate) fn pair(alloc: Global) -> Result<List<Stated>, NoMemory>
     ensures { IfOk result (λ s. s ≡ pair_statements) }
 {
     let mut statements = begun(alloc)?;
@@ -222,7 +222,7 @@ fn cert(alloc: Global, steps: &[CertStep]) -> Result<Cert, NoMemory>
     Ok(Cert::of(List::copy_of(alloc, steps)?))
 }
 
-fn pair_certs(alloc: Global) -> Result<List<List<Cert>>, NoMemory>
+pub(crate) fn pair_certs(alloc: Global) -> Result<List<List<Cert>>, NoMemory>
     ensures { IfOk result (λ certs. certs ≡ certs_of_pair) }
 {
     let mut inputs = List::new(alloc);
@@ -336,7 +336,7 @@ fn columns_at(plan: &Plan, stream: u32) -> &[Column]
     plan.schema(node).columns()
 }
 
-fn takes(plan: &Plan, stream: u32, wide: bool) -> bool
+pub(crate) fn takes(plan: &Plan, stream: u32, wide: bool) -> bool
     ensures there { IsTrue result → stream < length (streams_of plan.now.nodes) }
     ensures fits { IsTrue result → kinds_of (stream_columns (streams_in plan.now.nodes) stream) ≡ kinds wide }
 {
@@ -347,7 +347,7 @@ fn takes(plan: &Plan, stream: u32, wide: bool) -> bool
     }
 }
 
-fn row(alloc: Global, wide: bool, n: i64, m: i64) -> Result<Row, NoMemory>
+pub(crate) fn row(alloc: Global, wide: bool, n: i64, m: i64) -> Result<Row, NoMemory>
     ensures { IfOk result (λ r. row_fits (kinds wide) r ≡ true) }
 {
     let mut values = List::new(alloc);
@@ -574,7 +574,7 @@ fn give_next(alloc: Global, core: &mut Core) -> i64 {
     }
 }
 
-fn has_input(plan: &Plan, join: u32, input: u32) -> bool
+pub(crate) fn has_input(plan: &Plan, join: u32, input: u32) -> bool
     ensures there { IsTrue result → join < length plan.now.nodes }
     ensures join { IsTrue result → is_join (node_at plan.now.nodes join) ≡ true }
     ensures input { IsTrue result → input < length (inputs_of (node_at plan.now.nodes join)) }
@@ -615,7 +615,7 @@ fn sweep(core: &mut Core, join: u32, input: u32) -> i64 {
     }
 }
 
-fn number_in(row: &Row, column: usize) -> i64 {
+pub(crate) fn number_in(row: &Row, column: usize) -> i64 {
     match row.get(column) {
         Some(Value::Int(n)) => *n,
         Some(Value::Text(_)) => -2,

@@ -1,5 +1,5 @@
 use Rattle.std.proofs.Common.{◌≡◌, ◌≤◌}
-use Rattle.pj_core.specs.Calls.{ended_of}
+use Rattle.pj_events.specs.Outcomes.{ended_of}
 use Rattle.pj_core.proofs.running.count_ended.Given as goal
 
 abbrev pub invariant-loop-stream : goal.invariant-loop-stream

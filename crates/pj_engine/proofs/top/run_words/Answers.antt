@@ -4,7 +4,7 @@ use Rattle.pj_report.specs.declared.status.Status.TheVariants.{Done, PlanRefused
 use Rattle.pj_report.specs.declared.status.LimitOf.TheVariants.{Plan, Node, File}
 use Rattle.pj_engine.specs.Commands.{command_of, operand, operands}
 use Rattle.pj_feed.specs.Named.{files_named}
-use Rattle.pj_run.specs.PlanNames.{HasPlainNames}
+use Rattle.pj_run.specs.PlanNames.{HasShortNames}
 use Rattle.pj_run.specs.Runs.{IsAnswer, ArePunctuations, AreLawful, AreTallies, outline_in, report_of, outputs_of, run_lines}
 use Rattle.pj_run.specs.Cuts.{files_cut}
 use Rattle.pj_report.specs.Written.{Leaves, flat}
@@ -113,7 +113,7 @@ status-status-requires g c =
     (omega (arith, few, counted)) c.in-Err-run_files.ensures.causes
 
 pub write_status-requires : goal.write_status-requires
-write_status-requires g c = rw c.stop_name.ensures (stop_name_short c.plan.result.now c.status-status.result (subst HasPlainNames (sym (c.plan.ensures ∙ ap (λ (p : RunPlan). p.nodes) c.in-Err-run_files.ensures.plan)) c.in-Ok.ensures.fresh.names))
+write_status-requires g c = rw c.stop_name.ensures (stop_name_short c.plan.result.now c.status-status.result (subst HasShortNames (sym (c.plan.ensures ∙ ap (λ (p : RunPlan). p.nodes) c.in-Err-run_files.ensures.plan)) c.in-Ok.ensures.fresh.names))
 
 pub returns-in-Ok-clause-stopped_run : goal.returns-in-Ok-clause-stopped_run
 returns-in-Ok-clause-stopped_run g c = λ all t.

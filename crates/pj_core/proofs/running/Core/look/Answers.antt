@@ -1,9 +1,9 @@
 use Rattle.std.proofs.Common.{ap, ap₂, length, refl, reverse, ◌∙◌, arith}
 use Rattle.pj_plan.specs.Nodes.{streams_of}
-use Rattle.pj_core.specs.Calls.{ended_of}
 use Rattle.pj_core.specs.Plans.{run_plan}
 use Rattle.pj_core.proofs.Ended.{ended-reversed}
 use Rattle.pj_core.proofs.Words.{few-now, few-streams, is-look-now}
+use Rattle.pj_events.specs.Outcomes.{ended_of}
 use Rattle.pj_core.proofs.running.Core.look.Goals as goal
 
 pub overflow_cast-streams : goal.overflow_cast-streams

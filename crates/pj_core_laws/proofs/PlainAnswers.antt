@@ -9,7 +9,7 @@ use Rattle.std.proofs.lemmas.Simd.{map-map}
 use Rattle.pj_value.specs.declared.values.Value.{Value}
 use Rattle.pj_shape.specs.declared.columns.Column.{Column}
 use Rattle.pj_shape.specs.declared.joins.CertStep.{CertStep}
-use Rattle.pj_pattern.specs.Columns.{matches_row, others_wild, widen_of}
+use Rattle.pj_pattern.specs.Columns.{matches_row, others_wild, widen_of, picked_patterns}
 use Rattle.pj_plan.specs.declared.node.Node.{Node as Operation}
 use Rattle.pj_plan.specs.declared.node.Node.TheVariants.{Stream as StreamNode, Select as SelectNode, Project as ProjectNode, Union as UnionNode, Join as JoinNode, Group as GroupNode}
 use Rattle.pj_plan.specs.declared.node.PlanNode.{PlanNode}
@@ -18,14 +18,14 @@ use Rattle.pj_plan.specs.Nodes.{inputs_of, is_stream, numbers_from, streams_of}
 use Rattle.pj_scheme.specs.Derived.{inputs_schemes, schemes_of}
 use Rattle.pj_events.specs.Patterns.{Pattern}
 use Rattle.pj_events.specs.Join.{JoinData, arities}
-use Rattle.pj_events.specs.Operators.{group_rows, picked_cells, picked_patterns}
-use Rattle.pj_events.specs.Plan.{operator_answer, answers_from, nowhere}
+use Rattle.pj_events.specs.Operators.{group_rows, picked_cells}
+use Rattle.pj_events.specs.Plan.{operator_answer, answers_from, nowhere, operator_at}
 use Rattle.pj_events.specs.History.{streams_of as streams_among}
-use Rattle.pj_events.specs.Outcomes.{answers_of as answers_over, list_at, place_in}
+use Rattle.pj_events.specs.Outcomes.{answers_of as answers_over, list_at, place_in, counts}
 use Rattle.pj_events.specs.Punctuations.{group_puncts, join_puncts, operator_puncts, project_puncts, puncts_answers as all_puncts_over, puncts_at, puncts_from}
-use Rattle.pj_algebra.specs.Answers.{left_behind, list_of, node_puncts, node_rows, nodes_give, puncts_by_node, rows_by_node, widened, widened_from}
+use Rattle.pj_algebra.specs.Answers.{left_behind, list_of, node_puncts, node_rows, nodes_give, puncts_by_node, rows_by_node, widened, widened_from, is_counted}
 use Rattle.pj_laws.specs.Reaching.{counted_in}
-use Rattle.pj_core.specs.Answers.{AnswersArePlain, CountsArePlain, PunctuationsArePlain}
+use Rattle.pj_core_laws.specs.Answers.{AnswersArePlain, CountsArePlain, PunctuationsArePlain, CountedArePlain}
 use Rattle.pj_core.specs.Plans.{RunPlan, certs_behind, nodes_of, nodes_with, operator_of}
 use Rattle.pj_join.specs.Joins.{join_data}
 use Rattle.pj_core.proofs.Planned.{nodes-long}
@@ -116,7 +116,7 @@ puncts-behind schemes certs came n before lists (node ∷ nodes) long arrive =
 
 -- ---- the plan
 
-same-streams : (plan : RunPlan) → streams_among (nodes_of plan) ≡ streams_of plan.nodes
+pub same-streams : (plan : RunPlan) → streams_among (nodes_of plan) ≡ streams_of plan.nodes
 same-streams plan = streams-with (schemes_of plan.nodes) plan.certs 0 plan.nodes
 
 rows-plain : (plan : RunPlan) (lists : List (List (List Value))) → answers_over (nodes_of plan) lists ≡ rows_by_node plan.nodes lists
@@ -165,3 +165,21 @@ counts-are-plain plan rows puncts node =
     ap₂ (λ (rs : List (List (List Value))) (ps : List (List (List Pattern))). counted_in rs ps (get_or (nodes_of plan) node nowhere).inputs) (rows-plain plan rows) (puncts-plain plan puncts)
     ∙ ap (counted_in (rows_by_node plan.nodes rows) (puncts_by_node plan.nodes puncts)) (inputs-same (schemes_of plan.nodes) plan.certs plan.nodes node)
     ∙ counted-same (rows_by_node plan.nodes rows) (puncts_by_node plan.nodes puncts) (inputs_of (node_at plan.nodes node))
+
+-- ---- which nodes count
+
+one-counts : (schemes : List (List (List Bool))) (certs : List (List CertStep)) (columns : List Column) (operation : Operation) → counts (operator_of schemes certs columns operation) ≡ is_counted operation
+one-counts schemes certs columns (StreamNode stated) = refl
+one-counts schemes certs columns (SelectNode input test) = refl
+one-counts schemes certs columns (ProjectNode input kept) = refl
+one-counts schemes certs columns (UnionNode inputs) = refl
+one-counts schemes certs columns (JoinNode inputs spec) = refl
+one-counts schemes certs columns (GroupNode input spec) = refl
+
+all-count : (schemes : List (List (List Bool))) (certs : List (List (List CertStep))) (nodes : List PlanNode) (n : ℕ) → counts (operator_at (nodes_with schemes certs nodes) n) ≡ is_counted (node_at nodes n)
+all-count schemes certs [] n = refl
+all-count schemes certs (node ∷ nodes) zero = one-counts schemes (get_or certs 0 []) node.schema node.node
+all-count schemes certs (node ∷ nodes) (suc n) = all-count schemes (certs_behind node certs) nodes n
+
+pub counted-are-plain : (plan : RunPlan) → CountedArePlain plan
+counted-are-plain plan node = all-count (schemes_of plan.nodes) plan.certs plan.nodes node

@@ -2,10 +2,12 @@
 use Rattle.std.specs.Prelude.{◌≡◌, ℕ, List}
 use Rattle.pj_value.specs.declared.values.Value.{Value}
 use Rattle.pj_events.specs.Patterns.{Pattern}
-use Rattle.pj_events.specs.Outcomes.{answer_of as answer_over, answers_of as answers_over}
+use Rattle.pj_events.specs.Plan.{operator_at}
+use Rattle.pj_events.specs.Outcomes.{answer_of as answer_over, answers_of as answers_over, counts}
 use Rattle.pj_events.specs.Punctuations.{puncts_answer as puncts_over, puncts_answers as all_puncts_over}
 use Rattle.pj_laws.specs.Reaching.{elements_to as elements_over}
-use Rattle.pj_algebra.specs.Answers.{answer_of, elements_to, punctuations_of, puncts_by_node, rows_by_node}
+use Rattle.pj_plan.specs.Canonical.{node_at}
+use Rattle.pj_algebra.specs.Answers.{answer_of, elements_to, is_counted, punctuations_of, puncts_by_node, rows_by_node}
 use Rattle.pj_core.specs.Plans.{RunPlan, nodes_of}
 
 -- The answer of a plan over the nodes that it is run by is that over its own nodes, and so are the rows of each node: operators,
@@ -22,3 +24,7 @@ pub record PunctuationsArePlain (plan : RunPlan) (lists : List (List (List Patte
 -- and so is the number of elements that come to a node in all
 abbrev pub CountsArePlain : RunPlan → List (List (List Value)) → List (List (List Pattern)) → Type 0
 CountsArePlain plan rows puncts = (node : ℕ) → elements_over (nodes_of plan) rows puncts node ≡ elements_to plan.nodes rows puncts node
+
+-- the joins and groups among its own nodes are those that count what reaches them
+abbrev pub CountedArePlain : RunPlan → Type 0
+CountedArePlain plan = (node : ℕ) → counts (operator_at (nodes_of plan) node) ≡ is_counted (node_at plan.nodes node)

@@ -1,5 +1,0 @@
-use Rattle.pj_core.proofs.UnderWay.{opens-under_way}
-use Rattle.pj_core.proofs.laws.probes_under_way.Goals as goal
-
-pub returns : goal.returns
-returns c = opens-under_way

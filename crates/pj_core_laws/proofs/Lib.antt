@@ -1,0 +1,4 @@
+pub mod PlainAnswers
+pub mod UnderWay
+pub mod Settles
+pub mod Allowed
