@@ -23,12 +23,12 @@ use Rattle.pj_events.specs.History.{IsLegal, IsOn, begun, nodes_from, reached_of
 use Rattle.pj_events.specs.Outcomes.{results_of}
 use Rattle.pj_events.specs.OneThread.{arrival_of, plain}
 use Rattle.pj_laws.proofs.NextProbe.{none-is-pending}
-use Rattle.pj_join.specs.declared.found.Found.{Found}
+use Rattle.pj_probe.specs.declared.probe.Found.{Found}
 use Rattle.pj_core.specs.Calls.{CoreTakes, HasArrived, HasGiven, HasSwept, IsCause, IsGiveCause, IsJoinInput, IsLookAt, IsOpen, IsRefused, arriving_of}
 use Rattle.pj_core.specs.Cores.{CoreState, Notes, nodes_in}
 use Rattle.pj_core.specs.Plans.{nodes_of}
 use Rattle.pj_core.proofs.Planned.{planned}
-use Rattle.pj_core.proofs.UnderWay.{opens-under_way}
+use Rattle.pj_core_laws.proofs.UnderWay.{opens-under_way}
 use Rattle.pj_turn.specs.History.{Did, Ready}
 use Rattle.pj_turn.proofs.Lists.{own_seen}
 use Rattle.std.specs.declared.snapshot.Snapshot.{Snapshot}
@@ -159,7 +159,7 @@ module _ (x : Shared) where
       → Did core_meaning looks n log (shared x core) look (shared x core)
   look-did core look is made n seen log r =
       let S : HubStands core log = r.standing in
-      let streams = ap length (Rattle.pj_hub.proofs.Plans.streams-are core.plan) in
+      let streams = ap length (Rattle.pj_core_laws.proofs.PlainAnswers.same-streams core.plan) in
       did-made x core core log n (Looked look.pending) 0 S
       (record {
         plan = is.notes.plan;
@@ -183,7 +183,7 @@ module _ (x : Shared) where
               taken = t.taken;
               stored = t.stored;
               waiting = t.waiting;
-              ended = t.ended ∙ ap (λ (k : ℕ). Rattle.pj_seats.specs.Answers.ended_of k (reached_of false (nodes_in core) log).closed) (sym streams);
+              ended = t.ended ∙ ap (λ (k : ℕ). Rattle.pj_events.specs.Outcomes.ended_of k (reached_of false (nodes_in core) log).closed) (sym streams);
             };
       })
 

@@ -23,16 +23,13 @@ use Rattle.pj_core.specs.Plans.{RunPlan, nodes_of, operator_of}
 use Rattle.pj_core.proofs.Frames.{certs_at, operator-is}
 use Rattle.pj_core.proofs.Planned.{nodes-long}
 use Rattle.pj_core.proofs.Streams.{columns_there, number_below, stream-number, stream-there, streams-with}
+use Rattle.pj_core_laws.proofs.PlainAnswers.{same-streams}
 use Rattle.pj_laws.specs.Seats.{HasInput, IsInputOf}
 
 -- ---- streams
 
--- the numbers of the streams are those of the plan
-pub streams-are : (plan : RunPlan) → streams_among (nodes_of plan) ≡ streams_of plan.nodes
-streams-are plan = streams-with (schemes_of plan.nodes) plan.certs 0 plan.nodes
-
 pub stream-below : (plan : RunPlan) (s : ℕ) → s < length (streams_among (nodes_of plan)) → s < length (streams_of plan.nodes)
-stream-below plan s lt = subst (λ (ns : List ℕ). s < length ns) (streams-are plan) lt
+stream-below plan s lt = subst (λ (ns : List ℕ). s < length ns) (same-streams plan) lt
 
 stream-schema : (schemes : List (List (List Bool))) (certs : List (List CertStep)) (columns : List Column) (operation : Operation) → is_stream operation ≡ true → schema_of (operator_of schemes certs columns operation) ≡ columns
 stream-schema schemes certs columns (StreamNode stated) t = refl

@@ -7,7 +7,7 @@ use Rattle.pj_events.specs.declared.events.Event.TheVariants.{Arrive, Give as Gi
 use Rattle.pj_events.specs.declared.events.Look.{Look}
 use Rattle.pj_events.specs.declared.events.Out.{Out}
 use Rattle.pj_events.specs.declared.events.Stop.{Stop}
-use Rattle.pj_join.specs.declared.found.Found.{Found}
+use Rattle.pj_probe.specs.declared.probe.Found.{Found}
 use Rattle.pj_laws.specs.Seats.{HubPlan, made_by, seated}
 use Rattle.pj_seats.specs.Answers.{Answers, Goes, HandsOut, IsLook, Removes, Turned, call_entry, closing_of}
 use Rattle.pj_seats.specs.Probes.{Takes, take_entry}

@@ -20,37 +20,27 @@ use Rattle.pj_laws.specs.Seats.{HasInput, IsInputOf}
 use Rattle.pj_core.specs.Plans.{RunPlan, nodes_of, operator_of}
 use Rattle.pj_core.proofs.Frames.{certs_at, operator-is}
 use Rattle.pj_core.proofs.Planned.{nodes-long}
-use Rattle.pj_hub.proofs.Plans.{schema-is, streams-are}
+use Rattle.pj_core_laws.proofs.PlainAnswers.{same-streams}
+use Rattle.pj_core_laws.proofs.Allowed.{input-of}
+use Rattle.pj_hub.proofs.Plans.{schema-is}
 use Rattle.pj_test_threads.specs.Auctions.{HasJoin, IsAuction, IsAuctionPlan}
 
 -- ---- the plan
 
--- an input of a join
-join-input : (nodes : List PlanNode) (schemes : List (List (List Bool))) (certs : List (List CertStep)) (columns : List Column) (operation : Operation) (input : ℕ) → IsSoundOperator nodes columns operation
-    → is_join operation ≡ true → input < length (inputs_of operation) → HasInput (operator_of schemes certs columns operation) input
-join-input nodes schemes certs columns (JoinNode ins spec) input s j lt =
-    let many : inputs (join_data spec (inputs_schemes schemes ins) certs) ≡ length ins = length-map spec.inputs length ∙ ap length s.1 ∙ length-map ins (node_schema nodes) in
-    omega (arith, lt, many)
-join-input nodes schemes certs columns (StreamNode stated) input s j lt = absurd (false≢true j)
-join-input nodes schemes certs columns (SelectNode i test) input s j lt = absurd (false≢true j)
-join-input nodes schemes certs columns (ProjectNode i kept) input s j lt = absurd (false≢true j)
-join-input nodes schemes certs columns (UnionNode ins) input s j lt = absurd (false≢true j)
-join-input nodes schemes certs columns (GroupNode i spec) input s j lt = absurd (false≢true j)
-
-input-of : (plan : RunPlan) → IsSoundPlan plan.nodes → (join input : ℕ) → HasJoin plan.nodes join → input < 2 → IsInputOf (nodes_of plan) join input
-input-of plan sound join input has lt = (
+has-input : (plan : RunPlan) → IsSoundPlan plan.nodes → (join input : ℕ) → HasJoin plan.nodes join → input < 2 → IsInputOf (nodes_of plan) join input
+has-input plan sound join input has lt = (
   (let long = nodes-long plan in let there = has.there in omega (arith, there, long)),
   subst (λ (o : Operator). HasInput o input) (sym (operator-is (schemes_of plan.nodes) plan.certs plan.nodes join has.there))
-      (join-input plan.nodes (schemes_of plan.nodes) (certs_at plan.nodes plan.certs join) (get_or plan.nodes join no_node).schema (get_or plan.nodes join no_node).node input (sound.each join has.there).operator has.is (let two = has.two in omega (arith, lt, two))),
+      (input-of plan.nodes (schemes_of plan.nodes) (certs_at plan.nodes plan.certs join) (get_or plan.nodes join no_node).schema (get_or plan.nodes join no_node).node input (sound.each join has.there).operator has.is (let two = has.two in omega (arith, lt, two))),
 )
 
 pub auction-of : (plan : RunPlan) (limit : ℕ) → IsSoundPlan plan.nodes → IsAuctionPlan plan.nodes → IsAuction (record { nodes = nodes_of plan; limit = limit; trace = plan.trace })
 auction-of plan limit sound is = record {
-  two = ap length (streams-are plan) ∙ is.two;
+  two = ap length (same-streams plan) ∙ is.two;
   items = ap kinds_of (schema-is plan 0 (let two = is.two in omega (arith, two))) ∙ is.items;
   bids = ap kinds_of (schema-is plan 1 (let two = is.two in omega (arith, two))) ∙ is.bids;
-  first = input-of plan sound 2 0 is.join (omega arith);
-  second = input-of plan sound 2 1 is.join (omega arith);
+  first = has-input plan sound 2 0 is.join (omega arith);
+  second = has-input plan sound 2 1 is.join (omega arith);
 }
 
 -- what holds of the one holds of the other

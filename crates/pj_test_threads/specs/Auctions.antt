@@ -14,7 +14,7 @@ use Rattle.pj_plan.specs.declared.node.PlanNode.{PlanNode}
 use Rattle.pj_events.specs.History.{streams_of as streams_among}
 use Rattle.pj_events.specs.Outcomes.{results_of}
 use Rattle.pj_events.specs.declared.events.Entry.{Entry}
-use Rattle.pj_join.specs.declared.found.Found.{Found}
+use Rattle.pj_probe.specs.declared.probe.Found.{Found}
 use Rattle.pj_laws.specs.HistoryLaws.{schema_at}
 use Rattle.pj_laws.specs.Seats.{Holds, HubPlan, IsInputOf, made_by}
 
