@@ -10,7 +10,7 @@ use Rattle.pj_shape.specs.declared.columns.Instance.{Instance}
 use Rattle.pj_shape.specs.declared.joins.ClassCol.{ClassCol}
 use Rattle.pj_shape.specs.declared.joins.JoinSpec.{JoinSpec}
 use Rattle.pj_shape.specs.Columns.{kinds_of}
-use Rattle.pj_shape.specs.Joining.{Joins, Part, has_column, value_at, parts_on}
+use Rattle.pj_shape.specs.Joining.{Joins, has_column, value_at, parts_on}
 use Rattle.pj_pattern.specs.Fitting.{row_fits}
 use Rattle.pj_shape.specs.Sets.{touches}
 use Rattle.pj_shape.specs.Instances.{MatchesInstance}

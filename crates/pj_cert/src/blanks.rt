@@ -4,7 +4,7 @@ ghost use Rattle.pj_shape.specs.Columns.{kinds_of};
 ghost use Rattle.pj_shape.specs.Sound.{IsSoundSpec, FitSchemes};
 ghost use Rattle.pj_graph.specs.Reaching.{AreFewSchemes};
 ghost use Rattle.pj_pattern.specs.Fitting.{row_fits};
-ghost use Rattle.pj_cert.specs.Instances.{AreInstances, blanks, blank_instances_of, blank_instances_from, blank_input, blank_ones as ones_of, constants_of, marked};
+ghost use Rattle.pj_cert.specs.Instances.{AreInstances, blanks, blank_instances_of, blank_input, blank_ones as ones_of, constants_of, marked};
 
 use crate::escaping::blank;
 use pj_graph::is_among;

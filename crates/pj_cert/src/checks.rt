@@ -1,13 +1,12 @@
 // Whether a set of inputs of a join is closed.
 ghost use Rattle.std.specs.Prelude.{◌≡◌, ◌<◌, ◌≤◌, ◌↔◌, IsTrue, All, length};
 ghost use Rattle.pj_shape.specs.Sound.{IsSoundSpec, FitSchemes};
-ghost use Rattle.pj_shape.specs.Joining.{has_column};
 ghost use Rattle.pj_shape.specs.Sets.{IsClosed, is_bound as bound, are_bound as all_bound};
 ghost use Rattle.pj_cert.specs.Tests.{is_met as met, any_usable as some_usable, closed_from, passes};
 ghost use Rattle.pj_value.specs.Lists.{has};
 
 use pj_graph::{is_among, touches};
-use pj_shape::{ClassCol, JoinSpec, Scheme, Schemes};
+use pj_shape::{ClassCol, JoinSpec, Scheme, Schemes, has_column};
 use pj_value::List;
 
 /// Whether these inputs are a closed set: no other input has a scheme all of whose marked columns lie in classes with a
@@ -84,14 +83,5 @@ fn is_met(classes: &[List<ClassCol>], known: &[u32], at: ClassCol, mark: bool) -
 fn is_bound(classes: &[List<ClassCol>], known: &[u32], at: ClassCol) -> bool
     ensures { result ≡ bound (has known.now) classes.now at.input at.column }
 {
-    classes.iter().any(|class| holds(class.as_slice(), at) && touches(class.as_slice(), known))
-}
-
-/// Whether the class has the column.
-pub(crate) fn holds(class: &[ClassCol], at: ClassCol) -> bool
-    ensures { result ≡ has_column class.now at }
-{
-    class
-        .iter()
-        .any(|c| c.input == at.input && c.column == at.column)
+    classes.iter().any(|class| has_column(class.as_slice(), at) && touches(class.as_slice(), known))
 }

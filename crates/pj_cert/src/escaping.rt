@@ -11,10 +11,9 @@ ghost use Rattle.pj_cert.specs.Escaping.{fresh, other_value as value_of_other, r
 ghost use Rattle.pj_cert.specs.Laws.{schema_of};
 ghost use Rattle.pj_value.specs.Lists.{has};
 
-use crate::checks::holds;
 use crate::fresh::{fresh_number, fresh_text};
 use pj_graph::touches;
-use pj_shape::{ClassCol, Instance, JoinSpec, Schema, Schemes};
+use pj_shape::{ClassCol, Instance, JoinSpec, Schema, Schemes, has_column};
 use pj_value::{Kind, List, NoMemory, Row, SharedText, Value};
 use std::alloc::Global;
 use std::marker::Model;
@@ -176,7 +175,7 @@ fn class_with<'a>(
     ensures { result.now ≡ class_of classes.now at }
 {
     for class in classes {
-        if holds(class.as_slice(), at) {
+        if has_column(class.as_slice(), at) {
             return class.as_slice();
         }
     }

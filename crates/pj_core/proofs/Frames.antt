@@ -14,7 +14,6 @@ use Rattle.pj_plan.specs.Canonical.{no_node, node_schema}
 use Rattle.pj_core.specs.Parts.{plan_node}
 use Rattle.pj_plan.specs.Nodes.{inputs_of, parent_of}
 use Rattle.pj_plan.specs.Sound.{IsSoundAgg, IsSoundOperator, IsSoundPlan, agg_kind_at, kind_at}
-use Rattle.pj_shape.specs.Columns.{kinds_of}
 use Rattle.pj_shape.specs.declared.groups.Agg.{Agg}
 use Rattle.pj_shape.specs.declared.groups.Agg.TheVariants.{Count, Sum, Min, Max}
 use Rattle.pj_shape.proofs.KindsOf.{kinds_length}

@@ -1,11 +1,10 @@
 -- The steps of its own that a join of a core makes.
-use Rattle.std.proofs.Common.{ℕ, ◌<◌, Bool, true, false, not, ◌&&◌, ◌||◌, List, [], ◌∷◌, ◌++◌, ◌≡◌, Some, None, map, filter, length, eqb, ltb, refl, sym, ap, ap₂, ◌∙◌, subst, inl, arith, append-nil}
-use Rattle.std.specs.List.{list_all}
+use Rattle.std.proofs.Common.{ℕ, ◌<◌, Bool, true, false, List, [], ◌∷◌, ◌++◌, ◌≡◌, Some, None, map, length, refl, sym, ap, ap₂, ◌∙◌, subst, inl, arith, append-nil}
 use Rattle.pj_events.specs.declared.events.Entry.{Entry}
 use Rattle.pj_events.specs.declared.events.Event.{Event}
 use Rattle.pj_events.specs.declared.events.Out.{Out}
-use Rattle.pj_events.specs.Join.{AreCertified, AreLegalSteps, IsAllowed, JoinData, JoinState, Step, Sweep, Take, TupleAt, Give, covered, hands_up, has, inputs, is_held, joined, kept, need_of, older, older_puncts, results, run, start, step}
-use Rattle.pj_events.specs.KeptState.{KeptState, kept_of, kept_step, lacking, swept}
+use Rattle.pj_events.specs.Join.{AreCertified, AreLegalSteps, IsAllowed, JoinData, JoinState, Step, Sweep, Take, Give, hands_up, has, inputs, joined, kept, results, run, start, step}
+use Rattle.pj_events.specs.KeptState.{KeptState, kept_of, kept_step, lacking}
 use Rattle.pj_events.specs.Plan.{Act, IsOwn, IsStepAllowed, MayAct, Operator, Join, Node, Own, after as after_local, hands, operator_at}
 use Rattle.pj_events.specs.declared.events.Event.TheVariants.{Take as Taken, Give as Given, Sweep as Swept}
 use Rattle.pj_events.specs.History.{IsEntryAllowed, IsLegal, IsOn, data_in, nodes_from, reached_of, state_in}
@@ -21,7 +20,7 @@ use Rattle.pj_events.specs.Outcomes.{origin_of, results_of}
 use Rattle.pj_laws.proofs.ClimbingEvents.{events-climb, leaves-nodes}
 use Rattle.pj_laws.proofs.HistoryAnswers.{adds-entry, grows-legally, trace-adds-notes}
 use Rattle.pj_laws.proofs.ClimbingKept.{stored_of}
-use Rattle.pj_join_laws.proofs.Stand.{lacking-cons, low-kept, swept-same}
+use Rattle.pj_join_laws.proofs.Stand.{kept-own}
 use Rattle.pj_join.specs.Joins.{JoinView, StandsFor as JoinStandsFor, after}
 use Rattle.pj_operator.specs.declared.cell.Cell.{Cell}
 use Rattle.pj_operator.specs.declared.cell.Work.{Work}
@@ -34,23 +33,6 @@ use Rattle.pj_core.proofs.Events.{KeepsPeak, Steps, steps-at}
 use Rattle.pj_core.proofs.Stands.{are, below-at, join-start, join-steps, long-now}
 
 -- ---- on what is kept
-
--- a step of its own on what is kept keeps what is to be kept after it
-pub kept-own : (spec : JoinData) (s : JoinState) (e : Step) → IsOwn e → kept_step spec (kept_of s) e ≡ kept_of (step spec s e)
-kept-own spec s (Take u) o =
-    λ i. record { next = s.next; stored = s.stored; puncts = s.puncts; pending = sym (lacking-cons u s.taken s.tuples) i; opened = lacking s.given s.tuples; waiting = s.waiting }
-kept-own spec s (Give u) o =
-    λ i. record { next = s.next; stored = s.stored; puncts = s.puncts; pending = lacking s.taken s.tuples; opened = sym (lacking-cons u s.given s.tuples) i; waiting = s.waiting }
-kept-own spec s (Sweep input) o =
-    ap (λ (xs : List TupleAt). record {
-      next = s.next;
-      stored = xs;
-      puncts = s.puncts;
-      pending = lacking s.taken s.tuples;
-      opened = lacking s.given s.tuples;
-      waiting = filter (λ p. not (eqb p.input input) || is_held xs p) s.waiting;
-    }) (swept-same spec s input)
-kept-own spec s e o = absurd o
 
 -- the operator of a join
 pub record IsJoinWith (join : JoinView) (operator : Operator) : Type 0 where

@@ -21,7 +21,7 @@ use Rattle.pj_plan.specs.Canonical.{no_node, node_schema}
 use Rattle.pj_plan.specs.Sound.{AreDistinct as AreApart, IsSoundOperator, IsSoundPlan, agg_kind_at, all_inputs as inputs_in, kind_at}
 use Rattle.pj_scheme.specs.Derived.{schemes_of}
 use Rattle.pj_events.specs.Join.{AreDistinct, has}
-use Rattle.pj_events.specs.Plan.{ArePlanned, IsWellMade, operator_at, operator_width}
+use Rattle.pj_events.specs.Plan.{ArePlanned, IsWellMade, operator_width}
 use Rattle.pj_events.specs.Outcomes.{place_in}
 use Rattle.pj_laws.specs.Climb.{Above, HasOneTop, IsTree, above_from, all_inputs, first_above}
 use Rattle.pj_laws.proofs.Trees.{planned-tree}

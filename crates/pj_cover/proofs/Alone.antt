@@ -12,7 +12,8 @@ use Rattle.pj_value.proofs.Orders.{equal_itself, same_if_equal}
 use Rattle.pj_value.specs.Options.{is_value}
 use Rattle.pj_pattern.specs.declared.pattern.Form.TheVariants.{Wild, Empty, Constant as Fixed, Range, Members}
 use Rattle.pj_events.specs.Patterns.{Pattern, all_wild, covers, is_wild, matches_value}
-use Rattle.pj_cover.specs.Prints.{cell_at, constant_in}
+use Rattle.pj_pattern.specs.Patterns.{constant_in}
+use Rattle.pj_cover.specs.Prints.{cell_at}
 use Rattle.pj_cover.specs.Stores.{AllAbove, AreRising, IsAbove}
 use Rattle.pj_cover.specs.Indexed.{IsCovering, IsFiled, IsUnfiled, first_covering, is_below, least}
 use Rattle.pj_cover.specs.Numbers.{HasNone, are_wild, constant, has_only, is_alone, number_of, numbers_in, numbers_with, same_constant, told, with_last}

@@ -12,7 +12,8 @@ use Rattle.pj_pattern.specs.Patterns.{covers_pattern}
 use Rattle.pj_pattern.proofs.Covering.{covered}
 use Rattle.pj_events.specs.Patterns.{Pattern, covers, covers_punct, is_wild, matches_row, matches_value}
 use Rattle.pj_cover.specs.Givens.{cell_of, marked}
-use Rattle.pj_cover.specs.Prints.{cell_at, constant_in, constants_of, print_from, print_of, row_cells, with_cell}
+use Rattle.pj_pattern.specs.Patterns.{constant_in}
+use Rattle.pj_cover.specs.Prints.{cell_at, constants_of, print_from, print_of, row_cells, with_cell}
 use Rattle.pj_cover.specs.Indexed.{fits_mark, fits_marks, is_constant}
 use Rattle.pj_shape.specs.Instances.{instance_of}
 

@@ -6,7 +6,7 @@ use Rattle.pj_value.specs.Values.{value_eq}
 use Rattle.pj_value.specs.Options.{is_value}
 use Rattle.pj_pattern.specs.declared.pattern.Form.TheVariants.{Wild, Empty, Constant as Fixed, Range, Members}
 use Rattle.pj_events.specs.Patterns.{Pattern, is_wild}
-use Rattle.pj_cover.specs.Prints.{constant_in}
+use Rattle.pj_pattern.specs.Patterns.{constant_in}
 use Rattle.pj_cover.specs.Numbers.{HasNone, are_wild, first_filled, has_only, is_alone, number_of, numbers_with, with_last}
 use Rattle.pj_cover.specs.declared.store.NumberedPunct.{NumberedPunct}
 

@@ -5,7 +5,8 @@ use Rattle.pj_value.specs.Values.{value_eq}
 use Rattle.pj_value.specs.declared.values.Value.{Value}
 use Rattle.pj_value.specs.Options.{is_value}
 use Rattle.pj_events.specs.Patterns.{Pattern, is_wild}
-use Rattle.pj_cover.specs.Prints.{constant_in, with_value}
+use Rattle.pj_print.specs.Prints.{with_value}
+use Rattle.pj_pattern.specs.Patterns.{constant_in}
 use Rattle.pj_cover.specs.declared.store.NumberedPunct.{NumberedPunct}
 use Rattle.pj_cover.specs.declared.numbers.Constant.{Constant}
 use Rattle.pj_cover.specs.declared.numbers.NumberLists.{NumberLists}

@@ -1,21 +1,8 @@
 -- Prints of constants, by which punctuations with constants are found.
-use Rattle.std.specs.Prelude.{ℕ, zero, suc, ◌+◌, ◌*◌, ◌%◌, ◌^◌, Bool, true, false, List, [], ◌∷◌, Option, Some, None, length, map, nat_eq, if◌then◌else◌, unsigned_abs, int_lt, pos}
+use Rattle.std.specs.Prelude.{ℕ, zero, suc, Bool, true, false, List, [], ◌∷◌, Option, Some, None, length, map, nat_eq, if◌then◌else◌}
 use Rattle.pj_value.specs.declared.values.Value.{Value}
-use Rattle.pj_value.specs.declared.values.Value.TheVariants.{Int, Text}
-use Rattle.pj_pattern.specs.declared.pattern.Form.TheVariants.{Wild, Empty, Constant, Range, Members}
-use Rattle.pj_events.specs.Patterns.{Pattern}
-
-abbrev pub next_print : ℕ → ℕ → ℕ
-next_print print n = ((print * 1099511628211) % 2 ^ 64 + n) % 2 ^ 64
-
-abbrev pub with_bytes : ℕ → List ℕ → ℕ
-with_bytes print [] = print
-with_bytes print (byte ∷ bytes) = with_bytes (next_print print byte) bytes
-
--- numbers and their negatives have different ones
-abbrev pub with_value : ℕ → Value → ℕ
-with_value print (Int n) = next_print (if int_lt n (pos 0) then next_print print 1 else print) (unsigned_abs n)
-with_value print (Text bytes) = with_bytes print bytes
+use Rattle.pj_print.specs.Prints.{with_value}
+use Rattle.pj_pattern.specs.Patterns.{Pattern, constant_in}
 
 -- one cell more, where it is marked and has a value
 abbrev pub with_cell : ℕ → Bool → Option Value → ℕ
@@ -41,13 +28,6 @@ cell_at (cell ∷ cells) (suc column) = cell_at cells column
 -- the cells of a row
 abbrev pub row_cells : List Value → List (Option Value)
 row_cells row = map Some row
-
-abbrev pub constant_in : Pattern → Option Value
-constant_in Wild = None
-constant_in Empty = None
-constant_in (Constant c) = Some c
-constant_in (Range low high) = None
-constant_in (Members ms) = None
 
 -- the constants of a punctuation, each in its column
 abbrev pub constants_of : List Pattern → List (Option Value)

@@ -1,16 +1,14 @@
 // Rows that are lent, and what they have in the classes of a join.
-ghost use Rattle.std.specs.Prelude.{◌≡◌, ◌<◌, ◌≤◌, ◌+◌, ◌++◌, ◌∷◌, [], ◌||◌, ◌&&◌, ◌==◌, not, true, IsTrue, IfSome, Some, length, slice_get};
+ghost use Rattle.std.specs.Prelude.{◌≡◌, ◌<◌, ◌≤◌, ◌+◌, ◌++◌, [], ◌||◌, ◌&&◌, ◌==◌, true, IfSome, Some, length, slice_get};
 ghost use Rattle.std.specs.List.{list_all};
 ghost use Rattle.std.specs.Option.{option_copied};
-ghost use Rattle.pj_value.specs.declared.values.Value.{Value as AnyValue};
 ghost use Rattle.pj_value.specs.Values.{value_eq};
-ghost use Rattle.pj_shape.specs.Joining.{has_column};
-ghost use Rattle.pj_events.specs.Join.{In, class_with, no_value, value_at};
+ghost use Rattle.pj_events.specs.Join.{In, class_with, value_at};
 ghost use Rattle.pj_cover.specs.Asking.{AreFound, ClassTells, IsFound, IsPartnerKey, constant_if, constants_in, first_class, first_there, there};
-ghost use Rattle.pj_cover.specs.Suits.{all_have, cell_value, has_there, suits, suits_class};
+ghost use Rattle.pj_cover.specs.Suits.{all_have, has_there, suits, suits_class};
 
 use crate::Given;
-use pj_shape::{ClassCol, Scheme};
+use pj_shape::{ClassCol, Scheme, has_column, same_cells};
 use pj_value::{List, Row, Value};
 use std::marker::Model;
 
@@ -70,31 +68,6 @@ impl<'a> Lent<'a> {
     }
 }
 
-// Whether both cells have one value. A cell that is not there has the empty text.
-fn same_cells(a: Option<&Value>, b: Option<&Value>) -> bool
-    ensures { result ≡ value_eq (cell_value (option_copied a.entry)) (cell_value (option_copied b.entry)) }
-{
-    match a {
-        None => match b {
-            None => true,
-            Some(w) => is_empty(w),
-        },
-        Some(v) => match b {
-            None => is_empty(v),
-            Some(w) => v.same(w),
-        },
-    }
-}
-
-fn is_empty(value: &Value) -> bool
-    ensures { result ≡ value_eq value.now (AnyValue.Text []) }
-{
-    match value {
-        Value::Int(_) => false,
-        Value::Text(text) => text.len() == 0,
-    }
-}
-
 fn same_cell<'a>(a: &Lent<'a>, i: u32, b: &Lent<'a>, j: u32) -> bool
     ensures { result ≡ value_eq (value_at a.now.row i) (value_at b.now.row j) }
 {
@@ -134,14 +107,6 @@ pub fn suits<'a>(classes: &[List<ClassCol>], others: &[Lent<'a>], more: &Lent<'a
     classes
         .iter()
         .all(|class| suits_class(others, more, class.as_slice()))
-}
-
-fn has_column(class: &[ClassCol], at: ClassCol) -> bool
-    ensures { result ≡ has_column class.now at }
-{
-    class
-        .iter()
-        .any(|c| c.input == at.input && c.column == at.column)
 }
 
 /// The columns of the first class that has this one; none where no class has it.

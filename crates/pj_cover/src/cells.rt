@@ -4,12 +4,12 @@ ghost use Rattle.std.specs.Option.{option_copied};
 ghost use Rattle.pj_value.specs.declared.values.Value.{Value as AnyValue};
 ghost use Rattle.pj_events.specs.Patterns.{covers, is_wild};
 ghost use Rattle.pj_cover.specs.Givens.{cell_of, covers_cell, marked};
-ghost use Rattle.pj_cover.specs.Prints.{cell_at, constant_in, constants_of, print_of, row_cells};
+ghost use Rattle.pj_cover.specs.Prints.{cell_at, constants_of, print_of, row_cells};
 ghost use Rattle.pj_shape.specs.Instances.{instance_of};
 
 use crate::Given;
 use crate::prints::with_cell;
-use pj_pattern::{Pattern, Punct, Shape};
+use pj_pattern::{Pattern, Punct};
 use pj_shape::Scheme;
 use pj_value::{Row, Value};
 
@@ -152,22 +152,9 @@ pub fn constants_print(marks: &[bool], patterns: &[Pattern]) -> u64
     }
     let mut print = 0;
     for column in 0..marks.len() {
-        print = with_cell(print, marks[column], constant_in(&patterns[column]));
+        print = with_cell(print, marks[column], patterns[column].as_constant());
     }
     print
-}
-
-/// The value of a constant.
-pub fn constant_in(pattern: &Pattern) -> Option<&Value>
-    ensures { option_copied result ≡ constant_in pattern.now }
-{
-    match pattern.shape() {
-        Shape::Wild => None,
-        Shape::Empty => None,
-        Shape::Constant(value) => Some(value),
-        Shape::Range(_, _) => None,
-        Shape::Members(_) => None,
-    }
 }
 
 // Whether the patterns cover the instance of the scheme with these constants.

@@ -2,7 +2,7 @@
 ghost use Rattle.std.specs.Prelude.{◌≡◌, ◌<◌, ◌≤◌, ◌+◌, [], true, None, IfOk, IfSome, OnOk, OnErr, length, map, slice_get};
 ghost use Rattle.pj_cover.specs.Indexed.{AreChained, AreLed, ChainTakes, ChainsTake, FitsAt, Grows, IsChained, IsCovering, IsFiled, IsInSets, IsInSlot, IsIndexed, IsSetFor, IsUnfiled, covered_in, covers_in, first_at, first_covering, fits_mark, fits_marks, is_constant, least, least_of_chains, least_of_sets, number_at, number_under, slot};
 
-use crate::cells::{Cells, constant_in, constants_print};
+use crate::cells::{Cells, constants_print};
 use crate::store::NumberedPunct;
 use indexmap::IndexMap;
 use pj_pattern::{Pattern, Punct, Shape};

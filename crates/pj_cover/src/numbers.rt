@@ -8,12 +8,12 @@ ghost use Rattle.pj_cover.specs.Alone.{AreAmong, AreSame, IsAdded, IsOneMore, Is
 ghost use Rattle.pj_cover.specs.Numbers.{AreTold, Changes, HasNone, IsOnly, are_wild, constant, constant_print, first_filled, same_constant, told, with_last};
 ghost use Rattle.pj_cover.specs.Alike.{constant_prints_agree, constants_equal};
 
-use crate::cells::{Cells, constant_in};
+use crate::cells::Cells;
 use crate::index::least;
 use crate::number_list::NumberList;
-use crate::prints::with_value;
 use indexmap::{Equivalent, IndexMap};
 use pj_pattern::Pattern;
+use pj_print::with_value;
 use pj_value::{List, NoMemory, Value};
 use std::alloc::Global;
 use std::hash::{Hash, Hasher};
@@ -226,7 +226,7 @@ fn only_constant(patterns: &[Pattern]) -> Option<LentConstant<'_>>
     if !are_wild_from(patterns, column + 1) {
         return None;
     }
-    match constant_in(&patterns[column]) {
+    match patterns[column].as_constant() {
         None => None,
         Some(value) => Some(LentConstant { column, value }),
     }

@@ -21,7 +21,7 @@ use Rattle.pj_pattern.specs.Fitting.{row_fits}
 use Rattle.pj_element.specs.declared.element.Read.TheVariants.{Tuple}
 use Rattle.pj_element.specs.Canonical.{StandsAt, AreSpelled}
 use Rattle.pj_element.specs.Elements.{reading_of}
-use Rattle.pj_element.specs.Laws.{AreStorable}
+use Rattle.pj_value.specs.Storable.{AreStorable}
 use Rattle.pj_element.specs.Spelled.{is_digit}
 use Rattle.pj_element.proofs.LinesAgain.{row_again}
 

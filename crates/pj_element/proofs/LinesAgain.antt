@@ -19,7 +19,8 @@ use Rattle.pj_element.specs.declared.element.Judged.TheVariants.{Fits}
 use Rattle.pj_element.specs.declared.forms.Spelled.TheVariants.{Good}
 use Rattle.pj_element.specs.Elements.{value_in, pattern_in, items_from, items_in, read_row, read_punct, tagged, judged, end_spelling, more_members, pattern_spelling, row_line, punct_line}
 use Rattle.pj_element.specs.Reading.{IsCell, AreCells, last_cell, first_cell, plain_byte, no_part, SpellsMembers, one_member, more_members as member_behind, SpellsEnd, no_end, value_end, SpellsForm, spells_star, spells_empty, spells_list, spells_range, spells_constant}
-use Rattle.pj_element.specs.Laws.{IsStorable, IsStorableEnd, AreStorable, IsKeptPattern, AreKeptPatterns, RowIsReadAgain, PunctIsReadAgain, PatternIsReadAgain}
+use Rattle.pj_value.specs.Storable.{AreStorable, IsStorable}
+use Rattle.pj_element.specs.Laws.{IsStorableEnd, IsKeptPattern, AreKeptPatterns, RowIsReadAgain, PunctIsReadAgain, PatternIsReadAgain}
 use Rattle.pj_element.proofs.ReadCells.{cells_are}
 use Rattle.pj_element.proofs.ReadForms.{form_sound}
 use Rattle.pj_element.proofs.FormCells.{value_cell, form_cell}

@@ -13,10 +13,9 @@ use Rattle.std.proofs.lemmas.Str.Parse.{digit_from_value}
 use Rattle.pj_value.specs.declared.values.Value.{Value}
 use Rattle.pj_value.specs.declared.values.Value.TheVariants.{Int, Text}
 use Rattle.pj_value.specs.Texts.{value_spelling}
-use Rattle.pj_pattern.specs.Normal.{IsInBounds}
+use Rattle.pj_value.specs.Storable.{IsInBounds, IsStorable}
 use Rattle.pj_element.specs.Spelled.{is_digit, number_from, number_of, value_of}
 use Rattle.pj_element.specs.Reading.{SpellsValue, SpellsInt, plain_int, minus_int, spells_int}
-use Rattle.pj_element.specs.Laws.{IsStorable}
 use Rattle.pj_element.proofs.Again.{text_read_again}
 use Rattle.pj_element.proofs.ReadValues.{digit_more, some_number, number_complete, value_sound, value_complete}
 

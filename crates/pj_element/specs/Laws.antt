@@ -1,15 +1,14 @@
 -- Laws of reading and of canonical lines.
-use Rattle.std.specs.Prelude.{◌≡◌, ◌≤◌, ◌<◌, ◌↔◌, ℕ, true, ⊤, List, [], ◌∷◌, length, Option, Some, None}
-use Rattle.std.specs.List.{AllByRecursion}
+use Rattle.std.specs.Prelude.{◌≡◌, ◌≤◌, ◌↔◌, ℕ, true, ⊤, List, [], ◌∷◌, length, Option, Some, None}
 use Rattle.pj_value.specs.declared.values.Value.{Value}
-use Rattle.pj_value.specs.declared.values.Value.TheVariants.{Int, Text}
+use Rattle.pj_value.specs.Storable.{AreStorable, IsStorable}
 use Rattle.pj_shape.specs.declared.columns.Column.{Column}
 use Rattle.pj_shape.specs.Columns.{kinds_of}
 use Rattle.pj_pattern.specs.declared.pattern.Form.{Form}
 use Rattle.pj_pattern.specs.declared.pattern.Form.TheVariants.{Wild, Empty, Constant, Range, Members}
 use Rattle.pj_pattern.specs.Patterns.{Pattern, is_of_one_kind}
 use Rattle.pj_pattern.specs.Fitting.{row_fits, punct_fits}
-use Rattle.pj_pattern.specs.Normal.{IsNormal, IsInBounds}
+use Rattle.pj_pattern.specs.Normal.{IsNormal}
 use Rattle.pj_line.specs.Cells.{cells_of}
 use Rattle.pj_element.specs.declared.element.Read.{Read}
 use Rattle.pj_element.specs.declared.element.Read.TheVariants.{Tuple, Punct}
@@ -38,18 +37,9 @@ LinesAreExact = (columns : List Column) (line : List ℕ) (read : Read) → Read
 
 -- ---- canonical lines are read again
 
--- an integer of 64 bits, or a text of bytes
-abbrev pub IsStorable : Value → Type 0
-IsStorable (Int n) = IsInBounds (Int n)
-IsStorable (Text bytes) = AllByRecursion (λ b. b < 256) bytes
-
 abbrev pub IsStorableEnd : Option Value → Type 0
 IsStorableEnd None = ⊤
 IsStorableEnd (Some v) = IsStorable v
-
-abbrev pub AreStorable : List Value → Type 0
-AreStorable [] = ⊤
-AreStorable (v ∷ vs) = IsStorable v × AreStorable vs
 
 -- the values in the pattern are storable, and it is in normal form
 abbrev pub IsKeptPattern : Pattern → Type 0

@@ -6,13 +6,14 @@ ghost use Rattle.pj_value.specs.Values.{is_kind};
 ghost use Rattle.pj_value.specs.declared.values.Kind.TheVariants.{Text as TextKind};
 ghost use Rattle.pj_element.specs.Canonical.{AreSpelled, StandsAt};
 ghost use Rattle.pj_element.specs.Elements.{reading_of};
-ghost use Rattle.pj_element.specs.Laws.{AreStorable};
+ghost use Rattle.pj_value.specs.Storable.{AreStorable};
 ghost use Rattle.pj_element.specs.declared.element.Read.TheVariants.{Tuple};
 
 use crate::spelled::read_value;
-use crate::storable::see_values;
 use pj_shape::Column;
-use pj_value::{Kind, List, NoMemory, Row, SharedText, Spelling, Value, plain_len, value_text};
+use pj_value::{
+    Kind, List, NoMemory, Row, SharedText, Spelling, Value, plain_len, see_values, value_text,
+};
 use std::alloc::Global;
 
 /// The tuple whose canonical line this is, for at most 120 columns. `None` says nothing of the line.

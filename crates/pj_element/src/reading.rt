@@ -7,12 +7,12 @@ ghost use Rattle.pj_element.specs.Laws.{RowIsReadAgain, PunctIsReadAgain, Patter
 use crate::canonical::read_canonical;
 use crate::element::{Read, Reject};
 use crate::items::{append_items, read_items};
-use crate::storable::{see_pattern, see_patterns, see_row};
+use crate::storable::{see_pattern, see_patterns};
 use crate::written::append_pattern;
 use pj_line::{Cells, cut_into, is_skipped};
 use pj_pattern::{Pattern, Punct};
 use pj_shape::{Column, Schema};
-use pj_value::{List, NoMemory, Row};
+use pj_value::{List, NoMemory, Row, see_row};
 use std::alloc::Global;
 
 /// What the line says of a stream with these columns: it is skipped; it is a tuple or a punctuation; or it is the first reject

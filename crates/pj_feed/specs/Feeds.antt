@@ -22,7 +22,6 @@ use Rattle.pj_feed.specs.declared.stops.FeedStop.{FeedStop}
 use Rattle.pj_feed.specs.declared.stops.FeedWhy.{FeedWhy}
 use Rattle.pj_feed.specs.declared.stops.FeedWhy.TheVariants.{Intake, WriteFailed}
 use Rattle.pj_element.specs.Runs.{closing}
-use Rattle.pj_events.specs.Plan.{Node}
 
 -- A stream that is fed: its number, whether its closing is still to come, what its source tells of itself, and its intake
 pub record FeedState : Type 0 where

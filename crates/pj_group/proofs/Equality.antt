@@ -6,7 +6,7 @@ use Rattle.std.proofs.lemmas.Option.{get_or_from_slice_get, slice_get_within}
 use Rattle.pj_value.specs.declared.values.Value.{Value}
 use Rattle.pj_value.specs.Values.{row_eq}
 use Rattle.pj_value.proofs.Orders.{row_equal_if_same, row_same_if_equal}
-use Rattle.pj_group.specs.Prints.{with_value, with_values}
+use Rattle.pj_print.specs.Prints.{with_value, with_values}
 
 pub same_is : (r : Bool) (x y : List Value) → IsTrue r ↔ (x ≡ y) → r ≡ row_eq x y
 same_is r x y h = one_answer r (row_eq x y) h (row_same_if_equal x y, row_equal_if_same x y)

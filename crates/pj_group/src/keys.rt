@@ -3,7 +3,8 @@ ghost use Rattle.std.specs.Prelude.{◌≡◌, ◌<◌, All, IfOk, IfSome, lengt
 ghost use Rattle.pj_value.specs.Values.{row_eq, value_eq};
 ghost use Rattle.pj_events.specs.Operators.{picked_cells};
 ghost use Rattle.pj_group.specs.Slots.{MatchesOnly};
-ghost use Rattle.pj_group.specs.Prints.{next_print, print_of, with_bytes, with_value};
+ghost use Rattle.pj_print.specs.Prints.{with_value};
+ghost use Rattle.pj_group.specs.Prints.{print_of};
 ghost use Rattle.std.specs.Cmp.{decided, partial_equiv_from_equiv};
 ghost use Rattle.std.proofs.Common.{ap};
 ghost use Rattle.pj_value.proofs.Orders.{equal_if_same, row_equal_if_same, row_same_if_equal, same_if_equal};
@@ -11,6 +12,7 @@ ghost use Rattle.std.specs.Hash as fed;
 
 use pj_flow::project_tuple;
 use pj_pattern::{Punct, Shape};
+use pj_print::with_value;
 use pj_value::{List, NoMemory, Row, Value};
 use std::alloc::Global;
 use std::hash::{Hash, Hasher};
@@ -147,30 +149,4 @@ fn print(row: &Row) -> u64
         print = with_value(print, row.at(column));
     }
     print
-}
-
-/// A print with a value more.
-pub fn with_value(print: u64, value: &Value) -> u64
-    ensures { result ≡ with_value print value.now }
-{
-    match value {
-        Value::Int(number) => next_print(print, number.unsigned_abs()),
-        Value::Text(text) => with_bytes(print, text.as_slice()),
-    }
-}
-
-fn with_bytes(print: u64, bytes: &[u8]) -> u64
-    ensures { result ≡ with_bytes print bytes.now }
-{
-    let mut print = print;
-    for byte in bytes {
-        print = next_print(print, u64::from(*byte));
-    }
-    print
-}
-
-fn next_print(print: u64, number: u64) -> u64
-    ensures { result ≡ next_print print number }
-{
-    print.wrapping_mul(1099511628211).wrapping_add(number)
 }

@@ -8,9 +8,10 @@ ghost use Rattle.pj_value.proofs.Orders.{row_equal_where_same, row_same_if_equal
 ghost use Rattle.pj_events.specs.Operators.{picked_cells};
 ghost use Rattle.pj_group.specs.Prints.{print_of};
 
-use crate::keys::{Key, with_value};
+use crate::keys::Key;
 use indexmap::Equivalent;
 use pj_flow::cell;
+use pj_print::with_value;
 use pj_value::{NoMemory, Row, Value};
 use std::alloc::Global;
 use std::hash::{Hash, Hasher};

@@ -5,7 +5,7 @@ use Rattle.pj_value.specs.Values.{value_eq}
 use Rattle.pj_events.specs.Join.{ClassCol, TupleAt, Value}
 use Rattle.pj_join.specs.Decided.{ColumnsDecide}
 use Rattle.pj_join.specs.Walks.{cell_value, suits}
-use Rattle.pj_shape.proofs.Cells.{cell_read}
+use Rattle.pj_shape.proofs.CellValues.{cell_read}
 
 -- where two columns decide, their cells do
 pub cells_decide : (classes : List (List ClassCol)) (own other : TupleAt) (input mine theirs : ℕ) (a b : Option Value) → ColumnsDecide classes own input mine theirs → other.input ≡ input

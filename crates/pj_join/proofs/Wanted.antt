@@ -16,7 +16,7 @@ use Rattle.pj_value.specs.Options.{is_value}
 use Rattle.pj_events.specs.Join.{ClassCol, In, TupleAt, no_value, value_at}
 use Rattle.pj_join.specs.Walks.{all_have, has_there, older_joins, suits, suits_class}
 use Rattle.pj_join.specs.Lookups.{ClassWants, IsWanted}
-use Rattle.pj_shape.proofs.Cells.{cell_there}
+use Rattle.pj_shape.proofs.CellValues.{cell_there}
 
 same_number : (n : ℕ) → (n == n) ≡ true
 same_number n = grind (arith, nat_tests)

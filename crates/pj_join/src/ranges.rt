@@ -11,7 +11,7 @@ ghost use Rattle.pj_join.specs.Holding.{IsFound};
 
 use crate::widening::find_matching;
 use pj_pattern::{Pattern, Punct, Shape};
-use pj_shape::ClassCol;
+use pj_shape::{ClassCol, has_column};
 use pj_state::{NextNumber, State};
 use pj_value::{List, NoMemory, Value};
 use std::alloc::Global;
@@ -225,12 +225,6 @@ pub fn find_among(
         }
     }
     None
-}
-
-fn has_column(class: &[ClassCol], at: ClassCol) -> bool {
-    class
-        .iter()
-        .any(|c| c.input == at.input && c.column == at.column)
 }
 
 // Keeps the integers of a column of an input in order.

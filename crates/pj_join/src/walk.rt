@@ -1,5 +1,5 @@
 // Whether tuples join, and among which tuples those are that join with one.
-ghost use Rattle.std.specs.Prelude.{◌≡◌, ◌++◌, ◌||◌, true, not, map, ◌==◌, length, IfSome, nat_lt, ◌<◌, filter, ◌&&◌, ◌∷◌, [], IsTrue};
+ghost use Rattle.std.specs.Prelude.{◌≡◌, ◌||◌, true, not, map, ◌==◌, length, IfSome, ◌<◌, filter, ◌&&◌, ◌∷◌, [], IsTrue};
 ghost use Rattle.std.specs.List.{list_all, slice_get};
 ghost use Rattle.std.specs.Option.{option_copied};
 ghost use Rattle.pj_value.specs.declared.values.Value.{Value};
@@ -7,62 +7,14 @@ ghost use Rattle.pj_value.specs.Values.{value_eq};
 ghost use Rattle.pj_events.specs.Join.{TupleAt, agree, value_at};
 ghost use Rattle.pj_join.specs.Decided.{AllJoinAt, AllSuit, ClassDecides, ColumnsDecide};
 ghost use Rattle.pj_join.specs.Sides.{IsWide, tuple_in, tuples_in};
-ghost use Rattle.pj_join.specs.Walks.{AllJoin, all_have, cell_value, choices, has_there, older_joins, suits, suits_class};
+ghost use Rattle.pj_join.specs.Walks.{AllJoin, all_have, choices, has_there, older_joins, suits, suits_class};
 
 use crate::arrivals::Arrived;
 use crate::lookups::wanted;
-use pj_shape::ClassCol;
+use pj_shape::{ClassCol, same_cell, same_cells};
 use pj_state::{Matching, State};
 use pj_value::{List, Row, Value};
 use std::slice::from_ref;
-
-// Whether both are one value. Integers are compared in place.
-#[inline(always)]
-fn same_value(v: &Value, w: &Value) -> bool
-    ensures { result ≡ value_eq v.now w.now }
-{
-    match v {
-        Value::Int(a) => match w {
-            Value::Int(b) => *a == *b,
-            Value::Text(_) => false,
-        },
-        Value::Text(_) => v.same(w),
-    }
-}
-
-// Whether both cells have one value. A cell that is not there has the empty text.
-#[inline(always)]
-fn same_cells(a: Option<&Value>, b: Option<&Value>) -> bool
-    ensures { result ≡ value_eq (cell_value (option_copied a.entry)) (cell_value (option_copied b.entry)) }
-{
-    match a {
-        None => match b {
-            None => true,
-            Some(w) => is_empty(w),
-        },
-        Some(v) => match b {
-            None => is_empty(v),
-            Some(w) => same_value(v, w),
-        },
-    }
-}
-
-/// Whether both rows have one value in these columns. A column that is not there has the empty text.
-fn same_cell(a: &Row, i: u32, b: &Row, j: u32) -> bool
-    ensures { result ≡ value_eq (value_at a.now i) (value_at b.now j) }
-{
-    same_cells(a.get(i as usize), b.get(j as usize))
-}
-
-#[inline(always)]
-fn is_empty(value: &Value) -> bool
-    ensures { result ≡ value_eq value.now (Value.Text []) }
-{
-    match value {
-        Value::Int(_) => false,
-        Value::Text(text) => text.len() == 0,
-    }
-}
 
 fn has_there<'a>(more: &Arrived<'a>, at: ClassCol, there: ClassCol, other: &Arrived<'a>) -> bool
     ensures { result ≡ has_there (value_at more.now.row at.column) there other.now }

@@ -2,7 +2,6 @@
 ghost use Rattle.std.specs.Prelude.{◌≡◌, ◌<◌, ◌==◌, ◌||◌, ◌++◌, true, filter, length, slice_get, Some, IfOk, IfSome, OnOk, OnErr};
 ghost use Rattle.std.specs.List.{list_any};
 ghost use Rattle.pj_pattern.specs.declared.pattern.Form.TheVariants.{Constant};
-ghost use Rattle.pj_shape.specs.Joining.{has_column};
 ghost use Rattle.pj_events.specs.Patterns.{is_wild};
 ghost use Rattle.pj_state.specs.States.{stored, tickets_of};
 ghost use Rattle.pj_value.specs.Lists.{In};
@@ -15,9 +14,8 @@ use crate::coverage::{Coverage, Side};
 use crate::lookups::Lookup;
 use crate::marks::Watches;
 use crate::ranges::{numbers_of, tickets_among};
-use crate::widening::constant_of;
 use pj_pattern::{Pattern, Punct};
-use pj_shape::{CertStep, ClassCol, Scheme, Schemes};
+use pj_shape::{CertStep, ClassCol, Scheme, Schemes, has_column};
 use pj_state::State;
 use pj_value::{List, NoMemory, Row};
 use std::alloc::Global;
@@ -81,14 +79,6 @@ pub fn first_column(class: &[ClassCol], input: u32) -> Option<u32>
     None
 }
 
-fn has_column(class: &[ClassCol], at: ClassCol) -> bool
-    ensures { result ≡ has_column class.now at }
-{
-    class
-        .iter()
-        .any(|c| c.input == at.input && c.column == at.column)
-}
-
 // The columns of the first class that has this one; none where no class has it.
 fn class_with<'a>(classes: &'a [List<ClassCol>], at: ClassCol) -> &'a [ClassCol]
     ensures { result.now ≡ first_class classes.now at }
@@ -125,7 +115,7 @@ impl<'a> Coverage<'a> {
         ensures indexed { IfSome result (λ key. list_any (λ own. key.column == own) side.now.state.columns ≡ true) }
         ensures value { IfSome result (λ key. slice_get self.now.patterns at.column ≡ Some (Constant key.value.now)) }
     {
-        match constant_of(self.punct.at(at.column as usize)) {
+        match self.punct.at(at.column as usize).as_constant() {
             None => None,
             Some(value) => match self.own_column(side, at) {
                 None => None,

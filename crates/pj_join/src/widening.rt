@@ -1,14 +1,13 @@
 // Punctuations that a join hands up, or that wait.
-ghost use Rattle.std.specs.Prelude.{◌≡◌, ◌<◌, ◌++◌, ◌∷◌, [], ℕ, not, true, false, is_some, length, map, sum, take, OnOk, OnErr, IfOk, IfSome};
+ghost use Rattle.std.specs.Prelude.{◌≡◌, ◌<◌, ◌++◌, ◌∷◌, [], ℕ, not, true, false, length, map, sum, take, OnOk, OnErr, IfOk, IfSome};
 ghost use Rattle.pj_events.specs.Join.{In, PunctAt, has};
 ghost use Rattle.pj_events.specs.Patterns.{all_wild};
 ghost use Rattle.pj_shape.specs.Sound.{arities_of};
 ghost use Rattle.pj_state.specs.Rising.{IsRising, itself};
-ghost use Rattle.pj_state.specs.States.{stored, ticket_of};
+ghost use Rattle.pj_state.specs.States.{stored};
 ghost use Rattle.pj_cover.specs.Stores.{IsAbove};
 ghost use Rattle.pj_join.specs.Holding.{AreFreed, AreHeldBy, IsFound, IsLetGo, IsListedIf, KeepsLists, StayHeld, is_listed, tickets_where};
 ghost use Rattle.pj_join.specs.Judging.{going_at_once, letting_go, waiting_with, widened_among};
-ghost use Rattle.pj_pattern.specs.declared.pattern.Form.TheVariants.{Constant};
 ghost use Rattle.pj_join.specs.Sides.{IsLookup, coming_punct, heard_at, stays, still_held};
 ghost use Rattle.pj_join.specs.Watching.{AreSome, IsSwept, goes_up};
 
@@ -18,20 +17,11 @@ use crate::ranges::{find_among, first_stretch};
 use crate::sweeping::in_order;
 use crate::waiting::{StillWaiting, Waiting};
 use pj_cover::PunctStore;
-use pj_pattern::{Pattern, Punct, Shape};
+use pj_pattern::{Pattern, Punct, append_copies, append_wild};
 use pj_shape::Schema;
 use pj_state::{Matching, State};
-use pj_value::{List, NoMemory, Row, Value};
+use pj_value::{List, NoMemory, Row};
 use std::alloc::Global;
-
-fn append_wild(count: usize, patterns: &mut List<Pattern>) -> Result<(), NoMemory>
-    ensures { OnOk result (patterns.new ≡ patterns.old ++ all_wild count) }
-{
-    for _column in 0..count {
-        patterns.push(Pattern::wild())?;
-    }
-    Ok(())
-}
 
 // A wildcard for each column of these inputs.
 #[tactic(auto, using(crate::proofs::SortedOut::wilds_more))]
@@ -40,19 +30,6 @@ fn append_wilds(schemas: &[Schema], patterns: &mut List<Pattern>) -> Result<(), 
 {
     for schema in schemas {
         append_wild(schema.len(), patterns)?;
-    }
-    Ok(())
-}
-
-fn append_copies(
-    alloc: Global,
-    patterns: &[Pattern],
-    out: &mut List<Pattern>,
-) -> Result<(), NoMemory>
-    ensures { OnOk result (out.new ≡ out.old ++ patterns.now) }
-{
-    for pattern in patterns {
-        out.push(pattern.copy(alloc)?)?;
     }
     Ok(())
 }
@@ -108,19 +85,6 @@ fn stays(gone: &[u64], ticket: u64, row: &Row, punct: &Punct) -> bool
     punct.matches(row) && !is_gone(gone, ticket)
 }
 
-/// The constant that a pattern is; `None` where it is none.
-pub fn constant_of(pattern: &Pattern) -> Option<&Value>
-    ensures { IfSome result (λ value. pattern.now ≡ Constant value.now) }
-{
-    match pattern.shape() {
-        Shape::Wild => None,
-        Shape::Empty => None,
-        Shape::Constant(value) => Some(value),
-        Shape::Range(_, _) => None,
-        Shape::Members(_) => None,
-    }
-}
-
 // The constant of the punctuation in a column, where that is indexed.
 fn lookup_in<'a>(state: &State, punct: &'a Punct, column: usize) -> Option<Lookup<'a>>
     requires { column < length punct.now }
@@ -133,7 +97,7 @@ fn lookup_in<'a>(state: &State, punct: &'a Punct, column: usize) -> Option<Looku
     if !state.is_indexed(number) {
         return None;
     }
-    match constant_of(punct.at(column)) {
+    match punct.at(column).as_constant() {
         None => None,
         Some(value) => Some(Lookup {
             column: number,

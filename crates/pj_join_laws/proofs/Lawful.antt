@@ -14,20 +14,29 @@ use Rattle.pj_join_laws.proofs.Widen.{HaveLengths, lengths-from, widen-matches}
 
 -- ---- results
 
--- a result has a stored row of each input, and matches_row a widened punctuation only where that row matches_row it
-pub result-clear : (spec : JoinData) (s : JoinState) → IsSound spec s → (p : PunctAt) → In p s.puncts → is_held s.stored p ≡ false
-    → (u : ℕ) → has s.given u ≡ false → (c : List TupleAt) → In c (results spec s.tuples s.tuples u) → matches_row (widened spec p) (joined c) ≡ false
-result-clear spec s i p hp clear u o c h =
-    ap (λ (n : ℕ). matches_row (all_wild (sum (take p.input (arities spec))) ++ p.patterns ++ all_wild (sum (drop n (arities spec)))) (joined c)) (add-one p.input)
-    ∙ widen-matches 0 (arities spec) c p.input z.0 p.patterns picks.0 long z.1 (z.2 ∙ zeroth) (fits.1 ∙ sym (fit z.0 z.1 ∙ ap (arity spec) z.2))
-    ∙ false_from_ne_true (matches_row p.patterns z.0.row) (λ t. none_at (λ (y : TupleAt). eqb y.input p.input && matches_row p.patterns y.row) s.stored z.0 clear (stored z.0 z.1) (and_from (eqb z.0.input p.input) (matches_row p.patterns z.0.row) (eq-eqb z.0.input p.input z.2) t))
+-- of which tuple a result of this ticket is, and what its tuples are
+pub record IsResultOf (spec : JoinData) (s : JoinState) (u : ℕ) (c : List TupleAt) : Type 0 where
+  pub own : TupleAt
+  pub there : In own s.tuples × (eqb own.ticket u ≡ true)
+  pub chosen : In c (product (map (candidates own s.tuples) (upto_from 0 (inputs spec)))) × (agree spec.shape.classes c ≡ true)
+  pub combined : IsCombination spec c
+  pub arrived : (y : TupleAt) → In y c → In y s.tuples
+  pub fit : (y : TupleAt) → In y c → length y.row ≡ arity spec y.input
+  pub picks : IsPicked (candidates own s.tuples) 0 (inputs spec) c
+  pub long : HaveLengths (arities spec) c
+
+pub result-of : (spec : JoinData) (s : JoinState) → IsSound spec s → (u : ℕ) (c : List TupleAt) → In c (results spec s.tuples s.tuples u) → IsResultOf spec s u c
+result-of spec s i u c h = record {
+  own = x;
+  there = x-in;
+  chosen = c-in;
+  combined = comb.0;
+  arrived = λ y hy. arrived y (comb.2 y hy);
+  fit = fit;
+  picks = picks;
+  long = lengths-from 0 (arities spec) c picks.0 picks.1 (arity spec) (λ j. let q : j ≡ 0 + j = omega arith in ap (λ n. get_or (arities spec) n 0) q) fit;
+}
   where
-    fits : (p.input < inputs spec) × (length p.patterns ≡ arity spec p.input)
-    fits = i.punct_fit p hp
-
-    zeroth : p.input ≡ 0 + p.input
-    zeroth = omega arith
-
     from : (x : TupleAt) × In x (filter (λ y. eqb y.ticket u) s.tuples) × In c (combinations spec s.tuples x)
     from = In-flat_map (combinations spec s.tuples) c (filter (λ y. eqb y.ticket u) s.tuples) h
 
@@ -36,9 +45,6 @@ result-clear spec s i p hp clear u o c h =
 
     x-in : In x s.tuples × (eqb x.ticket u ≡ true)
     x-in = In-filter (λ y. eqb y.ticket u) x s.tuples from.1
-
-    open' : has s.given x.ticket ≡ false
-    open' = ap (has s.given) (eqb-true x.ticket u x-in.1) ∙ o
 
     c-in : In c (product (map (candidates x s.tuples) (upto_from 0 (inputs spec)))) × (agree spec.shape.classes c ≡ true)
     c-in = In-filter (agree spec.shape.classes) c (product (map (candidates x s.tuples) (upto_from 0 (inputs spec)))) from.2
@@ -56,16 +62,33 @@ result-clear spec s i p hp clear u o c h =
     fit : (y : TupleAt) → In y c → length y.row ≡ arity spec y.input
     fit y hy = (i.fit y (arrived y (comb.2 y hy))).1
 
-    long : HaveLengths (arities spec) c
-    long = lengths-from 0 (arities spec) c picks.0 picks.1 (arity spec) (λ j. let q : j ≡ 0 + j = omega arith in ap (λ n. get_or (arities spec) n 0) q) fit
+-- a result has a stored row of each input, and matches_row a widened punctuation only where that row matches_row it
+pub result-clear : (spec : JoinData) (s : JoinState) → IsSound spec s → (p : PunctAt) → In p s.puncts → is_held s.stored p ≡ false
+    → (u : ℕ) → has s.given u ≡ false → (c : List TupleAt) → In c (results spec s.tuples s.tuples u) → matches_row (widened spec p) (joined c) ≡ false
+result-clear spec s i p hp clear u o c h =
+    ap (λ (n : ℕ). matches_row (all_wild (sum (take p.input (arities spec))) ++ p.patterns ++ all_wild (sum (drop n (arities spec)))) (joined c)) (add-one p.input)
+    ∙ widen-matches 0 (arities spec) c p.input z.0 p.patterns r.picks.0 r.long z.1 (z.2 ∙ zeroth) (fits.1 ∙ sym (r.fit z.0 z.1 ∙ ap (arity spec) z.2))
+    ∙ false_from_ne_true (matches_row p.patterns z.0.row) (λ t. none_at (λ (y : TupleAt). eqb y.input p.input && matches_row p.patterns y.row) s.stored z.0 clear (stored z.0 z.1) (and_from (eqb z.0.input p.input) (matches_row p.patterns z.0.row) (eq-eqb z.0.input p.input z.2) t))
+  where
+    fits : (p.input < inputs spec) × (length p.patterns ≡ arity spec p.input)
+    fits = i.punct_fit p hp
+
+    zeroth : p.input ≡ 0 + p.input
+    zeroth = omega arith
+
+    r : IsResultOf spec s u c
+    r = result-of spec s i u c h
+
+    open' : has s.given r.own.ticket ≡ false
+    open' = ap (has s.given) (eqb-true r.own.ticket u r.there.1) ∙ o
 
     z : (y : TupleAt) × In y c × (y.input ≡ p.input)
-    z = comb.0.every p.input fits.0
+    z = r.combined.every p.input fits.0
 
     stored : (y : TupleAt) → In y c → In y s.stored
     stored y hy =
         subst (λ (ys : List TupleAt). In y ys) (sym i.stored_is)
-        (In-filter_from i.keep y s.tuples (arrived y (comb.2 y hy)) (all_at i.keep c y (all-kept spec s i x x-in.0 open' c c-in.0 c-in.1) hy))
+        (In-filter_from i.keep y s.tuples (r.arrived y hy) (all_at i.keep c y (all-kept spec s i r.own r.there.0 open' c r.chosen.0 r.chosen.1) hy))
 
 -- ---- after a punctuation
 

@@ -5,6 +5,7 @@ use Rattle.std.proofs.lemmas.Bool.{false≢true}
 use Rattle.std.proofs.lemmas.List.{map-append}
 use Rattle.std.proofs.lemmas.List.Elements.{filter-append}
 use Rattle.pj_events.specs.Join.{need_of, TupleAt, JoinData, JoinState, Step, TupleComes, PunctComes, Take, Give, Sweep, start, inputs, older, older_puncts, covered, has, least_open, low, kept, is_held, new_tuple, step, run, ripe}
+use Rattle.pj_events.specs.Plan.{IsOwn}
 use Rattle.pj_events.specs.KeptState.{KeptState, lacking, kept_of, least, kept_low, swept, without, kept_step, kept_ripe}
 use Rattle.pj_join_laws.specs.Laws.{StepsStand}
 use Rattle.pj_join_laws.proofs.Sound.{sound-start, run-append}
@@ -59,6 +60,24 @@ ripe-same spec s x = ap (λ l. ltb x.ticket l && list_all (covered (older_puncts
 pub swept-same : (spec : JoinData) (s : JoinState) (input : ℕ) → swept spec (kept_of s) input ≡ kept spec s input
 swept-same spec s input = ap (λ l. filter (λ x. not (eqb x.input input && (ltb x.ticket l && list_all (covered (older_puncts l s.puncts)) (need_of spec (older l s.stored) x)))) s.stored) (low-kept s)
 
+-- a step of its own needs no count
+pub kept-own : (spec : JoinData) (s : JoinState) (e : Step) → IsOwn e → kept_step spec (kept_of s) e ≡ kept_of (step spec s e)
+kept-own spec s (TupleComes input row) o = absurd o
+kept-own spec s (PunctComes input patterns) o = absurd o
+kept-own spec s (Take u) o =
+    λ i. record { next = s.next; stored = s.stored; puncts = s.puncts; pending = sym (lacking-cons u s.taken s.tuples) i; opened = lacking s.given s.tuples; waiting = s.waiting }
+kept-own spec s (Give u) o =
+    λ i. record { next = s.next; stored = s.stored; puncts = s.puncts; pending = lacking s.taken s.tuples; opened = sym (lacking-cons u s.given s.tuples) i; waiting = s.waiting }
+kept-own spec s (Sweep input) o =
+    ap (λ (xs : List TupleAt). record {
+      next = s.next;
+      stored = xs;
+      puncts = s.puncts;
+      pending = lacking s.taken s.tuples;
+      opened = lacking s.given s.tuples;
+      waiting = filter (λ p. not (eqb p.input input) || is_held xs p) s.waiting;
+    }) (swept-same spec s input)
+
 pub kept-step : (spec : JoinData) (s : JoinState) (e : Step) → IsCounted spec s → kept_step spec (kept_of s) e ≡ kept_of (step spec s e)
 kept-step spec s (TupleComes input row) k =
     λ i. record {
@@ -70,19 +89,9 @@ kept-step spec s (TupleComes input row) k =
       waiting = s.waiting;
     }
 kept-step spec s (PunctComes input patterns) k = refl
-kept-step spec s (Take u) k =
-    λ i. record { next = s.next; stored = s.stored; puncts = s.puncts; pending = sym (lacking-cons u s.taken s.tuples) i; opened = lacking s.given s.tuples; waiting = s.waiting }
-kept-step spec s (Give u) k =
-    λ i. record { next = s.next; stored = s.stored; puncts = s.puncts; pending = lacking s.taken s.tuples; opened = sym (lacking-cons u s.given s.tuples) i; waiting = s.waiting }
-kept-step spec s (Sweep input) k =
-    ap (λ (xs : List TupleAt). record {
-      next = s.next;
-      stored = xs;
-      puncts = s.puncts;
-      pending = lacking s.taken s.tuples;
-      opened = lacking s.given s.tuples;
-      waiting = filter (λ p. not (eqb p.input input) || is_held xs p) s.waiting;
-    }) (swept-same spec s input)
+kept-step spec s (Take u) k = kept-own spec s (Take u) tt
+kept-step spec s (Give u) k = kept-own spec s (Give u) tt
+kept-step spec s (Sweep input) k = kept-own spec s (Sweep input) tt
 
 pub steps-stand : (spec : JoinData) → 0 < inputs spec → StepsStand spec
 steps-stand spec lt steps e k legal allowed st =

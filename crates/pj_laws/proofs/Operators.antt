@@ -1,5 +1,5 @@
 -- What each operator hands up matches_value, and is lawful where what comes from its inputs is.
-use Rattle.std.proofs.Common.{ℕ, suc, ◌+◌, ◌<◌, Bool, true, false, cond, ◌&&◌, ◌||◌, not, List, [], ◌∷◌, ◌++◌, ◌≡◌, ◌⊎◌, map, filter, flat_map, length, get_or, take, drop, sum, refl, sym, ap, ap₂, ◌∙◌, subst, inl, inr, eqb, arith, append_assoc, length-append}
+use Rattle.std.proofs.Common.{ℕ, suc, ◌+◌, ◌<◌, Bool, true, false, cond, ◌&&◌, ◌||◌, not, List, [], ◌∷◌, ◌++◌, ◌≡◌, filter, flat_map, length, get_or, take, drop, sum, refl, sym, ap, ap₂, ◌∙◌, subst, inl, inr, eqb, arith, append_assoc, length-append}
 use Rattle.pj_pattern.proofs.Lawful.{none_at as clear_at, none_from as clear_from, lawful_tail, lawful_append}
 use Rattle.pj_value.proofs.Members.{In-append_cases, In-filter, In-map, In-flat_map, any_at}
 use Rattle.pj_pattern.specs.Columns.{others_wild, picked_patterns}
@@ -7,7 +7,7 @@ use Rattle.std.specs.List.{list_any}
 use Rattle.std.proofs.lemmas.Bool.{and_parts, and_from, or_cases, false≢true, eqb-true, eq-eqb, false_from_ne_true}
 use Rattle.std.proofs.lemmas.List.Sums.{sum_by-take-drop, sum_by-drop_more}
 use Rattle.pj_events.specs.Patterns.{Pattern, wild, all_wild, is_wild, matches_value, matches_row}
-use Rattle.pj_events.specs.Join.{In, Value, no_value, arities, TupleAt, PunctAt, JoinData, JoinState, Step, TupleComes, PunctComes, Take, Give, Sweep, start, step, run, inputs, arity, agree, is_held, kept, new_punct, IsAllowed, AreLegalSteps, IsCombination, product, upto_from, candidates, combinations, results, Element, Tuple, Punct, joined, widened, hands_up, outputs}
+use Rattle.pj_events.specs.Join.{In, Value, no_value, arities, TupleAt, PunctAt, JoinData, JoinState, Step, TupleComes, PunctComes, Take, Give, Sweep, start, step, run, inputs, arity, is_held, kept, new_punct, IsAllowed, AreLegalSteps, results, Element, Tuple, Punct, joined, widened, hands_up, outputs}
 use Rattle.pj_events.specs.Operators.{picked_cells, select_hands, project_hands}
 use Rattle.pj_events.specs.Plan.{Join, Local, Comes, Fed, Own, join_step, join_local, after_all, hands_all, IsOwn, Fits}
 use Rattle.pj_pattern.specs.Elements.{IsLawful}
@@ -15,9 +15,9 @@ use Rattle.pj_pattern.proofs.Covering.{wild_matches}
 use Rattle.pj_pattern.proofs.Rows.{wilds-length}
 use Rattle.pj_join_laws.proofs.Forget.{IsSound}
 use Rattle.pj_join_laws.proofs.Sound.{sound-start, sound-step, run-append}
-use Rattle.pj_join_laws.proofs.Results.{IsPicked, picked, candidates-own, is-combination}
-use Rattle.pj_join_laws.proofs.Widen.{lengths-from, joined-length}
-use Rattle.pj_join_laws.proofs.Lawful.{run-lawful}
+use Rattle.pj_join_laws.proofs.Results.{picked}
+use Rattle.pj_join_laws.proofs.Widen.{joined-length}
+use Rattle.pj_join_laws.proofs.Lawful.{result-of, run-lawful}
 use Rattle.pj_laws.proofs.Glue.{from_input}
 
 abbrev pub AllFit : ℕ → List Element → Type 0
@@ -160,32 +160,7 @@ widened-length spec p lt l =
     behind = sum (drop (p.input + 1) (arities spec))
 
 results-fit : (spec : JoinData) (s : JoinState) → IsSound spec s → (u : ℕ) (c : List TupleAt) → In c (results spec s.tuples s.tuples u) → length (joined c) ≡ sum (arities spec)
-results-fit spec s i u c h = joined-length (arities spec) c (lengths-from 0 (arities spec) c picks.0 picks.1 (arity spec) (λ j. let q : j ≡ 0 + j = omega arith in ap (λ n. get_or (arities spec) n 0) q) fit)
-  where
-    from : (x : TupleAt) × In x (filter (λ y. eqb y.ticket u) s.tuples) × In c (combinations spec s.tuples x)
-    from = In-flat_map (combinations spec s.tuples) c (filter (λ y. eqb y.ticket u) s.tuples) h
-
-    x : TupleAt
-    x = from.0
-
-    x-in : In x s.tuples × (eqb x.ticket u ≡ true)
-    x-in = In-filter (λ y. eqb y.ticket u) x s.tuples from.1
-
-    c-in : In c (product (map (candidates x s.tuples) (upto_from 0 (inputs spec)))) × (agree spec.shape.classes c ≡ true)
-    c-in = In-filter (agree spec.shape.classes) c (product (map (candidates x s.tuples) (upto_from 0 (inputs spec)))) from.2
-
-    picks : IsPicked (candidates x s.tuples) 0 (inputs spec) c
-    picks = picked (candidates x s.tuples) (λ j y k. (candidates-own x s.tuples j y k).0) 0 (inputs spec) c c-in.0
-
-    comb : IsCombination spec c × In x c × ((y : TupleAt) → In y c → In y s.tuples ⊎ (x ≡ y))
-    comb = is-combination spec s.tuples x c (i.fit x x-in.0).0 c-in.0 c-in.1
-
-    arrived : (y : TupleAt) → In y s.tuples ⊎ (x ≡ y) → In y s.tuples
-    arrived y (inl k) = k
-    arrived y (inr q) = subst (λ (v : TupleAt). In v s.tuples) q x-in.0
-
-    fit : (y : TupleAt) → In y c → length y.row ≡ arity spec y.input
-    fit y hy = (i.fit y (arrived y (comb.2 y hy))).1
+results-fit spec s i u c h = joined-length (arities spec) c (result-of spec s i u c h).long
 
 hands_up-fit : (spec : JoinData) (s : JoinState) (st : Step) → IsSound spec s → IsAllowed spec s st → AllFit (sum (arities spec)) (hands_up spec s st)
 hands_up-fit spec s (TupleComes input row) i a e h = absurd h

@@ -12,7 +12,8 @@ use Rattle.pj_value.specs.Values.{value_cmp, value_eq}
 use Rattle.pj_value.proofs.Orders.{less_if_greater, same_if_equal}
 use Rattle.pj_pattern.specs.declared.pattern.Form.TheVariants.{Wild, Empty, Constant, Range, Members}
 use Rattle.pj_pattern.specs.Patterns.{Pattern, has_value, is_end_of_kind, is_from, is_of_kind, is_to, matches_value, same_kind, up_to}
-use Rattle.pj_pattern.specs.Normal.{between, by_order, greatest_int, high_end, least_of, low_end, of_ends, of_members, range_of, IsNormal}
+use Rattle.pj_value.specs.Storable.{greatest_int}
+use Rattle.pj_pattern.specs.Normal.{between, by_order, high_end, least_of, low_end, of_ends, of_members, range_of, IsNormal}
 use Rattle.pj_pattern.specs.Meets.{constant_if, earlier_high, later_low, matched, meet_of, range_met}
 use Rattle.pj_pattern.proofs.UpTo.{up_chain}
 use Rattle.pj_pattern.proofs.NormalRanges.{same_kinds}

@@ -10,7 +10,8 @@ use Rattle.pj_value.specs.declared.values.Value.TheVariants.{Int, Text}
 use Rattle.pj_value.specs.Values.{is_kind, value_cmp, value_eq}
 use Rattle.pj_pattern.specs.declared.pattern.Form.TheVariants.{Wild, Empty, Constant, Range, Members}
 use Rattle.pj_pattern.specs.Patterns.{Pattern, all_of_kind, is_end_of_kind, is_of_kind}
-use Rattle.pj_pattern.specs.Normal.{between, by_order, from_low, greatest_int, greatest_of, high_end, insert, insert_by, least_of, low_end, normal_of, of_ends, of_members, range_of, sorted_set}
+use Rattle.pj_value.specs.Storable.{greatest_int}
+use Rattle.pj_pattern.specs.Normal.{between, by_order, from_low, greatest_of, high_end, insert, insert_by, least_of, low_end, normal_of, of_ends, of_members, range_of, sorted_set}
 
 pub least_kind : (kind : Kind) (x : Value) → is_kind kind x ≡ true → is_kind kind (least_of x) ≡ true
 least_kind IntKind (Int n) k = refl

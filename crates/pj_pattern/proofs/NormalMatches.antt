@@ -14,7 +14,8 @@ use Rattle.pj_value.specs.Values.{is_kind, value_cmp, value_eq}
 use Rattle.pj_value.proofs.Orders.{same_if_equal, same_if_tied}
 use Rattle.pj_pattern.specs.declared.pattern.Form.TheVariants.{Wild, Empty, Constant, Range, Members}
 use Rattle.pj_pattern.specs.Patterns.{Pattern, has_value, is_from, is_of_kind, is_of_one_kind, is_to, matches_value, same_kind, up_to}
-use Rattle.pj_pattern.specs.Normal.{between, by_order, from_low, greatest_int, greatest_of, high_end, least_int, least_of, low_end, normal_of, of_ends, of_members, range_of, sorted_set, IsInBounds, IsNormal}
+use Rattle.pj_value.specs.Storable.{IsInBounds, greatest_int, least_int}
+use Rattle.pj_pattern.specs.Normal.{between, by_order, from_low, greatest_of, high_end, least_of, low_end, normal_of, of_ends, of_members, range_of, sorted_set, IsNormal}
 use Rattle.pj_pattern.proofs.UpTo.{none_between, pinned}
 use Rattle.pj_pattern.proofs.NormalRanges.{range_normal, same_kinds}
 use Rattle.pj_pattern.proofs.NormalKinds.{least_kind}

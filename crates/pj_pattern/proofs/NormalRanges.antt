@@ -10,7 +10,8 @@ use Rattle.pj_value.specs.Values.{is_kind, value_cmp, value_eq}
 use Rattle.pj_value.proofs.Orders.{same_if_equal}
 use Rattle.pj_pattern.specs.declared.pattern.Form.TheVariants.{Range}
 use Rattle.pj_pattern.specs.Patterns.{same_kind, is_of_one_kind}
-use Rattle.pj_pattern.specs.Normal.{least_of, greatest_of, least_int, greatest_int, low_end, high_end, unless_greatest, of_ends, by_order, between, from_low, range_of, IsNormal}
+use Rattle.pj_value.specs.Storable.{greatest_int, least_int}
+use Rattle.pj_pattern.specs.Normal.{least_of, greatest_of, low_end, high_end, unless_greatest, of_ends, by_order, between, from_low, range_of, IsNormal}
 
 low_least : (v : Value) → value_eq v (least_of v) ≡ true → low_end v ≡ None
 low_least v e = ap (λ b. cond b None (Some v)) e

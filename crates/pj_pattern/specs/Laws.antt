@@ -5,7 +5,8 @@ use Rattle.pj_value.specs.declared.values.Value.{Value}
 use Rattle.pj_value.specs.Lists.{In}
 use Rattle.pj_value.specs.Values.{is_kind}
 use Rattle.pj_pattern.specs.Patterns.{Pattern, matches_value, covers_pattern, is_of_kind, is_of_one_kind}
-use Rattle.pj_pattern.specs.Normal.{normal_of, IsNormal, IsInBounds}
+use Rattle.pj_value.specs.Storable.{IsInBounds}
+use Rattle.pj_pattern.specs.Normal.{normal_of, IsNormal}
 use Rattle.pj_pattern.specs.Meets.{meet_of}
 use Rattle.pj_pattern.specs.Columns.{matches_row, covers_punct, widen_of}
 use Rattle.pj_pattern.specs.declared.element.Element.{Element}

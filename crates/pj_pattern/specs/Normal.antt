@@ -1,10 +1,11 @@
 -- The normal form of a pattern.
-use Rattle.std.specs.Prelude.{◌≡◌, ℤ, pos, neg_ℤ, ◌-◌, ◌^◌, ◌≤ℤ◌, List, [], ◌∷◌, Option, Some, None, if◌then◌else◌}
+use Rattle.std.specs.Prelude.{◌≡◌, List, [], ◌∷◌, Option, Some, None, if◌then◌else◌}
 use Rattle.std.specs.declared.cmp.Ordering.{Ordering}
 use Rattle.std.specs.declared.cmp.Ordering.TheVariants.{Less, Equal, Greater}
 use Rattle.pj_value.specs.declared.values.Value.{Value}
 use Rattle.pj_value.specs.declared.values.Value.TheVariants.{Int, Text}
 use Rattle.pj_value.specs.Values.{value_cmp, value_eq}
+use Rattle.pj_value.specs.Storable.{greatest_int, least_int}
 use Rattle.pj_pattern.specs.declared.pattern.Form.TheVariants.{Wild, Empty, Constant, Range, Members}
 use Rattle.pj_pattern.specs.Patterns.{Pattern}
 
@@ -32,12 +33,6 @@ of_members (v ∷ []) = Constant v
 of_members (v ∷ w ∷ vs) = Members (v ∷ w ∷ vs)
 
 -- ---- ranges
-
-abbrev pub least_int : ℤ
-least_int = neg_ℤ (pos (2 ^ 63))
-
-abbrev pub greatest_int : ℤ
-greatest_int = pos (2 ^ 63 - 1)
 
 -- the least value of a value's kind
 abbrev pub least_of : Value → Value
@@ -100,8 +95,3 @@ normal_of (Members ms) = of_members (sorted_set ms)
 -- nothing is left to do
 abbrev pub IsNormal : Pattern → Type 0
 IsNormal p = normal_of p ≡ p
-
--- an integer is one of 64 bits
-abbrev pub IsInBounds : Value → Type 0
-IsInBounds (Int n) = (least_int ≤ℤ n) × (n ≤ℤ greatest_int)
-IsInBounds (Text bytes) = Unit {0}

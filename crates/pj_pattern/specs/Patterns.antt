@@ -58,6 +58,14 @@ is_wild (Constant c) = false
 is_wild (Range low high) = false
 is_wild (Members ms) = false
 
+-- the value that the pattern is alone
+abbrev pub constant_in : Pattern → Option Value
+constant_in Wild = None
+constant_in Empty = None
+constant_in (Constant c) = Some c
+constant_in (Range low high) = None
+constant_in (Members ms) = None
+
 -- a low end is missing, or the other one is not below it
 abbrev pub covers_low : Option Value → Option Value → Bool
 covers_low None other = true

@@ -13,4 +13,4 @@ mod punct;
 pub use element::Element;
 pub use laws::{covered_is_matched, lawful_lists, meets_match_both, normal_forms, widened_matches};
 pub use pattern::{Form, Pattern, Shape};
-pub use punct::Punct;
+pub use punct::{Punct, append_copies, append_wild};

@@ -1,6 +1,7 @@
 // A pattern, always in its normal form.
-ghost use Rattle.std.specs.Prelude.{◌≡◌, true, IfOk};
-ghost use Rattle.pj_pattern.specs.Patterns.{covers_pattern, is_of_kind, is_of_one_kind, is_wild, matches_value};
+ghost use Rattle.std.specs.Prelude.{◌≡◌, true, IfOk, IfSome};
+ghost use Rattle.std.specs.Option.{option_copied};
+ghost use Rattle.pj_pattern.specs.Patterns.{constant_in, covers_pattern, is_of_kind, is_of_one_kind, is_wild, matches_value};
 ghost use Rattle.pj_pattern.specs.Normal.{normal_of, IsNormal};
 ghost use Rattle.pj_pattern.specs.Meets.{meet_of};
 ghost use Rattle.pj_pattern.specs.Shapes.{IsShape};
@@ -156,6 +157,20 @@ impl Pattern {
         ensures { result ≡ matches_value self.now value.now }
     {
         form_matches(&self.form, value)
+    }
+
+    /// The value that it matches alone, where it is a constant.
+    pub fn as_constant(&self) -> Option<&Value>
+        ensures value { option_copied result ≡ constant_in self.now }
+        ensures is { IfSome result (λ value. self.now ≡ Form.Constant value.now) }
+    {
+        match &self.form {
+            Form::Wild => None,
+            Form::Empty => None,
+            Form::Constant(value) => Some(value),
+            Form::Range(_, _) => None,
+            Form::Members(_) => None,
+        }
     }
 
     /// Whether it covers the other: a wildcard covers all, and an empty pattern is covered by all; a constant is covered

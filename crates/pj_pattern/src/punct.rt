@@ -38,7 +38,7 @@ impl Punct {
         ensures { IfOk result (λ p. p ≡ all_wild arity) }
     {
         let mut patterns = List::new(alloc);
-        append_wild(arity, &mut patterns)?;
+        append_wild(arity as usize, &mut patterns)?;
         Ok(Punct { patterns })
     }
 
@@ -98,9 +98,9 @@ impl Punct {
         ensures { IfOk result (λ p. p ≡ widen_of before after self.now) }
     {
         let mut patterns = List::new(alloc);
-        append_wild(before, &mut patterns)?;
+        append_wild(before as usize, &mut patterns)?;
         append_copies(alloc, self.patterns.as_slice(), &mut patterns)?;
-        append_wild(after, &mut patterns)?;
+        append_wild(after as usize, &mut patterns)?;
         Ok(Punct { patterns })
     }
 
@@ -114,7 +114,8 @@ impl Punct {
     }
 }
 
-fn append_wild(count: u32, patterns: &mut List<Pattern>) -> Result<(), NoMemory>
+/// Appends so many wildcards. `NoMemory` comes only where memory could not be had.
+pub fn append_wild(count: usize, patterns: &mut List<Pattern>) -> Result<(), NoMemory>
     ensures { OnOk result (patterns.new ≡ patterns.old ++ all_wild count) }
 {
     for _column in 0..count {
@@ -123,7 +124,8 @@ fn append_wild(count: u32, patterns: &mut List<Pattern>) -> Result<(), NoMemory>
     Ok(())
 }
 
-fn append_copies(
+/// Appends equal patterns. `NoMemory` comes only where memory could not be had.
+pub fn append_copies(
     alloc: Global,
     patterns: &[Pattern],
     out: &mut List<Pattern>,

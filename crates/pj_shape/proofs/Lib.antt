@@ -1,4 +1,4 @@
-pub mod Cells
+pub mod CellValues
 pub mod Certificates
 pub mod Classes
 pub mod Joining

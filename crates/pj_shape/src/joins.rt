@@ -1,9 +1,10 @@
 // What a join is: its inputs' columns, and the classes of columns that must be equal.
 ghost use Rattle.std.specs.Prelude.{◌≡◌, ◌<◌, ◌≤◌, Some, length, slice_get, IfOk};
-ghost use Rattle.pj_shape.specs.Joining.{has_column, class_of};
+ghost use Rattle.pj_shape.specs.Joining.{class_of};
 ghost use Rattle.pj_shape.specs.Sound.{IsSoundSpec};
 
 use crate::Schema;
+use crate::cells::has_column;
 use pj_value::{List, NoMemory, TryClone};
 use std::alloc::Global;
 use std::marker::Model;
@@ -114,17 +115,9 @@ fn class_in(classes: &[List<ClassCol>], at: ClassCol) -> Option<u32>
     ensures { result ≡ class_of classes.now at }
 {
     for (n, class) in classes.iter().enumerate() {
-        if holds(class.as_slice(), at) {
+        if has_column(class.as_slice(), at) {
             return Some(n as u32);
         }
     }
     None
-}
-
-fn holds(class: &[ClassCol], at: ClassCol) -> bool
-    ensures { result ≡ has_column class.now at }
-{
-    class
-        .iter()
-        .any(|c| c.input == at.input && c.column == at.column)
 }

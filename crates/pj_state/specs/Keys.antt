@@ -1,7 +1,7 @@
 -- Texts as keys of an index.
 use Rattle.std.specs.Prelude.{ℕ, Bool, List}
 use Rattle.std.specs.Str.{bytes_eq}
-use Rattle.pj_state.specs.Prints.{print_from}
+use Rattle.pj_print.specs.Prints.{with_bytes}
 use Rattle.pj_state.specs.declared.texts.TextKey.{TextKey}
 
 abbrev pub text_key : List ℕ → TextKey
@@ -12,4 +12,4 @@ same_text x y = bytes_eq x.text y.text
 
 -- equal texts have equal ones
 abbrev pub text_print : TextKey → ℕ
-text_print x = print_from 0 x.text
+text_print x = with_bytes 0 x.text

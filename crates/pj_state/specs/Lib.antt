@@ -2,7 +2,6 @@ pub mod Rising
 pub mod States
 pub mod Nears
 pub mod Stores
-pub mod Prints
 pub mod Keys
 pub mod Alike
 pub mod Tickets

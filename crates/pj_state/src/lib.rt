@@ -7,7 +7,6 @@ mod index;
 mod matching;
 mod numbers;
 mod places;
-mod prints;
 mod remaining;
 mod shared;
 mod state;

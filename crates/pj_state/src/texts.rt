@@ -5,8 +5,8 @@ ghost use Rattle.std.specs.Hash as fed;
 ghost use Rattle.pj_state.specs.Keys.{same_text, text_key, text_print};
 ghost use Rattle.pj_state.specs.Alike.{text_prints_agree, texts_equal};
 
-use crate::prints::text_print;
 use indexmap::Equivalent;
+use pj_print::text_print;
 use pj_value::SharedText;
 use std::hash::{Hash, Hasher};
 

@@ -5,8 +5,7 @@ use Rattle.std.proofs.lemmas.List.{map-append}
 use Rattle.std.proofs.lemmas.List.Elements.{filter-append}
 use Rattle.pj_value.proofs.Members.{In-append_cases, In-append_left}
 use Rattle.pj_shape.specs.Columns.{kinds_of}
-use Rattle.pj_pattern.specs.Fitting.{FitsKinds, row_fits}
-use Rattle.pj_value.specs.declared.values.Value.{Value}
+use Rattle.pj_pattern.specs.Fitting.{FitsKinds}
 use Rattle.pj_pattern.specs.Patterns.{Pattern}
 use Rattle.pj_pattern.specs.declared.element.Element.{Element}
 use Rattle.pj_pattern.specs.declared.element.Element.TheVariants.{Tuple, Punct}
@@ -29,11 +28,10 @@ use Rattle.pj_laws.proofs.OneRun.{stream-node-there}
 use Rattle.pj_laws.proofs.OneThreadAnswer.{streams-hold, wilds-fit}
 use Rattle.pj_laws.proofs.Probes.{length-from}
 use Rattle.pj_probe.specs.declared.probe.Found.{Found}
-use Rattle.pj_core.specs.Calls.{HasArrived, HasGiven, HasSwept, IsFresh, IsOpen, TakesNext, arriving_of, closing_of}
+use Rattle.pj_core.specs.Calls.{HasGiven, HasSwept, IsFresh, IsOpen, TakesNext, arriving_of, closing_of}
 use Rattle.pj_core.specs.Cores.{CoreState, MayFollow, StandsFor, nodes_in}
 use Rattle.pj_core.specs.Plans.{RunPlan, nodes_of}
 use Rattle.pj_core.proofs.Planned.{planned}
-use Rattle.pj_core.proofs.Stops.{stop-same}
 use Rattle.pj_core_laws.proofs.UnderWay.{opens-under_way}
 use Rattle.pj_core_laws.proofs.Allowed.{goes-on}
 use Rattle.pj_test_cores.specs.Holding.{AreRows, HasClosed, HasCome, Holding, HoldsStill, HoldsToo, IsFed, IsHolding, LetsGo, pair_plan}

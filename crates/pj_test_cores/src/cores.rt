@@ -1,6 +1,5 @@
 // What no clause says: that the calls succeed with ample memory, and what they give on runs by hand.
-ghost use Rattle.std.specs.Prelude.{◌≡◌, ◌<◌, ◌≤◌, ◌^◌, [], ◌∷◌, None, true, codes, map, length, Bool, IfOk, IsTrue};
-ghost use Rattle.pj_value.specs.declared.values.Kind.TheVariants.{Int as IntKind};
+ghost use Rattle.std.specs.Prelude.{◌≡◌, ◌<◌, ◌≤◌, ◌^◌, [], ◌∷◌, None, true, codes, length, IfOk, IsTrue};
 ghost use Rattle.pj_shape.specs.Columns.{kinds_of};
 ghost use Rattle.pj_pattern.specs.Fitting.{FitsKinds, row_fits, punct_fits};
 ghost use Rattle.pj_plan.specs.Canonical.{node_at};

@@ -3,7 +3,8 @@ ghost use Rattle.std.specs.Prelude.{◌≡◌, ◌<◌, All, ◌&&◌, ℤ, pos,
 ghost use Rattle.pj_value.specs.declared.values.Value.TheVariants.{Int, Text};
 ghost use Rattle.pj_pattern.specs.declared.pattern.Form.TheVariants.{Wild, Empty, Constant, Range, Members};
 ghost use Rattle.pj_pattern.specs.Patterns.{covers_pattern, matches_value};
-ghost use Rattle.pj_pattern.specs.Normal.{greatest_int, least_int, normal_of};
+ghost use Rattle.pj_value.specs.Storable.{greatest_int, least_int};
+ghost use Rattle.pj_pattern.specs.Normal.{normal_of};
 ghost use Rattle.pj_pattern.specs.Meets.{meet_of};
 ghost use Rattle.pj_pattern.specs.Columns.{keep_of, widen_of};
 

@@ -1,23 +1,13 @@
 -- The auction's plan behind a hub.
-use Rattle.std.proofs.Common.{ℕ, ◌<◌, ◌≡◌, ◌++◌, Bool, true, false, List, [], ◌∷◌, Result, Ok, Err, length, get_or, sym, ap, ◌∙◌, subst, arith}
+use Rattle.std.proofs.Common.{ℕ, ◌<◌, true, false, Result, Ok, Err, length, get_or, sym, ap, ◌∙◌, subst, arith}
 use Rattle.std.specs.Prelude.{IfOk}
-use Rattle.std.proofs.lemmas.Bool.{false≢true}
-use Rattle.std.proofs.lemmas.List.{length-map}
-use Rattle.pj_shape.specs.declared.columns.Column.{Column}
-use Rattle.pj_shape.specs.declared.joins.CertStep.{CertStep}
 use Rattle.pj_shape.specs.Columns.{kinds_of}
-use Rattle.pj_plan.specs.declared.node.Node.{Node as Operation}
-use Rattle.pj_plan.specs.declared.node.Node.TheVariants.{Stream as StreamNode, Select as SelectNode, Project as ProjectNode, Union as UnionNode, Join as JoinNode, Group as GroupNode}
-use Rattle.pj_plan.specs.declared.node.PlanNode.{PlanNode}
-use Rattle.pj_plan.specs.Canonical.{no_node, node_schema}
-use Rattle.pj_plan.specs.Nodes.{inputs_of, is_join}
-use Rattle.pj_plan.specs.Sound.{IsSoundOperator, IsSoundPlan}
-use Rattle.pj_scheme.specs.Derived.{inputs_schemes, schemes_of}
-use Rattle.pj_events.specs.Join.{inputs}
+use Rattle.pj_plan.specs.Canonical.{no_node}
+use Rattle.pj_plan.specs.Sound.{IsSoundPlan}
+use Rattle.pj_scheme.specs.Derived.{schemes_of}
 use Rattle.pj_events.specs.Plan.{Operator}
-use Rattle.pj_join.specs.Joins.{join_data}
 use Rattle.pj_laws.specs.Seats.{HasInput, IsInputOf}
-use Rattle.pj_core.specs.Plans.{RunPlan, nodes_of, operator_of}
+use Rattle.pj_core.specs.Plans.{RunPlan, nodes_of}
 use Rattle.pj_core.proofs.Frames.{certs_at, operator-is}
 use Rattle.pj_core.proofs.Planned.{nodes-long}
 use Rattle.pj_core_laws.proofs.PlainAnswers.{same-streams}

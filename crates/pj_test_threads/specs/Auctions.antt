@@ -1,5 +1,5 @@
 -- The auction of the tests, as contracts of plans and of hubs speak of it.
-use Rattle.std.specs.Prelude.{ℕ, ◌≡◌, ◌<◌, ◌≤◌, true, List, [], ◌∷◌, length}
+use Rattle.std.specs.Prelude.{ℕ, ◌≡◌, ◌<◌, true, List, [], ◌∷◌, length}
 use Rattle.pj_value.specs.declared.values.Kind.{Kind}
 use Rattle.pj_value.specs.declared.values.Kind.TheVariants.{Int as IntKind, Text as TextKind}
 use Rattle.pj_value.specs.declared.values.Value.{Value}

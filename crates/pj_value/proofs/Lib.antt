@@ -8,3 +8,4 @@ pub mod Plain
 pub mod Printable
 pub mod Slices
 pub mod Spellings
+pub mod StorableValues

@@ -5,5 +5,6 @@ pub mod Options
 pub mod Parts
 pub mod Rows
 pub mod Spellings
+pub mod Storable
 pub mod Values
 pub mod Texts

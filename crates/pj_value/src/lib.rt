@@ -10,6 +10,7 @@ mod parts;
 mod rows;
 mod shared_text;
 mod spelling;
+mod storable;
 mod texts;
 mod values;
 
@@ -20,5 +21,6 @@ pub use lists::{Bytes, List, NoMemory};
 pub use rows::Row;
 pub use shared_text::SharedText;
 pub use spelling::Spelling;
+pub use storable::{see_row, see_value, see_values};
 pub use texts::{plain_len, value_text};
 pub use values::{Kind, Value};

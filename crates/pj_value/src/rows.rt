@@ -99,8 +99,8 @@ impl Row {
         }
     }
 
-    /// All values in two slices, one behind the other; `None` where they stand in more pieces.
-    pub fn as_slices(&self) -> Option<(&[Value], &[Value])>
+    // All values in two slices, one behind the other; `None` where they stand in more pieces.
+    pub(crate) fn as_slices(&self) -> Option<(&[Value], &[Value])>
         ensures { IfSome result (λ slices. slices.0.now ++ slices.1.now ≡ self.now) }
     {
         match &self.parts {

@@ -1,5 +1,5 @@
 use Rattle.std.proofs.Common.{◌+◌, ◌∙◌, ap, sym, drop}
-use Rattle.pj_group.specs.Prints.{with_values}
+use Rattle.pj_print.specs.Prints.{with_values}
 use Rattle.pj_group.proofs.Equality.{print_more}
 use Rattle.pj_group.proofs.keys.print.Goals as goal
 

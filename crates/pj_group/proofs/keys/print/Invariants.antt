@@ -1,5 +1,5 @@
 use Rattle.std.proofs.Common.{◌≡◌, drop}
-use Rattle.pj_group.specs.Prints.{with_values}
+use Rattle.pj_print.specs.Prints.{with_values}
 use Rattle.pj_group.proofs.keys.print.Given as goal
 
 abbrev pub invariant-loop-column : goal.invariant-loop-column

@@ -1,6 +1,6 @@
 use Rattle.std.proofs.Common.{◌∙◌, ap}
 use Rattle.pj_value.specs.Values.{value_eq}
-use Rattle.pj_shape.proofs.Cells.{cell_read}
+use Rattle.pj_shape.proofs.CellValues.{cell_read}
 use Rattle.pj_join.proofs.walk.has_cell.Goals as goal
 
 pub returns : goal.returns

@@ -1,5 +1,0 @@
-use Rattle.pj_element.proofs.Stored.{StorableSoFar}
-use Rattle.pj_element.proofs.storable.see_columns.Given as goal
-
-abbrev pub invariant-loop-column : goal.invariant-loop-column
-invariant-loop-column l = StorableSoFar l.row l.column
