@@ -50,32 +50,32 @@ some_length (x ∷ xs) t = omega arith
 
 -- ---- a stream
 
-pub stream_good : (draft : Draft) (name : List ℕ) (columns : List ColumnWord) → is_spelled (Stream name columns) ≡ true → HasNone draft (Stream name columns) → IsGoodNode draft.nodes (node_of draft.nodes name (Stream name columns))
+pub stream_good : (draft : Draft) (name : List ℕ) (columns : List ColumnWord) → is_spelled (Stream name columns) ≡ true → HasNone draft (Stream name columns) → IsGoodNode draft.nodes (node_of draft name (Stream name columns))
 stream_good draft name columns spelled none =
     let nodes : List PlanNode = draft.nodes in
     let statement : Statement = Stream name columns in
-    let limits = or_parts (nat_le 16 (stream_count nodes)) (is_too_wide nodes statement) none.few in
-    let room = has_room nodes statement limits.1 in
+    let limits = or_parts (nat_le 16 (stream_count nodes)) (is_too_wide draft statement) none.few in
+    let room = has_room draft statement limits.1 in
     let words = and_parts (is_name name) (has_some columns && list_all (λ column. is_column_name column.name) columns) spelled in
     let some = some_length columns (and_parts (has_some columns) (list_all (λ column. is_column_name column.name) columns) words.1).0 in
     record {
       room = room.0;
       streams = λ t. leb-false 16 (stream_count nodes) limits.0;
       fresh = none.name;
-      schema = record { some = rw (length-map columns stream_column) some; few = room.1; names = names_differ (result_schema nodes statement) none.different };
+      schema = record { some = rw (length-map columns stream_column) some; few = room.1; names = names_differ (result_schema draft statement) none.different };
       inputs = inputs_free draft statement none;
       operator = (omega arith, (λ scheme h. absurd h));
     }
 
 -- ---- a select
 
-pub select_good : (draft : Draft) (name input : List ℕ) (tests : List TestWord) → AreSound draft.nodes → HasNone draft (Select name input tests) → IsGoodNode draft.nodes (node_of draft.nodes name (Select name input tests))
+pub select_good : (draft : Draft) (name input : List ℕ) (tests : List TestWord) → AreSound draft.nodes → HasNone draft (Select name input tests) → IsGoodNode draft.nodes (node_of draft name (Select name input tests))
 select_good draft name input tests each none =
     let nodes : List PlanNode = draft.nodes in
     let statement : Statement = Select name input tests in
     let schema : IsSoundSchema (schema_of nodes input) = known_schema nodes input each (name_known nodes (input ∷ []) input none.names (inl refl)) in
     record {
-      room = (has_room nodes statement none.few).0;
+      room = (has_room draft statement none.few).0;
       streams = λ t. absurd (false≢true t);
       fresh = none.name;
       schema = schema;
@@ -96,11 +96,11 @@ project_suits nodes input columns known =
     (sym (number_schema nodes input))
     (project_there (schema_of nodes input) columns known, project_kinds (schema_of nodes input) columns)
 
-pub project_good : (draft : Draft) (name input : List ℕ) (columns : List Renamed) → is_spelled (Project name input columns) ≡ true → HasNone draft (Project name input columns) → IsGoodNode draft.nodes (node_of draft.nodes name (Project name input columns))
+pub project_good : (draft : Draft) (name input : List ℕ) (columns : List Renamed) → is_spelled (Project name input columns) ≡ true → HasNone draft (Project name input columns) → IsGoodNode draft.nodes (node_of draft name (Project name input columns))
 project_good draft name input columns spelled none =
     let nodes : List PlanNode = draft.nodes in
     let statement : Statement = Project name input columns in
-    let room = has_room nodes statement none.few in
+    let room = has_room draft statement none.few in
     let words = and_parts (is_name name && is_name input) (has_some columns && list_all (λ column. is_column_name column.new && is_column_name column.old) columns) spelled in
     let some = some_length columns (and_parts (has_some columns) (list_all (λ column. is_column_name column.new && is_column_name column.old) columns) words.1).0 in
     let known : (w : Renamed) → In w columns → has_column (schema_of nodes input) w.old ≡ true = λ w h. subst (λ (cs : List Column). has_column cs w.old ≡ true) (columns_of_one nodes input) (column_known draft statement w.old none (In-map_from (λ (column : Renamed). column.old) w columns h)) in
@@ -108,7 +108,7 @@ project_good draft name input columns spelled none =
       room = room.0;
       streams = λ t. absurd (false≢true t);
       fresh = none.name;
-      schema = record { some = rw (length-map columns (renamed_column (schema_of nodes input))) some; few = room.1; names = names_differ (result_schema nodes statement) none.different };
+      schema = record { some = rw (length-map columns (renamed_column (schema_of nodes input))) some; few = room.1; names = names_differ (result_schema draft statement) none.different };
       inputs = inputs_free draft statement none;
       operator = project_suits nodes input columns known;
     }
@@ -123,17 +123,17 @@ first_sound : (nodes : List PlanNode) (inputs : List (List ℕ)) → AreSound no
 first_sound nodes [] each two known = absurd (omega (arith, two))
 first_sound nodes (n ∷ ns) each two known = known_schema nodes n each (known n (inl refl))
 
-pub union_good : (draft : Draft) (name : List ℕ) (inputs : List (List ℕ)) → is_spelled (Union name inputs) ≡ true → AreSound draft.nodes → HasNone draft (Union name inputs) → IsGoodNode draft.nodes (node_of draft.nodes name (Union name inputs))
+pub union_good : (draft : Draft) (name : List ℕ) (inputs : List (List ℕ)) → is_spelled (Union name inputs) ≡ true → AreSound draft.nodes → HasNone draft (Union name inputs) → IsGoodNode draft.nodes (node_of draft name (Union name inputs))
 union_good draft name inputs spelled each none =
     let nodes : List PlanNode = draft.nodes in
     let statement : Statement = Union name inputs in
-    let limits = or_parts (nat_lt 16 (length inputs)) (is_too_wide nodes statement) none.few in
+    let limits = or_parts (nat_lt 16 (length inputs)) (is_too_wide draft statement) none.few in
     let two : 2 ≤ length inputs = leb-true 2 (length inputs) (and_parts (nat_le 2 (length inputs)) (list_all is_name inputs) (and_parts (is_name name) (are_inputs inputs) spelled).1).0 in
     let few : length inputs ≤ 16 = ltb-false 16 (length inputs) limits.0 in
     let alike : (n : List ℕ) → In n inputs → are_alike (first_schema nodes inputs) (schema_of nodes n) ≡ true = λ n h. not-false (are_alike (first_schema nodes inputs) (schema_of nodes n)) (false_from_ne_true (is_unlike (first_schema nodes inputs) (schema_of nodes n))
     (λ t. none_at (is_unlike (first_schema nodes inputs)) (map (schema_of nodes) inputs) (schema_of nodes n) none.kinds (In-map_from (schema_of nodes) n inputs h) t)) in
     record {
-      room = (has_room nodes statement limits.1).0;
+      room = (has_room draft statement limits.1).0;
       streams = λ t. absurd (false≢true t);
       fresh = none.name;
       schema = first_sound nodes inputs each two (λ n h. name_known nodes inputs n none.names h);
@@ -185,15 +185,15 @@ join_words draft name inputs classes spelled none words h =
     }
 
 pub join_good : (draft : Draft) (name : List ℕ) (inputs : List (List ℕ)) (classes : List (List (List ℕ))) → is_spelled (Join name inputs classes) ≡ true → AreSound draft.nodes → HasNone draft (Join name inputs classes)
-    → IsGoodNode draft.nodes (node_of draft.nodes name (Join name inputs classes))
+    → IsGoodNode draft.nodes (node_of draft name (Join name inputs classes))
 join_good draft name inputs classes spelled each none =
     let nodes : List PlanNode = draft.nodes in
     let statement : Statement = Join name inputs classes in
     let schemas : List (List Column) = map (schema_of nodes) inputs in
     let bad = or_parts (list_any (has_one_input_twice schemas) classes) (share_a_column classes) none.classes in
-    let limits = or_parts (nat_lt 16 (length inputs) || nat_lt 32 (length classes)) (is_too_wide nodes statement) none.few in
+    let limits = or_parts (nat_lt 16 (length inputs) || nat_lt 32 (length classes)) (is_too_wide draft statement) none.few in
     let fews = or_parts (nat_lt 16 (length inputs)) (nat_lt 32 (length classes)) limits.0 in
-    let room = has_room nodes statement limits.1 in
+    let room = has_room draft statement limits.1 in
     let parts = and_parts (is_name name && are_inputs inputs) (has_some classes && list_all is_class classes) spelled in
     let two : 2 ≤ length inputs = leb-true 2 (length inputs) (and_parts (nat_le 2 (length inputs)) (list_all is_name inputs) (and_parts (is_name name) (are_inputs inputs) parts.0).1).0 in
     let words = and_parts (has_some classes) (list_all is_class classes) parts.1 in
@@ -247,12 +247,12 @@ group_suits nodes input keys aggs good =
     (sym (number_schema nodes input))
     (sound_group columns keys aggs good, first, kinds_of_group columns keys aggs)
 
-pub group_good : (draft : Draft) (name input : List ℕ) (keys : List (List ℕ)) (aggs : List NamedAgg) → is_spelled (Group name input keys aggs) ≡ true → HasNone draft (Group name input keys aggs) → IsGoodNode draft.nodes (node_of draft.nodes name (Group name input keys aggs))
+pub group_good : (draft : Draft) (name input : List ℕ) (keys : List (List ℕ)) (aggs : List NamedAgg) → is_spelled (Group name input keys aggs) ≡ true → HasNone draft (Group name input keys aggs) → IsGoodNode draft.nodes (node_of draft name (Group name input keys aggs))
 group_good draft name input keys aggs spelled none =
     let nodes : List PlanNode = draft.nodes in
     let statement : Statement = Group name input keys aggs in
     let columns : List Column = schema_of nodes input in
-    let room = has_room nodes statement none.few in
+    let room = has_room draft statement none.few in
     let good : IsGoodGroup columns keys aggs = group_words draft name input keys aggs spelled none in
     let some : 1 ≤ length keys = good.some_keys in
     record {

@@ -174,13 +174,13 @@ after_sound draft statement spelled sound e = go statement spelled (has_none dra
   where
     go : (s : Statement) → is_spelled s ≡ true → HasNone draft s → IsSoundDraft (after draft s)
     go (Plan version) p none = record { few = sound.few; few_streams = sound.few_streams; names = sound.names; each = sound.each; once = sound.once; ended = sound.ended }
-    go (Stream name columns) p none = with_node draft (node_of draft.nodes name (Stream name columns)) sound (and_true (is_there draft.output) none.last) (stream_good draft name columns p none)
+    go (Stream name columns) p none = with_node draft (node_of draft name (Stream name columns)) sound (and_true (is_there draft.output) none.last) (stream_good draft name columns p none)
     go (Scheme stream marks) p none = with_marks draft stream marks sound none
-    go (Select name input tests) p none = with_node draft (node_of draft.nodes name (Select name input tests)) sound (and_true (is_there draft.output) none.last) (select_good draft name input tests sound.each none)
-    go (Project name input columns) p none = with_node draft (node_of draft.nodes name (Project name input columns)) sound (and_true (is_there draft.output) none.last) (project_good draft name input columns p none)
-    go (Union name inputs) p none = with_node draft (node_of draft.nodes name (Union name inputs)) sound (and_true (is_there draft.output) none.last) (union_good draft name inputs p sound.each none)
-    go (Join name inputs classes) p none = with_node draft (node_of draft.nodes name (Join name inputs classes)) sound (and_true (is_there draft.output) none.last) (join_good draft name inputs classes p sound.each none)
-    go (Group name input keys aggs) p none = with_node draft (node_of draft.nodes name (Group name input keys aggs)) sound (and_true (is_there draft.output) none.last) (group_good draft name input keys aggs p none)
+    go (Select name input tests) p none = with_node draft (node_of draft name (Select name input tests)) sound (and_true (is_there draft.output) none.last) (select_good draft name input tests sound.each none)
+    go (Project name input columns) p none = with_node draft (node_of draft name (Project name input columns)) sound (and_true (is_there draft.output) none.last) (project_good draft name input columns p none)
+    go (Union name inputs) p none = with_node draft (node_of draft name (Union name inputs)) sound (and_true (is_there draft.output) none.last) (union_good draft name inputs p sound.each none)
+    go (Join name inputs classes) p none = with_node draft (node_of draft name (Join name inputs classes)) sound (and_true (is_there draft.output) none.last) (join_good draft name inputs classes p sound.each none)
+    go (Group name input keys aggs) p none = with_node draft (node_of draft name (Group name input keys aggs)) sound (and_true (is_there draft.output) none.last) (group_good draft name input keys aggs p none)
     go (Output name) p none = with_end draft name sound none (inputs_free draft (Output name) none)
     go (Bad why) p none = sound
 

@@ -25,9 +25,9 @@ few_used draft statement e = go statement (has_none draft statement e)
     go (Select name input tests) none = omega arith
     go (Project name input columns) none = omega arith
     go (Union name inputs) none =
-        ltb-false 16 (length inputs) (or_parts (nat_lt 16 (length inputs)) (is_too_wide draft.nodes (Union name inputs)) none.few).0
+        ltb-false 16 (length inputs) (or_parts (nat_lt 16 (length inputs)) (is_too_wide draft (Union name inputs)) none.few).0
     go (Join name inputs classes) none =
-        let both = or_parts (nat_lt 16 (length inputs) || nat_lt 32 (length classes)) (is_too_wide draft.nodes (Join name inputs classes)) none.few in
+        let both = or_parts (nat_lt 16 (length inputs) || nat_lt 32 (length classes)) (is_too_wide draft (Join name inputs classes)) none.few in
         ltb-false 16 (length inputs) (or_parts (nat_lt 16 (length inputs)) (nat_lt 32 (length classes)) both.0).0
     go (Group name input keys aggs) none = omega arith
     go (Output name) none = omega arith

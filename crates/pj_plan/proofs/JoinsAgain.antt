@@ -67,14 +67,14 @@ join_again front name schema inputs spec next =
         names = named.known;
         stream = refl;
         columns = subst (λ (cs : List Column). list_any (has_no_column cs) (flat_map (λ class. class) classes) ≡ false) (sym whole) known;
-        different = all_differ (result_schema front statement) schema same good.schema;
+        different = all_differ (result_schema (draft_of front) statement) schema same good.schema;
         kinds = subst (λ (cs : List Column). list_any (has_two_kinds cs) classes ≡ false) (sym whole) kinds;
         classes = or_from (list_any (has_one_input_twice (map (schema_of front) names)) classes) (share_a_column classes) (subst (λ (ss : List (List Column)). list_any (has_one_input_twice ss) classes ≡ false) (sym all) once) apart;
         scheme = refl;
         unused = named.unused;
         once = named.once;
         all_used = refl;
-        few = or_from (nat_lt 16 (length names) || nat_lt 32 (length classes)) (is_too_wide front statement)
+        few = or_from (nat_lt 16 (length names) || nat_lt 32 (length classes)) (is_too_wide (draft_of front) statement)
             (or_from (nat_lt 16 (length names)) (nat_lt 32 (length classes)) (le-ltb 16 (length names) few_inputs) (le-ltb 32 (length classes) few_classes))
             (fits_width front statement schema good.room good.schema same);
         last = refl;
@@ -132,7 +132,7 @@ group_again front name schema input spec next =
         names = named.known;
         stream = refl;
         columns = subst (λ (cs : List Column). list_any (has_no_column cs) (keys ++ flat_map (λ agg. agg_columns agg.agg) aggs) ≡ false) (sym whole) known;
-        different = all_differ (result_schema front statement) schema result good.schema;
+        different = all_differ (result_schema (draft_of front) statement) schema result good.schema;
         kinds = subst (λ (cs : List Column). list_any (names_text_sum cs) aggs ≡ false) (sym same) sums;
         classes = refl;
         scheme = refl;

@@ -112,7 +112,7 @@ column_known draft statement name none h =
     not-false (has_column columns name) (false_from_ne_true (has_no_column columns name) (λ t. none_at (has_no_column columns) (named_columns statement) name none.columns h t))
 
 -- there is room for the node and its columns
-pub has_room : (nodes : List PlanNode) (statement : Statement) → is_too_wide nodes statement ≡ false → (length nodes < 64) × (length (result_schema nodes statement) ≤ 120)
-has_room nodes statement e =
-    let both = or_parts (nat_le 64 (length nodes)) (nat_lt 120 (length (result_schema nodes statement))) e in
-    (leb-false 64 (length nodes) both.0, ltb-false 120 (length (result_schema nodes statement)) both.1)
+pub has_room : (draft : Draft) (statement : Statement) → is_too_wide draft statement ≡ false → (length draft.nodes < 64) × (length (result_schema draft statement) ≤ 120)
+has_room draft statement e =
+    let both = or_parts (nat_le 64 (length draft.nodes)) (nat_lt 120 (length (result_schema draft statement))) e in
+    (leb-false 64 (length draft.nodes) both.0, ltb-false 120 (length (result_schema draft statement)) both.1)

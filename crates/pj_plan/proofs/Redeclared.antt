@@ -81,10 +81,10 @@ inputs_by_name front numbers d free = record {
 pub no_unknown : (columns : List Column) (names : List (List ℕ)) → ((name : List ℕ) → In name names → has_column columns name ≡ true) → list_any (has_no_column columns) names ≡ false
 no_unknown columns names known = none_from (has_no_column columns) names (λ name h. not_from_true (has_column columns name) (known name h))
 
-pub fits_width : (front : List PlanNode) (statement : Statement) (schema : List Column) → length front < 64 → IsSoundSchema schema → result_schema front statement ≡ schema → is_too_wide front statement ≡ false
+pub fits_width : (front : List PlanNode) (statement : Statement) (schema : List Column) → length front < 64 → IsSoundSchema schema → result_schema (draft_of front) statement ≡ schema → is_too_wide (draft_of front) statement ≡ false
 fits_width front statement schema room sound e =
-    or_from (nat_le 64 (length front)) (nat_lt 120 (length (result_schema front statement))) (lt-leb 64 (length front) room)
-    (le-ltb 120 (length (result_schema front statement)) (subst (λ (cs : List Column). length cs ≤ 120) (sym e) sound.few))
+    or_from (nat_le 64 (length front)) (nat_lt 120 (length (result_schema (draft_of front) statement))) (lt-leb 64 (length front) room)
+    (le-ltb 120 (length (result_schema (draft_of front) statement)) (subst (λ (cs : List Column). length cs ≤ 120) (sym e) sound.few))
 
 pub all_differ : (columns schema : List Column) → columns ≡ schema → IsSoundSchema schema → share_a_name columns ≡ false
 all_differ columns schema e sound = subst (λ (cs : List Column). share_a_name cs ≡ false) (sym e) (none_shared schema sound.names)
@@ -106,14 +106,14 @@ stream_again front name schema schemes next =
         names = refl;
         stream = refl;
         columns = refl;
-        different = all_differ (result_schema front statement) schema (column_words_again schema) good.schema;
+        different = all_differ (result_schema (draft_of front) statement) schema (column_words_again schema) good.schema;
         kinds = refl;
         classes = refl;
         scheme = refl;
         unused = refl;
         once = refl;
         all_used = refl;
-        few = or_from (nat_le 16 (stream_count front)) (is_too_wide front statement) (lt-leb 16 (stream_count front) (good.streams refl)) (fits_width front statement schema good.room good.schema (column_words_again schema));
+        few = or_from (nat_le 16 (stream_count front)) (is_too_wide (draft_of front) statement) (lt-leb 16 (stream_count front) (good.streams refl)) (fits_width front statement schema good.room good.schema (column_words_again schema));
         last = refl;
       }),
       ap (λ (s : List Column). draft_of (front ++ record { name = name; schema = s; node = StreamNode [] } ∷ [])) (column_words_again schema),
@@ -143,7 +143,7 @@ select_again front name schema input test next =
         names = named.known;
         stream = refl;
         columns = subst (λ (cs : List Column). list_any (has_no_column cs) (map (λ test. test.column) (tests_of schema test)) ≡ false) (sym whole) known;
-        different = all_differ (result_schema front statement) schema same good.schema;
+        different = all_differ (result_schema (draft_of front) statement) schema same good.schema;
         kinds = subst (λ (cs : List Column). list_any (misses_its_kind cs) (tests_of schema test) ≡ false) (sym same) kinds;
         classes = refl;
         scheme = refl;
@@ -186,7 +186,7 @@ project_again front name schema input numbers next =
         names = named.known;
         stream = refl;
         columns = subst (λ (cs : List Column). list_any (has_no_column cs) (map (λ column. column.old) words) ≡ false) (sym whole) known;
-        different = all_differ (result_schema front statement) schema result good.schema;
+        different = all_differ (result_schema (draft_of front) statement) schema result good.schema;
         kinds = refl;
         classes = refl;
         scheme = refl;
@@ -232,14 +232,14 @@ union_again front name schema inputs next =
         names = named.known;
         stream = refl;
         columns = refl;
-        different = all_differ (result_schema front statement) schema same good.schema;
+        different = all_differ (result_schema (draft_of front) statement) schema same good.schema;
         kinds = rw (same, all) kinds;
         classes = refl;
         scheme = refl;
         unused = named.unused;
         once = named.once;
         all_used = refl;
-        few = or_from (nat_lt 16 (length names)) (is_too_wide front statement) (le-ltb 16 (length names) few) (fits_width front statement schema good.room good.schema same);
+        few = or_from (nat_lt 16 (length names)) (is_too_wide (draft_of front) statement) (le-ltb 16 (length names) few) (fits_width front statement schema good.room good.schema same);
         last = refl;
       }),
       ap (λ (n : PlanNode). draft_of (front ++ n ∷ [])) (node_same name (first_schema front names) schema (UnionNode (map (number_of front) names)) (UnionNode inputs) same (ap UnionNode (nodes_again front inputs next.names good.inputs.before))),

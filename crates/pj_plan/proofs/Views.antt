@@ -9,8 +9,6 @@ use Rattle.pj_plan.specs.declared.node.Node.TheVariants.{Stream, Select, Project
 use Rattle.pj_plan.specs.Faults.{schemes_of}
 use Rattle.pj_plan.specs.Nodes.{stated_in}
 
--- ---- inputs
-
 pub only_first : (input at : ℕ) → at ≡ 0 → Some input ≡ slice_get (input ∷ []) at
 only_first input at first = sym (ap (slice_get (input ∷ [])) first)
 
@@ -19,8 +17,7 @@ none_behind input zero behind = absurd (behind refl)
 none_behind input (suc at) behind = refl
 
 pub drop_at : {A : Type 0} (items : List A) (at : ℕ) (item : A) → slice_get items at ≡ Some item → drop at items ≡ item ∷ drop (at + 1) items
-drop_at items at item there =
-    drop_more items at item (slice_get_within items at item there) ∙ ap (λ (x : _). x ∷ drop (at + 1) items) (get_or_from_slice_get items at item item there)
+drop_at items at item there = drop_more items at item (slice_get_within items at item there) ∙ ap (λ (x : _). x ∷ drop (at + 1) items) (get_or_from_slice_get items at item item there)
 
 pub input_is : (inputs : List ℕ) (at input number : ℕ) → Some input ≡ slice_get inputs at → (input == number) ≡ (slice_index inputs at == number)
 input_is inputs at input number there = ap (λ (n : ℕ). n == number) (sym (get_or_from_slice_get inputs at input 0 (sym there)))
@@ -28,8 +25,6 @@ input_is inputs at input number there = ap (λ (n : ℕ). n == number) (sym (get
 -- an input below their number is there
 pub input_there : (inputs : List ℕ) (at number : ℕ) → at < length inputs → None ≡ slice_get inputs at → false ≡ (slice_index inputs at == number)
 input_there inputs at number below none = absurd (none-some _ (none ∙ slice_get-get_or inputs at 0 below))
-
--- ---- schemes
 
 pub schemes_counted : (node : Node) (schemes : List (List Bool)) → Some schemes ≡ stated_in node → length schemes ≡ schemes_of node
 schemes_counted (Stream schemes) others is = ap count is

@@ -137,8 +137,8 @@ known_in (n ∷ ns) name t = go (bytes_eq name n.name) t (known_in ns name)
 known_named : (nodes : List PlanNode) (name : List ℕ) → AreWritten nodes → is_known nodes name ≡ true → AreNamed (schema_of nodes name)
 known_named nodes name written known = let r = known_in nodes name known in subst AreNamed r.2 (written r.0 r.1).columns
 
-stream_written : (nodes : List PlanNode) (name : List ℕ) (columns : List ColumnWord) → is_spelled (Stream name columns) ≡ true → IsWrittenNode (node_of nodes name (Stream name columns))
-stream_written nodes name columns spelled =
+stream_written : (draft : Draft) (name : List ℕ) (columns : List ColumnWord) → is_spelled (Stream name columns) ≡ true → IsWrittenNode (node_of draft name (Stream name columns))
+stream_written draft name columns spelled =
     let parts = and_parts (is_name name) (has_some columns && list_all (λ column. is_column_name column.name) columns) spelled in
     let all = (and_parts (has_some columns) (list_all (λ column. is_column_name column.name) columns) parts.1).1 in
     record {
@@ -148,7 +148,7 @@ stream_written nodes name columns spelled =
     }
 
 select_written : (draft : Draft) (name input : List ℕ) (tests : List TestWord) → is_spelled (Select name input tests) ≡ true → IsSoundDraft draft → AreWritten draft.nodes → HasNone draft (Select name input tests)
-    → IsWrittenNode (node_of draft.nodes name (Select name input tests))
+    → IsWrittenNode (node_of draft name (Select name input tests))
 select_written draft name input tests spelled sound written none =
     let parts = and_parts (is_name name && is_name input) ((has_some tests && nat_le (length tests) 62) && list_all (λ test. is_column_name test.column) tests) spelled in
     let few = and_parts (has_some tests) (nat_le (length tests) 62) (and_parts (has_some tests && nat_le (length tests) 62) (list_all (λ test. is_column_name test.column) tests) parts.1).0 in
@@ -157,13 +157,13 @@ select_written draft name input tests spelled sound written none =
     let made : length (tests_made tests (schema_of draft.nodes input)) ≤ length tests = few_tests tests (schema_of draft.nodes input) (known_schema draft.nodes input sound.each known).names in
     record { name = (and_parts (is_name name) (is_name input) parts.0).0; columns = known_named draft.nodes input written known; words = omega (arith, most, made) }
 
-project_written : (nodes : List PlanNode) (name input : List ℕ) (columns : List Renamed) → is_spelled (Project name input columns) ≡ true → IsWrittenNode (node_of nodes name (Project name input columns))
-project_written nodes name input columns spelled =
+project_written : (draft : Draft) (name input : List ℕ) (columns : List Renamed) → is_spelled (Project name input columns) ≡ true → IsWrittenNode (node_of draft name (Project name input columns))
+project_written draft name input columns spelled =
     let parts = and_parts (is_name name && is_name input) (has_some columns && list_all (λ column. is_column_name column.new && is_column_name column.old) columns) spelled in
     let all = (and_parts (has_some columns) (list_all (λ column. is_column_name column.new && is_column_name column.old) columns) parts.1).1 in
     record {
       name = (and_parts (is_name name) (is_name input) parts.0).0;
-      columns = λ c h. let r = In-map (renamed_column (schema_of nodes input)) c columns h in
+      columns = λ c h. let r = In-map (renamed_column (schema_of draft.nodes input)) c columns h in
           subst (λ (x : Column). is_column_name x.name ≡ true) r.2 (and_parts (is_column_name r.0.new) (is_column_name r.0.old) (all_at (λ (w : Renamed). is_column_name w.new && is_column_name w.old) columns r.0 all r.1)).0;
       words = tt;
     }
@@ -172,7 +172,7 @@ first_named : (nodes : List PlanNode) (inputs : List (List ℕ)) → AreWritten 
 first_named nodes [] written known c h = absurd h
 first_named nodes (n ∷ ns) written known c h = known_named nodes n written (known n (inl refl)) c h
 
-union_written : (draft : Draft) (name : List ℕ) (inputs : List (List ℕ)) → is_spelled (Union name inputs) ≡ true → AreWritten draft.nodes → HasNone draft (Union name inputs) → IsWrittenNode (node_of draft.nodes name (Union name inputs))
+union_written : (draft : Draft) (name : List ℕ) (inputs : List (List ℕ)) → is_spelled (Union name inputs) ≡ true → AreWritten draft.nodes → HasNone draft (Union name inputs) → IsWrittenNode (node_of draft name (Union name inputs))
 union_written draft name inputs spelled written none = record {
   name = (and_parts (is_name name) (are_inputs inputs) spelled).0;
   columns = first_named draft.nodes inputs written (λ n h. name_known draft.nodes inputs n none.names h);
@@ -180,7 +180,7 @@ union_written draft name inputs spelled written none = record {
 }
 
 join_written : (draft : Draft) (name : List ℕ) (inputs : List (List ℕ)) (classes : List (List (List ℕ))) → is_spelled (Join name inputs classes) ≡ true → AreWritten draft.nodes → HasNone draft (Join name inputs classes)
-    → IsWrittenNode (node_of draft.nodes name (Join name inputs classes))
+    → IsWrittenNode (node_of draft name (Join name inputs classes))
 join_written draft name inputs classes spelled written none =
     let schemas : List (List Column) = map (schema_of draft.nodes) inputs in
     let parts = and_parts (is_name name && are_inputs inputs) (has_some classes && list_all is_class classes) spelled in
@@ -190,15 +190,15 @@ join_written draft name inputs classes spelled written none =
       words = λ class h. let r = In-map (class_of schemas) class classes h in subst (IsOrdered schemas) r.2 (class_ordered schemas r.0);
     }
 
-group_written : (nodes : List PlanNode) (name input : List ℕ) (keys : List (List ℕ)) (aggs : List NamedAgg) → is_spelled (Group name input keys aggs) ≡ true → IsWrittenNode (node_of nodes name (Group name input keys aggs))
-group_written nodes name input keys aggs spelled = record {
+group_written : (draft : Draft) (name input : List ℕ) (keys : List (List ℕ)) (aggs : List NamedAgg) → is_spelled (Group name input keys aggs) ≡ true → IsWrittenNode (node_of draft name (Group name input keys aggs))
+group_written draft name input keys aggs spelled = record {
   name = (and_parts (is_name name) (is_name input) parts.0).0;
   columns = λ c h. either c (In-append_cases c (map (key_column columns) keys) (map (agg_column columns) aggs) h);
   words = tt;
 }
   where
     columns : List Column
-    columns = schema_of nodes input
+    columns = schema_of draft.nodes input
 
     parts : ((is_name name && is_name input) ≡ true) × (((has_some keys && list_all is_column_name keys) && (has_some aggs && list_all (λ agg. is_column_name agg.name && is_agg agg.agg) aggs)) ≡ true)
     parts = and_parts (is_name name && is_name input) ((has_some keys && list_all is_column_name keys) && (has_some aggs && list_all (λ agg. is_column_name agg.name && is_agg agg.agg) aggs)) spelled
@@ -206,7 +206,7 @@ group_written nodes name input keys aggs spelled = record {
     both : ((has_some keys && list_all is_column_name keys) ≡ true) × ((has_some aggs && list_all (λ agg. is_column_name agg.name && is_agg agg.agg) aggs) ≡ true)
     both = and_parts (has_some keys && list_all is_column_name keys) (has_some aggs && list_all (λ agg. is_column_name agg.name && is_agg agg.agg) aggs) parts.1
 
-    either : (c : Column) → In c (map (key_column (schema_of nodes input)) keys) ⊎ In c (map (agg_column (schema_of nodes input)) aggs) → is_column_name c.name ≡ true
+    either : (c : Column) → In c (map (key_column (schema_of draft.nodes input)) keys) ⊎ In c (map (agg_column (schema_of draft.nodes input)) aggs) → is_column_name c.name ≡ true
     either c (inl h) =
         let r = In-map (key_column columns) c keys h in
         subst (λ (x : Column). is_column_name x.name ≡ true) r.2 (all_at is_column_name keys r.0 (and_parts (has_some keys) (list_all is_column_name keys) both.0).1 r.1)
@@ -253,12 +253,12 @@ after_written draft statement spelled sound written e = go statement spelled (ha
   where
     go : (s : Statement) → is_spelled s ≡ true → HasNone draft s → IsWrittenDraft (after draft s)
     go (Plan version) p none = record { nodes = written.nodes; version = eqb-true version 1 p }
-    go (Stream name columns) p none = with_written draft (node_of draft.nodes name (Stream name columns)) written (stream_written draft.nodes name columns p)
+    go (Stream name columns) p none = with_written draft (node_of draft name (Stream name columns)) written (stream_written draft name columns p)
     go (Scheme stream marks) p none = record { nodes = marks_written stream marks draft.nodes written.nodes; version = written.version }
-    go (Select name input tests) p none = with_written draft (node_of draft.nodes name (Select name input tests)) written (select_written draft name input tests p sound written.nodes none)
-    go (Project name input columns) p none = with_written draft (node_of draft.nodes name (Project name input columns)) written (project_written draft.nodes name input columns p)
-    go (Union name inputs) p none = with_written draft (node_of draft.nodes name (Union name inputs)) written (union_written draft name inputs p written.nodes none)
-    go (Join name inputs classes) p none = with_written draft (node_of draft.nodes name (Join name inputs classes)) written (join_written draft name inputs classes p written.nodes none)
-    go (Group name input keys aggs) p none = with_written draft (node_of draft.nodes name (Group name input keys aggs)) written (group_written draft.nodes name input keys aggs p)
+    go (Select name input tests) p none = with_written draft (node_of draft name (Select name input tests)) written (select_written draft name input tests p sound written.nodes none)
+    go (Project name input columns) p none = with_written draft (node_of draft name (Project name input columns)) written (project_written draft name input columns p)
+    go (Union name inputs) p none = with_written draft (node_of draft name (Union name inputs)) written (union_written draft name inputs p written.nodes none)
+    go (Join name inputs classes) p none = with_written draft (node_of draft name (Join name inputs classes)) written (join_written draft name inputs classes p written.nodes none)
+    go (Group name input keys aggs) p none = with_written draft (node_of draft name (Group name input keys aggs)) written (group_written draft name input keys aggs p)
     go (Output name) p none = record { nodes = written.nodes; version = written.version }
     go (Bad why) p none = written

@@ -163,7 +163,7 @@ share_a_name (column ∷ columns) = has_column columns column.name || share_a_na
 
 -- column name twice: two columns of the result have one name
 abbrev pub has_column_twice : Draft → Statement → Bool
-has_column_twice draft statement = share_a_name (result_schema draft.nodes statement)
+has_column_twice draft statement = share_a_name (result_schema draft statement)
 
 -- ---- kinds
 
@@ -320,8 +320,8 @@ abbrev pub stream_count : List PlanNode → ℕ
 stream_count nodes = length (filter (λ node. is_stream node.node) nodes)
 
 -- one node more is one too many, or its result has more than 120 columns
-abbrev pub is_too_wide : List PlanNode → Statement → Bool
-is_too_wide nodes statement = nat_le 64 (length nodes) || nat_lt 120 (length (result_schema nodes statement))
+abbrev pub is_too_wide : Draft → Statement → Bool
+is_too_wide draft statement = nat_le 64 (length draft.nodes) || nat_lt 120 (length (result_schema draft statement))
 
 -- the number of schemes of the node of this name
 abbrev pub schemes_of : Node → ℕ
@@ -337,21 +337,21 @@ scheme_count [] name = 0
 scheme_count (node ∷ nodes) name = if bytes_eq name node.name then schemes_of node.node else scheme_count nodes name
 
 -- the statement goes beyond a limit: 16 streams, 16 schemes of one, 16 inputs, 32 classes, 64 nodes, 120 columns
-abbrev pub goes_beyond : List PlanNode → Statement → Bool
-goes_beyond nodes (Plan version) = false
-goes_beyond nodes (Stream name columns) = nat_le 16 (stream_count nodes) || is_too_wide nodes (Stream name columns)
-goes_beyond nodes (Scheme stream marks) = nat_le 16 (scheme_count nodes stream)
-goes_beyond nodes (Select name input tests) = is_too_wide nodes (Select name input tests)
-goes_beyond nodes (Project name input columns) = is_too_wide nodes (Project name input columns)
-goes_beyond nodes (Union name inputs) = nat_lt 16 (length inputs) || is_too_wide nodes (Union name inputs)
-goes_beyond nodes (Join name inputs classes) = (nat_lt 16 (length inputs) || nat_lt 32 (length classes)) || is_too_wide nodes (Join name inputs classes)
-goes_beyond nodes (Group name input keys aggs) = is_too_wide nodes (Group name input keys aggs)
-goes_beyond nodes (Output name) = false
-goes_beyond nodes (Bad why) = false
+abbrev pub goes_beyond : Draft → Statement → Bool
+goes_beyond draft (Plan version) = false
+goes_beyond draft (Stream name columns) = nat_le 16 (stream_count draft.nodes) || is_too_wide draft (Stream name columns)
+goes_beyond draft (Scheme stream marks) = nat_le 16 (scheme_count draft.nodes stream)
+goes_beyond draft (Select name input tests) = is_too_wide draft (Select name input tests)
+goes_beyond draft (Project name input columns) = is_too_wide draft (Project name input columns)
+goes_beyond draft (Union name inputs) = nat_lt 16 (length inputs) || is_too_wide draft (Union name inputs)
+goes_beyond draft (Join name inputs classes) = (nat_lt 16 (length inputs) || nat_lt 32 (length classes)) || is_too_wide draft (Join name inputs classes)
+goes_beyond draft (Group name input keys aggs) = is_too_wide draft (Group name input keys aggs)
+goes_beyond draft (Output name) = false
+goes_beyond draft (Bad why) = false
 
 -- too many
 abbrev pub is_too_many : Draft → Statement → Bool
-is_too_many draft statement = goes_beyond draft.nodes statement
+is_too_many draft statement = goes_beyond draft statement
 
 -- ---- the output
 

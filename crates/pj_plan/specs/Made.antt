@@ -84,17 +84,17 @@ abbrev pub group_schema : List Column → List (List ℕ) → List NamedAgg → 
 group_schema columns keys aggs = map (key_column columns) keys ++ map (agg_column columns) aggs
 
 -- the columns of the node that is declared
-abbrev pub result_schema : List PlanNode → Statement → List Column
-result_schema nodes (Plan version) = []
-result_schema nodes (Stream name columns) = map stream_column columns
-result_schema nodes (Scheme stream marks) = []
-result_schema nodes (Select name input tests) = schema_of nodes input
-result_schema nodes (Project name input columns) = map (renamed_column (schema_of nodes input)) columns
-result_schema nodes (Union name inputs) = first_schema nodes inputs
-result_schema nodes (Join name inputs classes) = columns_of nodes inputs
-result_schema nodes (Group name input keys aggs) = group_schema (schema_of nodes input) keys aggs
-result_schema nodes (Output name) = []
-result_schema nodes (Bad why) = []
+abbrev pub result_schema : Draft → Statement → List Column
+result_schema draft (Plan version) = []
+result_schema draft (Stream name columns) = map stream_column columns
+result_schema draft (Scheme stream marks) = []
+result_schema draft (Select name input tests) = schema_of draft.nodes input
+result_schema draft (Project name input columns) = map (renamed_column (schema_of draft.nodes input)) columns
+result_schema draft (Union name inputs) = first_schema draft.nodes inputs
+result_schema draft (Join name inputs classes) = columns_of draft.nodes inputs
+result_schema draft (Group name input keys aggs) = group_schema (schema_of draft.nodes input) keys aggs
+result_schema draft (Output name) = []
+result_schema draft (Bad why) = []
 
 -- ---- the operator
 
@@ -148,22 +148,22 @@ join_of nodes inputs classes =
     JoinNode (map (number_of nodes) inputs) (record { inputs = map (schema_of nodes) inputs; classes = map (class_of (map (schema_of nodes) inputs)) classes })
 
 -- the operator that is declared
-abbrev pub operator_of : List PlanNode → Statement → Node
-operator_of nodes (Plan version) = StreamNode []
-operator_of nodes (Stream name columns) = StreamNode []
-operator_of nodes (Scheme stream marks) = StreamNode []
-operator_of nodes (Select name input tests) = SelectNode (number_of nodes input) (map (column_test tests) (schema_of nodes input))
-operator_of nodes (Project name input columns) = ProjectNode (number_of nodes input) (map (old_number (schema_of nodes input)) columns)
-operator_of nodes (Union name inputs) = UnionNode (map (number_of nodes) inputs)
-operator_of nodes (Join name inputs classes) = join_of nodes inputs classes
-operator_of nodes (Group name input keys aggs) =
-    GroupNode (number_of nodes input) (record { keys = map (column_number (schema_of nodes input)) keys; aggs = map (named_agg (schema_of nodes input)) aggs })
-operator_of nodes (Output name) = StreamNode []
-operator_of nodes (Bad why) = StreamNode []
+abbrev pub operator_of : Draft → Statement → Node
+operator_of draft (Plan version) = StreamNode []
+operator_of draft (Stream name columns) = StreamNode []
+operator_of draft (Scheme stream marks) = StreamNode []
+operator_of draft (Select name input tests) = SelectNode (number_of draft.nodes input) (map (column_test tests) (schema_of draft.nodes input))
+operator_of draft (Project name input columns) = ProjectNode (number_of draft.nodes input) (map (old_number (schema_of draft.nodes input)) columns)
+operator_of draft (Union name inputs) = UnionNode (map (number_of draft.nodes) inputs)
+operator_of draft (Join name inputs classes) = join_of draft.nodes inputs classes
+operator_of draft (Group name input keys aggs) =
+    GroupNode (number_of draft.nodes input) (record { keys = map (column_number (schema_of draft.nodes input)) keys; aggs = map (named_agg (schema_of draft.nodes input)) aggs })
+operator_of draft (Output name) = StreamNode []
+operator_of draft (Bad why) = StreamNode []
 
 -- the node that is declared under this name
-abbrev pub node_of : List PlanNode → List ℕ → Statement → PlanNode
-node_of nodes name statement = record { name = name; schema = result_schema nodes statement; node = operator_of nodes statement }
+abbrev pub node_of : Draft → List ℕ → Statement → PlanNode
+node_of draft name statement = record { name = name; schema = result_schema draft statement; node = operator_of draft statement }
 
 -- ---- what is declared after a statement
 
@@ -188,7 +188,7 @@ with_scheme name marks (node ∷ nodes) =
 abbrev pub declared : Draft → Option (List ℕ) → Statement → Draft
 declared draft None statement = draft
 declared draft (Some name) statement =
-    record { version = draft.version; nodes = draft.nodes ++ node_of draft.nodes name statement ∷ []; output = draft.output }
+    record { version = draft.version; nodes = draft.nodes ++ node_of draft name statement ∷ []; output = draft.output }
 
 -- what is declared after the statement, which has no fault
 abbrev pub after : Draft → Statement → Draft

@@ -55,7 +55,7 @@ fn stated_behind(alloc: Global, draft: Draft, stated: &Stated) -> Result<Draft, 
     ensures faultless { IfOk result (λ next. lowest draft stated.now.what ≡ None) }
     ensures fault { (fault : PlanFault) → result ≡ Err (PlanStop.Fault fault) → (lowest draft stated.now.what ≡ Some fault.why) × (fault.line ≡ stated.now.line) }
 {
-    let schema = result_schema(alloc, draft.nodes.as_slice(), &stated.what)?;
+    let schema = result_schema(alloc, &draft, &stated.what)?;
     match fault_of(&draft, &stated.what, schema.as_slice()) {
         Some(why) => Err(PlanStop::Fault(PlanFault {
             line: stated.line,

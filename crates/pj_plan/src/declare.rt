@@ -22,7 +22,7 @@ pub(crate) fn after(
 ) -> Result<Draft, NoMemory>
     requires small { AreSmall draft.nodes }
     requires faultless { fault_of draft statement.now ≡ None }
-    requires schema { schema ≡ result_schema draft.nodes statement.now }
+    requires schema { schema ≡ result_schema draft statement.now }
     ensures { IfOk result (λ next. next ≡ after_it draft statement.now) }
 {
     match statement {
@@ -64,10 +64,10 @@ fn with_node(
     requires small { AreSmall draft.nodes }
     requires few { length (used_names statement.now) ≤ 16 }
     requires kinds { has_other_kinds draft.nodes statement.now ≡ false }
-    requires schema { schema ≡ result_schema draft.nodes statement.now }
+    requires schema { schema ≡ result_schema draft statement.now }
     ensures { IfOk result (λ next. next ≡ declared draft (Some name.now) statement.now) }
 {
-    let node = operator_of(alloc, draft.nodes.as_slice(), statement)?;
+    let node = operator_of(alloc, &draft, statement)?;
     let mut nodes = draft.nodes;
     nodes.push(PlanNode {
         name: List::copy_of(alloc, name.as_slice())?,

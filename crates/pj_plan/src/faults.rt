@@ -20,7 +20,7 @@ use pj_value::Bytes;
 /// The lowest fault of the statement, if it has one; `schema` are the columns of the node that it declares.
 #[tactic(auto, using(crate::proofs::Parts::found_in_names, crate::proofs::Parts::found_in_columns, crate::proofs::Parts::found_in_uses))]
 pub(crate) fn fault_of(draft: &Draft, statement: &Statement, schema: &[Column]) -> Option<PlanWhy>
-    requires { schema.now ≡ result_schema draft.now.nodes statement.now }
+    requires { schema.now ≡ result_schema draft.now statement.now }
     ensures { result ≡ lowest draft.now statement.now }
 {
     match name_fault(draft, statement) {
@@ -138,7 +138,7 @@ fn has_no_stream(draft: &Draft, statement: &Statement) -> bool
 }
 
 fn column_fault(draft: &Draft, statement: &Statement, schema: &[Column]) -> Option<PlanWhy>
-    requires { schema.now ≡ result_schema draft.now.nodes statement.now }
+    requires { schema.now ≡ result_schema draft.now statement.now }
     ensures { result ≡ first_fault draft.now statement.now column_whys }
 {
     if has_unknown_column(draft, statement, schema) {
@@ -160,7 +160,7 @@ fn column_fault(draft: &Draft, statement: &Statement, schema: &[Column]) -> Opti
 }
 
 fn has_unknown_column(draft: &Draft, statement: &Statement, schema: &[Column]) -> bool
-    requires { schema.now ≡ result_schema draft.now.nodes statement.now }
+    requires { schema.now ≡ result_schema draft.now statement.now }
     ensures { result ≡ unknown_column draft.now statement.now }
 {
     let nodes = draft.nodes.as_slice();
@@ -197,7 +197,7 @@ fn group_unknown(columns: &[Column], keys: &[Bytes], aggs: &[NamedAgg]) -> bool
 }
 
 fn has_other_kinds(draft: &Draft, statement: &Statement, schema: &[Column]) -> bool
-    requires { schema.now ≡ result_schema draft.now.nodes statement.now }
+    requires { schema.now ≡ result_schema draft.now statement.now }
     ensures { result ≡ other_kinds draft.now.nodes statement.now }
 {
     let nodes = draft.nodes.as_slice();
@@ -263,13 +263,13 @@ fn is_bad_scheme(draft: &Draft, statement: &Statement) -> bool
 }
 
 fn use_fault(draft: &Draft, statement: &Statement, schema: &[Column]) -> Option<PlanWhy>
-    requires { schema.now ≡ result_schema draft.now.nodes statement.now }
+    requires { schema.now ≡ result_schema draft.now statement.now }
     ensures { result ≡ first_fault draft.now statement.now use_whys }
 {
     if is_used_twice_or_never(draft, statement) {
         return Some(PlanWhy::UsedTwiceOrNever);
     }
-    if goes_beyond(draft.nodes.as_slice(), statement, schema) {
+    if goes_beyond(draft, statement, schema) {
         return Some(PlanWhy::TooMany);
     }
     if draft.output.is_some() && bad_why(statement).is_none() {

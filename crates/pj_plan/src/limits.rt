@@ -106,10 +106,11 @@ fn is_needed(draft: &Draft, output: usize, number: usize) -> bool
 }
 
 /// Whether the statement goes beyond a limit: 16 streams, 16 schemes of one, 16 inputs, 32 classes, 64 nodes, 120 columns.
-pub(crate) fn goes_beyond(nodes: &[PlanNode], statement: &Statement, schema: &[Column]) -> bool
-    requires { schema.now ≡ result_schema nodes.now statement.now }
-    ensures { result ≡ beyond nodes.now statement.now }
+pub(crate) fn goes_beyond(draft: &Draft, statement: &Statement, schema: &[Column]) -> bool
+    requires { schema.now ≡ result_schema draft.now statement.now }
+    ensures { result ≡ beyond draft.now statement.now }
 {
+    let nodes = draft.nodes.as_slice();
     match statement {
         Statement::Plan { .. } => false,
         Statement::Stream { .. } => stream_count(nodes) >= 16 || is_too_wide(nodes, schema),

@@ -9,23 +9,24 @@ ghost use Rattle.pj_plan.specs.Faults.{misses_its_kind, misses_kind, has_other_k
 ghost use Rattle.pj_plan.specs.Small.{AreSmall};
 
 use crate::names::{column_number, is_among, number_of, schema_of};
-use crate::{AggWord, NamedAgg, Node, PlanNode, Renamed, Statement, Test, TestWord};
+use crate::{AggWord, Draft, NamedAgg, Node, PlanNode, Renamed, Statement, Test, TestWord};
 use pj_pattern::{Form, Pattern, Punct};
 use pj_shape::{Agg, ClassCol, Column, GroupSpec, JoinSpec, Schema};
 use pj_value::{Bytes, Kind, List, NoMemory, copy_items};
 use std::alloc::Global;
 
-/// The operator that the statement declares over these nodes; a stream without schemes where it declares none.
+/// The operator that the statement declares over what was declared before; a stream without schemes where it declares none.
 pub(crate) fn operator_of(
     alloc: Global,
-    nodes: &[PlanNode],
+    draft: &Draft,
     statement: &Statement,
 ) -> Result<Node, NoMemory>
-    requires small { AreSmall nodes.now }
+    requires small { AreSmall draft.now.nodes }
     requires few { length (used_names statement.now) ≤ 16 }
-    requires kinds { has_other_kinds nodes.now statement.now ≡ false }
-    ensures { IfOk result (λ node. node ≡ declared nodes.now statement.now) }
+    requires kinds { has_other_kinds draft.now.nodes statement.now ≡ false }
+    ensures { IfOk result (λ node. node ≡ declared draft.now statement.now) }
 {
+    let nodes = draft.nodes.as_slice();
     match statement {
         Statement::Plan { .. } => Ok(stream(alloc)),
         Statement::Stream { .. } => Ok(stream(alloc)),

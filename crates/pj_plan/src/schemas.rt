@@ -3,7 +3,7 @@ ghost use Rattle.std.specs.Prelude.{◌≡◌, ◌++◌, IfOk, OnOk, map, flat_m
 ghost use Rattle.pj_plan.specs.Made.{result_schema as result_of, schema_of as schema, first_schema as first, stream_column, renamed_column, key_column, agg_column, agg_kind as kind_of_agg};
 
 use crate::names::{column_kind, schema_of};
-use crate::{AggWord, ColumnWord, NamedAgg, PlanNode, Renamed, Statement};
+use crate::{AggWord, ColumnWord, Draft, NamedAgg, PlanNode, Renamed, Statement};
 use pj_shape::Column;
 use pj_value::{Bytes, Kind, List, NoMemory, TryClone, copy_items};
 use std::alloc::Global;
@@ -11,11 +11,12 @@ use std::alloc::Global;
 /// The columns of the node that the statement declares; none where it declares no node.
 pub(crate) fn result_schema(
     alloc: Global,
-    nodes: &[PlanNode],
+    draft: &Draft,
     statement: &Statement,
 ) -> Result<List<Column>, NoMemory>
-    ensures { IfOk result (λ columns. columns ≡ result_of nodes.now statement.now) }
+    ensures { IfOk result (λ columns. columns ≡ result_of draft.now statement.now) }
 {
+    let nodes = draft.nodes.as_slice();
     match statement {
         Statement::Plan { .. } => Ok(List::new(alloc)),
         Statement::Stream { columns, .. } => stream_schema(alloc, columns.as_slice()),
