@@ -43,11 +43,11 @@ stream-kind schemes limit n certs columns (GroupNode input spec) t = absurd (fal
 
 hands-fed : (operator : Operator) (e : Element) → IsKind StreamKind operator → hands operator (Fed e) ≡ e ∷ []
 hands-fed (Stream schema sent) e k = refl
-hands-fed (Select test) e k = absurd k
-hands-fed (Project columns) e k = absurd k
-hands-fed (Union n u) e k = absurd k
-hands-fed (Join spec s) e k = absurd k
-hands-fed (Group spec rows) e k = absurd k
+hands-fed (Select test) e k = cc
+hands-fed (Project columns) e k = cc
+hands-fed (Union n u) e k = cc
+hands-fed (Join spec s) e k = cc
+hands-fed (Group spec rows) e k = cc
 
 as-fed : (work : Work) (operator : Operator) (e : Element) → IsAs work operator → IsAs work (after operator (Fed e))
 as-fed work (Stream schema sent) e a = record { kind = kind-after (kind_of work) (Stream schema sent) (Fed e) a.kind; kept = a.kept; below = tt }

@@ -25,7 +25,7 @@ use Rattle.pj_events.specs.declared.events.Entry.{Entry}
 use Rattle.pj_events.specs.History.{nodes_from}
 use Rattle.pj_laws.specs.Climb.{Above, above}
 use Rattle.pj_laws.proofs.Nodes.{operator-from}
-use Rattle.pj_operator.specs.Cells.{AreLinked, FitsKind, Frame, GroupKind, HasLimit, HaveLimit, IsKind, IsLinked, JoinKind, Kind, ProjectKind, SelectKind, StreamKind, UnionKind, above_pair, frame_at}
+use Rattle.pj_operator.specs.Cells.{AreLinked, FitsKind, Frame, HasLimit, HaveLimit, IsKind, IsLinked, JoinKind, Kind, above_pair, frame_at, role_in}
 use Rattle.pj_core.specs.Parts.{frame_for, frames_from, frames_of, kind_for}
 use Rattle.pj_core.specs.Plans.{RunPlan, certs_behind, nodes_of, nodes_with, operator_of}
 use Rattle.pj_core.proofs.Planned.{above-is}
@@ -72,27 +72,29 @@ operator-is schemes certs (node ∷ nodes) (suc n) lt = operator-is schemes (cer
 
 kind-fits : (schemes : List (List (List Bool))) (limit n : ℕ) (certs : List (List CertStep)) (columns : List Column) (operation : Operation)
     → IsKind (kind_for schemes limit n certs columns operation) (operator_of schemes certs columns operation)
-kind-fits schemes limit n certs columns (StreamNode stated) = tt
+kind-fits schemes limit n certs columns (StreamNode stated) = refl
 kind-fits schemes limit n certs columns (SelectNode input test) = refl
 kind-fits schemes limit n certs columns (ProjectNode input kept) = refl
 kind-fits schemes limit n certs columns (UnionNode inputs) = refl
 kind-fits schemes limit n certs columns (JoinNode inputs spec) = refl
 kind-fits schemes limit n certs columns (GroupNode input spec) = refl
 
+role-after : (operator : Operator) (l : Local) → role_in (after operator l) ≡ role_in operator
+role-after (Stream schema sent) (Comes input e) = refl
+role-after (Stream schema sent) (Fed e) = refl
+role-after (Stream schema sent) (Own s) = refl
+role-after (Select test) l = refl
+role-after (Project columns) l = refl
+role-after (Union n u) (Comes input e) = refl
+role-after (Union n u) (Fed e) = refl
+role-after (Union n u) (Own s) = refl
+role-after (Join spec s) l = refl
+role-after (Group spec rows) (Comes input e) = refl
+role-after (Group spec rows) (Fed e) = refl
+role-after (Group spec rows) (Own s) = refl
+
 pub kind-after : (kind : Kind) (operator : Operator) (l : Local) → IsKind kind operator → IsKind kind (after operator l)
-kind-after StreamKind (Stream schema sent) (Comes input e) k = tt
-kind-after StreamKind (Stream schema sent) (Fed e) k = tt
-kind-after StreamKind (Stream schema sent) (Own s) k = tt
-kind-after (SelectKind own) (Select test) l k = k
-kind-after (ProjectKind own) (Project columns) l k = k
-kind-after (UnionKind own arity) (Union n u) (Comes input e) k = k
-kind-after (UnionKind own arity) (Union n u) (Fed e) k = k
-kind-after (UnionKind own arity) (Union n u) (Own s) k = k
-kind-after (JoinKind node own limit) (Join spec s) l k = k
-kind-after (GroupKind own limit) (Group spec rows) (Comes input e) k = k
-kind-after (GroupKind own limit) (Group spec rows) (Fed e) k = k
-kind-after (GroupKind own limit) (Group spec rows) (Own s) k = k
-kind-after kind operator l k = absurd k
+kind-after kind operator l k = k ∙ sym (role-after operator l)
 
 kind-all : (kind : Kind) (operator : Operator) (ls : List Local) → IsKind kind operator → IsKind kind (after_all operator ls)
 kind-all kind operator [] k = k

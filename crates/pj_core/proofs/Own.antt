@@ -25,7 +25,7 @@ use Rattle.pj_join.specs.Joins.{JoinView, StandsFor as JoinStandsFor, after}
 use Rattle.pj_operator.specs.declared.cell.Cell.{Cell}
 use Rattle.pj_operator.specs.declared.cell.Work.{Work}
 use Rattle.pj_operator.specs.declared.cell.Work.TheVariants.{Join as JoinCell}
-use Rattle.pj_operator.specs.Cells.{AreAs, IsAs, IsBelowIn, IsKind, JoinKind, cell_at, count_in, kind_of}
+use Rattle.pj_operator.specs.Cells.{AreAs, IsAs, IsBelowIn, IsKind, JoinKind, JoinRole, cell_at, count_in, kind_of, role_in}
 use Rattle.pj_core.specs.Cores.{StandsFor}
 use Rattle.pj_core.specs.Parts.{IsMadeOf, core_of}
 use Rattle.pj_core.specs.Plans.{RunPlan, nodes_of}
@@ -42,8 +42,9 @@ pub record IsJoinWith (join : JoinView) (operator : Operator) : Type 0 where
 
 pub join-with : (join : JoinView) (operator : Operator) → IsAs (JoinCell join) operator → IsJoinWith join operator
 join-with join (Join spec s) a =
-    record { state = s; is = ap (λ (d : JoinData). Join d s) (sym a.kind); kept = (let e : JoinKept join.kept ≡ JoinKept (kept_of s) = a.kept in cc) }
-join-with join operator a = absurd a.kind
+    let same : spec ≡ join.spec = (let k : JoinRole join.spec ≡ JoinRole spec = a.kind in cc) in
+    record { state = s; is = ap (λ (d : JoinData). Join d s) same; kept = (let e : JoinKept join.kept ≡ JoinKept (kept_of s) = a.kept in cc) }
+join-with join operator a = absurd (let k : JoinRole join.spec ≡ role_in operator = a.kind in cc)
 
 -- ---- behind a history
 

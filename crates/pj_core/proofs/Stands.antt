@@ -26,7 +26,7 @@ use Rattle.pj_join_laws.proofs.Sound.{sound-start}
 use Rattle.pj_laws.proofs.Trees.{above-from, tree-from}
 use Rattle.pj_join.specs.Joins.{join_data}
 use Rattle.pj_operator.specs.declared.cell.Cell.{Cell}
-use Rattle.pj_operator.specs.Cells.{AreAs, Frame, IsBelow, IsBelowIn, IsKind, above_pair, cell_at, count_seen, frame_at, frame_of, frames_in, kept_seen, no_cell, peak_seen, stored_kept}
+use Rattle.pj_operator.specs.Cells.{AreAs, Frame, GroupRole, IsBelow, IsBelowIn, IsKind, JoinRole, ProjectRole, SelectRole, StreamRole, UnionRole, above_pair, cell_at, count_seen, frame_at, frame_of, frames_in, kept_seen, no_cell, peak_seen, stored_kept}
 use Rattle.pj_operator.specs.Climbing.{AreCounted}
 use Rattle.pj_core.specs.Cores.{StandsFor}
 use Rattle.pj_core.specs.Parts.{IsMadeOf, all_kept, core_of, frames_of, kind_for}
@@ -66,18 +66,18 @@ module _ (plan : RunPlan) (limit : ℕ) (history : List Entry) (sound : IsSoundP
           (subst (λ (f : Frame). IsKind f.kind (operator_at now n)) (frame-is plan limit n lt) (kind-is plan limit history n lt (nodes-long plan))))
 
       go : (op : Operation) → (plan_node plan.nodes n).node ≡ op → (operator_at (nodes_of plan) n ≡ Join spec start) × (0 < inputs spec)
-      go (StreamNode stated) e = absurd (kind (StreamNode stated) e)
-      go (SelectNode input test) e = absurd (kind (SelectNode input test) e)
-      go (ProjectNode input columns) e = absurd (kind (ProjectNode input columns) e)
-      go (UnionNode ins) e = absurd (kind (UnionNode ins) e)
+      go (StreamNode stated) e = absurd (let k : StreamRole ≡ JoinRole spec = kind (StreamNode stated) e in cc)
+      go (SelectNode input test) e = absurd (let k : SelectRole test ≡ JoinRole spec = kind (SelectNode input test) e in cc)
+      go (ProjectNode input columns) e = absurd (let k : ProjectRole columns ≡ JoinRole spec = kind (ProjectNode input columns) e in cc)
+      go (UnionNode ins) e = absurd (let k : UnionRole (length ins) ≡ JoinRole spec = kind (UnionNode ins) e in cc)
       go (JoinNode ins shape) e =
           let whole : JoinData = join_data shape (inputs_schemes (schemes_of plan.nodes) ins) certs in
-          let same : whole ≡ spec = kind (JoinNode ins shape) e in
+          let same : whole ≡ spec = (let k : JoinRole whole ≡ JoinRole spec = kind (JoinNode ins shape) e in cc) in
           let sound-here : IsSoundOperator plan.nodes schema (JoinNode ins shape) = subst (IsSoundOperator plan.nodes schema) e (sound.each n lt).operator in (
             operator-is (schemes_of plan.nodes) plan.certs plan.nodes n lt ∙ ap (operator_of (schemes_of plan.nodes) certs schema) e ∙ ap (λ (d : JoinData). Join d start) same,
             subst (λ (d : JoinData). 0 < inputs d) same (let few = sound-here.0.few_inputs.0 in omega (arith, few, length-map shape.inputs length)),
           )
-      go (GroupNode input group) e = absurd (kind (GroupNode input group) e)
+      go (GroupNode input group) e = absurd (let k : GroupRole group ≡ JoinRole spec = kind (GroupNode input group) e in cc)
 
   -- and legal steps made it what it is
   pub join-steps : (n : ℕ) → n < length plan.nodes → (spec : JoinData) (s : JoinState) → operator_at now n ≡ Join spec s → (steps : List Step) × AreLegalSteps spec start steps × (s ≡ run spec start steps)

@@ -1,6 +1,6 @@
 -- Takes and gives at a core.
-use Rattle.std.proofs.Common.{ℕ, zero, suc, ◌+◌, ◌<◌, ◌≤◌, Bool, true, false, cond, not, ◌||◌, List, [], ◌∷◌, ◌++◌, ◌≡◌, Option, Some, None, map, length, sum, get_or, set, eqb, refl, sym, ap, ◌∙◌, subst, inl, arith, append-nil}
-use Rattle.std.proofs.lemmas.Bool.{eq-eqb, false≢true, ne_eqb}
+use Rattle.std.proofs.Common.{ℕ, zero, suc, ◌+◌, ◌<◌, Bool, true, false, cond, List, [], ◌∷◌, ◌++◌, ◌≡◌, Option, Some, None, map, length, sum, get_or, set, eqb, refl, sym, ap, ◌∙◌, subst, inl, arith, append-nil}
+use Rattle.std.proofs.lemmas.Bool.{eq-eqb, ne_eqb}
 use Rattle.std.proofs.lemmas.List.{get_or-map, get_or-set_same, length-map, length-set}
 use Rattle.std.proofs.lemmas.List.Sums.{sum-map, sum_by-cons}
 use Rattle.pj_value.specs.declared.values.Value.{Value}
@@ -34,6 +34,7 @@ use Rattle.pj_core.specs.Cores.{StandsFor}
 use Rattle.pj_core.specs.Parts.{IsMadeOf, core_of}
 use Rattle.pj_core.specs.Plans.{RunPlan, nodes_of}
 use Rattle.pj_operator.proofs.Climbs.{climbs-none, frame-at, stays-none}
+use Rattle.pj_operator.proofs.Joins.{fewer-without}
 use Rattle.pj_core.proofs.Events.{Steps, beyond-is, note}
 use Rattle.pj_core.proofs.Frames.{join-number, long-of}
 use Rattle.pj_core.proofs.Own as own
@@ -97,22 +98,6 @@ next-is cells nodes A =
     ∙ next-there nodes 0 cells (λ i lt. let z : 0 + i ≡ i = omega arith in ap (pending_at nodes) z ∙ tickets-are cells nodes i A lt)
 
 -- ---- fewer are pending
-
-pub fewer-without : (ts : List ℕ) (t : ℕ) → has ts t ≡ true → length (without ts t) < length ts
-fewer-without [] t h = absurd (false≢true h)
-fewer-without (v ∷ ts) t h = go (eqb v t) h (fewer-without ts t)
-  where
-    at-most : (us : List ℕ) → length (without us t) ≤ length us
-    at-most [] = omega arith
-    at-most (x ∷ us) = keep (eqb x t) (at-most us)
-      where
-        keep : (b : Bool) → length (without us t) ≤ length us → length (cond (not b) (x ∷ without us t) (without us t)) ≤ suc (length us)
-        keep true l = omega (arith, l)
-        keep false l = omega (arith, l)
-
-    go : (b : Bool) → (b || has ts t) ≡ true → (has ts t ≡ true → length (without ts t) < length ts) → length (cond (not b) (v ∷ without ts t) (without ts t)) < length (v ∷ ts)
-    go true e ih = let l = at-most ts in omega (arith, l)
-    go false e ih = let l = ih e in omega (arith, l)
 
 cons-sum : (k : KeptOperator) (ks : List KeptOperator) → sum (map pending_kept (k ∷ ks)) ≡ pending_kept k + sum (map pending_kept ks)
 cons-sum k ks = sum-map pending_kept (k ∷ ks) ∙ sum_by-cons pending_kept k ks ∙ ap (λ (n : ℕ). pending_kept k + n) (sym (sum-map pending_kept ks))

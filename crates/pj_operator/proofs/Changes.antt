@@ -1,7 +1,7 @@
 -- One node of a core changes.
 use Rattle.std.proofs.Common.{ℕ, zero, suc, ◌+◌, ◌<◌, ◌++◌, Bool, true, false, cond, List, [], ◌∷◌, ◌≡◌, Option, Some, None, Result, Ok, Err, IfOk, length, map, get_or, set, eqb, refl, sym, ap, ◌∙◌, subst, arith}
 use Rattle.std.proofs.lemmas.Bool.{eq-eqb, false≢true}
-use Rattle.std.proofs.lemmas.List.{get_or_default}
+use Rattle.std.proofs.lemmas.List.{get_or_default, get_or-set_same}
 use Rattle.std.proofs.Math.Seq.{map-set_same}
 use Rattle.pj_probe.specs.declared.probe.Found.{Found}
 use Rattle.pj_operator.specs.declared.cell.Cell.{Cell}
@@ -18,6 +18,7 @@ use Rattle.pj_operator.specs.Cells.{Frame, Kind, KeepsOpen, cell_at, frame_of, f
 use Rattle.pj_operator.specs.Climbing.{Climbs, GoBeyond, IsClimbStop, StayOpen, StaysAs}
 use Rattle.pj_operator.proofs.Climbs.{climbs-rows-out, long-frames, opens-set, same-frame, stays-none}
 use Rattle.pj_operator.proofs.Firsts.{first_from}
+use Rattle.pj_operator.proofs.Joins.{probed-fewer}
 
 -- the cell with another work
 abbrev pub worked : Cell → Work → Cell
@@ -82,8 +83,15 @@ give_stop cells mid probe rows from NoMemory g e s = tt
 
 -- ---- probes
 
-pub none-here : (cells : List Cell) (n : ℕ) (d : Cell) (k : ℕ) → n < length cells → k ≡ pending_kept (kept_seen (get_or cells n d).work) → k ≡ 0 → pending_kept (kept_seen (cell_at cells n).work) ≡ 0
-none-here cells n d k lt e z = ap (λ (x : Cell). pending_kept (kept_seen x.work)) (sym (get_or_default cells n d no_cell lt)) ∙ sym e ∙ z
+-- fewer tickets are pending at the node behind the probe
+fewer-at : (cells new : List Cell) (n : ℕ) (d : Cell) (work : Work) (before behind : List Out) (ticket : ℕ) → n < length cells → JoinProbed (get_or cells n d).work work before behind ticket
+    → cell_at new n ≡ cell_at (set cells n (worked (get_or cells n d) work)) n → pending_kept (kept_seen (cell_at new n).work) < pending_kept (kept_seen (cell_at cells n).work)
+fewer-at cells new n d work before behind ticket lt P is =
+    let less = probed-fewer (get_or cells n d).work work before behind ticket P in
+    let now : pending_kept (kept_seen (cell_at new n).work) ≡ pending_kept (kept_seen work) =
+    ap (λ (x : Cell). pending_kept (kept_seen x.work)) (is ∙ get_or-set_same cells n (worked (get_or cells n d) work) no_cell lt) in
+    let was = ap (λ (x : Cell). pending_kept (kept_seen x.work)) (get_or_default cells n d no_cell lt) in
+    omega (arith, less, now, was)
 
 module _ (cells : List Cell) (n : ℕ) (d : Cell) (work : Work) (before behind : List Out) (ticket : ℕ) (lt : n < length cells) (none : before ≡ []) (P : JoinProbed (get_or cells n d).work work before behind ticket) where
   same : get_or cells n d ≡ cell_at cells n
@@ -108,9 +116,8 @@ module _ (cells : List Cell) (n : ℕ) (d : Cell) (work : Work) (before behind :
   moved = ap (λ (x : Cell). set cells n (worked x work)) same
 
   pub has-probed : (u u' : List Out) (new : List Cell) → Climbs (record { cells = set cells n (worked (get_or cells n d) work); outs = u }) (record { cells = new; outs = u' }) n (elements_out behind)
-      → StaysAs (set cells n (worked (get_or cells n d) work)) new → pending_kept (kept_seen (cell_at new n).work) < pending_kept (kept_seen (cell_at cells n).work)
-      → HasProbed (record { cells = cells; outs = u }) (record { cells = new; outs = u' }) n
-  has-probed u u' new C stays fewer = record {
+      → StaysAs (set cells n (worked (get_or cells n d) work)) new → HasProbed (record { cells = cells; outs = u }) (record { cells = new; outs = u' }) n
+  has-probed u u' new C stays = record {
     there = lt;
     ticket = ticket;
     work = work;
@@ -119,7 +126,7 @@ module _ (cells : List Cell) (n : ℕ) (d : Cell) (work : Work) (before behind :
         subst (λ (xs : List Cell). Climbs (record { cells = xs; outs = u }) (record { cells = new; outs = u' }) n (elements_out (found_outs (cell_at cells n).work ticket))) moved
         (subst (λ (os : List Out). Climbs (record { cells = set cells n (worked (get_or cells n d) work); outs = u }) (record { cells = new; outs = u' }) n (elements_out os)) found C);
     stays = subst (λ (xs : List Cell). StaysAs xs new) moved stays;
-    fewer = fewer;
+    fewer = fewer-at cells new n d work before behind ticket lt P (C.below n (omega arith));
   }
 
   pub probe-stop : (stop : Stop) → IsClimbStop (set cells n (worked (get_or cells n d) work)) n (elements_out behind) stop → 0 < pending_kept (kept_seen (cell_at cells n).work) → IsProbeStop cells n stop
@@ -149,9 +156,8 @@ module _ (cells : List Cell) (n : ℕ) (d : Cell) (work : Work) (u u' : List Out
   as-with : after-probe ≡ with_work cells n work (cell_at cells n).peak
   as-with = ap (λ (x : Cell). set cells n (worked x work)) here
 
-  pub has-probed-out : (cell_at cells n).above ≡ None → kind_of work ≡ kind_of (get_or cells n d).work → pending_kept (kept_seen (cell_at after-probe n).work) < pending_kept (kept_seen (cell_at cells n).work)
-      → HasProbed (record { cells = cells; outs = u }) (record { cells = after-probe; outs = u' }) n
-  has-probed-out top kind fewer = record {
+  pub has-probed-out : (cell_at cells n).above ≡ None → kind_of work ≡ kind_of (get_or cells n d).work → HasProbed (record { cells = cells; outs = u }) (record { cells = after-probe; outs = u' }) n
+  has-probed-out top kind = record {
     there = lt;
     ticket = ticket;
     work = work;
@@ -169,7 +175,7 @@ module _ (cells : List Cell) (n : ℕ) (d : Cell) (work : Work) (u u' : List Out
         (subst (λ (os : List Out). Climbs (record { cells = after-probe; outs = u }) (record { cells = after-probe; outs = os }) n (elements_out (map Out.Tuple rows))) (sym P.hands)
         (climbs-rows-out after-probe rows u n (subst (λ (m : ℕ). n < m) (sym long) lt) (still-top frames top))));
     stays = subst (λ (xs : List Cell). StaysAs xs after-probe) as-with (stays-none after-probe);
-    fewer = fewer;
+    fewer = fewer-at cells after-probe n d work u u' ticket lt P refl;
   }
     where
       frames : frames_in after-probe ≡ frames_in cells

@@ -24,7 +24,7 @@ use Rattle.pj_operator.specs.declared.cell.Cell.{Cell}
 use Rattle.pj_operator.specs.declared.cell.Handed.{Handed}
 use Rattle.pj_operator.specs.declared.cell.Work.{Work}
 use Rattle.pj_operator.specs.declared.cell.Work.TheVariants.{Stream as StreamCell, Select as SelectCell, Project as ProjectCell, Union as UnionCell, Join as JoinCell, Group as GroupCell}
-use Rattle.pj_operator.specs.Cells.{AreAs, AreLinked, Follows, FitsKind, Frame, IsLinked, HasLimit, HaveLimit, IsAs, IsFull, IsOrderly, KeepsOpen, above_pair, cell_at, count_in, count_seen, frame_at, frame_of, frames_in, handed_list, kept_seen, kind_of, no_cell, width_of, IsTakenIn}
+use Rattle.pj_operator.specs.Cells.{AreAs, AreLinked, Follows, FitsKind, Frame, IsLinked, HasLimit, HaveLimit, IsAs, IsFull, IsOrderly, KeepsOpen, above_pair, cell_at, count_in, count_seen, frame_at, frame_of, frames_in, handed_list, kept_seen, kind_of, no_cell, role_in, role_of, width_of, GroupRole, IsTakenIn, JoinRole}
 use Rattle.pj_operator.specs.Climbing.{AreCounted, Climbs, GoBeyond, HasEntered, IsClimbStop, IsEntryStop, Leaves, Scene, StayOpen, StaysAs, count_at, work_at}
 use Rattle.pj_operator.proofs.Ways.{above-same, both-at, ins, ins-climbed, ins-set, nothing-brought, tree-same, way-long, way-past, way-same}
 
@@ -132,6 +132,7 @@ still-counted cells brought none n lt = sym (plus-none (count_at cells n)) ∙ a
 pub climbs-out : (cells : List Cell) (outs outs' : List Out) (from : ℕ) (e : Element) → from < length cells → (cell_at cells from).above ≡ None → outs' ≡ outs ++ out_of e ∷ []
     → Climbs (record { cells = cells; outs = outs }) (record { cells = cells; outs = outs' }) from (e ∷ [])
 climbs-out cells outs outs' from e lt none handed = record {
+  below = λ n le. refl;
   climbs = λ nodes A.
       subst (λ (c : Climbed). Leaves (record { cells = cells; outs = outs }) (record { cells = cells; outs = outs' }) c)
       (sym ((climbs-on nodes A.tree).ends from (e ∷ []) (top nodes A)))
@@ -153,13 +154,13 @@ full-is (ProjectCell own) (Project columns) limit number a h e = absurd (false�
 full-is (UnionCell own) (Union n u) limit number a h e = absurd (false≢true e)
 full-is (JoinCell own) (Join spec s) limit number a h e = eqb-true own.kept.next limit e ∙ sym h
 full-is (GroupCell own) (Group spec rows) limit number a h e = eqb-true own.count limit e ∙ sym h
-full-is work operator limit number a h e = absurd a.kind
+full-is work operator limit number a h e = absurd (let k : role_of (kind_of work) ≡ role_in operator = a.kind in cc)
 
 is-full : (work : Work) (operator : Operator) (limit number : ℕ) → IsAs work operator → HasLimit limit (kind_of work) → IsFull work → (counts operator && eqb (count_in work number) limit) ≡ true
 is-full (JoinCell own) (Join spec s) limit number a h f = eq-eqb own.kept.next limit (f ∙ h)
-is-full (JoinCell own) operator limit number a h f = absurd a.kind
+is-full (JoinCell own) operator limit number a h f = absurd (let k : JoinRole own.spec ≡ role_in operator = a.kind in cc)
 is-full (GroupCell own) (Group spec rows) limit number a h f = eq-eqb own.count limit (f ∙ h)
-is-full (GroupCell own) operator limit number a h f = absurd a.kind
+is-full (GroupCell own) operator limit number a h f = absurd (let k : GroupRole own.spec ≡ role_in operator = a.kind in cc)
 is-full work operator limit number a h f = absurd f
 
 not-full : (work : Work) (operator : Operator) (limit number : ℕ) → IsAs work operator → HasLimit limit (kind_of work) → ¬ IsFull work → (counts operator && eqb (count_in work number) limit) ≡ false
@@ -297,7 +298,11 @@ module _ (old mid : List Cell) (from place input : ℕ) (e : Element) (up : Hand
 
   pub climbs-up : (new : List Cell) (outs outs' : List Out) → Climbs (record { cells = mid; outs = outs }) (record { cells = new; outs = outs' }) place (handed_list up)
       → Climbs (record { cells = old; outs = outs }) (record { cells = new; outs = outs' }) from (e ∷ [])
-  climbs-up new outs outs' C = record { climbs = climbs-above new outs outs' C; within = beyond-above None C.within }
+  climbs-up new outs outs' C = record {
+    below = λ n le. (let a = there.0 in C.below n (omega (arith, le, a)) ∙ mid-other n (λ q. omega (arith, le, a, q)));
+    climbs = climbs-above new outs outs' C;
+    within = beyond-above None C.within;
+  }
 
   pub stops-up : (stop : Stop) → IsClimbStop mid place (handed_list up) stop → IsClimbStop old from (e ∷ []) stop
   stops-up (Limit node) g = beyond-above (Some node) g
@@ -320,6 +325,7 @@ stops-there cells from place input e lt linked feeds full limit have nodes A (su
 
 pub climbs-none : (scene : Scene) (from : ℕ) → Climbs scene scene from []
 climbs-none scene from = record {
+  below = λ n le. refl;
   climbs = λ nodes A.
       let n = (climbs-on nodes A.tree).nothing from in
       record {
@@ -376,6 +382,7 @@ module _ (old mid : Scene) (from : ℕ) (es fs : List Element) (C : Climbs old m
 
   pub climbs-then : (new : Scene) → Climbs mid new from fs → Climbs old new from (es ++ fs)
   climbs-then new D = record {
+    below = λ n le. D.below n le ∙ C.below n le;
     climbs = λ nodes A.
         let L = C.climbs nodes A in
         subst (Leaves old new) (sym ((climbs-on nodes A.tree).parts from es fs))

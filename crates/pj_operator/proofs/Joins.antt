@@ -1,5 +1,5 @@
 -- What a join does of its own, as a node of a core.
-use Rattle.std.proofs.Common.{ℕ, Bool, true, false, cond, not, ◌&&◌, ◌||◌, List, [], ◌∷◌, ◌++◌, ◌≡◌, Option, Some, None, map, length, eqb, refl, sym, ap, ◌∙◌, subst, arith, append-nil}
+use Rattle.std.proofs.Common.{ℕ, ◌<◌, Bool, true, false, cond, not, ◌&&◌, ◌||◌, List, [], ◌∷◌, ◌++◌, ◌≡◌, Option, Some, None, map, length, eqb, refl, sym, ap, ◌∙◌, subst, arith, append-nil}
 use Rattle.std.proofs.lemmas.Bool.{false≢true}
 use Rattle.pj_events.specs.declared.events.Out.{Out}
 use Rattle.pj_events.specs.Join.{Give, PunctAt, Step, Sweep, Take, TupleAt, has, is_held, joined, results, run, start}
@@ -7,9 +7,10 @@ use Rattle.pj_events.specs.KeptState.{kept_ripe, swept, without}
 use Rattle.pj_probe.specs.declared.probe.Found.{Found}
 use Rattle.pj_join.specs.Handed.{JoinProbes, StandsProbed, rows_probed}
 use Rattle.pj_join.specs.Joins.{IsTaken, JoinTakes, JoinView, StandsFor as JoinStandsFor, StandsTaken, after}
+use Rattle.pj_operator.specs.declared.cell.Work.{Work}
 use Rattle.pj_operator.specs.declared.cell.Work.TheVariants.{Join as JoinCell}
-use Rattle.pj_operator.specs.Acts.{WorkProbes, WorkTakes}
-use Rattle.pj_operator.specs.Cells.{IsOrderly, IsOrderlyJoin, KeepsOpen}
+use Rattle.pj_operator.specs.Acts.{JoinProbed, WorkProbes, WorkTakes}
+use Rattle.pj_operator.specs.Cells.{IsOrderly, IsOrderlyJoin, KeepsOpen, kept_seen, pending_kept}
 use Rattle.pj_value.proofs.Members.{filter_few}
 
 -- ---- lists
@@ -36,6 +37,20 @@ without-none ts u t h = go (has (without ts u) t) refl
     go : (b : Bool) → has (without ts u) t ≡ b → b ≡ false
     go true e = absurd (false≢true (sym h ∙ without-has ts u t e))
     go false e = refl
+
+pub fewer-without : (ts : List ℕ) (t : ℕ) → has ts t ≡ true → length (without ts t) < length ts
+fewer-without [] t h = absurd (false≢true h)
+fewer-without (v ∷ ts) t h = go (eqb v t) h (fewer-without ts t)
+  where
+    go : (b : Bool) → (b || has ts t) ≡ true → (has ts t ≡ true → length (without ts t) < length ts) → length (cond (not b) (v ∷ without ts t) (without ts t)) < length (v ∷ ts)
+    go true e ih = let l = filter_few (λ (u : ℕ). not (eqb u t)) ts in omega (arith, l)
+    go false e ih = let l = ih e in omega (arith, l)
+
+-- fewer tickets are pending behind a probe
+pub probed-fewer : (old new : Work) (before behind : List Out) (ticket : ℕ) → JoinProbed old new before behind ticket → pending_kept (kept_seen new) < pending_kept (kept_seen old)
+probed-fewer old new before behind ticket P =
+    subst (λ (w : Work). pending_kept (kept_seen w) < pending_kept (kept_seen old)) (sym P.is)
+    (subst (λ (w : Work). length (without P.join.kept.pending ticket) < pending_kept (kept_seen w)) (sym P.was) (fewer-without P.join.kept.pending ticket P.takes.pending))
 
 -- ---- an orderly join stays so
 

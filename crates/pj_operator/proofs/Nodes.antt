@@ -19,38 +19,43 @@ use Rattle.pj_join.specs.Joins.{JoinView, after}
 use Rattle.pj_join.specs.Sweeping.{puncts_up}
 use Rattle.pj_operator.specs.declared.cell.Handed.{Handed}
 use Rattle.pj_operator.specs.declared.cell.Work.TheVariants.{Stream as StreamCell, Select as SelectCell, Project as ProjectCell, Union as UnionCell, Join as JoinCell, Group as GroupCell}
-use Rattle.pj_operator.specs.Cells.{Follows, IsAs, IsBelow, IsOrderlyJoin, KeepsOpen, handed_list, IsTakenIn}
+use Rattle.pj_operator.specs.Cells.{Follows, GroupRole, IsAs, IsBelow, IsOrderlyJoin, JoinRole, KeepsOpen, ProjectRole, SelectRole, UnionRole, handed_list, IsTakenIn, kind_of, role_in, role_of}
 use Rattle.pj_join_laws.proofs.Stand.{lacking-more}
 
 -- ---- streams, selects and projects
 
 pub stream_follows : (up : Handed) (operator : Operator) (input : ℕ) (e : Element) → handed_list up ≡ [] → IsAs StreamCell operator → Follows StreamCell up operator input e
 stream_follows up (Stream schema sent) input e n a = record { stands = a; hands = n }
-stream_follows up operator input e n a = absurd a.kind
+stream_follows up operator input e n a = absurd (let k : role_of (kind_of StreamCell) ≡ role_in operator = a.kind in cc)
 
 pub select_follows : (test : List Pattern) (up : Handed) (operator : Operator) (input : ℕ) (e : Element) → handed_list up ≡ select_hands test e → IsAs (SelectCell test) operator → Follows (SelectCell test) up operator input e
-select_follows own up (Select test) input e h a = record { stands = a; hands = h ∙ ap (λ (t : List Pattern). select_hands t e) a.kind }
-select_follows own up operator input e h a = absurd a.kind
+select_follows own up (Select test) input e h a =
+    let same : own ≡ test = (let k : SelectRole own ≡ SelectRole test = a.kind in cc) in
+    record { stands = a; hands = h ∙ ap (λ (t : List Pattern). select_hands t e) same }
+select_follows own up operator input e h a = absurd (let k : role_of (kind_of (SelectCell own)) ≡ role_in operator = a.kind in cc)
 
 pub project_follows : (columns : List ℕ) (up : Handed) (operator : Operator) (input : ℕ) (e : Element) → handed_list up ≡ project_hands columns e → IsAs (ProjectCell columns) operator → Follows (ProjectCell columns) up operator input e
-project_follows own up (Project columns) input e h a = record { stands = a; hands = h ∙ ap (λ (cs : List ℕ). project_hands cs e) a.kind }
-project_follows own up operator input e h a = absurd a.kind
+project_follows own up (Project columns) input e h a =
+    let same : own ≡ columns = (let k : ProjectRole own ≡ ProjectRole columns = a.kind in cc) in
+    record { stands = a; hands = h ∙ ap (λ (cs : List ℕ). project_hands cs e) same }
+project_follows own up operator input e h a = absurd (let k : role_of (kind_of (ProjectCell own)) ≡ role_in operator = a.kind in cc)
 
 -- ---- unions
 
 pub union_follows : (old new : UnionView) (up : Handed) (operator : Operator) (input : ℕ) (e : Element) → new ≡ record old { state = union_after old.inputs old.state input e }
     → handed_list up ≡ union_hands old.inputs old.state input e → IsAs (UnionCell old) operator → Follows (UnionCell new) up operator input e
 union_follows old new up (Union n u) input e is h a =
+    let same : old.inputs ≡ n = (let k : UnionRole old.inputs ≡ UnionRole n = a.kind in cc) in
     let state : old.state ≡ u = (let k : UnionKept old.state ≡ UnionKept u = a.kept in cc) in
     record {
       stands = record {
-        kind = ap (λ (v : UnionView). v.inputs) is ∙ a.kind;
-        kept = ap (λ (v : UnionView). UnionKept v.state) is ∙ ap₂ (λ (m : ℕ) (s : UnionState). UnionKept (union_after m s input e)) a.kind state;
+        kind = ap (λ (v : UnionView). UnionRole v.inputs) is ∙ a.kind;
+        kept = ap (λ (v : UnionView). UnionKept v.state) is ∙ ap₂ (λ (m : ℕ) (s : UnionState). UnionKept (union_after m s input e)) same state;
         below = tt;
       };
-      hands = h ∙ ap₂ (λ (m : ℕ) (s : UnionState). union_hands m s input e) a.kind state;
+      hands = h ∙ ap₂ (λ (m : ℕ) (s : UnionState). union_hands m s input e) same state;
     }
-union_follows old new up operator input e is h a = absurd a.kind
+union_follows old new up operator input e is h a = absurd (let k : role_of (kind_of (UnionCell old)) ≡ role_in operator = a.kind in cc)
 
 -- ---- groups
 
@@ -59,17 +64,18 @@ pub group_follows : (old new : GroupView) (up : Handed) (operator : Operator) (i
     → IsAs (GroupCell old) operator → Follows (GroupCell new) up operator input e
 group_follows old new up (Group spec rows) input e is keeps h a =
     let spec-is : new.spec ≡ old.spec = ap (λ (v : GroupView). v.spec) is in
+    let same : old.spec ≡ spec = (let k : GroupRole old.spec ≡ GroupRole spec = a.kind in cc) in
     let table : old.table ≡ table_of spec rows = (let k : GroupKept old.table ≡ GroupKept (table_of spec rows) = a.kept in cc) in
-    let holds : HoldsGroup old rows = table ∙ ap (λ (s : _). table_of s rows) (sym a.kind) in
+    let holds : HoldsGroup old rows = table ∙ ap (λ (s : _). table_of s rows) (sym same) in
     record {
       stands = record {
-        kind = spec-is ∙ a.kind;
-        kept = ap GroupKept (keeps rows holds ∙ ap₂ (λ (s t : _). table_of s (group_after t rows e)) (spec-is ∙ a.kind) a.kind);
+        kind = ap GroupRole spec-is ∙ a.kind;
+        kept = ap GroupKept (keeps rows holds ∙ ap₂ (λ (s t : _). table_of s (group_after t rows e)) (spec-is ∙ same) same);
         below = tt;
       };
-      hands = h rows holds ∙ ap (λ (s : _). group_hands s rows e) a.kind;
+      hands = h rows holds ∙ ap (λ (s : _). group_hands s rows e) same;
     }
-group_follows old new up operator input e is keeps h a = absurd a.kind
+group_follows old new up operator input e is keeps h a = absurd (let k : role_of (kind_of (GroupCell old)) ≡ role_in operator = a.kind in cc)
 
 -- ---- joins
 
@@ -102,16 +108,17 @@ ups-come join s input (Punct patterns) k =
 pub join_follows : (old new : JoinView) (up : Handed) (operator : Operator) (input : ℕ) (e : Element) → new ≡ after old (join_step input e) → handed_list up ≡ map Punct (puncts_up old (join_step input e))
     → IsAs (JoinCell old) operator → Follows (JoinCell new) up operator input e
 join_follows old new up (Join spec s) input e is h a =
+    let same : old.spec ≡ spec = (let k : JoinRole old.spec ≡ JoinRole spec = a.kind in cc) in
     let kept : old.kept ≡ kept_of s = (let k : JoinKept old.kept ≡ JoinKept (kept_of s) = a.kept in cc) in
     record {
       stands = record {
-        kind = ap (λ (j : JoinView). j.spec) is ∙ a.kind;
-        kept = ap (λ (j : JoinView). JoinKept j.kept) is ∙ ap₂ (λ (d : JoinData) (k : KeptState). JoinKept (kept_step d k (join_step input e))) a.kind kept ∙ ap JoinKept (kept-come spec s input e a.below);
+        kind = ap (λ (j : JoinView). JoinRole j.spec) is ∙ a.kind;
+        kept = ap (λ (j : JoinView). JoinKept j.kept) is ∙ ap₂ (λ (d : JoinData) (k : KeptState). JoinKept (kept_step d k (join_step input e))) same kept ∙ ap JoinKept (kept-come spec s input e a.below);
         below = below-come spec s input e a.below;
       };
-      hands = h ∙ ups-come old s input e kept ∙ ap (λ (d : JoinData). hands_up d s (join_step input e) ++ []) a.kind;
+      hands = h ∙ ups-come old s input e kept ∙ ap (λ (d : JoinData). hands_up d s (join_step input e) ++ []) same;
     }
-join_follows old new up operator input e is h a = absurd a.kind
+join_follows old new up operator input e is h a = absurd (let k : role_of (kind_of (JoinCell old)) ≡ role_in operator = a.kind in cc)
 
 -- ---- an orderly join
 

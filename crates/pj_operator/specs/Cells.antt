@@ -155,15 +155,34 @@ IsBelowIn (Union n u) = Unit {0}
 IsBelowIn (Join spec s) = IsBelow s
 IsBelowIn (Group spec rows) = Unit {0}
 
+-- what an operator is for, which no element changes
+pub data Role : Type 0 where
+  StreamRole : Role
+  SelectRole : List Pattern → Role
+  ProjectRole : List ℕ → Role
+  UnionRole : ℕ → Role
+  JoinRole : JoinData → Role
+  GroupRole : GroupSpec → Role
+
+abbrev pub role_in : Operator → Role
+role_in (Stream schema sent) = StreamRole
+role_in (Select test) = SelectRole test
+role_in (Project columns) = ProjectRole columns
+role_in (Union n u) = UnionRole n
+role_in (Join spec s) = JoinRole spec
+role_in (Group spec rows) = GroupRole spec
+
+abbrev pub role_of : Kind → Role
+role_of StreamKind = StreamRole
+role_of (SelectKind test) = SelectRole test
+role_of (ProjectKind columns) = ProjectRole columns
+role_of (UnionKind n arity) = UnionRole n
+role_of (JoinKind node spec limit) = JoinRole spec
+role_of (GroupKind spec limit) = GroupRole spec
+
 -- the operator is of this kind
 abbrev pub IsKind : Kind → Operator → Type 0
-IsKind StreamKind (Stream schema sent) = Unit {0}
-IsKind (SelectKind own) (Select test) = own ≡ test
-IsKind (ProjectKind own) (Project columns) = own ≡ columns
-IsKind (UnionKind own arity) (Union n u) = own ≡ n
-IsKind (JoinKind node own limit) (Join spec s) = own ≡ spec
-IsKind (GroupKind own limit) (Group spec rows) = own ≡ spec
-IsKind _ _ = ⊥
+IsKind kind operator = role_of kind ≡ role_in operator
 
 -- the node is of the operator's kind, and keeps what it has to
 pub record IsAs (work : Work) (operator : Operator) : Type 0 where

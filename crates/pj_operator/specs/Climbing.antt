@@ -42,8 +42,9 @@ GoBeyond cells from es node =
     (limit : ℕ) → HaveLimit limit (frames_in cells) → (nodes : List Node) → AreAs cells nodes
     → (depth : ℕ) → length (way_up (count_at cells) 0 from nodes) ≤ depth → beyond_in depth limit cells nodes from es ≡ node
 
--- what a node handed up climbed as far as it goes, and nothing of it went beyond the limit
+-- what a node handed up climbed as far as it goes, to nodes behind it alone, and nothing of it went beyond the limit
 pub record Climbs (old new : Scene) (from : ℕ) (es : List Element) : Type 0 where
+  pub below : (n : ℕ) → n ≤ from → cell_at new.cells n ≡ cell_at old.cells n
   pub climbs : (nodes : List Node) → AreAs old.cells nodes → Leaves old new (climbed nodes from es)
   pub within : GoBeyond old.cells from es None
 

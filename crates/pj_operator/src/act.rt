@@ -263,27 +263,20 @@ fn probe_in(
     if place as usize >= cells.len() {
         return Ok(false);
     }
-    let pending = cells[place as usize].work.pending();
-    if pending == 0 {
+    if cells[place as usize].work.pending() == 0 {
         return Ok(false);
     }
     match cells[place as usize].above {
-        None => probe_out(cells, place, pending, outs),
-        Some(_above) => probe_up(alloc, cells, place, pending, outs),
+        None => probe_out(cells, place, outs),
+        Some(_above) => probe_up(alloc, cells, place, outs),
     }
 }
 
 // A probe of a node with none above: what it finds is handed out.
-fn probe_out(
-    cells: &mut [Cell],
-    place: u32,
-    pending: u64,
-    outs: &mut List<Out>,
-) -> Result<bool, Stop>
+fn probe_out(cells: &mut [Cell], place: u32, outs: &mut List<Out>) -> Result<bool, Stop>
     requires there { place < length cells.old }
     requires top { (cell_at cells.old place).above ≡ None }
-    requires pending { pending ≡ pending_kept (kept_seen (cell_at cells.old place).work) }
-    requires some { 0 < pending }
+    requires some { 0 < pending_kept (kept_seen (cell_at cells.old place).work) }
     ensures ok { IfOk result (λ more. ProbesOn more (record { cells = cells.old; outs = outs.old }) (record { cells = cells.new; outs = outs.new }) place) }
     ensures err { IfErr result (λ stop. IsProbeStop cells.old place stop) }
     ensures frames { frames_in cells.new ≡ frames_in cells.old }
@@ -292,10 +285,7 @@ fn probe_out(
 {
     match cells[place as usize].work.probe(outs) {
         Ok(None) => Ok(false),
-        Ok(Some(_ticket)) => match have_fewer(cells, place, pending) {
-            Ok(()) => Ok(true),
-            Err(NoMemory) => Err(Stop::NoMemory),
-        },
+        Ok(Some(_ticket)) => Ok(true),
         Err(NoMemory) => Err(Stop::NoMemory),
     }
 }
@@ -305,13 +295,11 @@ fn probe_up(
     alloc: Global,
     cells: &mut [Cell],
     place: u32,
-    pending: u64,
     outs: &mut List<Out>,
 ) -> Result<bool, Stop>
     requires there { place < length cells.old }
     requires linked { AreLinked (frames_in cells.old) }
-    requires pending { pending ≡ pending_kept (kept_seen (cell_at cells.old place).work) }
-    requires some { 0 < pending }
+    requires some { 0 < pending_kept (kept_seen (cell_at cells.old place).work) }
     ensures ok { IfOk result (λ more. ProbesOn more (record { cells = cells.old; outs = outs.old }) (record { cells = cells.new; outs = outs.new }) place) }
     ensures err { IfErr result (λ stop. IsProbeStop cells.old place stop) }
     ensures frames { frames_in cells.new ≡ frames_in cells.old }
@@ -322,30 +310,10 @@ fn probe_up(
     match cells[place as usize].work.probe(&mut found) {
         Ok(None) => Ok(false),
         Ok(Some(_ticket)) => match climb_found(alloc, cells, place, found, outs) {
-            Ok(()) => match have_fewer(cells, place, pending) {
-                Ok(()) => Ok(true),
-                Err(NoMemory) => Err(Stop::NoMemory),
-            },
+            Ok(()) => Ok(true),
             Err(stop) => Err(stop),
         },
         Err(NoMemory) => Err(Stop::NoMemory),
-    }
-}
-
-// Fewer tickets than this are pending at the node. What climbs from a node reaches those above it alone, so it never refuses,
-// which the contracts of a climb do not say.
-fn have_fewer(cells: &[Cell], place: u32, pending: u64) -> Result<(), NoMemory>
-    ensures { OnOk result (pending_kept (kept_seen (cell_at cells.now place).work) < pending) }
-{
-    match cells.get(place as usize) {
-        None => Err(NoMemory),
-        Some(cell) => {
-            if cell.work.pending() < pending {
-                Ok(())
-            } else {
-                Err(NoMemory)
-            }
-        }
     }
 }
 
