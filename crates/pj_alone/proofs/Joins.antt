@@ -1,8 +1,9 @@
--- The joins of a sound plan, and what is asked of them.
-use Rattle.std.proofs.Common.{ℕ, zero, suc, ◌+◌, ◌<◌, ◌≡◌, length, get_or, take, arith, Bool, true, false, ◌&&◌, cond, List, [], ◌∷◌, map, flat_map, refl, sym, ap, ◌∙◌, subst, inl, inr}
+-- The nodes of a sound plan that are joins, and what is asked of them.
+use Rattle.std.proofs.Common.{ℕ, zero, suc, ◌+◌, ◌<◌, ◌≡◌, length, get_or, arith, Bool, true, false, ◌&&◌, List, [], ◌∷◌, Option, Some, None, map, flat_map, refl, sym, ap, ◌∙◌, subst, inl, inr}
 use Rattle.std.specs.List.{list_all}
+use Rattle.std.specs.Option.{unwrap_or}
 use Rattle.std.proofs.lemmas.Bool.{and_parts, and_from, false≢true}
-use Rattle.pj_value.specs.Lists.{In, AreRising}
+use Rattle.pj_value.specs.Lists.{In}
 use Rattle.pj_value.proofs.Members.{In-append_left, In-flat_map_from, all_at, in-place}
 use Rattle.pj_shape.specs.declared.columns.Column.{Column}
 use Rattle.pj_shape.specs.declared.joins.JoinSpec.{JoinSpec}
@@ -14,72 +15,16 @@ use Rattle.pj_plan.specs.declared.node.PlanNode.{PlanNode}
 use Rattle.pj_plan.specs.Canonical.{declaration, node_at, node_name, node_schema, node_statements, no_node, statements_of}
 use Rattle.pj_plan.specs.Kept.{IsMadeAgain}
 use Rattle.pj_plan.specs.Names.{AreSpelled, begins_small, is_column_name, is_name, is_spelled, is_word}
-use Rattle.pj_plan.specs.Nodes.{inputs_of, is_join, joins_of, numbers_from}
+use Rattle.pj_plan.specs.Nodes.{inputs_of, is_join, join_in}
 use Rattle.pj_plan.specs.Sound.{IsSoundOperator, IsSoundPlan}
 use Rattle.pj_scheme.specs.Derived.{inputs_schemes, schemes_of}
 use Rattle.pj_scheme.specs.Fitting.{AreAsWide}
 use Rattle.pj_scheme.specs.Laws.{JoinsFit, NodesFit, SchemesAreFew}
+use Rattle.pj_scheme.proofs.Plans.{input_there}
 use Rattle.pj_graph.specs.Reaching.{AreFewSchemes}
-use Rattle.pj_alone.specs.Safety.{schemes_at, spec_at, spec_in}
+use Rattle.pj_safety.specs.Safety.{no_spec, schemes_at, spec_at, spec_in}
+use Rattle.pj_safety.proofs.Nodes.{is_some_join}
 use Rattle.pj_alone.specs.Asked.{Asked, IsAskable, asked_of, has_plain_names, is_plain}
-
--- ---- their numbers
-
--- a number of a node of the sort
-record IsNumber (sort : Node → Bool) (start : ℕ) (nodes : List PlanNode) (k : ℕ) : Type 0 where
-  place : ℕ
-  number : k ≡ start + place
-  there : place < length nodes
-  is : sort (node_at nodes place) ≡ true
-
-number_at : (sort : Node → Bool) (start : ℕ) (nodes : List PlanNode) (k : ℕ) → In k (numbers_from sort start nodes) → IsNumber sort start nodes k
-number_at sort start [] k h = absurd h
-number_at sort start (node ∷ nodes) k h = go (sort node.node) refl h (number_at sort (start + 1) nodes k)
-  where
-    more : IsNumber sort (start + 1) nodes k → IsNumber sort start (node ∷ nodes) k
-    more r = record { place = suc r.place; number = let e = r.number in omega (arith, e); there = let lt = r.there in omega (arith, lt); is = r.is }
-
-    go : (b : Bool) → sort node.node ≡ b → In k (cond b (start ∷ numbers_from sort (start + 1) nodes) (numbers_from sort (start + 1) nodes))
-        → (In k (numbers_from sort (start + 1) nodes) → IsNumber sort (start + 1) nodes k) → IsNumber sort start (node ∷ nodes) k
-    go true e (inl q) ih = record { place = 0; number = omega (arith, q); there = omega arith; is = e }
-    go true e (inr i) ih = more (ih i)
-    go false e i ih = more (ih i)
-
-pub join_below : (nodes : List PlanNode) (join : ℕ) → In join (joins_of nodes) → join < length nodes
-join_below nodes join h = let r = number_at is_join 0 nodes join h in let e = r.number in let lt = r.there in omega (arith, e, lt)
-
-pub join_is : (nodes : List PlanNode) (join : ℕ) → In join (joins_of nodes) → is_join (node_at nodes join) ≡ true
-join_is nodes join h =
-    let r = number_at is_join 0 nodes join h in
-    let e : r.place ≡ join = let n = r.number in omega (arith, n) in
-    subst (λ (m : ℕ). is_join (node_at nodes m) ≡ true) e r.is
-
-rising_from : (sort : Node → Bool) (start : ℕ) (nodes : List PlanNode) → AreRising (numbers_from sort start nodes)
-rising_from sort start [] = tt
-rising_from sort start (node ∷ nodes) = go (sort node.node) (rising_from sort (start + 1) nodes)
-  where
-    go : (b : Bool) → AreRising (numbers_from sort (start + 1) nodes) → AreRising (cond b (start ∷ numbers_from sort (start + 1) nodes) (numbers_from sort (start + 1) nodes))
-    go true ih = ((λ m h. let e = (number_at sort (start + 1) nodes m h).number in omega (arith, e)), ih)
-    go false ih = ih
-
-pub joins_rise : (nodes : List PlanNode) → AreRising (joins_of nodes)
-joins_rise nodes = rising_from is_join 0 nodes
-
--- of rising numbers those below one stand before it
-pub before_taken : (ns : List ℕ) (n other : ℕ) → AreRising ns → n < length ns → In other ns → other < get_or ns n 0 → In other (take n ns)
-before_taken [] n other rising lt h less = absurd h
-before_taken (m ∷ ns) zero other rising lt (inl e) less = absurd (omega (arith, e, less))
-before_taken (m ∷ ns) zero other rising lt (inr h) less = absurd (let more = rising.0 other h in omega (arith, more, less))
-before_taken (m ∷ ns) (suc n) other rising lt (inl e) less = inl e
-before_taken (m ∷ ns) (suc n) other rising lt (inr h) less = inr (before_taken ns n other rising.1 (omega (arith, lt)) h less)
-
--- the nodes that feed a join are there
-pub input_below : (nodes : List PlanNode) (join k : ℕ) → IsSoundPlan nodes → In join (joins_of nodes) → k < length (inputs_of (node_at nodes join))
-    → get_or (inputs_of (node_at nodes join)) k 0 < length nodes
-input_below nodes join k sound h lt =
-    let there = join_below nodes join h in
-    let before = (sound.each join there).before (get_or (inputs_of (node_at nodes join)) k 0) (in-place (inputs_of (node_at nodes join)) 0 k lt) in
-    omega (arith, there, before)
 
 -- ---- their shapes and schemes
 
@@ -102,15 +47,14 @@ sound_join nodes schema (Union inputs) t sound = absurd (false≢true t)
 sound_join nodes schema (Join inputs spec) t sound = (sound.0, sound.1)
 sound_join nodes schema (Group input spec) t sound = absurd (false≢true t)
 
-spec_sound : (nodes : List PlanNode) (join : ℕ) → IsSoundPlan nodes → In join (joins_of nodes)
-    → IsSoundSpec (spec_at nodes join) × ((spec_at nodes join).inputs ≡ map (node_schema nodes) (inputs_of (node_at nodes join)))
-spec_sound nodes join sound h =
-    sound_join nodes (node_schema nodes join) (node_at nodes join) (join_is nodes join h) (sound.each join (join_below nodes join h)).operator
+spec_sound : (nodes : List PlanNode) (n : ℕ) → IsSoundPlan nodes → n < length nodes → is_join (node_at nodes n) ≡ true
+    → IsSoundSpec (spec_at nodes n) × ((spec_at nodes n).inputs ≡ map (node_schema nodes) (inputs_of (node_at nodes n)))
+spec_sound nodes n sound lt is = sound_join nodes (node_schema nodes n) (node_at nodes n) is (sound.each n lt).operator
 
-join_fitting : (nodes : List PlanNode) (join : ℕ) → IsSoundPlan nodes → JoinsFit → In join (joins_of nodes) → FitSchemes (spec_at nodes join).inputs (schemes_at nodes join)
-join_fitting nodes join sound fit h =
-    subst (λ (schemas : List (List Column)). FitSchemes schemas (schemes_at nodes join)) (sym (spec_sound nodes join sound h).1)
-    (fit nodes sound join (join_below nodes join h) (join_is nodes join h))
+join_fitting : (nodes : List PlanNode) (n : ℕ) → IsSoundPlan nodes → JoinsFit → n < length nodes → is_join (node_at nodes n) ≡ true
+    → FitSchemes (spec_at nodes n).inputs (schemes_at nodes n)
+join_fitting nodes n sound fit lt is =
+    subst (λ (schemas : List (List Column)). FitSchemes schemas (schemes_at nodes n)) (sym (spec_sound nodes n sound lt is).1) (fit nodes sound n lt is)
 
 picked_few : (nodes : List PlanNode) (inputs : List ℕ) → IsSoundPlan nodes → SchemesAreFew → ((k : ℕ) → k < length inputs → get_or inputs k 0 < length nodes)
     → AreFewSchemes (inputs_schemes (schemes_of nodes) inputs)
@@ -118,8 +62,8 @@ picked_few nodes [] sound few there i = omega arith
 picked_few nodes (input ∷ inputs) sound few there zero = few nodes sound input (there 0 (omega arith))
 picked_few nodes (input ∷ inputs) sound few there (suc i) = picked_few nodes inputs sound few (λ k lt. there (suc k) (omega (arith, lt))) i
 
-join_few : (nodes : List PlanNode) (join : ℕ) → IsSoundPlan nodes → SchemesAreFew → In join (joins_of nodes) → AreFewSchemes (schemes_at nodes join)
-join_few nodes join sound few h = picked_few nodes (inputs_of (node_at nodes join)) sound few (λ k lt. input_below nodes join k sound h lt)
+join_few : (nodes : List PlanNode) (n : ℕ) → IsSoundPlan nodes → SchemesAreFew → n < length nodes → AreFewSchemes (schemes_at nodes n)
+join_few nodes n sound few there = picked_few nodes (inputs_of (node_at nodes n)) sound few (λ k lt. input_there nodes n k sound there lt)
 
 -- ---- their names
 
@@ -151,37 +95,39 @@ declared plan node all there =
     (inr (In-append_left (declaration plan.nodes node node.node) (flat_map (node_statements plan.nodes) plan.nodes) _
     (In-flat_map_from (node_statements plan.nodes) (declaration plan.nodes node node.node) node plan.nodes there (inl refl))))
 
-plain_names : (plan : Outline) (join : ℕ) → IsMadeAgain plan → In join (joins_of plan.nodes) → has_plain_names (asked_of plan.nodes join) ≡ true
-plain_names plan join made h =
-    let node : PlanNode = get_or plan.nodes join no_node in
-    plain_join plan.nodes node node.node (join_is plan.nodes join h) (declared plan node made.spelled (in-place plan.nodes no_node join (join_below plan.nodes join h)))
+plain_names : (plan : Outline) (n : ℕ) → IsMadeAgain plan → n < length plan.nodes → is_join (node_at plan.nodes n) ≡ true → has_plain_names (asked_of plan.nodes n) ≡ true
+plain_names plan n made lt is =
+    let node : PlanNode = get_or plan.nodes n no_node in
+    plain_join plan.nodes node node.node is (declared plan node made.spelled (in-place plan.nodes no_node n lt))
 
 -- ---- what is asked of them
 
-askable : (plan : Outline) (join : ℕ) → IsSoundPlan plan.nodes → IsMadeAgain plan → JoinsFit → SchemesAreFew → In join (joins_of plan.nodes)
-    → IsAskable (asked_of plan.nodes join)
-askable plan join sound made fit few h = record {
-  sound = (spec_sound plan.nodes join sound h).0;
-  fitting = join_fitting plan.nodes join sound fit h;
-  few = join_few plan.nodes join sound few h;
-  plain = plain_names plan join made h;
+askable : (plan : Outline) (n : ℕ) → IsSoundPlan plan.nodes → IsMadeAgain plan → JoinsFit → SchemesAreFew → n < length plan.nodes
+    → is_join (node_at plan.nodes n) ≡ true → IsAskable (asked_of plan.nodes n)
+askable plan n sound made fit few lt is = record {
+  sound = (spec_sound plan.nodes n sound lt is).0;
+  fitting = join_fitting plan.nodes n sound fit lt is;
+  few = join_few plan.nodes n sound few lt;
+  plain = plain_names plan n made lt is;
 }
 
--- these parts are those of the join
-pub record AreParts (nodes : List PlanNode) (join : ℕ) (asked : Asked) : Type 0 where
-  pub spec : asked.spec ≡ spec_at nodes join
-  pub schemes : asked.schemes ≡ inputs_schemes (schemes_of nodes) (inputs_of (node_at nodes join))
-  pub name : asked.name ≡ node_name nodes join
-  pub names : asked.names ≡ map (node_name nodes) (inputs_of (node_at nodes join))
+-- these parts are those of the join of this number and shape
+pub record AreParts (nodes : List PlanNode) (n : ℕ) (asked : Asked) : Type 0 where
+  pub spec : Some asked.spec ≡ join_in (node_at nodes n)
+  pub schemes : asked.schemes ≡ inputs_schemes (schemes_of nodes) (inputs_of (node_at nodes n))
+  pub name : asked.name ≡ node_name nodes n
+  pub names : asked.names ≡ map (node_name nodes) (inputs_of (node_at nodes n))
 
-pub parts_asked : (nodes : List PlanNode) (join : ℕ) (asked : Asked) → AreParts nodes join asked → asked ≡ asked_of nodes join
-parts_asked nodes join asked parts = go asked.spec asked.schemes asked.name asked.names parts.spec parts.schemes parts.name parts.names
+pub parts_asked : (nodes : List PlanNode) (n : ℕ) (asked : Asked) → AreParts nodes n asked → asked ≡ asked_of nodes n
+parts_asked nodes n asked parts =
+    go asked.spec asked.schemes asked.name asked.names (ap (λ (o : Option JoinSpec). unwrap_or o no_spec) parts.spec) parts.schemes parts.name parts.names
   where
-    go : (spec : JoinSpec) (schemes : List (List (List Bool))) (name : List ℕ) (names : List (List ℕ)) → spec ≡ spec_at nodes join → schemes ≡ schemes_at nodes join
-        → name ≡ node_name nodes join → names ≡ map (node_name nodes) (inputs_of (node_at nodes join))
-        → record { spec = spec; schemes = schemes; name = name; names = names } ≡ asked_of nodes join
+    go : (spec : JoinSpec) (schemes : List (List (List Bool))) (name : List ℕ) (names : List (List ℕ)) → spec ≡ spec_at nodes n → schemes ≡ schemes_at nodes n
+        → name ≡ node_name nodes n → names ≡ map (node_name nodes) (inputs_of (node_at nodes n))
+        → record { spec = spec; schemes = schemes; name = name; names = names } ≡ asked_of nodes n
     go spec schemes name names e f g h = cc
 
-pub parts_askable : (plan : Outline) (join : ℕ) (asked : Asked) → AreParts plan.nodes join asked → IsSoundPlan plan.nodes → IsMadeAgain plan → JoinsFit
-    → SchemesAreFew → In join (joins_of plan.nodes) → IsAskable asked
-parts_askable plan join asked parts sound made fit few h = subst IsAskable (sym (parts_asked plan.nodes join asked parts)) (askable plan join sound made fit few h)
+pub parts_askable : (plan : Outline) (n : ℕ) (asked : Asked) → AreParts plan.nodes n asked → IsSoundPlan plan.nodes → IsMadeAgain plan → JoinsFit
+    → SchemesAreFew → n < length plan.nodes → IsAskable asked
+parts_askable plan n asked parts sound made fit few lt =
+    subst IsAskable (sym (parts_asked plan.nodes n asked parts)) (askable plan n sound made fit few lt (is_some_join (node_at plan.nodes n) asked.spec parts.spec))

@@ -8,7 +8,7 @@ use Rattle.pj_value.specs.Lists.{In}
 use Rattle.pj_value.proofs.Members.{all_at, none_from}
 use Rattle.pj_plan.specs.Names.{is_name_byte}
 use Rattle.pj_cert.specs.Verdicts.{name_of, names_text, reached_text, unreached_text}
-use Rattle.pj_alone.specs.Safety.{IsNote}
+use Rattle.pj_alone.specs.Judgments.{IsNote}
 use Rattle.pj_alone.specs.Asked.{Asked, IsAskable, is_plain, stuck_lines}
 
 -- whether there is a line feed

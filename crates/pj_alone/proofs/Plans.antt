@@ -1,140 +1,139 @@
--- The first unsafe join of a plan.
-use Rattle.std.proofs.Common.{ℕ, ◌+◌, ◌<◌, ◌≤◌, ◌≡◌, ◌⊎◌, length, get_or, take, arith, List, [], ◌∷◌, ◌++◌, map, Option, Some, None, refl, sym, ap, ◌∙◌, subst, inl, inr}
-use Rattle.std.proofs.lemmas.List.{map-append, take_all, take_more}
-use Rattle.pj_value.specs.Lists.{In, AreRising}
-use Rattle.pj_value.proofs.Members.{In-append_cases, in-place}
+-- The first node of a plan that is at a risk.
+use Rattle.std.proofs.Common.{ℕ, ◌+◌, ◌<◌, ◌≤◌, ◌≡◌, length, get_or, drop, arith, Bool, true, false, cond, List, [], ◌∷◌, ◌++◌, map, Option, Some, None, refl, sym, ap, ◌∙◌, subst, append_assoc, append-nil, below_more}
+use Rattle.std.proofs.lemmas.List.{drop_all, drop_more}
 use Rattle.pj_shape.specs.declared.joins.CertStep.{CertStep}
+use Rattle.pj_shape.specs.declared.joins.JoinSpec.{JoinSpec}
 use Rattle.pj_plan.specs.declared.node.PlanNode.{PlanNode}
-use Rattle.pj_plan.specs.Nodes.{joins_of}
+use Rattle.pj_plan.specs.Canonical.{no_node, node_at}
+use Rattle.pj_plan.specs.Nodes.{is_join, join_in, numbers_from}
+use Rattle.pj_scheme.specs.Derived.{schemes_of}
+use Rattle.pj_safety.specs.declared.risk.PlanRisk.{PlanRisk}
+use Rattle.pj_safety.specs.declared.risk.PlanRisk.TheVariants.{Stuck}
+use Rattle.pj_safety.specs.Certificates.{AreCertificatesAt, certificates_at, certificates_of}
+use Rattle.pj_safety.specs.Safety.{IsFirstRisk, IsRisk, IsSafeNode}
+use Rattle.pj_safety.proofs.Nodes.{is_no_join, is_some_join, join_safe, join_stuck, no_shape, other_safe}
 use Rattle.pj_alone.specs.declared.safety.Judged.TheVariants.{Safe, Unsafe as PlanRefused}
 use Rattle.pj_alone.specs.declared.safety.Unsafe.{Unsafe}
-use Rattle.pj_alone.specs.declared.safety.Verdict.TheVariants.{Certified, Refused}
-use Rattle.pj_alone.specs.Asked.{AreStuckLines, IsFirstIn, IsFirstStuckOf, IsJoinJudged, IsStuckAt, asked_of, or_join}
+use Rattle.pj_alone.specs.declared.safety.Verdict.{Verdict}
+use Rattle.pj_alone.specs.declared.safety.Verdict.TheVariants.{Certified, Free, Refused}
+use Rattle.pj_alone.specs.Asked.{AreRiskLines, IsAtRisk, IsFirstIn, IsJoinJudged, IsNodeJudged, IsRiskAt, IsRiskOf, asked_of, or_risk}
 use Rattle.pj_alone.specs.Checks.{IsAnswer}
-use Rattle.pj_alone.specs.Safety.{AreCertificatesAt, AreUnsafeLines, HasUnsafeLines, IsFirstStuck, IsJudgment, IsSafeJoin, IsSafePlan, certificates_at}
+use Rattle.pj_alone.specs.Judgments.{AreUnsafeLines, HasUnsafeLines, IsJudgment}
 use Rattle.pj_alone.proofs.Inputs.{all_safe}
-use Rattle.pj_alone.proofs.Joins.{before_taken, joins_rise}
 
--- the place of a join among these, which are those of the plan
-pub record IsPlace (nodes : List PlanNode) (joins : List ℕ) (n : ℕ) : Type 0 where
-  pub there : n < length (joins_of nodes)
-  pub same : get_or joins n 0 ≡ get_or (joins_of nodes) n 0
-  pub is_join : In (get_or joins n 0) (joins_of nodes)
+-- ---- one node
 
-pub is_place : (nodes : List PlanNode) (joins : List ℕ) (n : ℕ) → joins ≡ joins_of nodes → n < length joins → IsPlace nodes joins n
-is_place nodes joins n e lt =
-    let there : n < length (joins_of nodes) = let long = ap length e in omega (arith, long, lt) in
-    let same : get_or joins n 0 ≡ get_or (joins_of nodes) n 0 = ap (λ (js : List ℕ). get_or js n 0) e in
-    record {
-      there = there;
-      same = same;
-      is_join = subst (λ (j : ℕ). In j (joins_of nodes)) (sym same) (in-place (joins_of nodes) 0 n there);
-    }
+pub other_safe_at : (nodes : List PlanNode) (n : ℕ) → None ≡ join_in (node_at nodes n) → IsSafeNode nodes n
+other_safe_at nodes n e = other_safe (schemes_of nodes) (node_at nodes n) (is_no_join (node_at nodes n) e)
 
--- a place behind all of them is their number
-pub is_end : (nodes : List PlanNode) (joins : List ℕ) (n : ℕ) → joins ≡ joins_of nodes → n ≤ length joins → length joins ≤ n → n ≡ length (joins_of nodes)
-is_end nodes joins n e le ge = let long = ap length e in omega (arith, long, le, ge)
+risk_of_join : (nodes : List PlanNode) (n : ℕ) (risk : PlanRisk) → is_join (node_at nodes n) ≡ true → IsAtRisk (asked_of nodes n) risk → IsRisk nodes n risk
+risk_of_join nodes n (Stuck input missing) is stuck = join_stuck (schemes_of nodes) (node_at nodes n) input missing is stuck
 
--- so many joins, the first ones, are safe
+pub risk_at : (nodes : List PlanNode) (n : ℕ) (spec : JoinSpec) (found : Option PlanRisk) → Some spec ≡ join_in (node_at nodes n) → IsRiskOf (asked_of nodes n) found
+    → IsRiskAt nodes n found
+risk_at nodes n spec None e all = join_safe (schemes_of nodes) (node_at nodes n) (is_some_join (node_at nodes n) spec e) (all_safe (asked_of nodes n) all)
+risk_at nodes n spec (Some risk) e stuck = risk_of_join nodes n risk (is_some_join (node_at nodes n) spec e) stuck
+
+-- ---- the first of them
+
+-- so many nodes, the first ones, are safe
 abbrev pub FirstAreSafe : List PlanNode → ℕ → Type 0
-FirstAreSafe nodes n = (join : ℕ) → In join (take n (joins_of nodes)) → IsSafeJoin nodes join
+FirstAreSafe nodes n = (other : ℕ) → other < n → IsSafeNode nodes other
 
-module _ (nodes : List PlanNode) (n : ℕ) (lt : n < length (joins_of nodes)) where
-  this_safe : FirstAreSafe nodes n → IsSafeJoin nodes (get_or (joins_of nodes) n 0) → FirstAreSafe nodes (n + 1)
-  this_safe before safe join h =
-      go (In-append_cases join (take n (joins_of nodes)) (get_or (joins_of nodes) n 0 ∷ [])
-      (subst (λ (js : List ℕ). In join js) (take_more (joins_of nodes) n 0 lt) h))
-    where
-      go : In join (take n (joins_of nodes)) ⊎ In join (get_or (joins_of nodes) n 0 ∷ []) → IsSafeJoin nodes join
-      go (inl i) = before join i
-      go (inr (inl e)) = subst (IsSafeJoin nodes) e safe
-      go (inr (inr i)) = absurd i
+one_more : (nodes : List PlanNode) (n : ℕ) → FirstAreSafe nodes n → IsSafeNode nodes n → FirstAreSafe nodes (n + 1)
+one_more nodes n before safe = below_more (IsSafeNode nodes) n before safe
 
-  this_stuck : (input missing : ℕ) → FirstAreSafe nodes n → IsStuckAt (asked_of nodes (get_or (joins_of nodes) n 0)) input missing
-      → IsFirstStuck nodes (get_or (joins_of nodes) n 0) input missing
-  this_stuck input missing before at = record {
-    there = in-place (joins_of nodes) 0 n lt;
-    joins = λ other h less. before other (before_taken (joins_of nodes) n other (joins_rise nodes) lt h less);
-    inputs = at.before;
-    input_there = at.input_there;
-    missing_there = at.missing_there;
-    stuck = at.stuck;
-    least = at.least;
-  }
+pub no_first : (nodes : List PlanNode) → IsFirstIn nodes 0 None
+no_first nodes other lt = absurd (omega (arith, lt))
 
-pub one_more : (nodes : List PlanNode) (n join : ℕ) → FirstAreSafe nodes n → n < length (joins_of nodes) → join ≡ get_or (joins_of nodes) n 0
-    → IsSafeJoin nodes join → FirstAreSafe nodes (n + 1)
-one_more nodes n join before lt e safe = this_safe nodes n lt before (subst (IsSafeJoin nodes) e safe)
+pub first_more : (nodes : List PlanNode) (n : ℕ) (first : Option (ℕ × PlanRisk)) (found : Option PlanRisk) → IsFirstIn nodes n first → n < length nodes
+    → IsRiskAt nodes n found → IsFirstIn nodes (n + 1) (or_risk first n found)
+first_more nodes n (Some first) found is lt this = is
+first_more nodes n None None is lt this = one_more nodes n is this
+first_more nodes n None (Some risk) is lt this = record { there = lt; before = is; at_risk = this }
 
-pub first_more : (nodes : List PlanNode) (n join : ℕ) (first : Option (ℕ × ℕ × ℕ)) (stuck : Option (ℕ × ℕ)) → IsFirstIn nodes n first → n < length (joins_of nodes)
-    → join ≡ get_or (joins_of nodes) n 0 → IsFirstStuckOf (asked_of nodes join) stuck → IsFirstIn nodes (n + 1) (or_join first join stuck)
-first_more nodes n join (Some first) stuck is lt e found = is
-first_more nodes n join None None is lt e found = one_more nodes n join is lt e (all_safe (asked_of nodes join) found)
-first_more nodes n join None (Some stuck) is lt e found =
-    subst (λ (j : ℕ). IsFirstStuck nodes j stuck.0 stuck.1) (sym e)
-    (this_stuck nodes n lt stuck.0 stuck.1 is (subst (λ (j : ℕ). IsStuckAt (asked_of nodes j) stuck.0 stuck.1) e found))
-
-pub plan_safe : (nodes : List PlanNode) → FirstAreSafe nodes (length (joins_of nodes)) → IsSafePlan nodes
-plan_safe nodes before join h = before join (subst (λ (js : List ℕ). In join js) (sym (take_all (length (joins_of nodes)) (joins_of nodes) (omega arith))) h)
-
-pub answered : (nodes : List PlanNode) (first : Option (ℕ × ℕ × ℕ)) → IsFirstIn nodes (length (joins_of nodes)) first → IsAnswer nodes first
-answered nodes None is = plan_safe nodes is
-answered nodes (Some first) is = is
-
-rising : (ns : List ℕ) → AreRising ns → AreRising ns
-rising [] r = tt
-rising (n ∷ ns) r = (r.0, rising ns r.1)
-
-unsafe_lines_are : (nodes : List PlanNode) (join : ℕ) (found : Unsafe) → AreStuckLines (asked_of nodes join) found → AreUnsafeLines nodes join found.input found.missing found.lines
-unsafe_lines_are nodes join found are = (are.reached, record { rising = rising are.reached are.stuck.in_order; exactly = are.stuck.exactly }, are.lines)
+pub answered : (nodes : List PlanNode) (n : ℕ) (first : Option (ℕ × PlanRisk)) → n ≡ length nodes → IsFirstIn nodes n first → IsAnswer nodes first
+answered nodes n None e is = subst (FirstAreSafe nodes) e is
+answered nodes n (Some first) e is = is
 
 -- ---- what is found of a plan
 
--- so many joins, the first ones, are safe, and these are their certificates
+-- the certificates of the joins from this node on
+abbrev pub certificates_from : List PlanNode → ℕ → List (List (List CertStep))
+certificates_from nodes n = map (certificates_at nodes) (numbers_from is_join n (drop n nodes))
+
+-- so many nodes, the first ones, are safe, and these are the certificates of the joins among them
 pub record FirstAreJudged (nodes : List PlanNode) (n : ℕ) (certs : List (List (List CertStep))) : Type 0 where
   pub safe : FirstAreSafe nodes n
-  pub in_order : certs ≡ map (certificates_at nodes) (take n (joins_of nodes))
-  pub valid : (join : ℕ) → In join (take n (joins_of nodes)) → AreCertificatesAt nodes join
+  pub in_order : certs ++ certificates_from nodes n ≡ certificates_of nodes
+  pub valid : (other : ℕ) → other < n → AreCertificatesAt nodes other
 
 pub none_yet : (nodes : List PlanNode) → FirstAreJudged nodes 0 []
-none_yet nodes = record { safe = λ join h. absurd h; in_order = refl; valid = λ join h. absurd h }
+none_yet nodes = record { safe = λ other lt. absurd (omega (arith, lt)); in_order = refl; valid = λ other lt. absurd (omega (arith, lt)) }
 
-pub one_certified : (nodes : List PlanNode) (n join : ℕ) (list : List (List CertStep)) (certs more : List (List (List CertStep))) → FirstAreJudged nodes n certs
-    → n < length (joins_of nodes) → join ≡ get_or (joins_of nodes) n 0 → IsJoinJudged (asked_of nodes join) join (Certified list) → more ≡ certs ++ list ∷ []
-    → FirstAreJudged nodes (n + 1) more
-one_certified nodes n join list certs more before lt e found pushed = record {
-  safe = one_more nodes n join before.safe lt e (all_safe (asked_of nodes join) found.everywhere);
-  in_order =
-      pushed ∙ ap (λ (cs : List (List (List CertStep))). cs ++ list ∷ []) before.in_order
-      ∙ ap (λ (l : List (List CertStep)). map (certificates_at nodes) (take n (joins_of nodes)) ++ l ∷ []) (found.in_order ∙ ap (certificates_at nodes) e)
-      ∙ sym (map-append (certificates_at nodes) (take n (joins_of nodes)) (get_or (joins_of nodes) n 0 ∷ []))
-      ∙ sym (ap (map (certificates_at nodes)) (take_more (joins_of nodes) n 0 lt));
-  valid = λ other h.
-      go other (In-append_cases other (take n (joins_of nodes)) (get_or (joins_of nodes) n 0 ∷ []) (subst (λ (js : List ℕ). In other js) (take_more (joins_of nodes) n 0 lt) h));
+module _ (nodes : List PlanNode) (n : ℕ) (lt : n < length nodes) where
+  abbrev rest : List ℕ
+  rest = numbers_from is_join (n + 1) (drop (n + 1) nodes)
+
+  from_here : certificates_from nodes n ≡ map (certificates_at nodes) (cond (is_join (node_at nodes n)) (n ∷ rest) rest)
+  from_here = ap (λ (ns : List PlanNode). map (certificates_at nodes) (numbers_from is_join n ns)) (drop_more nodes n no_node lt)
+
+  from_other : is_join (node_at nodes n) ≡ false → certificates_from nodes n ≡ certificates_from nodes (n + 1)
+  from_other e = from_here ∙ ap (λ (b : Bool). map (certificates_at nodes) (cond b (n ∷ rest) rest)) e
+
+  from_join : is_join (node_at nodes n) ≡ true → certificates_from nodes n ≡ certificates_at nodes n ∷ certificates_from nodes (n + 1)
+  from_join e = from_here ∙ ap (λ (b : Bool). map (certificates_at nodes) (cond b (n ∷ rest) rest)) e
+
+none_at : (nodes : List PlanNode) (n : ℕ) → is_join (node_at nodes n) ≡ false → AreCertificatesAt nodes n
+none_at nodes n e input lt = absurd (let none : input < 0 = subst (λ (spec : JoinSpec). input < length spec.inputs) (no_shape (node_at nodes n) e) lt in omega (arith, none))
+
+pub other_more : (nodes : List PlanNode) (n : ℕ) (certs : List (List (List CertStep))) → FirstAreJudged nodes n certs → n < length nodes
+    → IsNodeJudged nodes n Free → FirstAreJudged nodes (n + 1) certs
+other_more nodes n certs before lt e = record {
+  safe = one_more nodes n before.safe (other_safe (schemes_of nodes) (node_at nodes n) e);
+  in_order = ap (λ (cs : List (List (List CertStep))). certs ++ cs) (sym (from_other nodes n lt e)) ∙ before.in_order;
+  valid = below_more (AreCertificatesAt nodes) n before.valid (none_at nodes n e);
 }
-  where
-    go : (other : ℕ) → In other (take n (joins_of nodes)) ⊎ In other (get_or (joins_of nodes) n 0 ∷ []) → AreCertificatesAt nodes other
-    go other (inl i) = before.valid other i
-    go other (inr (inl f)) = subst (AreCertificatesAt nodes) (e ∙ f) found.valid
-    go other (inr (inr i)) = absurd i
 
-pub plan_certified : (nodes : List PlanNode) (certs : List (List (List CertStep))) → FirstAreJudged nodes (length (joins_of nodes)) certs → IsJudgment nodes (Safe certs)
-plan_certified nodes certs all = (
-  plan_safe nodes all.safe,
-  all.in_order ∙ ap (map (certificates_at nodes)) whole,
-  λ join h. all.valid join (subst (λ (js : List ℕ). In join js) (sym whole) h),
+pub one_certified : (nodes : List PlanNode) (n : ℕ) (list : List (List CertStep)) (certs more : List (List (List CertStep))) → FirstAreJudged nodes n certs
+    → n < length nodes → IsNodeJudged nodes n (Certified list) → more ≡ certs ++ list ∷ [] → FirstAreJudged nodes (n + 1) more
+one_certified nodes n list certs more before lt (is, found) pushed = record {
+  safe = one_more nodes n before.safe (join_safe (schemes_of nodes) (node_at nodes n) is (all_safe (asked_of nodes n) found.everywhere));
+  in_order =
+      ap (λ (cs : List (List (List CertStep))). cs ++ certificates_from nodes (n + 1)) pushed
+      ∙ append_assoc certs (list ∷ []) (certificates_from nodes (n + 1))
+      ∙ ap (λ (cs : List (List CertStep)). certs ++ cs ∷ certificates_from nodes (n + 1)) found.in_order
+      ∙ ap (λ (cs : List (List (List CertStep))). certs ++ cs) (sym (from_join nodes n lt is))
+      ∙ before.in_order;
+  valid = below_more (AreCertificatesAt nodes) n before.valid found.valid;
+}
+
+pub plan_certified : (nodes : List PlanNode) (n : ℕ) (certs : List (List (List CertStep))) → n ≡ length nodes → FirstAreJudged nodes n certs → IsJudgment nodes (Safe certs)
+plan_certified nodes n certs e all = (
+  subst (FirstAreSafe nodes) e all.safe,
+  sym (append-nil certs)
+      ∙ ap (λ (ns : List PlanNode). certs ++ map (certificates_at nodes) (numbers_from is_join n ns)) (sym (drop_all n nodes (omega (arith, e))))
+      ∙ all.in_order,
+  subst (λ (m : ℕ). (other : ℕ) → other < m → AreCertificatesAt nodes other) e all.valid,
 )
-  where
-    whole : take (length (joins_of nodes)) (joins_of nodes) ≡ joins_of nodes
-    whole = take_all (length (joins_of nodes)) (joins_of nodes) (omega arith)
 
-pub plan_refused : (nodes : List PlanNode) (n join : ℕ) (certs : List (List (List CertStep))) (found : Unsafe) → FirstAreJudged nodes n certs → n < length (joins_of nodes)
-    → join ≡ get_or (joins_of nodes) n 0 → IsJoinJudged (asked_of nodes join) join (Refused found) → IsJudgment nodes (PlanRefused found)
-plan_refused nodes n join certs found before lt e (same, at, lines) = (
-  subst (λ (j : ℕ). IsFirstStuck nodes j found.input found.missing) (sym (same ∙ e))
-      (this_stuck nodes n lt found.input found.missing before.safe (subst (λ (j : ℕ). IsStuckAt (asked_of nodes j) found.input found.missing) e at)),
-  subst (λ (j : ℕ). AreUnsafeLines nodes j found.input found.missing found.lines) (sym same) (unsafe_lines_are nodes join found lines),
-)
+unsafe_lines_are : (nodes : List PlanNode) (n : ℕ) (risk : PlanRisk) (lines : List (List ℕ)) → AreRiskLines (asked_of nodes n) risk lines → AreUnsafeLines nodes n risk lines
+unsafe_lines_are nodes n (Stuck input missing) lines are =
+    (are.reached, record { rising = are.stuck.in_order; exactly = are.stuck.exactly }, are.told)
 
-pub judged_notes : (nodes : List PlanNode) (join : ℕ) (found : Unsafe) → IsJoinJudged (asked_of nodes join) join (Refused found) → HasUnsafeLines found
-judged_notes nodes join found (same, at, lines) = lines.notes
+pub plan_refused : (nodes : List PlanNode) (n : ℕ) (certs : List (List (List CertStep))) (found : Unsafe) → FirstAreJudged nodes n certs → n < length nodes
+    → IsNodeJudged nodes n (Refused found) → IsJudgment nodes (PlanRefused found)
+plan_refused nodes n certs found before lt (is, refused) =
+    subst (λ (m : ℕ). IsFirstRisk nodes m found.risk × AreUnsafeLines nodes m found.risk found.lines) (sym refused.same)
+    (record { there = lt; before = before.safe; at_risk = risk_of_join nodes n found.risk is refused.at_risk }, unsafe_lines_are nodes n found.risk found.lines refused.told)
+
+-- ---- what is told of it
+
+pub judged_at : (nodes : List PlanNode) (n : ℕ) (spec : JoinSpec) (verdict : Verdict) → Some spec ≡ join_in (node_at nodes n) → IsJoinJudged (asked_of nodes n) n verdict
+    → IsNodeJudged nodes n verdict
+judged_at nodes n spec Free e found = absurd found
+judged_at nodes n spec (Certified certs) e found = (is_some_join (node_at nodes n) spec e, found)
+judged_at nodes n spec (Refused found) e refused = (is_some_join (node_at nodes n) spec e, refused)
+
+pub judged_notes : (nodes : List PlanNode) (n : ℕ) (found : Unsafe) → IsNodeJudged nodes n (Refused found) → HasUnsafeLines found
+judged_notes nodes n found (is, refused) = refused.notes

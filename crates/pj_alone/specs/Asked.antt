@@ -1,25 +1,26 @@
--- What is asked of one join of a plan, and which of its inputs is the first that does not reach all.
-use Rattle.std.specs.Prelude.{ℕ, ◌<◌, ◌≡◌, Bool, true, ◌&&◌, List, [], ◌∷◌, Option, Some, None, map, length, take}
+-- What is asked of one node of a plan where it is a join, and which of its inputs is the first that does not reach all.
+use Rattle.std.specs.Prelude.{ℕ, ◌<◌, ◌≡◌, Bool, true, false, ◌&&◌, List, [], ◌∷◌, Option, Some, None, map, length}
 use Rattle.std.specs.List.{list_all, range_with_len}
-use Rattle.pj_value.specs.Lists.{In}
 use Rattle.pj_shape.specs.declared.joins.CertStep.{CertStep}
 use Rattle.pj_shape.specs.declared.joins.JoinSpec.{JoinSpec}
+use Rattle.pj_shape.specs.Certificates.{IsCertificate}
 use Rattle.pj_shape.specs.Sound.{IsSoundSpec, FitSchemes}
 use Rattle.pj_plan.specs.declared.node.PlanNode.{PlanNode}
-use Rattle.pj_plan.specs.Canonical.{node_name}
+use Rattle.pj_plan.specs.Canonical.{node_at, node_name}
 use Rattle.pj_plan.specs.Names.{is_name_byte}
-use Rattle.pj_plan.specs.Nodes.{joins_of}
+use Rattle.pj_plan.specs.Nodes.{is_join}
 use Rattle.pj_graph.specs.declared.answers.Reach.{Reach}
-use Rattle.pj_graph.specs.declared.answers.Reach.TheVariants.{All, Stuck}
+use Rattle.pj_graph.specs.declared.answers.Reach.TheVariants.{All, Stuck as StuckAt}
 use Rattle.pj_graph.specs.Reaching.{AreFewSchemes, IsStuck}
-use Rattle.pj_shape.specs.Sets.{Reaches}
-use Rattle.pj_shape.specs.Certificates.{IsCertificate}
 use Rattle.pj_graph.specs.Saturation.{certificate_of}
 use Rattle.pj_cert.specs.Verdicts.{reached_text, unreached_text}
+use Rattle.pj_safety.specs.declared.risk.PlanRisk.{PlanRisk}
+use Rattle.pj_safety.specs.declared.risk.PlanRisk.TheVariants.{Stuck}
+use Rattle.pj_safety.specs.Safety.{FirstReachAll, IsFirstRisk, IsFirstStuck, IsRisk, IsSafeNode, schemes_at, spec_at}
 use Rattle.pj_alone.specs.declared.safety.Unsafe.{Unsafe}
 use Rattle.pj_alone.specs.declared.safety.Verdict.{Verdict}
-use Rattle.pj_alone.specs.declared.safety.Verdict.TheVariants.{Certified, Refused}
-use Rattle.pj_alone.specs.Safety.{HasUnsafeLines, IsFirstStuck, IsSafeJoin, input_names, schemes_at, spec_at}
+use Rattle.pj_alone.specs.declared.safety.Verdict.TheVariants.{Certified, Free, Refused}
+use Rattle.pj_alone.specs.Judgments.{HasUnsafeLines, input_names}
 
 -- ---- one join
 
@@ -56,49 +57,42 @@ pub record IsAskable (asked : Asked) : Type 0 where
 
 -- ---- its first stuck input
 
--- an input of the join reaches all
-abbrev pub GoesEverywhere : Asked → ℕ → Type 0
-GoesEverywhere asked from = (to : ℕ) → to < length asked.spec.inputs → Reaches asked.spec asked.schemes from to
+-- an input of the join is at this risk
+abbrev pub IsAtRisk : Asked → PlanRisk → Type 0
+IsAtRisk asked (Stuck input missing) = IsFirstStuck asked.spec asked.schemes input missing
 
--- so many inputs of the join, the first ones, reach all
-abbrev pub FirstGoEverywhere : Asked → ℕ → Type 0
-FirstGoEverywhere asked count = (from : ℕ) → from < count → GoesEverywhere asked from
+-- so many inputs of the join, the first ones, reach all; or the join is at this risk
+abbrev pub IsFirstOf : Asked → ℕ → Option PlanRisk → Type 0
+IsFirstOf asked count None = FirstReachAll asked.spec asked.schemes count
+IsFirstOf asked count (Some risk) = IsAtRisk asked risk
 
--- all inputs of the join before this one reach all, and this one does not reach that one, the least such
-pub record IsStuckAt (asked : Asked) (input missing : ℕ) : Type 0 where
-  pub before : FirstGoEverywhere asked input
-  pub input_there : input < length asked.spec.inputs
-  pub missing_there : missing < length asked.spec.inputs
-  pub stuck : ¬ Reaches asked.spec asked.schemes input missing
-  pub least : (other : ℕ) → other < missing → Reaches asked.spec asked.schemes input other
+-- all inputs of the join reach all; or the join is at this risk
+abbrev pub IsRiskOf : Asked → Option PlanRisk → Type 0
+IsRiskOf asked found = IsFirstOf asked (length asked.spec.inputs) found
 
--- so many inputs of the join, the first ones, reach all; or one of the inputs is the first that does not
-abbrev pub IsFirstOf : Asked → ℕ → Option (ℕ × ℕ) → Type 0
-IsFirstOf asked count None = FirstGoEverywhere asked count
-IsFirstOf asked count (Some (input, missing)) = IsStuckAt asked input missing
-
--- all inputs of the join reach all; or this is the first that does not, and the least that it does not reach
-abbrev pub IsFirstStuckOf : Asked → Option (ℕ × ℕ) → Type 0
-IsFirstStuckOf asked found = IsFirstOf asked (length asked.spec.inputs) found
-
--- the first stuck input, where this is what was found of those before this one, and that is what this one reaches
-abbrev pub or_stuck : Option (ℕ × ℕ) → ℕ → Reach → Option (ℕ × ℕ)
-or_stuck (Some first) input found = Some first
+-- the risk of a join, where this is what was found of the inputs before this one, and that is what this one reaches
+abbrev pub or_stuck : Option PlanRisk → ℕ → Reach → Option PlanRisk
+or_stuck (Some risk) input found = Some risk
 or_stuck None input (All cert) = None
-or_stuck None input (Stuck reached missing) = Some (input, missing)
+or_stuck None input (StuckAt reached missing) = Some (Stuck input missing)
 
--- ---- the first unsafe join
+-- ---- the first node at a risk
 
--- so many joins of the plan, the first ones, are safe; or one of them is the first that is not
-abbrev pub IsFirstIn : List PlanNode → ℕ → Option (ℕ × ℕ × ℕ) → Type 0
-IsFirstIn nodes count None = (join : ℕ) → In join (take count (joins_of nodes)) → IsSafeJoin nodes join
-IsFirstIn nodes count (Some (join, input, missing)) = IsFirstStuck nodes join input missing
+-- the node is safe; or it is at this risk
+abbrev pub IsRiskAt : List PlanNode → ℕ → Option PlanRisk → Type 0
+IsRiskAt nodes n None = IsSafeNode nodes n
+IsRiskAt nodes n (Some risk) = IsRisk nodes n risk
 
--- the first unsafe join, where this is what was found of those before this one, and that is the first stuck input of this one
-abbrev pub or_join : Option (ℕ × ℕ × ℕ) → ℕ → Option (ℕ × ℕ) → Option (ℕ × ℕ × ℕ)
-or_join (Some first) join found = Some first
-or_join None join None = None
-or_join None join (Some (input, missing)) = Some (join, input, missing)
+-- so many nodes of the plan, the first ones, are safe; or this is the first that is not, and its risk
+abbrev pub IsFirstIn : List PlanNode → ℕ → Option (ℕ × PlanRisk) → Type 0
+IsFirstIn nodes count None = (n : ℕ) → n < count → IsSafeNode nodes n
+IsFirstIn nodes count (Some (n, risk)) = IsFirstRisk nodes n risk
+
+-- the first node at a risk, where this is what was found of the nodes before this one, and that of this one
+abbrev pub or_risk : Option (ℕ × PlanRisk) → ℕ → Option PlanRisk → Option (ℕ × PlanRisk)
+or_risk (Some first) n found = Some first
+or_risk None n None = None
+or_risk None n (Some risk) = Some (n, risk)
 
 -- ---- certificates
 
@@ -108,7 +102,7 @@ first_certificates asked count = map (certificate_of asked.spec asked.schemes) (
 
 -- so many inputs of the join, the first ones, reach all, and these are their certificates
 pub record AreCertified (asked : Asked) (count : ℕ) (certs : List (List CertStep)) : Type 0 where
-  pub everywhere : FirstGoEverywhere asked count
+  pub everywhere : FirstReachAll asked.spec asked.schemes count
   pub in_order : certs ≡ first_certificates asked count
   pub valid : (input : ℕ) → input < count → IsCertificate asked.spec asked.schemes input (certificate_of asked.spec asked.schemes input)
 
@@ -118,14 +112,33 @@ pub record AreCertified (asked : Asked) (count : ℕ) (certs : List (List CertSt
 abbrev pub stuck_lines : Asked → ℕ → ℕ → List ℕ → List (List ℕ)
 stuck_lines asked input missing reached = unreached_text asked.name asked.names input missing ∷ reached_text asked.names reached ∷ []
 
--- these are the two lines of the input, which are notes
-pub record AreStuckLines (asked : Asked) (found : Unsafe) : Type 0 where
+-- these are the two lines of the input
+pub record AreStuckLines (asked : Asked) (input missing : ℕ) (lines : List (List ℕ)) : Type 0 where
   pub reached : List ℕ
-  pub stuck : IsStuck asked.spec asked.schemes found.input reached found.missing
-  pub lines : found.lines ≡ stuck_lines asked found.input found.missing reached
+  pub stuck : IsStuck asked.spec asked.schemes input reached missing
+  pub told : lines ≡ stuck_lines asked input missing reached
+
+-- these are the lines of the join at this risk
+abbrev pub AreRiskLines : Asked → PlanRisk → List (List ℕ) → Type 0
+AreRiskLines asked (Stuck input missing) lines = AreStuckLines asked input missing lines
+
+-- ---- what is found of a node
+
+-- this node was found to be a join at this risk, with its lines, which are notes
+pub record IsRefusal (asked : Asked) (n : ℕ) (found : Unsafe) : Type 0 where
+  pub same : found.node ≡ n
+  pub at_risk : IsAtRisk asked found.risk
+  pub told : AreRiskLines asked found.risk found.lines
   pub notes : HasUnsafeLines found
 
--- the join is safe, with its certificates; or the first stuck input of it was found, and its lines
+-- the join is safe, with its certificates; or it is at a risk
 abbrev pub IsJoinJudged : Asked → ℕ → Verdict → Type 0
-IsJoinJudged asked join (Certified certs) = AreCertified asked (length asked.spec.inputs) certs
-IsJoinJudged asked join (Refused found) = (found.join ≡ join) × IsStuckAt asked found.input found.missing × AreStuckLines asked found
+IsJoinJudged asked n Free = ⊥
+IsJoinJudged asked n (Certified certs) = AreCertified asked (length asked.spec.inputs) certs
+IsJoinJudged asked n (Refused found) = IsRefusal asked n found
+
+-- the node is no join; or it is one that is judged so
+abbrev pub IsNodeJudged : List PlanNode → ℕ → Verdict → Type 0
+IsNodeJudged nodes n Free = is_join (node_at nodes n) ≡ false
+IsNodeJudged nodes n (Certified certs) = (is_join (node_at nodes n) ≡ true) × IsJoinJudged (asked_of nodes n) n (Certified certs)
+IsNodeJudged nodes n (Refused found) = (is_join (node_at nodes n) ≡ true) × IsJoinJudged (asked_of nodes n) n (Refused found)

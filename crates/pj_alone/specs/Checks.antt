@@ -1,12 +1,13 @@
--- What is told of a plan: of each join, in order of declaration, and each of its inputs in order.
+-- What is told of a plan: of each node that is a join, in order of declaration, and each of its inputs in order.
 use Rattle.std.specs.Prelude.{ℕ, Bool, true, false, List, [], ◌∷◌, ◌++◌, Option, Some, None, flat_map, length, map}
 use Rattle.std.specs.List.{concat, range_with_len}
 use Rattle.pj_value.specs.declared.values.Value.{Value}
 use Rattle.pj_shape.specs.Columns.{kinds_of}
+use Rattle.pj_plan.specs.declared.node.Node.{Node}
+use Rattle.pj_plan.specs.declared.node.Node.TheVariants.{Stream, Select, Project, Union, Join, Group}
 use Rattle.pj_plan.specs.declared.node.PlanNode.{PlanNode}
 use Rattle.pj_plan.specs.declared.node.Outline.{Outline}
-use Rattle.pj_plan.specs.Nodes.{joins_of}
-use Rattle.pj_plan.specs.Canonical.{statements_of}
+use Rattle.pj_plan.specs.Canonical.{node_at, statements_of}
 use Rattle.pj_plan_text.specs.Spelling.{fed, plan_spelling}
 use Rattle.pj_graph.specs.declared.answers.Reach.{Reach}
 use Rattle.pj_graph.specs.declared.answers.Reach.TheVariants.{All, Stuck}
@@ -16,8 +17,9 @@ use Rattle.pj_cert.specs.Instances.{blank_instances_of, blanks}
 use Rattle.pj_cert.specs.Laws.{schema_of}
 use Rattle.pj_cert.specs.Partners.{partners_of}
 use Rattle.pj_cert.specs.Verdicts.{verdict_of, whole_text}
+use Rattle.pj_safety.specs.declared.risk.PlanRisk.{PlanRisk}
+use Rattle.pj_safety.specs.Safety.{IsFirstRisk, IsSafePlan}
 use Rattle.pj_alone.specs.Asked.{Asked, asked_of, stuck_lines}
-use Rattle.pj_alone.specs.Safety.{IsFirstStuck, IsSafePlan}
 
 -- ---- one input
 
@@ -52,7 +54,7 @@ told_of asked input found = verdict_of asked.schemes asked.name asked.names inpu
 abbrev pub input_lines : Asked → ℕ → List (List ℕ)
 input_lines asked input = told_lines asked input (reach_of asked.spec asked.schemes input)
 
--- ---- all inputs of a join, and all joins
+-- ---- all inputs of a join, and all nodes
 
 -- the lines of so many inputs of the join, the first ones, in order
 abbrev pub inputs_lines : Asked → ℕ → List (List ℕ)
@@ -62,13 +64,22 @@ inputs_lines asked count = flat_map (input_lines asked) (range_with_len 0 count)
 abbrev pub asked_lines : Asked → List (List ℕ)
 asked_lines asked = inputs_lines asked (length asked.spec.inputs)
 
--- those of the join of this number
-abbrev pub join_lines : List PlanNode → ℕ → List (List ℕ)
-join_lines nodes join = asked_lines (asked_of nodes join)
+-- those of an operator, of which this is asked if it is a join: of another there are none
+abbrev pub operator_lines : Node → Asked → List (List ℕ)
+operator_lines (Stream schemes) asked = []
+operator_lines (Select input test) asked = []
+operator_lines (Project input columns) asked = []
+operator_lines (Union inputs) asked = []
+operator_lines (Join inputs spec) asked = asked_lines asked
+operator_lines (Group input spec) asked = []
 
--- those of these joins, in order
-abbrev pub joins_lines : List PlanNode → List ℕ → List (List ℕ)
-joins_lines nodes joins = flat_map (join_lines nodes) joins
+-- those of the node of this number
+abbrev pub node_lines : List PlanNode → ℕ → List (List ℕ)
+node_lines nodes n = operator_lines (node_at nodes n) (asked_of nodes n)
+
+-- those of so many nodes, the first ones, in order
+abbrev pub nodes_lines : List PlanNode → ℕ → List (List ℕ)
+nodes_lines nodes count = flat_map (node_lines nodes) (range_with_len 0 count)
 
 -- ---- the whole
 
@@ -82,11 +93,11 @@ abbrev pub printed : Bool → Outline → List ℕ
 printed true plan = plan_spelling plan
 printed false plan = []
 
--- the lines that tell of a plan: its own, where they are to be printed, and then those of each input of each join
+-- the lines that tell of a plan: its own, where they are to be printed, and then those of each node
 abbrev pub check_lines : Bool → Outline → List (List ℕ)
-check_lines print plan = plan_lines print plan ++ joins_lines plan.nodes (joins_of plan.nodes)
+check_lines print plan = plan_lines print plan ++ nodes_lines plan.nodes (length plan.nodes)
 
--- the plan is safe; or this is its first unsafe join, the first stuck input of it, and the least that this one does not reach
-abbrev pub IsAnswer : List PlanNode → Option (ℕ × ℕ × ℕ) → Type 0
+-- the plan is safe; or this is its first node at a risk, and its risk
+abbrev pub IsAnswer : List PlanNode → Option (ℕ × PlanRisk) → Type 0
 IsAnswer nodes None = IsSafePlan nodes
-IsAnswer nodes (Some (join, input, missing)) = IsFirstStuck nodes join input missing
+IsAnswer nodes (Some (n, risk)) = IsFirstRisk nodes n risk

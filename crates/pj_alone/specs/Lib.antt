@@ -1,3 +1,3 @@
-pub mod Safety
+pub mod Judgments
 pub mod Asked
 pub mod Checks

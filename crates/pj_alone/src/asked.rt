@@ -1,12 +1,10 @@
-// A join of a plan with what is asked of it.
-ghost use Rattle.std.specs.Prelude.{◌≡◌, ◌<◌, IfOk, length, map, true};
-ghost use Rattle.pj_value.specs.Lists.{In};
-ghost use Rattle.pj_plan.specs.Nodes.{inputs_of, is_join, joins_of};
+// A node of a plan that is a join, with what is asked of it.
+ghost use Rattle.std.specs.Prelude.{◌≡◌, ◌<◌, Some, IfOk, length, map, slice_index};
+ghost use Rattle.pj_plan.specs.Nodes.{inputs_of, join_in};
 ghost use Rattle.pj_plan.specs.Canonical.{node_at, node_name};
 ghost use Rattle.pj_scheme.specs.Derived.{schemes_of};
 ghost use Rattle.pj_graph.specs.Reaching.{IsReach};
 ghost use Rattle.pj_graph.specs.Saturation.{reach_of};
-ghost use Rattle.pj_alone.specs.Safety.{spec_in};
 ghost use Rattle.pj_alone.specs.Asked.{asked_of, IsAskable};
 
 use pj_graph::{Reach, reach};
@@ -37,26 +35,28 @@ impl<'a> Model for Asked<'a> {
 }
 
 impl<'a> Asked<'a> {
-    /// The join of this number, where these are the schemes of all nodes.
-    #[tactic(auto, using(crate::proofs::Joins::join_below, crate::proofs::Joins::join_is))]
+    /// The join of this number and shape, where these are the schemes of all nodes.
+    #[tactic(auto, using(pj_safety::proofs::Nodes::is_some_join))]
     pub(crate) fn of(
         alloc: Global,
         plan: &'a Plan,
         all: &Schemes,
-        join: u32,
+        node: u32,
+        spec: &'a JoinSpec,
     ) -> Result<Asked<'a>, NoMemory>
-        requires join { In join (joins_of plan.now.nodes) }
+        requires there { node < length plan.now.nodes }
+        requires spec { Some spec.now ≡ join_in (node_at plan.now.nodes node) }
         requires all { all.now ≡ schemes_of plan.now.nodes }
-        ensures { IfOk result (λ asked. asked ≡ asked_of plan.now.nodes join) }
+        ensures { IfOk result (λ asked. asked ≡ asked_of plan.now.nodes node) }
     {
         let _count = plan.nodes();
         schemes_fit();
-        let schemes = join_schemes(alloc, plan, all, join)?;
-        let names = names_of(alloc, plan, join)?;
+        let schemes = join_schemes(alloc, plan, all, node)?;
+        let names = names_of(alloc, plan, node)?;
         Ok(Asked {
-            spec: spec_of(plan.node(join)),
+            spec,
             schemes,
-            name: plan.name(join),
+            name: plan.name(node),
             names,
         })
     }
@@ -79,44 +79,30 @@ impl<'a> Asked<'a> {
     }
 }
 
-fn spec_of(node: &Node) -> &JoinSpec
-    requires { is_join node.now ≡ true }
-    ensures { result.now ≡ spec_in node.now }
+// The names of the nodes that feed a node.
+#[tactic(auto, using(pj_scheme::proofs::Plans::input_there))]
+fn names_of(alloc: Global, plan: &Plan, n: u32) -> Result<List<Bytes>, NoMemory>
+    requires there { n < length plan.now.nodes }
+    ensures { IfOk result (λ names. names ≡ map (node_name plan.now.nodes) (inputs_of (node_at plan.now.nodes n))) }
 {
-    match node {
-        Node::Stream { .. } => unreachable!(),
-        Node::Select { .. } => unreachable!(),
-        Node::Project { .. } => unreachable!(),
-        Node::Union { .. } => unreachable!(),
-        Node::Join { spec, .. } => spec,
-        Node::Group { .. } => unreachable!(),
-    }
-}
-
-fn inputs_in(node: &Node) -> &[u32]
-    requires { is_join node.now ≡ true }
-    ensures { result.now ≡ inputs_of node.now }
-{
-    match node {
-        Node::Stream { .. } => unreachable!(),
-        Node::Select { .. } => unreachable!(),
-        Node::Project { .. } => unreachable!(),
-        Node::Union { .. } => unreachable!(),
-        Node::Join { inputs, .. } => inputs.as_slice(),
-        Node::Group { .. } => unreachable!(),
-    }
-}
-
-// The names of a join's inputs.
-#[tactic(auto, using(crate::proofs::Joins::join_below, crate::proofs::Joins::join_is))]
-fn names_of(alloc: Global, plan: &Plan, join: u32) -> Result<List<Bytes>, NoMemory>
-    requires { In join (joins_of plan.now.nodes) }
-    ensures { IfOk result (λ names. names ≡ map (node_name plan.now.nodes) (inputs_of (node_at plan.now.nodes join))) }
-{
+    // A sound plan has the nodes that feed its nodes.
     let _count = plan.nodes();
-    let mut names = List::new(alloc);
-    for input in inputs_in(plan.node(join)) {
-        names.push(List::copy_of(alloc, plan.name(*input))?)?;
+    let node = plan.node(n);
+    let mut names = List::with_room(alloc, node.inputs())?;
+    for at in 0..node.inputs() {
+        names.push(List::copy_of(alloc, name_of_input(plan, node, at))?)?;
     }
     Ok(names)
+}
+
+// The name of the node that feeds an input.
+fn name_of_input<'a>(plan: &'a Plan, node: &Node, at: usize) -> &'a [u8]
+    requires there { at < length (inputs_of node.now) }
+    requires known { slice_index (inputs_of node.now) at < length plan.now.nodes }
+    ensures { result.now ≡ node_name plan.now.nodes (slice_index (inputs_of node.now) at) }
+{
+    match node.input(at) {
+        None => unreachable!(),
+        Some(input) => plan.name(input),
+    }
 }

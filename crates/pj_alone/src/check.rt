@@ -1,38 +1,39 @@
 // The text that tells what each input of each join of a plan reaches.
 ghost use Rattle.std.specs.Prelude.{◌≡◌, ◌<◌, ◌++◌, true, IfOk, OnOk, OnErr, length};
 ghost use Rattle.std.specs.List.{concat};
-ghost use Rattle.pj_value.specs.Lists.{In, has};
-ghost use Rattle.pj_plan.specs.Nodes.{joins_of};
+ghost use Rattle.pj_value.specs.Lists.{has};
 ghost use Rattle.pj_scheme.specs.Derived.{schemes_of};
 ghost use Rattle.pj_shape.specs.Sets.{IsClosed};
 ghost use Rattle.pj_graph.specs.Reaching.{IsReach};
 ghost use Rattle.pj_cert.specs.Partners.{partners_of};
-ghost use Rattle.pj_alone.specs.Asked.{asked_of, IsFirstStuckOf, or_join as first_join, or_stuck as first_stuck};
-ghost use Rattle.pj_alone.specs.Checks.{IsAnswer, asked_lines, check_lines, join_lines, partner_lines, partner_rows, printed, told_of};
+ghost use Rattle.pj_alone.specs.Asked.{IsRiskAt, IsRiskOf, or_risk as first_risk, or_stuck as first_stuck};
+ghost use Rattle.pj_alone.specs.Checks.{IsAnswer, asked_lines, check_lines, node_lines, partner_lines, partner_rows, printed, told_of};
 
 use crate::asked::Asked;
 use pj_cert::{blank_instances, blank_row, escape, partners_text, verdict_text};
 use pj_graph::Reach;
 use pj_plan::Plan;
 use pj_plan_text::plan_text;
+use pj_safety::PlanRisk;
 use pj_scheme::derived;
 use pj_shape::Schemes;
 use pj_value::{List, NoMemory};
 use std::alloc::Global;
 
-/// Appends what is told of a plan: the canonical plan, where it is to be printed, and then, for each join in order of
-/// declaration and each of its inputs in order, the line of an input that reaches all, or the two lines of a stuck one and a
+/// Appends what is told of a plan: the canonical plan, where it is to be printed, and then, for each node that is a join, in order
+/// of declaration, and each of its inputs in order, the line of an input that reaches all, or the two lines of a stuck one and a
 /// line `# partner K t ..` for each other input. Those show a row of 0 and empty texts of the stuck input with rows that join
 /// it and that no instances of 0 and empty texts of the inputs that it does not reach rule out.
 ///
-/// The answer is `None` exactly where the plan is safe; else the first unsafe join, its first stuck input and the least input
-/// that this one does not reach. Nodes and inputs are counted from 0. On a refusal `out` is as it was.
+/// The answer is `None` exactly where the plan is safe; else the first node that is not, and its risk: the first stuck input of a
+/// join, and the least input that this one does not reach. Nodes and inputs are counted from 0. On a refusal `out` is as it was.
+#[tactic(auto, using(crate::proofs::Plans::no_first, crate::proofs::Texts::no_nodes))]
 pub fn check_text(
     alloc: Global,
     plan: &Plan,
     print: bool,
     out: &mut List<u8>,
-) -> Result<Option<(u32, u32, u32)>, NoMemory>
+) -> Result<Option<(u32, PlanRisk)>, NoMemory>
     ensures answer { IfOk result (λ found. IsAnswer plan.now.nodes found) }
     ensures text { OnOk result (out.new ≡ out.old ++ concat (check_lines print plan.now)) }
     ensures err { OnErr result (out.new ≡ out.old) }
@@ -41,9 +42,9 @@ pub fn check_text(
     let mut text = List::new(alloc);
     append_plan(alloc, plan, print, &mut text)?;
     let mut first = None;
-    for join in plan.joins() {
-        let stuck = append_join(alloc, plan, &all, *join, &mut text)?;
-        first = or_join(first, *join, stuck);
+    for node in 0..plan.nodes() {
+        let risk = append_node(alloc, plan, &all, node, &mut text)?;
+        first = or_risk(first, node, risk);
     }
     out.append(text.as_slice())?;
     Ok(first)
@@ -58,22 +59,28 @@ fn append_plan(alloc: Global, plan: &Plan, print: bool, text: &mut List<u8>) -> 
     Ok(())
 }
 
-// Appends what is told of a join; the answer is its first stuck input and the least that it does not reach.
-fn append_join(
+// Appends what is told of a node; the answer is its risk, if it is at one.
+#[tactic(auto, using(crate::proofs::Plans::other_safe_at, crate::proofs::Plans::risk_at, crate::proofs::Texts::other_put, crate::proofs::Texts::join_put))]
+fn append_node(
     alloc: Global,
     plan: &Plan,
     all: &Schemes,
-    join: u32,
+    node: u32,
     text: &mut List<u8>,
-) -> Result<Option<(u32, u32)>, NoMemory>
-    requires join { In join (joins_of plan.now.nodes) }
+) -> Result<Option<PlanRisk>, NoMemory>
+    requires there { node < length plan.now.nodes }
     requires all { all.now ≡ schemes_of plan.now.nodes }
-    ensures answer { IfOk result (λ found. IsFirstStuckOf (asked_of plan.now.nodes join) found) }
-    ensures text { OnOk result (text.new ≡ text.old ++ concat (join_lines plan.now.nodes join)) }
+    ensures answer { IfOk result (λ found. IsRiskAt plan.now.nodes node found) }
+    ensures text { OnOk result (text.new ≡ text.old ++ concat (node_lines plan.now.nodes node)) }
 {
-    let asked = Asked::of(alloc, plan, all, join)?;
-    let found = append_inputs(alloc, &asked, text)?;
-    Ok(found)
+    match plan.node(node).join() {
+        None => Ok(None),
+        Some(spec) => {
+            let asked = Asked::of(alloc, plan, all, node, spec)?;
+            let found = append_inputs(alloc, &asked, text)?;
+            Ok(found)
+        }
+    }
 }
 
 #[tactic(auto, using(crate::proofs::Texts::no_inputs))]
@@ -81,8 +88,8 @@ fn append_inputs(
     alloc: Global,
     asked: &Asked<'_>,
     text: &mut List<u8>,
-) -> Result<Option<(u32, u32)>, NoMemory>
-    ensures answer { IfOk result (λ found. IsFirstStuckOf asked.now found) }
+) -> Result<Option<PlanRisk>, NoMemory>
+    ensures answer { IfOk result (λ found. IsRiskOf asked.now found) }
     ensures text { OnOk result (text.new ≡ text.old ++ concat (asked_lines asked.now)) }
 {
     let mut first = None;
@@ -169,30 +176,33 @@ fn append_stuck(
     Ok(())
 }
 
-fn or_stuck(first: Option<(u32, u32)>, input: u32, found: &Reach) -> Option<(u32, u32)>
+fn or_stuck(first: Option<PlanRisk>, input: u32, found: &Reach) -> Option<PlanRisk>
     ensures { result ≡ first_stuck first input found.now }
 {
     match first {
-        Some(first) => Some(first),
+        Some(risk) => Some(risk),
         None => match found {
             Reach::All(_) => None,
-            Reach::Stuck { missing, .. } => Some((input, *missing)),
+            Reach::Stuck { missing, .. } => Some(PlanRisk::Stuck {
+                input,
+                missing: *missing,
+            }),
         },
     }
 }
 
-fn or_join(
-    first: Option<(u32, u32, u32)>,
-    join: u32,
-    stuck: Option<(u32, u32)>,
-) -> Option<(u32, u32, u32)>
-    ensures { result ≡ first_join first join stuck }
+fn or_risk(
+    first: Option<(u32, PlanRisk)>,
+    node: u32,
+    found: Option<PlanRisk>,
+) -> Option<(u32, PlanRisk)>
+    ensures { result ≡ first_risk first node found }
 {
     match first {
         Some(first) => Some(first),
-        None => match stuck {
+        None => match found {
             None => None,
-            Some((input, missing)) => Some((join, input, missing)),
+            Some(risk) => Some((node, risk)),
         },
     }
 }

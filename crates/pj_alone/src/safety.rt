@@ -1,27 +1,25 @@
 // Whether a plan is safe.
-ghost use Rattle.std.specs.Prelude.{ℕ, ◌≡◌, List, IfOk};
+ghost use Rattle.std.specs.Prelude.{ℕ, ◌≡◌, ◌<◌, List, IfOk, length};
 ghost use Rattle.pj_value.specs.Lists.{In};
-ghost use Rattle.pj_plan.specs.Nodes.{joins_of};
 ghost use Rattle.pj_scheme.specs.Derived.{schemes_of};
-ghost use Rattle.pj_alone.specs.Safety.{AreLinesNotes, IsJudgment, IsNote};
-ghost use Rattle.pj_alone.specs.Asked.{asked_of, IsAskable, IsJoinJudged, stuck_lines as lines_of_stuck};
+ghost use Rattle.pj_alone.specs.Judgments.{AreLinesNotes, IsJudgment, IsNote};
+ghost use Rattle.pj_alone.specs.Asked.{IsAskable, IsJoinJudged, IsNodeJudged, stuck_lines as lines_of_stuck};
 
 use crate::asked::Asked;
 use pj_cert::{reached_line, unreached_line};
 use pj_graph::{Reach, saturations_are_told};
 use pj_plan::Plan;
+use pj_safety::PlanRisk;
 use pj_scheme::derived;
 use pj_shape::{Cert, Schemes};
 use pj_value::{Bytes, List, NoMemory};
 use std::alloc::Global;
 
-/// Why a plan is unsafe: its first join that is, the first input of it that does not reach all, the least input that this one
-/// does not reach, and the two lines that tell it. Nodes and inputs are counted from 0.
+/// Why a plan is unsafe: its first node that is, at which risk it is, and the lines that tell it. Nodes are counted from 0.
 #[derive(Drop)]
 pub struct Unsafe {
-    pub join: u32,
-    pub input: u32,
-    pub missing: u32,
+    pub node: u32,
+    pub risk: PlanRisk,
     pub lines: List<Bytes>,
 }
 
@@ -34,24 +32,26 @@ pub enum Judged {
     Unsafe { found: Unsafe },
 }
 
-// What is found of a join: the certificate of each input, or why the plan is unsafe.
+// What is found of a node: nothing where it is no join; the certificate of each input of a join, or why the plan is unsafe.
 #[derive(Drop)]
 enum Verdict {
+    Free,
     Certified(List<Cert>),
     Refused(Unsafe),
 }
 
 /// Whether the plan is safe. The certificate of an input starts from the input alone and always adds the least input that can
 /// be added, by its first scheme that allows it.
-#[tactic(auto, using(crate::proofs::Plans::judged_notes))]
+#[tactic(auto, using(crate::proofs::Plans::judged_notes, crate::proofs::Plans::none_yet))]
 pub fn judge(alloc: Global, plan: &Plan) -> Result<Judged, NoMemory>
     ensures judged { IfOk result (λ judged. IsJudgment plan.now.nodes judged) }
     ensures lines { IfOk result AreLinesNotes }
 {
     let all = derived(alloc, plan)?;
     let mut certs = List::new(alloc);
-    for join in plan.joins() {
-        match judge_join(alloc, plan, &all, *join)? {
+    for node in 0..plan.nodes() {
+        match judge_node(alloc, plan, &all, node)? {
+            Verdict::Free => {}
             Verdict::Certified(list) => certs.push(list)?,
             Verdict::Refused(found) => return Ok(Judged::Unsafe { found }),
         }
@@ -59,19 +59,25 @@ pub fn judge(alloc: Global, plan: &Plan) -> Result<Judged, NoMemory>
     Ok(Judged::Safe { certs })
 }
 
-fn judge_join(alloc: Global, plan: &Plan, all: &Schemes, join: u32) -> Result<Verdict, NoMemory>
-    requires join { In join (joins_of plan.now.nodes) }
+#[tactic(auto, using(pj_safety::proofs::Nodes::is_no_join, crate::proofs::Plans::judged_at))]
+fn judge_node(alloc: Global, plan: &Plan, all: &Schemes, node: u32) -> Result<Verdict, NoMemory>
+    requires there { node < length plan.now.nodes }
     requires all { all.now ≡ schemes_of plan.now.nodes }
-    ensures { IfOk result (λ verdict. IsJoinJudged (asked_of plan.now.nodes join) join verdict) }
+    ensures { IfOk result (λ verdict. IsNodeJudged plan.now.nodes node verdict) }
 {
-    let asked = Asked::of(alloc, plan, all, join)?;
-    let verdict = judge_inputs(alloc, &asked, join)?;
-    Ok(verdict)
+    match plan.node(node).join() {
+        None => Ok(Verdict::Free),
+        Some(spec) => {
+            let asked = Asked::of(alloc, plan, all, node, spec)?;
+            let verdict = judge_inputs(alloc, &asked, node)?;
+            Ok(verdict)
+        }
+    }
 }
 
 #[tactic(auto, using(crate::proofs::Inputs::judged))]
-fn judge_inputs(alloc: Global, asked: &Asked<'_>, join: u32) -> Result<Verdict, NoMemory>
-    ensures { IfOk result (λ verdict. IsJoinJudged asked.now join verdict) }
+fn judge_inputs(alloc: Global, asked: &Asked<'_>, node: u32) -> Result<Verdict, NoMemory>
+    ensures { IfOk result (λ verdict. IsJoinJudged asked.now node verdict) }
 {
     saturations_are_told();
     let mut certs = List::new(alloc);
@@ -80,12 +86,8 @@ fn judge_inputs(alloc: Global, asked: &Asked<'_>, join: u32) -> Result<Verdict, 
             Reach::All(cert) => certs.push(cert)?,
             Reach::Stuck { reached, missing } => {
                 let lines = stuck_lines(alloc, asked, input, missing, reached.as_slice())?;
-                return Ok(Verdict::Refused(Unsafe {
-                    join,
-                    input,
-                    missing,
-                    lines,
-                }));
+                let risk = PlanRisk::Stuck { input, missing };
+                return Ok(Verdict::Refused(Unsafe { node, risk, lines }));
             }
         }
     }

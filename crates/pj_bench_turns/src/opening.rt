@@ -1,6 +1,6 @@
 // A hub over a plan of one stream.
 ghost use Rattle.std.specs.Prelude.{◌≡◌, ◌≤◌, length, IfOk, IfSome};
-ghost use Rattle.pj_alone.specs.Safety.{AreCertificates, certificates_of};
+ghost use Rattle.pj_safety.specs.Certificates.{AreCertificates, certificates_of};
 ghost use Rattle.pj_hub.specs.Seated.{AreNewSeats, hub_seats};
 
 use pj_alone::{Judged, judge};

@@ -66,7 +66,7 @@ module _ (command : Command) (after : FolderState) (old new : SinkState) (told :
   completes Usage c = absurd (false≢true (sym (c.usage refl) ∙ built.form))
   completes (PlanRefused line why) c = absurd (never_refused (PlanRefused line why) (c.refused (PlanRefused line why) refl tt))
   completes (FileCount want got) c = absurd (never_refused (FileCount want got) (c.refused (FileCount want got) refl tt))
-  completes (Unsafe join input missing) c = absurd (never_refused (Unsafe join input missing) (c.refused (Unsafe join input missing) refl tt))
+  completes (Unsafe node risk) c = absurd (never_refused (Unsafe node risk) (c.refused (Unsafe node risk) refl tt))
   completes (OpenFault n) c = absurd (never_faulted n (c.open_fault n refl).fault)
   completes (ReadFault n) c = absurd (never_faulted n (c.read_fault n refl))
   completes WriteFault c = absurd (none.sink (c.write_fault refl).0)

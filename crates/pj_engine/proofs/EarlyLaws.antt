@@ -2,7 +2,7 @@
 use Rattle.std.proofs.Common.{◌≡◌, ◌≤◌, ◌<◌, ◌⊎◌, ℕ, true, false, inl, inr, List, [], ◌∷◌, length, Result, Ok, Err, refl, ap, ap₂, sym, ◌∙◌, subst, arith}
 use Rattle.std.specs.declared.string.String.{String}
 use Rattle.std.specs.declared.alloc.Global.{Global}
-use Rattle.std.proofs.lemmas.Bool.{cases_lt, false≢true}
+use Rattle.std.proofs.lemmas.Bool.{false≢true}
 use Rattle.pj_io.specs.Causes.{Rose}
 use Rattle.pj_io.specs.States.{FolderState, SinkState}
 use Rattle.pj_plan.specs.declared.fault.PlanFault.{PlanFault}
@@ -10,7 +10,9 @@ use Rattle.pj_plan.specs.declared.node.PlanNode.{PlanNode}
 use Rattle.pj_plan.specs.declared.node.Outline.{Outline}
 use Rattle.pj_plan.specs.Nodes.{streams_of}
 use Rattle.pj_plan_text.specs.PlanRead.{plan_read}
-use Rattle.pj_alone.specs.Safety.{IsFirstStuck, IsSafeJoin, IsSafePlan}
+use Rattle.pj_safety.specs.declared.risk.PlanRisk.{PlanRisk}
+use Rattle.pj_safety.specs.Safety.{IsFirstRisk, IsSafePlan}
+use Rattle.pj_safety.proofs.Risks.{risk_is_alone, risk_is_unsafe}
 use Rattle.pj_report.specs.declared.status.Status.{Status}
 use Rattle.pj_report.specs.declared.status.Status.TheVariants.{Done, Usage, OpenFault, ReadFault, PlanRefused, FileCount, Unsafe, WriteFault, NoMemory, Limit}
 use Rattle.pj_report.specs.declared.status.LimitOf.TheVariants.{Plan, Node, File}
@@ -158,50 +160,9 @@ early_lines PlanMemory command after u = tt
 
 -- ---- what is refused is refused with one status
 
--- an unsafe join is not safe
-never_safe : (nodes : List PlanNode) (join input missing : ℕ) → IsFirstStuck nodes join input missing → IsSafeJoin nodes join → ⊥
-never_safe nodes join input missing f safe = f.stuck (safe input missing f.input_there f.missing_there)
-
-module _ (nodes : List PlanNode) (join input missing : ℕ) (f : IsFirstStuck nodes join input missing) where
-  same_join : (j i m : ℕ) → IsFirstStuck nodes j i m → join ≡ j
-  same_join j i m g = elim (cases_lt join j) [
-    | inl before ↦ absurd (never_safe nodes join input missing f (g.joins join f.there before))
-    | inr le ↦ elim (cases_lt j join) [
-      | inl behind ↦ absurd (never_safe nodes j i m g (f.joins j g.there behind))
-      | inr ge ↦ omega (arith, le, ge)
-    ]
-  ]
-
-  same_input : (i m : ℕ) → IsFirstStuck nodes join i m → input ≡ i
-  same_input i m g = elim (cases_lt input i) [
-    | inl before ↦ absurd (f.stuck (g.inputs input before missing f.missing_there))
-    | inr le ↦ elim (cases_lt i input) [
-      | inl behind ↦ absurd (g.stuck (f.inputs i behind m g.missing_there))
-      | inr ge ↦ omega (arith, le, ge)
-    ]
-  ]
-
-  same_missing : (m : ℕ) → IsFirstStuck nodes join input m → missing ≡ m
-  same_missing m g = elim (cases_lt missing m) [
-    | inl before ↦ absurd (f.stuck (g.least missing before))
-    | inr le ↦ elim (cases_lt m missing) [
-      | inl behind ↦ absurd (g.stuck (f.least m behind))
-      | inr ge ↦ omega (arith, le, ge)
-    ]
-  ]
-
-  same_stuck : (j i m : ℕ) → IsFirstStuck nodes j i m → Unsafe join input missing ≡ Unsafe j i m
-  same_stuck j i m g =
-      let join_is = same_join j i m g in
-      let at_join : IsFirstStuck nodes join i m = subst (λ (k : ℕ). IsFirstStuck nodes k i m) (sym join_is) g in
-      let input_is = same_input i m at_join in
-      let at_input : IsFirstStuck nodes join input m = subst (λ (k : ℕ). IsFirstStuck nodes join k m) (sym input_is) at_join in
-      let missing_is = same_missing m at_input in
-      cc
-
--- a plan that is not safe
-not_safe : (nodes : List PlanNode) (join input missing : ℕ) → IsFirstStuck nodes join input missing → IsSafePlan nodes → ⊥
-not_safe nodes join input missing f safe = never_safe nodes join input missing f (safe join f.there)
+-- a plan has one first node at a risk alone
+same_risk : (nodes : List PlanNode) (node other : ℕ) (risk own : PlanRisk) → IsFirstRisk nodes node risk → IsFirstRisk nodes other own → Unsafe node risk ≡ Unsafe other own
+same_risk nodes node other risk own f g = let same = risk_is_alone nodes node other risk own f g in ap₂ Unsafe same.0 same.1
 
 module _ (files : ℕ) (plan : Outline) where
   count_alone : (want got : ℕ) (other : Status) → RefusesPlan (FileCount want got) files plan → RefusesPlan other files plan → FileCount want got ≡ other
@@ -209,31 +170,31 @@ module _ (files : ℕ) (plan : Outline) where
   count_alone want got Usage a b = absurd b
   count_alone want got (PlanRefused line why) a b = absurd b
   count_alone want got (FileCount w g) a b = ap₂ FileCount (a.1 ∙ sym b.1) (a.2 ∙ sym b.2)
-  count_alone want got (Unsafe join input missing) a b = absurd (a.0 b.0)
+  count_alone want got (Unsafe node risk) a b = absurd (a.0 b.0)
   count_alone want got (OpenFault n) a b = absurd b
   count_alone want got (ReadFault n) a b = absurd b
   count_alone want got WriteFault a b = absurd b
   count_alone want got NoMemory a b = absurd b
   count_alone want got (Limit what) a b = absurd b
 
-  unsafe_alone : (join input missing : ℕ) (other : Status) → RefusesPlan (Unsafe join input missing) files plan → RefusesPlan other files plan → Unsafe join input missing ≡ other
-  unsafe_alone join input missing Done a b = absurd b
-  unsafe_alone join input missing Usage a b = absurd b
-  unsafe_alone join input missing (PlanRefused line why) a b = absurd b
-  unsafe_alone join input missing (FileCount w g) a b = absurd (b.0 a.0)
-  unsafe_alone join input missing (Unsafe j i m) a b = same_stuck plan.nodes join input missing a.1 j i m b.1
-  unsafe_alone join input missing (OpenFault n) a b = absurd b
-  unsafe_alone join input missing (ReadFault n) a b = absurd b
-  unsafe_alone join input missing WriteFault a b = absurd b
-  unsafe_alone join input missing NoMemory a b = absurd b
-  unsafe_alone join input missing (Limit what) a b = absurd b
+  unsafe_alone : (node : ℕ) (risk : PlanRisk) (other : Status) → RefusesPlan (Unsafe node risk) files plan → RefusesPlan other files plan → Unsafe node risk ≡ other
+  unsafe_alone node risk Done a b = absurd b
+  unsafe_alone node risk Usage a b = absurd b
+  unsafe_alone node risk (PlanRefused line why) a b = absurd b
+  unsafe_alone node risk (FileCount w g) a b = absurd (b.0 a.0)
+  unsafe_alone node risk (Unsafe n own) a b = same_risk plan.nodes node n risk own a.1 b.1
+  unsafe_alone node risk (OpenFault n) a b = absurd b
+  unsafe_alone node risk (ReadFault n) a b = absurd b
+  unsafe_alone node risk WriteFault a b = absurd b
+  unsafe_alone node risk NoMemory a b = absurd b
+  unsafe_alone node risk (Limit what) a b = absurd b
 
   plan_alone : (one other : Status) → RefusesPlan one files plan → RefusesPlan other files plan → one ≡ other
   plan_alone Done other a b = absurd a
   plan_alone Usage other a b = absurd a
   plan_alone (PlanRefused line why) other a b = absurd a
   plan_alone (FileCount want got) other a b = count_alone want got other a b
-  plan_alone (Unsafe join input missing) other a b = unsafe_alone join input missing other a b
+  plan_alone (Unsafe node risk) other a b = unsafe_alone node risk other a b
   plan_alone (OpenFault n) other a b = absurd a
   plan_alone (ReadFault n) other a b = absurd a
   plan_alone WriteFault other a b = absurd a
@@ -246,7 +207,7 @@ module _ (files : ℕ) (plan : Outline) where
   never_fit Usage count safe a = a
   never_fit (PlanRefused line why) count safe a = a
   never_fit (FileCount want got) count safe a = a.0 count
-  never_fit (Unsafe join input missing) count safe a = not_safe plan.nodes join input missing a.1 safe
+  never_fit (Unsafe node risk) count safe a = risk_is_unsafe plan.nodes node risk a.1 safe
   never_fit (OpenFault n) count safe a = a
   never_fit (ReadFault n) count safe a = a
   never_fit WriteFault count safe a = a
@@ -279,7 +240,7 @@ IsOfPlan (OpenFault n) = ⊥
 IsOfPlan (ReadFault n) = ⊥
 IsOfPlan (PlanRefused line why) = Unit {0}
 IsOfPlan (FileCount want got) = Unit {0}
-IsOfPlan (Unsafe join input missing) = Unit {0}
+IsOfPlan (Unsafe node risk) = Unit {0}
 IsOfPlan WriteFault = ⊥
 IsOfPlan NoMemory = ⊥
 IsOfPlan (Limit Plan) = Unit {0}
@@ -316,7 +277,7 @@ refused_early (PlanFile FileMemory) command after status u e p = absurd (subst I
 refused_early (Refused fault) command after status u e p = refused_so command u.0 (PlanRefused fault.line fault.why) status (λ told. has_fault (length (file_names command)) (plan_bytes command) fault (u.1.1 told)) e
 refused_early (OtherCount want got) command after status u e p = refused_so command u.0 (FileCount want got) status (λ told. is_unfit (FileCount want got) (length (file_names command)) (plan_bytes command) u.1.1 u.1.2 (u.1.3 told)) e
 refused_early (Stuck found) command after status u e p =
-    refused_so command u.0 (Unsafe found.join found.input found.missing) status (λ told. is_unfit (Unsafe found.join found.input found.missing) (length (file_names command)) (plan_bytes command) u.1.0.1 u.1.0.2.0 (u.1.0.3 told)) e
+    refused_so command u.0 (Unsafe found.node found.risk) status (λ told. is_unfit (Unsafe found.node found.risk) (length (file_names command)) (plan_bytes command) u.1.0.1 u.1.0.2.0 (u.1.0.3 told)) e
 refused_early PlanMemory command after status u e p = absurd (subst IsOfPlan (sym e) p)
 
 -- a status that a run alone has
@@ -327,7 +288,7 @@ IsOfRun (OpenFault n) = ⊥
 IsOfRun (ReadFault n) = ⊥
 IsOfRun (PlanRefused line why) = ⊥
 IsOfRun (FileCount want got) = ⊥
-IsOfRun (Unsafe join input missing) = ⊥
+IsOfRun (Unsafe node risk) = ⊥
 IsOfRun WriteFault = Unit {0}
 IsOfRun NoMemory = ⊥
 IsOfRun (Limit Plan) = ⊥
@@ -372,7 +333,7 @@ answers_early (PlanFile FileMemory) command after u = λ told status refuses. in
 answers_early (Refused fault) command after u = answers_so command u.0 (PlanRefused fault.line fault.why) (λ told. has_fault (length (file_names command)) (plan_bytes command) fault (u.1.1 told))
 answers_early (OtherCount want got) command after u = answers_so command u.0 (FileCount want got) (λ told. is_unfit (FileCount want got) (length (file_names command)) (plan_bytes command) u.1.1 u.1.2 (u.1.3 told))
 answers_early (Stuck found) command after u =
-    answers_so command u.0 (Unsafe found.join found.input found.missing) (λ told. is_unfit (Unsafe found.join found.input found.missing) (length (file_names command)) (plan_bytes command) u.1.0.1 u.1.0.2.0 (u.1.0.3 told))
+    answers_so command u.0 (Unsafe found.node found.risk) (λ told. is_unfit (Unsafe found.node found.risk) (length (file_names command)) (plan_bytes command) u.1.0.1 u.1.0.2.0 (u.1.0.3 told))
 answers_early PlanMemory command after u = λ told status refuses. inr (inl refl)
 
 -- where there is something to run, nothing is refused

@@ -10,7 +10,7 @@ use Rattle.pj_plan.specs.declared.node.PlanNode.{PlanNode}
 use Rattle.pj_plan.specs.Kept.{IsMadeAgain}
 use Rattle.pj_plan.specs.Sound.{IsSoundPlan}
 use Rattle.pj_plan_text.specs.PlanRead.{plan_read}
-use Rattle.pj_alone.specs.Safety.{AreCertificates, certificates_of}
+use Rattle.pj_safety.specs.Certificates.{AreCertificates, certificates_of}
 use Rattle.pj_core.specs.Plans.{RunPlan, nodes_of, run_plan}
 use Rattle.pj_laws.specs.HistoryLaws.{AllAreCertified}
 use Rattle.pj_core.specs.Cores.{CoreState}

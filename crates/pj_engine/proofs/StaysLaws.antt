@@ -17,7 +17,7 @@ use Rattle.pj_element.specs.Runs.{element_lines}
 use Rattle.pj_line.proofs.Feeds.{has_no_both}
 use Rattle.pj_element.proofs.Feeds.{decimal_no_feed}
 use Rattle.pj_plan.specs.Canonical.{node_name}
-use Rattle.pj_alone.specs.Safety.{IsNote}
+use Rattle.pj_alone.specs.Judgments.{IsNote}
 use Rattle.pj_report.specs.declared.status.Status.{Status}
 use Rattle.pj_report.specs.declared.status.LimitOf.{LimitOf}
 use Rattle.pj_report.specs.declared.status.LimitOf.TheVariants.{Plan, Node, File}
@@ -160,7 +160,7 @@ stop_name_short plan Done plain = omega arith
 stop_name_short plan Usage plain = omega arith
 stop_name_short plan (PlanRefused line why) plain = omega arith
 stop_name_short plan (FileCount want got) plain = omega arith
-stop_name_short plan (Unsafe join input missing) plain = omega arith
+stop_name_short plan (Unsafe node risk) plain = omega arith
 stop_name_short plan (OpenFault n) plain = omega arith
 stop_name_short plan (ReadFault n) plain = omega arith
 stop_name_short plan WriteFault plain = omega arith
@@ -175,7 +175,7 @@ stop_name_by plan other Done same = refl
 stop_name_by plan other Usage same = refl
 stop_name_by plan other (PlanRefused line why) same = refl
 stop_name_by plan other (FileCount want got) same = refl
-stop_name_by plan other (Unsafe join input missing) same = refl
+stop_name_by plan other (Unsafe node risk) same = refl
 stop_name_by plan other (OpenFault n) same = refl
 stop_name_by plan other (ReadFault n) same = refl
 stop_name_by plan other WriteFault same = refl

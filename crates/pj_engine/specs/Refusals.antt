@@ -16,7 +16,9 @@ use Rattle.pj_engine.specs.declared.stops.PlanStop.{PlanStop}
 use Rattle.pj_engine.specs.declared.stops.PlanStop.TheVariants.{Usage as NoWords, File, Refused, FileCount as OtherCount, Unsafe as Stuck, NoMemory as PlanMemory}
 use Rattle.pj_engine.specs.Commands.{Command, HasToldPlan, file_names, operand, plan_bytes}
 use Rattle.pj_feed.specs.Opened.{OpensFirst}
-use Rattle.pj_alone.specs.Safety.{IsFirstStuck, AreUnsafeLines, HasUnsafeLines}
+use Rattle.pj_safety.specs.declared.risk.PlanRisk.{PlanRisk}
+use Rattle.pj_safety.specs.Safety.{IsFirstRisk}
+use Rattle.pj_alone.specs.Judgments.{AreUnsafeLines, HasUnsafeLines}
 
 -- ---- what is refused
 
@@ -24,12 +26,12 @@ use Rattle.pj_alone.specs.Safety.{IsFirstStuck, AreUnsafeLines, HasUnsafeLines}
 abbrev pub counted_files : ℕ → ℕ
 counted_files n = min n (2 ^ 32 - 1)
 
--- What a plan without fault is refused with, where there are so many files: it has another number of streams; or else an input of
--- a join does not reach all, and these are the first such join, its first such input and the least that it does not reach
+-- What a plan without fault is refused with, where there are so many files: it has another number of streams; or else a node of it
+-- is not safe, and these are the first such node and its risk
 abbrev pub RefusesPlan : Status → ℕ → Outline → Type 0
 RefusesPlan (FileCount want got) files plan =
     (length (streams_of plan.nodes) ≢ files) × (want ≡ length (streams_of plan.nodes)) × (got ≡ counted_files files)
-RefusesPlan (Unsafe join input missing) files plan = (length (streams_of plan.nodes) ≡ files) × IsFirstStuck plan.nodes join input missing
+RefusesPlan (Unsafe node risk) files plan = (length (streams_of plan.nodes) ≡ files) × IsFirstRisk plan.nodes node risk
 RefusesPlan Done files plan = ⊥
 RefusesPlan Usage files plan = ⊥
 RefusesPlan (PlanRefused line why) files plan = ⊥
@@ -68,7 +70,7 @@ IsRightCount answer command = (want got : ℕ) → answer ≡ FileCount want got
 
 abbrev pub IsRightlyUnsafe : Status → Command → Type 0
 IsRightlyUnsafe answer command =
-    (join input missing : ℕ) → answer ≡ Unsafe join input missing → IsRefused command (Unsafe join input missing)
+    (node : ℕ) (risk : PlanRisk) → answer ≡ Unsafe node risk → IsRefused command (Unsafe node risk)
 
 -- ---- why there is no plan to run
 
@@ -79,7 +81,7 @@ PlanUnfit (File stop) files plan = ⊥
 PlanUnfit (Refused fault) files plan = ⊥
 PlanUnfit (OtherCount want got) files plan = RefusesPlan (FileCount want got) files plan
 PlanUnfit (Stuck found) files plan =
-    RefusesPlan (Unsafe found.join found.input found.missing) files plan × AreUnsafeLines plan.nodes found.join found.input found.missing found.lines
+    RefusesPlan (Unsafe found.node found.risk) files plan × AreUnsafeLines plan.nodes found.node found.risk found.lines
 PlanUnfit PlanMemory files plan = ⊤
 
 -- the lines of an unsafe plan are such as spell no element

@@ -26,7 +26,7 @@ plan_status NoWords = Usage
 plan_status (PlanFile stop) = file_status stop
 plan_status (Refused fault) = PlanRefused fault.line fault.why
 plan_status (OtherCount want got) = FileCount want got
-plan_status (Stuck found) = Unsafe found.join found.input found.missing
+plan_status (Stuck found) = Unsafe found.node found.risk
 plan_status PlanMemory = StatusMemory
 
 -- what is written where there is no plan to run: the two lines of an unsafe plan, or the line of the status

@@ -6,7 +6,9 @@ use Rattle.pj_plan.specs.Nodes.{streams_of, streams_in}
 use Rattle.pj_plan.specs.Canonical.{node_name}
 use Rattle.pj_plan_text.specs.PlanRead.{plan_read}
 use Rattle.pj_algebra.specs.Answers.{answer_of}
-use Rattle.pj_alone.specs.Safety.{IsSafePlan, AreUnsafeLines}
+use Rattle.pj_alone.specs.Judgments.{AreUnsafeLines}
+use Rattle.pj_safety.specs.declared.risk.PlanRisk.{PlanRisk}
+use Rattle.pj_safety.specs.Safety.{IsSafePlan}
 use Rattle.pj_io.specs.Causes.{Rose}
 use Rattle.pj_io.specs.States.{FolderState, SinkState}
 use Rattle.pj_pattern.specs.declared.element.Element.{Element}
@@ -60,7 +62,7 @@ MayOpen Done command count = count ≡ length command.names
 MayOpen Usage command count = count ≡ 0
 MayOpen (PlanRefused line why) command count = count ≡ 1
 MayOpen (FileCount want got) command count = count ≡ 1
-MayOpen (Unsafe join input missing) command count = count ≡ 1
+MayOpen (Unsafe node risk) command count = count ≡ 1
 MayOpen (OpenFault n) command count = count + 1 ≡ n
 MayOpen (ReadFault n) command count = ((n ≡ 1) × (count ≡ 1)) ⊎ ((1 < n) × (count ≡ length command.names))
 MayOpen WriteFault command count = count ≡ length command.names
@@ -97,7 +99,7 @@ stop_name plan Done = []
 stop_name plan Usage = []
 stop_name plan (PlanRefused line why) = []
 stop_name plan (FileCount want got) = []
-stop_name plan (Unsafe join input missing) = []
+stop_name plan (Unsafe node risk) = []
 stop_name plan (OpenFault n) = []
 stop_name plan (ReadFault n) = []
 stop_name plan WriteFault = []
@@ -130,7 +132,7 @@ StopLeaves Done command after old new = ⊤
 StopLeaves Usage command after old new = ⊤
 StopLeaves (PlanRefused line why) command after old new = ⊤
 StopLeaves (FileCount want got) command after old new = ⊤
-StopLeaves (Unsafe join input missing) command after old new = ⊤
+StopLeaves (Unsafe node risk) command after old new = ⊤
 StopLeaves (OpenFault n) command after old new = AreDistinct command.names → after.last (operand command.names n) ≡ command.folder.last (operand command.names n)
 StopLeaves (ReadFault n) command after old new =
     (n ≡ 1) ⊎ ((plan : Outline) × (lines : List ℕ) × (plan_of (plan_bytes command) ≡ Some plan) × FaultLeaves plan command after n old.written lines
@@ -146,11 +148,11 @@ StopLeaves (Limit what) command after old new = (what ≡ Plan) ⊎ LimitStops w
 abbrev pub StoppedRun : Status → Command → FolderState → SinkState → SinkState → Type 0
 StoppedRun status command after old new = IsTold command → IsTrue new.told → StopLeaves status command after old new
 
--- the two lines of an unsafe plan were written: of the join's input, with what it does not reach, and of what it reaches
-abbrev pub TellsUnsafe : ℕ → ℕ → ℕ → Command → SinkState → SinkState → Type 0
-TellsUnsafe join input missing command old new =
+-- the lines of an unsafe plan were written: of its first node at a risk, at this one
+abbrev pub TellsUnsafe : ℕ → PlanRisk → Command → SinkState → SinkState → Type 0
+TellsUnsafe node risk command old new =
     (plan : Outline) × (lines : List (List ℕ)) × (HasToldPlan command → plan_read (plan_bytes command) ≡ Ok plan)
-    × AreUnsafeLines plan.nodes join input missing lines × Delivered (flat lines) old new
+    × AreUnsafeLines plan.nodes node risk lines × Delivered (flat lines) old new
 
 -- a call that is refused, or ends since a file could not be opened or the plan not be read, has written its status' line and nothing else
 abbrev pub EarlyEnd : Status → Command → FolderState → SinkState → SinkState → Type 0
@@ -158,7 +160,7 @@ EarlyEnd Done command after old new = ⊤
 EarlyEnd Usage command after old new = Delivered (status_line [] Usage) old new
 EarlyEnd (PlanRefused line why) command after old new = Delivered (status_line [] (PlanRefused line why)) old new
 EarlyEnd (FileCount want got) command after old new = Delivered (status_line [] (FileCount want got)) old new
-EarlyEnd (Unsafe join input missing) command after old new = TellsUnsafe join input missing command old new
+EarlyEnd (Unsafe node risk) command after old new = TellsUnsafe node risk command old new
 EarlyEnd (OpenFault n) command after old new = Delivered (status_line [] (OpenFault n)) old new
 EarlyEnd (ReadFault n) command after old new = n ≡ 1 → Delivered (status_line [] (ReadFault n)) old new
 EarlyEnd WriteFault command after old new = ⊤

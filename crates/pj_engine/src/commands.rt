@@ -3,7 +3,8 @@ ghost use Rattle.std.specs.Prelude.{◌≡◌, ◌≤◌, ◌+◌, ◌∷◌, []
 ghost use Rattle.pj_io.specs.Folders.{NoneFalls, SameElsewhere};
 ghost use Rattle.pj_plan.specs.Nodes.{streams_of};
 ghost use Rattle.pj_plan_text.specs.PlanRead.{plan_read};
-ghost use Rattle.pj_alone.specs.Safety.{AreCertificates, IsSafePlan, certificates_of};
+ghost use Rattle.pj_safety.specs.Certificates.{AreCertificates, certificates_of};
+ghost use Rattle.pj_safety.specs.Safety.{IsSafePlan};
 ghost use Rattle.pj_engine.specs.Commands.{is_run as run_form, is_option as option_form, no_options as none_is_option, operands, operand, command_of, plan_bytes, HasToldPlan};
 ghost use Rattle.pj_feed.specs.Opened.{OpensFirst, OpensAtMost, IsReadToEnd};
 ghost use Rattle.pj_engine.specs.Plans.{plan_of, SpellsPlan};

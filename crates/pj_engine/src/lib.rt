@@ -10,4 +10,5 @@ mod top;
 
 pub use pj_alone::check_text;
 pub use pj_report::{LimitOf, Status};
+pub use pj_safety::PlanRisk;
 pub use top::run_words;

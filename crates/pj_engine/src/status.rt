@@ -22,9 +22,8 @@ impl PlanStop {
                 got: *got,
             },
             PlanStop::Unsafe { found } => Status::Unsafe {
-                join: found.join,
-                input: found.input,
-                missing: found.missing,
+                node: found.node,
+                risk: found.risk,
             },
             PlanStop::NoMemory => Status::NoMemory,
         }

@@ -29,7 +29,7 @@ pub enum PlanStop {
     Refused { fault: PlanFault },
     /// The plan wants another number of files than was got.
     FileCount { want: u32, got: u32 },
-    /// An input of a join of the plan does not reach all.
+    /// A node of the plan is not safe.
     Unsafe { found: Unsafe },
     /// Memory could not be had.
     NoMemory,

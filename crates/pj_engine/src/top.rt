@@ -18,8 +18,8 @@ use pj_report::{LimitOf, Status, write_status};
 use pj_run::run_files;
 
 /// Runs the command that the words spell: `run PLAN FILE ..` reads a plan, and a file for each of its streams, and writes
-/// what the plan's run on one thread hands out, and the report. A plan of which an input of a join does not reach all is
-/// refused with `Unsafe` before a file of a stream is opened; every other plan is run.
+/// what the plan's run on one thread hands out, and the report. A plan of which a node is not safe is refused with `Unsafe` before
+/// a file of a stream is opened; every other plan is run.
 ///
 /// Sweeps keep each join finite: after each punctuation the run removes the stored rows that nothing which still comes can
 /// join, and the join hands up each punctuation, widened, as soon as no stored row of its input matches it.

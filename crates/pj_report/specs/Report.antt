@@ -72,7 +72,7 @@ status_line name Done = []
 status_line name Usage = fed (codes "# usage: run PLAN FILE.. | replay PLAN SCRIPT FILE.. | check PLAN | make SEED N")
 status_line name (PlanRefused line why) = fed (codes "# refused plan line " ++ decimal line ++ fault_words why)
 status_line name (FileCount want got) = fed (codes "# refused files want " ++ decimal want ++ codes " got " ++ decimal got)
-status_line name (Unsafe join input missing) = []
+status_line name (Unsafe node risk) = []
 status_line name (OpenFault operand) = fed (codes "# stopped open fault operand " ++ decimal operand)
 status_line name (ReadFault operand) = fed (codes "# stopped read fault operand " ++ decimal operand)
 status_line name WriteFault = []
@@ -85,7 +85,7 @@ status_line name (Limit (File stream)) = fed (codes "# stopped limit file " ++ n
 abbrev pub status_number : Status → ℕ
 status_number Done = 0
 status_number (PlanRefused line why) = 1
-status_number (Unsafe join input missing) = 2
+status_number (Unsafe node risk) = 2
 status_number (OpenFault operand) = 3
 status_number (ReadFault operand) = 3
 status_number WriteFault = 4

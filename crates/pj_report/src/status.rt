@@ -3,6 +3,7 @@ ghost use Rattle.std.specs.Prelude.{◌≡◌};
 ghost use Rattle.pj_report.specs.Report.{status_number};
 
 use pj_plan::PlanWhy;
+use pj_safety::PlanRisk;
 
 /// How a call ended.
 #[derive(Clone, Copy, Debug, PartialEq, Eq)]
@@ -15,8 +16,8 @@ pub enum Status {
     PlanRefused { line: u64, why: PlanWhy },
     /// The plan has `want` streams, and `got` files were named.
     FileCount { want: u32, got: u32 },
-    /// An input of a join does not reach another: the join's node, and its inputs, counted from 0.
-    Unsafe { join: u32, input: u32, missing: u32 },
+    /// A node of the plan is not safe: the first such node, counted from 0, and its risk.
+    Unsafe { node: u32, risk: PlanRisk },
     /// A file could not be opened; operands are counted from 1, the plan being 1.
     OpenFault { operand: u32 },
     /// A file could not be read.

@@ -18,7 +18,7 @@ use Rattle.pj_laws.specs.HistoryLaws.{AreAccepted, AreAcceptedLists}
 use Rattle.pj_core.specs.Plans.{operator_of}
 use Rattle.pj_run.specs.Runs.{run_nodes}
 use Rattle.pj_feed.specs.Feeds.{accepted_of}
-use Rattle.pj_alone.specs.Safety.{certificates_at}
+use Rattle.pj_safety.specs.Certificates.{certificates_at}
 use Rattle.pj_run.proofs.AcceptedLaws.{accepted_file}
 use Rattle.pj_safe_core.proofs.Certified.{run_operator}
 use Rattle.pj_feed.proofs.StreamNodes.{IsStreamAt, count_numbers, stream-at}

@@ -13,7 +13,7 @@ use Rattle.pj_events.specs.Plan.{ArePlanned}
 use Rattle.pj_laws.specs.HistoryLaws.{AllAreCertified}
 use Rattle.pj_core.specs.Plans.{operator_of}
 use Rattle.pj_core.proofs.Planned.{nodes-long, not-empty, planned, tree as is_tree}
-use Rattle.pj_alone.specs.Safety.{certificates_at}
+use Rattle.pj_safety.specs.Certificates.{certificates_at}
 use Rattle.pj_core.specs.Cores.{CoreState}
 use Rattle.pj_run.specs.Runs.{IsNewCore, outline_in, plan_run, run_nodes}
 use Rattle.pj_safe_core.proofs.Certified.{run_operator}

@@ -10,7 +10,7 @@ use Rattle.pj_plan.specs.declared.node.Outline.{Outline}
 use Rattle.pj_plan.specs.Nodes.{is_stream, numbers_from, streams_of}
 use Rattle.pj_events.specs.History.{is_stream as is_fed, streams_from, streams_of as streams_among}
 use Rattle.pj_core.specs.Plans.{certs_behind, nodes_with, operator_of}
-use Rattle.pj_alone.specs.Safety.{certificates_of}
+use Rattle.pj_safety.specs.Certificates.{certificates_of}
 use Rattle.pj_run.specs.Runs.{run_nodes}
 
 same_sort : (schemes : List (List (List Bool))) (certs : List (List CertStep)) (schema : List Column) (operation : Operation) → is_fed (operator_of schemes certs schema operation) ≡ is_stream operation

@@ -20,7 +20,7 @@ use Rattle.pj_events.specs.OneThread.{one_thread_of}
 use Rattle.pj_core.specs.Cores.{CoreState}
 use Rattle.pj_core.specs.Calls.{IsFresh}
 use Rattle.pj_plan.specs.Sound.{IsSoundPlan}
-use Rattle.pj_alone.specs.Safety.{certificates_of}
+use Rattle.pj_safety.specs.Certificates.{certificates_of}
 use Rattle.pj_run.specs.PlanNames.{HasShortNames}
 use Rattle.pj_report.specs.Report.{stream_lines, results_line, peak_line}
 use Rattle.pj_feed.specs.Feeds.{accepted_of}

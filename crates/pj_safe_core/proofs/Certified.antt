@@ -1,32 +1,23 @@
 -- The certificates that the checker finds are what the laws of histories ask of the joins of a run.
-use Rattle.std.proofs.Common.{ℕ, zero, suc, ◌+◌, ◌≤◌, ◌<◌, ◌≡◌, Bool, true, false, cond, ◌&&◌, ◌==◌, List, [], ◌∷◌, ◌++◌, Option, Some, None, map, length, drop, get_or, refl, sym, ap, ◌∙◌, subst, inl, inr, zero-add, arith}
-use Rattle.std.specs.Prelude.{slice_index}
-use Rattle.std.proofs.lemmas.Bool.{false≢true, and_parts, eqb-true, eq-eqb}
+use Rattle.std.proofs.Common.{ℕ, zero, suc, ◌+◌, ◌<◌, ◌≡◌, Bool, true, false, cond, List, [], ◌∷◌, map, length, drop, get_or, refl, sym, ap, ◌∙◌, subst, zero-add, arith}
 use Rattle.std.proofs.lemmas.List.{length-map}
 use Rattle.std.proofs.lemmas.List.FromFn.{get_or-map-range_with_len}
-use Rattle.pj_value.specs.Lists.{In, has}
-use Rattle.pj_value.proofs.Members.{In-append_cases, In-map, In-map_from, any_at, in-place}
-use Rattle.pj_value.proofs.Numbers.{has-in}
 use Rattle.pj_shape.specs.declared.columns.Column.{Column}
 use Rattle.pj_shape.specs.declared.joins.CertStep.{CertStep}
-use Rattle.pj_shape.specs.declared.joins.ClassCol.{ClassCol}
 use Rattle.pj_shape.specs.declared.joins.JoinSpec.{JoinSpec}
-use Rattle.pj_shape.specs.Joining.{class_from, class_of, has_column}
-use Rattle.pj_shape.specs.Sound.{AreApart, FitSchemes}
-use Rattle.pj_shape.proofs.Classes.{has_in}
+use Rattle.pj_shape.specs.Sound.{FitSchemes}
 use Rattle.pj_plan.specs.declared.node.Node.{Node as Operation}
 use Rattle.pj_plan.specs.declared.node.Node.TheVariants.{Stream as StreamNode, Select as SelectNode, Project as ProjectNode, Union as UnionNode, Join as JoinNode, Group as GroupNode}
 use Rattle.pj_plan.specs.declared.node.PlanNode.{PlanNode}
-use Rattle.pj_plan.specs.Nodes.{inputs_of, is_join, joins_of, numbers_from}
+use Rattle.pj_plan.specs.Nodes.{inputs_of, is_join, numbers_from}
 use Rattle.pj_plan.specs.Canonical.{node_at, node_schema}
 use Rattle.pj_plan.specs.Sound.{IsSoundOperator, IsSoundPlan}
 use Rattle.pj_scheme.specs.Derived.{inputs_schemes, schemes_of}
 use Rattle.pj_scheme.proofs.Wide.{joins_fit}
-use Rattle.pj_shape.specs.Sets.{are_bound, is_bound, touches}
-use Rattle.pj_shape.specs.Certificates.{AreSteps, IsCertificate, steps_at}
-use Rattle.pj_shape.proofs.Certificates.{in_or_none}
+use Rattle.pj_shape.specs.Certificates.{IsCertificate}
 use Rattle.pj_graph.specs.Saturation.{certificate_of}
-use Rattle.pj_alone.specs.Safety.{AreCertificates, certificates_at, certificates_of, schemes_at, spec_at, spec_in}
+use Rattle.pj_safety.specs.Certificates.{AreCertificates, certificates_at, certificates_of}
+use Rattle.pj_safety.specs.Safety.{schemes_at, spec_at, spec_in}
 use Rattle.pj_events.specs.Join.{AreCertified}
 use Rattle.pj_events.specs.Plan.{operator_at}
 use Rattle.pj_laws.specs.HistoryLaws.{AllAreCertified, Certified}
@@ -64,21 +55,6 @@ operator_is schemes certs k (node ∷ nodes) (suc n) lt =
     behind true = refl
     behind false = refl
 
--- a node that is a join has its number among those of the joins
-number_in : (k : ℕ) (nodes : List PlanNode) (n : ℕ) → n < length nodes → is_join (node_at nodes n) ≡ true → In (k + n) (numbers_from is_join k nodes)
-number_in k [] n lt is = absurd (omega (arith, lt))
-number_in k (node ∷ nodes) zero lt is = let same : k ≡ k + 0 = omega arith in rw is (inl same)
-number_in k (node ∷ nodes) (suc n) lt is =
-    let same : k + 1 + n ≡ k + suc n = omega arith in
-    go (is_join node.node) (subst (λ (m : ℕ). In m (numbers_from is_join (k + 1) nodes)) same (number_in (k + 1) nodes n (omega (arith, lt)) is))
-  where
-    others : List ℕ
-    others = numbers_from is_join (k + 1) nodes
-
-    go : (b : Bool) → In (k + suc n) others → In (k + suc n) (cond b (k ∷ others) others)
-    go true h = inr h
-    go false h = h
-
 -- a join, with what a sound plan says of it
 module _ (nodes : List PlanNode) (sound : IsSoundPlan nodes) (are : AreCertificates nodes) (n : ℕ) (lt : n < length nodes) where
   abbrev IsCertifiedAs : Operation → Type 0
@@ -95,15 +71,12 @@ module _ (nodes : List PlanNode) (sound : IsSoundPlan nodes) (are : AreCertifica
           subst (λ (schemas : List (List Column)). FitSchemes schemas (inputs_schemes (schemes_of nodes) inputs)) (sym fits.1)
           (subst (λ (o : Operation). FitSchemes (map (node_schema nodes) (inputs_of o)) (inputs_schemes (schemes_of nodes) (inputs_of o))) e (joins_fit nodes sound n lt (ap is_join e)))
 
-      there : In n (joins_of nodes)
-      there = subst (λ (m : ℕ). In m (joins_of nodes)) (zero-add n) (number_in 0 nodes n lt (ap is_join e))
-
       each : (input : ℕ) → input < length (map length spec.inputs) → IsCertificate spec (inputs_schemes (schemes_of nodes) inputs) input (get_or (certificates_at nodes n) input [])
       each input low =
           let here : input < length (spec_at nodes n).inputs = subst (λ (o : Operation). input < length (spec_in o).inputs) (sym e) (let long = length-map spec.inputs length in omega (arith, low, long)) in
           let found = get_or-map-range_with_len (certificate_of (spec_at nodes n) (schemes_at nodes n)) 0 (length (spec_at nodes n).inputs) input input [] here (zero-add input) in
           let cert : List CertStep = certificate_of (spec_at nodes n) (schemes_at nodes n) input in
-          let is : IsCertificate spec (inputs_schemes (schemes_of nodes) inputs) input cert = subst (λ (o : Operation). IsCertificate (spec_in o) (inputs_schemes (schemes_of nodes) (inputs_of o)) input cert) e (are n there input here) in
+          let is : IsCertificate spec (inputs_schemes (schemes_of nodes) inputs) input cert = subst (λ (o : Operation). IsCertificate (spec_in o) (inputs_schemes (schemes_of nodes) (inputs_of o)) input cert) e (are n lt input here) in
           subst (IsCertificate spec (inputs_schemes (schemes_of nodes) inputs) input) (sym found) is
 
   node_certified : (o : Operation) → node_at nodes n ≡ o → Certified (operator_of (schemes_of nodes) (certificates_at nodes n) (node_schema nodes n) o)

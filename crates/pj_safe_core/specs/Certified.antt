@@ -2,7 +2,7 @@
 use Rattle.std.specs.Prelude.{Bool, List}
 use Rattle.pj_plan.specs.Sound.{IsSoundPlan}
 use Rattle.pj_plan.specs.declared.node.PlanNode.{PlanNode}
-use Rattle.pj_alone.specs.Safety.{AreCertificates, certificates_of}
+use Rattle.pj_safety.specs.Certificates.{AreCertificates, certificates_of}
 use Rattle.pj_laws.specs.HistoryLaws.{AllAreCertified}
 use Rattle.pj_core.specs.Plans.{nodes_of, run_plan}
 

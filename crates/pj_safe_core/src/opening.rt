@@ -1,6 +1,6 @@
 // A core of a plan that was judged.
 ghost use Rattle.std.specs.Prelude.{◌≡◌, ◌≤◌, ◌^◌, IfOk};
-ghost use Rattle.pj_alone.specs.Safety.{AreCertificates, certificates_of};
+ghost use Rattle.pj_safety.specs.Certificates.{AreCertificates, certificates_of};
 ghost use Rattle.pj_core.specs.Calls.{IsFresh};
 ghost use Rattle.pj_core.specs.Plans.{run_plan};
 

@@ -2,6 +2,7 @@
 use pj_alone::{Judged, Unsafe, check_text, judge};
 use pj_plan::{Plan, PlanStop};
 use pj_plan_text::read_plan;
+use pj_safety::PlanRisk;
 use pj_shape::Cert;
 use pj_value::{List, NoMemory};
 use std::alloc::Global;
@@ -24,13 +25,18 @@ fn append_number(n: u32, out: &mut List<u8>) -> Result<(), NoMemory> {
     out.push(b'0' + (n % 10) as u8)
 }
 
-fn append_numbers(join: u32, input: u32, missing: u32, out: &mut List<u8>) -> Result<(), NoMemory> {
-    append_number(join, out)?;
-    out.push(b' ')?;
-    append_number(input, out)?;
-    out.push(b' ')?;
-    append_number(missing, out)?;
-    out.push(b'\n')
+// The node and its risk on a line.
+fn append_risk(node: u32, risk: PlanRisk, out: &mut List<u8>) -> Result<(), NoMemory> {
+    match risk {
+        PlanRisk::Stuck { input, missing } => {
+            append_number(node, out)?;
+            out.push(b' ')?;
+            append_number(input, out)?;
+            out.push(b' ')?;
+            append_number(missing, out)?;
+            out.push(b'\n')
+        }
+    }
 }
 
 // The answer of a check on a line, and its text.
@@ -39,7 +45,7 @@ fn told(alloc: Global, plan: &Plan, print: bool) -> Result<List<u8>, NoMemory> {
     let mut out = List::new(alloc);
     match check_text(alloc, plan, print, &mut text)? {
         None => out.append(b"safe\n")?,
-        Some((join, input, missing)) => append_numbers(join, input, missing, &mut out)?,
+        Some((node, risk)) => append_risk(node, risk, &mut out)?,
     }
     out.append(text.as_slice())?;
     Ok(out)
@@ -66,7 +72,7 @@ fn append_certs(certs: &[Cert], out: &mut List<u8>) -> Result<(), NoMemory> {
 
 // Why the plan is unsafe on a line, and the lines that tell it.
 fn append_unsafe(found: &Unsafe, out: &mut List<u8>) -> Result<(), NoMemory> {
-    append_numbers(found.join, found.input, found.missing, out)?;
+    append_risk(found.node, found.risk, out)?;
     for line in found.lines.as_slice() {
         out.append(line.as_slice())?;
     }

@@ -3,7 +3,7 @@ ghost use Rattle.std.specs.Prelude.{◌≡◌, ◌<◌, ◌≤◌, ℕ, [], ◌�
 ghost use Rattle.pj_shape.specs.Columns.{kinds_of};
 ghost use Rattle.pj_pattern.specs.Fitting.{FitsKinds};
 ghost use Rattle.pj_plan.specs.Nodes.{streams_of, stream_columns, streams_in};
-ghost use Rattle.pj_alone.specs.Safety.{AreCertificates, certificates_of};
+ghost use Rattle.pj_safety.specs.Certificates.{AreCertificates, certificates_of};
 ghost use Rattle.pj_hub.specs.Hubs.{hub_with, shared_with};
 ghost use Rattle.pj_hub.specs.Seated.{AreNewSeats, hub_made, hub_seats};
 ghost use Rattle.pj_turn.specs.Seats.{IsNewSeat, IsSeat, seat_name, seat_number};

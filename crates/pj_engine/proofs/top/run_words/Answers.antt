@@ -258,8 +258,8 @@ returns-clause-cause_of_file_count g c = λ want got is.
     refused_early c.in-Err.stop (command_of c.args.words.now (g.F.Folder.state c.args.folder.now)) (g.F.Folder.state c.prepare.new.folder) (FileCount want got) c.in-Err.ensures.cause (sym c.status.ensures ∙ is) tt
 
 pub returns-clause-cause_of_unsafe : goal.returns-clause-cause_of_unsafe
-returns-clause-cause_of_unsafe g c = λ join input missing is.
-    refused_early c.in-Err.stop (command_of c.args.words.now (g.F.Folder.state c.args.folder.now)) (g.F.Folder.state c.prepare.new.folder) (Unsafe join input missing) c.in-Err.ensures.cause (sym c.status.ensures ∙ is) tt
+returns-clause-cause_of_unsafe g c = λ node risk is.
+    refused_early c.in-Err.stop (command_of c.args.words.now (g.F.Folder.state c.args.folder.now)) (g.F.Folder.state c.prepare.new.folder) (Unsafe node risk) c.in-Err.ensures.cause (sym c.status.ensures ∙ is) tt
 
 -- ---- refusals, where there is a plan to run
 
@@ -288,7 +288,7 @@ pub returns-in-Ok-clause-cause_of_file_count : goal.returns-in-Ok-clause-cause_o
 returns-in-Ok-clause-cause_of_file_count g c = λ want got is. absurd (refused_never c.in-Err-run_files.stop (FileCount want got) (sym c.status-status.ensures ∙ is) tt)
 
 pub returns-in-Ok-clause-cause_of_unsafe : goal.returns-in-Ok-clause-cause_of_unsafe
-returns-in-Ok-clause-cause_of_unsafe g c = λ join input missing is. absurd (refused_never c.in-Err-run_files.stop (Unsafe join input missing) (sym c.status-status.ensures ∙ is) tt)
+returns-in-Ok-clause-cause_of_unsafe g c = λ node risk is. absurd (refused_never c.in-Err-run_files.stop (Unsafe node risk) (sym c.status-status.ensures ∙ is) tt)
 
 pub returns-in-Ok-clause-cause_of_open_fault : goal.returns-in-Ok-clause-cause_of_open_fault
 returns-in-Ok-clause-cause_of_open_fault g c = λ n is.
