@@ -2,7 +2,7 @@
 use Rattle.std.specs.Prelude.{ℕ, Bool, true, false, List, [], ◌∷◌, ◌++◌, Option, Some, None, flat_map, length, map}
 use Rattle.std.specs.List.{concat, range_with_len}
 use Rattle.pj_value.specs.declared.values.Value.{Value}
-use Rattle.pj_shape.specs.Columns.{kinds_of}
+use Rattle.pj_shape.specs.Columns.{domains_of}
 use Rattle.pj_plan.specs.declared.node.Node.{Node}
 use Rattle.pj_plan.specs.declared.node.Node.TheVariants.{Stream, Select, Project, Union, Join, Group}
 use Rattle.pj_plan.specs.declared.node.PlanNode.{PlanNode}
@@ -25,7 +25,7 @@ use Rattle.pj_alone.specs.Asked.{Asked, asked_of, stuck_lines}
 
 -- the row of a stuck input whose partners are told: 0 and the empty text, by the kinds of its columns
 abbrev pub lone_row : Asked → ℕ → List Value
-lone_row asked input = blanks (kinds_of (schema_of asked.spec input))
+lone_row asked input = blanks (domains_of (schema_of asked.spec input))
 
 -- the rows with which it is stuck, where these inputs are reached: they join, and escape the instances whose constants are blank
 abbrev pub partner_rows : Asked → ℕ → List ℕ → List (List Value)

@@ -9,13 +9,13 @@ use Rattle.pj_value.specs.declared.values.Kind.{Kind}
 use Rattle.pj_value.specs.declared.values.Kind.TheVariants.{Int as KInt, Text as KText}
 use Rattle.pj_value.specs.declared.values.Value.{Value}
 use Rattle.pj_value.specs.Lists.{In, has}
-use Rattle.pj_value.specs.Values.{is_kind}
+use Rattle.pj_value.specs.Values.{Domain, is_kind}
 use Rattle.pj_value.proofs.Members.{In-append_cases}
 use Rattle.pj_shape.specs.declared.columns.Column.{Column}
 use Rattle.pj_shape.specs.declared.columns.Instance.{Instance}
 use Rattle.pj_shape.specs.declared.joins.JoinSpec.{JoinSpec}
-use Rattle.pj_shape.specs.Columns.{kinds_of}
-use Rattle.pj_shape.proofs.KindsOf.{kinds_length}
+use Rattle.pj_shape.specs.Columns.{domains_of}
+use Rattle.pj_shape.proofs.DomainsOf.{domains_length}
 use Rattle.pj_shape.specs.Sound.{arities_of, FitSchemes, IsSoundSpec}
 use Rattle.pj_pattern.specs.Fitting.{row_fits}
 use Rattle.pj_shape.specs.Sets.{schemes_of}
@@ -29,7 +29,7 @@ one_fits : (kind : Kind) → is_kind kind (blank kind) ≡ true
 one_fits KInt = refl
 one_fits KText = refl
 
-pub blanks_fit : (kinds : List Kind) → row_fits kinds (blanks kinds) ≡ true
+pub blanks_fit : (kinds : List Domain) → row_fits kinds (blanks kinds) ≡ true
 blanks_fit [] = refl
 blanks_fit (kind ∷ kinds) = and_from (is_kind kind (blank kind)) (row_fits kinds (blanks kinds)) (one_fits kind) (blanks_fit kinds)
 
@@ -45,36 +45,36 @@ marked_length (false ∷ marks) (x ∷ xs) (y ∷ ys) e = marked_length marks xs
 
 -- one column more, which is marked or not
 pub marked_on : (done more whole : List Value) (marks : List Bool) (columns : List Column) (k : ℕ) (m : Bool) (c : Column)
-    → done ++ blanks (marked (drop k marks) (kinds_of (drop k columns))) ≡ whole → slice_get marks k ≡ Some m → slice_get columns k ≡ Some c
-    → more ≡ done ++ cond m (blank c.kind ∷ []) [] → more ++ blanks (marked (drop (k + 1) marks) (kinds_of (drop (k + 1) columns))) ≡ whole
+    → done ++ blanks (marked (drop k marks) (domains_of (drop k columns))) ≡ whole → slice_get marks k ≡ Some m → slice_get columns k ≡ Some c
+    → more ≡ done ++ cond m (blank c.kind ∷ []) [] → more ++ blanks (marked (drop (k + 1) marks) (domains_of (drop (k + 1) columns))) ≡ whole
 marked_on done more whole marks columns k m c e f g h =
     ap (λ (vs : List Value). vs ++ rest) h
     ∙ (append_assoc done (cond m (blank c.kind ∷ []) []) rest
     ∙ (ap (λ (vs : List Value). done ++ vs) (each m)
-    ∙ (sym (ap (λ (ms : List Bool). done ++ blanks (marked ms (c.kind ∷ kinds_of (drop (k + 1) columns)))) (drop_got marks k m f))
-    ∙ (sym (ap (λ (cs : List Column). done ++ blanks (marked (drop k marks) (kinds_of cs))) (drop_got columns k c g))
+    ∙ (sym (ap (λ (ms : List Bool). done ++ blanks (marked ms (c.kind ∷ domains_of (drop (k + 1) columns)))) (drop_got marks k m f))
+    ∙ (sym (ap (λ (cs : List Column). done ++ blanks (marked (drop k marks) (domains_of cs))) (drop_got columns k c g))
     ∙ e))))
   where
     rest : List Value
-    rest = blanks (marked (drop (k + 1) marks) (kinds_of (drop (k + 1) columns)))
+    rest = blanks (marked (drop (k + 1) marks) (domains_of (drop (k + 1) columns)))
 
-    each : (b : Bool) → cond b (blank c.kind ∷ []) [] ++ blanks (marked (drop (k + 1) marks) (kinds_of (drop (k + 1) columns)))
-        ≡ blanks (marked (b ∷ drop (k + 1) marks) (c.kind ∷ kinds_of (drop (k + 1) columns)))
+    each : (b : Bool) → cond b (blank c.kind ∷ []) [] ++ blanks (marked (drop (k + 1) marks) (domains_of (drop (k + 1) columns)))
+        ≡ blanks (marked (b ∷ drop (k + 1) marks) (c.kind ∷ domains_of (drop (k + 1) columns)))
     each true = refl
     each false = refl
 
 pub unmarked_on : (done more whole : List Value) (marks : List Bool) (columns : List Column) (k : ℕ) (m : Bool)
-    → done ++ blanks (marked (drop k marks) (kinds_of (drop k columns))) ≡ whole → slice_get marks k ≡ Some m → k < length columns → m ≡ false
-    → more ≡ done → more ++ blanks (marked (drop (k + 1) marks) (kinds_of (drop (k + 1) columns))) ≡ whole
+    → done ++ blanks (marked (drop k marks) (domains_of (drop k columns))) ≡ whole → slice_get marks k ≡ Some m → k < length columns → m ≡ false
+    → more ≡ done → more ++ blanks (marked (drop (k + 1) marks) (domains_of (drop (k + 1) columns))) ≡ whole
 unmarked_on done more whole marks columns k m e f lt is h =
     let none : Column = record { name = []; kind = KInt } in
     marked_on done more whole marks columns k m (get_or columns k none) e f (slice_get-get_or columns k none lt)
     (h ∙ (sym (append-nil done) ∙ sym (ap (λ (b : Bool). done ++ cond b (blank (get_or columns k none).kind ∷ []) []) is)))
 
 pub none_marked : (marks : List Bool) (columns : List Column) (k : ℕ) → min (length marks) (length columns) ≤ k
-    → blanks (marked (drop k marks) (kinds_of (drop k columns))) ≡ []
-none_marked [] columns k h = ap (λ (ms : List Bool). blanks (marked ms (kinds_of (drop k columns)))) (drop-nil k)
-none_marked (m ∷ marks) [] k h = ap (λ (cs : List Column). blanks (marked (drop k (m ∷ marks)) (kinds_of cs))) (drop-nil k) ∙ nothing (drop k (m ∷ marks))
+    → blanks (marked (drop k marks) (domains_of (drop k columns))) ≡ []
+none_marked [] columns k h = ap (λ (ms : List Bool). blanks (marked ms (domains_of (drop k columns)))) (drop-nil k)
+none_marked (m ∷ marks) [] k h = ap (λ (cs : List Column). blanks (marked (drop k (m ∷ marks)) (domains_of cs))) (drop-nil k) ∙ nothing (drop k (m ∷ marks))
   where
     nothing : (ms : List Bool) → blanks (marked ms []) ≡ []
     nothing [] = refl
@@ -86,10 +86,10 @@ none_marked (m ∷ marks) (c ∷ columns) (suc k) h = none_marked marks columns 
 
 pub blank_on : (reached : List ℕ) (done more whole : List Instance) (schemas : List (List Column)) (lists : List (List (List Bool))) (k : ℕ) (schema : List Column) (list : List (List Bool))
     → done ++ blank_instances_from reached k (drop k schemas) (drop k lists) ≡ whole → k < length schemas → schema ≡ get_or schemas k schema → slice_get lists k ≡ Some list
-    → more ≡ done ++ blank_input reached k (kinds_of schema) list → more ++ blank_instances_from reached (k + 1) (drop (k + 1) schemas) (drop (k + 1) lists) ≡ whole
+    → more ≡ done ++ blank_input reached k (domains_of schema) list → more ++ blank_instances_from reached (k + 1) (drop (k + 1) schemas) (drop (k + 1) lists) ≡ whole
 blank_on reached done more whole schemas lists k schema list e lt is f g =
     ap (λ (l : List Instance). l ++ blank_instances_from reached (k + 1) (drop (k + 1) schemas) (drop (k + 1) lists)) g
-    ∙ (append_assoc done (blank_input reached k (kinds_of schema) list) (blank_instances_from reached (k + 1) (drop (k + 1) schemas) (drop (k + 1) lists))
+    ∙ (append_assoc done (blank_input reached k (domains_of schema) list) (blank_instances_from reached (k + 1) (drop (k + 1) schemas) (drop (k + 1) lists))
     ∙ (sym (ap (λ (l : List (List (List Bool))). done ++ blank_instances_from reached k (schema ∷ drop (k + 1) schemas) l) (drop_got lists k list f))
     ∙ (sym (ap (λ (s : List (List Column)). done ++ blank_instances_from reached k s (drop k lists)) (drop_at schemas k schema lt is))
     ∙ e)))
@@ -104,7 +104,7 @@ record IsOne (input n : ℕ) (list : List (List Bool)) (instance : Instance) : T
   is_place : instance.scheme ≡ n + place
   filled : length instance.constants ≡ length (marked (get_or list place []) (get_or list place []))
 
-in_ones : (input : ℕ) (kinds : List Kind) (n : ℕ) (list : List (List Bool)) (instance : Instance) → ((marks : List Bool) → In marks list → length marks ≡ length kinds)
+in_ones : (input : ℕ) (kinds : List Domain) (n : ℕ) (list : List (List Bool)) (instance : Instance) → ((marks : List Bool) → In marks list → length marks ≡ length kinds)
     → In instance (blank_ones input kinds n list) → IsOne input n list instance
 in_ones input kinds n [] instance fit h = absurd h
 in_ones input kinds n (marks ∷ list) instance fit (inl e) = record {
@@ -133,7 +133,7 @@ record IsOneFrom (n : ℕ) (schemas : List (List Column)) (lists : List (List (L
   within : place < length schemas
   one : IsOne instance.input 0 (schemes_of lists place) instance
 
-in_input : (reached : List ℕ) (input : ℕ) (kinds : List Kind) (list : List (List Bool)) (instance : Instance) → ((marks : List Bool) → In marks list → length marks ≡ length kinds)
+in_input : (reached : List ℕ) (input : ℕ) (kinds : List Domain) (list : List (List Bool)) (instance : Instance) → ((marks : List Bool) → In marks list → length marks ≡ length kinds)
     → In instance (blank_input reached input kinds list) → IsOne input 0 list instance
 in_input reached input kinds list instance fit h = go (has reached input) h
   where
@@ -146,15 +146,15 @@ in_from : (reached : List ℕ) (n : ℕ) (schemas : List (List Column)) (lists :
 in_from reached n [] lists instance fit h = absurd h
 in_from reached n (schema ∷ schemas) [] instance fit h = absurd h
 in_from reached n (schema ∷ schemas) (list ∷ lists) instance fit h =
-    go (In-append_cases instance (blank_input reached n (kinds_of schema) list) (blank_instances_from reached (n + 1) schemas lists) h) (in_from reached (n + 1) schemas lists instance fit.1)
+    go (In-append_cases instance (blank_input reached n (domains_of schema) list) (blank_instances_from reached (n + 1) schemas lists) h) (in_from reached (n + 1) schemas lists instance fit.1)
   where
-    short : (marks : List Bool) → In marks list → length marks ≡ length (kinds_of schema)
-    short marks k = fit.0 marks k ∙ sym (kinds_length schema)
+    short : (marks : List Bool) → In marks list → length marks ≡ length (domains_of schema)
+    short marks k = fit.0 marks k ∙ sym (domains_length schema)
 
-    go : In instance (blank_input reached n (kinds_of schema) list) ⊎ In instance (blank_instances_from reached (n + 1) schemas lists)
+    go : In instance (blank_input reached n (domains_of schema) list) ⊎ In instance (blank_instances_from reached (n + 1) schemas lists)
         → (In instance (blank_instances_from reached (n + 1) schemas lists) → IsOneFrom (n + 1) schemas lists instance) → IsOneFrom n (schema ∷ schemas) (list ∷ lists) instance
     go (inl k) ih =
-        let r = in_input reached n (kinds_of schema) list instance short k in
+        let r = in_input reached n (domains_of schema) list instance short k in
         record {
           place = 0;
           is_place = omega (arith, r.of_input);
@@ -198,13 +198,13 @@ constants_both : (ones others : List Instance) → length (constants_of (ones ++
 constants_both ones others =
     ap length (flat_map-append (λ (i : Instance). i.constants) ones others) ∙ length-append (constants_of ones) (constants_of others)
 
-ones_few : (input : ℕ) (kinds : List Kind) (n : ℕ) (list : List (List Bool)) → length kinds ≤ 120 → length (constants_of (blank_ones input kinds n list)) ≤ 120 * length list
+ones_few : (input : ℕ) (kinds : List Domain) (n : ℕ) (list : List (List Bool)) → length kinds ≤ 120 → length (constants_of (blank_ones input kinds n list)) ≤ 120 * length list
 ones_few input kinds n [] few = omega arith
 ones_few input kinds n (marks ∷ list) few =
     let values : List Value = blanks (marked marks kinds) in
     omega (arith, few, length-append values (constants_of (blank_ones input kinds (n + 1) list)), length-map (marked marks kinds) blank, marked_few marks kinds, ones_few input kinds (n + 1) list few)
 
-input_few : (reached : List ℕ) (input : ℕ) (kinds : List Kind) (list : List (List Bool)) → length kinds ≤ 120
+input_few : (reached : List ℕ) (input : ℕ) (kinds : List Domain) (list : List (List Bool)) → length kinds ≤ 120
     → length (constants_of (blank_input reached input kinds list)) ≤ 120 * length list
 input_few reached input kinds list few = go (has reached input)
   where
@@ -219,12 +219,12 @@ from_few reached n (schema ∷ schemas) [] narrow few = omega arith
 from_few reached n (schema ∷ schemas) (list ∷ lists) narrow few =
     let first : length list ≤ 256 = few 0 in
     let all = sum_on (length schema) (arities_of schemas) in
-    let width : length (kinds_of schema) ≤ 120 = omega (arith, narrow, all, kinds_length schema) in
+    let width : length (domains_of schema) ≤ 120 = omega (arith, narrow, all, domains_length schema) in
     omega (
       arith,
       first,
-      constants_both (blank_input reached n (kinds_of schema) list) (blank_instances_from reached (n + 1) schemas lists),
-      input_few reached n (kinds_of schema) list width,
+      constants_both (blank_input reached n (domains_of schema) list) (blank_instances_from reached (n + 1) schemas lists),
+      input_few reached n (domains_of schema) list width,
       from_few reached (n + 1) schemas lists (omega (arith, narrow, all)) (λ i. few (suc i)),
     )
 

@@ -13,7 +13,7 @@ use Rattle.pj_shape.specs.declared.columns.Column.{Column}
 use Rattle.pj_shape.specs.declared.columns.Instance.{Instance}
 use Rattle.pj_shape.specs.declared.joins.ClassCol.{ClassCol}
 use Rattle.pj_shape.specs.declared.joins.JoinSpec.{JoinSpec}
-use Rattle.pj_shape.specs.Columns.{kinds_of}
+use Rattle.pj_shape.specs.Columns.{domains_of}
 use Rattle.pj_shape.specs.Joining.{Joins, Part, has_column, value_at, values, values_in, parts_on}
 use Rattle.pj_shape.specs.Sound.{AreApart, AreOfOtherInputs, IsOfKind, IsSoundClass, IsSoundSpec, FitSchemes}
 use Rattle.pj_shape.proofs.Classes.{has_in}
@@ -205,15 +205,15 @@ they_join case schemas apart sound class h v w in_v in_w = each v in_v ∙ sym (
 
 -- ---- the rows fit
 
-fits_at : (columns : List Column) (row : List Value) (k : ℕ) (column : Column) → row_fits (kinds_of columns) row ≡ true → slice_get columns k ≡ Some column
+fits_at : (columns : List Column) (row : List Value) (k : ℕ) (column : Column) → row_fits (domains_of columns) row ≡ true → slice_get columns k ≡ Some column
     → is_kind column.kind (value_at row k) ≡ true
 fits_at [] row k column t e = cc
 fits_at (c ∷ columns) [] k column t e = absurd (false≢true t)
 fits_at (c ∷ columns) (v ∷ row) zero column t e =
     let first : c ≡ column = cc in
-    subst (λ (d : Column). is_kind d.kind v ≡ true) first (and_parts (is_kind c.kind v) (row_fits (kinds_of columns) row) t).0
+    subst (λ (d : Column). is_kind d.kind v ≡ true) first (and_parts (is_kind c.kind v) (row_fits (domains_of columns) row) t).0
 fits_at (c ∷ columns) (v ∷ row) (suc k) column t e =
-    fits_at columns row k column (and_parts (is_kind c.kind v) (row_fits (kinds_of columns) row) t).1 e
+    fits_at columns row k column (and_parts (is_kind c.kind v) (row_fits (domains_of columns) row) t).1 e
 
 blank_kind : (kind : Kind) → is_kind kind (blank kind) ≡ true
 blank_kind KInt = refl
@@ -239,7 +239,7 @@ one_kind schemas at one other (s, c, e, f, g) (t, d, i, j, k) =
 
 kind_there : (case : Case) (schemas : List (List Column)) (schema : List Column) (at : ClassCol) (kind : Kind)
     → ((class : List ClassCol) → In class case.classes → IsSoundClass schemas class) → slice_get schemas case.input ≡ Some schema
-    → row_fits (kinds_of schema) case.row ≡ true → at.input ≢ case.input → IsOfKind schemas at kind
+    → row_fits (domains_of schema) case.row ≡ true → at.input ≢ case.input → IsOfKind schemas at kind
     → is_kind kind (column_value case at kind) ≡ true
 kind_there case schemas schema at kind sound e fit differ of_kind = go (with_cases case.classes at)
   where
@@ -275,10 +275,10 @@ kind_there case schemas schema at kind sound e fit differ of_kind = go (with_cas
 
 values_fit : (case : Case) (input n : ℕ) (columns : List Column)
     → ((k : ℕ) (column : Column) → slice_get columns k ≡ Some column → is_kind column.kind (column_value case (record { input = input; column = n + k }) column.kind) ≡ true)
-    → row_fits (kinds_of columns) (values_from case input n columns) ≡ true
+    → row_fits (domains_of columns) (values_from case input n columns) ≡ true
 values_fit case input n [] f = refl
 values_fit case input n (c ∷ columns) f =
-    and_from (is_kind c.kind (column_value case (record { input = input; column = n }) c.kind)) (row_fits (kinds_of columns) (values_from case input (n + 1) columns))
+    and_from (is_kind c.kind (column_value case (record { input = input; column = n }) c.kind)) (row_fits (domains_of columns) (values_from case input (n + 1) columns))
     (ap (λ (m : ℕ). is_kind c.kind (column_value case (record { input = input; column = m }) c.kind)) here ∙ f 0 c refl)
     (values_fit case input (n + 1) columns (λ k column e.
     let same : n + 1 + k ≡ n + suc k = omega arith in
@@ -288,14 +288,14 @@ values_fit case input n (c ∷ columns) f =
     here = omega arith
 
 rows_fit : (case : Case) (n : ℕ) (schemas : List (List Column))
-    → ((k : ℕ) (schema : List Column) → slice_get schemas k ≡ Some schema → row_fits (kinds_of schema) (row_of case (n + k) schema) ≡ true)
+    → ((k : ℕ) (schema : List Column) → slice_get schemas k ≡ Some schema → row_fits (domains_of schema) (row_of case (n + k) schema) ≡ true)
     → FitRows schemas (rows_from case n schemas)
 rows_fit case n [] f = tt
 rows_fit case n (s ∷ schemas) f = (
-  ap (λ (m : ℕ). row_fits (kinds_of s) (row_of case m s)) here ∙ f 0 s refl,
+  ap (λ (m : ℕ). row_fits (domains_of s) (row_of case m s)) here ∙ f 0 s refl,
   rows_fit case (n + 1) schemas (λ k schema e.
       let same : n + 1 + k ≡ n + suc k = omega arith in
-      ap (λ (m : ℕ). row_fits (kinds_of schema) (row_of case m schema)) same ∙ f (suc k) schema e),
+      ap (λ (m : ℕ). row_fits (domains_of schema) (row_of case m schema)) same ∙ f (suc k) schema e),
 )
   where
     here : n ≡ n + 0
@@ -303,20 +303,20 @@ rows_fit case n (s ∷ schemas) f = (
 
 they_fit : (case : Case) (schemas : List (List Column)) (own : List Column)
     → ((class : List ClassCol) → In class case.classes → IsSoundClass schemas class) → slice_get schemas case.input ≡ Some own
-    → row_fits (kinds_of own) case.row ≡ true → FitRows schemas (rows_from case 0 schemas)
+    → row_fits (domains_of own) case.row ≡ true → FitRows schemas (rows_from case 0 schemas)
 they_fit case schemas own sound e fit = rows_fit case 0 schemas each
   where
-    each : (k : ℕ) (schema : List Column) → slice_get schemas k ≡ Some schema → row_fits (kinds_of schema) (row_of case (0 + k) schema) ≡ true
+    each : (k : ℕ) (schema : List Column) → slice_get schemas k ≡ Some schema → row_fits (domains_of schema) (row_of case (0 + k) schema) ≡ true
     each k schema f = go (cases_eq (0 + k) case.input)
       where
-        go : (0 + k ≡ case.input) ⊎ (0 + k ≢ case.input) → row_fits (kinds_of schema) (row_of case (0 + k) schema) ≡ true
+        go : (0 + k ≡ case.input) ⊎ (0 + k ≢ case.input) → row_fits (domains_of schema) (row_of case (0 + k) schema) ≡ true
         go (inl same) =
             let at : k ≡ case.input = omega (arith, same) in
             let there : slice_get schemas k ≡ Some own = ap (slice_get schemas) at ∙ e in
             let owned : schema ≡ own = cc in
-            ap (row_fits (kinds_of schema)) (own_there case (0 + k) schema same) ∙ (ap (λ (s : List Column). row_fits (kinds_of s) case.row) owned ∙ fit)
+            ap (row_fits (domains_of schema)) (own_there case (0 + k) schema same) ∙ (ap (λ (s : List Column). row_fits (domains_of s) case.row) owned ∙ fit)
         go (inr differ) =
-            ap (row_fits (kinds_of schema)) (other_there case (0 + k) schema differ)
+            ap (row_fits (domains_of schema)) (other_there case (0 + k) schema differ)
             ∙ values_fit case (0 + k) 0 schema (λ n column g.
             let here : k ≡ 0 + k = omega arith in
             let col : n ≡ 0 + n = omega arith in
@@ -472,7 +472,7 @@ they_escape spec schemes input reached row listed cut all =
 -- the rows of the definition escape
 pub escapes_if : (spec : JoinSpec) (schemes : List (List (List Bool))) (input : ℕ) (reached : List ℕ) (row : List Value) (listed : List Instance) (rows : List (List Value))
     → IsSoundSpec spec → FitSchemes spec.inputs schemes → IsClosed spec schemes (has reached) → has reached input ≡ true → input < length spec.inputs
-    → row_fits (kinds_of (schema_of spec input)) row ≡ true → AreInstances spec schemes listed → rows ≡ escape_rows spec input reached row listed
+    → row_fits (domains_of (schema_of spec input)) row ≡ true → AreInstances spec schemes listed → rows ≡ escape_rows spec input reached row listed
     → Escapes spec schemes input reached row listed rows
 escapes_if spec schemes input reached row listed rows sound fit closed inside is_input fits all e =
     let cut : IsCut spec schemes input reached row =

@@ -9,7 +9,7 @@ use Rattle.pj_shape.specs.declared.columns.Column.{Column}
 use Rattle.pj_shape.specs.declared.columns.Instance.{Instance}
 use Rattle.pj_shape.specs.declared.joins.ClassCol.{ClassCol}
 use Rattle.pj_shape.specs.declared.joins.JoinSpec.{JoinSpec}
-use Rattle.pj_shape.specs.Columns.{kinds_of}
+use Rattle.pj_shape.specs.Columns.{domains_of}
 use Rattle.pj_shape.specs.Joining.{Joins, has_column, value_at, parts_on}
 use Rattle.pj_pattern.specs.Fitting.{row_fits}
 use Rattle.pj_shape.specs.Sets.{touches}
@@ -99,7 +99,7 @@ abbrev pub FitRows : List (List Column) → List (List Value) → Type 0
 FitRows [] [] = Unit {0}
 FitRows [] (row ∷ rows) = ⊥
 FitRows (schema ∷ schemas) [] = ⊥
-FitRows (schema ∷ schemas) (row ∷ rows) = (row_fits (kinds_of schema) row ≡ true) × FitRows schemas rows
+FitRows (schema ∷ schemas) (row ∷ rows) = (row_fits (domains_of schema) row ≡ true) × FitRows schemas rows
 
 -- no row of an input that is not reached matches a listed instance
 abbrev pub MatchNone : List (List (List Bool)) → List ℕ → List Instance → List (List Value) → Type 0

@@ -6,10 +6,11 @@ use Rattle.pj_value.specs.declared.values.Kind.TheVariants.{Int as KInt, Text as
 use Rattle.pj_value.specs.declared.values.Value.{Value}
 use Rattle.pj_value.specs.declared.values.Value.TheVariants.{Int, Text}
 use Rattle.pj_value.specs.Lists.{In, has}
+use Rattle.pj_value.specs.Values.{Domain}
 use Rattle.pj_shape.specs.declared.columns.Column.{Column}
 use Rattle.pj_shape.specs.declared.columns.Instance.{Instance}
 use Rattle.pj_shape.specs.declared.joins.JoinSpec.{JoinSpec}
-use Rattle.pj_shape.specs.Columns.{kinds_of}
+use Rattle.pj_shape.specs.Columns.{domains_of}
 use Rattle.pj_shape.specs.Instances.{instance_of}
 use Rattle.pj_shape.specs.Sets.{schemes_of}
 
@@ -48,17 +49,17 @@ blank KInt = Int (pos 0)
 blank KText = Text []
 
 -- such a value for each of these kinds
-abbrev pub blanks : List Kind → List Value
+abbrev pub blanks : List Domain → List Value
 blanks kinds = map blank kinds
 
 -- for each of these schemes of the input, of which the first has this number, the instance whose constants are 0 and empty texts
-abbrev pub blank_ones : ℕ → List Kind → ℕ → List (List Bool) → List Instance
+abbrev pub blank_ones : ℕ → List Domain → ℕ → List (List Bool) → List Instance
 blank_ones input kinds scheme [] = []
 blank_ones input kinds scheme (marks ∷ list) =
     record { input = input; scheme = scheme; constants = blanks (marked marks kinds) } ∷ blank_ones input kinds (scheme + 1) list
 
 -- the same, where the input is not reached
-abbrev pub blank_input : List ℕ → ℕ → List Kind → List (List Bool) → List Instance
+abbrev pub blank_input : List ℕ → ℕ → List Domain → List (List Bool) → List Instance
 blank_input reached input kinds list = if has reached input then [] else blank_ones input kinds 0 list
 
 -- the same for each input from this one on
@@ -66,7 +67,7 @@ abbrev pub blank_instances_from : List ℕ → ℕ → List (List Column) → Li
 blank_instances_from reached input [] lists = []
 blank_instances_from reached input (schema ∷ schemas) [] = []
 blank_instances_from reached input (schema ∷ schemas) (list ∷ lists) =
-    blank_input reached input (kinds_of schema) list ++ blank_instances_from reached (input + 1) schemas lists
+    blank_input reached input (domains_of schema) list ++ blank_instances_from reached (input + 1) schemas lists
 
 -- for each input that is not reached and each of its schemes the instance whose constants are 0 and empty texts
 abbrev pub blank_instances_of : JoinSpec → List (List (List Bool)) → List ℕ → List Instance

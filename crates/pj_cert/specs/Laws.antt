@@ -6,7 +6,7 @@ use Rattle.pj_value.specs.Lists.{In, has}
 use Rattle.pj_shape.specs.declared.columns.Column.{Column}
 use Rattle.pj_shape.specs.declared.columns.Instance.{Instance}
 use Rattle.pj_shape.specs.declared.joins.JoinSpec.{JoinSpec}
-use Rattle.pj_shape.specs.Columns.{kinds_of}
+use Rattle.pj_shape.specs.Columns.{domains_of}
 use Rattle.pj_shape.specs.Sound.{IsSoundSpec, FitSchemes}
 use Rattle.pj_pattern.specs.Fitting.{row_fits}
 use Rattle.pj_shape.specs.Sets.{IsClosed}
@@ -25,7 +25,7 @@ pub record IsCut (spec : JoinSpec) (schemes : List (List (List Bool))) (input : 
   pub closed : IsClosed spec schemes (has reached)
   pub inside : has reached input ≡ true
   pub is_input : input < length spec.inputs
-  pub row_fits_it : row_fits (kinds_of (schema_of spec input)) row ≡ true
+  pub row_fits_it : row_fits (domains_of (schema_of spec input)) row ≡ true
 
 -- whatever instances are listed, there are rows that escape
 abbrev pub EscapesAll : Type 0

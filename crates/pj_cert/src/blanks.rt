@@ -1,6 +1,6 @@
 // What is asked of `escape` where nothing else is known: a row and instances of zeros and empty texts.
 ghost use Rattle.std.specs.Prelude.{◌≡◌, ◌<◌, ◌≤◌, ◌^◌, ◌++◌, IfOk, OnOk, length, true};
-ghost use Rattle.pj_shape.specs.Columns.{kinds_of};
+ghost use Rattle.pj_shape.specs.Columns.{domains_of};
 ghost use Rattle.pj_shape.specs.Sound.{IsSoundSpec, FitSchemes};
 ghost use Rattle.pj_graph.specs.Reaching.{AreFewSchemes};
 ghost use Rattle.pj_pattern.specs.Fitting.{row_fits};
@@ -15,14 +15,14 @@ use std::alloc::Global;
 /// The row of 0 and the empty text, by the kinds of the columns.
 #[tactic(auto, using(crate::proofs::BlankOnes::blanks_fit))]
 pub fn blank_row(alloc: Global, schema: &Schema) -> Result<Row, NoMemory>
-    ensures row { IfOk result (λ row. row ≡ blanks (kinds_of schema.now)) }
-    ensures fits { IfOk result (λ row. row_fits (kinds_of schema.now) row ≡ true) }
+    ensures row { IfOk result (λ row. row ≡ blanks (domains_of schema.now)) }
+    ensures fits { IfOk result (λ row. row_fits (domains_of schema.now) row ≡ true) }
 {
     Ok(Row::of(blank_values(alloc, schema)?))
 }
 
 fn blank_values(alloc: Global, schema: &Schema) -> Result<List<Value>, NoMemory>
-    ensures { IfOk result (λ values. values ≡ blanks (kinds_of schema.now)) }
+    ensures { IfOk result (λ values. values ≡ blanks (domains_of schema.now)) }
 {
     let mut values = List::new(alloc);
     for column in schema.columns() {
@@ -80,7 +80,7 @@ fn append_input(
     listed: &mut List<Instance>,
 ) -> Result<(), NoMemory>
     requires { length list.now ≤ 256 }
-    ensures { OnOk result (listed.new ≡ listed.old ++ blank_input reached.now input (kinds_of schema.now) list.now) }
+    ensures { OnOk result (listed.new ≡ listed.old ++ blank_input reached.now input (domains_of schema.now) list.now) }
 {
     if is_among(reached, input) {
         return Ok(());
@@ -98,7 +98,7 @@ fn append_ones(
     listed: &mut List<Instance>,
 ) -> Result<(), NoMemory>
     requires { length list.now ≤ 256 }
-    ensures { OnOk result (listed.new ≡ listed.old ++ ones_of input (kinds_of schema.now) 0 list.now) }
+    ensures { OnOk result (listed.new ≡ listed.old ++ ones_of input (domains_of schema.now) 0 list.now) }
 {
     for (n, scheme) in list.iter().enumerate() {
         let constants = blank_constants(alloc, schema, scheme)?;
@@ -112,7 +112,7 @@ fn append_ones(
 }
 
 fn blank_constants(alloc: Global, schema: &Schema, scheme: &Scheme) -> Result<List<Value>, NoMemory>
-    ensures { IfOk result (λ constants. constants ≡ blanks (marked scheme.now (kinds_of schema.now))) }
+    ensures { IfOk result (λ constants. constants ≡ blanks (marked scheme.now (domains_of schema.now))) }
 {
     let mut constants = List::new(alloc);
     for n in 0..scheme.len().min(schema.len()) {

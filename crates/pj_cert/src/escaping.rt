@@ -1,6 +1,6 @@
 // Rows that show why an input of a join is stuck.
 ghost use Rattle.std.specs.Prelude.{◌≡◌, ◌<◌, ◌≤◌, ◌^◌, ◌∷◌, [], IfOk, length, true};
-ghost use Rattle.pj_shape.specs.Columns.{kinds_of};
+ghost use Rattle.pj_shape.specs.Columns.{domains_of};
 ghost use Rattle.pj_shape.specs.Joining.{value_at};
 ghost use Rattle.pj_shape.specs.Sound.{IsSoundSpec, FitSchemes};
 ghost use Rattle.pj_pattern.specs.Fitting.{row_fits};
@@ -38,7 +38,7 @@ pub fn escape(
     requires closed { IsClosed spec.now schemes.now (has reached.now) }
     requires inside { has reached.now input ≡ true }
     requires input { input < length spec.now.inputs }
-    requires row { row_fits (kinds_of (schema_of spec.now input)) row.now ≡ true }
+    requires row { row_fits (domains_of (schema_of spec.now input)) row.now ≡ true }
     requires listed { AreInstances spec.now schemes.now listed.now }
     requires few { length (constants_of listed.now) < 2 ^ 32 }
     ensures { IfOk result (λ rows. Escapes spec.now schemes.now input reached.now row.now listed.now rows) }

@@ -13,10 +13,10 @@ use Rattle.pj_plan.specs.declared.node.PlanNode.{PlanNode}
 use Rattle.pj_plan.specs.Canonical.{no_node, node_schema}
 use Rattle.pj_core.specs.Parts.{plan_node}
 use Rattle.pj_plan.specs.Nodes.{inputs_of, parent_of}
-use Rattle.pj_plan.specs.Sound.{IsSoundAgg, IsSoundOperator, IsSoundPlan, agg_kind_at, kind_at}
+use Rattle.pj_plan.specs.Sound.{IsSoundAgg, IsSoundOperator, IsSoundPlan, agg_domain_at, domain_at}
 use Rattle.pj_shape.specs.declared.groups.Agg.{Agg}
 use Rattle.pj_shape.specs.declared.groups.Agg.TheVariants.{Count, Sum, Min, Max}
-use Rattle.pj_shape.proofs.KindsOf.{kinds_length}
+use Rattle.pj_shape.proofs.DomainsOf.{domains_length}
 use Rattle.pj_group.specs.Steps.{Fits, IsInRange}
 use Rattle.pj_scheme.specs.Derived.{schemes_of}
 use Rattle.pj_events.specs.Join.{JoinData}
@@ -178,7 +178,7 @@ kind-takes nodes limit m certs schema (SelectNode input test) position n few s e
 kind-takes nodes limit m certs schema (ProjectNode input columns) position n few s e =
     all-in (λ c. c < length (node_schema nodes n)) columns (λ c h. subst (λ (i : ℕ). c < length (node_schema nodes i)) (one-input input position n e) (s.0 c h))
 kind-takes nodes limit m certs schema (UnionNode inputs) position n few s e =
-    (got-below inputs position n e, sym (kinds_length (node_schema nodes n)) ∙ ap length (s.3 n (got-in inputs position n e)) ∙ kinds_length schema)
+    (got-below inputs position n e, sym (domains_length (node_schema nodes n)) ∙ ap length (s.3 n (got-in inputs position n e)) ∙ domains_length schema)
 kind-takes nodes limit m certs schema (JoinNode inputs spec) position n few s e =
     let long : length (map length spec.inputs) ≡ length inputs = length-map spec.inputs length ∙ ap length s.1 ∙ length-map inputs (node_schema nodes) in (
       (let l = got-below inputs position n e in omega (arith, l, long)),
@@ -190,10 +190,10 @@ kind-takes nodes limit m certs schema (JoinNode inputs spec) position n few s e 
     mapped (i ∷ is) = ap (λ (ns : List ℕ). length (node_schema nodes i) ∷ ns) (mapped is)
 kind-takes nodes limit m certs schema (GroupNode input spec) position n few s e =
     let columns = node_schema nodes input in
-    let kinds = sym (kinds_length schema) ∙ ap length s.2 ∙ length-append (map (kind_at columns) spec.keys) (map (agg_kind_at columns) spec.aggs) in (
+    let kinds = sym (domains_length schema) ∙ ap length s.2 ∙ length-append (map (domain_at columns) spec.keys) (map (agg_domain_at columns) spec.aggs) in (
       subst (λ (i : ℕ). Fits spec (length (node_schema nodes i))) (one-input input position n e)
           (record { keys = all-in (λ c. c < length columns) spec.keys s.0.keys_there; aggs = in-range columns spec.aggs s.0.sound_aggs }),
-      omega (arith, kinds, few, length-map spec.keys (kind_at columns), length-map spec.aggs (agg_kind_at columns)),
+      omega (arith, kinds, few, length-map spec.keys (domain_at columns), length-map spec.aggs (agg_domain_at columns)),
     )
 
 -- what feeds a node fits it there

@@ -10,15 +10,15 @@ use Rattle.pj_value.proofs.Members.{In-map}
 use Rattle.pj_value.proofs.Numbers.{has-in}
 use Rattle.pj_shape.specs.declared.columns.Column.{Column}
 use Rattle.pj_shape.specs.declared.joins.CertStep.{CertStep}
-use Rattle.pj_shape.specs.Columns.{kinds_of}
-use Rattle.pj_shape.proofs.KindsOf.{kinds_length}
+use Rattle.pj_shape.specs.Columns.{domains_of}
+use Rattle.pj_shape.proofs.DomainsOf.{domains_length}
 use Rattle.pj_pattern.proofs.Fitting.{punct_length}
 use Rattle.pj_plan.specs.declared.node.Node.{Node as Operation}
 use Rattle.pj_plan.specs.declared.node.Node.TheVariants.{Stream as StreamNode, Select as SelectNode, Project as ProjectNode, Union as UnionNode, Join as JoinNode, Group as GroupNode}
 use Rattle.pj_plan.specs.declared.node.PlanNode.{PlanNode}
 use Rattle.pj_plan.specs.Nodes.{inputs_of, input_from, or_else, parent_from}
 use Rattle.pj_plan.specs.Canonical.{no_node, node_schema}
-use Rattle.pj_plan.specs.Sound.{AreDistinct as AreApart, IsSoundOperator, IsSoundPlan, agg_kind_at, all_inputs as inputs_in, kind_at}
+use Rattle.pj_plan.specs.Sound.{AreDistinct as AreApart, IsSoundOperator, IsSoundPlan, agg_domain_at, all_inputs as inputs_in, domain_at}
 use Rattle.pj_scheme.specs.Derived.{schemes_of}
 use Rattle.pj_events.specs.Join.{AreDistinct, has}
 use Rattle.pj_events.specs.Plan.{ArePlanned, IsWellMade, operator_width}
@@ -61,7 +61,7 @@ union_made : (schemes : List (List (List Bool))) (certs : List (List CertStep)) 
     → ((m : ℕ) → In m inputs → widths m ≡ length (node_schema nodes m)) → IsMade schemes certs schema widths (UnionNode inputs)
 union_made schemes certs schema widths nodes [] s same = absurd (let two = s.0 in omega (arith, two))
 union_made schemes certs schema widths nodes (m ∷ ms) s same =
-    let all : (k : ℕ) → In k (m ∷ ms) → widths k ≡ length schema = λ k h. same k h ∙ (sym (kinds_length (node_schema nodes k)) ∙ (ap length (s.3 k h) ∙ kinds_length schema)) in
+    let all : (k : ℕ) → In k (m ∷ ms) → widths k ≡ length schema = λ k h. same k h ∙ (sym (domains_length (node_schema nodes k)) ∙ (ap length (s.3 k h) ∙ domains_length schema)) in
     record {
       made = (
         ap suc (length-map ms widths),
@@ -78,10 +78,10 @@ node_made : (schemes : List (List (List Bool))) (certs : List (List CertStep)) (
 node_made schemes certs schema widths nodes (StreamNode stated) s same = record { made = (refl, refl); width = refl }
 node_made schemes certs schema widths nodes (SelectNode input test) s same =
     let one : widths input ≡ length schema = same input (inl refl) ∙ ap length (sym s.0) in
-    record { made = (refl, punct_length (kinds_of schema) test s.1 ∙ (kinds_length schema ∙ sym one)); width = one }
+    record { made = (refl, punct_length (domains_of schema) test s.1 ∙ (domains_length schema ∙ sym one)); width = one }
 node_made schemes certs schema widths nodes (ProjectNode input columns) s same =
     let one = same input (inl refl) in
-    record { made = (refl, λ c h. let lt = s.0 c h in omega (arith, lt, one)); width = sym (length-map columns (kind_at (node_schema nodes input))) ∙ (ap length (sym s.1) ∙ kinds_length schema) }
+    record { made = (refl, λ c h. let lt = s.0 c h in omega (arith, lt, one)); width = sym (length-map columns (domain_at (node_schema nodes input))) ∙ (ap length (sym s.1) ∙ domains_length schema) }
 node_made schemes certs schema widths nodes (UnionNode inputs) s same = union_made schemes certs schema widths nodes inputs s same
 node_made schemes certs schema widths nodes (JoinNode inputs spec) s same =
     let arities : map widths inputs ≡ map length spec.inputs = widths_same widths (node_schema nodes) inputs same ∙ ap (map length) (sym s.1) in
@@ -94,10 +94,10 @@ node_made schemes certs schema widths nodes (JoinNode inputs spec) s same =
 node_made schemes certs schema widths nodes (GroupNode input spec) s same =
     let one = same input (inl refl) in
     let columns : List Column = node_schema nodes input in
-    let keys = length-map spec.keys (kind_at columns) in
-    let aggs = length-map spec.aggs (agg_kind_at columns) in
-    let all = length-append (map (kind_at columns) spec.keys) (map (agg_kind_at columns) spec.aggs) in
-    let kinds = sym (kinds_length schema) ∙ ap length s.2 in
+    let keys = length-map spec.keys (domain_at columns) in
+    let aggs = length-map spec.aggs (agg_domain_at columns) in
+    let all = length-append (map (domain_at columns) spec.keys) (map (agg_domain_at columns) spec.aggs) in
+    let kinds = sym (domains_length schema) ∙ ap length s.2 in
     record { made = (refl, (λ c h. let lt = s.0.keys_there c h in omega (arith, lt, one)), refl); width = omega (arith, keys, aggs, all, kinds) }
 
 -- ---- all nodes

@@ -5,8 +5,8 @@ ghost use Rattle.pj_laws.specs.HistoryLaws.{AllAreCertified};
 ghost use Rattle.pj_events.specs.Patterns.{all_wild};
 ghost use Rattle.pj_events.specs.Join.{has};
 ghost use Rattle.pj_events.specs.OneThread.{arrival_of, plain};
-ghost use Rattle.pj_pattern.specs.Fitting.{FitsKinds};
-ghost use Rattle.pj_shape.specs.Columns.{kinds_of};
+ghost use Rattle.pj_pattern.specs.Fitting.{FitsDomains};
+ghost use Rattle.pj_shape.specs.Columns.{domains_of};
 ghost use Rattle.pj_plan.specs.Nodes.{streams_of, stream_columns, streams_in};
 ghost use Rattle.pj_core.specs.Plans.{nodes_of, run_plan};
 ghost use Rattle.pj_operator.specs.Cells.{AreLinked, frames_in};
@@ -98,7 +98,7 @@ impl Core {
     /// `NoMemory` where memory could not be had. After a stop the core answers the same stop and changes nothing.
     pub fn arrive(&mut self, stream: u32, element: Element) -> Result<(), Stop>
         requires there { stream < length (streams_of self.old.plan.nodes) }
-        requires fits { FitsKinds (kinds_of (stream_columns (streams_in self.old.plan.nodes) stream)) element }
+        requires fits { FitsDomains (domains_of (stream_columns (streams_in self.old.plan.nodes) stream)) element }
         ensures ok { OnOk result (HasArrived self.old self.new (arrival_of (arriving_of stream element))) }
         ensures err { IfErr result (λ stop. IsRefused self.old.kept.stop self.old self.new stop (IsCause self.old (Arrives stream element) stop)) }
     {

@@ -1,7 +1,7 @@
 // Whole turns of a run on one thread.
 ghost use Rattle.std.specs.Prelude.{true, ◌≡◌, ◌<◌, None, length, IfErr, IfOk, OnOk};
-ghost use Rattle.pj_pattern.specs.Fitting.{FitsKinds};
-ghost use Rattle.pj_shape.specs.Columns.{kinds_of};
+ghost use Rattle.pj_pattern.specs.Fitting.{FitsDomains};
+ghost use Rattle.pj_shape.specs.Columns.{domains_of};
 ghost use Rattle.pj_plan.specs.Nodes.{streams_of, stream_columns, streams_in};
 ghost use Rattle.pj_events.specs.OneThread.{is_punct as brings_punct};
 ghost use Rattle.pj_core.specs.Calls.{IsJoinInput, IsTurnRefused, MakesTurn, arriving_of, closing_of};
@@ -23,7 +23,7 @@ impl Core {
     /// stop and changes nothing.
     pub fn turn(&mut self, stream: u32, element: Element) -> Result<List<Out>, Stop>
         requires there { stream < length (streams_of self.old.plan.nodes) }
-        requires fits { FitsKinds (kinds_of (stream_columns (streams_in self.old.plan.nodes) stream)) element }
+        requires fits { FitsDomains (domains_of (stream_columns (streams_in self.old.plan.nodes) stream)) element }
         ensures ok { IfOk result (λ outs. MakesTurn self.old self.new (arriving_of stream element) outs) }
         ensures err { IfErr result (λ stop. IsTurnRefused self.old.kept.stop self.old self.new (arriving_of stream element) stop) }
     {

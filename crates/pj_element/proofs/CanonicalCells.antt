@@ -13,10 +13,10 @@ use Rattle.pj_value.specs.declared.values.Kind.{Kind}
 use Rattle.pj_value.specs.declared.values.Value.{Value}
 use Rattle.pj_value.specs.declared.values.Value.TheVariants.{Text}
 use Rattle.pj_value.specs.Texts.{plain, spelled_byte, value_spelling, values_spelling}
-use Rattle.pj_value.specs.Values.{is_kind}
+use Rattle.pj_value.specs.Values.{Domain, is_kind}
 use Rattle.pj_value.proofs.Plain.{plain_run}
 use Rattle.pj_shape.specs.declared.columns.Column.{Column}
-use Rattle.pj_shape.specs.Columns.{kinds_of}
+use Rattle.pj_shape.specs.Columns.{domains_of}
 use Rattle.pj_pattern.specs.Fitting.{row_fits}
 use Rattle.pj_element.specs.declared.element.Read.TheVariants.{Tuple}
 use Rattle.pj_element.specs.Canonical.{StandsAt, AreSpelled}
@@ -117,16 +117,16 @@ same_cell bytes from end value ordered within same = subst (StandsAt bytes from 
 -- these values stand at the front, for the first i columns
 pub record ValuesSoFar (columns : List Column) (bytes : List ℕ) (i at : ℕ) (values : List Value) : Type 0 where
   pub stand : StandsAt bytes 0 at (values_spelling values)
-  pub fit : row_fits (kinds_of (take i columns)) values ≡ true
+  pub fit : row_fits (domains_of (take i columns)) values ≡ true
 
 pub values_start : (columns : List Column) (bytes : List ℕ) → ValuesSoFar columns bytes 0 0 []
 values_start columns bytes = record { stand = record { within = omega arith; front = refl }; fit = refl }
 
-kinds_more : (columns : List Column) (column : Column) → kinds_of (columns ++ column ∷ []) ≡ kinds_of columns ++ column.kind ∷ []
-kinds_more [] column = refl
-kinds_more (c ∷ cs) column = ap (λ (ks : List Kind). c.kind ∷ ks) (kinds_more cs column)
+domains_more : (columns : List Column) (column : Column) → domains_of (columns ++ column ∷ []) ≡ domains_of columns ++ column.kind ∷ []
+domains_more [] column = refl
+domains_more (c ∷ cs) column = ap (λ (ks : List Domain). c.kind ∷ ks) (domains_more cs column)
 
-fits_more : (kinds : List Kind) (values : List Value) (kind : Kind) (value : Value) → row_fits kinds values ≡ true → is_kind kind value ≡ true → row_fits (kinds ++ kind ∷ []) (values ++ value ∷ []) ≡ true
+fits_more : (kinds : List Domain) (values : List Value) (kind : Kind) (value : Value) → row_fits kinds values ≡ true → is_kind kind value ≡ true → row_fits (kinds ++ kind ∷ []) (values ++ value ∷ []) ≡ true
 fits_more [] [] kind value fit is = rw is refl
 fits_more [] (v ∷ vs) kind value fit is = absurd (false≢true fit)
 fits_more (k ∷ ks) [] kind value fit is = absurd (false≢true fit)
@@ -143,14 +143,14 @@ pub values_more : (columns : List Column) (bytes : List ℕ) (i at end : ℕ) (v
     → StandsAt bytes at end (32 ∷ value_spelling value) → is_kind column.kind value ≡ true → ValuesSoFar columns bytes (i + 1) end (values ++ value ∷ [])
 values_more columns bytes i at end values column value before lt is cell kind = record {
   stand = subst (StandsAt bytes 0 end) (sym (spelled_more values value)) (stands_both bytes (values_spelling values) (32 ∷ value_spelling value) 0 at end before.stand cell);
-  fit = subst (λ (cs : List Column). row_fits (kinds_of cs) (values ++ value ∷ []) ≡ true) (sym (take_more columns i column lt ∙ ap (λ (c : Column). take i columns ++ c ∷ []) (sym is)))
-      (subst (λ (ks : List Kind). row_fits ks (values ++ value ∷ []) ≡ true) (sym (kinds_more (take i columns) column)) (fits_more (kinds_of (take i columns)) values column.kind value before.fit kind));
+  fit = subst (λ (cs : List Column). row_fits (domains_of cs) (values ++ value ∷ []) ≡ true) (sym (take_more columns i column lt ∙ ap (λ (c : Column). take i columns ++ c ∷ []) (sym is)))
+      (subst (λ (ks : List Domain). row_fits ks (values ++ value ∷ []) ≡ true) (sym (domains_more (take i columns) column)) (fits_more (domains_of (take i columns)) values column.kind value before.fit kind));
 }
 
 pub values_end : (columns : List Column) (bytes : List ℕ) (i at : ℕ) (values : List Value) → ValuesSoFar columns bytes i at values → length columns ≤ i → at ≡ length bytes → AreSpelled columns bytes values
 values_end columns bytes i at values so le whole = record {
   spelled = sym (take_all at bytes (omega arith)) ∙ so.stand.front;
-  fit = subst (λ (cs : List Column). row_fits (kinds_of cs) values ≡ true) (take_all i columns le) so.fit;
+  fit = subst (λ (cs : List Column). row_fits (domains_of cs) values ≡ true) (take_all i columns le) so.fit;
 }
 
 -- ---- lines

@@ -6,7 +6,7 @@ use Rattle.std.proofs.lemmas.Bool.{eqb-true, ltb-false, and_from}
 use Rattle.pj_value.specs.declared.values.Value.{Value}
 use Rattle.pj_value.specs.Values.{is_kind}
 use Rattle.pj_shape.specs.declared.columns.Column.{Column}
-use Rattle.pj_shape.specs.Columns.{kinds_of}
+use Rattle.pj_shape.specs.Columns.{domains_of}
 use Rattle.pj_pattern.specs.declared.pattern.Form.{Form}
 use Rattle.pj_pattern.specs.Patterns.{Pattern, is_of_kind}
 use Rattle.pj_pattern.specs.Fitting.{row_fits, punct_fits}
@@ -25,7 +25,7 @@ use Rattle.pj_element.specs.Spelled.{value_of}
 use Rattle.pj_element.specs.Forms.{form_of}
 use Rattle.pj_element.specs.Elements.{judged_value, value_in, judged_form, pattern_in, onto_items, with_item, items_from, width, items_in, read_row, read_punct, tagged, judged, reading_of}
 use Rattle.pj_element.specs.Fitting.{FitsRead, HasArity}
-use Rattle.pj_shape.proofs.KindsOf.{kinds_length}
+use Rattle.pj_shape.proofs.DomainsOf.{domains_length}
 
 -- the items that were read are of each column what its cell says
 abbrev pub AreOf : {A : Type 0} → (Column → A → Type 0) → List Column → Result (List A) Reject → Type 0
@@ -72,17 +72,17 @@ pattern-fits c cell p e = go (form_of cell) e
     go None is = cc
     go (Some w) is = of w (is_of_kind c.kind w) refl is
 
-row-of : (columns : List Column) (row : List Value) → AreOf (λ c v. is_kind c.kind v ≡ true) columns (Ok row) → row_fits (kinds_of columns) row ≡ true
+row-of : (columns : List Column) (row : List Value) → AreOf (λ c v. is_kind c.kind v ≡ true) columns (Ok row) → row_fits (domains_of columns) row ≡ true
 row-of [] [] all = refl
 row-of [] (v ∷ vs) all = absurd all
 row-of (c ∷ cs) [] all = absurd all
-row-of (c ∷ cs) (v ∷ vs) all = and_from (is_kind c.kind v) (row_fits (kinds_of cs) vs) all.0 (row-of cs vs all.1)
+row-of (c ∷ cs) (v ∷ vs) all = and_from (is_kind c.kind v) (row_fits (domains_of cs) vs) all.0 (row-of cs vs all.1)
 
-punct-of : (columns : List Column) (punct : List Pattern) → AreOf (λ c p. is_of_kind c.kind p ≡ true) columns (Ok punct) → punct_fits (kinds_of columns) punct ≡ true
+punct-of : (columns : List Column) (punct : List Pattern) → AreOf (λ c p. is_of_kind c.kind p ≡ true) columns (Ok punct) → punct_fits (domains_of columns) punct ≡ true
 punct-of [] [] all = refl
 punct-of [] (p ∷ ps) all = absurd all
 punct-of (c ∷ cs) [] all = absurd all
-punct-of (c ∷ cs) (p ∷ ps) all = and_from (is_of_kind c.kind p) (punct_fits (kinds_of cs) ps) all.0 (punct-of cs ps all.1)
+punct-of (c ∷ cs) (p ∷ ps) all = and_from (is_of_kind c.kind p) (punct_fits (domains_of cs) ps) all.0 (punct-of cs ps all.1)
 
 -- what is read fits the columns, and a punctuation has as many patterns as their width says
 abbrev pub FitsBoth : List Column → Read → Type 0
@@ -94,8 +94,8 @@ row-read columns (Err why) all = (tt, tt)
 
 punct-read : (columns : List Column) (r : Result (List Pattern) Reject) → length columns < 2 ^ 32 → AreOf (λ c p. is_of_kind c.kind p ≡ true) columns r → FitsBoth columns (read_punct r)
 punct-read columns (Ok punct) few all =
-    let fit : punct_fits (kinds_of columns) punct ≡ true = punct-of columns punct all in
-    (fit, omega (arith, few, punct_length (kinds_of columns) punct fit, kinds_length columns))
+    let fit : punct_fits (domains_of columns) punct ≡ true = punct-of columns punct all in
+    (fit, omega (arith, few, punct_length (domains_of columns) punct fit, domains_length columns))
 punct-read columns (Err why) few all = (tt, tt)
 
 row-items : (columns : List Column) (cells : List (List ℕ)) → FitsBoth columns (read_row (items_in value_in columns cells))

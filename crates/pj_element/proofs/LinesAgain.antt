@@ -8,7 +8,7 @@ use Rattle.pj_value.specs.declared.values.Value.{Value}
 use Rattle.pj_value.specs.Texts.{value_spelling}
 use Rattle.pj_value.specs.Values.{is_kind}
 use Rattle.pj_shape.specs.declared.columns.Column.{Column}
-use Rattle.pj_shape.specs.Columns.{kinds_of}
+use Rattle.pj_shape.specs.Columns.{domains_of}
 use Rattle.pj_pattern.specs.declared.pattern.Form.{Form}
 use Rattle.pj_pattern.specs.declared.pattern.Form.TheVariants.{Wild, Empty, Constant, Range, Members}
 use Rattle.pj_pattern.specs.Patterns.{Pattern, is_of_kind, is_of_one_kind}
@@ -118,20 +118,20 @@ module _ {A : Type 0} (f : Column → List ℕ → Judged A) (spelling : A → L
   few_cells : (columns : List Column) (items : List A) → AreItems f spelling columns items → length columns ≤ 120 → (cell : List ℕ) → ltb 128 (length (cell ∷ map spelling items)) ≡ false
   few_cells columns items all few cell = let same = as_many columns items all in grind (arith, nat_tests)
 
-row_items : (columns : List Column) (row : List Value) → AreStorable row → row_fits (kinds_of columns) row ≡ true → AreItems value_in value_spelling columns row
+row_items : (columns : List Column) (row : List Value) → AreStorable row → row_fits (domains_of columns) row ≡ true → AreItems value_in value_spelling columns row
 row_items [] [] storable fits = no_item
 row_items [] (v ∷ vs) storable fits = absurd (false≢true fits)
 row_items (c ∷ cs) [] storable fits = absurd (false≢true fits)
 row_items (c ∷ cs) (v ∷ vs) storable fits =
-    let both = and_parts (is_kind c.kind v) (row_fits (kinds_of cs) vs) fits in
+    let both = and_parts (is_kind c.kind v) (row_fits (domains_of cs) vs) fits in
     next_item (value_cell (value_spelling v) v (value_spelled v storable.0)) (value_fits c v storable.0 both.0) (row_items cs vs storable.1 both.1)
 
-punct_items : (columns : List Column) (punct : List Pattern) → AreKeptPatterns punct → punct_fits (kinds_of columns) punct ≡ true → AreItems pattern_in pattern_spelling columns punct
+punct_items : (columns : List Column) (punct : List Pattern) → AreKeptPatterns punct → punct_fits (domains_of columns) punct ≡ true → AreItems pattern_in pattern_spelling columns punct
 punct_items [] [] kept fits = no_item
 punct_items [] (p ∷ ps) kept fits = absurd (false≢true fits)
 punct_items (c ∷ cs) [] kept fits = absurd (false≢true fits)
 punct_items (c ∷ cs) (p ∷ ps) kept fits =
-    let both = and_parts (is_of_kind c.kind p) (punct_fits (kinds_of cs) ps) fits in
+    let both = and_parts (is_of_kind c.kind p) (punct_fits (domains_of cs) ps) fits in
     next_item (form_cell (pattern_spelling p) (read_as p) (pattern_spelled p kept.0)) (pattern_fits c p kept.0 both.0) (punct_items cs ps kept.1 both.1)
 
 tuple_tag : IsCell (116 ∷ [])

@@ -3,7 +3,7 @@ use Rattle.std.specs.Prelude.{◌≡◌, ◌≤◌, ◌↔◌, ℕ, true, ⊤, L
 use Rattle.pj_value.specs.declared.values.Value.{Value}
 use Rattle.pj_value.specs.Storable.{AreStorable, IsStorable}
 use Rattle.pj_shape.specs.declared.columns.Column.{Column}
-use Rattle.pj_shape.specs.Columns.{kinds_of}
+use Rattle.pj_shape.specs.Columns.{domains_of}
 use Rattle.pj_pattern.specs.declared.pattern.Form.{Form}
 use Rattle.pj_pattern.specs.declared.pattern.Form.TheVariants.{Wild, Empty, Constant, Range, Members}
 use Rattle.pj_pattern.specs.Patterns.{Pattern, is_of_one_kind}
@@ -59,11 +59,11 @@ PatternIsReadAgain pattern = is_of_one_kind pattern ≡ true → pattern_of (pat
 
 -- a row that fits at most 120 columns, printed, is read again as itself
 abbrev pub RowIsReadAgain : List Value → Type 0
-RowIsReadAgain row = (columns : List Column) → length columns ≤ 120 → row_fits (kinds_of columns) row ≡ true → reading_of columns (row_line row) ≡ Tuple row
+RowIsReadAgain row = (columns : List Column) → length columns ≤ 120 → row_fits (domains_of columns) row ≡ true → reading_of columns (row_line row) ≡ Tuple row
 
 -- a punctuation that fits at most 120 columns, printed, is read again as itself
 abbrev pub PunctIsReadAgain : List Pattern → Type 0
-PunctIsReadAgain punct = (columns : List Column) → length columns ≤ 120 → punct_fits (kinds_of columns) punct ≡ true → reading_of columns (punct_line punct) ≡ Punct punct
+PunctIsReadAgain punct = (columns : List Column) → length columns ≤ 120 → punct_fits (domains_of columns) punct ≡ true → reading_of columns (punct_line punct) ≡ Punct punct
 
 abbrev pub RowsAreReadAgain : Type 0
 RowsAreReadAgain = (row : List Value) → AreStorable row → RowIsReadAgain row

@@ -7,8 +7,8 @@ use Rattle.pj_shape.specs.Joining.{join_answer}
 use Rattle.pj_pattern.specs.declared.element.Element.{Element}
 use Rattle.pj_pattern.specs.declared.element.Element.TheVariants.{Tuple, Punct}
 use Rattle.pj_value.specs.Bags.{SameBag}
-use Rattle.pj_pattern.specs.Fitting.{FitsKinds}
-use Rattle.pj_shape.specs.Columns.{kinds_of}
+use Rattle.pj_pattern.specs.Fitting.{FitsDomains}
+use Rattle.pj_shape.specs.Columns.{domains_of}
 use Rattle.pj_events.specs.Patterns.{Pattern, all_wild, matches_row}
 use Rattle.pj_events.specs.Join.{In, JoinData, JoinState, Step, TupleComes, PunctComes, Take, Give, Sweep, start, run, outputs, IsAllowed, AllGiven, IsSettled, arities, inputs, rows_of}
 use Rattle.pj_events.specs.Operators.{GroupSpec, UnionState, picked_cells, select_hands, project_hands, union_after, union_hands, group_after, group_hands, group_rows}
@@ -146,7 +146,7 @@ IsOwn (Sweep input) = Unit {0}
 
 -- the operator is a stream, the element fits it, and a tuple matches no punctuation that was fed to it
 abbrev pub MayArrive : Operator → Element → Type 0
-MayArrive (Stream schema sent) e = IsClearOf sent e × FitsKinds (kinds_of schema) e
+MayArrive (Stream schema sent) e = IsClearOf sent e × FitsDomains (domains_of schema) e
 MayArrive (Select test) e = ⊥
 MayArrive (Project columns) e = ⊥
 MayArrive (Union n u) e = ⊥

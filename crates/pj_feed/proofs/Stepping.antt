@@ -2,10 +2,10 @@
 use Rattle.std.proofs.Common.{◌≡◌, ◌⊎◌, ℕ, ◌+◌, ◌-◌, ◌<◌, ◌≤◌, ◌^◌, Bool, true, false, cond, List, [], ◌∷◌, ◌++◌, length, take, drop, refl, ap, ap₂, sym, ◌∙◌, subst, append_assoc, append-nil, arith, Option, Some, None, Result, Ok, Err, IfOk, IsTrue, inl, inr}
 use Rattle.std.proofs.lemmas.List.{length-append}
 use Rattle.pj_shape.specs.declared.columns.Column.{Column}
-use Rattle.pj_shape.specs.Columns.{kinds_of}
+use Rattle.pj_shape.specs.Columns.{domains_of}
 use Rattle.pj_io.specs.Pieces.{Consumes}
 use Rattle.pj_pattern.specs.declared.element.Element.{Element}
-use Rattle.pj_pattern.specs.Fitting.{FitsKinds}
+use Rattle.pj_pattern.specs.Fitting.{FitsDomains}
 use Rattle.pj_element.specs.declared.element.Reject.{Reject}
 use Rattle.pj_element.specs.Accepted.{taken_of, fates_of, rejects_of}
 use Rattle.pj_intake.specs.declared.intake.Step.{Step}
@@ -158,7 +158,7 @@ module _ (old new : FeedState) (step : Step) (fed : IsFed old) (still : old.is_o
       ap (drop (count_of old)) (sym (all_same t))
       ∙ next_left (all_accepted new) (accepted fed.judged) b.0 e (count_of old) (count_of new) all old_count (new_count ∙ ap length added)
 
-  pub element_next : (e : Element) → accepted_in step ≡ e ∷ [] → FitsKinds (kinds_of old.intake.columns) e → IsNextOf old new (Some e)
+  pub element_next : (e : Element) → accepted_in step ≡ e ∷ [] → FitsDomains (domains_of old.intake.columns) e → IsNextOf old new (Some e)
   element_next e is fit =
       let l : length (accepted_in step) ≡ 1 = ap length is in
       (accepted_works (omega (arith, l)), fit, λ t. next_is e is t)
@@ -222,7 +222,7 @@ behind_next start now new None b n =
     (omega (arith, n.0, b.works), n.1, n.2, λ t. left_same start now b.same b.count t ∙ n.3 (subst IsTrue (sym b.same.told) t), n.4 ∙ b.count)
 behind_next start now new (Some e) b n = (
   omega (arith, n.0, b.works),
-  subst (λ (ks : List Column). FitsKinds (kinds_of ks) e) b.same.columns n.1,
+  subst (λ (ks : List Column). FitsDomains (domains_of ks) e) b.same.columns n.1,
   λ t. left_same start now b.same b.count t ∙ n.2 (subst IsTrue (sym b.same.told) t),
 )
 

@@ -13,8 +13,8 @@ use Rattle.pj_intake.specs.declared.intake.IntakeStop.{IntakeStop}
 use Rattle.pj_intake.specs.declared.intake.IntakeStop.TheVariants.{ReadFault, ByteLimit, NoMemory}
 use Rattle.pj_intake.specs.Taking.{IntakeState, Taking, IsOpen}
 use Rattle.pj_pattern.specs.Columns.{all_wild}
-use Rattle.pj_pattern.specs.Fitting.{FitsKinds}
-use Rattle.pj_shape.specs.Columns.{kinds_of}
+use Rattle.pj_pattern.specs.Fitting.{FitsDomains}
+use Rattle.pj_shape.specs.Columns.{domains_of}
 use Rattle.pj_events.specs.OneThread.{Turn, heads, tails, in_rounds}
 use Rattle.pj_feed.specs.declared.feeds.Arrival.{Arrival}
 use Rattle.pj_feed.specs.declared.feeds.Arrival.TheVariants.{Brought, Closing}
@@ -129,7 +129,7 @@ fed_elements columns bytes = taken_of (fates_of columns (fed_part bytes))
 
 -- what a turn brings is of this stream and fits its columns
 abbrev pub BringsOf : FeedState → Arrival → Type 0
-BringsOf feed (Brought stream element) = (stream ≡ feed.stream) × FitsKinds (kinds_of feed.intake.columns) element
+BringsOf feed (Brought stream element) = (stream ≡ feed.stream) × FitsDomains (domains_of feed.intake.columns) element
 BringsOf feed (Closing stream) = stream ≡ feed.stream
 
 -- why a stream's turn was not made: a read failed, and of the file exactly the elements were accepted that the lines hold which
@@ -150,7 +150,7 @@ IsNextOf old new None =
     (work_of new ≤ work_of old) × (new.intake.buffer.ended ≡ true) × (new.intake.buffer.held ≡ []) × (IsTrue old.source.told → drop (count_of old) (all_accepted old) ≡ [])
     × (count_of new ≡ count_of old)
 IsNextOf old new (Some e) =
-    (work_of new < work_of old) × FitsKinds (kinds_of old.intake.columns) e × (IsTrue old.source.told → drop (count_of old) (all_accepted old) ≡ e ∷ drop (count_of new) (all_accepted new))
+    (work_of new < work_of old) × FitsDomains (domains_of old.intake.columns) e × (IsTrue old.source.told → drop (count_of old) (all_accepted old) ≡ e ∷ drop (count_of new) (all_accepted new))
 
 -- ---- all streams
 

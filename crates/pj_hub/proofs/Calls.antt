@@ -4,10 +4,10 @@ use Rattle.std.specs.Prelude.{IfErr, IfOk, OnOk}
 use Rattle.std.specs.Bool.{⊤}
 use Rattle.std.proofs.lemmas.Bool.{and_parts, eqb-true}
 use Rattle.pj_shape.specs.declared.columns.Column.{Column}
-use Rattle.pj_shape.specs.Columns.{kinds_of}
+use Rattle.pj_shape.specs.Columns.{domains_of}
 use Rattle.pj_pattern.specs.declared.element.Element.{Element}
 use Rattle.pj_pattern.specs.declared.element.Element.TheVariants.{Punct}
-use Rattle.pj_pattern.specs.Fitting.{FitsKinds}
+use Rattle.pj_pattern.specs.Fitting.{FitsDomains}
 use Rattle.pj_plan.specs.Nodes.{streams_of, stream_columns, streams_in}
 use Rattle.pj_events.specs.Patterns.{all_wild}
 use Rattle.pj_events.specs.declared.events.Entry.{Entry}
@@ -317,8 +317,8 @@ module _ (x : Shared) where
     pub arrive-there : stream < length (streams_of core.plan.nodes)
     arrive-there = stream-below core.plan stream needs-there.1
 
-    pub arrive-fits : FitsKinds (kinds_of (stream_columns (streams_in core.plan.nodes) stream)) element
-    arrive-fits = subst (λ (columns : List Column). FitsKinds (kinds_of columns) element) (schema-is core.plan stream arrive-there) needs-there.2.fits
+    pub arrive-fits : FitsDomains (domains_of (stream_columns (streams_in core.plan.nodes) stream)) element
+    arrive-fits = subst (λ (columns : List Column). FitsDomains (domains_of columns) element) (schema-is core.plan stream arrive-there) needs-there.2.fits
 
     feed-log : MayFeed (nodes_in core) stream (made_by stream log) element
     feed-log =

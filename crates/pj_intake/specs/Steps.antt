@@ -1,7 +1,7 @@
 -- The steps of an intake: what becomes of the lines of a source, one by one.
 use Rattle.std.specs.Prelude.{◌≡◌, ℕ, ⊤, true, List, [], ◌∷◌, ◌++◌, length, Option, Some, None, Result, Ok, Err, IsTrue}
 use Rattle.pj_shape.specs.declared.columns.Column.{Column}
-use Rattle.pj_shape.specs.Columns.{kinds_of}
+use Rattle.pj_shape.specs.Columns.{domains_of}
 use Rattle.pj_io.specs.Causes.{Rose}
 use Rattle.pj_io.specs.States.{SourceState}
 use Rattle.pj_pattern.specs.Fitting.{row_fits, punct_fits}
@@ -41,8 +41,8 @@ rejected_in End = []
 
 -- what a step accepts fits the columns
 abbrev pub FitsStep : List Column → Step → Type 0
-FitsStep columns (Tuple row) = row_fits (kinds_of columns) row ≡ true
-FitsStep columns (Punct punct) = punct_fits (kinds_of columns) punct ≡ true
+FitsStep columns (Tuple row) = row_fits (domains_of columns) row ≡ true
+FitsStep columns (Punct punct) = punct_fits (domains_of columns) punct ≡ true
 FitsStep columns (Rejected n why) = ⊤
 FitsStep columns End = ⊤
 

@@ -17,8 +17,8 @@ use Rattle.pj_events.specs.OneThread.{Place, places_in, places_from, sweeps_at, 
 use Rattle.pj_laws.specs.HistoryLaws.{Certified, schema_at}
 use Rattle.pj_laws.proofs.Glue.{length-moved, after-append}
 use Rattle.pj_laws.proofs.Steps.{streams-same, all-rise, rising-apart, stream-there, stream_node-same}
-use Rattle.pj_shape.specs.Columns.{kinds_of}
-use Rattle.pj_pattern.specs.Fitting.{FitsKinds}
+use Rattle.pj_shape.specs.Columns.{domains_of}
+use Rattle.pj_pattern.specs.Fitting.{FitsDomains}
 use Rattle.pj_laws.proofs.Nodes.{drain-still, operator-from, data-all}
 use Rattle.pj_laws.proofs.Rounds.{mine}
 use Rattle.pj_laws.proofs.Probes.{all-at, Steady, Rested, AllOperators, all-steady, steady-brought, stream-moved, IsQuietEvent, AreActsLegal, acts-append, probes-all, length-from}
@@ -279,7 +279,7 @@ follow-rest sweeps nodes e a sure = drained (probes nodes ++ swept-of (sweeps &&
 abbrev pub FitsFrom : List Column → List Element → List Turn → Type 0
 FitsFrom schema sent [] = Unit {0}
 FitsFrom schema sent (t ∷ ts) =
-    IsClearOf sent t.element × FitsKinds (kinds_of schema) t.element
+    IsClearOf sent t.element × FitsDomains (domains_of schema) t.element
     × ((t.closing ≡ 0) ⊎ ((t.closing ≡ 1) × (t.element ≡ Punct (all_wild (length schema))) × (ts ≡ [])))
     × FitsFrom schema (sent ++ t.element ∷ []) ts
 
@@ -337,7 +337,7 @@ stream-node-there plan s lt =
 -- ---- one turn
 
 module _ (sweeps : Bool) (plan : List Node) (r : Reached) (sent : ℕ → List Element) (t : Turn) (i : IsReady sweeps plan r sent) (lt : t.stream < length (streams_of plan))
-    (clear : IsClearOf (sent t.stream) t.element) (fit : FitsKinds (kinds_of (schema_at plan t.stream)) t.element)
+    (clear : IsClearOf (sent t.stream) t.element) (fit : FitsDomains (domains_of (schema_at plan t.stream)) t.element)
     (mark : (t.closing ≡ 0) ⊎ ((t.closing ≡ 1) × (t.element ≡ Punct (all_wild (length (schema_at plan t.stream))))))
     (open' : has r.closed t.stream ≡ false) where
   node-same : (s : ℕ) → stream_node r.nodes s ≡ stream_node plan s

@@ -1,8 +1,8 @@
 -- A run on one thread over accepted elements.
 use Rattle.std.proofs.Common.{Bool, ℕ, zero, suc, ◌+◌, ◌-◌, ◌<◌, true, false, List, [], ◌∷◌, ◌++◌, ◌≡◌, map, length, get_or, refl, sym, ap, ap₂, ◌∙◌, subst, inl, inr, eqb, arith, append_assoc, append-nil}
 use Rattle.pj_value.proofs.Members.{In-append_right, In-filter}
-use Rattle.pj_shape.specs.Columns.{kinds_of}
-use Rattle.pj_pattern.specs.Fitting.{FitsKinds, punct_fits}
+use Rattle.pj_shape.specs.Columns.{domains_of}
+use Rattle.pj_pattern.specs.Fitting.{FitsDomains, punct_fits}
 use Rattle.std.proofs.lemmas.Bool.{false≢true}
 use Rattle.pj_value.specs.declared.values.Value.{Value}
 use Rattle.pj_shape.specs.declared.columns.Column.{Column}
@@ -18,7 +18,7 @@ use Rattle.pj_laws.specs.HistoryLaws.{AllAreCertified, Certified, HasNoGroup, sc
 use Rattle.pj_pattern.specs.Elements.{IsLawful}
 use Rattle.pj_pattern.proofs.Lawful.{none_at}
 use Rattle.pj_pattern.proofs.Fitting.{wild_fits}
-use Rattle.pj_shape.proofs.KindsOf.{kinds_length}
+use Rattle.pj_shape.proofs.DomainsOf.{domains_length}
 use Rattle.pj_pattern.proofs.Elements.{rows_of-append}
 use Rattle.pj_laws.proofs.Histories.{reached-nodes, nodes-append}
 use Rattle.pj_laws.proofs.Rounds.{mine, mine-in_rounds, in_rounds-below, all-tagged, length-all, all-at}
@@ -41,10 +41,10 @@ clear-of sent es (Tuple row) l = go sent l
     go (Punct ps ∷ sent) l patterns (inr h) = go sent l.1 patterns h
 
 -- a punctuation of wildcards alone fits
-pub wilds-fit : (schema : List Column) → punct_fits (kinds_of schema) (all_wild (length schema)) ≡ true
-wilds-fit schema = subst (λ (n : ℕ). punct_fits (kinds_of schema) (all_wild n) ≡ true) (kinds_length schema) (wild_fits (kinds_of schema))
+pub wilds-fit : (schema : List Column) → punct_fits (domains_of schema) (all_wild (length schema)) ≡ true
+wilds-fit schema = subst (λ (n : ℕ). punct_fits (domains_of schema) (all_wild n) ≡ true) (domains_length schema) (wild_fits (domains_of schema))
 
-turns-fit : (s : ℕ) (schema : List Column) (sent es : List Element) → IsLawful (sent ++ es) → ((e : Element) → In e es → FitsKinds (kinds_of schema) e) → FitsFrom schema sent (turns_of s schema es)
+turns-fit : (s : ℕ) (schema : List Column) (sent es : List Element) → IsLawful (sent ++ es) → ((e : Element) → In e es → FitsDomains (domains_of schema) e) → FitsFrom schema sent (turns_of s schema es)
 turns-fit s schema sent [] l f = (tt, wilds-fit schema, inr (refl, refl, refl), tt)
 turns-fit s schema sent (e ∷ es) l f = (
   clear-of sent es e l,

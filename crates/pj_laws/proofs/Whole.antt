@@ -1,11 +1,11 @@
 -- No place of a plan hands up a row that matches_row a punctuation that it handed up before.
 use Rattle.std.proofs.Common.{ℕ, ◌+◌, ◌<◌, ◌≤◌, Bool, true, false, cond, not, List, [], ◌∷◌, ◌++◌, ◌≡◌, map, filter, flat_map, length, get_or, sum, refl, sym, ap, ap₂, ◌∙◌, subst, inl, inr, eqb, arith, append_assoc, append-nil, length-append}
 use Rattle.pj_pattern.proofs.Fitting.{row_length, punct_length}
-use Rattle.pj_shape.proofs.KindsOf.{kinds_length}
+use Rattle.pj_shape.proofs.DomainsOf.{domains_length}
 use Rattle.pj_pattern.proofs.Lawful.{lawful_append}
 use Rattle.pj_value.proofs.Members.{In-append_cases, In-filter, In-map, In-flat_map, in-place, map-at}
-use Rattle.pj_shape.specs.Columns.{kinds_of}
-use Rattle.pj_pattern.specs.Fitting.{FitsKinds}
+use Rattle.pj_shape.specs.Columns.{domains_of}
+use Rattle.pj_pattern.specs.Fitting.{FitsDomains}
 use Rattle.std.proofs.lemmas.Bool.{eqb-true, eq-eqb, cases_eq}
 use Rattle.std.proofs.lemmas.List.{length-map, length_push, get_or_append_left, get_or_at}
 use Rattle.pj_shape.specs.declared.columns.Column.{Column}
@@ -25,7 +25,7 @@ use Rattle.pj_laws.proofs.UnionsAndGroups.{union-lawful, group_all, group-hands,
 -- ---- what a operator may do by itself
 
 abbrev pub IsLocalAllowed : Operator → Local → Type 0
-IsLocalAllowed (Stream schema sent) (Fed e) = IsClearOf sent e × FitsKinds (kinds_of schema) e
+IsLocalAllowed (Stream schema sent) (Fed e) = IsClearOf sent e × FitsDomains (domains_of schema) e
 IsLocalAllowed (Stream schema sent) (Comes k e) = Unit {0}
 IsLocalAllowed (Stream schema sent) (Own s) = Unit {0}
 IsLocalAllowed (Select test) l = Unit {0}
@@ -155,9 +155,9 @@ pub clear-lawful : (sent : List Element) (e : Element) → IsLawful sent → IsC
 clear-lawful sent (Tuple row) l c = lawful_append sent (Tuple row ∷ []) l tt (λ ps h. (c ps h, tt))
 clear-lawful sent (Punct patterns) l c = lawful_append sent (Punct patterns ∷ []) l (tt, tt) (λ ps h. tt)
 
-pub fits-length : (schema : List Column) (e : Element) → FitsKinds (kinds_of schema) e → Fits (length schema) e
-fits-length schema (Tuple row) f = row_length (kinds_of schema) row f ∙ kinds_length schema
-fits-length schema (Punct ps) f = punct_length (kinds_of schema) ps f ∙ kinds_length schema
+pub fits-length : (schema : List Column) (e : Element) → FitsDomains (domains_of schema) e → Fits (length schema) e
+fits-length schema (Tuple row) f = row_length (domains_of schema) row f ∙ domains_length schema
+fits-length schema (Punct ps) f = punct_length (domains_of schema) ps f ∙ domains_length schema
 
 stream-good : (schema : List Column) (sent : List Element) (ls : List Local) → IsLawful sent → AreLocalsAllowed (Stream schema sent) ls → IsLawful (sent ++ hands_all (Stream schema sent) ls) × AllFit (length schema) (hands_all (Stream schema sent) ls)
 stream-good schema sent [] l a = (subst IsLawful (sym (append-nil sent)) l, λ e h. absurd h)

@@ -1,7 +1,7 @@
 -- What holds of every legal history of a plan.
 use Rattle.std.specs.Prelude.{ℕ, ◌<◌, ◌≡◌, Bool, true, false, List, [], ◌∷◌, ◌++◌, map, length, max, slice_index_or, ◌↔◌, Some, None}
-use Rattle.pj_shape.specs.Columns.{kinds_of}
-use Rattle.pj_pattern.specs.Fitting.{FitsKinds}
+use Rattle.pj_shape.specs.Columns.{domains_of}
+use Rattle.pj_pattern.specs.Fitting.{FitsDomains}
 use Rattle.pj_pattern.specs.Elements.{IsLawful}
 use Rattle.pj_value.specs.Bags.{SameBag, SubBag}
 use Rattle.pj_value.specs.declared.values.Value.{Value}
@@ -78,7 +78,7 @@ DrainsHandOutAll plan =
 
 -- the elements fit the columns, and no tuple matches a punctuation before it
 abbrev pub AreAccepted : List Column → List Element → Type 0
-AreAccepted schema es = ((e : Element) → In e es → FitsKinds (kinds_of schema) e) × IsLawful es
+AreAccepted schema es = ((e : Element) → In e es → FitsDomains (domains_of schema) e) × IsLawful es
 
 -- the columns of a stream of the plan
 abbrev pub schema_at : List Node → ℕ → List Column

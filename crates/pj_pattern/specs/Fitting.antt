@@ -1,26 +1,29 @@
--- What fits columns of some kinds.
+-- What fits columns.
 use Rattle.std.specs.Prelude.{◌≡◌, Bool, true, false, ◌&&◌, List, [], ◌∷◌}
-use Rattle.pj_value.specs.declared.values.Kind.{Kind}
 use Rattle.pj_value.specs.declared.values.Value.{Value}
-use Rattle.pj_value.specs.Values.{is_kind}
+use Rattle.pj_value.specs.Values.{Domain, value_fits}
 use Rattle.pj_pattern.specs.declared.element.Element.{Element}
 use Rattle.pj_pattern.specs.declared.element.Element.TheVariants.{Tuple, Punct}
 use Rattle.pj_pattern.specs.Patterns.{Pattern, is_of_kind}
 
--- a value for each column, and of its kind
-abbrev pub row_fits : List Kind → List Value → Bool
+-- the values in the pattern fit the column
+abbrev pub pattern_fits : Domain → Pattern → Bool
+pattern_fits domain p = is_of_kind domain p
+
+-- a value for each column, which fits it
+abbrev pub row_fits : List Domain → List Value → Bool
 row_fits [] [] = true
 row_fits [] (v ∷ vs) = false
-row_fits (k ∷ ks) [] = false
-row_fits (k ∷ ks) (v ∷ vs) = is_kind k v && row_fits ks vs
+row_fits (d ∷ ds) [] = false
+row_fits (d ∷ ds) (v ∷ vs) = value_fits d v && row_fits ds vs
 
--- a pattern for each column, with values of its kind alone
-abbrev pub punct_fits : List Kind → List Pattern → Bool
+-- a pattern for each column, whose values fit it
+abbrev pub punct_fits : List Domain → List Pattern → Bool
 punct_fits [] [] = true
 punct_fits [] (p ∷ ps) = false
-punct_fits (k ∷ ks) [] = false
-punct_fits (k ∷ ks) (p ∷ ps) = is_of_kind k p && punct_fits ks ps
+punct_fits (d ∷ ds) [] = false
+punct_fits (d ∷ ds) (p ∷ ps) = pattern_fits d p && punct_fits ds ps
 
-abbrev pub FitsKinds : List Kind → Element → Type 0
-FitsKinds kinds (Tuple row) = row_fits kinds row ≡ true
-FitsKinds kinds (Punct punct) = punct_fits kinds punct ≡ true
+abbrev pub FitsDomains : List Domain → Element → Type 0
+FitsDomains domains (Tuple row) = row_fits domains row ≡ true
+FitsDomains domains (Punct punct) = punct_fits domains punct ≡ true

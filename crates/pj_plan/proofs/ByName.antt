@@ -11,7 +11,7 @@ use Rattle.pj_plan.specs.Words.{is_among, repeats}
 use Rattle.pj_plan.specs.Made.{number_of, schema_of, column_number, column_kind}
 use Rattle.pj_plan.specs.Canonical.{no_node, node_name, node_schema, column_name}
 use Rattle.pj_plan.specs.Faults.{has_column, share_a_name, is_known}
-use Rattle.pj_plan.specs.Sound.{AreDistinct, name_of, kind_at}
+use Rattle.pj_plan.specs.Sound.{AreDistinct, name_of, domain_at}
 use Rattle.pj_plan.proofs.Lists.{same_bytes, repeats_distinct, distinct_repeats}
 
 -- ---- columns
@@ -52,11 +52,11 @@ number_name (c ∷ cs) name t = go (bytes_eq name c.name) refl t (number_name cs
     go false e t ih = ih t
 
 -- the kind by the name is that by the number
-pub number_kind : (columns : List Column) (name : List ℕ) → kind_at columns (column_number columns name) ≡ column_kind columns name
+pub number_kind : (columns : List Column) (name : List ℕ) → domain_at columns (column_number columns name) ≡ column_kind columns name
 number_kind [] name = refl
 number_kind (c ∷ cs) name = go (bytes_eq name c.name) (number_kind cs name)
   where
-    go : (b : Bool) → kind_at cs (column_number cs name) ≡ column_kind cs name → kind_at (c ∷ cs) (cond b 0 (suc (column_number cs name))) ≡ cond b c.kind (column_kind cs name)
+    go : (b : Bool) → domain_at cs (column_number cs name) ≡ column_kind cs name → domain_at (c ∷ cs) (cond b 0 (suc (column_number cs name))) ≡ cond b c.kind (column_kind cs name)
     go true ih = refl
     go false ih = ih
 

@@ -9,7 +9,7 @@ use Rattle.pj_plan.specs.declared.node.PlanNode.{PlanNode}
 use Rattle.pj_plan.specs.Made.{number_of, schema_of, columns_of, first_schema, column_number, column_kind}
 use Rattle.pj_plan.specs.Canonical.{no_column, no_node, node_name, node_schema, column_name}
 use Rattle.pj_plan.specs.Faults.{has_column, is_known}
-use Rattle.pj_plan.specs.Sound.{AreDistinct, name_of, name_of_node, kind_at, columns_of_first}
+use Rattle.pj_plan.specs.Sound.{AreDistinct, name_of, name_of_node, domain_at, columns_of_first}
 use Rattle.pj_plan.proofs.Lists.{same_bytes}
 use Rattle.pj_plan.proofs.ByName.{there_column, number_kind, number_schema}
 
@@ -26,8 +26,8 @@ name_number (c ∷ cs) (suc i) d lt =
     ap (λ (b : Bool). cond b 0 (suc (column_number cs (column_name cs i)))) (other_bytes (column_name cs i) c.name (λ e. d.0 (subst (λ (n : List ℕ). In n (map name_of cs)) e (In-map_from name_of (get_or cs i no_column) cs (in-place cs no_column i below)))))
     ∙ ap suc (name_number cs i d.1 below)
 
-pub name_kind : (columns : List Column) (i : ℕ) → AreDistinct (map name_of columns) → i < length columns → column_kind columns (column_name columns i) ≡ kind_at columns i
-name_kind columns i d lt = sym (number_kind columns (column_name columns i)) ∙ ap (kind_at columns) (name_number columns i d lt)
+pub name_kind : (columns : List Column) (i : ℕ) → AreDistinct (map name_of columns) → i < length columns → column_kind columns (column_name columns i) ≡ domain_at columns i
+name_kind columns i d lt = sym (number_kind columns (column_name columns i)) ∙ ap (domain_at columns) (name_number columns i d lt)
 
 -- ---- nodes
 

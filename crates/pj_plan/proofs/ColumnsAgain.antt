@@ -3,41 +3,41 @@ use Rattle.std.proofs.Common.{ℕ, zero, suc, ◌<◌, ◌≡◌, length, false,
 use Rattle.std.proofs.Math.Seq.{drop-append_seam}
 use Rattle.std.proofs.lemmas.List.{length-map}
 use Rattle.pj_value.specs.Lists.{In}
-use Rattle.pj_value.specs.declared.values.Kind.{Kind}
 use Rattle.pj_value.specs.declared.values.Kind.TheVariants.{Text}
+use Rattle.pj_value.specs.Values.{Domain}
 use Rattle.pj_shape.specs.declared.columns.Column.{Column}
 use Rattle.pj_shape.specs.declared.groups.Agg.{Agg}
 use Rattle.pj_shape.specs.declared.groups.Agg.TheVariants.{Count as CountAgg, Sum as SumAgg, Min as MinAgg, Max as MaxAgg}
-use Rattle.pj_shape.specs.Columns.{kinds_of}
+use Rattle.pj_shape.specs.Columns.{domains_of}
 use Rattle.pj_plan.specs.declared.statement.Renamed.{Renamed}
 use Rattle.pj_plan.specs.declared.statement.NamedAgg.{NamedAgg}
 use Rattle.pj_plan.specs.Words.{agg_columns}
 use Rattle.pj_plan.specs.Made.{column_number, column_kind, renamed_column, key_column, agg_column, agg_kind, old_number, agg_of, named_agg}
 use Rattle.pj_plan.specs.Canonical.{column_name, renamed_of, agg_word, aggs_of}
 use Rattle.pj_plan.specs.Faults.{kind_eq, sums_text}
-use Rattle.pj_plan.specs.Sound.{AreDistinct, name_of, kind_at, column_at, IsSoundAgg, agg_kind_at}
+use Rattle.pj_plan.specs.Sound.{AreDistinct, name_of, domain_at, column_at, IsSoundAgg, agg_domain_at}
 use Rattle.pj_plan.proofs.ByNumber.{name_number, name_kind}
 use Rattle.pj_plan.proofs.Operators.{column_from}
 
 -- ---- a project
 
-pub renamed_again : (columns schema : List Column) (numbers : List ℕ) → AreDistinct (map name_of columns) → ((n : ℕ) → In n numbers → n < length columns) → kinds_of schema ≡ map (kind_at columns) numbers
+pub renamed_again : (columns schema : List Column) (numbers : List ℕ) → AreDistinct (map name_of columns) → ((n : ℕ) → In n numbers → n < length columns) → domains_of schema ≡ map (domain_at columns) numbers
     → map (renamed_column columns) (renamed_of schema columns numbers) ≡ schema
 renamed_again columns [] numbers d there e = refl
 renamed_again columns (s ∷ ss) [] d there e = absurd cc
 renamed_again columns (s ∷ ss) (n ∷ ns) d there e =
-    let kind : s.kind ≡ kind_at columns n = cc in
-    let rest : kinds_of ss ≡ map (kind_at columns) ns = cc in
+    let kind : s.kind ≡ domain_at columns n = cc in
+    let rest : domains_of ss ≡ map (domain_at columns) ns = cc in
     ap (λ (c : Column). c ∷ map (renamed_column columns) (renamed_of ss columns ns)) (column_from s.name (column_kind columns (column_name columns n)) s refl (kind ∙ sym (name_kind columns n d (there n (inl refl)))))
     ∙ ap (λ (cs : List Column). s ∷ cs) (renamed_again columns ss ns d (λ k h. there k (inr h)) rest)
 
-pub numbers_again : (columns schema : List Column) (numbers : List ℕ) → AreDistinct (map name_of columns) → ((n : ℕ) → In n numbers → n < length columns) → kinds_of schema ≡ map (kind_at columns) numbers
+pub numbers_again : (columns schema : List Column) (numbers : List ℕ) → AreDistinct (map name_of columns) → ((n : ℕ) → In n numbers → n < length columns) → domains_of schema ≡ map (domain_at columns) numbers
     → map (old_number columns) (renamed_of schema columns numbers) ≡ numbers
 numbers_again columns [] [] d there e = refl
 numbers_again columns [] (n ∷ ns) d there e = absurd cc
 numbers_again columns (s ∷ ss) [] d there e = absurd cc
 numbers_again columns (s ∷ ss) (n ∷ ns) d there e =
-    let rest : kinds_of ss ≡ map (kind_at columns) ns = cc in
+    let rest : domains_of ss ≡ map (domain_at columns) ns = cc in
     ap (λ (k : ℕ). k ∷ map (old_number columns) (renamed_of ss columns ns)) (name_number columns n d (there n (inl refl)))
     ∙ ap (λ (ks : List ℕ). n ∷ ks) (numbers_again columns ss ns d (λ k h. there k (inr h)) rest)
 
@@ -69,29 +69,29 @@ agg_again columns (SumAgg column) d sound = ap SumAgg (name_number columns colum
 agg_again columns (MinAgg column) d sound = ap MinAgg (name_number columns column d sound)
 agg_again columns (MaxAgg column) d sound = ap MaxAgg (name_number columns column d sound)
 
-agg_kind_again : (columns : List Column) (agg : Agg) → AreDistinct (map name_of columns) → IsSoundAgg columns agg → agg_kind columns (agg_word columns agg) ≡ agg_kind_at columns agg
+agg_kind_again : (columns : List Column) (agg : Agg) → AreDistinct (map name_of columns) → IsSoundAgg columns agg → agg_kind columns (agg_word columns agg) ≡ agg_domain_at columns agg
 agg_kind_again columns CountAgg d sound = refl
 agg_kind_again columns (SumAgg column) d sound = refl
 agg_kind_again columns (MinAgg column) d sound = name_kind columns column d sound
 agg_kind_again columns (MaxAgg column) d sound = name_kind columns column d sound
 
-pub aggs_again : (columns news : List Column) (aggs : List Agg) → AreDistinct (map name_of columns) → ((agg : Agg) → In agg aggs → IsSoundAgg columns agg) → kinds_of news ≡ map (agg_kind_at columns) aggs
+pub aggs_again : (columns news : List Column) (aggs : List Agg) → AreDistinct (map name_of columns) → ((agg : Agg) → In agg aggs → IsSoundAgg columns agg) → domains_of news ≡ map (agg_domain_at columns) aggs
     → map (named_agg columns) (aggs_of news columns aggs) ≡ aggs
 aggs_again columns [] [] d sound e = refl
 aggs_again columns [] (a ∷ rest) d sound e = absurd cc
 aggs_again columns (n ∷ ns) [] d sound e = absurd cc
 aggs_again columns (n ∷ ns) (a ∷ rest) d sound e =
-    let kinds : kinds_of ns ≡ map (agg_kind_at columns) rest = cc in
+    let kinds : domains_of ns ≡ map (agg_domain_at columns) rest = cc in
     ap (λ (x : Agg). x ∷ map (named_agg columns) (aggs_of ns columns rest)) (agg_again columns a d (sound a (inl refl)))
     ∙ ap (λ (xs : List Agg). a ∷ xs) (aggs_again columns ns rest d (λ x h. sound x (inr h)) kinds)
 
-pub agg_columns_again : (columns news : List Column) (aggs : List Agg) → AreDistinct (map name_of columns) → ((agg : Agg) → In agg aggs → IsSoundAgg columns agg) → kinds_of news ≡ map (agg_kind_at columns) aggs
+pub agg_columns_again : (columns news : List Column) (aggs : List Agg) → AreDistinct (map name_of columns) → ((agg : Agg) → In agg aggs → IsSoundAgg columns agg) → domains_of news ≡ map (agg_domain_at columns) aggs
     → map (agg_column columns) (aggs_of news columns aggs) ≡ news
 agg_columns_again columns [] aggs d sound e = refl
 agg_columns_again columns (n ∷ ns) [] d sound e = absurd cc
 agg_columns_again columns (n ∷ ns) (a ∷ rest) d sound e =
-    let kind : n.kind ≡ agg_kind_at columns a = cc in
-    let kinds : kinds_of ns ≡ map (agg_kind_at columns) rest = cc in
+    let kind : n.kind ≡ agg_domain_at columns a = cc in
+    let kinds : domains_of ns ≡ map (agg_domain_at columns) rest = cc in
     ap (λ (c : Column). c ∷ map (agg_column columns) (aggs_of ns columns rest)) (column_from n.name (agg_kind columns (agg_word columns a)) n refl (kind ∙ sym (agg_kind_again columns a d (sound a (inl refl)))))
     ∙ ap (λ (cs : List Column). n ∷ cs) (agg_columns_again columns ns rest d (λ x h. sound x (inr h)) kinds)
 
@@ -119,12 +119,12 @@ sums_no_text columns (MaxAgg column) d sound = refl
 
 -- ---- the two parts of a group's columns
 
-pub kinds_drop : (n : ℕ) (columns : List Column) → kinds_of (drop n columns) ≡ drop n (kinds_of columns)
-kinds_drop zero columns = refl
-kinds_drop (suc n) [] = refl
-kinds_drop (suc n) (c ∷ cs) = kinds_drop n cs
+pub domains_drop : (n : ℕ) (columns : List Column) → domains_of (drop n columns) ≡ drop n (domains_of columns)
+domains_drop zero columns = refl
+domains_drop (suc n) [] = refl
+domains_drop (suc n) (c ∷ cs) = domains_drop n cs
 
-pub kinds_behind : (columns schema : List Column) (keys : List ℕ) (kinds : List Kind) → kinds_of schema ≡ map (kind_at columns) keys ++ kinds → kinds_of (drop (length keys) schema) ≡ kinds
-kinds_behind columns schema keys kinds e =
-    kinds_drop (length keys) schema ∙ ap (drop (length keys)) e ∙ ap (λ (n : ℕ). drop n (map (kind_at columns) keys ++ kinds)) (sym (length-map keys (kind_at columns)))
-    ∙ drop-append_seam (map (kind_at columns) keys) kinds
+pub domains_behind : (columns schema : List Column) (keys : List ℕ) (kinds : List Domain) → domains_of schema ≡ map (domain_at columns) keys ++ kinds → domains_of (drop (length keys) schema) ≡ kinds
+domains_behind columns schema keys kinds e =
+    domains_drop (length keys) schema ∙ ap (drop (length keys)) e ∙ ap (λ (n : ℕ). drop n (map (domain_at columns) keys ++ kinds)) (sym (length-map keys (domain_at columns)))
+    ∙ drop-append_seam (map (domain_at columns) keys) kinds

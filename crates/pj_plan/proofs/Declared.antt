@@ -8,7 +8,7 @@ use Rattle.pj_value.specs.Lists.{In}
 use Rattle.pj_value.proofs.Members.{In-append_left, In-append_right, In-map, In-map_from, In-flat_map_from, all_at, none_at}
 use Rattle.pj_shape.specs.declared.columns.Column.{Column}
 use Rattle.pj_shape.specs.declared.groups.GroupSpec.{GroupSpec}
-use Rattle.pj_shape.specs.Columns.{kinds_of}
+use Rattle.pj_shape.specs.Columns.{domains_of}
 use Rattle.pj_plan.specs.declared.node.Node.TheVariants.{Project as ProjectNode, Group as GroupNode}
 use Rattle.pj_plan.specs.declared.node.PlanNode.{PlanNode}
 use Rattle.pj_plan.specs.declared.node.Draft.{Draft}
@@ -24,11 +24,11 @@ use Rattle.pj_plan.specs.Nodes.{inputs_of, is_stream}
 use Rattle.pj_plan.specs.Made.{number_of, schema_of, first_schema, columns_of, result_schema, node_of, old_number, renamed_column, group_schema, key_column, agg_column, column_number, stream_column}
 use Rattle.pj_plan.specs.Canonical.{node_schema}
 use Rattle.pj_plan.specs.Faults.{is_known, has_column, are_alike, is_unlike, has_two_kinds, has_one_input_twice, share_a_column, is_too_wide, stream_count}
-use Rattle.pj_plan.specs.Sound.{AreDistinct, name_of, kind_at, column_at, columns_of_first, group_kinds, IsSoundSchema, IsSoundGroup, IsSoundOperator, IsSoundNode}
+use Rattle.pj_plan.specs.Sound.{AreDistinct, name_of, domain_at, column_at, columns_of_first, group_domains, IsSoundSchema, IsSoundGroup, IsSoundOperator, IsSoundNode}
 use Rattle.pj_plan.proofs.Lists.{classes_distinct, distinct_left, distinct_right}
 use Rattle.pj_plan.proofs.ByName.{names_differ, number_schema}
 use Rattle.pj_plan.proofs.Classes.{joined, IsGoodClass}
-use Rattle.pj_plan.proofs.Operators.{test_fits, project_kinds, project_there, alike_kinds, IsGoodJoin, sound_spec, IsGoodGroup, group_of, sound_group, kinds_of_group, keys_first}
+use Rattle.pj_plan.proofs.Operators.{test_fits, project_domains, project_there, alike_domains, IsGoodJoin, sound_spec, IsGoodGroup, group_of, sound_group, domains_of_group, keys_first}
 use Rattle.pj_plan.proofs.NoFaults.{HasNone, AreFree, name_known, inputs_free, known_schema, column_known, has_room}
 
 -- the node suits those before it
@@ -92,9 +92,9 @@ columns_of_one nodes input = append-nil (schema_of nodes input)
 project_suits : (nodes : List PlanNode) (input : List ℕ) (columns : List Renamed) → ((w : Renamed) → In w columns → has_column (schema_of nodes input) w.old ≡ true)
     → IsSoundOperator nodes (map (renamed_column (schema_of nodes input)) columns) (ProjectNode (number_of nodes input) (map (old_number (schema_of nodes input)) columns))
 project_suits nodes input columns known =
-    subst (λ (cs : List Column). ((column : ℕ) → In column (map (old_number (schema_of nodes input)) columns) → column < length cs) × (kinds_of (map (renamed_column (schema_of nodes input)) columns) ≡ map (kind_at cs) (map (old_number (schema_of nodes input)) columns)))
+    subst (λ (cs : List Column). ((column : ℕ) → In column (map (old_number (schema_of nodes input)) columns) → column < length cs) × (domains_of (map (renamed_column (schema_of nodes input)) columns) ≡ map (domain_at cs) (map (old_number (schema_of nodes input)) columns)))
     (sym (number_schema nodes input))
-    (project_there (schema_of nodes input) columns known, project_kinds (schema_of nodes input) columns)
+    (project_there (schema_of nodes input) columns known, project_domains (schema_of nodes input) columns)
 
 pub project_good : (draft : Draft) (name input : List ℕ) (columns : List Renamed) → is_spelled (Project name input columns) ≡ true → HasNone draft (Project name input columns) → IsGoodNode draft.nodes (node_of draft name (Project name input columns))
 project_good draft name input columns spelled none =
@@ -143,7 +143,7 @@ union_good draft name inputs spelled each none =
         rw (length-map inputs (number_of nodes)) few,
         first_input nodes inputs,
         (λ m h. let r = In-map (number_of nodes) m inputs h in
-            ap (λ (k : ℕ). kinds_of (node_schema nodes k)) (sym r.2) ∙ ap kinds_of (number_schema nodes r.0) ∙ sym (alike_kinds (first_schema nodes inputs) (schema_of nodes r.0) (alike r.0 r.1))),
+            ap (λ (k : ℕ). domains_of (node_schema nodes k)) (sym r.2) ∙ ap domains_of (number_schema nodes r.0) ∙ sym (alike_domains (first_schema nodes inputs) (schema_of nodes r.0) (alike r.0 r.1))),
       );
     }
 
@@ -243,9 +243,9 @@ group_suits nodes input keys aggs good =
     let spec : GroupSpec = group_of columns keys aggs in
     let first : take (length spec.keys) (group_schema columns keys aggs) ≡ map (column_at columns) spec.keys =
     rw (length-map keys (column_number columns)) (keys_first columns keys (map (agg_column columns) aggs) good.known_keys) in
-    subst (λ (cs : List Column). IsSoundGroup cs spec × (take (length spec.keys) (group_schema columns keys aggs) ≡ map (column_at cs) spec.keys) × (kinds_of (group_schema columns keys aggs) ≡ group_kinds cs spec))
+    subst (λ (cs : List Column). IsSoundGroup cs spec × (take (length spec.keys) (group_schema columns keys aggs) ≡ map (column_at cs) spec.keys) × (domains_of (group_schema columns keys aggs) ≡ group_domains cs spec))
     (sym (number_schema nodes input))
-    (sound_group columns keys aggs good, first, kinds_of_group columns keys aggs)
+    (sound_group columns keys aggs good, first, domains_of_group columns keys aggs)
 
 pub group_good : (draft : Draft) (name input : List ℕ) (keys : List (List ℕ)) (aggs : List NamedAgg) → is_spelled (Group name input keys aggs) ≡ true → HasNone draft (Group name input keys aggs) → IsGoodNode draft.nodes (node_of draft name (Group name input keys aggs))
 group_good draft name input keys aggs spelled none =

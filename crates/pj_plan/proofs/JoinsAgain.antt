@@ -10,7 +10,7 @@ use Rattle.pj_shape.specs.declared.joins.ClassCol.{ClassCol}
 use Rattle.pj_shape.specs.declared.joins.JoinSpec.{JoinSpec}
 use Rattle.pj_shape.specs.declared.groups.Agg.{Agg}
 use Rattle.pj_shape.specs.declared.groups.GroupSpec.{GroupSpec}
-use Rattle.pj_shape.specs.Columns.{kinds_of}
+use Rattle.pj_shape.specs.Columns.{domains_of}
 use Rattle.pj_plan.specs.declared.node.Node.TheVariants.{Join as JoinNode, Group as GroupNode}
 use Rattle.pj_plan.specs.declared.node.PlanNode.{PlanNode}
 use Rattle.pj_plan.specs.declared.statement.Statement.{Statement}
@@ -20,7 +20,7 @@ use Rattle.pj_plan.specs.Words.{agg_columns}
 use Rattle.pj_plan.specs.Made.{number_of, schema_of, columns_of, agg_column, group_schema, named_agg, result_schema}
 use Rattle.pj_plan.specs.Canonical.{node_name, node_schema, column_name, class_words, aggs_of}
 use Rattle.pj_plan.specs.Faults.{has_column, has_no_column, has_two_kinds, has_one_input_twice, share_a_column, names_text_sum, is_too_wide}
-use Rattle.pj_plan.specs.Sound.{AreDistinct, name_of, agg_kind_at, IsSoundAgg}
+use Rattle.pj_plan.specs.Sound.{AreDistinct, name_of, agg_domain_at, IsSoundAgg}
 use Rattle.pj_plan.proofs.Lists.{distinct_classes}
 use Rattle.pj_plan.proofs.ByNumber.{named_there, node_number, name_schema, numbers_again, schemas_again, columns_again}
 use Rattle.pj_plan.proofs.Classes.{joined}
@@ -28,7 +28,7 @@ use Rattle.pj_plan.proofs.Declared.{columns_of_one, columns_joined}
 use Rattle.pj_plan.proofs.Operators.{spec_of, group_of}
 use Rattle.pj_plan.proofs.Reaches.{without_fault}
 use Rattle.pj_plan.proofs.ClassesAgain.{words_known, words_one_kind, words_once, words_apart, classes_again}
-use Rattle.pj_plan.proofs.ColumnsAgain.{keys_again, key_columns_again, aggs_again, agg_columns_again, agg_is, agg_known, sums_no_text, kinds_behind}
+use Rattle.pj_plan.proofs.ColumnsAgain.{keys_again, key_columns_again, aggs_again, agg_columns_again, agg_is, agg_known, sums_no_text, domains_behind}
 use Rattle.pj_plan.proofs.Redeclared.{plan_node, draft_of, IsNext, Makes, node_same, inputs_by_name, no_unknown, fits_width, all_differ}
 
 -- ---- a join
@@ -111,7 +111,7 @@ group_again front name schema input spec next =
     let same : schema_of front (node_name front input) ≡ columns = name_schema front input next.names below in
     let whole : columns_of front (node_name front input ∷ []) ≡ columns = columns_of_one front (node_name front input) ∙ same in
     let differ : AreDistinct (map name_of columns) = (next.each input below).schema.names in
-    let behind : kinds_of news ≡ map (agg_kind_at columns) spec.aggs = kinds_behind columns schema spec.keys (map (agg_kind_at columns) spec.aggs) good.operator.2 in
+    let behind : domains_of news ≡ map (agg_domain_at columns) spec.aggs = domains_behind columns schema spec.keys (map (agg_domain_at columns) spec.aggs) good.operator.2 in
     let known : list_any (has_no_column columns) (keys ++ flat_map (λ agg. agg_columns agg.agg) aggs) ≡ false =
     no_unknown columns (keys ++ flat_map (λ agg. agg_columns agg.agg) aggs) (group_words_known columns news spec sound.keys_there sound.sound_aggs) in
     let sums : list_any (names_text_sum columns) aggs ≡ false = none_from (names_text_sum columns) aggs (λ w h. let q = agg_is columns news spec.aggs w h in

@@ -9,10 +9,11 @@ use Rattle.pj_value.specs.declared.values.Kind.{Kind}
 use Rattle.pj_value.specs.declared.values.Kind.TheVariants.{Int, Text}
 use Rattle.pj_value.proofs.Members.{In-map, none_at}
 use Rattle.pj_value.proofs.Bytes.{bytes_same}
+use Rattle.pj_value.specs.Values.{Domain}
 use Rattle.pj_shape.specs.declared.columns.Column.{Column}
 use Rattle.pj_shape.specs.declared.joins.JoinSpec.{JoinSpec}
 use Rattle.pj_shape.specs.declared.groups.GroupSpec.{GroupSpec}
-use Rattle.pj_shape.specs.Columns.{kinds_of}
+use Rattle.pj_shape.specs.Columns.{domains_of}
 use Rattle.pj_shape.specs.Sound.{IsSoundSpec, IsSoundClass, arities_of}
 use Rattle.pj_pattern.specs.declared.pattern.Form.{Form}
 use Rattle.pj_pattern.specs.declared.pattern.Form.TheVariants.{Wild}
@@ -30,7 +31,7 @@ use Rattle.pj_plan.specs.Words.{agg_columns}
 use Rattle.pj_plan.specs.Made.{column_kind, column_number, renamed_column, key_column, agg_column, agg_kind, group_schema, test_pattern, met_with, column_test, old_number, agg_of, named_agg, class_of}
 use Rattle.pj_plan.specs.Canonical.{column_name}
 use Rattle.pj_plan.specs.Faults.{has_column, kind_eq, are_alike, misses_kind, misses_its_kind, sums_text, names_text_sum}
-use Rattle.pj_plan.specs.Sound.{AreDistinct, name_of, kind_at, column_at, IsSoundAgg, IsSoundGroup, agg_kind_at, group_kinds}
+use Rattle.pj_plan.specs.Sound.{AreDistinct, name_of, domain_at, column_at, IsSoundAgg, IsSoundGroup, agg_domain_at, group_domains}
 use Rattle.pj_plan.proofs.Lists.{distinct_left}
 use Rattle.pj_plan.proofs.ByName.{number_there, number_name, number_kind, kind_of_column}
 use Rattle.pj_plan.proofs.Classes.{joined, IsGoodClass, sound_class, classes_apart}
@@ -55,22 +56,22 @@ met_of_kind columns column d h (word ∷ words) pattern fits k = go (bytes_eq co
         ih (meet_of pattern (test_pattern word.test)) (meet_kind column.kind pattern (test_pattern word.test) k (pattern_kind column.kind word.test one))
     go false e ih = ih pattern k
 
-punct_fits_each : (columns : List Column) (f : Column → Form) → ((c : Column) → In c columns → is_of_kind c.kind (f c) ≡ true) → punct_fits (kinds_of columns) (map f columns) ≡ true
+punct_fits_each : (columns : List Column) (f : Column → Form) → ((c : Column) → In c columns → is_of_kind c.kind (f c) ≡ true) → punct_fits (domains_of columns) (map f columns) ≡ true
 punct_fits_each [] f each = refl
-punct_fits_each (c ∷ cs) f each = and_from (is_of_kind c.kind (f c)) (punct_fits (kinds_of cs) (map f cs)) (each c (inl refl)) (punct_fits_each cs f (λ x h. each x (inr h)))
+punct_fits_each (c ∷ cs) f each = and_from (is_of_kind c.kind (f c)) (punct_fits (domains_of cs) (map f cs)) (each c (inl refl)) (punct_fits_each cs f (λ x h. each x (inr h)))
 
-pub test_fits : (columns : List Column) (words : List TestWord) → AreDistinct (map name_of columns) → list_any (misses_its_kind columns) words ≡ false → punct_fits (kinds_of columns) (map (column_test words) columns) ≡ true
+pub test_fits : (columns : List Column) (words : List TestWord) → AreDistinct (map name_of columns) → list_any (misses_its_kind columns) words ≡ false → punct_fits (domains_of columns) (map (column_test words) columns) ≡ true
 test_fits columns words d e =
     punct_fits_each columns (column_test words)
     (λ c h. met_of_kind columns c d h words Wild (λ w l. false_from_ne_true (misses_its_kind columns w) (λ t. none_at (misses_its_kind columns) words w e l t)) refl)
 
 -- ---- a project
 
-pub project_kinds : (columns : List Column) (words : List Renamed) → kinds_of (map (renamed_column columns) words) ≡ map (kind_at columns) (map (old_number columns) words)
-project_kinds columns [] = refl
-project_kinds columns (w ∷ ws) =
-    ap (λ (k : Kind). k ∷ kinds_of (map (renamed_column columns) ws)) (sym (number_kind columns w.old))
-    ∙ ap (λ (ks : List Kind). kind_at columns (old_number columns w) ∷ ks) (project_kinds columns ws)
+pub project_domains : (columns : List Column) (words : List Renamed) → domains_of (map (renamed_column columns) words) ≡ map (domain_at columns) (map (old_number columns) words)
+project_domains columns [] = refl
+project_domains columns (w ∷ ws) =
+    ap (λ (k : Kind). k ∷ domains_of (map (renamed_column columns) ws)) (sym (number_kind columns w.old))
+    ∙ ap (λ (ks : List Domain). domain_at columns (old_number columns w) ∷ ks) (project_domains columns ws)
 
 pub project_there : (columns : List Column) (words : List Renamed) → ((w : Renamed) → In w words → has_column columns w.old ≡ true) → (number : ℕ) → In number (map (old_number columns) words) → number < length columns
 project_there columns words known number h =
@@ -85,13 +86,13 @@ kind_same Int Text t = absurd (false≢true t)
 kind_same Text Int t = absurd (false≢true t)
 kind_same Text Text t = refl
 
-pub alike_kinds : (columns others : List Column) → are_alike columns others ≡ true → kinds_of columns ≡ kinds_of others
-alike_kinds [] [] t = refl
-alike_kinds [] (d ∷ ds) t = absurd (false≢true t)
-alike_kinds (c ∷ cs) [] t = absurd (false≢true t)
-alike_kinds (c ∷ cs) (d ∷ ds) t =
+pub alike_domains : (columns others : List Column) → are_alike columns others ≡ true → domains_of columns ≡ domains_of others
+alike_domains [] [] t = refl
+alike_domains [] (d ∷ ds) t = absurd (false≢true t)
+alike_domains (c ∷ cs) [] t = absurd (false≢true t)
+alike_domains (c ∷ cs) (d ∷ ds) t =
     let both = and_parts (kind_eq c.kind d.kind) (are_alike cs ds) t in
-    ap (λ (k : Kind). k ∷ kinds_of cs) (kind_same c.kind d.kind both.0) ∙ ap (λ (ks : List Kind). d.kind ∷ ks) (alike_kinds cs ds both.1)
+    ap (λ (k : Kind). k ∷ domains_of cs) (kind_same c.kind d.kind both.0) ∙ ap (λ (ks : List Domain). d.kind ∷ ks) (alike_domains cs ds both.1)
 
 -- ---- a join
 
@@ -175,23 +176,23 @@ sound_group columns keys aggs good = record {
     apart : AreDistinct keys
     apart = subst AreDistinct (key_names columns keys) (distinct_left (map name_of (map (key_column columns) keys)) (map name_of (map (agg_column columns) aggs)) (subst AreDistinct (map-append name_of (map (key_column columns) keys) (map (agg_column columns) aggs)) good.names))
 
-agg_kinds : (columns : List Column) (word : AggWord) → agg_kind columns word ≡ agg_kind_at columns (agg_of columns word)
+agg_kinds : (columns : List Column) (word : AggWord) → agg_kind columns word ≡ agg_domain_at columns (agg_of columns word)
 agg_kinds columns Count = refl
 agg_kinds columns (Sum column) = refl
 agg_kinds columns (Min column) = sym (number_kind columns column)
 agg_kinds columns (Max column) = sym (number_kind columns column)
 
-kinds_of_aggs : (columns : List Column) (aggs : List NamedAgg) → kinds_of (map (agg_column columns) aggs) ≡ map (agg_kind_at columns) (map (named_agg columns) aggs)
-kinds_of_aggs columns [] = refl
-kinds_of_aggs columns (a ∷ rest) =
-    ap (λ (k : Kind). k ∷ kinds_of (map (agg_column columns) rest)) (agg_kinds columns a.agg)
-    ∙ ap (λ (ks : List Kind). agg_kind_at columns (agg_of columns a.agg) ∷ ks) (kinds_of_aggs columns rest)
+domains_of_aggs : (columns : List Column) (aggs : List NamedAgg) → domains_of (map (agg_column columns) aggs) ≡ map (agg_domain_at columns) (map (named_agg columns) aggs)
+domains_of_aggs columns [] = refl
+domains_of_aggs columns (a ∷ rest) =
+    ap (λ (k : Kind). k ∷ domains_of (map (agg_column columns) rest)) (agg_kinds columns a.agg)
+    ∙ ap (λ (ks : List Domain). agg_domain_at columns (agg_of columns a.agg) ∷ ks) (domains_of_aggs columns rest)
 
-pub kinds_of_group : (columns : List Column) (keys : List (List ℕ)) (aggs : List NamedAgg) → kinds_of (group_schema columns keys aggs) ≡ group_kinds columns (group_of columns keys aggs)
-kinds_of_group columns [] aggs = kinds_of_aggs columns aggs
-kinds_of_group columns (k ∷ ks) aggs =
-    ap (λ (x : Kind). x ∷ kinds_of (group_schema columns ks aggs)) (sym (number_kind columns k))
-    ∙ ap (λ (xs : List Kind). kind_at columns (column_number columns k) ∷ xs) (kinds_of_group columns ks aggs)
+pub domains_of_group : (columns : List Column) (keys : List (List ℕ)) (aggs : List NamedAgg) → domains_of (group_schema columns keys aggs) ≡ group_domains columns (group_of columns keys aggs)
+domains_of_group columns [] aggs = domains_of_aggs columns aggs
+domains_of_group columns (k ∷ ks) aggs =
+    ap (λ (x : Kind). x ∷ domains_of (group_schema columns ks aggs)) (sym (number_kind columns k))
+    ∙ ap (λ (xs : List Domain). domain_at columns (column_number columns k) ∷ xs) (domains_of_group columns ks aggs)
 
 pub column_from : (name : List ℕ) (kind : Kind) (c : Column) → c.name ≡ name → c.kind ≡ kind → record { name = name; kind = kind } ≡ c
 column_from name kind c e k = sym (ap (λ (n : List ℕ). record { name = n; kind = c.kind }) e ∙ ap (λ (x : Kind). record { name = name; kind = x }) k)

@@ -4,7 +4,7 @@ use Rattle.std.specs.Str.{bytes_eq}
 use Rattle.pj_value.specs.Lists.{In}
 use Rattle.pj_value.proofs.Members.{In-append_cases, map-same}
 use Rattle.pj_shape.specs.declared.columns.Column.{Column}
-use Rattle.pj_shape.specs.Columns.{kinds_of}
+use Rattle.pj_shape.specs.Columns.{domains_of}
 use Rattle.pj_plan.specs.declared.node.Node.{Node}
 use Rattle.pj_plan.specs.declared.node.Node.TheVariants.{Stream, Select, Project, Union, Join, Group}
 use Rattle.pj_plan.specs.declared.node.PlanNode.{PlanNode}
@@ -12,7 +12,7 @@ use Rattle.pj_plan.specs.Nodes.{inputs_of, is_stream}
 use Rattle.pj_plan.specs.Made.{schema_of, more_schemes, with_scheme}
 use Rattle.pj_plan.specs.Canonical.{node_at, node_schema}
 use Rattle.pj_plan.specs.Faults.{schemes_of, scheme_count, stream_count}
-use Rattle.pj_plan.specs.Sound.{kind_at, name_of_node, all_inputs, columns_of_first, IsSoundScheme, IsSoundSchema, IsSoundGroup, group_kinds, column_at, IsSoundOperator, IsSoundNode}
+use Rattle.pj_plan.specs.Sound.{domain_at, name_of_node, all_inputs, columns_of_first, IsSoundScheme, IsSoundSchema, IsSoundGroup, group_domains, column_at, IsSoundOperator, IsSoundNode}
 use Rattle.pj_plan.proofs.ByName.{at_append, at_end}
 
 -- ---- the columns of the inputs decide
@@ -30,12 +30,12 @@ pub operator_same : (nodes others : List PlanNode) (schema : List Column) (node 
 operator_same nodes others schema (Stream schemes) same k = k
 operator_same nodes others schema (Select input test) same k = (k.0 ∙ same input (inl refl), k.1)
 operator_same nodes others schema (Project input columns) same k =
-    subst (λ (cs : List Column). ((column : ℕ) → In column columns → column < length cs) × (kinds_of schema ≡ map (kind_at cs) columns)) (same input (inl refl)) k
+    subst (λ (cs : List Column). ((column : ℕ) → In column columns → column < length cs) × (domains_of schema ≡ map (domain_at cs) columns)) (same input (inl refl)) k
 operator_same nodes others schema (Union inputs) same k =
-    (k.0, k.1, k.2 ∙ first_same nodes others inputs same, (λ m h. ap kinds_of (sym (same m h)) ∙ k.3 m h))
+    (k.0, k.1, k.2 ∙ first_same nodes others inputs same, (λ m h. ap domains_of (sym (same m h)) ∙ k.3 m h))
 operator_same nodes others schema (Join inputs spec) same k = (k.0, k.1 ∙ map-same (node_schema nodes) (node_schema others) inputs same, k.2 ∙ flat_same nodes others inputs same)
 operator_same nodes others schema (Group input spec) same k =
-    subst (λ (cs : List Column). IsSoundGroup cs spec × (take (length spec.keys) schema ≡ map (column_at cs) spec.keys) × (kinds_of schema ≡ group_kinds cs spec)) (same input (inl refl)) k
+    subst (λ (cs : List Column). IsSoundGroup cs spec × (take (length spec.keys) schema ≡ map (column_at cs) spec.keys) × (domains_of schema ≡ group_domains cs spec)) (same input (inl refl)) k
 
 -- ---- nodes behind others
 

@@ -9,7 +9,7 @@ use Rattle.pj_value.specs.declared.values.Kind.TheVariants.{Int, Text}
 use Rattle.pj_value.proofs.Members.{In-map, none_from}
 use Rattle.pj_value.proofs.Numbers.{has-in}
 use Rattle.pj_shape.specs.declared.columns.Column.{Column}
-use Rattle.pj_shape.specs.Columns.{kinds_of}
+use Rattle.pj_shape.specs.Columns.{domains_of}
 use Rattle.pj_pattern.specs.declared.pattern.Form.{Form}
 use Rattle.pj_plan.specs.declared.node.Node.{Node}
 use Rattle.pj_plan.specs.declared.node.Node.TheVariants.{Stream as StreamNode, Select as SelectNode, Project as ProjectNode, Union as UnionNode}
@@ -205,13 +205,13 @@ kind_itself : (kind : Kind) → kind_eq kind kind ≡ true
 kind_itself Int = refl
 kind_itself Text = refl
 
-alike_from : (columns others : List Column) → kinds_of columns ≡ kinds_of others → are_alike columns others ≡ true
+alike_from : (columns others : List Column) → domains_of columns ≡ domains_of others → are_alike columns others ≡ true
 alike_from [] [] e = refl
 alike_from [] (d ∷ ds) e = absurd cc
 alike_from (c ∷ cs) [] e = absurd cc
 alike_from (c ∷ cs) (d ∷ ds) e =
     let kind : c.kind ≡ d.kind = cc in
-    let rest : kinds_of cs ≡ kinds_of ds = cc in
+    let rest : domains_of cs ≡ domains_of ds = cc in
     and_from (kind_eq c.kind d.kind) (are_alike cs ds) (ap (kind_eq c.kind) (sym kind) ∙ kind_itself c.kind) (alike_from cs ds rest)
 
 pub union_again : (front : List PlanNode) (name : List ℕ) (schema : List Column) (inputs : List ℕ) → IsNext front (plan_node name schema (UnionNode inputs))
@@ -224,7 +224,7 @@ union_again front name schema inputs next =
     let same : first_schema front names ≡ schema = first_again front inputs next.names good.inputs.before ∙ sym good.operator.2 in
     let all : map (schema_of front) names ≡ map (node_schema front) inputs = schemas_again front inputs next.names good.inputs.before in
     let kinds : list_any (is_unlike schema) (map (node_schema front) inputs) ≡ false = none_from (is_unlike schema) (map (node_schema front) inputs) (λ s h. let r = In-map (node_schema front) s inputs h in
-    not_from_true (are_alike schema s) (alike_from schema s (sym (good.operator.3 r.0 r.1) ∙ ap kinds_of r.2))) in
+    not_from_true (are_alike schema s) (alike_from schema s (sym (good.operator.3 r.0 r.1) ∙ ap domains_of r.2))) in
     let few : length names ≤ 16 = rw (length-map inputs (node_name front)) good.operator.1 in (
       without_fault (draft_of front) statement (record { known = refl; shaped = refl; readable = refl }) (record {
         plan = refl;

@@ -11,8 +11,8 @@ use Rattle.pj_shape.specs.declared.columns.Column.{Column}
 use Rattle.pj_shape.specs.declared.joins.ClassCol.{ClassCol}
 use Rattle.pj_shape.specs.declared.groups.Agg.{Agg}
 use Rattle.pj_shape.specs.declared.groups.Agg.TheVariants.{Count as CountAgg, Sum as SumAgg, Min as MinAgg, Max as MaxAgg}
-use Rattle.pj_shape.specs.Columns.{kinds_of}
-use Rattle.pj_shape.proofs.KindsOf.{kinds_length}
+use Rattle.pj_shape.specs.Columns.{domains_of}
+use Rattle.pj_shape.proofs.DomainsOf.{domains_length}
 use Rattle.pj_pattern.specs.declared.pattern.Form.{Form}
 use Rattle.pj_pattern.proofs.Fitting.{punct_length}
 use Rattle.pj_plan.specs.declared.node.Node.{Node}
@@ -27,13 +27,13 @@ use Rattle.pj_plan.specs.declared.statement.NamedAgg.{NamedAgg}
 use Rattle.pj_plan.specs.Names.{is_name, is_column_name, is_agg, is_class, has_some, are_inputs, is_spelled}
 use Rattle.pj_plan.specs.Nodes.{inputs_of}
 use Rattle.pj_plan.specs.Canonical.{no_column, no_node, node_name, node_schema, column_name, column_word, tests_from, first_test, or_first, tests_of, renamed_of, class_words, agg_word, aggs_of, declaration, scheme_statements, node_statements, last_name, statements_of, class_word}
-use Rattle.pj_plan.specs.Sound.{name_of, kind_at, agg_kind_at, IsSoundScheme, IsSoundAgg, IsSoundOperator, IsSoundNode, IsSoundPlan}
+use Rattle.pj_plan.specs.Sound.{name_of, domain_at, agg_domain_at, IsSoundScheme, IsSoundAgg, IsSoundOperator, IsSoundNode, IsSoundPlan}
 use Rattle.pj_plan.specs.Laws.{CanonicalIsSpelled}
 use Rattle.pj_plan.proofs.Lists.{place_of}
 use Rattle.pj_plan.proofs.Classes.{joined}
 use Rattle.pj_plan.proofs.TestsAgain.{IsTestOf, in_tests}
 use Rattle.pj_plan.proofs.ClassesAgain.{words_there}
-use Rattle.pj_plan.proofs.ColumnsAgain.{renamed_is, agg_is, kinds_behind}
+use Rattle.pj_plan.proofs.ColumnsAgain.{renamed_is, agg_is, domains_behind}
 use Rattle.pj_plan.proofs.Written.{AreNamed, IsWrittenNode, AreWritten}
 use Rattle.pj_plan.proofs.ReadAgain.{last_at, IsMade, is_made}
 
@@ -101,7 +101,7 @@ declared_spelled : (nodes : List PlanNode) (name : List ℕ) (schema : List Colu
 declared_spelled nodes name schema (StreamNode schemes) written some sound input = stream_spelled name schema written.name written.columns some
 declared_spelled nodes name schema (SelectNode m test) written some sound input =
     let tests : List TestWord = tests_of schema test in
-    let long : 1 ≤ length test = omega (arith, some, punct_length (kinds_of schema) test sound.1, kinds_length schema) in
+    let long : 1 ≤ length test = omega (arith, some, punct_length (domains_of schema) test sound.1, domains_length schema) in
     and_from (is_name name && is_name (node_name nodes m)) ((has_some tests && nat_le (length tests) 62) && list_all (λ test. is_column_name test.column) tests)
     (and_from (is_name name) (is_name (node_name nodes m)) written.name (input m (inl refl)).name)
     (and_from (has_some tests && nat_le (length tests) 62) (list_all (λ test. is_column_name test.column) tests)
@@ -117,7 +117,7 @@ declared_spelled nodes name schema (ProjectNode m numbers) written some sound in
     subst (λ (x : Renamed). (is_column_name x.new && is_column_name x.old) ≡ true) (sym r.4)
     (and_from (is_column_name r.0.name) (is_column_name (column_name columns r.2)) (written.columns r.0 r.1) (named_at columns r.2 (input m (inl refl)).columns (sound.0 r.2 r.3))))))
   where
-    more : (cs : List Column) (ns : List ℕ) → 1 ≤ length cs → kinds_of cs ≡ map (kind_at (node_schema nodes m)) ns → has_some (renamed_of cs (node_schema nodes m) ns) ≡ true
+    more : (cs : List Column) (ns : List ℕ) → 1 ≤ length cs → domains_of cs ≡ map (domain_at (node_schema nodes m)) ns → has_some (renamed_of cs (node_schema nodes m) ns) ≡ true
     more [] ns n e = absurd (omega (arith, n))
     more (c ∷ cs) [] n e = absurd cc
     more (c ∷ cs) (k ∷ ks) n e = refl
@@ -150,7 +150,7 @@ declared_spelled nodes name schema (GroupNode m spec) written some sound input =
     (and_from (has_some keys && list_all is_column_name keys) (has_some aggs && list_all (λ agg. is_column_name agg.name && is_agg agg.agg) aggs)
     (and_from (has_some keys) (list_all is_column_name keys) (has_some_from keys (rw (length-map spec.keys (column_name columns)) sound.0.some_keys))
     (all_from is_column_name keys (λ n h. let r = In-map (column_name columns) n spec.keys h in subst (λ (x : List ℕ). is_column_name x ≡ true) r.2 (named_at columns r.0 named (sound.0.keys_there r.0 r.1)))))
-    (and_from (has_some aggs) (list_all (λ agg. is_column_name agg.name && is_agg agg.agg) aggs) (more news spec.aggs sound.0.some_aggs (kinds_behind columns schema spec.keys (map (agg_kind_at columns) spec.aggs) sound.2))
+    (and_from (has_some aggs) (list_all (λ agg. is_column_name agg.name && is_agg agg.agg) aggs) (more news spec.aggs sound.0.some_aggs (domains_behind columns schema spec.keys (map (agg_domain_at columns) spec.aggs) sound.2))
     (all_from (λ (w : NamedAgg). is_column_name w.name && is_agg w.agg) aggs (λ w h. let r = agg_is columns news spec.aggs w h in
     subst (λ (x : NamedAgg). (is_column_name x.name && is_agg x.agg) ≡ true) (sym r.4)
     (and_from (is_column_name r.0.name) (is_agg (agg_word columns r.2)) (written.columns r.0 (behind (length spec.keys) schema r.0 r.1)) (agg_spelled r.2 (sound.0.sound_aggs r.2 r.3)))))))
@@ -170,7 +170,7 @@ declared_spelled nodes name schema (GroupNode m spec) written some sound input =
     named : AreNamed (node_schema nodes m)
     named = (input m (inl refl)).columns
 
-    more : (ns : List Column) (found : List Agg) → 1 ≤ length found → kinds_of ns ≡ map (agg_kind_at (node_schema nodes m)) found → has_some (aggs_of ns (node_schema nodes m) found) ≡ true
+    more : (ns : List Column) (found : List Agg) → 1 ≤ length found → domains_of ns ≡ map (agg_domain_at (node_schema nodes m)) found → has_some (aggs_of ns (node_schema nodes m) found) ≡ true
     more [] [] n e = absurd (omega (arith, n))
     more [] (a ∷ rest) n e = absurd cc
     more (c ∷ cs) [] n e = absurd cc

@@ -7,7 +7,7 @@ use Rattle.pj_value.specs.declared.values.Kind.{Kind}
 use Rattle.pj_value.proofs.Members.{In-map_from, map-same}
 use Rattle.pj_value.proofs.Bytes.{other_bytes}
 use Rattle.pj_shape.specs.declared.columns.Column.{Column}
-use Rattle.pj_shape.specs.Columns.{kinds_of}
+use Rattle.pj_shape.specs.Columns.{domains_of}
 use Rattle.pj_pattern.specs.declared.pattern.Form.{Form}
 use Rattle.pj_pattern.specs.declared.pattern.Form.TheVariants.{Wild, Empty, Constant, Range, Members}
 use Rattle.pj_pattern.specs.Patterns.{is_wild, is_of_kind}
@@ -42,30 +42,30 @@ pub record IsTestOf (columns : List Column) (word : TestWord) : Type 0 where
 test_behind : (c : Column) (cs : List Column) (word : TestWord) → IsTestOf cs word → IsTestOf (c ∷ cs) word
 test_behind c cs word t = record { column = t.column; there = inr t.there; pattern = t.pattern; is = t.is; fits = t.fits }
 
-in_from : (columns : List Column) (patterns : List Form) (word : TestWord) → punct_fits (kinds_of columns) patterns ≡ true → In word (tests_from columns patterns) → IsTestOf columns word
+in_from : (columns : List Column) (patterns : List Form) (word : TestWord) → punct_fits (domains_of columns) patterns ≡ true → In word (tests_from columns patterns) → IsTestOf columns word
 in_from [] patterns word fit h = absurd h
 in_from (c ∷ cs) [] word fit h = absurd h
 in_from (c ∷ cs) (p ∷ ps) word fit h = go (is_wild p) h (in_from cs ps word both.1)
   where
-    both : (is_of_kind c.kind p ≡ true) × (punct_fits (kinds_of cs) ps ≡ true)
-    both = and_parts (is_of_kind c.kind p) (punct_fits (kinds_of cs) ps) fit
+    both : (is_of_kind c.kind p ≡ true) × (punct_fits (domains_of cs) ps ≡ true)
+    both = and_parts (is_of_kind c.kind p) (punct_fits (domains_of cs) ps) fit
 
     go : (b : Bool) → In word (cond b (tests_from cs ps) (record { column = c.name; test = One p } ∷ tests_from cs ps)) → (In word (tests_from cs ps) → IsTestOf cs word) → IsTestOf (c ∷ cs) word
     go true k ih = test_behind c cs word (ih k)
     go false (inl e) ih = record { column = c; there = inl refl; pattern = p; is = sym e; fits = both.0 }
     go false (inr k) ih = test_behind c cs word (ih k)
 
-in_first : (columns : List Column) (patterns : List Form) (word : TestWord) → punct_fits (kinds_of columns) patterns ≡ true → In word (first_test columns patterns) → IsTestOf columns word
+in_first : (columns : List Column) (patterns : List Form) (word : TestWord) → punct_fits (domains_of columns) patterns ≡ true → In word (first_test columns patterns) → IsTestOf columns word
 in_first [] patterns word fit h = absurd h
 in_first (c ∷ cs) [] word fit h = absurd h
-in_first (c ∷ cs) (p ∷ ps) word fit (inl e) = record { column = c; there = inl refl; pattern = p; is = sym e; fits = (and_parts (is_of_kind c.kind p) (punct_fits (kinds_of cs) ps) fit).0 }
+in_first (c ∷ cs) (p ∷ ps) word fit (inl e) = record { column = c; there = inl refl; pattern = p; is = sym e; fits = (and_parts (is_of_kind c.kind p) (punct_fits (domains_of cs) ps) fit).0 }
 in_first (c ∷ cs) (p ∷ ps) word fit (inr h) = absurd h
 
 in_or : (word : TestWord) (xs ys : List TestWord) → In word (or_first xs ys) → In word xs ⊎ In word ys
 in_or word [] ys h = inr h
 in_or word (x ∷ xs) ys h = inl h
 
-pub in_tests : (columns : List Column) (patterns : List Form) (word : TestWord) → punct_fits (kinds_of columns) patterns ≡ true → In word (tests_of columns patterns) → IsTestOf columns word
+pub in_tests : (columns : List Column) (patterns : List Form) (word : TestWord) → punct_fits (domains_of columns) patterns ≡ true → In word (tests_of columns patterns) → IsTestOf columns word
 in_tests columns patterns word fit h =
     elim (in_or word (tests_from columns patterns) (first_test columns patterns) h) [ inl k ↦ in_from columns patterns word fit k | inr k ↦ in_first columns patterns word fit k ]
 
@@ -86,14 +86,14 @@ met_past (w ∷ ws) pattern name out =
     ap (λ (b : Bool). cond b (met_with (meet_of pattern (test_pattern w.test)) name ws) (met_with pattern name ws)) (other_bytes name w.column (out w (inl refl)))
     ∙ met_past ws pattern name (λ v h. out v (inr h))
 
-from_again : (columns : List Column) (patterns : List Form) → AreDistinct (map name_of columns) → punct_fits (kinds_of columns) patterns ≡ true → map (column_test (tests_from columns patterns)) columns ≡ patterns
+from_again : (columns : List Column) (patterns : List Form) → AreDistinct (map name_of columns) → punct_fits (domains_of columns) patterns ≡ true → map (column_test (tests_from columns patterns)) columns ≡ patterns
 from_again [] [] d fit = refl
 from_again [] (p ∷ ps) d fit = absurd (false≢true fit)
 from_again (c ∷ cs) [] d fit = absurd (false≢true fit)
 from_again (c ∷ cs) (p ∷ ps) d fit = go (is_wild p) refl (from_again cs ps d.1 both.1)
   where
-    both : (is_of_kind c.kind p ≡ true) × (punct_fits (kinds_of cs) ps ≡ true)
-    both = and_parts (is_of_kind c.kind p) (punct_fits (kinds_of cs) ps) fit
+    both : (is_of_kind c.kind p ≡ true) × (punct_fits (domains_of cs) ps ≡ true)
+    both = and_parts (is_of_kind c.kind p) (punct_fits (domains_of cs) ps) fit
 
     out : (w : TestWord) → In w (tests_from cs ps) → c.name ≡ w.column → ⊥
     out w h e =
@@ -131,7 +131,7 @@ first_again (c ∷ cs) (p ∷ ps) e = map-same (column_test (record { column = c
     nothing x true = wild
     nothing x false = refl
 
-pub tests_again : (columns : List Column) (patterns : List Form) → AreDistinct (map name_of columns) → punct_fits (kinds_of columns) patterns ≡ true → map (column_test (tests_of columns patterns)) columns ≡ patterns
+pub tests_again : (columns : List Column) (patterns : List Form) → AreDistinct (map name_of columns) → punct_fits (domains_of columns) patterns ≡ true → map (column_test (tests_of columns patterns)) columns ≡ patterns
 tests_again columns patterns d fit = go (tests_from columns patterns) (from_again columns patterns d fit)
   where
     go : (xs : List TestWord) → map (column_test xs) columns ≡ patterns → map (column_test (or_first xs (first_test columns patterns))) columns ≡ patterns

@@ -1,13 +1,13 @@
 -- What a sound plan is.
 use Rattle.std.specs.Prelude.{ℕ, ◌+◌, ◌≡◌, ◌<◌, ◌≤◌, Bool, true, List, [], ◌∷◌, ◌++◌, Some, None, map, flat_map, length, take, slice_get, slice_index_or}
 use Rattle.pj_value.specs.Lists.{In}
-use Rattle.pj_value.specs.declared.values.Kind.{Kind}
 use Rattle.pj_value.specs.declared.values.Kind.TheVariants.{Int}
+use Rattle.pj_value.specs.Values.{Domain}
 use Rattle.pj_shape.specs.declared.columns.Column.{Column}
 use Rattle.pj_shape.specs.declared.groups.Agg.{Agg}
 use Rattle.pj_shape.specs.declared.groups.Agg.TheVariants.{Count, Sum, Min, Max}
 use Rattle.pj_shape.specs.declared.groups.GroupSpec.{GroupSpec}
-use Rattle.pj_shape.specs.Columns.{kinds_of}
+use Rattle.pj_shape.specs.Columns.{domain_of, domains_of}
 use Rattle.pj_shape.specs.Sound.{IsSoundSpec}
 use Rattle.pj_pattern.specs.Fitting.{punct_fits}
 use Rattle.pj_plan.specs.declared.node.Node.{Node}
@@ -38,14 +38,14 @@ pub record IsSoundSchema (schema : List Column) : Type 0 where
 abbrev pub IsSoundScheme : List Column → List Bool → Type 0
 IsSoundScheme schema scheme = (length scheme ≡ length schema) × In true scheme
 
--- the kind of the column of this number
-abbrev pub kind_at : List Column → ℕ → Kind
-kind_at columns number = (slice_index_or columns number no_column).kind
+-- what fits the column of this number
+abbrev pub domain_at : List Column → ℕ → Domain
+domain_at columns number = domain_of (slice_index_or columns number no_column)
 
 -- the column of the aggregate is there, and that of a sum is of kind int
 abbrev pub IsSoundAgg : List Column → Agg → Type 0
 IsSoundAgg columns Count = Unit {0}
-IsSoundAgg columns (Sum column) = (column < length columns) × (kind_at columns column ≡ Int)
+IsSoundAgg columns (Sum column) = (column < length columns) × (domain_at columns column ≡ Int)
 IsSoundAgg columns (Min column) = column < length columns
 IsSoundAgg columns (Max column) = column < length columns
 
@@ -57,16 +57,16 @@ pub record IsSoundGroup (columns : List Column) (spec : GroupSpec) : Type 0 wher
   pub keys_apart : AreDistinct spec.keys
   pub sound_aggs : (agg : Agg) → In agg spec.aggs → IsSoundAgg columns agg
 
--- the kind of an aggregate's values
-abbrev pub agg_kind_at : List Column → Agg → Kind
-agg_kind_at columns Count = Int
-agg_kind_at columns (Sum column) = Int
-agg_kind_at columns (Min column) = kind_at columns column
-agg_kind_at columns (Max column) = kind_at columns column
+-- which values an aggregate has
+abbrev pub agg_domain_at : List Column → Agg → Domain
+agg_domain_at columns Count = Int
+agg_domain_at columns (Sum column) = Int
+agg_domain_at columns (Min column) = domain_at columns column
+agg_domain_at columns (Max column) = domain_at columns column
 
--- the kinds of the group columns, and behind them those of the aggregates
-abbrev pub group_kinds : List Column → GroupSpec → List Kind
-group_kinds columns spec = map (kind_at columns) spec.keys ++ map (agg_kind_at columns) spec.aggs
+-- what fits the group columns, and behind them the aggregates
+abbrev pub group_domains : List Column → GroupSpec → List Domain
+group_domains columns spec = map (domain_at columns) spec.keys ++ map (agg_domain_at columns) spec.aggs
 
 -- the column of this number
 abbrev pub column_at : List Column → ℕ → Column
@@ -80,17 +80,17 @@ columns_of_first nodes (input ∷ inputs) = node_schema nodes input
 -- the operator suits its inputs, which are nodes among these, and the columns of its result
 abbrev pub IsSoundOperator : List PlanNode → List Column → Node → Type 0
 IsSoundOperator nodes schema (Stream schemes) = (length schemes ≤ 16) × ((scheme : List Bool) → In scheme schemes → IsSoundScheme schema scheme)
-IsSoundOperator nodes schema (Select input test) = (schema ≡ node_schema nodes input) × (punct_fits (kinds_of schema) test ≡ true)
+IsSoundOperator nodes schema (Select input test) = (schema ≡ node_schema nodes input) × (punct_fits (domains_of schema) test ≡ true)
 IsSoundOperator nodes schema (Project input columns) =
-    ((column : ℕ) → In column columns → column < length (node_schema nodes input)) × (kinds_of schema ≡ map (kind_at (node_schema nodes input)) columns)
+    ((column : ℕ) → In column columns → column < length (node_schema nodes input)) × (domains_of schema ≡ map (domain_at (node_schema nodes input)) columns)
 IsSoundOperator nodes schema (Union inputs) =
     (2 ≤ length inputs) × (length inputs ≤ 16) × (schema ≡ columns_of_first nodes inputs)
-    × ((input : ℕ) → In input inputs → kinds_of (node_schema nodes input) ≡ kinds_of schema)
+    × ((input : ℕ) → In input inputs → domains_of (node_schema nodes input) ≡ domains_of schema)
 IsSoundOperator nodes schema (Join inputs spec) =
     IsSoundSpec spec × (spec.inputs ≡ map (node_schema nodes) inputs) × (schema ≡ flat_map (node_schema nodes) inputs)
 IsSoundOperator nodes schema (Group input spec) =
     IsSoundGroup (node_schema nodes input) spec × (take (length spec.keys) schema ≡ map (column_at (node_schema nodes input)) spec.keys)
-    × (kinds_of schema ≡ group_kinds (node_schema nodes input) spec)
+    × (domains_of schema ≡ group_domains (node_schema nodes input) spec)
 
 -- ---- nodes
 

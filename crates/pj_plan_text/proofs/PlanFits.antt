@@ -10,9 +10,9 @@ use Rattle.pj_shape.specs.declared.columns.Column.{Column}
 use Rattle.pj_shape.specs.declared.groups.Agg.{Agg}
 use Rattle.pj_shape.specs.declared.groups.GroupSpec.{GroupSpec}
 use Rattle.pj_shape.specs.declared.joins.JoinSpec.{JoinSpec}
-use Rattle.pj_shape.specs.Columns.{kinds_of}
+use Rattle.pj_shape.specs.Columns.{domains_of}
 use Rattle.pj_shape.specs.Sound.{IsSoundSpec}
-use Rattle.pj_shape.proofs.KindsOf.{kinds_length}
+use Rattle.pj_shape.proofs.DomainsOf.{domains_length}
 use Rattle.pj_pattern.specs.declared.pattern.Form.{Form}
 use Rattle.pj_pattern.specs.Patterns.{is_of_kind, is_wild}
 use Rattle.pj_pattern.specs.Fitting.{punct_fits}
@@ -28,7 +28,7 @@ use Rattle.pj_plan.specs.declared.statement.TestWord.{TestWord}
 use Rattle.pj_plan.specs.declared.statement.Test.TheVariants.{One}
 use Rattle.pj_plan.specs.Canonical.{aggs_of, class_words, column_name, column_word, declaration, first_test, last_name, no_node, node_name, node_schema, node_statements, or_first, renamed_of, scheme_statements, statements_of, tests_from, tests_of}
 use Rattle.pj_plan.specs.Names.{is_spelled}
-use Rattle.pj_plan.specs.Sound.{IsSoundNode, IsSoundOperator, IsSoundPlan, IsSoundScheme, agg_kind_at, group_kinds, kind_at}
+use Rattle.pj_plan.specs.Sound.{IsSoundNode, IsSoundOperator, IsSoundPlan, IsSoundScheme, agg_domain_at, group_domains, domain_at}
 use Rattle.pj_plan_text.specs.Kept.{AreKeptNodes, IsKeptNode}
 use Rattle.pj_plan_text.specs.Laws.{AreKeptTests, HasKeptTests}
 use Rattle.pj_plan_text.specs.Spelling.{cells_in, class_cell, column_cell, mark_cell, named_agg_cell, renamed_cell, test_cells}
@@ -66,28 +66,28 @@ few_tests name input tests spelled =
     let many = and_parts _ _ names.1 in
     leb-true (length tests) 62 (and_parts _ (nat_le (length tests) 62) many.0).1
 
-from_kept : (columns : List Column) (patterns : List Form) → punct_fits (kinds_of columns) patterns ≡ true → AreKeptPatterns patterns → AreKeptTests (tests_from columns patterns)
+from_kept : (columns : List Column) (patterns : List Form) → punct_fits (domains_of columns) patterns ≡ true → AreKeptPatterns patterns → AreKeptTests (tests_from columns patterns)
 from_kept [] patterns fit kept = tt
 from_kept (c ∷ cs) [] fit kept = tt
 from_kept (c ∷ cs) (p ∷ ps) fit kept = go (is_wild p) (from_kept cs ps both.1 kept.1)
   where
-    both : (is_of_kind c.kind p ≡ true) × (punct_fits (kinds_of cs) ps ≡ true)
-    both = and_parts (is_of_kind c.kind p) (punct_fits (kinds_of cs) ps) fit
+    both : (is_of_kind c.kind p ≡ true) × (punct_fits (domains_of cs) ps ≡ true)
+    both = and_parts (is_of_kind c.kind p) (punct_fits (domains_of cs) ps) fit
 
     go : (b : Bool) → AreKeptTests (tests_from cs ps) → AreKeptTests (cond b (tests_from cs ps) (record { column = c.name; test = One p } ∷ tests_from cs ps))
     go true others = others
     go false others = ((kept.0, one_of_kind c.kind p both.0), others)
 
-first_kept : (columns : List Column) (patterns : List Form) → punct_fits (kinds_of columns) patterns ≡ true → AreKeptPatterns patterns → AreKeptTests (first_test columns patterns)
+first_kept : (columns : List Column) (patterns : List Form) → punct_fits (domains_of columns) patterns ≡ true → AreKeptPatterns patterns → AreKeptTests (first_test columns patterns)
 first_kept [] patterns fit kept = tt
 first_kept (c ∷ cs) [] fit kept = tt
-first_kept (c ∷ cs) (p ∷ ps) fit kept = ((kept.0, one_of_kind c.kind p (and_parts (is_of_kind c.kind p) (punct_fits (kinds_of cs) ps) fit).0), tt)
+first_kept (c ∷ cs) (p ∷ ps) fit kept = ((kept.0, one_of_kind c.kind p (and_parts (is_of_kind c.kind p) (punct_fits (domains_of cs) ps) fit).0), tt)
 
 or_kept : (tests first : List TestWord) → AreKeptTests tests → AreKeptTests first → AreKeptTests (or_first tests first)
 or_kept [] first p q = q
 or_kept (t ∷ ts) first p q = p
 
-tests_kept : (columns : List Column) (patterns : List Form) → punct_fits (kinds_of columns) patterns ≡ true → AreKeptPatterns patterns → AreKeptTests (tests_of columns patterns)
+tests_kept : (columns : List Column) (patterns : List Form) → punct_fits (domains_of columns) patterns ≡ true → AreKeptPatterns patterns → AreKeptTests (tests_of columns patterns)
 tests_kept columns patterns fit kept = or_kept (tests_from columns patterns) (first_test columns patterns) (from_kept columns patterns fit kept) (first_kept columns patterns fit kept)
 
 -- ---- projects and groups
@@ -102,13 +102,13 @@ few_aggs [] columns aggs = omega arith
 few_aggs (n ∷ ns) columns [] = omega arith
 few_aggs (n ∷ ns) columns (agg ∷ aggs) = omega (arith, few_aggs ns columns aggs)
 
-few_in_group : (columns schema : List Column) (spec : GroupSpec) → kinds_of schema ≡ group_kinds columns spec → length spec.keys + length spec.aggs ≡ length schema
+few_in_group : (columns schema : List Column) (spec : GroupSpec) → domains_of schema ≡ group_domains columns spec → length spec.keys + length spec.aggs ≡ length schema
 few_in_group columns schema spec kinds =
-    let keys = map (kind_at columns) spec.keys in
-    let aggs = map (agg_kind_at columns) spec.aggs in
-    omega (arith, ap length kinds, kinds_length schema, length-append keys aggs, length-map spec.keys (kind_at columns), length-map spec.aggs (agg_kind_at columns))
+    let keys = map (domain_at columns) spec.keys in
+    let aggs = map (agg_domain_at columns) spec.aggs in
+    omega (arith, ap length kinds, domains_length schema, length-append keys aggs, length-map spec.keys (domain_at columns), length-map spec.aggs (agg_domain_at columns))
 
-group_cells : (nodes : List PlanNode) (name : List ℕ) (input : ℕ) (schema : List Column) (spec : GroupSpec) → length schema ≤ 120 → kinds_of schema ≡ group_kinds (node_schema nodes input) spec
+group_cells : (nodes : List PlanNode) (name : List ℕ) (input : ℕ) (schema : List Column) (spec : GroupSpec) → length schema ≤ 120 → domains_of schema ≡ group_domains (node_schema nodes input) spec
     → length (cells_in (declaration nodes (record { name = name; schema = schema; node = GroupNode input spec }) (GroupNode input spec))) ≤ 128
 group_cells nodes name input schema spec few kinds =
     let columns = node_schema nodes input in

@@ -4,8 +4,8 @@ use Rattle.std.specs.Prelude.{nat_lt}
 use Rattle.pj_value.specs.declared.values.Value.{Value}
 use Rattle.pj_value.specs.Lists.{In}
 use Rattle.pj_shape.specs.declared.columns.Column.{Column}
-use Rattle.pj_shape.specs.Columns.{kinds_of}
-use Rattle.pj_pattern.specs.Fitting.{row_fits, FitsKinds}
+use Rattle.pj_shape.specs.Columns.{domains_of}
+use Rattle.pj_pattern.specs.Fitting.{row_fits, FitsDomains}
 use Rattle.pj_pattern.specs.declared.element.Element.{Element}
 use Rattle.pj_pattern.specs.declared.element.Element.TheVariants.{Punct}
 use Rattle.pj_line.specs.Lines.{pieces, line_of}
@@ -30,21 +30,21 @@ piece_fits columns piece = go (nat_lt 65536 (length piece))
     go true = tt
     go false = line_fits columns (line_of piece) (reading_of columns (line_of piece)) refl
 
-tuple_taken : (columns : List Column) (row : List Value) (closed : Option ℕ) (es : List Element) (e : Element) → row_fits (kinds_of columns) row ≡ true → (In e es → FitsKinds (kinds_of columns) e)
-    → In e (with_taken (tuple_fate row closed) es) → FitsKinds (kinds_of columns) e
-tuple_taken columns row None es e f later (inl is) = subst (FitsKinds (kinds_of columns)) is f
+tuple_taken : (columns : List Column) (row : List Value) (closed : Option ℕ) (es : List Element) (e : Element) → row_fits (domains_of columns) row ≡ true → (In e es → FitsDomains (domains_of columns) e)
+    → In e (with_taken (tuple_fate row closed) es) → FitsDomains (domains_of columns) e
+tuple_taken columns row None es e f later (inl is) = subst (FitsDomains (domains_of columns)) is f
 tuple_taken columns row None es e f later (inr h) = later h
 tuple_taken columns row (Some n) es e f later h = later h
 
-line_taken : (columns : List Column) (earlier : List Read) (read : Read) (es : List Element) (e : Element) → FitsRead columns read → (In e es → FitsKinds (kinds_of columns) e)
-    → In e (with_taken (fate_behind earlier read) es) → FitsKinds (kinds_of columns) e
+line_taken : (columns : List Column) (earlier : List Read) (read : Read) (es : List Element) (e : Element) → FitsRead columns read → (In e es → FitsDomains (domains_of columns) e)
+    → In e (with_taken (fate_behind earlier read) es) → FitsDomains (domains_of columns) e
 line_taken columns earlier Skip es e f later h = later h
 line_taken columns earlier (ReadTuple row) es e f later h = tuple_taken columns row (closing_line 1 earlier row) es e f later h
-line_taken columns earlier (ReadPunct punct) es e f later (inl is) = subst (FitsKinds (kinds_of columns)) is f
+line_taken columns earlier (ReadPunct punct) es e f later (inl is) = subst (FitsDomains (domains_of columns)) is f
 line_taken columns earlier (ReadPunct punct) es e f later (inr h) = later h
 line_taken columns earlier (Bad why) es e f later h = later h
 
-taken_fit : (columns : List Column) (earlier : List Read) (ps : List (List ℕ)) (e : Element) → In e (taken_of (fates earlier (map (reading_at columns) ps))) → FitsKinds (kinds_of columns) e
+taken_fit : (columns : List Column) (earlier : List Read) (ps : List (List ℕ)) (e : Element) → In e (taken_of (fates earlier (map (reading_at columns) ps))) → FitsDomains (domains_of columns) e
 taken_fit columns earlier [] e h = absurd h
 taken_fit columns earlier (p ∷ ps) e h =
     let behind : List Read = earlier ++ reading_at columns p ∷ [] in

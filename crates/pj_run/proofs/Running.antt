@@ -16,8 +16,8 @@ use Rattle.pj_events.specs.declared.events.Entry.{Entry}
 use Rattle.pj_events.specs.declared.events.Event.TheVariants.{Arrive}
 use Rattle.pj_events.specs.declared.events.Out.{Out}
 use Rattle.pj_pattern.specs.Columns.{all_wild}
-use Rattle.pj_pattern.specs.Fitting.{FitsKinds}
-use Rattle.pj_shape.specs.Columns.{kinds_of}
+use Rattle.pj_pattern.specs.Fitting.{FitsDomains}
+use Rattle.pj_shape.specs.Columns.{domains_of}
 use Rattle.pj_events.specs.Plan.{Node, operator_at}
 use Rattle.pj_events.specs.History.{nodes_from, reached_of, streams_of, IsLegal, IsEntryAllowed}
 use Rattle.pj_events.specs.Limits.{StaysWithin, BeginsBeyond, ReachesLimit}
@@ -243,7 +243,7 @@ pub turn_of_feeds : (streams : List PlanNode) (feeds : List FeedState) (next : A
 turn_of_feeds streams feeds (Brought stream element) f b =
     let o = one_of 0 streams feeds b.0 b.1 f b.2 in
     let number : stream ≡ b.0 = b.3.0 ∙ (o.is_number ∙ zero-add b.0) in
-    (omega (arith, number, o.there), λ z. subst (λ (ks : List Column). FitsKinds (kinds_of ks) element) (o.schema ∙ ap (stream_columns streams) (sym number)) b.3.1)
+    (omega (arith, number, o.there), λ z. subst (λ (ks : List Column). FitsDomains (domains_of ks) element) (o.schema ∙ ap (stream_columns streams) (sym number)) b.3.1)
 turn_of_feeds streams feeds (Closing stream) f b =
     let o = one_of 0 streams feeds b.0 b.1 f b.2 in
     let number : stream ≡ b.0 = b.3 ∙ (o.is_number ∙ zero-add b.0) in

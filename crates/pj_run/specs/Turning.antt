@@ -7,8 +7,8 @@ use Rattle.pj_pattern.specs.declared.element.Element.{Element}
 use Rattle.pj_events.specs.declared.events.Entry.{Entry}
 use Rattle.pj_events.specs.declared.events.Out.{Out}
 use Rattle.pj_events.specs.declared.events.Stop.{Stop}
-use Rattle.pj_pattern.specs.Fitting.{FitsKinds}
-use Rattle.pj_shape.specs.Columns.{kinds_of}
+use Rattle.pj_pattern.specs.Fitting.{FitsDomains}
+use Rattle.pj_shape.specs.Columns.{domains_of}
 use Rattle.pj_events.specs.Outcomes.{elements_out, outputs_of, elements_of as arrived_at}
 use Rattle.pj_events.specs.Limits.{StaysWithin, BeginsBeyond, StopsAt}
 use Rattle.pj_events.specs.OneThread.{Turn, arrival_of}
@@ -28,7 +28,7 @@ use Rattle.pj_run.specs.Ends.{EndsBefore, EndsAtLimit}
 
 -- the turn is of one of these streams, and what it brings fits the columns, where it is no closing
 abbrev pub IsTurnOf : List PlanNode → Turn → Type 0
-IsTurnOf streams turn = (turn.stream < length streams) × (turn.closing ≡ 0 → FitsKinds (kinds_of (stream_columns streams turn.stream)) turn.element)
+IsTurnOf streams turn = (turn.stream < length streams) × (turn.closing ≡ 0 → FitsDomains (domains_of (stream_columns streams turn.stream)) turn.element)
 
 -- all that the turn hands out behind this history
 abbrev pub turn_outs : CoreState → List Entry → Turn → List Out

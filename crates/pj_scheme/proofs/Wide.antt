@@ -6,13 +6,13 @@ use Rattle.pj_value.specs.Lists.{In}
 use Rattle.pj_value.proofs.Members.{In-append_cases, In-filter, In-flat_map, In-map}
 use Rattle.pj_shape.specs.declared.columns.Column.{Column}
 use Rattle.pj_shape.specs.Sound.{arities_of, FitSchemes}
-use Rattle.pj_shape.proofs.KindsOf.{kinds_length}
+use Rattle.pj_shape.proofs.DomainsOf.{domains_length}
 use Rattle.pj_plan.specs.declared.node.Node.{Node}
 use Rattle.pj_plan.specs.declared.node.Node.TheVariants.{Stream, Select, Project, Union, Join, Group}
 use Rattle.pj_plan.specs.declared.node.PlanNode.{PlanNode}
 use Rattle.pj_plan.specs.Nodes.{inputs_of}
 use Rattle.pj_plan.specs.Canonical.{no_node, node_at, node_schema}
-use Rattle.pj_plan.specs.Sound.{IsSoundPlan, IsSoundOperator, kind_at, agg_kind_at}
+use Rattle.pj_plan.specs.Sound.{IsSoundPlan, IsSoundOperator, domain_at, agg_domain_at}
 use Rattle.pj_scheme.specs.Derived.{mark_at, cut, are_kept, widened, schemes_at, inputs_schemes, projected, others_have, joined, node_schemes, derived_from, schemes_of}
 use Rattle.pj_scheme.specs.Fitting.{AreAsWide}
 use Rattle.pj_scheme.specs.Laws.{NodesFit, JoinsFit}
@@ -60,11 +60,11 @@ node_wide nodes done schema (Stream schemes) wide sound marks h = (sound.1 marks
 node_wide nodes done schema (Select input test) wide sound marks h = wide input marks h ∙ sym (ap length sound.0)
 node_wide nodes done schema (Project input columns) wide sound marks h =
     projected_length columns (schemes_at done input) marks h
-    ∙ sym (length-map columns (kind_at (node_schema nodes input))) ∙ sym (ap length sound.1) ∙ kinds_length schema
+    ∙ sym (length-map columns (domain_at (node_schema nodes input))) ∙ sym (ap length sound.1) ∙ domains_length schema
 node_wide nodes done schema (Union inputs) wide sound marks h =
     let r = In-flat_map (λ input. filter (others_have done inputs input) (schemes_at done input)) marks inputs h in
     let k = In-filter (others_have done inputs r.0) marks (schemes_at done r.0) r.2 in
-    wide r.0 marks k.0 ∙ sym (kinds_length (node_schema nodes r.0)) ∙ ap length (sound.3 r.0 r.1) ∙ kinds_length schema
+    wide r.0 marks k.0 ∙ sym (domains_length (node_schema nodes r.0)) ∙ ap length (sound.3 r.0 r.1) ∙ domains_length schema
 node_wide nodes done schema (Join inputs spec) wide sound marks h =
     let k = subst (λ (schemas : List (List Column)). In marks (joined 0 schemas (inputs_schemes done inputs))) sound.1 h in
     omega (arith, joined_length nodes done 0 inputs marks wide k, columns_length nodes inputs, ap length sound.2)
@@ -76,10 +76,10 @@ node_wide nodes done schema (Group input spec) wide sound marks h =
       widened_length 0 (length spec.aggs) r.0,
       projected_length spec.keys (schemes_at done input) r.0 r.1,
       ap length sound.2,
-      kinds_length schema,
-      length-append (map (kind_at (node_schema nodes input)) spec.keys) (map (agg_kind_at (node_schema nodes input)) spec.aggs),
-      length-map spec.keys (kind_at (node_schema nodes input)),
-      length-map spec.aggs (agg_kind_at (node_schema nodes input)),
+      domains_length schema,
+      length-append (map (domain_at (node_schema nodes input)) spec.keys) (map (agg_domain_at (node_schema nodes input)) spec.aggs),
+      length-map spec.keys (domain_at (node_schema nodes input)),
+      length-map spec.aggs (agg_domain_at (node_schema nodes input)),
     )
 
 -- ---- all nodes

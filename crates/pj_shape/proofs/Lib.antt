@@ -2,5 +2,5 @@ pub mod CellValues
 pub mod Certificates
 pub mod Classes
 pub mod Joining
-pub mod KindsOf
+pub mod DomainsOf
 pub mod Tested

@@ -4,8 +4,8 @@ use Rattle.std.proofs.lemmas.Bool.{and_parts, eqb-true, false≢true, ne_eqb}
 use Rattle.std.proofs.lemmas.List.{map-append}
 use Rattle.std.proofs.lemmas.List.Elements.{filter-append}
 use Rattle.pj_value.proofs.Members.{In-append_cases, In-append_left}
-use Rattle.pj_shape.specs.Columns.{kinds_of}
-use Rattle.pj_pattern.specs.Fitting.{FitsKinds}
+use Rattle.pj_shape.specs.Columns.{domains_of}
+use Rattle.pj_pattern.specs.Fitting.{FitsDomains}
 use Rattle.pj_pattern.specs.Patterns.{Pattern}
 use Rattle.pj_pattern.specs.declared.element.Element.{Element}
 use Rattle.pj_pattern.specs.declared.element.Element.TheVariants.{Tuple, Punct}
@@ -209,7 +209,7 @@ module _ (plan : List Node) (made : ArePlanned [] plan) (h : List Entry) (legal 
   holds : operator_at r.nodes (stream_node r.nodes s) ≡ Stream (schema_at plan s) (elements_of s h)
   holds = ap₂ operator_at nodes-are place ∙ streams-hold plan made h legal s there
 
-  feeds : (e : Element) → has r.closed s ≡ false → IsClearOf (elements_of s h) e → FitsKinds (kinds_of (schema_at plan s)) e → IsEventAllowed r (Arrive s e)
+  feeds : (e : Element) → has r.closed s ≡ false → IsClearOf (elements_of s h) e → FitsDomains (domains_of (schema_at plan s)) e → IsEventAllowed r (Arrive s e)
   feeds e free clear fits = (
     on,
     free,
@@ -255,7 +255,7 @@ rows-push (x ∷ turns) t a p c = (a.0, a.1, rows-push turns t a.2 p c)
 few : (s : ℕ) → s < 2 → s < length (streams_of (nodes_of pair_plan))
 few s lt = lt
 
-wide : (s : ℕ) → s < 2 → kinds_of (schema_at (nodes_of pair_plan) s) ≡ kinds true
+wide : (s : ℕ) → s < 2 → domains_of (schema_at (nodes_of pair_plan) s) ≡ kinds true
 wide zero lt = refl
 wide (suc zero) lt = refl
 wide (suc (suc s)) lt = absurd (omega (arith, lt))
@@ -284,7 +284,7 @@ fed-more a b s lt f c = record {
       feeds N (planned a.plan f.sound) h f.stands.legal (goes-on a h f.stands f.on) s (subst (λ (p : RunPlan). s < length (streams_of (nodes_of p))) (sym f.of_plan) (few s lt)) c.element
           (ap (λ (ns : List ℕ). has ns s) (unclosed-rows (begun N) f.turns f.rows))
           (clear-row (elements_of s h) c.element (clear-rows s f.turns f.rows))
-          (subst (λ (p : RunPlan). FitsKinds (kinds_of (schema_at (nodes_of p) s)) c.element) (sym f.of_plan) (subst (λ (ks : List _). FitsKinds ks c.element) (sym (wide s lt)) c.fits)),
+          (subst (λ (p : RunPlan). FitsDomains (domains_of (schema_at (nodes_of p) s)) c.element) (sym f.of_plan) (subst (λ (ks : List _). FitsDomains ks c.element) (sym (wide s lt)) c.fits)),
       inl refl,
     )
 

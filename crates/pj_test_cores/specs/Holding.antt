@@ -2,7 +2,7 @@
 use Rattle.std.specs.Prelude.{ℕ, ◌<◌, ◌≡◌, true, false, List, [], ◌∷◌, map, None}
 use Rattle.pj_plan.specs.Sound.{IsSoundPlan}
 use Rattle.pj_pattern.specs.declared.element.Element.{Element}
-use Rattle.pj_pattern.specs.Fitting.{FitsKinds}
+use Rattle.pj_pattern.specs.Fitting.{FitsDomains}
 use Rattle.pj_events.specs.declared.events.Entry.{Entry}
 use Rattle.pj_events.specs.Join.{In}
 use Rattle.pj_events.specs.OneThread.{Turn, arrival_of, is_punct}
@@ -22,7 +22,7 @@ pair_plan = run_plan pair_nodes pair_certs false
 -- a row of two numbers has arrived at the stream
 pub record HasCome (old new : CoreState) (stream : ℕ) : Type 0 where
   pub element : Element
-  pub fits : FitsKinds (kinds true) element
+  pub fits : FitsDomains (kinds true) element
   pub row : is_punct element ≡ false
   pub came : HasArrived old new (arrival_of (arriving_of stream element))
 

@@ -1,7 +1,7 @@
 -- Plans for the tests, with a certificate of each input of their joins.
 use Rattle.std.specs.Prelude.{ℕ, ◌≡◌, Bool, true, false, if◌then◌else◌, List, [], ◌∷◌, map, codes, Ok}
-use Rattle.pj_value.specs.declared.values.Kind.{Kind}
 use Rattle.pj_value.specs.declared.values.Kind.TheVariants.{Int}
+use Rattle.pj_value.specs.Values.{Domain}
 use Rattle.pj_shape.specs.declared.columns.Column.{Column}
 use Rattle.pj_shape.specs.declared.joins.CertStep.{CertStep}
 use Rattle.pj_shape.specs.declared.joins.JoinSpec.{JoinSpec}
@@ -21,7 +21,7 @@ use Rattle.pj_core.specs.Plans.{nodes_of, run_plan}
 
 -- ---- rows of one number, or of two where they are wide
 
-abbrev pub kinds : Bool → List Kind
+abbrev pub kinds : Bool → List Domain
 kinds wide = if wide then (Int ∷ Int ∷ []) else (Int ∷ [])
 
 -- ---- statements

@@ -1,7 +1,7 @@
 // What no clause says: that the calls succeed with ample memory, and what they give on runs by hand.
 ghost use Rattle.std.specs.Prelude.{◌≡◌, ◌<◌, ◌≤◌, ◌^◌, [], ◌∷◌, None, true, codes, length, IfOk, IsTrue};
-ghost use Rattle.pj_shape.specs.Columns.{kinds_of};
-ghost use Rattle.pj_pattern.specs.Fitting.{FitsKinds, row_fits, punct_fits};
+ghost use Rattle.pj_shape.specs.Columns.{domains_of};
+ghost use Rattle.pj_pattern.specs.Fitting.{FitsDomains, row_fits, punct_fits};
 ghost use Rattle.pj_plan.specs.Canonical.{node_at};
 ghost use Rattle.pj_plan.specs.Nodes.{inputs_of, is_join, streams_of, stream_columns, streams_in};
 ghost use Rattle.pj_core.specs.Calls.{IsOpen};
@@ -316,7 +316,7 @@ fn tower_core(alloc: Global, limit: u64, trace: bool) -> Option<Core>
 // ---- elements: of one number, or of two where they are wide
 
 fn are_numbers(columns: &[Column], wide: bool) -> bool
-    ensures { IsTrue result → kinds_of columns.now ≡ kinds wide }
+    ensures { IsTrue result → domains_of columns.now ≡ kinds wide }
 {
     if wide {
         columns.len() == 2 && columns[0].kind == Kind::Int && columns[1].kind == Kind::Int
@@ -337,7 +337,7 @@ fn columns_at(plan: &Plan, stream: u32) -> &[Column]
 
 pub(crate) fn takes(plan: &Plan, stream: u32, wide: bool) -> bool
     ensures there { IsTrue result → stream < length (streams_of plan.now.nodes) }
-    ensures fits { IsTrue result → kinds_of (stream_columns (streams_in plan.now.nodes) stream) ≡ kinds wide }
+    ensures fits { IsTrue result → domains_of (stream_columns (streams_in plan.now.nodes) stream) ≡ kinds wide }
 {
     if (stream as usize) < plan.streams().len() {
         are_numbers(columns_at(plan, stream), wide)
@@ -400,7 +400,7 @@ fn punct_of(stream: u32, wide: bool, n: i64) -> Given {
 }
 
 fn element(alloc: Global, given: Given) -> Result<Element, NoMemory>
-    ensures { IfOk result (λ e. FitsKinds (kinds given.wide) e) }
+    ensures { IfOk result (λ e. FitsDomains (kinds given.wide) e) }
 {
     if given.punct {
         Ok(Element::Punct(punct(alloc, given.wide, given.n)?))

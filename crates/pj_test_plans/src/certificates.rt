@@ -1,6 +1,6 @@
 // Worked lists of steps, sets of inputs and rows of a join.
 ghost use Rattle.std.specs.Prelude.{◌≡◌, ◌<◌, ◌∷◌, [], true, false, length, IfOk};
-ghost use Rattle.pj_shape.specs.Columns.{kinds_of};
+ghost use Rattle.pj_shape.specs.Columns.{domains_of};
 ghost use Rattle.pj_pattern.specs.Fitting.{row_fits};
 ghost use Rattle.pj_test_plans.specs.ThreeInputs.{at, number, pair, pairs, firsts, seconds, sample, sample_schemes};
 ghost use Rattle.pj_cert.specs.Instances.{constants_of};
@@ -225,7 +225,7 @@ fn lines_of_a_stuck_input_are_made(rt: HostRuntime) {
 }
 
 fn first_row(alloc: Global) -> Result<Row, NoMemory>
-    ensures { IfOk result (λ row. row_fits (kinds_of pair) row ≡ true) }
+    ensures { IfOk result (λ row. row_fits (domains_of pair) row ≡ true) }
 {
     let schema = schema(alloc)?;
     blank_row(alloc, &schema)

@@ -1,7 +1,7 @@
 -- The auction's plan behind a hub.
 use Rattle.std.proofs.Common.{ℕ, ◌<◌, true, false, Result, Ok, Err, length, get_or, sym, ap, ◌∙◌, subst, arith}
 use Rattle.std.specs.Prelude.{IfOk}
-use Rattle.pj_shape.specs.Columns.{kinds_of}
+use Rattle.pj_shape.specs.Columns.{domains_of}
 use Rattle.pj_plan.specs.Canonical.{no_node}
 use Rattle.pj_plan.specs.Sound.{IsSoundPlan}
 use Rattle.pj_scheme.specs.Derived.{schemes_of}
@@ -27,8 +27,8 @@ has-input plan sound join input has lt = (
 pub auction-of : (plan : RunPlan) (limit : ℕ) → IsSoundPlan plan.nodes → IsAuctionPlan plan.nodes → IsAuction (record { nodes = nodes_of plan; limit = limit; trace = plan.trace })
 auction-of plan limit sound is = record {
   two = ap length (same-streams plan) ∙ is.two;
-  items = ap kinds_of (schema-is plan 0 (let two = is.two in omega (arith, two))) ∙ is.items;
-  bids = ap kinds_of (schema-is plan 1 (let two = is.two in omega (arith, two))) ∙ is.bids;
+  items = ap domains_of (schema-is plan 0 (let two = is.two in omega (arith, two))) ∙ is.items;
+  bids = ap domains_of (schema-is plan 1 (let two = is.two in omega (arith, two))) ∙ is.bids;
   first = has-input plan sound 2 0 is.join (omega arith);
   second = has-input plan sound 2 1 is.join (omega arith);
 }

@@ -1,13 +1,13 @@
 // The auction through a hub: two threads feed it, each on a seat of its own, and probes of two seats are under way at once.
 ghost use Rattle.std.specs.Prelude.{◌≡◌, ◌<◌, ◌≤◌, ℕ, [], ◌∷◌, length, slice_get, Some, IfOk, IfSome, IsTrue};
-ghost use Rattle.pj_shape.specs.Columns.{kinds_of};
-ghost use Rattle.pj_pattern.specs.Fitting.{FitsKinds};
+ghost use Rattle.pj_shape.specs.Columns.{domains_of};
+ghost use Rattle.pj_pattern.specs.Fitting.{FitsDomains};
 ghost use Rattle.pj_plan.specs.Nodes.{streams_of, stream_columns, streams_in};
 ghost use Rattle.pj_safety.specs.Certificates.{AreCertificates, certificates_of};
 ghost use Rattle.pj_hub.specs.Hubs.{hub_with, shared_with};
 ghost use Rattle.pj_hub.specs.Seated.{AreNewSeats, hub_made, hub_seats};
 ghost use Rattle.pj_turn.specs.Seats.{IsNewSeat, IsSeat, seat_name, seat_number};
-ghost use Rattle.pj_test_threads.specs.Auctions.{HasJoin, IsAuction, IsAuctionPlan, IsHeld, IsPair, bid_kinds, item_kinds};
+ghost use Rattle.pj_test_threads.specs.Auctions.{HasJoin, IsAuction, IsAuctionPlan, IsHeld, IsPair, bid_domains, item_domains};
 
 use pj_alone::{Judged, judge};
 use pj_core::{Out, Probe, Stop};
@@ -33,7 +33,7 @@ const JOIN: u32 = 2;
 // ---- elements
 
 fn item(alloc: Global, number: i64) -> Result<Row, NoMemory>
-    ensures { IfOk result (λ row. FitsKinds item_kinds (Element.Tuple row)) }
+    ensures { IfOk result (λ row. FitsDomains item_domains (Element.Tuple row)) }
 {
     let seller = SharedText::copy_of(alloc, b"ann")?;
     let mut values = List::new(alloc);
@@ -43,7 +43,7 @@ fn item(alloc: Global, number: i64) -> Result<Row, NoMemory>
 }
 
 fn bid(alloc: Global, number: i64, price: i64) -> Result<Row, NoMemory>
-    ensures { IfOk result (λ row. FitsKinds bid_kinds (Element.Tuple row)) }
+    ensures { IfOk result (λ row. FitsDomains bid_domains (Element.Tuple row)) }
 {
     let mut values = List::new(alloc);
     values.push(Value::Int(number))?;
@@ -53,8 +53,8 @@ fn bid(alloc: Global, number: i64, price: i64) -> Result<Row, NoMemory>
 
 // No further tuple of this number.
 fn closing(alloc: Global, number: i64) -> Result<Punct, NoMemory>
-    ensures items { IfOk result (λ punct. FitsKinds item_kinds (Element.Punct punct)) }
-    ensures bids { IfOk result (λ punct. FitsKinds bid_kinds (Element.Punct punct)) }
+    ensures items { IfOk result (λ punct. FitsDomains item_domains (Element.Punct punct)) }
+    ensures bids { IfOk result (λ punct. FitsDomains bid_domains (Element.Punct punct)) }
 {
     let mut patterns = List::new(alloc);
     patterns.push(Pattern::constant(Value::Int(number)))?;
@@ -73,7 +73,7 @@ fn pair(alloc: Global, row: Row, punct: Punct) -> Result<Vec<Element>, NoMemory>
 
 // The item, and that no other of its number comes.
 fn items(alloc: Global) -> Result<Vec<Element>, NoMemory>
-    ensures { IfOk result (λ es. IsPair item_kinds es.items) }
+    ensures { IfOk result (λ es. IsPair item_domains es.items) }
 {
     let row = item(alloc, 1)?;
     let punct = closing(alloc, 1)?;
@@ -82,7 +82,7 @@ fn items(alloc: Global) -> Result<Vec<Element>, NoMemory>
 
 // A bid for it, and that no other comes.
 fn bids(alloc: Global) -> Result<Vec<Element>, NoMemory>
-    ensures { IfOk result (λ es. IsPair bid_kinds es.items) }
+    ensures { IfOk result (λ es. IsPair bid_domains es.items) }
 {
     let row = bid(alloc, 1, 50)?;
     let punct = closing(alloc, 1)?;
@@ -92,13 +92,13 @@ fn bids(alloc: Global) -> Result<Vec<Element>, NoMemory>
 // ---- the plan
 
 fn are_items(columns: &[Column]) -> bool
-    ensures { IsTrue result → kinds_of columns.now ≡ item_kinds }
+    ensures { IsTrue result → domains_of columns.now ≡ item_domains }
 {
     columns.len() == 2 && columns[0].kind == Kind::Int && columns[1].kind == Kind::Text
 }
 
 fn are_bids(columns: &[Column]) -> bool
-    ensures { IsTrue result → kinds_of columns.now ≡ bid_kinds }
+    ensures { IsTrue result → domains_of columns.now ≡ bid_domains }
 {
     columns.len() == 2 && columns[0].kind == Kind::Int && columns[1].kind == Kind::Int
 }
@@ -241,8 +241,8 @@ fn feed<R: Wait>(
     requires new { IsNewSeat shared_with hub.now.turn stream seat.old }
     requires auction { IsAuction (hub_with (hub_made hub.now)) }
     requires few { stream ≤ 1 }
-    requires items { stream ≡ 0 → IfOk elements (λ es. IsPair item_kinds es.items) }
-    requires bids { stream ≡ 1 → IfOk elements (λ es. IsPair bid_kinds es.items) }
+    requires items { stream ≡ 0 → IfOk elements (λ es. IsPair item_domains es.items) }
+    requires bids { stream ≡ 1 → IfOk elements (λ es. IsPair bid_domains es.items) }
     ensures same { (seat_name seat.new ≡ seat_name seat.old) × (seat_number seat.new ≡ seat_number seat.old) }
 {
     match elements {
@@ -363,7 +363,7 @@ fn held<H: Hub, R: Wait>(
     requires numbers { (H.number one.old ≡ 0) × (H.number other.old ≡ 1) }
     requires seen { (H.seen one.old ≡ []) × (H.seen other.old ≡ []) }
     requires auction { IsAuction (H.plan hub.now) }
-    requires fits { IsPair item_kinds items.items × IsPair bid_kinds bids.items }
+    requires fits { IsPair item_domains items.items × IsPair bid_domains bids.items }
 {
     feed_all(rt, hub, one, 0, items)?;
     feed_all(rt, hub, other, 1, bids)?;

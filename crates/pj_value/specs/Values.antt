@@ -22,6 +22,13 @@ is_kind KInt (Text bytes) = false
 is_kind KText (Int n) = false
 is_kind KText (Text bytes) = true
 
+-- which values fit a column: those of its kind
+abbrev pub Domain : Type 0
+Domain = Kind
+
+abbrev pub value_fits : Domain → Value → Bool
+value_fits domain v = is_kind domain v
+
 -- integers by size, texts bytewise with a proper prefix first, every integer before every text
 abbrev pub value_cmp : Value → Value → Ordering
 value_cmp (Int m) (Int n) = int_cmp m n

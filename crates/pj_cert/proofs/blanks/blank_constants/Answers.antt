@@ -1,6 +1,6 @@
 use Rattle.std.proofs.Common.{Bool, cond, List, ◌∷◌, [], ◌++◌, ◌∙◌, ap, sym, arith, append-nil}
 use Rattle.pj_value.specs.declared.values.Value.{Value}
-use Rattle.pj_shape.specs.Columns.{kinds_of}
+use Rattle.pj_shape.specs.Columns.{domains_of}
 use Rattle.pj_cert.specs.Instances.{blank, blanks, marked}
 use Rattle.pj_cert.proofs.BlankOnes.{marked_on, none_marked, unmarked_on}
 use Rattle.pj_cert.proofs.blanks.blank_constants.Goals as goal
@@ -8,7 +8,7 @@ use Rattle.pj_cert.proofs.blanks.blank_constants.Goals.{then-at+in_ok-blank+in_o
 
 pub loop-n-preserved : goal.loop-n-preserved
 loop-n-preserved c =
-    let whole = blanks (marked c.args.scheme.now (kinds_of c.args.schema.now)) in
+    let whole = blanks (marked c.args.scheme.now (domains_of c.args.schema.now)) in
     elim c.if-at.branch [
       | then-at+in_ok-blank+in_ok-push w ↦
           marked_on c.loop-n.constants c.if-at.constants whole c.args.scheme.now c.args.schema.now c.loop-n.n c.at.result.now w.at-then-at.result.now

@@ -1,6 +1,6 @@
 use Rattle.std.proofs.Common.{Bool, List, ◌++◌, ◌∙◌, ap, arith, length, get_or, subst, ◌<◌}
 use Rattle.pj_shape.specs.declared.columns.Column.{Column}
-use Rattle.pj_shape.specs.Columns.{kinds_of}
+use Rattle.pj_shape.specs.Columns.{domains_of}
 use Rattle.pj_graph.proofs.Steps.{lists_length}
 use Rattle.pj_cert.specs.Instances.{blank_input, blank_instances_of}
 use Rattle.pj_cert.proofs.BlankOnes.{blank_on}
@@ -18,4 +18,4 @@ loop-input-preserved c =
     (c.schema-item.is ∙ ap (λ (schemas : List (List Column)). get_or schemas c.loop-input.input c.schema-item.result) c.as_slice-schema-items.ensures)
     c.at.ensures
     (c.in_ok-append_input.ensures
-    ∙ ap (λ (list : List (List Bool)). c.loop-input.listed ++ blank_input c.args.reached.now c.loop-input.input (kinds_of c.schema-item.result) list) c.as_slice-list.ensures)
+    ∙ ap (λ (list : List (List Bool)). c.loop-input.listed ++ blank_input c.args.reached.now c.loop-input.input (domains_of c.schema-item.result) list) c.as_slice-list.ensures)
