@@ -209,13 +209,13 @@ fn tower(alloc: Global) -> Result<List<Stated>, NoMemory>
 
 // ---- certificates
 
-fn step(input: u32, scheme: u32) -> CertStep
+pub(crate) fn step(input: u32, scheme: u32) -> CertStep
     ensures { result ≡ step_of input scheme }
 {
     CertStep { input, scheme }
 }
 
-fn cert(alloc: Global, steps: &[CertStep]) -> Result<Cert, NoMemory>
+pub(crate) fn cert(alloc: Global, steps: &[CertStep]) -> Result<Cert, NoMemory>
     ensures { IfOk result (λ c. c ≡ steps.now) }
 {
     Ok(Cert::of(List::copy_of(alloc, steps)?))
@@ -371,15 +371,15 @@ fn punct(alloc: Global, wide: bool, n: i64) -> Result<Punct, NoMemory>
 
 // An element of a stream: a punctuation of its first number, or a tuple.
 #[derive(Clone, Copy)]
-struct Given {
-    stream: u32,
+pub(crate) struct Given {
+    pub(crate) stream: u32,
     punct: bool,
-    wide: bool,
+    pub(crate) wide: bool,
     n: i64,
     m: i64,
 }
 
-fn tuple_of(stream: u32, wide: bool, n: i64, m: i64) -> Given {
+pub(crate) fn tuple_of(stream: u32, wide: bool, n: i64, m: i64) -> Given {
     Given {
         stream,
         punct: false,
@@ -389,7 +389,7 @@ fn tuple_of(stream: u32, wide: bool, n: i64, m: i64) -> Given {
     }
 }
 
-fn punct_of(stream: u32, wide: bool, n: i64) -> Given {
+pub(crate) fn punct_of(stream: u32, wide: bool, n: i64) -> Given {
     Given {
         stream,
         punct: true,
@@ -399,7 +399,7 @@ fn punct_of(stream: u32, wide: bool, n: i64) -> Given {
     }
 }
 
-fn element(alloc: Global, given: Given) -> Result<Element, NoMemory>
+pub(crate) fn element(alloc: Global, given: Given) -> Result<Element, NoMemory>
     ensures { IfOk result (λ e. FitsDomains (kinds given.wide) e) }
 {
     if given.punct {
@@ -421,7 +421,7 @@ fn count_of(given: Result<List<Out>, Stop>) -> i64 {
 }
 
 // What the turn gave that brought an element.
-fn bring(alloc: Global, core: &mut Core, given: Given) -> i64 {
+pub(crate) fn bring(alloc: Global, core: &mut Core, given: Given) -> i64 {
     if takes(core.plan(), given.stream, given.wide) {
         match element(alloc, given) {
             Ok(element) => count_of(core.turn(given.stream, element)),
@@ -509,7 +509,7 @@ fn the_limit_of_a_join_above_a_join_stops_it(rt: HostRuntime) {
 }
 
 // How many outputs the turn gave that closed a stream.
-fn close(core: &mut Core, stream: u32) -> i64 {
+pub(crate) fn close(core: &mut Core, stream: u32) -> i64 {
     if (stream as usize) < core.plan().streams().len() {
         count_of(core.closing_turn(stream))
     } else {
@@ -645,7 +645,7 @@ fn told(out: &Out) -> (u32, usize, i64) {
     }
 }
 
-fn told_at(outs: &List<Out>, at: usize) -> (u32, usize, i64) {
+pub(crate) fn told_at(outs: &List<Out>, at: usize) -> (u32, usize, i64) {
     match outs.as_slice().get(at) {
         Some(out) => told(out),
         None => (90, 0, 0),
