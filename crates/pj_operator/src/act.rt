@@ -1,5 +1,5 @@
 // What the joins of a core do of their own.
-ghost use Rattle.std.specs.Prelude.{None, ◌≡◌, ◌<◌, ◌≤◌, ◌++◌, ◌^◌, max, map, length, take, slice_set, IfOk, IfErr, OnOk, OnErr};
+ghost use Rattle.std.specs.Prelude.{None, ◌≡◌, ◌<◌, ◌≤◌, length, take, IfOk, IfErr, OnOk, OnErr};
 ghost use Rattle.pj_events.specs.Join.{Give};
 ghost use Rattle.pj_operator.specs.Cells.{AreLinked, IsOrderly, KeepsOpen, cell_at, frame_of, frames_in, kept_seen, kind_of, stored_kept, IsTakenIn, pending_kept};
 ghost use Rattle.pj_operator.specs.Climbing.{AreOrderly, StayOpen};

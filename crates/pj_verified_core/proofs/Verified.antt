@@ -15,7 +15,6 @@ use Rattle.pj_plan.specs.Sound.{IsSoundOperator, IsSoundPlan}
 use Rattle.pj_scheme.specs.Derived.{inputs_schemes, schemes_of}
 use Rattle.pj_scheme.proofs.Wide.{joins_fit}
 use Rattle.pj_events.specs.Join.{AreCertified}
-use Rattle.pj_events.specs.Plan.{operator_at}
 use Rattle.pj_laws.specs.HistoryLaws.{AllAreCertified, Certified}
 use Rattle.pj_join.specs.Joins.{join_data}
 use Rattle.pj_core.specs.Plans.{nodes_of, operator_of, run_plan}
