@@ -1,9 +1,10 @@
 -- Punctuations and rows, column by column.
-use Rattle.std.proofs.Common.{ℕ, zero, suc, ◌≡◌, ◌+◌, ◌<◌, Bool, Some, drop, get_or, true, false, ◌&&◌, List, [], ◌∷◌, ◌++◌, length, refl, ap, sym, ◌∙◌, arith, length-append}
+use Rattle.std.proofs.Common.{ℕ, zero, suc, ◌≡◌, ◌+◌, ◌<◌, Bool, Some, drop, take, get_or, true, false, ◌&&◌, List, [], ◌∷◌, ◌++◌, length, refl, ap, sym, ◌∙◌, arith, length-append}
 use Rattle.std.specs.List.{slice_get}
 use Rattle.std.proofs.lemmas.Option.{get_or_from_slice_get, slice_get_within}
 use Rattle.std.proofs.lemmas.List.{drop_more, length-replicate}
 use Rattle.std.proofs.Math.Bool.{and-false, and_assoc}
+use Rattle.std.proofs.Math.Seq.{take-append_seam}
 use Rattle.std.proofs.lemmas.Bool.{and_from}
 use Rattle.pj_value.specs.declared.values.Value.{Value}
 use Rattle.pj_pattern.specs.Patterns.{Pattern, covers_pattern, matches_all, matches_value}
@@ -29,6 +30,10 @@ matches-append [] qs [] ws l = refl
 matches-append [] qs (v ∷ vs) ws l = absurd (omega (arith, l))
 matches-append (p ∷ ps) qs [] ws l = absurd (omega (arith, l))
 matches-append (p ∷ ps) qs (v ∷ vs) ws l = ap (λ b. matches_value p v && b) (matches-append ps qs vs ws (omega (arith, l))) ∙ sym (and_assoc (matches_value p v) (matches_row ps vs) (matches_row qs ws))
+
+-- what is appended leaves what stood there in front
+pub front_of : (front zs all : List Pattern) → all ≡ front ++ zs → take (length front) all ≡ front
+front_of front zs all is = ap (take (length front)) is ∙ take-append_seam front zs
 
 -- ---- wildcards alone
 

@@ -1,5 +1,5 @@
 // A punctuation: a pattern for each column.
-ghost use Rattle.std.specs.Prelude.{◌≡◌, ◌<◌, ◌≤◌, ◌+◌, ◌++◌, ◌||◌, All, IfOk, OnOk, length, slice_get, Some};
+ghost use Rattle.std.specs.Prelude.{◌≡◌, ◌<◌, ◌≤◌, ◌+◌, ◌++◌, ◌||◌, All, IfOk, OnErr, OnOk, length, slice_get, take, Some};
 ghost use Rattle.pj_value.specs.Lists.{has};
 ghost use Rattle.pj_pattern.specs.Columns.{all_wild, covers_punct, keep_of, matches_row, others_wild, picked_patterns, widen_of};
 ghost use Rattle.pj_pattern.specs.Patterns.{is_wild};
@@ -114,9 +114,11 @@ impl Punct {
     }
 }
 
-/// Appends so many wildcards. `NoMemory` comes only where memory could not be had.
+/// Appends so many wildcards, or `NoMemory`, and then what stood there stands in front of some of them.
+#[tactic(auto, using(crate::proofs::Rows::front_of))]
 pub fn append_wild(count: usize, patterns: &mut List<Pattern>) -> Result<(), NoMemory>
-    ensures { OnOk result (patterns.new ≡ patterns.old ++ all_wild count) }
+    ensures ok { OnOk result (patterns.new ≡ patterns.old ++ all_wild count) }
+    ensures err { OnErr result (take (length patterns.old) patterns.new ≡ patterns.old) }
 {
     for _column in 0..count {
         patterns.push(Pattern::wild())?;
@@ -124,13 +126,15 @@ pub fn append_wild(count: usize, patterns: &mut List<Pattern>) -> Result<(), NoM
     Ok(())
 }
 
-/// Appends equal patterns. `NoMemory` comes only where memory could not be had.
+/// Appends equal patterns, or `NoMemory`, and then what stood there stands in front of some of them.
+#[tactic(auto, using(crate::proofs::Rows::front_of))]
 pub fn append_copies(
     alloc: Global,
     patterns: &[Pattern],
     out: &mut List<Pattern>,
 ) -> Result<(), NoMemory>
-    ensures { OnOk result (out.new ≡ out.old ++ patterns.now) }
+    ensures ok { OnOk result (out.new ≡ out.old ++ patterns.now) }
+    ensures err { OnErr result (take (length out.old) out.new ≡ out.old) }
 {
     for pattern in patterns {
         out.push(pattern.copy(alloc)?)?;
