@@ -1,5 +1,5 @@
 -- The node that a statement without fault declares is sound over the nodes before it.
-use Rattle.std.proofs.Common.{ℕ, ◌<◌, ◌≤◌, ◌≡◌, length, arith, true, false, ◌&&◌, ◌||◌, List, [], ◌∷◌, ◌++◌, map, flat_map, take, nat_le, nat_lt, refl, sym, ap, ◌∙◌, subst, inl, inr, append-nil, length-append}
+use Rattle.std.proofs.Common.{ℕ, ◌<◌, ◌≤◌, ◌≡◌, length, arith, true, false, ◌&&◌, ◌||◌, List, [], ◌∷◌, ◌++◌, map, flat_map, take, nat_le, nat_lt, refl, sym, ap, ◌∙◌, subst, inl, inr, length-append}
 use Rattle.std.specs.List.{list_all, list_any}
 use Rattle.std.proofs.lemmas.Bool.{and_parts, or_parts, not-false, leb-true, leb-false, ltb-false, false≢true, false_from_ne_true}
 use Rattle.std.proofs.lemmas.List.{length-map}
@@ -23,13 +23,13 @@ use Rattle.pj_plan.specs.Words.{agg_columns}
 use Rattle.pj_plan.specs.Nodes.{inputs_of, is_stream}
 use Rattle.pj_plan.specs.Made.{number_of, schema_of, first_schema, columns_of, result_schema, node_of, old_number, renamed_column, group_schema, key_column, agg_column, column_number, stream_column}
 use Rattle.pj_plan.specs.Canonical.{node_schema}
-use Rattle.pj_plan.specs.Faults.{is_known, has_column, are_alike, is_unlike, has_two_kinds, has_one_input_twice, share_a_column, is_too_wide, stream_count}
+use Rattle.pj_plan.specs.Faults.{is_known, has_column, are_alike, is_unlike, are_unlike, names_text_sum, has_two_kinds, has_one_input_twice, share_a_column, is_too_wide, stream_count}
 use Rattle.pj_plan.specs.Sound.{AreDistinct, name_of, domain_at, column_at, columns_of_first, group_domains, IsSoundSchema, IsSoundGroup, IsSoundOperator, IsSoundNode}
 use Rattle.pj_plan.proofs.Lists.{classes_distinct, distinct_left, distinct_right}
 use Rattle.pj_plan.proofs.ByName.{names_differ, number_schema}
 use Rattle.pj_plan.proofs.Classes.{joined, IsGoodClass}
 use Rattle.pj_plan.proofs.Operators.{test_fits, project_domains, project_there, alike_domains, IsGoodJoin, sound_spec, IsGoodGroup, group_of, sound_group, domains_of_group, keys_first}
-use Rattle.pj_plan.proofs.NoFaults.{HasNone, AreFree, name_known, inputs_free, known_schema, column_known, has_room}
+use Rattle.pj_plan.proofs.NoFaults.{HasNone, AreFree, name_known, inputs_free, known_schema, columns_of_one, column_known, tests_suit, has_room}
 
 -- the node suits those before it
 pub record IsGoodNode (nodes : List PlanNode) (node : PlanNode) : Type 0 where
@@ -80,14 +80,10 @@ select_good draft name input tests each none =
       fresh = none.name;
       schema = schema;
       inputs = inputs_free draft statement none;
-      operator = (sym (number_schema nodes input), test_fits (schema_of nodes input) tests schema.names none.kinds);
+      operator = (sym (number_schema nodes input), test_fits (schema_of nodes input) tests schema.names (tests_suit nodes input tests none.kinds));
     }
 
 -- ---- a project
-
--- the columns of a single input
-pub columns_of_one : (nodes : List PlanNode) (input : List ℕ) → columns_of nodes (input ∷ []) ≡ schema_of nodes input
-columns_of_one nodes input = append-nil (schema_of nodes input)
 
 project_suits : (nodes : List PlanNode) (input : List ℕ) (columns : List Renamed) → ((w : Renamed) → In w columns → has_column (schema_of nodes input) w.old ≡ true)
     → IsSoundOperator nodes (map (renamed_column (schema_of nodes input)) columns) (ProjectNode (number_of nodes input) (map (old_number (schema_of nodes input)) columns))
@@ -103,7 +99,7 @@ project_good draft name input columns spelled none =
     let room = has_room draft statement none.few in
     let words = and_parts (is_name name && is_name input) (has_some columns && list_all (λ column. is_column_name column.new && is_column_name column.old) columns) spelled in
     let some = some_length columns (and_parts (has_some columns) (list_all (λ column. is_column_name column.new && is_column_name column.old) columns) words.1).0 in
-    let known : (w : Renamed) → In w columns → has_column (schema_of nodes input) w.old ≡ true = λ w h. subst (λ (cs : List Column). has_column cs w.old ≡ true) (columns_of_one nodes input) (column_known draft statement w.old none (In-map_from (λ (column : Renamed). column.old) w columns h)) in
+    let known : (w : Renamed) → In w columns → has_column (schema_of nodes input) w.old ≡ true = λ w h. subst (λ (cs : List Column). has_column cs w.old ≡ true) (columns_of_one nodes input) (column_known draft statement w.old none (In-append_left w.old (map (λ column. column.old) columns) [] (In-map_from (λ (column : Renamed). column.old) w columns h))) in
     record {
       room = room.0;
       streams = λ t. absurd (false≢true t);
@@ -131,7 +127,7 @@ union_good draft name inputs spelled each none =
     let two : 2 ≤ length inputs = leb-true 2 (length inputs) (and_parts (nat_le 2 (length inputs)) (list_all is_name inputs) (and_parts (is_name name) (are_inputs inputs) spelled).1).0 in
     let few : length inputs ≤ 16 = ltb-false 16 (length inputs) limits.0 in
     let alike : (n : List ℕ) → In n inputs → are_alike (first_schema nodes inputs) (schema_of nodes n) ≡ true = λ n h. not-false (are_alike (first_schema nodes inputs) (schema_of nodes n)) (false_from_ne_true (is_unlike (first_schema nodes inputs) (schema_of nodes n))
-    (λ t. none_at (is_unlike (first_schema nodes inputs)) (map (schema_of nodes) inputs) (schema_of nodes n) none.kinds (In-map_from (schema_of nodes) n inputs h) t)) in
+    (λ t. none_at (is_unlike (first_schema nodes inputs)) (map (schema_of nodes) inputs) (schema_of nodes n) (or_parts (are_unlike nodes inputs) false none.kinds).0 (In-map_from (schema_of nodes) n inputs h) t)) in
     record {
       room = (has_room draft statement limits.1).0;
       streams = λ t. absurd (false≢true t);
@@ -178,8 +174,8 @@ join_words draft name inputs classes spelled none words h =
     let bad = or_parts (list_any (has_one_input_twice (map (schema_of nodes) inputs)) classes) (share_a_column classes) none.classes in
     record {
       two = leb-true 2 (length words) (and_parts (nat_le 2 (length words)) (list_all is_column_name words) (all_at is_class classes words spelled h)).0;
-      known = λ w l. subst (λ (cs : List Column). has_column cs w ≡ true) (sym (columns_joined nodes inputs)) (column_known draft (Join name inputs classes) w none (In-flat_map_from (λ class. class) w words classes h l));
-      kinds = subst (λ (cs : List Column). has_two_kinds cs words ≡ false) (sym (columns_joined nodes inputs)) (false_from_ne_true (has_two_kinds (columns_of nodes inputs) words) (λ t. none_at (has_two_kinds (columns_of nodes inputs)) classes words none.kinds h t));
+      known = λ w l. subst (λ (cs : List Column). has_column cs w ≡ true) (sym (columns_joined nodes inputs)) (column_known draft (Join name inputs classes) w none (In-append_left w (flat_map (λ class. class) classes) [] (In-flat_map_from (λ class. class) w words classes h l)));
+      kinds = subst (λ (cs : List Column). has_two_kinds cs words ≡ false) (sym (columns_joined nodes inputs)) (false_from_ne_true (has_two_kinds (columns_of nodes inputs) words) (λ t. none_at (has_two_kinds (columns_of nodes inputs)) classes words (or_parts (list_any (has_two_kinds (columns_of nodes inputs)) classes) false none.kinds).0 h t));
       once = false_from_ne_true (has_one_input_twice (map (schema_of nodes) inputs) words) (λ t. none_at (has_one_input_twice (map (schema_of nodes) inputs)) classes words bad.0 h t);
       distinct = distinct_member (λ class. class) words classes (classes_distinct classes bad.1) h;
     }
@@ -191,8 +187,8 @@ join_good draft name inputs classes spelled each none =
     let statement : Statement = Join name inputs classes in
     let schemas : List (List Column) = map (schema_of nodes) inputs in
     let bad = or_parts (list_any (has_one_input_twice schemas) classes) (share_a_column classes) none.classes in
-    let limits = or_parts (nat_lt 16 (length inputs) || nat_lt 32 (length classes)) (is_too_wide draft statement) none.few in
-    let fews = or_parts (nat_lt 16 (length inputs)) (nat_lt 32 (length classes)) limits.0 in
+    let fews = or_parts (nat_lt 16 (length inputs)) (nat_lt 32 (length classes) || is_too_wide draft statement) none.few in
+    let limits = or_parts (nat_lt 32 (length classes)) (is_too_wide draft statement) fews.1 in
     let room = has_room draft statement limits.1 in
     let parts = and_parts (is_name name && are_inputs inputs) (has_some classes && list_all is_class classes) spelled in
     let two : 2 ≤ length inputs = leb-true 2 (length inputs) (and_parts (nat_le 2 (length inputs)) (list_all is_name inputs) (and_parts (is_name name) (are_inputs inputs) parts.0).1).0 in
@@ -202,7 +198,7 @@ join_good draft name inputs classes spelled each none =
       two = rw (length-map inputs (schema_of nodes)) two;
       few_inputs = rw (length-map inputs (schema_of nodes)) (ltb-false 16 (length inputs) fews.0);
       one = some_length classes words.0;
-      few_classes = ltb-false 32 (length classes) fews.1;
+      few_classes = ltb-false 32 (length classes) limits.0;
       few_columns = subst (λ (cs : List Column). length cs ≤ 120) (sym (columns_joined nodes inputs)) room.1;
       names = subst (λ (cs : List Column). AreDistinct (map name_of cs)) (sym (columns_joined nodes inputs)) names;
       good = join_words draft name inputs classes words.1 none;
@@ -233,7 +229,7 @@ group_words draft name input keys aggs spelled none =
       known_keys = λ k h. known k (In-append_left k keys named h);
       known_aggs = λ agg h n l. known n (In-append_right n keys named (In-flat_map_from (λ (a : NamedAgg). agg_columns a.agg) n agg aggs h l));
       names = names_differ (group_schema columns keys aggs) none.different;
-      sums = none.kinds;
+      sums = subst (λ (cs : List Column). list_any (names_text_sum cs) aggs ≡ false) (columns_of_one nodes input) none.kinds;
     }
 
 group_suits : (nodes : List PlanNode) (input : List ℕ) (keys : List (List ℕ)) (aggs : List NamedAgg) → IsGoodGroup (schema_of nodes input) keys aggs

@@ -1,5 +1,5 @@
 -- What is declared stays sound from statement to statement, and the plan at the end is sound.
-use Rattle.std.proofs.Common.{ℕ, zero, suc, ◌+◌, ◌<◌, ◌≤◌, ◌≡◌, ◌⊎◌, length, arith, Bool, true, false, cond, not, ◌&&◌, ◌==◌, List, [], ◌∷◌, ◌++◌, Some, None, Option, Ok, MatchOption, map, filter, refl, sym, ap, ◌∙◌, subst, inl, inr, append-nil, length-append}
+use Rattle.std.proofs.Common.{ℕ, zero, suc, ◌+◌, ◌<◌, ◌≤◌, ◌≡◌, ◌⊎◌, length, arith, Bool, true, false, cond, not, ◌&&◌, ◌==◌, List, [], ◌∷◌, ◌++◌, Some, None, Option, Ok, MatchOption, map, filter, nat_le, refl, sym, ap, ◌∙◌, subst, inl, inr, append-nil, length-append}
 use Rattle.std.specs.Str.{bytes_eq}
 use Rattle.std.specs.List.{list_all, list_any}
 use Rattle.std.proofs.lemmas.Bool.{and_parts, or_parts, not-false, leb-false, eqb-true, cases_lt, false≢true}
@@ -116,7 +116,7 @@ with_marks draft stream marks sound none =
       few = rw (scheme_length stream marks nodes) sound.few;
       few_streams = rw (scheme_streams stream marks nodes) sound.few_streams;
       names = rw (scheme_names stream marks nodes) sound.names;
-      each = λ n lt. scheme_sound stream marks nodes n (leb-false 16 (scheme_count nodes stream) none.few) (scheme_suits draft stream marks none) (sound.each n (subst (λ (k : ℕ). n < k) (scheme_length stream marks nodes) lt));
+      each = λ n lt. scheme_sound stream marks nodes n (leb-false 16 (scheme_count nodes stream) (or_parts (nat_le 16 (scheme_count nodes stream)) false none.few).0) (scheme_suits draft stream marks none) (sound.each n (subst (λ (k : ℕ). n < k) (scheme_length stream marks nodes) lt));
       once = rw (scheme_inputs stream marks nodes) sound.once;
       ended = rw (not_there draft.output (and_true (is_there draft.output) none.last)) tt;
     }

@@ -24,12 +24,13 @@ use Rattle.pj_plan.specs.Sound.{AreDistinct, name_of, agg_domain_at, IsSoundAgg}
 use Rattle.pj_plan.proofs.Lists.{distinct_classes}
 use Rattle.pj_plan.proofs.ByNumber.{named_there, node_number, name_schema, numbers_again, schemas_again, columns_again}
 use Rattle.pj_plan.proofs.Classes.{joined}
-use Rattle.pj_plan.proofs.Declared.{columns_of_one, columns_joined}
+use Rattle.pj_plan.proofs.NoFaults.{columns_of_one}
+use Rattle.pj_plan.proofs.Declared.{columns_joined}
 use Rattle.pj_plan.proofs.Operators.{spec_of, group_of}
 use Rattle.pj_plan.proofs.Reaches.{without_fault}
 use Rattle.pj_plan.proofs.ClassesAgain.{words_known, words_one_kind, words_once, words_apart, classes_again}
 use Rattle.pj_plan.proofs.ColumnsAgain.{keys_again, key_columns_again, aggs_again, agg_columns_again, agg_is, agg_known, sums_no_text, domains_behind}
-use Rattle.pj_plan.proofs.Redeclared.{plan_node, draft_of, IsNext, Makes, node_same, inputs_by_name, no_unknown, fits_width, all_differ}
+use Rattle.pj_plan.proofs.Redeclared.{plan_node, draft_of, IsNext, Makes, node_same, inputs_by_name, no_unknown, none_more, fits_width, all_differ}
 
 -- ---- a join
 
@@ -66,17 +67,16 @@ join_again front name schema inputs spec next =
         name = good.fresh;
         names = named.known;
         stream = refl;
-        columns = subst (λ (cs : List Column). list_any (has_no_column cs) (flat_map (λ class. class) classes) ≡ false) (sym whole) known;
+        columns = none_more (columns_of front names) (flat_map (λ class. class) classes) (subst (λ (cs : List Column). list_any (has_no_column cs) (flat_map (λ class. class) classes) ≡ false) (sym whole) known);
         different = all_differ (result_schema (draft_of front) statement) schema same good.schema;
-        kinds = subst (λ (cs : List Column). list_any (has_two_kinds cs) classes ≡ false) (sym whole) kinds;
+        kinds = or_from (list_any (has_two_kinds (columns_of front names)) classes) false (subst (λ (cs : List Column). list_any (has_two_kinds cs) classes ≡ false) (sym whole) kinds) refl;
         classes = or_from (list_any (has_one_input_twice (map (schema_of front) names)) classes) (share_a_column classes) (subst (λ (ss : List (List Column)). list_any (has_one_input_twice ss) classes ≡ false) (sym all) once) apart;
         scheme = refl;
         unused = named.unused;
         once = named.once;
         all_used = refl;
-        few = or_from (nat_lt 16 (length names) || nat_lt 32 (length classes)) (is_too_wide (draft_of front) statement)
-            (or_from (nat_lt 16 (length names)) (nat_lt 32 (length classes)) (le-ltb 16 (length names) few_inputs) (le-ltb 32 (length classes) few_classes))
-            (fits_width front statement schema good.room good.schema same);
+        few = or_from (nat_lt 16 (length names)) (nat_lt 32 (length classes) || is_too_wide (draft_of front) statement) (le-ltb 16 (length names) few_inputs)
+            (or_from (nat_lt 32 (length classes)) (is_too_wide (draft_of front) statement) (le-ltb 32 (length classes) few_classes) (fits_width front statement schema good.room good.schema same));
         last = refl;
       }),
       ap (λ (n : PlanNode). draft_of (front ++ n ∷ [])) (node_same name (columns_of front names) schema (JoinNode (map (number_of front) names) (spec_of (map (schema_of front) names) classes)) (JoinNode inputs spec) same operator),
@@ -133,7 +133,7 @@ group_again front name schema input spec next =
         stream = refl;
         columns = subst (λ (cs : List Column). list_any (has_no_column cs) (keys ++ flat_map (λ agg. agg_columns agg.agg) aggs) ≡ false) (sym whole) known;
         different = all_differ (result_schema (draft_of front) statement) schema result good.schema;
-        kinds = subst (λ (cs : List Column). list_any (names_text_sum cs) aggs ≡ false) (sym same) sums;
+        kinds = subst (λ (cs : List Column). list_any (names_text_sum cs) aggs ≡ false) (sym whole) sums;
         classes = refl;
         scheme = refl;
         unused = named.unused;

@@ -1,5 +1,5 @@
 pub mod Alike
-pub mod Parts
+pub mod FirstFaults
 pub mod Unused
 pub mod MeetKinds
 pub mod TestKinds

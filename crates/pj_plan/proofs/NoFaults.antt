@@ -1,5 +1,5 @@
 -- What holds of a statement without fault, and of the nodes that it uses.
-use Rattle.std.proofs.Common.{ℕ, ◌<◌, ◌≤◌, ◌≡◌, length, Bool, true, false, cond, ◌||◌, List, [], ◌∷◌, Some, None, map, nat_le, nat_lt, refl, sym, ap, ◌∙◌, subst, inl, inr, ◌==◌}
+use Rattle.std.proofs.Common.{ℕ, ◌<◌, ◌≤◌, ◌≡◌, length, Bool, true, false, cond, ◌||◌, List, [], ◌∷◌, Some, None, map, nat_le, nat_lt, refl, sym, ap, ◌∙◌, subst, inl, inr, append-nil, ◌==◌}
 use Rattle.std.specs.List.{list_any}
 use Rattle.std.proofs.lemmas.Bool.{or_parts, not-false, eq-eqb, leb-false, ltb-false, false_from_ne_true}
 use Rattle.pj_value.specs.Lists.{In, has}
@@ -10,10 +10,11 @@ use Rattle.pj_plan.specs.declared.fault.PlanWhy.TheVariants.{NotAPlan, NameTwice
 use Rattle.pj_plan.specs.declared.node.PlanNode.{PlanNode}
 use Rattle.pj_plan.specs.declared.node.Draft.{Draft}
 use Rattle.pj_plan.specs.declared.statement.Statement.{Statement}
-use Rattle.pj_plan.specs.Words.{repeats, used_names, named_columns}
+use Rattle.pj_plan.specs.declared.statement.TestWord.{TestWord}
+use Rattle.pj_plan.specs.Words.{repeats, used_names, scope_of, named_columns}
 use Rattle.pj_plan.specs.Made.{number_of, schema_of, columns_of, result_schema}
 use Rattle.pj_plan.specs.Canonical.{node_name}
-use Rattle.pj_plan.specs.Faults.{is_known, is_unknown_name, has_no_stream, has_no_column, has_column, has_unknown_column, has_column_twice, has_kinds_that_differ, has_bad_class, is_bad_scheme, is_too_many, is_too_wide, is_behind_output, is_not_a_plan, takes_a_name, uses, output_use, was_used, leaves_unused, has_fault, all_whys, first_fault, fault_of}
+use Rattle.pj_plan.specs.Faults.{is_known, is_unknown_name, has_no_stream, has_no_column, has_column, has_unknown_column, has_column_twice, misses_its_kind, has_kinds_that_differ, has_bad_class, is_bad_scheme, is_too_many, is_too_wide, is_behind_output, is_not_a_plan, takes_a_name, uses, output_use, was_used, leaves_unused, has_fault, all_whys, first_fault, fault_of}
 use Rattle.pj_plan.specs.Sound.{AreDistinct, all_inputs, IsSoundSchema, IsSoundNode}
 use Rattle.pj_plan.proofs.Lists.{repeats_distinct}
 use Rattle.pj_plan.proofs.ByName.{number_schema, known_number, known_name}
@@ -106,10 +107,21 @@ inputs_free draft statement none =
 pub known_schema : (nodes : List PlanNode) (name : List ℕ) → ((n : ℕ) → n < length nodes → IsSoundNode nodes n) → is_known nodes name ≡ true → IsSoundSchema (schema_of nodes name)
 known_schema nodes name each known = subst IsSoundSchema (number_schema nodes name) (each (number_of nodes name) (known_number nodes name known)).schema
 
-pub column_known : (draft : Draft) (statement : Statement) (name : List ℕ) → HasNone draft statement → In name (named_columns statement) → has_column (columns_of draft.nodes (used_names statement)) name ≡ true
+pub column_known : (draft : Draft) (statement : Statement) (name : List ℕ) → HasNone draft statement → In name (named_columns statement) → has_column (columns_of draft.nodes (scope_of statement)) name ≡ true
 column_known draft statement name none h =
-    let columns : List Column = columns_of draft.nodes (used_names statement) in
+    let columns : List Column = columns_of draft.nodes (scope_of statement) in
     not-false (has_column columns name) (false_from_ne_true (has_no_column columns name) (λ t. none_at (has_no_column columns) (named_columns statement) name none.columns h t))
+
+-- the columns of a single input
+pub columns_of_one : (nodes : List PlanNode) (input : List ℕ) → columns_of nodes (input ∷ []) ≡ schema_of nodes input
+columns_of_one nodes input = append-nil (schema_of nodes input)
+
+-- the tests of a select are of the kinds of its input's columns
+pub tests_suit : (nodes : List PlanNode) (input : List ℕ) (tests : List TestWord) → (list_any (misses_its_kind (columns_of nodes (input ∷ []))) tests || false) ≡ false
+    → list_any (misses_its_kind (schema_of nodes input)) tests ≡ false
+tests_suit nodes input tests e =
+    subst (λ (cs : List Column). list_any (misses_its_kind cs) tests ≡ false) (columns_of_one nodes input)
+    (or_parts (list_any (misses_its_kind (columns_of nodes (input ∷ []))) tests) false e).0
 
 -- there is room for the node and its columns
 pub has_room : (draft : Draft) (statement : Statement) → is_too_wide draft statement ≡ false → (length draft.nodes < 64) × (length (result_schema draft statement) ≤ 120)

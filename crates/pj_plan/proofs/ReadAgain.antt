@@ -1,5 +1,5 @@
 -- The canonical statements of a plan make it again.
-use Rattle.std.proofs.Common.{ℕ, zero, suc, ◌+◌, ◌<◌, ◌≤◌, ◌≡◌, ◌⊎◌, length, get_or, arith, Bool, true, false, cond, not, ◌&&◌, ◌||◌, ◌==◌, List, [], ◌∷◌, ◌++◌, Some, None, Option, Ok, MatchOption, map, filter, flat_map, refl, sym, ap, ◌∙◌, subst, inl, inr, append-nil, append_assoc, length-append, drop}
+use Rattle.std.proofs.Common.{ℕ, zero, suc, ◌+◌, ◌<◌, ◌≤◌, ◌≡◌, ◌⊎◌, length, get_or, arith, Bool, true, false, cond, not, ◌&&◌, ◌||◌, ◌==◌, List, [], ◌∷◌, ◌++◌, Some, None, Option, Ok, MatchOption, map, filter, flat_map, refl, sym, ap, ◌∙◌, subst, inl, inr, nat_le, append-nil, append_assoc, length-append, drop}
 use Rattle.std.specs.Str.{bytes_eq}
 use Rattle.std.specs.List.{list_any}
 use Rattle.std.proofs.lemmas.Bool.{or_parts, or_from, or_right, not_from_true, lt-leb, eq-eqb, cases_eq, false_from_ne_true}
@@ -86,7 +86,7 @@ scheme_again front name schema done marks fresh few sound =
         unused = refl;
         once = refl;
         all_used = refl;
-        few = lt-leb 16 (scheme_count nodes name) count;
+        few = or_from (nat_le 16 (scheme_count nodes name)) false (lt-leb 16 (scheme_count nodes name) count) refl;
         last = refl;
       }),
       ap draft_of (scheme_last front name schema (StreamNode done) marks fresh),

@@ -1,5 +1,5 @@
 -- The canonical statement of a node, behind the nodes before it, has no fault and makes the node again.
-use Rattle.std.proofs.Common.{ℕ, ◌<◌, ◌≤◌, ◌≡◌, length, Bool, true, false, List, [], ◌∷◌, ◌++◌, Some, None, map, nat_le, nat_lt, refl, sym, ap, ◌∙◌, subst, inl}
+use Rattle.std.proofs.Common.{ℕ, ◌<◌, ◌≤◌, ◌≡◌, length, Bool, true, false, List, [], ◌∷◌, ◌++◌, Some, None, map, nat_le, nat_lt, refl, sym, ap, ◌∙◌, subst, inl, append-nil}
 use Rattle.std.specs.List.{list_any}
 use Rattle.std.proofs.lemmas.Bool.{and_from, or_from, not_from_true, lt-leb, le-ltb, false_from_ne_true}
 use Rattle.std.proofs.lemmas.List.{length-map}
@@ -27,8 +27,8 @@ use Rattle.pj_plan.specs.Sound.{AreDistinct, name_of, name_of_node, all_inputs, 
 use Rattle.pj_plan.proofs.Lists.{distinct_repeats}
 use Rattle.pj_plan.proofs.ByName.{none_shared}
 use Rattle.pj_plan.proofs.ByNumber.{named_there, node_number, name_schema, name_known_at, numbers_again as nodes_again, schemas_again, first_again, names_distinct}
-use Rattle.pj_plan.proofs.NoFaults.{AreFree}
-use Rattle.pj_plan.proofs.Declared.{IsGoodNode, AreSound, columns_of_one}
+use Rattle.pj_plan.proofs.NoFaults.{AreFree, columns_of_one}
+use Rattle.pj_plan.proofs.Declared.{IsGoodNode, AreSound}
 use Rattle.pj_plan.proofs.Drafts.{in_uses}
 use Rattle.pj_plan.proofs.Reaches.{without_fault}
 use Rattle.pj_plan.proofs.TestsAgain.{in_tests, test_known, test_kind, tests_again}
@@ -89,6 +89,10 @@ fits_width front statement schema room sound e =
 pub all_differ : (columns schema : List Column) → columns ≡ schema → IsSoundSchema schema → share_a_name columns ≡ false
 all_differ columns schema e sound = subst (λ (cs : List Column). share_a_name cs ≡ false) (sym e) (none_shared schema sound.names)
 
+-- among these names and none more no column is unknown
+pub none_more : (columns : List Column) (names : List (List ℕ)) → list_any (has_no_column columns) names ≡ false → list_any (has_no_column columns) (names ++ []) ≡ false
+none_more columns names e = subst (λ (ns : List (List ℕ)). list_any (has_no_column columns) ns ≡ false) (sym (append-nil names)) e
+
 -- ---- a stream
 
 column_words_again : (schema : List Column) → map stream_column (map column_word schema) ≡ schema
@@ -142,9 +146,11 @@ select_again front name schema input test next =
         name = good.fresh;
         names = named.known;
         stream = refl;
-        columns = subst (λ (cs : List Column). list_any (has_no_column cs) (map (λ test. test.column) (tests_of schema test)) ≡ false) (sym whole) known;
+        columns = none_more (columns_of front (node_name front input ∷ [])) (map (λ test. test.column) (tests_of schema test))
+            (subst (λ (cs : List Column). list_any (has_no_column cs) (map (λ test. test.column) (tests_of schema test)) ≡ false) (sym whole) known);
         different = all_differ (result_schema (draft_of front) statement) schema same good.schema;
-        kinds = subst (λ (cs : List Column). list_any (misses_its_kind cs) (tests_of schema test) ≡ false) (sym same) kinds;
+        kinds = or_from (list_any (misses_its_kind (columns_of front (node_name front input ∷ []))) (tests_of schema test)) false
+            (subst (λ (cs : List Column). list_any (misses_its_kind cs) (tests_of schema test) ≡ false) (sym whole) kinds) refl;
         classes = refl;
         scheme = refl;
         unused = named.unused;
@@ -185,7 +191,8 @@ project_again front name schema input numbers next =
         name = good.fresh;
         names = named.known;
         stream = refl;
-        columns = subst (λ (cs : List Column). list_any (has_no_column cs) (map (λ column. column.old) words) ≡ false) (sym whole) known;
+        columns = none_more (columns_of front (node_name front input ∷ [])) (map (λ column. column.old) words)
+            (subst (λ (cs : List Column). list_any (has_no_column cs) (map (λ column. column.old) words) ≡ false) (sym whole) known);
         different = all_differ (result_schema (draft_of front) statement) schema result good.schema;
         kinds = refl;
         classes = refl;
@@ -225,6 +232,7 @@ union_again front name schema inputs next =
     let all : map (schema_of front) names ≡ map (node_schema front) inputs = schemas_again front inputs next.names good.inputs.before in
     let kinds : list_any (is_unlike schema) (map (node_schema front) inputs) ≡ false = none_from (is_unlike schema) (map (node_schema front) inputs) (λ s h. let r = In-map (node_schema front) s inputs h in
     not_from_true (are_alike schema s) (alike_from schema s (sym (good.operator.3 r.0 r.1) ∙ ap domains_of r.2))) in
+    let unlike : list_any (is_unlike (first_schema front names)) (map (schema_of front) names) ≡ false = rw (same, all) kinds in
     let few : length names ≤ 16 = rw (length-map inputs (node_name front)) good.operator.1 in (
       without_fault (draft_of front) statement (record { known = refl; shaped = refl; readable = refl }) (record {
         plan = refl;
@@ -233,7 +241,7 @@ union_again front name schema inputs next =
         stream = refl;
         columns = refl;
         different = all_differ (result_schema (draft_of front) statement) schema same good.schema;
-        kinds = rw (same, all) kinds;
+        kinds = or_from (list_any (is_unlike (first_schema front names)) (map (schema_of front) names)) false unlike refl;
         classes = refl;
         scheme = refl;
         unused = named.unused;

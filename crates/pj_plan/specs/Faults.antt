@@ -14,14 +14,14 @@ use Rattle.pj_plan.specs.declared.node.Node.TheVariants.{Stream as StreamNode, S
 use Rattle.pj_plan.specs.declared.node.PlanNode.{PlanNode}
 use Rattle.pj_plan.specs.declared.node.Draft.{Draft}
 use Rattle.pj_plan.specs.declared.statement.Statement.{Statement}
-use Rattle.pj_plan.specs.declared.statement.Statement.TheVariants.{Plan, Stream, Scheme, Select, Project, Union, Join, Group, Output, Bad}
 use Rattle.pj_plan.specs.declared.statement.TestWord.{TestWord}
 use Rattle.pj_plan.specs.declared.statement.Test.{Test}
 use Rattle.pj_plan.specs.declared.statement.Test.TheVariants.{One, Mixed}
 use Rattle.pj_plan.specs.declared.statement.AggWord.{AggWord}
 use Rattle.pj_plan.specs.declared.statement.AggWord.TheVariants.{Count, Sum, Min, Max}
 use Rattle.pj_plan.specs.declared.statement.NamedAgg.{NamedAgg}
-use Rattle.pj_plan.specs.Words.{plan_version, bad_why, new_name, used_names, named_columns, is_among, repeats}
+use Rattle.pj_plan.specs.Parts.{Parts, parts_of}
+use Rattle.pj_plan.specs.Words.{plan_version, bad_why, new_name, used_names, scope_of, named_columns, is_among, repeats}
 use Rattle.pj_plan.specs.Nodes.{inputs_of, is_stream}
 use Rattle.pj_plan.specs.Made.{number_of, schema_of, first_schema, columns_of, column_kind, result_schema}
 
@@ -41,21 +41,8 @@ is_not_a_plan draft statement = not (is_there draft.version) && not (is_one (pla
 
 -- the line's first cell is no statement word
 abbrev pub is_unknown_word : Option PlanWhy → Bool
-is_unknown_word None = false
-is_unknown_word (Some NotAPlan) = false
 is_unknown_word (Some UnknownStatement) = true
-is_unknown_word (Some BadShape) = false
-is_unknown_word (Some NameTwice) = false
-is_unknown_word (Some UnknownName) = false
-is_unknown_word (Some UnknownColumn) = false
-is_unknown_word (Some ColumnTwice) = false
-is_unknown_word (Some KindsDiffer) = false
-is_unknown_word (Some BadClass) = false
-is_unknown_word (Some BadScheme) = false
-is_unknown_word (Some UsedTwiceOrNever) = false
-is_unknown_word (Some TooMany) = false
-is_unknown_word (Some BehindOutput) = false
-is_unknown_word (Some Unreadable) = false
+is_unknown_word _ = false
 
 -- unknown statement: the first cell is no statement word; `plan` is one only in the first statement
 abbrev pub is_unknown : Draft → Statement → Bool
@@ -63,21 +50,8 @@ is_unknown draft statement = (is_there draft.version && is_there (plan_version s
 
 -- the line's cells do not have the statement's form
 abbrev pub is_bad_shape : Option PlanWhy → Bool
-is_bad_shape None = false
-is_bad_shape (Some NotAPlan) = false
-is_bad_shape (Some UnknownStatement) = false
 is_bad_shape (Some BadShape) = true
-is_bad_shape (Some NameTwice) = false
-is_bad_shape (Some UnknownName) = false
-is_bad_shape (Some UnknownColumn) = false
-is_bad_shape (Some ColumnTwice) = false
-is_bad_shape (Some KindsDiffer) = false
-is_bad_shape (Some BadClass) = false
-is_bad_shape (Some BadScheme) = false
-is_bad_shape (Some UsedTwiceOrNever) = false
-is_bad_shape (Some TooMany) = false
-is_bad_shape (Some BehindOutput) = false
-is_bad_shape (Some Unreadable) = false
+is_bad_shape _ = false
 
 -- bad shape: the cells do not have the statement's form
 abbrev pub is_misshapen : Statement → Bool
@@ -85,21 +59,8 @@ is_misshapen statement = is_bad_shape (bad_why statement)
 
 -- the line is too long, unclosed, or has too many cells
 abbrev pub is_bad_line : Option PlanWhy → Bool
-is_bad_line None = false
-is_bad_line (Some NotAPlan) = false
-is_bad_line (Some UnknownStatement) = false
-is_bad_line (Some BadShape) = false
-is_bad_line (Some NameTwice) = false
-is_bad_line (Some UnknownName) = false
-is_bad_line (Some UnknownColumn) = false
-is_bad_line (Some ColumnTwice) = false
-is_bad_line (Some KindsDiffer) = false
-is_bad_line (Some BadClass) = false
-is_bad_line (Some BadScheme) = false
-is_bad_line (Some UsedTwiceOrNever) = false
-is_bad_line (Some TooMany) = false
-is_bad_line (Some BehindOutput) = false
 is_bad_line (Some Unreadable) = true
+is_bad_line _ = false
 
 -- unreadable line
 abbrev pub is_unreadable : Statement → Bool
@@ -126,18 +87,14 @@ is_taken nodes (Some name) = is_known nodes name
 abbrev pub takes_a_name : Draft → Statement → Bool
 takes_a_name draft statement = is_taken draft.nodes (new_name statement)
 
+-- no stream of these nodes has the name
+abbrev pub is_no_stream : List PlanNode → Option (List ℕ) → Bool
+is_no_stream nodes None = false
+is_no_stream nodes (Some name) = not (is_stream_name nodes name)
+
 -- a `scheme` for a name that is no stream declared before
 abbrev pub has_no_stream : List PlanNode → Statement → Bool
-has_no_stream nodes (Plan version) = false
-has_no_stream nodes (Stream name columns) = false
-has_no_stream nodes (Scheme stream marks) = not (is_stream_name nodes stream)
-has_no_stream nodes (Select name input tests) = false
-has_no_stream nodes (Project name input columns) = false
-has_no_stream nodes (Union name inputs) = false
-has_no_stream nodes (Join name inputs classes) = false
-has_no_stream nodes (Group name input keys aggs) = false
-has_no_stream nodes (Output name) = false
-has_no_stream nodes (Bad why) = false
+has_no_stream nodes statement = is_no_stream nodes (parts_of statement).stream
 
 -- unknown name: an input or output that is no node declared before; a `scheme` for a name that is no stream declared before
 abbrev pub has_unknown_name : Draft → Statement → Bool
@@ -154,7 +111,7 @@ has_no_column columns name = not (has_column columns name)
 
 -- unknown column: a named column that is not a column of any of the inputs
 abbrev pub has_unknown_column : Draft → Statement → Bool
-has_unknown_column draft statement = list_any (has_no_column (columns_of draft.nodes (used_names statement))) (named_columns statement)
+has_unknown_column draft statement = list_any (has_no_column (columns_of draft.nodes (scope_of statement))) (named_columns statement)
 
 -- two of these columns have one name
 abbrev pub share_a_name : List Column → Bool
@@ -209,22 +166,19 @@ sums_text columns (Max column) = false
 abbrev pub names_text_sum : List Column → NamedAgg → Bool
 names_text_sum columns word = sums_text columns word.agg
 
--- kinds differ: inputs of a union with another number of columns or other kinds; two kinds in a class; a pattern of another
--- kind than its column or of both; a sum of a text column
-abbrev pub has_other_kinds : List PlanNode → Statement → Bool
-has_other_kinds nodes (Plan version) = false
-has_other_kinds nodes (Stream name columns) = false
-has_other_kinds nodes (Scheme stream marks) = false
-has_other_kinds nodes (Select name input tests) = list_any (misses_its_kind (schema_of nodes input)) tests
-has_other_kinds nodes (Project name input columns) = false
-has_other_kinds nodes (Union name inputs) = list_any (is_unlike (first_schema nodes inputs)) (map (schema_of nodes) inputs)
-has_other_kinds nodes (Join name inputs classes) = list_any (has_two_kinds (columns_of nodes inputs)) classes
-has_other_kinds nodes (Group name input keys aggs) = list_any (names_text_sum (schema_of nodes input)) aggs
-has_other_kinds nodes (Output name) = false
-has_other_kinds nodes (Bad why) = false
+-- inputs with another number of columns than the first or other kinds
+abbrev pub are_unlike : List PlanNode → List (List ℕ) → Bool
+are_unlike nodes inputs = list_any (is_unlike (first_schema nodes inputs)) (map (schema_of nodes) inputs)
 
+-- a pattern of another kind than its column or of both, two kinds in a class, or a sum of a text column
+abbrev pub misfits : List Column → Parts → Bool
+misfits columns parts =
+    list_any (misses_its_kind columns) parts.tests || (list_any (has_two_kinds columns) parts.classes || list_any (names_text_sum columns) parts.aggs)
+
+-- kinds differ: inputs of a union that are not alike, or a misfit
 abbrev pub has_kinds_that_differ : Draft → Statement → Bool
-has_kinds_that_differ draft statement = has_other_kinds draft.nodes statement
+has_kinds_that_differ draft statement =
+    ((parts_of statement).alike && are_unlike draft.nodes (used_names statement)) || misfits (columns_of draft.nodes (scope_of statement)) (parts_of statement)
 
 -- ---- classes and schemes
 
@@ -247,33 +201,21 @@ share_a_column (class ∷ classes) = (repeats class || list_any (meets class) cl
 
 -- bad class: two columns of one input in a class, or a column in two classes or twice in one
 abbrev pub has_bad_class : Draft → Statement → Bool
-has_bad_class draft (Plan version) = false
-has_bad_class draft (Stream name columns) = false
-has_bad_class draft (Scheme stream marks) = false
-has_bad_class draft (Select name input tests) = false
-has_bad_class draft (Project name input columns) = false
-has_bad_class draft (Union name inputs) = false
-has_bad_class draft (Join name inputs classes) = list_any (has_one_input_twice (map (schema_of draft.nodes) inputs)) classes || share_a_column classes
-has_bad_class draft (Group name input keys aggs) = false
-has_bad_class draft (Output name) = false
-has_bad_class draft (Bad why) = false
+has_bad_class draft statement =
+    list_any (has_one_input_twice (map (schema_of draft.nodes) (used_names statement))) (parts_of statement).classes || share_a_column (parts_of statement).classes
 
 -- a column is marked
 abbrev pub is_marked : Bool → Bool
 is_marked mark = mark
 
+-- another number of marks than columns of the stream, or no mark
+abbrev pub misses_marks : List PlanNode → Option (List ℕ) → List Bool → Bool
+misses_marks nodes None marks = false
+misses_marks nodes (Some stream) marks = not (length marks == length (schema_of nodes stream)) || not (list_any is_marked marks)
+
 -- bad scheme: another number of marks than columns, or no mark
 abbrev pub is_bad_scheme : Draft → Statement → Bool
-is_bad_scheme draft (Plan version) = false
-is_bad_scheme draft (Stream name columns) = false
-is_bad_scheme draft (Scheme stream marks) = not (length marks == length (schema_of draft.nodes stream)) || not (list_any is_marked marks)
-is_bad_scheme draft (Select name input tests) = false
-is_bad_scheme draft (Project name input columns) = false
-is_bad_scheme draft (Union name inputs) = false
-is_bad_scheme draft (Join name inputs classes) = false
-is_bad_scheme draft (Group name input keys aggs) = false
-is_bad_scheme draft (Output name) = false
-is_bad_scheme draft (Bad why) = false
+is_bad_scheme draft statement = misses_marks draft.nodes (parts_of statement).stream (parts_of statement).marks
 
 -- ---- uses
 
@@ -294,18 +236,14 @@ abbrev pub has_unused : List ℕ → ℕ → List PlanNode → Bool
 has_unused used number [] = false
 has_unused used number (node ∷ nodes) = not (has used number) || has_unused used (number + 1) nodes
 
+-- a node but the output was never used
+abbrev pub leaves_some : Draft → Option (List ℕ) → Bool
+leaves_some draft None = false
+leaves_some draft (Some output) = has_unused (number_of draft.nodes output ∷ uses draft) 0 draft.nodes
+
 -- at `output`, another node that was never used
 abbrev pub leaves_unused : Draft → Statement → Bool
-leaves_unused draft (Plan version) = false
-leaves_unused draft (Stream name columns) = false
-leaves_unused draft (Scheme stream marks) = false
-leaves_unused draft (Select name input tests) = false
-leaves_unused draft (Project name input columns) = false
-leaves_unused draft (Union name inputs) = false
-leaves_unused draft (Join name inputs classes) = false
-leaves_unused draft (Group name input keys aggs) = false
-leaves_unused draft (Output name) = has_unused (number_of draft.nodes name ∷ uses draft) 0 draft.nodes
-leaves_unused draft (Bad why) = false
+leaves_unused draft statement = leaves_some draft (parts_of statement).output
 
 -- used twice or never: an input or output that was used before or stands twice in the statement; at `output`, another node
 -- that was never used
@@ -336,22 +274,17 @@ abbrev pub scheme_count : List PlanNode → List ℕ → ℕ
 scheme_count [] name = 0
 scheme_count (node ∷ nodes) name = if bytes_eq name node.name then schemes_of node.node else scheme_count nodes name
 
--- the statement goes beyond a limit: 16 streams, 16 schemes of one, 16 inputs, 32 classes, 64 nodes, 120 columns
-abbrev pub goes_beyond : Draft → Statement → Bool
-goes_beyond draft (Plan version) = false
-goes_beyond draft (Stream name columns) = nat_le 16 (stream_count draft.nodes) || is_too_wide draft (Stream name columns)
-goes_beyond draft (Scheme stream marks) = nat_le 16 (scheme_count draft.nodes stream)
-goes_beyond draft (Select name input tests) = is_too_wide draft (Select name input tests)
-goes_beyond draft (Project name input columns) = is_too_wide draft (Project name input columns)
-goes_beyond draft (Union name inputs) = nat_lt 16 (length inputs) || is_too_wide draft (Union name inputs)
-goes_beyond draft (Join name inputs classes) = (nat_lt 16 (length inputs) || nat_lt 32 (length classes)) || is_too_wide draft (Join name inputs classes)
-goes_beyond draft (Group name input keys aggs) = is_too_wide draft (Group name input keys aggs)
-goes_beyond draft (Output name) = false
-goes_beyond draft (Bad why) = false
+-- the stream has as many schemes as it may have
+abbrev pub is_full : List PlanNode → Option (List ℕ) → Bool
+is_full nodes None = false
+is_full nodes (Some stream) = nat_le 16 (scheme_count nodes stream)
 
--- too many
+-- too many: the statement goes beyond a limit: 16 streams, 16 inputs, 32 classes, 16 schemes of one stream, 64 nodes, 120 columns
 abbrev pub is_too_many : Draft → Statement → Bool
-is_too_many draft statement = goes_beyond draft statement
+is_too_many draft statement =
+    ((parts_of statement).source && nat_le 16 (stream_count draft.nodes))
+    || (nat_lt 16 (length (used_names statement)) || (nat_lt 32 (length (parts_of statement).classes)
+    || (is_full draft.nodes (parts_of statement).stream || (is_there (new_name statement) && is_too_wide draft statement))))
 
 -- ---- the output
 

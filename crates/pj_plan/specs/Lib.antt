@@ -1,3 +1,4 @@
+pub mod Parts
 pub mod Nodes
 pub mod Words
 pub mod Made

@@ -1,5 +1,6 @@
 -- The node that a statement makes of the nodes before it.
 use Rattle.std.specs.Prelude.{ℕ, suc, ◌+◌, Bool, List, [], ◌∷◌, ◌++◌, Option, Some, None, if◌then◌else◌, map, flat_map}
+use Rattle.std.specs.Option.{option_or}
 use Rattle.std.specs.Str.{bytes_eq}
 use Rattle.pj_value.specs.declared.values.Kind.{Kind}
 use Rattle.pj_value.specs.declared.values.Kind.TheVariants.{Int}
@@ -24,7 +25,8 @@ use Rattle.pj_plan.specs.declared.statement.Test.TheVariants.{One, Mixed}
 use Rattle.pj_plan.specs.declared.statement.AggWord.{AggWord}
 use Rattle.pj_plan.specs.declared.statement.AggWord.TheVariants.{Count, Sum, Min, Max}
 use Rattle.pj_plan.specs.declared.statement.NamedAgg.{NamedAgg}
-use Rattle.pj_plan.specs.Words.{is_among}
+use Rattle.pj_plan.specs.Parts.{parts_of}
+use Rattle.pj_plan.specs.Words.{plan_version, new_name, is_among}
 
 -- ---- nodes and columns by their names
 
@@ -184,21 +186,24 @@ with_scheme name marks (node ∷ nodes) =
     then record { name = node.name; schema = node.schema; node = more_schemes node.node marks } ∷ nodes
     else node ∷ with_scheme name marks nodes
 
--- with the node of this name, where the statement declares one
-abbrev pub declared : Draft → Option (List ℕ) → Statement → Draft
-declared draft None statement = draft
-declared draft (Some name) statement =
-    record { version = draft.version; nodes = draft.nodes ++ node_of draft name statement ∷ []; output = draft.output }
+-- the nodes, and the one of this name, where the statement declares one
+abbrev pub declared : Draft → Option (List ℕ) → Statement → List PlanNode
+declared draft None statement = draft.nodes
+declared draft (Some name) statement = draft.nodes ++ node_of draft name statement ∷ []
+
+-- the nodes, the stream with these marks, where the statement is a scheme of one
+abbrev pub with_marks : Option (List ℕ) → List Bool → List PlanNode → List PlanNode
+with_marks None marks nodes = nodes
+with_marks (Some stream) marks nodes = with_scheme stream marks nodes
+
+abbrev pub number_in : List PlanNode → Option (List ℕ) → Option ℕ
+number_in nodes None = None
+number_in nodes (Some name) = Some (number_of nodes name)
 
 -- what is declared after the statement, which has no fault
 abbrev pub after : Draft → Statement → Draft
-after draft (Plan version) = record { version = Some version; nodes = draft.nodes; output = draft.output }
-after draft (Stream name columns) = declared draft (Some name) (Stream name columns)
-after draft (Scheme stream marks) = record { version = draft.version; nodes = with_scheme stream marks draft.nodes; output = draft.output }
-after draft (Select name input tests) = declared draft (Some name) (Select name input tests)
-after draft (Project name input columns) = declared draft (Some name) (Project name input columns)
-after draft (Union name inputs) = declared draft (Some name) (Union name inputs)
-after draft (Join name inputs classes) = declared draft (Some name) (Join name inputs classes)
-after draft (Group name input keys aggs) = declared draft (Some name) (Group name input keys aggs)
-after draft (Output name) = record { version = draft.version; nodes = draft.nodes; output = Some (number_of draft.nodes name) }
-after draft (Bad why) = draft
+after draft statement = record {
+  version = option_or (plan_version statement) draft.version;
+  nodes = with_marks (parts_of statement).stream (parts_of statement).marks (declared draft (new_name statement) statement);
+  output = option_or (number_in draft.nodes (parts_of statement).output) draft.output;
+}

@@ -9,7 +9,7 @@ ghost use Rattle.pj_plan.specs.Small.{AreSmall};
 
 use crate::declare::after;
 use crate::faults::fault_of;
-use crate::schemas::result_schema;
+use crate::schemas::{joined_schema, result_schema};
 use crate::{Draft, Outline, Plan, PlanFault, PlanStop, PlanWhy, Stated, Statement};
 use pj_value::List;
 use std::alloc::Global;
@@ -55,13 +55,15 @@ fn stated_behind(alloc: Global, draft: Draft, stated: &Stated) -> Result<Draft, 
     ensures faultless { IfOk result (λ next. lowest draft stated.now.what ≡ None) }
     ensures fault { (fault : PlanFault) → result ≡ Err (PlanStop.Fault fault) → (lowest draft stated.now.what ≡ Some fault.why) × (fault.line ≡ stated.now.line) }
 {
-    let schema = result_schema(alloc, &draft, &stated.what)?;
-    match fault_of(&draft, &stated.what, schema.as_slice()) {
+    let statement = &stated.what;
+    let scope = joined_schema(alloc, draft.nodes.as_slice(), statement.parts().scope)?;
+    let schema = result_schema(alloc, &draft, statement)?;
+    match fault_of(&draft, statement, scope.as_slice(), schema.as_slice()) {
         Some(why) => Err(PlanStop::Fault(PlanFault {
             line: stated.line,
             why,
         })),
-        None => Ok(after(alloc, draft, &stated.what, schema)?),
+        None => Ok(after(alloc, draft, statement, schema)?),
     }
 }
 

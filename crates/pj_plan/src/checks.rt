@@ -3,7 +3,7 @@ ghost use Rattle.std.specs.Prelude.{◌≡◌, ◌<◌, ◌≤◌, ◌++◌, ◌
 ghost use Rattle.std.specs.List.{list_any};
 ghost use Rattle.pj_plan.specs.Words.{agg_columns};
 ghost use Rattle.pj_plan.specs.Made.{schema_of as schema, column_kind as kind};
-ghost use Rattle.pj_plan.specs.Faults.{is_unknown_name, has_column as named, has_no_column, are_alike as alike, is_unlike, misses_kind as misses, misses_its_kind, is_of as of_kind, has_two_kinds as two_kinds, names_text_sum, sums_text as text_sum, has_two_of as two_of, has_one_input_twice as input_twice, meets as meet, share_a_column as shared, is_marked as marked};
+ghost use Rattle.pj_plan.specs.Faults.{is_unknown_name, has_column as named, has_no_column, are_alike as alike, is_unlike, are_unlike as unlike, misses_kind as misses, misses_its_kind, is_of as of_kind, has_two_kinds as two_kinds, names_text_sum, sums_text as text_sum, has_two_of as two_of, has_one_input_twice as input_twice, meets as meet, share_a_column as shared, is_marked as marked};
 
 use crate::names::{column_kind, has_column, is_among, is_known, repeats, schema_of};
 use crate::{AggWord, NamedAgg, PlanNode, Renamed, Test, TestWord};
@@ -102,7 +102,16 @@ fn misses_kind(kind: Kind, test: &Test) -> bool
 }
 
 /// Whether an input has another number of columns than the first, or other kinds.
-pub(crate) fn any_unlike(nodes: &[PlanNode], columns: &[Column], inputs: &[Bytes]) -> bool
+pub(crate) fn are_unlike(nodes: &[PlanNode], inputs: &[Bytes]) -> bool
+    ensures { result ≡ unlike nodes.now inputs.now }
+{
+    match inputs {
+        [] => false,
+        [first, ..] => any_unlike(nodes, schema_of(nodes, first.as_slice()), inputs),
+    }
+}
+
+fn any_unlike(nodes: &[PlanNode], columns: &[Column], inputs: &[Bytes]) -> bool
     ensures { result ≡ list_any (is_unlike columns.now) (map (schema nodes.now) inputs.now) }
 {
     for input in inputs {

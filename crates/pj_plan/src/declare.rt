@@ -1,8 +1,9 @@
 // What is declared after a statement.
 ghost use Rattle.std.specs.Prelude.{◌≡◌, ◌≤◌, ◌++◌, ◌∷◌, [], None, false, Some, Option, IfOk, OnOk, length};
+ghost use Rattle.std.specs.Option.{option_copied};
 ghost use Rattle.pj_plan.specs.Words.{used_names};
-ghost use Rattle.pj_plan.specs.Made.{after as after_it, declared, result_schema, more_schemes as more, with_scheme as with_one_more, number_of as number};
-ghost use Rattle.pj_plan.specs.Faults.{fault_of, has_other_kinds};
+ghost use Rattle.pj_plan.specs.Made.{after as after_it, declared, with_marks as marked, number_in as number_named, result_schema, more_schemes as more, with_scheme as with_one_more, number_of as number};
+ghost use Rattle.pj_plan.specs.Faults.{fault_of, has_kinds_that_differ};
 ghost use Rattle.pj_plan.specs.Small.{AreSmall};
 
 use crate::making::operator_of;
@@ -25,48 +26,46 @@ pub(crate) fn after(
     requires schema { schema ≡ result_schema draft statement.now }
     ensures { IfOk result (λ next. next ≡ after_it draft statement.now) }
 {
-    match statement {
-        Statement::Plan { version } => Ok(Draft {
-            version: Some(*version),
-            nodes: draft.nodes,
-            output: draft.output,
-        }),
-        Statement::Stream { name, .. } => with_node(alloc, draft, name, statement, schema),
-        Statement::Scheme { stream, marks } => Ok(Draft {
-            version: draft.version,
-            nodes: with_scheme(alloc, draft.nodes, stream.as_slice(), marks)?,
-            output: draft.output,
-        }),
-        Statement::Select { name, .. } => with_node(alloc, draft, name, statement, schema),
-        Statement::Project { name, .. } => with_node(alloc, draft, name, statement, schema),
-        Statement::Union { name, .. } => with_node(alloc, draft, name, statement, schema),
-        Statement::Join { name, .. } => with_node(alloc, draft, name, statement, schema),
-        Statement::Group { name, .. } => with_node(alloc, draft, name, statement, schema),
-        Statement::Output { name } => {
-            let output = number_of(draft.nodes.as_slice(), name.as_slice()) as u32;
-            Ok(Draft {
-                version: draft.version,
-                nodes: draft.nodes,
-                output: Some(output),
-            })
-        }
-        Statement::Bad(_) => Ok(draft),
+    let parts = statement.parts();
+    let version = parts.version.or(draft.version);
+    let output = number_in(draft.nodes.as_slice(), parts.output).or(draft.output);
+    let nodes = with_node(alloc, draft, parts.declares, statement, schema)?;
+    Ok(Draft {
+        version,
+        nodes: with_marks(alloc, nodes, parts.stream, parts.marks)?,
+        output,
+    })
+}
+
+// The number of the node of this name, if there is a name.
+fn number_in(nodes: &[PlanNode], name: Option<&Bytes>) -> Option<u32>
+    requires { length nodes.now ≤ 64 }
+    ensures { result ≡ number_named nodes.now (option_copied name.entry) }
+{
+    match name {
+        None => None,
+        Some(name) => Some(number_of(nodes, name.as_slice()) as u32),
     }
 }
 
+// The nodes, and the one of this name, if the statement declares one.
 fn with_node(
     alloc: Global,
     draft: Draft,
-    name: &Bytes,
+    name: Option<&Bytes>,
     statement: &Statement,
     schema: List<Column>,
-) -> Result<Draft, NoMemory>
+) -> Result<List<PlanNode>, NoMemory>
     requires small { AreSmall draft.nodes }
     requires few { length (used_names statement.now) ≤ 16 }
-    requires kinds { has_other_kinds draft.nodes statement.now ≡ false }
+    requires kinds { has_kinds_that_differ draft statement.now ≡ false }
     requires schema { schema ≡ result_schema draft statement.now }
-    ensures { IfOk result (λ next. next ≡ declared draft (Some name.now) statement.now) }
+    ensures { IfOk result (λ nodes. nodes ≡ declared draft (option_copied name.entry) statement.now) }
 {
+    let name = match name {
+        None => return Ok(draft.nodes),
+        Some(name) => name,
+    };
     let node = operator_of(alloc, &draft, statement)?;
     let mut nodes = draft.nodes;
     nodes.push(PlanNode {
@@ -74,11 +73,22 @@ fn with_node(
         schema: Schema::of(schema),
         node,
     })?;
-    Ok(Draft {
-        version: draft.version,
-        nodes,
-        output: draft.output,
-    })
+    Ok(nodes)
+}
+
+// The nodes, the stream with these marks, if there is one.
+fn with_marks(
+    alloc: Global,
+    nodes: List<PlanNode>,
+    stream: Option<&Bytes>,
+    marks: &[bool],
+) -> Result<List<PlanNode>, NoMemory>
+    ensures { IfOk result (λ more. more ≡ marked (option_copied stream.entry) marks.now nodes) }
+{
+    match stream {
+        None => Ok(nodes),
+        Some(stream) => with_scheme(alloc, nodes, stream.as_slice(), marks),
+    }
 }
 
 // The nodes, the stream of this name with one scheme more.
@@ -87,7 +97,7 @@ fn with_scheme(
     alloc: Global,
     nodes: List<PlanNode>,
     name: &[u8],
-    marks: &List<bool>,
+    marks: &[bool],
 ) -> Result<List<PlanNode>, NoMemory>
     ensures { IfOk result (λ more. more ≡ with_one_more name.now marks.now nodes) }
 {
@@ -96,7 +106,7 @@ fn with_scheme(
         return Ok(nodes);
     }
     let mut nodes = nodes.into_vec();
-    let scheme = Scheme::of(List::copy_of(alloc, marks.as_slice())?);
+    let scheme = Scheme::of(List::copy_of(alloc, marks)?);
     add_scheme(&mut nodes[at].node, scheme)?;
     Ok(List::of(nodes))
 }

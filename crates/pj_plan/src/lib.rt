@@ -11,10 +11,10 @@ mod links;
 mod making;
 mod names;
 mod node;
+mod parts;
 mod plan;
 mod schemas;
 mod statement;
-mod words;
 
 pub use fault::{PlanFault, PlanStop, PlanWhy};
 pub use node::{Draft, Node, Outline, PlanNode};

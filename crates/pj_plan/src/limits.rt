@@ -1,14 +1,14 @@
 // How often nodes are used, and how many there may be.
 ghost use Rattle.std.specs.Prelude.{◌≡◌, ◌<◌, ◌≤◌, ◌∷◌, ◌++◌, [], ◌||◌, ◌&&◌, not, length, filter, flat_map, nat_le, nat_lt};
 ghost use Rattle.std.specs.List.{list_any};
+ghost use Rattle.std.specs.Option.{option_copied};
 ghost use Rattle.pj_plan.specs.Made.{result_schema, number_of as number};
 ghost use Rattle.pj_plan.specs.Nodes.{inputs_of as inputs, is_stream as stream};
-ghost use Rattle.pj_plan.specs.Faults.{is_used_twice_or_never as twice_or_never, was_used as used, uses, has_unused as unused, leaves_unused as leaves, stream_count as streams, is_too_wide as too_wide, schemes_of as schemes, scheme_count as schemes_named, goes_beyond as beyond, output_use};
+ghost use Rattle.pj_plan.specs.Faults.{is_used_twice_or_never as twice_or_never, was_used as used, uses, has_unused as unused, leaves_some as leaves, stream_count as streams, schemes_of as schemes, scheme_count as schemes_named, is_full as full, is_too_many as too_many, output_use};
 ghost use Rattle.pj_value.specs.Lists.{has as within};
 
 use crate::links::is_input;
 use crate::names::{is_stream, number_of, repeats};
-use crate::words::used_names;
 use crate::{Draft, Node, PlanNode, Statement};
 use pj_shape::Column;
 use pj_value::Bytes;
@@ -17,8 +17,8 @@ use pj_value::Bytes;
 pub(crate) fn is_used_twice_or_never(draft: &Draft, statement: &Statement) -> bool
     ensures { result ≡ twice_or_never draft.now statement.now }
 {
-    let names = used_names(statement);
-    (any_used(draft, names) || repeats(names)) || leaves_unused(draft, statement)
+    let parts = statement.parts();
+    (any_used(draft, parts.uses) || repeats(parts.uses)) || leaves_some(draft, parts.output)
 }
 
 fn any_used(draft: &Draft, names: &[Bytes]) -> bool
@@ -67,23 +67,13 @@ fn is_output(output: Option<u32>, number: usize) -> bool
     }
 }
 
-fn leaves_unused(draft: &Draft, statement: &Statement) -> bool
-    ensures { result ≡ leaves draft.now statement.now }
+// Whether an output leaves another node unused.
+fn leaves_some(draft: &Draft, output: Option<&Bytes>) -> bool
+    ensures { result ≡ leaves draft.now (option_copied output.entry) }
 {
-    match statement {
-        Statement::Plan { .. } => false,
-        Statement::Stream { .. } => false,
-        Statement::Scheme { .. } => false,
-        Statement::Select { .. } => false,
-        Statement::Project { .. } => false,
-        Statement::Union { .. } => false,
-        Statement::Join { .. } => false,
-        Statement::Group { .. } => false,
-        Statement::Output { name } => has_unused(
-            draft,
-            number_of(draft.nodes.as_slice(), name.as_slice()),
-        ),
-        Statement::Bad(_) => false,
+    match output {
+        None => false,
+        Some(name) => has_unused(draft, number_of(draft.nodes.as_slice(), name.as_slice())),
     }
 }
 
@@ -105,34 +95,28 @@ fn is_needed(draft: &Draft, output: usize, number: usize) -> bool
     output == number || is_used(draft, number)
 }
 
-/// Whether the statement goes beyond a limit: 16 streams, 16 schemes of one, 16 inputs, 32 classes, 64 nodes, 120 columns.
-pub(crate) fn goes_beyond(draft: &Draft, statement: &Statement, schema: &[Column]) -> bool
+/// Whether the statement goes beyond a limit: 16 streams, 16 inputs, 32 classes, 16 schemes of one stream, 64 nodes, 120 columns.
+pub(crate) fn is_too_many(draft: &Draft, statement: &Statement, schema: &[Column]) -> bool
     requires { schema.now ≡ result_schema draft.now statement.now }
-    ensures { result ≡ beyond draft.now statement.now }
+    ensures { result ≡ too_many draft.now statement.now }
 {
     let nodes = draft.nodes.as_slice();
-    match statement {
-        Statement::Plan { .. } => false,
-        Statement::Stream { .. } => stream_count(nodes) >= 16 || is_too_wide(nodes, schema),
-        Statement::Scheme { stream, .. } => scheme_count(nodes, stream.as_slice()) >= 16,
-        Statement::Select { .. } => is_too_wide(nodes, schema),
-        Statement::Project { .. } => is_too_wide(nodes, schema),
-        Statement::Union { inputs, .. } => inputs.len() > 16 || is_too_wide(nodes, schema),
-        Statement::Join {
-            inputs,
-            classes,
-            ..
-        } => (inputs.len() > 16 || classes.len() > 32) || is_too_wide(nodes, schema),
-        Statement::Group { .. } => is_too_wide(nodes, schema),
-        Statement::Output { .. } => false,
-        Statement::Bad(_) => false,
-    }
+    let parts = statement.parts();
+    (parts.source && stream_count(nodes) >= 16)
+        || (parts.uses.len() > 16
+            || (parts.classes.len() > 32
+                || (is_full(nodes, parts.stream)
+                    || (parts.declares.is_some() && (nodes.len() >= 64 || schema.len() > 120)))))
 }
 
-fn is_too_wide(nodes: &[PlanNode], schema: &[Column]) -> bool
-    ensures { result ≡ (nat_le 64 (length nodes.now) || nat_lt 120 (length schema.now)) }
+// Whether the stream has as many schemes as it may have.
+fn is_full(nodes: &[PlanNode], stream: Option<&Bytes>) -> bool
+    ensures { result ≡ full nodes.now (option_copied stream.entry) }
 {
-    nodes.len() >= 64 || schema.len() > 120
+    match stream {
+        None => false,
+        Some(name) => scheme_count(nodes, name.as_slice()) >= 16,
+    }
 }
 
 fn stream_count(nodes: &[PlanNode]) -> usize

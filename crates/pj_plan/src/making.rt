@@ -5,7 +5,7 @@ ghost use Rattle.pj_pattern.specs.Patterns.{is_of_kind};
 ghost use Rattle.pj_pattern.specs.Meets.{meet_of};
 ghost use Rattle.pj_plan.specs.Words.{used_names};
 ghost use Rattle.pj_plan.specs.Made.{operator_of as declared, number_of as number, schema_of as schema, column_number as place, column_kind as kind, met_with, test_pattern, column_test as test_of_column, class_in, class_from, class_of as whole_class, join_of, agg_of as aggregate, named_agg, old_number};
-ghost use Rattle.pj_plan.specs.Faults.{misses_its_kind, misses_kind, has_other_kinds};
+ghost use Rattle.pj_plan.specs.Faults.{misses_its_kind, misses_kind, has_kinds_that_differ};
 ghost use Rattle.pj_plan.specs.Small.{AreSmall};
 
 use crate::names::{column_number, is_among, number_of, schema_of};
@@ -16,6 +16,7 @@ use pj_value::{Bytes, Kind, List, NoMemory, copy_items};
 use std::alloc::Global;
 
 /// The operator that the statement declares over what was declared before; a stream without schemes where it declares none.
+#[tactic(auto, using(crate::proofs::NoFaults::tests_suit))]
 pub(crate) fn operator_of(
     alloc: Global,
     draft: &Draft,
@@ -23,7 +24,7 @@ pub(crate) fn operator_of(
 ) -> Result<Node, NoMemory>
     requires small { AreSmall draft.now.nodes }
     requires few { length (used_names statement.now) ≤ 16 }
-    requires kinds { has_other_kinds draft.now.nodes statement.now ≡ false }
+    requires kinds { has_kinds_that_differ draft.now statement.now ≡ false }
     ensures { IfOk result (λ node. node ≡ declared draft.now statement.now) }
 {
     let nodes = draft.nodes.as_slice();

@@ -92,7 +92,8 @@ fn first_schema(
     }
 }
 
-fn joined_schema(
+/// The columns of the nodes of these names, one node behind the other.
+pub(crate) fn joined_schema(
     alloc: Global,
     nodes: &[PlanNode],
     inputs: &[Bytes],

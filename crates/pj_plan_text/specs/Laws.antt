@@ -4,11 +4,11 @@ use Rattle.pj_pattern.specs.Patterns.{is_of_one_kind}
 use Rattle.pj_element.specs.Laws.{IsKeptPattern}
 use Rattle.pj_plan.specs.declared.node.Outline.{Outline}
 use Rattle.pj_plan.specs.declared.statement.Statement.{Statement}
-use Rattle.pj_plan.specs.declared.statement.Statement.TheVariants.{Plan, Stream, Scheme, Select, Project, Union, Join, Group, Output, Bad}
 use Rattle.pj_plan.specs.declared.statement.TestWord.{TestWord}
 use Rattle.pj_plan.specs.declared.statement.Test.{Test}
 use Rattle.pj_plan.specs.declared.statement.Test.TheVariants.{One, Mixed}
 use Rattle.pj_plan.specs.Names.{is_spelled}
+use Rattle.pj_plan.specs.Parts.{parts_of}
 use Rattle.pj_plan.specs.Words.{bad_why}
 use Rattle.pj_plan.specs.Canonical.{statements_of}
 use Rattle.pj_plan_text.specs.PlanRead.{line_stated, plan_read}
@@ -25,16 +25,7 @@ AreKeptTests (word ∷ words) = IsKeptTest word.test × AreKeptTests words
 
 -- the patterns of a select are
 abbrev pub HasKeptTests : Statement → Type 0
-HasKeptTests (Plan version) = ⊤
-HasKeptTests (Stream name columns) = ⊤
-HasKeptTests (Scheme stream marks) = ⊤
-HasKeptTests (Select name input tests) = AreKeptTests tests
-HasKeptTests (Project name input columns) = ⊤
-HasKeptTests (Union name inputs) = ⊤
-HasKeptTests (Join name inputs classes) = ⊤
-HasKeptTests (Group name input keys aggs) = ⊤
-HasKeptTests (Output name) = ⊤
-HasKeptTests (Bad why) = ⊤
+HasKeptTests statement = AreKeptTests (parts_of statement).tests
 
 -- a line can spell the statement, which is no bad one
 pub record HasLine (statement : Statement) : Type 0 where

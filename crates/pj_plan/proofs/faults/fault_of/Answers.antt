@@ -1,5 +1,5 @@
 use Rattle.std.proofs.Common.{sym, ◌∙◌}
-use Rattle.pj_plan.proofs.Parts.{found_in_names, found_in_columns}
+use Rattle.pj_plan.proofs.FirstFaults.{found_in_names, found_in_columns}
 use Rattle.pj_plan.proofs.faults.fault_of.Goals as goal
 
 pub returns-in-Some : goal.returns-in-Some
