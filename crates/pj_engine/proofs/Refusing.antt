@@ -37,7 +37,7 @@ new_core core plan certs fresh sound made found are =
     let same : core.plan.nodes ≡ plan.nodes = ap (λ (p : RunPlan). p.nodes) fresh.of_plan in
     subst (λ (ns : List PlanNode). IsFresh core (run_plan ns (certificates_of ns) false) most_arrivals → AllAreCertified (nodes_of (run_plan ns (certificates_of ns) false)) → HasShortNames ns → IsSoundPlan ns → IsNewCore core)
     same (λ f c p s. record { fresh = f; certified = c; names = p; sound = s })
-    (subst (λ (cs : List (List (List CertStep))). IsFresh core (run_plan plan.nodes cs false) most_arrivals) found fresh) (run_certified plan.nodes sound are) (plain_names plan made) sound
+    (subst (λ (cs : List (List (List CertStep))). IsFresh core (run_plan plan.nodes cs false) most_arrivals) found fresh) (run_certified plan.nodes false sound are) (plain_names plan made) sound
 
 -- ---- bytes
 

@@ -18,9 +18,9 @@ use Rattle.pj_laws.specs.HistoryLaws.{AreAccepted, AreAcceptedLists}
 use Rattle.pj_core.specs.Plans.{operator_of}
 use Rattle.pj_run.specs.Runs.{run_nodes}
 use Rattle.pj_feed.specs.Feeds.{accepted_of}
-use Rattle.pj_safety.specs.Certificates.{certificates_at}
+use Rattle.pj_safety.specs.Certificates.{certificates_of}
 use Rattle.pj_run.proofs.AcceptedLaws.{accepted_file}
-use Rattle.pj_safe_core.proofs.Certified.{run_operator}
+use Rattle.pj_core.proofs.Frames.{certs_at, operator-is}
 use Rattle.pj_feed.proofs.StreamNodes.{IsStreamAt, count_numbers, stream-at}
 use Rattle.pj_run.proofs.StreamNodes.{same-numbers}
 
@@ -42,9 +42,9 @@ pub schema-is : (plan : Outline) (k d : ℕ) → k < length (streams_in plan.nod
 schema-is plan k d lt =
     ap (λ (ns : List ℕ). schema_of (operator_at (run_nodes plan) (get_or ns k d))) (same-numbers plan)
     ∙ (ap (λ (n : ℕ). schema_of (operator_at (run_nodes plan) n)) (here.at ∙ zero-add here.place)
-    ∙ (ap schema_of (run_operator plan.nodes here.place here.there)
-    ∙ (ap (λ (x : PlanNode). schema_of (operator_of (schemes_of plan.nodes) (certificates_at plan.nodes here.place) x.schema x.node)) here.is
-    ∙ (stream-columns (schemes_of plan.nodes) (certificates_at plan.nodes here.place) stream.schema stream.node here.stream
+    ∙ (ap schema_of (operator-is (schemes_of plan.nodes) (certificates_of plan.nodes) plan.nodes here.place here.there)
+    ∙ (ap (λ (x : PlanNode). schema_of (operator_of (schemes_of plan.nodes) (certs_at plan.nodes (certificates_of plan.nodes) here.place) x.schema x.node)) here.is
+    ∙ (stream-columns (schemes_of plan.nodes) (certs_at plan.nodes (certificates_of plan.nodes) here.place) stream.schema stream.node here.stream
     ∙ sym (get_or-map schema_in (streams_in plan.nodes) k no_node [] lt)))))
   where
     stream : PlanNode

@@ -1,22 +1,12 @@
 -- What the laws of histories ask of the nodes of a sound plan's run.
 use Rattle.std.proofs.Common.{◌<◌, Bool, List, [], length, refl, sym, subst, arith}
-use Rattle.pj_shape.specs.declared.columns.Column.{Column}
-use Rattle.pj_shape.specs.declared.joins.CertStep.{CertStep}
-use Rattle.pj_plan.specs.declared.node.Node.{Node as Operation}
-use Rattle.pj_plan.specs.declared.node.Node.TheVariants.{Stream as StreamNode, Select as SelectNode, Project as ProjectNode, Union as UnionNode, Join as JoinNode, Group as GroupNode}
 use Rattle.pj_plan.specs.declared.node.Outline.{Outline}
-use Rattle.pj_plan.specs.declared.node.PlanNode.{PlanNode}
-use Rattle.pj_plan.specs.Canonical.{node_at, node_schema}
-use Rattle.pj_scheme.specs.Derived.{schemes_of}
 use Rattle.pj_laws.specs.Climb.{IsTree}
 use Rattle.pj_events.specs.Plan.{ArePlanned}
 use Rattle.pj_laws.specs.HistoryLaws.{AllAreCertified}
-use Rattle.pj_core.specs.Plans.{operator_of}
-use Rattle.pj_core.proofs.Planned.{nodes-long, not-empty, planned, tree as is_tree}
-use Rattle.pj_safety.specs.Certificates.{certificates_at}
+use Rattle.pj_core.proofs.Planned.{not-empty, planned, tree as is_tree}
 use Rattle.pj_core.specs.Cores.{CoreState}
 use Rattle.pj_run.specs.Runs.{IsNewCore, outline_in, plan_run, run_nodes}
-use Rattle.pj_safe_core.proofs.Certified.{run_operator}
 
 -- ---- what the laws ask
 

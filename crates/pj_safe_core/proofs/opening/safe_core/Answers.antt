@@ -8,4 +8,4 @@ use Rattle.pj_safe_core.proofs.opening.safe_core.Goals as goal
 pub new-requires-clause-certified : goal.new-requires-clause-certified
 new-requires-clause-certified c =
     subst (λ (certs : List (List (List CertStep))). AllAreCertified (nodes_of (run_plan c.args.plan.nodes certs c.args.trace))) (sym c.requires.certs)
-    (run_certified c.args.plan.nodes c.nodes-sound.ensures.sound c.requires.certified)
+    (run_certified c.args.plan.nodes c.args.trace c.nodes-sound.ensures.sound c.requires.certified)
