@@ -1,5 +1,5 @@
 -- An event at a core: a local step at one node, and the climb of what it hands up.
-use Rattle.std.proofs.Common.{ℕ, zero, suc, ◌+◌, ◌<◌, ◌≤◌, max, Bool, false, cond, List, [], ◌∷◌, ◌++◌, ◌≡◌, ◌⊎◌, Option, Some, None, map, length, get_or, set, refl, sym, ap, ap₂, ◌∙◌, subst, inl, inr, arith, append_assoc}
+use Rattle.std.proofs.Common.{ℕ, zero, suc, ◌+◌, ◌<◌, ◌≤◌, max, Bool, false, cond, if◌then◌else◌, List, [], ◌∷◌, ◌++◌, ◌≡◌, ◌⊎◌, Option, Some, None, map, length, get_or, set, refl, sym, ap, ap₂, ◌∙◌, subst, inl, inr, arith, append_assoc}
 use Rattle.std.proofs.Math.Seq.{map-set_same}
 use Rattle.std.proofs.lemmas.Bool.{cases_eq}
 use Rattle.std.proofs.lemmas.List.{get_or-map, get_or-set_other, get_or-set_same, set-get_or}
@@ -11,23 +11,25 @@ use Rattle.pj_events.specs.declared.events.Out.{Out}
 use Rattle.pj_events.specs.Plan.{Operator, Node, Local, after, hands, nowhere, operator_at}
 use Rattle.pj_events.specs.History.{IsEntryAllowed, closed_after, halted_after, nodes_from, notes_of, out_of, reached_of, state_in, stop_after}
 use Rattle.pj_events.specs.Outcomes.{Level, arrivals_at, beyond_of, climb, goes_beyond, origin_of, stored_at, way_up}
-use Rattle.pj_events.specs.CoreKept.{CoreKept}
+use Rattle.pj_events.specs.CoreKept.{CoreKept, count_of}
 use Rattle.pj_laws.specs.Climb.{Climbed, climb_of, climbed_by, climbed_where, local_of, stepped}
 use Rattle.pj_laws.specs.ClimbKept.{handed_by, undrained_with}
 use Rattle.pj_laws.specs.ClimbLimits.{begun_by, begun_where}
 use Rattle.pj_laws.proofs.ClimbingKept.{stores-grow, stored_of}
 use Rattle.pj_laws.proofs.ClimbingLimits.{beyond-is-climbed, levels-climb}
+use Rattle.pj_laws.proofs.Nodes.{counts-from}
+use Rattle.pj_laws.proofs.Probes.{length-from}
 use Rattle.pj_join_laws.proofs.Upto.{get_or-upto}
 use Rattle.pj_operator.specs.declared.cell.Cell.{Cell}
-use Rattle.pj_operator.specs.Cells.{AreAs, HaveLimit, IsAs, cell_at, count_seen, frame_of, frames_in, kept_seen, no_cell, peak_seen, stored_kept}
-use Rattle.pj_operator.specs.Climbing.{Climbs, GoBeyond, Leaves, StaysAs, count_at}
+use Rattle.pj_operator.specs.Cells.{AreAs, Frame, HaveLimit, IsAs, Kind, cell_at, count_seen, counted_by, frame_of, frames_in, kept_seen, no_cell, peak_seen, stored_kept}
+use Rattle.pj_operator.specs.Climbing.{Climbs, GoBeyond, HaveCounted, Leaves, StaysAs, count_at, kind_at}
 use Rattle.pj_core.specs.Cores.{StandsFor}
 use Rattle.pj_core.specs.Parts.{IsMadeOf, core_of}
 use Rattle.pj_core.specs.Plans.{RunPlan, nodes_of}
-use Rattle.pj_operator.proofs.Climbs.{as-set, long-frames}
+use Rattle.pj_operator.proofs.Climbs.{as-set, long-frames, same-frame}
 use Rattle.pj_core.proofs.Frames.{limits-of}
-use Rattle.pj_core.proofs.Planned.{nodes-long, tree}
-use Rattle.pj_core.proofs.Stands.{are, kept-is, long-now, noted, stored-is}
+use Rattle.pj_core.proofs.Planned.{tree}
+use Rattle.pj_core.proofs.Stands.{are, counted-kind, kept-is, noted, stored-is}
 use Rattle.pj_operator.proofs.Ways.{way-past}
 
 -- ---- a local step
@@ -102,42 +104,51 @@ module _ (plan : RunPlan) (limit : ℕ) (cells : List Cell) (made : IsMadeOf pla
   pub climb-is : climb_of nodes event ≡ climbed_by nodes n l
   climb-is = ap₂ (climbed_where nodes) at local
 
-  -- the number of elements that reached a node
-  counted-is : (m : ℕ) → m < length plan.nodes → length (arrivals_at (nodes_of plan) history m) ≡ count_at cells m
+  abbrev reached : ℕ → ℕ
+  reached m = length (arrivals_at (nodes_of plan) history m)
+
+  -- each node has counted what reached it
+  counted-is : HaveCounted cells reached
   counted-is m lt =
       let z : 0 + m ≡ m = omega arith in
-      let long = nodes-long plan in
-      ap (λ (i : ℕ). length (arrivals_at (nodes_of plan) history i)) (sym z)
-      ∙ sym (get_or-upto (λ i. length (arrivals_at (nodes_of plan) history i)) 0 (length (nodes_of plan)) m 0 (omega (arith, lt, long)))
-      ∙ ap (λ (ns : List ℕ). get_or ns m 0) (sym (ap (λ (k : CoreKept). k.counts) (kept-is plan limit cells made c halt u history S)))
-      ∙ get_or-map count_seen cells m no_cell 0 (let a = (are plan limit cells made c halt u history S).long in omega (arith, lt, a, long-now plan limit history made.0 S.legal))
+      let A = are plan limit cells made c halt u history S in
+      let l : m < length (nodes_of plan) = omega (arith, lt, A.long, length-from (nodes_of plan) history) in
+      sym (get_or-map count_seen cells m no_cell 0 lt)
+      ∙ ap (λ (ns : List ℕ). get_or ns m 0) (ap (λ (k : CoreKept). k.counts) (kept-is plan limit cells made c halt u history S))
+      ∙ get_or-upto (count_of (nodes_of plan) history) 0 (length (nodes_of plan)) m 0 l
+      ∙ ap (count_of (nodes_of plan) history) z
+      ∙ ap (λ (b : Bool). if b then reached m else 0) (sym (counts-from (nodes_of plan) history m l))
+      ∙ counted-kind (kind_at cells m) (operator_at nodes m) (reached m) (A.each m lt).kind
+
+  kinds-are : (m : ℕ) → kind_at mid m ≡ kind_at cells m
+  kinds-are m = ap (λ (f : Frame). f.kind) (same-frame cells mid m step.frames)
+
+  counted-mid : HaveCounted mid reached
+  counted-mid m lt =
+      let l : m < length cells = omega (arith, lt, long-frames cells mid step.frames) in
+      step.counts m l ∙ counted-is m l ∙ ap (λ (k : Kind). counted_by k (reached m)) (sym (kinds-are m))
 
   -- where the event goes beyond the limit
   pub beyond-is : (o : Option ℕ) → GoBeyond mid n up o → goes_beyond limit (nodes_of plan) history event ≡ o
   beyond-is o G =
       beyond-is-climbed limit (nodes_of plan) (tree plan made.0) history event
-      ∙ ap (λ (i : ℕ). beyond_of (climb (length nodes) limit (way_up (λ m. length (arrivals_at (nodes_of plan) history m)) 0 i nodes) (begun_by nodes event))) at
+      ∙ ap (λ (i : ℕ). beyond_of (climb (length nodes) limit (way_up reached 0 i nodes) (begun_by nodes event))) at
       ∙ ap₂ (λ (levels : List Level) (es : List Element). beyond_of (climb (length nodes) limit levels es)) ways begun
-      ∙ G limit (subst (HaveLimit limit) (sym (step.frames ∙ made.2)) (limits-of plan limit)) (stepped nodes n l) step.stands (length nodes) fits
+      ∙ G limit (subst (HaveLimit limit) (sym (step.frames ∙ made.2)) (limits-of plan limit)) reached counted-mid (stepped nodes n l) step.stands (length nodes) fits
     where
       A : AreAs cells nodes
       A = are plan limit cells made c halt u history S
 
-      long : length nodes ≡ length plan.nodes
-      long = long-now plan limit history made.0 S.legal
-
       begun : begun_by nodes event ≡ up
       begun = ap₂ (λ (i : ℕ) (o : Option Local). begun_where (operator_at nodes i) o) at local
 
-      ways : way_up (λ m. length (arrivals_at (nodes_of plan) history m)) 0 n nodes ≡ way_up (count_at mid) 0 n (stepped nodes n l)
+      ways : way_up reached 0 n nodes ≡ way_up reached 0 n (stepped nodes n l)
       ways =
-          way-past (λ m. length (arrivals_at (nodes_of plan) history m)) (count_at mid) 0 n n nodes (record { inputs = (get_or nodes n nowhere).inputs; operator = after (operator_at nodes n) l })
-          A.tree.behind (omega arith) refl
-          (λ m gt lt. counted-is m (omega (arith, lt, long)) ∙ sym (step.counts m (omega (arith, lt, A.long))))
-          ∙ ap (way_up (count_at mid) 0 n) (sym (stepped-set nodes n l))
+          way-past reached reached 0 n n nodes (record { inputs = (get_or nodes n nowhere).inputs; operator = after (operator_at nodes n) l }) A.tree.behind (omega arith) refl (λ m gt lt. refl)
+          ∙ ap (way_up reached 0 n) (sym (stepped-set nodes n l))
 
-      fits : length (way_up (count_at mid) 0 n (stepped nodes n l)) ≤ length nodes
-      fits = let f = (levels-climb (stepped nodes n l) step.stands.tree (count_at mid) limit).fits n in let a = step.stands.long in let b = long-frames cells mid step.frames in omega (arith, f, a, b, A.long)
+      fits : length (way_up reached 0 n (stepped nodes n l)) ≤ length nodes
+      fits = let f = (levels-climb (stepped nodes n l) step.stands.tree reached limit).fits n in let a = step.stands.long in let b = long-frames cells mid step.frames in omega (arith, f, a, b, A.long)
 
   -- the peaks behind the event
   peaks-are : (new : List Cell) → StaysAs mid new → AreAs new (climbed_by nodes n l).nodes → (m : ℕ) → m < length cells
@@ -173,7 +184,9 @@ module _ (plan : RunPlan) (limit : ℕ) (cells : List Cell) (made : IsMadeOf pla
         long = long-frames mid new stays.frames ∙ long-frames cells mid step.frames;
         stands = subst (λ (k : Climbed). AreAs new k.nodes) (sym climb-is) L.stands;
         counts = λ m lt.
-            L.counts m (let a = long-frames cells mid step.frames in omega (arith, lt, a)) ∙ ap₂ (λ (i : ℕ) (k : Climbed). i + length (get_or k.brought m [])) (step.counts m lt) (sym climb-is);
+            L.counts m (let a = long-frames cells mid step.frames in omega (arith, lt, a))
+            ∙ ap₂ (λ (i : ℕ) (k : Kind). i + counted_by k (length (get_or (climbed_by nodes n l).brought m []))) (step.counts m lt) (kinds-are m)
+            ∙ ap (λ (k : Climbed). count_at cells m + counted_by (kind_at cells m) (length (get_or k.brought m []))) (sym climb-is);
         peaks = λ m lt. peaks-are new stays L.stands m lt ∙ ap (λ (k : Climbed). max (peak_seen (cell_at cells m)) (stored_at k.nodes m)) (sym climb-is);
         closed = closed;
         undrained = L.hands ∙ ap (λ (outs : List Out). outs ++ map out_of (climbed_by nodes n l).left.elements) begun

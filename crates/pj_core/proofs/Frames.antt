@@ -25,10 +25,10 @@ use Rattle.pj_events.specs.declared.events.Entry.{Entry}
 use Rattle.pj_events.specs.History.{nodes_from}
 use Rattle.pj_laws.specs.Climb.{Above, above}
 use Rattle.pj_laws.proofs.Nodes.{operator-from}
-use Rattle.pj_operator.specs.Cells.{AreLinked, FitsKind, Frame, HasLimit, HaveLimit, IsKind, IsLinked, JoinKind, Kind, above_pair, frame_at, role_in}
+use Rattle.pj_operator.specs.Cells.{AreLinked, FitsKind, Frame, HasLimit, HasOwnWidth, HaveLimit, IsKind, IsLinked, JoinKind, Kind, above_pair, frame_at, role_in, width_up}
 use Rattle.pj_core.specs.Parts.{frame_for, frames_from, frames_of, kind_for}
 use Rattle.pj_core.specs.Plans.{RunPlan, certs_behind, nodes_of, nodes_with, operator_of}
-use Rattle.pj_core.proofs.Planned.{above-is}
+use Rattle.pj_core.proofs.Planned.{above-is, node_made}
 
 -- ---- each of them
 
@@ -196,11 +196,37 @@ kind-takes nodes limit m certs schema (GroupNode input spec) position n few s e 
       omega (arith, kinds, few, length-map spec.keys (domain_at columns), length-map spec.aggs (agg_domain_at columns)),
     )
 
+-- how many columns a node hands up, by those that come to it
+kind-wide : (nodes : List PlanNode) (limit m : ℕ) (certs : List (List CertStep)) (schema : List Column) (operation : Operation) (position n : ℕ)
+    → IsSoundOperator nodes schema operation → slice_get (inputs_of operation) position ≡ Some n → length schema ≡ width_up (kind_for (schemes_of nodes) limit m certs schema operation) (length (node_schema nodes n))
+kind-wide nodes limit m certs schema (StreamNode stated) position n s e = absurd (let l = got-below [] position n e in omega (arith, l))
+kind-wide nodes limit m certs schema (SelectNode input test) position n s e =
+    sym (node_made (schemes_of nodes) certs schema (λ k. length (node_schema nodes k)) nodes (SelectNode input test) s (λ k h. refl)).width
+    ∙ ap (λ (k : ℕ). length (node_schema nodes k)) (one-input input position n e)
+kind-wide nodes limit m certs schema (ProjectNode input columns) position n s e = sym (node_made (schemes_of nodes) certs schema (λ k. length (node_schema nodes k)) nodes (ProjectNode input columns) s (λ k h. refl)).width
+kind-wide nodes limit m certs schema (UnionNode inputs) position n s e = refl
+kind-wide nodes limit m certs schema (JoinNode inputs spec) position n s e = sym (node_made (schemes_of nodes) certs schema (λ k. length (node_schema nodes k)) nodes (JoinNode inputs spec) s (λ k h. refl)).width
+kind-wide nodes limit m certs schema (GroupNode input spec) position n s e = sym (node_made (schemes_of nodes) certs schema (λ k. length (node_schema nodes k)) nodes (GroupNode input spec) s (λ k h. refl)).width
+
+own-wide : (nodes : List PlanNode) (limit m : ℕ) (certs : List (List CertStep)) (schema : List Column) (operation : Operation) → IsSoundOperator nodes schema operation → HasOwnWidth (kind_for (schemes_of nodes) limit m certs schema operation) (length schema)
+own-wide nodes limit m certs schema (StreamNode stated) s = tt
+own-wide nodes limit m certs schema (SelectNode input test) s = tt
+own-wide nodes limit m certs schema (ProjectNode input columns) s = tt
+own-wide nodes limit m certs schema (UnionNode inputs) s = tt
+own-wide nodes limit m certs schema (JoinNode inputs spec) s = sym (node_made (schemes_of nodes) certs schema (λ k. length (node_schema nodes k)) nodes (JoinNode inputs spec) s (λ k h. refl)).width
+own-wide nodes limit m certs schema (GroupNode input spec) s = tt
+
 -- what feeds a node fits it there
 pub links-of : (plan : RunPlan) (limit : ℕ) → IsSoundPlan plan.nodes → AreLinked (frames_of plan limit)
 links-of plan limit sound n lt =
     let l : n < length plan.nodes = omega (arith, lt, long-of plan limit) in
-    subst (λ (f : Frame). IsLinked (frames_of plan limit) n f.above f.width) (sym (frame-is plan limit n l)) (elim (cases_lt (n + 1) (length plan.nodes)) [
+    subst (λ (f : Frame). IsLinked (frames_of plan limit) n f.above f.width × HasOwnWidth f.kind f.width) (sym (frame-is plan limit n l)) (
+      feeds l,
+      own-wide plan.nodes limit n (certs_at plan.nodes plan.certs n) (plan_node plan.nodes n).schema (plan_node plan.nodes n).node (sound.each n l).operator,
+    )
+  where
+    feeds : n < length plan.nodes → IsLinked (frames_of plan limit) n (parent_of plan.nodes n) (length (plan_node plan.nodes n).schema)
+    feeds l = elim (cases_lt (n + 1) (length plan.nodes)) [
       | inl before ↦
           let p = sound.led n before in
           subst (λ (o : Option (ℕ × ℕ)). IsLinked (frames_of plan limit) n o (length (plan_node plan.nodes n).schema)) (sym p.2) (
@@ -209,10 +235,12 @@ links-of plan limit sound n lt =
             subst (λ (f : Frame). FitsKind f.kind p.1 (length (plan_node plan.nodes n).schema)) (sym (frame-is plan limit p.0 p.4))
                 (kind-takes plan.nodes limit p.0 (certs_at plan.nodes plan.certs p.0) (plan_node plan.nodes p.0).schema (plan_node plan.nodes p.0).node p.1 n
                 (sound.each p.0 p.4).schema.few (sound.each p.0 p.4).operator p.5),
+            subst (λ (f : Frame). f.width ≡ width_up f.kind (length (plan_node plan.nodes n).schema)) (sym (frame-is plan limit p.0 p.4))
+                (kind-wide plan.nodes limit p.0 (certs_at plan.nodes plan.certs p.0) (plan_node plan.nodes p.0).schema (plan_node plan.nodes p.0).node p.1 n (sound.each p.0 p.4).operator p.5),
           )
       | inr behind ↦
           subst (λ (o : Option (ℕ × ℕ)). IsLinked (frames_of plan limit) n o (length (plan_node plan.nodes n).schema)) (sym (sound.last n (omega (arith, l, behind)))) tt
-    ])
+    ]
 
 -- a join has its own number
 number-for : (schemes : List (List (List Bool))) (limit n : ℕ) (certs : List (List CertStep)) (columns : List Column) (operation : Operation) (node : ℕ) (spec : JoinData) (own : ℕ)

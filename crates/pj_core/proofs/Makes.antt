@@ -4,12 +4,13 @@ use Rattle.std.proofs.lemmas.Bool.{cases_lt, false≢true}
 use Rattle.std.proofs.lemmas.List.{drop-drop, drop_more, ext_get_or, get_or-drop, get_or-map, get_or_at, length-map, length_push}
 use Rattle.pj_events.specs.declared.events.Out.{Out}
 use Rattle.pj_events.specs.Join.{upto_from}
-use Rattle.pj_events.specs.Plan.{Node}
-use Rattle.pj_events.specs.CoreKept.{KeptOperator, kept_in}
+use Rattle.pj_events.specs.Plan.{Node, operator_at}
+use Rattle.pj_events.specs.CoreKept.{KeptOperator, count_of, kept_in}
 use Rattle.pj_events.specs.Outcomes.{stored_at}
 use Rattle.pj_join_laws.proofs.Upto.{get_or-upto, length-upto}
 use Rattle.pj_plan.specs.Nodes.{is_join}
 use Rattle.pj_core.specs.Calls.{IsFresh}
+use Rattle.pj_laws.proofs.ClimbingKept.{counted-zero}
 use Rattle.pj_operator.specs.Climbing.{AreOrderly, work_at}
 use Rattle.pj_core.proofs.Stands.{are-as, stored-is}
 use Rattle.pj_shape.specs.declared.columns.Column.{Column}
@@ -139,7 +140,7 @@ orderly-fresh : (limit : ℕ) → limit ≤ 2 ^ 40 → (kind : Kind) → HasLimi
 orderly-fresh limit le StreamKind h = tt
 orderly-fresh limit le (SelectKind test) h = tt
 orderly-fresh limit le (ProjectKind columns) h = tt
-orderly-fresh limit le (UnionKind n arity) h = tt
+orderly-fresh limit le (UnionKind n arity) h = λ p i. absurd i
 orderly-fresh limit le (JoinKind node spec own) h = record {
   below = λ t q. absurd (false≢true q);
   next = omega arith;
@@ -148,8 +149,10 @@ orderly-fresh limit le (JoinKind node spec own) h = record {
   opened = omega arith;
   stored = omega arith;
   waiting = omega arith;
+  rows_fit = λ x i. absurd i;
+  puncts_fit = λ p i. absurd i;
 }
-orderly-fresh limit le (GroupKind spec own) h = tt
+orderly-fresh limit le (GroupKind spec own) h = ([], refl)
 
 pub made-fresh : (plan : RunPlan) (limit : ℕ) (cells : List Cell) → IsSoundPlan plan.nodes → AllAreCertified (nodes_of plan) → limit ≤ 2 ^ 40 → cells ≡ map fresh_cell (frames_of plan limit) → IsMadeOf plan limit cells
 made-fresh plan limit cells sound all le e = (sound, all, ap frames_in e ∙ frames-fresh (frames_of plan limit), subst AreOrderly (sym e) (λ n. orderly n))
@@ -185,7 +188,7 @@ counts-fresh : (frames : List Frame) (k : ℕ) → map count_seen (map fresh_cel
 counts-fresh [] k = refl
 counts-fresh (f ∷ frames) k = ap₂ (λ (x : ℕ) (xs : List ℕ). x ∷ xs) (of f.kind) (counts-fresh frames (k + 1))
   where
-    of : (kind : Kind) → count_in (fresh_work kind) 0 ≡ 0
+    of : (kind : Kind) → count_in (fresh_work kind) ≡ 0
     of StreamKind = refl
     of (SelectKind test) = refl
     of (ProjectKind columns) = refl
@@ -202,8 +205,9 @@ is-fresh plan limit cells made e = record { of_plan = refl; with_limit = refl; s
     A : AreAs cells (nodes_of plan)
     A = are-as plan limit [] made.0 tt cells made.2 nodes
 
-    counts : map count_seen cells ≡ map (λ (n : ℕ). 0) (upto_from 0 (length (nodes_of plan)))
+    counts : map count_seen cells ≡ map (count_of (nodes_of plan) []) (upto_from 0 (length (nodes_of plan)))
     counts = ap (map count_seen) e ∙ counts-fresh (frames_of plan limit) 0 ∙ ap (λ (m : ℕ). map (λ (n : ℕ). 0) (upto_from 0 m)) (long-of plan limit ∙ sym (nodes-long plan))
+        ∙ (λ i. map (λ (n : ℕ). sym (counted-zero (operator_at (nodes_of plan) n)) i) (upto_from 0 (length (nodes_of plan))))
 
     peaks : map peak_seen cells ≡ map (λ (n : ℕ). stored_at (nodes_of plan) n) (upto_from 0 (length (nodes_of plan)))
     peaks =

@@ -125,7 +125,7 @@ module _ (plan : RunPlan) (limit : ℕ) (cells : List Cell) (made : IsMadeOf pla
       steps-at cells nodes place (Own e) (record (cell_at cells place) { work = JoinCell (after join e); peak = peak }) A there
       (record { kind = kind; kept = kept-is; below = below })
       (ap (λ (w : Work). record { kind = kind_of w; above = (cell_at cells place).above; width = (cell_at cells place).width }) (sym at))
-      (next join.kept e own ∙ ap (λ (w : Work). count_in w (cell_at cells place).passed) (sym at))
+      (next join.kept e own ∙ ap count_in (sym at))
       keeps
     where
       behind : after_local (operator_at nodes place) (Own e) ≡ Join join.spec (step join.spec J.state e)

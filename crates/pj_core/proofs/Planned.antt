@@ -53,9 +53,9 @@ sum_long schema (m ∷ ms) =
 -- ---- one node
 
 -- an operator at its start is well made for the widths of its inputs, and has the width of its columns
-record IsMade (schemes : List (List (List Bool))) (certs : List (List CertStep)) (schema : List Column) (widths : ℕ → ℕ) (operation : Operation) : Type 0 where
-  made : IsWellMade (operator_of schemes certs schema operation) (map widths (inputs_of operation))
-  width : operator_width (operator_of schemes certs schema operation) (map widths (inputs_of operation)) ≡ length schema
+pub record IsMade (schemes : List (List (List Bool))) (certs : List (List CertStep)) (schema : List Column) (widths : ℕ → ℕ) (operation : Operation) : Type 0 where
+  pub made : IsWellMade (operator_of schemes certs schema operation) (map widths (inputs_of operation))
+  pub width : operator_width (operator_of schemes certs schema operation) (map widths (inputs_of operation)) ≡ length schema
 
 union_made : (schemes : List (List (List Bool))) (certs : List (List CertStep)) (schema : List Column) (widths : ℕ → ℕ) (nodes : List PlanNode) (inputs : List ℕ) → IsSoundOperator nodes schema (UnionNode inputs)
     → ((m : ℕ) → In m inputs → widths m ≡ length (node_schema nodes m)) → IsMade schemes certs schema widths (UnionNode inputs)
@@ -73,7 +73,7 @@ union_made schemes certs schema widths nodes (m ∷ ms) s same =
       width = all m (inl refl);
     }
 
-node_made : (schemes : List (List (List Bool))) (certs : List (List CertStep)) (schema : List Column) (widths : ℕ → ℕ) (nodes : List PlanNode) (operation : Operation) → IsSoundOperator nodes schema operation
+pub node_made : (schemes : List (List (List Bool))) (certs : List (List CertStep)) (schema : List Column) (widths : ℕ → ℕ) (nodes : List PlanNode) (operation : Operation) → IsSoundOperator nodes schema operation
     → ((m : ℕ) → In m (inputs_of operation) → widths m ≡ length (node_schema nodes m)) → IsMade schemes certs schema widths operation
 node_made schemes certs schema widths nodes (StreamNode stated) s same = record { made = (refl, refl); width = refl }
 node_made schemes certs schema widths nodes (SelectNode input test) s same =

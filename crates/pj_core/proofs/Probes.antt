@@ -33,7 +33,7 @@ use Rattle.pj_core.specs.Parts.{IsMadeOf, core_of}
 use Rattle.pj_core.specs.Plans.{RunPlan, nodes_of}
 use Rattle.pj_core.specs.Turns.{MayProbeAt, ProbesAt, StopsAtProbe, StopsProbe, kept_pending}
 use Rattle.pj_operator.proofs.Changes.{frames-work, opens-work}
-use Rattle.pj_operator.proofs.Climbs.{outs-rows}
+use Rattle.pj_operator.proofs.Widths.{outs-rows}
 use Rattle.pj_operator.proofs.Joins.{took_keeps}
 use Rattle.pj_core.proofs.Own as own
 use Rattle.pj_core.proofs.Stands.{are}

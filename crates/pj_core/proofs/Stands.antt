@@ -1,5 +1,5 @@
 -- The nodes of a core stand for those of a history, and one more entry is noted.
-use Rattle.std.proofs.Common.{ℕ, suc, ◌+◌, ◌<◌, max, Bool, false, List, [], ◌∷◌, ◌++◌, ◌≡◌, None, map, length, get_or, refl, sym, ap, ap₂, ◌∙◌, subst, arith}
+use Rattle.std.proofs.Common.{ℕ, suc, ◌+◌, ◌<◌, max, Bool, false, if◌then◌else◌, List, [], ◌∷◌, ◌++◌, ◌≡◌, None, map, length, get_or, refl, sym, ap, ap₂, ◌∙◌, subst, arith}
 use Rattle.std.proofs.lemmas.List.{ext_get_or, get_or-map, length-map}
 use Rattle.pj_shape.specs.declared.columns.Column.{Column}
 use Rattle.pj_shape.specs.declared.joins.CertStep.{CertStep}
@@ -13,21 +13,22 @@ use Rattle.pj_events.specs.declared.events.Out.{Out}
 use Rattle.pj_events.specs.Join.{AreLegalSteps, JoinData, JoinState, Step, inputs, run, start}
 use Rattle.pj_events.specs.Plan.{Operator, Stream, Select, Project, Union, Join, Group, Node, nowhere, operator_at}
 use Rattle.pj_events.specs.History.{IsEntryAllowed, IsLegal, closed_after, halted_after, nodes_from, reached_of, state_in, stop_after}
-use Rattle.pj_events.specs.Outcomes.{Arrival, join_steps_of, stored_at}
+use Rattle.pj_events.specs.Outcomes.{Arrival, counted, counts, join_steps_of, stored_at}
 use Rattle.pj_events.specs.CoreKept.{CoreKept, KeptOperator, NothingKept, core_kept, kept_in}
 use Rattle.pj_laws.specs.Climb.{climb_of}
-use Rattle.pj_laws.specs.ClimbKept.{counted, handed_by, kept_with, raised, undrained_with}
-use Rattle.pj_laws.proofs.ClimbingKept.{adds-climb}
+use Rattle.pj_laws.specs.ClimbKept.{AddsClimb, counted_with, handed_by, kept_with, raised, undrained_with}
+use Rattle.pj_laws.proofs.ClimbingKept.{adds-climb, counted-none, counted-zero}
 use Rattle.pj_join_laws.proofs.Complete.{IsCounted, counted-run, counted-start}
 use Rattle.pj_laws.proofs.HistoryAnswers.{grows-legally}
 use Rattle.pj_laws.proofs.JoinRuns.{join-runs}
+use Rattle.pj_laws.proofs.Nodes.{counts-from}
 use Rattle.pj_laws.proofs.Probes.{length-from}
 use Rattle.pj_join_laws.proofs.Sound.{sound-start}
 use Rattle.pj_laws.proofs.Trees.{above-from, tree-from}
 use Rattle.pj_join.specs.Joins.{join_data}
 use Rattle.pj_operator.specs.declared.cell.Cell.{Cell}
-use Rattle.pj_operator.specs.Cells.{AreAs, Frame, GroupRole, IsBelow, IsBelowIn, IsKind, JoinRole, ProjectRole, SelectRole, StreamRole, UnionRole, above_pair, cell_at, count_seen, frame_at, frame_of, frames_in, kept_seen, no_cell, peak_seen, stored_kept}
-use Rattle.pj_operator.specs.Climbing.{AreCounted}
+use Rattle.pj_operator.specs.Cells.{AreAs, Frame, GroupKind, GroupRole, IsBelow, IsBelowIn, IsKind, JoinKind, JoinRole, Kind, ProjectKind, ProjectRole, SelectKind, SelectRole, StreamKind, StreamRole, UnionKind, UnionRole, above_pair, cell_at, count_seen, counted_by, frame_at, frame_of, frames_in, kept_seen, no_cell, peak_seen, role_in, role_of, stored_kept}
+use Rattle.pj_operator.specs.Climbing.{AreCounted, count_at, kind_at}
 use Rattle.pj_core.specs.Cores.{StandsFor}
 use Rattle.pj_core.specs.Parts.{IsMadeOf, all_kept, core_of, frames_of, kind_for}
 use Rattle.pj_core.specs.Plans.{RunPlan, nodes_of, operator_of}
@@ -134,22 +135,30 @@ same-kept cells nodes A =
     get_or-map (λ (cell : Cell). kept_seen cell.work) cells n no_cell NothingKept l ∙ (A.each n l).kept
     ∙ sym (get_or-map (λ (node : Node). kept_in node.operator) nodes n nowhere NothingKept (omega (arith, l, A.long))))
 
-counted-same : (f g : Cell → ℕ) (old new : List Cell) (brought : List (List Arrival)) → length old ≡ length new
-    → ((n : ℕ) → n < length old → g (get_or new n no_cell) ≡ f (get_or old n no_cell) + length (get_or brought n [])) → map g new ≡ counted (map f old) brought
-counted-same f g [] [] brought e s = refl
-counted-same f g [] (y ∷ ys) brought e s = cc
-counted-same f g (x ∷ xs) [] brought e s = cc
-counted-same f g (x ∷ xs) (y ∷ ys) [] e s =
-    ap₂ (λ (n : ℕ) (ns : List ℕ). n ∷ ns) (s 0 (omega arith) ∙ plus (f x)) (counted-same f g xs ys [] (omega (arith, e)) (λ n lt. s (suc n) (omega (arith, lt))) ∙ nothing (map f xs))
-  where
-    plus : (n : ℕ) → n + 0 ≡ n
-    plus n = omega arith
+-- what a node counts, by its kind
+pub counted-kind : (kind : Kind) (o : Operator) (n : ℕ) → IsKind kind o → counted o n ≡ counted_by kind n
+counted-kind StreamKind (Stream schema sent) n k = refl
+counted-kind (SelectKind own) (Select test) n k = refl
+counted-kind (ProjectKind own) (Project columns) n k = refl
+counted-kind (UnionKind own arity) (Union m u) n k = refl
+counted-kind (JoinKind node own limit) (Join spec s) n k = refl
+counted-kind (GroupKind own limit) (Group spec rows) n k = refl
+counted-kind kind o n k = absurd (let e : role_of kind ≡ role_in o = k in cc)
 
-    nothing : (ns : List ℕ) → counted ns [] ≡ ns
-    nothing [] = refl
-    nothing (n ∷ ns) = refl
-counted-same f g (x ∷ xs) (y ∷ ys) (came ∷ brought) e s =
-    ap₂ (λ (n : ℕ) (ns : List ℕ). n ∷ ns) (s 0 (omega arith)) (counted-same f g xs ys brought (omega (arith, e)) (λ n lt. s (suc n) (omega (arith, lt))))
+counted-same : (f g : Cell → ℕ) (old new : List Cell) (nodes : List Node) (brought : List (List Arrival)) → length old ≡ length new → length old ≡ length nodes
+    → ((n : ℕ) → n < length old → g (get_or new n no_cell) ≡ f (get_or old n no_cell) + counted (operator_at nodes n) (length (get_or brought n []))) → map g new ≡ counted_with (map f old) nodes brought
+counted-same f g [] [] nodes brought e l s = refl
+counted-same f g [] (y ∷ ys) nodes brought e l s = cc
+counted-same f g (x ∷ xs) [] nodes brought e l s = cc
+counted-same f g (x ∷ xs) (y ∷ ys) [] brought e l s = absurd (omega (arith, l))
+counted-same f g (x ∷ xs) (y ∷ ys) (node ∷ nodes) [] e l s =
+    ap₂ (λ (n : ℕ) (ns : List ℕ). n ∷ ns) (s 0 (omega arith) ∙ plus (f x) (counted node.operator 0) (counted-zero node.operator))
+    (counted-same f g xs ys nodes [] (omega (arith, e)) (omega (arith, l)) (λ n lt. s (suc n) (omega (arith, lt))) ∙ counted-none (map f xs) nodes)
+  where
+    plus : (n z : ℕ) → z ≡ 0 → n + z ≡ n
+    plus n z e = omega (arith, e)
+counted-same f g (x ∷ xs) (y ∷ ys) (node ∷ nodes) (came ∷ brought) e l s =
+    ap₂ (λ (n : ℕ) (ns : List ℕ). n ∷ ns) (s 0 (omega arith)) (counted-same f g xs ys nodes brought (omega (arith, e)) (omega (arith, l)) (λ n lt. s (suc n) (omega (arith, lt))))
 
 raised-same : (f g : Cell → ℕ) (old new : List Cell) (nodes : List Node) → length old ≡ length new → length old ≡ length nodes
     → ((n : ℕ) → n < length old → g (get_or new n no_cell) ≡ max (f (get_or old n no_cell)) (stored_at nodes n)) → map g new ≡ raised (map f old) nodes
@@ -202,10 +211,26 @@ module _ (plan : RunPlan) (limit : ℕ) (cells : List Cell) (made : IsMadeOf pla
     stands = (λ _. K, ap (λ (k : CoreKept). k.undrained) K, ap (λ (k : CoreKept). k.halted) K, ap (λ (k : CoreKept). k.stop) K);
   }
     where
+      climbs : AddsClimb (nodes_of plan) history entry
+      climbs = adds-climb (nodes_of plan) (tree plan made.0) history entry
+
+      -- a node counts behind the entry where it did before
+      counts-still : (n : ℕ) → n < length cells → counts (operator_at (climb_of nodes entry.event).nodes n) ≡ counts (operator_at nodes n)
+      counts-still n lt =
+          let l : n < length (nodes_of plan) = omega (arith, lt, are.long, length-from (nodes_of plan) history) in
+          ap (λ (ns : List Node). counts (operator_at ns n)) (sym climbs.nodes) ∙ counts-from (nodes_of plan) (history ++ entry ∷ []) n l ∙ sym (counts-from (nodes_of plan) history n l)
+
+      counts-with : (n : ℕ) → n < length cells → count_at new n ≡ count_at cells n + counted (operator_at (climb_of nodes entry.event).nodes n) (length (get_or (climb_of nodes entry.event).brought n []))
+      counts-with n lt =
+          let came = length (get_or (climb_of nodes entry.event).brought n []) in
+          G.counts n lt
+          ∙ ap (λ (m : ℕ). count_at cells n + m)
+          (sym (counted-kind (kind_at cells n) (operator_at nodes n) came (are.each n lt).kind) ∙ ap (λ (b : Bool). if b then came else 0) (sym (counts-still n lt)))
+
       after-entry : all_kept new c' halt' u' None ≡ kept_with plan.trace (all_kept cells c halt u None) nodes entry
       after-entry = λ i. record {
         nodes = same-kept new (climb_of nodes entry.event).nodes G.stands i;
-        counts = counted-same count_seen count_seen cells new (climb_of nodes entry.event).brought (sym G.long) G.counts i;
+        counts = counted-same count_seen count_seen cells new (climb_of nodes entry.event).nodes (climb_of nodes entry.event).brought (sym G.long) (sym G.long ∙ G.stands.long) counts-with i;
         peaks = raised-same peak_seen peak_seen cells new (climb_of nodes entry.event).nodes (sym G.long) (sym G.long ∙ G.stands.long) G.peaks i;
         closed = G.closed i;
         undrained = G.undrained i;
@@ -215,4 +240,4 @@ module _ (plan : RunPlan) (limit : ℕ) (cells : List Cell) (made : IsMadeOf pla
 
       K : all_kept new c' halt' u' None ≡ core_kept plan.trace (nodes_of plan) (history ++ entry ∷ [])
       K = after-entry ∙ ap (λ (k : CoreKept). kept_with plan.trace k nodes entry) kept-is
-          ∙ sym ((adds-climb (nodes_of plan) (tree plan made.0) history entry).kept plan.trace (one-top plan made.0))
+          ∙ sym (climbs.kept plan.trace (one-top plan made.0))

@@ -15,7 +15,7 @@ use Rattle.pj_laws.proofs.HistoryAnswers.{adds-entry, grows-legally, trace-adds-
 use Rattle.pj_laws.proofs.Nodes.{empty-none, quiet}
 use Rattle.pj_operator.specs.declared.cell.Cell.{Cell}
 use Rattle.pj_operator.specs.Cells.{AreAs, cell_at, peak_seen}
-use Rattle.pj_operator.specs.Climbing.{AreCounted}
+use Rattle.pj_operator.proofs.Climbs.{still-counted}
 use Rattle.pj_core.specs.Calls.{StaysStopped, StopsNow}
 use Rattle.pj_core.specs.Cores.{Notes, StandsFor}
 use Rattle.pj_core.specs.Parts.{IsMadeOf, core_of}
@@ -121,7 +121,7 @@ module _ (plan : RunPlan) (limit : ℕ) (cells : List Cell) (made : IsMadeOf pla
       (record {
         long = refl;
         stands = subst (λ (k : Climbed). AreAs cells k.nodes) (sym climb-is) A;
-        counts = λ m lt. plus (Rattle.pj_operator.specs.Climbing.count_at cells m) ∙ ap (λ (k : Climbed). Rattle.pj_operator.specs.Climbing.count_at cells m + length (get_or k.brought m [])) (sym climb-is);
+        counts = still-counted cells (climb_of nodes event).brought (λ m. ap (λ (k : Climbed). get_or k.brought m []) climb-is);
         peaks = λ m lt. raised m lt ∙ ap (λ (k : Climbed). max (peak_seen (cell_at cells m)) (stored_at k.nodes m)) (sym climb-is);
         closed = closed;
         undrained = outs;
@@ -134,9 +134,6 @@ module _ (plan : RunPlan) (limit : ℕ) (cells : List Cell) (made : IsMadeOf pla
 
       climb-is : climb_of nodes event ≡ still
       climb-is = ap (Rattle.pj_laws.specs.Climb.climbed_where nodes (Rattle.pj_events.specs.Outcomes.origin_of nodes event)) local
-
-      plus : (n : ℕ) → n ≡ n + 0
-      plus n = omega arith
 
       raised : (m : ℕ) → m < length cells → peak_seen (cell_at cells m) ≡ max (peak_seen (cell_at cells m)) (stored_at nodes m)
       raised m lt = omega (arith, stored-is cells nodes m A lt)

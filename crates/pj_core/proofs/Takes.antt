@@ -5,6 +5,7 @@ use Rattle.std.proofs.lemmas.List.{get_or-map, get_or-set_same, length-map, leng
 use Rattle.std.proofs.lemmas.List.Sums.{sum-map, sum_by-cons}
 use Rattle.pj_value.specs.declared.values.Value.{Value}
 use Rattle.pj_value.proofs.Numbers.{has-in}
+use Rattle.pj_plan.specs.Canonical.{node_schema}
 use Rattle.pj_pattern.specs.declared.element.Element.{Element}
 use Rattle.pj_pattern.specs.declared.element.Element.TheVariants.{Tuple}
 use Rattle.pj_events.specs.declared.events.Entry.{Entry}
@@ -12,7 +13,7 @@ use Rattle.pj_events.specs.declared.events.Event.TheVariants.{Take as Taken, Giv
 use Rattle.pj_events.specs.declared.events.Out.{Out}
 use Rattle.pj_events.specs.declared.events.Stop.{Stop}
 use Rattle.pj_events.specs.declared.events.Stop.TheVariants.{Limit, NoMemory}
-use Rattle.pj_events.specs.Join.{Give, JoinState, Take, TupleAt, has, joined, results}
+use Rattle.pj_events.specs.Join.{Give, In, JoinState, Take, TupleAt, has, joined, results}
 use Rattle.pj_events.specs.KeptState.{KeptState, kept_of, lacking, without}
 use Rattle.pj_events.specs.Plan.{after as after_local, Node, Operator, Stream, Select, Project, Union, Join, Group, Own, hands, operator_at}
 use Rattle.pj_events.specs.History.{data_at, nodes_from, state_in}
@@ -27,16 +28,18 @@ use Rattle.pj_operator.specs.declared.cell.Cell.{Cell}
 use Rattle.pj_operator.specs.declared.cell.Work.{Work}
 use Rattle.pj_operator.specs.declared.cell.Work.TheVariants.{Join as JoinCell}
 use Rattle.pj_operator.specs.Acts.{FirstTook, JoinActs, first_pending, with_work}
-use Rattle.pj_core.specs.Calls.{HasGiven, IsGiveCause, IsOpen, TakesNext}
-use Rattle.pj_operator.specs.Cells.{AreAs, Frame, cell_at, frame_at, frame_of, kept_seen, kind_of, no_cell, IsTakenIn, pending_kept}
+use Rattle.pj_core.specs.Calls.{FitNode, HasGiven, IsGiveCause, IsOpen, TakesNext}
+use Rattle.pj_operator.specs.Cells.{AreAs, AreLinked, Frame, IsOrderly, cell_at, frame_at, frame_of, kept_seen, kind_of, no_cell, IsTakenIn, pending_kept}
 use Rattle.pj_operator.specs.Climbing.{Climbs, GoBeyond, IsClimbStop, StaysAs}
 use Rattle.pj_core.specs.Cores.{StandsFor}
 use Rattle.pj_core.specs.Parts.{IsMadeOf, core_of}
 use Rattle.pj_core.specs.Plans.{RunPlan, nodes_of}
 use Rattle.pj_operator.proofs.Climbs.{climbs-none, frame-at, stays-none}
+use Rattle.pj_operator.proofs.Changes.{own-width}
 use Rattle.pj_operator.proofs.Joins.{fewer-without}
+use Rattle.pj_operator.proofs.Widths.{found-fits}
 use Rattle.pj_core.proofs.Events.{Steps, beyond-is, note}
-use Rattle.pj_core.proofs.Frames.{join-number, long-of}
+use Rattle.pj_core.proofs.Frames.{frame-is, join-number, links-of, long-of}
 use Rattle.pj_core.proofs.Own as own
 use Rattle.pj_core.proofs.Planned.{tree}
 use Rattle.pj_core.proofs.Own.{IsJoinWith}
@@ -217,6 +220,7 @@ takes-next plan limit cells new c halt u found made F =
           ∙ results-stay plan limit cells made c halt u history S F.place F.there join F.took.was found.ticket F.took.takes.pending
           ∙ ap (λ (n : ℕ). results_of (nodes_of plan) history n found.ticket) (sym joins));
       opens = opens;
+      fits = fits;
       within = λ history S. take-within limit (nodes_of plan) (tree plan made.0) history found.join found.ticket;
       notes = record {
         plan = refl;
@@ -244,6 +248,13 @@ takes-next plan limit cells new c halt u found made F =
 
     fewer : pending_kept (kept_seen (JoinCell (after join (Take found.ticket)))) < pending_kept (kept_seen (cell_at cells F.place).work)
     fewer = subst (λ (w : Work). length (without join.kept.pending found.ticket) < pending_kept (kept_seen w)) (sym F.took.was) (fewer-without join.kept.pending found.ticket F.took.takes.pending)
+
+    fits : FitNode (core_of plan limit mid c halt u None) found.join found.rows
+    fits row h =
+        found-fits join found.ticket (subst IsOrderly F.took.was (made.3 F.place)) row (subst (λ (f : Found). In row f.rows) F.took.takes.finds h)
+        ∙ sym (own-width cells F.place join (subst AreLinked (sym made.2) (links-of plan limit made.0)) F.there F.took.was)
+        ∙ ap (λ (f : Frame). f.width) (sym (frame-at cells F.place) ∙ ap (λ (fs : List Frame). frame_at fs F.place) made.2 ∙ frame-is plan limit F.place (let l = F.there in omega (arith, l, sym (length-map cells frame_of) ∙ ap length made.2 ∙ long-of plan limit)))
+        ∙ ap (λ (n : ℕ). length (node_schema plan.nodes n)) (sym joins)
 
     opens : IsOpen (core_of plan limit mid c halt u None) found
     opens =

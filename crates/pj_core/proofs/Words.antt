@@ -1,29 +1,40 @@
 -- What the calls of a core answer, as its parts are seen.
-use Rattle.std.proofs.Common.{true, Bool, ℕ, max, ◌<◌, ◌≤◌, ◌∷◌, [], List, ◌≡◌, Option, Some, None, length, get_or, refl, sym, ap, ◌∙◌, subst, arith}
+use Rattle.std.proofs.Common.{true, Bool, ℕ, max, ◌<◌, ◌≤◌, ◌∷◌, [], List, ◌≡◌, Option, Some, None, length, map, get_or, refl, sym, ap, ◌∙◌, subst, arith}
 use Rattle.std.specs.Prelude.{IfSome}
 use Rattle.std.proofs.lemmas.List.{get_or_default, length-map}
-use Rattle.pj_plan.specs.Nodes.{streams_of}
+use Rattle.pj_value.specs.declared.values.Value.{Value}
+use Rattle.pj_shape.specs.Columns.{domains_of}
+use Rattle.pj_shape.specs.declared.columns.Column.{Column}
+use Rattle.pj_plan.specs.Canonical.{node_schema}
+use Rattle.pj_plan.specs.Nodes.{stream_columns, streams_in, streams_of}
 use Rattle.pj_events.specs.declared.events.Out.{Out}
 use Rattle.pj_events.specs.declared.events.Stop.{Stop}
 use Rattle.pj_events.specs.OneThread.{Turn, arrival_of, plain}
 use Rattle.pj_events.specs.History.{closed_after}
 use Rattle.pj_events.specs.declared.events.Event.TheVariants.{Arrive, Drain, Halt}
+use Rattle.pj_pattern.specs.Fitting.{FitsDomains}
+use Rattle.pj_pattern.proofs.Rows.{wilds-length}
 use Rattle.pj_pattern.specs.declared.element.Element.{Element}
+use Rattle.pj_pattern.specs.declared.element.Element.TheVariants.{Tuple}
+use Rattle.pj_events.specs.Plan.{Fits}
+use Rattle.pj_laws.proofs.Whole.{fits-length}
 use Rattle.pj_probe.specs.declared.probe.Found.{Found}
 use Rattle.pj_events.specs.declared.events.Look.{Look as TheLook}
 use Rattle.pj_operator.specs.declared.look.Sums.{Sums}
 use Rattle.pj_operator.specs.Looks.{AreFew, AreWith}
 use Rattle.pj_operator.specs.declared.cell.Cell.{Cell}
-use Rattle.pj_core.specs.Calls.{HasArrived, IsCause, IsOpen, IsJoinNode, IsLookAt, IsPeak, IsRefused, StaysStopped, StopsNow, closing_of}
-use Rattle.pj_operator.specs.Cells.{AreLinked, cell_at, frame_of, frames_in, kept_seen, no_cell, peak_seen, stored_kept, IsTakenIn}
-use Rattle.pj_operator.specs.Climbing.{AreOrderly, Climbs, IsClimbStop, StaysAs}
+use Rattle.pj_core.specs.Calls.{FitNode, HasArrived, IsCause, IsOpen, IsJoinNode, IsLookAt, IsPeak, IsRefused, StaysStopped, StopsNow, closing_of}
+use Rattle.pj_operator.specs.Cells.{AreLinked, AreWide, Frame, cell_at, frame_at, frame_of, frames_in, kept_seen, no_cell, peak_seen, stored_kept, IsTakenIn}
+use Rattle.pj_operator.specs.Climbing.{AreOrderly, Climbs, IsClimbStop, MayClimb, StaysAs}
 use Rattle.pj_core.specs.Cores.{CoreState, Notes}
 use Rattle.pj_core.specs.Parts.{IsMadeOf, closing_in, core_of}
 use Rattle.pj_core.specs.Plans.{RunPlan}
+use Rattle.pj_operator.proofs.Climbs.{frame-at}
+use Rattle.pj_operator.proofs.Widths.{one-wide, rows-wide}
 use Rattle.pj_core.proofs.Arrivals.{arrival-stop, arrived}
-use Rattle.pj_core.proofs.Frames.{links-of, long-of}
+use Rattle.pj_core.proofs.Frames.{frame-is, links-of, long-of}
 use Rattle.pj_core.proofs.Looking.{HasNumbers, are_few, is-look, is-peak}
-use Rattle.pj_core.proofs.Streams.{streams-few}
+use Rattle.pj_core.proofs.Streams.{columns_there, number_below, streams-few}
 use Rattle.pj_core.proofs.Stops.{notes-drain, notes-halt, stays-stopped, stops-now}
 use Rattle.pj_core.proofs.Takes.{open-there}
 use Rattle.pj_core.specs.Settling.{IsSettlingRefused}
@@ -63,6 +74,40 @@ module _ (plan : RunPlan) (limit : ℕ) (cells : List Cell) (c : List ℕ) (halt
 
   pub linked-cells : (xs : List Cell) → xs ≡ cells → AreLinked (frames_in xs)
   linked-cells xs e = subst (λ (ys : List Cell). AreLinked (frames_in ys)) (sym e) linked
+
+  pub orderly-cells : (xs : List Cell) → xs ≡ cells → AreOrderly xs
+  orderly-cells xs e = subst AreOrderly (sym e) made.3
+
+  -- a node hands up as many columns as it has
+  width-is : (n : ℕ) → n < length plan.nodes → (cell_at cells n).width ≡ length (node_schema plan.nodes n)
+  width-is n lt = ap (λ (f : Frame). f.width) (sym (frame-at cells n) ∙ ap (λ (fs : List Frame). frame_at fs n) made.2 ∙ frame-is plan limit n lt)
+
+  may-climb : (xs : List Cell) (n : ℕ) (es : List Element) → xs ≡ cells → n < length plan.nodes → AreWide (length (node_schema plan.nodes n)) es → MayClimb xs n es
+  may-climb xs n es e lt wide = subst (λ (ys : List Cell). MayClimb ys n es) (sym e) (record { linked = linked; orderly = made.3; wide = λ x h. wide x h ∙ sym (width-is n lt) })
+
+  -- what arrives at a stream, or closes it, may climb
+  may-come : (xs : List Cell) (stream : ℕ) (x : Element) → xs ≡ cells → stream < length (streams_of plan.nodes) → Fits (length (stream_columns (streams_in plan.nodes) stream)) x → MayClimb xs (get_or (streams_of plan.nodes) stream 0) (x ∷ [])
+  may-come xs stream x e there fits =
+      may-climb xs (get_or (streams_of plan.nodes) stream 0) (x ∷ []) e (number_below plan.nodes stream there)
+      (one-wide x (length (node_schema plan.nodes (get_or (streams_of plan.nodes) stream 0))) (subst (λ (columns : List Column). Fits (length columns) x) (sym (columns_there plan.nodes stream there)) fits))
+
+  pub may-arrive : (xs : List Cell) (from stream : ℕ) (x : Element) → xs ≡ cells → from ≡ get_or (streams_of plan.nodes) stream 0 → stream < length (streams_of old.plan.nodes) → FitsDomains (domains_of (stream_columns (streams_in old.plan.nodes) stream)) x
+      → MayClimb xs from (x ∷ [])
+  may-arrive xs from stream x e at there fits =
+      subst (λ (n : ℕ). MayClimb xs n (x ∷ [])) (sym at)
+      (may-come xs stream x e (subst (λ (o : CoreState). stream < length (streams_of o.plan.nodes)) (sym is) there)
+      (fits-length (stream_columns (streams_in plan.nodes) stream) x (subst (λ (o : CoreState). FitsDomains (domains_of (stream_columns (streams_in o.plan.nodes) stream)) x) (sym is) fits)))
+
+  pub may-close : (xs : List Cell) (stream : ℕ) → xs ≡ cells → stream < length (streams_of old.plan.nodes) → MayClimb xs (get_or (streams_of plan.nodes) stream 0) (closing_in plan.nodes stream ∷ [])
+  may-close xs stream e there =
+      may-come xs stream (closing_in plan.nodes stream) e (subst (λ (o : CoreState). stream < length (streams_of o.plan.nodes)) (sym is) there)
+      (wilds-length (length (stream_columns (streams_in plan.nodes) stream)))
+
+  pub may-give : (xs : List Cell) (probe : Found) (rows : List (List Value)) → xs ≡ cells → IsOpen old probe → FitNode old probe.join rows → MayClimb xs probe.join (map Tuple rows)
+  may-give xs probe rows e opened fits =
+      may-climb xs probe.join (map Tuple rows) e
+      (let lt = (open-there cells probe.join probe.ticket (subst (λ (s : CoreState). IsOpen s probe) (sym is) opened)).0 in omega (arith, lt, long))
+      (rows-wide rows (length (node_schema plan.nodes probe.join)) (subst (λ (o : CoreState). FitNode o probe.join rows) (sym is) fits))
 
   -- an element has arrived
   pub arrived-now : t ≡ None → (turn : Turn) → turn.stream < length (streams_of old.plan.nodes) → (xs new new' : List Cell) (from : ℕ) (c' : List ℕ) (u' : List Out) → xs ≡ cells → new' ≡ new → from ≡ get_or (streams_of plan.nodes) turn.stream 0

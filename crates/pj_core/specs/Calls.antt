@@ -1,7 +1,8 @@
 -- What the calls of a core answer, and what they make of it.
 use Rattle.std.specs.Prelude.{ℕ, ◌+◌, ◌<◌, ◌≡◌, true, false, List, [], ◌∷◌, ◌++◌, map, filter, length, slice_index_or, sum, Option, Some, None}
 use Rattle.pj_plan.specs.Nodes.{inputs_of, is_join, streams_of, stream_columns, streams_in}
-use Rattle.pj_plan.specs.Canonical.{node_at}
+use Rattle.pj_value.specs.declared.values.Value.{Value}
+use Rattle.pj_plan.specs.Canonical.{node_at, node_schema}
 use Rattle.pj_plan.specs.Sound.{IsSoundPlan}
 use Rattle.pj_pattern.specs.declared.element.Element.{Element}
 use Rattle.pj_pattern.specs.declared.element.Element.TheVariants.{Punct}
@@ -14,7 +15,7 @@ use Rattle.pj_events.specs.declared.events.Look.{Look}
 use Rattle.pj_events.specs.declared.events.Out.{Out}
 use Rattle.pj_events.specs.declared.events.Stop.{Stop}
 use Rattle.pj_events.specs.declared.events.Stop.TheVariants.{Limit, NoMemory}
-use Rattle.pj_events.specs.Join.{has, upto_from}
+use Rattle.pj_events.specs.Join.{In, has, upto_from}
 use Rattle.pj_events.specs.KeptState.{lacking}
 use Rattle.pj_events.specs.Plan.{Node}
 use Rattle.pj_events.specs.History.{nodes_by, pending_in, reached_of, state_in}
@@ -84,6 +85,15 @@ pub record HasArrived (old new : CoreState) (entry : Entry) : Type 0 where
 abbrev pub IsOpen : CoreState → Found → Type 0
 IsOpen core probe = IsTakenIn (slice_index_or core.kept.nodes probe.join NothingKept) probe.ticket
 
+-- each of these rows has as many columns as the node
+abbrev pub FitNode : CoreState → ℕ → List (List Value) → Type 0
+FitNode core n rows = (row : List Value) → In row rows → length row ≡ length (node_schema core.plan.nodes n)
+
+-- the results of a ticket that is under way in a history that a core stands for have as many columns as their join
+abbrev pub FitWhatIsUnderWay : Type 0
+FitWhatIsUnderWay = (core : CoreState) → IsSoundPlan core.plan.nodes → (history : List Entry) → StandsFor core history
+    → (probe : Found) → IsUnderWay (nodes_in core) history probe.join probe.ticket → FitNode core probe.join (results_of (nodes_in core) history probe.join probe.ticket)
+
 -- a probe whose ticket is under way in a history that a core stands for is open there, while nothing stopped
 abbrev pub OpensWhatIsUnderWay : Type 0
 OpensWhatIsUnderWay = (core : CoreState) → IsSoundPlan core.plan.nodes → core.kept.stop ≡ None → (history : List Entry) → StandsFor core history
@@ -109,6 +119,7 @@ pub record TakesNext (old new : CoreState) (probe : Found) : Type 0 where
   pub keeps : (history : List Entry) → StandsFor old history
       → probe.rows ≡ results_of (nodes_in new) (history ++ plain (Taken probe.join probe.ticket) ∷ []) probe.join probe.ticket
   pub opens : IsOpen new probe
+  pub fits : FitNode new probe.join probe.rows
   pub within : HasRoomFor old (Taken probe.join probe.ticket)
   pub notes : Notes old new (plain (Taken probe.join probe.ticket))
   pub on : new.kept.stop ≡ None

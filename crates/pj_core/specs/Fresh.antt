@@ -20,7 +20,7 @@ fresh_work (JoinKind node spec limit) = JoinCell (record { node = node; spec = s
 fresh_work (GroupKind spec limit) = GroupCell (record { spec = spec; limit = limit; count = 0; table = table_of spec [] })
 
 abbrev pub fresh_cell : Frame → Cell
-fresh_cell frame = record { work = fresh_work frame.kind; above = frame.above; width = frame.width; passed = 0; peak = 0 }
+fresh_cell frame = record { work = fresh_work frame.kind; above = frame.above; width = frame.width; peak = 0 }
 
 -- each input of a join has a certificate
 abbrev pub IsCertifiedKind : Kind → Type 0

@@ -92,7 +92,6 @@ fn new_cell(
         work,
         above: plan.parent(number),
         width,
-        passed: 0,
         peak: 0,
     })
 }

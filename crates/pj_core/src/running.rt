@@ -9,13 +9,12 @@ ghost use Rattle.pj_pattern.specs.Fitting.{FitsDomains};
 ghost use Rattle.pj_shape.specs.Columns.{domains_of};
 ghost use Rattle.pj_plan.specs.Nodes.{streams_of, stream_columns, streams_in};
 ghost use Rattle.pj_core.specs.Plans.{nodes_of, run_plan};
-ghost use Rattle.pj_operator.specs.Cells.{AreLinked, frames_in};
-ghost use Rattle.pj_operator.specs.Climbing.{IsClimbStop, StaysAs};
+ghost use Rattle.pj_operator.specs.Climbing.{IsClimbStop, MayClimb, StaysAs};
 ghost use Rattle.pj_core.specs.Cores.{Notes};
 ghost use Rattle.pj_core.specs.Parts.{closing_in, StreamCloses};
 ghost use Rattle.pj_core.specs.Turns.{MayProbeAt, StopsProbe, places_total};
 ghost use Rattle.pj_plan.specs.Canonical.{node_at};
-ghost use Rattle.pj_core.specs.Calls.{CoreTakes, HasArrived, HasGiven, HasSwept, IsCause, IsFresh, IsGiveCause, IsJoinInput, IsJoinNode, IsLookAt, IsOpen, IsPeak, IsRefused, StaysStopped, StopsNow, arriving_of, closing_of};
+ghost use Rattle.pj_core.specs.Calls.{CoreTakes, FitNode, HasArrived, HasGiven, HasSwept, IsCause, IsFresh, IsGiveCause, IsJoinInput, IsJoinNode, IsLookAt, IsOpen, IsPeak, IsRefused, StaysStopped, StopsNow, arriving_of, closing_of};
 ghost use Rattle.pj_events.specs.Outcomes.{ended_of};
 
 use crate::build::new_cells;
@@ -171,12 +170,14 @@ impl Core {
     }
 
     /// Hands up what the work of a probe found, as far as it goes, and gives its ticket. The probe was taken from this core and
-    /// is not given yet (`probes_under_way` tells it of any history), and `found` is of its join and ticket.
+    /// is not given yet, and `found` is of its join and ticket and has rows of as many columns as the join (`probes_under_way` tells
+    /// both of any history).
     ///
     /// The stops are those of an arrival.
     pub fn give(&mut self, probe: Probe, found: Found) -> Result<(), Stop>
         requires open { self.old.kept.stop ≡ None → IsOpen self.old probe }
         requires same { (found.join ≡ probe.join) × (found.ticket ≡ probe.ticket) }
+        requires fits { self.old.kept.stop ≡ None → FitNode self.old probe.join found.rows }
         ensures ok { OnOk result (HasGiven self.old self.new probe found) }
         ensures err { IfErr result (λ stop. IsRefused self.old.kept.stop self.old self.new stop (IsGiveCause self.old probe found stop)) }
     {
@@ -355,7 +356,7 @@ fn close(
 ) -> Result<(), Stop>
     requires there { stream < length (streams_of plan.now.nodes) }
     requires long { length cells.old ≡ length plan.now.nodes }
-    requires linked { AreLinked (frames_in cells.old) }
+    requires may { MayClimb cells.old (slice_index_or (streams_of plan.now.nodes) stream 0) (closing_in plan.now.nodes stream ∷ []) }
     ensures closed { OnOk result (closed.new ≡ closed.old ++ stream ∷ []) }
     ensures ok { OnOk result (StreamCloses plan.now.nodes stream (record { cells = cells.old; outs = outs.old }) (record { cells = cells.new; outs = outs.new })) }
     ensures err { IfErr result (λ stop. IsClimbStop cells.old (slice_index_or (streams_of plan.now.nodes) stream 0) (closing_in plan.now.nodes stream ∷ []) stop) }

@@ -6,7 +6,7 @@ ghost use Rattle.pj_plan.specs.Sound.{IsSoundPlan};
 ghost use Rattle.pj_laws.specs.HistoryLaws.{AllAreCertified};
 ghost use Rattle.pj_laws.specs.SettlingHistories.{NoneIsLeft, SettlingIsComplete};
 ghost use Rattle.pj_core_laws.specs.Answers.{AnswersArePlain, CountedArePlain, CountsArePlain, PunctuationsArePlain};
-ghost use Rattle.pj_core.specs.Calls.{GivesMayFollow, OpensWhatIsUnderWay, SweepsMayFollow};
+ghost use Rattle.pj_core.specs.Calls.{FitWhatIsUnderWay, GivesMayFollow, OpensWhatIsUnderWay, SweepsMayFollow};
 ghost use Rattle.pj_core.specs.Cores.{CoreState, nodes_in};
 ghost use Rattle.pj_core.specs.Plans.{RunPlan, nodes_of};
 ghost use Rattle.pj_core_laws.specs.Settling.{SettledIsComplete, WorkSettles};
@@ -40,9 +40,10 @@ pub fn work_settles()
 {}
 
 /// A probe may be given to a core while its ticket was taken and not given by any history that the core stands for, whatever
-/// arrived, was swept, taken and given meanwhile.
+/// arrived, was swept, taken and given meanwhile; and its results have as many columns as its join.
 pub fn probes_under_way()
-    ensures { OpensWhatIsUnderWay }
+    ensures opens { OpensWhatIsUnderWay }
+    ensures fits { FitWhatIsUnderWay }
 {}
 
 /// The sweeps and the gives of a core that goes on are allowed in any history that it stands for: a sweep of each input of a join

@@ -155,6 +155,10 @@ counts (Union n u) = false
 counts (Join spec s) = true
 counts (Group spec rows) = true
 
+-- of so many elements that reached a node, how many it has counted
+abbrev pub counted : Operator → ℕ → ℕ
+counted operator n = if counts operator then n else 0
+
 abbrev pub is_full : ℕ → Level → Bool
 is_full limit level = counts level.operator && (level.count == limit)
 

@@ -24,11 +24,11 @@ use Rattle.pj_events.specs.Outcomes.{results_of}
 use Rattle.pj_events.specs.OneThread.{arrival_of, plain}
 use Rattle.pj_laws.proofs.NextProbe.{none-is-pending}
 use Rattle.pj_probe.specs.declared.probe.Found.{Found}
-use Rattle.pj_core.specs.Calls.{CoreTakes, HasArrived, HasGiven, HasSwept, IsCause, IsGiveCause, IsJoinInput, IsLookAt, IsOpen, IsRefused, arriving_of}
+use Rattle.pj_core.specs.Calls.{CoreTakes, FitNode, HasArrived, HasGiven, HasSwept, IsCause, IsGiveCause, IsJoinInput, IsLookAt, IsOpen, IsRefused, arriving_of}
 use Rattle.pj_core.specs.Cores.{CoreState, Notes, nodes_in}
 use Rattle.pj_core.specs.Plans.{nodes_of}
 use Rattle.pj_core.proofs.Planned.{planned}
-use Rattle.pj_core_laws.proofs.UnderWay.{opens-under_way}
+use Rattle.pj_core_laws.proofs.UnderWay.{fits-under_way, opens-under_way}
 use Rattle.pj_turn.specs.History.{Did, Ready}
 use Rattle.pj_turn.proofs.Lists.{own_seen}
 use Rattle.std.specs.declared.snapshot.Snapshot.{Snapshot}
@@ -224,6 +224,10 @@ module _ (x : Shared) where
         ∙ ap (λ (m : MadeWith). results_of (hub_with m).nodes seen probe.join probe.ticket) (sym r.fixed_is)
         ∙ sym (held-results (nodes_in core) (planned core.plan S.sound) seen r.seen_so_far.behind (subst (IsLegal (nodes_in core)) r.seen_so_far.begins S.stands.legal) n probe.join probe.ticket needs.0.took)
         ∙ ap (λ (h : List Entry). results_of (nodes_in core) h probe.join probe.ticket) (sym r.seen_so_far.begins)
+
+    -- the rows fit the join
+    pub give-fits : FitNode core probe.join found.rows
+    give-fits = subst (FitNode core probe.join) (sym give-rows) (fits-under_way core S.sound log S.stands probe way)
 
     -- only this ticket is given, and it was taken on this seat
     gave-own : (j u a : ℕ) → In a (giver_by j u n (Given probe.join probe.ticket)) → In a (takers j u log)

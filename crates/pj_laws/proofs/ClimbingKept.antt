@@ -1,22 +1,23 @@
 -- One more entry behind a history of a tree.
-use Rattle.std.proofs.Common.{ℕ, subst, ◌≤◌, zero, suc, ◌+◌, ◌<◌, max, Bool, List, [], ◌∷◌, ◌++◌, ◌≡◌, cond, map, length, get_or, refl, sym, ap, ap₂, ◌∙◌, arith, length-append}
+use Rattle.std.proofs.Common.{ℕ, subst, ◌≤◌, zero, suc, ◌+◌, ◌<◌, max, Bool, true, false, List, [], ◌∷◌, ◌++◌, ◌≡◌, cond, map, length, get_or, refl, sym, ap, ap₂, ◌∙◌, arith, length-append}
 use Rattle.std.proofs.lemmas.List.{length_push}
 use Rattle.pj_events.specs.Join.{start, AreLegalSteps, Tuple, Punct, new_tuple, Element, upto_from}
-use Rattle.pj_events.specs.Plan.{ArePlanned, Operator, Stream, Select, Project, Union, Join, Group, Comes, after, after_all, Node}
+use Rattle.pj_events.specs.Plan.{ArePlanned, Operator, Stream, Select, Project, Union, Join, Group, Comes, after, after_all, Node, operator_at}
 use Rattle.pj_events.specs.declared.events.Entry.{Entry}
 use Rattle.pj_events.specs.declared.events.Event.{Event}
 use Rattle.pj_events.specs.declared.events.Out.{Out}
 use Rattle.pj_events.specs.declared.events.Event.TheVariants.{Arrive, Take as Taken, Give as Given, Sweep as Swept, Drain, Halt, Look, Stopped, Idle}
 use Rattle.pj_events.specs.History.{state_in, out_of, notes_of, gained, Reached, next, reached_of, undrained_after, nodes_from}
-use Rattle.pj_events.specs.Outcomes.{step_at, own_step, join_steps_of, place_in, Arrival, arrivals_at, peak_of, stored_at, outputs_of}
-use Rattle.pj_events.specs.CoreKept.{core_kept, kept_in}
+use Rattle.pj_events.specs.Outcomes.{counted, counts, step_at, own_step, join_steps_of, place_in, Arrival, arrivals_at, peak_of, stored_at, outputs_of}
+use Rattle.pj_events.specs.CoreKept.{core_kept, count_of, kept_in}
 use Rattle.pj_laws.specs.Climb.{local_at, Load, coming, going_on, climbed_from, IsTree, HasOneTop, Climbed, climb_of, EventClimbs}
-use Rattle.pj_laws.specs.ClimbKept.{handed_by, counted, raised, undrained_with, kept_with, StoresGrow, JoinsClimb, AddsClimb}
+use Rattle.pj_laws.specs.ClimbKept.{handed_by, counted_with, raised, undrained_with, kept_with, StoresGrow, JoinsClimb, AddsClimb}
 use Rattle.pj_laws.specs.HistoryLaws.{AddsEntry}
 use Rattle.pj_laws.proofs.HistoryAnswers.{adds-entry, trace-adds-notes}
 use Rattle.pj_laws.proofs.JoinRuns.{join-runs}
 use Rattle.pj_laws.proofs.Trees.{tree-from, above-from}
 use Rattle.pj_laws.proofs.ClimbingEvents.{events-climb}
+use Rattle.pj_laws.proofs.Nodes.{counts-from}
 use Rattle.pj_laws.proofs.Probes.{length-from}
 
 pub top-from : (plan : List Node) (h : List Entry) → HasOneTop plan → HasOneTop (nodes_from plan h)
@@ -24,27 +25,48 @@ top-from plan h top n lt = let a = top n (omega (arith, lt, length-from plan h))
 
 -- ---- one place after the other
 
-counted-none : (ns : List ℕ) → counted ns [] ≡ ns
-counted-none [] = refl
-counted-none (n ∷ ns) = refl
+pub counted-none : (ns : List ℕ) (nodes : List Node) → counted_with ns nodes [] ≡ ns
+counted-none [] nodes = refl
+counted-none (n ∷ ns) [] = refl
+counted-none (n ∷ ns) (node ∷ nodes) = refl
+
+-- nothing is counted of nothing
+pub counted-zero : (operator : Operator) → counted operator 0 ≡ 0
+counted-zero operator = go (counts operator) 0
+  where
+    go : (b : Bool) (z : ℕ) → cond b z z ≡ z
+    go true z = refl
+    go false z = refl
+
+pub counted-plus : (operator : Operator) (n m : ℕ) → counted operator (n + m) ≡ counted operator n + counted operator m
+counted-plus operator n m = go (counts operator)
+  where
+    go : (b : Bool) → cond b (n + m) zero ≡ cond b n zero + cond b m zero
+    go true = refl
+    go false = refl
 
 raised-none : (ns : List ℕ) → raised ns [] ≡ ns
 raised-none [] = refl
 raised-none (n ∷ ns) = refl
 
-counted-upto : (f g : ℕ → ℕ) (k n : ℕ) (brought : List (List Arrival)) → ((i : ℕ) → i < n → g (k + i) ≡ f (k + i) + length (get_or brought i [])) → map g (upto_from k n) ≡ counted (map f (upto_from k n)) brought
-counted-upto f g k zero brought s = refl
-counted-upto f g k (suc n) [] s =
+-- where as many were counted at each place as came there
+counted-upto : (f g : ℕ → ℕ) (k n : ℕ) (nodes : List Node) (brought : List (List Arrival)) → n ≤ length nodes
+    → ((i : ℕ) → i < n → g (k + i) ≡ f (k + i) + counted (operator_at nodes i) (length (get_or brought i []))) → map g (upto_from k n) ≡ counted_with (map f (upto_from k n)) nodes brought
+counted-upto f g k zero nodes brought few s = refl
+counted-upto f g k (suc n) [] brought few s = absurd (omega (arith, few))
+counted-upto f g k (suc n) (node ∷ nodes) [] few s =
     let z : k + 0 ≡ k = omega arith in
-    ap₂ (λ (m : ℕ) (ms : List ℕ). m ∷ ms) (ap g (sym z) ∙ s 0 (omega arith) ∙ plus-none (f (k + 0)) ∙ ap f z)
-    (counted-upto f g (k + 1) n [] (λ i lt. let y : k + suc i ≡ k + 1 + i = omega arith in ap g (sym y) ∙ s (suc i) (omega (arith, lt)) ∙ ap (λ (m : ℕ). f m + 0) y) ∙ counted-none (map f (upto_from (k + 1) n)))
+    ap₂ (λ (m : ℕ) (ms : List ℕ). m ∷ ms) (ap g (sym z) ∙ s 0 (omega arith) ∙ plus-none (f (k + 0)) (counted node.operator 0) (counted-zero node.operator) ∙ ap f z)
+    (counted-upto f g (k + 1) n nodes [] (omega (arith, few)) (λ i lt. let y : k + suc i ≡ k + 1 + i = omega arith in ap g (sym y) ∙ s (suc i) (omega (arith, lt)) ∙ ap (λ (m : ℕ). f m + counted (operator_at nodes i) 0) y)
+    ∙ counted-none (map f (upto_from (k + 1) n)) nodes)
   where
-    plus-none : (m : ℕ) → m + 0 ≡ m
-    plus-none m = omega arith
-counted-upto f g k (suc n) (came ∷ brought) s =
+    plus-none : (m z : ℕ) → z ≡ 0 → m + z ≡ m
+    plus-none m z e = omega (arith, e)
+counted-upto f g k (suc n) (node ∷ nodes) (came ∷ brought) few s =
     let z : k + 0 ≡ k = omega arith in
-    ap₂ (λ (m : ℕ) (ms : List ℕ). m ∷ ms) (ap g (sym z) ∙ s 0 (omega arith) ∙ ap (λ (m : ℕ). f m + length came) z)
-    (counted-upto f g (k + 1) n brought (λ i lt. let y : k + suc i ≡ k + 1 + i = omega arith in ap g (sym y) ∙ s (suc i) (omega (arith, lt)) ∙ ap (λ (m : ℕ). f m + length (get_or brought i [])) y))
+    ap₂ (λ (m : ℕ) (ms : List ℕ). m ∷ ms) (ap g (sym z) ∙ s 0 (omega arith) ∙ ap (λ (m : ℕ). f m + counted node.operator (length came)) z)
+    (counted-upto f g (k + 1) n nodes brought (omega (arith, few))
+    (λ i lt. let y : k + suc i ≡ k + 1 + i = omega arith in ap g (sym y) ∙ s (suc i) (omega (arith, lt)) ∙ ap (λ (m : ℕ). f m + counted (operator_at nodes i) (length (get_or brought i []))) y))
 
 raised-upto : (f g : ℕ → ℕ) (k n : ℕ) (nodes : List Node) → ((i : ℕ) → i < n → g (k + i) ≡ max (f (k + i)) (stored_at nodes i)) → map g (upto_from k n) ≡ raised (map f (upto_from k n)) nodes
 raised-upto f g k zero nodes s = refl
@@ -117,9 +139,9 @@ adds-climb plan tree history entry = record {
         let r : reached_of trace plan (history ++ entry ∷ []) ≡ next trace (reached_of trace plan history) entry = A.reached trace in
         let ns : map (λ node. kept_in node.operator) (nodes_from plan (history ++ entry ∷ [])) ≡ map (λ node. kept_in node.operator) c.nodes =
         ap (map (λ node. kept_in node.operator)) moves in
-        let cs : map (λ n. length (arrivals_at plan (history ++ entry ∷ []) n)) (upto_from 0 (length plan)) ≡ counted (map (λ n. length (arrivals_at plan history n)) (upto_from 0 (length plan))) c.brought =
-        counted-upto (λ n. length (arrivals_at plan history n)) (λ n. length (arrivals_at plan (history ++ entry ∷ []) n)) 0 (length plan) c.brought
-        (λ i lt. counts i) in
+        let cs : map (count_of plan (history ++ entry ∷ [])) (upto_from 0 (length plan)) ≡ counted_with (map (count_of plan history) (upto_from 0 (length plan))) c.nodes c.brought =
+        counted-upto (count_of plan history) (count_of plan (history ++ entry ∷ [])) 0 (length plan) c.nodes c.brought
+        (omega (arith, sym (ap length moves) ∙ length-from plan (history ++ entry ∷ []))) counts-with in
         let ps : map (peak_of plan (history ++ entry ∷ [])) (upto_from 0 (length plan)) ≡ raised (map (peak_of plan history) (upto_from 0 (length plan))) c.nodes =
         raised-upto (peak_of plan history) (peak_of plan (history ++ entry ∷ [])) 0 (length plan) c.nodes (λ i lt. peaks i) in
         let us : (reached_of trace plan (history ++ entry ∷ [])).undrained ≡ undrained_with (reached_of trace plan history).undrained (handed_by trace nodes entry.event) entry.event =
@@ -139,10 +161,14 @@ adds-climb plan tree history entry = record {
         plus : (n : ℕ) → 0 + n ≡ n
         plus n = omega arith
 
-        counts : (n : ℕ) → length (arrivals_at plan (history ++ entry ∷ []) (0 + n)) ≡ length (arrivals_at plan history (0 + n)) + length (get_or c.brought n [])
-        counts n =
-            ap length (came (0 + n)) ∙ length-append (arrivals_at plan history (0 + n)) (get_or c.brought (0 + n) [])
-            ∙ ap (λ (m : ℕ). length (arrivals_at plan history (0 + n)) + length (get_or c.brought m [])) (plus n)
+        counts-with : (n : ℕ) → n < length plan → count_of plan (history ++ entry ∷ []) (0 + n) ≡ count_of plan history (0 + n) + counted (operator_at c.nodes n) (length (get_or c.brought n []))
+        counts-with n lt =
+            ap (λ (xs : List Arrival). counted (operator_at plan (0 + n)) (length xs)) (came (0 + n))
+            ∙ ap (counted (operator_at plan (0 + n))) (length-append (arrivals_at plan history (0 + n)) (get_or c.brought (0 + n) []))
+            ∙ counted-plus (operator_at plan (0 + n)) (length (arrivals_at plan history (0 + n))) (length (get_or c.brought (0 + n) []))
+            ∙ ap (λ (m : ℕ). count_of plan history (0 + n) + counted (operator_at plan m) (length (get_or c.brought m []))) (plus n)
+            ∙ ap (λ (b : Bool). count_of plan history (0 + n) + cond b (length (get_or c.brought n [])) 0)
+            (sym (counts-from plan (history ++ entry ∷ []) n lt) ∙ ap (λ (ns : List Node). counts (operator_at ns n)) moves)
 
         peaks : (n : ℕ) → peak_of plan (history ++ entry ∷ []) (0 + n) ≡ max (peak_of plan history (0 + n)) (stored_at c.nodes n)
         peaks n = higher (0 + n) ∙ ap (λ (m : ℕ). max (peak_of plan history (0 + n)) (stored_at c.nodes m)) (plus n)

@@ -6,6 +6,7 @@ use Rattle.pj_events.specs.Plan.{Operator, Stream, Select, Project, Union, Join,
 use Rattle.pj_events.specs.declared.events.Entry.{Entry}
 use Rattle.pj_events.specs.declared.events.Event.TheVariants.{Drain}
 use Rattle.pj_events.specs.History.{root_of, step_of, nodes_by, out_of, gained, nodes_from, data_in}
+use Rattle.pj_events.specs.Outcomes.{counts}
 use Rattle.pj_events.specs.OneThread.{schema_of}
 use Rattle.pj_laws.specs.HistoryLaws.{IsNoGroup}
 use Rattle.pj_laws.proofs.Glue.{length-moved, after-append}
@@ -77,6 +78,27 @@ no_group-after (Group spec rows) l g = absurd g
 pub no_group-all : (m : Operator) (ls : List Local) → IsNoGroup m → IsNoGroup (after_all m ls)
 no_group-all m [] g = g
 no_group-all m (l ∷ ls) g = no_group-all (after m l) ls (no_group-after m l g)
+
+pub counts-after : (m : Operator) (l : Local) → counts (after m l) ≡ counts m
+counts-after (Stream schema sent) (Comes k e) = refl
+counts-after (Stream schema sent) (Fed e) = refl
+counts-after (Stream schema sent) (Own s) = refl
+counts-after (Select test) l = refl
+counts-after (Project columns) l = refl
+counts-after (Union n u) (Comes k e) = refl
+counts-after (Union n u) (Fed e) = refl
+counts-after (Union n u) (Own s) = refl
+counts-after (Join spec s) l = refl
+counts-after (Group spec rows) (Comes k e) = refl
+counts-after (Group spec rows) (Fed e) = refl
+counts-after (Group spec rows) (Own s) = refl
+
+pub counts-all : (m : Operator) (ls : List Local) → counts (after_all m ls) ≡ counts m
+counts-all m [] = refl
+counts-all m (l ∷ ls) = counts-all (after m l) ls ∙ counts-after m l
+
+pub counts-from : (nodes : List Node) (h : List Entry) (n : ℕ) → n < length nodes → counts (operator_at (nodes_from nodes h) n) ≡ counts (operator_at nodes n)
+counts-from nodes h n lt = let f = operator-from nodes h n lt in ap counts f.1 ∙ counts-all (operator_at nodes n) f.0
 
 -- ---- nodes that a step does not reach
 

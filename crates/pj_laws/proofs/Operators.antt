@@ -15,7 +15,6 @@ use Rattle.pj_pattern.proofs.Covering.{wild_matches}
 use Rattle.pj_pattern.proofs.Rows.{wilds-length}
 use Rattle.pj_join_laws.proofs.Forget.{IsSound}
 use Rattle.pj_join_laws.proofs.Sound.{sound-start, sound-step, run-append}
-use Rattle.pj_join_laws.proofs.Results.{picked}
 use Rattle.pj_join_laws.proofs.Widen.{joined-length}
 use Rattle.pj_join_laws.proofs.Lawful.{result-of, run-lawful}
 use Rattle.pj_laws.proofs.Glue.{from_input}
@@ -140,7 +139,7 @@ project-lawful width columns = flat-lawful width (project_hands columns) each no
 
 -- ---- a join
 
-widened-length : (spec : JoinData) (p : PunctAt) → p.input < inputs spec → length p.patterns ≡ arity spec p.input → length (widened spec p) ≡ sum (arities spec)
+pub widened-length : (spec : JoinData) (p : PunctAt) → p.input < inputs spec → length p.patterns ≡ arity spec p.input → length (widened spec p) ≡ sum (arities spec)
 widened-length spec p lt l =
     omega (
       arith,
@@ -159,7 +158,7 @@ widened-length spec p lt l =
     behind : ℕ
     behind = sum (drop (p.input + 1) (arities spec))
 
-results-fit : (spec : JoinData) (s : JoinState) → IsSound spec s → (u : ℕ) (c : List TupleAt) → In c (results spec s.tuples s.tuples u) → length (joined c) ≡ sum (arities spec)
+pub results-fit : (spec : JoinData) (s : JoinState) → IsSound spec s → (u : ℕ) (c : List TupleAt) → In c (results spec s.tuples s.tuples u) → length (joined c) ≡ sum (arities spec)
 results-fit spec s i u c h = joined-length (arities spec) c (result-of spec s i u c h).long
 
 hands_up-fit : (spec : JoinData) (s : JoinState) (st : Step) → IsSound spec s → IsAllowed spec s st → AllFit (sum (arities spec)) (hands_up spec s st)

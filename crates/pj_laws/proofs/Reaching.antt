@@ -23,7 +23,7 @@ use Rattle.pj_join_laws.proofs.Upto.{map-upto}
 use Rattle.pj_laws.proofs.Histories.{arrivals-append}
 use Rattle.pj_laws.proofs.Steps.{legal-steps}
 use Rattle.pj_laws.proofs.Probes.{length-from}
-use Rattle.pj_laws.proofs.Nodes.{operator-from}
+use Rattle.pj_laws.proofs.Nodes.{counts-after, counts-all, counts-from}
 use Rattle.pj_laws.proofs.Settled.{complete-answers}
 use Rattle.pj_laws.proofs.Puncts.{complete-puncts}
 use Rattle.pj_laws.proofs.HistoryAnswers.{answers-are, complete-run}
@@ -34,26 +34,6 @@ use Rattle.pj_laws.proofs.Climbing.{came-local, placed-none}
 use Rattle.pj_laws.proofs.ClimbingEvents.{events-climb, length-stepped}
 use Rattle.pj_laws.proofs.ClimbingLimits.{StaysBelow, beyond-is-climbed, each-below, levels-climb, passed_all}
 use Rattle.pj_laws.proofs.Trees.{tree-from}
-
--- ---- what counts goes on counting
-
-counts-after : (m : Operator) (l : Local) → counts (after m l) ≡ counts m
-counts-after (Stream schema sent) (Comes k e) = refl
-counts-after (Stream schema sent) (Fed e) = refl
-counts-after (Stream schema sent) (Own s) = refl
-counts-after (Select test) l = refl
-counts-after (Project columns) l = refl
-counts-after (Union n u) (Comes k e) = refl
-counts-after (Union n u) (Fed e) = refl
-counts-after (Union n u) (Own s) = refl
-counts-after (Join spec s) l = refl
-counts-after (Group spec rows) (Comes k e) = refl
-counts-after (Group spec rows) (Fed e) = refl
-counts-after (Group spec rows) (Own s) = refl
-
-counts-all : (m : Operator) (ls : List Local) → counts (after_all m ls) ≡ counts m
-counts-all m [] = refl
-counts-all m (l ∷ ls) = counts-all (after m l) ls ∙ counts-after m l
 
 -- ---- levels through which too many elements go
 
@@ -389,7 +369,7 @@ limits-tell plan planned tree some certs lists accepted limit node r = (
     there = let lt = o.there in let long = length-from plan r.front in omega (arith, lt, long)
 
     counted : counts (operator_at (nodes_from plan r.front) node) ≡ counts (operator_at plan node)
-    counted = let f = operator-from plan r.front node there in ap counts f.1 ∙ counts-all (operator_at plan node) f.0
+    counted = counts-from plan r.front node there
 
     below : limit < length (arrivals_at plan h node)
     below =

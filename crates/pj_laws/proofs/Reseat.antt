@@ -3,9 +3,9 @@ use Rattle.std.proofs.Common.{ℕ, Bool, List, [], ◌∷◌, ◌++◌, ◌≡�
 use Rattle.pj_events.specs.declared.events.Entry.{Entry}
 use Rattle.pj_events.specs.declared.events.Event.{Event}
 use Rattle.pj_events.specs.Join.{upto_from}
-use Rattle.pj_events.specs.Plan.{Node}
+use Rattle.pj_events.specs.Plan.{Node, operator_at}
 use Rattle.pj_events.specs.History.{IsLegal, Reached, nodes_from, reached_of}
-use Rattle.pj_events.specs.Outcomes.{arrivals_at, peak_of}
+use Rattle.pj_events.specs.Outcomes.{arrivals_at, counted, peak_of}
 use Rattle.pj_events.specs.CoreKept.{CoreKept, Stands, core_kept, kept_in}
 use Rattle.pj_laws.proofs.HistoryAnswers.{adds-entry, grows-legally}
 use Rattle.pj_laws.specs.Seats.{seated}
@@ -32,7 +32,7 @@ module _ (plan : List Node) (h : List Entry) (event : Event) (closing a b : ℕ)
   pub kept-same : (trace : Bool) → core_kept trace plan one ≡ core_kept trace plan other
   kept-same trace = λ i. record {
     nodes = map (λ (node : Node). kept_in node.operator) (nodes-same i);
-    counts = map (λ n. length (arrivals-same n i)) (upto_from 0 (length plan));
+    counts = map (λ n. counted (operator_at plan n) (length (arrivals-same n i))) (upto_from 0 (length plan));
     peaks = map (λ n. peaks-same n i) (upto_from 0 (length plan));
     closed = (reached-same trace i).closed;
     undrained = (reached-same trace i).undrained;

@@ -185,7 +185,7 @@ project-hands columns (Comes i e ∷ ls) w =
     let z : i ≡ 0 = omega (arith, w.0) in
     ap (λ es. project_hands columns e ++ es) (project-hands columns ls w.1) ∙ sym (ap (λ b. flat_map (project_hands columns) (cond b (e ∷ from_input 0 ls) (from_input 0 ls))) (eq-eqb i 0 z))
 
-select-fit : (width : ℕ) (test : List Pattern) (e x : Element) → Fits width e → In x (select_hands test e) → Fits width x
+pub select-fit : (width : ℕ) (test : List Pattern) (e x : Element) → Fits width e → In x (select_hands test e) → Fits width x
 select-fit width test (Tuple row) x f h = go (matches_row test row) h
   where
     go : (b : Bool) → In x (cond b (Tuple row ∷ []) []) → Fits width x
@@ -195,7 +195,7 @@ select-fit width test (Tuple row) x f h = go (matches_row test row) h
 select-fit width test (Punct ps) x f (inl q) = subst (Fits width) q f
 select-fit width test (Punct ps) x f (inr k) = absurd k
 
-project-fit : (columns : List ℕ) (e x : Element) → In x (project_hands columns e) → Fits (length columns) x
+pub project-fit : (columns : List ℕ) (e x : Element) → In x (project_hands columns e) → Fits (length columns) x
 project-fit columns (Tuple row) x (inl q) = subst (Fits (length columns)) q (length-map columns (λ c. get_or row c no_value))
 project-fit columns (Tuple row) x (inr k) = absurd k
 project-fit columns (Punct ps) x h = go (others_wild columns 0 ps) h
@@ -234,40 +234,40 @@ union-fit width n u (Comes i (Punct ps) ∷ ls) w f wait x h =
     sent : (q : Sent) → In q (u.waiting ++ new ∷ []) → length q.patterns ≡ width
     sent q m = elim (In-append_cases q u.waiting (new ∷ []) m) [ inl k ↦ wait q k | inr k ↦ last q k ]
 
-group-fit : (spec : GroupSpec) (rows : List (List Value)) (es : List Element) → AllFit (length spec.keys + length spec.aggs) (group_all spec rows es)
-group-fit spec rows [] x h = absurd h
-group-fit spec rows (e ∷ es) x h = elim (In-append_cases x (group_hands spec rows e) (group_all spec (group_after spec rows e) es) h) [
-  | inl k ↦ one e k
-  | inr k ↦ group-fit spec (group_after spec rows e) es x k
-]
+pub group-hands-fit : (spec : GroupSpec) (rows : List (List Value)) (e x : Element) → In x (group_hands spec rows e) → Fits (length spec.keys + length spec.aggs) x
+group-hands-fit spec rows (Tuple row) x k = absurd k
+group-hands-fit spec rows (Punct ps) x k = go (others_wild spec.keys 0 ps) k
   where
     W : ℕ
     W = length spec.keys + length spec.aggs
 
-    one : (e : Element) → In x (group_hands spec rows e) → Fits W x
-    one (Tuple row) k = absurd k
-    one (Punct ps) k = go (others_wild spec.keys 0 ps) k
-      where
-        due : List (List Value)
-        due = filter (λ row. matches_row (picked_patterns spec.keys ps) (picked_cells spec.keys row)) rows
+    due : List (List Value)
+    due = filter (λ row. matches_row (picked_patterns spec.keys ps) (picked_cells spec.keys row)) rows
 
-        shut : List Element
-        shut = Punct (picked_patterns spec.keys ps ++ all_wild (length spec.aggs)) ∷ []
+    shut : List Element
+    shut = Punct (picked_patterns spec.keys ps ++ all_wild (length spec.aggs)) ∷ []
 
-        go : (b : Bool) → In x (cond b (map Tuple (group_rows spec due) ++ shut) []) → Fits W x
-        go false m = absurd m
-        go true m = elim (In-append_cases x (map Tuple (group_rows spec due)) shut m) [
-          | inl j ↦ let a = In-map Tuple x (group_rows spec due) j in
-              let b = In-map (group_row spec due) a.0 (keys_from [] spec due) a.1 in
-              let c = key-from [] spec due b.0 b.1 in
-              let f : ℕ → Value = λ i. get_or c.0 i no_value in
-              subst (Fits W) a.2 (ap length (sym b.2) ∙ length-append b.0 (map (aggregate (filter (λ row. row_eq b.0 (picked_cells spec.keys row)) due)) spec.aggs)
-              ∙ ap₂ (λ (p q : ℕ). p + q) (ap length (sym c.2) ∙ length-map spec.keys f) (length-map spec.aggs (aggregate (filter (λ row. row_eq b.0 (picked_cells spec.keys row)) due))))
-          | inr j ↦ elim j [
-            | inl q ↦ subst (Fits W) q (length-append (picked_patterns spec.keys ps) (all_wild (length spec.aggs)) ∙ ap₂ (λ (p r : ℕ). p + r) (length-map spec.keys (λ c. get_or ps c wild)) (wilds-length (length spec.aggs)))
-            | inr q ↦ absurd q
-          ]
-        ]
+    go : (b : Bool) → In x (cond b (map Tuple (group_rows spec due) ++ shut) []) → Fits W x
+    go false m = absurd m
+    go true m = elim (In-append_cases x (map Tuple (group_rows spec due)) shut m) [
+      | inl j ↦ let a = In-map Tuple x (group_rows spec due) j in
+          let b = In-map (group_row spec due) a.0 (keys_from [] spec due) a.1 in
+          let c = key-from [] spec due b.0 b.1 in
+          let f : ℕ → Value = λ i. get_or c.0 i no_value in
+          subst (Fits W) a.2 (ap length (sym b.2) ∙ length-append b.0 (map (aggregate (filter (λ row. row_eq b.0 (picked_cells spec.keys row)) due)) spec.aggs)
+          ∙ ap₂ (λ (p q : ℕ). p + q) (ap length (sym c.2) ∙ length-map spec.keys f) (length-map spec.aggs (aggregate (filter (λ row. row_eq b.0 (picked_cells spec.keys row)) due))))
+      | inr j ↦ elim j [
+        | inl q ↦ subst (Fits W) q (length-append (picked_patterns spec.keys ps) (all_wild (length spec.aggs)) ∙ ap₂ (λ (p r : ℕ). p + r) (length-map spec.keys (λ c. get_or ps c wild)) (wilds-length (length spec.aggs)))
+        | inr q ↦ absurd q
+      ]
+    ]
+
+group-fit : (spec : GroupSpec) (rows : List (List Value)) (es : List Element) → AllFit (length spec.keys + length spec.aggs) (group_all spec rows es)
+group-fit spec rows [] x h = absurd h
+group-fit spec rows (e ∷ es) x h = elim (In-append_cases x (group_hands spec rows e) (group_all spec (group_after spec rows e) es) h) [
+  | inl k ↦ group-hands-fit spec rows e x k
+  | inr k ↦ group-fit spec (group_after spec rows e) es x k
+]
 
 pub operator-good : (m : Operator) (ws : List ℕ) (ls : List Local) → IsWellMade m ws → AreWithin (length ws) ls → AreLocalsAllowed m ls
     → ((k : ℕ) → k < length ws → IsGood (get_or ws k 0) (from_input k ls)) → IsGood (operator_width m ws) (hands_all m ls)

@@ -8,7 +8,7 @@ use Rattle.pj_events.specs.declared.events.Event.{Event}
 use Rattle.pj_events.specs.declared.events.Out.{Out}
 use Rattle.pj_events.specs.declared.events.Event.TheVariants.{Drain}
 use Rattle.pj_events.specs.History.{out_of, notes_of, state_in, closed_after, halted_after, stop_after, nodes_from, IsLegal}
-use Rattle.pj_events.specs.Outcomes.{Arrival, step_at, own_step, join_steps_of, arrivals_at, peak_of, stored_at, outputs_of}
+use Rattle.pj_events.specs.Outcomes.{Arrival, counted, step_at, own_step, join_steps_of, arrivals_at, peak_of, stored_at, outputs_of}
 use Rattle.pj_events.specs.CoreKept.{CoreKept, core_kept, kept_in}
 use Rattle.pj_laws.specs.Climb.{HasOneTop, climbed, climb_of}
 
@@ -16,11 +16,12 @@ use Rattle.pj_laws.specs.Climb.{HasOneTop, climbed, climb_of}
 abbrev pub handed_by : Bool → List Node → Event → List Out
 handed_by trace nodes event = (if trace then notes_of nodes event else []) ++ map out_of (climb_of nodes event).left.elements
 
--- counts of what has reached each node, with what comes to each
-abbrev pub counted : List ℕ → List (List Arrival) → List ℕ
-counted [] brought = []
-counted (n ∷ ns) [] = n ∷ ns
-counted (n ∷ ns) (came ∷ brought) = (n + length came) ∷ counted ns brought
+-- what these nodes have counted, with what comes to each
+abbrev pub counted_with : List ℕ → List Node → List (List Arrival) → List ℕ
+counted_with [] nodes brought = []
+counted_with (n ∷ ns) [] brought = n ∷ ns
+counted_with (n ∷ ns) (node ∷ nodes) [] = n ∷ ns
+counted_with (n ∷ ns) (node ∷ nodes) (came ∷ brought) = (n + counted node.operator (length came)) ∷ counted_with ns nodes brought
 
 -- the greatest numbers of stored tuples, with those that these nodes store
 abbrev pub raised : List ℕ → List Node → List ℕ
@@ -36,7 +37,7 @@ undrained_with old more _ = old ++ more
 abbrev pub kept_with : Bool → CoreKept → List Node → Entry → CoreKept
 kept_with trace k nodes entry = record {
   nodes = map (λ node. kept_in node.operator) (climb_of nodes entry.event).nodes;
-  counts = counted k.counts (climb_of nodes entry.event).brought;
+  counts = counted_with k.counts (climb_of nodes entry.event).nodes (climb_of nodes entry.event).brought;
   peaks = raised k.peaks (climb_of nodes entry.event).nodes;
   closed = closed_after k.closed entry.closing entry.event;
   undrained = undrained_with k.undrained (handed_by trace nodes entry.event) entry.event;

@@ -1,24 +1,29 @@
 -- One node of a core changes.
-use Rattle.std.proofs.Common.{ℕ, zero, suc, ◌+◌, ◌<◌, ◌++◌, Bool, true, false, cond, List, [], ◌∷◌, ◌≡◌, Option, Some, None, Result, Ok, Err, IfOk, length, map, get_or, set, eqb, refl, sym, ap, ◌∙◌, subst, arith}
-use Rattle.std.proofs.lemmas.Bool.{eq-eqb, false≢true}
-use Rattle.std.proofs.lemmas.List.{get_or_default, get_or-set_same}
+use Rattle.std.proofs.Common.{ℕ, zero, suc, ◌+◌, ◌<◌, ◌++◌, Bool, true, false, cond, List, [], ◌∷◌, ◌≡◌, Option, Some, None, Result, Ok, Err, IfOk, OnOk, length, map, sum, get_or, set, eqb, refl, sym, ap, ◌∙◌, subst, inl, inr, arith}
+use Rattle.std.proofs.lemmas.Bool.{cases_eq, eq-eqb, false≢true}
+use Rattle.std.proofs.lemmas.List.{get_or_default, get_or-set_other, get_or-set_same, length-map}
 use Rattle.std.proofs.Math.Seq.{map-set_same}
 use Rattle.pj_probe.specs.declared.probe.Found.{Found}
 use Rattle.pj_operator.specs.declared.cell.Cell.{Cell}
 use Rattle.pj_operator.specs.declared.cell.Work.{Work}
 use Rattle.pj_value.specs.declared.values.Value.{Value}
-use Rattle.pj_pattern.specs.declared.element.Element.TheVariants.{Tuple}
+use Rattle.pj_pattern.specs.Patterns.{Pattern}
+use Rattle.pj_pattern.specs.declared.element.Element.TheVariants.{Punct, Tuple}
+use Rattle.pj_events.specs.Join.{In, arities}
 use Rattle.pj_events.specs.declared.events.Stop.{Stop}
 use Rattle.pj_events.specs.declared.events.Stop.TheVariants.{Limit, NoMemory}
 use Rattle.pj_events.specs.declared.events.Out.{Out}
 use Rattle.pj_events.specs.Outcomes.{elements_out}
-use Rattle.pj_join.specs.Joins.{found_of}
-use Rattle.pj_operator.specs.Acts.{HasGivenAt, HasProbed, IsGiveStop, IsProbeStop, JoinProbed, JoinTook, TakesFirst, WorkTakes, first_pending, found_outs, with_work}
-use Rattle.pj_operator.specs.Cells.{Frame, Kind, KeepsOpen, cell_at, frame_of, frames_in, kept_seen, kind_of, no_cell, pending_kept}
-use Rattle.pj_operator.specs.Climbing.{Climbs, GoBeyond, IsClimbStop, StayOpen, StaysAs}
-use Rattle.pj_operator.proofs.Climbs.{climbs-rows-out, long-frames, opens-set, same-frame, stays-none}
+use Rattle.pj_join.specs.Joins.{JoinView, found_of}
+use Rattle.pj_operator.specs.declared.act.Swept.{Swept}
+use Rattle.pj_operator.specs.declared.cell.Work.TheVariants.{Join as JoinCell}
+use Rattle.pj_operator.specs.Acts.{CellSwept, HasGivenAt, HasProbed, IsGiveStop, IsProbeStop, JoinProbed, JoinTook, TakesFirst, WorkTakes, first_pending, found_outs, with_work}
+use Rattle.pj_operator.specs.Cells.{AreLinked, Frame, HasOwnWidth, IsOrderly, IsOrderlyJoin, Kind, KeepsOpen, cell_at, frame_of, frames_in, kept_seen, kind_of, no_cell, pending_kept}
+use Rattle.pj_operator.specs.Climbing.{AreOrderly, Climbs, GoBeyond, IsClimbStop, MayClimb, StayOpen, StaysAs, work_at}
+use Rattle.pj_operator.proofs.Climbs.{climbs-rows-out, frame-at, long-frames, opens-set, same-frame, stays-none}
 use Rattle.pj_operator.proofs.Firsts.{first_from}
 use Rattle.pj_operator.proofs.Joins.{probed-fewer}
+use Rattle.pj_operator.proofs.Widths.{found-wide, swept-wide}
 
 -- the cell with another work
 abbrev pub worked : Cell → Work → Cell
@@ -40,6 +45,48 @@ opens-cell cells n d cell lt k = opens-set cells n cell lt (subst (λ (x : Cell)
 
 pub opens-then : (old mid new : List Cell) → StayOpen old mid → StayOpen mid new → StayOpen old new
 opens-then old mid new a b = λ o. let p = a o in let q = b p.0 in (q.0, λ n t h. q.1 n t (p.1 n t h))
+
+pub orderly-set : (cells : List Cell) (n : ℕ) (cell : Cell) → n < length cells → AreOrderly cells → IsOrderly cell.work → AreOrderly (set cells n cell)
+orderly-set cells n cell lt orderly here m = elim (cases_eq m n) [
+  | inl q ↦
+      subst (λ (k : ℕ). IsOrderly (work_at (set cells n cell) k)) (sym q)
+      (subst (λ (x : Cell). IsOrderly x.work) (sym (get_or-set_same cells n cell no_cell lt)) here)
+  | inr ne ↦ subst (λ (x : Cell). IsOrderly x.work) (sym (get_or-set_other cells n m cell no_cell ne)) (orderly m)
+]
+
+-- a join hands up as many columns as its inputs have
+pub own-width : (cells : List Cell) (n : ℕ) (join : JoinView) → AreLinked (frames_in cells) → n < length cells → (cell_at cells n).work ≡ JoinCell join → (cell_at cells n).width ≡ sum (arities join.spec)
+own-width cells n join linked lt is =
+    subst (λ (w : Work). HasOwnWidth (kind_of w) (cell_at cells n).width) is
+    (subst (λ (f : Frame). HasOwnWidth f.kind f.width) (frame-at cells n) (linked n (omega (arith, lt, length-map cells frame_of))).1)
+
+-- ---- what may climb
+
+pub may-gave : (cells mid : List Cell) (probe : Found) (rows : List (List Value)) (from : ℕ) → MayClimb cells probe.join (map Tuple rows) → frames_in mid ≡ frames_in cells → (AreOrderly cells → AreOrderly mid) → from ≡ probe.join
+    → MayClimb mid from (map Tuple rows)
+may-gave cells mid probe rows from may frames orderly e = record {
+  linked = subst AreLinked (sym frames) may.linked;
+  orderly = orderly may.orderly;
+  wide = λ x h. may.wide x h ∙ ap (λ (f : Frame). f.width) (sym (same-frame cells mid probe.join frames)) ∙ ap (λ (n : ℕ). (cell_at mid n).width) (sym e);
+}
+
+pub may-swept : (cells : List Cell) (n : ℕ) (d cell : Cell) (input : ℕ) (swept : Swept) → n < length cells → CellSwept (get_or cells n d) cell input swept → frame_of cell ≡ frame_of (get_or cells n d)
+    → KeepsOpen (get_or cells n d).work cell.work → AreLinked (frames_in cells) → AreOrderly cells → MayClimb (set cells n cell) n (map Punct swept.puncts)
+may-swept cells n d cell input swept lt S frame keeps linked orderly = record {
+  linked = subst AreLinked (sym frames) linked;
+  orderly = (opens-cell cells n d cell lt keeps orderly).0;
+  wide = λ x h. swept-wide S.join input inside x (subst (λ (ps : List (List Pattern)). In x (map Punct ps)) S.puncts h)
+      ∙ sym (ap (λ (f : Frame). f.width) (same-frame cells (set cells n cell) n frames) ∙ own-width cells n S.join linked lt was);
+}
+  where
+    frames : frames_in (set cells n cell) ≡ frames_in cells
+    frames = frames-cell cells n d cell frame
+
+    was : (cell_at cells n).work ≡ JoinCell S.join
+    was = ap (λ (x : Cell). x.work) (sym (get_or_default cells n d no_cell lt)) ∙ S.was
+
+    inside : IsOrderlyJoin S.join
+    inside = subst IsOrderly was (orderly n)
 
 -- at the first node that has a ticket pending there is one
 first-some : (k : ℕ) (cells : List Cell) (n : ℕ) → first_pending k cells ≡ Some n → (i : ℕ) → n ≡ k + i → pending_kept (kept_seen (cell_at cells i).work) ≡ 0 → ⊥
@@ -70,6 +117,11 @@ pub takes-first : {E : Type 0} → (cells : List Cell) (n : ℕ) (d : Cell) (wor
     → IfOk result (λ answer. WorkTakes (get_or cells n d).work work answer) → IfOk result (λ answer. TakesFirst cells (set cells n (worked (get_or cells n d) work)) answer)
 takes-first cells n d work (Ok answer) lt e t = takes-one cells n d work answer lt e t
 takes-first cells n d work (Err x) lt e t = t
+
+pub opens-take : {E : Type 0} → (cells : List Cell) (n : ℕ) (d : Cell) (work : Work) (result : Result (Option Found) E) → n < length cells → OnOk result (KeepsOpen (get_or cells n d).work work)
+    → OnOk result (StayOpen cells (set cells n (worked (get_or cells n d) work)))
+opens-take cells n d work (Ok answer) lt k = opens-work cells n d work lt k
+opens-take cells n d work (Err x) lt k = k
 
 -- ---- gives
 
@@ -114,6 +166,23 @@ module _ (cells : List Cell) (n : ℕ) (d : Cell) (work : Work) (before behind :
 
   moved : set cells n (worked (get_or cells n d) work) ≡ with_work cells n work (cell_at cells n).peak
   moved = ap (λ (x : Cell). set cells n (worked x work)) same
+
+  pub may-found : kind_of work ≡ kind_of (get_or cells n d).work → AreLinked (frames_in cells) → AreOrderly cells → (IsOrderly (get_or cells n d).work → IsOrderly work)
+      → MayClimb (set cells n (worked (get_or cells n d) work)) n (elements_out behind)
+  may-found kind linked orderly still = record {
+    linked = subst AreLinked (sym frames) linked;
+    orderly = orderly-set cells n (worked (get_or cells n d) work) lt orderly (still (subst (λ (x : Cell). IsOrderly x.work) (sym same) (orderly n)));
+    wide = λ x h.
+        found-wide P.join ticket (subst IsOrderly was (orderly n)) x
+        (subst (λ (os : List Out). In x (elements_out os)) (P.hands ∙ ap (λ (os : List Out). os ++ map Out.Tuple (found_of P.join ticket).rows) none) h)
+        ∙ sym (ap (λ (f : Frame). f.width) (same-frame cells (set cells n (worked (get_or cells n d) work)) n frames) ∙ own-width cells n P.join linked lt was);
+  }
+    where
+      frames : frames_in (set cells n (worked (get_or cells n d) work)) ≡ frames_in cells
+      frames = frames-work cells n d work kind
+
+      was : (cell_at cells n).work ≡ JoinCell P.join
+      was = ap (λ (x : Cell). x.work) (sym same) ∙ P.was
 
   pub has-probed : (u u' : List Out) (new : List Cell) → Climbs (record { cells = set cells n (worked (get_or cells n d) work); outs = u }) (record { cells = new; outs = u' }) n (elements_out behind)
       → StaysAs (set cells n (worked (get_or cells n d) work)) new → HasProbed (record { cells = cells; outs = u }) (record { cells = new; outs = u' }) n

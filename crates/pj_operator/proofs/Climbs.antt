@@ -1,11 +1,13 @@
 -- What a node hands up climbs: at the top, to the node above, and one element after the other.
-use Rattle.std.proofs.Common.{ℕ, zero, suc, ◌+◌, ◌<◌, ◌≤◌, ◌≢◌, Bool, true, false, cond, ◌&&◌, List, [], ◌∷◌, ◌++◌, ◌≡◌, Option, Some, None, map, length, length-append, take, get_or, set, eqb, refl, sym, ap, ap₂, ◌∙◌, subst, inl, inr, arith, append-nil, append_assoc}
+use Rattle.std.proofs.Common.{ℕ, zero, suc, ◌+◌, ◌<◌, ◌≤◌, ◌≢◌, Bool, true, false, cond, if◌then◌else◌, ◌&&◌, List, [], ◌∷◌, ◌++◌, ◌≡◌, Option, Some, None, map, length, length-append, take, get_or, set, eqb, refl, sym, ap, ap₂, ◌∙◌, subst, inl, inr, arith, append-nil, append_assoc}
 use Rattle.std.proofs.lemmas.Bool.{cases_eq, eq-eqb, eqb-true, false≢true}
 use Rattle.std.proofs.lemmas.List.{length-set, length-map, map-append, get_or_default, length-take, take-take, get_or-set_same, get_or-set_other}
 use Rattle.std.proofs.Math.ListN.{get_or-map}
 use Rattle.std.proofs.Math.Seq.{map-set_same, take-length}
 use Rattle.pj_pattern.specs.declared.element.Element.{Element}
 use Rattle.pj_value.specs.declared.values.Value.{Value}
+use Rattle.pj_value.proofs.Members.{In-append_left, In-append_right}
+use Rattle.pj_events.specs.Join.{In}
 use Rattle.pj_pattern.specs.declared.element.Element.TheVariants.{Tuple}
 use Rattle.pj_events.specs.Outcomes.{elements_out}
 use Rattle.pj_events.specs.declared.events.Out.TheVariants.{Tuple as RowOut}
@@ -24,9 +26,10 @@ use Rattle.pj_operator.specs.declared.cell.Cell.{Cell}
 use Rattle.pj_operator.specs.declared.cell.Handed.{Handed}
 use Rattle.pj_operator.specs.declared.cell.Work.{Work}
 use Rattle.pj_operator.specs.declared.cell.Work.TheVariants.{Stream as StreamCell, Select as SelectCell, Project as ProjectCell, Union as UnionCell, Join as JoinCell, Group as GroupCell}
-use Rattle.pj_operator.specs.Cells.{AreAs, AreLinked, Follows, FitsKind, Frame, IsLinked, HasLimit, HaveLimit, IsAs, IsFull, IsOrderly, KeepsOpen, above_pair, cell_at, count_in, count_seen, frame_at, frame_of, frames_in, handed_list, kept_seen, kind_of, no_cell, role_in, role_of, width_of, GroupRole, IsTakenIn, JoinRole}
-use Rattle.pj_operator.specs.Climbing.{AreCounted, Climbs, GoBeyond, HasEntered, IsClimbStop, IsEntryStop, Leaves, Scene, StayOpen, StaysAs, count_at, work_at}
-use Rattle.pj_operator.proofs.Ways.{above-same, both-at, ins, ins-climbed, ins-set, nothing-brought, tree-same, way-long, way-past, way-same}
+use Rattle.pj_operator.specs.Cells.{AreAs, AreLinked, Follows, FitsKind, Frame, GroupKind, IsLinked, JoinKind, Kind, ProjectKind, SelectKind, StreamKind, UnionKind, HasLimit, HaveLimit, IsAs, IsFull, IsOrderly, KeepsOpen, above_pair, cell_at, count_in, count_seen, counted_by, frame_at, frame_of, frames_in, handed_list, kept_seen, kind_of, no_cell, role_in, role_of, width_of, width_up, GroupRole, IsTakenIn, JoinRole}
+use Rattle.pj_operator.specs.Climbing.{AreCounted, Climbs, GoBeyond, HasEntered, HaveCounted, IsClimbStop, IsEntryStop, Leaves, MayClimb, Scene, StayOpen, StaysAs, count_at, kind_at, work_at}
+use Rattle.pj_operator.proofs.Widths.{outs-rows}
+use Rattle.pj_operator.proofs.Ways.{above-same, both-at, ins, ins-climbed, ins-set, nothing-brought, tree-same, way-long, way-past}
 
 -- ---- frames
 
@@ -80,12 +83,13 @@ stays_set cells n d cell lt frame peak keeps = record {
 -- what feeds a node above
 pub linked-at : (cells : List Cell) (n place input : ℕ) → AreLinked (frames_in cells) → n < length cells → (cell_at cells n).above ≡ Some (place, input)
     → (n < place) × (place < length cells) × FitsKind (frame_at (frames_in cells) place).kind input (cell_at cells n).width
+    × ((frame_at (frames_in cells) place).width ≡ width_up (frame_at (frames_in cells) place).kind (cell_at cells n).width)
 linked-at cells n place input linked lt e =
-    let l = linked n (omega (arith, lt, length-map cells frame_of)) in
-    let m : (n < place) × (place < length (frames_in cells)) × FitsKind (frame_at (frames_in cells) place).kind input (cell_at cells n).width =
+    let l = (linked n (omega (arith, lt, length-map cells frame_of))).0 in
+    let m : IsLinked (frames_in cells) n (Some (place, input)) (cell_at cells n).width =
     subst (λ (o : Option (ℕ × ℕ)). IsLinked (frames_in cells) n o (cell_at cells n).width) e
     (subst (λ (f : Frame). IsLinked (frames_in cells) n f.above f.width) (frame-at cells n) l) in
-    (m.0, (let b = m.1 in omega (arith, b, length-map cells frame_of)), m.2)
+    (m.0, (let b = m.1 in omega (arith, b, length-map cells frame_of)), m.2, m.3)
 
 -- a node and its cell change together
 pub as-set : (cells : List Cell) (nodes : List Node) (n : ℕ) (cell : Cell) (node : Node) → AreAs cells nodes → n < length cells → node.inputs ≡ (get_or nodes n nowhere).inputs → IsAs cell.work node.operator
@@ -122,11 +126,28 @@ nothing_to x = []
 none-brought : (nodes : List Node) (n : ℕ) → get_or (map nothing_to nodes) n [] ≡ []
 none-brought nodes n = get_or-map nothing_to nodes n nowhere
 
-plus-none : (n : ℕ) → n + 0 ≡ n
-plus-none n = omega arith
+-- nothing is counted of nothing
+pub counted-zero : (kind : Kind) → counted_by kind zero ≡ zero
+counted-zero StreamKind = refl
+counted-zero (SelectKind test) = refl
+counted-zero (ProjectKind columns) = refl
+counted-zero (UnionKind inputs arity) = refl
+counted-zero (JoinKind node spec limit) = refl
+counted-zero (GroupKind spec limit) = refl
 
-still-counted : (cells : List Cell) (brought : List (List Arrival)) → ((n : ℕ) → get_or brought n [] ≡ []) → AreCounted cells cells brought
-still-counted cells brought none n lt = sym (plus-none (count_at cells n)) ∙ ap (λ (came : List Arrival). count_at cells n + length came) (sym (none n))
+counted-plus : (kind : Kind) (n m : ℕ) → counted_by kind (n + m) ≡ counted_by kind n + counted_by kind m
+counted-plus StreamKind n m = refl
+counted-plus (SelectKind test) n m = refl
+counted-plus (ProjectKind columns) n m = refl
+counted-plus (UnionKind inputs arity) n m = refl
+counted-plus (JoinKind node spec limit) n m = refl
+counted-plus (GroupKind spec limit) n m = refl
+
+pub still-counted : (cells : List Cell) (brought : List (List Arrival)) → ((n : ℕ) → get_or brought n [] ≡ []) → AreCounted cells cells brought
+still-counted cells brought none n lt =
+    let a = ap (λ (came : List Arrival). counted_by (kind_at cells n) (length came)) (none n) in
+    let b = counted-zero (kind_at cells n) in
+    omega (arith, a, b)
 
 -- an element that the last node hands up is handed out
 pub climbs-out : (cells : List Cell) (outs outs' : List Out) (from : ℕ) (e : Element) → from < length cells → (cell_at cells from).above ≡ None → outs' ≡ outs ++ out_of e ∷ []
@@ -137,8 +158,8 @@ climbs-out cells outs outs' from e lt none handed = record {
       subst (λ (c : Climbed). Leaves (record { cells = cells; outs = outs }) (record { cells = cells; outs = outs' }) c)
       (sym ((climbs-on nodes A.tree).ends from (e ∷ []) (top nodes A)))
       (record { stands = A; hands = handed; counts = still-counted cells (map nothing_to nodes) (none-brought nodes) });
-  within = λ limit have nodes A depth le.
-      ap (λ (levels : List Level). beyond_of (climb depth limit levels (e ∷ []))) ((levels-climb nodes A.tree (count_at cells) limit).ends from (top nodes A))
+  within = λ limit have reached counted nodes A depth le.
+      ap (λ (levels : List Level). beyond_of (climb depth limit levels (e ∷ []))) ((levels-climb nodes A.tree reached limit).ends from (top nodes A))
       ∙ climb-top depth limit (e ∷ []);
 }
   where
@@ -147,27 +168,28 @@ climbs-out cells outs outs' from e lt none handed = record {
 
 -- ---- to the node above
 
-full-is : (work : Work) (operator : Operator) (limit number : ℕ) → IsAs work operator → HasLimit limit (kind_of work) → (counts operator && eqb (count_in work number) limit) ≡ true → IsFull work
-full-is StreamCell (Stream schema sent) limit number a h e = absurd (false≢true e)
-full-is (SelectCell own) (Select test) limit number a h e = absurd (false≢true e)
-full-is (ProjectCell own) (Project columns) limit number a h e = absurd (false≢true e)
-full-is (UnionCell own) (Union n u) limit number a h e = absurd (false≢true e)
-full-is (JoinCell own) (Join spec s) limit number a h e = eqb-true own.kept.next limit e ∙ sym h
-full-is (GroupCell own) (Group spec rows) limit number a h e = eqb-true own.count limit e ∙ sym h
-full-is work operator limit number a h e = absurd (let k : role_of (kind_of work) ≡ role_in operator = a.kind in cc)
+-- a node that counts is full where so many elements as may have reached it
+full-is : (work : Work) (operator : Operator) (limit number : ℕ) → IsAs work operator → HasLimit limit (kind_of work) → count_in work ≡ counted_by (kind_of work) number → (counts operator && eqb number limit) ≡ true → IsFull work
+full-is StreamCell (Stream schema sent) limit number a h c e = absurd (false≢true e)
+full-is (SelectCell own) (Select test) limit number a h c e = absurd (false≢true e)
+full-is (ProjectCell own) (Project columns) limit number a h c e = absurd (false≢true e)
+full-is (UnionCell own) (Union n u) limit number a h c e = absurd (false≢true e)
+full-is (JoinCell own) (Join spec s) limit number a h c e = c ∙ eqb-true number limit e ∙ sym h
+full-is (GroupCell own) (Group spec rows) limit number a h c e = c ∙ eqb-true number limit e ∙ sym h
+full-is work operator limit number a h c e = absurd (let k : role_of (kind_of work) ≡ role_in operator = a.kind in cc)
 
-is-full : (work : Work) (operator : Operator) (limit number : ℕ) → IsAs work operator → HasLimit limit (kind_of work) → IsFull work → (counts operator && eqb (count_in work number) limit) ≡ true
-is-full (JoinCell own) (Join spec s) limit number a h f = eq-eqb own.kept.next limit (f ∙ h)
-is-full (JoinCell own) operator limit number a h f = absurd (let k : JoinRole own.spec ≡ role_in operator = a.kind in cc)
-is-full (GroupCell own) (Group spec rows) limit number a h f = eq-eqb own.count limit (f ∙ h)
-is-full (GroupCell own) operator limit number a h f = absurd (let k : GroupRole own.spec ≡ role_in operator = a.kind in cc)
-is-full work operator limit number a h f = absurd f
+is-full : (work : Work) (operator : Operator) (limit number : ℕ) → IsAs work operator → HasLimit limit (kind_of work) → count_in work ≡ counted_by (kind_of work) number → IsFull work → (counts operator && eqb number limit) ≡ true
+is-full (JoinCell own) (Join spec s) limit number a h c f = eq-eqb number limit (sym c ∙ f ∙ h)
+is-full (JoinCell own) operator limit number a h c f = absurd (let k : JoinRole own.spec ≡ role_in operator = a.kind in cc)
+is-full (GroupCell own) (Group spec rows) limit number a h c f = eq-eqb number limit (sym c ∙ f ∙ h)
+is-full (GroupCell own) operator limit number a h c f = absurd (let k : GroupRole own.spec ≡ role_in operator = a.kind in cc)
+is-full work operator limit number a h c f = absurd f
 
-not-full : (work : Work) (operator : Operator) (limit number : ℕ) → IsAs work operator → HasLimit limit (kind_of work) → ¬ IsFull work → (counts operator && eqb (count_in work number) limit) ≡ false
-not-full work operator limit number a h room = go (counts operator && eqb (count_in work number) limit) refl
+not-full : (work : Work) (operator : Operator) (limit number : ℕ) → IsAs work operator → HasLimit limit (kind_of work) → count_in work ≡ counted_by (kind_of work) number → ¬ IsFull work → (counts operator && eqb number limit) ≡ false
+not-full work operator limit number a h c room = go (counts operator && eqb number limit) refl
   where
-    go : (b : Bool) → (counts operator && eqb (count_in work number) limit) ≡ b → b ≡ false
-    go true e = absurd (room (full-is work operator limit number a h e))
+    go : (b : Bool) → (counts operator && eqb number limit) ≡ b → b ≡ false
+    go true e = absurd (room (full-is work operator limit number a h c e))
     go false e = refl
 
 -- one element goes up into a level
@@ -197,8 +219,8 @@ none-up depth limit level levels e full = go (is_full limit level) full
 
 module _ (old mid : List Cell) (from place input : ℕ) (e : Element) (up : Handed) (lt : from < length old) (linked : AreLinked (frames_in old))
     (feeds : (cell_at old from).above ≡ Some (place, input)) (H : HasEntered old mid place input e up) where
-  there : (from < place) × (place < length old) × FitsKind (frame_at (frames_in old) place).kind input (cell_at old from).width
-  there = linked-at old from place input linked lt feeds
+  there : (from < place) × (place < length old)
+  there = let l = linked-at old from place input linked lt feeds in (l.0, l.1)
 
   abbrev came : List Arrival
   came = arriving input e ∷ []
@@ -217,6 +239,9 @@ module _ (old mid : List Cell) (from place input : ℕ) (e : Element) (up : Hand
 
   pub frames-mid : frames_in mid ≡ frames_in old
   frames-mid = ap frames_in H.changes ∙ map-set_same frame_of old place H.cell no_cell H.frame
+
+  kind-mid : kind_at mid place ≡ kind_at old place
+  kind-mid = ap (λ (f : Frame). f.kind) (same-frame old mid place frames-mid)
 
   module _ (nodes : List Node) (A : AreAs old nodes) where
     abbrev node : Node
@@ -257,24 +282,52 @@ module _ (old mid : List Cell) (from place input : ℕ) (e : Element) (up : Hand
         nothing : get_or c.brought place [] ≡ []
         nothing = none-before 0 (record { from = place; elements = handed_list up }) nodes-mid place B.tree.behind (omega arith)
 
-        more : (n : ℕ) → n < length old → count_at new n ≡ count_at old n + length (get_or (set c.brought place came) n [])
+        more : (n : ℕ) → n < length old → count_at new n ≡ count_at old n + counted_by (kind_at old n) (length (get_or (set c.brought place came) n []))
         more n l = elim (cases_eq n place) [
           | inl q ↦
               let here = ap (count_at new) q ∙ L.counts place (let a = there.1 in omega (arith, a, long-mid)) in
               let one = ap count_seen mid-here ∙ H.count in
-              let none = ap length nothing in
-              let set-here = ap length (ap (λ (m : ℕ). get_or (set c.brought place came) m []) q ∙ get_or-set_same c.brought place came [] (omega (arith, below, long-brought))) in
+              let none = ap (λ (xs : List Arrival). counted_by (kind_at mid place) (length xs)) nothing ∙ counted-zero (kind_at mid place) in
+              let set-here = ap₂ (λ (k : Kind) (xs : List Arrival). counted_by k (length xs)) (ap (kind_at old) q) (ap (λ (m : ℕ). get_or (set c.brought place came) m []) q ∙ get_or-set_same c.brought place came [] (omega (arith, below, long-brought))) in
               let same = ap (count_at old) q in
               omega (arith, here, one, none, set-here, same)
           | inr ne ↦
-              L.counts n (omega (arith, l, long-mid)) ∙ ap (λ (x : Cell). count_seen x + length (get_or c.brought n [])) (mid-other n ne)
-              ∙ ap (λ (xs : List Arrival). count_at old n + length xs) (sym (get_or-set_other c.brought place n came [] ne))
+              L.counts n (omega (arith, l, long-mid)) ∙ ap (λ (x : Cell). count_seen x + counted_by (kind_of x.work) (length (get_or c.brought n []))) (mid-other n ne)
+              ∙ ap (λ (xs : List Arrival). count_at old n + counted_by (kind_at old n) (length xs)) (sym (get_or-set_other c.brought place n came [] ne))
         ]
 
-    -- the levels above the node are those behind the element
-    levels-mid : way_up (count_at old) 0 place nodes ≡ way_up (count_at mid) 0 place nodes-mid
-    levels-mid = way-past (count_at old) (count_at mid) 0 place place nodes (node_after node came) A.tree.behind (omega arith) refl
-        (λ m l lt'. ap count_seen (sym (mid-other m (λ q. omega (arith, l, q)))))
+    module _ (reached : ℕ → ℕ) (counted : HaveCounted old reached) where
+      -- one element more has reached the node
+      abbrev one_more : ℕ → ℕ
+      one_more n = if eqb n place then reached n + 1 else reached n
+
+      more-there : one_more place ≡ reached place + 1
+      more-there = ap (λ (b : Bool). cond b (reached place + 1) (reached place)) (eq-eqb place place refl)
+
+      more-other : (n : ℕ) → n ≢ place → one_more n ≡ reached n
+      more-other n ne = go (eqb n place) refl
+        where
+          go : (b : Bool) → eqb n place ≡ b → cond b (reached n + 1) (reached n) ≡ reached n
+          go true q = absurd (ne (eqb-true n place q))
+          go false q = refl
+
+      counted-mid : HaveCounted mid one_more
+      counted-mid n lt' = elim (cases_eq n place) [
+        | inl q ↦
+            let here = ap (count_at mid) q ∙ ap count_seen mid-here ∙ H.count in
+            let before = counted place there.1 in
+            let both = counted-plus (kind_at old place) (reached place) 1 in
+            let up = ap₂ (λ (k : Kind) (m : ℕ). counted_by k m) (ap (kind_at mid) q ∙ kind-mid) (ap one_more q ∙ more-there) in
+            omega (arith, here, before, both, up)
+        | inr ne ↦
+            ap count_seen (mid-other n ne) ∙ counted n (omega (arith, lt', long-mid))
+            ∙ ap₂ (λ (k : Kind) (m : ℕ). counted_by k m) (ap (λ (x : Cell). kind_of x.work) (sym (mid-other n ne))) (sym (more-other n ne))
+      ]
+
+      -- the levels above the node are those behind the element
+      levels-mid : way_up reached 0 place nodes ≡ way_up one_more 0 place nodes-mid
+      levels-mid = way-past reached one_more 0 place place nodes (node_after node came) A.tree.behind (omega arith) refl
+          (λ m l lt'. sym (more-other m (λ q. omega (arith, l, q))))
 
     limit-there : (limit : ℕ) → HaveLimit limit (frames_in old) → HasLimit limit (kind_of (cell_at old place).work)
     limit-there limit have =
@@ -285,16 +338,17 @@ module _ (old mid : List Cell) (from place input : ℕ) (e : Element) (up : Hand
   climbs-above new outs outs' C nodes A = leaves nodes A outs outs' new (C.climbs (nodes-mid nodes A) (B nodes A))
 
   pub beyond-above : (o : Option ℕ) → GoBeyond mid place (handed_list up) o → GoBeyond old from (e ∷ []) o
-  beyond-above o G limit have nodes A zero le =
-      absurd (let l = ap length ((levels-climb nodes A.tree (count_at old) limit).goes_on from met (met-there nodes A)) in omega (arith, le, l))
-  beyond-above o G limit have nodes A (suc depth) le =
-      let L = (levels-climb nodes A.tree (count_at old) limit).goes_on from met (met-there nodes A) in
+  beyond-above o G limit have reached counted nodes A zero le =
+      absurd (let l = ap length ((levels-climb nodes A.tree reached limit).goes_on from met (met-there nodes A)) in omega (arith, le, l))
+  beyond-above o G limit have reached counted nodes A (suc depth) le =
+      let L = (levels-climb nodes A.tree reached limit).goes_on from met (met-there nodes A) in
       let long = ap length L in
       ap (λ (levels : List Level). beyond_of (climb (suc depth) limit levels (e ∷ []))) L
-      ∙ one-up depth limit (level_at (count_at old) nodes met) (way_up (count_at old) 0 place nodes) e
-      (not-full (cell_at old place).work (operator_at nodes place) limit (cell_at old place).passed (A.each place there.1) (limit-there nodes A limit have) H.room)
-      ∙ ap₂ (λ (levels : List Level) (es : List Element). beyond_of (climb depth limit levels es)) (levels-mid nodes A) (sym (F nodes A).hands)
-      ∙ G limit (subst (HaveLimit limit) (sym frames-mid) have) (nodes-mid nodes A) (B nodes A) depth (omega (arith, le, long, ap length (levels-mid nodes A)))
+      ∙ one-up depth limit (level_at reached nodes met) (way_up reached 0 place nodes) e
+      (not-full (cell_at old place).work (operator_at nodes place) limit (reached place) (A.each place there.1) (limit-there nodes A limit have) (counted place there.1) H.room)
+      ∙ ap₂ (λ (levels : List Level) (es : List Element). beyond_of (climb depth limit levels es)) (levels-mid nodes A reached counted) (sym (F nodes A).hands)
+      ∙ G limit (subst (HaveLimit limit) (sym frames-mid) have) (one_more nodes A reached counted) (counted-mid nodes A reached counted) (nodes-mid nodes A) (B nodes A) depth
+      (omega (arith, le, long, ap length (levels-mid nodes A reached counted)))
 
   pub climbs-up : (new : List Cell) (outs outs' : List Out) → Climbs (record { cells = mid; outs = outs }) (record { cells = new; outs = outs' }) place (handed_list up)
       → Climbs (record { cells = old; outs = outs }) (record { cells = new; outs = outs' }) from (e ∷ [])
@@ -311,15 +365,15 @@ module _ (old mid : List Cell) (from place input : ℕ) (e : Element) (up : Hand
 -- an element that comes to a full node goes beyond the limit there
 pub stops-there : (cells : List Cell) (from place input : ℕ) (e : Element) → from < length cells → AreLinked (frames_in cells) → (cell_at cells from).above ≡ Some (place, input)
     → IsFull (cell_at cells place).work → GoBeyond cells from (e ∷ []) (Some place)
-stops-there cells from place input e lt linked feeds full limit have nodes A zero le =
-    absurd (let l = ap length ((levels-climb nodes A.tree (count_at cells) limit).goes_on from (record { place = place; input = input }) (A.links from lt ∙ ap above_pair feeds)) in omega (arith, le, l))
-stops-there cells from place input e lt linked feeds full limit have nodes A (suc depth) le =
+stops-there cells from place input e lt linked feeds full limit have reached counted nodes A zero le =
+    absurd (let l = ap length ((levels-climb nodes A.tree reached limit).goes_on from (record { place = place; input = input }) (A.links from lt ∙ ap above_pair feeds)) in omega (arith, le, l))
+stops-there cells from place input e lt linked feeds full limit have reached counted nodes A (suc depth) le =
     let there = (linked-at cells from place input linked lt feeds).1 in
     let met : Above = record { place = place; input = input } in
-    ap (λ (levels : List Level). beyond_of (climb (suc depth) limit levels (e ∷ []))) ((levels-climb nodes A.tree (count_at cells) limit).goes_on from met (A.links from lt ∙ ap above_pair feeds))
-    ∙ none-up depth limit (level_at (count_at cells) nodes met) (way_up (count_at cells) 0 place nodes) e
-    (is-full (cell_at cells place).work (operator_at nodes place) limit (cell_at cells place).passed (A.each place there)
-    (subst (λ (f : Frame). HasLimit limit f.kind) (frame-at cells place) (have place (omega (arith, there, length-map cells frame_of)))) full)
+    ap (λ (levels : List Level). beyond_of (climb (suc depth) limit levels (e ∷ []))) ((levels-climb nodes A.tree reached limit).goes_on from met (A.links from lt ∙ ap above_pair feeds))
+    ∙ none-up depth limit (level_at reached nodes met) (way_up reached 0 place nodes) e
+    (is-full (cell_at cells place).work (operator_at nodes place) limit (reached place) (A.each place there)
+    (subst (λ (f : Frame). HasLimit limit f.kind) (frame-at cells place) (have place (omega (arith, there, length-map cells frame_of)))) (counted place there) full)
 
 -- ---- one after the other
 
@@ -333,7 +387,7 @@ climbs-none scene from = record {
         hands = sym (append-nil scene.outs) ∙ ap (λ (es : List Element). scene.outs ++ map out_of es) (sym n.1);
         counts = still-counted scene.cells (climbed nodes from []).brought (nothing-brought nodes from);
       };
-  within = λ limit have nodes A depth le. nothing depth limit (way_up (count_at scene.cells) 0 from nodes);
+  within = λ limit have reached counted nodes A depth le. nothing depth limit (way_up reached 0 from nodes);
 }
   where
     nothing : (depth limit : ℕ) (levels : List Level) → beyond_of (climb depth limit levels []) ≡ None
@@ -341,26 +395,29 @@ climbs-none scene from = record {
     nothing (suc depth) limit [] = refl
     nothing (suc depth) limit (level ∷ levels) = refl
 
-leaves-both : (old mid new : Scene) (c d : Climbed) → length old.cells ≡ length mid.cells → length c.brought ≡ length d.brought → Leaves old mid c → Leaves mid new d → Leaves old new (in_two c d)
-leaves-both old mid new c d long same L M = record {
+leaves-both : (old mid new : Scene) (c d : Climbed) → frames_in mid.cells ≡ frames_in old.cells → length c.brought ≡ length d.brought → Leaves old mid c → Leaves mid new d → Leaves old new (in_two c d)
+leaves-both old mid new c d frames same L M = record {
   stands = M.stands;
   hands = M.hands ∙ ap (λ (outs : List Out). outs ++ map out_of d.left.elements) L.hands ∙ append_assoc old.outs (map out_of c.left.elements) (map out_of d.left.elements)
       ∙ ap (λ (outs : List Out). old.outs ++ outs) (sym (map-append out_of c.left.elements d.left.elements));
   counts = λ n lt.
       let a = L.counts n lt in
-      let b = M.counts n (omega (arith, lt, long)) in
-      let both = ap length (both-at c.brought d.brought n same) in
-      omega (arith, a, b, both, length-append (get_or c.brought n []) (get_or d.brought n []));
+      let b = M.counts n (omega (arith, lt, long-frames old.cells mid.cells frames)) in
+      let kind = ap (λ (f : Frame). counted_by f.kind (length (get_or d.brought n []))) (same-frame old.cells mid.cells n frames) in
+      let both = ap (λ (xs : List Arrival). counted_by (kind_at old.cells n) (length xs)) (both-at c.brought d.brought n same)
+      ∙ ap (counted_by (kind_at old.cells n)) (length-append (get_or c.brought n []) (get_or d.brought n []))
+      ∙ counted-plus (kind_at old.cells n) (length (get_or c.brought n [])) (length (get_or d.brought n [])) in
+      omega (arith, a, b, kind, both);
 }
 
 module _ (old mid : Scene) (from : ℕ) (es fs : List Element) (C : Climbs old mid from es) (same : frames_in mid.cells ≡ frames_in old.cells) where
   -- the levels behind the first of these are those of the nodes behind them
   pub then-beyond : (o : Option ℕ) → GoBeyond mid.cells from fs o → GoBeyond old.cells from (es ++ fs) o
-  then-beyond o G limit have nodes A depth le =
-      ap beyond_of (climb-parts depth limit levels es fs) ∙ go (climb depth limit levels es) refl (C.within limit have nodes A depth le)
+  then-beyond o G limit have reached counted nodes A depth le =
+      ap beyond_of (climb-parts depth limit levels es fs) ∙ go (climb depth limit levels es) refl (C.within limit have reached counted nodes A depth le)
     where
       levels : List Level
-      levels = way_up (count_at old.cells) 0 from nodes
+      levels = way_up reached 0 from nodes
 
       c : Climbed
       c = climbed nodes from es
@@ -368,17 +425,23 @@ module _ (old mid : Scene) (from : ℕ) (es fs : List Element) (C : Climbs old m
       L : Leaves old mid c
       L = C.climbs nodes A
 
-      long : length (way_up (count_at mid.cells) 0 from c.nodes) ≤ depth
-      long = let l = way-long (count_at mid.cells) (count_at old.cells) 0 from c.nodes nodes (ins-climbed 0 (record { from = from; elements = es }) nodes) in omega (arith, l, le)
+      long : length (way_up (reached_with reached c.brought) 0 from c.nodes) ≤ depth
+      long = let l = way-long (reached_with reached c.brought) reached 0 from c.nodes nodes (ins-climbed 0 (record { from = from; elements = es }) nodes) in omega (arith, l, le)
+
+      counted-mid : HaveCounted mid.cells (reached_with reached c.brought)
+      counted-mid n lt =
+          let l : n < length old.cells = omega (arith, lt, long-frames old.cells mid.cells same) in
+          let a = L.counts n l in
+          let b = counted n l in
+          let both = counted-plus (kind_at old.cells n) (reached n) (length (get_or c.brought n [])) in
+          let kind = ap (λ (f : Frame). counted_by f.kind (reached_with reached c.brought n)) (same-frame old.cells mid.cells n same) in
+          omega (arith, a, b, both, kind)
 
       go : (k : Climb) → climb depth limit levels es ≡ k → beyond_of k ≡ None → beyond_of (climb_then depth limit k fs) ≡ o
       go (Beyond place) q e = cc
       go (Below hs) q e =
-          let is = (levels-climb nodes A.tree (count_at old.cells) limit).below depth from es hs le q in
-          let counted = way-same (reached_with (count_at old.cells) c.brought) (count_at mid.cells) 0 from c.nodes
-          (λ m l lt. sym (L.counts m (omega (arith, lt, length-climbed 0 (record { from = from; elements = es }) nodes, A.long)))) in
-          ap (λ (ls : List Level). beyond_of (climb depth limit ls fs)) (is ∙ counted)
-          ∙ G limit (subst (HaveLimit limit) (sym same) have) c.nodes L.stands depth long
+          ap (λ (ls : List Level). beyond_of (climb depth limit ls fs)) ((levels-climb nodes A.tree reached limit).below depth from es hs le q)
+          ∙ G limit (subst (HaveLimit limit) (sym same) have) (reached_with reached c.brought) counted-mid c.nodes L.stands depth long
 
   pub climbs-then : (new : Scene) → Climbs mid new from fs → Climbs old new from (es ++ fs)
   climbs-then new D = record {
@@ -387,7 +450,7 @@ module _ (old mid : Scene) (from : ℕ) (es fs : List Element) (C : Climbs old m
         let L = C.climbs nodes A in
         subst (Leaves old new) (sym ((climbs-on nodes A.tree).parts from es fs))
         (leaves-both old mid new (climbed nodes from es) (climbed (climbed nodes from es).nodes from fs)
-        (sym (long-frames old.cells mid.cells same))
+        same
         (length-brought 0 (record { from = from; elements = es }) nodes ∙ sym (length-climbed 0 (record { from = from; elements = es }) nodes)
         ∙ sym (length-brought 0 (record { from = from; elements = fs }) (climbed nodes from es).nodes))
         L (D.climbs (climbed nodes from es).nodes L.stands));
@@ -401,13 +464,39 @@ module _ (old mid : Scene) (from : ℕ) (es fs : List Element) (C : Climbs old m
 -- where the first of these stop, so do all
 pub stops-front : (cells : List Cell) (from : ℕ) (es fs : List Element) (stop : Stop) → IsClimbStop cells from es stop → IsClimbStop cells from (es ++ fs) stop
 stops-front cells from es fs NoMemory g = tt
-stops-front cells from es fs (Limit at) g = λ limit have nodes A depth le.
-    ap beyond_of (climb-parts depth limit (way_up (count_at cells) 0 from nodes) es fs)
-    ∙ go depth limit (climb depth limit (way_up (count_at cells) 0 from nodes) es) (g limit have nodes A depth le)
+stops-front cells from es fs (Limit at) g = λ limit have reached counted nodes A depth le.
+    ap beyond_of (climb-parts depth limit (way_up reached 0 from nodes) es fs)
+    ∙ go depth limit (climb depth limit (way_up reached 0 from nodes) es) (g limit have reached counted nodes A depth le)
   where
     go : (depth limit : ℕ) (k : Climb) → beyond_of k ≡ Some at → beyond_of (climb_then depth limit k fs) ≡ Some at
     go depth limit (Beyond place) e = e
     go depth limit (Below hs) e = cc
+
+-- ---- what may climb on
+
+-- what the node above hands up may climb from there
+pub may-up : (old mid : List Cell) (from place input : ℕ) (e : Element) (up : Handed) → MayClimb old from (e ∷ []) → from < length old → (cell_at old from).above ≡ Some (place, input)
+    → HasEntered old mid place input e up → StaysAs old mid → MayClimb mid place (handed_list up)
+may-up old mid from place input e up may lt feeds H stays = record {
+  linked = subst AreLinked (sym stays.frames) may.linked;
+  orderly = (stays.opens may.orderly).0;
+  wide = λ x h. H.wide (may.orderly place) x h ∙ ap (width_up (kind_at old place)) (may.wide e (inl refl)) ∙ sym here;
+}
+  where
+    here : (cell_at mid place).width ≡ width_up (kind_at old place) (cell_at old from).width
+    here =
+        ap (λ (f : Frame). f.width) (same-frame old mid place stays.frames)
+        ∙ subst (λ (f : Frame). f.width ≡ width_up f.kind (cell_at old from).width) (frame-at old place) (linked-at old from place input may.linked lt feeds).3
+
+-- what is left behind those that climbed may climb
+pub may-then : (old mid : List Cell) (from : ℕ) (es fs rest all : List Element) → MayClimb old from all → StaysAs old mid → all ≡ es ++ (fs ++ rest) → MayClimb mid from fs
+may-then old mid from es fs rest all may stays parts = record {
+  linked = subst AreLinked (sym stays.frames) may.linked;
+  orderly = (stays.opens may.orderly).0;
+  wide = λ x h.
+      may.wide x (subst (In x) (sym parts) (In-append_right x es (fs ++ rest) (In-append_left x fs rest h)))
+      ∙ ap (λ (f : Frame). f.width) (sym (same-frame old mid from stays.frames));
+}
 
 -- ---- calls
 
@@ -435,6 +524,9 @@ rose-then old mid new from es e rest rest' all R q C stays front = record {
   parts = R.parts ∙ ap (λ (xs : List Element). es ++ xs) q ∙ sym (append_assoc es (e ∷ []) rest');
 }
 
+pub may-rose : (old mid : Scene) (from : ℕ) (es fs rest rest' all : List Element) → MayClimb old.cells from all → Rose old mid from es rest all → rest ≡ fs ++ rest' → MayClimb mid.cells from fs
+may-rose old mid from es fs rest rest' all may R q = may-then old.cells mid.cells from es fs rest' all may R.stays (R.parts ∙ ap (λ (xs : List Element). es ++ xs) q)
+
 pub rose-stop : (old mid : Scene) (from : ℕ) (es : List Element) (e : Element) (rest rest' all : List Element) (stop : Stop) → Rose old mid from es rest all → rest ≡ e ∷ rest' → IsClimbStop mid.cells from (e ∷ []) stop
     → IsClimbStop old.cells from all stop
 rose-stop old mid from es e rest rest' all stop R q s =
@@ -455,19 +547,15 @@ rose-stop-these old mid from es fs rest rest' all stop R q s =
     subst (λ (xs : List Element). IsClimbStop old.cells from xs stop) (sym (R.parts ∙ ap (λ (xs : List Element). es ++ xs) q))
     (stops-then old mid from es (fs ++ rest') R.climbs R.stays.frames stop (stops-front mid.cells from fs rest' stop s))
 
-pub outs-rows : (rows : List (List Value)) → elements_out (map RowOut rows) ≡ map Tuple rows
-outs-rows [] = refl
-outs-rows (row ∷ rows) = ap (λ (es : List Element). Tuple row ∷ es) (outs-rows rows)
-
 -- the node above, as it is read
 pub feeds-at : (cells : List Cell) (n : ℕ) (d : Cell) (o : Option (ℕ × ℕ)) → n < length cells → (get_or cells n d).above ≡ o → (cell_at cells n).above ≡ o
 feeds-at cells n d o lt e = ap (λ (x : Cell). x.above) (sym (get_or_default cells n d no_cell lt)) ∙ e
 
-pub fits-at : (cells : List Cell) (n place input w : ℕ) (d : Cell) (e : Element) → AreLinked (frames_in cells) → n < length cells → (cell_at cells n).above ≡ Some (place, input) → w ≡ width_of e → w ≡ (get_or cells n d).width
+pub fits-at : (cells : List Cell) (n place input : ℕ) (e : Element) → MayClimb cells n (e ∷ []) → n < length cells → (cell_at cells n).above ≡ Some (place, input)
     → (n < place) × (place < length cells) × FitsKind (frame_at (frames_in cells) place).kind input (width_of e)
-fits-at cells n place input w d e linked lt feeds wide same =
-    let l = linked-at cells n place input linked lt feeds in
-    (l.0, l.1, subst (λ (m : ℕ). FitsKind (frame_at (frames_in cells) place).kind input m) (ap (λ (x : Cell). x.width) (sym (get_or_default cells n d no_cell lt)) ∙ sym same ∙ wide) l.2)
+fits-at cells n place input e may lt feeds =
+    let l = linked-at cells n place input may.linked lt feeds in
+    (l.0, l.1, subst (λ (m : ℕ). FitsKind (frame_at (frames_in cells) place).kind input m) (sym (may.wide e (inl refl))) l.2)
 
 -- where an element stops at the node above
 pub entry-stop : (cells : List Cell) (from place input : ℕ) (e : Element) (stop : Stop) → from < length cells → AreLinked (frames_in cells) → (cell_at cells from).above ≡ Some (place, input)

@@ -11,7 +11,7 @@ use Rattle.pj_operator.specs.declared.cell.Work.{Work}
 use Rattle.pj_operator.specs.declared.cell.Work.TheVariants.{Join as JoinCell}
 use Rattle.pj_operator.specs.Acts.{JoinProbed, WorkProbes, WorkTakes}
 use Rattle.pj_operator.specs.Cells.{IsOrderly, IsOrderlyJoin, KeepsOpen, kept_seen, pending_kept}
-use Rattle.pj_value.proofs.Members.{filter_few}
+use Rattle.pj_value.proofs.Members.{In-filter, filter_few}
 
 -- ---- lists
 
@@ -63,6 +63,8 @@ orderly-take join u o = record {
   opened = o.opened;
   stored = o.stored;
   waiting = o.waiting;
+  rows_fit = o.rows_fit;
+  puncts_fit = o.puncts_fit;
 }
 
 orderly-give : (join : JoinView) (u : ℕ) → IsOrderlyJoin join → IsOrderlyJoin (after join (Give u))
@@ -74,6 +76,8 @@ orderly-give join u o = record {
   opened = (let l = filter_few (λ t. not (eqb t u)) join.kept.opened in omega (arith, l, o.opened));
   stored = o.stored;
   waiting = o.waiting;
+  rows_fit = o.rows_fit;
+  puncts_fit = o.puncts_fit;
 }
 
 orderly-sweep : (join : JoinView) (input : ℕ) → IsOrderlyJoin join → IsOrderlyJoin (after join (Sweep input))
@@ -85,6 +89,8 @@ orderly-sweep join input o = record {
   opened = o.opened;
   stored = (let l = filter_few (λ (x : TupleAt). not (eqb x.input input && kept_ripe join.spec join.kept x)) join.kept.stored in omega (arith, l, o.stored));
   waiting = (let l = filter_few (λ (p : PunctAt). not (eqb p.input input) || is_held (swept join.spec join.kept input) p) join.kept.waiting in omega (arith, l, o.waiting));
+  rows_fit = λ x h. o.rows_fit x (In-filter (λ (y : TupleAt). not (eqb y.input input && kept_ripe join.spec join.kept y)) x join.kept.stored h).0;
+  puncts_fit = λ p h. o.puncts_fit p (In-filter (λ (q : PunctAt). not (eqb q.input input) || is_held (swept join.spec join.kept input) q) p join.kept.waiting h).0;
 }
 
 pub took_keeps : (answer : Option Found) (old new : JoinView) → JoinTakes old new answer → KeepsOpen (JoinCell old) (JoinCell new)

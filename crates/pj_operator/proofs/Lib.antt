@@ -4,3 +4,4 @@ pub mod Firsts
 pub mod Joins
 pub mod Nodes
 pub mod Ways
+pub mod Widths

@@ -3,11 +3,12 @@ use Rattle.std.proofs.Common.{ℕ, ◌+◌, ◌<◌, ◌≤◌, ◌≢◌, Bool,
 use Rattle.std.proofs.lemmas.Bool.{cases_eq, false≢true, ne_eqb}
 use Rattle.std.proofs.lemmas.List.{length_push}
 use Rattle.pj_value.specs.declared.values.Value.{Value}
+use Rattle.pj_value.proofs.Members.{In-append_cases}
 use Rattle.pj_value.proofs.Numbers.{has-append, has-new}
 use Rattle.pj_pattern.specs.Patterns.{Pattern}
 use Rattle.pj_pattern.specs.declared.element.Element.{Element}
 use Rattle.pj_pattern.specs.declared.element.Element.TheVariants.{Tuple, Punct}
-use Rattle.pj_events.specs.Join.{JoinData, JoinState, hands_up, has, is_held, new_punct, new_tuple, step, widened}
+use Rattle.pj_events.specs.Join.{In, JoinData, JoinState, PunctAt, TupleAt, hands_up, has, is_held, new_punct, new_tuple, step, widened}
 use Rattle.pj_events.specs.KeptState.{KeptState, kept_of, kept_step}
 use Rattle.pj_events.specs.Operators.{UnionState, group_after, group_hands, project_hands, select_hands, union_after, union_hands}
 use Rattle.pj_events.specs.Plan.{Group, Join, Operator, Project, Select, Stream, Union, join_step}
@@ -19,7 +20,7 @@ use Rattle.pj_join.specs.Joins.{JoinView, after}
 use Rattle.pj_join.specs.Sweeping.{puncts_up}
 use Rattle.pj_operator.specs.declared.cell.Handed.{Handed}
 use Rattle.pj_operator.specs.declared.cell.Work.TheVariants.{Stream as StreamCell, Select as SelectCell, Project as ProjectCell, Union as UnionCell, Join as JoinCell, Group as GroupCell}
-use Rattle.pj_operator.specs.Cells.{Follows, GroupRole, IsAs, IsBelow, IsOrderlyJoin, JoinRole, KeepsOpen, ProjectRole, SelectRole, UnionRole, handed_list, IsTakenIn, kind_of, role_in, role_of}
+use Rattle.pj_operator.specs.Cells.{FitsInput, Follows, GroupRole, IsAs, IsBelow, IsOrderlyJoin, JoinRole, KeepsOpen, ProjectRole, SelectRole, UnionRole, handed_list, IsTakenIn, kind_of, role_in, role_of, width_of}
 use Rattle.pj_join_laws.proofs.Stand.{lacking-more}
 
 -- ---- streams, selects and projects
@@ -136,8 +137,8 @@ pushed-true xs m n h = has-append xs (m ∷ []) n ∙ ap (λ (b : Bool). b || (e
 pushed-false : (xs : List ℕ) (m n : ℕ) → has xs n ≡ false → n ≢ m → has (xs ++ m ∷ []) n ≡ false
 pushed-false xs m n h ne = has-append xs (m ∷ []) n ∙ ap₂ (λ (b c : Bool). b || (c || false)) h (ne_eqb m n (λ q. ne (sym q)))
 
-pub join_keeps : (old new : JoinView) (input : ℕ) (e : Element) → new ≡ after old (join_step input e) → old.kept.next ≢ old.limit → KeepsOpen (JoinCell old) (JoinCell new)
-join_keeps old new input e is room o = subst (λ (j : JoinView). IsOrderlyJoin j × ((t : ℕ) → IsTakenIn (JoinKept old.kept) t → IsTakenIn (JoinKept j.kept) t)) (sym is) (go e)
+pub join_keeps : (old new : JoinView) (input : ℕ) (e : Element) → new ≡ after old (join_step input e) → old.kept.next ≢ old.limit → FitsInput old.spec input (width_of e) → KeepsOpen (JoinCell old) (JoinCell new)
+join_keeps old new input e is room fits o = subst (λ (j : JoinView). IsOrderlyJoin j × ((t : ℕ) → IsTakenIn (JoinKept old.kept) t → IsTakenIn (JoinKept j.kept) t)) (sym is) (go e fits)
   where
     below : (ts : List ℕ) (t : ℕ) → has (ts ++ old.kept.next ∷ []) t ≡ true → ((v : ℕ) → has ts v ≡ true → v < old.kept.next) → t < old.kept.next + 1
     below ts t h f = elim (cases_eq t old.kept.next) [
@@ -145,8 +146,8 @@ join_keeps old new input e is room o = subst (λ (j : JoinView). IsOrderlyJoin j
       | inr ne ↦ (let l = f t (pushed-one ts old.kept.next t h ne) in omega (arith, l))
     ]
 
-    go : (x : Element) → IsOrderlyJoin (after old (join_step input x)) × ((t : ℕ) → IsTakenIn (JoinKept old.kept) t → IsTakenIn (JoinKept (after old (join_step input x)).kept) t)
-    go (Tuple row) = (
+    go : (x : Element) → FitsInput old.spec input (width_of x) → IsOrderlyJoin (after old (join_step input x)) × ((t : ℕ) → IsTakenIn (JoinKept old.kept) t → IsTakenIn (JoinKept (after old (join_step input x)).kept) t)
+    go (Tuple row) fit = (
       record {
         below = λ t h. below old.kept.opened t h o.below;
         next = omega (arith, o.next, room);
@@ -155,10 +156,19 @@ join_keeps old new input e is room o = subst (λ (j : JoinView). IsOrderlyJoin j
         opened = omega (arith, o.opened, length_push old.kept.opened old.kept.next);
         stored = omega (arith, o.stored, length_push old.kept.stored (record { ticket = old.kept.next; input = input; row = row }));
         waiting = omega (arith, o.waiting);
+        rows_fit = λ x h. elim (In-append_cases x old.kept.stored (record { ticket = old.kept.next; input = input; row = row } ∷ []) h) [
+          | inl k ↦ o.rows_fit x k
+          | inr k ↦ last x k
+        ];
+        puncts_fit = o.puncts_fit;
       },
       λ t h. (pushed-true old.kept.opened old.kept.next t h.0, pushed-false old.kept.pending old.kept.next t h.1 (λ q. let l = o.below t h.0 in omega (arith, l, q))),
     )
-    go (Punct patterns) = (
+      where
+        last : (x : TupleAt) → In x (record { ticket = old.kept.next; input = input; row = row } ∷ []) → FitsInput old.spec x.input (length x.row)
+        last x (inl q) = subst (λ (y : TupleAt). FitsInput old.spec y.input (length y.row)) q fit
+        last x (inr q) = absurd q
+    go (Punct patterns) fit = (
       record {
         below = λ t h. (let l = o.below t h in omega (arith, l));
         next = omega (arith, o.next, room);
@@ -167,6 +177,8 @@ join_keeps old new input e is room o = subst (λ (j : JoinView). IsOrderlyJoin j
         opened = omega (arith, o.opened);
         stored = omega (arith, o.stored);
         waiting = held (is_held old.kept.stored (record { ticket = old.kept.next; input = input; patterns = patterns }));
+        rows_fit = o.rows_fit;
+        puncts_fit = waits (is_held old.kept.stored (record { ticket = old.kept.next; input = input; patterns = patterns }));
       },
       λ t h. h,
     )
@@ -174,3 +186,11 @@ join_keeps old new input e is room o = subst (λ (j : JoinView). IsOrderlyJoin j
         held : (b : Bool) → length (cond b (old.kept.waiting ++ record { ticket = old.kept.next; input = input; patterns = patterns } ∷ []) old.kept.waiting) ≤ old.kept.next + 1
         held true = omega (arith, o.waiting, length_push old.kept.waiting (record { ticket = old.kept.next; input = input; patterns = patterns }))
         held false = omega (arith, o.waiting)
+
+        last : (p : PunctAt) → In p (record { ticket = old.kept.next; input = input; patterns = patterns } ∷ []) → FitsInput old.spec p.input (length p.patterns)
+        last p (inl q) = subst (λ (y : PunctAt). FitsInput old.spec y.input (length y.patterns)) q fit
+        last p (inr q) = absurd q
+
+        waits : (b : Bool) (p : PunctAt) → In p (cond b (old.kept.waiting ++ record { ticket = old.kept.next; input = input; patterns = patterns } ∷ []) old.kept.waiting) → FitsInput old.spec p.input (length p.patterns)
+        waits true p h = elim (In-append_cases p old.kept.waiting (record { ticket = old.kept.next; input = input; patterns = patterns } ∷ []) h) [ inl k ↦ o.puncts_fit p k | inr k ↦ last p k ]
+        waits false p h = o.puncts_fit p h

@@ -1,11 +1,13 @@
 -- What is seen of the nodes of a core, and which nodes of a history they stand for.
-use Rattle.std.specs.Prelude.{ℕ, ◌+◌, ◌^◌, ◌<◌, ◌≤◌, ◌≡◌, true, List, [], ◌∷◌, map, length, max, slice_index_or, Option, Some, None, All}
+use Rattle.std.specs.Prelude.{ℕ, ◌+◌, ◌^◌, ◌<◌, ◌≤◌, ◌≡◌, true, List, [], ◌∷◌, map, length, max, slice_index_or, sum, Option, Some, None, All}
 use Rattle.pj_pattern.specs.Patterns.{Pattern}
 use Rattle.pj_pattern.specs.declared.element.Element.{Element}
 use Rattle.pj_pattern.specs.declared.element.Element.TheVariants.{Tuple, Punct}
-use Rattle.pj_events.specs.Join.{JoinData, JoinState, has, inputs, arity}
-use Rattle.pj_events.specs.Operators.{GroupSpec}
+use Rattle.pj_events.specs.Join.{In, JoinData, JoinState, PunctAt, TupleAt, arities, arity, has, inputs}
+use Rattle.pj_value.specs.declared.values.Value.{Value}
+use Rattle.pj_events.specs.Operators.{GroupSpec, Sent}
 use Rattle.pj_group.specs.Steps.{Fits}
+use Rattle.pj_group.specs.Tables.{StandsFor as HoldsGroup}
 use Rattle.pj_events.specs.Plan.{Operator, Stream, Select, Project, Union, Join, Group, Node, Comes, after, hands, operator_at}
 use Rattle.pj_events.specs.CoreKept.{KeptOperator, NothingKept, UnionKept, JoinKept, GroupKept, kept_in}
 use Rattle.pj_laws.specs.Climb.{Above, above, IsTree}
@@ -69,7 +71,7 @@ frames_in cells = map frame_of cells
 
 -- stands for a node where there is none
 abbrev pub no_cell : Cell
-no_cell = record { work = StreamCell; above = None; width = 0; passed = 0; peak = 0 }
+no_cell = record { work = StreamCell; above = None; width = 0; peak = 0 }
 
 abbrev pub cell_at : List Cell → ℕ → Cell
 cell_at cells n = slice_index_or cells n no_cell
@@ -101,13 +103,34 @@ HasLimit limit (GroupKind spec own) = own ≡ limit
 abbrev pub HaveLimit : ℕ → List Frame → Type 0
 HaveLimit limit frames = (n : ℕ) → n < length frames → HasLimit limit (frame_at frames n).kind
 
--- where a node feeds another, that one stands behind it and takes what it hands up
+-- how many columns a node of this kind hands up, where elements of so many come to it
+abbrev pub width_up : Kind → ℕ → ℕ
+width_up StreamKind width = width
+width_up (SelectKind test) width = width
+width_up (ProjectKind columns) width = length columns
+width_up (UnionKind n arity) width = arity
+width_up (JoinKind node spec limit) width = sum (arities spec)
+width_up (GroupKind spec limit) width = length spec.keys + length spec.aggs
+
+-- where a node feeds another, that one stands behind it, takes what it hands up, and hands up as many columns as come of that
 abbrev pub IsLinked : List Frame → ℕ → Option (ℕ × ℕ) → ℕ → Type 0
 IsLinked frames n None width = Unit {0}
-IsLinked frames n (Some (place, input)) width = (n < place) × (place < length frames) × FitsKind (frame_at frames place).kind input width
+IsLinked frames n (Some (place, input)) width =
+    (n < place) × (place < length frames) × FitsKind (frame_at frames place).kind input width
+    × ((frame_at frames place).width ≡ width_up (frame_at frames place).kind width)
+
+-- a join hands up as many columns as its inputs have
+abbrev pub HasOwnWidth : Kind → ℕ → Type 0
+HasOwnWidth StreamKind width = Unit {0}
+HasOwnWidth (SelectKind test) width = Unit {0}
+HasOwnWidth (ProjectKind columns) width = Unit {0}
+HasOwnWidth (UnionKind n arity) width = Unit {0}
+HasOwnWidth (JoinKind node spec limit) width = width ≡ sum (arities spec)
+HasOwnWidth (GroupKind spec limit) width = Unit {0}
 
 abbrev pub AreLinked : List Frame → Type 0
-AreLinked frames = (n : ℕ) → n < length frames → IsLinked frames n (frame_at frames n).above (frame_at frames n).width
+AreLinked frames =
+    (n : ℕ) → n < length frames → IsLinked frames n (frame_at frames n).above (frame_at frames n).width × HasOwnWidth (frame_at frames n).kind (frame_at frames n).width
 
 -- ---- what is kept
 
@@ -120,16 +143,25 @@ kept_seen (JoinCell join) = JoinKept join.kept
 kept_seen (GroupCell group) = GroupKept group.table
 
 -- joins and groups count what reaches them
-abbrev pub count_in : Work → ℕ → ℕ
-count_in StreamCell passed = passed
-count_in (SelectCell test) passed = passed
-count_in (ProjectCell columns) passed = passed
-count_in (UnionCell union) passed = passed
-count_in (JoinCell join) passed = join.kept.next
-count_in (GroupCell group) passed = group.count
+abbrev pub count_in : Work → ℕ
+count_in StreamCell = 0
+count_in (SelectCell test) = 0
+count_in (ProjectCell columns) = 0
+count_in (UnionCell union) = 0
+count_in (JoinCell join) = join.kept.next
+count_in (GroupCell group) = group.count
 
 abbrev pub count_seen : Cell → ℕ
-count_seen cell = count_in cell.work cell.passed
+count_seen cell = count_in cell.work
+
+-- of so many elements that reached a node of this kind, how many it has counted
+abbrev pub counted_by : Kind → ℕ → ℕ
+counted_by StreamKind n = 0
+counted_by (SelectKind test) n = 0
+counted_by (ProjectKind columns) n = 0
+counted_by (UnionKind inputs arity) n = 0
+counted_by (JoinKind node spec limit) n = n
+counted_by (GroupKind spec limit) n = n
 
 abbrev pub stored_kept : KeptOperator → ℕ
 stored_kept NothingKept = 0
@@ -207,6 +239,10 @@ abbrev pub width_of : Element → ℕ
 width_of (Tuple row) = length row
 width_of (Punct patterns) = length patterns
 
+-- each of these elements has so many columns
+abbrev pub AreWide : ℕ → List Element → Type 0
+AreWide width es = (e : Element) → In e es → width_of e ≡ width
+
 -- what a node hands up
 abbrev pub handed_list : Handed → List Element
 handed_list Nothing = []
@@ -233,9 +269,14 @@ abbrev pub stop_of_group : GroupStop → JoinStop
 stop_of_group GroupFull = JoinFull
 stop_of_group GroupWants = JoinWants
 
--- ---- what always holds of a join
+-- ---- what always holds of a node
 
--- every ticket that is not given is below the next, no more elements came than may, and of no sort are there more than came
+-- the join has such an input, and that one so many columns
+abbrev pub FitsInput : JoinData → ℕ → ℕ → Type 0
+FitsInput spec input width = (input < inputs spec) × (width ≡ arity spec input)
+
+-- every ticket that is not given is below the next, no more elements came than may, of no sort are there more than came, and
+-- what is stored and what waits has as many columns as its input
 pub record IsOrderlyJoin (join : JoinView) : Type 0 where
   pub below : (t : ℕ) → has join.kept.opened t ≡ true → t < join.kept.next
   pub next : join.kept.next ≤ join.limit
@@ -244,14 +285,17 @@ pub record IsOrderlyJoin (join : JoinView) : Type 0 where
   pub opened : length join.kept.opened ≤ join.kept.next
   pub stored : length join.kept.stored ≤ join.kept.next
   pub waiting : length join.kept.waiting ≤ join.kept.next
+  pub rows_fit : (x : TupleAt) → In x join.kept.stored → FitsInput join.spec x.input (length x.row)
+  pub puncts_fit : (p : PunctAt) → In p join.kept.waiting → FitsInput join.spec p.input (length p.patterns)
 
+-- what waits at a union has as many columns as it; a group keeps what comes of some rows
 abbrev pub IsOrderly : Work → Type 0
 IsOrderly StreamCell = Unit {0}
 IsOrderly (SelectCell test) = Unit {0}
 IsOrderly (ProjectCell columns) = Unit {0}
-IsOrderly (UnionCell union) = Unit {0}
+IsOrderly (UnionCell union) = (p : Sent) → In p union.state.waiting → length p.patterns ≡ union.arity
 IsOrderly (JoinCell join) = IsOrderlyJoin join
-IsOrderly (GroupCell group) = Unit {0}
+IsOrderly (GroupCell group) = (rows : List (List Value)) × HoldsGroup group rows
 
 -- an orderly node stays so, and what is taken and not given there stays so
 abbrev pub KeepsOpen : Work → Work → Type 0

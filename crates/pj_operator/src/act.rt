@@ -1,8 +1,9 @@
 // What the joins of a core do of their own.
-ghost use Rattle.std.specs.Prelude.{None, ◌≡◌, ◌<◌, ◌≤◌, length, take, IfOk, IfErr, OnOk, OnErr};
+ghost use Rattle.std.specs.Prelude.{None, ◌≡◌, ◌<◌, ◌≤◌, length, map, take, IfOk, IfErr, OnOk, OnErr};
 ghost use Rattle.pj_events.specs.Join.{Give};
+ghost use Rattle.pj_pattern.specs.declared.element.Element.TheVariants.{Tuple};
 ghost use Rattle.pj_operator.specs.Cells.{AreLinked, IsOrderly, KeepsOpen, cell_at, frame_of, frames_in, kept_seen, kind_of, stored_kept, IsTakenIn, pending_kept};
-ghost use Rattle.pj_operator.specs.Climbing.{AreOrderly, StayOpen};
+ghost use Rattle.pj_operator.specs.Climbing.{AreOrderly, MayClimb, StayOpen};
 ghost use Rattle.pj_operator.specs.Acts.{CellSwept, HasGivenAt, HasGivenOn, HasJoinInput, HasSweptAt, IsGiveStop, IsProbeStop, IsSweepStop, JoinActs, JoinSwept, ProbesOn, TakesFirst, WorkProbes, WorkTakes, first_pending};
 
 use crate::cell::{Cell, Work};
@@ -192,8 +193,8 @@ pub fn give_at(cells: &mut [Cell], probe: Probe)
     cells[place as usize].work.give(probe);
 }
 
-/// Gives the ticket of a probe, which was taken at its join and is not given, and hands up these rows, as far as they go. On a
-/// refusal `outs` is as before.
+/// Gives the ticket of a probe, which was taken at its join and is not given, and hands up these rows, as far as they go. They have
+/// as many columns as the join hands up. On a refusal `outs` is as before.
 pub fn give_found(
     alloc: Global,
     cells: &mut [Cell],
@@ -203,7 +204,7 @@ pub fn give_found(
 ) -> Result<(), Stop>
     requires there { probe.join < length cells.old }
     requires open { IsTakenIn (kept_seen (cell_at cells.old probe.join).work) probe.ticket }
-    requires linked { AreLinked (frames_in cells.old) }
+    requires may { MayClimb cells.old probe.join (map Tuple rows) }
     ensures ok { OnOk result (HasGivenOn (record { cells = cells.old; outs = outs.old }) (record { cells = cells.new; outs = outs.new }) probe rows) }
     ensures err { IfErr result (λ stop. IsGiveStop cells.old probe rows stop) }
     ensures frames { frames_in cells.new ≡ frames_in cells.old }
@@ -230,7 +231,8 @@ pub fn probe_on(
     place: u32,
     outs: &mut List<Out>,
 ) -> Result<bool, Stop>
-    requires { AreLinked (frames_in cells.old) }
+    requires linked { AreLinked (frames_in cells.old) }
+    requires orderly { AreOrderly cells.old }
     ensures ok { IfOk result (λ more. ProbesOn more (record { cells = cells.old; outs = outs.old }) (record { cells = cells.new; outs = outs.new }) place) }
     ensures err { IfErr result (λ stop. IsProbeStop cells.old place stop) }
     ensures frames { frames_in cells.new ≡ frames_in cells.old }
@@ -253,7 +255,8 @@ fn probe_in(
     place: u32,
     outs: &mut List<Out>,
 ) -> Result<bool, Stop>
-    requires { AreLinked (frames_in cells.old) }
+    requires linked { AreLinked (frames_in cells.old) }
+    requires orderly { AreOrderly cells.old }
     ensures ok { IfOk result (λ more. ProbesOn more (record { cells = cells.old; outs = outs.old }) (record { cells = cells.new; outs = outs.new }) place) }
     ensures err { IfErr result (λ stop. IsProbeStop cells.old place stop) }
     ensures frames { frames_in cells.new ≡ frames_in cells.old }
@@ -299,6 +302,7 @@ fn probe_up(
 ) -> Result<bool, Stop>
     requires there { place < length cells.old }
     requires linked { AreLinked (frames_in cells.old) }
+    requires orderly { AreOrderly cells.old }
     requires some { 0 < pending_kept (kept_seen (cell_at cells.old place).work) }
     ensures ok { IfOk result (λ more. ProbesOn more (record { cells = cells.old; outs = outs.old }) (record { cells = cells.new; outs = outs.new }) place) }
     ensures err { IfErr result (λ stop. IsProbeStop cells.old place stop) }
@@ -330,6 +334,7 @@ pub fn sweep_at(
     requires there { place < length cells.old }
     requires input { HasJoinInput (cell_at cells.old place).work input }
     requires linked { AreLinked (frames_in cells.old) }
+    requires orderly { AreOrderly cells.old }
     ensures ok { IfOk result (λ count. HasSweptAt trace (record { cells = cells.old; outs = outs.old }) (record { cells = cells.new; outs = outs.new }) place input count) }
     ensures err { IfErr result (λ stop. IsSweepStop trace (record { cells = cells.old; outs = outs.old }) place input stop) }
     ensures frames { frames_in cells.new ≡ frames_in cells.old }
@@ -357,6 +362,7 @@ fn sweep_on(
     requires there { place < length cells.old }
     requires input { HasJoinInput (cell_at cells.old place).work input }
     requires linked { AreLinked (frames_in cells.old) }
+    requires orderly { AreOrderly cells.old }
     ensures ok { IfOk result (λ count. HasSweptAt trace (record { cells = cells.old; outs = outs.old }) (record { cells = cells.new; outs = outs.new }) place input count) }
     ensures err { IfErr result (λ stop. IsSweepStop trace (record { cells = cells.old; outs = outs.old }) place input stop) }
     ensures frames { frames_in cells.new ≡ frames_in cells.old }

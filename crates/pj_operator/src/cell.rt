@@ -1,5 +1,5 @@
 // A node of a core.
-ghost use Rattle.std.specs.Prelude.{◌≡◌, ◌↔◌, ◌<◌, ◌+◌, ℕ, ◌≤◌, List, All, IfOk, OnOk, OnErr, IsErrOf, length, map};
+ghost use Rattle.std.specs.Prelude.{◌≡◌, ◌↔◌, ◌<◌, ◌+◌, ◌≤◌, List, All, IfOk, OnOk, OnErr, IsErrOf, length, map};
 ghost use Rattle.pj_events.specs.Join.{arity, inputs};
 ghost use Rattle.pj_events.specs.Operators.{group_after, group_hands, project_hands, select_hands, union_after, union_hands};
 ghost use Rattle.pj_events.specs.Plan.{Operator, join_step};
@@ -8,7 +8,7 @@ ghost use Rattle.pj_group.specs.Steps.{Fits};
 ghost use Rattle.pj_group.specs.Tables.{StandsFor as HoldsGroup};
 ghost use Rattle.pj_join.specs.Joins.{after};
 ghost use Rattle.pj_join.specs.Sweeping.{puncts_up};
-ghost use Rattle.pj_operator.specs.Cells.{FitsKind, Follows, IsAs, IsFull, KeepsOpen, count_in, count_seen, frame_of, handed_list, kind_of, stop_of_group, width_of};
+ghost use Rattle.pj_operator.specs.Cells.{AreWide, FitsKind, Follows, IsAs, IsFull, IsOrderly, KeepsOpen, count_in, count_seen, counted_by, frame_of, handed_list, kind_of, stop_of_group, width_of, width_up};
 
 use pj_flow::{Union, project_punct, project_tuple, select_tuple};
 use pj_group::{Group, GroupStop};
@@ -28,15 +28,13 @@ pub enum Work {
     Group(Group),
 }
 
-/// A node: its work, the node and the input that it feeds, how many columns it hands up, how many elements have reached it,
-/// and, of a join, the greatest number of tuples that was stored before any of its sweeps. Joins and groups count what reaches them
-/// themselves.
+/// A node: its work, the node and the input that it feeds, how many columns it hands up, and, of a join, the greatest number of
+/// tuples that was stored before any of its sweeps. Joins and groups count what reaches them themselves.
 #[derive(Drop)]
 pub struct Cell {
     pub work: Work,
     pub above: Option<(u32, u32)>,
     pub width: u32,
-    pub passed: u64,
     pub peak: u64,
 }
 
@@ -56,33 +54,30 @@ impl Cell {
     pub fn comes(&mut self, alloc: Global, input: u32, element: Element) -> Result<Handed, JoinStop>
         requires { FitsKind (kind_of self.old.work) input (width_of element) }
         ensures ok { IfOk result (λ up. (operator : Operator) → IsAs self.old.work operator → Follows self.new.work up operator input element) }
-        ensures count { OnOk result (count_seen self.new ≡ count_seen self.old + 1) }
+        ensures count { OnOk result (count_seen self.new ≡ count_seen self.old + counted_by (kind_of self.old.work) 1) }
         ensures room { OnOk result (¬ IsFull self.old.work) }
         ensures full { IsErrOf result JoinStop.Limit → IsFull self.old.work }
         ensures frame { frame_of self.new ≡ frame_of self.old }
         ensures peak { self.new.peak ≡ self.old.peak }
         ensures open { KeepsOpen self.old.work self.new.work }
+        ensures wide { IfOk result (λ up. IsOrderly self.old.work → AreWide (width_up (kind_of self.old.work) (width_of element)) (handed_list up)) }
     {
-        if self.passed == u64::MAX {
-            return Err(JoinStop::NoMemory);
-        }
-        let up = self.work.comes(alloc, input, element)?;
-        self.passed += 1;
-        Ok(up)
+        self.work.comes(alloc, input, element)
     }
 }
 
 impl Work {
     // The same of the work alone.
-    #[tactic(auto, using(crate::proofs::Nodes::stream_follows, crate::proofs::Nodes::select_follows, crate::proofs::Nodes::project_follows, crate::proofs::Nodes::union_follows, crate::proofs::Nodes::group_follows, crate::proofs::Nodes::join_follows, crate::proofs::Nodes::join_keeps))]
+    #[tactic(auto, using(crate::proofs::Nodes::stream_follows, crate::proofs::Nodes::select_follows, crate::proofs::Nodes::project_follows, crate::proofs::Nodes::union_follows, crate::proofs::Nodes::group_follows, crate::proofs::Nodes::join_follows, crate::proofs::Nodes::join_keeps, crate::proofs::Widths::union_keeps, crate::proofs::Widths::group_keeps, crate::proofs::Widths::none_wide, crate::proofs::Widths::select_wide, crate::proofs::Widths::project_wide, crate::proofs::Widths::union_wide, crate::proofs::Widths::join_wide, crate::proofs::Widths::group_wide))]
     fn comes(&mut self, alloc: Global, input: u32, element: Element) -> Result<Handed, JoinStop>
         requires { FitsKind (kind_of self.old) input (width_of element) }
         ensures ok { IfOk result (λ up. (operator : Operator) → IsAs self.old operator → Follows self.new up operator input element) }
-        ensures count { OnOk result ((passed : ℕ) → count_in self.new (passed + 1) ≡ count_in self.old passed + 1) }
+        ensures count { OnOk result (count_in self.new ≡ count_in self.old + counted_by (kind_of self.old) 1) }
         ensures room { OnOk result (¬ IsFull self.old) }
         ensures full { IsErrOf result JoinStop.Limit → IsFull self.old }
         ensures kind { kind_of self.new ≡ kind_of self.old }
         ensures open { KeepsOpen self.old self.new }
+        ensures wide { IfOk result (λ up. IsOrderly self.old → AreWide (width_up (kind_of self.old) (width_of element)) (handed_list up)) }
     {
         match self {
             Work::Stream => Ok(Handed::Nothing),

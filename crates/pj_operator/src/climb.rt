@@ -2,8 +2,8 @@
 ghost use Rattle.std.specs.Prelude.{◌≡◌, ◌<◌, ◌++◌, [], ◌∷◌, IfOk, IfErr, OnOk, OnErr, length, take, map};
 ghost use Rattle.pj_events.specs.History.{out_of};
 ghost use Rattle.pj_events.specs.Outcomes.{elements_out};
-ghost use Rattle.pj_operator.specs.Cells.{AreLinked, FitsKind, cell_at, frame_at, frames_in, handed_list, width_of};
-ghost use Rattle.pj_operator.specs.Climbing.{Climbs, HasEntered, IsClimbStop, IsEntryStop, StaysAs};
+ghost use Rattle.pj_operator.specs.Cells.{FitsKind, frame_at, frames_in, handed_list, width_of};
+ghost use Rattle.pj_operator.specs.Climbing.{Climbs, HasEntered, IsClimbStop, IsEntryStop, MayClimb, StaysAs};
 
 use crate::cell::{Cell, Handed};
 use crate::handed::hand_out;
@@ -16,8 +16,7 @@ use std::alloc::Global;
 /// An element that the node of number `from` hands up climbs as far as it goes: to the node above, and what that one hands up
 /// on from there. What the last node hands up is put at the end of `outs`.
 ///
-/// `Limit` comes where as many elements as may have reached a join on the way. An element of another width than the node's is
-/// none that it hands up, and is refused.
+/// `Limit` comes where as many elements as may have reached a join on the way.
 #[cycle(climbing)]
 pub fn climb(
     alloc: Global,
@@ -27,15 +26,12 @@ pub fn climb(
     outs: &mut List<Out>,
 ) -> Result<(), Stop>
     requires there { from < length cells.old }
-    requires linked { AreLinked (frames_in cells.old) }
+    requires may { MayClimb cells.old from (element ∷ []) }
     ensures ok { OnOk result (Climbs (record { cells = cells.old; outs = outs.old }) (record { cells = cells.new; outs = outs.new }) from (element ∷ [])) }
     ensures err { IfErr result (λ stop. IsClimbStop cells.old from (element ∷ []) stop) }
     ensures stays { StaysAs cells.old cells.new }
     ensures front { take (length outs.old) outs.new ≡ outs.old }
 {
-    if width(&element) != cells[from as usize].width as usize {
-        return Err(Stop::NoMemory);
-    }
     match cells[from as usize].above {
         None => match hand_out(outs, element) {
             Ok(()) => Ok(()),
@@ -60,7 +56,7 @@ pub fn lift(
     outs: &mut List<Out>,
 ) -> Result<(), Stop>
     requires there { from < length cells.old }
-    requires linked { AreLinked (frames_in cells.old) }
+    requires may { MayClimb cells.old from (element ∷ []) }
     ensures ok { OnOk result (Climbs (record { cells = cells.old; outs = outs.old }) (record { cells = cells.new; outs = outs.new }) from (element ∷ [])) }
     ensures err { IfErr result (λ stop. IsClimbStop cells.old from (element ∷ []) stop) }
     ensures stays { StaysAs cells.old cells.new }
@@ -86,7 +82,7 @@ fn climb_on(
     outs: &mut List<Out>,
 ) -> Result<(), Stop>
     requires there { from < length cells.old }
-    requires linked { AreLinked (frames_in cells.old) }
+    requires may { MayClimb cells.old from (handed_list up) }
     ensures ok { OnOk result (Climbs (record { cells = cells.old; outs = outs.old }) (record { cells = cells.new; outs = outs.new }) from (handed_list up)) }
     ensures err { IfErr result (λ stop. IsClimbStop cells.old from (handed_list up) stop) }
     ensures stays { StaysAs cells.old cells.new }
@@ -119,7 +115,7 @@ pub fn climb_puncts(
     outs: &mut List<Out>,
 ) -> Result<(), Stop>
     requires there { from < length cells.old }
-    requires linked { AreLinked (frames_in cells.old) }
+    requires may { MayClimb cells.old from (map Element.Punct puncts) }
     ensures ok { OnOk result (Climbs (record { cells = cells.old; outs = outs.old }) (record { cells = cells.new; outs = outs.new }) from (map Element.Punct puncts)) }
     ensures err { IfErr result (λ stop. IsClimbStop cells.old from (map Element.Punct puncts) stop) }
     ensures stays { StaysAs cells.old cells.new }
@@ -144,7 +140,7 @@ fn climb_all(
     outs: &mut List<Out>,
 ) -> Result<(), Stop>
     requires there { from < length cells.old }
-    requires linked { AreLinked (frames_in cells.old) }
+    requires may { MayClimb cells.old from elements }
     ensures ok { OnOk result (Climbs (record { cells = cells.old; outs = outs.old }) (record { cells = cells.new; outs = outs.new }) from elements) }
     ensures err { IfErr result (λ stop. IsClimbStop cells.old from elements stop) }
     ensures stays { StaysAs cells.old cells.new }
@@ -168,7 +164,7 @@ pub fn climb_rows(
     outs: &mut List<Out>,
 ) -> Result<(), Stop>
     requires there { from < length cells.old }
-    requires linked { AreLinked (frames_in cells.old) }
+    requires may { MayClimb cells.old from (map Element.Tuple rows) }
     ensures ok { OnOk result (Climbs (record { cells = cells.old; outs = outs.old }) (record { cells = cells.new; outs = outs.new }) from (map Element.Tuple rows)) }
     ensures err { IfErr result (λ stop. IsClimbStop cells.old from (map Element.Tuple rows) stop) }
     ensures stays { StaysAs cells.old cells.new }
@@ -192,7 +188,7 @@ pub fn climb_found(
     outs: &mut List<Out>,
 ) -> Result<(), Stop>
     requires there { from < length cells.old }
-    requires linked { AreLinked (frames_in cells.old) }
+    requires may { MayClimb cells.old from (elements_out found) }
     ensures ok { OnOk result (Climbs (record { cells = cells.old; outs = outs.old }) (record { cells = cells.new; outs = outs.new }) from (elements_out found)) }
     ensures err { IfErr result (λ stop. IsClimbStop cells.old from (elements_out found) stop) }
     ensures stays { StaysAs cells.old cells.new }
@@ -216,7 +212,7 @@ fn climb_out(
     outs: &mut List<Out>,
 ) -> Result<(), Stop>
     requires there { from < length cells.old }
-    requires linked { AreLinked (frames_in cells.old) }
+    requires may { MayClimb cells.old from (elements_out (out ∷ [])) }
     ensures ok { OnOk result (Climbs (record { cells = cells.old; outs = outs.old }) (record { cells = cells.new; outs = outs.new }) from (elements_out (out ∷ []))) }
     ensures err { IfErr result (λ stop. IsClimbStop cells.old from (elements_out (out ∷ [])) stop) }
     ensures stays { StaysAs cells.old cells.new }
@@ -251,14 +247,5 @@ fn enter(
         Ok(up) => Ok(up),
         Err(JoinStop::Limit) => Err(Stop::Limit { node: place }),
         Err(JoinStop::NoMemory) => Err(Stop::NoMemory),
-    }
-}
-
-fn width(element: &Element) -> usize
-    ensures { result ≡ width_of element.now }
-{
-    match element {
-        Element::Tuple(row) => row.len(),
-        Element::Punct(punct) => punct.len(),
     }
 }

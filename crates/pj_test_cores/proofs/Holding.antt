@@ -28,11 +28,11 @@ use Rattle.pj_laws.proofs.OneRun.{stream-node-there}
 use Rattle.pj_laws.proofs.OneThreadAnswer.{streams-hold, wilds-fit}
 use Rattle.pj_laws.proofs.Probes.{length-from}
 use Rattle.pj_probe.specs.declared.probe.Found.{Found}
-use Rattle.pj_core.specs.Calls.{HasGiven, HasSwept, IsFresh, IsOpen, TakesNext, arriving_of, closing_of}
+use Rattle.pj_core.specs.Calls.{FitNode, HasGiven, HasSwept, IsFresh, IsOpen, TakesNext, arriving_of, closing_of}
 use Rattle.pj_core.specs.Cores.{CoreState, MayFollow, StandsFor, nodes_in}
 use Rattle.pj_core.specs.Plans.{RunPlan, nodes_of}
 use Rattle.pj_core.proofs.Planned.{planned}
-use Rattle.pj_core_laws.proofs.UnderWay.{opens-under_way}
+use Rattle.pj_core_laws.proofs.UnderWay.{fits-under_way, opens-under_way}
 use Rattle.pj_core_laws.proofs.Allowed.{goes-on}
 use Rattle.pj_test_cores.specs.Holding.{AreRows, HasClosed, HasCome, Holding, HoldsStill, HoldsToo, IsFed, IsHolding, LetsGo, pair_plan}
 use Rattle.pj_test_cores.specs.SamplePlans.{kinds}
@@ -127,6 +127,13 @@ pub opens : (core : CoreState) (p : Found) (probes : List Found) → IsHolding c
 opens core p probes (h, H) on =
     opens-under_way core H.sound on h H.stands p
     (under-way (nodes_in core) (planned core.plan H.sound) h H.stands.legal H.given 0 p.join p.ticket (subst (Holds 0 p.join p.ticket) (sym H.own) (H.held p (inl refl))))
+
+-- and its results fit its join
+pub fits : (core : CoreState) (p : Found) (probes : List Found) → IsHolding core (p ∷ probes) → FitNode core p.join p.rows
+fits core p probes (h, H) =
+    subst (FitNode core p.join) (sym (H.rows p (inl refl)))
+    (fits-under_way core H.sound h H.stands p
+    (under-way (nodes_in core) (planned core.plan H.sound) h H.stands.legal H.given 0 p.join p.ticket (subst (Holds 0 p.join p.ticket) (sym H.own) (H.held p (inl refl)))))
 
 and-no : (a b : Bool) → b ≡ false → (a && b) ≡ false
 and-no true b e = e

@@ -4,7 +4,7 @@ ghost use Rattle.pj_shape.specs.Columns.{domains_of};
 ghost use Rattle.pj_pattern.specs.Fitting.{FitsDomains, row_fits, punct_fits};
 ghost use Rattle.pj_plan.specs.Canonical.{node_at};
 ghost use Rattle.pj_plan.specs.Nodes.{inputs_of, is_join, streams_of, stream_columns, streams_in};
-ghost use Rattle.pj_core.specs.Calls.{IsOpen};
+ghost use Rattle.pj_core.specs.Calls.{FitNode, IsOpen};
 ghost use Rattle.pj_test_cores.specs.SamplePlans.{IsSample, begun as beginning, chain_certs as certs_of_chain, chain_statements, join as join_of, kinds, lone_statements, named_join as named_join_of, number_column, output as output_of, pair_certs as certs_of_pair, pair_statements, scheme as scheme_of, step as step_of, stream as stream_of, tower_certs as certs_of_tower, tower_statements};
 
 use pj_core::{Core, Out, Probe, Stop};
@@ -553,7 +553,8 @@ fn arrives(alloc: Global, core: &mut Core, given: Given) -> bool {
 
 // Whether the probe's results are handed out, and how many there are then to be drained.
 fn give_back(alloc: Global, core: &mut Core, probe: Probe) -> i64
-    requires { core.old.kept.stop ≡ None → IsOpen core.old probe }
+    requires open { core.old.kept.stop ≡ None → IsOpen core.old probe }
+    requires fits { core.old.kept.stop ≡ None → FitNode core.old probe.join probe.rows }
 {
     match probe.work(alloc) {
         Ok(found) => match core.give(probe, found) {

@@ -1,11 +1,13 @@
-use Rattle.std.proofs.Common.{slice_index_or, subst, sym, ◌∙◌}
+use Rattle.std.proofs.Common.{slice_index_or, subst, ◌∙◌}
 use Rattle.pj_operator.specs.Acts.{WorkProbes}
-use Rattle.pj_operator.specs.Cells.{AreLinked}
-use Rattle.pj_operator.proofs.Changes.{frames-work, has-probed, probe-stop}
+use Rattle.pj_operator.proofs.Changes.{frames-work, has-probed, may-found, probe-stop}
 use Rattle.pj_operator.proofs.act.probe_up.Goals as goal
 
-pub climb_found-requires-clause-linked : goal.climb_found-requires-clause-linked
-climb_found-requires-clause-linked c = subst AreLinked (sym (frames-work c.args.cells.now c.args.place c.index-cells-place.result c.probe.new.self c.probe.ensures.kind)) c.requires.linked
+pub climb_found-requires-clause-may : goal.climb_found-requires-clause-may
+climb_found-requires-clause-may c =
+    may-found c.args.cells.now c.args.place c.index-cells-place.result c.probe.new.self c.new-found.result c.probe.new.rows c.in-Ok-Some._ticket c.requires.there c.new-found.ensures
+    (subst (WorkProbes (slice_index_or c.args.cells.now c.args.place c.index-cells-place.result).work c.probe.new.self c.new-found.result c.probe.new.rows) c.in-Ok-Some.field-0-is c.in-Ok-Some.ensures.ok)
+    c.probe.ensures.kind c.requires.linked c.requires.orderly c.in-Ok-Some.ensures.orderly
 
 pub returns-in-Ok-clause-ok : goal.returns-in-Ok-clause-ok
 returns-in-Ok-clause-ok c =

@@ -1,10 +1,10 @@
-use Rattle.std.proofs.Common.{subst, sym, ◌∙◌}
-use Rattle.pj_operator.specs.Cells.{AreLinked}
-use Rattle.pj_operator.proofs.Changes.{frames-cell, opens-cell, opens-then}
+use Rattle.std.proofs.Common.{◌∙◌}
+use Rattle.pj_operator.proofs.Changes.{frames-cell, may-swept, opens-cell, opens-then}
 use Rattle.pj_operator.proofs.act.sweep_on.Goals as goal
 
-pub climb_puncts-requires-clause-linked : goal.climb_puncts-requires-clause-linked
-climb_puncts-requires-clause-linked c = subst AreLinked (sym (frames-cell c.args.cells.now c.args.place c.index-cells-place.result c.sweep.new.self c.sweep.ensures.frame)) c.requires.linked
+pub climb_puncts-requires-clause-may : goal.climb_puncts-requires-clause-may
+climb_puncts-requires-clause-may c =
+    may-swept c.args.cells.now c.args.place c.index-cells-place.result c.sweep.new.self c.args.input _ c.requires.there c.in-Ok.ensures.ok c.sweep.ensures.frame c.in-Ok.ensures.open c.requires.linked c.requires.orderly
 
 pub returns-in-Ok-climb_puncts-clause-frames : goal.returns-in-Ok-climb_puncts-clause-frames
 returns-in-Ok-climb_puncts-clause-frames c = c.climb_puncts.ensures.stays.frames ∙ frames-cell c.args.cells.now c.args.place c.index-cells-place.result c.sweep.new.self c.sweep.ensures.frame

@@ -2,13 +2,14 @@ use Rattle.std.proofs.Common.{[], ◌∷◌, List, ap, subst, sym, ◌∙◌}
 use Rattle.std.specs.Vec.Iter.{into_iter_items}
 use Rattle.pj_pattern.specs.declared.element.Element.{Element}
 use Rattle.pj_events.specs.Outcomes.{elements_out}
-use Rattle.pj_operator.specs.Cells.{AreLinked}
-use Rattle.pj_operator.proofs.Climbs.{Rose, rose-none, rose-stop-these, rose-these}
+use Rattle.pj_operator.proofs.Climbs.{Rose, may-rose, rose-none, rose-stop-these, rose-these}
 use Rattle.pj_laws.proofs.Steps.{elements-append}
 use Rattle.pj_operator.proofs.climb.climb_found.Goals as goal
 
-pub climb_out-requires-clause-linked : goal.climb_out-requires-clause-linked
-climb_out-requires-clause-linked c = subst AreLinked (sym c.loop-out.invariant.stays.frames) c.requires.linked
+pub climb_out-requires-clause-may : goal.climb_out-requires-clause-may
+climb_out-requires-clause-may c =
+    may-rose _ _ c.args.from (elements_out c.loop-out.yielded) (elements_out (c.in-Some.out ∷ [])) _ _ _ c.requires.may c.loop-out.invariant
+    (ap elements_out c.in-Some.ensures.steps.0 ∙ elements-append (c.in-Some.out ∷ []) (into_iter_items c.next.new.self))
 
 pub loop-out-init : goal.loop-out-init
 loop-out-init c = rose-none _ c.args.from _ _ (cc)

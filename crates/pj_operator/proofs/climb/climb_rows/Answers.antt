@@ -3,12 +3,12 @@ use Rattle.std.proofs.lemmas.List.{map-append}
 use Rattle.std.specs.Vec.Iter.{into_iter_items}
 use Rattle.pj_pattern.specs.declared.element.Element.{Element}
 use Rattle.pj_pattern.specs.declared.element.Element.TheVariants.{Tuple}
-use Rattle.pj_operator.specs.Cells.{AreLinked}
-use Rattle.pj_operator.proofs.Climbs.{Rose, rose-none, rose-stop, rose-then}
+use Rattle.pj_operator.proofs.Climbs.{Rose, may-rose, rose-none, rose-stop, rose-then}
 use Rattle.pj_operator.proofs.climb.climb_rows.Goals as goal
 
-pub climb-requires-clause-linked : goal.climb-requires-clause-linked
-climb-requires-clause-linked c = subst AreLinked (sym c.loop-row.invariant.stays.frames) c.requires.linked
+pub climb-requires-clause-may : goal.climb-requires-clause-may
+climb-requires-clause-may c =
+    may-rose _ _ c.args.from (map Tuple c.loop-row.yielded) (Tuple c.in-Some.row ∷ []) _ _ _ c.requires.may c.loop-row.invariant (ap (map Tuple) c.in-Some.ensures.steps.0)
 
 pub loop-row-init : goal.loop-row-init
 loop-row-init c = rose-none _ c.args.from _ _ (cc)

@@ -3,7 +3,7 @@ use Rattle.std.proofs.lemmas.List.{places, with_items_is}
 use Rattle.pj_core.specs.Calls.{IsCause, arriving_of}
 use Rattle.pj_core.specs.Plans.{run_plan}
 use Rattle.pj_events.specs.declared.events.Event.TheVariants.{Arrive}
-use Rattle.pj_core.proofs.Words.{arrival-cause, arrived-now, below-cells, linked-cells, refused-again, refused-now}
+use Rattle.pj_core.proofs.Words.{arrival-cause, arrived-now, below-cells, may-arrive, refused-again, refused-now}
 use Rattle.pj_core.proofs.running.Core.arrive.Goals as goal
 
 pub lift-requires-clause-there : goal.lift-requires-clause-there
@@ -11,10 +11,10 @@ lift-requires-clause-there c =
     below-cells (run_plan c.self.inside.plan.nodes c.self.inside.certs c.self.inside.trace) c.self.inside.limit c.self.inside.cells.items (reverse c.self.inside.closed) c.self.inside.halted c.self.inside.undrained c.self.inside.stop c.args.self.now c.self.view_is c.self.invariant
     c.number_of-from.result c.number_of-from.ensures.there c.as_mut_slice.result.now c.as_mut_slice.ensures.value
 
-pub lift-requires-clause-linked : goal.lift-requires-clause-linked
-lift-requires-clause-linked c =
-    linked-cells (run_plan c.self.inside.plan.nodes c.self.inside.certs c.self.inside.trace) c.self.inside.limit c.self.inside.cells.items (reverse c.self.inside.closed) c.self.inside.halted c.self.inside.undrained c.self.inside.stop c.args.self.now c.self.view_is c.self.invariant
-    c.as_mut_slice.result.now c.as_mut_slice.ensures.value
+pub lift-requires-clause-may : goal.lift-requires-clause-may
+lift-requires-clause-may c =
+    may-arrive (run_plan c.self.inside.plan.nodes c.self.inside.certs c.self.inside.trace) c.self.inside.limit c.self.inside.cells.items (reverse c.self.inside.closed) c.self.inside.halted c.self.inside.undrained c.self.inside.stop c.args.self.now c.self.view_is c.self.invariant
+    c.as_mut_slice.result.now c.number_of-from.result c.args.stream c.args.element c.as_mut_slice.ensures.value c.number_of-from.ensures.is c.requires.there c.requires.fits
 
 pub returns-in-Some-clause-err : goal.returns-in-Some-clause-err
 returns-in-Some-clause-err c =

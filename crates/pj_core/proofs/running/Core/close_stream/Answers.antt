@@ -4,7 +4,7 @@ use Rattle.pj_events.specs.declared.events.Event.TheVariants.{Arrive}
 use Rattle.pj_core.specs.Calls.{IsCause, closing_of}
 use Rattle.pj_core.specs.Parts.{closing_in}
 use Rattle.pj_core.specs.Plans.{run_plan}
-use Rattle.pj_core.proofs.Words.{arrival-cause, closed-now, linked-cells, long-cells, refused-again, refused-now, streams-here}
+use Rattle.pj_core.proofs.Words.{arrival-cause, closed-now, long-cells, may-close, refused-again, refused-now, streams-here}
 use Rattle.pj_core.proofs.running.Core.close_stream.Goals as goal
 
 pub close-requires-clause-there : goal.close-requires-clause-there
@@ -13,8 +13,8 @@ close-requires-clause-there c = streams-here (run_plan c.self.inside.plan.nodes 
 pub close-requires-clause-long : goal.close-requires-clause-long
 close-requires-clause-long c = long-cells (run_plan c.self.inside.plan.nodes c.self.inside.certs c.self.inside.trace) c.self.inside.limit c.self.inside.cells.items (reverse c.self.inside.closed) c.self.inside.halted c.self.inside.undrained c.self.inside.stop c.args.self.now c.self.view_is c.self.invariant c.as_mut_slice.result.now c.as_mut_slice.ensures.value
 
-pub close-requires-clause-linked : goal.close-requires-clause-linked
-close-requires-clause-linked c = linked-cells (run_plan c.self.inside.plan.nodes c.self.inside.certs c.self.inside.trace) c.self.inside.limit c.self.inside.cells.items (reverse c.self.inside.closed) c.self.inside.halted c.self.inside.undrained c.self.inside.stop c.args.self.now c.self.view_is c.self.invariant c.as_mut_slice.result.now c.as_mut_slice.ensures.value
+pub close-requires-clause-may : goal.close-requires-clause-may
+close-requires-clause-may c = may-close (run_plan c.self.inside.plan.nodes c.self.inside.certs c.self.inside.trace) c.self.inside.limit c.self.inside.cells.items (reverse c.self.inside.closed) c.self.inside.halted c.self.inside.undrained c.self.inside.stop c.args.self.now c.self.view_is c.self.invariant c.as_mut_slice.result.now c.args.stream c.as_mut_slice.ensures.value c.requires.there
 
 pub returns-in-Some-clause-err : goal.returns-in-Some-clause-err
 returns-in-Some-clause-err c = refused-again (run_plan c.self.inside.plan.nodes c.self.inside.certs c.self.inside.trace) c.self.inside.limit c.self.inside.cells.items (reverse c.self.inside.closed) c.self.inside.halted c.self.inside.undrained c.self.inside.stop c.args.self.now c.self.view_is c.self.invariant c.in-Some.stop _ c.in-Some.is

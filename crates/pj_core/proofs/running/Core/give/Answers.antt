@@ -4,7 +4,7 @@ use Rattle.pj_core.specs.Plans.{run_plan}
 use Rattle.pj_operator.specs.Acts.{HasGivenOn, IsGiveStop}
 use Rattle.pj_core.specs.Calls.{HasGiven, IsGiveCause}
 use Rattle.pj_core.proofs.Calls.{given-cause, given-core}
-use Rattle.pj_core.proofs.Words.{holds-now, linked-cells, made-now, on-now, open-parts, refused-again, refused-now}
+use Rattle.pj_core.proofs.Words.{holds-now, made-now, may-give, on-now, open-parts, refused-again, refused-now}
 use Rattle.pj_core.proofs.running.Core.give.Goals as goal
 
 pub give_found-requires-clause-there : goal.give_found-requires-clause-there
@@ -13,8 +13,10 @@ give_found-requires-clause-there c = (open-parts (run_plan c.self.inside.plan.no
 pub give_found-requires-clause-open : goal.give_found-requires-clause-open
 give_found-requires-clause-open c = (open-parts (run_plan c.self.inside.plan.nodes c.self.inside.certs c.self.inside.trace) c.self.inside.limit c.self.inside.cells.items (reverse c.self.inside.closed) c.self.inside.halted c.self.inside.undrained c.self.inside.stop c.args.self.now c.self.view_is c.self.invariant c.args.probe (c.requires.open (on-now (run_plan c.self.inside.plan.nodes c.self.inside.certs c.self.inside.trace) c.self.inside.limit c.self.inside.cells.items (reverse c.self.inside.closed) c.self.inside.halted c.self.inside.undrained c.self.inside.stop c.args.self.now c.self.view_is c.self.invariant c.in-None.is)) c.as_mut_slice.result.now c.as_mut_slice.ensures.value).1
 
-pub give_found-requires-clause-linked : goal.give_found-requires-clause-linked
-give_found-requires-clause-linked c = linked-cells (run_plan c.self.inside.plan.nodes c.self.inside.certs c.self.inside.trace) c.self.inside.limit c.self.inside.cells.items (reverse c.self.inside.closed) c.self.inside.halted c.self.inside.undrained c.self.inside.stop c.args.self.now c.self.view_is c.self.invariant c.as_mut_slice.result.now c.as_mut_slice.ensures.value
+pub give_found-requires-clause-may : goal.give_found-requires-clause-may
+give_found-requires-clause-may c =
+    let on = on-now (run_plan c.self.inside.plan.nodes c.self.inside.certs c.self.inside.trace) c.self.inside.limit c.self.inside.cells.items (reverse c.self.inside.closed) c.self.inside.halted c.self.inside.undrained c.self.inside.stop c.args.self.now c.self.view_is c.self.invariant c.in-None.is in
+    may-give (run_plan c.self.inside.plan.nodes c.self.inside.certs c.self.inside.trace) c.self.inside.limit c.self.inside.cells.items (reverse c.self.inside.closed) c.self.inside.halted c.self.inside.undrained c.self.inside.stop c.args.self.now c.self.view_is c.self.invariant c.as_mut_slice.result.now c.args.probe c.args.found.rows c.as_mut_slice.ensures.value (c.requires.open on) (c.requires.fits on)
 
 pub returns-in-Some-clause-err : goal.returns-in-Some-clause-err
 returns-in-Some-clause-err c = refused-again (run_plan c.self.inside.plan.nodes c.self.inside.certs c.self.inside.trace) c.self.inside.limit c.self.inside.cells.items (reverse c.self.inside.closed) c.self.inside.halted c.self.inside.undrained c.self.inside.stop c.args.self.now c.self.view_is c.self.invariant c.in-Some.stop _ c.in-Some.is

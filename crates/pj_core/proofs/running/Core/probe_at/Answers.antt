@@ -4,11 +4,14 @@ use Rattle.pj_core.specs.Plans.{run_plan}
 use Rattle.pj_operator.specs.Acts.{IsProbeStop, ProbesOn}
 use Rattle.pj_core.specs.Turns.{MayProbeAt}
 use Rattle.pj_core.proofs.Probes.{may-probe, probe-stops-now}
-use Rattle.pj_core.proofs.Words.{holds-now, linked-cells, stop-none}
+use Rattle.pj_core.proofs.Words.{holds-now, linked-cells, orderly-cells, stop-none}
 use Rattle.pj_core.proofs.running.Core.probe_at.Goals as goal
 
-pub probe_on-requires : goal.probe_on-requires
-probe_on-requires c = linked-cells (run_plan c.self.inside.plan.nodes c.self.inside.certs c.self.inside.trace) c.self.inside.limit c.self.inside.cells.items (reverse c.self.inside.closed) c.self.inside.halted c.self.inside.undrained c.self.inside.stop c.args.self.now c.self.view_is c.self.invariant c.as_mut_slice.result.now c.as_mut_slice.ensures.value
+pub probe_on-requires-clause-orderly : goal.probe_on-requires-clause-orderly
+probe_on-requires-clause-orderly c = orderly-cells (run_plan c.self.inside.plan.nodes c.self.inside.certs c.self.inside.trace) c.self.inside.limit c.self.inside.cells.items (reverse c.self.inside.closed) c.self.inside.halted c.self.inside.undrained c.self.inside.stop c.args.self.now c.self.view_is c.self.invariant c.as_mut_slice.result.now c.as_mut_slice.ensures.value
+
+pub probe_on-requires-clause-linked : goal.probe_on-requires-clause-linked
+probe_on-requires-clause-linked c = linked-cells (run_plan c.self.inside.plan.nodes c.self.inside.certs c.self.inside.trace) c.self.inside.limit c.self.inside.cells.items (reverse c.self.inside.closed) c.self.inside.halted c.self.inside.undrained c.self.inside.stop c.args.self.now c.self.view_is c.self.invariant c.as_mut_slice.result.now c.as_mut_slice.ensures.value
 
 pub returns-in-Ok-clause-ok : goal.returns-in-Ok-clause-ok
 returns-in-Ok-clause-ok c =

@@ -6,7 +6,7 @@ use Rattle.pj_operator.specs.Acts.{HasJoinInput, HasSweptAt, IsSweepStop}
 use Rattle.pj_core.specs.Calls.{HasSwept, IsCause, IsJoinInput}
 use Rattle.pj_operator.specs.Cells.{cell_at}
 use Rattle.pj_core.proofs.Calls.{input-there, swept-cause, swept-core}
-use Rattle.pj_core.proofs.Words.{holds-now, linked-cells, made-now, of-parts, stop-none, stopped-now}
+use Rattle.pj_core.proofs.Words.{holds-now, linked-cells, made-now, of-parts, orderly-cells, stop-none, stopped-now}
 use Rattle.pj_core.proofs.running.Core.sweep_one.Goals as goal
 
 pub sweep_at-requires-clause-there : goal.sweep_at-requires-clause-there
@@ -21,6 +21,9 @@ sweep_at-requires-clause-input c =
 
 pub sweep_at-requires-clause-linked : goal.sweep_at-requires-clause-linked
 sweep_at-requires-clause-linked c = linked-cells (run_plan c.self.inside.plan.nodes c.self.inside.certs c.self.inside.trace) c.self.inside.limit c.self.inside.cells.items (reverse c.self.inside.closed) c.self.inside.halted c.self.inside.undrained c.self.inside.stop c.args.self.now c.self.view_is c.self.invariant c.as_mut_slice.result.now c.as_mut_slice.ensures.value
+
+pub sweep_at-requires-clause-orderly : goal.sweep_at-requires-clause-orderly
+sweep_at-requires-clause-orderly c = orderly-cells (run_plan c.self.inside.plan.nodes c.self.inside.certs c.self.inside.trace) c.self.inside.limit c.self.inside.cells.items (reverse c.self.inside.closed) c.self.inside.halted c.self.inside.undrained c.self.inside.stop c.args.self.now c.self.view_is c.self.invariant c.as_mut_slice.result.now c.as_mut_slice.ensures.value
 
 pub invariant_of-self : goal.invariant_of-self
 invariant_of-self c =
