@@ -1,8 +1,8 @@
 -- One punctuation more among those of one constant and the others, and the first that covers some cells.
-use Rattle.std.proofs.Common.{◌≡◌, ◌⊎◌, ℕ, zero, suc, ◌<◌, ◌≤◌, Bool, true, false, cond, ◌&&◌, ◌||◌, List, [], ◌∷◌, ◌++◌, Option, Some, None, IfSome, inl, inr, length, map, filter, take, eqb, ltb, refl, ap, ap₂, sym, ◌∙◌, subst, arith, append_assoc}
+use Rattle.std.proofs.Common.{◌≡◌, ◌⊎◌, ℕ, zero, suc, ◌<◌, Bool, true, false, cond, ◌&&◌, ◌||◌, List, [], ◌∷◌, ◌++◌, Option, Some, None, IfSome, inl, inr, length, map, filter, take, eqb, ltb, refl, ap, ap₂, sym, ◌∙◌, subst, arith, append_assoc}
 use Rattle.std.specs.List.{list_any, slice_get}
 use Rattle.std.specs.Map.{lookup, set_value}
-use Rattle.std.proofs.lemmas.Bool.{and_parts, eq-eqb, eqb-true, false_from_ne_true, false≢true, lt-ltb, ltb-false, ltb-true}
+use Rattle.std.proofs.lemmas.Bool.{and_parts, eq-eqb, eqb-true, false≢true, lt-ltb, ltb-true}
 use Rattle.indexmap.specs.IndexMap.{insert_entry}
 use Rattle.pj_value.specs.Lists.{In}
 use Rattle.pj_value.specs.declared.values.Value.{Value}
@@ -307,15 +307,6 @@ below_left (Some n) (Some m) below t = go (ltb m n) refl
     go : (b : Bool) → ltb m n ≡ b → is_below (cond b (Some m) (Some n)) below ≡ true
     go true e = let l : m < n = ltb-true m n e in let r : n < below = ltb-true n below t in lt-ltb m below (omega (arith, l, r))
     go false e = t
-
-pub below_right : (a b : Option ℕ) (below : ℕ) → is_below a below ≡ false → is_below (least a b) below ≡ is_below b below
-below_right None b below f = refl
-below_right (Some n) None below f = f
-below_right (Some n) (Some m) below f = go (ltb m n) refl
-  where
-    go : (b : Bool) → ltb m n ≡ b → is_below (cond b (Some m) (Some n)) below ≡ is_below (Some m) below
-    go true e = refl
-    go false e = let l : n ≤ m = ltb-false m n e in let r : below ≤ n = ltb-false n below f in f ∙ sym (false_from_ne_true (ltb m below) (λ t. let lt : m < below = ltb-true m below t in omega (arith, lt, l, r)))
 
 -- ---- what is kept, with one more
 

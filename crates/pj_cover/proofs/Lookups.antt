@@ -1,6 +1,7 @@
 -- What the lists of an index lead to is the first punctuation that covers the cells.
 use Rattle.std.proofs.Common.{◌≡◌, ℕ, zero, suc, ◌+◌, ◌<◌, ◌≤◌, Bool, true, false, cond, ◌&&◌, ◌||◌, List, [], ◌∷◌, Option, Some, None, IfSome, inl, inr, length, refl, ap, sym, ◌∙◌, subst, ltb, arith}
 use Rattle.std.specs.List.{slice_get}
+use Rattle.std.specs.Option.{is_some}
 use Rattle.std.proofs.lemmas.Bool.{false_from_ne_true, lt-ltb, ltb-false, ltb-true}
 use Rattle.pj_value.specs.Lists.{In}
 use Rattle.pj_value.specs.declared.values.Value.{Value}
@@ -9,7 +10,7 @@ use Rattle.pj_cover.specs.declared.store.NumberedPunct.{NumberedPunct}
 use Rattle.pj_cover.specs.declared.index.Chain.{Chain}
 use Rattle.pj_cover.specs.declared.index.ConstantSet.{ConstantSet}
 use Rattle.pj_cover.specs.declared.index.Index.{Index}
-use Rattle.pj_cover.specs.Stores.{AllAbove, AreRising, covered_below, first_match_of}
+use Rattle.pj_cover.specs.Stores.{AllAbove, AreRising, TellsCover, covered_below, covered_by_any, first_match_of}
 use Rattle.pj_cover.specs.Prints.{row_cells}
 use Rattle.pj_cover.specs.Indexed.{IsCovering, AreChained, ArePlaces, IsAtLeastAt, IsIndexed, InChains, InSets, first_at, first_covering, first_of, is_below, least, least_of, least_of_chains, least_of_sets, number_at, number_in, number_under, slot}
 use Rattle.pj_cover.proofs.Cellwise.{row_covered}
@@ -281,6 +282,42 @@ covered_at_once kept cells below (Some n) rises h t =
     go : (o : Option ℕ) → IsUpTo o n → is_below o below ≡ true
     go None u = absurd u
     go (Some m) u = let lt : n < below = ltb-true n below t in lt-ltb m below (omega (arith, lt, u))
+
+any-below : (kept : List NumberedPunct) (below : ℕ) (cells : List (Option Value)) → covered_below kept below cells ≡ true → covered_by_any kept cells ≡ true
+any-below [] below cells t = t
+any-below (k ∷ ks) below cells t = go (ltb k.number below) (covers k.punct cells) t (any-below ks below cells)
+  where
+    go : (a b : Bool) → ((a && b) || covered_below ks below cells) ≡ true → (covered_below ks below cells ≡ true → covered_by_any ks cells ≡ true) → (b || covered_by_any ks cells) ≡ true
+    go true true h ih = refl
+    go true false h ih = ih h
+    go false true h ih = refl
+    go false false h ih = ih h
+
+first-any : (kept : List NumberedPunct) (cells : List (Option Value)) → is_some (first_covering kept cells) ≡ covered_by_any kept cells
+first-any [] cells = refl
+first-any (k ∷ ks) cells = go (covers k.punct cells) (first-any ks cells)
+  where
+    go : (b : Bool) → is_some (first_covering ks cells) ≡ covered_by_any ks cells → is_some (cond b (Some k.number) (first_covering ks cells)) ≡ (b || covered_by_any ks cells)
+    go true ih = refl
+    go false ih = ih
+
+-- the first number tells it
+pub first_tells : (kept : List NumberedPunct) (cells : List (Option Value)) (below : ℕ) → AreRising kept → TellsCover kept below cells (first_covering kept cells)
+first_tells kept cells below rises = go (first_covering kept cells) (first-any kept cells) (first_below kept cells below rises)
+  where
+    go : (o : Option ℕ) → is_some o ≡ covered_by_any kept cells → is_below o below ≡ covered_below kept below cells → TellsCover kept below cells o
+    go None a b = sym a
+    go (Some n) a b = (sym a, b)
+
+-- a number below the bound tells it where one below the bound covers the cells
+pub below_tells : (kept : List NumberedPunct) (cells : List (Option Value)) (below : ℕ) (o : Option ℕ) → is_below o below ≡ true → covered_below kept below cells ≡ true → TellsCover kept below cells o
+below_tells kept cells below None t c = absurd (cc)
+below_tells kept cells below (Some n) t c = (any-below kept below cells c, t ∙ sym c)
+
+-- what is told of a bound
+pub told_below : (kept : List NumberedPunct) (cells : List (Option Value)) (below : ℕ) (o : Option ℕ) → TellsCover kept below cells o → is_below o below ≡ covered_below kept below cells
+told_below kept cells below (Some n) t = t.1
+told_below kept cells below None t = sym (false_from_ne_true (covered_below kept below cells) (λ c. let any : covered_by_any kept cells ≡ true = any-below kept below cells c in cc))
 
 -- what a set leads to covers the cells
 pub under_covers : (kept : List NumberedPunct) (cells : List (Option Value)) (at o : Option ℕ) → o ≡ number_under kept cells at → IfSome o (IsCovering kept cells)

@@ -13,13 +13,15 @@ use Rattle.pj_value.specs.Options.{is_value}
 use Rattle.pj_shape.specs.declared.joins.JoinSpec.{JoinSpec}
 use Rattle.pj_shape.specs.Joining.{values_in}
 use Rattle.pj_shape.specs.Sound.{IsSoundSpec, arities_of}
-use Rattle.pj_events.specs.Join.{In, TupleAt, ClassCol, CertEntry, CertStep, agree, entry_of, no_value, part_of, value_at, values}
+use Rattle.pj_events.specs.Join.{In, TupleAt, ClassCol, CertEntry, CertStep, agree, no_value, part_of, value_at, values}
 use Rattle.pj_join_laws.proofs.Matching.{agree-at, value-in}
-use Rattle.pj_cover.specs.declared.rows.Uncovered.{Uncovered}
+use Rattle.pj_cover.specs.declared.ripeness.Verdict.{Verdict}
+use Rattle.pj_cover.specs.declared.ripeness.Verdict.TheVariants.{Ripe}
 use Rattle.pj_cover.specs.Stores.{Store}
 use Rattle.pj_cover.specs.Rising.{AreAbove, AreRisingRows, has_there_value, row_with, ticket_in, tickets_with}
-use Rattle.pj_cover.specs.Asking.{Known, AreDoneUnder, AreParts, IsOnWalk, ClassTells, HaveLength, HavePartners, IsJudgedThrough, IsJudgedUnder, IsJudgedWith, IsPartnerKey, MayStand, all_covered, entries, first_there, or_else, there, tuple_of}
+use Rattle.pj_cover.specs.Asking.{Known, AreDone, AreDoneUnder, AreParts, IsOnWalk, ClassTells, HaveLength, HavePartners, IsDone, IsJudgedThrough, IsJudgedUnder, IsJudgedWith, IsPartnerKey, first_there, or_else, says_ripe, there, tuple_of}
 use Rattle.pj_cover.proofs.Bound.{class-cells, there-values}
+use Rattle.pj_cover.proofs.Judged.{says_more, says_yes}
 use Rattle.pj_cover.proofs.Steps.{drop_here, length-map}
 
 pub told_by_class : (classes : List (List ClassCol)) (xs : List TupleAt) (class : List ClassCol) (i input column : ℕ) (value : Value) → i < length classes → class ≡ get_or classes i class → ClassTells class xs input column value
@@ -121,61 +123,42 @@ found_in ticket row (q ∷ rows) e = go (eqb q.0 ticket) refl e (found_in ticket
 
 -- ---- what was judged through rows under tickets
 
-under-none : (k : Known) (cert : List CertEntry) (at : ℕ) (xs : List TupleAt) (input ticket : ℕ) (rows : List (ℕ × List Value)) (e : CertEntry) → row_with ticket rows ≡ None
-    → IsJudgedUnder k (e ∷ cert) at xs (map (tuple_of input) rows) (ticket ∷ []) None
-under-none k cert at xs input ticket rows e none = λ y h n m. elim n [
+pub no_row_under : (k : Known) (cert : List CertEntry) (xs : List TupleAt) (input ticket : ℕ) (rows : List (ℕ × List Value)) → row_with ticket rows ≡ None → IsJudgedUnder k cert xs (map (tuple_of input) rows) (ticket ∷ []) Ripe
+no_row_under k cert xs input ticket rows none = λ y h n. elim n [
   | inl is ↦ let r = In-map (tuple_of input) y rows h in absurd (no-such ticket rows none r.0 r.1 (ap (λ (z : TupleAt). z.ticket) r.2 ∙ sym is))
   | inr n' ↦ absurd n'
 ]
 
-pub no_row_under : (k : Known) (schemes : List (List (List Bool))) (cert : List CertStep) (at : ℕ) (step : CertStep) (xs : List TupleAt) (ticket : ℕ) (rows : List (ℕ × List Value)) → slice_get cert at ≡ Some step → row_with ticket rows ≡ None
-    → IsJudgedUnder k (entries schemes (drop at cert)) at xs (map (tuple_of step.input) rows) (ticket ∷ []) None
-no_row_under k schemes cert at step xs ticket rows here none =
-    subst (λ (steps : List CertStep). IsJudgedUnder k (entries schemes steps) at xs (map (tuple_of step.input) rows) (ticket ∷ []) None) (sym (drop_here cert at step here))
-    (under-none k (entries schemes (drop (at + 1) cert)) at xs step.input ticket rows (entry_of schemes step) none)
-
-under-one : (k : Known) (cert : List CertEntry) (at : ℕ) (xs : List TupleAt) (input ticket : ℕ) (row : List Value) (rows : List (ℕ × List Value)) (e : CertEntry) (o : Option Uncovered) → AreRisingRows rows → row_with ticket rows ≡ Some row
-    → IsJudgedWith k (e ∷ cert) at xs (tuple_of input (ticket, row)) o → IsJudgedUnder k (e ∷ cert) at xs (map (tuple_of input) rows) (ticket ∷ []) o
-under-one k cert at xs input ticket row rows e (Some u) rises is j = j
-under-one k cert at xs input ticket row rows e None rises is j = λ y h n m. elim n [
-  | inl same ↦
-      let r = In-map (tuple_of input) y rows h in
-      let one : r.0 ≡ (ticket, row) = the-one ticket row rows rises is r.0 r.1 (ap (λ (z : TupleAt). z.ticket) r.2 ∙ sym same) in
-      let it : tuple_of input (ticket, row) ≡ y = ap (tuple_of input) (sym one) ∙ r.2 in
-      subst (λ (z : TupleAt). MayStand k e xs z → all_covered k cert (z ∷ xs) ≡ true) it j m
-  | inr n' ↦ absurd n'
-]
-
-pub row_under_judged : (k : Known) (schemes : List (List (List Bool))) (cert : List CertStep) (at : ℕ) (step : CertStep) (xs : List TupleAt) (ticket : ℕ) (row : List Value) (rows : List (ℕ × List Value)) (o : Option Uncovered)
-    → slice_get cert at ≡ Some step → AreRisingRows rows → row_with ticket rows ≡ Some row
-    → IsJudgedWith k (entries schemes (drop at cert)) at xs (tuple_of step.input (ticket, row)) o → IsJudgedUnder k (entries schemes (drop at cert)) at xs (map (tuple_of step.input) rows) (ticket ∷ []) o
-row_under_judged k schemes cert at step xs ticket row rows o here rises is j =
-    subst (λ (steps : List CertStep). IsJudgedUnder k (entries schemes steps) at xs (map (tuple_of step.input) rows) (ticket ∷ []) o) (sym (drop_here cert at step here))
-    (under-one k (entries schemes (drop (at + 1) cert)) at xs step.input ticket row rows (entry_of schemes step) o rises is
-    (subst (λ (steps : List CertStep). IsJudgedWith k (entries schemes steps) at xs (tuple_of step.input (ticket, row)) o) (drop_here cert at step here) j))
-
--- no ticket yet
-pub none_under : (k : Known) (schemes : List (List (List Bool))) (cert : List CertStep) (at : ℕ) (step : CertStep) (xs ys : List TupleAt) → slice_get cert at ≡ Some step → AreDoneUnder k (entries schemes (drop at cert)) xs ys []
-none_under k schemes cert at step xs ys here = subst (λ (steps : List CertStep). AreDoneUnder k (entries schemes steps) xs ys []) (sym (drop_here cert at step here)) (λ y h n m. absurd n)
+pub row_under_judged : (k : Known) (cert : List CertEntry) (xs : List TupleAt) (input ticket : ℕ) (row : List Value) (rows : List (ℕ × List Value)) (v : Verdict) → AreRisingRows rows → row_with ticket rows ≡ Some row
+    → IsJudgedWith k cert xs (tuple_of input (ticket, row)) v → IsJudgedUnder k cert xs (map (tuple_of input) rows) (ticket ∷ []) v
+row_under_judged k cert xs input ticket row rows v rises is j =
+    says_more (IsDone k cert xs (tuple_of input (ticket, row))) (AreDoneUnder k cert xs (map (tuple_of input) rows) (ticket ∷ [])) k cert xs v
+    (λ done y h n. elim n [
+      | inl same ↦
+          let r = In-map (tuple_of input) y rows h in
+          let one : r.0 ≡ (ticket, row) = the-one ticket row rows rises is r.0 r.1 (ap (λ (z : TupleAt). z.ticket) r.2 ∙ sym same) in
+          let it : tuple_of input (ticket, row) ≡ y = ap (tuple_of input) (sym one) ∙ r.2 in
+          subst (λ (z : TupleAt). IsDone k cert xs z) it done
+      | inr n' ↦ absurd n'
+    ]) j
 
 under-more : (k : Known) (cert : List CertEntry) (xs ys : List TupleAt) (before : List ℕ) (ticket : ℕ) → AreDoneUnder k cert xs ys before → AreDoneUnder k cert xs ys (ticket ∷ []) → AreDoneUnder k cert xs ys (before ++ ticket ∷ [])
-under-more k [] xs ys before ticket a b = a
-under-more k (e ∷ cert) xs ys before ticket a b = λ y h n m. elim (In-append_cases y.ticket before (ticket ∷ []) n) [ inl q ↦ a y h q m | inr q ↦ b y h q m ]
+under-more k cert xs ys before ticket a b = λ y h n. elim (In-append_cases y.ticket before (ticket ∷ []) n) [ inl q ↦ a y h q | inr q ↦ b y h q ]
 
 -- one ticket more
-pub one_more_under : (k : Known) (cert : List CertEntry) (at : ℕ) (xs zs ys : List TupleAt) (tickets : List ℕ) (n ticket : ℕ) (o : Option Uncovered) → slice_get tickets n ≡ Some ticket → zs ≡ xs → AreDoneUnder k cert xs ys (take n tickets)
-    → IsJudgedUnder k cert at zs ys (ticket ∷ []) o → o ≡ None → AreDoneUnder k cert xs ys (take (n + 1) tickets)
-one_more_under k cert at xs zs ys tickets n ticket o here same done j none =
+pub one_more_under : (k : Known) (cert : List CertEntry) (xs zs ys : List TupleAt) (tickets : List ℕ) (n ticket : ℕ) (v : Verdict) → slice_get tickets n ≡ Some ticket → zs ≡ xs → AreDoneUnder k cert xs ys (take n tickets)
+    → IsJudgedUnder k cert zs ys (ticket ∷ []) v → says_ripe v ≡ true → AreDoneUnder k cert xs ys (take (n + 1) tickets)
+one_more_under k cert xs zs ys tickets n ticket v here same done j holds =
     let now : AreDoneUnder k cert xs ys (ticket ∷ []) =
-    subst (λ (ws : List TupleAt). AreDoneUnder k cert ws ys (ticket ∷ [])) same (subst (λ (p : Option Uncovered). IsJudgedUnder k cert at zs ys (ticket ∷ []) p) none j) in
+    subst (λ (ws : List TupleAt). AreDoneUnder k cert ws ys (ticket ∷ [])) same (says_yes (AreDoneUnder k cert zs ys (ticket ∷ [])) k cert zs v holds j) in
     subst (λ (ts : List ℕ). AreDoneUnder k cert xs ys ts) (sym (take_more tickets n ticket (slice_get_within tickets n ticket here) ∙ ap (λ t. take n tickets ++ t ∷ []) (get_or_from_slice_get tickets n ticket ticket here)))
     (under-more k cert xs ys (take n tickets) ticket done now)
 
-under-whole : (k : Known) (cert : List CertEntry) (at : ℕ) (xs ys : List TupleAt) (tickets : List ℕ) (o : Option Uncovered) → HavePartners k.classes xs ys tickets → IsJudgedUnder k cert at xs ys tickets o → IsJudgedThrough k cert at xs ys o
-under-whole k cert at xs ys tickets (Some u) have j = j
-under-whole k [] at xs ys tickets None have j = j
-under-whole k (e ∷ cert) at xs ys tickets None have j = λ y h m. j y h (have y h m.joins) m
+under-whole : (k : Known) (cert : List CertEntry) (xs ys : List TupleAt) (tickets : List ℕ) → HavePartners k.classes xs ys tickets → AreDoneUnder k cert xs ys tickets → AreDone k cert xs ys
+under-whole k [] xs ys tickets have done = λ y h. tt
+under-whole k (e ∷ cert) xs ys tickets have done = λ y h m. done y h (have y h m.joins) m
 
 -- those with these tickets are all that join
-pub whole_under : (k : Known) (cert : List CertEntry) (at : ℕ) (xs zs ys : List TupleAt) (tickets : List ℕ) (o : Option Uncovered) → zs ≡ xs → HavePartners k.classes zs ys tickets → IsJudgedUnder k cert at xs ys tickets o → IsJudgedThrough k cert at xs ys o
-whole_under k cert at xs zs ys tickets o same have j = under-whole k cert at xs ys tickets o (subst (λ (ws : List TupleAt). HavePartners k.classes ws ys tickets) same have) j
+pub whole_under : (k : Known) (cert : List CertEntry) (xs zs ys : List TupleAt) (tickets : List ℕ) (v : Verdict) → zs ≡ xs → HavePartners k.classes zs ys tickets → IsJudgedUnder k cert xs ys tickets v → IsJudgedThrough k cert xs ys v
+whole_under k cert xs zs ys tickets v same have j =
+    says_more (AreDoneUnder k cert xs ys tickets) (AreDone k cert xs ys) k cert xs v (under-whole k cert xs ys tickets (subst (λ (ws : List TupleAt). HavePartners k.classes ws ys tickets) same have)) j

@@ -3,8 +3,9 @@ use Rattle.std.proofs.Common.{ℕ, ◌+◌, Bool, true, false, cond, List, [], �
 use Rattle.std.specs.List.{list_all}
 use Rattle.pj_value.specs.declared.values.Value.{Value}
 use Rattle.pj_events.specs.Join.{TupleAt, ClassCol, CertEntry, Demand, Part, part_of, joins, agree, demand, need, of_input, older, instance_from, class_with, values, value_at}
-use Rattle.pj_cover.specs.declared.rows.Uncovered.{Uncovered}
-use Rattle.pj_cover.specs.Asking.{Known, IsAsked, IsFirstUncovered, all_covered, is_covered}
+use Rattle.pj_cover.specs.declared.ripeness.Verdict.{Verdict}
+use Rattle.pj_cover.specs.declared.ripeness.Verdict.TheVariants.{Ripe, Open, Lagging}
+use Rattle.pj_cover.specs.Asking.{Known, AsksBy, IsAsked, IsJudged, all_covered, below_low, is_covered}
 
 abbrev Same : List TupleAt → List TupleAt → Type 0
 Same xs ys = map part_of xs ≡ map part_of ys
@@ -57,20 +58,10 @@ asked-same classes (e ∷ cert) (z ∷ through) xs ys d s a =
 covered-same : (k : Known) (cert : List CertEntry) (xs ys : List TupleAt) → Same xs ys → all_covered k cert xs ≡ all_covered k cert ys
 covered-same k cert xs ys s = ap (λ (ds : List Demand). list_all (is_covered k) ds) (need-same k.classes (older k.low k.stored) cert xs ys s)
 
-pub any_ticket : (k : Known) (cert : List CertEntry) (x y : TupleAt) (o : Option Uncovered) → part_of x ≡ part_of y → IsFirstUncovered k cert x o → IsFirstUncovered k cert y o
-any_ticket k cert x y None p v = sym (covered-same k cert (x ∷ []) (y ∷ []) (ap (λ (q : Part). q ∷ []) p)) ∙ v
-any_ticket k cert x y (Some u) p v =
-    let s : Same (x ∷ []) (y ∷ []) = ap (λ (q : Part). q ∷ []) p in
-    let w = v.0 in (
-      record {
-        rows = w.rows;
-        asks = w.asks;
-        tickets = w.tickets;
-        place = w.place;
-        stored_in = w.stored_in;
-        below = w.below;
-        asked = asked-same k.classes cert w.rows (x ∷ []) (y ∷ []) w.asks s w.asked;
-        uncovered = w.uncovered;
-      },
-      sym (covered-same k cert (x ∷ []) (y ∷ []) s) ∙ v.1,
-    )
+asks-same : (k : Known) (cert : List CertEntry) (xs ys rows : List TupleAt) (asks : Demand) → Same xs ys → AsksBy k cert xs rows asks → AsksBy k cert ys rows asks
+asks-same k cert xs ys rows asks s by = record { there = by.there; below = by.below; asked = asked-same k.classes cert rows xs ys asks s by.asked; uncovered = by.uncovered }
+
+pub any_ticket : (k : Known) (cert : List CertEntry) (x y : TupleAt) (v : Verdict) → part_of x ≡ part_of y → IsJudged k cert (x ∷ []) v → IsJudged k cert (y ∷ []) v
+any_ticket k cert x y Ripe p t = sym (covered-same k cert (x ∷ []) (y ∷ []) (ap (λ (q : Part). q ∷ []) p)) ∙ t
+any_ticket k cert x y Open p (rows, asks, by) = (rows, asks, asks-same k cert (x ∷ []) (y ∷ []) rows asks (ap (λ (q : Part). q ∷ []) p) by)
+any_ticket k cert x y Lagging p (rows, asks, by, late) = (rows, asks, asks-same (below_low k) cert (x ∷ []) (y ∷ []) rows asks (ap (λ (q : Part). q ∷ []) p) by, late)

@@ -1,5 +1,5 @@
 -- What a row asks for over the stored rows, and the first of it that is not covered.
-use Rattle.std.specs.Prelude.{ℕ, zero, suc, ◌+◌, ◌<◌, ◌≡◌, Bool, true, false, nat_lt, ◌==◌, ◌&&◌, if◌then◌else◌, List, [], ◌∷◌, ◌++◌, length, map, slice_get, slice_index, slice_index_or, ◌≤◌, Option, Some, None}
+use Rattle.std.specs.Prelude.{⊤, ℕ, zero, suc, ◌+◌, ◌<◌, ◌≡◌, Bool, true, false, nat_lt, ◌==◌, ◌&&◌, if◌then◌else◌, List, [], ◌∷◌, ◌++◌, length, map, slice_get, slice_index, slice_index_or, ◌≤◌, Option, Some, None}
 use Rattle.std.specs.List.{list_all}
 use Rattle.pj_value.specs.declared.values.Value.{Value}
 use Rattle.pj_value.specs.Lists.{In}
@@ -9,7 +9,8 @@ use Rattle.pj_shape.specs.Sound.{IsSoundSpec, arities_of}
 use Rattle.pj_events.specs.Join.{TupleAt, PunctAt, ClassCol, CertStep, CertEntry, Demand, agree, constant, class_with, covered, demand, entry_of, need, older, older_puncts}
 use Rattle.pj_cover.specs.Stores.{Store}
 use Rattle.pj_cover.specs.declared.store.NumberedPunct.{NumberedPunct}
-use Rattle.pj_cover.specs.declared.rows.Uncovered.{Uncovered}
+use Rattle.pj_cover.specs.declared.ripeness.Verdict.{Verdict}
+use Rattle.pj_cover.specs.declared.ripeness.Verdict.TheVariants.{Ripe, Open, Lagging}
 use Rattle.pj_join_laws.specs.Walks.{AreListedOnce, IsWalk}
 
 -- ---- rows and punctuations of all inputs
@@ -63,9 +64,6 @@ is_covered k d = covered (older_puncts k.low k.puncts) d
 abbrev pub all_covered : Known → List CertEntry → List TupleAt → Bool
 all_covered k cert xs = list_all (is_covered k) (need k.classes (older k.low k.stored) cert xs)
 
-abbrev pub tickets_of : List TupleAt → List ℕ
-tickets_of xs = map (λ y. y.ticket) xs
-
 -- after these rows of the first entries' inputs, each of which joins with xs and those before it, the next entry asks for this
 abbrev pub IsAsked : List (List ClassCol) → List CertEntry → List TupleAt → List TupleAt → Demand → Type 0
 IsAsked classes [] through xs d = ⊥
@@ -73,22 +71,51 @@ IsAsked classes (e ∷ cert) [] xs d = demand classes e xs ≡ d
 IsAsked classes (e ∷ cert) (y ∷ through) xs d =
     (y.input ≡ e.input) × (agree classes (y ∷ xs) ≡ true) × IsAsked classes cert through (y ∷ xs) d
 
--- An instance that these rows ask for, by the entry with this place after the first `at`, through stored rows with these
--- tickets, which are below the low-water ticket; no punctuation below that covers it
-pub record IsOpen (k : Known) (cert : List CertEntry) (at : ℕ) (xs : List TupleAt) (u : Uncovered) : Type 0 where
-  pub rows : List TupleAt
-  pub asks : Demand
-  pub tickets : tickets_of rows ≡ u.through.items
-  pub place : at + length rows ≡ u.entry
-  pub stored_in : (y : TupleAt) → In y rows → In y k.stored
+-- through these rows, which are stored below the low-water ticket, xs ask for what no punctuation covers
+pub record AsksBy (k : Known) (cert : List CertEntry) (xs rows : List TupleAt) (asks : Demand) : Type 0 where
+  pub there : (y : TupleAt) → In y rows → In y k.stored
   pub below : (y : TupleAt) → In y rows → y.ticket < k.low
   pub asked : IsAsked k.classes cert rows xs asks
-  pub uncovered : is_covered k asks ≡ false
+  pub uncovered : covered k.puncts asks ≡ false
 
--- nothing where all that these rows ask for is covered; else what is not
-abbrev pub IsJudged : Known → List CertEntry → ℕ → List TupleAt → Option Uncovered → Type 0
-IsJudged k cert at xs None = all_covered k cert xs ≡ true
-IsJudged k cert at xs (Some u) = IsOpen k cert at xs u
+-- they do so through some
+abbrev pub Ask : Known → List CertEntry → List TupleAt → Type 0
+Ask k cert xs = (rows : List TupleAt) × (asks : Demand) × AsksBy k cert xs rows asks
+
+-- the tuple does
+abbrev pub AsksStill : Known → List CertEntry → TupleAt → Type 0
+AsksStill k cert x = Ask k cert (x ∷ [])
+
+-- the same with the punctuations below the low-water ticket alone
+abbrev pub below_low : Known → Known
+below_low k = record k { puncts = older_puncts k.low k.puncts }
+
+-- through some rows they ask for what a punctuation covers, but none below the low-water ticket
+abbrev pub AskEarly : Known → List CertEntry → List TupleAt → Type 0
+AskEarly k cert xs = (rows : List TupleAt) × (asks : Demand) × AsksBy (below_low k) cert xs rows asks × (covered k.puncts asks ≡ true)
+
+-- ---- what a judge says
+
+abbrev pub says_ripe : Verdict → Bool
+says_ripe Ripe = true
+says_ripe Open = false
+says_ripe Lagging = false
+
+-- where it is ripe, this holds; else the rows ask for what is not covered
+abbrev pub Says : Type 0 → Known → List CertEntry → List TupleAt → Verdict → Type 0
+Says holds k cert xs Ripe = holds
+Says holds k cert xs Open = Ask k cert xs
+Says holds k cert xs Lagging = AskEarly k cert xs
+
+-- of all that these rows ask for
+abbrev pub IsJudged : Known → List CertEntry → List TupleAt → Verdict → Type 0
+IsJudged k cert xs v = Says (all_covered k cert xs ≡ true) k cert xs v
+
+-- of one instance
+abbrev pub IsStepJudged : Known → Demand → Verdict → Type 0
+IsStepJudged k d Ripe = is_covered k d ≡ true
+IsStepJudged k d Open = covered k.puncts d ≡ false
+IsStepJudged k d Lagging = (is_covered k d ≡ false) × (covered k.puncts d ≡ true)
 
 -- the row may stand for the entry, beside these
 pub record MayStand (k : Known) (e : CertEntry) (xs : List TupleAt) (y : TupleAt) : Type 0 where
@@ -96,35 +123,31 @@ pub record MayStand (k : Known) (e : CertEntry) (xs : List TupleAt) (y : TupleAt
   pub input : y.input ≡ e.input
   pub joins : agree k.classes (y ∷ xs) ≡ true
 
--- nothing where this row may not stand for the first entry, or all that is asked for with it is covered; else what is not
-abbrev pub IsJudgedWith : Known → List CertEntry → ℕ → List TupleAt → TupleAt → Option Uncovered → Type 0
-IsJudgedWith k [] at xs y o = ⊥
-IsJudgedWith k (e ∷ cert) at xs y None = MayStand k e xs y → all_covered k cert (y ∷ xs) ≡ true
-IsJudgedWith k (e ∷ cert) at xs y (Some u) = IsOpen k (e ∷ cert) at xs u
+-- where the row may stand for the first entry, all that is asked for with it is covered
+abbrev pub IsDone : Known → List CertEntry → List TupleAt → TupleAt → Type 0
+IsDone k [] xs y = ⊤
+IsDone k (e ∷ cert) xs y = MayStand k e xs y → all_covered k cert (y ∷ xs) ≡ true
+
+abbrev pub IsJudgedWith : Known → List CertEntry → List TupleAt → TupleAt → Verdict → Type 0
+IsJudgedWith k cert xs y v = Says (IsDone k cert xs y) k cert xs v
 
 -- with none of these rows anything is asked for that is not covered
 abbrev pub AreDone : Known → List CertEntry → List TupleAt → List TupleAt → Type 0
-AreDone k [] xs ys = ⊥
-AreDone k (e ∷ cert) xs ys = (y : TupleAt) → In y ys → MayStand k e xs y → all_covered k cert (y ∷ xs) ≡ true
+AreDone k cert xs ys = (y : TupleAt) → In y ys → IsDone k cert xs y
+
+abbrev pub IsJudgedThrough : Known → List CertEntry → List TupleAt → List TupleAt → Verdict → Type 0
+IsJudgedThrough k cert xs ys v = Says (AreDone k cert xs ys) k cert xs v
 
 -- the same of those of the rows that have one of these tickets
 abbrev pub AreDoneUnder : Known → List CertEntry → List TupleAt → List TupleAt → List ℕ → Type 0
-AreDoneUnder k [] xs ys tickets = ⊥
-AreDoneUnder k (e ∷ cert) xs ys tickets = (y : TupleAt) → In y ys → In y.ticket tickets → MayStand k e xs y → all_covered k cert (y ∷ xs) ≡ true
+AreDoneUnder k cert xs ys tickets = (y : TupleAt) → In y ys → In y.ticket tickets → IsDone k cert xs y
 
--- nothing where with none of those rows anything is asked for that is not covered; else what is not
-abbrev pub IsJudgedUnder : Known → List CertEntry → ℕ → List TupleAt → List TupleAt → List ℕ → Option Uncovered → Type 0
-IsJudgedUnder k cert at xs ys tickets None = AreDoneUnder k cert xs ys tickets
-IsJudgedUnder k cert at xs ys tickets (Some u) = IsOpen k cert at xs u
+abbrev pub IsJudgedUnder : Known → List CertEntry → List TupleAt → List TupleAt → List ℕ → Verdict → Type 0
+IsJudgedUnder k cert xs ys tickets v = Says (AreDoneUnder k cert xs ys tickets) k cert xs v
 
 -- each of the rows that joins with these has one of the tickets
 abbrev pub HavePartners : List (List ClassCol) → List TupleAt → List TupleAt → List ℕ → Type 0
 HavePartners classes xs ys tickets = (y : TupleAt) → In y ys → agree classes (y ∷ xs) ≡ true → In y.ticket tickets
-
--- nothing exactly where all that the row asks for is covered; else what is not
-abbrev pub IsFirstUncovered : Known → List CertEntry → TupleAt → Option Uncovered → Type 0
-IsFirstUncovered k cert x None = all_covered k cert (x ∷ []) ≡ true
-IsFirstUncovered k cert x (Some u) = IsOpen k cert 0 (x ∷ []) u × (all_covered k cert (x ∷ []) ≡ false)
 
 -- ---- the constants of an instance
 
@@ -207,24 +230,6 @@ pub record IsStep (spec : JoinSpec) (schemes : List (List (List Bool))) (stores 
   pub fits : (d : Store) → length (marks_of schemes step) ≡ (slice_index_or stores step.input d).arity
   pub few : length (marks_of schemes step) ≤ 120
   pub found : AreFound spec.classes step.input (marks_of schemes step) xs
-
--- the same with one row more
-abbrev pub through_more : ℕ → Uncovered → Uncovered
-through_more ticket u = record u { through = record { items = ticket ∷ u.through.items } }
-
-abbrev pub with_ticket : ℕ → Option Uncovered → Option Uncovered
-with_ticket ticket None = None
-with_ticket ticket (Some u) = Some (through_more ticket u)
-
--- what was found, where something was
-abbrev pub found_if : Bool → Uncovered → Option Uncovered
-found_if false u = None
-found_if true u = Some u
-
--- nothing where with none of these rows anything is asked for that is not covered; else what is not
-abbrev pub IsJudgedThrough : Known → List CertEntry → ℕ → List TupleAt → List TupleAt → Option Uncovered → Type 0
-IsJudgedThrough k cert at xs ys None = AreDone k cert xs ys
-IsJudgedThrough k cert at xs ys (Some u) = IsOpen k cert at xs u
 
 -- whether the row is below the low-water ticket, and all that it asks for is covered
 abbrev pub is_ripe : Known → List CertEntry → TupleAt → Bool

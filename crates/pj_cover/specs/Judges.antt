@@ -1,9 +1,9 @@
 -- What a judge of stored rows looks at.
-use Rattle.std.specs.Prelude.{ℕ, List, drop, Option}
+use Rattle.std.specs.Prelude.{ℕ, List, drop}
 use Rattle.pj_value.specs.declared.values.Value.{Value}
 use Rattle.pj_events.specs.Join.{CertEntry, TupleAt}
 use Rattle.pj_cover.specs.Asking.{AreParts, IsJudgedThrough, IsJudgedUnder, IsJudgedWith, IsOnWalk, Known, entries, known_of, tuples_at}
-use Rattle.pj_cover.specs.declared.rows.Uncovered.{Uncovered}
+use Rattle.pj_cover.specs.declared.ripeness.Verdict.{Verdict}
 use Rattle.pj_cover.specs.declared.ripeness.Judge.{Judge}
 
 -- the rows of each input with their tickets
@@ -26,14 +26,14 @@ steps_from j at = entries j.schemes.now (drop at j.cert.now)
 abbrev pub IsWalkAt : {R : Type 0} → Judge R → ℕ → List TupleAt → Type 0
 IsWalkAt j at xs = IsOnWalk j.spec.now j.schemes.now (drop at j.cert.now) xs
 
--- nothing where with no row of the input anything is asked for, by the steps from a place on, that is not covered; else what is not
-abbrev pub IsJudgedAt : {R : Type 0} → Rows → Judge R → ℕ → ℕ → List TupleAt → Option Uncovered → Type 0
-IsJudgedAt rows j at input xs o = IsJudgedThrough (known_by rows j) (steps_from j at) at xs (tuples_at rows input) o
+-- what is said of what is asked for, by the steps from a place on, with the rows of the input
+abbrev pub IsJudgedAt : {R : Type 0} → Rows → Judge R → ℕ → ℕ → List TupleAt → Verdict → Type 0
+IsJudgedAt rows j at input xs v = IsJudgedThrough (known_by rows j) (steps_from j at) xs (tuples_at rows input) v
 
 -- the same with those that have one of these tickets
-abbrev pub IsJudgedAmong : {R : Type 0} → Rows → Judge R → ℕ → ℕ → List ℕ → List TupleAt → Option Uncovered → Type 0
-IsJudgedAmong rows j at input tickets xs o = IsJudgedUnder (known_by rows j) (steps_from j at) at xs (tuples_at rows input) tickets o
+abbrev pub IsJudgedAmong : {R : Type 0} → Rows → Judge R → ℕ → ℕ → List ℕ → List TupleAt → Verdict → Type 0
+IsJudgedAmong rows j at input tickets xs v = IsJudgedUnder (known_by rows j) (steps_from j at) xs (tuples_at rows input) tickets v
 
 -- the same with this row alone
-abbrev pub IsJudgedBy : {R : Type 0} → Rows → Judge R → ℕ → List TupleAt → TupleAt → Option Uncovered → Type 0
-IsJudgedBy rows j at xs y o = IsJudgedWith (known_by rows j) (steps_from j at) at xs y o
+abbrev pub IsJudgedBy : {R : Type 0} → Rows → Judge R → ℕ → List TupleAt → TupleAt → Verdict → Type 0
+IsJudgedBy rows j at xs y v = IsJudgedWith (known_by rows j) (steps_from j at) xs y v

@@ -1,5 +1,5 @@
 -- Punctuations with numbers, and the first of them that a row matches.
-use Rattle.std.specs.Prelude.{◌≡◌, ◌≤◌, ◌<◌, ◌⊎◌, ℕ, ⊤, Bool, true, ◌&&◌, nat_lt, List, [], ◌∷◌, Option, Some, None, if◌then◌else◌}
+use Rattle.std.specs.Prelude.{◌≡◌, ◌≤◌, ◌<◌, ◌⊎◌, ℕ, ⊤, Bool, true, false, ◌&&◌, nat_lt, List, [], ◌∷◌, Option, Some, None, if◌then◌else◌}
 use Rattle.std.specs.List.{list_any}
 use Rattle.pj_value.specs.declared.values.Value.{Value}
 use Rattle.pj_pattern.specs.Columns.{matches_row}
@@ -44,3 +44,12 @@ IsLeastMatch kept row (Some least) = IsMatched kept row least × ((n : ℕ) → 
 -- one of these, with a number below this one, covers the instance
 abbrev pub covered_below : List NumberedPunct → ℕ → List (Option Value) → Bool
 covered_below kept below instance = list_any (λ k. nat_lt k.number below && covers k.punct instance) kept
+
+-- one of these covers the instance
+abbrev pub covered_by_any : List NumberedPunct → List (Option Value) → Bool
+covered_by_any kept instance = list_any (λ k. covers k.punct instance) kept
+
+-- whether one covers the instance, and whether one below this number does where one is told
+abbrev pub TellsCover : List NumberedPunct → ℕ → List (Option Value) → Option ℕ → Type 0
+TellsCover kept below instance None = covered_by_any kept instance ≡ false
+TellsCover kept below instance (Some n) = (covered_by_any kept instance ≡ true) × (nat_lt n below ≡ covered_below kept below instance)

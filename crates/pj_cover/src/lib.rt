@@ -16,6 +16,6 @@ mod rows;
 mod store;
 
 pub use given::Given;
-pub use ripeness::{first_uncovered, ripe};
-pub use rows::{StoredRows, Uncovered};
+pub use ripeness::{Verdict, judge_row, ripe};
+pub use rows::StoredRows;
 pub use store::{NumberedPunct, PunctStore};

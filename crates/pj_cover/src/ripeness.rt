@@ -5,12 +5,12 @@ ghost use Rattle.pj_shape.specs.Sound.{FitSchemes, IsSoundSpec, arities_of};
 ghost use Rattle.pj_shape.specs.Certificates.{IsCertificate};
 ghost use Rattle.pj_events.specs.Join.{agree, demand, entry_of};
 ghost use Rattle.pj_cover.specs.Rising.{AreRisingRows};
-ghost use Rattle.pj_cover.specs.Asking.{AreParts, HaveLength, HavePartners, IsFirstUncovered, IsJudged, IsStep, entries, found_if, is_covered, is_ripe, known_of, marks_of, tuple_of, tuples_at, with_ticket};
+ghost use Rattle.pj_cover.specs.Asking.{AreParts, HaveLength, HavePartners, IsJudged, IsStep, IsStepJudged, all_covered, entries, is_ripe, known_of, marks_of, says_ripe, tuple_of, tuples_at};
 ghost use Rattle.pj_cover.specs.Judges.{IsJudgedAmong, IsJudgedAt, IsJudgedBy, IsWalkAt, MayJudge, known_by, steps_from};
 
 use crate::asked::{Lent, partner_key, suits};
-use crate::instances::instance_is_covered;
-use crate::{PunctStore, StoredRows, Uncovered};
+use crate::instances::covering_instance;
+use crate::{PunctStore, StoredRows};
 use arrayvec::ArrayVec;
 use pj_shape::{Cert, CertStep, JoinSpec, Scheme, Schemes};
 use pj_value::Row;
@@ -25,22 +25,29 @@ fn scheme_of(schemes: &Schemes, step: CertStep) -> &Scheme
     &schemes.at(step.input as usize).as_slice()[step.scheme as usize]
 }
 
-// Notes the ticket of one row more in front, where something was found.
-fn note_ticket(ticket: u64, is_found: bool, found: &mut Uncovered)
-    requires { IfSome (found_if is_found found.old) (λ u. length u.through.items < 16) }
-    ensures { found_if is_found found.new ≡ with_ticket ticket (found_if is_found found.old) }
-{
-    if is_found {
-        found.through.insert(0, ticket);
-    }
+/// What a judge says of a stored row by what it asks for over the stored rows below the low-water ticket: all of it is covered
+/// by punctuations below that ticket; or no punctuation at all covers an instance of it, and so it stays until one comes that
+/// does, or a row goes through which it asks; or punctuations from the low-water ticket on alone cover one, so that it may be
+/// ripe once that ticket has risen.
+#[derive(Clone, Copy, Debug, PartialEq, Eq)]
+pub enum Verdict {
+    Ripe,
+    Open,
+    Lagging,
 }
 
-// What was found, where something was.
-#[inline(always)]
-fn found_if(is_found: bool, found: Uncovered) -> Option<Uncovered>
-    ensures { result ≡ found_if is_found found }
-{
-    if is_found { Some(found) } else { None }
+impl Verdict {
+    /// Whether all is covered.
+    #[inline(always)]
+    pub fn is_ripe(self) -> bool
+        ensures { result ≡ says_ripe self }
+    {
+        match self {
+            Verdict::Ripe => true,
+            Verdict::Open => false,
+            Verdict::Lagging => false,
+        }
+    }
 }
 
 // What a row is judged by: the join's shape and schemes, the certificate of the row's input, the stored rows, the punctuations of
@@ -56,22 +63,32 @@ struct Judge<'a, R> {
 }
 
 impl<'a, R: StoredRows> Judge<'a, R> {
-    // Whether the instance that a step asks for of these rows is covered.
+    // What is said of the instance that a step asks for of these rows.
     #[inline(never)]
-    fn is_step_covered(&self, step: CertStep, parts: &[Lent<'_>]) -> bool
+    fn judge_step(&self, step: CertStep, parts: &[Lent<'_>]) -> Verdict
         requires { IsStep self.now.spec.now self.now.schemes.now self.now.stores.now step parts.now }
-        ensures { result ≡ is_covered (known_by (R.rows self.now.rows.now) self.now) (demand self.now.spec.now.classes (entry_of self.now.schemes.now step) parts.now) }
+        ensures { IsStepJudged (known_by (R.rows self.now.rows.now) self.now) (demand self.now.spec.now.classes (entry_of self.now.schemes.now step) parts.now) result }
     {
         let scheme = scheme_of(self.schemes, step);
         let store = &self.stores[step.input as usize];
-        instance_is_covered(
+        let covering = covering_instance(
             self.spec.classes.as_slice(),
             step.input,
             scheme,
             parts,
             store,
             self.low,
-        )
+        );
+        match covering {
+            None => Verdict::Open,
+            Some(number) => {
+                if number < self.low {
+                    Verdict::Ripe
+                } else {
+                    Verdict::Lagging
+                }
+            }
+        }
     }
 
     // The tickets of stored rows of an input, among which are all that join with these rows, where an index tells.
@@ -87,76 +104,62 @@ impl<'a, R: StoredRows> Judge<'a, R> {
         }
     }
 
-    // Whether an instance that these rows ask for, by the certificate's steps from a place on, is not covered; the first is
-    // found.
+    // What is said of what these rows ask for, by the certificate's steps from a place on: of the first instance that is not
+    // covered, where one is not.
     #[cycle(judging)]
-    fn seek(&self, at: usize, parts: &mut ArrayVec<Lent<'a>, 16>, found: &mut Uncovered) -> bool
+    fn seek(&self, at: usize, parts: &mut ArrayVec<Lent<'a>, 16>) -> Verdict
         requires parts { MayJudge (R.rows self.now.rows.now) self.now }
         requires walk { IsWalkAt self.now at parts.old.items }
         ensures same { parts.new.items ≡ parts.old.items }
-        ensures judged { IsJudged (known_by (R.rows self.now.rows.now) self.now) (steps_from self.now at) at parts.old.items (found_if result found.new) }
+        ensures judged { IsJudged (known_by (R.rows self.now.rows.now) self.now) (steps_from self.now at) parts.old.items result }
     {
         if at >= self.cert.len() {
-            return false;
+            return Verdict::Ripe;
         }
         let step = *self.cert.at(at);
-        if !self.is_step_covered(step, parts.as_slice()) {
-            *found = Uncovered {
-                entry: at,
-                through: ArrayVec::new(),
-            };
-            return true;
+        let first = self.judge_step(step, parts.as_slice());
+        if !first.is_ripe() {
+            return first;
         }
-        self.seek_through(at, step, parts, found)
+        self.seek_through(at, step, parts)
     }
 
     // The same through each stored row that may stand for the step at the place, which itself is covered.
     #[cycle(judging)]
-    fn seek_through(
-        &self,
-        at: usize,
-        step: CertStep,
-        parts: &mut ArrayVec<Lent<'a>, 16>,
-        found: &mut Uncovered,
-    ) -> bool
+    fn seek_through(&self, at: usize, step: CertStep, parts: &mut ArrayVec<Lent<'a>, 16>) -> Verdict
         requires parts { MayJudge (R.rows self.now.rows.now) self.now }
         requires walk { IsWalkAt self.now at parts.old.items }
         requires step { slice_get self.now.cert.now at ≡ Some step }
         ensures same { parts.new.items ≡ parts.old.items }
-        ensures judged { IsJudgedAt (R.rows self.now.rows.now) self.now at step.input parts.old.items (found_if result found.new) }
+        ensures judged { IsJudgedAt (R.rows self.now.rows.now) self.now at step.input parts.old.items result }
     {
         if self.cert.len() <= at + 1 {
-            return false;
+            return Verdict::Ripe;
         }
         match self.partners(step.input, parts.as_slice()) {
-            None => self.seek_each(at, step, parts, found),
-            Some(tickets) => self.seek_among(at, step, tickets, parts, found),
+            None => self.seek_each(at, step, parts),
+            Some(tickets) => self.seek_among(at, step, tickets, parts),
         }
     }
 
     // The same where each row of the step's input is looked at.
     #[cycle(judging)]
-    fn seek_each(
-        &self,
-        at: usize,
-        step: CertStep,
-        parts: &mut ArrayVec<Lent<'a>, 16>,
-        found: &mut Uncovered,
-    ) -> bool
+    fn seek_each(&self, at: usize, step: CertStep, parts: &mut ArrayVec<Lent<'a>, 16>) -> Verdict
         requires parts { MayJudge (R.rows self.now.rows.now) self.now }
         requires walk { IsWalkAt self.now at parts.old.items }
         requires step { slice_get self.now.cert.now at ≡ Some step }
         requires fits { at + 1 < 2 ^ 64 }
         ensures same { parts.new.items ≡ parts.old.items }
-        ensures judged { IsJudgedAt (R.rows self.now.rows.now) self.now at step.input parts.old.items (found_if result found.new) }
+        ensures judged { IsJudgedAt (R.rows self.now.rows.now) self.now at step.input parts.old.items result }
     {
         for n in 0..self.rows.count(step.input) {
             let (ticket, row) = self.rows.nth(step.input, n);
-            if self.seek_with(at, step, ticket, row, parts, found) {
-                return true;
+            let through = self.seek_with(at, step, ticket, row, parts);
+            if !through.is_ripe() {
+                return through;
             }
         }
-        false
+        Verdict::Ripe
     }
 
     // The same through each stored row of the step's input that has one of these tickets.
@@ -167,22 +170,22 @@ impl<'a, R: StoredRows> Judge<'a, R> {
         step: CertStep,
         tickets: &[u64],
         parts: &mut ArrayVec<Lent<'a>, 16>,
-        found: &mut Uncovered,
-    ) -> bool
+    ) -> Verdict
         requires parts { MayJudge (R.rows self.now.rows.now) self.now }
         requires walk { IsWalkAt self.now at parts.old.items }
         requires step { slice_get self.now.cert.now at ≡ Some step }
         requires fits { at + 1 < 2 ^ 64 }
         requires rising { AreRisingRows (R.rows self.now.rows.now step.input) }
         ensures same { parts.new.items ≡ parts.old.items }
-        ensures judged { IsJudgedAmong (R.rows self.now.rows.now) self.now at step.input tickets.now parts.old.items (found_if result found.new) }
+        ensures judged { IsJudgedAmong (R.rows self.now.rows.now) self.now at step.input tickets.now parts.old.items result }
     {
         for ticket in tickets {
-            if self.seek_under(at, step, *ticket, parts, found) {
-                return true;
+            let through = self.seek_under(at, step, *ticket, parts);
+            if !through.is_ripe() {
+                return through;
             }
         }
-        false
+        Verdict::Ripe
     }
 
     // The same through the stored row with this ticket.
@@ -193,19 +196,18 @@ impl<'a, R: StoredRows> Judge<'a, R> {
         step: CertStep,
         ticket: u64,
         parts: &mut ArrayVec<Lent<'a>, 16>,
-        found: &mut Uncovered,
-    ) -> bool
+    ) -> Verdict
         requires parts { MayJudge (R.rows self.now.rows.now) self.now }
         requires walk { IsWalkAt self.now at parts.old.items }
         requires step { slice_get self.now.cert.now at ≡ Some step }
         requires fits { at + 1 < 2 ^ 64 }
         requires rising { AreRisingRows (R.rows self.now.rows.now step.input) }
         ensures same { parts.new.items ≡ parts.old.items }
-        ensures judged { IsJudgedAmong (R.rows self.now.rows.now) self.now at step.input (ticket ∷ []) parts.old.items (found_if result found.new) }
+        ensures judged { IsJudgedAmong (R.rows self.now.rows.now) self.now at step.input (ticket ∷ []) parts.old.items result }
     {
         match self.rows.get(step.input, ticket) {
-            None => false,
-            Some(row) => self.seek_with(at, step, ticket, row, parts, found),
+            None => Verdict::Ripe,
+            Some(row) => self.seek_with(at, step, ticket, row, parts),
         }
     }
 
@@ -218,74 +220,68 @@ impl<'a, R: StoredRows> Judge<'a, R> {
         ticket: u64,
         row: &'a Row,
         parts: &mut ArrayVec<Lent<'a>, 16>,
-        found: &mut Uncovered,
-    ) -> bool
+    ) -> Verdict
         requires parts { MayJudge (R.rows self.now.rows.now) self.now }
         requires walk { IsWalkAt self.now at parts.old.items }
         requires step { slice_get self.now.cert.now at ≡ Some step }
         requires fits { at + 1 < 2 ^ 64 }
         requires stored { In (ticket, row.now) (R.rows self.now.rows.now step.input) }
         ensures same { parts.new.items ≡ parts.old.items }
-        ensures judged { IsJudgedBy (R.rows self.now.rows.now) self.now at parts.old.items (tuple_of step.input (ticket, row.now)) (found_if result found.new) }
+        ensures judged { IsJudgedBy (R.rows self.now.rows.now) self.now at parts.old.items (tuple_of step.input (ticket, row.now)) result }
     {
         if ticket >= self.low {
-            return false;
+            return Verdict::Ripe;
         }
         let next = Lent::of(ticket, step.input, row);
         if !suits(self.spec.classes.as_slice(), parts.as_slice(), &next) {
-            return false;
+            return Verdict::Ripe;
         }
         parts.insert(0, next);
-        let is_found = self.seek(at + 1, parts, found);
+        let through = self.seek(at + 1, parts);
         parts.remove(0);
-        note_ticket(ticket, is_found, found);
-        is_found
+        through
     }
 
-    // Whether an instance that a row asks for after the first step, which is covered, is not covered; the first is found.
+    // What is said of what a row asks for after the first step, which is covered.
     #[inline(never)]
-    fn judge_through(&self, step: CertStep, own: Lent<'a>, found: &mut Uncovered) -> bool
+    fn judge_through(&self, step: CertStep, own: Lent<'a>) -> Verdict
         requires parts { MayJudge (R.rows self.now.rows.now) self.now }
         requires walk { IsWalkAt self.now 0 (own ∷ []) }
         requires step { slice_get self.now.cert.now 0 ≡ Some step }
-        ensures { IsJudgedAt (R.rows self.now.rows.now) self.now 0 step.input (own.entry ∷ []) (found_if result found.new) }
+        ensures { IsJudgedAt (R.rows self.now.rows.now) self.now 0 step.input (own.entry ∷ []) result }
     {
         let mut parts = ArrayVec::new();
         parts.push(own);
-        self.seek_through(0, step, &mut parts, found)
+        self.seek_through(0, step, &mut parts)
     }
 
-    // What a row asks for first that is not covered.
+    // What is said of a row.
     #[inline(always)]
-    fn judge(&self, own: Lent<'a>) -> Option<Uncovered>
+    fn judge(&self, own: Lent<'a>) -> Verdict
         requires parts { MayJudge (R.rows self.now.rows.now) self.now }
         requires walk { IsWalkAt self.now 0 (own ∷ []) }
-        ensures { IsFirstUncovered (known_by (R.rows self.now.rows.now) self.now) (steps_from self.now 0) own.entry result }
+        ensures { IsJudged (known_by (R.rows self.now.rows.now) self.now) (steps_from self.now 0) (own.entry ∷ []) result }
     {
         if self.cert.len() == 0 {
-            return None;
+            return Verdict::Ripe;
         }
         let step = *self.cert.at(0);
-        let mut found = Uncovered {
-            entry: 0,
-            through: ArrayVec::new(),
-        };
-        if !self.is_step_covered(step, from_ref(&own)) {
-            return Some(found);
+        let first = self.judge_step(step, from_ref(&own));
+        if !first.is_ripe() {
+            return first;
         }
         if self.cert.len() == 1 {
-            return None;
+            return Verdict::Ripe;
         }
-        let is_found = self.judge_through(step, own, &mut found);
-        found_if(is_found, found)
+        self.judge_through(step, own)
     }
 }
 
-/// The first instance that a row of an input asks for, by the input's certificate, over the stored rows below the low-water
-/// ticket, and that no punctuation below it covers; `None` exactly where all that it asks for is covered. The join is sound,
-/// the certificate is one of the input, all rows fit it, and there is one store of punctuations for each input.
+/// Judges a row of an input by what it asks for, by the input's certificate, over the stored rows below the low-water ticket: it
+/// is ripe exactly where punctuations below that ticket cover all of it. The join is sound, the certificate is one of the input,
+/// all rows fit it, and there is one store of punctuations for each input.
 #[inline(always)]
-pub fn first_uncovered<R: StoredRows>(
+pub fn judge_row<R: StoredRows>(
     spec: &JoinSpec,
     schemes: &Schemes,
     cert: &Cert,
@@ -294,13 +290,14 @@ pub fn first_uncovered<R: StoredRows>(
     rows: &R,
     stores: &[PunctStore],
     low: u64,
-) -> Option<Uncovered>
+) -> Verdict
     requires parts { AreParts spec.now (R.rows rows.now) stores.now }
     requires input { input < length spec.now.inputs }
     requires schemes { FitSchemes spec.now.inputs schemes.now }
     requires certified { IsCertificate spec.now schemes.now input cert.now }
     requires fits { length row.now ≡ slice_index (arities_of spec.now.inputs) input }
-    ensures { (ticket : ℕ) → IsFirstUncovered (known_of spec.now (R.rows rows.now) stores.now low) (entries schemes.now cert.now) (tuple_of input (ticket, row.now)) result }
+    ensures ripe { (ticket : ℕ) → says_ripe result ≡ all_covered (known_of spec.now (R.rows rows.now) stores.now low) (entries schemes.now cert.now) (tuple_of input (ticket, row.now) ∷ []) }
+    ensures asks { (ticket : ℕ) → IsJudged (known_of spec.now (R.rows rows.now) stores.now low) (entries schemes.now cert.now) (tuple_of input (ticket, row.now) ∷ []) result }
 {
     let judge = Judge {
         spec,
@@ -337,16 +334,5 @@ pub fn ripe<R: StoredRows>(
     if low <= ticket {
         return false;
     }
-    let judge = Judge {
-        spec,
-        schemes,
-        cert,
-        rows,
-        stores,
-        low,
-    };
-    match judge.judge(Lent::of(ticket, input, row)) {
-        None => true,
-        Some(_) => false,
-    }
+    judge_row(spec, schemes, cert, input, row, rows, stores, low).is_ripe()
 }

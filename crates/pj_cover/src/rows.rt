@@ -4,7 +4,6 @@ ghost use Rattle.std.specs.Option.{option_copied};
 ghost use Rattle.pj_value.specs.declared.values.Value.{Value as AnyValue};
 ghost use Rattle.pj_cover.specs.Rising.{AreRisingRows, row_with, tickets_with};
 
-use arrayvec::ArrayVec;
 use pj_value::{Row, Value};
 
 /// Rows that are stored, for each input of a join with their tickets and in the order of these.
@@ -30,12 +29,4 @@ pub trait StoredRows {
     /// The row of an input with a ticket; `None` exactly where there is none.
     fn get(&self, input: u32, ticket: u64) -> Option<&Row>
         ensures { option_copied result ≡ row_with ticket (rows self.now input) };
-}
-
-/// An instance that a row asks for and that no punctuation covers: the place of the certificate's step that asks for it, and
-/// the tickets of the rows through which it is asked for, one for each earlier step.
-#[derive(Drop)]
-pub struct Uncovered {
-    pub entry: usize,
-    pub through: ArrayVec<u64, 16>,
 }

@@ -1,16 +1,15 @@
 // A store of punctuations with numbers.
 ghost use Rattle.std.specs.Prelude.{◌≡◌, ◌<◌, ◌+◌, [], ◌∷◌, ◌++◌, length, IfOk, OnOk, OnErr};
-ghost use Rattle.pj_cover.specs.Givens.{marked, one_cell};
+ghost use Rattle.pj_cover.specs.Givens.{marked};
 ghost use Rattle.pj_cover.specs.Indexed.{is_below};
 ghost use Rattle.pj_cover.specs.Numbers.{numbers_with};
-ghost use Rattle.pj_cover.specs.Stores.{covered_below, first_match_of, IsAbove, IsLeastMatch};
+ghost use Rattle.pj_cover.specs.Stores.{TellsCover, covered_below, first_match_of, IsAbove, IsLeastMatch};
 ghost use Rattle.pj_shape.specs.Instances.{instance_of};
 
 use crate::Given;
-use crate::cells::Instance;
+use crate::cells::{Cells, Instance};
 use crate::index::{Index, least};
 use crate::numbers::NumberLists;
-use crate::one_cell::OneCell;
 use pj_pattern::Punct;
 use pj_shape::Scheme;
 use pj_value::{List, NoMemory, Row, Value};
@@ -110,31 +109,35 @@ impl PunctStore {
         requires constants { length given.now ≡ marked scheme.now }
         ensures { result ≡ covered_below self.now.kept below (instance_of scheme.now given.now) }
     {
-        let instance = Instance { scheme, given };
-        let kept = self.others.as_slice();
-        if is_below(self.index.first_with(scheme, kept, &instance), below) {
-            return true;
-        }
-        if is_below(self.numbers.first(self.arity as usize, &instance), below) {
-            return true;
-        }
-        is_below(self.index.first(kept, &instance), below)
+        is_below(self.covering(scheme, given, below), below)
     }
 
-    /// The same of the instance with this constant in this column alone.
-    pub(crate) fn covers_one(&self, column: usize, value: &Value, below: u64) -> bool
-        ensures { result ≡ covered_below self.now.kept below (one_cell self.now.arity column value.now) }
+    /// The number of a punctuation that covers the instance, one below the bound where there is one; `None` exactly where no
+    /// punctuation covers it.
+    pub(crate) fn covering(&self, scheme: &Scheme, given: &Given<'_>, below: u64) -> Option<u64>
+        requires fits { length scheme.now ≡ self.now.arity }
+        requires constants { length given.now ≡ marked scheme.now }
+        ensures { TellsCover self.now.kept below (instance_of scheme.now given.now) result }
     {
-        let count = self.arity as usize;
-        let cells = OneCell {
-            count,
-            column,
-            value,
-        };
-        if is_below(self.numbers.first(count, &cells), below) {
-            return true;
+        let instance = Instance { scheme, given };
+        let exact = self
+            .index
+            .first_with(scheme, self.others.as_slice(), &instance);
+        if is_below(exact, below) {
+            return exact;
         }
-        is_below(self.index.first(self.others.as_slice(), &cells), below)
+        self.covering_cells(&instance, below)
+    }
+
+    /// The same of these cells.
+    pub(crate) fn covering_cells<C: Cells>(&self, cells: &C, below: u64) -> Option<u64>
+        ensures { TellsCover self.now.kept below (C.cells cells.now) result }
+    {
+        let alone = self.numbers.first(self.arity as usize, cells);
+        if is_below(alone, below) {
+            return alone;
+        }
+        least(alone, self.index.first(self.others.as_slice(), cells))
     }
 }
 

@@ -126,6 +126,16 @@ covered-of low d (p ∷ ps) = go (ltb p.ticket low) refl (eqb p.input d.input) r
     go false e true g ih = ih ∙ sym (ap (λ c. (c && covers p.patterns d.instance) || list_any test rest) e)
     go false e false g ih = ih
 
+-- the same of all of them
+pub covered-all-of : (d : Demand) (ps : List PunctAt) → covered ps d ≡ list_any (λ p. covers p.patterns d.instance) (heard_of d.input ps)
+covered-all-of d [] = refl
+covered-all-of d (p ∷ ps) = go (eqb p.input d.input) (covered-all-of d ps)
+  where
+    go : (b : Bool) → covered ps d ≡ list_any (λ q. covers q.patterns d.instance) (heard_of d.input ps)
+        → ((b && covers p.patterns d.instance) || covered ps d) ≡ list_any (λ q. covers q.patterns d.instance) (cond b (p ∷ heard_of d.input ps) (heard_of d.input ps))
+    go true ih = ap (λ b. covers p.patterns d.instance || b) ih
+    go false ih = ih
+
 -- ---- what is asked for
 
 need-same : (classes : List (List ClassCol)) (xs ys : List TupleAt) → ((k : ℕ) → of_input k xs ≡ of_input k ys) → (cert : List CertEntry) (zs : List TupleAt) → need classes xs cert zs ≡ need classes ys cert zs
@@ -136,9 +146,9 @@ need-same classes xs ys same (e ∷ cert) zs =
     ∙ flat_map-agree (need classes xs cert) (need classes ys cert) (grown classes ys e zs) (need-same classes xs ys same cert))
 
 -- a judge of an input over these rows and punctuations
-abbrev pub judge_at : JoinData → ℕ → List StateView → List Store → ℕ → Bool → JudgeView
-judge_at spec input states stores low settled =
-    record { spec = spec.shape; schemes = spec.schemes; cert = steps_of spec input; input = input; states = states; stores = stores; low = low; settled = settled }
+abbrev pub judge_at : JoinData → ℕ → List StateView → List Store → ℕ → JudgeView
+judge_at spec input states stores low =
+    record { spec = spec.shape; schemes = spec.schemes; cert = steps_of spec input; input = input; states = states; stores = stores; low = low }
 
 module _ (spec : JoinData) (limit next done : ℕ) (states : List StateView) (stores : List Store) (pending : List Place) (taken : List ℕ) (j : IsJoin spec limit (inside next done states stores pending taken)) where
   shapes : inputs spec ≡ length spec.shape.inputs
@@ -175,9 +185,9 @@ module _ (spec : JoinData) (limit next done : ℕ) (states : List StateView) (st
           ∙ sym (none-past (λ (p : PunctAt). p.input) k (puncts_of stores) (λ p h q. let lt = j.heard.placed p h in omega (arith, lt, q, le)))
 
   -- the judge's yes over the rows is that over all stored tuples
-  pub ripe-is : (k : KeptState) → k.stored ≡ log_of states → k.puncts ≡ puncts_of stores → (low : ℕ) → low ≡ kept_low k → (input : ℕ) (settled : Bool) (s : Stored)
-      → ripe_at (judge_at spec input states stores low settled) s ≡ kept_ripe spec k (tuple_in input s)
-  ripe-is k rows puncts low is input settled s =
+  pub ripe-is : (k : KeptState) → k.stored ≡ log_of states → k.puncts ≡ puncts_of stores → (low : ℕ) → low ≡ kept_low k → (input : ℕ) (s : Stored)
+      → ripe_at (judge_at spec input states stores low) s ≡ kept_ripe spec k (tuple_in input s)
+  ripe-is k rows puncts low is input s =
       ap (λ b. ltb s.ticket low && b)
       (all-same (is_covered known) (covered (older_puncts low (puncts_of stores))) (need spec.shape.classes (older low known.stored) cert (x ∷ [])) (λ d. covered-of low d known.puncts ∙ ap (list_any (λ p. ltb p.ticket low && covers p.patterns d.instance)) (same-puncts d.input) ∙ sym (covered-of low d (puncts_of stores)))
       ∙ ap (list_all (covered (older_puncts low (puncts_of stores)))) (need-same spec.shape.classes (older low known.stored) (older low (log_of states)) same-older cert (x ∷ [])))

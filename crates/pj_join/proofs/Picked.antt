@@ -15,14 +15,13 @@ use Rattle.pj_value.proofs.Members.{In-append_left, In-append_right, In-append_c
 use Rattle.pj_state.specs.declared.shared.Stored.{Stored}
 use Rattle.pj_state.specs.Rising.{AllAbove, IsRising, first_with, itself}
 use Rattle.pj_state.specs.States.{pair_of, row_in as row_found, row_under, stored, ticket_of, tickets_of}
-use Rattle.pj_cover.specs.declared.rows.Uncovered.{Uncovered}
-use Rattle.pj_cover.specs.Asking.{IsFirstUncovered, Known, all_covered, entries, known_of, tuple_of}
-use Rattle.pj_events.specs.Join.{In, has}
-use Rattle.pj_join.specs.declared.marks.Verdict.{Verdict}
-use Rattle.pj_join.specs.declared.marks.Verdict.TheVariants.{Ripe, Open, Marked}
+use Rattle.pj_cover.specs.declared.ripeness.Verdict.{Verdict}
+use Rattle.pj_cover.specs.declared.ripeness.Verdict.TheVariants.{Ripe, Open, Lagging}
+use Rattle.pj_cover.specs.Asking.{IsJudged, Known, all_covered, entries, known_of, says_ripe, tuple_of}
+use Rattle.pj_events.specs.Join.{CertEntry, In, TupleAt, has}
 use Rattle.pj_join.specs.Judging.{JudgeView, one_if, ripe_at, row_in, rows_at}
 use Rattle.pj_join.specs.Sides.{row_pairs}
-use Rattle.pj_join.specs.Watching.{AreJudged, AreLookedAt, IsLookedAt, IsOneJudged, IsVerdict, Judged, NoneIsRipe, Watches, all_picked, goes_by, is_passed, marked_by, picked, under_with, verdict_on}
+use Rattle.pj_join.specs.Watching.{AreJudged, AreLookedAt, IsLookedAt, IsOneJudged, IsVerdict, Judged, NoneIsRipe, Watches, all_picked, is_passed, marked_by, picked, under_with}
 
 -- ---- lists that rise
 
@@ -172,20 +171,24 @@ last_below (y ∷ rows) (suc i) from x r at le lt s (inl e) =
 
 -- ---- one row
 
-pub verdict_is : (j : JudgeView) (s : Stored) (found : Option Uncovered) → s.ticket < j.low
-    → IsFirstUncovered (known_of j.spec (row_pairs j.states) j.stores j.low) (entries j.schemes j.cert) (tuple_of j.input (pair_of s)) found → IsVerdict j s (verdict_on found j.settled)
-verdict_is j s None lt all = and_from (ltb s.ticket j.low) _ (lt-ltb s.ticket j.low lt) all
-verdict_is j s (Some u) lt v = go j.settled refl
+pub verdict_is : (j : JudgeView) (s : Stored) (v : Verdict) → s.ticket < j.low → (x : TupleAt) → x ≡ tuple_of j.input (pair_of s)
+    → says_ripe v ≡ all_covered (known_of j.spec (row_pairs j.states) j.stores j.low) (entries j.schemes j.cert) (x ∷ [])
+    → IsJudged (known_of j.spec (row_pairs j.states) j.stores j.low) (entries j.schemes j.cert) (x ∷ []) v → IsVerdict j s v
+verdict_is j s v lt x is = subst (λ (y : TupleAt). says_ripe v ≡ all_covered facts cert (y ∷ []) → IsJudged facts cert (y ∷ []) v → IsVerdict j s v) (sym is) (go v)
   where
     facts : Known
     facts = known_of j.spec (row_pairs j.states) j.stores j.low
 
-    not_ripe : ripe_at j s ≡ false
-    not_ripe = and_right (ltb s.ticket j.low) (all_covered facts (entries j.schemes j.cert) (tuple_of j.input (pair_of s) ∷ [])) v.1
+    cert : List CertEntry
+    cert = entries j.schemes j.cert
 
-    go : (b : Bool) → j.settled ≡ b → IsVerdict j s (cond b Open Marked)
-    go true q = (not_ripe, λ l. (q, (v.0.rows, v.0.asks, record { there = v.0.stored_in; below = v.0.below; asked = v.0.asked; uncovered = v.0.uncovered })))
-    go false q = not_ripe
+    own : TupleAt
+    own = tuple_of j.input (pair_of s)
+
+    go : (w : Verdict) → says_ripe w ≡ all_covered facts cert (own ∷ []) → IsJudged facts cert (own ∷ []) w → IsVerdict j s w
+    go Ripe t said = and_from (ltb s.ticket j.low) _ (lt-ltb s.ticket j.low lt) (sym t)
+    go Open t said = (and_right (ltb s.ticket j.low) (all_covered facts cert (own ∷ [])) (sym t), λ l. said)
+    go Lagging t said = and_right (ltb s.ticket j.low) (all_covered facts cert (own ∷ [])) (sym t)
 
 pub under_at : (rows : List Stored) (ticket : ℕ) (row : List Value) → Some row ≡ row_under ticket rows → (at : ℕ) × (slice_get rows at ≡ Some (stored ticket row))
 under_at [] ticket row e = absurd (cc)
@@ -213,7 +216,7 @@ judged_none j ticket old e = record {
     clash q = cc
 
 pub judged_row : (j : JudgeView) (ticket : ℕ) (row : List Value) (v : Verdict) (old new : Judged) → Some row ≡ row_under ticket (rows_at j) → IsVerdict j (stored ticket row) v
-    → new.gone ≡ old.gone ++ one_if (goes_by v) ticket → new.marked ≡ old.marked ++ one_if (marked_by v) ticket → IsOneJudged j ticket old new
+    → new.gone ≡ old.gone ++ one_if (says_ripe v) ticket → new.marked ≡ old.marked ++ one_if (marked_by v) ticket → IsOneJudged j ticket old new
 judged_row j ticket row v old new at is gone marked = record {
   gone = gone ∙ ap (λ (ts : List ℕ). old.gone ++ ts) (picks v is ∙ ap (λ (o : Option (List Value)). tickets_of (filter (ripe_at j) (under_with ticket o))) at);
   more = λ m f. (has-split old.marked (one_if (marked_by v) ticket) m (ap (λ ns. has ns m) (sym marked) ∙ f)).0;
@@ -223,15 +226,15 @@ judged_row j ticket row v old new at is gone marked = record {
     same : {a b : List Value} → Some a ≡ Some b → a ≡ b
     same q = cc
 
-    picks : (w : Verdict) → IsVerdict j (stored ticket row) w → one_if (goes_by w) ticket ≡ tickets_of (filter (ripe_at j) (stored ticket row ∷ []))
+    picks : (w : Verdict) → IsVerdict j (stored ticket row) w → one_if (says_ripe w) ticket ≡ tickets_of (filter (ripe_at j) (stored ticket row ∷ []))
     picks Ripe t = sym (ap (λ b. tickets_of (cond b (stored ticket row ∷ []) [])) t)
     picks Open t = sym (ap (λ b. tickets_of (cond b (stored ticket row ∷ []) [])) t.0)
-    picks Marked t = sym (ap (λ b. tickets_of (cond b (stored ticket row ∷ []) [])) t)
+    picks Lagging t = sym (ap (λ b. tickets_of (cond b (stored ticket row ∷ []) [])) t)
 
     look : (w : Verdict) → IsVerdict j (stored ticket row) w → new.marked ≡ old.marked ++ one_if (marked_by w) ticket → IsLookedAt j new.marked (stored ticket row)
     look Ripe t m lt f none = absurd (false≢true (sym f ∙ t))
     look Open t m lt f none = t.1 lt
-    look Marked t m lt f none =
+    look Lagging t m lt f none =
         absurd (false≢true (sym ((has-split old.marked (ticket ∷ []) ticket (ap (λ ns. has ns ticket) (sym m) ∙ none)).1) ∙ ap (λ b. b || false) (eq-eqb ticket ticket refl)))
 
 -- ---- all of them

@@ -2,7 +2,7 @@
 use Rattle.std.proofs.Common.{ℕ, ◌+◌, ◌<◌, Bool, true, false, cond, ◌&&◌, not, List, [], ◌∷◌, ◌++◌, ◌≡◌, map, filter, refl, sym, ap, ap₂, ◌∙◌, subst, eqb}
 use Rattle.std.proofs.lemmas.Bool.{and_from, eq-eqb, false≢true}
 use Rattle.pj_events.specs.Patterns.{Pattern}
-use Rattle.pj_events.specs.Join.{In, JoinData, JoinState, TupleAt, PunctAt, Punct, Step, PunctComes, Sweep, AreLegalSteps, inputs, is_held, kept, low, ripe, run, start, step, widened}
+use Rattle.pj_events.specs.Join.{In, JoinData, JoinState, TupleAt, PunctAt, Punct, Step, PunctComes, Sweep, AreLegalSteps, inputs, is_held, kept, low, ripe, run, start, widened}
 use Rattle.pj_events.specs.KeptState.{KeptState, kept_low, kept_of, kept_ripe, swept}
 use Rattle.pj_join_laws.specs.Laws.{NeverNeeded, RipeWhenCovered, StaysRipe}
 use Rattle.pj_join_laws.proofs.Forget.{stored-in}

@@ -81,8 +81,8 @@ module _ (node : ℕ) (spec : JoinData) (limit next done : ℕ) (states : List S
   abbrev rows : List Stored
   rows = (state_at states input).rows
 
-  abbrev judge-of : ℕ → Bool → JudgeView
-  judge-of low settled = judge_at spec input states stores low settled
+  abbrev judge-of : ℕ → JudgeView
+  judge-of low = judge_at spec input states stores low
 
   abbrev goes : TupleAt → Bool
   goes x = eqb x.input input && kept_ripe spec join.kept x
@@ -91,20 +91,20 @@ module _ (node : ℕ) (spec : JoinData) (limit next done : ℕ) (states : List S
   side = side-is spec limit next done states stores pending taken j input lt
 
   -- the ripe rows are the tuples that the sweep removes
-  ripe-are : (low : ℕ) (settled : Bool) → low ≡ kept_low join.kept → map (tuple_in input) (filter (ripe_at (judge-of low settled)) rows) ≡ swept_off join input
-  ripe-are low settled is =
-      ap (map (tuple_in input)) (filter-agree (ripe_at (judge-of low settled)) (λ s. kept_ripe spec join.kept (tuple_in input s)) rows (λ s h. ripe-is spec limit next done states stores pending taken j join.kept refl refl low is input settled s))
+  ripe-are : (low : ℕ) → low ≡ kept_low join.kept → map (tuple_in input) (filter (ripe_at (judge-of low)) rows) ≡ swept_off join input
+  ripe-are low is =
+      ap (map (tuple_in input)) (filter-agree (ripe_at (judge-of low)) (λ s. kept_ripe spec join.kept (tuple_in input s)) rows (λ s h. ripe-is spec limit next done states stores pending taken j join.kept refl refl low is input s))
       ∙ sym (filter_map_swap (kept_ripe spec join.kept) (tuple_in input) rows)
       ∙ ap (filter (kept_ripe spec join.kept)) side
       ∙ filter-filter (λ (x : TupleAt). eqb x.input input) (kept_ripe spec join.kept) log
 
-  pub gone-are : (low : ℕ) (settled : Bool) (gone : List ℕ) → low ≡ kept_low join.kept → gone ≡ ripe_tickets (judge-of low settled) → gone ≡ tickets (swept_off join input)
-  gone-are low settled gone is e = e ∙ sym (map-map (λ (x : TupleAt). x.ticket) (tuple_in input) (filter (ripe_at (judge-of low settled)) rows)) ∙ ap tickets (ripe-are low settled is)
+  pub gone-are : (low : ℕ) (gone : List ℕ) → low ≡ kept_low join.kept → gone ≡ ripe_tickets (judge-of low) → gone ≡ tickets (swept_off join input)
+  gone-are low gone is e = e ∙ sym (map-map (λ (x : TupleAt). x.ticket) (tuple_in input) (filter (ripe_at (judge-of low)) rows)) ∙ ap tickets (ripe-are low is)
 
-  pub rows-are : (low : ℕ) (settled : Bool) (old new : List (List Value)) → low ≡ kept_low join.kept → new ≡ old ++ ripe_rows (judge-of low settled) → new ≡ old ++ rows_off join input
-  rows-are low settled old new is e =
+  pub rows-are : (low : ℕ) (old new : List (List Value)) → low ≡ kept_low join.kept → new ≡ old ++ ripe_rows (judge-of low) → new ≡ old ++ rows_off join input
+  rows-are low old new is e =
       e ∙ ap (λ (more : List (List Value)). old ++ more)
-      (sym (map-map (λ (x : TupleAt). x.row) (tuple_in input) (filter (ripe_at (judge-of low settled)) rows)) ∙ ap (map (λ (x : TupleAt). x.row)) (ripe-are low settled is))
+      (sym (map-map (λ (x : TupleAt). x.row) (tuple_in input) (filter (ripe_at (judge-of low)) rows)) ∙ ap (map (λ (x : TupleAt). x.row)) (ripe-are low is))
 
   module _ (gone : List ℕ) (are : gone ≡ tickets (swept_off join input)) where
     pub has-is : (x : TupleAt) → In x log → has gone x.ticket ≡ goes x
@@ -211,6 +211,6 @@ held-at-first spec limit next done states stores pending taken j state p lt is =
 
 -- ---- the same, of what a call is lent
 
-pub same-judge : (spec : JoinData) (input low : ℕ) (settled : Bool) (shape : JoinSpec) (cert : List CertStep) (states states' : List StateView) (stores stores' : List Store) → shape ≡ spec.shape → cert ≡ steps_of spec input → states ≡ states' → stores ≡ stores'
-    → record { spec = shape; schemes = spec.schemes; cert = cert; input = input; states = states; stores = stores; low = low; settled = settled } ≡ judge_at spec input states' stores' low settled
-same-judge spec input low settled shape cert states states' stores stores' a b c d = λ i. record { spec = a i; schemes = spec.schemes; cert = b i; input = input; states = c i; stores = d i; low = low; settled = settled }
+pub same-judge : (spec : JoinData) (input low : ℕ) (shape : JoinSpec) (cert : List CertStep) (states states' : List StateView) (stores stores' : List Store) → shape ≡ spec.shape → cert ≡ steps_of spec input → states ≡ states' → stores ≡ stores'
+    → record { spec = shape; schemes = spec.schemes; cert = cert; input = input; states = states; stores = stores; low = low } ≡ judge_at spec input states' stores' low
+same-judge spec input low shape cert states states' stores stores' a b c d = λ i. record { spec = a i; schemes = spec.schemes; cert = b i; input = input; states = c i; stores = d i; low = low }

@@ -3,11 +3,11 @@ use Rattle.std.proofs.Common.{ℕ, zero, suc, ◌+◌, ◌<◌, ◌≤◌, Bool,
 use Rattle.std.specs.List.{list_all, list_any}
 use Rattle.std.proofs.lemmas.Bool.{and_parts, and_right, eq-eqb, eqb-true, false_from_ne_true, false≢true, lt-ltb, ltb-true}
 use Rattle.std.proofs.lemmas.List.{length-append}
-use Rattle.pj_value.proofs.Members.{In-append_cases, In-append_left, In-filter, In-filter_from, In-flat_map_from, In-map_from, all_at, filter-all}
+use Rattle.pj_value.proofs.Members.{In-append_cases, In-append_left, In-filter, In-filter_from, In-flat_map_from, In-map_from, all_at}
 use Rattle.pj_state.specs.declared.shared.Stored.{Stored}
 use Rattle.pj_state.specs.States.{StateView}
 use Rattle.pj_cover.specs.Stores.{Store}
-use Rattle.pj_cover.specs.Asking.{IsAsked, puncts_from, tuples_of}
+use Rattle.pj_cover.specs.Asking.{IsAsked, known_of, puncts_from, tuples_of}
 use Rattle.pj_cover.proofs.Agreeing.{need_alone}
 use Rattle.pj_events.specs.Patterns.{covers}
 use Rattle.pj_events.specs.Join.{CertEntry, ClassCol, Demand, In, JoinData, PunctAt, TupleAt, agree, cert_of, covered, grown, has, inputs, need, of_input, older, older_puncts}
@@ -18,9 +18,9 @@ use Rattle.pj_join.specs.Joins.{JoinView}
 use Rattle.pj_join.specs.Judging.{JudgeView, ripe_at}
 use Rattle.pj_join.specs.Sides.{log_of, puncts_of, row_pairs, state_at, tuple_in}
 use Rattle.pj_join.specs.Sweeping.{swept_off}
-use Rattle.pj_join.specs.Watching.{AreFewer, AreLeft, AreLookedAt, AreOpenBut, AreRoused, AreStored, AreWatched, AsksStill, PunctView, NoneIsRipe, Watches, come_at, is_passed, known, known_at, watches_at}
-use Rattle.pj_join.proofs.Judged.{covered-of, judge_at, ripe-is, same-puncts, same-rows}
-use Rattle.pj_join.proofs.Kept.{below-end, shapes, side-is}
+use Rattle.pj_join.specs.Watching.{AreFewer, AreLeft, AreLookedAt, AreOpenBut, AreRoused, AreStored, AreWatched, AsksStill, PunctView, NoneIsRipe, Watches, come_at, is_passed, known, watches_at}
+use Rattle.pj_join.proofs.Judged.{covered-all-of, judge_at, ripe-is, same-puncts, same-rows}
+use Rattle.pj_join.proofs.Kept.{shapes, side-is}
 
 filter-none : {A : Type 0} (q : A → Bool) (xs : List A) → ((x : A) → In x xs → q x ≡ false) → filter q xs ≡ []
 filter-none q [] f = refl
@@ -170,8 +170,8 @@ module _ (spec : JoinData) where
       in-log : (s : Stored) → In s (state_at states input).rows → In (tuple_in input s) log
       in-log s h = (In-filter (λ (y : TupleAt). eqb y.input input) (tuple_in input s) log (subst (λ (xs : List TupleAt). In (tuple_in input s) xs) (side-is spec limit next done states stores pending taken j input lt) (In-map_from (tuple_in input) s (state_at states input).rows h))).0
 
-      pub none_ripe : (settled : Bool) (ws : List Watches) → AreWatched spec next low log (puncts_of stores) ws → NoneIsRipe (judge_at spec input states stores low settled) (watches_at ws input)
-      none_ripe settled ws w s h t = ripe-is spec limit next done states stores pending taken j k stored-are puncts-are low is input settled s ∙ not_ripe (tuple_in input s) (w.asks (tuple_in input s) (in-log s h) t)
+      pub none_ripe : (ws : List Watches) → AreWatched spec next low log (puncts_of stores) ws → NoneIsRipe (judge_at spec input states stores low) (watches_at ws input)
+      none_ripe ws w s h t = ripe-is spec limit next done states stores pending taken j k stored-are puncts-are low is input s ∙ not_ripe (tuple_in input s) (w.asks (tuple_in input s) (in-log s h) t)
 
       -- where no row is marked, and none is young, none goes
       pub none_off : (node : ℕ) (waiting : List PunctAt) (ws : List Watches) → k ≡ (seen (made_with node spec limit) next done (log_of states) (puncts_of stores) waiting taken).kept → AreWatched spec next low log (puncts_of stores) ws
@@ -197,30 +197,25 @@ module _ (spec : JoinData) where
                   passed : is_passed (watches_at ws x.input) x.ticket ≡ true
                   passed = ap (λ i. is_passed (watches_at ws i) x.ticket) of ∙ ap₂ (λ a (ms : List ℕ). a && not (has ms x.ticket)) (lt-ltb x.ticket (watches_at ws input).from lower) unmarked
 
-      covered-all : low ≡ next → (d : Demand) → covered (older_puncts low (puncts_from 0 stores)) d ≡ covered (puncts_of stores) d
-      covered-all last d =
-          covered-of low d (puncts_from 0 stores)
-          ∙ ap (list_any (λ p. ltb p.ticket low && covers p.patterns d.instance)) (same-puncts spec limit next done states stores pending taken j d.input)
-          ∙ sym (covered-of low d (puncts_of stores))
-          ∙ ap (λ ps. covered ps d) (filter-all (λ (p : PunctAt). ltb p.ticket low) (puncts_of stores) below)
-        where
-          below : (p : PunctAt) → In p (puncts_of stores) → ltb p.ticket low ≡ true
-          below p h = lt-ltb p.ticket low (let l : p.ticket < next = below-end 0 (map (λ q. q.ticket) (puncts_of stores)) next p.ticket j.heard.rising (In-map_from (λ (q : PunctAt). q.ticket) p (puncts_of stores) h) in omega (arith, l, last))
+      covered-all : (d : Demand) → covered (puncts_from 0 stores) d ≡ covered (puncts_of stores) d
+      covered-all d =
+          covered-all-of d (puncts_from 0 stores)
+          ∙ ap (list_any (λ p. covers p.patterns d.instance)) (same-puncts spec limit next done states stores pending taken j d.input)
+          ∙ sym (covered-all-of d (puncts_of stores))
 
       in-stored : (y : TupleAt) → In y (tuples_of (row_pairs states) (length spec.shape.inputs)) → In y log
       in-stored y h =
           (In-filter (λ (z : TupleAt). eqb z.input y.input) y log
           (subst (λ (xs : List TupleAt). In y xs) (same-rows spec limit next done states stores pending taken j y.input) (In-filter_from (λ (z : TupleAt). eqb z.input y.input) y (tuples_of (row_pairs states) (length spec.shape.inputs)) h (eq-eqb y.input y.input refl)))).0
 
-      still-all : (settled : Bool) → low ≡ next → (cert : List CertEntry) (x : TupleAt) → AsksStill (known_at (judge_at spec input states stores low settled)) cert x → AsksStill (known spec.shape.classes log (puncts_of stores) low) cert x
-      still-all settled last cert x (rows, asks, by) =
-          (rows, asks, record { there = λ y h. in-stored y (by.there y h); below = by.below; asked = by.asked; uncovered = sym (covered-all last asks) ∙ by.uncovered })
+      still-all : (cert : List CertEntry) (x : TupleAt) → AsksStill (known_of spec.shape (row_pairs states) stores low) cert x → AsksStill (known spec.shape.classes log (puncts_of stores) low) cert x
+      still-all cert x (rows, asks, by) = (rows, asks, record { there = λ y h. in-stored y (by.there y h); below = by.below; asked = by.asked; uncovered = sym (covered-all asks) ∙ by.uncovered })
 
       -- what was judged and is neither ripe nor marked asks for something that is not covered
-      pub open_but : (node : ℕ) (waiting : List PunctAt) (ws : List Watches) (settled : Bool) (marked : List ℕ) → k ≡ (seen (made_with node spec limit) next done (log_of states) (puncts_of stores) waiting taken).kept → AreWatched spec next low log (puncts_of stores) ws → (settled ≡ true → low ≡ next)
-          → AreLookedAt (judge_at spec input states stores low settled) (watches_at ws input) marked
+      pub open_but : (node : ℕ) (waiting : List PunctAt) (ws : List Watches) (marked : List ℕ) → k ≡ (seen (made_with node spec limit) next done (log_of states) (puncts_of stores) waiting taken).kept → AreWatched spec next low log (puncts_of stores) ws
+          → AreLookedAt (judge_at spec input states stores low) (watches_at ws input) marked
           → AreOpenBut (seen (made_with node spec limit) next done (log_of states) (puncts_of stores) waiting taken) input marked
-      open_but node waiting ws settled marked same w last looked x h of below ripe none = by-pass (is_passed (watches_at ws input) x.ticket) refl
+      open_but node waiting ws marked same w looked x h of below ripe none = by-pass (is_passed (watches_at ws input) x.ticket) refl
         where
           s : (s : Stored) × In s (state_at states x.input).rows × (tuple_in x.input s ≡ x)
           s = in-row x h
@@ -237,9 +232,9 @@ module _ (spec : JoinData) where
           lower : s.0.ticket < low
           lower = let b : x.ticket < kept_low k = subst (λ (q : KeptState). x.ticket < kept_low q) (sym same) below in omega (arith, b, ticket, is)
 
-          unripe : ripe_at (judge_at spec input states stores low settled) s.0 ≡ false
+          unripe : ripe_at (judge_at spec input states stores low) s.0 ≡ false
           unripe =
-              ripe-is spec limit next done states stores pending taken j k stored-are puncts-are low is input settled s.0
+              ripe-is spec limit next done states stores pending taken j k stored-are puncts-are low is input s.0
               ∙ ap (kept_ripe spec k) is-x ∙ ap (λ (q : KeptState). kept_ripe spec q x) same ∙ ripe
 
           lows : low ≡ kept_low (seen (made_with node spec limit) next done (log_of states) (puncts_of stores) waiting taken).kept
@@ -252,7 +247,7 @@ module _ (spec : JoinData) where
           by-pass true e = at-low (subst (λ i. AsksStill (known spec.shape.classes log (puncts_of stores) low) (cert_of spec i) x) of (w.asks x h (ap (λ i. is_passed (watches_at ws i) x.ticket) of ∙ e)))
           by-pass false e =
               let l = looked s.0 here (ap (is_passed (watches_at ws input)) ticket ∙ e) lower unripe (ap (has marked) ticket ∙ none) in
-              at-low (subst (λ (y : TupleAt). AsksStill (known spec.shape.classes log (puncts_of stores) low) (cert_of spec input) y) is-x (still-all settled (last l.0) (cert_of spec input) (tuple_in input s.0) l.1))
+              at-low (subst (λ (y : TupleAt). AsksStill (known spec.shape.classes log (puncts_of stores) low) (cert_of spec input) y) is-x (still-all (cert_of spec input) (tuple_in input s.0) l))
 
 -- ---- a sweep
 

@@ -13,7 +13,7 @@ use Rattle.pj_events.specs.Join.{CertStep, JoinSpec, PunctAt, TupleAt, has, is_h
 use Rattle.pj_join.specs.Sides.{row_pairs, state_at, still_held}
 
 -- what the rows of an input are judged by: the join's shape and schemes, the input's certificate, all stored rows, the
--- punctuations, the low-water ticket, and whether each punctuation is below that
+-- punctuations, and the low-water ticket
 pub record JudgeView : Type 0 where
   pub spec : JoinSpec
   pub schemes : List (List (List Bool))
@@ -22,7 +22,6 @@ pub record JudgeView : Type 0 where
   pub states : List StateView
   pub stores : List Store
   pub low : ℕ
-  pub settled : Bool
 
 -- these can be judged by: the parts and the schemes fit, and the certificate is one of the input
 pub record MayJudge (spec : JoinSpec) (schemes : List (List (List Bool))) (cert : List CertStep) (input : ℕ) (states : List StateView) (stores : List Store) : Type 0 where

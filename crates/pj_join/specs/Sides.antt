@@ -4,7 +4,6 @@ use Rattle.std.specs.List.{list_any}
 use Rattle.pj_state.specs.declared.shared.Stored.{Stored}
 use Rattle.pj_state.specs.States.{StateView, pairs, row_under, state_of}
 use Rattle.pj_cover.specs.Stores.{Store}
-use Rattle.pj_cover.specs.declared.store.NumberedPunct.{NumberedPunct}
 use Rattle.pj_cover.specs.Asking.{punct_of}
 use Rattle.pj_events.specs.Patterns.{Pattern, matches_row}
 use Rattle.pj_events.specs.Join.{In, PunctAt, TupleAt, Value, has}

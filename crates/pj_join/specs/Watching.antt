@@ -6,20 +6,20 @@ use Rattle.pj_value.specs.Options.{is_value}
 use Rattle.pj_state.specs.declared.shared.Stored.{Stored}
 use Rattle.pj_state.specs.Rising.{IsRising, itself}
 use Rattle.pj_state.specs.States.{StateView, row_under, stored, tickets_of}
-use Rattle.pj_cover.specs.Asking.{IsAsked, Known, entries, first_class, puncts_from, tuples_of}
-use Rattle.pj_cover.specs.declared.rows.Uncovered.{Uncovered}
+pub use Rattle.pj_cover.specs.Asking.{AsksStill}
+use Rattle.pj_cover.specs.Asking.{IsAsked, Known, entries, first_class, known_of}
+use Rattle.pj_cover.specs.declared.ripeness.Verdict.{Verdict}
+use Rattle.pj_cover.specs.declared.ripeness.Verdict.TheVariants.{Ripe, Open, Lagging}
 use Rattle.pj_events.specs.Patterns.{Pattern, covers, is_wild, matches_value}
-use Rattle.pj_events.specs.Join.{CertEntry, ClassCol, Demand, In, JoinData, PunctAt, TupleAt, agree, cert_of, constant, covered, has, inputs, instance_from, older_puncts, value_at}
+use Rattle.pj_events.specs.Join.{CertEntry, ClassCol, Demand, In, JoinData, PunctAt, TupleAt, agree, cert_of, constant, covered, has, inputs, instance_from, value_at}
 use Rattle.pj_events.specs.KeptState.{kept_low, kept_ripe}
 use Rattle.pj_join.specs.Joins.{JoinView}
 use Rattle.pj_join.specs.Judging.{JudgeView, lets_go, ripe_at, rows_at}
 use Rattle.pj_join.specs.Sides.{row_pairs, state_at, tuple_in}
 pub use Rattle.pj_join.specs.declared.marks.Watches.{Watches}
 pub use Rattle.pj_join.specs.declared.marks.Judged.{Judged}
-use Rattle.pj_join.specs.declared.marks.Verdict.{Verdict}
 use Rattle.pj_join.specs.declared.widening.Swept.{Swept}
 use Rattle.pj_join.specs.declared.partners.Pair.{Pair}
-use Rattle.pj_join.specs.declared.marks.Verdict.TheVariants.{Ripe, Open, Marked}
 
 abbrev pub no_watches : Watches
 no_watches = record { from = 0; marked = [] }
@@ -33,17 +33,6 @@ is_passed w ticket = nat_lt ticket w.from && not (has w.marked ticket)
 
 abbrev pub known : List (List ClassCol) → List TupleAt → List PunctAt → ℕ → Known
 known classes stored puncts low = record { classes = classes; stored = stored; puncts = puncts; low = low }
-
--- through these tuples, which are stored below the low-water ticket, the tuple asks for what no punctuation covers
-pub record AsksBy (k : Known) (cert : List CertEntry) (x : TupleAt) (rows : List TupleAt) (asks : Demand) : Type 0 where
-  pub there : (y : TupleAt) → In y rows → In y k.stored
-  pub below : (y : TupleAt) → In y rows → y.ticket < k.low
-  pub asked : IsAsked k.classes cert rows (x ∷ []) asks
-  pub uncovered : covered k.puncts asks ≡ false
-
--- it does so through some
-abbrev pub AsksStill : Known → List CertEntry → TupleAt → Type 0
-AsksStill k cert x = (rows : List TupleAt) × (asks : Demand) × AsksBy k cert x rows asks
 
 -- each stored tuple that is passed over asks for something that no punctuation covers
 pub record AreWatched (spec : JoinData) (next low : ℕ) (stored : List TupleAt) (puncts : List PunctAt) (ws : List Watches) : Type 0 where
@@ -260,34 +249,21 @@ AreRoused spec states other gone ws count = (input : ℕ) → input < count → 
 
 -- ---- what a judge says
 
--- what is known below the low-water ticket
-abbrev pub known_at : JudgeView → Known
-known_at j = known j.spec.classes (tuples_of (row_pairs j.states) (length j.spec.inputs)) (older_puncts j.low (puncts_from 0 j.stores)) j.low
-
--- something that the row asks for is not covered below the low-water ticket
+-- through rows below the low-water ticket the row asks for something that no punctuation covers
 abbrev pub IsOpenAt : JudgeView → Stored → Type 0
-IsOpenAt j s = AsksStill (known_at j) (entries j.schemes j.cert) (tuple_in j.input s)
+IsOpenAt j s = AsksStill (known_of j.spec (row_pairs j.states) j.stores j.low) (entries j.schemes j.cert) (tuple_in j.input s)
 
--- what the first instance that is not covered tells
-abbrev pub verdict_on : Option Uncovered → Bool → Verdict
-verdict_on None settled = Ripe
-verdict_on (Some u) settled = if settled then Open else Marked
-
--- it is ripe; or something that it asks for is not covered, where it is below the low-water ticket; or it is not ripe
+-- it is ripe; or it is not, and where it is below the low-water ticket asks for something that no punctuation covers; or it is
+-- not ripe
 abbrev pub IsVerdict : JudgeView → Stored → Verdict → Type 0
 IsVerdict j s Ripe = ripe_at j s ≡ true
-IsVerdict j s Open = (ripe_at j s ≡ false) × (s.ticket < j.low → (j.settled ≡ true) × IsOpenAt j s)
-IsVerdict j s Marked = ripe_at j s ≡ false
-
-abbrev pub goes_by : Verdict → Bool
-goes_by Ripe = true
-goes_by Open = false
-goes_by Marked = false
+IsVerdict j s Open = (ripe_at j s ≡ false) × (s.ticket < j.low → IsOpenAt j s)
+IsVerdict j s Lagging = ripe_at j s ≡ false
 
 abbrev pub marked_by : Verdict → Bool
 marked_by Ripe = false
 marked_by Open = false
-marked_by Marked = true
+marked_by Lagging = true
 
 abbrev pub under_with : ℕ → Option (List Value) → List Stored
 under_with ticket None = []
@@ -300,9 +276,9 @@ picked j ticket = filter (ripe_at j) (under_with ticket (row_under ticket (rows_
 abbrev pub all_picked : JudgeView → List ℕ → List Stored
 all_picked j tickets = flat_map (picked j) tickets
 
--- the row is ripe, or marked, or something that it asks for is not covered
+-- the row is ripe, or marked, or asks for something that no punctuation covers
 abbrev pub IsLookedAt : JudgeView → List ℕ → Stored → Type 0
-IsLookedAt j marked s = s.ticket < j.low → ripe_at j s ≡ false → has marked s.ticket ≡ false → (j.settled ≡ true) × IsOpenAt j s
+IsLookedAt j marked s = s.ticket < j.low → ripe_at j s ≡ false → has marked s.ticket ≡ false → IsOpenAt j s
 
 -- the row with this ticket was judged
 pub record IsOneJudged (j : JudgeView) (ticket : ℕ) (old new : Judged) : Type 0 where

@@ -398,7 +398,6 @@ impl Join {
             states: self.states.as_slice(),
             stores: self.stores.as_slice(),
             low,
-            settled: low == self.next,
         };
         let left = judge.sweep(
             self.alloc,

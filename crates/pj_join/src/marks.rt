@@ -9,15 +9,6 @@ pub struct Watches {
     pub marked: List<u64>,
 }
 
-/// What a judge says of a stored row: it is ripe; or something that it asks for is not covered, or its ticket is not below the
-/// low-water ticket, so that it is not judged before something changes; or it is judged at the next sweep again.
-#[derive(Clone, Copy)]
-pub enum Verdict {
-    Ripe,
-    Open,
-    Marked,
-}
-
 /// What a sweep finds of the stored rows of an input: the tickets of those that go, and of those that are judged again.
 #[derive(Drop)]
 pub struct Judged {

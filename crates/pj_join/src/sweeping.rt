@@ -7,13 +7,13 @@ ghost use Rattle.pj_state.specs.States.{state_of, stored, ticket_of};
 ghost use Rattle.pj_join.specs.Holding.{AreFreed, AreHeldBy, KeepsLists, StayHeld, tickets_where};
 ghost use Rattle.pj_join.specs.Judging.{BothMore, letting_go, lets_go, one_if, ripe_rows, ripe_tickets, row_in, rows_at, rows_without};
 ghost use Rattle.pj_join.specs.Sides.{heard_at};
-ghost use Rattle.pj_join.specs.Watching.{AreJudged, AreLookedAt, IsOneJudged, IsVerdict, NoneIsRipe, all_picked, goes_by, is_passed, marked_by, picked, verdict_on};
+ghost use Rattle.pj_join.specs.Watching.{AreJudged, AreLookedAt, IsOneJudged, IsVerdict, NoneIsRipe, all_picked, is_passed, marked_by, picked};
 
-use crate::marks::{Judged, Verdict, Watches};
+use crate::marks::{Judged, Watches};
 use crate::stored::Inputs;
 use crate::waiting::{StillWaiting, Waiting};
 use crate::widening::Swept;
-use pj_cover::{PunctStore, Uncovered, first_uncovered};
+use pj_cover::{PunctStore, Verdict, judge_row};
 use pj_pattern::Punct;
 use pj_shape::{Cert, JoinSpec, Schema, Schemes};
 use pj_state::{Spot, State};
@@ -22,7 +22,7 @@ use std::alloc::Global;
 use std::marker::Model;
 
 /// What the stored rows of an input are judged by: the join's shape and schemes, the input's certificate, the rows and the
-/// punctuations of all inputs, the low-water ticket, and whether each punctuation is below it.
+/// punctuations of all inputs, and the low-water ticket.
 #[derive(Drop)]
 pub struct Judge<'a> {
     pub spec: &'a JoinSpec,
@@ -32,7 +32,6 @@ pub struct Judge<'a> {
     pub states: &'a [State],
     pub stores: &'a [PunctStore],
     pub low: u64,
-    pub settled: bool,
 }
 
 impl<'a> Model for Judge<'a> {
@@ -40,7 +39,7 @@ impl<'a> Model for Judge<'a> {
 
     ghost Value = { JudgeView };
 
-    ghost view = { λ j. record { spec = j.spec.now; schemes = j.schemes.now; cert = j.cert.now; input = j.input; states = j.states.now; stores = j.stores.now; low = j.low; settled = j.settled } };
+    ghost view = { λ j. record { spec = j.spec.now; schemes = j.schemes.now; cert = j.cert.now; input = j.input; states = j.states.now; stores = j.stores.now; low = j.low } };
 
     ghost invariant = { λ j. MayJudge j.spec.now j.schemes.now j.cert.now j.input j.states.now j.stores.now };
 }
@@ -52,22 +51,6 @@ pub struct Left {
     pub gone: List<u64>,
     pub marked: List<u64>,
     pub waiting: StillWaiting,
-}
-
-// What the first instance tells that a row asks for and that is not covered. Where no punctuation is at or above the low-water
-// ticket, it stays so until a punctuation comes that covers it, or a row goes through which it is asked for.
-fn verdict_on(found: Option<Uncovered>, settled: bool) -> Verdict
-    ensures { result ≡ verdict_on found settled }
-{
-    match found {
-        None => Verdict::Ripe,
-        Some(_found) => {
-            if settled {
-                return Verdict::Open;
-            }
-            Verdict::Marked
-        }
-    }
 }
 
 // Puts the row at the end of those that go, and its ticket to theirs, where it is ripe; or neither.
@@ -89,24 +72,15 @@ fn sort_out(
     Ok(())
 }
 
-// Puts the ticket at the end of those that are marked where the row is judged again.
+// Puts the ticket at the end of those that are marked where the row is judged again: where punctuations from the low-water
+// ticket on alone cover what it asks for. Where none does, it is passed over until one comes.
 fn keep_marked(verdict: Verdict, ticket: u64, marked: &mut List<u64>) -> Result<(), NoMemory>
     ensures { OnOk result (marked.new ≡ marked.old ++ one_if (marked_by verdict) ticket) }
 {
     match verdict {
         Verdict::Ripe => Ok(()),
         Verdict::Open => Ok(()),
-        Verdict::Marked => marked.push(ticket),
-    }
-}
-
-fn is_ripe(verdict: Verdict) -> bool
-    ensures { result ≡ goes_by verdict }
-{
-    match verdict {
-        Verdict::Ripe => true,
-        Verdict::Open => false,
-        Verdict::Marked => false,
+        Verdict::Lagging => marked.push(ticket),
     }
 }
 
@@ -178,7 +152,7 @@ impl<'a> Judge<'a> {
         let rows = Inputs {
             states: self.states,
         };
-        let found = first_uncovered(
+        judge_row(
             self.spec,
             self.schemes,
             self.cert,
@@ -187,8 +161,7 @@ impl<'a> Judge<'a> {
             &rows,
             self.stores,
             self.low,
-        );
-        verdict_on(found, self.settled)
+        )
     }
 
     // Judges the row with a ticket, where there is one. It goes where it is ripe, or is marked where it is judged again.
@@ -211,7 +184,7 @@ impl<'a> Judge<'a> {
                 keep_marked(verdict, ticket, &mut judged.marked)?;
                 sort_out(
                     alloc,
-                    is_ripe(verdict),
+                    verdict.is_ripe(),
                     ticket,
                     row,
                     &mut judged.gone,

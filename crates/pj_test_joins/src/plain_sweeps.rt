@@ -12,6 +12,7 @@ use std::test::Fail;
 // A row of two numbers.
 #[derive(Clone, Copy)]
 struct PlainRow {
+    ticket: u64,
     input: u32,
     a: i64,
     b: i64,
@@ -20,6 +21,7 @@ struct PlainRow {
 // That no more rows of an input come with a number from one to another in this column.
 #[derive(Clone, Copy)]
 struct Said {
+    ticket: u64,
     input: u32,
     column: u32,
     from: i64,
@@ -95,12 +97,41 @@ fn is_ripe(plain: &Plain, row: PlainRow) -> bool {
     }
 }
 
-// How many rows of the input go.
-fn plain_sweep(alloc: Global, plain: &mut Plain, input: u32) -> Result<u64, NoMemory> {
+// What came below a ticket.
+fn older(alloc: Global, plain: &Plain, low: u64) -> Result<Plain, NoMemory> {
+    Ok(Plain {
+        rows: older_rows(alloc, plain.rows.as_slice(), low)?,
+        said: older_said(alloc, plain.said.as_slice(), low)?,
+    })
+}
+
+fn older_rows(alloc: Global, rows: &[PlainRow], low: u64) -> Result<List<PlainRow>, NoMemory> {
+    let mut older = List::new(alloc);
+    for row in rows {
+        if row.ticket < low {
+            older.push(*row)?;
+        }
+    }
+    Ok(older)
+}
+
+fn older_said(alloc: Global, said: &[Said], low: u64) -> Result<List<Said>, NoMemory> {
+    let mut older = List::new(alloc);
+    for one in said {
+        if one.ticket < low {
+            older.push(*one)?;
+        }
+    }
+    Ok(older)
+}
+
+// How many rows of the input go: those below the low-water ticket that are ripe by what came below it.
+fn plain_sweep(alloc: Global, plain: &mut Plain, input: u32, low: u64) -> Result<u64, NoMemory> {
+    let below = older(alloc, plain, low)?;
     let mut left = List::new(alloc);
     let mut count = 0_u64;
     for row in plain.rows.as_slice() {
-        if row.input == input && is_ripe(plain, *row) {
+        if row.input == input && row.ticket < low && is_ripe(&below, *row) {
             count = count.saturating_add(1);
         } else {
             left.push(*row)?;
@@ -110,25 +141,39 @@ fn plain_sweep(alloc: Global, plain: &mut Plain, input: u32) -> Result<u64, NoMe
     Ok(count)
 }
 
-// Some tuple comes, and is given.
+// Gives the least tickets, until so many are left.
+fn give_all_but(alloc: Global, join: &mut Join, held: u64) -> Result<(), NoMemory>
+    requires { join.old.spec ≡ triple_join }
+    ensures { join.new.spec ≡ triple_join }
+{
+    for _at in 0..join.pending().saturating_sub(held) {
+        next_count(alloc, join)?;
+    }
+    Ok(())
+}
+
+// Some tuple comes, and all tickets but so many are given.
 fn some_tuple(
     alloc: Global,
     join: &mut Join,
     plain: &mut Plain,
     seed: &mut u64,
+    held: u64,
 ) -> Result<(), JoinStop>
     requires { join.old.spec ≡ triple_join }
     ensures { join.new.spec ≡ triple_join }
 {
     let input = draw(seed, 3) as u32;
-    let row = PlainRow {
+    let a = number(seed);
+    let b = number(seed);
+    let ticket = put(alloc, join, input, a, b)?;
+    plain.rows.push(PlainRow {
+        ticket,
         input,
-        a: number(seed),
-        b: number(seed),
-    };
-    plain.rows.push(row)?;
-    put(alloc, join, input, row.a, row.b)?;
-    next_count(alloc, join)?;
+        a,
+        b,
+    })?;
+    give_all_but(alloc, join, held)?;
     Ok(())
 }
 
@@ -140,7 +185,8 @@ fn between(from: i64, to: i64) -> Pattern {
     Pattern::range(Some(Value::Int(from)), Some(Value::Int(to)))
 }
 
-fn say(alloc: Global, join: &mut Join, said: Said) -> Result<(), JoinStop>
+// Says so, and gives the ticket.
+fn say(alloc: Global, join: &mut Join, said: Said) -> Result<u64, JoinStop>
     requires spec { join.old.spec ≡ triple_join }
     requires input { said.input < 3 }
     ensures { join.new.spec ≡ triple_join }
@@ -154,8 +200,8 @@ fn say(alloc: Global, join: &mut Join, said: Said) -> Result<(), JoinStop>
         patterns.push(between(said.from, said.to))?;
     }
     let mut out = List::new(alloc);
-    join.punct(said.input, Punct::of(patterns), &mut out)?;
-    Ok(())
+    let ticket = join.punct(said.input, Punct::of(patterns), &mut out)?;
+    Ok(ticket)
 }
 
 // Some punctuation comes: of the first input by its first column, of the third one by its second.
@@ -175,14 +221,16 @@ fn some_punct(
         _ => 1,
     };
     let from = number(seed);
-    let said = Said {
+    let mut said = Said {
+        ticket: 0,
         input,
         column,
         from,
         to: from.saturating_add(draw(seed, 2) as i64),
     };
+    said.ticket = say(alloc, join, said)?;
     plain.said.push(said)?;
-    say(alloc, join, said)
+    Ok(())
 }
 
 // Whether a sweep of some input removes as many rows of both.
@@ -198,8 +246,9 @@ fn some_sweep(
     let input = draw(seed, 3) as u32;
     let mut removed = List::new(alloc);
     let mut out = List::new(alloc);
+    let low = join.low();
     let count = join.sweep(input, &mut removed, &mut out)?;
-    Ok(count == plain_sweep(alloc, plain, input)?)
+    Ok(count == plain_sweep(alloc, plain, input, low)?)
 }
 
 fn some_step(
@@ -207,6 +256,7 @@ fn some_step(
     join: &mut Join,
     plain: &mut Plain,
     seed: &mut u64,
+    held: u64,
 ) -> Result<bool, JoinStop>
     requires { join.old.spec ≡ triple_join }
     ensures { join.new.spec ≡ triple_join }
@@ -219,12 +269,17 @@ fn some_step(
     if kind < 4 {
         return some_sweep(alloc, join, plain, seed);
     }
-    some_tuple(alloc, join, plain, seed)?;
+    some_tuple(alloc, join, plain, seed, held)?;
     Ok(true)
 }
 
-// How many of so many steps agree, and how many rows the join and the plain one have at the end.
-fn agreeing(alloc: Global, join: &mut Join, steps: u64) -> Result<(u64, u64, usize), JoinStop>
+// How many of so many steps agree, where so many tickets are held, and how many rows the join and the plain one have at the end.
+fn agreeing(
+    alloc: Global,
+    join: &mut Join,
+    steps: u64,
+    held: u64,
+) -> Result<(u64, u64, usize), JoinStop>
     requires { join.old.spec ≡ triple_join }
 {
     let mut plain = Plain {
@@ -234,7 +289,7 @@ fn agreeing(alloc: Global, join: &mut Join, steps: u64) -> Result<(u64, u64, usi
     let mut seed = 7;
     let mut count = 0_u64;
     for _step in 0..steps {
-        if some_step(alloc, join, &mut plain, &mut seed)? {
+        if some_step(alloc, join, &mut plain, &mut seed, held)? {
             count = count.saturating_add(1);
         }
     }
@@ -245,6 +300,16 @@ fn agreeing(alloc: Global, join: &mut Join, steps: u64) -> Result<(u64, u64, usi
 fn sweeps_are_those_of_a_plain_join(rt: HostRuntime) -> Result<(), Fail> {
     let alloc = rt.alloc();
     let mut join = join_of(alloc, 1_000_000)?;
-    assert_eq!(rt; agreeing(alloc, &mut join, 600)?, (600, 11, 11));
+    assert_eq!(rt; agreeing(alloc, &mut join, 600, 0)?, (600, 11, 11));
+    Ok(())
+}
+
+#[test]
+fn sweeps_under_open_tickets_are_those_of_a_plain_join(rt: HostRuntime) -> Result<(), Fail> {
+    let alloc = rt.alloc();
+    let mut join = join_of(alloc, 1_000_000)?;
+    let (same, stored, left) = agreeing(alloc, &mut join, 600, 9)?;
+    assert_eq!(rt; same, 600);
+    assert_eq!(rt; stored, left as u64);
     Ok(())
 }

@@ -5,7 +5,7 @@ ghost use Rattle.pj_cover.specs.Stores.{IsAbove};
 ghost use Rattle.pj_test_states.specs.Chain.{at, chain, chain_cert, chain_schemes, firsts, number, pair, pairs, seconds, two_rows};
 ghost use Rattle.pj_value.specs.Options.{is_value};
 
-use pj_cover::{Given, NumberedPunct, PunctStore, StoredRows, Uncovered, first_uncovered, ripe};
+use pj_cover::{Given, NumberedPunct, PunctStore, StoredRows, Verdict, judge_row, ripe};
 use pj_pattern::{Pattern, Punct, Shape};
 use pj_shape::{Cert, CertStep, ClassCol, Column, JoinSpec, Schema, Scheme, Schemes};
 use pj_value::{Kind, List, NoMemory, Row, Value};
@@ -560,20 +560,9 @@ fn two_rows(alloc: Global) -> Result<TwoRows, NoMemory>
     Ok(TwoRows { one, other })
 }
 
-// The place of the step that asks for the instance, and the first ticket through which it does, or 0; (9, 9) where none is.
-fn told(found: Option<Uncovered>) -> (usize, u64) {
-    match found {
-        None => (9, 9),
-        Some(found) => match found.through.as_slice().first() {
-            None => (found.entry, 0),
-            Some(ticket) => (found.entry, *ticket),
-        },
-    }
-}
-
-// What the row (7, 1) of the first input asks for first that is not covered.
+// What is said of the row (7, 1) of the first input, and whether it is ripe with the ticket 0.
 #[tactic(auto, using(crate::proofs::ChainIs::chain_certified, crate::proofs::ChainIs::chain_parts))]
-fn judged(alloc: Global, stores: &[PunctStore], low: u64) -> Result<((usize, u64), bool), NoMemory>
+fn judged(alloc: Global, stores: &[PunctStore], low: u64) -> Result<(Verdict, bool), NoMemory>
     requires { map (λ s. s.arity) stores.now ≡ 2 ∷ 2 ∷ 2 ∷ [] }
 {
     let spec = join(alloc)?;
@@ -581,9 +570,9 @@ fn judged(alloc: Global, stores: &[PunctStore], low: u64) -> Result<((usize, u64
     let cert = cert(alloc)?;
     let rows = two_rows(alloc)?;
     let own = pair_row(alloc, 7, 1)?;
-    let found = first_uncovered(&spec, &schemes, &cert, 0, &own, &rows, stores, low);
+    let said = judge_row(&spec, &schemes, &cert, 0, &own, &rows, stores, low);
     let is_ripe = ripe(&spec, &schemes, &cert, 0, 0, &own, &rows, stores, low);
-    Ok((told(found), is_ripe))
+    Ok((said, is_ripe))
 }
 
 fn judged_closing(
@@ -591,7 +580,7 @@ fn judged_closing(
     first: i64,
     second: i64,
     low: u64,
-) -> Result<((usize, u64), bool), NoMemory> {
+) -> Result<(Verdict, bool), NoMemory> {
     let stores = stores(alloc, first, second)?;
     judged(alloc, stores.as_slice(), low)
 }
@@ -600,14 +589,16 @@ fn judged_closing(
 fn rows_are_judged_by_the_certificate(rt: HostRuntime) {
     let alloc = rt.alloc();
     let table = [
-        (0, 0, 9, (0, 0), false),
-        (7, 0, 3, (0, 0), false),
-        (7, 0, 9, (1, 2), false),
-        (7, 5, 9, (1, 2), false),
-        (7, 6, 9, (9, 9), true),
-        (7, 6, 0, (0, 0), false),
+        (0, 0, 9, Verdict::Open),
+        (7, 0, 3, Verdict::Lagging),
+        (7, 0, 9, Verdict::Open),
+        (7, 5, 9, Verdict::Open),
+        (7, 6, 4, Verdict::Lagging),
+        (7, 6, 9, Verdict::Ripe),
+        (7, 6, 0, Verdict::Lagging),
     ];
-    for (first, second, low, place, is_ripe) in table {
-        assert!(rt; judged_closing(alloc, first, second, low) == Ok((place, is_ripe)));
+    for (first, second, low, verdict) in table {
+        let is_ripe = verdict == Verdict::Ripe;
+        assert!(rt; judged_closing(alloc, first, second, low) == Ok((verdict, is_ripe)));
     }
 }

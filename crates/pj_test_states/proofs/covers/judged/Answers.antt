@@ -16,14 +16,14 @@ certified spec schemes cert a b c =
 fitting : (spec : JoinSpec) (schemes : List (List (List Bool))) → spec ≡ chain → schemes ≡ chain_schemes → FitSchemes spec.inputs schemes
 fitting spec schemes a b = subst (λ (s : JoinSpec). FitSchemes s.inputs schemes) (sym a) (subst (λ (l : List (List (List Bool))). FitSchemes chain.inputs l) (sym b) chain_fits)
 
-pub first_uncovered-found-requires-clause-schemes : goal.first_uncovered-found-requires-clause-schemes
-first_uncovered-found-requires-clause-schemes c = fitting c.in_ok-spec.spec c.in_ok-schemes.schemes c.in_ok-spec.ensures c.in_ok-schemes.ensures
+pub judge_row-said-requires-clause-schemes : goal.judge_row-said-requires-clause-schemes
+judge_row-said-requires-clause-schemes c = fitting c.in_ok-spec.spec c.in_ok-schemes.schemes c.in_ok-spec.ensures c.in_ok-schemes.ensures
 
 pub ripe-is_ripe-requires-clause-schemes : goal.ripe-is_ripe-requires-clause-schemes
 ripe-is_ripe-requires-clause-schemes c = fitting c.in_ok-spec.spec c.in_ok-schemes.schemes c.in_ok-spec.ensures c.in_ok-schemes.ensures
 
-pub first_uncovered-found-requires-clause-certified : goal.first_uncovered-found-requires-clause-certified
-first_uncovered-found-requires-clause-certified c = certified c.in_ok-spec.spec c.in_ok-schemes.schemes c.in_ok-cert.cert c.in_ok-spec.ensures c.in_ok-schemes.ensures c.in_ok-cert.ensures
+pub judge_row-said-requires-clause-certified : goal.judge_row-said-requires-clause-certified
+judge_row-said-requires-clause-certified c = certified c.in_ok-spec.spec c.in_ok-schemes.schemes c.in_ok-cert.cert c.in_ok-spec.ensures c.in_ok-schemes.ensures c.in_ok-cert.ensures
 
 pub ripe-is_ripe-requires-clause-certified : goal.ripe-is_ripe-requires-clause-certified
 ripe-is_ripe-requires-clause-certified c = certified c.in_ok-spec.spec c.in_ok-schemes.schemes c.in_ok-cert.cert c.in_ok-spec.ensures c.in_ok-schemes.ensures c.in_ok-cert.ensures

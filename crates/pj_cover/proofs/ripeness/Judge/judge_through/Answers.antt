@@ -1,6 +1,6 @@
 use Rattle.std.proofs.Common.{◌≡◌, ◌∷◌, ◌++◌, [], ◌∙◌, sym, subst, List, map, ap}
 use Rattle.pj_events.specs.Join.{TupleAt}
-use Rattle.pj_cover.specs.Asking.{IsJudgedThrough, IsOnWalk, entries, found_if, known_of, tuple_of}
+use Rattle.pj_cover.specs.Asking.{IsJudgedThrough, IsOnWalk, entries, known_of, tuple_of}
 use Rattle.pj_cover.proofs.ripeness.Judge.judge_through.Goals as goal
 
 pub seek_through-requires : goal.seek_through-requires
@@ -16,4 +16,4 @@ pub returns : goal.returns
 returns g c =
     let k = known_of c.args.self.now.spec.now (g.R.StoredRows.rows c.args.self.now.rows.now) c.args.self.now.stores.now c.args.self.now.low in
     let alone : c.push.new.self.items ≡ c.args.own ∷ [] = c.push.ensures.items ∙ ap (λ (xs : List TupleAt). xs ++ c.args.own ∷ []) c.new-parts.ensures in
-    subst (λ (xs : List TupleAt). IsJudgedThrough k (entries c.args.self.now.schemes.now c.args.self.now.cert.now) 0 xs (map (tuple_of c.args.step.input) (g.R.StoredRows.rows c.args.self.now.rows.now c.args.step.input)) (found_if c.seek_through.result c.seek_through.new.found)) alone c.seek_through.ensures.judged
+    subst (λ (xs : List TupleAt). IsJudgedThrough k (entries c.args.self.now.schemes.now c.args.self.now.cert.now) xs (map (tuple_of c.args.step.input) (g.R.StoredRows.rows c.args.self.now.rows.now c.args.step.input)) c.seek_through.result) alone c.seek_through.ensures.judged

@@ -1,11 +1,11 @@
-use Rattle.std.proofs.Common.{◌≡◌, ◌+◌, List, Option, Some, ap, sym, ◌∙◌, arith}
+use Rattle.std.proofs.Common.{◌≡◌, ◌+◌, List, Option, Some, ap, subst, sym, ◌∙◌, arith}
 use Rattle.pj_value.specs.declared.values.Value.{Value}
 use Rattle.pj_events.specs.Join.{class_with, constant}
 use Rattle.pj_cover.specs.Asking.{first_there}
 use Rattle.pj_cover.specs.Givens.{one_cell}
-use Rattle.pj_cover.specs.Stores.{covered_below}
+use Rattle.pj_cover.specs.Stores.{TellsCover}
 use Rattle.pj_cover.proofs.OneCell.{one_instance}
-use Rattle.pj_cover.proofs.instances.one_is_covered.Goals as goal
+use Rattle.pj_cover.proofs.instances.covering_one.Goals as goal
 
 some-value : (v w : Value) → Some v ≡ Some w → v ≡ w
 some-value v w e = cc
@@ -18,6 +18,5 @@ returns c =
     let same : value ≡ c.requires.found.0 = some-value value c.requires.found.0 (c.in-Some.ensures ∙ (ap (first_there rows) c.class_with.ensures ∙ c.requires.found.1)) in
     let first : 0 + c.args.column ≡ c.args.column = omega arith in
     let is : constant (class_with classes c.args.input (0 + c.args.column)) rows ≡ value = ap (λ n. constant (class_with classes c.args.input n) rows) first ∙ (c.requires.found.2 ∙ sym same) in
-    c.covers_one.ensures
-    ∙ ap (λ (cells : List (Option Value)). covered_below c.args.store.now.kept c.args.below cells)
-    (ap (λ n. one_cell n c.args.column value) (sym c.requires.fits) ∙ one_instance classes c.args.input rows 0 c.args.column c.args.scheme.now value c.requires.only is)
+    subst (λ (cells : List (Option Value)). TellsCover c.args.store.now.kept c.args.below cells c.covering_cells.result)
+    (ap (λ n. one_cell n c.args.column value) c.len.ensures ∙ one_instance classes c.args.input rows 0 c.args.column c.args.scheme.now value c.requires.only is) c.covering_cells.ensures
