@@ -1,17 +1,22 @@
 -- Joins in which two columns decide.
-use Rattle.std.proofs.Common.{◌≡◌, ℕ, Bool, true, false, not, ◌==◌, ◌&&◌, ◌||◌, ◌<◌, ◌≤◌, List, [], ◌∷◌, length, get_or, Option, Some, None, refl, sym, ap, ap₂, ◌∙◌, arith}
+use Rattle.std.proofs.Common.{◌≡◌, ℕ, Bool, true, false, not, ◌==◌, ◌&&◌, ◌||◌, ◌<◌, ◌≤◌, List, [], ◌∷◌, length, get_or, Option, Some, None, refl, sym, ap₂, ◌∙◌, subst, arith}
 use Rattle.std.specs.List.{slice_get}
 use Rattle.std.proofs.lemmas.Option.{get_or_from_slice_get}
 use Rattle.pj_value.specs.declared.values.Value.{Value}
 use Rattle.pj_join.specs.Sides.{tuple_in}
 use Rattle.std.proofs.lemmas.Bool.{eq-eqb, eqb-true, false_from_ne_true, false≢true}
-use Rattle.std.proofs.Math.Bool.{and-true}
 use Rattle.pj_value.specs.Values.{value_eq}
+use Rattle.std.proofs.Math.Bool.{and-true}
 use Rattle.pj_value.proofs.Orders.{equal_itself, same_if_equal}
 use Rattle.pj_value.specs.Options.{is_value}
-use Rattle.pj_events.specs.Join.{ClassCol, TupleAt, no_value, value_at}
+use Rattle.pj_events.specs.Join.{ClassCol, In, TupleAt, no_value, value_at}
 use Rattle.pj_join.specs.Walks.{all_have, suits, suits_class}
-use Rattle.pj_join.specs.Decided.{AllJoinAt, ClassDecides, ColumnsDecide}
+use Rattle.pj_value.proofs.Members.{In-filter}
+use Rattle.pj_state.specs.declared.shared.Stored.{Stored}
+use Rattle.pj_state.specs.States.{has_value, rows_with}
+use Rattle.pj_join.specs.Decided.{AllSuit}
+use Rattle.pj_join.specs.Routes.{TwoDecide}
+use Rattle.pj_join.specs.declared.route.ProbeLink.{ProbeLink}
 
 both_first : (p q r s t rest u v w : Bool) → p ≡ false → q ≡ true → r ≡ true → s ≡ false → t ≡ true
     → ((not p || rest) && ((not q || (((not p || u) && ((not r || v) && true)) && (((not q || t) && ((not s || w) && true)) && true))) && true)) ≡ v
@@ -32,37 +37,37 @@ both_second p q r s t rest u v w ep eq er es et = rw (ep, eq, er, es, et) (last 
 apart : (m n : ℕ) → (m ≡ n → ⊥) → (m == n) ≡ false
 apart m n differ = false_from_ne_true (m == n) (λ e. differ (eqb-true m n e))
 
-pub first_decides : (a b : ClassCol) (own input : ℕ) → a.input ≡ own → b.input ≡ input → (own ≡ input → ⊥) → ClassDecides (a ∷ b ∷ []) own input a.column b.column
+first_decides : (a b : ClassCol) (own input : ℕ) → a.input ≡ own → b.input ≡ input → (own ≡ input → ⊥) → (x y : TupleAt) → x.input ≡ own → y.input ≡ input
+    → suits_class (x ∷ []) y (a ∷ b ∷ []) ≡ value_eq (value_at y.row b.column) (value_at x.row a.column)
 first_decides a b own input ea eb differ = λ x y ex ey.
     let v = value_at y.row b.column in
     both_first (y.input == a.input) (y.input == b.input) (x.input == a.input) (x.input == b.input) (value_eq v v) (all_have (a ∷ b ∷ []) (x ∷ []) y (value_at y.row a.column)) (value_eq v (value_at y.row a.column)) (value_eq v (value_at x.row a.column)) (value_eq v (value_at x.row b.column))
     (apart y.input a.input (λ e. differ (sym ea ∙ (sym e ∙ ey)))) (eq-eqb y.input b.input (ey ∙ sym eb)) (eq-eqb x.input a.input (ex ∙ sym ea)) (apart x.input b.input (λ e. differ (sym ex ∙ (e ∙ eb)))) (equal_itself v)
 
-pub second_decides : (a b : ClassCol) (own input : ℕ) → b.input ≡ own → a.input ≡ input → (own ≡ input → ⊥) → ClassDecides (a ∷ b ∷ []) own input b.column a.column
+second_decides : (a b : ClassCol) (own input : ℕ) → b.input ≡ own → a.input ≡ input → (own ≡ input → ⊥) → (x y : TupleAt) → x.input ≡ own → y.input ≡ input
+    → suits_class (x ∷ []) y (a ∷ b ∷ []) ≡ value_eq (value_at y.row a.column) (value_at x.row b.column)
 second_decides a b own input eb ea differ = λ x y ex ey.
     let v = value_at y.row a.column in
     both_second (y.input == a.input) (y.input == b.input) (x.input == a.input) (x.input == b.input) (value_eq v v) (all_have (a ∷ b ∷ []) (x ∷ []) y (value_at y.row b.column)) (value_eq v (value_at x.row a.column)) (value_eq v (value_at x.row b.column)) (value_eq v (value_at y.row b.column))
     (eq-eqb y.input a.input (ey ∙ sym ea)) (apart y.input b.input (λ e. differ (sym eb ∙ (sym e ∙ ey)))) (apart x.input a.input (λ e. differ (sym ex ∙ (e ∙ ea)))) (eq-eqb x.input b.input (ex ∙ sym eb)) (equal_itself v)
 
-pub one_class : (class : List ClassCol) (x : TupleAt) (input mine theirs : ℕ) → ClassDecides class x.input input mine theirs → ColumnsDecide (class ∷ []) x input mine theirs
-one_class class x input mine theirs decides = λ y of. and-true (suits_class (x ∷ []) y class) ∙ decides x y refl of
-
-pub two_columns : (class : List ClassCol) (d e : ClassCol) → 2 ≤ length class → length class < 3 → class ≡ get_or class 0 d ∷ get_or class 1 e ∷ []
+two_columns : (class : List ClassCol) (d e : ClassCol) → 2 ≤ length class → length class < 3 → class ≡ get_or class 0 d ∷ get_or class 1 e ∷ []
 two_columns [] d e least below = absurd (omega (arith, least))
 two_columns (a ∷ []) d e least below = absurd (omega (arith, least))
 two_columns (a ∷ b ∷ []) d e least below = refl
 two_columns (a ∷ b ∷ c ∷ cs) d e least below = absurd (omega (arith, below))
 
--- a row that has the tuple's own value in the column that decides joins with it
-pub decided_joins : (classes : List (List ClassCol)) (x : TupleAt) (input mine theirs column : ℕ) (value : Value) → ColumnsDecide classes x input mine theirs → theirs ≡ column → value_eq (value_at x.row mine) value ≡ true → AllJoinAt classes x input column value
-decided_joins classes x input mine theirs column value decide same own s t = go (slice_get s.row column) refl t
+-- rows that have the tuple's own value in the column that decides join with it
+pub decided_join : (classes : List (List ClassCol)) (x : TupleAt) (input : ℕ) (link : ProbeLink) (value : Value) (rows found : List Stored) → TwoDecide classes x.input input link.from_column link.index_column → Some value ≡ slice_get x.row link.from_column
+    → found ≡ rows_with link.index_column value rows → AllSuit classes x input found
+decided_join classes x input link value rows found two own is s h = go (slice_get s.row link.index_column) refl (In-filter (has_value link.index_column value) s rows (subst (λ (ss : List Stored). In s ss) is h)).1
   where
-    go : (o : Option Value) → slice_get s.row column ≡ o → is_value value o ≡ true → suits classes (x ∷ []) (tuple_in input s) ≡ true
+    go : (o : Option Value) → slice_get s.row link.index_column ≡ o → is_value value o ≡ true → suits classes (x ∷ []) (tuple_in input s) ≡ true
     go None e u = absurd (false≢true u)
     go (Some w) e u =
-        let there : value_at s.row theirs ≡ w = ap (value_at s.row) same ∙ get_or_from_slice_get s.row column w no_value e in
-        let equal : w ≡ value_at x.row mine = same_if_equal w value u ∙ sym (same_if_equal (value_at x.row mine) value own) in
-        decide (tuple_in input s) refl ∙ ap₂ (λ (a b : Value). value_eq a b) there (sym equal) ∙ equal_itself w
+        let there : value_at s.row link.index_column ≡ w = get_or_from_slice_get s.row link.index_column w no_value e in
+        let equal : w ≡ value_at x.row link.from_column = same_if_equal w value u ∙ sym (get_or_from_slice_get x.row link.from_column value no_value (sym own)) in
+        two.both x (tuple_in input s) refl refl ∙ ap₂ (λ (a b : Value). value_eq a b) there (sym equal) ∙ equal_itself w
 
 -- ---- a class with one column of an input
 
@@ -80,21 +85,40 @@ one_first p q rest u v eq ev = rw (eq, ev) (last p)
     last true = refl
     last false = refl
 
-pub first_apart : (class : List ClassCol) (d : ClassCol) (input : ℕ) → 2 ≤ length class → length class < 3 → ((get_or class 0 d).input ≡ input → ⊥) → (x : TupleAt) → x.input ≡ input → suits_class [] x class ≡ true
-first_apart [] d input least below differ = absurd (omega (arith, least))
-first_apart (a ∷ []) d input least below differ = absurd (omega (arith, least))
-first_apart (a ∷ b ∷ []) d input least below differ = λ x own.
+first_apart : (a b : ClassCol) (input : ℕ) → (a.input ≡ input → ⊥) → (x : TupleAt) → x.input ≡ input → suits_class [] x (a ∷ b ∷ []) ≡ true
+first_apart a b input differ = λ x own.
     one_second (x.input == a.input) (x.input == b.input) (all_have (a ∷ b ∷ []) [] x (value_at x.row a.column)) (value_eq (value_at x.row b.column) (value_at x.row a.column)) (value_eq (value_at x.row b.column) (value_at x.row b.column))
     (apart x.input a.input (λ e. differ (sym e ∙ own))) (equal_itself (value_at x.row b.column))
-first_apart (a ∷ b ∷ c ∷ cs) d input least below differ = absurd (omega (arith, below))
 
-pub second_apart : (class : List ClassCol) (d : ClassCol) (input : ℕ) → 2 ≤ length class → length class < 3 → ((get_or class 1 d).input ≡ input → ⊥) → (x : TupleAt) → x.input ≡ input → suits_class [] x class ≡ true
-second_apart [] d input least below differ = absurd (omega (arith, least))
-second_apart (a ∷ []) d input least below differ = absurd (omega (arith, least))
-second_apart (a ∷ b ∷ []) d input least below differ = λ x own.
+second_apart : (a b : ClassCol) (input : ℕ) → (b.input ≡ input → ⊥) → (x : TupleAt) → x.input ≡ input → suits_class [] x (a ∷ b ∷ []) ≡ true
+second_apart a b input differ = λ x own.
     one_first (x.input == a.input) (x.input == b.input) (all_have (a ∷ b ∷ []) [] x (value_at x.row b.column)) (value_eq (value_at x.row a.column) (value_at x.row b.column)) (value_eq (value_at x.row a.column) (value_at x.row a.column))
     (apart x.input b.input (λ e. differ (sym e ∙ own))) (equal_itself (value_at x.row a.column))
-second_apart (a ∷ b ∷ c ∷ cs) d input least below differ = absurd (omega (arith, below))
 
-pub one_alone : (class : List ClassCol) (x : TupleAt) → suits_class [] x class ≡ true → suits (class ∷ []) [] x ≡ true
-one_alone class x t = and-true (suits_class [] x class) ∙ t
+-- ---- a link whose columns are a class
+
+pub own_first : (class : List ClassCol) (own input : ℕ) (link : ProbeLink) (d e : ClassCol) → 2 ≤ length class → length class < 3 → (own ≡ input → ⊥) → get_or class 0 d ≡ record { input = own; column = link.from_column } → get_or class 1 e ≡ record { input = input; column = link.index_column }
+    → TwoDecide (class ∷ []) own input link.from_column link.index_column
+own_first class own input link d e least below differ first second = subst (λ (cs : List ClassCol). TwoDecide (cs ∷ []) own input link.from_column link.index_column) (sym (two_columns class d e least below ∙ ap₂ (λ (a b : ClassCol). a ∷ b ∷ []) first second)) record {
+  alone = λ x at. and-true (suits_class [] x (mine ∷ theirs ∷ [])) ∙ second_apart mine theirs own (λ q. differ (sym q)) x at;
+  both = λ x y ex ey. and-true (suits_class (x ∷ []) y (mine ∷ theirs ∷ [])) ∙ first_decides mine theirs own input refl refl differ x y ex ey;
+}
+  where
+    mine : ClassCol
+    mine = record { input = own; column = link.from_column }
+
+    theirs : ClassCol
+    theirs = record { input = input; column = link.index_column }
+
+pub own_second : (class : List ClassCol) (own input : ℕ) (link : ProbeLink) (d e : ClassCol) → 2 ≤ length class → length class < 3 → (own ≡ input → ⊥) → get_or class 1 e ≡ record { input = own; column = link.from_column } → get_or class 0 d ≡ record { input = input; column = link.index_column }
+    → TwoDecide (class ∷ []) own input link.from_column link.index_column
+own_second class own input link d e least below differ first second = subst (λ (cs : List ClassCol). TwoDecide (cs ∷ []) own input link.from_column link.index_column) (sym (two_columns class d e least below ∙ ap₂ (λ (a b : ClassCol). a ∷ b ∷ []) second first)) record {
+  alone = λ x at. and-true (suits_class [] x (theirs ∷ mine ∷ [])) ∙ first_apart theirs mine own (λ q. differ (sym q)) x at;
+  both = λ x y ex ey. and-true (suits_class (x ∷ []) y (theirs ∷ mine ∷ [])) ∙ second_decides theirs mine own input refl refl differ x y ex ey;
+}
+  where
+    mine : ClassCol
+    mine = record { input = own; column = link.from_column }
+
+    theirs : ClassCol
+    theirs = record { input = input; column = link.index_column }

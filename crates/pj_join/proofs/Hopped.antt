@@ -4,10 +4,10 @@ use Rattle.std.specs.List.{list_all, slice_get}
 use Rattle.std.specs.Prelude.{IfOk, IfSome, Result, Ok, Err}
 use Rattle.std.proofs.lemmas.Bool.{cases_lt, eqb-true, eq-eqb, false≢true, false_from_ne_true, lt-ltb, ltb-true}
 use Rattle.std.proofs.lemmas.List.Elements.{filter-append}
-use Rattle.std.proofs.lemmas.List.{get_or_past, get_or-set_other, get_or-set_same, length-append, length-map, map-append, take_more}
+use Rattle.std.proofs.lemmas.List.{get_or_append_left, get_or_past, get_or-set_other, get_or-set_same, length-append, length-map, map-append, take_all, take_more}
 use Rattle.std.proofs.lemmas.Option.{get_or_from_slice_get, slice_get_within, slice_get-get_or}
 use Rattle.pj_value.specs.Values.{value_eq}
-use Rattle.pj_value.proofs.Members.{In-append_left, In-append_right, In-append_cases, In-filter, In-filter_from, In-flat_map, In-flat_map_from, In-map, In-map_from, all_from, filter-agree, filter-all, filter-filter, in-place, filter_map_swap}
+use Rattle.pj_value.proofs.Members.{In-append_left, In-append_right, In-append_cases, In-filter, In-filter_from, In-flat_map, In-flat_map_from, In-map, In-map_from, all_from, filter-agree, filter-all, filter-filter, filter_map_swap}
 use Rattle.pj_value.proofs.Orders.{equal_itself}
 use Rattle.pj_value.proofs.Numbers.{has-in, in-has}
 use Rattle.pj_value.specs.Options.{is_value}
@@ -15,14 +15,19 @@ use Rattle.pj_state.specs.declared.shared.Stored.{Stored}
 use Rattle.pj_state.specs.Rising.{IsRising, itself}
 use Rattle.pj_state.specs.States.{StateView, is_below, has_value, pair_of, pairs, row_under, rows_below, rows_with, stored, ticket_of, tickets_of}
 use Rattle.pj_probe.specs.Walks.{sides_at, tuple_at}
-use Rattle.pj_events.specs.Join.{ClassCol, In, TupleAt, Value, agree, has, no_value, product, upto_from, value_at}
+use Rattle.pj_events.specs.Join.{ClassCol, In, TupleAt, Value, agree, has, no_value, product, upto_from, value_at, joined}
+use Rattle.pj_probe.proofs.Combining.{combined-lacking}
 use Rattle.pj_join_laws.proofs.Matching.{agree-at, value-in}
 use Rattle.pj_join.proofs.Halved.{some_rise}
-use Rattle.pj_join.specs.Hops.{AreChosen, AreKnown, AreLinked, AreMore, BeginsWith, FindSame, HaveTickets, IsChoice, KnowsMore, LacksOne, Links, LinksBy, all_older, all_under, has_ticket, is_among, older_at, older_under}
+use Rattle.pj_join.specs.Hops.{AreFound, AreLinked, AreMore, AreStepped, BeginsWith, FindAll, HaveTickets, IsChoice, all_older, all_under, has_ticket, is_among, older_at, older_under}
+use Rattle.pj_join.specs.Routes.{AreInClasses, InOneClass, IsRoute, IsStep, LeadsTo, columns_of, is_reached}
+use Rattle.pj_join.specs.declared.route.ProbeLink.{ProbeLink}
+use Rattle.pj_join.specs.declared.route.ProbeStep.{ProbeStep}
+use Rattle.pj_join.proofs.Routed.{columns_at, own_reached, reached_by, reached_now, step_there, steps_with}
 use Rattle.pj_join.specs.Sides.{IsWide, state_at}
 use Rattle.pj_join.specs.Watching.{under_with}
 use Rattle.pj_join.specs.Sides.{no_state, tuple_in, tuples_in}
-use Rattle.pj_join.specs.Walks.{AreNarrowed, IsNarrowed, may_join, older_joins, suits}
+use Rattle.pj_join.specs.Walks.{AreNarrowed, IsNarrowed, choices, may_join, older_joins, suits}
 use Rattle.pj_join_laws.proofs.Upto.{length-upto, get_or-upto, map-upto}
 use Rattle.pj_join_laws.proofs.Results.{product-filter}
 use Rattle.pj_join.proofs.Calling.{same-at}
@@ -35,18 +40,6 @@ use Rattle.pj_cover.specs.Rising.{ticket_in}
 
 abbrev pub Pairs : Type 0
 Pairs = List (ℕ × List Value)
-
--- ---- tickets
-
--- ---- links
-
-pub link_by : (class : List ClassCol) (known : List Bool) (lists : List Pairs) (input mine i : ℕ) (d : ClassCol) (rows : Pairs) → In (record { input = input; column = mine }) class → i < length class → slice_get known (get_or class i d).input ≡ Some true
-    → get_or lists (get_or class i d).input [] ≡ rows → LinksBy class known lists input mine (get_or class i d).input (get_or class i d).column rows
-link_by class known lists input mine i d rows own lt is there = record { own_column = own; their_column = in-place class d i lt; known_there = is; rows_there = there }
-
-pub links_by_class : (classes : List (List ClassCol)) (known : List Bool) (lists : List Pairs) (class : List ClassCol) (i input mine other theirs : ℕ) (rows : Pairs) → i < length classes → class ≡ get_or classes i class
-    → LinksBy class known lists input mine other theirs rows → Links classes known lists input mine other theirs rows
-links_by_class classes known lists class i input mine other theirs rows lt is by = (class, subst (λ (c : List ClassCol). In c classes) (sym is) (in-place classes class i lt), by)
 
 -- ---- rows under tickets
 
@@ -98,9 +91,9 @@ under_more below rows tickets i t found found' lt is before now =
     ∙ sym (map-append pair_of (all_under below rows (take i tickets)) (older_under below rows t))
     ∙ ap pairs (sym (flat-more (older_under below rows) (take i tickets) t) ∙ ap (all_under below rows) (ap (λ n. take i tickets ++ n ∷ []) is ∙ sym (take_more tickets i 0 lt)))
 
-pub linked_is : (state : StateView) (mine theirs below : ℕ) (others found : Pairs) (tickets ordered : List ℕ) → IsRising ticket_of state.rows → IsRising itself ordered → ((n : ℕ) → In n tickets → In n ordered)
+linked-is : (state : StateView) (mine theirs below : ℕ) (others found : Pairs) (tickets ordered : List ℕ) → IsRising ticket_of state.rows → IsRising itself ordered → ((n : ℕ) → In n tickets → In n ordered)
     → HaveTickets state.rows mine theirs others tickets → found ≡ pairs (all_under below state.rows ordered) → AreLinked state mine theirs others below found
-linked_is state mine theirs below others found tickets ordered r t all have is = (ordered, λ q h s k e. all s.ticket (have q h s k e), is ∙ ap pairs (all-under-is below state.rows ordered r t))
+linked-is state mine theirs below others found tickets ordered r t all have is = (ordered, λ q h s k e. all s.ticket (have q h s k e), is ∙ ap pairs (all-under-is below state.rows ordered r t))
 
 -- the row at a place is older, so it is one more
 pub older_more : (below : ℕ) (rows : List Stored) (at : ℕ) (s : Stored) (found found' : Pairs) → slice_get rows at ≡ Some s → s.ticket < below → found ≡ pairs (rows_below below (take at rows)) → found' ≡ found ++ pair_of s ∷ []
@@ -117,10 +110,10 @@ pub older_stop : (below : ℕ) (rows : List Stored) (at : ℕ) (s : Stored) (fou
 older_stop below rows at s found rising here late before = before ∙ ap pairs (picked_stop (is_below below) ticket_of below rows at s rising (λ t k. ltb-true t.ticket below k) here late)
 
 -- one row that tells is all that do
-pub linked_single : {E : Type 0} (state : StateView) (mine theirs below : ℕ) (rows : Pairs) (q : ℕ × List Value) (row : List Value) (result : Result (Option Pairs) E) → 1 ≤ length rows → length rows < 2 → q ≡ get_or rows 0 q → row ≡ q.1
-    → ((ticket : ℕ) → IfOk result (λ found. IfSome found (AreLinked state mine theirs ((ticket, row) ∷ []) below))) → IfOk result (λ found. IfSome found (AreLinked state mine theirs rows below))
+pub linked_single : {E : Type 0} (state : StateView) (mine theirs below : ℕ) (rows : Pairs) (q : ℕ × List Value) (row : List Value) (result : Result Pairs E) → 1 ≤ length rows → length rows < 2 → q ≡ get_or rows 0 q → row ≡ q.1
+    → ((ticket : ℕ) → IfOk result (AreLinked state mine theirs ((ticket, row) ∷ []) below)) → IfOk result (AreLinked state mine theirs rows below)
 linked_single state mine theirs below rows q row result some one is e all =
-    subst (λ (rs : Pairs). IfOk result (λ found. IfSome found (AreLinked state mine theirs rs below))) (ap (λ (r : List Value). (q.0, r) ∷ []) e ∙ single rows is some one) (all q.0)
+    subst (λ (rs : Pairs). IfOk result (AreLinked state mine theirs rs below)) (ap (λ (r : List Value). (q.0, r) ∷ []) e ∙ single rows is some one) (all q.0)
   where
     single : (rs : Pairs) → q ≡ get_or rs 0 q → 1 ≤ length rs → length rs < 2 → q ∷ [] ≡ rs
     single [] i s o = absurd (omega (arith, s))
@@ -157,10 +150,10 @@ more_with state mine theirs row value old more new wide indexed there is now = r
         ∙ equal_itself value
 
 -- the rows with the value of one row
-pub linked_one : (state : StateView) (mine theirs below ticket : ℕ) (row : List Value) (value : Value) (tickets : List ℕ) (found : Pairs) → IsRising ticket_of state.rows → IsWide state → In mine state.columns
+linked-one : (state : StateView) (mine theirs below ticket : ℕ) (row : List Value) (value : Value) (tickets : List ℕ) (found : Pairs) → IsRising ticket_of state.rows → IsWide state → In mine state.columns
     → Some value ≡ slice_get row theirs → tickets ≡ tickets_of (rows_with mine value state.rows) → found ≡ pairs (all_under below state.rows tickets) → AreLinked state mine theirs ((ticket, row) ∷ []) below found
-linked_one state mine theirs below ticket row value tickets found rising wide indexed there are is =
-    linked_is state mine theirs below ((ticket, row) ∷ []) found tickets tickets rising (subst (λ (ns : List ℕ). IsRising itself ns) (sym are) (some_rise (has_value mine value) state.rows rising)) (λ n h. h) have is
+linked-one state mine theirs below ticket row value tickets found rising wide indexed there are is =
+    linked-is state mine theirs below ((ticket, row) ∷ []) found tickets tickets rising (subst (λ (ns : List ℕ). IsRising itself ns) (sym are) (some_rise (has_value mine value) state.rows rising)) (λ n h. h) have is
   where
     more : AreMore state.rows mine (value_at row theirs) [] tickets
     more = more_with state mine theirs row value [] tickets tickets wide indexed (sym there) are refl
@@ -168,6 +161,26 @@ linked_one state mine theirs below ticket row value tickets found rising wide in
     have : HaveTickets state.rows mine theirs ((ticket, row) ∷ []) tickets
     have r (inl e) s k v = more.more s k (v ∙ ap (λ (q : ℕ × List Value). value_at q.1 theirs) (sym e))
     have r (inr h) s k v = absurd h
+
+-- the same of what a call answers
+pub linked_one : {E : Type 0} (state : StateView) (mine theirs below ticket : ℕ) (row : List Value) (value : Value) (tickets : List ℕ) (result : Result Pairs E) → IsRising ticket_of state.rows → IsWide state → In mine state.columns
+    → Some value ≡ slice_get row theirs → tickets ≡ tickets_of (rows_with mine value state.rows) → IfOk result (λ found. found ≡ pairs (all_under below state.rows tickets)) → IfOk result (AreLinked state mine theirs ((ticket, row) ∷ []) below)
+linked_one state mine theirs below ticket row value tickets (Ok found) rising wide indexed there are is = linked-one state mine theirs below ticket row value tickets found rising wide indexed there are is
+linked_one state mine theirs below ticket row value tickets (Err e) rising wide indexed there are is = tt
+
+pub linked_all : {E : Type 0} (state : StateView) (mine theirs below : ℕ) (others : Pairs) (tickets ordered : List ℕ) (result : Result Pairs E) → IsRising ticket_of state.rows → IsRising itself ordered → ((n : ℕ) → In n tickets → In n ordered)
+    → HaveTickets state.rows mine theirs others tickets → IfOk result (λ found. found ≡ pairs (all_under below state.rows ordered)) → IfOk result (AreLinked state mine theirs others below)
+linked_all state mine theirs below others tickets ordered (Ok found) r t all have is = linked-is state mine theirs below others found tickets ordered r t all have is
+linked_all state mine theirs below others tickets ordered (Err e) r t all have is = tt
+
+-- among all older rows are those with a value
+pub linked_anyhow : {E : Type 0} (state : StateView) (mine theirs below : ℕ) (others : Pairs) (result : Result Pairs E) → IfOk result (λ found. found ≡ pairs (rows_below below state.rows)) → IfOk result (AreLinked state mine theirs others below)
+linked_anyhow state mine theirs below others (Err e) is = tt
+linked_anyhow state mine theirs below others (Ok found) is = (
+  tickets_of state.rows,
+  λ q h s k e. In-map_from ticket_of s state.rows k,
+  is ∙ ap pairs (sym (filter-all (has_ticket (tickets_of state.rows)) (rows_below below state.rows) (λ s h. in-has (tickets_of state.rows) s.ticket (In-map_from ticket_of s state.rows (In-filter (is_below below) s state.rows h).0)))),
+)
 
 -- ---- combinations of older tuples
 
@@ -244,56 +257,42 @@ older-row own states k y ne h =
     let s = In-map pair_of p.0 (rows_below own.ticket (state_at states k).rows) p.1 in
     (s.0, s.1, ap (tuple_at k) s.2 ∙ p.2)
 
-pub hopped : (classes : List (List ClassCol)) (own : TupleAt) (states : List StateView) (known : List Bool) (lists : List Pairs) (input mine other theirs : ℕ) (rows found : Pairs) → AreChosen classes own states known lists → (input ≡ own.input → ⊥)
-    → Links classes known lists input mine other theirs rows → AreLinked (state_at states input) mine theirs rows own.ticket found → IsChoice classes own states input found
-hopped classes own states known lists input mine other theirs rows found chosen ne link linked = record {
+-- the rows that a link finds beside those of another input
+hopped : (classes : List (List ClassCol)) (own : TupleAt) (states : List StateView) (input : ℕ) (link : ProbeLink) (rows found : Pairs) → IsChoice classes own states link.from_input rows → link.from_input < length states → (input ≡ own.input → ⊥)
+    → InOneClass classes input link → AreLinked (state_at states input) link.index_column link.from_column rows own.ticket found → IsChoice classes own states input found
+hopped classes own states input link rows found choice within ne class linked = record {
   cut = ap (map (tuple_at input)) linked.2 ∙ cut-by linked.0 input (rows_below own.ticket (state_at states input).rows)
       ∙ ap (λ (f : Pairs). filter (is_among f) (map (tuple_at input) (pairs (rows_below own.ticket (state_at states input).rows)))) (sym linked.2)
       ∙ ap (filter (is_among found)) (sym (older-others own states input ne));
   passes = pass;
 }
   where
-    by : LinksBy link.0 known lists input mine other theirs rows
-    by = link.2
+    mine : ℕ
+    mine = link.index_column
 
-    choice : IsChoice classes own states other rows
-    choice = subst (λ (rs : Pairs). IsChoice classes own states other rs) by.rows_there (chosen.each other by.known_there)
+    other : ℕ
+    other = link.from_input
+
+    theirs : ℕ
+    theirs = link.from_column
 
     pass : (c : List TupleAt) → In c (product (all_older own states)) → agree classes c ≡ true → (y : TupleAt) → In y c → y.input ≡ input → is_among found y ≡ true
     pass c h a y hy yi =
-        let within : other < length known = slice_get_within known other true by.known_there in
-        let x = product-some (older_at own states) 0 (length states) other (omega arith) (omega (arith, within, chosen.flags)) c h in
+        let x = product-some (older_at own states) 0 (length states) other (omega arith) (omega (arith, within)) c h in
         let xi : x.0.input ≡ other = older-input own states other x.0 x.2 in
         let r = In-map (tuple_at other) x.0 rows (subst (λ (ys : List TupleAt). In x.0 ys) (sym choice.cut) (In-filter_from (is_among rows) x.0 (older_at own states other) x.2 (choice.passes c h a x.0 x.1 xi))) in
         let s = older-row own states input y ne (subst (λ (k : ℕ). In y (older_at own states k)) yi (product-of (older_at own states) (older-input own states) 0 (length states) c h y hy)) in
         let f = In-filter (is_below own.ticket) s.0 (state_at states input).rows s.1 in
         let same : value_at y.row mine ≡ value_at x.0.row theirs =
-        agree-at classes c link.0 (value_at y.row mine) (value_at x.0.row theirs) a link.1 (value-in c link.0 y (record { input = input; column = mine }) hy by.own_column yi) (value-in c link.0 x.0 (record { input = other; column = theirs }) x.1 by.their_column xi) in
+        agree-at classes c class.0 (value_at y.row mine) (value_at x.0.row theirs) a class.1 (value-in c class.0 y (record { input = input; column = mine }) hy class.2 yi) (value-in c class.0 x.0 (record { input = other; column = theirs }) x.1 class.3 xi) in
         let told : In s.0.ticket linked.0 =
         linked.1 r.0 r.1 s.0 f.0 (ap (λ (z : TupleAt). value_at z.row mine) s.2 ∙ same ∙ ap (λ (z : TupleAt). value_at z.row theirs) (sym r.2)) in
         subst (λ (z : TupleAt). is_among found z ≡ true) s.2 (subst (λ (ps : Pairs). is_among ps (tuple_at input (pair_of s.0)) ≡ true) (sym linked.2)
         (among-from input (filter (has_ticket linked.0) (rows_below own.ticket (state_at states input).rows)) s.0
         (In-filter_from (has_ticket linked.0) s.0 (rows_below own.ticket (state_at states input).rows) s.1 (in-has linked.0 s.0.ticket told))))
 
--- where one of the inputs has no row none is wanted of another
-pub none_chosen : (classes : List (List ClassCol)) (own : TupleAt) (states : List StateView) (known : List Bool) (lists : List Pairs) (input : ℕ) (found : Pairs) → AreChosen classes own states known lists → LacksOne known lists → found ≡ [] → IsChoice classes own states input found
-none_chosen classes own states known lists input found chosen lacks is =
-    let none : IsChoice classes own states input [] = record {
-      cut = sym (nothing (older_at own states input));
-      passes = λ c h a y hy yi.
-          let within : lacks.0 < length known = slice_get_within known lacks.0 true lacks.1 in
-          let x = product-some (older_at own states) 0 (length states) lacks.0 (omega arith) (omega (arith, within, chosen.flags)) c h in
-          let among : is_among (get_or lists lacks.0 []) x.0 ≡ true = (chosen.each lacks.0 lacks.1).passes c h a x.0 x.1 (older-input own states lacks.0 x.0 x.2) in
-          absurd (false≢true (subst (λ (ps : Pairs). is_among ps x.0 ≡ true) lacks.2 among));
-    } in
-    subst (λ (ps : Pairs). IsChoice classes own states input ps) (sym is) none
-  where
-    nothing : (ys : List TupleAt) → filter (is_among []) ys ≡ []
-    nothing [] = refl
-    nothing (y ∷ ys) = nothing ys
-
 -- all older rows
-pub all_chosen : (classes : List (List ClassCol)) (own : TupleAt) (states : List StateView) (input : ℕ) (found : Pairs) → (input ≡ own.input → ⊥) → found ≡ pairs (rows_below own.ticket (state_at states input).rows) → IsChoice classes own states input found
+all_chosen : (classes : List (List ClassCol)) (own : TupleAt) (states : List StateView) (input : ℕ) (found : Pairs) → (input ≡ own.input → ⊥) → found ≡ pairs (rows_below own.ticket (state_at states input).rows) → IsChoice classes own states input found
 all_chosen classes own states input found ne is = record {
   cut = ap (map (tuple_at input)) is ∙ sym (filter-all (is_among found) (map (tuple_at input) (pairs rows)) every) ∙ ap (filter (is_among found)) (sym (older-others own states input ne));
   passes = λ c h a y hy yi.
@@ -329,122 +328,79 @@ own-chosen classes own states rows is = record {
     among : is_among rows own ≡ true
     among = in-has (map ticket_in rows) own.ticket (subst (λ (ns : List ℕ). In own.ticket ns) (ap (map (λ (z : TupleAt). z.ticket)) (sym is) ∙ tickets rows) (inl refl))
 
--- ---- what is known
-
-set-there : {A : Type 0} (xs : List A) (i : ℕ) (v : A) → i < length xs → slice_get (set xs i v) i ≡ Some v
-set-there [] i v lt = absurd (omega (arith, lt))
-set-there (x ∷ xs) zero v lt = refl
-set-there (x ∷ xs) (suc i) v lt = set-there xs i v (omega (arith, lt))
-
-set-others : {A : Type 0} (xs : List A) (i k : ℕ) (v : A) → (k ≡ i → ⊥) → slice_get (set xs i v) k ≡ slice_get xs k
-set-others [] i k v ne = refl
-set-others (x ∷ xs) zero zero v ne = absurd (ne refl)
-set-others (x ∷ xs) zero (suc k) v ne = refl
-set-others (x ∷ xs) (suc i) zero v ne = refl
-set-others (x ∷ xs) (suc i) (suc k) v ne = set-others xs i k v (λ e. ne (ap suc e))
+-- ---- steps
 
 set-length : {A : Type 0} (xs : List A) (i : ℕ) (v : A) → length (set xs i v) ≡ length xs
 set-length [] i v = refl
 set-length (x ∷ xs) zero v = refl
 set-length (x ∷ xs) (suc i) v = ap suc (set-length xs i v)
 
-pub chosen_more : (classes : List (List ClassCol)) (own : TupleAt) (states : List StateView) (known known' : List Bool) (lists lists' : List Pairs) (input : ℕ) (rows : Pairs) → AreChosen classes own states known lists → input < length states
-    → IsChoice classes own states input rows → known' ≡ set known input true → lists' ≡ set lists input rows → AreChosen classes own states known' lists'
-chosen_more classes own states known known' lists lists' input rows chosen lt choice e f = record {
-  flags = ap (λ (bs : List Bool). length bs) e ∙ set-length known input true ∙ chosen.flags;
-  count = ap (λ (ls : List Pairs). length ls) f ∙ set-length lists input rows ∙ chosen.count;
-  itself = ap (λ (bs : List Bool). slice_get bs own.input) e ∙ own-known (eqb own.input input) refl;
-  each = λ k h. at k h (eqb k input) refl;
-}
-  where
-    own-known : (b : Bool) → eqb own.input input ≡ b → slice_get (set known input true) own.input ≡ Some true
-    own-known true q = ap (slice_get (set known input true)) (eqb-true own.input input q) ∙ set-there known input true (omega (arith, lt, chosen.flags))
-    own-known false q = set-others known input own.input true (λ s. false≢true (sym q ∙ eq-eqb own.input input s)) ∙ chosen.itself
-
-    at : (k : ℕ) → slice_get known' k ≡ Some true → (b : Bool) → eqb k input ≡ b → IsChoice classes own states k (get_or lists' k [])
-    at k h true q =
-        let same : k ≡ input = eqb-true k input q in
-        let there : get_or lists' k [] ≡ rows = ap₂ (λ (ls : List Pairs) i. get_or ls i []) f same ∙ get_or-set_same lists input rows [] (omega (arith, lt, chosen.count)) in
-        subst (λ (ps : Pairs). IsChoice classes own states k ps) (sym there) (subst (λ (i : ℕ). IsChoice classes own states i rows) (sym same) choice)
-    at k h false q =
-        let ne : k ≡ input → ⊥ = λ s. false≢true (sym q ∙ eq-eqb k input s) in
-        subst (λ (ps : Pairs). IsChoice classes own states k ps) (sym (ap (λ (ls : List Pairs). get_or ls k []) f ∙ get_or-set_other lists input k rows [] ne))
-        (chosen.each k (sym (set-others known input k true ne) ∙ ap (λ (bs : List Bool). slice_get bs k) (sym e) ∙ h))
-
-pub knows_more : (known known' : List Bool) (input : ℕ) → input < length known → known' ≡ set known input true → KnowsMore input known known'
-knows_more known known' input lt e = record {
-  here = ap (λ (bs : List Bool). slice_get bs input) e ∙ set-there known input true lt;
-  others = λ k h. ap (λ (bs : List Bool). slice_get bs k) e ∙ go k h (eqb k input) refl;
-}
-  where
-    go : (k : ℕ) → slice_get known k ≡ Some true → (b : Bool) → eqb k input ≡ b → slice_get (set known input true) k ≡ Some true
-    go k h true q = ap (slice_get (set known input true)) (eqb-true k input q) ∙ set-there known input true lt
-    go k h false q = set-others known input k true (λ s. false≢true (sym q ∙ eq-eqb k input s)) ∙ h
-
--- a row that is not known is not the tuple's own
-pub not_own : (classes : List (List ClassCol)) (own : TupleAt) (states : List StateView) (known : List Bool) (lists : List Pairs) (input : ℕ) (d : Bool) → AreChosen classes own states known lists → get_or known input d ≡ false → input ≡ own.input → ⊥
-not_own classes own states known lists input d chosen f e = false≢true (sym f ∙ get_or_from_slice_get known input true d (ap (slice_get known) e ∙ chosen.itself))
-
--- ---- the beginning
-
-end-there : {A : Type 0} (xs : List A) (v : A) → slice_get (xs ++ v ∷ []) (length xs) ≡ Some v
-end-there [] v = refl
-end-there (x ∷ xs) v = end-there xs v
-
-before-end : {A : Type 0} (xs : List A) (v : A) (k : ℕ) → k < length xs → slice_get (xs ++ v ∷ []) k ≡ slice_get xs k
-before-end [] v k lt = absurd (omega (arith, lt))
-before-end (x ∷ xs) v zero lt = refl
-before-end (x ∷ xs) v (suc k) lt = before-end xs v k (omega (arith, lt))
-
-before-end-or : {A : Type 0} (xs : List A) (v d : A) (k : ℕ) → k < length xs → get_or (xs ++ v ∷ []) k d ≡ get_or xs k d
-before-end-or [] v d k lt = absurd (omega (arith, lt))
-before-end-or (x ∷ xs) v d zero lt = refl
-before-end-or (x ∷ xs) v d (suc k) lt = before-end-or xs v d k (omega (arith, lt))
-
 end-there-or : {A : Type 0} (xs : List A) (v d : A) → get_or (xs ++ v ∷ []) (length xs) d ≡ v
 end-there-or [] v d = refl
 end-there-or (x ∷ xs) v d = end-there-or xs v d
 
-pub begun_more : (own : TupleAt) (input : ℕ) (known known' : List Bool) (lists lists' : List Pairs) (b : Bool) (list : Pairs) → BeginsWith own input known lists → b ≡ eqb input own.input → (b ≡ true → map (tuple_at own.input) list ≡ own ∷ [])
-    → known' ≡ known ++ b ∷ [] → lists' ≡ lists ++ list ∷ [] → BeginsWith own (input + 1) known' lists'
-begun_more own input known known' lists lists' b list begun is it e f = record {
-  flags = omega (arith, ap (λ (bs : List Bool). length bs) e, length-append known (b ∷ []), begun.flags);
+pub begun_more : (own : TupleAt) (input : ℕ) (lists lists' : List Pairs) (b : Bool) (list : Pairs) → BeginsWith own input lists → b ≡ eqb input own.input → (b ≡ true → map (tuple_at own.input) list ≡ own ∷ [])
+    → lists' ≡ lists ++ list ∷ [] → BeginsWith own (input + 1) lists'
+begun_more own input lists lists' b list begun is it f = record {
   lists_are = omega (arith, ap (λ (ls : List Pairs). length ls) f, length-append lists (list ∷ []), begun.lists_are);
-  itself = λ lt. ap (λ (bs : List Bool). slice_get bs own.input) e ∙ here lt (eqb input own.input) refl;
-  alone = λ k h. at k (sym (ap (λ (bs : List Bool). slice_get bs k) e) ∙ h) (eqb k input) refl;
+  itself = λ lt. ap (λ (ls : List Pairs). map (tuple_at own.input) (get_or ls own.input [])) f ∙ here lt (eqb input own.input) refl;
 }
   where
-    here : own.input < input + 1 → (c : Bool) → eqb input own.input ≡ c → slice_get (known ++ b ∷ []) own.input ≡ Some true
+    here : own.input < input + 1 → (c : Bool) → eqb input own.input ≡ c → map (tuple_at own.input) (get_or (lists ++ list ∷ []) own.input []) ≡ own ∷ []
     here lt true q =
-        let same : own.input ≡ length known = sym (eqb-true input own.input q) ∙ sym begun.flags in
-        ap (slice_get (known ++ b ∷ [])) same ∙ end-there known b ∙ ap (λ v. Some v) (is ∙ q)
+        ap (λ (ps : Pairs). map (tuple_at own.input) ps) (ap (λ k. get_or (lists ++ list ∷ []) k []) (sym (eqb-true input own.input q) ∙ sym begun.lists_are) ∙ end-there-or lists list []) ∙ it (is ∙ q)
     here lt false q =
         let ne : input ≡ own.input → ⊥ = λ s. false≢true (sym q ∙ eq-eqb input own.input s) in
-        before-end known b own.input (omega (arith, lt, ne, begun.flags)) ∙ begun.itself (omega (arith, lt, ne))
+        ap (λ (ps : Pairs). map (tuple_at own.input) ps) (get_or_append_left lists (list ∷ []) [] own.input (omega (arith, lt, ne, begun.lists_are))) ∙ begun.itself (omega (arith, lt, ne))
 
-    at : (k : ℕ) → slice_get (known ++ b ∷ []) k ≡ Some true → (c : Bool) → eqb k input ≡ c → (k ≡ own.input) × (map (tuple_at k) (get_or lists' k []) ≡ own ∷ [])
-    at k h true q =
-        let same : k ≡ input = eqb-true k input q in
-        let there : Some b ≡ Some true = sym (ap (slice_get (known ++ b ∷ [])) (same ∙ sym begun.flags) ∙ end-there known b) ∙ h in
-        let t : b ≡ true = cc in
-        let own-is : k ≡ own.input = same ∙ eqb-true input own.input (sym is ∙ t) in
-        (own-is, ap₂ (λ i (ps : Pairs). map (tuple_at i) ps) own-is (ap₂ (λ (ls : List Pairs) i. get_or ls i []) f (same ∙ sym begun.lists_are) ∙ end-there-or lists list []) ∙ it t)
-    at k h false q =
-        let ne : k ≡ input → ⊥ = λ s. false≢true (sym q ∙ eq-eqb k input s) in
-        let within : k < length (known ++ b ∷ []) = slice_get_within (known ++ b ∷ []) k true h in
-        let lt : k < length known = omega (arith, within, length-append known (b ∷ []), ne, begun.flags) in
-        let old = begun.alone k (sym (before-end known b k lt) ∙ h) in
-        (old.0, ap (map (tuple_at k)) (ap (λ (ls : List Pairs). get_or ls k []) f ∙ before-end-or lists list [] k (omega (arith, lt, begun.flags, begun.lists_are))) ∙ old.1)
-
-pub begun_all : (classes : List (List ClassCol)) (own : TupleAt) (states : List StateView) (known : List Bool) (lists : List Pairs) (count : ℕ) → count ≡ length states → own.input < length states → BeginsWith own count known lists → AreChosen classes own states known lists
-begun_all classes own states known lists count e lt begun = record {
-  flags = begun.flags ∙ e;
+-- the tuple's own row was found
+pub found_begin : (own : TupleAt) (states : List StateView) (steps : List ProbeStep) (lists : List Pairs) (count : ℕ) → steps ≡ [] → count ≡ length states → own.input < length states → BeginsWith own count lists → AreFound own states steps lists
+found_begin own states steps lists count none e lt begun = subst (λ (ss : List ProbeStep). AreFound own states ss lists) (sym none) record {
   count = begun.lists_are ∙ e;
-  itself = begun.itself (omega (arith, lt, e));
-  each = λ k h.
-      let a = begun.alone k h in
-      subst (λ (i : ℕ). IsChoice classes own states i (get_or lists k [])) (sym a.0) (own-chosen classes own states (get_or lists k []) (ap (λ i. map (tuple_at i) (get_or lists k [])) (sym a.0) ∙ a.1));
+  within = λ k h. omega (arith, lt, eqb-true own.input k h);
+  each = λ classes links k h.
+      subst (λ (i : ℕ). IsChoice classes own states i (get_or lists i [])) (eqb-true own.input k h) (own-chosen classes own states (get_or lists own.input []) (begun.itself (omega (arith, lt, e))));
 }
+
+-- what a step finds is a choice of its input
+step-found : (own : TupleAt) (states : List StateView) (steps : List ProbeStep) (step : ProbeStep) (lists : List Pairs) (rows : Pairs) → AreFound own states steps lists → IsStep (columns_of states) own.input steps step
+    → AreStepped step.link (state_at states step.input) own.ticket lists rows → (classes : List (List ClassCol)) → AreInClasses classes (steps ++ step ∷ []) → IsChoice classes own states step.input rows
+step-found own states steps step lists rows found is stepped classes links = go step.link stepped is.link (links step (In-append_right step steps (step ∷ []) (inl refl)))
+  where
+    ne : step.input ≡ own.input → ⊥
+    ne e = false≢true (sym is.other ∙ ap (is_reached own.input steps) e ∙ own_reached own.input steps)
+
+    go : (l : Option ProbeLink) → AreStepped l (state_at states step.input) own.ticket lists rows → IfSome l (LeadsTo (get_or (columns_of states) step.input []) own.input steps) → IfSome l (InOneClass classes step.input) → IsChoice classes own states step.input rows
+    go None all lead class = all_chosen classes own states step.input rows ne all
+    go (Some link) linked lead class =
+        hopped classes own states step.input link (get_or lists link.from_input []) rows (found.each classes (λ s h. links s (In-append_left s steps (step ∷ []) h)) link.from_input lead.from) (found.within link.from_input lead.from) ne class linked
+
+found-more : (own : TupleAt) (states : List StateView) (steps : List ProbeStep) (step : ProbeStep) (lists lists' : List Pairs) (rows : Pairs) → AreFound own states steps lists → step.input < length states
+    → ((classes : List (List ClassCol)) → AreInClasses classes (steps ++ step ∷ []) → IsChoice classes own states step.input rows) → lists' ≡ set lists step.input rows → AreFound own states (steps ++ step ∷ []) lists'
+found-more own states steps step lists lists' rows found lt choice f = record {
+  count = ap (λ (ls : List Pairs). length ls) f ∙ set-length lists step.input rows ∙ found.count;
+  within = λ k h. elim (reached_by own.input steps step k h) [ inl a ↦ found.within k a | inr e ↦ omega (arith, lt, e) ];
+  each = λ classes links k h. at classes links k h (eqb k step.input) refl;
+}
+  where
+    at : (classes : List (List ClassCol)) → AreInClasses classes (steps ++ step ∷ []) → (k : ℕ) → is_reached own.input (steps ++ step ∷ []) k ≡ true → (b : Bool) → eqb k step.input ≡ b → IsChoice classes own states k (get_or lists' k [])
+    at classes links k h true q =
+        let same : k ≡ step.input = eqb-true k step.input q in
+        let there : get_or lists' k [] ≡ rows = ap₂ (λ (ls : List Pairs) i. get_or ls i []) f same ∙ get_or-set_same lists step.input rows [] (omega (arith, lt, found.count)) in
+        subst (λ (ps : Pairs). IsChoice classes own states k ps) (sym there) (subst (λ (i : ℕ). IsChoice classes own states i rows) (sym same) (choice classes links))
+    at classes links k h false q =
+        let ne : k ≡ step.input → ⊥ = λ s. false≢true (sym q ∙ eq-eqb k step.input s) in
+        let before : is_reached own.input steps k ≡ true = elim (reached_by own.input steps step k h) [ inl a ↦ a | inr e ↦ absurd (ne (sym e)) ] in
+        subst (λ (ps : Pairs). IsChoice classes own states k ps) (sym (ap (λ (ls : List Pairs). get_or ls k []) f ∙ get_or-set_other lists step.input k rows [] ne))
+        (found.each classes (λ s m. links s (In-append_left s steps (step ∷ []) m)) k before)
+
+-- a step of a route goes on from what was found
+pub route_step : (own : TupleAt) (states : List StateView) (steps : List ProbeStep) (i : ℕ) (step : ProbeStep) (below : ℕ) (lists lists' : List Pairs) (rows : Pairs) → IsRoute (columns_of states) own.input steps → slice_get steps i ≡ Some step
+    → AreFound own states (take i steps) lists → below ≡ own.ticket → AreStepped step.link (state_at states step.input) below lists rows → lists' ≡ set lists step.input rows → AreFound own states (take (i + 1) steps) lists'
+route_step own states steps i step below lists lists' rows route at found b stepped f =
+    subst (λ (ss : List ProbeStep). AreFound own states ss lists') (sym (steps_with steps i step at))
+    (found-more own states (take i steps) step lists lists' rows found (step_there own.input states steps i step route at)
+    (step-found own states (take i steps) step lists rows found (route.ordered i step at) (subst (λ (n : ℕ). AreStepped step.link (state_at states step.input) n lists rows) b stepped)) f)
 
 -- ---- all that joins is found
 
@@ -453,67 +409,10 @@ sides-get base [] k lt = absurd (omega (arith, lt))
 sides-get base (x ∷ xs) zero lt = ap (λ n. map (tuple_at n) x) (omega arith)
 sides-get base (x ∷ xs) (suc k) lt = sides-get (base + 1) xs k (omega (arith, lt)) ∙ ap (λ n. map (tuple_at n) (get_or xs k [])) (omega arith)
 
-pub find_same : (classes : List (List ClassCol)) (own : TupleAt) (states : List StateView) (known : List Bool) (lists found : List Pairs) → AreChosen classes own states known lists → AreKnown (length states) known → own.input < length states → found ≡ lists
-    → FindSame classes own states found
-find_same classes own states known lists found chosen all lt is =
-    ap (λ (ls : List Pairs). filter (agree classes) (product (sides_at 0 ls))) is
-    ∙ ap (λ (ls : List (List TupleAt)). filter (agree classes) (product ls)) cut-sides
-    ∙ ap (filter (agree classes)) (product-filter keep (all_older own states))
-    ∙ filter-filter (list_all keep) (agree classes) (product (all_older own states))
-    ∙ filter-agree (λ c. list_all keep c && agree classes c) (agree classes) (product (all_older own states)) passing
-    ∙ narrowed-finds classes own (tuples_in 0 states) (all_older own states) narrowed (omega (arith, lt, tuples-length 0 states))
+-- the combinations of older tuples that join are all results
+older-finds : (classes : List (List ClassCol)) (own : TupleAt) (states : List StateView) → own.input < length states → filter (agree classes) (product (all_older own states)) ≡ filter (agree classes) (product (choices classes own (tuples_in 0 states)))
+older-finds classes own states lt = narrowed-finds classes own (tuples_in 0 states) (all_older own states) narrowed (omega (arith, lt, tuples-length 0 states))
   where
-    keep : TupleAt → Bool
-    keep y = is_among (get_or lists y.input []) y
-
-    minus-none : (k : ℕ) → k - 0 ≡ k
-    minus-none k = omega arith
-
-    one : (k : ℕ) → k < 0 + length states → get_or (sides_at 0 lists) (k - 0) [] ≡ filter keep (older_at own states k)
-    one k l =
-        let within : k < length states = omega (arith, l) in
-        ap (λ i. get_or (sides_at 0 lists) i []) (minus-none k)
-        ∙ sides-get 0 lists k (omega (arith, within, chosen.count))
-        ∙ ap (λ n. map (tuple_at n) (get_or lists k [])) (omega arith)
-        ∙ (chosen.each k (all k within)).cut
-        ∙ filter-agree (is_among (get_or lists k [])) keep (older_at own states k) (λ y h. ap (λ i. is_among (get_or lists i []) y) (sym (older-input own states k y h)))
-
-    cut-sides : sides_at 0 lists ≡ map (filter keep) (all_older own states)
-    cut-sides =
-        as-upto [] 0 (sides_at 0 lists)
-        ∙ ap (λ n. map (λ k. get_or (sides_at 0 lists) (k - 0) []) (upto_from 0 n)) (sides-length 0 lists ∙ chosen.count)
-        ∙ map-upto (λ k. get_or (sides_at 0 lists) (k - 0) []) (λ k. filter keep (older_at own states k)) 0 (length states) one
-        ∙ sym (map-map_upto (filter keep) (older_at own states) 0 (length states))
-
-    passing : (c : List TupleAt) → In c (product (all_older own states)) → (list_all keep c && agree classes c) ≡ agree classes c
-    passing c h = go (agree classes c) refl
-      where
-        every : agree classes c ≡ true → list_all keep c ≡ true
-        every a = all_from keep c (λ y hy.
-            let there = product-of (older_at own states) (older-input own states) 0 (length states) c h y hy in
-            let within : y.input < length states = input-below y there in
-            (chosen.each y.input (all y.input within)).passes c h a y hy refl)
-          where
-            input-below : (y : TupleAt) → In y (older_at own states y.input) → y.input < length states
-            input-below y k = below (eqb y.input own.input) refl k
-              where
-                below : (b : Bool) → eqb y.input own.input ≡ b → In y (cond b (own ∷ []) (map (tuple_at y.input) (pairs (rows_below own.ticket (state_at states y.input).rows)))) → y.input < length states
-                below true q m = let e : y.input ≡ own.input = eqb-true y.input own.input q in omega (arith, e, lt)
-                below false q m = elim (cases_lt y.input (length states)) [
-                  | inl l ↦ l
-                  | inr ge ↦
-                      let none : (state_at states y.input).rows ≡ [] = ap (λ (s : StateView). s.rows) (get_or_past states y.input no_state ge) in
-                      absurd (subst (λ (rs : List Stored). In y (map (tuple_at y.input) (pairs (rows_below own.ticket rs)))) none m)
-                ]
-
-        go : (b : Bool) → agree classes c ≡ b → (list_all keep c && b) ≡ b
-        go true a = ap (λ t. t && true) (every a)
-        go false a = none (list_all keep c)
-          where
-            none : (t : Bool) → (t && false) ≡ false
-            none true = refl
-            none false = refl
-
     narrowed : AreNarrowed classes own (tuples_in 0 states) (all_older own states)
     narrowed = record {
       count = length-map (upto_from 0 (length states)) (older_at own states) ∙ length-upto 0 (length states) ∙ sym (tuples-length 0 states);
@@ -539,16 +438,130 @@ find_same classes own states known lists found chosen all lt is =
             (narrowed_choice classes own (tuples_in 0 states) k (pairs (rows_below own.ticket (state_at states k).rows)) (map (tuple_in k) (state_at states k).rows) ne (side_at states k (state_at states k) l (same-at states k no_state (state_at states k) l))
             (all_hold classes own (state_at states k).rows (pairs (rows_below own.ticket (state_at states k).rows)) k refl))
 
-pub hopped_ok : {E : Type 0} (classes : List (List ClassCol)) (own : TupleAt) (states : List StateView) (known : List Bool) (lists : List Pairs) (input mine other theirs below : ℕ) (rows : Pairs) (state : StateView) (result : Result (Option Pairs) E)
-    → AreChosen classes own states known lists → get_or known input false ≡ false → Links classes known lists input mine other theirs rows → state ≡ state_at states input → below ≡ own.ticket
-    → IfOk result (λ found. IfSome found (AreLinked state mine theirs rows below)) → IfOk result (λ found. IfSome found (IsChoice classes own states input))
-hopped_ok classes own states known lists input mine other theirs below rows state (Err e) chosen f link s b is = tt
-hopped_ok classes own states known lists input mine other theirs below rows state (Ok None) chosen f link s b is = tt
-hopped_ok classes own states known lists input mine other theirs below rows state (Ok (Some found)) chosen f link s b is =
-    hopped classes own states known lists input mine other theirs rows found chosen (not_own classes own states known lists input false chosen f) link
-    (subst (λ (t : StateView). AreLinked t mine theirs rows own.ticket found) s (subst (λ (n : ℕ). AreLinked state mine theirs rows n found) b is))
+-- where the rows of each input were found a probe finds the same over them
+pub all_found : (own : TupleAt) (states : List StateView) (steps : List ProbeStep) (lists found : List Pairs) (i : ℕ) → AreFound own states (take i steps) lists → length steps ≤ i → IsRoute (columns_of states) own.input steps → own.input < length states → found ≡ lists
+    → FindAll own states steps found
+all_found own states steps lists found i are le route lt is classes links =
+    ap (λ (ls : List Pairs). filter (agree classes) (product (sides_at 0 ls))) is
+    ∙ ap (λ (ls : List (List TupleAt)). filter (agree classes) (product ls)) cut-sides
+    ∙ ap (filter (agree classes)) (product-filter keep (all_older own states))
+    ∙ filter-filter (list_all keep) (agree classes) (product (all_older own states))
+    ∙ filter-agree (λ c. list_all keep c && agree classes c) (agree classes) (product (all_older own states)) passing
+    ∙ older-finds classes own states lt
+  where
+    keep : TupleAt → Bool
+    keep y = is_among (get_or lists y.input []) y
 
-pub filled : (classes : List (List ClassCol)) (own : TupleAt) (states : List StateView) (known : List Bool) (lists : List Pairs) (input below : ℕ) (d : Bool) (state : StateView) (found : Pairs) → AreChosen classes own states known lists → get_or known input d ≡ false
-    → state ≡ state_at states input → below ≡ own.ticket → found ≡ pairs (rows_below below state.rows) → IsChoice classes own states input found
-filled classes own states known lists input below d state found chosen f s b is =
-    all_chosen classes own states input found (not_own classes own states known lists input d chosen f) (is ∙ ap₂ (λ n (t : StateView). pairs (rows_below n t.rows)) b s)
+    chosen : (k : ℕ) → k < length states → IsChoice classes own states k (get_or lists k [])
+    chosen k l =
+        let whole : AreFound own states steps lists = subst (λ (ss : List ProbeStep). AreFound own states ss lists) (take_all i steps le) are in
+        whole.each classes links k (route.all k (omega (arith, l, length-map states (λ (s : StateView). s.columns))))
+
+    minus-none : (k : ℕ) → k - 0 ≡ k
+    minus-none k = omega arith
+
+    one : (k : ℕ) → k < 0 + length states → get_or (sides_at 0 lists) (k - 0) [] ≡ filter keep (older_at own states k)
+    one k l =
+        let within : k < length states = omega (arith, l) in
+        ap (λ i. get_or (sides_at 0 lists) i []) (minus-none k)
+        ∙ sides-get 0 lists k (omega (arith, within, are.count))
+        ∙ ap (λ n. map (tuple_at n) (get_or lists k [])) (omega arith)
+        ∙ (chosen k within).cut
+        ∙ filter-agree (is_among (get_or lists k [])) keep (older_at own states k) (λ y h. ap (λ i. is_among (get_or lists i []) y) (sym (older-input own states k y h)))
+
+    cut-sides : sides_at 0 lists ≡ map (filter keep) (all_older own states)
+    cut-sides =
+        as-upto [] 0 (sides_at 0 lists)
+        ∙ ap (λ n. map (λ k. get_or (sides_at 0 lists) (k - 0) []) (upto_from 0 n)) (sides-length 0 lists ∙ are.count)
+        ∙ map-upto (λ k. get_or (sides_at 0 lists) (k - 0) []) (λ k. filter keep (older_at own states k)) 0 (length states) one
+        ∙ sym (map-map_upto (filter keep) (older_at own states) 0 (length states))
+
+    passing : (c : List TupleAt) → In c (product (all_older own states)) → (list_all keep c && agree classes c) ≡ agree classes c
+    passing c h = go (agree classes c) refl
+      where
+        every : agree classes c ≡ true → list_all keep c ≡ true
+        every a = all_from keep c (λ y hy.
+            let there = product-of (older_at own states) (older-input own states) 0 (length states) c h y hy in
+            let within : y.input < length states = input-below y there in
+            (chosen y.input within).passes c h a y hy refl)
+          where
+            input-below : (y : TupleAt) → In y (older_at own states y.input) → y.input < length states
+            input-below y k = below (eqb y.input own.input) refl k
+              where
+                below : (b : Bool) → eqb y.input own.input ≡ b → In y (cond b (own ∷ []) (map (tuple_at y.input) (pairs (rows_below own.ticket (state_at states y.input).rows)))) → y.input < length states
+                below true q m = let e : y.input ≡ own.input = eqb-true y.input own.input q in omega (arith, e, lt)
+                below false q m = elim (cases_lt y.input (length states)) [
+                  | inl l ↦ l
+                  | inr ge ↦
+                      let none : (state_at states y.input).rows ≡ [] = ap (λ (s : StateView). s.rows) (get_or_past states y.input no_state ge) in
+                      absurd (subst (λ (rs : List Stored). In y (map (tuple_at y.input) (pairs (rows_below own.ticket rs)))) none m)
+                ]
+
+        go : (b : Bool) → agree classes c ≡ b → (list_all keep c && b) ≡ b
+        go true a = ap (λ t. t && true) (every a)
+        go false a = none (list_all keep c)
+          where
+            none : (t : Bool) → (t && false) ≡ false
+            none true = refl
+            none false = refl
+
+-- a step's link leads from rows that were found, to a column of which an index is kept
+pub step_link : (own : TupleAt) (states : List StateView) (steps : List ProbeStep) (i : ℕ) (step : ProbeStep) (lists : List Pairs) → IsRoute (columns_of states) own.input steps → slice_get steps i ≡ Some step
+    → AreFound own states (take i steps) lists → IfSome step.link (λ link. (link.from_input < length lists) × In link.index_column (state_at states step.input).columns)
+step_link own states steps i step lists route at found = go step.link (route.ordered i step at).link
+  where
+    go : (l : Option ProbeLink) → IfSome l (LeadsTo (get_or (columns_of states) step.input []) own.input (take i steps)) → IfSome l (λ link. (link.from_input < length lists) × In link.index_column (state_at states step.input).columns)
+    go None lead = tt
+    go (Some link) lead =
+        let within : link.from_input < length states = found.within link.from_input lead.from in (
+          omega (arith, within, found.count),
+          subst (λ (cs : List ℕ). In link.index_column cs) (columns_at states step.input no_state (step_there own.input states steps i step route at)) lead.indexed,
+        )
+
+-- where a step found no row nothing joins
+pub none_found : (own : TupleAt) (states : List StateView) (steps : List ProbeStep) (i : ℕ) (step : ProbeStep) (lists lists' : List Pairs) (rows : Pairs) → IsRoute (columns_of states) own.input steps → slice_get steps i ≡ Some step → own.input < length states
+    → AreFound own states (take (i + 1) steps) lists' → length lists ≡ length states → lists' ≡ set lists step.input rows → length rows ≡ 0 → FindAll own states steps lists'
+none_found own states steps i step lists lists' rows route at own-there are count f none classes links =
+    map-nil joined (filter (agree classes) (product (sides_at 0 lists'))) (combined-lacking classes lists' (step.input, within, lacks))
+    ∙ sym (filter-none (product (all_older own states)) (λ c h. false_from_ne_true (agree classes c) (λ a. apart c h a)))
+    ∙ older-finds classes own states own-there
+  where
+    map-nil : {A B : Type 0} (g : A → B) (xs : List A) → map g xs ≡ [] → xs ≡ []
+    map-nil g [] e = refl
+    map-nil {A} {B} g (x ∷ xs) e = absurd (omega (arith, ap (λ (ys : List B). length ys) e))
+
+    filter-none : (cs : List (List TupleAt)) → ((c : List TupleAt) → In c cs → agree classes c ≡ false) → filter (agree classes) cs ≡ []
+    filter-none [] all = refl
+    filter-none (c ∷ cs) all = ap (λ b. cond b (c ∷ filter (agree classes) cs) (filter (agree classes) cs)) (all c (inl refl)) ∙ filter-none cs (λ d h. all d (inr h))
+
+    empty : (ps : Pairs) → length ps ≡ 0 → ps ≡ []
+    empty [] e = refl
+    empty (p ∷ ps) e = absurd (omega (arith, e))
+
+    there : step.input < length states
+    there = step_there own.input states steps i step route at
+
+    in-lists : step.input < length lists
+    in-lists = omega (arith, there, count)
+
+    lacks : get_or lists' step.input [] ≡ []
+    lacks = ap (λ (ls : List Pairs). get_or ls step.input []) f ∙ get_or-set_same lists step.input rows [] in-lists ∙ empty rows none
+
+    within : step.input < length lists'
+    within = omega (arith, in-lists, ap (λ (ls : List Pairs). length ls) f, set-length lists step.input rows)
+
+    in-take : (n : ℕ) (ss : List ProbeStep) (s : ProbeStep) → In s (take n ss) → In s ss
+    in-take zero ss s h = absurd h
+    in-take (suc n) [] s h = absurd h
+    in-take (suc n) (t ∷ ss) s (inl e) = inl e
+    in-take (suc n) (t ∷ ss) s (inr h) = inr (in-take n ss s h)
+
+    reached : is_reached own.input (take (i + 1) steps) step.input ≡ true
+    reached = subst (λ (ss : List ProbeStep). is_reached own.input ss step.input ≡ true) (sym (steps_with steps i step at)) (reached_now own.input (take i steps) step)
+
+    apart : (c : List TupleAt) → In c (product (all_older own states)) → agree classes c ≡ true → ⊥
+    apart c h a =
+        let x = product-some (older_at own states) 0 (length states) step.input (omega arith) (omega (arith, there)) c h in
+        let choice = are.each classes (λ s m. links s (in-take (i + 1) steps s m)) step.input reached in
+        let among : is_among (get_or lists' step.input []) x.0 ≡ true = choice.passes c h a x.0 x.1 (older-input own states step.input x.0 x.2) in
+        false≢true (subst (λ (ps : Pairs). is_among ps x.0 ≡ true) lacks among)

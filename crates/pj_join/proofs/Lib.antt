@@ -5,7 +5,6 @@ pub mod Standing
 pub mod Finding
 pub mod Walking
 pub mod Calling
-pub mod Cells
 pub mod Classes
 pub mod Decided
 pub mod Pairs
@@ -29,6 +28,7 @@ pub mod Holding
 pub mod Halved
 pub mod Elsewhere
 pub mod Hopped
+pub mod Routed
 pub mod Lowest
 pub mod Through
 pub mod Roused

@@ -19,7 +19,7 @@ use Rattle.pj_events.specs.Join.{CertStep, ClassCol, In, JoinSpec, PunctAt, Tupl
 use Rattle.pj_probe.specs.Walks.{sides_at, tuple_at}
 use Rattle.pj_join.specs.Handed.{pair_of, pairs_out}
 use Rattle.pj_join.specs.Judging.{MayJudge, lets_go, one_if, rows_without}
-use Rattle.pj_join.specs.Sides.{AreAllShaped, AreWide, IsShaped, IsWide, heard_of, no_state, heard_in, state_at, stays, still_held, tuple_in, tuples_in}
+use Rattle.pj_join.specs.Sides.{AreAllShaped, IsShaped, heard_of, no_state, heard_in, state_at, stays, still_held, tuple_in, tuples_in}
 use Rattle.pj_join.specs.Walks.{IsNarrowed, may_join, older_joins, suits}
 use Rattle.pj_join.proofs.Calling.{same-at}
 use Rattle.pj_shape.specs.declared.columns.Column.{Column}
@@ -184,9 +184,6 @@ side_at states k s lt is = tuples-at 0 states k lt ∙ ap₂ (λ n (t : StateVie
   where
     plain : (n : ℕ) → 0 + n ≡ n
     plain n = omega arith
-
-pub wide_at : (states : List StateView) (k : ℕ) (s : StateView) → AreWide states → k < length states → s ≡ get_or states k s → IsWide s
-wide_at states k s wide lt is = subst (λ (t : StateView). IsWide t) (same-at states k no_state s lt ∙ sym is) (wide k lt)
 
 pub state_is : (states : List StateView) (k : ℕ) (s : StateView) (n : ℕ) → length states ≡ n → k < n → s ≡ get_or states k s → s ≡ state_at states k
 state_is states k s n count lt is = is ∙ same-at states k s no_state (omega (arith, count, lt))

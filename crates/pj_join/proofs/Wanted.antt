@@ -1,21 +1,23 @@
 -- What is wanted of tuples that join with one.
-use Rattle.std.proofs.Common.{◌≡◌, ℕ, suc, ◌<◌, Bool, true, false, cond, not, ◌==◌, ◌&&◌, ◌||◌, ltb, List, [], ◌∷◌, filter, map, length, get_or, inl, inr, refl, ap, ap₂, sym, ◌∙◌, subst, arith}
+use Rattle.std.proofs.Common.{◌≡◌, ℕ, suc, ◌<◌, Bool, true, false, cond, not, ◌==◌, ◌&&◌, ◌||◌, Some, ltb, List, [], ◌∷◌, filter, map, length, get_or, inl, inr, refl, ap, ap₂, sym, ◌∙◌, subst, arith}
 use Rattle.std.proofs.lemmas.Option.{slice_get-get_or}
 use Rattle.pj_value.specs.declared.values.Value.{Value}
 use Rattle.pj_state.specs.declared.shared.Stored.{Stored}
 use Rattle.pj_state.specs.States.{StateView, has_value, is_below, pairs, rows_below, rows_with}
 use Rattle.pj_probe.specs.Walks.{tuple_at}
 use Rattle.pj_join.specs.Sides.{IsWide, tuple_in}
-use Rattle.std.specs.List.{list_all, list_any}
+use Rattle.std.specs.List.{list_all, list_any, slice_get}
 use Rattle.std.proofs.lemmas.Bool.{and_parts, eqb-true, false≢true}
 use Rattle.std.proofs.lemmas.Bool.Decides.{nat_tests}
 use Rattle.pj_value.specs.Values.{value_eq}
-use Rattle.pj_value.proofs.Members.{all_at, any_at, in-place}
+use Rattle.pj_value.proofs.Members.{all_at, any_at}
 use Rattle.pj_value.proofs.Orders.{equal_itself, same_if_equal}
 use Rattle.pj_value.specs.Options.{is_value}
 use Rattle.pj_events.specs.Join.{ClassCol, In, TupleAt, no_value, value_at}
 use Rattle.pj_join.specs.Walks.{all_have, has_there, older_joins, suits, suits_class}
-use Rattle.pj_join.specs.Lookups.{ClassWants, IsWanted}
+use Rattle.pj_join.specs.Lookups.{IsWanted}
+use Rattle.pj_join.specs.Routes.{InOneClass}
+use Rattle.pj_join.specs.declared.route.ProbeLink.{ProbeLink}
 use Rattle.pj_shape.proofs.CellValues.{cell_there}
 
 same_number : (n : ℕ) → (n == n) ≡ true
@@ -25,24 +27,21 @@ past : (b c : Bool) → b ≡ true → (not b || c) ≡ true → c ≡ true
 past true c e h = h
 past false c e h = absurd (false≢true e)
 
--- a tuple of the input that joins with this one has the value that the class wants
-class_value : (class : List ClassCol) (x y : TupleAt) (input column : ℕ) (value : Value) → ClassWants class x input column value → y.input ≡ input → suits_class (x ∷ []) y class ≡ true → value_at y.row column ≡ value
-class_value class x y input column value wants is suited =
-    let at : ClassCol = record { input = input; column = column } in
-    let there : ClassCol = record { input = x.input; column = wants.1 } in
-    let v = value_at y.row column in
-    let own : (y.input == at.input) ≡ true = ap (λ (n : ℕ). n == input) is ∙ same_number input in
+-- a tuple of the input that joins with this one has its value in the columns of a class
+pub wanted_by_link : (classes : List (List ClassCol)) (x : TupleAt) (input : ℕ) (link : ProbeLink) (value : Value) → link.from_input ≡ x.input → InOneClass classes input link → Some value ≡ slice_get x.row link.from_column → IsWanted classes (x ∷ []) input link.index_column value
+wanted_by_link classes x input link value from share has = λ y of suited.
+    let class : List ClassCol = share.0 in
+    let at : ClassCol = record { input = input; column = link.index_column } in
+    let there : ClassCol = record { input = link.from_input; column = link.from_column } in
+    let v = value_at y.row link.index_column in
+    let by_class : suits_class (x ∷ []) y class ≡ true = all_at (suits_class (x ∷ []) y) classes class suited share.1 in
+    let own : (y.input == at.input) ≡ true = ap (λ (n : ℕ). n == input) of ∙ same_number input in
     let have : all_have class (x ∷ []) y v ≡ true = past (y.input == at.input) (all_have class (x ∷ []) y v) own
-    (all_at (λ a. not (y.input == a.input) || all_have class (x ∷ []) y (value_at y.row a.column)) class at suited wants.0) in
-    let both : (has_there v there y && list_all (has_there v there) (x ∷ [])) ≡ true = all_at (λ a. has_there v a y && list_all (has_there v a) (x ∷ [])) class there have wants.2 in
+    (all_at (λ a. not (y.input == a.input) || all_have class (x ∷ []) y (value_at y.row a.column)) class at by_class share.2) in
+    let both : (has_there v there y && list_all (has_there v there) (x ∷ [])) ≡ true = all_at (λ a. has_there v a y && list_all (has_there v a) (x ∷ [])) class there have share.3 in
     let it : has_there v there x ≡ true = all_at (has_there v there) (x ∷ []) x (and_parts (has_there v there y) (list_all (has_there v there) (x ∷ [])) both).1 (inl refl) in
-    let equal : value_eq v (value_at x.row wants.1) ≡ true = past (x.input == x.input) (value_eq v (value_at x.row wants.1)) (same_number x.input) it in
-    same_if_equal v (value_at x.row wants.1) equal ∙ cell_there x.row wants.1 value (sym wants.3)
-
-pub wanted_by_class : (classes : List (List ClassCol)) (x : TupleAt) (class : List ClassCol) (i input column : ℕ) (value : Value) → i < length classes → class ≡ get_or classes i class → ClassWants class x input column value → IsWanted classes (x ∷ []) input column value
-wanted_by_class classes x class i input column value lt is wants = λ y of suited.
-    class_value class x y input column value wants of
-    (all_at (suits_class (x ∷ []) y) classes class suited (subst (λ (c : List ClassCol). In c classes) (sym is) (in-place classes class i lt)))
+    let equal : value_eq v (value_at x.row link.from_column) ≡ true = past (x.input == link.from_input) (value_eq v (value_at x.row link.from_column)) (ap (λ (n : ℕ). x.input == n) from ∙ same_number x.input) it in
+    same_if_equal v (value_at x.row link.from_column) equal ∙ cell_there x.row link.from_column value has
 
 -- ---- rows that are looked up
 

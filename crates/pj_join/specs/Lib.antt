@@ -9,6 +9,7 @@ pub mod Judging
 pub mod Sweeping
 pub mod Watching
 pub mod Hops
+pub mod Routes
 pub mod Leaving
 pub mod Holding
 pub mod Ranges

@@ -1,14 +1,9 @@
 -- What is wanted of tuples that join with others.
-use Rattle.std.specs.Prelude.{◌≡◌, ℕ, true, List, Some, slice_get}
+use Rattle.std.specs.Prelude.{◌≡◌, ℕ, true, List}
 use Rattle.pj_value.specs.declared.values.Value.{Value}
-use Rattle.pj_events.specs.Join.{ClassCol, In, TupleAt, value_at}
+use Rattle.pj_events.specs.Join.{ClassCol, TupleAt, value_at}
 use Rattle.pj_join.specs.Walks.{suits}
 
 -- this column of an input has this value in each tuple that joins with these
 abbrev pub IsWanted : List (List ClassCol) → List TupleAt → ℕ → ℕ → Value → Type 0
 IsWanted classes xs input column value = (y : TupleAt) → y.input ≡ input → suits classes xs y ≡ true → value_at y.row column ≡ value
-
--- the class has this column of the input, and a column of the tuple's input in which it has this value
-abbrev pub ClassWants : List ClassCol → TupleAt → ℕ → ℕ → Value → Type 0
-ClassWants class x input column value =
-    In (record { input = input; column = column }) class × (there : ℕ) × In (record { input = x.input; column = there }) class × (slice_get x.row there ≡ Some value)

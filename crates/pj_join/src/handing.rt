@@ -1,22 +1,21 @@
 // What a join hands out.
-ghost use Rattle.std.specs.Prelude.{◌≡◌, ◌<◌, ◌≤◌, ◌-◌, ◌++◌, ◌∷◌, [], true, map, length, slice_get, take, OnOk, OnErr, IfOk, IfSome};
+ghost use Rattle.std.specs.Prelude.{◌≡◌, ◌<◌, ◌≤◌, ◌-◌, ◌++◌, ◌∷◌, [], true, map, length, take, OnOk, OnErr, IfOk, IfSome};
 ghost use Rattle.std.specs.Arc.{arc_value};
-ghost use Rattle.std.specs.Option.{option_copied};
-ghost use Rattle.pj_join.specs.Decided.{AllSuit, ColumnsDecide};
+ghost use Rattle.pj_join.specs.Decided.{AllSuit};
 ghost use Rattle.pj_join.specs.Walks.{suits};
 ghost use Rattle.pj_join.specs.Handed.{found_out, pair_of, pairs_out};
+ghost use Rattle.pj_join.specs.Routes.{IsProbeRoute, columns_of};
 ghost use Rattle.pj_join.specs.Sides.{AreWide, tuple_in, tuples_in};
 
 use crate::arrivals::Arrived;
 use crate::choosing::choices;
-use crate::walk::{
-    EqualColumns, FEW, Narrowed, candidates, choices_join, equal_columns, joins_with, own_cell,
-};
+use crate::route::ProbeRoute;
+use crate::walk::{FEW, Narrowed, candidates, joins_with};
 use pj_events::Out;
 use pj_probe::{Joined, Visit, each_lent};
 use pj_shape::{ClassCol, JoinSpec};
 use pj_state::{Matching, Spot, State};
-use pj_value::{List, NoMemory, Row, Value};
+use pj_value::{List, NoMemory, Row};
 use std::alloc::Global;
 use std::marker::Model;
 use std::sync::Arc;
@@ -31,24 +30,30 @@ fn make_room(alloc: Global, outs: &mut List<Out>, count: usize) -> Result<(), No
     Ok(())
 }
 
-// The rows of the other one of two inputs among which all are that the tuple is joined with; `None` where an index does not
-// tell, or it is not known that they join.
+// The rows of the other one of two inputs among which all are that the tuple is joined with; `None` where no index tells.
 fn partners<'a>(
     classes: &[List<ClassCol>],
+    route: &ProbeRoute,
     own: &Arrived<'a>,
     sides: &'a [State],
 ) -> Option<Narrowed<'a>>
-    requires { AreWide sides.now }
+    requires there { own.now.input < length sides.now }
+    requires wide { AreWide sides.now }
+    requires route { IsProbeRoute classes.now (columns_of sides.now) own.now.input route.now }
     ensures found { IfSome result (λ found. pairs_out classes.now own.now (map (tuple_in (1 - own.now.input)) found.among) ≡ found_out classes.now own.now (tuples_in 0 sides.now)) }
     ensures join { IfSome result (λ found. found.all_join ≡ true → AllSuit classes.now own.now (1 - own.now.input) found.among) }
 {
-    if !choices_join(classes, own, sides) {
+    if sides.len() != 2 {
         return None;
     }
-    let input = 1 - own.input() as usize;
-    match candidates(classes, own, &sides[input], input) {
+    match route.one_link() {
         None => None,
-        Some(found) => Some(found),
+        Some((input, link)) => {
+            match candidates(classes, own, sides, input, link, route.decides) {
+                None => None,
+                Some(found) => Some(found),
+            }
+        }
     }
 }
 
@@ -56,6 +61,7 @@ fn partners<'a>(
 pub fn hand_out_found(
     alloc: Global,
     spec: &Arc<JoinSpec, Global>,
+    route: &ProbeRoute,
     own: &Arrived<'_>,
     sides: &[State],
     outs: &mut List<Out>,
@@ -63,10 +69,11 @@ pub fn hand_out_found(
     requires few { length sides.now ≤ 16 }
     requires there { own.now.input < length sides.now }
     requires wide { AreWide sides.now }
+    requires route { IsProbeRoute (arc_value spec.now).classes (columns_of sides.now) own.now.input route.now }
     ensures ok { OnOk result (outs.new ≡ outs.old ++ found_out (arc_value spec.now).classes own.now (tuples_in 0 sides.now)) }
     ensures err { OnErr result (outs.new ≡ outs.old) }
 {
-    match partners(spec.classes.as_slice(), own, sides) {
+    match partners(spec.classes.as_slice(), route, own, sides) {
         Some(found) => hand_out_pairs(
             alloc,
             spec.classes.as_slice(),
@@ -75,7 +82,7 @@ pub fn hand_out_found(
             found.all_join,
             outs,
         ),
-        None => hand_out_probed(alloc, spec, own, sides, outs),
+        None => hand_out_probed(alloc, spec, route, own, sides, outs),
     }
 }
 
@@ -83,6 +90,7 @@ pub fn hand_out_found(
 fn hand_out_probed(
     alloc: Global,
     spec: &Arc<JoinSpec, Global>,
+    route: &ProbeRoute,
     own: &Arrived<'_>,
     sides: &[State],
     outs: &mut List<Out>,
@@ -90,11 +98,12 @@ fn hand_out_probed(
     requires few { length sides.now ≤ 16 }
     requires there { own.now.input < length sides.now }
     requires wide { AreWide sides.now }
+    requires route { IsProbeRoute (arc_value spec.now).classes (columns_of sides.now) own.now.input route.now }
     ensures ok { OnOk result (outs.new ≡ outs.old ++ found_out (arc_value spec.now).classes own.now (tuples_in 0 sides.now)) }
     ensures err { OnErr result (outs.new ≡ outs.old) }
 {
     let classes = spec.classes.as_slice();
-    let lists = choices(alloc, classes, own, sides)?;
+    let lists = choices(alloc, route, own, sides)?;
     let mut results = Results::new(alloc);
     each_lent(classes, lists.as_slice(), &mut results)?;
     hand_over(outs, results.into_outs())
@@ -232,12 +241,6 @@ fn append_pairs<'a>(
     ensures err { OnErr result (take (length outs.old) outs.new ≡ outs.old) }
 {
     let input = 1u32.saturating_sub(own.input());
-    let columns = equal_columns(classes, own, input as usize);
-    let by = Comparison {
-        all_join,
-        columns,
-        cell: own_cell(own, columns),
-    };
     let mut near = Spot::new();
     for at in 0..among.len() {
         let (ticket, row) = among.nth_near(at, &mut near);
@@ -245,17 +248,9 @@ fn append_pairs<'a>(
             return Ok(());
         }
         let other = Arrived::of(ticket, input, row);
-        append_pair(alloc, classes, own, &other, &by, outs)?;
+        append_pair(alloc, classes, own, &other, all_join, outs)?;
     }
     Ok(())
-}
-
-// How it is told whether others join with a tuple: all do, or the columns decide, in which the tuple has this value.
-#[derive(Clone, Copy)]
-struct Comparison<'a> {
-    all_join: bool,
-    columns: Option<EqualColumns>,
-    cell: Option<&'a Value>,
 }
 
 // Puts the row of the tuple with the other one at the end, where that joins with it.
@@ -264,18 +259,15 @@ fn append_pair<'a>(
     classes: &[List<ClassCol>],
     own: &Arrived<'a>,
     other: &Arrived<'a>,
-    by: &Comparison<'_>,
+    all_join: bool,
     outs: &mut List<Out>,
 ) -> Result<(), NoMemory>
-    requires joins { by.now.all_join ≡ true → suits classes.now (own.now ∷ []) other.now ≡ true }
+    requires joins { all_join ≡ true → suits classes.now (own.now ∷ []) other.now ≡ true }
     requires older { other.now.ticket < own.now.ticket }
-    requires cell { IfSome by.now.columns (λ columns. option_copied by.now.cell ≡ slice_get own.now.row columns.mine) }
-    requires decide { IfSome by.now.columns (λ columns. ColumnsDecide classes.now own.now other.now.input columns.mine columns.theirs) }
     ensures ok { OnOk result (outs.new ≡ outs.old ++ pairs_out classes.now own.now (other.now ∷ [])) }
     ensures err { OnErr result (outs.new ≡ outs.old) }
 {
-    let input = other.input() as usize;
-    if by.all_join || joins_with(classes, own, input, by.columns, by.cell, other) {
+    if all_join || joins_with(classes, own, other) {
         let (first, second) = in_order(own, other);
         outs.push(Out::Tuple(Row::pair(alloc, first, second)?))?;
     }

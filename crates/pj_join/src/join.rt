@@ -24,6 +24,7 @@ use crate::partners::rouse;
 use crate::place::Place;
 use crate::probe::probe_of;
 use crate::ranges::keep_orders;
+use crate::route::{ProbeRoute, probe_routes, route_of};
 use crate::starting::{empty_states, empty_stores, empty_watches};
 use crate::stored::first_pending;
 use crate::sweeping::{Judge, Left, has_young, remove_all};
@@ -52,6 +53,7 @@ pub struct Join {
     spec: Arc<JoinSpec, Global>,
     schemes: Schemes,
     certs: List<Cert>,
+    routes: List<ProbeRoute>,
     limit: u64,
     next: u64,
     states: Vec<State>,
@@ -70,12 +72,13 @@ impl Model for Join {
     ghost use Rattle.pj_join.specs.Sides.{log_of, puncts_of};
     ghost use Rattle.pj_join.specs.Holding.{AreHeld};
     ghost use Rattle.pj_join.specs.Watching.{AreWatched};
+    ghost use Rattle.pj_join.specs.Routes.{AreProbeRoutes, columns_of};
 
     ghost Value = { JoinView };
 
     ghost view = { λ j. seen (made_with j.node (join_data (arc_value j.spec) j.schemes j.certs) j.limit) j.next j.done (log_of j.states.items) (puncts_of j.stores.items) j.waiting.puncts j.taken.items };
 
-    ghost invariant = { λ j. IsJoin (join_data (arc_value j.spec) j.schemes j.certs) j.limit (inside j.next j.done j.states.items j.stores.items j.pending j.taken.items) × AreWatched (join_data (arc_value j.spec) j.schemes j.certs) j.next (lowest j.next j.done (log_of j.states.items) j.taken.items) (log_of j.states.items) (puncts_of j.stores.items) j.watches.items × AreHeld j.next (log_of j.states.items) j.waiting };
+    ghost invariant = { λ j. IsJoin (join_data (arc_value j.spec) j.schemes j.certs) j.limit (inside j.next j.done j.states.items j.stores.items j.pending j.taken.items) × AreWatched (join_data (arc_value j.spec) j.schemes j.certs) j.next (lowest j.next j.done (log_of j.states.items) j.taken.items) (log_of j.states.items) (puncts_of j.stores.items) j.watches.items × AreHeld j.next (log_of j.states.items) j.waiting × AreProbeRoutes (arc_value j.spec).classes (columns_of j.states.items) j.routes };
 }
 
 impl Join {
@@ -97,12 +100,14 @@ impl Join {
         let states = empty_states(alloc, &spec)?;
         let stores = empty_stores(alloc, spec.inputs.as_slice())?;
         let watches = empty_watches(alloc, spec.inputs.len())?;
+        let routes = probe_routes(alloc, spec.classes.as_slice(), states.as_slice())?;
         Ok(Join {
             alloc,
             node,
             spec: Arc::new(alloc, spec)?,
             schemes,
             certs,
+            routes,
             limit,
             next: 0,
             states,
@@ -237,6 +242,7 @@ impl Join {
                     self.alloc,
                     self.node,
                     &self.spec,
+                    route_of(&self.routes, &own),
                     &own,
                     self.states.as_slice(),
                 )?;
@@ -273,7 +279,14 @@ impl Join {
             None => Ok(None),
             Some(own) => {
                 let ticket = own.ticket();
-                hand_out_found(self.alloc, &self.spec, &own, self.states.as_slice(), outs)?;
+                hand_out_found(
+                    self.alloc,
+                    &self.spec,
+                    route_of(&self.routes, &own),
+                    &own,
+                    self.states.as_slice(),
+                    outs,
+                )?;
                 self.pending.pop_first();
                 self.done += 1;
                 Ok(Some(ticket))

@@ -13,6 +13,7 @@ mod place;
 mod probe;
 mod ranges;
 mod reaching;
+mod route;
 mod starting;
 mod stop;
 mod stored;

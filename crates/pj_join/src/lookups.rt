@@ -1,9 +1,7 @@
 // What is wanted of tuples that join with one, and where it is looked up.
-ghost use Rattle.std.specs.Prelude.{◌≡◌, ◌<◌, ◌∷◌, [], All, IfOk, IfSome, OnOk};
+ghost use Rattle.std.specs.Prelude.{◌<◌, All, IfOk, IfSome, OnOk};
 ghost use Rattle.pj_events.specs.Join.{In};
-ghost use Rattle.pj_join.specs.Lookups.{ClassWants, IsWanted};
 
-use crate::arrivals::Arrived;
 use pj_shape::ClassCol;
 use pj_value::{List, NoMemory, Value};
 use std::alloc::Global;
@@ -58,29 +56,4 @@ pub fn class_columns(
         append_columns(class.as_slice(), input, arity, &mut columns)?;
     }
     Ok(columns)
-}
-
-// What the class wants of a tuple of this input that joins with this one.
-fn wanted_in<'a>(class: &[ClassCol], own: &Arrived<'a>, input: usize) -> Option<Lookup<'a>>
-    ensures { IfSome result (λ wanted. ClassWants class.now own.now input wanted.column wanted.value.now) }
-{
-    let column = column_in(class, input)?;
-    let there = column_in(class, own.input() as usize)?;
-    match own.row().get(there as usize) {
-        None => None,
-        Some(value) => Some(Lookup { column, value }),
-    }
-}
-
-/// A column of this input, and the value that each tuple has in it that joins with this one; `None` where no class tells.
-pub fn wanted<'a>(classes: &[List<ClassCol>], own: &Arrived<'a>, input: usize) -> Option<Lookup<'a>>
-    ensures { IfSome result (λ wanted. IsWanted classes.now (own.now ∷ []) input wanted.column wanted.value.now) }
-{
-    for class in classes {
-        match wanted_in(class.as_slice(), own, input) {
-            Some(wanted) => return Some(wanted),
-            None => {}
-        }
-    }
-    None
 }

@@ -1,12 +1,14 @@
 // The probe of a tuple over the stored tuples of a join.
 ghost use Rattle.std.specs.Prelude.{◌≡◌, ◌<◌, ◌≤◌, length, IfOk};
 ghost use Rattle.std.specs.Arc.{arc_value};
+ghost use Rattle.pj_join.specs.Routes.{IsProbeRoute, columns_of};
 ghost use Rattle.pj_join.specs.Sides.{AreWide, tuples_in};
 ghost use Rattle.pj_join.specs.Walks.{choices};
 ghost use Rattle.pj_probe.specs.Walks.{found_in};
 
 use crate::arrivals::Arrived;
 use crate::choosing::{Rows, choices};
+use crate::route::ProbeRoute;
 use pj_probe::{Lent, Probe};
 use pj_shape::JoinSpec;
 use pj_state::{Shared, State};
@@ -21,16 +23,18 @@ pub fn probe_of(
     alloc: Global,
     join: u32,
     spec: &Arc<JoinSpec, Global>,
+    route: &ProbeRoute,
     own: &Arrived<'_>,
     sides: &[State],
 ) -> Result<Probe, NoMemory>
     requires few { length sides.now ≤ 16 }
     requires there { own.now.input < length sides.now }
     requires wide { AreWide sides.now }
+    requires route { IsProbeRoute (arc_value spec.now).classes (columns_of sides.now) own.now.input route.now }
     ensures { let classes = (arc_value spec.now).classes in IfOk result (λ probe. probe ≡ found_in join own.now.ticket classes (choices classes own.now (tuples_in 0 sides.now))) }
 {
     let spec = share_spec(spec)?;
-    let lent = choices(alloc, spec.classes.as_slice(), own, sides)?;
+    let lent = choices(alloc, route, own, sides)?;
     let sides = share_all(alloc, lent.as_slice())?;
     Ok(Probe::new(join, own.ticket(), spec, sides))
 }

@@ -1,19 +1,17 @@
 // Whether tuples join, and among which tuples those are that join with one.
-ghost use Rattle.std.specs.Prelude.{◌≡◌, ◌||◌, true, not, map, ◌==◌, length, IfSome, ◌<◌, filter, ◌&&◌, ◌∷◌, [], IsTrue};
-ghost use Rattle.std.specs.List.{list_all, slice_get};
-ghost use Rattle.std.specs.Option.{option_copied};
-ghost use Rattle.pj_value.specs.declared.values.Value.{Value};
-ghost use Rattle.pj_value.specs.Values.{value_eq};
-ghost use Rattle.pj_events.specs.Join.{TupleAt, agree, value_at};
-ghost use Rattle.pj_join.specs.Decided.{AllJoinAt, AllSuit, ClassDecides, ColumnsDecide};
-ghost use Rattle.pj_join.specs.Sides.{IsWide, tuple_in, tuples_in};
-ghost use Rattle.pj_join.specs.Walks.{AllJoin, all_have, choices, has_there, older_joins, suits, suits_class};
+ghost use Rattle.std.specs.Prelude.{◌≡◌, ◌||◌, true, not, map, ◌==◌, ◌<◌, length, IfSome, filter, ◌&&◌, ◌∷◌, []};
+ghost use Rattle.std.specs.List.{list_all};
+ghost use Rattle.pj_events.specs.Join.{In, value_at};
+ghost use Rattle.pj_join.specs.Decided.{AllSuit};
+ghost use Rattle.pj_join.specs.Routes.{InOneClass, TwoDecide};
+ghost use Rattle.pj_join.specs.Sides.{AreWide, state_at, tuple_in};
+ghost use Rattle.pj_join.specs.Walks.{all_have, has_there, older_joins, suits, suits_class};
 
 use crate::arrivals::Arrived;
-use crate::lookups::wanted;
-use pj_shape::{ClassCol, same_cell, same_cells};
+use crate::route::ProbeLink;
+use pj_shape::{ClassCol, same_cell};
 use pj_state::{Matching, State};
-use pj_value::{List, Row, Value};
+use pj_value::List;
 use std::slice::from_ref;
 
 fn has_there<'a>(more: &Arrived<'a>, at: ClassCol, there: ClassCol, other: &Arrived<'a>) -> bool
@@ -60,60 +58,6 @@ pub fn suits<'a>(classes: &[List<ClassCol>], others: &[Arrived<'a>], more: &Arri
         .all(|class| suits_class(others, more, class.as_slice()))
 }
 
-/// The columns that decide whether two tuples join.
-#[derive(Clone, Copy)]
-pub struct EqualColumns {
-    pub mine: u32,
-    pub theirs: u32,
-}
-
-// The columns of a class that has one column of each of two inputs.
-fn columns_of(class: &[ClassCol], own: usize, input: usize) -> Option<EqualColumns>
-    ensures { IfSome result (λ columns. ClassDecides class.now own input columns.mine columns.theirs) }
-{
-    if own == input {
-        return None;
-    }
-    match class {
-        [a, b] => {
-            if a.input as usize == own {
-                if b.input as usize == input {
-                    return Some(EqualColumns {
-                        mine: a.column,
-                        theirs: b.column,
-                    });
-                }
-                return None;
-            }
-            if b.input as usize == own {
-                if a.input as usize == input {
-                    return Some(EqualColumns {
-                        mine: b.column,
-                        theirs: a.column,
-                    });
-                }
-            }
-            None
-        }
-        _ => None,
-    }
-}
-
-/// The columns that decide whether tuples of an input join with this one, where two do.
-#[tactic(auto, using(crate::proofs::Decided::one_class))]
-pub fn equal_columns(
-    classes: &[List<ClassCol>],
-    own: &Arrived<'_>,
-    input: usize,
-) -> Option<EqualColumns>
-    ensures { IfSome result (λ columns. ColumnsDecide classes.now own.now input columns.mine columns.theirs) }
-{
-    match classes {
-        [class] => columns_of(class.as_slice(), own.input() as usize, input),
-        _ => None,
-    }
-}
-
 /// The tuples of an input among which all are that are older than one and join with it, and whether it is known that each of
 /// them joins with it.
 #[derive(Drop)]
@@ -122,144 +66,56 @@ pub struct Narrowed<'a> {
     pub all_join: bool,
 }
 
-// Whether the row has this value in the column. A column that is not there has the empty text.
-fn has_cell(row: &Row, column: u32, value: &Value) -> bool
-    ensures { result ≡ value_eq (value_at row.now column) value.now }
+// Whether the tuple's own values agree in each class. No cell is looked at where that is known without.
+fn suits_itself(classes: &[List<ClassCol>], own: &Arrived<'_>, is_known: bool) -> bool
+    requires { is_known ≡ true → suits classes.now [] own.now ≡ true }
+    ensures { result ≡ suits classes.now [] own.now }
 {
-    same_cells(row.get(column as usize), Some(value))
-}
-
-// Whether all tuples of the input join with this one that have this value in this column.
-#[tactic(auto, using(crate::proofs::Decided::decided_joins))]
-fn decides(
-    classes: &[List<ClassCol>],
-    own: &Arrived<'_>,
-    input: usize,
-    column: u32,
-    value: &Value,
-) -> bool
-    ensures { result ≡ true → AllJoinAt classes.now own.now input column value.now }
-{
-    match equal_columns(classes, own, input) {
-        None => false,
-        Some(columns) => {
-            if columns.theirs != column {
-                return false;
-            }
-            has_cell(own.row(), columns.mine, value)
-        }
+    if is_known {
+        return true;
     }
+    suits(classes, &[], own)
 }
 
-/// The tuples of an input among which all are that are older than this one and join with it; `None` where no index tells.
+/// The tuples of an input to which the link leads from this one; `None` where this one's own values do not agree, or it has
+/// no such column. With `decides` the link's columns decide which join.
 pub fn candidates<'a>(
     classes: &[List<ClassCol>],
     own: &Arrived<'a>,
-    state: &'a State,
+    sides: &'a [State],
     input: usize,
+    link: ProbeLink,
+    decides: bool,
 ) -> Option<Narrowed<'a>>
-    requires { IsWide state.now }
-    ensures hold { let joins = older_joins classes.now own.now in IfSome result (λ found. filter joins (map (tuple_in input) found.among) ≡ filter joins (map (tuple_in input) state.now.rows)) }
+    requires there { input < length sides.now }
+    requires wide { AreWide sides.now }
+    requires indexed { In link.index_column (state_at sides.now input).columns }
+    requires from { link.from_input ≡ own.now.input }
+    requires class { InOneClass classes.now input link }
+    requires decide { decides ≡ true → TwoDecide classes.now own.now.input input link.from_column link.index_column }
+    ensures own { IfSome result (λ found. suits classes.now [] own.now ≡ true) }
+    ensures hold { let joins = older_joins classes.now own.now in IfSome result (λ found. filter joins (map (tuple_in input) found.among) ≡ filter joins (map (tuple_in input) (state_at sides.now input).rows)) }
     ensures join { IfSome result (λ found. found.all_join ≡ true → AllSuit classes.now own.now input found.among) }
 {
-    match wanted(classes, own, input) {
+    if !suits_itself(classes, own, decides) {
+        return None;
+    }
+    match own.row().get(link.from_column as usize) {
         None => None,
-        Some(wanted) => {
-            if !state.is_indexed(wanted.column) {
-                return None;
-            }
-            Some(Narrowed {
-                among: state.matching(wanted.column, wanted.value),
-                all_join: decides(classes, own, input, wanted.column, wanted.value),
-            })
-        }
+        Some(value) => Some(Narrowed {
+            among: sides[input].matching(link.index_column, value),
+            all_join: decides,
+        }),
     }
 }
 
-/// The tuple's value in its column of these.
-pub fn own_cell<'a>(own: &Arrived<'a>, columns: Option<EqualColumns>) -> Option<&'a Value>
-    ensures { IfSome columns (λ columns. option_copied result ≡ slice_get own.now.row columns.mine) }
-{
-    match columns {
-        None => None,
-        Some(columns) => own.row().get(columns.mine as usize),
-    }
-}
-
-// Whether the tuple joins with this one, by all classes.
+/// Whether the tuple joins with this one, by all classes.
 #[inline(never)]
-fn suits_one<'a>(classes: &[List<ClassCol>], own: &Arrived<'a>, other: &Arrived<'a>) -> bool
+pub fn joins_with<'a>(classes: &[List<ClassCol>], own: &Arrived<'a>, other: &Arrived<'a>) -> bool
     ensures { result ≡ suits classes.now (own.now ∷ []) other.now }
 {
     suits(classes, from_ref(own), other)
 }
 
-/// Whether the tuple joins with this one, whose value in its column of these is `cell`.
-#[inline(always)]
-pub fn joins_with<'a>(
-    classes: &[List<ClassCol>],
-    own: &Arrived<'a>,
-    input: usize,
-    columns: Option<EqualColumns>,
-    cell: Option<&Value>,
-    other: &Arrived<'a>,
-) -> bool
-    requires cell { IfSome columns (λ columns. option_copied cell ≡ slice_get own.now.row columns.mine) }
-    requires decide { IfSome columns (λ columns. ColumnsDecide classes.now own.now input columns.mine columns.theirs) }
-    ensures { result ≡ suits classes.now (own.now ∷ []) other.now }
-{
-    match columns {
-        None => suits_one(classes, own, other),
-        Some(columns) => {
-            if other.input() as usize == input {
-                same_cells(other.row().get(columns.theirs as usize), cell)
-            } else {
-                suits_one(classes, own, other)
-            }
-        }
-    }
-}
-
 /// Room for so many candidates is made at once.
 pub const FEW: usize = 64;
-
-// Whether a class of two columns has at most one of the input.
-fn has_one(class: &[ClassCol], input: u32) -> bool
-    ensures { (own : TupleAt) → own.input ≡ input → result ≡ true → suits_class [] own class.now ≡ true }
-{
-    match class {
-        [a, b] => {
-            if a.input != input {
-                return true;
-            }
-            b.input != input
-        }
-        _ => false,
-    }
-}
-
-// Whether the tuple's own values agree in each class, where no cell is looked at if that is known without.
-#[tactic(auto, using(crate::proofs::Decided::one_alone))]
-fn suits_itself(classes: &[List<ClassCol>], own: &Arrived<'_>) -> bool
-    ensures { result ≡ true → suits classes.now [] own.now ≡ true }
-{
-    match classes {
-        [class] => {
-            if has_one(class.as_slice(), own.input()) {
-                return true;
-            }
-            suits(classes, &[], own)
-        }
-        _ => suits(classes, &[], own),
-    }
-}
-
-/// Whether it is known that the choices of this tuple all join: those of two inputs, each of which was compared with it.
-#[tactic(auto, using(crate::proofs::Pairs::two_states))]
-pub fn choices_join(classes: &[List<ClassCol>], own: &Arrived<'_>, sides: &[State]) -> bool
-    ensures own { IsTrue result → own.now.input < 2 }
-    ensures two { IsTrue result → length sides.now ≡ 2 }
-    ensures all { IsTrue result → AllJoin classes.now (choices classes.now own.now (tuples_in 0 sides.now)) }
-{
-    own.input() < 2 && sides.len() == 2 && suits_itself(classes, own)
-}

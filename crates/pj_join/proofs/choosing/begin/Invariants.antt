@@ -2,4 +2,4 @@ use Rattle.pj_join.specs.Hops.{BeginsWith}
 use Rattle.pj_join.proofs.choosing.begin.Given as goal
 
 abbrev pub invariant-loop-input : goal.invariant-loop-input
-invariant-loop-input l = BeginsWith l.own l.input l.known.items l.lists.items
+invariant-loop-input l = BeginsWith l.own l.input l.lists.items

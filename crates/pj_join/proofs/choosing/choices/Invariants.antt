@@ -1,5 +1,6 @@
-use Rattle.pj_join.specs.Hops.{AreChosen}
+use Rattle.std.proofs.Common.{take}
+use Rattle.pj_join.specs.Hops.{AreFound}
 use Rattle.pj_join.proofs.choosing.choices.Given as goal
 
-abbrev pub invariant-loop-round : goal.invariant-loop-round
-invariant-loop-round l = AreChosen l.classes l.own l.sides l.chosen.known.items l.chosen.lists.items
+abbrev pub invariant-loop-at : goal.invariant-loop-at
+invariant-loop-at l = AreFound l.own l.sides (take l.at l.route.steps) l.lists.items

@@ -8,5 +8,6 @@ use Rattle.pj_join.proofs.probe.probe_of.Goals as goal
 
 pub returns : goal.returns
 returns c =
-    probe_is c.args.join c.ticket.result c.args.own.now (arc_value c.args.spec.now) (arc_value c.in_ok-spec.spec) c.as_slice.result.now c.args.sides.now c.in_ok-sides.sides c.new.result
-    c.new.ensures c.ticket.ensures c.in_ok-spec.ensures (c.as_slice.ensures ∙ ap (λ (s : JoinSpec). s.classes) c.deref.ensures) (subst (λ (lists : List (List (ℕ × List Value))). FindSame c.as_slice.result.now c.args.own.now c.args.sides.now lists) (sym (c.in_ok-sides.ensures ∙ c.as_slice-2.ensures)) c.in_ok-lent.ensures.same)
+    probe_is c.args.join c.ticket.result c.args.own.now (arc_value c.args.spec.now) (arc_value c.in_ok-spec.spec) (arc_value c.args.spec.now).classes c.args.sides.now c.in_ok-sides.sides c.new.result
+    c.new.ensures c.ticket.ensures c.in_ok-spec.ensures (ap (λ (s : JoinSpec). s.classes) (sym c.in_ok-spec.ensures))
+    (subst (λ (lists : List (List (ℕ × List Value))). FindSame (arc_value c.args.spec.now).classes c.args.own.now c.args.sides.now lists) (sym (c.in_ok-sides.ensures ∙ c.as_slice.ensures)) (c.in_ok-lent.ensures.same (arc_value c.args.spec.now).classes c.requires.route.classes_have))

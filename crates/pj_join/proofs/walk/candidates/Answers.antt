@@ -1,19 +1,23 @@
-use Rattle.std.proofs.Common.{◌∙◌, List, subst, sym}
-use Rattle.pj_value.proofs.Members.{In-filter}
-use Rattle.pj_state.specs.declared.shared.Stored.{Stored}
-use Rattle.pj_state.specs.States.{has_value, rows_with}
-use Rattle.pj_events.specs.Join.{In}
-use Rattle.pj_join.proofs.Wanted.{candidates_hold, indexed-in}
+use Rattle.std.proofs.Common.{◌∙◌, List, ap, length, refl, subst, sym}
+use Rattle.std.specs.List.{slice_get}
+use Rattle.pj_state.specs.States.{StateView, rows_with}
+use Rattle.pj_events.specs.Join.{In, Value}
+use Rattle.pj_join.specs.Sides.{state_at}
+use Rattle.pj_join.proofs.Decided.{decided_join}
+use Rattle.pj_join.proofs.Looped.{state_is}
+use Rattle.pj_join.proofs.Wanted.{candidates_hold, wanted_by_link}
 use Rattle.pj_join.proofs.walk.candidates.Goals as goal
 
 pub matching-requires : goal.matching-requires
-matching-requires c = indexed-in c.in-Some.wanted.column c.args.state.now.columns (sym c.is_indexed.ensures ∙ c.if-not-is_indexed.false)
+matching-requires c = subst (λ (s : StateView). In c.args.link.index_column s.columns) (sym (state_is c.args.sides.now c.args.input c.index-sides-input.result (length c.args.sides.now) refl c.requires.there c.index-sides-input.is)) c.requires.indexed
 
-pub returns-else-not-is_indexed-clause-hold : goal.returns-else-not-is_indexed-clause-hold
-returns-else-not-is_indexed-clause-hold c =
-    candidates_hold c.args.classes.now c.args.own.now c.args.state.now c.matching.result c.args.input c.in-Some.wanted.column c.in-Some.wanted.value.now c.requires c.in-Some.ensures (indexed-in c.in-Some.wanted.column c.args.state.now.columns (sym c.is_indexed.ensures ∙ c.if-not-is_indexed.false)) c.matching.ensures
+pub returns-in-Some-clause-hold : goal.returns-in-Some-clause-hold
+returns-in-Some-clause-hold c =
+    candidates_hold c.args.classes.now c.args.own.now (state_at c.args.sides.now c.args.input) c.matching.result c.args.input c.args.link.index_column c.in-Some.value.now (c.requires.wide c.args.input c.requires.there)
+    (wanted_by_link c.args.classes.now c.args.own.now c.args.input c.args.link c.in-Some.value.now c.requires.from c.requires.class (c.in-Some.ensures ∙ ap (λ (row : List Value). slice_get row c.args.link.from_column) c.row.ensures)) c.requires.indexed
+    (c.matching.ensures ∙ ap (λ (s : StateView). rows_with c.args.link.index_column c.in-Some.value.now s.rows) (state_is c.args.sides.now c.args.input c.index-sides-input.result (length c.args.sides.now) refl c.requires.there c.index-sides-input.is))
 
-pub returns-else-not-is_indexed-clause-join : goal.returns-else-not-is_indexed-clause-join
-returns-else-not-is_indexed-clause-join c = λ t s h.
-    let among : In s (rows_with c.in-Some.wanted.column c.in-Some.wanted.value.now c.args.state.now.rows) = subst (λ (rows : List Stored). In s rows) c.matching.ensures h in
-    c.decides.ensures t s (In-filter (has_value c.in-Some.wanted.column c.in-Some.wanted.value.now) s c.args.state.now.rows among).1
+pub returns-in-Some-clause-join : goal.returns-in-Some-clause-join
+returns-in-Some-clause-join c = λ t.
+    decided_join c.args.classes.now c.args.own.now c.args.input c.args.link c.in-Some.value.now (state_at c.args.sides.now c.args.input).rows c.matching.result (c.requires.decide t)
+    (c.in-Some.ensures ∙ ap (λ (row : List Value). slice_get row c.args.link.from_column) c.row.ensures) (c.matching.ensures ∙ ap (λ (s : StateView). rows_with c.args.link.index_column c.in-Some.value.now s.rows) (state_is c.args.sides.now c.args.input c.index-sides-input.result (length c.args.sides.now) refl c.requires.there c.index-sides-input.is))

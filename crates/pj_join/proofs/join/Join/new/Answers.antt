@@ -1,7 +1,9 @@
 use Rattle.std.proofs.Common.{◌∙◌, [], List, map, length, ap, ap₂, sym, subst}
 use Rattle.pj_shape.specs.declared.columns.Column.{Column}
 use Rattle.pj_shape.specs.Sound.{arities_of}
-use Rattle.pj_events.specs.Join.{PunctAt, TupleAt, upto_from}
+use Rattle.pj_events.specs.Join.{ClassCol, PunctAt, TupleAt, upto_from}
+use Rattle.pj_join.specs.Routes.{AreProbeRoutes, columns_of}
+use Rattle.pj_state.specs.States.{StateView}
 use Rattle.pj_join.specs.Insides.{lowest, made_with, seen}
 use Rattle.pj_join.specs.Joins.{join_data}
 use Rattle.std.proofs.lemmas.List.{length-map}
@@ -21,6 +23,8 @@ invariant_of-result c = (
       (subst (λ (ps : List PunctAt). AreWatched (join_data c.args.spec c.args.schemes c.args.certs) 0 (lowest 0 0 [] []) [] ps c.in_ok-watches.watches.items) (sym (puncts-none (join_data c.args.spec c.args.schemes c.args.certs) c.args.limit c.in_ok-states.states.items c.in_ok-stores.stores.items c.in_ok-states.ensures.rows (c.in_ok-stores.ensures.heard ∙ ap (λ (ss : List (List Column)). map (λ k. heard_of k []) (upto_from 0 (length ss))) c.as_slice.ensures)))
       (watched_start (join_data c.args.spec c.args.schemes c.args.certs) c.in_ok-watches.watches.items (c.in_ok-watches.ensures.count ∙ c.len.ensures ∙ sym (length-map c.args.spec.inputs (λ schema. length schema))) c.in_ok-watches.ensures.none))),
   held_none 0 _ c.new-2.result c.new-2.ensures,
+  rw (c.in_ok-new.ensures.ok) (subst (λ (classes : List (List ClassCol)). AreProbeRoutes classes (columns_of c.in_ok-states.states.items) c.in_ok-routes.routes) c.as_slice-2.ensures
+      (subst (λ (states : List StateView). AreProbeRoutes c.as_slice-2.result.now (columns_of states) c.in_ok-routes.routes) c.as_slice-3.ensures.value c.in_ok-routes.ensures)),
 )
 
 pub returns : goal.returns

@@ -7,6 +7,7 @@ use Rattle.pj_join.specs.Sides.{AreWide, first_of, log_of, puncts_of, tuples_in}
 use Rattle.pj_join.proofs.Standing.{stands-probed}
 use Rattle.pj_join.proofs.Calling.{several, done-fits, none-pending, probe-does-at, probe-hands}
 use Rattle.pj_join.proofs.Kept.{all-states, first-is, own-there, probes-now, shapes, wide}
+use Rattle.pj_join.proofs.Routed.{route_at, route_there}
 use Rattle.pj_join.specs.Insides.{lowest}
 use Rattle.pj_join.proofs.Lowest.{lowest_probe}
 use Rattle.pj_join.proofs.Watched.{watched_rises}
@@ -21,11 +22,17 @@ hand_out_found-requires-clause-there c = subst (λ (ss : List StateView). c.in-S
 pub hand_out_found-requires-clause-wide : goal.hand_out_found-requires-clause-wide
 hand_out_found-requires-clause-wide c = subst (λ (ss : List StateView). AreWide ss) (sym c.as_slice-in-Some.ensures.value) (wide (join_data (arc_value c.self.inside.spec) c.self.inside.schemes c.self.inside.certs) c.self.inside.limit c.self.inside.next c.self.inside.done c.self.inside.states.items c.self.inside.stores.items c.self.inside.pending c.self.inside.taken.items c.self.invariant.0)
 
+pub route_of-requires : goal.route_of-requires
+route_of-requires c = route_there (arc_value c.self.inside.spec).classes c.self.inside.states.items c.self.inside.routes c.in-Some.own.input c.self.invariant.3 (own-there (join_data (arc_value c.self.inside.spec) c.self.inside.schemes c.self.inside.certs) c.self.inside.limit c.self.inside.next c.self.inside.done c.self.inside.states.items c.self.inside.stores.items c.self.inside.pending c.self.inside.taken.items c.self.invariant.0 c.in-Some.own (c.in-Some.ensures ∙ ap (λ (ss : List StateView). first_of ss c.self.inside.pending) c.as_slice.ensures.value ∙ first-is (join_data (arc_value c.self.inside.spec) c.self.inside.schemes c.self.inside.certs) c.self.inside.limit c.self.inside.next c.self.inside.done c.self.inside.states.items c.self.inside.stores.items c.self.inside.pending c.self.inside.taken.items c.self.invariant.0))
+
+pub hand_out_found-requires-clause-route : goal.hand_out_found-requires-clause-route
+hand_out_found-requires-clause-route c = route_at (arc_value c.self.inside.spec).classes c.self.inside.states.items c.as_slice-in-Some.result.now c.self.inside.routes c.in-Some.own.input c.route_of.result.now c.self.invariant.3 c.as_slice-in-Some.ensures.value c.route_of.ensures
+
 pub overflow_add-self : goal.overflow_add-self
 overflow_add-self c = let f : c.self.inside.done < 2 ^ 40 + 1 = done-fits (join_data (arc_value c.self.inside.spec) c.self.inside.schemes c.self.inside.certs) c.self.inside.limit c.self.inside.next c.self.inside.done (log_of c.self.inside.states.items) (tuples_in 0 c.self.inside.states.items) c.self.inside.taken.items c.self.invariant.0.ordered in omega (arith, f)
 
 pub invariant_of-self : goal.invariant_of-self
-invariant_of-self c = (probes-now (join_data (arc_value c.self.inside.spec) c.self.inside.schemes c.self.inside.certs) c.self.inside.limit c.self.inside.next c.self.inside.done c.self.inside.states.items c.self.inside.stores.items c.self.inside.pending c.self.inside.taken.items c.self.invariant.0 c.in-Some.own c.pop_first.new.self (c.in-Some.ensures ∙ ap (λ (ss : List StateView). first_of ss c.self.inside.pending) c.as_slice.ensures.value ∙ first-is (join_data (arc_value c.self.inside.spec) c.self.inside.schemes c.self.inside.certs) c.self.inside.limit c.self.inside.next c.self.inside.done c.self.inside.states.items c.self.inside.stores.items c.self.inside.pending c.self.inside.taken.items c.self.invariant.0) c.pop_first.ensures, watched_rises (join_data (arc_value c.self.inside.spec) c.self.inside.schemes c.self.inside.certs) c.self.inside.next (lowest c.self.inside.next c.self.inside.done (log_of c.self.inside.states.items) c.self.inside.taken.items) (lowest c.self.inside.next (c.self.inside.done + 1) (log_of c.self.inside.states.items) c.self.inside.taken.items) (log_of c.self.inside.states.items) (puncts_of c.self.inside.stores.items) c.self.inside.watches.items (lowest_probe c.self.inside.next c.self.inside.done (log_of c.self.inside.states.items) c.self.inside.taken.items c.in-Some.own (c.in-Some.ensures ∙ ap (λ (ss : List StateView). first_of ss c.self.inside.pending) c.as_slice.ensures.value ∙ first-is (join_data (arc_value c.self.inside.spec) c.self.inside.schemes c.self.inside.certs) c.self.inside.limit c.self.inside.next c.self.inside.done c.self.inside.states.items c.self.inside.stores.items c.self.inside.pending c.self.inside.taken.items c.self.invariant.0)) c.self.invariant.1, c.self.invariant.2)
+invariant_of-self c = (probes-now (join_data (arc_value c.self.inside.spec) c.self.inside.schemes c.self.inside.certs) c.self.inside.limit c.self.inside.next c.self.inside.done c.self.inside.states.items c.self.inside.stores.items c.self.inside.pending c.self.inside.taken.items c.self.invariant.0 c.in-Some.own c.pop_first.new.self (c.in-Some.ensures ∙ ap (λ (ss : List StateView). first_of ss c.self.inside.pending) c.as_slice.ensures.value ∙ first-is (join_data (arc_value c.self.inside.spec) c.self.inside.schemes c.self.inside.certs) c.self.inside.limit c.self.inside.next c.self.inside.done c.self.inside.states.items c.self.inside.stores.items c.self.inside.pending c.self.inside.taken.items c.self.invariant.0) c.pop_first.ensures, watched_rises (join_data (arc_value c.self.inside.spec) c.self.inside.schemes c.self.inside.certs) c.self.inside.next (lowest c.self.inside.next c.self.inside.done (log_of c.self.inside.states.items) c.self.inside.taken.items) (lowest c.self.inside.next (c.self.inside.done + 1) (log_of c.self.inside.states.items) c.self.inside.taken.items) (log_of c.self.inside.states.items) (puncts_of c.self.inside.stores.items) c.self.inside.watches.items (lowest_probe c.self.inside.next c.self.inside.done (log_of c.self.inside.states.items) c.self.inside.taken.items c.in-Some.own (c.in-Some.ensures ∙ ap (λ (ss : List StateView). first_of ss c.self.inside.pending) c.as_slice.ensures.value ∙ first-is (join_data (arc_value c.self.inside.spec) c.self.inside.schemes c.self.inside.certs) c.self.inside.limit c.self.inside.next c.self.inside.done c.self.inside.states.items c.self.inside.stores.items c.self.inside.pending c.self.inside.taken.items c.self.invariant.0)) c.self.invariant.1, c.self.invariant.2, c.self.invariant.3)
 
 pub returns-in-None-clause-probes : goal.returns-in-None-clause-probes
 returns-in-None-clause-probes c = rw (← c.self.view_is) (none-pending (log_of c.self.inside.states.items) c.self.inside.done (c.in-None.ensures ∙ ap (λ (ss : List StateView). first_of ss c.self.inside.pending) c.as_slice.ensures.value ∙ first-is (join_data (arc_value c.self.inside.spec) c.self.inside.schemes c.self.inside.certs) c.self.inside.limit c.self.inside.next c.self.inside.done c.self.inside.states.items c.self.inside.stores.items c.self.inside.pending c.self.inside.taken.items c.self.invariant.0), refl)

@@ -14,6 +14,7 @@ use Rattle.pj_join.proofs.Looped.{state_is}
 use Rattle.pj_join.proofs.Swept.{few-gone, join-swept, view-left}
 use Rattle.pj_join.specs.Watching.{AreOpenBut}
 use Rattle.pj_join.proofs.Holding.{held_none}
+use Rattle.pj_join.proofs.Routed.{routes_kept}
 use Rattle.pj_join.proofs.Settled.{settled}
 use Rattle.pj_join.proofs.join.Join.settle.Goals as goal
 
@@ -56,6 +57,7 @@ invariant_of-self c =
           (settled c.self.inside.node (join_data (arc_value c.self.inside.spec) c.self.inside.schemes c.self.inside.certs) c.self.inside.limit c.self.inside.next c.self.inside.done c.self.inside.states.items c.self.inside.stores.items c.self.inside.pending c.self.inside.taken.items c.self.inside.waiting.puncts c.args.input c.self.invariant.0 there c.args.left.gone gone c.index_mut-2.result.now c.remove_all.new.state (state_is c.self.inside.states.items c.args.input c.index_mut-2.result.now (inputs (join_data (arc_value c.self.inside.spec) c.self.inside.schemes c.self.inside.certs)) (all-states (join_data (arc_value c.self.inside.spec) c.self.inside.schemes c.self.inside.certs) c.self.inside.limit c.self.inside.next c.self.inside.done c.self.inside.states.items c.self.inside.stores.items c.self.inside.pending c.self.inside.taken.items c.self.invariant.0) there c.index_mut-2.ensures.value) (rw (← c.as_slice-4.ensures) c.remove_all.ensures) c.low-from.result c.args.left.marked c.self.inside.watches.items c.rouse.new.watches.items low c.self.invariant.1 (rw (← c.self.view_is) at marks)
           c.rouse.ensures.fewer (rw (c.deref.ensures, c.as_slice.ensures, c.as_slice-2.ensures.value, c.as_slice-3.ensures) at c.rouse.ensures.roused)),
       held_none c.self.inside.next _ c.self.inside.waiting none,
+      routes_kept (arc_value c.self.inside.spec).classes c.self.inside.states.items c.self.inside.routes c.args.input c.index_mut-2.result.now c.remove_all.new.state c.self.invariant.3 (omega (arith, there, (all-states (join_data (arc_value c.self.inside.spec) c.self.inside.schemes c.self.inside.certs) c.self.inside.limit c.self.inside.next c.self.inside.done c.self.inside.states.items c.self.inside.stores.items c.self.inside.pending c.self.inside.taken.items c.self.invariant.0))) c.index_mut-2.ensures.value (ap (λ (s : StateView). s.columns) c.remove_all.ensures),
     )
 
 pub returns-clause-sweeps : goal.returns-clause-sweeps

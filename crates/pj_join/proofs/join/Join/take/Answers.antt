@@ -7,6 +7,7 @@ use Rattle.pj_join.specs.Sides.{AreWide, first_of, log_of, puncts_of, tuples_in}
 use Rattle.pj_join.proofs.Standing.{stands-taken}
 use Rattle.pj_join.proofs.Calling.{several, done-fits, none-pending, take-finds}
 use Rattle.pj_join.proofs.Kept.{all-states, first-is, own-there, shapes, takes-now, wide}
+use Rattle.pj_join.proofs.Routed.{route_at, route_there}
 use Rattle.pj_join.specs.Insides.{lowest}
 use Rattle.pj_join.proofs.Lowest.{lowest_take}
 use Rattle.pj_join.proofs.Watched.{watched_rises}
@@ -21,12 +22,18 @@ probe_of-requires-clause-there c = subst (λ (ss : List StateView). c.in-Some.ow
 pub probe_of-requires-clause-wide : goal.probe_of-requires-clause-wide
 probe_of-requires-clause-wide c = subst (λ (ss : List StateView). AreWide ss) (sym c.as_slice-in-Some.ensures.value) (wide (join_data (arc_value c.self.inside.spec) c.self.inside.schemes c.self.inside.certs) c.self.inside.limit c.self.inside.next c.self.inside.done c.self.inside.states.items c.self.inside.stores.items c.self.inside.pending c.self.inside.taken.items c.self.invariant.0)
 
+pub route_of-requires : goal.route_of-requires
+route_of-requires c = route_there (arc_value c.self.inside.spec).classes c.self.inside.states.items c.self.inside.routes c.in-Some.own.input c.self.invariant.3 (own-there (join_data (arc_value c.self.inside.spec) c.self.inside.schemes c.self.inside.certs) c.self.inside.limit c.self.inside.next c.self.inside.done c.self.inside.states.items c.self.inside.stores.items c.self.inside.pending c.self.inside.taken.items c.self.invariant.0 c.in-Some.own (c.in-Some.ensures ∙ ap (λ (ss : List StateView). first_of ss c.self.inside.pending) c.as_slice.ensures.value ∙ first-is (join_data (arc_value c.self.inside.spec) c.self.inside.schemes c.self.inside.certs) c.self.inside.limit c.self.inside.next c.self.inside.done c.self.inside.states.items c.self.inside.stores.items c.self.inside.pending c.self.inside.taken.items c.self.invariant.0))
+
+pub probe_of-requires-clause-route : goal.probe_of-requires-clause-route
+probe_of-requires-clause-route c = route_at (arc_value c.self.inside.spec).classes c.self.inside.states.items c.as_slice-in-Some.result.now c.self.inside.routes c.in-Some.own.input c.route_of.result.now c.self.invariant.3 c.as_slice-in-Some.ensures.value c.route_of.ensures
+
 pub overflow_add-self : goal.overflow_add-self
 overflow_add-self c = let f : c.self.inside.done < 2 ^ 40 + 1 = done-fits (join_data (arc_value c.self.inside.spec) c.self.inside.schemes c.self.inside.certs) c.self.inside.limit c.self.inside.next c.self.inside.done (log_of c.self.inside.states.items) (tuples_in 0 c.self.inside.states.items) c.self.inside.taken.items c.self.invariant.0.ordered in omega (arith, f)
 
 pub invariant_of-self-in-Some : goal.invariant_of-self-in-Some
 invariant_of-self-in-Some c =
-    (takes-now (join_data (arc_value c.self.inside.spec) c.self.inside.schemes c.self.inside.certs) c.self.inside.limit c.self.inside.next c.self.inside.done c.self.inside.states.items c.self.inside.stores.items c.self.inside.pending c.self.inside.taken.items c.self.invariant.0 c.in-Some.own c.push.new.self.items c.pop_first.new.self (c.in-Some.ensures ∙ ap (λ (ss : List StateView). first_of ss c.self.inside.pending) c.as_slice.ensures.value ∙ first-is (join_data (arc_value c.self.inside.spec) c.self.inside.schemes c.self.inside.certs) c.self.inside.limit c.self.inside.next c.self.inside.done c.self.inside.states.items c.self.inside.stores.items c.self.inside.pending c.self.inside.taken.items c.self.invariant.0) (c.in_ok-push-in-Some.ensures.items ∙ ap (λ n. c.self.inside.taken.items ++ n ∷ []) (c.ticket.ensures ∙ ap (λ (f : Found). f.ticket) c.in_ok-probe-in-Some.ensures)) c.pop_first.ensures, watched_rises (join_data (arc_value c.self.inside.spec) c.self.inside.schemes c.self.inside.certs) c.self.inside.next (lowest c.self.inside.next c.self.inside.done (log_of c.self.inside.states.items) c.self.inside.taken.items) (lowest c.self.inside.next (c.self.inside.done + 1) (log_of c.self.inside.states.items) c.push.new.self.items) (log_of c.self.inside.states.items) (puncts_of c.self.inside.stores.items) c.self.inside.watches.items (lowest_take c.self.inside.next c.self.inside.done (log_of c.self.inside.states.items) c.self.inside.taken.items c.push.new.self.items c.in-Some.own (c.in-Some.ensures ∙ ap (λ (ss : List StateView). first_of ss c.self.inside.pending) c.as_slice.ensures.value ∙ first-is (join_data (arc_value c.self.inside.spec) c.self.inside.schemes c.self.inside.certs) c.self.inside.limit c.self.inside.next c.self.inside.done c.self.inside.states.items c.self.inside.stores.items c.self.inside.pending c.self.inside.taken.items c.self.invariant.0) (c.in_ok-push-in-Some.ensures.items ∙ ap (λ n. c.self.inside.taken.items ++ n ∷ []) (c.ticket.ensures ∙ ap (λ (f : Found). f.ticket) c.in_ok-probe-in-Some.ensures))) c.self.invariant.1, c.self.invariant.2)
+    (takes-now (join_data (arc_value c.self.inside.spec) c.self.inside.schemes c.self.inside.certs) c.self.inside.limit c.self.inside.next c.self.inside.done c.self.inside.states.items c.self.inside.stores.items c.self.inside.pending c.self.inside.taken.items c.self.invariant.0 c.in-Some.own c.push.new.self.items c.pop_first.new.self (c.in-Some.ensures ∙ ap (λ (ss : List StateView). first_of ss c.self.inside.pending) c.as_slice.ensures.value ∙ first-is (join_data (arc_value c.self.inside.spec) c.self.inside.schemes c.self.inside.certs) c.self.inside.limit c.self.inside.next c.self.inside.done c.self.inside.states.items c.self.inside.stores.items c.self.inside.pending c.self.inside.taken.items c.self.invariant.0) (c.in_ok-push-in-Some.ensures.items ∙ ap (λ n. c.self.inside.taken.items ++ n ∷ []) (c.ticket.ensures ∙ ap (λ (f : Found). f.ticket) c.in_ok-probe-in-Some.ensures)) c.pop_first.ensures, watched_rises (join_data (arc_value c.self.inside.spec) c.self.inside.schemes c.self.inside.certs) c.self.inside.next (lowest c.self.inside.next c.self.inside.done (log_of c.self.inside.states.items) c.self.inside.taken.items) (lowest c.self.inside.next (c.self.inside.done + 1) (log_of c.self.inside.states.items) c.push.new.self.items) (log_of c.self.inside.states.items) (puncts_of c.self.inside.stores.items) c.self.inside.watches.items (lowest_take c.self.inside.next c.self.inside.done (log_of c.self.inside.states.items) c.self.inside.taken.items c.push.new.self.items c.in-Some.own (c.in-Some.ensures ∙ ap (λ (ss : List StateView). first_of ss c.self.inside.pending) c.as_slice.ensures.value ∙ first-is (join_data (arc_value c.self.inside.spec) c.self.inside.schemes c.self.inside.certs) c.self.inside.limit c.self.inside.next c.self.inside.done c.self.inside.states.items c.self.inside.stores.items c.self.inside.pending c.self.inside.taken.items c.self.invariant.0) (c.in_ok-push-in-Some.ensures.items ∙ ap (λ n. c.self.inside.taken.items ++ n ∷ []) (c.ticket.ensures ∙ ap (λ (f : Found). f.ticket) c.in_ok-probe-in-Some.ensures))) c.self.invariant.1, c.self.invariant.2, c.self.invariant.3)
 
 pub returns-in-None-clause-takes : goal.returns-in-None-clause-takes
 returns-in-None-clause-takes c = rw (← c.self.view_is) (none-pending (log_of c.self.inside.states.items) c.self.inside.done (c.in-None.ensures ∙ ap (λ (ss : List StateView). first_of ss c.self.inside.pending) c.as_slice.ensures.value ∙ first-is (join_data (arc_value c.self.inside.spec) c.self.inside.schemes c.self.inside.certs) c.self.inside.limit c.self.inside.next c.self.inside.done c.self.inside.states.items c.self.inside.stores.items c.self.inside.pending c.self.inside.taken.items c.self.invariant.0), refl)

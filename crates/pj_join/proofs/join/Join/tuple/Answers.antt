@@ -8,6 +8,8 @@ use Rattle.pj_join.proofs.Standing.{stands-tuple}
 use Rattle.pj_join.proofs.Calling.{several, tuple-keeps}
 use Rattle.pj_join.proofs.Kept.{all-states, columns-of-below, join-more, log-more, rows-of-below}
 use Rattle.pj_join.proofs.Looped.{state_is}
+use Rattle.pj_join.proofs.Routed.{routes_kept}
+use Rattle.pj_state.specs.States.{StateView}
 use Rattle.pj_join.proofs.Lowest.{lowest_tuple}
 use Rattle.pj_join.specs.Insides.{lowest}
 use Rattle.pj_join.proofs.Watched.{watched_tuple}
@@ -51,6 +53,7 @@ invariant_of-self-2 c =
           (watched_tuple (join_data (arc_value c.self.inside.spec) c.self.inside.schemes c.self.inside.certs) c.self.inside.next (lowest c.self.inside.next c.self.inside.done (log_of c.self.inside.states.items) c.self.inside.taken.items) (lowest (c.self.inside.next + 1) c.self.inside.done ((log_of c.self.inside.states.items) ++ (record { ticket = c.self.inside.next; input = c.args.input; row = c.args.row }) ∷ []) c.self.inside.taken.items) (log_of c.self.inside.states.items) (puncts_of c.self.inside.stores.items) c.self.inside.watches.items (record { ticket = c.self.inside.next; input = c.args.input; row = c.args.row }) refl (lowest_tuple c.self.inside.next c.self.inside.done (log_of c.self.inside.states.items) c.self.inside.taken.items (record { ticket = c.self.inside.next; input = c.args.input; row = c.args.row }) refl c.self.invariant.0.ordered.within) c.self.invariant.1),
       subst (λ (xs : List TupleAt). AreHeld (c.self.inside.next + 1) xs c.self.inside.waiting) (sym (log-more (join_data (arc_value c.self.inside.spec) c.self.inside.schemes c.self.inside.certs) c.self.inside.limit c.self.inside.next c.self.inside.done c.self.inside.states.items c.self.inside.stores.items c.self.inside.pending c.self.inside.taken.items c.self.invariant.0 c.args.input c.args.row _ c.store.new.state (λ e. false≢true (c.if-is_full.ensures.1 e)) there long
           (state_is c.self.inside.states.items c.args.input _ (inputs (join_data (arc_value c.self.inside.spec) c.self.inside.schemes c.self.inside.certs)) (all-states (join_data (arc_value c.self.inside.spec) c.self.inside.schemes c.self.inside.certs) c.self.inside.limit c.self.inside.next c.self.inside.done c.self.inside.states.items c.self.inside.stores.items c.self.inside.pending c.self.inside.taken.items c.self.invariant.0) there c.index_mut.ensures.value) (rw (← c.in_ok-row.ensures) c.in_ok-store.ensures.state))) (held_more c.self.inside.next (log_of c.self.inside.states.items) (record { ticket = c.self.inside.next; input = c.args.input; row = c.args.row }) c.self.inside.waiting c.self.invariant.2),
+      routes_kept (arc_value c.self.inside.spec).classes c.self.inside.states.items c.self.inside.routes c.args.input c.index_mut.result.now c.store.new.state c.self.invariant.3 (omega (arith, there, (all-states (join_data (arc_value c.self.inside.spec) c.self.inside.schemes c.self.inside.certs) c.self.inside.limit c.self.inside.next c.self.inside.done c.self.inside.states.items c.self.inside.stores.items c.self.inside.pending c.self.inside.taken.items c.self.invariant.0))) c.index_mut.ensures.value (ap (λ (s : StateView). s.columns) c.in_ok-store.ensures.state),
     )
 
 pub returns-clause-keeps : goal.returns-clause-keeps
