@@ -25,7 +25,7 @@ use Rattle.pj_events.specs.declared.events.Entry.{Entry}
 use Rattle.pj_events.specs.History.{nodes_from}
 use Rattle.pj_laws.specs.Climb.{Above, above}
 use Rattle.pj_laws.proofs.Nodes.{operator-from}
-use Rattle.pj_operator.specs.Cells.{AreLinked, FitsKind, Frame, HasLimit, HasOwnWidth, HaveLimit, IsKind, IsLinked, JoinKind, Kind, above_pair, frame_at, role_in, width_up}
+use Rattle.pj_operator.specs.Operators.{AreLinked, FitsKind, Frame, HasLimit, HasOwnWidth, HaveLimit, IsKind, IsLinked, JoinKind, Kind, above_pair, frame_at, role_in, width_up}
 use Rattle.pj_core.specs.Parts.{frame_for, frames_from, frames_of, kind_for}
 use Rattle.pj_core.specs.Plans.{RunPlan, certs_behind, nodes_of, nodes_with, operator_of}
 use Rattle.pj_core.proofs.Planned.{above-is, node_made}

@@ -18,3 +18,4 @@ pub mod Making
 pub mod Places
 pub mod TurnEnds
 pub mod Turning
+pub mod Quiet

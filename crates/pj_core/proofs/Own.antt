@@ -3,8 +3,8 @@ use Rattle.std.proofs.Common.{ℕ, ◌<◌, Bool, true, false, List, [], ◌∷�
 use Rattle.pj_events.specs.declared.events.Entry.{Entry}
 use Rattle.pj_events.specs.declared.events.Event.{Event}
 use Rattle.pj_events.specs.declared.events.Out.{Out}
-use Rattle.pj_events.specs.Join.{AreCertified, AreLegalSteps, IsAllowed, JoinData, JoinState, Step, Sweep, Take, Give, hands_up, has, inputs, joined, kept, results, run, start, step}
-use Rattle.pj_events.specs.KeptState.{KeptState, kept_of, kept_step, lacking}
+use Rattle.pj_events.specs.Join.{AreCertified, AreLegalSteps, IsAllowed, JoinData, JoinState, Step, Sweep, Take, Give, hands_up, has, inputs, joined, results, run, start, step}
+use Rattle.pj_events.specs.KeptState.{KeptState, kept_of, kept_step}
 use Rattle.pj_events.specs.Plan.{Act, IsOwn, IsStepAllowed, MayAct, Operator, Join, Node, Own, after as after_local, hands, operator_at}
 use Rattle.pj_events.specs.declared.events.Event.TheVariants.{Take as Taken, Give as Given, Sweep as Swept}
 use Rattle.pj_events.specs.History.{IsEntryAllowed, IsLegal, IsOn, data_in, nodes_from, reached_of, state_in}
@@ -12,7 +12,7 @@ use Rattle.pj_laws.specs.HistoryLaws.{Certified}
 use Rattle.pj_events.specs.OneThread.{plain}
 use Rattle.pj_join_laws.proofs.Tickets.{lacking-come, lacking-none}
 use Rattle.pj_join.specs.Joins.{IsTaken}
-use Rattle.pj_operator.specs.Acts.{with_work}
+use Rattle.pj_operator.specs.Acts.{with_state}
 use Rattle.pj_core.proofs.Planned.{nodes-long}
 use Rattle.pj_events.specs.CoreKept.{JoinKept, kept_in}
 use Rattle.pj_laws.specs.Climb.{Climbed, climbed_where, local_of}
@@ -22,10 +22,10 @@ use Rattle.pj_laws.proofs.HistoryAnswers.{adds-entry, grows-legally, trace-adds-
 use Rattle.pj_laws.proofs.ClimbingKept.{stored_of}
 use Rattle.pj_join_laws.proofs.Stand.{kept-own}
 use Rattle.pj_join.specs.Joins.{JoinView, StandsFor as JoinStandsFor, after}
-use Rattle.pj_operator.specs.declared.cell.Cell.{Cell}
-use Rattle.pj_operator.specs.declared.cell.Work.{Work}
-use Rattle.pj_operator.specs.declared.cell.Work.TheVariants.{Join as JoinCell}
-use Rattle.pj_operator.specs.Cells.{AreAs, IsAs, IsBelowIn, IsKind, JoinKind, JoinRole, cell_at, count_in, kind_of, role_in}
+use Rattle.pj_operator.specs.declared.operator.RunningOperator.{RunningOperator}
+use Rattle.pj_operator.specs.declared.operator.OperatorState.{OperatorState}
+use Rattle.pj_operator.specs.declared.operator.OperatorState.TheVariants.{Join as RunningJoin}
+use Rattle.pj_operator.specs.Operators.{AreAs, IsAs, IsBelowIn, IsKind, JoinKind, JoinRole, running_at, count_in, kind_of, role_in}
 use Rattle.pj_core.specs.Cores.{StandsFor}
 use Rattle.pj_core.specs.Parts.{IsMadeOf, core_of}
 use Rattle.pj_core.specs.Plans.{RunPlan, nodes_of}
@@ -40,7 +40,7 @@ pub record IsJoinWith (join : JoinView) (operator : Operator) : Type 0 where
   pub is : operator ≡ Join join.spec state
   pub kept : join.kept ≡ kept_of state
 
-pub join-with : (join : JoinView) (operator : Operator) → IsAs (JoinCell join) operator → IsJoinWith join operator
+pub join-with : (join : JoinView) (operator : Operator) → IsAs (RunningJoin join) operator → IsJoinWith join operator
 join-with join (Join spec s) a =
     let same : spec ≡ join.spec = (let k : JoinRole join.spec ≡ JoinRole spec = a.kind in cc) in
     record { state = s; is = ap (λ (d : JoinData). Join d s) same; kept = (let e : JoinKept join.kept ≡ JoinKept (kept_of s) = a.kept in cc) }
@@ -48,19 +48,19 @@ join-with join operator a = absurd (let k : JoinRole join.spec ≡ role_in opera
 
 -- ---- behind a history
 
-module _ (plan : RunPlan) (limit : ℕ) (cells : List Cell) (made : IsMadeOf plan limit cells) (c : List ℕ) (halt : Bool) (u : List Out) (history : List Entry) (S : StandsFor (core_of plan limit cells c halt u None) history)
-    (place : ℕ) (there : place < length cells) (join : JoinView) (at : (cell_at cells place).work ≡ JoinCell join) where
+module _ (plan : RunPlan) (limit : ℕ) (operators : List RunningOperator) (made : IsMadeOf plan limit operators) (c : List ℕ) (halt : Bool) (u : List Out) (history : List Entry) (S : StandsFor (core_of plan limit operators c halt u None) history)
+    (place : ℕ) (there : place < length operators) (join : JoinView) (at : (running_at operators place).state ≡ RunningJoin join) where
   abbrev nodes : List Node
   nodes = nodes_from (nodes_of plan) history
 
-  pub A : AreAs cells nodes
-  A = are plan limit cells made c halt u history S
+  pub A : AreAs operators nodes
+  A = are plan limit operators made c halt u history S
 
   pub within : place < length plan.nodes
   within = omega (arith, there, A.long, long-now plan limit history made.0 S.legal)
 
   pub J : IsJoinWith join (operator_at nodes place)
-  J = join-with join (operator_at nodes place) (subst (λ (w : Work). IsAs w (operator_at nodes place)) at (A.each place there))
+  J = join-with join (operator_at nodes place) (subst (λ (w : OperatorState). IsAs w (operator_at nodes place)) at (A.each place there))
 
   pub start-is : operator_at (nodes_of plan) place ≡ Join join.spec start
   start-is = (join-start plan limit history made.0 S.legal place within join.spec J.state J.is).0
@@ -117,14 +117,14 @@ module _ (plan : RunPlan) (limit : ℕ) (cells : List Cell) (made : IsMadeOf pla
       ∙ ap (λ (k : Climbed). k.nodes) (ap₂ (climbed_where nodes) begins local))
       ∙ (leaves-nodes nodes A.tree place (Own e)).first (let a = A.long in omega (arith, there, a))
 
-  -- an allowed step of the join's own, with the cell behind it
+  -- an allowed step of the join's own, with the operator behind it
   pub own-steps : (event : Event) (e : Step) (peak : ℕ) → local_of event ≡ Some (Own e) → origin_of nodes event ≡ place → IsOwn e → IsEntryAllowed (reached_of false (nodes_of plan) history) (plain event)
-      → KeepsPeak peak (cell_at cells place) (operator_at nodes place) (after_local (operator_at nodes place) (Own e))
-      → Steps cells (with_work cells place (JoinCell (after join e)) peak) nodes place (Own e)
+      → KeepsPeak peak (running_at operators place) (operator_at nodes place) (after_local (operator_at nodes place) (Own e))
+      → Steps operators (with_state operators place (RunningJoin (after join e)) peak) nodes place (Own e)
   own-steps event e peak local begins own may keeps =
-      steps-at cells nodes place (Own e) (record (cell_at cells place) { work = JoinCell (after join e); peak = peak }) A there
+      steps-at operators nodes place (Own e) (record (running_at operators place) { state = RunningJoin (after join e); peak = peak }) A there
       (record { kind = kind; kept = kept-is; below = below })
-      (ap (λ (w : Work). record { kind = kind_of w; above = (cell_at cells place).above; width = (cell_at cells place).width }) (sym at))
+      (ap (λ (w : OperatorState). record { kind = kind_of w; above = (running_at operators place).above; width = (running_at operators place).width }) (sym at))
       (next join.kept e own ∙ ap count_in (sym at))
       keeps
     where

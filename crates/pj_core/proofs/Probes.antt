@@ -22,17 +22,17 @@ use Rattle.pj_laws.proofs.Quiet.{take-within}
 use Rattle.pj_core.proofs.Planned.{tree}
 use Rattle.pj_join_laws.proofs.Tickets.{AreAscending, first-least, pending-ascends}
 use Rattle.pj_join.specs.Joins.{JoinView, after, found_of}
-use Rattle.pj_operator.specs.declared.cell.Cell.{Cell}
-use Rattle.pj_operator.specs.declared.cell.Work.{Work}
-use Rattle.pj_operator.specs.declared.cell.Work.TheVariants.{Join as JoinCell}
-use Rattle.pj_operator.specs.Acts.{IsProbeStop, JoinProbed, ProbesOn, found_outs, with_work}
-use Rattle.pj_operator.specs.Cells.{AreAs, cell_at, frames_in, kept_seen, kind_of, no_cell, pending_kept}
-use Rattle.pj_operator.specs.Climbing.{Climbs, GoBeyond, Scene, StaysAs}
+use Rattle.pj_operator.specs.declared.operator.RunningOperator.{RunningOperator}
+use Rattle.pj_operator.specs.declared.operator.OperatorState.{OperatorState}
+use Rattle.pj_operator.specs.declared.operator.OperatorState.TheVariants.{Join as RunningJoin}
+use Rattle.pj_operator.specs.Acts.{IsProbeStop, JoinProbed, ProbesOn, found_outs, with_state}
+use Rattle.pj_operator.specs.Operators.{AreAs, running_at, frames_in, kept_seen, kind_of, no_operator, pending_kept}
+use Rattle.pj_operator.specs.Emitting.{Emits, GoBeyond, Scene, StaysAs}
 use Rattle.pj_core.specs.Cores.{CoreState, StandsFor}
 use Rattle.pj_core.specs.Parts.{IsMadeOf, core_of}
 use Rattle.pj_core.specs.Plans.{RunPlan, nodes_of}
 use Rattle.pj_core.specs.Turns.{MayProbeAt, ProbesAt, StopsAtProbe, StopsProbe, kept_pending}
-use Rattle.pj_operator.proofs.Changes.{frames-work, opens-work}
+use Rattle.pj_operator.proofs.Changes.{frames-state, opens-state}
 use Rattle.pj_operator.proofs.Widths.{outs-rows}
 use Rattle.pj_operator.proofs.Joins.{took_keeps}
 use Rattle.pj_core.proofs.Own as own
@@ -64,8 +64,8 @@ headed n t (v ∷ ts) e = record { others = ts; is = ap (λ (m : ℕ). m ∷ ts)
     ticket_in (Some p) = p.ticket
 
 -- the join at this place works on its least pending ticket
-module _ (plan : RunPlan) (limit : ℕ) (cells : List Cell) (made : IsMadeOf plan limit cells) (c : List ℕ) (halt : Bool) (u : List Out)
-    (place : ℕ) (there : place < length cells) (work : Work) (ticket : ℕ) (P : JoinProbed (cell_at cells place).work work [] (found_outs (cell_at cells place).work ticket) ticket) where
+module _ (plan : RunPlan) (limit : ℕ) (operators : List RunningOperator) (made : IsMadeOf plan limit operators) (c : List ℕ) (halt : Bool) (u : List Out)
+    (place : ℕ) (there : place < length operators) (state : OperatorState) (ticket : ℕ) (P : JoinProbed (running_at operators place).state state [] (found_outs (running_at operators place).state ticket) ticket) where
   abbrev pub join : JoinView
   join = P.join
 
@@ -76,86 +76,86 @@ module _ (plan : RunPlan) (limit : ℕ) (cells : List Cell) (made : IsMadeOf pla
   taken = after join (Take ticket)
 
   abbrev pub peak : ℕ
-  peak = (cell_at cells place).peak
+  peak = (running_at operators place).peak
 
-  abbrev pub cell : Cell
-  cell = record (cell_at cells place) { work = JoinCell taken }
+  abbrev pub operator : RunningOperator
+  operator = record (running_at operators place) { state = RunningJoin taken }
 
-  abbrev pub mid : List Cell
-  mid = with_work cells place (JoinCell taken) peak
+  abbrev pub mid : List RunningOperator
+  mid = with_state operators place (RunningJoin taken) peak
 
-  at-mid : cell_at mid place ≡ cell
-  at-mid = get_or-set_same cells place cell no_cell there
+  at-mid : running_at mid place ≡ operator
+  at-mid = get_or-set_same operators place operator no_operator there
 
   there-mid : place < length mid
-  there-mid = let l = length-set cells place cell in omega (arith, there, l)
+  there-mid = let l = length-set operators place operator in omega (arith, there, l)
 
   made-mid : IsMadeOf plan limit mid
   made-mid = (
     made.0,
     made.1,
-    frames-work cells place no_cell (JoinCell taken) (ap kind_of (sym P.was)) ∙ made.2,
-    (opens-work cells place no_cell (JoinCell taken) there
-        (subst (λ (w : Work). Rattle.pj_operator.specs.Cells.KeepsOpen w (JoinCell taken)) (sym P.was) (took_keeps (Some (found_of join ticket)) join taken P.takes)) made.3).0,
+    frames-state operators place no_operator (RunningJoin taken) (ap kind_of (sym P.was)) ∙ made.2,
+    (opens-state operators place no_operator (RunningJoin taken) there
+        (subst (λ (w : OperatorState). Rattle.pj_operator.specs.Operators.KeepsOpen w (RunningJoin taken)) (sym P.was) (took_keeps (Some (found_of join ticket)) join taken P.takes)) made.3).0,
   )
 
-  -- the cells behind the give
-  behind-is : with_work cells place work peak ≡ with_work mid place (JoinCell (after taken (Give ticket))) (cell_at mid place).peak
+  -- the operators behind the give
+  behind-is : with_state operators place state peak ≡ with_state mid place (RunningJoin (after taken (Give ticket))) (running_at mid place).peak
   behind-is =
-      ap (λ (w : Work). with_work cells place w peak) P.is
-      ∙ sym (ap (λ (x : Cell). set mid place (record x { work = JoinCell (after taken (Give ticket)) })) at-mid
-      ∙ set-twice cells place cell (record (cell_at cells place) { work = JoinCell (after taken (Give ticket)) }))
+      ap (λ (w : OperatorState). with_state operators place w peak) P.is
+      ∙ sym (ap (λ (x : RunningOperator). set mid place (record x { state = RunningJoin (after taken (Give ticket)) })) at-mid
+      ∙ set-twice operators place operator (record (running_at operators place) { state = RunningJoin (after taken (Give ticket)) }))
 
-  elements-are : elements_out (found_outs (cell_at cells place).work ticket) ≡ map Tuple rows
-  elements-are = ap (λ (w : Work). elements_out (found_outs w ticket)) P.was ∙ outs-rows rows
+  elements-are : elements_out (found_outs (running_at operators place).state ticket) ≡ map Tuple rows
+  elements-are = ap (λ (w : OperatorState). elements_out (found_outs w ticket)) P.was ∙ outs-rows rows
 
-  module _ (history : List Entry) (S : StandsFor (core_of plan limit cells c halt u None) history) where
+  module _ (history : List Entry) (S : StandsFor (core_of plan limit operators c halt u None) history) where
     abbrev pub late : List Entry
     late = history ++ plain (Taken place ticket) ∷ []
 
     S-mid : StandsFor (core_of plan limit mid c halt u None) late
-    S-mid = takes plan limit cells made c halt u history S place there join P.was ticket P.takes.pending
+    S-mid = takes plan limit operators made c halt u history S place there join P.was ticket P.takes.pending
 
     are-rows : rows ≡ results_of (nodes_of plan) late place ticket
     are-rows =
-        let steps = own.steps plan limit cells made c halt u history S place there join P.was in
-        P.finds steps.0 (own.stands plan limit cells made c halt u history S place there join P.was)
+        let steps = own.steps plan limit operators made c halt u history S place there join P.was in
+        P.finds steps.0 (own.stands plan limit operators made c halt u history S place there join P.was)
         ∙ ap (λ (s : JoinState). map joined (results join.spec s.tuples s.tuples ticket)) (sym steps.2)
-        ∙ sym (own.results-are plan limit cells made c halt u history S place there join P.was ticket)
-        ∙ sym (results-stay plan limit cells made c halt u history S place there join P.was ticket P.takes.pending)
+        ∙ sym (own.results-are plan limit operators made c halt u history S place there join P.was ticket)
+        ∙ sym (results-stay plan limit operators made c halt u history S place there join P.was ticket P.takes.pending)
 
-    pub ways : (o : Option ℕ) → GoBeyond (with_work cells place work peak) place (elements_out (found_outs (cell_at cells place).work ticket)) o → goes_beyond limit (nodes_of plan) late (Given place ticket) ≡ o
+    pub ways : (o : Option ℕ) → GoBeyond (with_state operators place state peak) place (elements_out (found_outs (running_at operators place).state ticket)) o → goes_beyond limit (nodes_of plan) late (Given place ticket) ≡ o
     ways o G =
-        give-beyond plan limit mid made-mid c halt u late S-mid place there-mid taken (ap (λ (x : Cell). x.work) at-mid) ticket P.takes.taken rows are-rows o
-        (subst (λ (xs : List Cell). GoBeyond xs place (map Tuple rows) o) behind-is (subst (λ (es : List Element). GoBeyond (with_work cells place work peak) place es o) elements-are G))
+        give-beyond plan limit mid made-mid c halt u late S-mid place there-mid taken (ap (λ (x : RunningOperator). x.state) at-mid) ticket P.takes.taken rows are-rows o
+        (subst (λ (xs : List RunningOperator). GoBeyond xs place (map Tuple rows) o) behind-is (subst (λ (es : List Element). GoBeyond (with_state operators place state peak) place es o) elements-are G))
 
     within-take : goes_beyond limit (nodes_of plan) history (Taken place ticket) ≡ None
     within-take = take-within limit (nodes_of plan) (tree plan made.0) history place ticket
 
     pub starts : StartsWith (pending_at (nodes_from (nodes_of plan) history) place) ticket
     starts =
-        let J = own.J plan limit cells made c halt u history S place there join P.was in
-        let steps = own.steps plan limit cells made c halt u history S place there join P.was in
+        let J = own.J plan limit operators made c halt u history S place there join P.was in
+        let steps = own.steps plan limit operators made c halt u history S place there join P.was in
         let kept = J.kept ∙ ap kept_of steps.2 in
         let pending : pending_at (nodes_from (nodes_of plan) history) place ≡ join.kept.pending =
-        tickets-are cells (nodes_from (nodes_of plan) history) place (are plan limit cells made c halt u history S) there ∙ ap (λ (w : Work). tickets (kept_seen w)) P.was in
+        tickets-are operators (nodes_from (nodes_of plan) history) place (are plan limit operators made c halt u history S) there ∙ ap (λ (w : OperatorState). tickets (kept_seen w)) P.was in
         headed place ticket (pending_at (nodes_from (nodes_of plan) history) place)
         (ap (λ (us : List ℕ). first_of place us None) pending
         ∙ first-least place join.kept.pending ticket (subst (λ (k : KeptState). AreAscending k.pending) (sym kept) (pending-ascends join.spec steps.0))
         (has-in join.kept.pending ticket P.takes.pending) P.takes.least)
 
-    pub stands : (new : List Cell) (u' : List Out) → Climbs (record { cells = with_work cells place work peak; outs = u }) (record { cells = new; outs = u' }) place (elements_out (found_outs (cell_at cells place).work ticket))
-        → StaysAs (with_work cells place work peak) new → StandsFor (core_of plan limit new c halt u' None) (history ++ probes_at place (ticket ∷ []))
+    pub stands : (new : List RunningOperator) (u' : List Out) → Emits (record { operators = with_state operators place state peak; outs = u }) (record { operators = new; outs = u' }) place (elements_out (found_outs (running_at operators place).state ticket))
+        → StaysAs (with_state operators place state peak) new → StandsFor (core_of plan limit new c halt u' None) (history ++ probes_at place (ticket ∷ []))
     stands new u' C stays =
         subst (StandsFor (core_of plan limit new c halt u' None)) (append_assoc history (plain (Taken place ticket) ∷ []) (plain (Given place ticket) ∷ []))
-        (gives plan limit mid made-mid c halt u late S-mid place there-mid taken (ap (λ (x : Cell). x.work) at-mid) ticket P.takes.taken rows are-rows new u'
-        (subst (λ (xs : List Cell). Climbs (record { cells = xs; outs = u }) (record { cells = new; outs = u' }) place (map Tuple rows)) behind-is
-        (subst (λ (es : List Element). Climbs (record { cells = with_work cells place work peak; outs = u }) (record { cells = new; outs = u' }) place es) elements-are C))
-        (subst (λ (xs : List Cell). StaysAs xs new) behind-is stays))
+        (gives plan limit mid made-mid c halt u late S-mid place there-mid taken (ap (λ (x : RunningOperator). x.state) at-mid) ticket P.takes.taken rows are-rows new u'
+        (subst (λ (xs : List RunningOperator). Emits (record { operators = xs; outs = u }) (record { operators = new; outs = u' }) place (map Tuple rows)) behind-is
+        (subst (λ (es : List Element). Emits (record { operators = with_state operators place state peak; outs = u }) (record { operators = new; outs = u' }) place es) elements-are C))
+        (subst (λ (xs : List RunningOperator). StaysAs xs new) behind-is stays))
 
-    pub stops : (cells' : List Cell) (node : ℕ) → GoBeyond (with_work cells place work peak) place (elements_out (found_outs (cell_at cells place).work ticket)) (Some node)
-        → StopsAtProbe (core_of plan limit cells c halt u None) (core_of plan limit cells' c halt u (Some (Limit node))) history place (Limit node)
-    stops cells' node G = record {
+    pub stops : (operators' : List RunningOperator) (node : ℕ) → GoBeyond (with_state operators place state peak) place (elements_out (found_outs (running_at operators place).state ticket)) (Some node)
+        → StopsAtProbe (core_of plan limit operators c halt u None) (core_of plan limit operators' c halt u (Some (Limit node))) history place (Limit node)
+    stops operators' node G = record {
       ticket = ticket;
       others = starts.others;
       front = plain (Taken place ticket) ∷ [];
@@ -164,12 +164,12 @@ module _ (plan : RunPlan) (limit : ℕ) (cells : List Cell) (made : IsMadeOf pla
       parts = refl;
       within = (within-take, tt);
       stops = ways (Some node) G;
-      stands = (stops-now plan limit mid cells' c c halt u (Limit node)).notes.stands late S-mid;
+      stands = (stops-now plan limit mid operators' c c halt u (Limit node)).notes.stands late S-mid;
     }
 
-  pub probes-at : (new : List Cell) (u' : List Out) → Climbs (record { cells = with_work cells place work peak; outs = u }) (record { cells = new; outs = u' }) place (elements_out (found_outs (cell_at cells place).work ticket))
-      → StaysAs (with_work cells place work peak) new → kept_pending (core_of plan limit new c halt u' None) place < kept_pending (core_of plan limit cells c halt u None) place
-      → ProbesAt (core_of plan limit cells c halt u None) (core_of plan limit new c halt u' None) place
+  pub probes-at : (new : List RunningOperator) (u' : List Out) → Emits (record { operators = with_state operators place state peak; outs = u }) (record { operators = new; outs = u' }) place (elements_out (found_outs (running_at operators place).state ticket))
+      → StaysAs (with_state operators place state peak) new → kept_pending (core_of plan limit new c halt u' None) place < kept_pending (core_of plan limit operators c halt u None) place
+      → ProbesAt (core_of plan limit operators c halt u None) (core_of plan limit new c halt u' None) place
   probes-at new u' C stays fewer = record {
     plan = refl;
     limit = refl;
@@ -186,21 +186,21 @@ module _ (plan : RunPlan) (limit : ℕ) (cells : List Cell) (made : IsMadeOf pla
 
 -- ---- the call
 
-kept-at : (cells : List Cell) (n : ℕ) → pending_kept (get_or (map (λ (x : Cell). kept_seen x.work) cells) n NothingKept) ≡ pending_kept (kept_seen (cell_at cells n).work)
+pub kept-at : (operators : List RunningOperator) (n : ℕ) → pending_kept (get_or (map (λ (x : RunningOperator). kept_seen x.state) operators) n NothingKept) ≡ pending_kept (kept_seen (running_at operators n).state)
 kept-at [] n = refl
-kept-at (x ∷ cells) zero = refl
-kept-at (x ∷ cells) (suc n) = kept-at cells n
+kept-at (x ∷ operators) zero = refl
+kept-at (x ∷ operators) (suc n) = kept-at operators n
 
-module _ (plan : RunPlan) (limit : ℕ) (cells : List Cell) (c : List ℕ) (halt : Bool) (u : List Out) (made : IsMadeOf plan limit cells) where
+module _ (plan : RunPlan) (limit : ℕ) (operators : List RunningOperator) (c : List ℕ) (halt : Bool) (u : List Out) (made : IsMadeOf plan limit operators) where
   -- none is pending at the node
-  none-at : (place : ℕ) → pending_kept (kept_seen (cell_at cells place).work) ≡ 0 → (history : List Entry) → StandsFor (core_of plan limit cells c halt u None) history → pending_at (nodes_from (nodes_of plan) history) place ≡ []
-  none-at place e history S = go (cases_lt place (length cells))
+  none-at : (place : ℕ) → pending_kept (kept_seen (running_at operators place).state) ≡ 0 → (history : List Entry) → StandsFor (core_of plan limit operators c halt u None) history → pending_at (nodes_from (nodes_of plan) history) place ≡ []
+  none-at place e history S = go (cases_lt place (length operators))
     where
-      A : AreAs cells (nodes_from (nodes_of plan) history)
-      A = are plan limit cells made c halt u history S
+      A : AreAs operators (nodes_from (nodes_of plan) history)
+      A = are plan limit operators made c halt u history S
 
-      go : (place < length cells) ⊎ (length cells ≤ place) → pending_at (nodes_from (nodes_of plan) history) place ≡ []
-      go (inl lt) = tickets-are cells (nodes_from (nodes_of plan) history) place A lt ∙ nil_from_length (tickets (kept_seen (cell_at cells place).work)) (sym (pending-long (kept_seen (cell_at cells place).work)) ∙ e)
+      go : (place < length operators) ⊎ (length operators ≤ place) → pending_at (nodes_from (nodes_of plan) history) place ≡ []
+      go (inl lt) = tickets-are operators (nodes_from (nodes_of plan) history) place A lt ∙ nil_from_length (tickets (kept_seen (running_at operators place).state)) (sym (pending-long (kept_seen (running_at operators place).state)) ∙ e)
       go (inr ge) = beyond (nodes_from (nodes_of plan) history) place (let l = A.long in omega (arith, ge, l))
         where
           beyond : (nodes : List Node) (n : ℕ) → length nodes ≤ n → pending_at nodes n ≡ []
@@ -208,30 +208,30 @@ module _ (plan : RunPlan) (limit : ℕ) (cells : List Cell) (c : List ℕ) (halt
           beyond (node ∷ nodes) zero g = absurd (omega (arith, g))
           beyond (node ∷ nodes) (suc n) g = beyond nodes n (omega (arith, g))
 
-  pub may-probe : (place : ℕ) (more : Bool) (new : List Cell) (u' : List Out) → ProbesOn more (record { cells = cells; outs = u }) (record { cells = new; outs = u' }) place
-      → MayProbeAt more (core_of plan limit cells c halt u None) (core_of plan limit new c halt u' None) place
+  pub may-probe : (place : ℕ) (more : Bool) (new : List RunningOperator) (u' : List Out) → ProbesOn more (record { operators = operators; outs = u }) (record { operators = new; outs = u' }) place
+      → MayProbeAt more (core_of plan limit operators c halt u None) (core_of plan limit new c halt u' None) place
   may-probe place true new u' H =
-      probes-at plan limit cells made c halt u place H.there H.work H.ticket H.probed new u' H.climbs H.stays
-      (let f = H.fewer in let a = kept-at cells place in let b = kept-at new place in omega (arith, f, a, b))
-  may-probe place false new u' H = (ap (λ (s : Scene). core_of plan limit s.cells c halt s.outs None) H.0, λ history S. none-at place H.1 history S)
+      probes-at plan limit operators made c halt u place H.there H.state H.ticket H.probed new u' H.emits H.stays
+      (let f = H.fewer in let a = kept-at operators place in let b = kept-at new place in omega (arith, f, a, b))
+  may-probe place false new u' H = (ap (λ (s : Scene). core_of plan limit s.operators c halt s.outs None) H.0, λ history S. none-at place H.1 history S)
 
-  pub probe-stops : (place : ℕ) (cells' : List Cell) (stop : Stop) → IsProbeStop cells place stop → StopsProbe (core_of plan limit cells c halt u None) (core_of plan limit cells' c halt u (Some stop)) place stop
-  probe-stops place cells' (Limit node) b = record {
+  pub probe-stops : (place : ℕ) (operators' : List RunningOperator) (stop : Stop) → IsProbeStop operators place stop → StopsProbe (core_of plan limit operators c halt u None) (core_of plan limit operators' c halt u (Some stop)) place stop
+  probe-stops place operators' (Limit node) b = record {
     plan = refl;
     limit = refl;
     stopped = refl;
     undrained = refl;
-    stops = λ history S. stops plan limit cells made c halt u place b.there b.work b.ticket b.probed history S cells' node b.beyond;
+    stops = λ history S. stops plan limit operators made c halt u place b.there b.state b.ticket b.probed history S operators' node b.beyond;
   }
-  probe-stops place cells' NoMemory b = record {
+  probe-stops place operators' NoMemory b = record {
     plan = refl;
     limit = refl;
     stopped = refl;
     undrained = refl;
     stops = λ history S.
         let T = some-in (pending_at (nodes_from (nodes_of plan) history) place)
-        (let p = b.1 in let l = pending-long (kept_seen (cell_at cells place).work) in
-        let e = ap length (tickets-are cells (nodes_from (nodes_of plan) history) place (are plan limit cells made c halt u history S) b.0) in omega (arith, p, l, e)) in
+        (let p = b.1 in let l = pending-long (kept_seen (running_at operators place).state) in
+        let e = ap length (tickets-are operators (nodes_from (nodes_of plan) history) place (are plan limit operators made c halt u history S) b.0) in omega (arith, p, l, e)) in
         record {
           ticket = T.ticket;
           others = T.others;
@@ -242,8 +242,8 @@ module _ (plan : RunPlan) (limit : ℕ) (cells : List Cell) (c : List ℕ) (halt
           within = tt;
           stops = tt;
           stands =
-              subst (λ (h : List Entry). StandsFor (core_of plan limit cells' c halt u (Some NoMemory)) (h ++ plain (Stopped NoMemory) ∷ [])) (sym (append-nil history))
-              ((stops-now plan limit cells cells' c c halt u NoMemory).notes.stands history S);
+              subst (λ (h : List Entry). StandsFor (core_of plan limit operators' c halt u (Some NoMemory)) (h ++ plain (Stopped NoMemory) ∷ [])) (sym (append-nil history))
+              ((stops-now plan limit operators operators' c c halt u NoMemory).notes.stands history S);
         };
   }
     where
@@ -251,8 +251,8 @@ module _ (plan : RunPlan) (limit : ℕ) (cells : List Cell) (c : List ℕ) (halt
       some-in [] l = absurd (omega (arith, l))
       some-in (t ∷ ts) l = record { ticket = t; others = ts; is = refl }
 
-  pub probe-stops-now : (t : Option Stop) (old : CoreState) → core_of plan limit cells c halt u t ≡ old → t ≡ None → (place : ℕ) (cells' : List Cell) (u' : List Out) (stop : Stop) → u' ≡ u → IsProbeStop cells place stop
-      → StopsProbe old (core_of plan limit cells' c halt u' (Some stop)) place stop
-  probe-stops-now t old is e place cells' u' stop outs b =
-      subst (λ (v : List Out). StopsProbe old (core_of plan limit cells' c halt v (Some stop)) place stop) (sym outs)
-      (subst (λ (o : CoreState). StopsProbe o (core_of plan limit cells' c halt u (Some stop)) place stop) (ap (core_of plan limit cells c halt u) (sym e) ∙ is) (probe-stops place cells' stop b))
+  pub probe-stops-now : (t : Option Stop) (old : CoreState) → core_of plan limit operators c halt u t ≡ old → t ≡ None → (place : ℕ) (operators' : List RunningOperator) (u' : List Out) (stop : Stop) → u' ≡ u → IsProbeStop operators place stop
+      → StopsProbe old (core_of plan limit operators' c halt u' (Some stop)) place stop
+  probe-stops-now t old is e place operators' u' stop outs b =
+      subst (λ (v : List Out). StopsProbe old (core_of plan limit operators' c halt v (Some stop)) place stop) (sym outs)
+      (subst (λ (o : CoreState). StopsProbe o (core_of plan limit operators' c halt u (Some stop)) place stop) (ap (core_of plan limit operators c halt u) (sym e) ∙ is) (probe-stops place operators' stop b))

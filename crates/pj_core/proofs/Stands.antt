@@ -26,13 +26,13 @@ use Rattle.pj_laws.proofs.Probes.{length-from}
 use Rattle.pj_join_laws.proofs.Sound.{sound-start}
 use Rattle.pj_laws.proofs.Trees.{above-from, tree-from}
 use Rattle.pj_join.specs.Joins.{join_data}
-use Rattle.pj_operator.specs.declared.cell.Cell.{Cell}
-use Rattle.pj_operator.specs.Cells.{AreAs, Frame, GroupKind, GroupRole, IsBelow, IsBelowIn, IsKind, JoinKind, JoinRole, Kind, ProjectKind, ProjectRole, SelectKind, SelectRole, StreamKind, StreamRole, UnionKind, UnionRole, above_pair, cell_at, count_seen, counted_by, frame_at, frame_of, frames_in, kept_seen, no_cell, peak_seen, role_in, role_of, stored_kept}
-use Rattle.pj_operator.specs.Climbing.{AreCounted, count_at, kind_at}
+use Rattle.pj_operator.specs.declared.operator.RunningOperator.{RunningOperator}
+use Rattle.pj_operator.specs.Operators.{AreAs, Frame, GroupKind, GroupRole, IsBelow, IsBelowIn, IsKind, JoinKind, JoinRole, Kind, ProjectKind, ProjectRole, SelectKind, SelectRole, StreamKind, StreamRole, UnionKind, UnionRole, above_pair, running_at, count_seen, counted_by, frame_at, frame_of, frames_in, kept_seen, no_operator, peak_seen, role_in, role_of, stored_kept}
+use Rattle.pj_operator.specs.Emitting.{AreCounted, count_at, kind_at}
 use Rattle.pj_core.specs.Cores.{StandsFor}
 use Rattle.pj_core.specs.Parts.{IsMadeOf, all_kept, core_of, frames_of, kind_for}
 use Rattle.pj_core.specs.Plans.{RunPlan, nodes_of, operator_of}
-use Rattle.pj_operator.proofs.Climbs.{frame-at}
+use Rattle.pj_operator.proofs.Emits.{frame-at}
 use Rattle.pj_core.proofs.Frames.{above-of, certs_at, frame-is, kind-is, long-of, operator-is}
 use Rattle.pj_core.proofs.Planned.{nodes-long, one-top, planned, tree}
 
@@ -104,35 +104,35 @@ module _ (plan : RunPlan) (limit : ℕ) (history : List Entry) (sound : IsSoundP
       go (Group spec rows) e = tt
 
   -- what is kept of the nodes is what the history leaves
-  pub are-as : (cells : List Cell) → frames_in cells ≡ frames_of plan limit → map (λ (cell : Cell). kept_seen cell.work) cells ≡ map (λ (node : Node). kept_in node.operator) now → AreAs cells now
-  are-as cells frames kept = record {
+  pub are-as : (operators : List RunningOperator) → frames_in operators ≡ frames_of plan limit → map (λ (operator : RunningOperator). kept_seen operator.state) operators ≡ map (λ (node : Node). kept_in node.operator) now → AreAs operators now
+  are-as operators frames kept = record {
     tree = tree-from (nodes_of plan) history (tree plan sound);
     long = long ∙ sym long-now;
     links = λ n lt.
         above-from (nodes_of plan) history n ∙ above-of plan n
-        ∙ ap (λ (f : Frame). above_pair f.above) (sym (frame-is plan limit n (omega (arith, lt, long))) ∙ ap (λ (fs : List Frame). frame_at fs n) (sym frames) ∙ frame-at cells n);
+        ∙ ap (λ (f : Frame). above_pair f.above) (sym (frame-is plan limit n (omega (arith, lt, long))) ∙ ap (λ (fs : List Frame). frame_at fs n) (sym frames) ∙ frame-at operators n);
     each = λ n lt. record {
-      kind = subst (λ (f : Frame). IsKind f.kind (operator_at now n)) (ap (λ (fs : List Frame). frame_at fs n) (sym frames) ∙ frame-at cells n)
+      kind = subst (λ (f : Frame). IsKind f.kind (operator_at now n)) (ap (λ (fs : List Frame). frame_at fs n) (sym frames) ∙ frame-at operators n)
           (kind-is plan limit history n (omega (arith, lt, long)) (nodes-long plan));
-      kept = sym (get_or-map (λ (cell : Cell). kept_seen cell.work) cells n no_cell NothingKept lt)
+      kept = sym (get_or-map (λ (operator : RunningOperator). kept_seen operator.state) operators n no_operator NothingKept lt)
           ∙ ap (λ (ks : List KeptOperator). get_or ks n NothingKept) kept
           ∙ get_or-map (λ (node : Node). kept_in node.operator) now n nowhere NothingKept (omega (arith, lt, long, long-now));
       below = below-at n (omega (arith, lt, long));
     };
   }
     where
-      long : length cells ≡ length plan.nodes
-      long = sym (length-map cells frame_of) ∙ ap length frames ∙ long-of plan limit
+      long : length operators ≡ length plan.nodes
+      long = sym (length-map operators frame_of) ∙ ap length frames ∙ long-of plan limit
 
 -- ---- lists, place by place
 
-pub same-kept : (cells : List Cell) (nodes : List Node) → AreAs cells nodes → map (λ (cell : Cell). kept_seen cell.work) cells ≡ map (λ (node : Node). kept_in node.operator) nodes
-same-kept cells nodes A =
-    ext_get_or NothingKept (map (λ (cell : Cell). kept_seen cell.work) cells) (map (λ (node : Node). kept_in node.operator) nodes)
-    (length-map cells (λ (cell : Cell). kept_seen cell.work) ∙ A.long ∙ sym (length-map nodes (λ (node : Node). kept_in node.operator)))
+pub same-kept : (operators : List RunningOperator) (nodes : List Node) → AreAs operators nodes → map (λ (operator : RunningOperator). kept_seen operator.state) operators ≡ map (λ (node : Node). kept_in node.operator) nodes
+same-kept operators nodes A =
+    ext_get_or NothingKept (map (λ (operator : RunningOperator). kept_seen operator.state) operators) (map (λ (node : Node). kept_in node.operator) nodes)
+    (length-map operators (λ (operator : RunningOperator). kept_seen operator.state) ∙ A.long ∙ sym (length-map nodes (λ (node : Node). kept_in node.operator)))
     (λ n lt.
-    let l : n < length cells = omega (arith, lt, length-map cells (λ (cell : Cell). kept_seen cell.work)) in
-    get_or-map (λ (cell : Cell). kept_seen cell.work) cells n no_cell NothingKept l ∙ (A.each n l).kept
+    let l : n < length operators = omega (arith, lt, length-map operators (λ (operator : RunningOperator). kept_seen operator.state)) in
+    get_or-map (λ (operator : RunningOperator). kept_seen operator.state) operators n no_operator NothingKept l ∙ (A.each n l).kept
     ∙ sym (get_or-map (λ (node : Node). kept_in node.operator) nodes n nowhere NothingKept (omega (arith, l, A.long))))
 
 -- what a node counts, by its kind
@@ -145,8 +145,8 @@ counted-kind (JoinKind node own limit) (Join spec s) n k = refl
 counted-kind (GroupKind own limit) (Group spec rows) n k = refl
 counted-kind kind o n k = absurd (let e : role_of kind ≡ role_in o = k in cc)
 
-counted-same : (f g : Cell → ℕ) (old new : List Cell) (nodes : List Node) (brought : List (List Arrival)) → length old ≡ length new → length old ≡ length nodes
-    → ((n : ℕ) → n < length old → g (get_or new n no_cell) ≡ f (get_or old n no_cell) + counted (operator_at nodes n) (length (get_or brought n []))) → map g new ≡ counted_with (map f old) nodes brought
+counted-same : (f g : RunningOperator → ℕ) (old new : List RunningOperator) (nodes : List Node) (brought : List (List Arrival)) → length old ≡ length new → length old ≡ length nodes
+    → ((n : ℕ) → n < length old → g (get_or new n no_operator) ≡ f (get_or old n no_operator) + counted (operator_at nodes n) (length (get_or brought n []))) → map g new ≡ counted_with (map f old) nodes brought
 counted-same f g [] [] nodes brought e l s = refl
 counted-same f g [] (y ∷ ys) nodes brought e l s = cc
 counted-same f g (x ∷ xs) [] nodes brought e l s = cc
@@ -160,8 +160,8 @@ counted-same f g (x ∷ xs) (y ∷ ys) (node ∷ nodes) [] e l s =
 counted-same f g (x ∷ xs) (y ∷ ys) (node ∷ nodes) (came ∷ brought) e l s =
     ap₂ (λ (n : ℕ) (ns : List ℕ). n ∷ ns) (s 0 (omega arith)) (counted-same f g xs ys nodes brought (omega (arith, e)) (omega (arith, l)) (λ n lt. s (suc n) (omega (arith, lt))))
 
-raised-same : (f g : Cell → ℕ) (old new : List Cell) (nodes : List Node) → length old ≡ length new → length old ≡ length nodes
-    → ((n : ℕ) → n < length old → g (get_or new n no_cell) ≡ max (f (get_or old n no_cell)) (stored_at nodes n)) → map g new ≡ raised (map f old) nodes
+raised-same : (f g : RunningOperator → ℕ) (old new : List RunningOperator) (nodes : List Node) → length old ≡ length new → length old ≡ length nodes
+    → ((n : ℕ) → n < length old → g (get_or new n no_operator) ≡ max (f (get_or old n no_operator)) (stored_at nodes n)) → map g new ≡ raised (map f old) nodes
 raised-same f g [] [] nodes e l s = refl
 raised-same f g [] (y ∷ ys) nodes e l s = cc
 raised-same f g (x ∷ xs) [] nodes e l s = cc
@@ -170,8 +170,8 @@ raised-same f g (x ∷ xs) (y ∷ ys) (node ∷ nodes) e l s =
     ap₂ (λ (n : ℕ) (ns : List ℕ). n ∷ ns) (s 0 (omega arith)) (raised-same f g xs ys nodes (omega (arith, e)) (omega (arith, l)) (λ n lt. s (suc n) (omega (arith, lt))))
 
 -- what is stored at a node
-pub stored-is : (cells : List Cell) (nodes : List Node) (n : ℕ) → AreAs cells nodes → n < length cells → stored_kept (kept_seen (cell_at cells n).work) ≡ stored_at nodes n
-stored-is cells nodes n A lt = ap stored_kept (A.each n lt).kept ∙ of (operator_at nodes n)
+pub stored-is : (operators : List RunningOperator) (nodes : List Node) (n : ℕ) → AreAs operators nodes → n < length operators → stored_kept (kept_seen (running_at operators n).state) ≡ stored_at nodes n
+stored-is operators nodes n A lt = ap stored_kept (A.each n lt).kept ∙ of (operator_at nodes n)
   where
     of : (o : Operator) → stored_kept (kept_in o) ≡ length (state_in o).stored
     of (Stream schema sent) = refl
@@ -184,54 +184,54 @@ stored-is cells nodes n A lt = ap stored_kept (A.each n lt).kept ∙ of (operato
 -- ---- one more entry
 
 -- what one more entry does to the parts of a core that goes on
-pub record Goes (trace : Bool) (old new : CoreKept) (cells cells' : List Cell) (nodes : List Node) (entry : Entry) : Type 0 where
-  pub long : length cells' ≡ length cells
-  pub stands : AreAs cells' (climb_of nodes entry.event).nodes
-  pub counts : AreCounted cells cells' (climb_of nodes entry.event).brought
-  pub peaks : (n : ℕ) → n < length cells → peak_seen (cell_at cells' n) ≡ max (peak_seen (cell_at cells n)) (stored_at (climb_of nodes entry.event).nodes n)
+pub record Goes (trace : Bool) (old new : CoreKept) (operators operators' : List RunningOperator) (nodes : List Node) (entry : Entry) : Type 0 where
+  pub long : length operators' ≡ length operators
+  pub stands : AreAs operators' (climb_of nodes entry.event).nodes
+  pub counts : AreCounted operators operators' (climb_of nodes entry.event).brought
+  pub peaks : (n : ℕ) → n < length operators → peak_seen (running_at operators' n) ≡ max (peak_seen (running_at operators n)) (stored_at (climb_of nodes entry.event).nodes n)
   pub closed : new.closed ≡ closed_after old.closed entry.closing entry.event
   pub undrained : new.undrained ≡ undrained_with old.undrained (handed_by trace nodes entry.event) entry.event
   pub halts : new.halted ≡ halted_after old.halted entry.event
   pub stops : stop_after None entry.event ≡ None
 
-module _ (plan : RunPlan) (limit : ℕ) (cells : List Cell) (made : IsMadeOf plan limit cells) (c : List ℕ) (halt : Bool) (u : List Out) (history : List Entry) (S : StandsFor (core_of plan limit cells c halt u None) history) where
+module _ (plan : RunPlan) (limit : ℕ) (operators : List RunningOperator) (made : IsMadeOf plan limit operators) (c : List ℕ) (halt : Bool) (u : List Out) (history : List Entry) (S : StandsFor (core_of plan limit operators c halt u None) history) where
   abbrev nodes : List Node
   nodes = nodes_from (nodes_of plan) history
 
-  pub kept-is : all_kept cells c halt u None ≡ core_kept plan.trace (nodes_of plan) history
+  pub kept-is : all_kept operators c halt u None ≡ core_kept plan.trace (nodes_of plan) history
   kept-is = S.stands.0 (sym S.stands.3)
 
-  pub are : AreAs cells nodes
-  are = are-as plan limit history made.0 S.legal cells made.2 (ap (λ (k : CoreKept). k.nodes) kept-is)
+  pub are : AreAs operators nodes
+  are = are-as plan limit history made.0 S.legal operators made.2 (ap (λ (k : CoreKept). k.nodes) kept-is)
 
-  pub noted : (entry : Entry) (new : List Cell) (c' : List ℕ) (halt' : Bool) (u' : List Out) → IsEntryAllowed (reached_of false (nodes_of plan) history) entry
-      → Goes plan.trace (all_kept cells c halt u None) (all_kept new c' halt' u' None) cells new nodes entry → StandsFor (core_of plan limit new c' halt' u' None) (history ++ entry ∷ [])
+  pub noted : (entry : Entry) (new : List RunningOperator) (c' : List ℕ) (halt' : Bool) (u' : List Out) → IsEntryAllowed (reached_of false (nodes_of plan) history) entry
+      → Goes plan.trace (all_kept operators c halt u None) (all_kept new c' halt' u' None) operators new nodes entry → StandsFor (core_of plan limit new c' halt' u' None) (history ++ entry ∷ [])
   noted entry new c' halt' u' allowed G = record {
     legal = (grows-legally (nodes_of plan) history entry).1 (S.legal, allowed);
     stands = (λ _. K, ap (λ (k : CoreKept). k.undrained) K, ap (λ (k : CoreKept). k.halted) K, ap (λ (k : CoreKept). k.stop) K);
   }
     where
-      climbs : AddsClimb (nodes_of plan) history entry
-      climbs = adds-climb (nodes_of plan) (tree plan made.0) history entry
+      emits : AddsClimb (nodes_of plan) history entry
+      emits = adds-climb (nodes_of plan) (tree plan made.0) history entry
 
       -- a node counts behind the entry where it did before
-      counts-still : (n : ℕ) → n < length cells → counts (operator_at (climb_of nodes entry.event).nodes n) ≡ counts (operator_at nodes n)
+      counts-still : (n : ℕ) → n < length operators → counts (operator_at (climb_of nodes entry.event).nodes n) ≡ counts (operator_at nodes n)
       counts-still n lt =
           let l : n < length (nodes_of plan) = omega (arith, lt, are.long, length-from (nodes_of plan) history) in
-          ap (λ (ns : List Node). counts (operator_at ns n)) (sym climbs.nodes) ∙ counts-from (nodes_of plan) (history ++ entry ∷ []) n l ∙ sym (counts-from (nodes_of plan) history n l)
+          ap (λ (ns : List Node). counts (operator_at ns n)) (sym emits.nodes) ∙ counts-from (nodes_of plan) (history ++ entry ∷ []) n l ∙ sym (counts-from (nodes_of plan) history n l)
 
-      counts-with : (n : ℕ) → n < length cells → count_at new n ≡ count_at cells n + counted (operator_at (climb_of nodes entry.event).nodes n) (length (get_or (climb_of nodes entry.event).brought n []))
+      counts-with : (n : ℕ) → n < length operators → count_at new n ≡ count_at operators n + counted (operator_at (climb_of nodes entry.event).nodes n) (length (get_or (climb_of nodes entry.event).brought n []))
       counts-with n lt =
           let came = length (get_or (climb_of nodes entry.event).brought n []) in
           G.counts n lt
-          ∙ ap (λ (m : ℕ). count_at cells n + m)
-          (sym (counted-kind (kind_at cells n) (operator_at nodes n) came (are.each n lt).kind) ∙ ap (λ (b : Bool). if b then came else 0) (sym (counts-still n lt)))
+          ∙ ap (λ (m : ℕ). count_at operators n + m)
+          (sym (counted-kind (kind_at operators n) (operator_at nodes n) came (are.each n lt).kind) ∙ ap (λ (b : Bool). if b then came else 0) (sym (counts-still n lt)))
 
-      after-entry : all_kept new c' halt' u' None ≡ kept_with plan.trace (all_kept cells c halt u None) nodes entry
+      after-entry : all_kept new c' halt' u' None ≡ kept_with plan.trace (all_kept operators c halt u None) nodes entry
       after-entry = λ i. record {
         nodes = same-kept new (climb_of nodes entry.event).nodes G.stands i;
-        counts = counted-same count_seen count_seen cells new (climb_of nodes entry.event).nodes (climb_of nodes entry.event).brought (sym G.long) (sym G.long ∙ G.stands.long) counts-with i;
-        peaks = raised-same peak_seen peak_seen cells new (climb_of nodes entry.event).nodes (sym G.long) (sym G.long ∙ G.stands.long) G.peaks i;
+        counts = counted-same count_seen count_seen operators new (climb_of nodes entry.event).nodes (climb_of nodes entry.event).brought (sym G.long) (sym G.long ∙ G.stands.long) counts-with i;
+        peaks = raised-same peak_seen peak_seen operators new (climb_of nodes entry.event).nodes (sym G.long) (sym G.long ∙ G.stands.long) G.peaks i;
         closed = G.closed i;
         undrained = G.undrained i;
         halted = G.halts i;
@@ -240,4 +240,4 @@ module _ (plan : RunPlan) (limit : ℕ) (cells : List Cell) (made : IsMadeOf pla
 
       K : all_kept new c' halt' u' None ≡ core_kept plan.trace (nodes_of plan) (history ++ entry ∷ [])
       K = after-entry ∙ ap (λ (k : CoreKept). kept_with plan.trace k nodes entry) kept-is
-          ∙ sym (climbs.kept plan.trace (one-top plan made.0))
+          ∙ sym (emits.kept plan.trace (one-top plan made.0))

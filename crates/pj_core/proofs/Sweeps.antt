@@ -1,6 +1,5 @@
 -- Sweeps at a core.
-use Rattle.std.proofs.Common.{ℕ, suc, ◌+◌, ◌<◌, Bool, true, false, cond, not, ◌&&◌, List, [], ◌∷◌, ◌++◌, ◌≡◌, Option, Some, None, map, filter, length, set, eqb, ltb, refl, sym, ap, ap₂, ◌∙◌, subst, inr, arith}
-use Rattle.std.specs.List.{list_all}
+use Rattle.std.proofs.Common.{ℕ, suc, ◌+◌, ◌<◌, Bool, true, false, cond, not, ◌&&◌, List, [], ◌∷◌, ◌++◌, ◌≡◌, Option, Some, None, map, filter, length, set, eqb, refl, sym, ap, ap₂, ◌∙◌, subst, inr, arith}
 use Rattle.pj_value.specs.declared.values.Value.{Value}
 use Rattle.pj_pattern.specs.Patterns.{Pattern}
 use Rattle.pj_pattern.specs.declared.element.Element.{Element}
@@ -11,23 +10,23 @@ use Rattle.pj_events.specs.declared.events.Out.{Out}
 use Rattle.pj_events.specs.declared.events.Out.TheVariants.{Purged}
 use Rattle.pj_events.specs.declared.events.Stop.{Stop}
 use Rattle.pj_events.specs.declared.events.Stop.TheVariants.{Limit, NoMemory}
-use Rattle.pj_events.specs.Join.{JoinData, JoinState, PunctAt, Sweep, TupleAt, covered, hands_up, inputs, is_held, kept, need_of, older, older_puncts, removed, ripe, widened}
+use Rattle.pj_events.specs.Join.{JoinData, JoinState, PunctAt, Sweep, TupleAt, hands_up, inputs, is_held, kept, removed, ripe, widened}
 use Rattle.pj_events.specs.KeptState.{KeptState, kept_of, kept_ripe, swept}
 use Rattle.pj_events.specs.Plan.{Node, Operator, Own, after as after_local, hands, operator_at}
 use Rattle.pj_events.specs.History.{data_in, nodes_by, nodes_from, notes_of, state_in}
 use Rattle.pj_events.specs.Outcomes.{goes_beyond, stored_at}
 use Rattle.pj_events.specs.OneThread.{plain}
 use Rattle.pj_laws.proofs.ClimbingEvents.{events-climb, leaves-nodes}
-use Rattle.pj_join_laws.proofs.Stand.{low-kept, swept-same, ripe-same}
+use Rattle.pj_join_laws.proofs.Stand.{swept-same, ripe-same}
 use Rattle.pj_join.specs.Joins.{JoinView, after}
 use Rattle.pj_join.specs.Sweeping.{puncts_up, rows_off, swept_off}
 use Rattle.pj_operator.specs.declared.act.Swept.{Swept as SweptOff}
-use Rattle.pj_operator.specs.declared.cell.Cell.{Cell}
-use Rattle.pj_operator.specs.declared.cell.Work.TheVariants.{Join as JoinCell}
-use Rattle.pj_operator.specs.Acts.{CellSwept, HasSweptAt, IsSweepStop, with_work}
+use Rattle.pj_operator.specs.declared.operator.RunningOperator.{RunningOperator}
+use Rattle.pj_operator.specs.declared.operator.OperatorState.TheVariants.{Join as RunningJoin}
+use Rattle.pj_operator.specs.Acts.{OperatorSwept, HasSweptAt, IsSweepStop, with_state}
 use Rattle.pj_core.specs.Calls.{HasSwept, IsCause}
-use Rattle.pj_operator.specs.Cells.{AreAs, cell_at, peak_seen}
-use Rattle.pj_operator.specs.Climbing.{Climbs, GoBeyond, Scene, StaysAs}
+use Rattle.pj_operator.specs.Operators.{AreAs, running_at, peak_seen}
+use Rattle.pj_operator.specs.Emitting.{Emits, GoBeyond, Scene, StaysAs}
 use Rattle.pj_core.specs.Cores.{StandsFor}
 use Rattle.pj_operator.specs.Handed.{notes_out}
 use Rattle.pj_core.specs.Parts.{IsMadeOf, core_of}
@@ -76,24 +75,24 @@ up-same join s input k =
 
 -- ---- behind a history
 
-module _ (plan : RunPlan) (limit : ℕ) (cells : List Cell) (made : IsMadeOf plan limit cells) (c : List ℕ) (halt : Bool) (u : List Out) (history : List Entry) (S : StandsFor (core_of plan limit cells c halt u None) history)
-    (place : ℕ) (there : place < length cells) (join : JoinView) (at : (cell_at cells place).work ≡ JoinCell join) (input : ℕ) (lt : input < inputs join.spec) where
+module _ (plan : RunPlan) (limit : ℕ) (operators : List RunningOperator) (made : IsMadeOf plan limit operators) (c : List ℕ) (halt : Bool) (u : List Out) (history : List Entry) (S : StandsFor (core_of plan limit operators c halt u None) history)
+    (place : ℕ) (there : place < length operators) (join : JoinView) (at : (running_at operators place).state ≡ RunningJoin join) (input : ℕ) (lt : input < inputs join.spec) where
   abbrev nodes : List Node
   nodes = nodes_from (nodes_of plan) history
 
-  abbrev mid : List Cell
-  mid = with_work cells place (JoinCell (after join (Sweep input))) (peak_seen (cell_at cells place))
+  abbrev mid : List RunningOperator
+  mid = with_state operators place (RunningJoin (after join (Sweep input))) (peak_seen (running_at operators place))
 
   abbrev state-of : IsJoinWith join (operator_at nodes place)
-  state-of = own.J plan limit cells made c halt u history S place there join at
+  state-of = own.J plan limit operators made c halt u history S place there join at
 
-  sweep-steps : Steps cells mid nodes place (Own (Sweep input))
+  sweep-steps : Steps operators mid nodes place (Own (Sweep input))
   sweep-steps =
-      own.own-steps plan limit cells made c halt u history S place there join at (Swept place input) (Sweep input) (peak_seen (cell_at cells place)) refl refl tt
-      (own.sweep-allowed plan limit cells made c halt u history S place there join at input lt) (inr refl)
+      own.own-steps plan limit operators made c halt u history S place there join at (Swept place input) (Sweep input) (peak_seen (running_at operators place)) refl refl tt
+      (own.sweep-allowed plan limit operators made c halt u history S place there join at input lt) (inr refl)
 
   handed : hands (operator_at nodes place) (Own (Sweep input)) ≡ map Punct (puncts_up join (Sweep input))
-  handed = own.handed-own plan limit cells made c halt u history S place there join at (Sweep input) ∙ up-same join state-of.state input state-of.kept
+  handed = own.handed-own plan limit operators made c halt u history S place there join at (Sweep input) ∙ up-same join state-of.state input state-of.kept
 
   noted-rows : notes_of nodes (Swept place input) ≡ map (Purged place input) (rows_off join input)
   noted-rows =
@@ -102,12 +101,12 @@ module _ (plan : RunPlan) (limit : ℕ) (cells : List Cell) (made : IsMadeOf pla
       ∙ ap (λ (xs : List TupleAt). map (Purged place input) (map (λ (x : TupleAt). x.row) xs))
       (sym (off-same join.spec state-of.state input) ∙ ap (λ (q : KeptState). off join.spec q input) (sym state-of.kept))
 
-  pub sweeps : (new : List Cell) (u' : List Out) → Climbs (record { cells = mid; outs = u ++ notes_out plan.trace place input (rows_off join input) }) (record { cells = new; outs = u' }) place (map Punct (puncts_up join (Sweep input)))
+  pub sweeps : (new : List RunningOperator) (u' : List Out) → Emits (record { operators = mid; outs = u ++ notes_out plan.trace place input (rows_off join input) }) (record { operators = new; outs = u' }) place (map Punct (puncts_up join (Sweep input)))
       → StaysAs mid new → StandsFor (core_of plan limit new c halt u' None) (history ++ plain (Swept place input) ∷ [])
   sweeps new u' C stays =
-      note plan limit cells made c halt u history S (Swept place input) place (Own (Sweep input)) refl refl mid sweep-steps new c (u ++ notes_out plan.trace place input (rows_off join input)) u' 0
-      (own.sweep-allowed plan limit cells made c halt u history S place there join at input lt) (ap (λ (outs : List Out). u ++ outs) (traced plan.trace))
-      (subst (λ (es : List Element). Climbs (record { cells = mid; outs = u ++ notes_out plan.trace place input (rows_off join input) }) (record { cells = new; outs = u' }) place es) (sym handed) C)
+      note plan limit operators made c halt u history S (Swept place input) place (Own (Sweep input)) refl refl mid sweep-steps new c (u ++ notes_out plan.trace place input (rows_off join input)) u' 0
+      (own.sweep-allowed plan limit operators made c halt u history S place there join at input lt) (ap (λ (outs : List Out). u ++ outs) (traced plan.trace))
+      (subst (λ (es : List Element). Emits (record { operators = mid; outs = u ++ notes_out plan.trace place input (rows_off join input) }) (record { operators = new; outs = u' }) place es) (sym handed) C)
       stays refl (λ old more. refl) refl refl
     where
       traced : (trace : Bool) → notes_out trace place input (rows_off join input) ≡ cond trace (notes_of nodes (Swept place input)) []
@@ -116,7 +115,7 @@ module _ (plan : RunPlan) (limit : ℕ) (cells : List Cell) (made : IsMadeOf pla
 
   pub sweep-beyond : (o : Option ℕ) → GoBeyond mid place (map Punct (puncts_up join (Sweep input))) o → goes_beyond limit (nodes_of plan) history (Swept place input) ≡ o
   sweep-beyond o G =
-      beyond-is plan limit cells made c halt u history S (Swept place input) place (Own (Sweep input)) refl refl mid sweep-steps o
+      beyond-is plan limit operators made c halt u history S (Swept place input) place (Own (Sweep input)) refl refl mid sweep-steps o
       (subst (λ (es : List Element). GoBeyond mid place es o) (sym handed) G)
 
   pub removes : length (swept_off join input) + stored_at (nodes_by nodes (Swept place input)) place ≡ stored_at nodes place
@@ -129,52 +128,52 @@ module _ (plan : RunPlan) (limit : ℕ) (cells : List Cell) (made : IsMadeOf pla
       ∙ ap length (sym (swept-same join.spec state-of.state input)) ∙ ap (λ (q : KeptState). length (swept join.spec q input)) (sym state-of.kept) in
       omega (arith, h, before, behind)
     where
-      A : AreAs cells nodes
-      A = own.A plan limit cells made c halt u history S place there join at
+      A : AreAs operators nodes
+      A = own.A plan limit operators made c halt u history S place there join at
 
 -- ---- calls
 
-module _ (plan : RunPlan) (limit : ℕ) (cells : List Cell) (c : List ℕ) (halt : Bool) (u : List Out) (place input : ℕ) (made : IsMadeOf plan limit cells) (there : place < length cells)
-    (lt : (join : JoinView) → (cell_at cells place).work ≡ JoinCell join → input < inputs join.spec) where
-  abbrev scene : List Cell → List Out → Scene
-  scene xs outs = record { cells = xs; outs = outs }
+module _ (plan : RunPlan) (limit : ℕ) (operators : List RunningOperator) (c : List ℕ) (halt : Bool) (u : List Out) (place input : ℕ) (made : IsMadeOf plan limit operators) (there : place < length operators)
+    (lt : (join : JoinView) → (running_at operators place).state ≡ RunningJoin join → input < inputs join.spec) where
+  abbrev scene : List RunningOperator → List Out → Scene
+  scene xs outs = record { operators = xs; outs = outs }
 
-  at-place : (cell : Cell) (off : SweptOff) → (W : CellSwept (cell_at cells place) cell input off) → set cells place cell ≡ with_work cells place (JoinCell (after W.join (Sweep input))) (peak_seen (cell_at cells place))
-  at-place cell off W = ap (set cells place) W.is
+  at-place : (operator : RunningOperator) (off : SweptOff) → (W : OperatorSwept (running_at operators place) operator input off) → set operators place operator ≡ with_state operators place (RunningJoin (after W.join (Sweep input))) (peak_seen (running_at operators place))
+  at-place operator off W = ap (set operators place) W.is
 
-  pub has-swept : (new : List Cell) (u' : List Out) (count : ℕ) → HasSweptAt plan.trace (scene cells u) (scene new u') place input count
-      → HasSwept (core_of plan limit cells c halt u None) (core_of plan limit new c halt u' None) place input count
+  pub has-swept : (new : List RunningOperator) (u' : List Out) (count : ℕ) → HasSweptAt plan.trace (scene operators u) (scene new u') place input count
+      → HasSwept (core_of plan limit operators c halt u None) (core_of plan limit new c halt u' None) place input count
   has-swept new u' count H = record {
     on = (refl, refl);
     notes = record {
       plan = refl;
       limit = refl;
       stands = λ history S.
-          sweeps plan limit cells made c halt u history S place there W.join W.was input (lt W.join W.was) new u' climbs (subst (λ (xs : List Cell). StaysAs xs new) mid-is H.stays);
+          sweeps plan limit operators made c halt u history S place there W.join W.was input (lt W.join W.was) new u' emits (subst (λ (xs : List RunningOperator). StaysAs xs new) mid-is H.stays);
     };
     within = λ history S.
-        sweep-beyond plan limit cells made c halt u history S place there W.join W.was input (lt W.join W.was) None climbs.within;
+        sweep-beyond plan limit operators made c halt u history S place there W.join W.was input (lt W.join W.was) None emits.within;
     removes = λ history S.
-        let r = removes plan limit cells made c halt u history S place there W.join W.was input (lt W.join W.was) in
+        let r = removes plan limit operators made c halt u history S place there W.join W.was input (lt W.join W.was) in
         let e = H.counts ∙ W.count in
         omega (arith, r, e);
   }
     where
-      W : CellSwept (cell_at cells place) H.cell input H.swept
+      W : OperatorSwept (running_at operators place) H.operator input H.swept
       W = H.sweeps
 
-      mid-is : set cells place H.cell ≡ with_work cells place (JoinCell (after W.join (Sweep input))) (peak_seen (cell_at cells place))
-      mid-is = at-place H.cell H.swept W
+      mid-is : set operators place H.operator ≡ with_state operators place (RunningJoin (after W.join (Sweep input))) (peak_seen (running_at operators place))
+      mid-is = at-place H.operator H.swept W
 
-      climbs : Climbs (scene (with_work cells place (JoinCell (after W.join (Sweep input))) (peak_seen (cell_at cells place))) (u ++ notes_out plan.trace place input (rows_off W.join input))) (scene new u') place (map Punct (puncts_up W.join (Sweep input)))
-      climbs =
-          subst (λ (ps : List (List Pattern)). Climbs (scene (with_work cells place (JoinCell (after W.join (Sweep input))) (peak_seen (cell_at cells place))) (u ++ notes_out plan.trace place input (rows_off W.join input))) (scene new u') place (map Punct ps)) W.puncts
-          (subst (λ (rows : List (List Value)). Climbs (scene (with_work cells place (JoinCell (after W.join (Sweep input))) (peak_seen (cell_at cells place))) (u ++ notes_out plan.trace place input rows)) (scene new u') place (map Punct H.swept.puncts)) W.removed
-          (subst (λ (xs : List Cell). Climbs (scene xs (u ++ notes_out plan.trace place input H.swept.removed)) (scene new u') place (map Punct H.swept.puncts)) mid-is H.climbs))
+      emits : Emits (scene (with_state operators place (RunningJoin (after W.join (Sweep input))) (peak_seen (running_at operators place))) (u ++ notes_out plan.trace place input (rows_off W.join input))) (scene new u') place (map Punct (puncts_up W.join (Sweep input)))
+      emits =
+          subst (λ (ps : List (List Pattern)). Emits (scene (with_state operators place (RunningJoin (after W.join (Sweep input))) (peak_seen (running_at operators place))) (u ++ notes_out plan.trace place input (rows_off W.join input))) (scene new u') place (map Punct ps)) W.puncts
+          (subst (λ (rows : List (List Value)). Emits (scene (with_state operators place (RunningJoin (after W.join (Sweep input))) (peak_seen (running_at operators place))) (u ++ notes_out plan.trace place input rows)) (scene new u') place (map Punct H.swept.puncts)) W.removed
+          (subst (λ (xs : List RunningOperator). Emits (scene xs (u ++ notes_out plan.trace place input H.swept.removed)) (scene new u') place (map Punct H.swept.puncts)) mid-is H.emits))
 
-  pub sweep-stop : (stop : Stop) → IsSweepStop plan.trace (scene cells u) place input stop → IsCause (core_of plan limit cells c halt u None) (Swept place input) stop
+  pub sweep-stop : (stop : Stop) → IsSweepStop plan.trace (scene operators u) place input stop → IsCause (core_of plan limit operators c halt u None) (Swept place input) stop
   sweep-stop (Limit node) b = λ history S.
-      sweep-beyond plan limit cells made c halt u history S place there b.sweeps.join b.sweeps.was input (lt b.sweeps.join b.sweeps.was) (Some node)
-      (subst (λ (ps : List (List Pattern)). GoBeyond (with_work cells place (JoinCell (after b.sweeps.join (Sweep input))) (peak_seen (cell_at cells place))) place (map Punct ps) (Some node)) b.sweeps.puncts
-      (subst (λ (xs : List Cell). GoBeyond xs place (map Punct b.swept.puncts) (Some node)) (at-place b.cell b.swept b.sweeps) b.beyond))
+      sweep-beyond plan limit operators made c halt u history S place there b.sweeps.join b.sweeps.was input (lt b.sweeps.join b.sweeps.was) (Some node)
+      (subst (λ (ps : List (List Pattern)). GoBeyond (with_state operators place (RunningJoin (after b.sweeps.join (Sweep input))) (peak_seen (running_at operators place))) place (map Punct ps) (Some node)) b.sweeps.puncts
+      (subst (λ (xs : List RunningOperator). GoBeyond xs place (map Punct b.swept.puncts) (Some node)) (at-place b.operator b.swept b.sweeps) b.beyond))
   sweep-stop NoMemory b = tt

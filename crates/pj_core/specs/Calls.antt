@@ -1,5 +1,5 @@
 -- What the calls of a core answer, and what they make of it.
-use Rattle.std.specs.Prelude.{ℕ, ◌+◌, ◌<◌, ◌≡◌, true, false, List, [], ◌∷◌, ◌++◌, map, filter, length, slice_index_or, sum, Option, Some, None}
+use Rattle.std.specs.Prelude.{ℕ, ◌+◌, ◌<◌, ◌≡◌, true, false, List, [], ◌∷◌, ◌++◌, map, length, slice_index_or, sum, Option, Some, None}
 use Rattle.pj_plan.specs.Nodes.{inputs_of, is_join, streams_of, stream_columns, streams_in}
 use Rattle.pj_value.specs.declared.values.Value.{Value}
 use Rattle.pj_plan.specs.Canonical.{node_at, node_schema}
@@ -15,17 +15,15 @@ use Rattle.pj_events.specs.declared.events.Look.{Look}
 use Rattle.pj_events.specs.declared.events.Out.{Out}
 use Rattle.pj_events.specs.declared.events.Stop.{Stop}
 use Rattle.pj_events.specs.declared.events.Stop.TheVariants.{Limit, NoMemory}
-use Rattle.pj_events.specs.Join.{In, has, upto_from}
-use Rattle.pj_events.specs.KeptState.{lacking}
-use Rattle.pj_events.specs.Plan.{Node}
-use Rattle.pj_events.specs.History.{nodes_by, pending_in, reached_of, state_in}
+use Rattle.pj_events.specs.Join.{In}
+use Rattle.pj_events.specs.History.{nodes_by, pending_in, reached_of}
 use Rattle.pj_events.specs.Outcomes.{goes_beyond, outputs_of, peak_of, results_of, stored_at, stored_in, opened_in, waiting_in, ended_of}
 use Rattle.pj_events.specs.Limits.{StaysWithin, StopsAt}
 use Rattle.pj_events.specs.OneThread.{Turn, arrival_of, next_probe, plain, turn_entries}
 use Rattle.pj_laws.specs.HistoryLaws.{AllAreCertified}
 use Rattle.pj_laws.specs.Seats.{IsUnderWay}
 use Rattle.pj_probe.specs.declared.probe.Found.{Found}
-use Rattle.pj_operator.specs.Cells.{IsTakenIn, pending_kept}
+use Rattle.pj_operator.specs.Operators.{IsTakenIn, pending_kept}
 use Rattle.pj_core.specs.Cores.{CoreState, MayFollow, Notes, NotesAllowed, StandsFor, nodes_after, nodes_in}
 use Rattle.pj_core.specs.Plans.{RunPlan}
 

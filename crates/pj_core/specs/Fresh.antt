@@ -6,21 +6,21 @@ use Rattle.pj_events.specs.Join.{AreCertified, start}
 use Rattle.pj_events.specs.KeptState.{kept_of}
 use Rattle.pj_events.specs.Tables.{table_of}
 use Rattle.pj_flow.specs.Unions.{start as no_puncts}
-use Rattle.pj_operator.specs.declared.cell.Cell.{Cell}
-use Rattle.pj_operator.specs.declared.cell.Work.{Work}
-use Rattle.pj_operator.specs.declared.cell.Work.TheVariants.{Stream as StreamCell, Select as SelectCell, Project as ProjectCell, Union as UnionCell, Join as JoinCell, Group as GroupCell}
-use Rattle.pj_operator.specs.Cells.{Frame, GroupKind, JoinKind, Kind, ProjectKind, SelectKind, StreamKind, UnionKind}
+use Rattle.pj_operator.specs.declared.operator.RunningOperator.{RunningOperator}
+use Rattle.pj_operator.specs.declared.operator.OperatorState.{OperatorState}
+use Rattle.pj_operator.specs.declared.operator.OperatorState.TheVariants.{Stream as RunningStream, Select as RunningSelect, Project as RunningProject, Union as RunningUnion, Join as RunningJoin, Group as RunningGroup}
+use Rattle.pj_operator.specs.Operators.{Frame, GroupKind, JoinKind, Kind, ProjectKind, SelectKind, StreamKind, UnionKind}
 
-abbrev pub fresh_work : Kind → Work
-fresh_work StreamKind = StreamCell
-fresh_work (SelectKind test) = SelectCell test
-fresh_work (ProjectKind columns) = ProjectCell columns
-fresh_work (UnionKind n arity) = UnionCell (record { inputs = n; arity = arity; state = no_puncts })
-fresh_work (JoinKind node spec limit) = JoinCell (record { node = node; spec = spec; limit = limit; kept = kept_of start })
-fresh_work (GroupKind spec limit) = GroupCell (record { spec = spec; limit = limit; count = 0; table = table_of spec [] })
+abbrev pub fresh_state : Kind → OperatorState
+fresh_state StreamKind = RunningStream
+fresh_state (SelectKind test) = RunningSelect test
+fresh_state (ProjectKind columns) = RunningProject columns
+fresh_state (UnionKind n arity) = RunningUnion (record { inputs = n; arity = arity; state = no_puncts })
+fresh_state (JoinKind node spec limit) = RunningJoin (record { node = node; spec = spec; limit = limit; kept = kept_of start })
+fresh_state (GroupKind spec limit) = RunningGroup (record { spec = spec; limit = limit; count = 0; table = table_of spec [] })
 
-abbrev pub fresh_cell : Frame → Cell
-fresh_cell frame = record { work = fresh_work frame.kind; above = frame.above; width = frame.width; peak = 0 }
+abbrev pub fresh_operator : Frame → RunningOperator
+fresh_operator frame = record { state = fresh_state frame.kind; above = frame.above; width = frame.width; peak = 0 }
 
 -- each input of a join has a certificate
 abbrev pub IsCertifiedKind : Kind → Type 0

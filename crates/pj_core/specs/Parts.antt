@@ -17,20 +17,20 @@ use Rattle.pj_events.specs.declared.events.Stop.{Stop}
 use Rattle.pj_events.specs.CoreKept.{CoreKept}
 use Rattle.pj_laws.specs.HistoryLaws.{AllAreCertified}
 use Rattle.pj_join.specs.Joins.{join_data}
-use Rattle.pj_operator.specs.declared.cell.Cell.{Cell}
-use Rattle.pj_operator.specs.Cells.{Frame, GroupKind, JoinKind, Kind, ProjectKind, SelectKind, StreamKind, UnionKind, count_seen, frames_in, kept_seen, peak_seen}
-use Rattle.pj_operator.specs.Climbing.{AreOrderly, Climbs, Scene}
+use Rattle.pj_operator.specs.declared.operator.RunningOperator.{RunningOperator}
+use Rattle.pj_operator.specs.Operators.{Frame, GroupKind, JoinKind, Kind, ProjectKind, SelectKind, StreamKind, UnionKind, count_seen, frames_in, kept_seen, peak_seen}
+use Rattle.pj_operator.specs.Emitting.{AreOrderly, Emits, Scene}
 use Rattle.pj_core.specs.Cores.{CoreState}
 use Rattle.pj_core.specs.Plans.{RunPlan, certs_behind, nodes_of}
 
 -- ---- what is seen
 
 -- all that a core with these nodes keeps
-abbrev pub all_kept : List Cell → List ℕ → Bool → List Out → Option Stop → CoreKept
-all_kept cells closed halted undrained stop = record {
-  nodes = map (λ cell. kept_seen cell.work) cells;
-  counts = map count_seen cells;
-  peaks = map peak_seen cells;
+abbrev pub all_kept : List RunningOperator → List ℕ → Bool → List Out → Option Stop → CoreKept
+all_kept operators closed halted undrained stop = record {
+  nodes = map (λ operator. kept_seen operator.state) operators;
+  counts = map count_seen operators;
+  peaks = map peak_seen operators;
   closed = closed;
   undrained = undrained;
   halted = halted;
@@ -38,8 +38,8 @@ all_kept cells closed halted undrained stop = record {
 }
 
 -- what a core with these parts is seen as
-abbrev pub core_of : RunPlan → ℕ → List Cell → List ℕ → Bool → List Out → Option Stop → CoreState
-core_of plan limit cells closed halted undrained stop = record { plan = plan; limit = limit; kept = all_kept cells closed halted undrained stop }
+abbrev pub core_of : RunPlan → ℕ → List RunningOperator → List ℕ → Bool → List Out → Option Stop → CoreState
+core_of plan limit operators closed halted undrained stop = record { plan = plan; limit = limit; kept = all_kept operators closed halted undrained stop }
 
 -- ---- the nodes of a plan
 
@@ -75,13 +75,13 @@ abbrev pub frames_of : RunPlan → ℕ → List Frame
 frames_of plan limit = frames_from plan.nodes limit 0 plan.certs plan.nodes
 
 -- the plan is a sound one, each of its joins has certificates, and the nodes are its and orderly
-abbrev pub IsMadeOf : RunPlan → ℕ → List Cell → Type 0
-IsMadeOf plan limit cells = IsSoundPlan plan.nodes × AllAreCertified (nodes_of plan) × (frames_in cells ≡ frames_of plan limit) × AreOrderly cells
+abbrev pub IsMadeOf : RunPlan → ℕ → List RunningOperator → Type 0
+IsMadeOf plan limit operators = IsSoundPlan plan.nodes × AllAreCertified (nodes_of plan) × (frames_in operators ≡ frames_of plan limit) × AreOrderly operators
 
 -- the punctuation that closes a stream: a wildcard for each of its columns
 abbrev pub closing_in : List PlanNode → ℕ → Element
 closing_in nodes stream = Punct (all_wild (length (stream_columns (streams_in nodes) stream)))
 
--- a stream of the plan closes: a punctuation with a wildcard for each of its columns climbs from its node
+-- a stream of the plan closes: its node emits a punctuation with a wildcard for each of its columns
 abbrev pub StreamCloses : List PlanNode → ℕ → Scene → Scene → Type 0
-StreamCloses nodes stream old new = Climbs old new (slice_index_or (streams_of nodes) stream 0) (closing_in nodes stream ∷ [])
+StreamCloses nodes stream old new = Emits old new (slice_index_or (streams_of nodes) stream 0) (closing_in nodes stream ∷ [])

@@ -14,7 +14,7 @@ use Rattle.pj_events.specs.Outcomes.{outputs_of}
 use Rattle.pj_events.specs.Limits.{StaysWithin, StopsAt}
 use Rattle.pj_events.specs.OneThread.{Place, pending_at, places_from, plain, probes, probes_at, probes_from, sweeps_at}
 use Rattle.pj_events.specs.CoreKept.{NothingKept}
-use Rattle.pj_operator.specs.Cells.{pending_kept}
+use Rattle.pj_operator.specs.Operators.{pending_kept}
 use Rattle.pj_core.specs.Cores.{CoreState, StandsFor, nodes_after, nodes_in}
 
 -- ---- one probe
@@ -61,6 +61,25 @@ pub record StopsProbe (old new : CoreState) (join : ℕ) (stop : Stop) : Type 0 
   pub stopped : new.kept.stop ≡ Some stop
   pub undrained : new.kept.undrained ≡ old.kept.undrained
   pub stops : (history : List Entry) → StandsFor old history → StopsAtProbe old new history join stop
+
+-- ---- where nothing is pending
+
+-- no ticket is pending at the nodes below this one
+abbrev pub IsQuietBelow : CoreState → ℕ → Type 0
+IsQuietBelow core node = (n : ℕ) → n < node → kept_pending core n ≡ 0
+
+-- no ticket is pending at any node
+abbrev pub IsQuiet : CoreState → Type 0
+IsQuiet core = IsQuietBelow core (length core.plan.nodes)
+
+-- the nodes below stay quiet
+abbrev pub StaysQuietBelow : CoreState → CoreState → ℕ → Type 0
+StaysQuietBelow old new node = IsQuietBelow old node → IsQuietBelow new node
+
+-- the nodes below stay quiet at a probe of a node; where none was pending there, it is quiet too
+abbrev pub ProbesAbove : Bool → CoreState → CoreState → ℕ → Type 0
+ProbesAbove true old new node = StaysQuietBelow old new node
+ProbesAbove false old new node = IsQuietBelow old node → IsQuietBelow new (node + 1)
 
 -- ---- entries that are made
 

@@ -7,12 +7,12 @@ ghost use Rattle.pj_plan.specs.declared.node.Node.TheVariants.{Union as UnionNod
 ghost use Rattle.pj_scheme.specs.Derived.{schemes_of};
 ghost use Rattle.pj_core.specs.Plans.{nodes_of, run_plan};
 ghost use Rattle.pj_core.specs.Parts.{frame_for, frames_of, plan_node};
-ghost use Rattle.pj_core.specs.Fresh.{IsCertifiedKind, fresh_cell, fresh_work, joins_with};
+ghost use Rattle.pj_core.specs.Fresh.{IsCertifiedKind, fresh_operator, fresh_state, joins_with};
 
 use pj_flow::Union;
 use pj_group::Group;
 use pj_join::Join;
-use pj_operator::{Cell, Work};
+use pj_operator::{OperatorState, RunningOperator};
 use pj_plan::{Node, Plan};
 use pj_scheme::{derived, join_schemes};
 use pj_shape::{Cert, Schemes};
@@ -20,26 +20,26 @@ use pj_value::{List, NoMemory, TryClone};
 use std::alloc::Global;
 
 /// The nodes of a plan, to which nothing has come. The joins have these certificates, in order.
-pub fn new_cells(
+pub fn new_operators(
     alloc: Global,
     plan: &Plan,
     certs: &[List<Cert>],
     limit: u64,
-) -> Result<Vec<Cell>, NoMemory>
+) -> Result<Vec<RunningOperator>, NoMemory>
     requires certified { AllAreCertified (nodes_of (run_plan plan.now.nodes certs.now true)) }
     requires limit { (1 ≤ limit) × (limit ≤ 2 ^ 40) }
     ensures sound { OnOk result (IsSoundPlan plan.now.nodes) }
-    ensures made { IfOk result (λ cells. cells.items ≡ map fresh_cell (frames_of (run_plan plan.now.nodes certs.now true) limit)) }
+    ensures made { IfOk result (λ operators. operators.items ≡ map fresh_operator (frames_of (run_plan plan.now.nodes certs.now true) limit)) }
 {
     let all = derived(alloc, plan)?;
-    let mut cells = Vec::with_capacity(alloc, plan.nodes() as usize)?;
+    let mut operators = Vec::with_capacity(alloc, plan.nodes() as usize)?;
     let mut joins = 0;
     for number in 0..plan.nodes() {
         let own = certs_at(alloc, certs, joins)?;
-        cells.push(new_cell(alloc, plan, &all, own, limit, number)?)?;
+        operators.push(new_operator(alloc, plan, &all, own, limit, number)?)?;
         joins = joins_behind(plan.node(number), joins);
     }
-    Ok(cells)
+    Ok(operators)
 }
 
 // A copy of the certificates at this place; none where there is none.
@@ -71,65 +71,65 @@ fn joins_behind(node: &Node, joins: usize) -> usize
 }
 
 // A node of the plan to which nothing has come, with these certificates where it is a join.
-fn new_cell(
+fn new_operator(
     alloc: Global,
     plan: &Plan,
     all: &Schemes,
     certs: List<Cert>,
     limit: u64,
     number: u32,
-) -> Result<Cell, NoMemory>
+) -> Result<RunningOperator, NoMemory>
     requires there { number < length plan.now.nodes }
     requires all { all.now ≡ schemes_of plan.now.nodes }
     requires count { length all.now ≡ length plan.now.nodes }
     requires certified { IsCertifiedKind (frame_for plan.now.nodes limit number certs (plan_node plan.now.nodes number)).kind }
     requires limit { (1 ≤ limit) × (limit ≤ 2 ^ 40) }
-    ensures { IfOk result (λ cell. cell ≡ fresh_cell (frame_for plan.now.nodes limit number certs (plan_node plan.now.nodes number))) }
+    ensures { IfOk result (λ operator. operator ≡ fresh_operator (frame_for plan.now.nodes limit number certs (plan_node plan.now.nodes number))) }
 {
     let width = width_of(plan, number);
-    let work = new_work(alloc, plan, all, certs, limit, number)?;
-    Ok(Cell {
-        work,
+    let state = new_state(alloc, plan, all, certs, limit, number)?;
+    Ok(RunningOperator {
+        state,
         above: plan.parent(number),
         width,
         peak: 0,
     })
 }
 
-fn new_work(
+fn new_state(
     alloc: Global,
     plan: &Plan,
     all: &Schemes,
     certs: List<Cert>,
     limit: u64,
     number: u32,
-) -> Result<Work, NoMemory>
+) -> Result<OperatorState, NoMemory>
     requires there { number < length plan.now.nodes }
     requires all { all.now ≡ schemes_of plan.now.nodes }
     requires count { length all.now ≡ length plan.now.nodes }
     requires certified { IsCertifiedKind (frame_for plan.now.nodes limit number certs (plan_node plan.now.nodes number)).kind }
     requires limit { (1 ≤ limit) × (limit ≤ 2 ^ 40) }
-    ensures { IfOk result (λ work. work ≡ fresh_work (frame_for plan.now.nodes limit number certs (plan_node plan.now.nodes number)).kind) }
+    ensures { IfOk result (λ state. state ≡ fresh_state (frame_for plan.now.nodes limit number certs (plan_node plan.now.nodes number)).kind) }
 {
     let _nodes = plan.nodes();
     match plan.node(number) {
-        Node::Stream { schemes: _ } => Ok(Work::Stream),
-        Node::Select { input: _, test } => Ok(Work::Select(test.copy(alloc)?)),
+        Node::Stream { schemes: _ } => Ok(OperatorState::Stream),
+        Node::Select { input: _, test } => Ok(OperatorState::Select(test.copy(alloc)?)),
         Node::Project { input: _, columns } => {
             let kept = List::copy_of(alloc, columns.as_slice())?;
-            Ok(Work::Project(kept))
+            Ok(OperatorState::Project(kept))
         }
         Node::Union { inputs } => {
             let count = count_of(plan, number, inputs.as_slice());
-            Ok(Work::Union(Union::new(alloc, count, width_of(plan, number))))
+            Ok(OperatorState::Union(Union::new(alloc, count, width_of(plan, number))))
         }
         Node::Join { inputs: _, spec } => {
             let schemes = join_schemes(alloc, plan, all, number)?;
             let join = Join::new(alloc, number, spec.copy(alloc)?, schemes, certs, limit)?;
-            Ok(Work::Join(join))
+            Ok(OperatorState::Join(join))
         }
         Node::Group { input: _, spec } => {
-            Ok(Work::Group(Group::new(alloc, spec.copy(alloc)?, limit)?))
+            Ok(OperatorState::Group(Group::new(alloc, spec.copy(alloc)?, limit)?))
         }
     }
 }

@@ -9,18 +9,18 @@ ghost use Rattle.pj_pattern.specs.Fitting.{FitsDomains};
 ghost use Rattle.pj_shape.specs.Columns.{domains_of};
 ghost use Rattle.pj_plan.specs.Nodes.{streams_of, stream_columns, streams_in};
 ghost use Rattle.pj_core.specs.Plans.{nodes_of, run_plan};
-ghost use Rattle.pj_operator.specs.Climbing.{IsClimbStop, MayClimb, StaysAs};
+ghost use Rattle.pj_operator.specs.Emitting.{IsEmitStop, MayEmit, StaysAs};
 ghost use Rattle.pj_core.specs.Cores.{Notes};
 ghost use Rattle.pj_core.specs.Parts.{closing_in, StreamCloses};
-ghost use Rattle.pj_core.specs.Turns.{MayProbeAt, StopsProbe, places_total};
+ghost use Rattle.pj_core.specs.Turns.{MayProbeAt, ProbesAbove, StaysQuietBelow, StopsProbe, places_total};
 ghost use Rattle.pj_plan.specs.Canonical.{node_at};
 ghost use Rattle.pj_core.specs.Calls.{CoreTakes, FitNode, HasArrived, HasGiven, HasSwept, IsCause, IsFresh, IsGiveCause, IsJoinInput, IsJoinNode, IsLookAt, IsOpen, IsPeak, IsRefused, StaysStopped, StopsNow, arriving_of, closing_of};
 ghost use Rattle.pj_events.specs.Outcomes.{ended_of};
 
-use crate::build::new_cells;
+use crate::build::new_operators;
 use pj_events::{Look, Out, Stop};
 use pj_join::{Found, Probe};
-use pj_operator::{Cell, give_found, lift, probe_on, sums_of, sweep_at, take_first};
+use pj_operator::{RunningOperator, emit, give_found, probe_on, sums_of, sweep_at, take_first};
 use pj_pattern::{Element, Pattern, Punct};
 use pj_plan::{Node, Plan};
 use pj_shape::{Cert, Column};
@@ -40,7 +40,7 @@ pub struct Core {
     certs: List<List<Cert>>,
     trace: bool,
     limit: u64,
-    cells: Vec<Cell>,
+    operators: Vec<RunningOperator>,
     closed: List<u32>,
     undrained: List<Out>,
     halted: bool,
@@ -56,9 +56,9 @@ impl Model for Core {
     ghost use Rattle.pj_core.specs.Plans.{run_plan};
     ghost use Rattle.pj_core.specs.Parts.{IsMadeOf, core_of};
 
-    ghost view = { λ c. core_of (run_plan c.plan.nodes c.certs c.trace) c.limit c.cells.items (reverse c.closed) c.halted c.undrained c.stop };
+    ghost view = { λ c. core_of (run_plan c.plan.nodes c.certs c.trace) c.limit c.operators.items (reverse c.closed) c.halted c.undrained c.stop };
 
-    ghost invariant = { λ c. IsMadeOf (run_plan c.plan.nodes c.certs c.trace) c.limit c.cells.items };
+    ghost invariant = { λ c. IsMadeOf (run_plan c.plan.nodes c.certs c.trace) c.limit c.operators.items };
 }
 
 impl Core {
@@ -76,14 +76,14 @@ impl Core {
         requires limit { (1 ≤ limit) × (limit ≤ 2 ^ 40) }
         ensures { IfOk result (λ core. IsFresh core (run_plan plan.nodes certs trace) limit) }
     {
-        let cells = new_cells(alloc, &plan, certs.as_slice(), limit)?;
+        let operators = new_operators(alloc, &plan, certs.as_slice(), limit)?;
         Ok(Core {
             alloc,
             plan,
             certs,
             trace,
             limit,
-            cells,
+            operators,
             closed: List::new(alloc),
             undrained: List::new(alloc),
             halted: false,
@@ -105,9 +105,9 @@ impl Core {
             Some(stop) => Err(stop),
             None => {
                 let from = number_of(&self.plan, stream);
-                match lift(
+                match emit(
                     self.alloc,
-                    self.cells.as_mut_slice(),
+                    self.operators.as_mut_slice(),
                     from,
                     element,
                     &mut self.undrained,
@@ -137,7 +137,7 @@ impl Core {
                 &self.plan,
                 stream,
                 &mut self.closed,
-                self.cells.as_mut_slice(),
+                self.operators.as_mut_slice(),
                 &mut self.undrained,
             ) {
                 Ok(()) => Ok(()),
@@ -159,7 +159,7 @@ impl Core {
     {
         match self.stop {
             Some(stop) => Err(stop),
-            None => match take_first(self.cells.as_mut_slice()) {
+            None => match take_first(self.operators.as_mut_slice()) {
                 Ok(answer) => Ok(answer),
                 Err(NoMemory) => {
                     self.stop = Some(Stop::NoMemory);
@@ -185,7 +185,7 @@ impl Core {
             Some(stop) => Err(stop),
             None => match give_found(
                 self.alloc,
-                self.cells.as_mut_slice(),
+                self.operators.as_mut_slice(),
                 probe,
                 found.rows,
                 &mut self.undrained,
@@ -246,10 +246,11 @@ impl Core {
         requires there { IsJoinInput self.old join input }
         ensures ok { IfOk result (λ count. HasSwept self.old self.new join input count) }
         ensures err { IfErr result (λ stop. StopsNow self.old self.new stop × IsCause self.old (Sweeps join input) stop) }
+        ensures quiet { OnOk result (StaysQuietBelow self.old self.new join) }
     {
         match sweep_at(
             self.alloc,
-            self.cells.as_mut_slice(),
+            self.operators.as_mut_slice(),
             join,
             input,
             self.trace,
@@ -268,7 +269,7 @@ impl Core {
         ensures { IsLookAt self.now result }
     {
         let streams = self.plan.streams().len() as u32;
-        let sums = sums_of(self.cells.as_slice());
+        let sums = sums_of(self.operators.as_slice());
         Look {
             pending: sums.pending,
             taken: sums.taken,
@@ -295,8 +296,8 @@ impl Core {
         requires { IsJoinNode self.now join }
         ensures { IsPeak self.now join result }
     {
-        let cell = &self.cells[join as usize];
-        cell.peak.max(cell.work.stored())
+        let operator = &self.operators[join as usize];
+        operator.peak.max(operator.state.stored())
     }
 
     // One probe of a join, where one is pending there: its least pending ticket is taken and given.
@@ -304,10 +305,11 @@ impl Core {
         requires on { self.old.kept.stop ≡ None }
         ensures ok { IfOk result (λ more. MayProbeAt more self.old self.new join) }
         ensures err { IfErr result (λ stop. StopsProbe self.old self.new join stop) }
+        ensures quiet { IfOk result (λ more. ProbesAbove more self.old self.new join) }
     {
         match probe_on(
             self.alloc,
-            self.cells.as_mut_slice(),
+            self.operators.as_mut_slice(),
             join,
             &mut self.undrained,
         ) {
@@ -351,21 +353,21 @@ fn close(
     plan: &Plan,
     stream: u32,
     closed: &mut List<u32>,
-    cells: &mut [Cell],
+    operators: &mut [RunningOperator],
     outs: &mut List<Out>,
 ) -> Result<(), Stop>
     requires there { stream < length (streams_of plan.now.nodes) }
-    requires long { length cells.old ≡ length plan.now.nodes }
-    requires may { MayClimb cells.old (slice_index_or (streams_of plan.now.nodes) stream 0) (closing_in plan.now.nodes stream ∷ []) }
+    requires long { length operators.old ≡ length plan.now.nodes }
+    requires may { MayEmit operators.old (slice_index_or (streams_of plan.now.nodes) stream 0) (closing_in plan.now.nodes stream ∷ []) }
     ensures closed { OnOk result (closed.new ≡ closed.old ++ stream ∷ []) }
-    ensures ok { OnOk result (StreamCloses plan.now.nodes stream (record { cells = cells.old; outs = outs.old }) (record { cells = cells.new; outs = outs.new })) }
-    ensures err { IfErr result (λ stop. IsClimbStop cells.old (slice_index_or (streams_of plan.now.nodes) stream 0) (closing_in plan.now.nodes stream ∷ []) stop) }
-    ensures stays { StaysAs cells.old cells.new }
+    ensures ok { OnOk result (StreamCloses plan.now.nodes stream (record { operators = operators.old; outs = outs.old }) (record { operators = operators.new; outs = outs.new })) }
+    ensures err { IfErr result (λ stop. IsEmitStop operators.old (slice_index_or (streams_of plan.now.nodes) stream 0) (closing_in plan.now.nodes stream ∷ []) stop) }
+    ensures stays { StaysAs operators.old operators.new }
     ensures refused { OnErr result (outs.new ≡ outs.old) }
 {
     let from = number_of(plan, stream);
     match mark(alloc, plan.schema(from).columns(), closed, stream) {
-        Ok(punct) => match lift(alloc, cells, from, Element::Punct(punct), outs) {
+        Ok(punct) => match emit(alloc, operators, from, Element::Punct(punct), outs) {
             Ok(()) => Ok(()),
             Err(stop) => Err(stop),
         },

@@ -1,12 +1,12 @@
 // Whole turns of a run on one thread.
-ghost use Rattle.std.specs.Prelude.{true, ◌≡◌, ◌<◌, None, length, IfErr, IfOk, OnOk};
+ghost use Rattle.std.specs.Prelude.{true, ◌+◌, ◌≡◌, ◌<◌, ◌≤◌, None, length, IfErr, IfOk, OnOk};
 ghost use Rattle.pj_pattern.specs.Fitting.{FitsDomains};
 ghost use Rattle.pj_shape.specs.Columns.{domains_of};
 ghost use Rattle.pj_plan.specs.Nodes.{streams_of, stream_columns, streams_in};
 ghost use Rattle.pj_events.specs.OneThread.{is_punct as brings_punct};
 ghost use Rattle.pj_core.specs.Calls.{IsJoinInput, IsTurnRefused, MakesTurn, arriving_of, closing_of};
 ghost use Rattle.pj_core.specs.Settling.{IsSettlingRefused};
-ghost use Rattle.pj_core.specs.Turns.{Finishes, IsSoundCore, Makes, StopsMaking, probing, probing_at, sweeping, sweeping_all, sweeping_at, swept_where, working};
+ghost use Rattle.pj_core.specs.Turns.{Finishes, IsQuiet, IsQuietBelow, IsSoundCore, Makes, StopsMaking, probing, probing_at, sweeping, sweeping_all, sweeping_at, swept_where, working};
 
 use crate::Core;
 use pj_events::{Out, Stop};
@@ -28,13 +28,9 @@ impl Core {
         ensures err { IfErr result (λ stop. IsTurnRefused self.old.kept.stop self.old self.new (arriving_of stream element) stop) }
     {
         let sweeps = is_punct(&element);
-        match self.arrive(stream, element) {
-            Ok(()) => match self.finish_turn(sweeps) {
-                Ok(outs) => Ok(outs),
-                Err(stop) => Err(stop),
-            },
-            Err(stop) => Err(stop),
-        }
+        self.arrive(stream, element)?;
+        let outs = self.finish_turn(sweeps)?;
+        Ok(outs)
     }
 
     /// The turn that closes a stream, in the same way.
@@ -43,13 +39,9 @@ impl Core {
         ensures ok { IfOk result (λ outs. MakesTurn self.old self.new (closing_of self.old stream) outs) }
         ensures err { IfErr result (λ stop. IsTurnRefused self.old.kept.stop self.old self.new (closing_of self.old stream) stop) }
     {
-        match self.close_stream(stream) {
-            Ok(()) => match self.finish_turn(true) {
-                Ok(outs) => Ok(outs),
-                Err(stop) => Err(stop),
-            },
-            Err(stop) => Err(stop),
-        }
+        self.close_stream(stream)?;
+        let outs = self.finish_turn(true)?;
+        Ok(outs)
     }
 
     /// Settles the run: every pending ticket is taken, worked on and given, in order; each join is then swept, input by input, and
@@ -77,10 +69,8 @@ impl Core {
         ensures ok { IfOk result (λ outs. Finishes sweeps self.old self.new outs) }
         ensures err { IfErr result (λ stop. StopsMaking self.old self.new (working sweeps self.old) stop) }
     {
-        match self.work(sweeps) {
-            Ok(()) => Ok(self.drain()),
-            Err(stop) => Err(stop),
-        }
+        self.work(sweeps)?;
+        Ok(self.drain())
     }
 
     // All probes, and where `sweeps` a sweep of each input of each join with all probes after each.
@@ -89,17 +79,14 @@ impl Core {
         ensures ok { OnOk result (Makes self.old self.new (working sweeps self.old)) }
         ensures err { IfErr result (λ stop. StopsMaking self.old self.new (working sweeps self.old) stop) }
     {
-        match self.probe_all() {
-            Ok(()) => match self.sweep_where(sweeps) {
-                Ok(()) => Ok(()),
-                Err(stop) => Err(stop),
-            },
-            Err(stop) => Err(stop),
-        }
+        self.probe_from(0)?;
+        self.sweep_where(sweeps)?;
+        Ok(())
     }
 
     fn sweep_where(&mut self, sweeps: bool) -> Result<(), Stop>
-        requires { self.old.kept.stop ≡ None }
+        requires on { self.old.kept.stop ≡ None }
+        requires quiet { IsQuiet self.old }
         ensures ok { OnOk result (Makes self.old self.new (swept_where sweeps self.old)) }
         ensures err { IfErr result (λ stop. StopsMaking self.old self.new (swept_where sweeps self.old) stop) }
     {
@@ -115,16 +102,14 @@ impl Core {
 
     // A sweep of each input of each join in order, and all probes after each.
     fn sweep_all(&mut self) -> Result<(), Stop>
-        requires { self.old.kept.stop ≡ None }
+        requires on { self.old.kept.stop ≡ None }
+        requires quiet { IsQuiet self.old }
         ensures ok { OnOk result (Makes self.old self.new (sweeping_all self.old)) }
         ensures err { IfErr result (λ stop. StopsMaking self.old self.new (sweeping_all self.old) stop) }
     {
         let nodes = self.node_count();
         for node in 0..nodes {
-            match self.sweep_node(node) {
-                Ok(()) => {}
-                Err(stop) => return Err(stop),
-            }
+            self.sweep_node(node)?;
         }
         Ok(())
     }
@@ -132,48 +117,45 @@ impl Core {
     // Where the node is a join, a sweep of each of its inputs in order, and all probes after each.
     fn sweep_node(&mut self, node: u32) -> Result<(), Stop>
         requires on { self.old.kept.stop ≡ None }
+        requires quiet { IsQuiet self.old }
         requires there { node < length self.old.plan.nodes }
         ensures ok { OnOk result (Makes self.old self.new (sweeping_at self.old node)) }
         ensures err { IfErr result (λ stop. StopsMaking self.old self.new (sweeping_at self.old node) stop) }
+        ensures quiet { OnOk result (IsQuiet self.new) }
     {
         let inputs = self.places(node);
         for input in 0..inputs {
-            match self.sweep_and_probe(node, input) {
-                Ok(()) => {}
-                Err(stop) => return Err(stop),
-            }
+            self.sweep_and_probe(node, input)?;
         }
         Ok(())
     }
 
-    // A sweep of an input of a join, and all probes.
+    // A sweep of an input of a join, and all probes: only from that join on can there be new ones.
     fn sweep_and_probe(&mut self, join: u32, input: u32) -> Result<(), Stop>
         requires on { self.old.kept.stop ≡ None }
+        requires quiet { IsQuiet self.old }
         requires there { IsJoinInput self.old join input }
         ensures ok { OnOk result (Makes self.old self.new (sweeping self.old join input)) }
         ensures err { IfErr result (λ stop. StopsMaking self.old self.new (sweeping self.old join input) stop) }
+        ensures quiet { OnOk result (IsQuiet self.new) }
     {
-        match self.sweep_one(join, input) {
-            Ok(_count) => match self.probe_all() {
-                Ok(()) => Ok(()),
-                Err(stop) => Err(stop),
-            },
-            Err(stop) => Err(stop),
-        }
+        let _count = self.sweep_one(join, input)?;
+        self.probe_from(join)?;
+        Ok(())
     }
 
-    // Takes and gives every pending ticket, node by node.
-    fn probe_all(&mut self) -> Result<(), Stop>
-        requires { self.old.kept.stop ≡ None }
+    // Takes and gives every pending ticket, node by node; below the first of these nodes none is pending.
+    fn probe_from(&mut self, first: u32) -> Result<(), Stop>
+        requires on { self.old.kept.stop ≡ None }
+        requires there { first ≤ length self.old.plan.nodes }
+        requires quiet { IsQuietBelow self.old first }
         ensures ok { OnOk result (Makes self.old self.new (probing self.old)) }
         ensures err { IfErr result (λ stop. StopsMaking self.old self.new (probing self.old) stop) }
+        ensures quiet { OnOk result (IsQuiet self.new) }
     {
         let nodes = self.node_count();
-        for node in 0..nodes {
-            match self.probe_node(node) {
-                Ok(()) => {}
-                Err(stop) => return Err(stop),
-            }
+        for node in first..nodes {
+            self.probe_node(node)?;
         }
         Ok(())
     }
@@ -184,6 +166,7 @@ impl Core {
         requires sound { IsSoundCore self.old }
         ensures ok { OnOk result (Makes self.old self.new (probing_at self.old node)) }
         ensures err { IfErr result (λ stop. StopsMaking self.old self.new (probing_at self.old node) stop) }
+        ensures quiet { OnOk result (IsQuietBelow self.old node → IsQuietBelow self.new (node + 1)) }
     {
         'probing: loop {
             match self.probe_at(node) {

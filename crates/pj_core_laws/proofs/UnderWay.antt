@@ -23,7 +23,7 @@ use Rattle.pj_laws.specs.HistoryLaws.{JoinRuns}
 use Rattle.pj_laws.proofs.JoinRuns.{join-runs}
 use Rattle.pj_laws.proofs.Operators.{results-fit}
 use Rattle.pj_laws.proofs.Probes.{length-from}
-use Rattle.pj_operator.specs.Cells.{IsTakenIn}
+use Rattle.pj_operator.specs.Operators.{IsTakenIn}
 use Rattle.pj_core.specs.Calls.{FitWhatIsUnderWay, OpensWhatIsUnderWay}
 use Rattle.pj_core.specs.Plans.{operator_of}
 use Rattle.pj_core.proofs.Frames.{certs_at, operator-is}

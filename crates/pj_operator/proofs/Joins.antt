@@ -7,10 +7,10 @@ use Rattle.pj_events.specs.KeptState.{kept_ripe, swept, without}
 use Rattle.pj_probe.specs.declared.probe.Found.{Found}
 use Rattle.pj_join.specs.Handed.{JoinProbes, StandsProbed, rows_probed}
 use Rattle.pj_join.specs.Joins.{IsTaken, JoinTakes, JoinView, StandsFor as JoinStandsFor, StandsTaken, after}
-use Rattle.pj_operator.specs.declared.cell.Work.{Work}
-use Rattle.pj_operator.specs.declared.cell.Work.TheVariants.{Join as JoinCell}
-use Rattle.pj_operator.specs.Acts.{JoinProbed, WorkProbes, WorkTakes}
-use Rattle.pj_operator.specs.Cells.{IsOrderly, IsOrderlyJoin, KeepsOpen, kept_seen, pending_kept}
+use Rattle.pj_operator.specs.declared.operator.OperatorState.{OperatorState}
+use Rattle.pj_operator.specs.declared.operator.OperatorState.TheVariants.{Join as RunningJoin}
+use Rattle.pj_operator.specs.Acts.{JoinProbed, StateProbes, StateTakes}
+use Rattle.pj_operator.specs.Operators.{IsOrderly, IsOrderlyJoin, KeepsOpen, kept_seen, pending_kept}
 use Rattle.pj_value.proofs.Members.{In-filter, filter_few}
 
 -- ---- lists
@@ -47,10 +47,10 @@ fewer-without (v ∷ ts) t h = go (eqb v t) h (fewer-without ts t)
     go false e ih = let l = ih e in omega (arith, l)
 
 -- fewer tickets are pending behind a probe
-pub probed-fewer : (old new : Work) (before behind : List Out) (ticket : ℕ) → JoinProbed old new before behind ticket → pending_kept (kept_seen new) < pending_kept (kept_seen old)
+pub probed-fewer : (old new : OperatorState) (before behind : List Out) (ticket : ℕ) → JoinProbed old new before behind ticket → pending_kept (kept_seen new) < pending_kept (kept_seen old)
 probed-fewer old new before behind ticket P =
-    subst (λ (w : Work). pending_kept (kept_seen w) < pending_kept (kept_seen old)) (sym P.is)
-    (subst (λ (w : Work). length (without P.join.kept.pending ticket) < pending_kept (kept_seen w)) (sym P.was) (fewer-without P.join.kept.pending ticket P.takes.pending))
+    subst (λ (w : OperatorState). pending_kept (kept_seen w) < pending_kept (kept_seen old)) (sym P.is)
+    (subst (λ (w : OperatorState). length (without P.join.kept.pending ticket) < pending_kept (kept_seen w)) (sym P.was) (fewer-without P.join.kept.pending ticket P.takes.pending))
 
 -- ---- an orderly join stays so
 
@@ -93,41 +93,41 @@ orderly-sweep join input o = record {
   puncts_fit = λ p h. o.puncts_fit p (In-filter (λ (q : PunctAt). not (eqb q.input input) || is_held (swept join.spec join.kept input) q) p join.kept.waiting h).0;
 }
 
-pub took_keeps : (answer : Option Found) (old new : JoinView) → JoinTakes old new answer → KeepsOpen (JoinCell old) (JoinCell new)
-took_keeps None old new t = subst (λ (j : JoinView). KeepsOpen (JoinCell old) (JoinCell j)) (sym t.1) (λ o. (o, λ u h. h))
+pub took_keeps : (answer : Option Found) (old new : JoinView) → JoinTakes old new answer → KeepsOpen (RunningJoin old) (RunningJoin new)
+took_keeps None old new t = subst (λ (j : JoinView). KeepsOpen (RunningJoin old) (RunningJoin j)) (sym t.1) (λ o. (o, λ u h. h))
 took_keeps (Some found) old new t =
-    subst (λ (j : JoinView). KeepsOpen (JoinCell old) (JoinCell j)) (sym t.changes) (λ o. (orderly-take old found.ticket o, λ u h. (h.0, without-none old.kept.pending found.ticket u h.1)))
+    subst (λ (j : JoinView). KeepsOpen (RunningJoin old) (RunningJoin j)) (sym t.changes) (λ o. (orderly-take old found.ticket o, λ u h. (h.0, without-none old.kept.pending found.ticket u h.1)))
 
-pub gave_orderly : (old new : JoinView) (u : ℕ) → new ≡ after old (Give u) → IsOrderly (JoinCell old) → IsOrderly (JoinCell new)
+pub gave_orderly : (old new : JoinView) (u : ℕ) → new ≡ after old (Give u) → IsOrderly (RunningJoin old) → IsOrderly (RunningJoin new)
 gave_orderly old new u e o = subst (λ (j : JoinView). IsOrderlyJoin j) (sym e) (orderly-give old u o)
 
-pub swept_keeps : (old new : JoinView) (input : ℕ) → new ≡ after old (Sweep input) → KeepsOpen (JoinCell old) (JoinCell new)
-swept_keeps old new input e = subst (λ (j : JoinView). KeepsOpen (JoinCell old) (JoinCell j)) (sym e) (λ o. (orderly-sweep old input o, λ u h. h))
+pub swept_keeps : (old new : JoinView) (input : ℕ) → new ≡ after old (Sweep input) → KeepsOpen (RunningJoin old) (RunningJoin new)
+swept_keeps old new input e = subst (λ (j : JoinView). KeepsOpen (RunningJoin old) (RunningJoin j)) (sym e) (λ o. (orderly-sweep old input o, λ u h. h))
 
-pub probed_orderly : (answer : Option ℕ) (old new : JoinView) → JoinProbes old new answer → IsOrderly (JoinCell old) → IsOrderly (JoinCell new)
+pub probed_orderly : (answer : Option ℕ) (old new : JoinView) → JoinProbes old new answer → IsOrderly (RunningJoin old) → IsOrderly (RunningJoin new)
 probed_orderly None old new p o = subst (λ (j : JoinView). IsOrderlyJoin j) (sym p.1) o
 probed_orderly (Some u) old new p o = subst (λ (j : JoinView). IsOrderlyJoin j) (sym p.1) (orderly-give (after old (Take u)) u (orderly-take old u o))
 
 -- ---- takes and probes
 
-pub work_takes : (answer : Option Found) (old new : JoinView) → JoinTakes old new answer → ((steps : List Step) → JoinStandsFor old steps → StandsTaken new steps answer) → WorkTakes (JoinCell old) (JoinCell new) answer
-work_takes None old new t s = (ap JoinCell t.1, ap length t.0)
-work_takes (Some found) old new t s = record {
+pub state_takes : (answer : Option Found) (old new : JoinView) → JoinTakes old new answer → ((steps : List Step) → JoinStandsFor old steps → StandsTaken new steps answer) → StateTakes (RunningJoin old) (RunningJoin new) answer
+state_takes None old new t s = (ap RunningJoin t.1, ap length t.0)
+state_takes (Some found) old new t s = record {
   join = old;
   was = refl;
   takes = record { pending = t.pending; least = t.least; finds = t.finds; changes = refl; taken = subst (λ (j : JoinView). IsTaken j.kept found.ticket) t.changes t.taken };
   finds = λ steps st. subst (λ (j : JoinView). found.rows ≡ map joined (results j.spec (run j.spec start steps).tuples (run j.spec start steps).tuples found.ticket)) t.changes (s steps st).1;
-  is = ap JoinCell t.changes;
+  is = ap RunningJoin t.changes;
 }
 
-pub work_probes : (answer : Option ℕ) (old new : JoinView) (before behind : List Out) → JoinProbes old new answer → behind ≡ before ++ map Out.Tuple (rows_probed old answer) → ((steps : List Step) → JoinStandsFor old steps → StandsProbed old new steps answer)
-    → WorkProbes (JoinCell old) (JoinCell new) before behind answer
-work_probes None old new before behind p h s = (ap JoinCell p.1, h ∙ append-nil before, ap length p.0)
-work_probes (Some u) old new before behind p h s = record {
+pub state_probes : (answer : Option ℕ) (old new : JoinView) (before behind : List Out) → JoinProbes old new answer → behind ≡ before ++ map Out.Tuple (rows_probed old answer) → ((steps : List Step) → JoinStandsFor old steps → StandsProbed old new steps answer)
+    → StateProbes (RunningJoin old) (RunningJoin new) before behind answer
+state_probes None old new before behind p h s = (ap RunningJoin p.1, h ∙ append-nil before, ap length p.0)
+state_probes (Some u) old new before behind p h s = record {
   join = old;
   was = refl;
   takes = p.0;
   finds = λ steps st. (s steps st).1;
-  is = ap JoinCell p.1;
+  is = ap RunningJoin p.1;
   hands = h;
 }

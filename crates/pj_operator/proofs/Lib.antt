@@ -1,5 +1,5 @@
 pub mod Changes
-pub mod Climbs
+pub mod Emits
 pub mod Firsts
 pub mod Joins
 pub mod Nodes

@@ -18,33 +18,33 @@ use Rattle.pj_flow.specs.Unions.{UnionView}
 use Rattle.pj_group.specs.Tables.{GroupView, StandsFor as HoldsGroup}
 use Rattle.pj_join.specs.Joins.{JoinView, after}
 use Rattle.pj_join.specs.Sweeping.{puncts_up}
-use Rattle.pj_operator.specs.declared.cell.Handed.{Handed}
-use Rattle.pj_operator.specs.declared.cell.Work.TheVariants.{Stream as StreamCell, Select as SelectCell, Project as ProjectCell, Union as UnionCell, Join as JoinCell, Group as GroupCell}
-use Rattle.pj_operator.specs.Cells.{FitsInput, Follows, GroupRole, IsAs, IsBelow, IsOrderlyJoin, JoinRole, KeepsOpen, ProjectRole, SelectRole, UnionRole, handed_list, IsTakenIn, kind_of, role_in, role_of, width_of}
+use Rattle.pj_operator.specs.declared.operator.Emitted.{Emitted}
+use Rattle.pj_operator.specs.declared.operator.OperatorState.TheVariants.{Stream as RunningStream, Select as RunningSelect, Project as RunningProject, Union as RunningUnion, Join as RunningJoin, Group as RunningGroup}
+use Rattle.pj_operator.specs.Operators.{FitsInput, Follows, GroupRole, IsAs, IsBelow, IsOrderlyJoin, JoinRole, KeepsOpen, ProjectRole, SelectRole, UnionRole, emitted_list, IsTakenIn, kind_of, role_in, role_of, width_of}
 use Rattle.pj_join_laws.proofs.Stand.{lacking-more}
 
 -- ---- streams, selects and projects
 
-pub stream_follows : (up : Handed) (operator : Operator) (input : ℕ) (e : Element) → handed_list up ≡ [] → IsAs StreamCell operator → Follows StreamCell up operator input e
+pub stream_follows : (up : Emitted) (operator : Operator) (input : ℕ) (e : Element) → emitted_list up ≡ [] → IsAs RunningStream operator → Follows RunningStream up operator input e
 stream_follows up (Stream schema sent) input e n a = record { stands = a; hands = n }
-stream_follows up operator input e n a = absurd (let k : role_of (kind_of StreamCell) ≡ role_in operator = a.kind in cc)
+stream_follows up operator input e n a = absurd (let k : role_of (kind_of RunningStream) ≡ role_in operator = a.kind in cc)
 
-pub select_follows : (test : List Pattern) (up : Handed) (operator : Operator) (input : ℕ) (e : Element) → handed_list up ≡ select_hands test e → IsAs (SelectCell test) operator → Follows (SelectCell test) up operator input e
+pub select_follows : (test : List Pattern) (up : Emitted) (operator : Operator) (input : ℕ) (e : Element) → emitted_list up ≡ select_hands test e → IsAs (RunningSelect test) operator → Follows (RunningSelect test) up operator input e
 select_follows own up (Select test) input e h a =
     let same : own ≡ test = (let k : SelectRole own ≡ SelectRole test = a.kind in cc) in
     record { stands = a; hands = h ∙ ap (λ (t : List Pattern). select_hands t e) same }
-select_follows own up operator input e h a = absurd (let k : role_of (kind_of (SelectCell own)) ≡ role_in operator = a.kind in cc)
+select_follows own up operator input e h a = absurd (let k : role_of (kind_of (RunningSelect own)) ≡ role_in operator = a.kind in cc)
 
-pub project_follows : (columns : List ℕ) (up : Handed) (operator : Operator) (input : ℕ) (e : Element) → handed_list up ≡ project_hands columns e → IsAs (ProjectCell columns) operator → Follows (ProjectCell columns) up operator input e
+pub project_follows : (columns : List ℕ) (up : Emitted) (operator : Operator) (input : ℕ) (e : Element) → emitted_list up ≡ project_hands columns e → IsAs (RunningProject columns) operator → Follows (RunningProject columns) up operator input e
 project_follows own up (Project columns) input e h a =
     let same : own ≡ columns = (let k : ProjectRole own ≡ ProjectRole columns = a.kind in cc) in
     record { stands = a; hands = h ∙ ap (λ (cs : List ℕ). project_hands cs e) same }
-project_follows own up operator input e h a = absurd (let k : role_of (kind_of (ProjectCell own)) ≡ role_in operator = a.kind in cc)
+project_follows own up operator input e h a = absurd (let k : role_of (kind_of (RunningProject own)) ≡ role_in operator = a.kind in cc)
 
 -- ---- unions
 
-pub union_follows : (old new : UnionView) (up : Handed) (operator : Operator) (input : ℕ) (e : Element) → new ≡ record old { state = union_after old.inputs old.state input e }
-    → handed_list up ≡ union_hands old.inputs old.state input e → IsAs (UnionCell old) operator → Follows (UnionCell new) up operator input e
+pub union_follows : (old new : UnionView) (up : Emitted) (operator : Operator) (input : ℕ) (e : Element) → new ≡ record old { state = union_after old.inputs old.state input e }
+    → emitted_list up ≡ union_hands old.inputs old.state input e → IsAs (RunningUnion old) operator → Follows (RunningUnion new) up operator input e
 union_follows old new up (Union n u) input e is h a =
     let same : old.inputs ≡ n = (let k : UnionRole old.inputs ≡ UnionRole n = a.kind in cc) in
     let state : old.state ≡ u = (let k : UnionKept old.state ≡ UnionKept u = a.kept in cc) in
@@ -56,13 +56,13 @@ union_follows old new up (Union n u) input e is h a =
       };
       hands = h ∙ ap₂ (λ (m : ℕ) (s : UnionState). union_hands m s input e) same state;
     }
-union_follows old new up operator input e is h a = absurd (let k : role_of (kind_of (UnionCell old)) ≡ role_in operator = a.kind in cc)
+union_follows old new up operator input e is h a = absurd (let k : role_of (kind_of (RunningUnion old)) ≡ role_in operator = a.kind in cc)
 
 -- ---- groups
 
-pub group_follows : (old new : GroupView) (up : Handed) (operator : Operator) (input : ℕ) (e : Element) → new ≡ record old { count = old.count + 1; table = new.table }
-    → ((rows : List (List Value)) → HoldsGroup old rows → HoldsGroup new (group_after old.spec rows e)) → ((rows : List (List Value)) → HoldsGroup old rows → handed_list up ≡ group_hands old.spec rows e)
-    → IsAs (GroupCell old) operator → Follows (GroupCell new) up operator input e
+pub group_follows : (old new : GroupView) (up : Emitted) (operator : Operator) (input : ℕ) (e : Element) → new ≡ record old { count = old.count + 1; table = new.table }
+    → ((rows : List (List Value)) → HoldsGroup old rows → HoldsGroup new (group_after old.spec rows e)) → ((rows : List (List Value)) → HoldsGroup old rows → emitted_list up ≡ group_hands old.spec rows e)
+    → IsAs (RunningGroup old) operator → Follows (RunningGroup new) up operator input e
 group_follows old new up (Group spec rows) input e is keeps h a =
     let spec-is : new.spec ≡ old.spec = ap (λ (v : GroupView). v.spec) is in
     let same : old.spec ≡ spec = (let k : GroupRole old.spec ≡ GroupRole spec = a.kind in cc) in
@@ -76,7 +76,7 @@ group_follows old new up (Group spec rows) input e is keeps h a =
       };
       hands = h rows holds ∙ ap (λ (s : _). group_hands s rows e) same;
     }
-group_follows old new up operator input e is keeps h a = absurd (let k : role_of (kind_of (GroupCell old)) ≡ role_in operator = a.kind in cc)
+group_follows old new up operator input e is keeps h a = absurd (let k : role_of (kind_of (RunningGroup old)) ≡ role_in operator = a.kind in cc)
 
 -- ---- joins
 
@@ -106,8 +106,8 @@ ups-come join s input (Punct patterns) k =
     go true = refl
     go false = refl
 
-pub join_follows : (old new : JoinView) (up : Handed) (operator : Operator) (input : ℕ) (e : Element) → new ≡ after old (join_step input e) → handed_list up ≡ map Punct (puncts_up old (join_step input e))
-    → IsAs (JoinCell old) operator → Follows (JoinCell new) up operator input e
+pub join_follows : (old new : JoinView) (up : Emitted) (operator : Operator) (input : ℕ) (e : Element) → new ≡ after old (join_step input e) → emitted_list up ≡ map Punct (puncts_up old (join_step input e))
+    → IsAs (RunningJoin old) operator → Follows (RunningJoin new) up operator input e
 join_follows old new up (Join spec s) input e is h a =
     let same : old.spec ≡ spec = (let k : JoinRole old.spec ≡ JoinRole spec = a.kind in cc) in
     let kept : old.kept ≡ kept_of s = (let k : JoinKept old.kept ≡ JoinKept (kept_of s) = a.kept in cc) in
@@ -119,7 +119,7 @@ join_follows old new up (Join spec s) input e is h a =
       };
       hands = h ∙ ups-come old s input e kept ∙ ap (λ (d : JoinData). hands_up d s (join_step input e) ++ []) same;
     }
-join_follows old new up operator input e is h a = absurd (let k : role_of (kind_of (JoinCell old)) ≡ role_in operator = a.kind in cc)
+join_follows old new up operator input e is h a = absurd (let k : role_of (kind_of (RunningJoin old)) ≡ role_in operator = a.kind in cc)
 
 -- ---- an orderly join
 
@@ -137,7 +137,7 @@ pushed-true xs m n h = has-append xs (m ∷ []) n ∙ ap (λ (b : Bool). b || (e
 pushed-false : (xs : List ℕ) (m n : ℕ) → has xs n ≡ false → n ≢ m → has (xs ++ m ∷ []) n ≡ false
 pushed-false xs m n h ne = has-append xs (m ∷ []) n ∙ ap₂ (λ (b c : Bool). b || (c || false)) h (ne_eqb m n (λ q. ne (sym q)))
 
-pub join_keeps : (old new : JoinView) (input : ℕ) (e : Element) → new ≡ after old (join_step input e) → old.kept.next ≢ old.limit → FitsInput old.spec input (width_of e) → KeepsOpen (JoinCell old) (JoinCell new)
+pub join_keeps : (old new : JoinView) (input : ℕ) (e : Element) → new ≡ after old (join_step input e) → old.kept.next ≢ old.limit → FitsInput old.spec input (width_of e) → KeepsOpen (RunningJoin old) (RunningJoin new)
 join_keeps old new input e is room fits o = subst (λ (j : JoinView). IsOrderlyJoin j × ((t : ℕ) → IsTakenIn (JoinKept old.kept) t → IsTakenIn (JoinKept j.kept) t)) (sym is) (go e fits)
   where
     below : (ts : List ℕ) (t : ℕ) → has (ts ++ old.kept.next ∷ []) t ≡ true → ((v : ℕ) → has ts v ≡ true → v < old.kept.next) → t < old.kept.next + 1

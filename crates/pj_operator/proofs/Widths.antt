@@ -1,11 +1,10 @@
 -- What a node hands up has as many columns as the node, and an orderly node stays so.
-use Rattle.std.proofs.Common.{ℕ, ◌+◌, ◌<◌, Bool, true, false, cond, not, ◌&&◌, List, [], ◌∷◌, ◌++◌, ◌≡◌, ◌⊎◌, map, filter, length, sum, get_or, eqb, refl, sym, ap, ◌∙◌, subst, inl, inr, arith}
+use Rattle.std.proofs.Common.{ℕ, ◌+◌, Bool, true, false, cond, not, ◌&&◌, List, [], ◌∷◌, ◌++◌, ◌≡◌, map, filter, length, sum, get_or, eqb, refl, sym, ap, subst, inl, inr, arith}
 use Rattle.pj_value.specs.declared.values.Value.{Value}
 use Rattle.pj_value.proofs.Members.{In-append_cases, In-filter, In-flat_map, In-map}
 use Rattle.pj_pattern.specs.Patterns.{Pattern}
 use Rattle.pj_pattern.specs.declared.element.Element.{Element}
 use Rattle.pj_pattern.specs.declared.element.Element.TheVariants.{Tuple, Punct}
-use Rattle.pj_events.specs.declared.events.Out.{Out}
 use Rattle.pj_events.specs.declared.events.Out.TheVariants.{Tuple as RowOut}
 use Rattle.pj_events.specs.Join.{In, JoinData, PunctAt, Sweep, TupleAt, agree, arities, arity, candidates, combinations, inputs, is_held, joined, product, results, upto_from, widened}
 use Rattle.pj_events.specs.KeptState.{swept}
@@ -20,9 +19,9 @@ use Rattle.pj_laws.proofs.Operators.{widened-length}
 use Rattle.pj_laws.proofs.Whole.{group-hands-fit, project-fit, select-fit}
 use Rattle.pj_join.specs.Joins.{JoinView, found_of}
 use Rattle.pj_join.specs.Sweeping.{next_punct, puncts_up}
-use Rattle.pj_operator.specs.declared.cell.Handed.{Handed}
-use Rattle.pj_operator.specs.declared.cell.Work.TheVariants.{Union as UnionCell, Join as JoinCell, Group as GroupCell}
-use Rattle.pj_operator.specs.Cells.{AreWide, FitsInput, IsOrderly, IsOrderlyJoin, KeepsOpen, handed_list, width_of}
+use Rattle.pj_operator.specs.declared.operator.Emitted.{Emitted}
+use Rattle.pj_operator.specs.declared.operator.OperatorState.TheVariants.{Union as RunningUnion, Group as RunningGroup}
+use Rattle.pj_operator.specs.Operators.{AreWide, FitsInput, IsOrderly, IsOrderlyJoin, KeepsOpen, emitted_list, width_of}
 
 -- ---- one element
 
@@ -53,28 +52,28 @@ outs-rows (row ∷ rows) = ap (λ (es : List Element). Tuple row ∷ es) (outs-r
 
 -- ---- streams, selects, projects and groups
 
-pub none_wide : (up : Handed) (width : ℕ) → handed_list up ≡ [] → AreWide width (handed_list up)
+pub none_wide : (up : Emitted) (width : ℕ) → emitted_list up ≡ [] → AreWide width (emitted_list up)
 none_wide up width is = subst (AreWide width) (sym is) (λ x h. absurd h)
 
-pub select_wide : (test : List Pattern) (up : Handed) (e : Element) → handed_list up ≡ select_hands test e → AreWide (width_of e) (handed_list up)
+pub select_wide : (test : List Pattern) (up : Emitted) (e : Element) → emitted_list up ≡ select_hands test e → AreWide (width_of e) (emitted_list up)
 select_wide test up e is = subst (AreWide (width_of e)) (sym is) (fits-wide (select_hands test e) (width_of e) (λ x h. select-fit (width_of e) test e x (fits-own e) h))
 
-pub project_wide : (columns : List ℕ) (up : Handed) (e : Element) → handed_list up ≡ project_hands columns e → AreWide (length columns) (handed_list up)
+pub project_wide : (columns : List ℕ) (up : Emitted) (e : Element) → emitted_list up ≡ project_hands columns e → AreWide (length columns) (emitted_list up)
 project_wide columns up e is = subst (AreWide (length columns)) (sym is) (fits-wide (project_hands columns e) (length columns) (λ x h. project-fit columns e x h))
 
-pub group_wide : (group : GroupView) (up : Handed) (e : Element) → ((rows : List (List Value)) → HoldsGroup group rows → handed_list up ≡ group_hands group.spec rows e) → IsOrderly (GroupCell group)
-    → AreWide (length group.spec.keys + length group.spec.aggs) (handed_list up)
+pub group_wide : (group : GroupView) (up : Emitted) (e : Element) → ((rows : List (List Value)) → HoldsGroup group rows → emitted_list up ≡ group_hands group.spec rows e) → IsOrderly (RunningGroup group)
+    → AreWide (length group.spec.keys + length group.spec.aggs) (emitted_list up)
 group_wide group up e is o =
     subst (AreWide (length group.spec.keys + length group.spec.aggs)) (sym (is o.0 o.1))
     (fits-wide (group_hands group.spec o.0 e) (length group.spec.keys + length group.spec.aggs) (λ x h. group-hands-fit group.spec o.0 e x h))
 
-pub group_keeps : (old new : GroupView) (e : Element) → ((rows : List (List Value)) → HoldsGroup old rows → HoldsGroup new (group_after old.spec rows e)) → KeepsOpen (GroupCell old) (GroupCell new)
+pub group_keeps : (old new : GroupView) (e : Element) → ((rows : List (List Value)) → HoldsGroup old rows → HoldsGroup new (group_after old.spec rows e)) → KeepsOpen (RunningGroup old) (RunningGroup new)
 group_keeps old new e keeps o = ((group_after old.spec o.0 e, keeps o.0 o.1), λ t h. absurd h)
 
 -- ---- unions
 
 -- what waits with one more
-waiting-wide : (union : UnionView) (input : ℕ) (patterns : List Pattern) → length patterns ≡ union.arity → IsOrderly (UnionCell union)
+waiting-wide : (union : UnionView) (input : ℕ) (patterns : List Pattern) → length patterns ≡ union.arity → IsOrderly (RunningUnion union)
     → (q : Sent) → In q (union.state.waiting ++ record { input = input; patterns = patterns } ∷ []) → length q.patterns ≡ union.arity
 waiting-wide union input patterns l o q h = elim (In-append_cases q union.state.waiting (record { input = input; patterns = patterns } ∷ []) h) [
   | inl k ↦ o q k
@@ -85,8 +84,8 @@ waiting-wide union input patterns l o q h = elim (In-append_cases q union.state.
     last (inl e) = subst (λ (s : Sent). length s.patterns ≡ union.arity) e l
     last (inr e) = absurd e
 
-pub union_wide : (union : UnionView) (up : Handed) (input : ℕ) (e : Element) → handed_list up ≡ union_hands union.inputs union.state input e → width_of e ≡ union.arity → IsOrderly (UnionCell union)
-    → AreWide union.arity (handed_list up)
+pub union_wide : (union : UnionView) (up : Emitted) (input : ℕ) (e : Element) → emitted_list up ≡ union_hands union.inputs union.state input e → width_of e ≡ union.arity → IsOrderly (RunningUnion union)
+    → AreWide union.arity (emitted_list up)
 union_wide union up input e is l o = subst (AreWide union.arity) (sym is) (go e l)
   where
     go : (e : Element) → width_of e ≡ union.arity → AreWide union.arity (union_hands union.inputs union.state input e)
@@ -98,8 +97,8 @@ union_wide union up input e is l o = subst (AreWide union.arity) (sym is) (go e 
         let r = In-map (λ (p : Sent). Punct p.patterns) x (filter (all_sent_from 0 union.inputs came) all) h in
         subst (λ (y : Element). width_of y ≡ union.arity) r.2 (waiting-wide union input patterns l o r.0 (In-filter (all_sent_from 0 union.inputs came) r.0 all r.1).0)
 
-pub union_keeps : (old new : UnionView) (input : ℕ) (e : Element) → new ≡ record old { state = union_after old.inputs old.state input e } → width_of e ≡ old.arity → KeepsOpen (UnionCell old) (UnionCell new)
-union_keeps old new input e is l o = (subst (λ (u : UnionView). IsOrderly (UnionCell u)) (sym is) (go e l), λ t h. absurd h)
+pub union_keeps : (old new : UnionView) (input : ℕ) (e : Element) → new ≡ record old { state = union_after old.inputs old.state input e } → width_of e ≡ old.arity → KeepsOpen (RunningUnion old) (RunningUnion new)
+union_keeps old new input e is l o = (subst (λ (u : UnionView). IsOrderly (RunningUnion u)) (sym is) (go e l), λ t h. absurd h)
   where
     go : (e : Element) → width_of e ≡ old.arity → (p : Sent) → In p (union_after old.inputs old.state input e).waiting → length p.patterns ≡ old.arity
     go (Tuple row) l p h = o p h
@@ -114,7 +113,7 @@ union_keeps old new input e is l o = (subst (λ (u : UnionView). IsOrderly (Unio
 widened-wide : (spec : JoinData) (p : PunctAt) → FitsInput spec p.input (length p.patterns) → length (widened spec p) ≡ sum (arities spec)
 widened-wide spec p f = widened-length spec p f.0 f.1
 
-pub join_wide : (join : JoinView) (up : Handed) (input : ℕ) (e : Element) → handed_list up ≡ map Punct (puncts_up join (join_step input e)) → FitsInput join.spec input (width_of e) → AreWide (sum (arities join.spec)) (handed_list up)
+pub join_wide : (join : JoinView) (up : Emitted) (input : ℕ) (e : Element) → emitted_list up ≡ map Punct (puncts_up join (join_step input e)) → FitsInput join.spec input (width_of e) → AreWide (sum (arities join.spec)) (emitted_list up)
 join_wide join up input e is f = subst (AreWide (sum (arities join.spec))) (sym is) (puncts-wide (puncts_up join (join_step input e)) (sum (arities join.spec)) (go e f))
   where
     go : (e : Element) → FitsInput join.spec input (width_of e) → (p : List Pattern) → In p (puncts_up join (join_step input e)) → length p ≡ sum (arities join.spec)

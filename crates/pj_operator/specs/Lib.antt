@@ -1,5 +1,5 @@
-pub mod Cells
-pub mod Climbing
+pub mod Operators
+pub mod Emitting
 pub mod Acts
 pub mod Handed
 pub mod Looks

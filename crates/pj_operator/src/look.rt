@@ -1,9 +1,9 @@
 // Numbers of all nodes of a core.
 ghost use Rattle.std.specs.Prelude.{◌≡◌, ◌+◌, []};
-ghost use Rattle.pj_operator.specs.Cells.{kept_seen, pending_kept};
+ghost use Rattle.pj_operator.specs.Operators.{kept_seen, pending_kept};
 ghost use Rattle.pj_operator.specs.Looks.{AddsNode, AreAddable, AreFew, AreWith, opened_kept, waiting_kept};
 
-use crate::cell::{Cell, Work};
+use crate::operator::{OperatorState, RunningOperator};
 
 /// Sums over all nodes: of tickets that are pending, of those that are taken and not given, of tuples that are stored, and of
 /// punctuations that wait.
@@ -15,18 +15,14 @@ pub struct Sums {
     pub waiting: u64,
 }
 
-impl Work {
+impl OperatorState {
     // How many tickets are taken and not given.
     fn taken(&self) -> u64
         ensures { result + pending_kept (kept_seen self.now) ≡ opened_kept (kept_seen self.now) }
     {
-        match self {
-            Work::Stream => 0,
-            Work::Select(_test) => 0,
-            Work::Project(_columns) => 0,
-            Work::Union(_union) => 0,
-            Work::Join(join) => join.taken(),
-            Work::Group(_group) => 0,
+        match self.as_join() {
+            Some(join) => join.taken(),
+            None => 0,
         }
     }
 
@@ -34,21 +30,17 @@ impl Work {
     fn waiting(&self) -> u64
         ensures { result ≡ waiting_kept (kept_seen self.now) }
     {
-        match self {
-            Work::Stream => 0,
-            Work::Select(_test) => 0,
-            Work::Project(_columns) => 0,
-            Work::Union(_union) => 0,
-            Work::Join(join) => join.waiting(),
-            Work::Group(_group) => 0,
+        match self.as_join() {
+            Some(join) => join.waiting(),
+            None => 0,
         }
     }
 }
 
 /// The sums of these nodes.
-pub fn sums_of(cells: &[Cell]) -> Sums
-    requires { AreFew cells.now }
-    ensures { AreWith result [] cells.now }
+pub fn sums_of(operators: &[RunningOperator]) -> Sums
+    requires { AreFew operators.now }
+    ensures { AreWith result [] operators.now }
 {
     let mut sums = Sums {
         pending: 0,
@@ -56,23 +48,23 @@ pub fn sums_of(cells: &[Cell]) -> Sums
         stored: 0,
         waiting: 0,
     };
-    for cell in cells {
-        sums = sums.with(&cell.work);
+    for operator in operators {
+        sums = sums.with(&operator.state);
     }
     sums
 }
 
 impl Sums {
     // With one node more.
-    fn with(self, work: &Work) -> Sums
-        requires { AreAddable self work.now }
-        ensures { AddsNode self result work.now }
+    fn with(self, state: &OperatorState) -> Sums
+        requires { AreAddable self state.now }
+        ensures { AddsNode self result state.now }
     {
         Sums {
-            pending: self.pending + work.pending(),
-            taken: self.taken + work.taken(),
-            stored: self.stored + work.stored(),
-            waiting: self.waiting + work.waiting(),
+            pending: self.pending + state.pending(),
+            taken: self.taken + state.taken(),
+            stored: self.stored + state.stored(),
+            waiting: self.waiting + state.waiting(),
         }
     }
 }

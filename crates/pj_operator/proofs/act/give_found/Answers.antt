@@ -1,10 +1,10 @@
 use Rattle.pj_operator.proofs.Changes.{give_stop, may-gave}
 use Rattle.pj_operator.proofs.act.give_found.Goals as goal
 
-pub climb_rows-requires-clause-may : goal.climb_rows-requires-clause-may
-climb_rows-requires-clause-may c =
-    may-gave c.args.cells.now c.give_at.new.cells c.args.probe c.args.rows c.join-from.result c.requires.may c.give_at.ensures.frames c.give_at.ensures.orderly c.join-from.ensures
+pub emit_rows-requires-clause-may : goal.emit_rows-requires-clause-may
+emit_rows-requires-clause-may c =
+    may-gave c.args.operators.now c.give_at.new.operators c.args.probe c.args.rows c.join-from.result c.requires.may c.give_at.ensures.frames c.give_at.ensures.orderly c.join-from.ensures
 
 pub returns-in-Err-clause-err : goal.returns-in-Err-clause-err
 returns-in-Err-clause-err c =
-    give_stop c.args.cells.now c.give_at.new.cells c.args.probe c.args.rows c.join-from.result c.in-Err.stop c.give_at.ensures.gives c.join-from.ensures c.in-Err.ensures.err
+    give_stop c.args.operators.now c.give_at.new.operators c.args.probe c.args.rows c.join-from.result c.in-Err.stop c.give_at.ensures.gives c.join-from.ensures c.in-Err.ensures.err

@@ -1,16 +1,20 @@
 use Rattle.pj_core.specs.Calls.{arriving_of}
+use Rattle.pj_operator.proofs.Emits.{err_through}
 use Rattle.pj_core.proofs.TurnEnds.{makes-turn, turn-refused, turn-stopped}
 use Rattle.pj_core.proofs.running.Core.turn.Goals as goal
 
-pub returns-in-Ok-finish_turn-clause-ok : goal.returns-in-Ok-finish_turn-clause-ok
-returns-in-Ok-finish_turn-clause-ok c =
-    makes-turn c.args.self.now c.arrive.new.self c.finish_turn.new.self (arriving_of c.args.stream c.args.element) c.is_punct-sweeps.result c.in-Ok-finish_turn.outs c.is_punct-sweeps.ensures
-    c.in-Ok.ensures.ok c.in-Ok-finish_turn.ensures.ok
+pub returns-clause-ok : goal.returns-clause-ok
+returns-clause-ok c =
+    makes-turn c.args.self.now c.arrive.new.self c.finish_turn.new.self (arriving_of c.args.stream c.args.element) c.is_punct-sweeps.result c.in_ok-outs.outs c.is_punct-sweeps.ensures
+    c.in_ok-arrive.ensures.ok c.in_ok-outs.ensures.ok
 
-pub returns-in-Err-finish_turn-clause-err : goal.returns-in-Err-finish_turn-clause-err
-returns-in-Err-finish_turn-clause-err c =
-    turn-stopped c.args.self.now c.arrive.new.self c.finish_turn.new.self (arriving_of c.args.stream c.args.element) c.is_punct-sweeps.result c.in-Err-finish_turn.stop c.is_punct-sweeps.ensures
-    c.in-Ok.ensures.ok c.in-Err-finish_turn.ensures.err
+pub returns-in_err-outs-clause-err : goal.returns-in_err-outs-clause-err
+returns-in_err-outs-clause-err c =
+    err_through _ c.from_residual-in_err-outs.result c.in_err-outs.field-0.0 c.from_residual-in_err-outs.ensures.1
+    (turn-stopped c.args.self.now c.arrive.new.self c.finish_turn.new.self (arriving_of c.args.stream c.args.element) c.is_punct-sweeps.result c.in_err-outs.field-0.0 c.is_punct-sweeps.ensures
+    c.in_ok-arrive.ensures.ok c.in_err-outs.ensures.err)
 
-pub returns-in-Err-clause-err : goal.returns-in-Err-clause-err
-returns-in-Err-clause-err c = turn-refused c.args.self.now c.arrive.new.self (arriving_of c.args.stream c.args.element) c.in-Err.stop c.in-Err.ensures.err
+pub returns-in_err-arrive-clause-err : goal.returns-in_err-arrive-clause-err
+returns-in_err-arrive-clause-err c =
+    err_through _ c.from_residual.result c.in_err-arrive.field-0.0 c.from_residual.ensures.1
+    (turn-refused c.args.self.now c.arrive.new.self (arriving_of c.args.stream c.args.element) c.in_err-arrive.field-0.0 c.in_err-arrive.ensures.err)

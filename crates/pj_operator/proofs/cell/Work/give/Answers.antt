@@ -1,7 +1,0 @@
-use Rattle.std.proofs.Common.{subst}
-use Rattle.pj_operator.specs.Cells.{IsOrderly}
-use Rattle.pj_operator.proofs.Joins.{gave_orderly}
-use Rattle.pj_operator.proofs.cell.Work.give.Goals as goal
-
-pub returns-in-Join-clause-orderly : goal.returns-in-Join-clause-orderly
-returns-in-Join-clause-orderly c = λ o. gave_orderly c.in-Join.join c.give.new.self c.args.probe.ticket c.give.ensures.gives (subst IsOrderly c.in-Join.is o)
