@@ -1,8 +1,8 @@
 -- Rows that ask through those of other inputs, and the way back to them along a certificate.
-use Rattle.std.proofs.Common.{ℕ, zero, suc, ◌+◌, ◌-◌, ◌<◌, Bool, true, List, [], ◌∷◌, ◌++◌, ◌≡◌, Option, Some, None, IfOk, IfSome, Ok, Err, Result, take, length, get_or, refl, sym, ap, ◌∙◌, subst, inl, inr, ◌⊎◌, arith}
+use Rattle.std.proofs.Common.{ℕ, zero, suc, ◌+◌, ◌-◌, ◌<◌, ◌≤◌, Bool, true, List, [], ◌∷◌, ◌++◌, ◌≡◌, Option, Some, None, IfSome, drop, take, length, get_or, refl, sym, ap, ◌∙◌, subst, inl, inr, ◌⊎◌, arith}
 use Rattle.std.specs.Option.{option_map}
 use Rattle.std.specs.List.{slice_get}
-use Rattle.std.proofs.lemmas.List.{take_more}
+use Rattle.std.proofs.lemmas.List.{drop_all, take_more}
 use Rattle.std.proofs.lemmas.Option.{none-some, same_Some, slice_get-get_or, slice_get-map, slice_get_within, get_or_from_slice_get}
 use Rattle.pj_value.specs.declared.values.Value.{Value}
 use Rattle.pj_value.specs.Values.{value_eq}
@@ -16,10 +16,13 @@ use Rattle.pj_shape.specs.declared.joins.CertStep.{CertStep}
 use Rattle.pj_cover.specs.Asking.{IsAsked, entries}
 use Rattle.pj_events.specs.Join.{CertEntry, ClassCol, Demand, In, TupleAt, agree, entry_of, no_value, value_at}
 use Rattle.pj_join_laws.proofs.Matching.{agree-mono}
-use Rattle.pj_join.specs.declared.partners.Pair.{Pair}
+use Rattle.pj_join.specs.declared.routes.Hop.{Hop}
+use Rattle.pj_join.specs.declared.routes.Pair.{Pair}
+use Rattle.pj_join.specs.declared.routes.Way.{Way}
+use Rattle.pj_join.specs.Recheck.{HopsLead, IsHop, WayLeads}
 use Rattle.pj_join.specs.Sides.{IsWide, state_at, tuple_in}
-use Rattle.pj_join.specs.Watching.{AsksAlong, HavePartners, HopsBack, IsLink, LeadsBack, PathView, SideView, input_at, side_at}
-use Rattle.pj_join.proofs.Picked.{under-own}
+use Rattle.pj_join.specs.Watching.{AsksAlong, HavePartners, HopsBack, LeadsBack, PathView, asker, input_at}
+use Rattle.pj_join.proofs.Picked.{drop_one, under-own}
 use Rattle.pj_join.proofs.Wanted.{all-in}
 
 -- ---- partners
@@ -127,15 +130,15 @@ along-joins path x rows asks (suc at) (suc before) y z along lt ey ez = asked-bo
 
 -- ---- one hop back
 
-hop_back : (path : PathView) (at before : ℕ) (pair : Pair) (input other : ℕ) (tickets found : List ℕ) → IsLink path at before pair → input_at path before ≡ Some input → input_at path at ≡ Some other
-    → HavePartners (state_at path.states input).rows (state_at path.states other).rows pair tickets found → HopsBack path at before tickets found
-hop_back path at before pair input other tickets found link is-input is-other are x rows asks along y z ey ez h =
+hop_back : (path : PathView) (at before : ℕ) (hop : Hop) (tickets found : List ℕ) → IsHop (asker path) at before hop
+    → HavePartners (state_at path.states hop.input).rows (state_at path.states hop.other).rows hop.pair tickets found → HopsBack path at before tickets found
+hop_back path at before hop tickets found is are x rows asks along y z ey ez h =
     subst (λ n. In n found) (ap (λ (u : TupleAt). u.ticket) stored-z.2)
     (are stored-z.0 stored-y.0
     (subst (λ n. In stored-z.0 (state_at path.states n).rows) own-z stored-z.1)
     (subst (λ n. In stored-y.0 (state_at path.states n).rows) own-y stored-y.1)
     (subst (λ n. In n tickets) (sym (ap (λ (u : TupleAt). u.ticket) stored-y.2)) h)
-    (ap (λ (u : TupleAt). value_at u.row pair.mine) stored-z.2 ∙ same ∙ sym (ap (λ (u : TupleAt). value_at u.row pair.theirs) stored-y.2)))
+    (ap (λ (u : TupleAt). value_at u.row hop.pair.mine) stored-z.2 ∙ same ∙ sym (ap (λ (u : TupleAt). value_at u.row hop.pair.theirs) stored-y.2)))
   where
     stored-y : (t : Stored) × In t (state_at path.states y.input).rows × (tuple_in y.input t ≡ y)
     stored-y = along.stored y (in_at (x ∷ rows) at y ey)
@@ -143,45 +146,54 @@ hop_back path at before pair input other tickets found link is-input is-other ar
     stored-z : (s : Stored) × In s (state_at path.states z.input).rows × (tuple_in z.input s ≡ z)
     stored-z = along.stored z (in_at (x ∷ rows) before z ez)
 
-    own-y : y.input ≡ other
-    own-y = same_Some y.input other (sym (along-input path x rows asks at y along ey) ∙ is-other)
+    own-y : y.input ≡ hop.other
+    own-y = same_Some y.input hop.other (sym (along-input path x rows asks at y along ey) ∙ is.is_other)
 
-    own-z : z.input ≡ input
-    own-z = same_Some z.input input (sym (along-input path x rows asks before z along ez) ∙ is-input)
+    own-z : z.input ≡ hop.input
+    own-z = same_Some z.input hop.input (sym (along-input path x rows asks before z along ez) ∙ is.is_input)
 
-    same : value_at z.row pair.mine ≡ value_at y.row pair.theirs
-    same = link.joins.1 z y (own-z ∙ same_Some input link.input (sym is-input ∙ link.is_input)) (own-y ∙ same_Some other link.other (sym is-other ∙ link.is_other)) (along-joins path x rows asks at before y z along link.earlier ey ez)
-
-pub hop_found : {E : Type 0} (r : Result (Option (List ℕ)) E) (path : PathView) (at before : ℕ) (pair : Pair) (tickets : List ℕ) (side others : SideView) (mine theirs : StateView)
-    → IsLink path at before pair → input_at path before ≡ Some side.input → side ≡ side_at path.states side.input → input_at path at ≡ Some others.input → others ≡ side_at path.states others.input → mine ≡ side.state → theirs ≡ others.state
-    → IfOk r (λ found. IfSome found (HavePartners mine.rows theirs.rows pair tickets)) → IfOk r (λ found. IfSome found (HopsBack path at before tickets))
-hop_found (Ok (Some found)) path at before pair tickets side others mine theirs link is-input is-side is-other is-others own next are =
-    hop_back path at before pair side.input others.input tickets found link is-input is-other
-    (subst (λ (s : StateView). HavePartners s.rows (state_at path.states others.input).rows pair tickets found) (own ∙ ap (λ (s : SideView). s.state) is-side)
-    (subst (λ (s : StateView). HavePartners mine.rows s.rows pair tickets found) (next ∙ ap (λ (s : SideView). s.state) is-others) are))
-hop_found (Ok None) path at before pair tickets side others mine theirs link is-input is-side is-other is-others own next are = tt
-hop_found (Err stop) path at before pair tickets side others mine theirs link is-input is-side is-other is-others own next are = tt
+    same : value_at z.row hop.pair.mine ≡ value_at y.row hop.pair.theirs
+    same = is.joins z y own-z own-y (along-joins path x rows asks at before y z along is.earlier ey ez)
 
 -- ---- all the way back
 
--- what leads back from one position to the first leads back from another
-abbrev pub GoesOn : PathView → ℕ → List ℕ → ℕ → List ℕ → Type 0
-GoesOn path first tickets at found = (list : List ℕ) → LeadsBack path at found list → LeadsBack path first tickets list
+-- one step, and those from there
+leads_over : (path : PathView) (at before : ℕ) (tickets next found : List ℕ) → before < at → HopsBack path at before tickets next → LeadsBack path before next found → LeadsBack path at tickets found
+leads_over path at before tickets next found lt hops leads x rows asks along y ey h =
+    let there : before < length (x ∷ rows) = omega (arith, lt, slice_get_within (x ∷ rows) at y ey) in
+    let ez : slice_get (x ∷ rows) before ≡ Some (get_or (x ∷ rows) before x) = slice_get-get_or (x ∷ rows) before x there in
+    leads x rows asks along (get_or (x ∷ rows) before x) ez (hops x rows asks along y (get_or (x ∷ rows) before x) ey ez h)
 
-pub goes_next : (path : PathView) (first : ℕ) (tickets : List ℕ) (at before : ℕ) (found lent next : List ℕ) (told : Option (List ℕ)) → before < at → lent ≡ found → told ≡ Some next → IfSome told (HopsBack path at before lent) → GoesOn path first tickets at found → GoesOn path first tickets before next
-goes_next path first tickets at before found lent next told lt same is hopped on list leads = on list back
-  where
-    hops : HopsBack path at before found next
-    hops = subst (λ (ns : List ℕ). HopsBack path at before ns next) same (subst (λ (o : Option (List ℕ)). IfSome o (HopsBack path at before lent)) is hopped)
+pub hop_leads : (states : List StateView) (hop : Hop) (hops : List Hop) (tickets next found : List ℕ) → HavePartners (state_at states hop.input).rows (state_at states hop.other).rows hop.pair tickets next → HopsLead states hops next found
+    → HopsLead states (hop ∷ hops) tickets found
+hop_leads states hop hops tickets next found are leads path at same (before, is, rest) =
+    leads_over path at before tickets next found is.earlier
+    (hop_back path at before hop tickets next is (subst (λ (ss : List StateView). HavePartners (state_at ss hop.input).rows (state_at ss hop.other).rows hop.pair tickets next) (sym same) are))
+    (leads path before same rest)
 
-    back : LeadsBack path at found list
-    back x rows asks along y ey h =
-        let there : before < length (x ∷ rows) = omega (arith, lt, slice_get_within (x ∷ rows) at y ey) in
-        let ez : slice_get (x ∷ rows) before ≡ Some (get_or (x ∷ rows) before x) = slice_get-get_or (x ∷ rows) before x there in
-        leads x rows asks along (get_or (x ∷ rows) before x) ez (hops x rows asks along y (get_or (x ∷ rows) before x) ey ez h)
+-- what leads on from these steps leads back from all
+abbrev pub HopsGoOn : List StateView → List Hop → List ℕ → List Hop → List ℕ → Type 0
+HopsGoOn states all tickets hops found = (list : List ℕ) → HopsLead states hops found list → HopsLead states all tickets list
 
--- one hop, and the way from there
-pub leads_over : (path : PathView) (at before : ℕ) (tickets next : List ℕ) (told found : Option (List ℕ)) → before < at → told ≡ Some next → IfSome told (HopsBack path at before tickets) → IfSome found (LeadsBack path before next)
-    → IfSome found (LeadsBack path at tickets)
-leads_over path at before tickets next told None lt is hopped leads = tt
-leads_over path at before tickets next told (Some list) lt is hopped leads = goes_next path at tickets at before tickets tickets next told lt refl is hopped (λ l back. back) list leads
+pub hops_next : (states : List StateView) (all : List Hop) (tickets : List ℕ) (i : ℕ) (d : Hop) (found lent next : List ℕ) (told : Option (List ℕ)) → i < length all → lent ≡ found → told ≡ Some next
+    → IfSome told (HavePartners (state_at states (get_or all i d).input).rows (state_at states (get_or all i d).other).rows (get_or all i d).pair lent) → HopsGoOn states all tickets (drop i all) found → HopsGoOn states all tickets (drop (i + 1) all) next
+hops_next states all tickets i d found lent next told lt same some are on list leads =
+    on list
+    (subst (λ (hs : List Hop). HopsLead states hs found list) (sym (drop_one all i (get_or all i d) (slice_get-get_or all i d lt)))
+    (hop_leads states (get_or all i d) (drop (i + 1) all) found next list
+    (subst (λ (ns : List ℕ). HavePartners (state_at states (get_or all i d).input).rows (state_at states (get_or all i d).other).rows (get_or all i d).pair ns next) same
+    (subst (λ (o : Option (List ℕ)). IfSome o (HavePartners (state_at states (get_or all i d).input).rows (state_at states (get_or all i d).other).rows (get_or all i d).pair lent)) some are)) leads))
+
+-- where no step is left, the rows are the own ones
+none_lead : (states : List StateView) (found : List ℕ) → HopsLead states [] found found
+none_lead states found path at same zero-at x rows asks along y ey h =
+    subst (λ (z : TupleAt). In z.ticket found) (sym (same_Some x y (subst (λ k. slice_get (x ∷ rows) k ≡ Some y) zero-at ey))) h
+
+pub hops_end : (states : List StateView) (all : List Hop) (tickets : List ℕ) (i : ℕ) (found : List ℕ) → length all ≤ i → HopsGoOn states all tickets (drop i all) found → HopsLead states all tickets found
+hops_end states all tickets i found le on = on found (subst (λ (hs : List Hop). HopsLead states hs found found) (sym (drop_all i all le)) (none_lead states found))
+
+pub way_leads : (states : List StateView) (way : Way) (tickets next : List ℕ) (told found : Option (List ℕ)) → told ≡ Some next
+    → IfSome told (HavePartners (state_at states way.first.input).rows (state_at states way.first.other).rows way.first.pair tickets) → IfSome found (HopsLead states way.rest next) → IfSome found (WayLeads states way tickets)
+way_leads states way tickets next told None some are leads = tt
+way_leads states way tickets next told (Some list) some are leads =
+    hop_leads states way.first way.rest tickets next list (subst (λ (o : Option (List ℕ)). IfSome o (HavePartners (state_at states way.first.input).rows (state_at states way.first.other).rows way.first.pair tickets)) some are) leads

@@ -325,7 +325,7 @@ all_stay s w by (inr none) p h = (go (eqb p.input s.input) refl, held)
     go true e = let t = held (eqb-true p.input s.input e) in stays_where s.state.now.rows s.gone.now s.input p (found_held s.state.now.rows s.gone.now p.patterns t.0 t.1)
     go false e = ap (λ b. b && not (still_held s.state.now.rows s.gone.now p.patterns)) e
 
-filter-none : {A : Type 0} (q : A → Bool) (xs : List A) → ((x : A) → In x xs → q x ≡ false) → filter q xs ≡ []
+pub filter-none : {A : Type 0} (q : A → Bool) (xs : List A) → ((x : A) → In x xs → q x ≡ false) → filter q xs ≡ []
 filter-none q [] f = refl
 filter-none q (x ∷ xs) f = ap (λ b. cond b (x ∷ filter q xs) (filter q xs)) (f x (inl refl)) ∙ filter-none q xs (λ y h. f y (inr h))
 

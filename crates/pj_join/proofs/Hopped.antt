@@ -34,7 +34,7 @@ use Rattle.pj_join.proofs.Calling.{same-at}
 use Rattle.pj_join.proofs.Finding.{as-upto, map-map_upto, narrowed-finds}
 use Rattle.pj_join.proofs.Kept.{tuples-length}
 use Rattle.pj_join.proofs.Looped.{narrowed_choice, picked_stop, side_at, sides-length}
-use Rattle.pj_join.proofs.Wanted.{all_hold}
+use Rattle.pj_join.proofs.Wanted.{all-in, all_hold}
 use Rattle.pj_join.proofs.Picked.{above-in, flat-more, rising-append, rising-filter, rising-same, under-in, under-own}
 use Rattle.pj_cover.specs.Rising.{ticket_in}
 
@@ -129,11 +129,6 @@ tickets_more rows mine theirs others at d r old new lt is have more q h s k e =
       | inl a ↦ more.before s.ticket (have q a s k e)
       | inr b ↦ elim b [ inl same ↦ more.more s k (e ∙ ap (λ (z : ℕ × List Value). value_at z.1 theirs) (sym same)) | inr n ↦ absurd n ]
     ]
-
-all-in : (P : ℕ → Type 0) (cs : List ℕ) → ((k d : ℕ) → k < length cs → P (get_or cs k d)) → (c : ℕ) → In c cs → P c
-all-in P [] all c h = absurd h
-all-in P (d ∷ cs) all c (inl e) = subst P e (all 0 d (omega arith))
-all-in P (d ∷ cs) all c (inr h) = all-in P cs (λ k e lt. all (suc k) e (omega (arith, lt))) c h
 
 pub more_with : (state : StateView) (mine theirs : ℕ) (row : List Value) (value : Value) (old more new : List ℕ) → IsWide state → In mine state.columns → slice_get row theirs ≡ Some value → more ≡ tickets_of (rows_with mine value state.rows) → new ≡ old ++ more
     → AreMore state.rows mine (value_at row theirs) old new

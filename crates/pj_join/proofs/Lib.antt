@@ -39,3 +39,5 @@ pub mod Spared
 pub mod Ranged
 pub mod Listed
 pub mod Paths
+pub mod Rechecked
+pub mod Compiled

@@ -3,20 +3,18 @@ use Rattle.std.proofs.Common.{ℕ, zero, suc, ◌+◌, ◌<◌, ◌≤◌, Bool,
 use Rattle.std.specs.List.{slice_get}
 use Rattle.std.specs.Option.{option_map}
 use Rattle.std.proofs.lemmas.Bool.{eq-eqb, eqb-true, false_from_ne_true, false≢true}
-use Rattle.std.proofs.lemmas.List.{length-map}
 use Rattle.std.proofs.lemmas.Option.{get_or_from_slice_get}
 use Rattle.pj_value.specs.declared.values.Value.{Value}
 use Rattle.pj_value.proofs.Members.{any_from}
 use Rattle.pj_state.specs.declared.shared.Stored.{Stored}
 use Rattle.pj_state.specs.States.{StateView, has_value, rows_with, tickets_of}
-use Rattle.pj_cover.specs.Asking.{IsAsked, entries}
-use Rattle.pj_cover.proofs.Searching.{in_here, map_here}
+use Rattle.pj_cover.specs.Asking.{IsAsked}
+use Rattle.pj_cover.proofs.Searching.{in_here}
 use Rattle.pj_events.specs.Patterns.{Pattern, covers}
-use Rattle.pj_events.specs.Join.{CertEntry, CertStep, ClassCol, Demand, In, JoinData, TupleAt, covered, demand, entry_of, instance_from}
+use Rattle.pj_events.specs.Join.{CertEntry, ClassCol, Demand, In, JoinData, TupleAt, cert_of, covered, demand, instance_from}
 use Rattle.pj_join.specs.Sides.{AreWide, IsWide, no_state, state_at, tuple_in}
 use Rattle.pj_join.specs.Ranges.{HoldTrue}
-use Rattle.pj_join.specs.Watching.{AreLeftAt, AreLeftBy, AreStored, AsksAlong, CoverageView, FindCovered, IsFewer, IsKey, IsLeftBy, IsOfEntry, IsUnmet, LeadsBack, Limits, PathView, PunctView, SideView, Tells, Watches, come_at, has_match, input_at, is_met, is_wild_elsewhere, side_at}
-use Rattle.pj_join.proofs.Calling.{same-at}
+use Rattle.pj_join.specs.Watching.{AreLeftAt, AreStored, AsksAlong, CoverageView, FindCovered, IsFewer, IsKey, IsLeftBy, IsOfEntry, IsUnmet, LeadsBack, Limits, PathView, PunctView, SideView, Tells, Watches, come_at, has_match, input_at, is_met, is_wild_elsewhere, side_at}
 use Rattle.pj_join.proofs.Elsewhere.{elsewhere_uncovered}
 use Rattle.pj_join.proofs.Ranged.{held_by}
 use Rattle.pj_join.proofs.Through.{tells-joined}
@@ -143,40 +141,19 @@ found-back path entry c at side p tickets found of le here own held differs lead
 wide-side : (path : PathView) (side : SideView) → AreWide path.states → side ≡ side_at path.states side.input → IsWide side.state
 wide-side path side wide own = subst (λ (s : StateView). IsWide s) (ap (λ (d : SideView). d.state) (sym own)) (wide-there path.states side.input wide)
 
-found_by_key : (path : PathView) (entry : ℕ) (c : CoverageView) (at : ℕ) (side : SideView) (column : ℕ) (v : Value) (tickets found : List ℕ)
+pub found_by_key : (path : PathView) (entry : ℕ) (c : CoverageView) (at : ℕ) (side : SideView) (column : ℕ) (v : Value) (tickets found : List ℕ)
     → AreWide path.states → IsOfEntry path entry c → at ≤ entry → input_at path at ≡ Some side.input → side ≡ side_at path.states side.input → IsKey side c column v → tickets ≡ tickets_of (rows_with column v side.state.rows)
     → LeadsBack path at tickets found → FindCovered path entry c found
 found_by_key path entry c at side column v tickets found wide of le here own key are leads =
     found-back path entry c at side (has_value column v) tickets found of le here own (held_by (has_value column v) side.state.rows tickets are)
     (λ t h e xs tells. key.1 (tuple_in side.input t) xs tells refl (all-in (λ k. k < length t.row) side.state.columns (wide-side path side wide own t h) column key.0) e) leads
 
-found_by_limit : (path : PathView) (entry : ℕ) (c : CoverageView) (at : ℕ) (side : SideView) (column : ℕ) (q : Pattern) (tickets found : List ℕ)
+pub found_by_limit : (path : PathView) (entry : ℕ) (c : CoverageView) (at : ℕ) (side : SideView) (column : ℕ) (q : Pattern) (tickets found : List ℕ)
     → AreWide path.states → IsOfEntry path entry c → at ≤ entry → input_at path at ≡ Some side.input → side ≡ side_at path.states side.input → In column side.state.columns → Limits side c column q → HoldTrue (has_match column q) side.state.rows tickets
     → LeadsBack path at tickets found → FindCovered path entry c found
 found_by_limit path entry c at side column q tickets found wide of le here own indexed limits held leads =
     found-back path entry c at side (has_match column q) tickets found of le here own held
     (λ t h e xs tells. limits (tuple_in side.input t) xs tells refl (all-in (λ k. k < length t.row) side.state.columns (wide-side path side wide own t h) column indexed) e) leads
-
--- the same where they may not be found
-pub may_be_by_key : (path : PathView) (entry : ℕ) (c : CoverageView) (at : ℕ) (side : SideView) (column : ℕ) (v : Value) (tickets : List ℕ) (found : Option (List ℕ))
-    → AreWide path.states → IsOfEntry path entry c → at ≤ entry → input_at path at ≡ Some side.input → side ≡ side_at path.states side.input → IsKey side c column v → tickets ≡ tickets_of (rows_with column v side.state.rows)
-    → IfSome found (LeadsBack path at tickets) → IfSome found (FindCovered path entry c)
-may_be_by_key path entry c at side column v tickets None wide of le here own key are leads = tt
-may_be_by_key path entry c at side column v tickets (Some found) wide of le here own key are leads = found_by_key path entry c at side column v tickets found wide of le here own key are leads
-
--- those of the own position are the rows that ask
-pub found_by_own : (path : PathView) (entry : ℕ) (c : CoverageView) (side : SideView) (column : ℕ) (v : Value) (tickets : List ℕ)
-    → AreWide path.states → IsOfEntry path entry c → input_at path 0 ≡ Some side.input → side ≡ side_at path.states side.input → IsKey side c column v → tickets ≡ tickets_of (rows_with column v side.state.rows) → FindCovered path entry c tickets
-found_by_own path entry c side column v tickets wide of here own key are = found_by_key path entry c 0 side column v tickets tickets wide of (omega arith) here own key are (λ x rows asks along y at h. subst (λ (z : TupleAt). In z.ticket tickets) (same at) h)
-  where
-    same : {x y : TupleAt} → Some x ≡ Some y → y ≡ x
-    same e = cc
-
-pub may_be_by_limit : (path : PathView) (entry : ℕ) (c : CoverageView) (at : ℕ) (side : SideView) (column : ℕ) (q : Pattern) (tickets : List ℕ) (found : Option (List ℕ))
-    → AreWide path.states → IsOfEntry path entry c → at ≤ entry → input_at path at ≡ Some side.input → side ≡ side_at path.states side.input → In column side.state.columns → Limits side c column q → HoldTrue (has_match column q) side.state.rows tickets
-    → IfSome found (LeadsBack path at tickets) → IfSome found (FindCovered path entry c)
-may_be_by_limit path entry c at side column q tickets None wide of le here own indexed limits held leads = tt
-may_be_by_limit path entry c at side column q tickets (Some found) wide of le here own indexed limits held leads = found_by_limit path entry c at side column q tickets found wide of le here own indexed limits held leads
 
 -- ---- what is left
 
@@ -186,81 +163,43 @@ unmet_elsewhere path entry c w of none x rows asks along count passed =
     let all = along-of path x rows asks (record { input = c.input; marks = c.marks }) (ap (λ n. slice_get path.cert n) count ∙ of.entry_is) along.asked in
     ap (λ (d : Demand). covers c.patterns d.instance) (sym all.1) ∙ elsewhere_uncovered path.classes c.input 0 c.marks c.patterns all.0 none
 
-unmet-marked : (path : PathView) (entry : ℕ) (c : CoverageView) (old new : Watches) (found : List ℕ) → FindCovered path entry c found → new.from ≡ old.from → new.marked ≡ old.marked ++ found → IsUnmet path entry c new
-unmet-marked path entry c old new found finds from marked x rows asks along count passed =
+pub unmet_marked : (path : PathView) (entry : ℕ) (c : CoverageView) (old new : Watches) (found : List ℕ) → FindCovered path entry c found → new.from ≡ old.from → new.marked ≡ old.marked ++ found → IsUnmet path entry c new
+unmet_marked path entry c old new found finds from marked x rows asks along count passed =
     false_from_ne_true (covers c.patterns asks.instance) (λ t. false≢true (sym (passed_more old new found from marked x.ticket passed).1
     ∙ any_from (λ m. eqb m x.ticket) found x.ticket (finds x rows asks along count t) (eq-eqb x.ticket x.ticket refl)))
-
-pub unmet_found : {E V : Type 0} (r : Result V E) (path : PathView) (entry : ℕ) (c : CoverageView) (old new : Watches) (found : List ℕ)
-    → FindCovered path entry c found → new.from ≡ old.from → OnOk r (new.marked ≡ old.marked ++ found) → OnOk r (IsUnmet path entry c new)
-unmet_found (Ok done) path entry c old new found finds from marked = unmet-marked path entry c old new found finds from marked
-unmet_found (Err stop) path entry c old new found finds from marked = tt
 
 -- what is asked for is of the entry's input
 asks-input : (path : PathView) (x : TupleAt) (rows : List TupleAt) (asks : Demand) (e : CertEntry) → slice_get path.cert (length rows) ≡ Some e → AsksAlong path x rows asks → asks.input ≡ e.input
 asks-input path x rows asks e at along = let all = along-of path x rows asks e at along.asked in ap (λ (d : Demand). d.input) (sym all.1)
 
-pub left_other : (path : PathView) (schemes : List (List (List Bool))) (cert : List CertStep) (entry : ℕ) (step : CertStep) (c : PunctView) (w : Watches)
-    → path.cert ≡ entries schemes cert → slice_get cert entry ≡ Some step → (step.input ≡ c.input → ⊥) → IsLeftBy path entry c w
-left_other path schemes cert entry step c w is at ne ticket x rows asks along count passed =
-    let here : slice_get path.cert (length rows) ≡ Some (entry_of schemes step) = ap₂ (λ (cs : List CertEntry) n. slice_get cs n) is count ∙ map_here (entry_of schemes) cert entry step at in
-    let input : asks.input ≡ step.input = asks-input path x rows asks (entry_of schemes step) here along in
-    ap (λ b. (b && covers c.patterns asks.instance) || false) (false_from_ne_true (eqb c.input asks.input) (λ e. ne (sym input ∙ sym (eqb-true c.input asks.input e))))
+pub left_other : (path : PathView) (entry : ℕ) (e : CertEntry) (c : PunctView) (w : Watches) → slice_get path.cert entry ≡ Some e → (e.input ≡ c.input → ⊥) → IsLeftBy path entry c w
+left_other path entry e c w at ne ticket x rows asks along count passed =
+    let here : slice_get path.cert (length rows) ≡ Some e = ap (slice_get path.cert) count ∙ at in
+    let input : asks.input ≡ e.input = asks-input path x rows asks e here along in
+    ap (λ b. (b && covers c.patterns asks.instance) || false) (false_from_ne_true (eqb c.input asks.input) (λ t. ne (sym input ∙ sym (eqb-true c.input asks.input t))))
 
--- the coverage of an entry's scheme is of the entry
-pub of_entry : (path : PathView) (schemes : List (List (List Bool))) (cert : List CertStep) (entry : ℕ) (step : CertStep) (c : CoverageView)
-    → path.cert ≡ entries schemes cert → slice_get cert entry ≡ Some step → c.classes ≡ path.classes → step.input ≡ c.input → c.marks ≡ (entry_of schemes step).marks → IsOfEntry path entry c
-of_entry path schemes cert entry step c is at classes input marks = record {
-  classes = classes;
-  entry_is =
-      ap (λ (cs : List CertEntry). slice_get cs entry) is ∙ map_here (entry_of schemes) cert entry step at
-      ∙ ap Some (ap₂ (λ n (ms : List Bool). record { input = n; marks = ms }) input (sym marks));
-}
-
-left-unmet : (path : PathView) (entry : ℕ) (c : CoverageView) (p : PunctView) (w : Watches) → c.patterns ≡ p.patterns → IsUnmet path entry c w → IsLeftBy path entry p w
-left-unmet path entry c p w same unmet ticket x rows asks along count passed =
+pub left_unmet : (path : PathView) (entry : ℕ) (c : CoverageView) (p : PunctView) (w : Watches) → c.patterns ≡ p.patterns → IsUnmet path entry c w → IsLeftBy path entry p w
+left_unmet path entry c p w same unmet ticket x rows asks along count passed =
     go (eqb p.input asks.input) (covers p.patterns asks.instance) (ap (λ (ps : List Pattern). covers ps asks.instance) (sym same) ∙ unmet x rows asks along count passed)
   where
     go : (a b : Bool) → b ≡ false → ((a && b) || false) ≡ false
     go true b e = ap (λ d. d || false) e
     go false b e = refl
 
-pub left_unmet : {E V : Type 0} (r : Result V E) (path : PathView) (entry : ℕ) (c : CoverageView) (p : PunctView) (w : Watches) → c.patterns ≡ p.patterns → OnOk r (IsUnmet path entry c w) → OnOk r (IsLeftBy path entry p w)
-left_unmet (Ok done) path entry c p w same unmet = left-unmet path entry c p w same unmet
-left_unmet (Err stop) path entry c p w same unmet = tt
-
 -- ---- all entries
 
--- with one entry more
-pub left_more : (path : PathView) (entry : ℕ) (c : PunctView) (old new : Watches) → IsFewer old new → AreLeftBy path entry c old → IsLeftBy path entry c new → AreLeftBy path (entry + 1) c new
-left_more path entry c old new fewer all one k lt ticket x rows asks along count passed = go (eqb k entry) refl
+pub left_at : (spec : JoinData) (states : List StateView) (c : PunctView) (w : Watches) (input : ℕ)
+    → ((entry : ℕ) (e : CertEntry) → entry < length (cert_of spec input) → slice_get (cert_of spec input) entry ≡ Some e → IsLeftBy (record { classes = spec.shape.classes; cert = cert_of spec input; input = input; states = states }) entry c w)
+    → AreLeftAt spec states c w input
+left_at spec states c w input all ticket s h passed rows asks stored asked =
+    all (length rows) entry.0 lt entry.1 ticket (tuple_in input s) rows asks (record { own = refl; stored = there; asked = asked }) refl passed
   where
-    go : (b : Bool) → eqb k entry ≡ b → covered (come_at c ticket ∷ []) asks ≡ false
-    go true e = one ticket x rows asks along (count ∙ eqb-true k entry e) passed
-    go false e = all k (omega (arith, lt, differ)) ticket x rows asks along count (fewer.passed x.ticket passed)
-      where
-        differ : k ≡ entry → ⊥
-        differ q = false≢true (sym e ∙ eq-eqb k entry q)
+    lt : length rows < length (cert_of spec input)
+    lt = short-of spec.shape.classes (cert_of spec input) rows (tuple_in input s ∷ []) asks asked
 
--- with all of them
-pub all_left : (path : PathView) (schemes : List (List (List Bool))) (cert : List CertStep) (entry end : ℕ) (c : PunctView) (w : Watches)
-    → path.cert ≡ entries schemes cert → end ≡ length cert → end ≤ entry → AreLeftBy path entry c w → AreLeftBy path (length path.cert) c w
-all_left path schemes cert entry end c w is count le all k lt =
-    let whole : length path.cert ≡ length cert = ap (λ (cs : List CertEntry). length cs) is ∙ length-map cert (entry_of schemes) in all k (omega (arith, lt, whole, count, le))
+    entry : (e : CertEntry) × (slice_get (cert_of spec input) (length rows) ≡ Some e)
+    entry = at-place-there (cert_of spec input) (length rows) lt
 
-left-at : (join : JoinData) (states : List StateView) (c : PunctView) (w : Watches) (at : ℕ) (cert : List CertStep) → at < length join.certs → cert ≡ get_or join.certs at cert
-    → AreLeftBy (record { classes = join.shape.classes; cert = entries join.schemes cert; input = at; states = states }) (length (entries join.schemes cert)) c w → AreLeftAt join states c w at
-left-at join states c w at cert lt is all ticket s h passed rows asks stored asked =
-    all (length rows) (short-of join.shape.classes (entries join.schemes cert) rows (tuple_in at s ∷ []) asks own) ticket (tuple_in at s) rows asks (record { own = refl; stored = there; asked = own }) refl passed
-  where
-    own : IsAsked join.shape.classes (entries join.schemes cert) rows (tuple_in at s ∷ []) asks
-    own = subst (λ (steps : List CertStep). IsAsked join.shape.classes (entries join.schemes steps) rows (tuple_in at s ∷ []) asks) (sym (is ∙ same-at join.certs at cert [] lt)) asked
-
-    there : AreStored states (tuple_in at s ∷ rows)
+    there : AreStored states (tuple_in input s ∷ rows)
     there y (inl e) = subst (λ (z : TupleAt). (t : Stored) × In t (state_at states z.input).rows × (tuple_in z.input t ≡ z)) e (s, h, refl)
     there y (inr k) = stored y k
-
-pub left_at : {E V : Type 0} (r : Result V E) (join : JoinData) (states : List StateView) (c : PunctView) (w : Watches) (at : ℕ) (cert : List CertStep) (path : PathView) → at < length join.certs → cert ≡ get_or join.certs at cert
-    → path ≡ record { classes = join.shape.classes; cert = entries join.schemes cert; input = at; states = states } → OnOk r (AreLeftBy path (length path.cert) c w) → OnOk r (AreLeftAt join states c w at)
-left_at (Ok done) join states c w at cert path lt is path-is all = left-at join states c w at cert lt is (subst (λ (p : PathView). AreLeftBy p (length p.cert) c w) path-is all)
-left_at (Err stop) join states c w at cert path lt is path-is all = tt

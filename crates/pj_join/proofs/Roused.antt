@@ -10,7 +10,7 @@ use Rattle.pj_shape.specs.declared.joins.CertStep.{CertStep}
 use Rattle.pj_cover.specs.Asking.{IsAsked, entries}
 use Rattle.pj_events.specs.Join.{CertEntry, ClassCol, Demand, In, JoinData, TupleAt, agree, cert_of, value_at}
 use Rattle.pj_join_laws.proofs.Matching.{agree-at, value-in}
-use Rattle.pj_join.specs.declared.partners.Pair.{Pair}
+use Rattle.pj_join.specs.declared.routes.Pair.{Pair}
 use Rattle.pj_join.specs.Sides.{state_at, tuple_in}
 use Rattle.pj_join.specs.Watching.{AreAside, AreMarked, AreStored, IsPair, IsRousedAt, PathView, SideView, Watches, first_column, input_at, is_passed}
 use Rattle.pj_join.proofs.Through.{first-in_class}
@@ -24,36 +24,16 @@ marked_now old new tickets from marked t h =
 
 -- ---- columns of two inputs in a class
 
-pair_is : (classes : List (List ClassCol)) (class : List ClassCol) (side : SideView) (other : ℕ) (pair : Pair) → In class classes → first_column class side.input ≡ Some pair.mine → first_column class other ≡ Some pair.theirs → In pair.mine side.state.columns → IsPair classes side other pair
-pair_is classes class side other pair there own next indexed = (indexed, same)
-  where
-    same : (x y : TupleAt) → x.input ≡ side.input → y.input ≡ other → agree classes (y ∷ x ∷ []) ≡ true → value_at x.row pair.mine ≡ value_at y.row pair.theirs
-    same x y ex ey t =
-        agree-at classes (y ∷ x ∷ []) class (value_at x.row pair.mine) (value_at y.row pair.theirs) t there
-        (value-in (y ∷ x ∷ []) class x (record { input = side.input; column = pair.mine }) (inr (inl refl)) (first-in_class class side.input pair.mine own) ex)
-        (value-in (y ∷ x ∷ []) class y (record { input = other; column = pair.theirs }) (inl refl) (first-in_class class other pair.theirs next) ey)
+pair_is : (classes : List (List ClassCol)) (class : List ClassCol) (input other : ℕ) (pair : Pair) → In class classes → first_column class input ≡ Some pair.mine → first_column class other ≡ Some pair.theirs → IsPair classes input other pair
+pair_is classes class input other pair there own next x y ex ey t =
+    agree-at classes (y ∷ x ∷ []) class (value_at x.row pair.mine) (value_at y.row pair.theirs) t there
+    (value-in (y ∷ x ∷ []) class x (record { input = input; column = pair.mine }) (inr (inl refl)) (first-in_class class input pair.mine own) ex)
+    (value-in (y ∷ x ∷ []) class y (record { input = other; column = pair.theirs }) (inl refl) (first-in_class class other pair.theirs next) ey)
 
 -- the class that was found is one of the classes
-pub pair_found : (classes : List (List ClassCol)) (class item : List ClassCol) (i : ℕ) (side : SideView) (other : ℕ) (pair : Pair) → i < length classes → class ≡ item → item ≡ get_or classes i item → first_column class side.input ≡ Some pair.mine → first_column class other ≡ Some pair.theirs → In pair.mine side.state.columns → IsPair classes side other pair
-pair_found classes class item i side other pair lt same is own next indexed =
-    pair_is classes class side other pair (subst (λ (c : List ClassCol). In c classes) (sym (same ∙ is)) (in-place classes item i lt)) own next indexed
-
--- ---- one position
-
--- the input at a position is that of the step before it
-input-of_step : (schemes : List (List (List Bool))) (cert : List CertStep) (k : ℕ) (step : CertStep) → slice_get cert k ≡ Some step → option_map (λ (e : CertEntry). e.input) (slice_get (entries schemes cert) k) ≡ Some step.input
-input-of_step schemes [] k step e = absurd (cc)
-input-of_step schemes (s ∷ cert) zero step e = ap (λ (t : CertStep). Some t.input) (get_or_from_slice_get (s ∷ cert) 0 step step e)
-input-of_step schemes (s ∷ cert) (suc k) step e = input-of_step schemes cert k step e
-
-pub other-at : (schemes : List (List (List Bool))) (cert : List CertStep) (at : ℕ) (path : PathView) (step : CertStep) (other : ℕ) → path.cert ≡ entries schemes cert → 0 < at → slice_get cert (at - 1) ≡ Some step → (step.input ≡ other → ⊥) → input_at path at ≡ Some other → ⊥
-other-at schemes cert zero path step other same lt here ne is = absurd (omega (arith, lt))
-other-at schemes cert (suc at) path step other same lt here ne is =
-    let n : suc at - 1 ≡ at = omega arith in
-    ne (inner (sym (input-of_step schemes cert at step (subst (λ k. slice_get cert k ≡ Some step) n here)) ∙ ap (λ (es : List CertEntry). option_map (λ (e : CertEntry). e.input) (slice_get es at)) (sym same) ∙ is))
-  where
-    inner : {a b : ℕ} → Some a ≡ Some b → a ≡ b
-    inner q = cc
+pub pair_found : (classes : List (List ClassCol)) (class item : List ClassCol) (i : ℕ) (input other : ℕ) (pair : Pair) → i < length classes → class ≡ item → item ≡ get_or classes i item → first_column class input ≡ Some pair.mine → first_column class other ≡ Some pair.theirs → IsPair classes input other pair
+pair_found classes class item i input other pair lt same is own next =
+    pair_is classes class input other pair (subst (λ (c : List ClassCol). In c classes) (sym (same ∙ is)) (in-place classes item i lt)) own next
 
 -- ---- one input
 
@@ -76,10 +56,3 @@ roused_along spec states other gone w input aside s h passed rows asks stored as
     all : AreStored states (tuple_in input s ∷ rows)
     all z (inl e) = (s, subst (λ n. In s (state_at states n).rows) (ap (λ (u : TupleAt). u.input) e) h, ap (λ (u : TupleAt). tuple_in u.input s) (sym e) ∙ e)
     all z (inr i) = stored z i
-
-pub roused_by : (spec : JoinData) (states : List StateView) (other : ℕ) (gone : List ℕ) (w : Watches) (input : ℕ) (steps : List CertStep) (path : PathView) → path ≡ record { classes = spec.shape.classes; cert = entries spec.schemes steps; input = input; states = states }
-    → steps ≡ get_or spec.certs input [] → AreAside path (length path.cert) other gone w → IsRousedAt spec states other gone w input
-roused_by spec states other gone w input steps path same here aside =
-    roused_along spec states other gone w input
-    (subst (λ (p : PathView). AreAside p (length p.cert) other gone w)
-    (same ∙ ap (λ (cs : List CertStep). record { classes = spec.shape.classes; cert = entries spec.schemes cs; input = input; states = states }) here) aside)

@@ -19,12 +19,9 @@ use Rattle.pj_join.specs.Judging.{JudgeView, ripe_at}
 use Rattle.pj_join.specs.Sides.{log_of, puncts_of, row_pairs, state_at, tuple_in}
 use Rattle.pj_join.specs.Sweeping.{swept_off}
 use Rattle.pj_join.specs.Watching.{AreFewer, AreLeft, AreLookedAt, AreOpenBut, AreRoused, AreStored, AreWatched, AsksStill, PunctView, NoneIsRipe, Watches, come_at, is_passed, known, watches_at}
+use Rattle.pj_join.proofs.Holding.{filter-none}
 use Rattle.pj_join.proofs.Judged.{covered-all-of, judge_at, ripe-is, same-puncts, same-rows}
 use Rattle.pj_join.proofs.Kept.{shapes, side-is}
-
-filter-none : {A : Type 0} (q : A → Bool) (xs : List A) → ((x : A) → In x xs → q x ≡ false) → filter q xs ≡ []
-filter-none q [] f = refl
-filter-none q (x ∷ xs) f = ap (λ b. cond b (x ∷ filter q xs) (filter q xs)) (f x (inl refl)) ∙ filter-none q xs (λ y h. f y (inr h))
 
 module _ (spec : JoinData) where
   pub watched_start : (ws : List Watches) → length ws ≡ inputs spec → ((input : ℕ) → (watches_at ws input).from ≡ 0) → AreWatched spec 0 0 [] [] ws

@@ -84,9 +84,9 @@ pub within : (own : ℕ) (columns : List ℕ) → list_any (λ o. eqb own o) col
 within own columns indexed = let h = any_at (λ o. eqb own o) columns indexed in subst (λ n. In n columns) (sym (eqb-true own h.0 h.2)) h.1
 
 pub key_is : (side : SideView) (c : CoverageView) (at : ClassCol) (own : ℕ) (v : Value)
-    → at.input ≡ c.input → slice_get c.marks at.column ≡ Some true → first_column (first_class c.classes at) side.input ≡ Some own → list_any (λ o. eqb own o) side.state.columns ≡ true → slice_get c.patterns at.column ≡ Some (Constant v)
+    → at.input ≡ c.input → slice_get c.marks at.column ≡ Some true → first_column (first_class c.classes at) side.input ≡ Some own → In own side.state.columns → slice_get c.patterns at.column ≡ Some (Constant v)
     → IsKey side c own v
-key_is side c at own v of marked first indexed const = (within own side.state.columns indexed, uncovered)
+key_is side c at own v of marked first indexed const = (indexed, uncovered)
   where
     uncovered : (z : TupleAt) (xs : List TupleAt) → Tells c.classes xs z → z.input ≡ side.input → own < length z.row → is_value v (slice_get z.row own) ≡ false → is_met c xs ≡ false
     uncovered z xs tells same lt differs = false_from_ne_true (is_met c xs) (λ t. false≢true (sym differs ∙ yes t))
@@ -96,11 +96,6 @@ key_is side c at own v of marked first indexed const = (within own side.state.co
             ap (is_value v) (slice_get-get_or z.row own no_value lt)
             ∙ ap (λ w. value_eq w v) (sym (same_if_equal v (value_at z.row own) (asked c.classes side.input c.input c.marks c.patterns at own (Constant v) z xs of marked first const tells same t)))
             ∙ equal_itself v
-
--- a fact of what was found follows from three others
-pub some_from : {A : Type 0} (o : Option A) (P Q R S : A → Type 0) → ((a : A) → P a → Q a → R a → S a) → IfSome o P → IfSome o Q → IfSome o R → IfSome o S
-some_from None P Q R S f p q r = tt
-some_from (Some a) P Q R S f p q r = f a p q r
 
 -- ---- what is passed over
 
@@ -163,9 +158,3 @@ fewer_next old cur i v w all lt is one = record { count = set-count cur i w ∙ 
         by-place (λ k. IsFewer (watches_at old k) (watches_at (set cur i w) k)) i k
         (fewer-then (watches_at old i) (watches_at cur i) (watches_at (set cur i w) i) (all.each i) (subst (λ u. IsFewer (watches_at cur i) u) (sym (at-place cur i w lt)) (subst (λ u. IsFewer u w) (sym (at-own cur i v lt is)) one)))
         (λ ne. subst (λ u. IsFewer (watches_at old k) u) (sym (at-set cur i k w lt ne)) (all.each k))
-
-pub left_next : (spec : JoinData) (states : List StateView) (p : PunctView) (cur : List Watches) (i : ℕ) (w : Watches) → i < length cur → AreLeft spec states p cur i → AreLeftAt spec states p w i → AreLeft spec states p (set cur i w) (i + 1)
-left_next spec states p cur i w lt all one k le =
-    by-place (λ k. k < i + 1 → AreLeftAt spec states p (watches_at (set cur i w) k) k) i k
-    (λ l. subst (λ u. AreLeftAt spec states p u i) (sym (at-place cur i w lt)) one)
-    (λ ne l. subst (λ u. AreLeftAt spec states p u k) (sym (at-set cur i k w lt ne)) (all k (omega (arith, l, ne)))) le

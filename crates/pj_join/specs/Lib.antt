@@ -13,3 +13,4 @@ pub mod Routes
 pub mod Leaving
 pub mod Holding
 pub mod Ranges
+pub mod Recheck

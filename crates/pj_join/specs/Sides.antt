@@ -7,7 +7,7 @@ use Rattle.pj_cover.specs.Stores.{Store}
 use Rattle.pj_cover.specs.Asking.{punct_of}
 use Rattle.pj_events.specs.Patterns.{Pattern, matches_row}
 use Rattle.pj_events.specs.Join.{In, PunctAt, TupleAt, Value, has}
-use Rattle.pj_join.specs.declared.arrivals.Coming.{Coming}
+use Rattle.pj_join.specs.declared.held.Coming.{Coming}
 use Rattle.pj_join.specs.declared.place.Place.{Place}
 use Rattle.pj_value.specs.Options.{is_value}
 

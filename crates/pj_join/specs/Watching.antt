@@ -19,7 +19,7 @@ use Rattle.pj_join.specs.Sides.{row_pairs, state_at, tuple_in}
 pub use Rattle.pj_join.specs.declared.marks.Watches.{Watches}
 pub use Rattle.pj_join.specs.declared.marks.Judged.{Judged}
 use Rattle.pj_join.specs.declared.widening.Swept.{Swept}
-use Rattle.pj_join.specs.declared.partners.Pair.{Pair}
+use Rattle.pj_join.specs.declared.routes.Pair.{Pair}
 
 abbrev pub no_watches : Watches
 no_watches = record { from = 0; marked = [] }
@@ -153,11 +153,10 @@ Limits side c column pattern =
 
 -- ---- rows that join with one of another input
 
--- the column is indexed, and tuples of both inputs that join have one value in these columns
-abbrev pub IsPair : List (List ClassCol) → SideView → ℕ → Pair → Type 0
-IsPair classes side other pair =
-    In pair.mine side.state.columns
-    × ((x y : TupleAt) → x.input ≡ side.input → y.input ≡ other → agree classes (y ∷ x ∷ []) ≡ true → value_at x.row pair.mine ≡ value_at y.row pair.theirs)
+-- tuples of both inputs that join have one value in these columns
+abbrev pub IsPair : List (List ClassCol) → ℕ → ℕ → Pair → Type 0
+IsPair classes input other pair =
+    (x y : TupleAt) → x.input ≡ input → y.input ≡ other → agree classes (y ∷ x ∷ []) ≡ true → value_at x.row pair.mine ≡ value_at y.row pair.theirs
 
 -- no row with one of these tickets is passed over
 abbrev pub AreMarked : List ℕ → Watches → Type 0
@@ -181,10 +180,22 @@ pub record AsksAlong (path : PathView) (x : TupleAt) (rows : List TupleAt) (asks
   pub stored : AreStored path.states (x ∷ rows)
   pub asked : IsAsked path.classes path.cert rows (x ∷ []) asks
 
--- the input at a position of the path: its own, and then those of the certificate
+-- an input, and the certificate by which its rows ask
+pub record Asker : Type 0 where
+  pub classes : List (List ClassCol)
+  pub cert : List CertEntry
+  pub input : ℕ
+
+abbrev pub asker : PathView → Asker
+asker path = record { classes = path.classes; cert = path.cert; input = path.input }
+
+-- the input at a position: its own, and then those of the certificate
+abbrev pub input_of : Asker → ℕ → Option ℕ
+input_of a zero = Some a.input
+input_of a (suc at) = option_map (λ (e : CertEntry). e.input) (slice_get a.cert at)
+
 abbrev pub input_at : PathView → ℕ → Option ℕ
-input_at path zero = Some path.input
-input_at path (suc at) = option_map (λ (e : CertEntry). e.input) (slice_get path.cert at)
+input_at path at = input_of (asker path) at
 
 -- these are the tickets of all rows of the input that ask through one with such a ticket at this position of the path
 abbrev pub LeadsBack : PathView → ℕ → List ℕ → List ℕ → Type 0
@@ -195,15 +206,6 @@ LeadsBack path at tickets found =
 abbrev pub HopsBack : PathView → ℕ → ℕ → List ℕ → List ℕ → Type 0
 HopsBack path at before tickets found =
     (x : TupleAt) (rows : List TupleAt) (asks : Demand) → AsksAlong path x rows asks → (y z : TupleAt) → slice_get (x ∷ rows) at ≡ Some y → slice_get (x ∷ rows) before ≡ Some z → In y.ticket tickets → In z.ticket found
-
--- the first position is before this one, and tuples of both that join have one value in the pair's columns, of which the first one's is indexed
-pub record IsLink (path : PathView) (at before : ℕ) (pair : Pair) : Type 0 where
-  pub earlier : before < at
-  pub input : ℕ
-  pub other : ℕ
-  pub is_input : input_at path before ≡ Some input
-  pub is_other : input_at path at ≡ Some other
-  pub joins : IsPair path.classes (side_at path.states input) other pair
 
 -- these are the tickets of all rows of the input that ask by this entry for something that the punctuation covers
 abbrev pub FindCovered : PathView → ℕ → CoverageView → List ℕ → Type 0
@@ -218,10 +220,6 @@ IsLeftBy path entry c w =
 -- the same of a punctuation of the entry's input
 abbrev pub IsUnmet : PathView → ℕ → CoverageView → Watches → Type 0
 IsUnmet path entry c w = (x : TupleAt) (rows : List TupleAt) (asks : Demand) → AsksAlong path x rows asks → length rows ≡ entry → is_passed w x.ticket ≡ true → covers c.patterns asks.instance ≡ false
-
--- the same of the first so many entries
-abbrev pub AreLeftBy : PathView → ℕ → PunctView → Watches → Type 0
-AreLeftBy path count c w = (entry : ℕ) → entry < count → IsLeftBy path entry c w
 
 -- the coverage is of what is asked for by this entry
 pub record IsOfEntry (path : PathView) (entry : ℕ) (c : CoverageView) : Type 0 where

@@ -11,7 +11,7 @@ ghost use Rattle.pj_join.specs.Sides.{AreWide, IsWide, state_at};
 
 use crate::arrivals::Arrived;
 use crate::route::{ProbeLink, ProbeRoute, ProbeStep};
-use crate::sweeping::in_order;
+use crate::tickets::in_order;
 use pj_probe::Lent;
 use pj_state::{Spot, State};
 use pj_value::{List, NoMemory, Row};

@@ -16,20 +16,21 @@ ghost use Rattle.pj_join.specs.Sides.{heard_at};
 ghost use Rattle.pj_join.specs.Sweeping.{GoesWhereCovered, HandsUp, HasBeenLawful, IsForgotten, StaysRipeUntil, puncts_let_go, puncts_up, rows_off, swept_off};
 
 use crate::JoinStop;
-use crate::arrivals::Coming;
-use crate::coverage::LentPunct;
+use crate::compiling::{Certified, routes_of};
+use crate::held::Coming;
 use crate::handing::hand_out_found;
 use crate::marks::Watches;
 use crate::partners::rouse;
-use crate::place::Place;
+use crate::place::{Place, first_pending};
 use crate::probe::probe_of;
-use crate::ranges::keep_orders;
+use crate::orders::keep_orders;
 use crate::route::{ProbeRoute, probe_routes, route_of};
+use crate::routes::InputRoutes;
 use crate::starting::{empty_states, empty_stores, empty_watches};
-use crate::stored::first_pending;
-use crate::sweeping::{Judge, Left, has_young, remove_all};
+use crate::settling::{Left, has_young, remove_all, sweep};
+use crate::sweeping::Judge;
 use crate::waiting::Waiting;
-use crate::waking::{Certified, wake};
+use crate::waking::wake;
 use crate::widening::hear;
 use pj_cover::PunctStore;
 use pj_events::Out;
@@ -54,6 +55,7 @@ pub struct Join {
     schemes: Schemes,
     certs: List<Cert>,
     routes: List<ProbeRoute>,
+    rechecks: Vec<InputRoutes>,
     limit: u64,
     next: u64,
     states: Vec<State>,
@@ -73,12 +75,14 @@ impl Model for Join {
     ghost use Rattle.pj_join.specs.Holding.{AreHeld};
     ghost use Rattle.pj_join.specs.Watching.{AreWatched};
     ghost use Rattle.pj_join.specs.Routes.{AreProbeRoutes, columns_of};
+    ghost use Rattle.pj_join.specs.Recheck.{AreRoutes};
+    ghost use Rattle.pj_events.specs.Join.{inputs};
 
     ghost Value = { JoinView };
 
     ghost view = { λ j. seen (made_with j.node (join_data (arc_value j.spec) j.schemes j.certs) j.limit) j.next j.done (log_of j.states.items) (puncts_of j.stores.items) j.waiting.puncts j.taken.items };
 
-    ghost invariant = { λ j. IsJoin (join_data (arc_value j.spec) j.schemes j.certs) j.limit (inside j.next j.done j.states.items j.stores.items j.pending j.taken.items) × AreWatched (join_data (arc_value j.spec) j.schemes j.certs) j.next (lowest j.next j.done (log_of j.states.items) j.taken.items) (log_of j.states.items) (puncts_of j.stores.items) j.watches.items × AreHeld j.next (log_of j.states.items) j.waiting × AreProbeRoutes (arc_value j.spec).classes (columns_of j.states.items) j.routes };
+    ghost invariant = { λ j. IsJoin (join_data (arc_value j.spec) j.schemes j.certs) j.limit (inside j.next j.done j.states.items j.stores.items j.pending j.taken.items) × AreWatched (join_data (arc_value j.spec) j.schemes j.certs) j.next (lowest j.next j.done (log_of j.states.items) j.taken.items) (log_of j.states.items) (puncts_of j.stores.items) j.watches.items × AreHeld j.next (log_of j.states.items) j.waiting × AreProbeRoutes (arc_value j.spec).classes (columns_of j.states.items) j.routes × AreRoutes (join_data (arc_value j.spec) j.schemes j.certs) j.states.items (inputs (join_data (arc_value j.spec) j.schemes j.certs)) j.rechecks.items };
 }
 
 impl Join {
@@ -101,6 +105,15 @@ impl Join {
         let stores = empty_stores(alloc, spec.inputs.as_slice())?;
         let watches = empty_watches(alloc, spec.inputs.len())?;
         let routes = probe_routes(alloc, spec.classes.as_slice(), states.as_slice())?;
+        let rechecks = routes_of(
+            alloc,
+            &Certified {
+                spec: &spec,
+                schemes: &schemes,
+                certs: certs.as_slice(),
+            },
+            states.as_slice(),
+        )?;
         Ok(Join {
             alloc,
             node,
@@ -108,6 +121,7 @@ impl Join {
             schemes,
             certs,
             routes,
+            rechecks,
             limit,
             next: 0,
             states,
@@ -168,8 +182,7 @@ impl Join {
     {
         keep_orders(
             &mut self.states,
-            self.spec.classes.as_slice(),
-            input,
+            self.rechecks[input as usize].orders.as_slice(),
             &punct,
         );
         self.hear_punct(input, punct, out)
@@ -199,16 +212,9 @@ impl Join {
         wake(
             self.alloc,
             &mut self.watches,
-            &Certified {
-                spec: &self.spec,
-                schemes: &self.schemes,
-                certs: self.certs.as_slice(),
-            },
+            self.rechecks[input as usize].recheck.as_slice(),
             self.states.as_slice(),
-            &LentPunct {
-                input,
-                punct: &punct,
-            },
+            &punct,
         )?;
         hear(
             self.alloc,
@@ -412,7 +418,8 @@ impl Join {
             stores: self.stores.as_slice(),
             low,
         };
-        let left = judge.sweep(
+        let left = sweep(
+            &judge,
             self.alloc,
             &self.watches[input as usize],
             waiting,
@@ -443,13 +450,8 @@ impl Join {
         rouse(
             self.alloc,
             &mut self.watches,
-            &Certified {
-                spec: &self.spec,
-                schemes: &self.schemes,
-                certs: self.certs.as_slice(),
-            },
+            self.rechecks[input as usize].back.as_slice(),
             self.states.as_slice(),
-            input,
             gone.as_slice(),
         );
         remove_all(&mut self.states[input as usize], gone.as_slice());

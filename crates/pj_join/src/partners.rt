@@ -1,142 +1,67 @@
-// Which rows of an input join with one of another.
-ghost use Rattle.std.specs.Prelude.{◌≡◌, ◌<◌, ◌≤◌, ◌^◌, length, Some, IfSome};
-ghost use Rattle.pj_value.specs.Lists.{In};
+// Which stored rows are marked where rows of another input go.
+ghost use Rattle.std.specs.Prelude.{IfSome};
 ghost use Rattle.pj_join.specs.Sides.{AreWide};
-ghost use Rattle.pj_join.specs.Watching.{AreAside, AreFewer, AreRoused, IsAsideAt, IsFewer, IsPair, IsRousedAt, first_column, input_at};
+ghost use Rattle.pj_join.specs.Recheck.{BackLeaves, BacksFit, BacksLeave, LeavesBackOwner, WayFits};
+ghost use Rattle.pj_join.specs.Watching.{AreFewer, IsFewer};
 
-use crate::coverage::Side;
 use crate::marks::Watches;
-use crate::reaching::Path;
-use crate::waking::Certified;
-use crate::watches::first_column;
-use pj_shape::ClassCol;
+use crate::reaching::owners;
+use crate::routes::BackRoute;
 use pj_state::State;
-use pj_value::List;
 use std::alloc::Global;
 
-/// A column of each of two inputs: rows of them that join have one value there.
-#[derive(Clone, Copy)]
-pub struct Pair {
-    pub mine: u32,
-    pub theirs: u32,
-}
-
-// The first columns of both inputs in a class, where that of the side is indexed.
-#[tactic(auto, using(crate::proofs::Woken::within))]
-fn pair_in(class: &[ClassCol], side: &Side<'_>, other: u32) -> Option<Pair>
-    ensures own { IfSome result (λ pair. first_column class.now side.now.input ≡ Some pair.mine) }
-    ensures next { IfSome result (λ pair. first_column class.now other ≡ Some pair.theirs) }
-    ensures indexed { IfSome result (λ pair. In pair.mine side.now.state.columns) }
+// Marks the rows to which the route leads back from rows with these tickets; or all.
+fn rouse_by(alloc: Global, watches: &mut Watches, back: &BackRoute, states: &[State], gone: &[u64])
+    requires wide { AreWide states.now }
+    requires fits { IfSome back.now.way (WayFits states.now) }
+    ensures fewer { IsFewer watches.old watches.new }
+    ensures aside { BackLeaves states.now back.now gone.now watches.new }
 {
-    match first_column(class, side.input) {
-        None => None,
-        Some(mine) => match first_column(class, other) {
-            None => None,
-            Some(theirs) => {
-                if side.state.is_indexed(mine) {
-                    return Some(Pair { mine, theirs });
-                }
-                None
-            }
+    match &back.way {
+        None => watches.mark_all(),
+        Some(way) => match owners(alloc, states, way, gone) {
+            Ok(Some(found)) => watches.mark_or_all(found.as_slice()),
+            Ok(None) => watches.mark_all(),
+            Err(_) => watches.mark_all(),
         },
     }
 }
 
-/// A column of the side's input, which is indexed, and one of the other input; `None` where no class has both.
-pub fn pair_of(classes: &[List<ClassCol>], side: &Side<'_>, other: u32) -> Option<Pair>
-    ensures { IfSome result (λ pair. IsPair classes.now side.now other pair) }
-{
-    for class in classes {
-        match pair_in(class.as_slice(), side, other) {
-            Some(pair) => return Some(pair),
-            None => {}
-        }
-    }
-    None
-}
-
-// Marks the rows that ask through one with such a ticket at a position of their path; or all.
-fn rouse_by(alloc: Global, watches: &mut Watches, path: &Path<'_>, at: usize, gone: &[u64])
-    requires wide { AreWide path.now.states }
-    ensures fewer { IsFewer watches.old watches.new }
-    ensures aside { IsAsideAt path.now at gone.now watches.new }
-{
-    match path.owners(alloc, at, gone) {
-        Ok(Some(found)) => watches.mark_or_all(found.as_slice()),
-        Ok(None) => watches.mark_all(),
-        Err(_) => watches.mark_all(),
-    }
-}
-
-// The same at a position, where that is of this input.
-fn rouse_on(
-    alloc: Global,
-    watches: &mut Watches,
-    path: &Path<'_>,
-    at: usize,
-    other: u32,
-    gone: &[u64],
-)
-    requires wide { AreWide path.now.states }
-    requires within { (0 < at) × (at ≤ length path.now.cert) }
-    ensures fewer { IsFewer watches.old watches.new }
-    ensures aside { input_at path.now at ≡ Some other → IsAsideAt path.now at gone.now watches.new }
-{
-    if path.cert.at(at - 1).input == other {
-        rouse_by(alloc, watches, path, at, gone);
-    }
-}
-
-// The same at all positions but the last: nothing is asked for through rows there.
-fn rouse_along(alloc: Global, watches: &mut Watches, path: &Path<'_>, other: u32, gone: &[u64])
-    requires wide { AreWide path.now.states }
-    ensures fewer { IsFewer watches.old watches.new }
-    ensures aside { AreAside path.now (length path.now.cert) other gone.now watches.new }
-{
-    for at in 1..path.cert.len() {
-        rouse_on(alloc, watches, path, at, other, gone);
-    }
-}
-
-// The same for the input with this number.
+// The same among those of the route's owner.
 fn rouse_at(
     alloc: Global,
-    watches: &mut Watches,
-    join: &Certified<'_>,
+    watches: &mut Vec<Watches>,
+    back: &BackRoute,
     states: &[State],
-    at: usize,
-    other: u32,
     gone: &[u64],
 )
-    requires few { at < 2 ^ 32 }
     requires wide { AreWide states.now }
-    ensures fewer { IsFewer watches.old watches.new }
-    ensures roused { IsRousedAt join.now states.now other gone.now watches.new at }
+    requires fits { IfSome back.now.way (WayFits states.now) }
+    ensures fewer { AreFewer watches.old.items watches.new.items }
+    ensures aside { LeavesBackOwner states.now back.now gone.now watches.new.items }
 {
-    match join.certs.get(at) {
-        None => {}
-        Some(cert) => rouse_along(alloc, watches, &join.path(cert, at, states), other, gone),
+    if (back.owner as usize) < watches.len() {
+        rouse_by(alloc, &mut watches[back.owner as usize], back, states, gone);
     }
 }
 
-/// Marks the rows of each input that ask through one of this input's rows that go, which have these tickets.
+/// Marks the rows of each input that ask through rows with these tickets, where these routes back begin.
 pub fn rouse(
     alloc: Global,
     watches: &mut Vec<Watches>,
-    join: &Certified<'_>,
+    backs: &[BackRoute],
     states: &[State],
-    other: u32,
     gone: &[u64],
 )
-    requires few { length watches.old.items < 2 ^ 32 }
     requires wide { AreWide states.now }
+    requires fit { BacksFit states.now backs.now }
     ensures fewer { AreFewer watches.old.items watches.new.items }
-    ensures roused { AreRoused join.now states.now other gone.now watches.new.items (length watches.old.items) }
+    ensures aside { BacksLeave states.now backs.now gone.now watches.new.items }
 {
     if gone.len() == 0 {
         return;
     }
-    for at in 0..watches.len() {
-        rouse_at(alloc, &mut watches[at], join, states, at, other, gone);
+    for back in backs {
+        rouse_at(alloc, watches, back, states, gone);
     }
 }

@@ -9,9 +9,8 @@ ghost use Rattle.pj_state.specs.Rising.{IsRising, itself};
 ghost use Rattle.pj_join.specs.Ranges.{HasAmong, HoldAll, IsPast, MatchesAmong, NeedsAmong, TellsAmong};
 ghost use Rattle.pj_join.specs.Holding.{IsFound};
 
-use crate::widening::find_matching;
+use crate::finding::find_matching;
 use pj_pattern::{Pattern, Punct, Shape};
-use pj_shape::{ClassCol, has_column};
 use pj_state::{NextNumber, State};
 use pj_value::{List, NoMemory, Value};
 use std::alloc::Global;
@@ -225,48 +224,4 @@ pub fn find_among(
         }
     }
     None
-}
-
-// Keeps the integers of a column of an input in order.
-fn keep_order(states: &mut Vec<State>, at: ClassCol)
-    ensures { states.new.items ≡ states.old.items }
-{
-    if (at.input as usize) < states.len() {
-        states[at.input as usize].keep_order(at.column);
-    }
-}
-
-// The same of each column of a class.
-fn keep_class_order(states: &mut Vec<State>, class: &[ClassCol])
-    ensures { states.new.items ≡ states.old.items }
-{
-    for at in class {
-        keep_order(states, *at);
-    }
-}
-
-// The same of each class that has this column.
-fn keep_column_order(states: &mut Vec<State>, classes: &[List<ClassCol>], at: ClassCol)
-    ensures { states.new.items ≡ states.old.items }
-{
-    for class in classes {
-        if has_column(class.as_slice(), at) {
-            keep_class_order(states, class.as_slice());
-        }
-    }
-}
-
-/// Keeps the integers in order of the columns in which rows are looked for by the ranges of a punctuation of an input.
-pub fn keep_orders(states: &mut Vec<State>, classes: &[List<ClassCol>], input: u32, punct: &Punct)
-    ensures { states.new.items ≡ states.old.items }
-{
-    for column in 0..punct.len() {
-        if column <= u32::MAX as usize && numbers_of(punct.at(column)).is_some() {
-            let at = ClassCol {
-                input,
-                column: column as u32,
-            };
-            keep_column_order(states, classes, at);
-        }
-    }
 }

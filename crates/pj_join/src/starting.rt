@@ -1,17 +1,49 @@
 // A join with no rows and no punctuations.
-ghost use Rattle.std.specs.Prelude.{◌≡◌, ◌<◌, ◌≤◌, ℕ, [], length, map, slice_index, sum, IfOk};
+ghost use Rattle.std.specs.Prelude.{◌≡◌, ◌<◌, ◌≤◌, ℕ, [], length, map, slice_index, sum, All, IfOk, OnOk};
 ghost use Rattle.pj_shape.specs.Sound.{arities_of};
 ghost use Rattle.pj_events.specs.Join.{of_input, upto_from};
 ghost use Rattle.pj_join.specs.Sides.{AreAllShaped, IsShaped, heard_in, heard_of, tuples_in};
 ghost use Rattle.pj_join.specs.Watching.{watches_at};
 
-use crate::lookups::class_columns;
 use crate::marks::Watches;
 use pj_cover::PunctStore;
 use pj_shape::{ClassCol, JoinSpec, Schema};
 use pj_state::State;
 use pj_value::{List, NoMemory};
 use std::alloc::Global;
+
+// Puts the columns of the input in this class at the end that are below its arity.
+fn append_columns(
+    class: &[ClassCol],
+    input: usize,
+    arity: usize,
+    columns: &mut List<u32>,
+) -> Result<(), NoMemory>
+    ensures { OnOk result (All (λ column. column < arity) columns.old → All (λ column. column < arity) columns.new) }
+{
+    for at in class {
+        if at.input as usize == input && (at.column as usize) < arity {
+            columns.push(at.column)?;
+        }
+    }
+    Ok(())
+}
+
+// The columns of an input of so many columns that stand in classes: a tuple is looked up by them.
+fn class_columns(
+    alloc: Global,
+    classes: &[List<ClassCol>],
+    input: usize,
+    arity: usize,
+) -> Result<List<u32>, NoMemory>
+    ensures { IfOk result (λ columns. All (λ column. column < arity) columns) }
+{
+    let mut columns = List::new(alloc);
+    for class in classes {
+        append_columns(class.as_slice(), input, arity, &mut columns)?;
+    }
+    Ok(columns)
+}
 
 // A state with no rows for an input of so many columns.
 fn empty_state(

@@ -1,11 +1,9 @@
 // The stored rows of all inputs, as a judge asks for them.
 ghost use Rattle.std.specs.Prelude.{◌≡◌, ◌<◌, List, length};
-ghost use Rattle.pj_join.specs.Sides.{arrived_at, first_of, row_pairs};
+ghost use Rattle.pj_join.specs.Sides.{row_pairs};
 
-use crate::arrivals::Arrived;
-use crate::place::Place;
 use pj_cover::StoredRows;
-use pj_state::{Remaining, State};
+use pj_state::State;
 use pj_value::{Row, Value};
 
 /// The states of all inputs, lent.
@@ -44,28 +42,5 @@ impl<'a> StoredRows for Inputs<'a> {
             return None;
         }
         self.states[input as usize].get(ticket)
-    }
-}
-
-// The tuple that stands at a place; `None` exactly where none does.
-fn arrived<'a>(states: &'a [State], place: Place) -> Option<Arrived<'a>>
-    ensures { result ≡ arrived_at states.now place }
-{
-    match states.get(place.input as usize) {
-        None => None,
-        Some(state) => match state.get(place.ticket) {
-            None => None,
-            Some(row) => Some(Arrived::of(place.ticket, place.input, row)),
-        },
-    }
-}
-
-/// The tuple that stands at the first of these places.
-pub fn first_pending<'a>(states: &'a [State], pending: &Remaining<Place>) -> Option<Arrived<'a>>
-    ensures { result ≡ first_of states.now pending.now }
-{
-    match pending.as_slice().split_first() {
-        None => None,
-        Some((place, _)) => arrived(states, *place),
     }
 }

@@ -1,21 +1,17 @@
-// Which tuples a sweep removes, and what is left.
-ghost use Rattle.std.specs.Prelude.{◌≡◌, ◌≤◌, ◌++◌, ℕ, false, length, map, slice_get, take, Some, OnOk, OnErr, IfOk, ◌<◌};
+// Which stored tuples of an input are ripe.
+ghost use Rattle.std.specs.Prelude.{◌≡◌, ◌≤◌, ◌++◌, false, length, map, slice_get, take, Some, OnOk, OnErr, IfOk};
 ghost use Rattle.pj_value.specs.Lists.{In};
 ghost use Rattle.pj_state.specs.declared.shared.Stored.{Stored};
 ghost use Rattle.pj_state.specs.Rising.{IsRising, itself};
-ghost use Rattle.pj_state.specs.States.{state_of, stored, ticket_of};
-ghost use Rattle.pj_join.specs.Holding.{AreFreed, AreHeldBy, KeepsLists, StayHeld, tickets_where};
-ghost use Rattle.pj_join.specs.Judging.{BothMore, letting_go, lets_go, one_if, ripe_rows, ripe_tickets, row_in, rows_at, rows_without};
-ghost use Rattle.pj_join.specs.Sides.{heard_at};
+ghost use Rattle.pj_state.specs.States.{stored, ticket_of};
+ghost use Rattle.pj_join.specs.Judging.{BothMore, one_if, ripe_rows, ripe_tickets, row_in, rows_at};
 ghost use Rattle.pj_join.specs.Watching.{AreJudged, AreLookedAt, IsOneJudged, IsVerdict, NoneIsRipe, all_picked, is_passed, marked_by, picked};
 
 use crate::marks::{Judged, Watches};
 use crate::stored::Inputs;
-use crate::waiting::{StillWaiting, Waiting};
-use crate::widening::Swept;
+use crate::tickets::in_order;
 use pj_cover::{PunctStore, Verdict, judge_row};
-use pj_pattern::Punct;
-use pj_shape::{Cert, JoinSpec, Schema, Schemes};
+use pj_shape::{Cert, JoinSpec, Schemes};
 use pj_state::{Spot, State};
 use pj_value::{List, NoMemory, Row};
 use std::alloc::Global;
@@ -42,15 +38,6 @@ impl<'a> Model for Judge<'a> {
     ghost view = { λ j. record { spec = j.spec.now; schemes = j.schemes.now; cert = j.cert.now; input = j.input; states = j.states.now; stores = j.stores.now; low = j.low } };
 
     ghost invariant = { λ j. MayJudge j.spec.now j.schemes.now j.cert.now j.input j.states.now j.stores.now };
-}
-
-/// What a sweep leaves: the tickets of the tuples that go, and of those that are judged again, and what is left of the
-/// punctuations that wait.
-#[derive(Drop)]
-pub struct Left {
-    pub gone: List<u64>,
-    pub marked: List<u64>,
-    pub waiting: StillWaiting,
 }
 
 // Puts the row at the end of those that go, and its ticket to theirs, where it is ripe; or neither.
@@ -84,18 +71,6 @@ fn keep_marked(verdict: Verdict, ticket: u64, marked: &mut List<u64>) -> Result<
     }
 }
 
-/// Whether there is a row from a ticket on.
-pub fn has_young(state: &State, from: u64) -> bool
-    ensures { result ≡ false → (s : Stored) → In s state.now.rows → s.ticket < from }
-{
-    let count = state.len();
-    if count == 0 {
-        return false;
-    }
-    let (last, _) = state.nth(count - 1);
-    last >= from
-}
-
 // The tickets of the rows from a ticket on.
 fn young(alloc: Global, state: &State, from: u64) -> Result<List<u64>, NoMemory>
     ensures order { IsRising ticket_of state.now.rows }
@@ -112,19 +87,6 @@ fn young(alloc: Global, state: &State, from: u64) -> Result<List<u64>, NoMemory>
         list.push(ticket)?;
     }
     Ok(list)
-}
-
-/// The tickets in order, each once.
-pub fn in_order(list: List<u64>) -> Vec<u64>
-    ensures rising { IsRising itself result.items }
-    ensures all { (n : ℕ) → In n list → In n result.items }
-{
-    let mut tickets = list.into_vec();
-    if tickets.len() > 1 {
-        tickets.sort_unstable();
-        tickets.dedup();
-    }
-    tickets
 }
 
 // The tickets of the rows that are judged, and maybe others, in order.
@@ -217,9 +179,9 @@ impl<'a> Judge<'a> {
         Ok(judged)
     }
 
-    // Puts the rows that are ripe at the end of `removed`, and answers their tickets, and which others are marked now. Those
-    // that are passed over are not looked at.
-    fn ripe_ones(
+    /// Puts the rows that are ripe at the end of `removed`, and answers their tickets, and which others are marked now. Those
+    /// that are passed over are not looked at. After a refusal `removed` begins as before.
+    pub fn ripe_ones(
         &self,
         alloc: Global,
         watches: &Watches,
@@ -235,55 +197,5 @@ impl<'a> Judge<'a> {
         let tickets = to_judge(alloc, watches, &self.states[self.input as usize])?;
         let judged = self.judge_all(alloc, tickets.as_slice(), removed)?;
         Ok(judged)
-    }
-
-    /// Judges the stored tuples of the input. The rows of those that go are put at the end of `removed`, and the punctuations
-    /// that are let go at the end of `out`. After a refusal both begin as before.
-    #[tactic(auto, using(crate::proofs::Spared::ripe_some))]
-    pub fn sweep(
-        &self,
-        alloc: Global,
-        watches: &Watches,
-        waiting: &mut Waiting,
-        removed: &mut List<Row>,
-        out: &mut List<Punct>,
-    ) -> Result<Left, NoMemory>
-        requires passed { NoneIsRipe self.now watches.now }
-        requires held { AreHeldBy (rows_at self.now) self.now.input waiting.old }
-        ensures gone { IfOk result (λ left. left.gone ≡ ripe_tickets self.now) }
-        ensures left { IfOk result (λ left. AreLookedAt self.now watches.now left.marked) }
-        ensures goes { IfOk result (λ left. left.waiting.goes ≡ tickets_where (lets_go (rows_at self.now) left.gone self.now.input) waiting.old.puncts) }
-        ensures freed { IfOk result (λ left. AreFreed left.gone left.waiting.freed) }
-        ensures held { IfOk result (λ left. StayHeld (rows_at self.now) left.gone self.now.input waiting.new) }
-        ensures puncts { waiting.new.puncts ≡ waiting.old.puncts }
-        ensures keeps { KeepsLists waiting.old waiting.new }
-        ensures rising { OnOk result (IsRising heard_at waiting.old.puncts) }
-        ensures removed { OnOk result (removed.new ≡ removed.old ++ ripe_rows self.now) }
-        ensures out { IfOk result (λ left. out.new ≡ out.old ++ letting_go self.now.spec.inputs (rows_at self.now) left.gone self.now.input waiting.old.puncts) }
-        ensures err { OnErr result ((take (length removed.old) removed.new ≡ removed.old) × (take (length out.old) out.new ≡ out.old)) }
-    {
-        let judged = self.ripe_ones(alloc, watches, removed)?;
-        let Judged { gone, marked } = judged;
-        let swept = Swept {
-            schemas: self.spec.inputs.as_slice(),
-            input: self.input,
-            state: &self.states[self.input as usize],
-            gone: gone.as_slice(),
-        };
-        let waiting = swept.let_go(alloc, waiting, out)?;
-        Ok(Left {
-            gone,
-            marked,
-            waiting,
-        })
-    }
-}
-
-/// Takes the rows with these tickets out.
-pub fn remove_all(state: &mut State, gone: &[u64])
-    ensures { state.new ≡ state_of state.old.columns (rows_without gone.now state.old.rows) }
-{
-    for ticket in gone {
-        state.remove(*ticket);
     }
 }

@@ -6,7 +6,7 @@ ghost use Rattle.pj_join.specs.Holding.{AreFreed, KeepsLists, is_listed, waits_a
 ghost use Rattle.pj_join.specs.Leaving.{HasUnder, KeepsOthers, puncts_but, puncts_without};
 ghost use Rattle.pj_join.specs.Sides.{heard_at};
 
-use crate::arrivals::Heard;
+use crate::held::Heard;
 use pj_value::{List, NoMemory};
 use std::alloc::Global;
 use std::collections::{BTreeMap, BTreeSet};

@@ -1,74 +1,104 @@
 // Which stored rows a punctuation marks.
-ghost use Rattle.std.specs.Prelude.{◌≡◌, ◌+◌, ◌<◌, ◌≤◌, ◌^◌, length, IfOk, IfSome, OnOk};
-ghost use Rattle.pj_cover.specs.Asking.{entries};
+ghost use Rattle.std.specs.Prelude.{◌≡◌, ◌<◌, length, slice_get, Some, IfOk, IfSome, OnOk};
+ghost use Rattle.pj_pattern.specs.declared.pattern.Form.TheVariants.{Constant};
 ghost use Rattle.pj_join.specs.Sides.{AreWide};
-ghost use Rattle.pj_join.specs.Watching.{AreFewer, AreLeft, AreLeftAt, AreLeftBy, FindCovered, IsFewer, IsLeftBy, IsOfEntry, IsUnmet};
+ghost use Rattle.pj_join.specs.Recheck.{HasKey, HasLimit, LeavesOwner, RouteFinds, RouteFits, RouteLeaves, RoutesFit, RoutesLeave, StopFinds, StopFits, StopsFit, StopsFind};
+ghost use Rattle.pj_join.specs.Watching.{AreFewer, IsFewer};
 
-use crate::coverage::{Coverage, LentPunct};
+use crate::lookups::Lookup;
 use crate::marks::Watches;
-use crate::reaching::Path;
-use crate::watches::{matching_tickets, scheme_of};
-use pj_shape::{Cert, JoinSpec, Schemes};
+use crate::reaching::{owners, rows_of};
+use crate::routes::{Lead, RecheckRoute, Stop};
+use crate::watches::{Limit, is_wild_elsewhere, matching_tickets};
+use pj_pattern::Punct;
 use pj_state::State;
 use pj_value::{List, NoMemory};
 use std::alloc::Global;
-use std::marker::Model;
 
-/// The shape of a join, with the schemes and a certificate of each input, lent.
-#[derive(Drop)]
-pub struct Certified<'a> {
-    pub spec: &'a JoinSpec,
-    pub schemes: &'a Schemes,
-    pub certs: &'a [Cert],
-}
-
-impl<'a> Model for Certified<'a> {
-    ghost use Rattle.pj_events.specs.Join.{JoinData};
-    ghost use Rattle.pj_join.specs.Joins.{join_data};
-
-    ghost Value = { JoinData };
-
-    ghost view = { λ c. join_data c.spec.now c.schemes.now c.certs.now };
-}
-
-impl<'a> Certified<'a> {
-    /// The path of the rows of an input, by its certificate.
-    pub fn path(&self, cert: &'a Cert, input: usize, states: &'a [State]) -> Path<'a>
-        requires few { input < 2 ^ 32 }
-        ensures { result ≡ record { classes = self.now.shape.classes; cert = entries self.now.schemes cert.now; input = input; states = states.now } }
-    {
-        Path {
-            classes: self.spec.classes.as_slice(),
-            schemes: self.schemes,
-            cert,
-            input: input as u32,
-            states,
-        }
+// The lead's column of rows, and the constant of the punctuation that leads there.
+fn key_by<'a>(lead: Lead, punct: &'a Punct) -> Option<Lookup<'a>>
+    ensures column { IfSome result (λ key. key.column ≡ lead.column) }
+    ensures value { IfSome result (λ key. slice_get punct.now lead.asked ≡ Some (Constant key.value.now)) }
+{
+    if lead.asked as usize >= punct.len() {
+        return None;
+    }
+    match punct.at(lead.asked as usize).as_constant() {
+        None => None,
+        Some(value) => Some(Lookup {
+            column: lead.column,
+            value,
+        }),
     }
 }
 
-// The tickets of the rows that ask by an entry for what the punctuation covers, where a constant of it tells the value of the
-// rows at this position, behind the own one.
+// The same of the first lead for which there is one.
+fn key_of<'a>(leads: &[Lead], punct: &'a Punct) -> Option<Lookup<'a>>
+    ensures { IfSome result (λ key. HasKey leads.now punct.now key.column key.value.now) }
+{
+    for lead in leads {
+        match key_by(*lead, punct) {
+            Some(key) => return Some(key),
+            None => {}
+        }
+    }
+    None
+}
+
+// The lead's column of rows, and the pattern of the punctuation that leads there, where that is no wildcard.
+fn limit_by<'a>(lead: Lead, punct: &'a Punct) -> Option<Limit<'a>>
+    ensures column { IfSome result (λ limit. limit.column ≡ lead.column) }
+    ensures value { IfSome result (λ limit. slice_get punct.now lead.asked ≡ Some limit.pattern.now) }
+{
+    if lead.asked as usize >= punct.len() {
+        return None;
+    }
+    let pattern = punct.at(lead.asked as usize);
+    if pattern.is_wild() {
+        return None;
+    }
+    Some(Limit {
+        column: lead.column,
+        pattern,
+    })
+}
+
+// The same of the first lead for which there is one.
+fn limit_of<'a>(leads: &[Lead], punct: &'a Punct) -> Option<Limit<'a>>
+    ensures { IfSome result (λ limit. HasLimit leads.now punct.now limit.column limit.pattern.now) }
+{
+    for lead in leads {
+        match limit_by(*lead, punct) {
+            Some(limit) => return Some(limit),
+            None => {}
+        }
+    }
+    None
+}
+
+// The tickets of the rows that ask for what the punctuation covers, where a constant of it tells the value of the rows at the
+// stop.
 fn by_key(
     alloc: Global,
-    path: &Path<'_>,
-    entry: usize,
-    at: usize,
-    coverage: &Coverage<'_>,
+    states: &[State],
+    stop: &Stop,
+    punct: &Punct,
 ) -> Result<Option<List<u64>>, NoMemory>
-    requires wide { AreWide path.now.states }
-    requires of { IsOfEntry path.now entry coverage.now }
-    requires within { at ≤ entry }
-    ensures { IfOk result (λ found. IfSome found (FindCovered path.now entry coverage.now)) }
+    requires wide { AreWide states.now }
+    requires fits { StopFits states.now stop.now }
+    ensures { IfOk result (λ found. IfSome found (StopFinds states.now stop.now punct.now)) }
 {
-    match path.side(at) {
+    match rows_of(states, stop.input) {
         None => Ok(None),
-        Some(side) => match coverage.key(&side) {
+        Some(state) => match key_of(stop.leads.as_slice(), punct) {
             None => Ok(None),
-            Some(key) => {
-                let found = path.owners(alloc, at, side.state.tickets(key.column, key.value))?;
-                Ok(found)
-            }
+            Some(key) => match &stop.way {
+                None => Ok(None),
+                Some(way) => {
+                    let found = owners(alloc, states, way, state.tickets(key.column, key.value))?;
+                    Ok(found)
+                }
+            },
         },
     }
 }
@@ -76,65 +106,81 @@ fn by_key(
 // The same where a pattern of the punctuation limits the values.
 fn by_limit(
     alloc: Global,
-    path: &Path<'_>,
-    entry: usize,
-    at: usize,
-    coverage: &Coverage<'_>,
+    states: &[State],
+    stop: &Stop,
+    punct: &Punct,
 ) -> Result<Option<List<u64>>, NoMemory>
-    requires wide { AreWide path.now.states }
-    requires of { IsOfEntry path.now entry coverage.now }
-    requires within { at ≤ entry }
-    ensures { IfOk result (λ found. IfSome found (FindCovered path.now entry coverage.now)) }
+    requires wide { AreWide states.now }
+    requires fits { StopFits states.now stop.now }
+    ensures { IfOk result (λ found. IfSome found (StopFinds states.now stop.now punct.now)) }
 {
-    match path.side(at) {
+    match rows_of(states, stop.input) {
         None => Ok(None),
-        Some(side) => match coverage.first_limit(&side) {
+        Some(state) => match limit_of(stop.leads.as_slice(), punct) {
+            None => Ok(None),
+            Some(limit) => match &stop.way {
+                None => Ok(None),
+                Some(way) => {
+                    let tickets = matching_tickets(alloc, state, limit.column, limit.pattern)?;
+                    let found = owners(alloc, states, way, tickets.as_slice())?;
+                    Ok(found)
+                }
+            },
+        },
+    }
+}
+
+// The tickets of the rows that ask for what the punctuation covers, where a constant of it tells their own value.
+fn own_rows<'a>(states: &'a [State], route: &RecheckRoute, punct: &Punct) -> Option<&'a [u64]>
+    requires wide { AreWide states.now }
+    requires fits { RouteFits states.now route.now }
+    ensures { IfSome result (λ found. RouteFinds states.now route.now punct.now found.now) }
+{
+    match rows_of(states, route.owner) {
+        None => None,
+        Some(state) => match key_of(route.own.as_slice(), punct) {
+            None => None,
+            Some(key) => Some(state.tickets(key.column, key.value)),
+        },
+    }
+}
+
+// The same where a pattern of the punctuation limits their own values.
+fn own_limited(
+    alloc: Global,
+    states: &[State],
+    route: &RecheckRoute,
+    punct: &Punct,
+) -> Result<Option<List<u64>>, NoMemory>
+    requires wide { AreWide states.now }
+    requires fits { RouteFits states.now route.now }
+    ensures { IfOk result (λ found. IfSome found (RouteFinds states.now route.now punct.now)) }
+{
+    match rows_of(states, route.owner) {
+        None => Ok(None),
+        Some(state) => match limit_of(route.own.as_slice(), punct) {
             None => Ok(None),
             Some(limit) => {
-                let tickets = matching_tickets(alloc, side.state, limit.column, limit.pattern)?;
-                let found = path.owners_from(alloc, at, tickets)?;
-                Ok(found)
+                let found = matching_tickets(alloc, state, limit.column, limit.pattern)?;
+                Ok(Some(found))
             }
         },
     }
 }
 
-// The tickets of the rows that ask by an entry for what the punctuation covers, where a constant of it tells their own value.
-fn own_rows<'a>(path: &Path<'a>, entry: usize, coverage: &Coverage<'_>) -> Option<&'a [u64]>
-    requires wide { AreWide path.now.states }
-    requires of { IsOfEntry path.now entry coverage.now }
-    ensures { IfSome result (λ found. FindCovered path.now entry coverage.now found.now) }
-{
-    match path.side(0) {
-        None => None,
-        Some(side) => match coverage.key(&side) {
-            None => None,
-            Some(key) => Some(side.state.tickets(key.column, key.value)),
-        },
-    }
-}
-
-// The same at the first position behind the own one where a constant tells, or at the first where a pattern does; `None` where
-// none does.
-fn asking(
+// The tickets of the rows that ask for what the punctuation covers, by the first of these stops where a constant tells.
+fn behind_by_key(
     alloc: Global,
-    path: &Path<'_>,
-    entry: usize,
-    coverage: &Coverage<'_>,
+    states: &[State],
+    stops: &[Stop],
+    punct: &Punct,
 ) -> Result<Option<List<u64>>, NoMemory>
-    requires wide { AreWide path.now.states }
-    requires of { IsOfEntry path.now entry coverage.now }
-    requires few { entry + 1 < 2 ^ 64 }
-    ensures { IfOk result (λ found. IfSome found (FindCovered path.now entry coverage.now)) }
+    requires wide { AreWide states.now }
+    requires fit { StopsFit states.now stops.now }
+    ensures { IfOk result (λ found. IfSome found (StopsFind states.now stops.now punct.now)) }
 {
-    for at in 1..entry + 1 {
-        match by_key(alloc, path, entry, at, coverage)? {
-            None => {}
-            Some(found) => return Ok(Some(found)),
-        }
-    }
-    for at in 0..entry + 1 {
-        match by_limit(alloc, path, entry, at, coverage)? {
+    for stop in stops {
+        match by_key(alloc, states, stop, punct)? {
             None => {}
             Some(found) => return Ok(Some(found)),
         }
@@ -142,26 +188,86 @@ fn asking(
     Ok(None)
 }
 
-// Marks the rows that ask by an entry for what the punctuation covers; or all.
+// The same by the first where a pattern limits the values.
+fn behind_by_limit(
+    alloc: Global,
+    states: &[State],
+    stops: &[Stop],
+    punct: &Punct,
+) -> Result<Option<List<u64>>, NoMemory>
+    requires wide { AreWide states.now }
+    requires fit { StopsFit states.now stops.now }
+    ensures { IfOk result (λ found. IfSome found (StopsFind states.now stops.now punct.now)) }
+{
+    for stop in stops {
+        match by_limit(alloc, states, stop, punct)? {
+            None => {}
+            Some(found) => return Ok(Some(found)),
+        }
+    }
+    Ok(None)
+}
+
+// The tickets of the rows that ask by the route for what the punctuation covers, where patterns limit them; `None` where none
+// does.
+fn limited(
+    alloc: Global,
+    states: &[State],
+    route: &RecheckRoute,
+    punct: &Punct,
+) -> Result<Option<List<u64>>, NoMemory>
+    requires wide { AreWide states.now }
+    requires fits { RouteFits states.now route.now }
+    ensures { IfOk result (λ found. IfSome found (RouteFinds states.now route.now punct.now)) }
+{
+    match own_limited(alloc, states, route, punct)? {
+        Some(found) => Ok(Some(found)),
+        None => {
+            let found = behind_by_limit(alloc, states, route.behind.as_slice(), punct)?;
+            Ok(found)
+        }
+    }
+}
+
+// The same by the rows at the first stop where a constant tells, or else by patterns.
+fn asking(
+    alloc: Global,
+    states: &[State],
+    route: &RecheckRoute,
+    punct: &Punct,
+) -> Result<Option<List<u64>>, NoMemory>
+    requires wide { AreWide states.now }
+    requires fits { RouteFits states.now route.now }
+    ensures { IfOk result (λ found. IfSome found (RouteFinds states.now route.now punct.now)) }
+{
+    match behind_by_key(alloc, states, route.behind.as_slice(), punct)? {
+        Some(found) => Ok(Some(found)),
+        None => {
+            let found = limited(alloc, states, route, punct)?;
+            Ok(found)
+        }
+    }
+}
+
+// Marks the rows that ask by the route for what the punctuation covers; or all.
 fn wake_by(
     alloc: Global,
     watches: &mut Watches,
-    path: &Path<'_>,
-    entry: usize,
-    coverage: &Coverage<'_>,
+    route: &RecheckRoute,
+    states: &[State],
+    punct: &Punct,
 ) -> Result<(), NoMemory>
-    requires wide { AreWide path.now.states }
-    requires of { IsOfEntry path.now entry coverage.now }
-    requires few { entry + 1 < 2 ^ 64 }
+    requires wide { AreWide states.now }
+    requires fits { RouteFits states.now route.now }
     ensures fewer { IsFewer watches.old watches.new }
-    ensures left { OnOk result (IsUnmet path.now entry coverage.now watches.new) }
+    ensures left { OnOk result (RouteLeaves states.now route.now punct.now watches.new) }
 {
-    if !coverage.is_of_scheme() {
+    if !is_wild_elsewhere(&route.scheme, punct) {
         return Ok(());
     }
-    match own_rows(path, entry, coverage) {
+    match own_rows(states, route, punct) {
         Some(found) => watches.mark(found),
-        None => match asking(alloc, path, entry, coverage)? {
+        None => match asking(alloc, states, route, punct)? {
             None => {
                 watches.mark_all();
                 Ok(())
@@ -171,92 +277,48 @@ fn wake_by(
     }
 }
 
-// The same for an entry of any input.
-fn wake_entry(
+// The same among those of the route's owner.
+fn wake_at(
     alloc: Global,
-    watches: &mut Watches,
-    path: &Path<'_>,
-    entry: usize,
-    coming: &LentPunct<'_>,
+    watches: &mut Vec<Watches>,
+    route: &RecheckRoute,
+    states: &[State],
+    punct: &Punct,
 ) -> Result<(), NoMemory>
-    requires wide { AreWide path.now.states }
-    requires within { entry < length path.now.cert }
-    requires few { entry + 1 < 2 ^ 64 }
-    ensures fewer { IsFewer watches.old watches.new }
-    ensures left { OnOk result (IsLeftBy path.now entry coming.now watches.new) }
+    requires wide { AreWide states.now }
+    requires fits { RouteFits states.now route.now }
+    ensures fewer { AreFewer watches.old.items watches.new.items }
+    ensures left { OnOk result (LeavesOwner states.now route.now punct.now watches.new.items) }
 {
-    let step = *path.cert.at(entry);
-    if step.input != coming.input {
+    if route.owner as usize >= watches.len() {
         return Ok(());
     }
-    match scheme_of(path.schemes, step) {
-        None => {
-            watches.mark_all();
-            Ok(())
-        }
-        Some(scheme) => wake_by(
-            alloc,
-            watches,
-            path,
-            entry,
-            &coming.coverage(path.classes, scheme),
-        ),
-    }
-}
-
-// The same for all entries.
-fn wake_along(
-    alloc: Global,
-    watches: &mut Watches,
-    path: &Path<'_>,
-    coming: &LentPunct<'_>,
-) -> Result<(), NoMemory>
-    requires wide { AreWide path.now.states }
-    ensures fewer { IsFewer watches.old watches.new }
-    ensures left { OnOk result (AreLeftBy path.now (length path.now.cert) coming.now watches.new) }
-{
-    for entry in 0..path.cert.len() {
-        wake_entry(alloc, watches, path, entry, coming)?;
-    }
+    wake_by(
+        alloc,
+        &mut watches[route.owner as usize],
+        route,
+        states,
+        punct,
+    )?;
     Ok(())
 }
 
-// The same for the input with this number.
-fn wake_at(
-    alloc: Global,
-    watches: &mut Watches,
-    join: &Certified<'_>,
-    states: &[State],
-    at: usize,
-    coming: &LentPunct<'_>,
-) -> Result<(), NoMemory>
-    requires few { at < 2 ^ 32 }
-    requires wide { AreWide states.now }
-    ensures fewer { IsFewer watches.old watches.new }
-    ensures left { OnOk result (AreLeftAt join.now states.now coming.now watches.new at) }
-{
-    match join.certs.get(at) {
-        None => Ok(()),
-        Some(cert) => wake_along(alloc, watches, &join.path(cert, at, states), coming),
-    }
-}
-
-/// Marks the rows of each input that ask for what the punctuation of another one covers. On a refusal some may be
-/// marked.
+/// Marks the rows of each input that ask for what a punctuation covers that comes where these routes begin. On a refusal some
+/// may be marked.
 pub fn wake(
     alloc: Global,
     watches: &mut Vec<Watches>,
-    join: &Certified<'_>,
+    routes: &[RecheckRoute],
     states: &[State],
-    coming: &LentPunct<'_>,
+    punct: &Punct,
 ) -> Result<(), NoMemory>
-    requires few { length watches.old.items < 2 ^ 32 }
     requires wide { AreWide states.now }
+    requires fit { RoutesFit states.now routes.now }
     ensures fewer { AreFewer watches.old.items watches.new.items }
-    ensures left { OnOk result (AreLeft join.now states.now coming.now watches.new.items (length watches.old.items)) }
+    ensures left { OnOk result (RoutesLeave states.now routes.now punct.now watches.new.items) }
 {
-    for at in 0..watches.len() {
-        wake_at(alloc, &mut watches[at], join, states, at, coming)?;
+    for route in routes {
+        wake_at(alloc, watches, route, states, punct)?;
     }
     Ok(())
 }

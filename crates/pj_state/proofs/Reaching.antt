@@ -31,12 +31,6 @@ before-back bs i j before b e lt is h =
     let long : before ≡ length (flat (take i bs)) + length b = h.1 ∙ (ap (λ n. length (flat (take n bs))) (sym e) ∙ length-next bs i b lt is) in
     (omega (arith, long), (omega (arith, lt), omega (arith, long)))
 
--- no place is behind the last block
-pub before-end : (bs : List (List Place)) (i before at : ℕ) → length bs ≤ i → AreBefore bs i before → before ≤ at → at < length (flat bs) → ⊥
-before-end bs i before at le h from lt =
-    let same : length bs ≡ i = omega (arith, le, h.0) in
-    omega (arith, lt, from, h.1, ap (λ n. length (flat (take n bs))) same, ap (λ (cs : List (List Place)). length (flat cs)) (take-all bs))
-
 -- the place at a position stands in its block
 pub place-in : (bs : List (List Place)) (i before at : ℕ) (b : List Place) (p : Place) → AreBefore bs i before → i < length bs → before ≤ at → at < before + length b → b ≡ get_or bs i b
     → slice_get b (at - before) ≡ Some p → slice_get (flat bs) at ≡ Some p

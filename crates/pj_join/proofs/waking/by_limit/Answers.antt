@@ -1,9 +1,10 @@
-use Rattle.pj_join.proofs.Paths.{may_be_by_limit}
+use Rattle.pj_join.proofs.Rechecked.{limit_indexed, stop_by_limit}
 use Rattle.pj_join.proofs.waking.by_limit.Goals as goal
 
-pub returns-in_ok-found-in-Some-first_limit : goal.returns-in_ok-found-in-Some-first_limit
-returns-in_ok-found-in-Some-first_limit c =
-    may_be_by_limit c.args.path.now c.args.entry c.args.coverage.now c.args.at c.in-Some.side c.in-Some-first_limit.limit.column c.in-Some-first_limit.limit.pattern.now c.in_ok-tickets-in-Some-first_limit.tickets c.in_ok-found-in-Some-first_limit.found c.requires.wide c.requires.of
-    c.requires.within c.in-Some.ensures.input c.in-Some.ensures.rows c.in-Some-first_limit.ensures.indexed c.in-Some-first_limit.ensures.limits
-    (rw (← c.side-in-Some.view_is) c.in_ok-tickets-in-Some-first_limit.ensures)
-    c.in_ok-found-in-Some-first_limit.ensures
+pub matching_tickets-requires : goal.matching_tickets-requires
+matching_tickets-requires c = limit_indexed c.args.states.now c.args.stop.now.input c.in-Some.state.now c.args.stop.now.leads c.as_slice.result.now c.args.punct.now c.in-Some-limit_of.limit.column c.in-Some-limit_of.limit.pattern.now c.requires.fits.leads c.in-Some.ensures c.as_slice.ensures c.in-Some-limit_of.ensures
+
+pub returns-in_ok-found-in-Some-way : goal.returns-in_ok-found-in-Some-way
+returns-in_ok-found-in-Some-way c =
+    stop_by_limit c.args.states.now c.args.stop.now c.args.punct.now c.in-Some.state.now c.as_slice.result.now c.in-Some-limit_of.limit.column c.in-Some-limit_of.limit.pattern.now c.in_ok-tickets-in-Some-way.tickets c.as_slice-in-Some-way.result.now c.in_ok-found-in-Some-way.found c.in-Some-way.way
+    c.requires.wide c.requires.fits c.in-Some.ensures c.as_slice.ensures c.in-Some-limit_of.ensures c.in-Some-way.is c.in_ok-tickets-in-Some-way.ensures c.as_slice-in-Some-way.ensures c.in_ok-found-in-Some-way.ensures

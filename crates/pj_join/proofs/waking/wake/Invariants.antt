@@ -1,5 +1,7 @@
-use Rattle.pj_join.specs.Watching.{AreFewer, AreLeft}
+use Rattle.std.proofs.Common.{take}
+use Rattle.pj_join.specs.Recheck.{RoutesLeave}
+use Rattle.pj_join.specs.Watching.{AreFewer}
 use Rattle.pj_join.proofs.waking.wake.Given as goal
 
-abbrev pub invariant-loop-at : goal.invariant-loop-at
-invariant-loop-at l = AreFewer l.fn.watches.items l.watches.items × AreLeft l.join l.states l.coming l.watches.items l.at
+abbrev pub invariant-loop-route : goal.invariant-loop-route
+invariant-loop-route l = AreFewer l.fn.watches.items l.watches.items × RoutesLeave l.states (take l.route-index l.routes) l.punct l.watches.items

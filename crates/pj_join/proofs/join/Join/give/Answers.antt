@@ -24,6 +24,7 @@ invariant_of-self c =
       rw (c.forget.ensures, c.ticket.ensures) (watched_rises (join_data (arc_value c.self.inside.spec) c.self.inside.schemes c.self.inside.certs) c.self.inside.next (lowest c.self.inside.next c.self.inside.done (log_of c.self.inside.states.items) c.self.inside.taken.items) (lowest c.self.inside.next c.self.inside.done (log_of c.self.inside.states.items) (without c.self.inside.taken.items c.args.probe.ticket)) (log_of c.self.inside.states.items) (puncts_of c.self.inside.stores.items) c.self.inside.watches.items (lowest_give c.self.inside.next c.self.inside.done (log_of c.self.inside.states.items) c.self.inside.taken.items c.args.probe.ticket) c.self.invariant.1),
       c.self.invariant.2,
       c.self.invariant.3,
+      c.self.invariant.4,
     )
 
 pub returns-clause-gives : goal.returns-clause-gives

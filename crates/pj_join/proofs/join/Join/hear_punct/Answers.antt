@@ -20,11 +20,25 @@ use Rattle.pj_join.specs.Holding.{AreHeld}
 use Rattle.pj_join.specs.Watching.{AreWatched}
 use Rattle.pj_join.proofs.Holding.{held_same, hears}
 use Rattle.pj_join.proofs.Watched.{watched_fewer, watched_punct}
+use Rattle.pj_join.specs.Recheck.{AreRoutes}
+use Rattle.pj_join.proofs.Rechecked.{fit_now, left_now}
 use Rattle.pj_join.proofs.Looped.{state_is}
 use Rattle.pj_join.proofs.join.Join.hear_punct.Goals as goal
 
 pub index-requires : goal.index-requires
 index-requires c =
+    let lt : c.args.input < inputs c.args.self.now.spec = c.requires.fits.0 in
+    let there : c.args.input < inputs (join_data (arc_value c.self.inside.spec) c.self.inside.schemes c.self.inside.certs) = rw (← c.self.view_is) at lt in
+    omega (arith, there, c.self.invariant.4.long, c.self.inside.rechecks.ok)
+
+pub wake-requires-clause-fit : goal.wake-requires-clause-fit
+wake-requires-clause-fit c =
+    let lt : c.args.input < inputs c.args.self.now.spec = c.requires.fits.0 in
+    let there : c.args.input < inputs (join_data (arc_value c.self.inside.spec) c.self.inside.schemes c.self.inside.certs) = rw (← c.self.view_is) at lt in
+    fit_now (join_data (arc_value c.self.inside.spec) c.self.inside.schemes c.self.inside.certs) c.self.inside.states.items c.as_slice-2.result.now c.self.inside.rechecks.items c.args.input c.index.result.now c.as_slice.result.now c.self.invariant.4 there c.index.ensures c.as_slice.ensures c.as_slice-2.ensures.value
+
+pub index-requires-2 : goal.index-requires-2
+index-requires-2 c =
     let lt : c.args.input < inputs c.args.self.now.spec = c.requires.fits.0 in
     let there : c.args.input < inputs (join_data (arc_value c.self.inside.spec) c.self.inside.schemes c.self.inside.certs) = rw (← c.self.view_is) at lt in
     omega (arith, there, all-states (join_data (arc_value c.self.inside.spec) c.self.inside.schemes c.self.inside.certs) c.self.inside.limit c.self.inside.next c.self.inside.done c.self.inside.states.items c.self.inside.stores.items c.self.inside.pending c.self.inside.taken.items c.self.invariant.0, c.self.inside.states.ok)
@@ -39,14 +53,15 @@ pub wake-requires-clause-wide : goal.wake-requires-clause-wide
 wake-requires-clause-wide c = subst (λ (ss : List StateView). AreWide ss) (sym c.as_slice-2.ensures.value) (wide (join_data (arc_value c.self.inside.spec) c.self.inside.schemes c.self.inside.certs) c.self.inside.limit c.self.inside.next c.self.inside.done c.self.inside.states.items c.self.inside.stores.items c.self.inside.pending c.self.inside.taken.items c.self.invariant.0)
 
 pub invariant_of-self : goal.invariant_of-self
-invariant_of-self c = (c.self.invariant.0, (watched_fewer (join_data (arc_value c.self.inside.spec) c.self.inside.schemes c.self.inside.certs) c.self.inside.next (lowest c.self.inside.next c.self.inside.done (log_of c.self.inside.states.items) c.self.inside.taken.items) (log_of c.self.inside.states.items) (puncts_of c.self.inside.stores.items) c.self.inside.watches.items c.wake.new.watches.items c.wake.ensures.fewer c.self.invariant.1), c.self.invariant.2, c.self.invariant.3)
+invariant_of-self c = (c.self.invariant.0, (watched_fewer (join_data (arc_value c.self.inside.spec) c.self.inside.schemes c.self.inside.certs) c.self.inside.next (lowest c.self.inside.next c.self.inside.done (log_of c.self.inside.states.items) c.self.inside.taken.items) (log_of c.self.inside.states.items) (puncts_of c.self.inside.stores.items) c.self.inside.watches.items c.wake.new.watches.items c.wake.ensures.fewer c.self.invariant.1), c.self.invariant.2, c.self.invariant.3, c.self.invariant.4)
 
 pub invariant_of-self-in_err-hear : goal.invariant_of-self-in_err-hear
 invariant_of-self-in_err-hear c =
     let lt : c.args.input < inputs c.args.self.now.spec = c.requires.fits.0 in
     let there : c.args.input < inputs (join_data (arc_value c.self.inside.spec) c.self.inside.schemes c.self.inside.certs) = rw (← c.self.view_is) at lt in
     subst (λ (ss : List Store). IsJoin (join_data (arc_value c.self.inside.spec) c.self.inside.schemes c.self.inside.certs) c.self.inside.limit (inside c.self.inside.next c.self.inside.done c.self.inside.states.items ss c.self.inside.pending c.self.inside.taken.items) × AreWatched (join_data (arc_value c.self.inside.spec) c.self.inside.schemes c.self.inside.certs) c.self.inside.next (lowest c.self.inside.next c.self.inside.done (log_of c.self.inside.states.items) c.self.inside.taken.items) (log_of c.self.inside.states.items) (puncts_of ss) c.wake.new.watches.items × AreHeld c.self.inside.next (log_of c.self.inside.states.items) c.hear.new.waiting × AreProbeRoutes (arc_value c.self.inside.spec).classes (columns_of c.self.inside.states.items) c.self.inside.routes)
-    (sym (same-stores (join_data (arc_value c.self.inside.spec) c.self.inside.schemes c.self.inside.certs) c.self.inside.limit c.self.inside.next c.self.inside.done c.self.inside.states.items c.self.inside.stores.items c.self.inside.pending c.self.inside.taken.items c.self.invariant.0 c.args.input c.index_mut.result.now c.hear.new.store there c.index_mut.ensures.value c.in_err-hear.ensures.arity c.in_err-hear.ensures.err.0)) (c.self.invariant.0, (watched_fewer (join_data (arc_value c.self.inside.spec) c.self.inside.schemes c.self.inside.certs) c.self.inside.next (lowest c.self.inside.next c.self.inside.done (log_of c.self.inside.states.items) c.self.inside.taken.items) (log_of c.self.inside.states.items) (puncts_of c.self.inside.stores.items) c.self.inside.watches.items c.wake.new.watches.items c.wake.ensures.fewer c.self.invariant.1), held_same c.self.inside.next (log_of c.self.inside.states.items) c.self.inside.waiting c.hear.new.waiting c.in_err-hear.ensures.err.1 c.in_err-hear.ensures.keeps c.self.invariant.2, c.self.invariant.3)
+    (sym (same-stores (join_data (arc_value c.self.inside.spec) c.self.inside.schemes c.self.inside.certs) c.self.inside.limit c.self.inside.next c.self.inside.done c.self.inside.states.items c.self.inside.stores.items c.self.inside.pending c.self.inside.taken.items c.self.invariant.0 c.args.input c.index_mut.result.now c.hear.new.store there c.index_mut.ensures.value c.in_err-hear.ensures.arity c.in_err-hear.ensures.err.0)) (c.self.invariant.0, (watched_fewer (join_data (arc_value c.self.inside.spec) c.self.inside.schemes c.self.inside.certs) c.self.inside.next (lowest c.self.inside.next c.self.inside.done (log_of c.self.inside.states.items) c.self.inside.taken.items) (log_of c.self.inside.states.items) (puncts_of c.self.inside.stores.items) c.self.inside.watches.items c.wake.new.watches.items c.wake.ensures.fewer c.self.invariant.1), held_same c.self.inside.next (log_of c.self.inside.states.items) c.self.inside.waiting c.hear.new.waiting c.in_err-hear.ensures.err.1 c.in_err-hear.ensures.keeps c.self.invariant.2, c.self.invariant.3 × AreRoutes (join_data (arc_value c.self.inside.spec) c.self.inside.schemes c.self.inside.certs) c.self.inside.states.items (inputs (join_data (arc_value c.self.inside.spec) c.self.inside.schemes c.self.inside.certs)) c.self.inside.rechecks.items)
+    (sym (same-stores (join_data (arc_value c.self.inside.spec) c.self.inside.schemes c.self.inside.certs) c.self.inside.limit c.self.inside.next c.self.inside.done c.self.inside.states.items c.self.inside.stores.items c.self.inside.pending c.self.inside.taken.items c.self.invariant.0 c.args.input c.index_mut.result.now c.hear.new.store there c.index_mut.ensures.value c.in_err-hear.ensures.arity c.in_err-hear.ensures.err.0)) (c.self.invariant.0, (watched_fewer (join_data (arc_value c.self.inside.spec) c.self.inside.schemes c.self.inside.certs) c.self.inside.next (lowest c.self.inside.next c.self.inside.done (log_of c.self.inside.states.items) c.self.inside.taken.items) (log_of c.self.inside.states.items) (puncts_of c.self.inside.stores.items) c.self.inside.watches.items c.wake.new.watches.items c.wake.ensures.fewer c.self.invariant.1), held_same c.self.inside.next (log_of c.self.inside.states.items) c.self.inside.waiting c.hear.new.waiting c.in_err-hear.ensures.err.1 c.in_err-hear.ensures.keeps c.self.invariant.2, c.self.invariant.4)
 
 pub invariant_of-self-2 : goal.invariant_of-self-2
 invariant_of-self-2 c =
@@ -54,11 +69,12 @@ invariant_of-self-2 c =
     let there : c.args.input < inputs (join_data (arc_value c.self.inside.spec) c.self.inside.schemes c.self.inside.certs) = rw (← c.self.view_is) at lt in (
       join-hears (join_data (arc_value c.self.inside.spec) c.self.inside.schemes c.self.inside.certs) c.self.inside.limit c.self.inside.next c.self.inside.done c.self.inside.states.items c.self.inside.stores.items c.self.inside.pending c.self.inside.taken.items c.self.invariant.0 c.args.input c.args.punct c.index_mut.result.now c.hear.new.store there (λ d. c.index_mut.ensures.value ∙ same-at c.self.inside.stores.items c.args.input c.index_mut.result.now d (omega (arith, there, all-stores (join_data (arc_value c.self.inside.spec) c.self.inside.schemes c.self.inside.certs) c.self.inside.limit c.self.inside.next c.self.inside.done c.self.inside.states.items c.self.inside.stores.items c.self.inside.pending c.self.inside.taken.items c.self.invariant.0))) c.in_ok-hear.ensures.arity c.in_ok-hear.ensures.store (λ e. false≢true (c.if-is_full.ensures.1 e)),
       subst (λ (ps : List PunctAt). AreWatched (join_data (arc_value c.self.inside.spec) c.self.inside.schemes c.self.inside.certs) (c.self.inside.next + 1) (lowest (c.self.inside.next + 1) c.self.inside.done (log_of c.self.inside.states.items) c.self.inside.taken.items) (log_of c.self.inside.states.items) ps c.wake.new.watches.items) (sym (puncts-more (join_data (arc_value c.self.inside.spec) c.self.inside.schemes c.self.inside.certs) c.self.inside.limit c.self.inside.next c.self.inside.done c.self.inside.states.items c.self.inside.stores.items c.self.inside.pending c.self.inside.taken.items c.self.invariant.0 c.args.input c.args.punct c.index_mut.result.now c.hear.new.store there (λ d. c.index_mut.ensures.value ∙ same-at c.self.inside.stores.items c.args.input c.index_mut.result.now d (omega (arith, there, all-stores (join_data (arc_value c.self.inside.spec) c.self.inside.schemes c.self.inside.certs) c.self.inside.limit c.self.inside.next c.self.inside.done c.self.inside.states.items c.self.inside.stores.items c.self.inside.pending c.self.inside.taken.items c.self.invariant.0))) c.in_ok-hear.ensures.arity c.in_ok-hear.ensures.store))
-          (watched_punct (join_data (arc_value c.self.inside.spec) c.self.inside.schemes c.self.inside.certs) c.self.inside.limit c.self.inside.next c.self.inside.done c.self.inside.states.items c.self.inside.stores.items c.self.inside.pending c.self.inside.taken.items c.self.invariant.0 c.self.inside.watches.items c.wake.new.watches.items (lowest c.self.inside.next c.self.inside.done (log_of c.self.inside.states.items) c.self.inside.taken.items) (lowest (c.self.inside.next + 1) c.self.inside.done (log_of c.self.inside.states.items) c.self.inside.taken.items) (record { input = c.args.input; patterns = c.args.punct }) c.self.inside.next c.wake.ensures.fewer (rw (c.deref.ensures, c.as_slice.ensures, c.as_slice-2.ensures.value) at c.in_ok-wake.ensures.left) (lowest_punct c.self.inside.next c.self.inside.done (log_of c.self.inside.states.items) c.self.inside.taken.items) c.self.invariant.1),
-      hears c.self.inside.next (log_of c.self.inside.states.items) c.index.result.now.rows c.args.input c.self.inside.waiting c.hear.new.waiting (record { ticket = c.self.inside.next; input = c.args.input; patterns = c.args.punct })
-          (ap (λ (s : StateView). map (tuple_in c.args.input) s.rows) (state_is c.self.inside.states.items c.args.input c.index.result.now (inputs (join_data (arc_value c.self.inside.spec) c.self.inside.schemes c.self.inside.certs)) (all-states (join_data (arc_value c.self.inside.spec) c.self.inside.schemes c.self.inside.certs) c.self.inside.limit c.self.inside.next c.self.inside.done c.self.inside.states.items c.self.inside.stores.items c.self.inside.pending c.self.inside.taken.items c.self.invariant.0) there c.index.ensures) ∙ side-is (join_data (arc_value c.self.inside.spec) c.self.inside.schemes c.self.inside.certs) c.self.inside.limit c.self.inside.next c.self.inside.done c.self.inside.states.items c.self.inside.stores.items c.self.inside.pending c.self.inside.taken.items c.self.invariant.0 c.args.input there)
+          (watched_punct (join_data (arc_value c.self.inside.spec) c.self.inside.schemes c.self.inside.certs) c.self.inside.limit c.self.inside.next c.self.inside.done c.self.inside.states.items c.self.inside.stores.items c.self.inside.pending c.self.inside.taken.items c.self.invariant.0 c.self.inside.watches.items c.wake.new.watches.items (lowest c.self.inside.next c.self.inside.done (log_of c.self.inside.states.items) c.self.inside.taken.items) (lowest (c.self.inside.next + 1) c.self.inside.done (log_of c.self.inside.states.items) c.self.inside.taken.items) (record { input = c.args.input; patterns = c.args.punct }) c.self.inside.next c.wake.ensures.fewer (left_now (join_data (arc_value c.self.inside.spec) c.self.inside.schemes c.self.inside.certs) c.self.inside.states.items c.as_slice-2.result.now c.self.inside.rechecks.items (record { input = c.args.input; patterns = c.args.punct }) c.index.result.now c.as_slice.result.now c.self.inside.watches.items c.wake.new.watches.items c.self.invariant.4 there c.index.ensures c.as_slice.ensures c.as_slice-2.ensures.value c.self.invariant.1.count c.wake.ensures.fewer c.in_ok-wake.ensures.left) (lowest_punct c.self.inside.next c.self.inside.done (log_of c.self.inside.states.items) c.self.inside.taken.items) c.self.invariant.1),
+      hears c.self.inside.next (log_of c.self.inside.states.items) c.index-2.result.now.rows c.args.input c.self.inside.waiting c.hear.new.waiting (record { ticket = c.self.inside.next; input = c.args.input; patterns = c.args.punct })
+          (ap (λ (s : StateView). map (tuple_in c.args.input) s.rows) (state_is c.self.inside.states.items c.args.input c.index-2.result.now (inputs (join_data (arc_value c.self.inside.spec) c.self.inside.schemes c.self.inside.certs)) (all-states (join_data (arc_value c.self.inside.spec) c.self.inside.schemes c.self.inside.certs) c.self.inside.limit c.self.inside.next c.self.inside.done c.self.inside.states.items c.self.inside.stores.items c.self.inside.pending c.self.inside.taken.items c.self.invariant.0) there c.index-2.ensures) ∙ side-is (join_data (arc_value c.self.inside.spec) c.self.inside.schemes c.self.inside.certs) c.self.inside.limit c.self.inside.next c.self.inside.done c.self.inside.states.items c.self.inside.stores.items c.self.inside.pending c.self.inside.taken.items c.self.invariant.0 c.args.input there)
           refl refl c.in_ok-hear.ensures.waiting c.in_ok-hear.ensures.keeps c.in_ok-hear.ensures.listed c.self.invariant.2,
       c.self.invariant.3,
+      c.self.invariant.4,
     )
 
 pub returns-clause-keeps : goal.returns-clause-keeps
@@ -67,7 +83,7 @@ returns-clause-keeps c =
     let there : c.args.input < inputs (join_data (arc_value c.self.inside.spec) c.self.inside.schemes c.self.inside.certs) = rw (← c.self.view_is) at lt in
     rw (← c.self.view_is)
     (punct_view c.self.inside.node (join_data (arc_value c.self.inside.spec) c.self.inside.schemes c.self.inside.certs) c.self.inside.limit c.self.inside.next c.self.inside.done (log_of c.self.inside.states.items) (puncts_of c.self.inside.stores.items) _ c.self.inside.waiting.puncts c.hear.new.waiting.puncts c.self.inside.taken.items _ (record { ticket = c.self.inside.next; input = c.args.input; patterns = c.args.punct })
-    (held-at-first (join_data (arc_value c.self.inside.spec) c.self.inside.schemes c.self.inside.certs) c.self.inside.limit c.self.inside.next c.self.inside.done c.self.inside.states.items c.self.inside.stores.items c.self.inside.pending c.self.inside.taken.items c.self.invariant.0 c.index.result.now (record { ticket = c.self.inside.next; input = c.args.input; patterns = c.args.punct }) there (state_is c.self.inside.states.items c.args.input c.index.result.now (inputs (join_data (arc_value c.self.inside.spec) c.self.inside.schemes c.self.inside.certs)) (all-states (join_data (arc_value c.self.inside.spec) c.self.inside.schemes c.self.inside.certs) c.self.inside.limit c.self.inside.next c.self.inside.done c.self.inside.states.items c.self.inside.stores.items c.self.inside.pending c.self.inside.taken.items c.self.invariant.0) there c.index.ensures)) refl
+    (held-at-first (join_data (arc_value c.self.inside.spec) c.self.inside.schemes c.self.inside.certs) c.self.inside.limit c.self.inside.next c.self.inside.done c.self.inside.states.items c.self.inside.stores.items c.self.inside.pending c.self.inside.taken.items c.self.invariant.0 c.index-2.result.now (record { ticket = c.self.inside.next; input = c.args.input; patterns = c.args.punct }) there (state_is c.self.inside.states.items c.args.input c.index-2.result.now (inputs (join_data (arc_value c.self.inside.spec) c.self.inside.schemes c.self.inside.certs)) (all-states (join_data (arc_value c.self.inside.spec) c.self.inside.schemes c.self.inside.certs) c.self.inside.limit c.self.inside.next c.self.inside.done c.self.inside.states.items c.self.inside.stores.items c.self.inside.pending c.self.inside.taken.items c.self.invariant.0) there c.index-2.ensures)) refl
     (puncts-more (join_data (arc_value c.self.inside.spec) c.self.inside.schemes c.self.inside.certs) c.self.inside.limit c.self.inside.next c.self.inside.done c.self.inside.states.items c.self.inside.stores.items c.self.inside.pending c.self.inside.taken.items c.self.invariant.0 c.args.input c.args.punct c.index_mut.result.now c.hear.new.store there (λ d. c.index_mut.ensures.value ∙ same-at c.self.inside.stores.items c.args.input c.index_mut.result.now d (omega (arith, there, all-stores (join_data (arc_value c.self.inside.spec) c.self.inside.schemes c.self.inside.certs) c.self.inside.limit c.self.inside.next c.self.inside.done c.self.inside.states.items c.self.inside.stores.items c.self.inside.pending c.self.inside.taken.items c.self.invariant.0))) c.in_ok-hear.ensures.arity c.in_ok-hear.ensures.store) c.in_ok-hear.ensures.waiting)
 
 pub returns-clause-stands : goal.returns-clause-stands
@@ -81,8 +97,8 @@ returns-clause-out c =
     let there : c.args.input < inputs (join_data (arc_value c.self.inside.spec) c.self.inside.schemes c.self.inside.certs) = rw (← c.self.view_is) at lt in
     rw (← c.self.view_is)
     (punct_out (seen (made_with c.self.inside.node (join_data (arc_value c.self.inside.spec) c.self.inside.schemes c.self.inside.certs) c.self.inside.limit) c.self.inside.next c.self.inside.done (log_of c.self.inside.states.items) (puncts_of c.self.inside.stores.items) c.self.inside.waiting.puncts c.self.inside.taken.items) c.args.input c.args.punct
-    (still_held c.index.result.now.rows [] c.args.punct) (record { ticket = c.self.inside.next; input = c.args.input; patterns = c.args.punct }) c.args.out.now c.hear.new.out (held-at-first (join_data (arc_value c.self.inside.spec) c.self.inside.schemes c.self.inside.certs) c.self.inside.limit c.self.inside.next c.self.inside.done c.self.inside.states.items c.self.inside.stores.items c.self.inside.pending c.self.inside.taken.items c.self.invariant.0 c.index.result.now (record { ticket = c.self.inside.next; input = c.args.input; patterns = c.args.punct }) there (state_is c.self.inside.states.items c.args.input c.index.result.now (inputs (join_data (arc_value c.self.inside.spec) c.self.inside.schemes c.self.inside.certs)) (all-states (join_data (arc_value c.self.inside.spec) c.self.inside.schemes c.self.inside.certs) c.self.inside.limit c.self.inside.next c.self.inside.done c.self.inside.states.items c.self.inside.stores.items c.self.inside.pending c.self.inside.taken.items c.self.invariant.0) there c.index.ensures)) refl
-    (c.in_ok-hear.ensures.out ∙ ap (λ schemas. c.args.out.now ++ going_at_once schemas (still_held c.index.result.now.rows [] c.args.punct) (record { ticket = c.self.inside.next; input = c.args.input; patterns = c.args.punct })) (c.as_slice-3.ensures ∙ ap (λ (s : JoinSpec). s.inputs) c.deref-2.ensures)))
+    (still_held c.index-2.result.now.rows [] c.args.punct) (record { ticket = c.self.inside.next; input = c.args.input; patterns = c.args.punct }) c.args.out.now c.hear.new.out (held-at-first (join_data (arc_value c.self.inside.spec) c.self.inside.schemes c.self.inside.certs) c.self.inside.limit c.self.inside.next c.self.inside.done c.self.inside.states.items c.self.inside.stores.items c.self.inside.pending c.self.inside.taken.items c.self.invariant.0 c.index-2.result.now (record { ticket = c.self.inside.next; input = c.args.input; patterns = c.args.punct }) there (state_is c.self.inside.states.items c.args.input c.index-2.result.now (inputs (join_data (arc_value c.self.inside.spec) c.self.inside.schemes c.self.inside.certs)) (all-states (join_data (arc_value c.self.inside.spec) c.self.inside.schemes c.self.inside.certs) c.self.inside.limit c.self.inside.next c.self.inside.done c.self.inside.states.items c.self.inside.stores.items c.self.inside.pending c.self.inside.taken.items c.self.invariant.0) there c.index-2.ensures)) refl
+    (c.in_ok-hear.ensures.out ∙ ap (λ schemas. c.args.out.now ++ going_at_once schemas (still_held c.index-2.result.now.rows [] c.args.punct) (record { ticket = c.self.inside.next; input = c.args.input; patterns = c.args.punct })) (c.as_slice-3.ensures ∙ ap (λ (s : JoinSpec). s.inputs) c.deref.ensures)))
 
 pub returns-clause-hands : goal.returns-clause-hands
 returns-clause-hands c = hands-punct c.args.self.now c.args.input c.args.punct

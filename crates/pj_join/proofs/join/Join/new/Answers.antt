@@ -1,4 +1,4 @@
-use Rattle.std.proofs.Common.{◌∙◌, [], List, map, length, ap, ap₂, sym, subst}
+use Rattle.std.proofs.Common.{◌∙◌, [], List, map, length, ap, ap₂, arith, sym, subst}
 use Rattle.pj_shape.specs.declared.columns.Column.{Column}
 use Rattle.pj_shape.specs.Sound.{arities_of}
 use Rattle.pj_events.specs.Join.{ClassCol, PunctAt, TupleAt, upto_from}
@@ -14,6 +14,9 @@ use Rattle.pj_join.proofs.Holding.{held_none}
 use Rattle.pj_join.proofs.Kept.{join-starts, log-none, puncts-none}
 use Rattle.pj_join.proofs.join.Join.new.Goals as goal
 
+pub routes_of-requires : goal.routes_of-requires
+routes_of-requires c = omega (arith, c.requires.sound.few_inputs.1, length-map c.args.spec.inputs (λ schema. length schema))
+
 pub invariant_of-result : goal.invariant_of-result
 invariant_of-result c = (
   rw (c.of.ensures, c.new-3.ensures.items, c.new-4.ensures.items, c.in_ok-new.ensures.ok)
@@ -25,6 +28,7 @@ invariant_of-result c = (
   held_none 0 _ c.new-2.result c.new-2.ensures,
   rw (c.in_ok-new.ensures.ok) (subst (λ (classes : List (List ClassCol)). AreProbeRoutes classes (columns_of c.in_ok-states.states.items) c.in_ok-routes.routes) c.as_slice-2.ensures
       (subst (λ (states : List StateView). AreProbeRoutes c.as_slice-2.result.now (columns_of states) c.in_ok-routes.routes) c.as_slice-3.ensures.value c.in_ok-routes.ensures)),
+  rw (c.in_ok-new.ensures.ok) (rw (c.as_slice-4.ensures, c.as_slice-5.ensures.value) at c.in_ok-rechecks.ensures),
 )
 
 pub returns : goal.returns

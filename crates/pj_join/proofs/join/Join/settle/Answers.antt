@@ -1,4 +1,4 @@
-use Rattle.std.proofs.Common.{◌≡◌, ◌<◌, ◌∙◌, [], List, ap, arith, length, sym, subst}
+use Rattle.std.proofs.Common.{◌≡◌, ◌<◌, ◌∙◌, [], List, ap, arith, length, set, sym, subst}
 use Rattle.std.proofs.lemmas.List.{length-map}
 use Rattle.std.specs.Arc.{arc_value}
 use Rattle.pj_events.specs.Join.{TupleAt, inputs}
@@ -16,6 +16,8 @@ use Rattle.pj_join.specs.Watching.{AreOpenBut}
 use Rattle.pj_join.proofs.Holding.{held_none}
 use Rattle.pj_join.proofs.Routed.{routes_kept}
 use Rattle.pj_join.proofs.Settled.{settled}
+use Rattle.pj_join.proofs.Woken.{set-count}
+use Rattle.pj_join.proofs.Rechecked.{back_fit_now, columns_set, roused_now, routes_stay}
 use Rattle.pj_join.proofs.join.Join.settle.Goals as goal
 
 pub overflow_sub-self : goal.overflow_sub-self
@@ -38,6 +40,18 @@ index_mut-requires c =
     let there : c.args.input < inputs (join_data (arc_value c.self.inside.spec) c.self.inside.schemes c.self.inside.certs) = rw (← c.self.view_is) at lt in
     omega (arith, there, c.self.invariant.1.count, c.self.inside.watches.ok)
 
+pub index-requires : goal.index-requires
+index-requires c =
+    let lt : c.args.input < inputs c.args.self.now.spec = c.requires.there in
+    let there : c.args.input < inputs (join_data (arc_value c.self.inside.spec) c.self.inside.schemes c.self.inside.certs) = rw (← c.self.view_is) at lt in
+    omega (arith, there, c.self.invariant.4.long, c.self.inside.rechecks.ok)
+
+pub rouse-requires-clause-fit : goal.rouse-requires-clause-fit
+rouse-requires-clause-fit c =
+    let lt : c.args.input < inputs c.args.self.now.spec = c.requires.there in
+    let there : c.args.input < inputs (join_data (arc_value c.self.inside.spec) c.self.inside.schemes c.self.inside.certs) = rw (← c.self.view_is) at lt in
+    back_fit_now (join_data (arc_value c.self.inside.spec) c.self.inside.schemes c.self.inside.certs) c.self.inside.states.items c.as_slice-2.result.now c.self.inside.rechecks.items c.args.input c.index.result.now c.as_slice.result.now c.self.invariant.4 there c.index.ensures c.as_slice.ensures c.as_slice-2.ensures.value
+
 pub rouse-requires-clause-wide : goal.rouse-requires-clause-wide
 rouse-requires-clause-wide c = subst (λ (ss : List StateView). AreWide ss) (sym c.as_slice-2.ensures.value) (wide (join_data (arc_value c.self.inside.spec) c.self.inside.schemes c.self.inside.certs) c.self.inside.limit c.self.inside.next c.self.inside.done c.self.inside.states.items c.self.inside.stores.items c.self.inside.pending c.self.inside.taken.items c.self.invariant.0)
 
@@ -55,9 +69,10 @@ invariant_of-self c =
       rw (c.len-count.ensures) (join-swept c.self.inside.node (join_data (arc_value c.self.inside.spec) c.self.inside.schemes c.self.inside.certs) c.self.inside.limit c.self.inside.next c.self.inside.done c.self.inside.states.items c.self.inside.stores.items c.self.inside.pending c.self.inside.taken.items c.self.inside.waiting.puncts c.args.input c.self.invariant.0 there c.args.left.gone gone c.index_mut-2.result.now c.remove_all.new.state (state_is c.self.inside.states.items c.args.input c.index_mut-2.result.now (inputs (join_data (arc_value c.self.inside.spec) c.self.inside.schemes c.self.inside.certs)) (all-states (join_data (arc_value c.self.inside.spec) c.self.inside.schemes c.self.inside.certs) c.self.inside.limit c.self.inside.next c.self.inside.done c.self.inside.states.items c.self.inside.stores.items c.self.inside.pending c.self.inside.taken.items c.self.invariant.0) there c.index_mut-2.ensures.value) (rw (← c.as_slice-4.ensures) c.remove_all.ensures)),
       rw (c.len-count.ensures)
           (settled c.self.inside.node (join_data (arc_value c.self.inside.spec) c.self.inside.schemes c.self.inside.certs) c.self.inside.limit c.self.inside.next c.self.inside.done c.self.inside.states.items c.self.inside.stores.items c.self.inside.pending c.self.inside.taken.items c.self.inside.waiting.puncts c.args.input c.self.invariant.0 there c.args.left.gone gone c.index_mut-2.result.now c.remove_all.new.state (state_is c.self.inside.states.items c.args.input c.index_mut-2.result.now (inputs (join_data (arc_value c.self.inside.spec) c.self.inside.schemes c.self.inside.certs)) (all-states (join_data (arc_value c.self.inside.spec) c.self.inside.schemes c.self.inside.certs) c.self.inside.limit c.self.inside.next c.self.inside.done c.self.inside.states.items c.self.inside.stores.items c.self.inside.pending c.self.inside.taken.items c.self.invariant.0) there c.index_mut-2.ensures.value) (rw (← c.as_slice-4.ensures) c.remove_all.ensures) c.low-from.result c.args.left.marked c.self.inside.watches.items c.rouse.new.watches.items low c.self.invariant.1 (rw (← c.self.view_is) at marks)
-          c.rouse.ensures.fewer (rw (c.deref.ensures, c.as_slice.ensures, c.as_slice-2.ensures.value, c.as_slice-3.ensures) at c.rouse.ensures.roused)),
+          c.rouse.ensures.fewer (roused_now (join_data (arc_value c.self.inside.spec) c.self.inside.schemes c.self.inside.certs) c.self.inside.states.items c.as_slice-2.result.now c.self.inside.rechecks.items c.args.input c.args.left.gone c.as_slice-3.result.now c.index.result.now c.as_slice.result.now (set c.self.inside.watches.items c.args.input (record { from = c.low-from.result; marked = c.args.left.marked })) c.rouse.new.watches.items c.self.invariant.4 there c.index.ensures c.as_slice.ensures c.as_slice-2.ensures.value c.as_slice-3.ensures (set-count c.self.inside.watches.items c.args.input (record { from = c.low-from.result; marked = c.args.left.marked }) ∙ c.self.invariant.1.count) c.rouse.ensures.fewer c.rouse.ensures.aside)),
       held_none c.self.inside.next _ c.self.inside.waiting none,
       routes_kept (arc_value c.self.inside.spec).classes c.self.inside.states.items c.self.inside.routes c.args.input c.index_mut-2.result.now c.remove_all.new.state c.self.invariant.3 (omega (arith, there, (all-states (join_data (arc_value c.self.inside.spec) c.self.inside.schemes c.self.inside.certs) c.self.inside.limit c.self.inside.next c.self.inside.done c.self.inside.states.items c.self.inside.stores.items c.self.inside.pending c.self.inside.taken.items c.self.invariant.0))) c.index_mut-2.ensures.value (ap (λ (s : StateView). s.columns) c.remove_all.ensures),
+      routes_stay (join_data (arc_value c.self.inside.spec) c.self.inside.schemes c.self.inside.certs) c.self.inside.states.items (set c.self.inside.states.items c.args.input c.remove_all.new.state) (inputs (join_data (arc_value c.self.inside.spec) c.self.inside.schemes c.self.inside.certs)) c.self.inside.rechecks.items (columns_set c.self.inside.states.items c.args.input c.index_mut-2.result.now c.remove_all.new.state c.index_mut-2.ensures.value (ap (λ (s : StateView). s.columns) c.remove_all.ensures)) c.self.invariant.4,
     )
 
 pub returns-clause-sweeps : goal.returns-clause-sweeps

@@ -1,4 +1,4 @@
-use Rattle.std.proofs.Common.{◌≡◌, ◌<◌, ◌+◌, ◌++◌, ◌∷◌, [], ◌∙◌, List, length, ap, arith, refl, sym, subst}
+use Rattle.std.proofs.Common.{◌≡◌, ◌<◌, ◌+◌, ◌++◌, ◌∷◌, [], ◌∙◌, List, length, ap, arith, refl, set, sym, subst}
 use Rattle.std.proofs.lemmas.Bool.{false≢true}
 use Rattle.std.specs.Arc.{arc_value}
 use Rattle.pj_events.specs.Join.{TupleAt, Value, arity, inputs}
@@ -16,6 +16,8 @@ use Rattle.pj_join.proofs.Watched.{watched_tuple}
 use Rattle.pj_join.specs.Holding.{AreHeld}
 use Rattle.pj_join.specs.Watching.{AreWatched}
 use Rattle.pj_join.proofs.Holding.{held_more}
+use Rattle.pj_state.specs.States.{StateView}
+use Rattle.pj_join.proofs.Rechecked.{columns_set, routes_stay}
 use Rattle.pj_join.proofs.join.Join.tuple.Goals as goal
 
 pub index_mut-requires : goal.index_mut-requires
@@ -54,6 +56,7 @@ invariant_of-self-2 c =
       subst (λ (xs : List TupleAt). AreHeld (c.self.inside.next + 1) xs c.self.inside.waiting) (sym (log-more (join_data (arc_value c.self.inside.spec) c.self.inside.schemes c.self.inside.certs) c.self.inside.limit c.self.inside.next c.self.inside.done c.self.inside.states.items c.self.inside.stores.items c.self.inside.pending c.self.inside.taken.items c.self.invariant.0 c.args.input c.args.row _ c.store.new.state (λ e. false≢true (c.if-is_full.ensures.1 e)) there long
           (state_is c.self.inside.states.items c.args.input _ (inputs (join_data (arc_value c.self.inside.spec) c.self.inside.schemes c.self.inside.certs)) (all-states (join_data (arc_value c.self.inside.spec) c.self.inside.schemes c.self.inside.certs) c.self.inside.limit c.self.inside.next c.self.inside.done c.self.inside.states.items c.self.inside.stores.items c.self.inside.pending c.self.inside.taken.items c.self.invariant.0) there c.index_mut.ensures.value) (rw (← c.in_ok-row.ensures) c.in_ok-store.ensures.state))) (held_more c.self.inside.next (log_of c.self.inside.states.items) (record { ticket = c.self.inside.next; input = c.args.input; row = c.args.row }) c.self.inside.waiting c.self.invariant.2),
       routes_kept (arc_value c.self.inside.spec).classes c.self.inside.states.items c.self.inside.routes c.args.input c.index_mut.result.now c.store.new.state c.self.invariant.3 (omega (arith, there, (all-states (join_data (arc_value c.self.inside.spec) c.self.inside.schemes c.self.inside.certs) c.self.inside.limit c.self.inside.next c.self.inside.done c.self.inside.states.items c.self.inside.stores.items c.self.inside.pending c.self.inside.taken.items c.self.invariant.0))) c.index_mut.ensures.value (ap (λ (s : StateView). s.columns) c.in_ok-store.ensures.state),
+      routes_stay (join_data (arc_value c.self.inside.spec) c.self.inside.schemes c.self.inside.certs) c.self.inside.states.items (set c.self.inside.states.items c.args.input c.store.new.state) (inputs (join_data (arc_value c.self.inside.spec) c.self.inside.schemes c.self.inside.certs)) c.self.inside.rechecks.items (columns_set c.self.inside.states.items c.args.input c.index_mut.result.now c.store.new.state c.index_mut.ensures.value (ap (λ (s : StateView). s.columns) c.in_ok-store.ensures.state)) c.self.invariant.4,
     )
 
 pub returns-clause-keeps : goal.returns-clause-keeps
