@@ -3,7 +3,7 @@ use Rattle.std.proofs.Common.{ℕ, ◌<◌, ◌≤◌, Bool, true, false, cond, 
 use Rattle.std.proofs.lemmas.Bool.{false≢true}
 use Rattle.pj_plan.specs.declared.node.Node.{Node as Operation}
 use Rattle.pj_plan.specs.declared.node.Node.TheVariants.{Stream as StreamNode, Select as SelectNode, Project as ProjectNode, Union as UnionNode, Join as JoinNode, Group as GroupNode}
-use Rattle.pj_core.specs.Parts.{plan_node}
+use Rattle.pj_core.specs.Parts.{plan_node, IsMadeOf, core_of, kind_for}
 use Rattle.pj_plan.specs.Nodes.{is_stream, streams_of}
 use Rattle.pj_scheme.specs.Derived.{schemes_of}
 use Rattle.pj_pattern.specs.declared.element.Element.{Element}
@@ -22,7 +22,6 @@ use Rattle.pj_operator.specs.Operators.{AreAs, Frame, IsAs, IsKind, Kind, Stream
 use Rattle.pj_operator.specs.Emitting.{Emits, GoBeyond, IsEmitStop, StaysAs}
 use Rattle.pj_core.specs.Cores.{StandsFor}
 use Rattle.pj_core.specs.Calls.{HasArrived, IsCause}
-use Rattle.pj_core.specs.Parts.{IsMadeOf, core_of, kind_for}
 use Rattle.pj_core.specs.Plans.{RunPlan, nodes_of}
 use Rattle.pj_operator.proofs.Emits.{frame-at}
 use Rattle.pj_core.proofs.Events.{Steps, beyond-is, note, steps-still}

@@ -18,7 +18,8 @@ use Rattle.pj_events.specs.History.{nodes_from, pending_in}
 use Rattle.pj_events.specs.OneThread.{next_probe}
 use Rattle.pj_laws.proofs.NextProbe.{none-is-pending}
 use Rattle.pj_probe.specs.declared.probe.Found.{Found}
-use Rattle.pj_join.specs.Joins.{JoinView, join_data}
+use Rattle.pj_join.specs.Joins.{JoinView}
+use Rattle.pj_join.specs.Joins.{join_data}
 use Rattle.pj_operator.specs.declared.operator.RunningOperator.{RunningOperator}
 use Rattle.pj_operator.specs.declared.operator.OperatorState.{OperatorState}
 use Rattle.pj_operator.specs.declared.operator.OperatorState.TheVariants.{Stream as RunningStream, Select as RunningSelect, Project as RunningProject, Union as RunningUnion, Join as RunningJoin, Group as RunningGroup}

@@ -11,7 +11,7 @@ use Rattle.pj_plan.specs.declared.node.Node.{Node as Operation}
 use Rattle.pj_plan.specs.declared.node.Node.TheVariants.{Stream as StreamNode, Select as SelectNode, Project as ProjectNode, Union as UnionNode, Join as JoinNode, Group as GroupNode}
 use Rattle.pj_plan.specs.declared.node.PlanNode.{PlanNode}
 use Rattle.pj_plan.specs.Canonical.{no_node, node_schema}
-use Rattle.pj_core.specs.Parts.{plan_node}
+use Rattle.pj_core.specs.Parts.{plan_node, frame_for, frames_from, frames_of, kind_for}
 use Rattle.pj_plan.specs.Nodes.{inputs_of, parent_of}
 use Rattle.pj_plan.specs.Sound.{IsSoundAgg, IsSoundOperator, IsSoundPlan, agg_domain_at, domain_at}
 use Rattle.pj_shape.specs.declared.groups.Agg.{Agg}
@@ -26,7 +26,6 @@ use Rattle.pj_events.specs.History.{nodes_from}
 use Rattle.pj_laws.specs.Climb.{Above, above}
 use Rattle.pj_laws.proofs.Nodes.{operator-from}
 use Rattle.pj_operator.specs.Operators.{AreLinked, FitsKind, Frame, HasLimit, HasOwnWidth, HaveLimit, IsKind, IsLinked, JoinKind, Kind, above_pair, frame_at, role_in, width_up}
-use Rattle.pj_core.specs.Parts.{frame_for, frames_from, frames_of, kind_for}
 use Rattle.pj_core.specs.Plans.{RunPlan, certs_behind, nodes_of, nodes_with, operator_of}
 use Rattle.pj_core.proofs.Planned.{above-is, node_made}
 

@@ -3,7 +3,7 @@ use Rattle.std.proofs.Common.{ℕ, zero, suc, ◌+◌, ◌^◌, ◌<◌, ◌≤�
 use Rattle.std.proofs.lemmas.Bool.{cases_lt, false≢true}
 use Rattle.std.proofs.lemmas.List.{drop-drop, drop_more, ext_get_or, get_or-drop, get_or-map, get_or_at, length-map, length_push}
 use Rattle.pj_events.specs.declared.events.Out.{Out}
-use Rattle.pj_events.specs.Join.{upto_from}
+use Rattle.pj_events.specs.Join.{upto_from, AreCertified}
 use Rattle.pj_events.specs.Plan.{Node, operator_at}
 use Rattle.pj_events.specs.CoreKept.{KeptOperator, count_of, kept_in}
 use Rattle.pj_events.specs.Outcomes.{stored_at}
@@ -22,7 +22,6 @@ use Rattle.pj_plan.specs.declared.node.PlanNode.{PlanNode}
 use Rattle.pj_plan.specs.Canonical.{no_node, node_at, node_schema}
 use Rattle.pj_plan.specs.Sound.{IsSoundOperator, IsSoundPlan}
 use Rattle.pj_scheme.specs.Derived.{inputs_schemes, schemes_of}
-use Rattle.pj_events.specs.Join.{AreCertified}
 use Rattle.pj_laws.specs.HistoryLaws.{AllAreCertified, Certified}
 use Rattle.pj_join.specs.Joins.{join_data}
 use Rattle.pj_operator.specs.declared.operator.RunningOperator.{RunningOperator}

@@ -11,7 +11,7 @@ use Rattle.pj_events.specs.History.{IsEntryAllowed, IsLegal, IsOn, data_in, node
 use Rattle.pj_laws.specs.HistoryLaws.{Certified}
 use Rattle.pj_events.specs.OneThread.{plain}
 use Rattle.pj_join_laws.proofs.Tickets.{lacking-come, lacking-none}
-use Rattle.pj_join.specs.Joins.{IsTaken}
+use Rattle.pj_join.specs.Joins.{IsTaken, JoinView, StandsFor as JoinStandsFor, after}
 use Rattle.pj_operator.specs.Acts.{with_state}
 use Rattle.pj_core.proofs.Planned.{nodes-long}
 use Rattle.pj_events.specs.CoreKept.{JoinKept, kept_in}
@@ -21,7 +21,6 @@ use Rattle.pj_laws.proofs.ClimbingEvents.{events-climb, leaves-nodes}
 use Rattle.pj_laws.proofs.HistoryAnswers.{adds-entry, grows-legally, trace-adds-notes}
 use Rattle.pj_laws.proofs.ClimbingKept.{stored_of}
 use Rattle.pj_join_laws.proofs.Stand.{kept-own}
-use Rattle.pj_join.specs.Joins.{JoinView, StandsFor as JoinStandsFor, after}
 use Rattle.pj_operator.specs.declared.operator.RunningOperator.{RunningOperator}
 use Rattle.pj_operator.specs.declared.operator.OperatorState.{OperatorState}
 use Rattle.pj_operator.specs.declared.operator.OperatorState.TheVariants.{Join as RunningJoin}

@@ -5,7 +5,7 @@ use Rattle.pj_shape.specs.declared.columns.Column.{Column}
 use Rattle.pj_shape.specs.declared.joins.CertStep.{CertStep}
 use Rattle.pj_plan.specs.declared.node.Node.{Node as Operation}
 use Rattle.pj_plan.specs.declared.node.Node.TheVariants.{Stream as StreamNode, Select as SelectNode, Project as ProjectNode, Union as UnionNode, Join as JoinNode, Group as GroupNode}
-use Rattle.pj_core.specs.Parts.{plan_node}
+use Rattle.pj_core.specs.Parts.{plan_node, IsMadeOf, all_kept, core_of, frames_of, kind_for}
 use Rattle.pj_plan.specs.Sound.{IsSoundOperator, IsSoundPlan}
 use Rattle.pj_scheme.specs.Derived.{inputs_schemes, schemes_of}
 use Rattle.pj_events.specs.declared.events.Entry.{Entry}
@@ -30,7 +30,6 @@ use Rattle.pj_operator.specs.declared.operator.RunningOperator.{RunningOperator}
 use Rattle.pj_operator.specs.Operators.{AreAs, Frame, GroupKind, GroupRole, IsBelow, IsBelowIn, IsKind, JoinKind, JoinRole, Kind, ProjectKind, ProjectRole, SelectKind, SelectRole, StreamKind, StreamRole, UnionKind, UnionRole, above_pair, running_at, count_seen, counted_by, frame_at, frame_of, frames_in, kept_seen, no_operator, peak_seen, role_in, role_of, stored_kept}
 use Rattle.pj_operator.specs.Emitting.{AreCounted, count_at, kind_at}
 use Rattle.pj_core.specs.Cores.{StandsFor}
-use Rattle.pj_core.specs.Parts.{IsMadeOf, all_kept, core_of, frames_of, kind_for}
 use Rattle.pj_core.specs.Plans.{RunPlan, nodes_of, operator_of}
 use Rattle.pj_operator.proofs.Emits.{frame-at}
 use Rattle.pj_core.proofs.Frames.{above-of, certs_at, frame-is, kind-is, long-of, operator-is}

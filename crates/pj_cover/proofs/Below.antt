@@ -7,8 +7,8 @@ use Rattle.pj_value.specs.declared.values.Value.{Value}
 use Rattle.pj_value.proofs.Members.{In-append_cases, In-map, none_from}
 use Rattle.pj_events.specs.Patterns.{covers}
 use Rattle.pj_events.specs.Join.{Demand, In, PunctAt, covered, older_puncts}
-use Rattle.pj_cover.specs.declared.store.NumberedPunct.{NumberedPunct}
-use Rattle.pj_cover.specs.Stores.{Store, TellsCover, covered_below, covered_by_any}
+use Rattle.pj_puncts.specs.declared.store.NumberedPunct.{NumberedPunct}
+use Rattle.pj_puncts.specs.Stores.{Store, TellsCover, covered_below, covered_by_any}
 use Rattle.pj_cover.specs.declared.ripeness.Verdict.TheVariants.{Ripe, Open, Lagging}
 use Rattle.pj_cover.specs.Asking.{IsStepJudged, Known, is_covered, punct_of, puncts_from}
 

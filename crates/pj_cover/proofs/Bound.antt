@@ -7,10 +7,9 @@ use Rattle.pj_value.specs.declared.values.Value.{Value}
 use Rattle.pj_value.proofs.Members.{In-map}
 use Rattle.pj_shape.specs.declared.columns.Column.{Column}
 use Rattle.pj_shape.specs.declared.joins.JoinSpec.{JoinSpec}
-use Rattle.pj_shape.specs.Joining.{has_column}
+use Rattle.pj_shape.specs.Joining.{has_column, values_in}
 use Rattle.pj_shape.specs.Sound.{IsSoundSpec, arities_of}
 use Rattle.pj_events.specs.Join.{In, TupleAt, ClassCol, class_with, no_value, part_of, values}
-use Rattle.pj_shape.specs.Joining.{values_in}
 use Rattle.pj_cover.specs.Asking.{IsFound, AreFound, there, or_else, first_there, first_class, inputs_of}
 use Rattle.pj_cover.proofs.Classes.{first_class_is}
 use Rattle.pj_join_laws.specs.Walks.{AreBound}

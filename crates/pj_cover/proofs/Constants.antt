@@ -5,7 +5,7 @@ use Rattle.std.proofs.lemmas.Option.{get_or_from_slice_get}
 use Rattle.std.proofs.lemmas.List.{append-nil}
 use Rattle.pj_value.specs.declared.values.Value.{Value}
 use Rattle.pj_events.specs.Join.{TupleAt, ClassCol, class_with, constant, instance_from}
-use Rattle.pj_cover.specs.Givens.{marked}
+use Rattle.pj_puncts.specs.Givens.{marked}
 use Rattle.pj_cover.specs.Asking.{constant_if, constants_in}
 use Rattle.pj_shape.specs.Instances.{instance_of}
 

@@ -17,12 +17,14 @@ use Rattle.pj_events.specs.Join.{In, TupleAt, ClassCol, CertEntry, CertStep, agr
 use Rattle.pj_join_laws.proofs.Matching.{agree-at, value-in}
 use Rattle.pj_cover.specs.declared.ripeness.Verdict.{Verdict}
 use Rattle.pj_cover.specs.declared.ripeness.Verdict.TheVariants.{Ripe}
-use Rattle.pj_cover.specs.Stores.{Store}
-use Rattle.pj_cover.specs.Rising.{AreAbove, AreRisingRows, has_there_value, row_with, ticket_in, tickets_with}
+use Rattle.pj_puncts.specs.Stores.{Store}
+use Rattle.pj_cover.specs.Rising.{AreAbove, AreRisingRows, has_there_value, row_with, tickets_with}
+use Rattle.pj_rows.specs.Tuples.{ticket_in}
 use Rattle.pj_cover.specs.Asking.{Known, AreDone, AreDoneUnder, AreParts, IsOnWalk, ClassTells, HaveLength, HavePartners, IsDone, IsJudgedThrough, IsJudgedUnder, IsJudgedWith, IsPartnerKey, first_there, or_else, says_ripe, there, tuple_of}
 use Rattle.pj_cover.proofs.Bound.{class-cells, there-values}
 use Rattle.pj_cover.proofs.Judged.{says_more, says_yes}
-use Rattle.pj_cover.proofs.Steps.{drop_here, length-map}
+use Rattle.pj_puncts.proofs.Lent.{drop_here}
+use Rattle.pj_cover.proofs.Steps.{length-map}
 
 pub told_by_class : (classes : List (List ClassCol)) (xs : List TupleAt) (class : List ClassCol) (i input column : ℕ) (value : Value) → i < length classes → class ≡ get_or classes i class → ClassTells class xs input column value
     → IsPartnerKey classes xs input column value

@@ -9,12 +9,13 @@ use Rattle.pj_shape.specs.Sound.{arities_of}
 use Rattle.pj_events.specs.Join.{In, TupleAt, CertEntry, CertStep, demand, entry_of}
 use Rattle.pj_cover.specs.declared.ripeness.Verdict.{Verdict}
 use Rattle.pj_cover.specs.declared.ripeness.Verdict.TheVariants.{Ripe}
-use Rattle.pj_cover.specs.Stores.{Store}
-use Rattle.pj_cover.specs.Suits.{suits}
+use Rattle.pj_puncts.specs.Stores.{Store}
+use Rattle.pj_rows.specs.Suits.{suits}
 use Rattle.pj_cover.specs.Asking.{Known, AreParts, AreDone, IsDone, IsJudged, IsJudgedThrough, IsJudgedWith, IsOnWalk, IsStep, IsStepJudged, entries, known_of, says_ripe, tuple_of}
-use Rattle.pj_cover.proofs.Agreeing.{front_agree, front_suits}
+use Rattle.pj_rows.proofs.Agreeing.{front_agree, front_suits}
 use Rattle.pj_cover.proofs.Stored.{in-tuples, tuples-in}
-use Rattle.pj_cover.proofs.Steps.{length-map, drop_here, step_ready, walk_more}
+use Rattle.pj_cover.proofs.Steps.{length-map, step_ready, walk_more}
+use Rattle.pj_puncts.proofs.Lent.{drop_here}
 use Rattle.pj_cover.proofs.Judged.{judged_here, judged_through, step_covered, done_last, done_more, done_apart, judged_with, says_yes}
 
 abbrev pub Rows : Type 0

@@ -1,9 +1,8 @@
 -- The steps of a certificate.
-use Rattle.std.proofs.Common.{◌≡◌, ◌<◌, ◌≤◌, ◌+◌, ℕ, suc, zero, Bool, true, false, List, [], ◌∷◌, ◌⊎◌, length, map, drop, get_or, sum, refl, sym, ap, ◌∙◌, subst, Some, eqb, inl, inr, arith}
-use Rattle.std.specs.List.{IsDistinct, list_any, slice_get, AllByRecursion, fold}
+use Rattle.std.proofs.Common.{◌≡◌, ◌<◌, ◌≤◌, ◌+◌, ℕ, suc, zero, Bool, true, false, List, [], ◌∷◌, ◌⊎◌, length, map, get_or, sum, refl, sym, ap, ◌∙◌, subst, eqb, inl, inr, arith}
+use Rattle.std.specs.List.{IsDistinct, list_any, AllByRecursion, fold}
 use Rattle.std.proofs.lemmas.Bool.{eqb-true, eq-eqb, false_from_ne_true}
 use Rattle.std.proofs.lemmas.List.{get_or-map}
-use Rattle.std.proofs.lemmas.Option.{get_or_from_slice_get}
 use Rattle.std.proofs.lemmas.Map.Keys.{IsDistinct-cons}
 use Rattle.std.proofs.lemmas.Map.Steps.{length-le_from_distinct_below}
 use Rattle.pj_value.specs.declared.values.Value.{Value}
@@ -12,9 +11,9 @@ use Rattle.pj_shape.specs.declared.joins.JoinSpec.{JoinSpec}
 use Rattle.pj_shape.specs.Sound.{arities_of, FitSchemes}
 use Rattle.pj_shape.specs.Certificates.{IsCertificate}
 use Rattle.pj_events.specs.Join.{In, TupleAt, CertStep, agree}
-use Rattle.pj_cover.specs.Stores.{Store}
+use Rattle.pj_puncts.specs.Stores.{Store}
 use Rattle.pj_cover.specs.Asking.{AreParts, IsOnWalk, IsStep, entries, inputs_of, marks_of}
-use Rattle.pj_cover.proofs.Agreeing.{alone_agree}
+use Rattle.pj_rows.proofs.Agreeing.{alone_agree}
 use Rattle.pj_cover.proofs.Bound.{are_found}
 use Rattle.pj_join_laws.specs.Walks.{AreListedOnce, IsWalk}
 use Rattle.pj_join_laws.proofs.Walks.{is_certified}
@@ -27,12 +26,6 @@ listed_input (s ∷ schemes) (suc input) scheme lt = let r : input < length sche
 pub length-map : {A B : Type 0} (f : A → B) (xs : List A) → length (map f xs) ≡ length xs
 length-map f [] = refl
 length-map f (x ∷ xs) = ap suc (length-map f xs)
-
--- the steps from a place on
-pub drop_here : {A : Type 0} (xs : List A) (at : ℕ) (x : A) → slice_get xs at ≡ Some x → drop at xs ≡ x ∷ drop (at + 1) xs
-drop_here [] at x e = absurd (cc)
-drop_here (y ∷ xs) zero x e = ap (λ z. z ∷ xs) (get_or_from_slice_get (y ∷ xs) 0 x x e)
-drop_here (y ∷ xs) (suc at) x e = let n : suc at + 1 ≡ suc (at + 1) = omega arith in drop_here xs at x e ∙ ap (λ i. x ∷ drop i (y ∷ xs)) (sym n)
 
 fold-least : (acc : ℕ) (ns : List ℕ) → acc ≤ fold (λ a b. a + b) acc ns
 fold-least acc [] = omega arith

@@ -7,8 +7,8 @@ use Rattle.pj_shape.specs.declared.joins.JoinSpec.{JoinSpec}
 use Rattle.pj_shape.specs.Joining.{has_column}
 use Rattle.pj_shape.specs.Sound.{IsSoundSpec, arities_of}
 use Rattle.pj_events.specs.Join.{TupleAt, PunctAt, ClassCol, CertStep, CertEntry, Demand, agree, constant, class_with, covered, demand, entry_of, need, older, older_puncts}
-use Rattle.pj_cover.specs.Stores.{Store}
-use Rattle.pj_cover.specs.declared.store.NumberedPunct.{NumberedPunct}
+use Rattle.pj_puncts.specs.Stores.{Store}
+use Rattle.pj_puncts.specs.declared.store.NumberedPunct.{NumberedPunct}
 use Rattle.pj_cover.specs.declared.ripeness.Verdict.{Verdict}
 use Rattle.pj_cover.specs.declared.ripeness.Verdict.TheVariants.{Ripe, Open, Lagging}
 use Rattle.pj_join_laws.specs.Walks.{AreListedOnce, IsWalk}

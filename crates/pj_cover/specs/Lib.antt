@@ -1,12 +1,3 @@
-pub mod Givens
-pub mod Stores
-pub mod Prints
-pub mod Indexed
 pub mod Rising
-pub mod Suits
 pub mod Asking
 pub mod Judges
-pub mod Numbers
-pub mod Alike
-pub mod Held
-pub mod Alone

@@ -2,6 +2,7 @@
 use Rattle.std.specs.Prelude.{ℕ, ◌<◌, ◌==◌, if◌then◌else◌, Bool, Option, Some, None, List, [], ◌∷◌, filter, map, slice_get}
 use Rattle.pj_value.specs.declared.values.Value.{Value}
 use Rattle.pj_value.specs.Options.{is_value}
+use Rattle.pj_rows.specs.Tuples.{ticket_in}
 
 -- each row has a ticket above this one
 abbrev pub AreAbove : ℕ → List (ℕ × List Value) → Type 0
@@ -12,11 +13,6 @@ AreAbove ticket (r ∷ rs) = (ticket < r.0) × AreAbove ticket rs
 abbrev pub AreRisingRows : List (ℕ × List Value) → Type 0
 AreRisingRows [] = Unit {0}
 AreRisingRows (r ∷ rs) = AreAbove r.0 rs × AreRisingRows rs
-
--- ---- rows that are looked up
-
-abbrev pub ticket_in : ℕ × List Value → ℕ
-ticket_in r = r.0
 
 -- the row has this value in this column
 abbrev pub has_there_value : ℕ → Value → ℕ × List Value → Bool

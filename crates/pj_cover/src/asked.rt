@@ -5,9 +5,9 @@ ghost use Rattle.std.specs.Option.{option_copied};
 ghost use Rattle.pj_value.specs.Values.{value_eq};
 ghost use Rattle.pj_events.specs.Join.{In, class_with, value_at};
 ghost use Rattle.pj_cover.specs.Asking.{AreFound, ClassTells, IsFound, IsPartnerKey, constant_if, constants_in, first_class, first_there, there};
-ghost use Rattle.pj_cover.specs.Suits.{all_have, has_there, suits, suits_class};
+ghost use Rattle.pj_rows.specs.Suits.{all_have, has_there, suits, suits_class};
 
-use crate::Given;
+use pj_puncts::Given;
 use pj_shape::{ClassCol, Scheme, has_column, same_cells};
 use pj_value::{List, Row, Value};
 use std::marker::Model;

@@ -2,12 +2,11 @@
 ghost use Rattle.std.specs.Prelude.{◌≡◌, ◌<◌, ◌≤◌, true, length};
 ghost use Rattle.pj_events.specs.Join.{class_with, instance_from};
 ghost use Rattle.pj_cover.specs.Asking.{AreFound, IsFound};
-ghost use Rattle.pj_cover.specs.Givens.{only_marked};
-ghost use Rattle.pj_cover.specs.Stores.{TellsCover};
+ghost use Rattle.pj_puncts.specs.Givens.{only_marked};
+ghost use Rattle.pj_puncts.specs.Stores.{TellsCover};
 
 use crate::asked::{Lent, class_with, first_there, lend_constants};
-use crate::one_cell::{OneCell, only_mark};
-use crate::{Given, PunctStore};
+use pj_puncts::{Given, OneCell, PunctStore, only_mark};
 use pj_shape::{ClassCol, Scheme};
 use pj_value::List;
 

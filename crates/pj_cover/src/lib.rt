@@ -1,21 +1,11 @@
-//! A store of the punctuations of a stream or an input, which of them a row breaks, which instances of a scheme they cover,
-//! and whether a stored row of a join is ripe.
+//! Whether a stored row of a join is ripe: whether all that it asks for by the certificate of its input is covered.
 #![tactic(auto)]
 
 mod asked;
-mod cells;
-mod given;
-mod index;
 mod instances;
-mod number_list;
-mod numbers;
-mod one_cell;
-mod prints;
 mod ripeness;
 mod rows;
-mod store;
 
-pub use given::Given;
+pub use pj_puncts::{Given, NumberedPunct, PunctStore};
 pub use ripeness::{Verdict, judge_row, ripe};
 pub use rows::StoredRows;
-pub use store::{NumberedPunct, PunctStore};

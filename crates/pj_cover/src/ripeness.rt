@@ -8,10 +8,11 @@ ghost use Rattle.pj_cover.specs.Rising.{AreRisingRows};
 ghost use Rattle.pj_cover.specs.Asking.{AreParts, HaveLength, HavePartners, IsJudged, IsStep, IsStepJudged, all_covered, entries, is_ripe, known_of, marks_of, says_ripe, tuple_of, tuples_at};
 ghost use Rattle.pj_cover.specs.Judges.{IsJudgedAmong, IsJudgedAt, IsJudgedBy, IsWalkAt, MayJudge, known_by, steps_from};
 
+use crate::StoredRows;
 use crate::asked::{Lent, partner_key, suits};
 use crate::instances::covering_instance;
-use crate::{PunctStore, StoredRows};
 use arrayvec::ArrayVec;
+use pj_puncts::PunctStore;
 use pj_shape::{Cert, CertStep, JoinSpec, Scheme, Schemes};
 use pj_value::Row;
 use std::slice::from_ref;

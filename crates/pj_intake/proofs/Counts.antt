@@ -15,8 +15,8 @@ use Rattle.pj_element.specs.Accepted.{closing_line, Fate, Passed, Taken, Refused
 use Rattle.pj_element.proofs.Lawful.{fates-push, taken_of-append, length-fates}
 use Rattle.pj_element.proofs.Rejects.{rejects_of-append, taken-bound, rejects-bound}
 use Rattle.pj_pattern.proofs.Elements.{rows_of-append, puncts_of-append}
-use Rattle.pj_cover.specs.declared.store.NumberedPunct.{NumberedPunct}
-use Rattle.pj_cover.specs.Stores.{IsAbove, first_match_of}
+use Rattle.pj_puncts.specs.declared.store.NumberedPunct.{NumberedPunct}
+use Rattle.pj_puncts.specs.Stores.{IsAbove, first_match_of}
 use Rattle.pj_intake.specs.SeenLines.{with_kept, kept_of, IsSeen, HasRoom, with_fate, fate_by}
 
 pub first_match-kept_of : (n : ℕ) (rs : List Read) (row : List Value) → first_match_of (kept_of n rs) row ≡ closing_line n rs row

@@ -19,7 +19,7 @@ use Rattle.pj_element.specs.Accepted.{Fate, Passed, Taken, Refused, fate_behind,
 use Rattle.pj_element.proofs.Lawful.{fates-push, taken_of-append, length-fates}
 use Rattle.pj_element.proofs.Rejects.{rejects_of-append}
 use Rattle.pj_element.proofs.GoOn.{reads_go_on}
-use Rattle.pj_cover.specs.Stores.{IsAbove}
+use Rattle.pj_puncts.specs.Stores.{IsAbove}
 use Rattle.pj_intake.specs.SeenLines.{HasRoom, with_kept, with_fate, fate_by}
 use Rattle.pj_intake.specs.Taking.{HasJudged, IsOpen}
 use Rattle.pj_intake.specs.Reads.{ReadsNext, BeginsWithPiece}

@@ -6,8 +6,8 @@ use Rattle.pj_element.specs.declared.element.Read.TheVariants.{Skip, Tuple, Punc
 use Rattle.pj_element.specs.declared.element.Reject.{Reject}
 use Rattle.pj_element.specs.declared.tally.Tally.{Tally}
 use Rattle.pj_element.specs.Accepted.{Fate, Passed, Taken, Refused, tuple_fate, fates, tally_of}
-use Rattle.pj_cover.specs.declared.store.NumberedPunct.{NumberedPunct}
-use Rattle.pj_cover.specs.Stores.{first_match_of}
+use Rattle.pj_puncts.specs.declared.store.NumberedPunct.{NumberedPunct}
+use Rattle.pj_puncts.specs.Stores.{first_match_of}
 
 abbrev pub with_kept : ℕ → Read → List NumberedPunct → List NumberedPunct
 with_kept n Skip kept = kept

@@ -1,13 +1,13 @@
 // What is kept of the lines of a stream that were judged, and the judgement of one line more.
 ghost use Rattle.std.specs.Prelude.{◌≡◌, ◌≤◌, ◌<◌, ◌+◌, ◌^◌, ◌-◌, ◌++◌, [], IfOk, OnOk, OnErr};
-ghost use Rattle.pj_cover.specs.Stores.{IsAbove};
+ghost use Rattle.pj_puncts.specs.Stores.{IsAbove};
 ghost use Rattle.pj_element.specs.Fitting.{HasArity};
 ghost use Rattle.pj_intake.specs.SeenLines.{IsSeen, HasRoom, with_kept, with_fate, with_reject, fate_by};
 ghost use Rattle.pj_intake.specs.Steps.{step_in};
 
 use crate::intake::Step;
-use pj_cover::PunctStore;
 use pj_element::{Read, Reject, Tally};
+use pj_puncts::PunctStore;
 use pj_value::{List, NoMemory};
 use std::alloc::Global;
 

@@ -9,11 +9,13 @@ use Rattle.std.proofs.lemmas.Option.{slice_get_within, get_or_from_slice_get}
 use Rattle.pj_shape.specs.declared.columns.Column.{Column}
 use Rattle.pj_events.specs.Join.{JoinData, Value, TupleAt, PunctAt, Take, TupleComes, results, agree, product, joined, has, inputs}
 use Rattle.pj_events.specs.KeptState.{least, without}
-use Rattle.pj_join.specs.Joins.{Found, JoinView, TakesLeast, after, found_of}
+use Rattle.pj_probe.specs.declared.probe.Found.{Found}
+use Rattle.pj_join.specs.Joins.{JoinView, TakesLeast, after, found_of}
 use Rattle.pj_events.specs.declared.events.Out.{Out}
 use Rattle.pj_events.specs.declared.events.Out.TheVariants.{Tuple}
-use Rattle.pj_join.specs.Handed.{JoinProbes, behind_probe, found_out, rows_probed}
-use Rattle.pj_join.specs.Walks.{choices}
+use Rattle.pj_join.specs.Handed.{JoinProbes, behind_probe, rows_probed}
+use Rattle.pj_probe.specs.Results.{found_out}
+use Rattle.pj_probe.specs.Choices.{choices}
 use Rattle.pj_join.specs.Insides.{tickets, seen, Rise, IsOrdered, made_with}
 use Rattle.pj_join.proofs.Orders.{seen-probe, seen-tuple, rise-front, rise-to, rise-length, rise-has, least-first, pending-first, seen-take, taken-first, IsTakenFirst}
 use Rattle.pj_join.proofs.Finding.{choices-results}
@@ -152,11 +154,6 @@ pub tuple-keeps : (node : ℕ) (spec : JoinData) (limit next done : ℕ) (log mo
 tuple-keeps node spec limit next done log more puncts waiting taken input row x le e m =
     ap (λ (l : List TupleAt). seen (made_with node spec limit) (next + 1) done l puncts waiting taken) (m ∙ ap (λ (y : TupleAt). log ++ y ∷ []) e)
     ∙ seen-tuple node spec limit next done log puncts waiting taken input row le
-
-pub same-at : {A : Type 0} (xs : List A) (i : ℕ) (d e : A) → i < length xs → get_or xs i d ≡ get_or xs i e
-same-at [] i d e lt = absurd (omega (arith, lt))
-same-at (x ∷ xs) zero d e lt = refl
-same-at (x ∷ xs) (suc i) d e lt = same-at xs i d e (omega (arith, lt))
 
 probe-does : (node : ℕ) (spec : JoinData) (limit next done : ℕ) (log : List TupleAt) (sides : List (List TupleAt)) (puncts waiting : List PunctAt) (taken : List ℕ) (x : TupleAt)
     → IsOrdered spec limit next done log sides taken → Some x ≡ slice_get log done

@@ -7,18 +7,19 @@ use Rattle.std.proofs.lemmas.List.Elements.{filter-append}
 use Rattle.pj_value.proofs.Members.{In-map}
 use Rattle.pj_state.specs.declared.shared.Stored.{Stored}
 use Rattle.pj_state.specs.States.{StateView, pair_of, pairs}
-use Rattle.pj_cover.specs.Stores.{Store}
+use Rattle.pj_puncts.specs.Stores.{Store}
 use Rattle.pj_cover.specs.Asking.{HaveLength, Known, entries, is_covered, known_of, punct_of, puncts_from, tuple_of, tuples_of}
-use Rattle.pj_cover.proofs.Agreeing.{need_alone}
+use Rattle.pj_rows.proofs.Agreeing.{need_alone}
 use Rattle.pj_events.specs.Join.{In, CertEntry, CertStep, ClassCol, Demand, JoinData, JoinSpec, PunctAt, TupleAt, Value, agree, arities, covered, demand, grown, inputs, need, of_input, older, older_puncts, steps_of}
 use Rattle.pj_events.specs.Patterns.{covers}
 use Rattle.pj_events.specs.KeptState.{KeptState, kept_low, kept_ripe}
 use Rattle.pj_join_laws.proofs.Upto.{get_or-upto}
 use Rattle.pj_join.specs.declared.place.Place.{Place}
 use Rattle.pj_join.specs.Insides.{IsJoin, inside}
-use Rattle.pj_join.specs.Judging.{JudgeView, MayJudge, ripe_at}
-use Rattle.pj_join.specs.Sides.{IsShaped, heard_in, heard_of, log_of, puncts_of, row_pairs, state_at, tuple_in}
-use Rattle.pj_join.proofs.Combining.{flat_map-agree}
+use Rattle.pj_recheck.specs.Judging.{JudgeView, MayJudge, ripe_at}
+use Rattle.pj_join.specs.Sides.{IsShaped, heard_in, heard_of, log_of, puncts_of}
+use Rattle.pj_rows.specs.Tuples.{row_pairs, state_at, tuple_in}
+use Rattle.pj_probe.proofs.Filtering.{flat_map-agree}
 use Rattle.pj_join.proofs.Kept.{all-states, all-stores, heard-length, shaped-at, side-is}
 
 -- ---- lists

@@ -9,8 +9,8 @@ use Rattle.pj_shape.specs.declared.columns.Column.{Column}
 use Rattle.pj_state.specs.declared.shared.Stored.{Stored}
 use Rattle.pj_state.specs.States.{StateView, row_in, row_under, state_of, stored, ticket_of}
 use Rattle.pj_state.specs.Rising.{first_with}
-use Rattle.pj_cover.specs.Stores.{IsAbove, Store}
-use Rattle.pj_cover.specs.declared.store.NumberedPunct.{NumberedPunct}
+use Rattle.pj_puncts.specs.Stores.{IsAbove, Store}
+use Rattle.pj_puncts.specs.declared.store.NumberedPunct.{NumberedPunct}
 use Rattle.pj_cover.specs.Asking.{punct_of}
 use Rattle.pj_shape.specs.Sound.{IsSoundSpec}
 use Rattle.pj_events.specs.Join.{AreCertified, In, JoinData, PunctAt, TupleAt, Value, arities, arity, has, inputs, of_input, upto_from}
@@ -20,21 +20,13 @@ use Rattle.pj_join_laws.proofs.Upto.{get_or-upto}
 use Rattle.pj_value.proofs.Members.{In-append_cases, In-filter, In-filter_from, In-map_from, in-place}
 use Rattle.pj_join.specs.declared.place.Place.{Place}
 use Rattle.pj_join.specs.Insides.{AreHeard, IsJoin, IsOrdered, Rise, inside, tickets}
-use Rattle.pj_join.specs.Sides.{AreAllShaped, AreWide, IsShaped, arrived_at, arrived_with, first_of, heard_at, heard_in, heard_of, log_of, merged, place_of, puncts_of, state_at, ticket_at, tuple_in, tuples_in}
+use Rattle.pj_join.specs.Sides.{AreAllShaped, IsShaped, arrived_at, arrived_with, first_of, heard_in, heard_of, log_of, merged, place_of, puncts_of, ticket_at}
+use Rattle.pj_rows.specs.Tuples.{AreWide, state_at, tuple_in, tuples_in}
+use Rattle.pj_waiting.specs.Holding.{heard_at}
 use Rattle.pj_join.proofs.Classes.{classes-more, eqb-below}
 use Rattle.pj_join.proofs.Merging.{merged-is}
 use Rattle.pj_join.proofs.Orders.{drop-more_end, ordered-give, ordered-probe, ordered-start, ordered-punct, ordered-take, ordered-tuple, rise-end, rise-in, rise-more, rise-widen}
-
--- ---- states and stores in their places
-
-pub tuples-length : (base : ℕ) (states : List StateView) → length (tuples_in base states) ≡ length states
-tuples-length base [] = refl
-tuples-length base (s ∷ ss) = ap suc (tuples-length (base + 1) ss)
-
-pub tuples-at : (base : ℕ) (states : List StateView) (k : ℕ) → k < length states → get_or (tuples_in base states) k [] ≡ map (tuple_in (base + k)) (state_at states k).rows
-tuples-at base [] k lt = absurd (omega (arith, lt))
-tuples-at base (s ∷ ss) zero lt = ap (λ (n : ℕ). map (tuple_in n) s.rows) (omega arith)
-tuples-at base (s ∷ ss) (suc k) lt = tuples-at (base + 1) ss k (omega (arith, lt)) ∙ ap (λ (n : ℕ). map (tuple_in n) (state_at ss k).rows) (omega arith)
+use Rattle.pj_rows.proofs.States.{tuples-length, tuples-at}
 
 pub tuples-set : (base : ℕ) (states : List StateView) (k : ℕ) (s : StateView) → tuples_in base (set states k s) ≡ set (tuples_in base states) k (map (tuple_in (base + k)) s.rows)
 tuples-set base [] k s = refl

@@ -7,7 +7,7 @@ use Rattle.pj_events.specs.Join.{In, TupleAt}
 use Rattle.pj_events.specs.KeptState.{least, without}
 use Rattle.pj_join.specs.Insides.{lowest, tickets}
 use Rattle.pj_join.proofs.Orders.{drop-more_end}
-use Rattle.pj_join.proofs.Picked.{drop_one}
+use Rattle.pj_recheck.proofs.Picked.{drop_one}
 
 least-within : (next : ℕ) (ts : List ℕ) → least next ts ≤ next
 least-within next [] = omega arith

@@ -1,16 +1,18 @@
 -- What a sweep leaves is watched.
 use Rattle.std.proofs.Common.{ℕ, ◌-◌, ◌<◌, List, ◌≡◌, length, set, sym, subst, arith}
 use Rattle.pj_state.specs.States.{StateView, state_of}
-use Rattle.pj_cover.specs.Stores.{Store}
+use Rattle.pj_puncts.specs.Stores.{Store}
 use Rattle.pj_events.specs.Join.{In, JoinData, PunctAt, TupleAt, inputs}
 use Rattle.pj_events.specs.KeptState.{kept_low}
 use Rattle.pj_join.specs.declared.place.Place.{Place}
 use Rattle.pj_join.specs.Insides.{IsJoin, inside, lowest, made_with, seen, tickets}
 use Rattle.pj_join.specs.Joins.{JoinView}
-use Rattle.pj_join.specs.Judging.{rows_without}
-use Rattle.pj_join.specs.Sides.{log_of, puncts_of, state_at}
-use Rattle.pj_join.specs.Sweeping.{swept_off}
-use Rattle.pj_join.specs.Watching.{AreFewer, AreOpenBut, AreRoused, AreWatched, Watches}
+use Rattle.pj_join.specs.Sweeping.{rows_without, swept_off}
+use Rattle.pj_join.specs.Sides.{log_of, puncts_of}
+use Rattle.pj_rows.specs.Tuples.{state_at}
+use Rattle.pj_recheck.specs.Watching.{AreFewer, AreRoused}
+use Rattle.pj_join.specs.Watched.{AreOpenBut, AreWatched}
+use Rattle.pj_recheck.specs.declared.marks.Watches.{Watches}
 use Rattle.pj_join.proofs.Kept.{shapes}
 use Rattle.pj_join.proofs.Swept.{log-left, lowest-left}
 use Rattle.pj_join.proofs.Watched.{in-row, watched_swept}

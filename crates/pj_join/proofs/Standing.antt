@@ -4,7 +4,8 @@ use Rattle.std.proofs.lemmas.Bool.{eq-eqb, eqb-true, false≢true, or_left}
 use Rattle.pj_events.specs.Join.{In, Value, JoinData, JoinState, TupleAt, Step, TupleComes, PunctComes, Take, Give, Sweep, start, run, has, low, inputs, arity, combinations, joined, results, AreCertified, IsAllowed, IsNew}
 use Rattle.pj_events.specs.KeptState.{KeptState, kept_low, lacking}
 use Rattle.pj_join_laws.specs.Laws.{StepsStand, StoredSuffice}
-use Rattle.pj_join.specs.Joins.{JoinView, JoinTakes, StandsFor, StandsTaken, IsTaken, Found, after, found_of}
+use Rattle.pj_join.specs.Joins.{JoinView, JoinTakes, StandsFor, StandsTaken, IsTaken, after, found_of}
+use Rattle.pj_probe.specs.declared.probe.Found.{Found}
 use Rattle.pj_join.specs.Handed.{JoinProbes, StandsProbed}
 use Rattle.pj_events.specs.Patterns.{Pattern}
 use Rattle.pj_join_laws.proofs.Tickets.{lacking-come}

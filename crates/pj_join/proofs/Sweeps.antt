@@ -11,7 +11,7 @@ use Rattle.pj_join_laws.proofs.Stand.{low-kept, swept-same, ripe-same}
 use Rattle.pj_value.proofs.Members.{In-filter, In-filter_from, filter-agree}
 use Rattle.pj_join.specs.Joins.{JoinView, StandsFor, after}
 use Rattle.pj_join.specs.Insides.{made_with, seen}
-use Rattle.pj_join.specs.Judging.{going_at_once, waiting_with}
+use Rattle.pj_waiting.specs.Letting.{going_at_once, waiting_with}
 use Rattle.pj_join.specs.Sweeping.{GoesWhereCovered, HandsUp, IsForgotten, StaysRipeUntil, next_punct, puncts_at_once, puncts_up, swept_off}
 
 -- ---- what goes up

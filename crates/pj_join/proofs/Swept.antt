@@ -5,7 +5,7 @@ use Rattle.std.proofs.lemmas.Bool.{eq-eqb, eqb-true}
 use Rattle.std.proofs.lemmas.List.{length-map}
 use Rattle.pj_state.specs.declared.shared.Stored.{Stored}
 use Rattle.pj_state.specs.States.{StateView, state_of}
-use Rattle.pj_cover.specs.Stores.{Store}
+use Rattle.pj_puncts.specs.Stores.{Store}
 use Rattle.pj_events.specs.Patterns.{Pattern, matches_row}
 use Rattle.pj_events.specs.Join.{CertStep, In, JoinData, JoinSpec, PunctAt, Sweep, TupleAt, Value, arities, has, inputs, is_held, of_input, steps_of, widened}
 use Rattle.pj_events.specs.KeptState.{kept_low, kept_ripe, swept}
@@ -13,10 +13,13 @@ use Rattle.pj_value.proofs.Members.{In-filter, In-map_from, filter-agree, filter
 use Rattle.pj_join.specs.declared.place.Place.{Place}
 use Rattle.pj_join.specs.Joins.{JoinView, after}
 use Rattle.pj_join.specs.Insides.{IsJoin, IsOrdered, Rise, inside, lowest, made_with, seen, tickets}
-use Rattle.pj_join.specs.Judging.{JudgeView, is_let_go, letting_go, lets_go, ripe_at, ripe_rows, ripe_tickets, rows_without, waiting_on}
-use Rattle.pj_join.specs.Sides.{IsShaped, heard_at, log_of, merged, place_of, puncts_of, state_at, stays, still_held, ticket_at, tuple_in, tuples_in}
-use Rattle.pj_join.specs.Holding.{tickets_where}
-use Rattle.pj_join.specs.Sweeping.{puncts_up, rows_off, swept_off}
+use Rattle.pj_recheck.specs.Judging.{JudgeView, ripe_at, ripe_rows, ripe_tickets}
+use Rattle.pj_join.specs.Sweeping.{is_let_go, rows_without, waiting_on, puncts_up, rows_off, swept_off}
+use Rattle.pj_waiting.specs.Letting.{letting_go, lets_go}
+use Rattle.pj_join.specs.Sides.{IsShaped, log_of, merged, place_of, puncts_of, ticket_at}
+use Rattle.pj_waiting.specs.Holding.{heard_at, tickets_where}
+use Rattle.pj_rows.specs.Tuples.{state_at, tuple_in, tuples_in}
+use Rattle.pj_rows.specs.Finding.{stays, still_held}
 use Rattle.pj_join.proofs.Classes.{eqb-below}
 use Rattle.pj_join.proofs.Judged.{filter-swap, judge_at, ripe-is}
 use Rattle.pj_join.proofs.Kept.{shaped-at, shaped-set, side-is, tuples-set}

@@ -10,9 +10,8 @@ use Rattle.pj_events.specs.Join.{In, JoinData, TupleAt, PunctAt, Sweep, inputs, 
 use Rattle.pj_events.specs.KeptState.{KeptState, kept_low, kept_ripe, least, swept}
 use Rattle.pj_value.proofs.Members.{In-append_right, In-filter, In-map_from, filter-all, filter-agree, filter-filter}
 use Rattle.pj_join.specs.Joins.{JoinView, after}
-use Rattle.pj_join.specs.Sweeping.{swept_off}
+use Rattle.pj_join.specs.Sweeping.{swept_off, waiting_on}
 use Rattle.pj_join.specs.Insides.{IsOrdered, Rise, made_with, seen, tickets}
-use Rattle.pj_join.specs.Judging.{waiting_on}
 use Rattle.pj_join.proofs.Orders.{rise-lower}
 
 -- the number of those that go

@@ -1,25 +1,29 @@
 -- The tuples that are passed over are not ripe, from step to step.
-use Rattle.std.proofs.Common.{ℕ, zero, suc, ◌+◌, ◌<◌, ◌≤◌, Bool, true, false, cond, not, ◌&&◌, ◌||◌, List, [], ◌∷◌, ◌++◌, ◌≡◌, filter, ap₂, map, length, get_or, set, refl, sym, ap, ◌∙◌, subst, inl, inr, eqb, ltb, arith}
+use Rattle.std.proofs.Common.{ℕ, zero, suc, ◌+◌, ◌<◌, ◌≤◌, Bool, true, false, cond, not, ◌&&◌, ◌||◌, List, [], ◌∷◌, ◌++◌, ◌≡◌, ap₂, map, length, get_or, set, refl, sym, ap, ◌∙◌, subst, inl, inr, eqb, ltb, arith}
 use Rattle.std.specs.List.{list_all, list_any}
 use Rattle.std.proofs.lemmas.Bool.{and_parts, and_right, eq-eqb, eqb-true, false_from_ne_true, false≢true, lt-ltb, ltb-true}
 use Rattle.std.proofs.lemmas.List.{length-append}
 use Rattle.pj_value.proofs.Members.{In-append_cases, In-append_left, In-filter, In-filter_from, In-flat_map_from, In-map_from, all_at}
 use Rattle.pj_state.specs.declared.shared.Stored.{Stored}
 use Rattle.pj_state.specs.States.{StateView}
-use Rattle.pj_cover.specs.Stores.{Store}
-use Rattle.pj_cover.specs.Asking.{IsAsked, known_of, puncts_from, tuples_of}
-use Rattle.pj_cover.proofs.Agreeing.{need_alone}
+use Rattle.pj_puncts.specs.Stores.{Store}
+use Rattle.pj_cover.specs.Asking.{IsAsked, known_of, puncts_from, tuples_of, AsksStill}
+use Rattle.pj_rows.proofs.Agreeing.{need_alone}
 use Rattle.pj_events.specs.Patterns.{covers}
 use Rattle.pj_events.specs.Join.{CertEntry, ClassCol, Demand, In, JoinData, PunctAt, TupleAt, agree, cert_of, covered, grown, has, inputs, need, of_input, older, older_puncts}
 use Rattle.pj_events.specs.KeptState.{KeptState, kept_low, kept_ripe, least, swept}
 use Rattle.pj_join.specs.declared.place.Place.{Place}
 use Rattle.pj_join.specs.Insides.{IsJoin, inside, made_with, seen, tickets}
 use Rattle.pj_join.specs.Joins.{JoinView}
-use Rattle.pj_join.specs.Judging.{JudgeView, ripe_at}
-use Rattle.pj_join.specs.Sides.{log_of, puncts_of, row_pairs, state_at, tuple_in}
+use Rattle.pj_recheck.specs.Judging.{JudgeView, ripe_at}
+use Rattle.pj_join.specs.Sides.{log_of, puncts_of}
+use Rattle.pj_rows.specs.Tuples.{row_pairs, state_at, tuple_in}
 use Rattle.pj_join.specs.Sweeping.{swept_off}
-use Rattle.pj_join.specs.Watching.{AreFewer, AreLeft, AreLookedAt, AreOpenBut, AreRoused, AreStored, AreWatched, AsksStill, PunctView, NoneIsRipe, Watches, come_at, is_passed, known, watches_at}
-use Rattle.pj_join.proofs.Holding.{filter-none}
+use Rattle.pj_recheck.specs.Watching.{AreFewer, AreLeft, AreLookedAt, AreRoused, AreStored, PunctView, NoneIsRipe, come_at, is_passed, known, watches_at}
+use Rattle.pj_join.specs.Watched.{AreOpenBut, AreWatched}
+use Rattle.pj_recheck.specs.declared.marks.Watches.{Watches}
+use Rattle.pj_recheck.proofs.Woken.{at-place, at-set, by-place, set-count}
+use Rattle.pj_waiting.proofs.Holding.{filter-none}
 use Rattle.pj_join.proofs.Judged.{covered-all-of, judge_at, ripe-is, same-puncts, same-rows}
 use Rattle.pj_join.proofs.Kept.{shapes, side-is}
 
@@ -252,30 +256,6 @@ least-within : (next : ℕ) (ts : List ℕ) → least next ts ≤ next
 least-within next [] = omega arith
 least-within next (t ∷ ts) = omega (arith, least-within next ts)
 
-watch-set : (ws : List Watches) (i k : ℕ) (w : Watches) → i < length ws → (k ≡ i → ⊥) → watches_at (set ws i w) k ≡ watches_at ws k
-watch-set [] i k w lt ne = absurd (omega (arith, lt))
-watch-set (v ∷ ws) zero zero w lt ne = absurd (ne refl)
-watch-set (v ∷ ws) zero (suc k) w lt ne = refl
-watch-set (v ∷ ws) (suc i) zero w lt ne = refl
-watch-set (v ∷ ws) (suc i) (suc k) w lt ne = watch-set ws i k w (omega (arith, lt)) (λ e. ne (ap suc e))
-
-watch-place : (ws : List Watches) (i : ℕ) (w : Watches) → i < length ws → watches_at (set ws i w) i ≡ w
-watch-place [] i w lt = absurd (omega (arith, lt))
-watch-place (v ∷ ws) zero w lt = refl
-watch-place (v ∷ ws) (suc i) w lt = watch-place ws i w (omega (arith, lt))
-
-set-count : (ws : List Watches) (i : ℕ) (w : Watches) → length (set ws i w) ≡ length ws
-set-count [] i w = refl
-set-count (v ∷ ws) zero w = refl
-set-count (v ∷ ws) (suc i) w = ap suc (set-count ws i w)
-
-by-place : (P : ℕ → Type 0) (i k : ℕ) → P i → ((k ≡ i → ⊥) → P k) → P k
-by-place P i k here there = go (eqb k i) refl
-  where
-    go : (b : Bool) → eqb k i ≡ b → P k
-    go true e = subst P (sym (eqb-true k i e)) here
-    go false e = there (λ q. false≢true (sym e ∙ eq-eqb k i q))
-
 -- what is left of a sweep and is passed over asks for something, over all that was stored
 module _ (join : JoinView) (input low : ℕ) (marked : List ℕ) (ws : List Watches) (is : low ≡ kept_low join.kept) (there : input < inputs join.spec)
     (w : AreWatched join.spec join.kept.next (kept_low join.kept) join.kept.stored join.kept.puncts ws) (open-but : AreOpenBut join input marked) where
@@ -294,12 +274,12 @@ module _ (join : JoinView) (input low : ℕ) (marked : List ℕ) (ws : List Watc
   by-input x h n true e t =
       let of : x.input ≡ input = eqb-true x.input input e in
       let p : is_passed (watches_at (set ws input v) input) x.ticket ≡ true = ap (λ i. is_passed (watches_at (set ws input v) i) x.ticket) (sym of) ∙ t in
-      let q : is_passed v x.ticket ≡ true = ap (λ (u : Watches). is_passed u x.ticket) (sym (watch-place ws input v lt)) ∙ p in
+      let q : is_passed v x.ticket ≡ true = ap (λ (u : Watches). is_passed u x.ticket) (sym (at-place ws input v lt)) ∙ p in
       let both = and_parts (ltb x.ticket low) (not (has marked x.ticket)) q in
       let below : x.ticket < low = ltb-true x.ticket low both.0 in
       subst (λ i. AsksStill (known join.spec.shape.classes join.kept.stored join.kept.puncts (kept_low join.kept)) (cert_of join.spec i) x) (sym of)
       (open-but x h of (omega (arith, below, is)) (not-false (kept_ripe join.spec join.kept x) (ap (λ b. not (b && kept_ripe join.spec join.kept x)) (sym e) ∙ n)) (not-false (has marked x.ticket) both.1))
-  by-input x h n false e t = w.asks x h (ap (λ (u : Watches). is_passed u x.ticket) (sym (watch-set ws input x.input v lt (λ q. false≢true (sym e ∙ eq-eqb x.input input q)))) ∙ t)
+  by-input x h n false e t = w.asks x h (ap (λ (u : Watches). is_passed u x.ticket) (sym (at-set ws input x.input v lt (λ q. false≢true (sym e ∙ eq-eqb x.input input q)))) ∙ t)
 
   -- one that goes leaves none that asks through it
   module _ (states : List StateView) (gone : List ℕ) (new : List Watches) (row : (y : TupleAt) → In y join.kept.stored → (s : Stored) × In s (state_at states y.input).rows × (tuple_in y.input s ≡ y))
@@ -334,8 +314,8 @@ module _ (join : JoinView) (input low : ℕ) (marked : List ℕ) (ws : List Watc
           let m : (watches_at new k).from ≤ (watches_at (set ws input v) k).from = (fewer.each k).from in
           let n : (watches_at (set ws input v) k).from ≤ join.kept.next =
           by-place (λ i. (watches_at (set ws input v) i).from ≤ join.kept.next) input k
-          (subst (λ (u : Watches). u.from ≤ join.kept.next) (sym (watch-place ws input v lt)) (omega (arith, is, least-within join.kept.next join.kept.opened)))
-          (λ ne. subst (λ (u : Watches). u.from ≤ join.kept.next) (sym (watch-set ws input k v lt ne)) (w.reached k)) in omega (arith, m, n);
+          (subst (λ (u : Watches). u.from ≤ join.kept.next) (sym (at-place ws input v lt)) (omega (arith, is, least-within join.kept.next join.kept.opened)))
+          (λ ne. subst (λ (u : Watches). u.from ≤ join.kept.next) (sym (at-set ws input k v lt ne)) (w.reached k)) in omega (arith, m, n);
       asks = λ x h t.
           let in-stored = In-filter (λ (z : TupleAt). not (eqb z.input input && kept_ripe join.spec join.kept z)) x join.kept.stored h in
           still-stays x in-stored.0 t (by-input x in-stored.0 in-stored.1 (eqb x.input input) refl ((fewer.each x.input).passed x.ticket t));

@@ -1,12 +1,13 @@
 -- What stands inside a join, and how it is seen.
 use Rattle.std.specs.Prelude.{ℕ, ◌+◌, ◌<◌, ◌^◌, ◌≤◌, ◌≡◌, List, [], ◌∷◌, ◌++◌, map, drop, length}
 use Rattle.pj_state.specs.States.{StateView}
-use Rattle.pj_cover.specs.Stores.{Store}
+use Rattle.pj_puncts.specs.Stores.{Store}
 use Rattle.pj_shape.specs.Sound.{IsSoundSpec}
 use Rattle.pj_events.specs.Join.{In, JoinData, TupleAt, PunctAt, AreCertified, arities, inputs, of_input, upto_from}
 use Rattle.pj_events.specs.KeptState.{least}
 use Rattle.pj_join.specs.Joins.{JoinView}
-use Rattle.pj_join.specs.Sides.{AreAllShaped, heard_in, heard_of, log_of, place_of, puncts_of, tuples_in}
+use Rattle.pj_join.specs.Sides.{AreAllShaped, heard_in, heard_of, log_of, place_of, puncts_of}
+use Rattle.pj_rows.specs.Tuples.{tuples_in}
 use Rattle.pj_join.specs.declared.place.Place.{Place}
 
 abbrev pub tickets : List TupleAt → List ℕ

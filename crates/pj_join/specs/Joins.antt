@@ -1,8 +1,7 @@
 -- What contracts see of a join, and what its calls do.
-use Rattle.std.specs.Prelude.{ℕ, ◌≤◌, ◌≡◌, Bool, true, false, List, [], ◌∷◌, ◌++◌, map, Option, Some, None}
-use Rattle.pj_shape.specs.declared.joins.CertStep.{CertStep}
-use Rattle.pj_shape.specs.declared.joins.JoinSpec.{JoinSpec}
+pub use Rattle.pj_recheck.specs.Judging.{join_data}
 pub use Rattle.pj_probe.specs.declared.probe.Found.{Found}
+use Rattle.std.specs.Prelude.{ℕ, ◌≤◌, ◌≡◌, true, false, List, [], ◌∷◌, ◌++◌, map, Option, Some, None}
 use Rattle.pj_events.specs.Join.{In, JoinData, PunctAt, Step, Take, start, run, has, joined, results, AreLegalSteps}
 use Rattle.pj_events.specs.KeptState.{KeptState, kept_step, JoinStands}
 
@@ -12,10 +11,6 @@ pub record JoinView : Type 0 where
   pub spec : JoinData
   pub limit : ℕ
   pub kept : KeptState
-
--- a join of this shape with these schemes and certificates of its inputs, which hands up rows and punctuations
-abbrev pub join_data : JoinSpec → List (List (List Bool)) → List (List CertStep) → JoinData
-join_data shape schemes certs = record { shape = shape; schemes = schemes; certs = certs }
 
 -- the join after a step
 abbrev pub after : JoinView → Step → JoinView

@@ -1,12 +1,31 @@
--- What a join removes, and what it hands up of punctuations.
-use Rattle.std.specs.Prelude.{ℕ, ◌<◌, ◌≡◌, ◌==◌, ◌&&◌, not, if◌then◌else◌, true, List, [], ◌∷◌, ◌++◌, map, filter}
+-- Which stored tuples a sweep removes, and which punctuations it lets go.
+use Rattle.std.specs.Prelude.{ℕ, Bool, not, ◌==◌, ◌&&◌, ◌||◌, List, map, filter, ◌<◌, ◌≡◌, if◌then◌else◌, true, [], ◌∷◌, ◌++◌}
+use Rattle.pj_shape.specs.declared.columns.Column.{Column}
+use Rattle.pj_state.specs.declared.shared.Stored.{Stored}
+use Rattle.pj_events.specs.Patterns.{Pattern}
+use Rattle.pj_events.specs.Join.{PunctAt, TupleAt, has, is_held, In, Step, TupleComes, PunctComes, Take, Give, Sweep, Punct, JoinState, run, start, low, widened, hands_up, outputs, ripe, AreLegalSteps, IsCombination, older, older_puncts, need_of, covered}
+use Rattle.pj_waiting.specs.Letting.{widened_among}
 use Rattle.std.specs.List.{list_all}
 use Rattle.pj_value.specs.declared.values.Value.{Value}
-use Rattle.pj_pattern.specs.Patterns.{Pattern}
-use Rattle.pj_events.specs.Join.{In, TupleAt, PunctAt, Step, TupleComes, PunctComes, Take, Give, Sweep, Punct, JoinState, run, start, low, is_held, widened, hands_up, outputs, ripe, AreLegalSteps, IsCombination, older, older_puncts, need_of, covered}
 use Rattle.pj_events.specs.KeptState.{kept_low, kept_ripe, swept}
 use Rattle.pj_pattern.specs.Elements.{IsLawful}
 use Rattle.pj_join.specs.Joins.{JoinView}
+
+-- the rows with other tickets than these
+abbrev pub rows_without : List ℕ → List Stored → List Stored
+rows_without gone rows = filter (λ s. not (has gone s.ticket)) rows
+
+-- whether a sweep of this input that leaves these tuples lets the punctuation go
+abbrev pub is_let_go : List TupleAt → ℕ → PunctAt → Bool
+is_let_go stored input p = (p.input == input) && not (is_held stored p)
+
+-- those that wait on
+abbrev pub waiting_on : List TupleAt → ℕ → List PunctAt → List PunctAt
+waiting_on stored input ps = filter (λ p. not (p.input == input) || is_held stored p) ps
+
+-- those that are let go, widened
+abbrev pub going_up : List (List Column) → List TupleAt → ℕ → List PunctAt → List (List Pattern)
+going_up schemas stored input ps = map (widened_among schemas) (filter (is_let_go stored input) ps)
 
 -- the tuples of the input that a sweep removes: exactly the ripe ones, in order of tickets
 abbrev pub swept_off : JoinView → ℕ → List TupleAt

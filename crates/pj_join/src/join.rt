@@ -6,40 +6,31 @@ ghost use Rattle.pj_shape.specs.Sound.{IsSoundSpec};
 ghost use Rattle.pj_events.specs.Join.{AreCertified, Step, TupleComes, PunctComes, Take, Give, Sweep, IsNew, start, run, low, inputs, arity};
 ghost use Rattle.pj_events.specs.KeptState.{kept_of, kept_low, swept, without};
 ghost use Rattle.std.specs.List.{position};
-ghost use Rattle.pj_join.specs.Holding.{AreHeld, AreHeldBehind, KeepsLists, tickets_where};
+ghost use Rattle.pj_join.specs.Held.{AreHeld, AreHeldBehind};
+ghost use Rattle.pj_waiting.specs.Holding.{KeepsLists, tickets_where, heard_at};
 ghost use Rattle.pj_join.specs.Handed.{JoinProbes, StandsProbed, rows_probed};
 ghost use Rattle.pj_join.specs.Insides.{Rise, tickets};
-ghost use Rattle.pj_join.specs.Judging.{is_let_go, waiting_on};
-ghost use Rattle.pj_join.specs.Joins.{IsTaken, StandsFor, JoinTakes, StandsTaken, after, join_data, with_waiting};
-ghost use Rattle.pj_join.specs.Watching.{AreOpenBut};
-ghost use Rattle.pj_join.specs.Sides.{heard_at};
-ghost use Rattle.pj_join.specs.Sweeping.{GoesWhereCovered, HandsUp, HasBeenLawful, IsForgotten, StaysRipeUntil, puncts_let_go, puncts_up, rows_off, swept_off};
+ghost use Rattle.pj_join.specs.Sweeping.{is_let_go, waiting_on, GoesWhereCovered, HandsUp, HasBeenLawful, IsForgotten, StaysRipeUntil, puncts_let_go, puncts_up, rows_off, swept_off};
+ghost use Rattle.pj_join.specs.Joins.{IsTaken, StandsFor, JoinTakes, StandsTaken, after, with_waiting};
+ghost use Rattle.pj_recheck.specs.Judging.{join_data};
+ghost use Rattle.pj_join.specs.Watched.{AreOpenBut};
 
 use crate::JoinStop;
-use crate::compiling::{Certified, routes_of};
-use crate::held::Coming;
-use crate::handing::hand_out_found;
-use crate::marks::Watches;
-use crate::partners::rouse;
 use crate::place::{Place, first_pending};
-use crate::probe::probe_of;
-use crate::orders::keep_orders;
-use crate::route::{ProbeRoute, probe_routes, route_of};
-use crate::routes::InputRoutes;
-use crate::starting::{empty_states, empty_stores, empty_watches};
 use crate::settling::{Left, has_young, remove_all, sweep};
-use crate::sweeping::Judge;
-use crate::waiting::Waiting;
-use crate::waking::wake;
-use crate::widening::hear;
-use pj_cover::PunctStore;
+use crate::starting::{empty_states, empty_stores, empty_watches};
 use pj_events::Out;
 use pj_join_laws::{forgetting_is_safe, lawfulness, ripeness, standing};
 use pj_pattern::Punct;
-use pj_probe::Probe;
+use pj_probe::{Probe, ProbeRoute, hand_out_found, probe_of, probe_routes, route_of};
+use pj_puncts::PunctStore;
+use pj_recheck::{
+    Certified, InputRoutes, Judge, Watches, keep_orders, mark_covered, mark_dependents, routes_of,
+};
 use pj_shape::{Cert, JoinSpec, Schemes};
 use pj_state::{Remaining, Shared, State};
 use pj_value::{List, NoMemory, Row};
+use pj_waiting::{Coming, Waiting, hear};
 use std::alloc::Global;
 use std::marker::Model;
 use std::sync::Arc;
@@ -69,13 +60,14 @@ pub struct Join {
 
 impl Model for Join {
     ghost use Rattle.std.specs.Arc.{arc_value};
-    ghost use Rattle.pj_join.specs.Joins.{JoinView, join_data};
+    ghost use Rattle.pj_join.specs.Joins.{JoinView};
+    ghost use Rattle.pj_recheck.specs.Judging.{join_data};
     ghost use Rattle.pj_join.specs.Insides.{IsJoin, inside, lowest, made_with, seen};
     ghost use Rattle.pj_join.specs.Sides.{log_of, puncts_of};
-    ghost use Rattle.pj_join.specs.Holding.{AreHeld};
-    ghost use Rattle.pj_join.specs.Watching.{AreWatched};
-    ghost use Rattle.pj_join.specs.Routes.{AreProbeRoutes, columns_of};
-    ghost use Rattle.pj_join.specs.Recheck.{AreRoutes};
+    ghost use Rattle.pj_join.specs.Held.{AreHeld};
+    ghost use Rattle.pj_join.specs.Watched.{AreWatched};
+    ghost use Rattle.pj_probe.specs.Routes.{AreProbeRoutes, columns_of};
+    ghost use Rattle.pj_recheck.specs.Recheck.{AreRoutes};
     ghost use Rattle.pj_events.specs.Join.{inputs};
 
     ghost Value = { JoinView };
@@ -209,7 +201,7 @@ impl Join {
             return Err(JoinStop::Limit);
         }
         let ticket = self.next;
-        wake(
+        mark_covered(
             self.alloc,
             &mut self.watches,
             self.rechecks[input as usize].recheck.as_slice(),
@@ -447,7 +439,7 @@ impl Join {
         let from = self.low();
         self.done -= count;
         self.watches[input as usize] = Watches { from, marked };
-        rouse(
+        mark_dependents(
             self.alloc,
             &mut self.watches,
             self.rechecks[input as usize].back.as_slice(),

@@ -2,7 +2,7 @@
 ghost use Rattle.std.specs.Prelude.{◌≡◌};
 ghost use Rattle.pj_join.specs.Sides.{arrived_at, first_of};
 
-use crate::arrivals::Arrived;
+use pj_rows::Arrived;
 use pj_state::{Remaining, State};
 
 /// Where a stored tuple stands: under its ticket among those of its input.

@@ -4,18 +4,17 @@ ghost use Rattle.pj_value.specs.Lists.{In};
 ghost use Rattle.pj_state.specs.declared.shared.Stored.{Stored};
 ghost use Rattle.pj_state.specs.Rising.{IsRising};
 ghost use Rattle.pj_state.specs.States.{state_of};
-ghost use Rattle.pj_join.specs.Holding.{AreFreed, AreHeldBy, KeepsLists, StayHeld, tickets_where};
-ghost use Rattle.pj_join.specs.Judging.{letting_go, lets_go, ripe_rows, ripe_tickets, rows_at, rows_without};
-ghost use Rattle.pj_join.specs.Sides.{heard_at};
-ghost use Rattle.pj_join.specs.Watching.{AreLookedAt, NoneIsRipe};
+ghost use Rattle.pj_waiting.specs.Holding.{AreFreed, AreHeldBy, KeepsLists, StayHeld, tickets_where, heard_at};
+ghost use Rattle.pj_waiting.specs.Letting.{letting_go, lets_go};
+ghost use Rattle.pj_recheck.specs.Judging.{ripe_rows, ripe_tickets, rows_at};
+ghost use Rattle.pj_join.specs.Sweeping.{rows_without};
+ghost use Rattle.pj_recheck.specs.Watching.{AreLookedAt, NoneIsRipe};
 
-use crate::marks::{Judged, Watches};
-use crate::sweeping::Judge;
-use crate::waiting::{StillWaiting, Waiting};
-use crate::widening::Swept;
 use pj_pattern::Punct;
+use pj_recheck::{Judge, Judged, Watches};
 use pj_state::State;
 use pj_value::{List, NoMemory, Row};
+use pj_waiting::{StillWaiting, Swept, Waiting};
 use std::alloc::Global;
 
 /// What a sweep leaves: the tickets of the tuples that go, and of those that are judged again, and what is left of the

@@ -2,11 +2,12 @@
 ghost use Rattle.std.specs.Prelude.{◌≡◌, ◌<◌, ◌≤◌, ℕ, [], length, map, slice_index, sum, All, IfOk, OnOk};
 ghost use Rattle.pj_shape.specs.Sound.{arities_of};
 ghost use Rattle.pj_events.specs.Join.{of_input, upto_from};
-ghost use Rattle.pj_join.specs.Sides.{AreAllShaped, IsShaped, heard_in, heard_of, tuples_in};
-ghost use Rattle.pj_join.specs.Watching.{watches_at};
+ghost use Rattle.pj_join.specs.Sides.{AreAllShaped, IsShaped, heard_in, heard_of};
+ghost use Rattle.pj_rows.specs.Tuples.{tuples_in};
+ghost use Rattle.pj_recheck.specs.Watching.{watches_at};
 
-use crate::marks::Watches;
-use pj_cover::PunctStore;
+use pj_puncts::PunctStore;
+use pj_recheck::Watches;
 use pj_shape::{ClassCol, JoinSpec, Schema};
 use pj_state::State;
 use pj_value::{List, NoMemory};

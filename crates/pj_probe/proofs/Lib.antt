@@ -5,3 +5,15 @@ pub mod Classes
 pub mod Combining
 pub mod Growing
 pub mod Whole
+pub mod Decided
+pub mod Filtering
+pub mod Finding
+pub mod HandedOut
+pub mod Hopped
+pub mod Looped
+pub mod Pairs
+pub mod Probed
+pub mod Routed
+pub mod Suiting
+pub mod Walking
+pub mod Wanted

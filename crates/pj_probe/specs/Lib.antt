@@ -2,3 +2,9 @@ pub mod Walks
 pub mod Cells
 pub mod Walking
 pub mod Visits
+pub mod Choices
+pub mod Decided
+pub mod Hops
+pub mod Lookups
+pub mod Results
+pub mod Routes

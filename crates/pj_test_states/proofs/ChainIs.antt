@@ -8,7 +8,7 @@ use Rattle.pj_value.specs.Lists.{In}
 use Rattle.pj_shape.specs.Sound.{IsSoundSpec, IsSoundClass, IsOfKind, FitSchemes, arities_of}
 use Rattle.pj_shape.specs.Certificates.{IsCertificate}
 use Rattle.pj_shape.proofs.Tested.{fit_if}
-use Rattle.pj_cover.specs.Stores.{Store}
+use Rattle.pj_puncts.specs.Stores.{Store}
 use Rattle.pj_cover.specs.Asking.{AreParts, HaveLength}
 use Rattle.pj_test_states.specs.Chain.{number, pair, pairs, at, firsts, seconds, chain, chain_schemes, chain_cert, two_rows}
 use Rattle.pj_cert.proofs.TestedSteps.{verified}

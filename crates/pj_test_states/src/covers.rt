@@ -1,12 +1,13 @@
 // What no clause says: that the calls succeed with ample memory, on worked punctuations.
 ghost use Rattle.std.specs.Prelude.{◌≡◌, ◌<◌, ◌+◌, ◌∷◌, [], ℕ, map, true, false, not, length, slice_get, IfOk, OnOk};
-ghost use Rattle.pj_cover.specs.Givens.{marked};
-ghost use Rattle.pj_cover.specs.Stores.{IsAbove};
+ghost use Rattle.pj_puncts.specs.Givens.{marked};
+ghost use Rattle.pj_puncts.specs.Stores.{IsAbove};
 ghost use Rattle.pj_test_states.specs.Chain.{at, chain, chain_cert, chain_schemes, firsts, number, pair, pairs, seconds, two_rows};
 ghost use Rattle.pj_value.specs.Options.{is_value};
 
-use pj_cover::{Given, NumberedPunct, PunctStore, StoredRows, Verdict, judge_row, ripe};
+use pj_cover::{StoredRows, Verdict, judge_row, ripe};
 use pj_pattern::{Pattern, Punct, Shape};
+use pj_puncts::{Given, NumberedPunct, PunctStore};
 use pj_shape::{Cert, CertStep, ClassCol, Column, JoinSpec, Schema, Scheme, Schemes};
 use pj_value::{Kind, List, NoMemory, Row, Value};
 use std::alloc::Global;

@@ -1,5 +1,5 @@
 use Rattle.std.proofs.Common.{◌<◌, length, arith}
-use Rattle.pj_cover.proofs.OneCell.{mark_there, mark_within}
+use Rattle.pj_puncts.proofs.SingleCell.{mark_there, mark_within}
 use Rattle.pj_cover.proofs.instances.covering_instance.Goals as goal
 
 pub covering_one-requires-clause-there : goal.covering_one-requires-clause-there

@@ -1,6 +1,6 @@
 use Rattle.std.proofs.Common.{List, Option, ap, subst, ◌∙◌}
 use Rattle.pj_value.specs.declared.values.Value.{Value}
-use Rattle.pj_cover.specs.Stores.{TellsCover}
+use Rattle.pj_puncts.specs.Stores.{TellsCover}
 use Rattle.pj_cover.proofs.Constants.{constants_count, constants_instance}
 use Rattle.pj_shape.specs.Instances.{instance_of}
 use Rattle.pj_cover.proofs.instances.covering_lent.Goals as goal

@@ -2,9 +2,9 @@ use Rattle.std.proofs.Common.{◌≡◌, ◌+◌, List, Option, Some, ap, subst,
 use Rattle.pj_value.specs.declared.values.Value.{Value}
 use Rattle.pj_events.specs.Join.{class_with, constant}
 use Rattle.pj_cover.specs.Asking.{first_there}
-use Rattle.pj_cover.specs.Givens.{one_cell}
-use Rattle.pj_cover.specs.Stores.{TellsCover}
-use Rattle.pj_cover.proofs.OneCell.{one_instance}
+use Rattle.pj_puncts.specs.Givens.{one_cell}
+use Rattle.pj_puncts.specs.Stores.{TellsCover}
+use Rattle.pj_puncts.proofs.SingleCell.{one_instance}
 use Rattle.pj_cover.proofs.instances.covering_one.Goals as goal
 
 some-value : (v w : Value) → Some v ≡ Some w → v ≡ w

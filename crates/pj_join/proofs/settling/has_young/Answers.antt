@@ -1,6 +1,6 @@
 use Rattle.std.proofs.Common.{◌-◌, arith}
 use Rattle.std.proofs.lemmas.Bool.{leb-false}
-use Rattle.pj_join.proofs.Picked.{last_below}
+use Rattle.pj_recheck.proofs.Picked.{last_below}
 use Rattle.pj_join.proofs.settling.has_young.Goals as goal
 
 pub returns : goal.returns

@@ -2,7 +2,7 @@ use Rattle.std.proofs.Common.{◌∙◌, ap, get_or, refl, sym, arith}
 use Rattle.std.proofs.lemmas.List.{take_all}
 use Rattle.pj_state.specs.Rising.{without}
 use Rattle.pj_state.specs.States.{StateView, state_of, ticket_of}
-use Rattle.pj_join.specs.Judging.{rows_without}
+use Rattle.pj_join.specs.Sweeping.{rows_without}
 use Rattle.pj_join.proofs.Looped.{without_more, without_none}
 use Rattle.pj_join.proofs.settling.remove_all.Goals as goal
 

@@ -1,7 +1,8 @@
 use Rattle.std.proofs.Common.{◌≡◌, [], map, take}
 use Rattle.pj_shape.specs.Sound.{arities_of}
 use Rattle.pj_events.specs.Join.{of_input, upto_from}
-use Rattle.pj_join.specs.Sides.{AreAllShaped, tuples_in}
+use Rattle.pj_join.specs.Sides.{AreAllShaped}
+use Rattle.pj_rows.specs.Tuples.{tuples_in}
 use Rattle.pj_join.proofs.starting.empty_states.Given as goal
 
 abbrev pub invariant-loop-input : goal.invariant-loop-input

@@ -1,5 +1,5 @@
 use Rattle.std.proofs.Common.{refl}
-use Rattle.pj_join.specs.Watching.{no_watches}
+use Rattle.pj_recheck.specs.Watching.{no_watches}
 use Rattle.pj_join.proofs.Watched.{watches_more}
 use Rattle.pj_join.proofs.starting.empty_watches.Goals as goal
 

@@ -1,5 +1,5 @@
 use Rattle.std.proofs.Common.{◌≡◌, ℕ, length}
-use Rattle.pj_join.specs.Watching.{watches_at}
+use Rattle.pj_recheck.specs.Watching.{watches_at}
 use Rattle.pj_join.proofs.starting.empty_watches.Given as goal
 
 abbrev pub invariant-loop-input : goal.invariant-loop-input

@@ -1,7 +1,7 @@
 use Rattle.std.proofs.Common.{◌+◌, List, refl, sym, subst}
-use Rattle.pj_cover.specs.declared.store.NumberedPunct.{NumberedPunct}
-use Rattle.pj_cover.specs.Stores.{IsAbove}
-use Rattle.pj_cover.proofs.Firsts.{above_push}
+use Rattle.pj_puncts.specs.declared.store.NumberedPunct.{NumberedPunct}
+use Rattle.pj_puncts.specs.Stores.{IsAbove}
+use Rattle.pj_puncts.proofs.Firsts.{above_push}
 use Rattle.pj_test_states.proofs.covers.add.Goals as goal
 
 pub returns-clause-above : goal.returns-clause-above

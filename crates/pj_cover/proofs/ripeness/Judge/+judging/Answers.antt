@@ -1,7 +1,7 @@
 use Rattle.std.proofs.Common.{rules, ◌≡◌, drop, ◌<◌, ◌≤◌, ◌+◌, [], ◌∷◌, refl, sym, ap, ◌∙◌, subst, true, length, map, List, get_or, arith}
 use Rattle.std.proofs.lemmas.Option.{slice_get-get_or}
 use Rattle.pj_events.specs.Join.{TupleAt}
-use Rattle.pj_cover.specs.Suits.{suits}
+use Rattle.pj_rows.specs.Suits.{suits}
 use Rattle.pj_cover.specs.Asking.{AreDone, AreDoneUnder, IsDone, IsJudgedThrough, IsJudgedUnder, IsOnWalk, entries, known_of, tuple_of}
 use Rattle.pj_cover.proofs.Judged.{says_unripe}
 use Rattle.pj_cover.proofs.Searching.{found_here, goes_on, gone_through, has_room, in_here, last_step, not_older, not_suited, one_more, ready, went_on}

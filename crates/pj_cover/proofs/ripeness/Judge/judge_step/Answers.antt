@@ -1,7 +1,7 @@
 use Rattle.std.proofs.Common.{◌∙◌, List, Bool, Option, Some, None, ap, get_or, refl, subst}
 use Rattle.pj_value.specs.declared.values.Value.{Value}
 use Rattle.pj_events.specs.Join.{ClassCol, instance_from}
-use Rattle.pj_cover.specs.Stores.{TellsCover}
+use Rattle.pj_puncts.specs.Stores.{TellsCover}
 use Rattle.pj_cover.specs.Asking.{known_of, marks_of}
 use Rattle.pj_cover.proofs.Below.{told_late, told_none, told_ripe}
 use Rattle.pj_cover.proofs.ripeness.Judge.judge_step.Goals as goal

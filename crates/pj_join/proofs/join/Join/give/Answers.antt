@@ -1,10 +1,12 @@
 use Rattle.std.proofs.Common.{◌≡◌, ◌<◌, false, arith, drop}
 use Rattle.std.specs.Arc.{arc_value}
 use Rattle.pj_events.specs.Join.{has, inputs}
-use Rattle.pj_join.specs.Joins.{join_data, IsTaken}
+use Rattle.pj_recheck.specs.Judging.{join_data}
+use Rattle.pj_join.specs.Joins.{IsTaken}
 use Rattle.pj_events.specs.KeptState.{without}
 use Rattle.pj_join.specs.Insides.{lowest, tickets}
-use Rattle.pj_join.specs.Sides.{log_of, puncts_of, tuples_in}
+use Rattle.pj_join.specs.Sides.{log_of, puncts_of}
+use Rattle.pj_rows.specs.Tuples.{tuples_in}
 use Rattle.pj_join.proofs.Orders.{seen-give}
 use Rattle.pj_join.proofs.Standing.{stands-give}
 use Rattle.pj_join.proofs.Calling.{may-forget, several}

@@ -1,28 +1,30 @@
 use Rattle.std.proofs.Common.{◌<◌, ◌+◌, ◌∙◌, ◌++◌, [], List, ap, ap₂, arith, map, refl, sym, subst}
 use Rattle.std.proofs.lemmas.Bool.{false≢true}
 use Rattle.std.specs.Arc.{arc_value}
-use Rattle.pj_cover.specs.Stores.{IsAbove, Store}
+use Rattle.pj_puncts.specs.Stores.{IsAbove, Store}
 use Rattle.pj_shape.specs.declared.joins.JoinSpec.{JoinSpec}
 use Rattle.pj_events.specs.Join.{PunctAt, inputs}
 use Rattle.pj_join.specs.Insides.{IsJoin, inside, lowest, made_with, seen}
 use Rattle.pj_join.proofs.Lowest.{lowest_punct}
-use Rattle.pj_join.specs.Joins.{join_data}
-use Rattle.pj_join.specs.Judging.{going_at_once}
-use Rattle.pj_join.specs.Routes.{AreProbeRoutes, columns_of}
-use Rattle.pj_join.specs.Sides.{AreWide, log_of, puncts_of, still_held, tuple_in, tuples_in}
+use Rattle.pj_recheck.specs.Judging.{join_data}
+use Rattle.pj_waiting.specs.Letting.{going_at_once}
+use Rattle.pj_probe.specs.Routes.{AreProbeRoutes, columns_of}
+use Rattle.pj_rows.specs.Tuples.{AreWide, tuple_in, tuples_in}
+use Rattle.pj_join.specs.Sides.{log_of, puncts_of}
+use Rattle.pj_rows.specs.Finding.{still_held}
 use Rattle.pj_join.proofs.Standing.{stands-punct}
-use Rattle.pj_join.proofs.Calling.{same-at, several}
+use Rattle.pj_rows.proofs.States.{same-at, state_is}
+use Rattle.pj_join.proofs.Calling.{several}
 use Rattle.pj_join.proofs.Sweeps.{hands-punct, punct_out, punct_view}
 use Rattle.pj_join.proofs.Swept.{held-at-first}
 use Rattle.pj_join.proofs.Kept.{above-all, all-states, all-stores, join-hears, on-err, puncts-more, same-stores, side-is, wide}
 use Rattle.pj_state.specs.States.{StateView}
-use Rattle.pj_join.specs.Holding.{AreHeld}
-use Rattle.pj_join.specs.Watching.{AreWatched}
+use Rattle.pj_join.specs.Held.{AreHeld}
+use Rattle.pj_join.specs.Watched.{AreWatched}
 use Rattle.pj_join.proofs.Holding.{held_same, hears}
 use Rattle.pj_join.proofs.Watched.{watched_fewer, watched_punct}
-use Rattle.pj_join.specs.Recheck.{AreRoutes}
-use Rattle.pj_join.proofs.Rechecked.{fit_now, left_now}
-use Rattle.pj_join.proofs.Looped.{state_is}
+use Rattle.pj_recheck.specs.Recheck.{AreRoutes}
+use Rattle.pj_recheck.proofs.Rechecked.{fit_now, left_now}
 use Rattle.pj_join.proofs.join.Join.hear_punct.Goals as goal
 
 pub index-requires : goal.index-requires
@@ -31,8 +33,8 @@ index-requires c =
     let there : c.args.input < inputs (join_data (arc_value c.self.inside.spec) c.self.inside.schemes c.self.inside.certs) = rw (← c.self.view_is) at lt in
     omega (arith, there, c.self.invariant.4.long, c.self.inside.rechecks.ok)
 
-pub wake-requires-clause-fit : goal.wake-requires-clause-fit
-wake-requires-clause-fit c =
+pub mark_covered-requires-clause-fit : goal.mark_covered-requires-clause-fit
+mark_covered-requires-clause-fit c =
     let lt : c.args.input < inputs c.args.self.now.spec = c.requires.fits.0 in
     let there : c.args.input < inputs (join_data (arc_value c.self.inside.spec) c.self.inside.schemes c.self.inside.certs) = rw (← c.self.view_is) at lt in
     fit_now (join_data (arc_value c.self.inside.spec) c.self.inside.schemes c.self.inside.certs) c.self.inside.states.items c.as_slice-2.result.now c.self.inside.rechecks.items c.args.input c.index.result.now c.as_slice.result.now c.self.invariant.4 there c.index.ensures c.as_slice.ensures c.as_slice-2.ensures.value
@@ -49,27 +51,26 @@ hear-requires-clause-rises c =
     let there : c.args.input < inputs (join_data (arc_value c.self.inside.spec) c.self.inside.schemes c.self.inside.certs) = rw (← c.self.view_is) at lt in
     subst (λ (s : Store). IsAbove c.self.inside.next s.kept) (sym c.index_mut.ensures.value) (above-all (join_data (arc_value c.self.inside.spec) c.self.inside.schemes c.self.inside.certs) c.self.inside.limit c.self.inside.next c.self.inside.done c.self.inside.states.items c.self.inside.stores.items c.self.inside.pending c.self.inside.taken.items c.self.invariant.0 c.args.input c.index_mut.result.now there)
 
-pub wake-requires-clause-wide : goal.wake-requires-clause-wide
-wake-requires-clause-wide c = subst (λ (ss : List StateView). AreWide ss) (sym c.as_slice-2.ensures.value) (wide (join_data (arc_value c.self.inside.spec) c.self.inside.schemes c.self.inside.certs) c.self.inside.limit c.self.inside.next c.self.inside.done c.self.inside.states.items c.self.inside.stores.items c.self.inside.pending c.self.inside.taken.items c.self.invariant.0)
+pub mark_covered-requires-clause-wide : goal.mark_covered-requires-clause-wide
+mark_covered-requires-clause-wide c = subst (λ (ss : List StateView). AreWide ss) (sym c.as_slice-2.ensures.value) (wide (join_data (arc_value c.self.inside.spec) c.self.inside.schemes c.self.inside.certs) c.self.inside.limit c.self.inside.next c.self.inside.done c.self.inside.states.items c.self.inside.stores.items c.self.inside.pending c.self.inside.taken.items c.self.invariant.0)
 
 pub invariant_of-self : goal.invariant_of-self
-invariant_of-self c = (c.self.invariant.0, (watched_fewer (join_data (arc_value c.self.inside.spec) c.self.inside.schemes c.self.inside.certs) c.self.inside.next (lowest c.self.inside.next c.self.inside.done (log_of c.self.inside.states.items) c.self.inside.taken.items) (log_of c.self.inside.states.items) (puncts_of c.self.inside.stores.items) c.self.inside.watches.items c.wake.new.watches.items c.wake.ensures.fewer c.self.invariant.1), c.self.invariant.2, c.self.invariant.3, c.self.invariant.4)
+invariant_of-self c = (c.self.invariant.0, (watched_fewer (join_data (arc_value c.self.inside.spec) c.self.inside.schemes c.self.inside.certs) c.self.inside.next (lowest c.self.inside.next c.self.inside.done (log_of c.self.inside.states.items) c.self.inside.taken.items) (log_of c.self.inside.states.items) (puncts_of c.self.inside.stores.items) c.self.inside.watches.items c.mark_covered.new.watches.items c.mark_covered.ensures.fewer c.self.invariant.1), c.self.invariant.2, c.self.invariant.3, c.self.invariant.4)
 
 pub invariant_of-self-in_err-hear : goal.invariant_of-self-in_err-hear
 invariant_of-self-in_err-hear c =
     let lt : c.args.input < inputs c.args.self.now.spec = c.requires.fits.0 in
     let there : c.args.input < inputs (join_data (arc_value c.self.inside.spec) c.self.inside.schemes c.self.inside.certs) = rw (← c.self.view_is) at lt in
-    subst (λ (ss : List Store). IsJoin (join_data (arc_value c.self.inside.spec) c.self.inside.schemes c.self.inside.certs) c.self.inside.limit (inside c.self.inside.next c.self.inside.done c.self.inside.states.items ss c.self.inside.pending c.self.inside.taken.items) × AreWatched (join_data (arc_value c.self.inside.spec) c.self.inside.schemes c.self.inside.certs) c.self.inside.next (lowest c.self.inside.next c.self.inside.done (log_of c.self.inside.states.items) c.self.inside.taken.items) (log_of c.self.inside.states.items) (puncts_of ss) c.wake.new.watches.items × AreHeld c.self.inside.next (log_of c.self.inside.states.items) c.hear.new.waiting × AreProbeRoutes (arc_value c.self.inside.spec).classes (columns_of c.self.inside.states.items) c.self.inside.routes)
-    (sym (same-stores (join_data (arc_value c.self.inside.spec) c.self.inside.schemes c.self.inside.certs) c.self.inside.limit c.self.inside.next c.self.inside.done c.self.inside.states.items c.self.inside.stores.items c.self.inside.pending c.self.inside.taken.items c.self.invariant.0 c.args.input c.index_mut.result.now c.hear.new.store there c.index_mut.ensures.value c.in_err-hear.ensures.arity c.in_err-hear.ensures.err.0)) (c.self.invariant.0, (watched_fewer (join_data (arc_value c.self.inside.spec) c.self.inside.schemes c.self.inside.certs) c.self.inside.next (lowest c.self.inside.next c.self.inside.done (log_of c.self.inside.states.items) c.self.inside.taken.items) (log_of c.self.inside.states.items) (puncts_of c.self.inside.stores.items) c.self.inside.watches.items c.wake.new.watches.items c.wake.ensures.fewer c.self.invariant.1), held_same c.self.inside.next (log_of c.self.inside.states.items) c.self.inside.waiting c.hear.new.waiting c.in_err-hear.ensures.err.1 c.in_err-hear.ensures.keeps c.self.invariant.2, c.self.invariant.3 × AreRoutes (join_data (arc_value c.self.inside.spec) c.self.inside.schemes c.self.inside.certs) c.self.inside.states.items (inputs (join_data (arc_value c.self.inside.spec) c.self.inside.schemes c.self.inside.certs)) c.self.inside.rechecks.items)
-    (sym (same-stores (join_data (arc_value c.self.inside.spec) c.self.inside.schemes c.self.inside.certs) c.self.inside.limit c.self.inside.next c.self.inside.done c.self.inside.states.items c.self.inside.stores.items c.self.inside.pending c.self.inside.taken.items c.self.invariant.0 c.args.input c.index_mut.result.now c.hear.new.store there c.index_mut.ensures.value c.in_err-hear.ensures.arity c.in_err-hear.ensures.err.0)) (c.self.invariant.0, (watched_fewer (join_data (arc_value c.self.inside.spec) c.self.inside.schemes c.self.inside.certs) c.self.inside.next (lowest c.self.inside.next c.self.inside.done (log_of c.self.inside.states.items) c.self.inside.taken.items) (log_of c.self.inside.states.items) (puncts_of c.self.inside.stores.items) c.self.inside.watches.items c.wake.new.watches.items c.wake.ensures.fewer c.self.invariant.1), held_same c.self.inside.next (log_of c.self.inside.states.items) c.self.inside.waiting c.hear.new.waiting c.in_err-hear.ensures.err.1 c.in_err-hear.ensures.keeps c.self.invariant.2, c.self.invariant.4)
+    subst (λ (ss : List Store). IsJoin (join_data (arc_value c.self.inside.spec) c.self.inside.schemes c.self.inside.certs) c.self.inside.limit (inside c.self.inside.next c.self.inside.done c.self.inside.states.items ss c.self.inside.pending c.self.inside.taken.items) × AreWatched (join_data (arc_value c.self.inside.spec) c.self.inside.schemes c.self.inside.certs) c.self.inside.next (lowest c.self.inside.next c.self.inside.done (log_of c.self.inside.states.items) c.self.inside.taken.items) (log_of c.self.inside.states.items) (puncts_of ss) c.mark_covered.new.watches.items × AreHeld c.self.inside.next (log_of c.self.inside.states.items) c.hear.new.waiting × AreProbeRoutes (arc_value c.self.inside.spec).classes (columns_of c.self.inside.states.items) c.self.inside.routes × AreRoutes (join_data (arc_value c.self.inside.spec) c.self.inside.schemes c.self.inside.certs) c.self.inside.states.items (inputs (join_data (arc_value c.self.inside.spec) c.self.inside.schemes c.self.inside.certs)) c.self.inside.rechecks.items)
+    (sym (same-stores (join_data (arc_value c.self.inside.spec) c.self.inside.schemes c.self.inside.certs) c.self.inside.limit c.self.inside.next c.self.inside.done c.self.inside.states.items c.self.inside.stores.items c.self.inside.pending c.self.inside.taken.items c.self.invariant.0 c.args.input c.index_mut.result.now c.hear.new.store there c.index_mut.ensures.value c.in_err-hear.ensures.arity c.in_err-hear.ensures.err.0)) (c.self.invariant.0, (watched_fewer (join_data (arc_value c.self.inside.spec) c.self.inside.schemes c.self.inside.certs) c.self.inside.next (lowest c.self.inside.next c.self.inside.done (log_of c.self.inside.states.items) c.self.inside.taken.items) (log_of c.self.inside.states.items) (puncts_of c.self.inside.stores.items) c.self.inside.watches.items c.mark_covered.new.watches.items c.mark_covered.ensures.fewer c.self.invariant.1), held_same c.self.inside.next (log_of c.self.inside.states.items) c.self.inside.waiting c.hear.new.waiting c.in_err-hear.ensures.err.1 c.in_err-hear.ensures.keeps c.self.invariant.2, c.self.invariant.3, c.self.invariant.4)
 
 pub invariant_of-self-2 : goal.invariant_of-self-2
 invariant_of-self-2 c =
     let lt : c.args.input < inputs c.args.self.now.spec = c.requires.fits.0 in
     let there : c.args.input < inputs (join_data (arc_value c.self.inside.spec) c.self.inside.schemes c.self.inside.certs) = rw (← c.self.view_is) at lt in (
       join-hears (join_data (arc_value c.self.inside.spec) c.self.inside.schemes c.self.inside.certs) c.self.inside.limit c.self.inside.next c.self.inside.done c.self.inside.states.items c.self.inside.stores.items c.self.inside.pending c.self.inside.taken.items c.self.invariant.0 c.args.input c.args.punct c.index_mut.result.now c.hear.new.store there (λ d. c.index_mut.ensures.value ∙ same-at c.self.inside.stores.items c.args.input c.index_mut.result.now d (omega (arith, there, all-stores (join_data (arc_value c.self.inside.spec) c.self.inside.schemes c.self.inside.certs) c.self.inside.limit c.self.inside.next c.self.inside.done c.self.inside.states.items c.self.inside.stores.items c.self.inside.pending c.self.inside.taken.items c.self.invariant.0))) c.in_ok-hear.ensures.arity c.in_ok-hear.ensures.store (λ e. false≢true (c.if-is_full.ensures.1 e)),
-      subst (λ (ps : List PunctAt). AreWatched (join_data (arc_value c.self.inside.spec) c.self.inside.schemes c.self.inside.certs) (c.self.inside.next + 1) (lowest (c.self.inside.next + 1) c.self.inside.done (log_of c.self.inside.states.items) c.self.inside.taken.items) (log_of c.self.inside.states.items) ps c.wake.new.watches.items) (sym (puncts-more (join_data (arc_value c.self.inside.spec) c.self.inside.schemes c.self.inside.certs) c.self.inside.limit c.self.inside.next c.self.inside.done c.self.inside.states.items c.self.inside.stores.items c.self.inside.pending c.self.inside.taken.items c.self.invariant.0 c.args.input c.args.punct c.index_mut.result.now c.hear.new.store there (λ d. c.index_mut.ensures.value ∙ same-at c.self.inside.stores.items c.args.input c.index_mut.result.now d (omega (arith, there, all-stores (join_data (arc_value c.self.inside.spec) c.self.inside.schemes c.self.inside.certs) c.self.inside.limit c.self.inside.next c.self.inside.done c.self.inside.states.items c.self.inside.stores.items c.self.inside.pending c.self.inside.taken.items c.self.invariant.0))) c.in_ok-hear.ensures.arity c.in_ok-hear.ensures.store))
-          (watched_punct (join_data (arc_value c.self.inside.spec) c.self.inside.schemes c.self.inside.certs) c.self.inside.limit c.self.inside.next c.self.inside.done c.self.inside.states.items c.self.inside.stores.items c.self.inside.pending c.self.inside.taken.items c.self.invariant.0 c.self.inside.watches.items c.wake.new.watches.items (lowest c.self.inside.next c.self.inside.done (log_of c.self.inside.states.items) c.self.inside.taken.items) (lowest (c.self.inside.next + 1) c.self.inside.done (log_of c.self.inside.states.items) c.self.inside.taken.items) (record { input = c.args.input; patterns = c.args.punct }) c.self.inside.next c.wake.ensures.fewer (left_now (join_data (arc_value c.self.inside.spec) c.self.inside.schemes c.self.inside.certs) c.self.inside.states.items c.as_slice-2.result.now c.self.inside.rechecks.items (record { input = c.args.input; patterns = c.args.punct }) c.index.result.now c.as_slice.result.now c.self.inside.watches.items c.wake.new.watches.items c.self.invariant.4 there c.index.ensures c.as_slice.ensures c.as_slice-2.ensures.value c.self.invariant.1.count c.wake.ensures.fewer c.in_ok-wake.ensures.left) (lowest_punct c.self.inside.next c.self.inside.done (log_of c.self.inside.states.items) c.self.inside.taken.items) c.self.invariant.1),
+      subst (λ (ps : List PunctAt). AreWatched (join_data (arc_value c.self.inside.spec) c.self.inside.schemes c.self.inside.certs) (c.self.inside.next + 1) (lowest (c.self.inside.next + 1) c.self.inside.done (log_of c.self.inside.states.items) c.self.inside.taken.items) (log_of c.self.inside.states.items) ps c.mark_covered.new.watches.items) (sym (puncts-more (join_data (arc_value c.self.inside.spec) c.self.inside.schemes c.self.inside.certs) c.self.inside.limit c.self.inside.next c.self.inside.done c.self.inside.states.items c.self.inside.stores.items c.self.inside.pending c.self.inside.taken.items c.self.invariant.0 c.args.input c.args.punct c.index_mut.result.now c.hear.new.store there (λ d. c.index_mut.ensures.value ∙ same-at c.self.inside.stores.items c.args.input c.index_mut.result.now d (omega (arith, there, all-stores (join_data (arc_value c.self.inside.spec) c.self.inside.schemes c.self.inside.certs) c.self.inside.limit c.self.inside.next c.self.inside.done c.self.inside.states.items c.self.inside.stores.items c.self.inside.pending c.self.inside.taken.items c.self.invariant.0))) c.in_ok-hear.ensures.arity c.in_ok-hear.ensures.store))
+          (watched_punct (join_data (arc_value c.self.inside.spec) c.self.inside.schemes c.self.inside.certs) c.self.inside.limit c.self.inside.next c.self.inside.done c.self.inside.states.items c.self.inside.stores.items c.self.inside.pending c.self.inside.taken.items c.self.invariant.0 c.self.inside.watches.items c.mark_covered.new.watches.items (lowest c.self.inside.next c.self.inside.done (log_of c.self.inside.states.items) c.self.inside.taken.items) (lowest (c.self.inside.next + 1) c.self.inside.done (log_of c.self.inside.states.items) c.self.inside.taken.items) (record { input = c.args.input; patterns = c.args.punct }) c.self.inside.next c.mark_covered.ensures.fewer (left_now (join_data (arc_value c.self.inside.spec) c.self.inside.schemes c.self.inside.certs) c.self.inside.states.items c.as_slice-2.result.now c.self.inside.rechecks.items (record { input = c.args.input; patterns = c.args.punct }) c.index.result.now c.as_slice.result.now c.self.inside.watches.items c.mark_covered.new.watches.items c.self.invariant.4 there c.index.ensures c.as_slice.ensures c.as_slice-2.ensures.value c.self.invariant.1.count c.mark_covered.ensures.fewer c.in_ok-mark_covered.ensures.left) (lowest_punct c.self.inside.next c.self.inside.done (log_of c.self.inside.states.items) c.self.inside.taken.items) c.self.invariant.1),
       hears c.self.inside.next (log_of c.self.inside.states.items) c.index-2.result.now.rows c.args.input c.self.inside.waiting c.hear.new.waiting (record { ticket = c.self.inside.next; input = c.args.input; patterns = c.args.punct })
           (ap (λ (s : StateView). map (tuple_in c.args.input) s.rows) (state_is c.self.inside.states.items c.args.input c.index-2.result.now (inputs (join_data (arc_value c.self.inside.spec) c.self.inside.schemes c.self.inside.certs)) (all-states (join_data (arc_value c.self.inside.spec) c.self.inside.schemes c.self.inside.certs) c.self.inside.limit c.self.inside.next c.self.inside.done c.self.inside.states.items c.self.inside.stores.items c.self.inside.pending c.self.inside.taken.items c.self.invariant.0) there c.index-2.ensures) ∙ side-is (join_data (arc_value c.self.inside.spec) c.self.inside.schemes c.self.inside.certs) c.self.inside.limit c.self.inside.next c.self.inside.done c.self.inside.states.items c.self.inside.stores.items c.self.inside.pending c.self.inside.taken.items c.self.invariant.0 c.args.input there)
           refl refl c.in_ok-hear.ensures.waiting c.in_ok-hear.ensures.keeps c.in_ok-hear.ensures.listed c.self.invariant.2,

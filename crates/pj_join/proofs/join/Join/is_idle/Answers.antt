@@ -4,12 +4,14 @@ use Rattle.pj_state.specs.declared.shared.Stored.{Stored}
 use Rattle.pj_state.specs.States.{StateView}
 use Rattle.pj_events.specs.Join.{In, inputs}
 use Rattle.pj_join.specs.Insides.{lowest, made_with, seen}
-use Rattle.pj_join.specs.Joins.{join_data}
-use Rattle.pj_join.specs.Sides.{log_of, puncts_of, state_at}
-use Rattle.pj_join.specs.Watching.{Watches, watches_at}
-use Rattle.pj_join.proofs.Holding.{no_items}
+use Rattle.pj_recheck.specs.Judging.{join_data}
+use Rattle.pj_join.specs.Sides.{log_of, puncts_of}
+use Rattle.pj_rows.specs.Tuples.{state_at}
+use Rattle.pj_recheck.specs.declared.marks.Watches.{Watches}
+use Rattle.pj_recheck.specs.Watching.{watches_at}
+use Rattle.pj_waiting.proofs.Holding.{no_items}
 use Rattle.pj_join.proofs.Kept.{all-states}
-use Rattle.pj_join.proofs.Looped.{state_is}
+use Rattle.pj_rows.proofs.States.{state_is}
 use Rattle.pj_join.proofs.Watched.{none_off, watch_is}
 use Rattle.pj_join.proofs.join.Join.is_idle.Goals as goal
 

@@ -1,6 +1,8 @@
 use Rattle.std.proofs.Common.{◌≡◌, ◌<◌, ◌∙◌, ◌++◌, [], List, ap, arith, get_or, refl, sym, subst}
-use Rattle.pj_join.specs.Holding.{AreHeld, AreHeldBy, StayHeld, tickets_where}
-use Rattle.pj_join.specs.Watching.{AreWatched, watches_at}
+use Rattle.pj_join.specs.Held.{AreHeld}
+use Rattle.pj_waiting.specs.Holding.{AreHeldBy, StayHeld, tickets_where}
+use Rattle.pj_join.specs.Watched.{AreWatched}
+use Rattle.pj_recheck.specs.Watching.{watches_at}
 use Rattle.pj_join.proofs.Holding.{held_behind, held_rows}
 use Rattle.pj_join.proofs.Watched.{none_ripe, open_but, same_looked, same_none, watch_is}
 use Rattle.std.specs.Arc.{arc_value}
@@ -10,9 +12,10 @@ use Rattle.pj_state.specs.States.{StateView}
 use Rattle.pj_events.specs.Join.{inputs, steps_of}
 use Rattle.pj_events.specs.KeptState.{kept_low}
 use Rattle.pj_join.specs.Insides.{made_with, seen}
-use Rattle.pj_join.specs.Joins.{join_data}
-use Rattle.pj_join.specs.Judging.{letting_go, lets_go, ripe_rows, ripe_tickets}
-use Rattle.pj_join.specs.Sides.{log_of, puncts_of, state_at}
+use Rattle.pj_recheck.specs.Judging.{join_data, ripe_rows, ripe_tickets}
+use Rattle.pj_waiting.specs.Letting.{letting_go, lets_go}
+use Rattle.pj_join.specs.Sides.{log_of, puncts_of}
+use Rattle.pj_rows.specs.Tuples.{state_at}
 use Rattle.pj_join.proofs.Judged.{may_judge_by}
 use Rattle.pj_join.proofs.Kept.{side-is}
 use Rattle.pj_join.proofs.Swept.{goes-are, going-are, gone-are, has-is, rows-are, same-judge}

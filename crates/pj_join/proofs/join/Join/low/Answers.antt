@@ -2,7 +2,7 @@ use Rattle.std.proofs.Common.{◌∙◌, List, ap}
 use Rattle.std.specs.List.{slice_get}
 use Rattle.std.specs.Arc.{arc_value}
 use Rattle.pj_join.specs.declared.place.Place.{Place}
-use Rattle.pj_join.specs.Joins.{join_data}
+use Rattle.pj_recheck.specs.Judging.{join_data}
 use Rattle.pj_join.specs.Sides.{log_of}
 use Rattle.pj_join.proofs.Standing.{low-stands}
 use Rattle.pj_join.proofs.Calling.{low-taken, low-pending, low-next}

@@ -2,13 +2,13 @@ use Rattle.std.proofs.Common.{◌∙◌, [], List, map, length, ap, ap₂, arith
 use Rattle.pj_shape.specs.declared.columns.Column.{Column}
 use Rattle.pj_shape.specs.Sound.{arities_of}
 use Rattle.pj_events.specs.Join.{ClassCol, PunctAt, TupleAt, upto_from}
-use Rattle.pj_join.specs.Routes.{AreProbeRoutes, columns_of}
+use Rattle.pj_probe.specs.Routes.{AreProbeRoutes, columns_of}
 use Rattle.pj_state.specs.States.{StateView}
 use Rattle.pj_join.specs.Insides.{lowest, made_with, seen}
-use Rattle.pj_join.specs.Joins.{join_data}
+use Rattle.pj_recheck.specs.Judging.{join_data}
 use Rattle.std.proofs.lemmas.List.{length-map}
 use Rattle.pj_join.specs.Sides.{heard_of, puncts_of}
-use Rattle.pj_join.specs.Watching.{AreWatched}
+use Rattle.pj_join.specs.Watched.{AreWatched}
 use Rattle.pj_join.proofs.Watched.{watched_start}
 use Rattle.pj_join.proofs.Holding.{held_none}
 use Rattle.pj_join.proofs.Kept.{join-starts, log-none, puncts-none}

@@ -2,12 +2,13 @@ use Rattle.std.proofs.Common.{◌<◌, ◌^◌, ◌+◌, ◌∙◌, arith, lengt
 use Rattle.std.specs.Arc.{arc_value}
 use Rattle.pj_state.specs.States.{StateView}
 use Rattle.pj_events.specs.Join.{inputs}
-use Rattle.pj_join.specs.Joins.{join_data}
-use Rattle.pj_join.specs.Sides.{AreWide, first_of, log_of, puncts_of, tuples_in}
+use Rattle.pj_recheck.specs.Judging.{join_data}
+use Rattle.pj_rows.specs.Tuples.{AreWide, tuples_in}
+use Rattle.pj_join.specs.Sides.{first_of, log_of, puncts_of}
 use Rattle.pj_join.proofs.Standing.{stands-probed}
 use Rattle.pj_join.proofs.Calling.{several, done-fits, none-pending, probe-does-at, probe-hands}
 use Rattle.pj_join.proofs.Kept.{all-states, first-is, own-there, probes-now, shapes, wide}
-use Rattle.pj_join.proofs.Routed.{route_at, route_there}
+use Rattle.pj_probe.proofs.Routed.{route_at, route_there}
 use Rattle.pj_join.specs.Insides.{lowest}
 use Rattle.pj_join.proofs.Lowest.{lowest_probe}
 use Rattle.pj_join.proofs.Watched.{watched_rises}

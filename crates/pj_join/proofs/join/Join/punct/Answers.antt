@@ -1,7 +1,7 @@
 use Rattle.std.proofs.Common.{◌<◌, arith}
 use Rattle.std.specs.Arc.{arc_value}
 use Rattle.pj_events.specs.Join.{inputs}
-use Rattle.pj_join.specs.Joins.{join_data}
+use Rattle.pj_recheck.specs.Judging.{join_data}
 use Rattle.pj_join.proofs.join.Join.punct.Goals as goal
 
 pub index-requires : goal.index-requires

@@ -4,20 +4,20 @@ use Rattle.std.specs.Arc.{arc_value}
 use Rattle.pj_events.specs.Join.{TupleAt, inputs}
 use Rattle.pj_events.specs.KeptState.{kept_low, swept}
 use Rattle.pj_join.specs.Insides.{made_with, seen, tickets}
-use Rattle.pj_join.specs.Joins.{join_data}
-use Rattle.pj_join.specs.Judging.{waiting_on}
+use Rattle.pj_recheck.specs.Judging.{join_data}
+use Rattle.pj_join.specs.Sweeping.{waiting_on, swept_off}
 use Rattle.pj_state.specs.States.{StateView}
-use Rattle.pj_join.specs.Sides.{AreWide, log_of, puncts_of}
-use Rattle.pj_join.specs.Sweeping.{swept_off}
+use Rattle.pj_rows.specs.Tuples.{AreWide}
+use Rattle.pj_join.specs.Sides.{log_of, puncts_of}
 use Rattle.pj_join.proofs.Kept.{all-states, wide}
-use Rattle.pj_join.proofs.Looped.{state_is}
+use Rattle.pj_rows.proofs.States.{state_is}
 use Rattle.pj_join.proofs.Swept.{few-gone, join-swept, view-left}
-use Rattle.pj_join.specs.Watching.{AreOpenBut}
+use Rattle.pj_join.specs.Watched.{AreOpenBut}
 use Rattle.pj_join.proofs.Holding.{held_none}
-use Rattle.pj_join.proofs.Routed.{routes_kept}
+use Rattle.pj_probe.proofs.Routed.{routes_kept}
 use Rattle.pj_join.proofs.Settled.{settled}
-use Rattle.pj_join.proofs.Woken.{set-count}
-use Rattle.pj_join.proofs.Rechecked.{back_fit_now, columns_set, roused_now, routes_stay}
+use Rattle.pj_recheck.proofs.Woken.{set-count}
+use Rattle.pj_recheck.proofs.Rechecked.{back_fit_now, columns_set, roused_now, routes_stay}
 use Rattle.pj_join.proofs.join.Join.settle.Goals as goal
 
 pub overflow_sub-self : goal.overflow_sub-self
@@ -46,14 +46,14 @@ index-requires c =
     let there : c.args.input < inputs (join_data (arc_value c.self.inside.spec) c.self.inside.schemes c.self.inside.certs) = rw (← c.self.view_is) at lt in
     omega (arith, there, c.self.invariant.4.long, c.self.inside.rechecks.ok)
 
-pub rouse-requires-clause-fit : goal.rouse-requires-clause-fit
-rouse-requires-clause-fit c =
+pub mark_dependents-requires-clause-fit : goal.mark_dependents-requires-clause-fit
+mark_dependents-requires-clause-fit c =
     let lt : c.args.input < inputs c.args.self.now.spec = c.requires.there in
     let there : c.args.input < inputs (join_data (arc_value c.self.inside.spec) c.self.inside.schemes c.self.inside.certs) = rw (← c.self.view_is) at lt in
     back_fit_now (join_data (arc_value c.self.inside.spec) c.self.inside.schemes c.self.inside.certs) c.self.inside.states.items c.as_slice-2.result.now c.self.inside.rechecks.items c.args.input c.index.result.now c.as_slice.result.now c.self.invariant.4 there c.index.ensures c.as_slice.ensures c.as_slice-2.ensures.value
 
-pub rouse-requires-clause-wide : goal.rouse-requires-clause-wide
-rouse-requires-clause-wide c = subst (λ (ss : List StateView). AreWide ss) (sym c.as_slice-2.ensures.value) (wide (join_data (arc_value c.self.inside.spec) c.self.inside.schemes c.self.inside.certs) c.self.inside.limit c.self.inside.next c.self.inside.done c.self.inside.states.items c.self.inside.stores.items c.self.inside.pending c.self.inside.taken.items c.self.invariant.0)
+pub mark_dependents-requires-clause-wide : goal.mark_dependents-requires-clause-wide
+mark_dependents-requires-clause-wide c = subst (λ (ss : List StateView). AreWide ss) (sym c.as_slice-2.ensures.value) (wide (join_data (arc_value c.self.inside.spec) c.self.inside.schemes c.self.inside.certs) c.self.inside.limit c.self.inside.next c.self.inside.done c.self.inside.states.items c.self.inside.stores.items c.self.inside.pending c.self.inside.taken.items c.self.invariant.0)
 
 pub invariant_of-self : goal.invariant_of-self
 invariant_of-self c =
@@ -68,8 +68,8 @@ invariant_of-self c =
     let marks : AreOpenBut c.args.self.now c.args.input c.args.left.marked = c.requires.marked in (
       rw (c.len-count.ensures) (join-swept c.self.inside.node (join_data (arc_value c.self.inside.spec) c.self.inside.schemes c.self.inside.certs) c.self.inside.limit c.self.inside.next c.self.inside.done c.self.inside.states.items c.self.inside.stores.items c.self.inside.pending c.self.inside.taken.items c.self.inside.waiting.puncts c.args.input c.self.invariant.0 there c.args.left.gone gone c.index_mut-2.result.now c.remove_all.new.state (state_is c.self.inside.states.items c.args.input c.index_mut-2.result.now (inputs (join_data (arc_value c.self.inside.spec) c.self.inside.schemes c.self.inside.certs)) (all-states (join_data (arc_value c.self.inside.spec) c.self.inside.schemes c.self.inside.certs) c.self.inside.limit c.self.inside.next c.self.inside.done c.self.inside.states.items c.self.inside.stores.items c.self.inside.pending c.self.inside.taken.items c.self.invariant.0) there c.index_mut-2.ensures.value) (rw (← c.as_slice-4.ensures) c.remove_all.ensures)),
       rw (c.len-count.ensures)
-          (settled c.self.inside.node (join_data (arc_value c.self.inside.spec) c.self.inside.schemes c.self.inside.certs) c.self.inside.limit c.self.inside.next c.self.inside.done c.self.inside.states.items c.self.inside.stores.items c.self.inside.pending c.self.inside.taken.items c.self.inside.waiting.puncts c.args.input c.self.invariant.0 there c.args.left.gone gone c.index_mut-2.result.now c.remove_all.new.state (state_is c.self.inside.states.items c.args.input c.index_mut-2.result.now (inputs (join_data (arc_value c.self.inside.spec) c.self.inside.schemes c.self.inside.certs)) (all-states (join_data (arc_value c.self.inside.spec) c.self.inside.schemes c.self.inside.certs) c.self.inside.limit c.self.inside.next c.self.inside.done c.self.inside.states.items c.self.inside.stores.items c.self.inside.pending c.self.inside.taken.items c.self.invariant.0) there c.index_mut-2.ensures.value) (rw (← c.as_slice-4.ensures) c.remove_all.ensures) c.low-from.result c.args.left.marked c.self.inside.watches.items c.rouse.new.watches.items low c.self.invariant.1 (rw (← c.self.view_is) at marks)
-          c.rouse.ensures.fewer (roused_now (join_data (arc_value c.self.inside.spec) c.self.inside.schemes c.self.inside.certs) c.self.inside.states.items c.as_slice-2.result.now c.self.inside.rechecks.items c.args.input c.args.left.gone c.as_slice-3.result.now c.index.result.now c.as_slice.result.now (set c.self.inside.watches.items c.args.input (record { from = c.low-from.result; marked = c.args.left.marked })) c.rouse.new.watches.items c.self.invariant.4 there c.index.ensures c.as_slice.ensures c.as_slice-2.ensures.value c.as_slice-3.ensures (set-count c.self.inside.watches.items c.args.input (record { from = c.low-from.result; marked = c.args.left.marked }) ∙ c.self.invariant.1.count) c.rouse.ensures.fewer c.rouse.ensures.aside)),
+          (settled c.self.inside.node (join_data (arc_value c.self.inside.spec) c.self.inside.schemes c.self.inside.certs) c.self.inside.limit c.self.inside.next c.self.inside.done c.self.inside.states.items c.self.inside.stores.items c.self.inside.pending c.self.inside.taken.items c.self.inside.waiting.puncts c.args.input c.self.invariant.0 there c.args.left.gone gone c.index_mut-2.result.now c.remove_all.new.state (state_is c.self.inside.states.items c.args.input c.index_mut-2.result.now (inputs (join_data (arc_value c.self.inside.spec) c.self.inside.schemes c.self.inside.certs)) (all-states (join_data (arc_value c.self.inside.spec) c.self.inside.schemes c.self.inside.certs) c.self.inside.limit c.self.inside.next c.self.inside.done c.self.inside.states.items c.self.inside.stores.items c.self.inside.pending c.self.inside.taken.items c.self.invariant.0) there c.index_mut-2.ensures.value) (rw (← c.as_slice-4.ensures) c.remove_all.ensures) c.low-from.result c.args.left.marked c.self.inside.watches.items c.mark_dependents.new.watches.items low c.self.invariant.1 (rw (← c.self.view_is) at marks)
+          c.mark_dependents.ensures.fewer (roused_now (join_data (arc_value c.self.inside.spec) c.self.inside.schemes c.self.inside.certs) c.self.inside.states.items c.as_slice-2.result.now c.self.inside.rechecks.items c.args.input c.args.left.gone c.as_slice-3.result.now c.index.result.now c.as_slice.result.now (set c.self.inside.watches.items c.args.input (record { from = c.low-from.result; marked = c.args.left.marked })) c.mark_dependents.new.watches.items c.self.invariant.4 there c.index.ensures c.as_slice.ensures c.as_slice-2.ensures.value c.as_slice-3.ensures (set-count c.self.inside.watches.items c.args.input (record { from = c.low-from.result; marked = c.args.left.marked }) ∙ c.self.invariant.1.count) c.mark_dependents.ensures.fewer c.mark_dependents.ensures.aside)),
       held_none c.self.inside.next _ c.self.inside.waiting none,
       routes_kept (arc_value c.self.inside.spec).classes c.self.inside.states.items c.self.inside.routes c.args.input c.index_mut-2.result.now c.remove_all.new.state c.self.invariant.3 (omega (arith, there, (all-states (join_data (arc_value c.self.inside.spec) c.self.inside.schemes c.self.inside.certs) c.self.inside.limit c.self.inside.next c.self.inside.done c.self.inside.states.items c.self.inside.stores.items c.self.inside.pending c.self.inside.taken.items c.self.invariant.0))) c.index_mut-2.ensures.value (ap (λ (s : StateView). s.columns) c.remove_all.ensures),
       routes_stay (join_data (arc_value c.self.inside.spec) c.self.inside.schemes c.self.inside.certs) c.self.inside.states.items (set c.self.inside.states.items c.args.input c.remove_all.new.state) (inputs (join_data (arc_value c.self.inside.spec) c.self.inside.schemes c.self.inside.certs)) c.self.inside.rechecks.items (columns_set c.self.inside.states.items c.args.input c.index_mut-2.result.now c.remove_all.new.state c.index_mut-2.ensures.value (ap (λ (s : StateView). s.columns) c.remove_all.ensures)) c.self.invariant.4,

@@ -4,7 +4,8 @@ use Rattle.std.specs.Arc.{arc_value}
 use Rattle.pj_events.specs.Join.{TupleAt}
 use Rattle.pj_join.specs.declared.place.Place.{Place}
 use Rattle.pj_join.specs.Insides.{tickets}
-use Rattle.pj_join.specs.Joins.{JoinView, join_data}
+use Rattle.pj_join.specs.Joins.{JoinView}
+use Rattle.pj_recheck.specs.Judging.{join_data}
 use Rattle.pj_join.specs.Sides.{log_of}
 use Rattle.pj_join.proofs.Kept.{pending-length}
 use Rattle.pj_join.proofs.Orders.{rise-length}

@@ -5,11 +5,12 @@ use Rattle.pj_events.specs.Patterns.{Pattern}
 use Rattle.pj_events.specs.Join.{PunctAt, Sweep, inputs}
 use Rattle.pj_events.specs.KeptState.{swept}
 use Rattle.pj_join.specs.Insides.{made_with, seen}
-use Rattle.pj_join.specs.Joins.{after, join_data, with_waiting}
-use Rattle.pj_join.specs.Judging.{waiting_on}
+use Rattle.pj_join.specs.Joins.{after, with_waiting}
+use Rattle.pj_recheck.specs.Judging.{join_data}
+use Rattle.pj_join.specs.Sweeping.{waiting_on, swept_off}
 use Rattle.pj_join.specs.Sides.{log_of, puncts_of}
-use Rattle.pj_join.specs.Sweeping.{swept_off}
-use Rattle.pj_join.proofs.Holding.{idle, on_both, on_ok}
+use Rattle.pj_join.proofs.Holding.{idle}
+use Rattle.pj_waiting.proofs.Holding.{on_both, on_ok}
 use Rattle.pj_join.proofs.Standing.{stands-sweep}
 use Rattle.pj_join.proofs.Sweeps.{forgets, goes-where-covered, hands-sweep, stays-ripe}
 use Rattle.pj_join.proofs.join.Join.sweep.Goals as goal

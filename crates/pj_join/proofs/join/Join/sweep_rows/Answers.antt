@@ -1,8 +1,8 @@
 use Rattle.std.proofs.Common.{◌∙◌, ap, sym, subst}
 use Rattle.pj_events.specs.KeptState.{swept}
-use Rattle.pj_join.specs.Holding.{AreHeld}
+use Rattle.pj_join.specs.Held.{AreHeld}
 use Rattle.pj_join.specs.Joins.{JoinView}
-use Rattle.pj_join.specs.Leaving.{puncts_without}
+use Rattle.pj_waiting.specs.Leaving.{puncts_without}
 use Rattle.pj_join.proofs.Holding.{held_left, held_same}
 use Rattle.pj_join.proofs.Leaving.{left_waiting}
 use Rattle.pj_join.proofs.join.Join.sweep_rows.Goals as goal

@@ -2,12 +2,14 @@ use Rattle.std.proofs.Common.{◌<◌, ◌^◌, ◌+◌, ◌∙◌, ◌++◌, �
 use Rattle.std.specs.Arc.{arc_value}
 use Rattle.pj_state.specs.States.{StateView}
 use Rattle.pj_events.specs.Join.{inputs}
-use Rattle.pj_join.specs.Joins.{Found, join_data}
-use Rattle.pj_join.specs.Sides.{AreWide, first_of, log_of, puncts_of, tuples_in}
+use Rattle.pj_probe.specs.declared.probe.Found.{Found}
+use Rattle.pj_recheck.specs.Judging.{join_data}
+use Rattle.pj_rows.specs.Tuples.{AreWide, tuples_in}
+use Rattle.pj_join.specs.Sides.{first_of, log_of, puncts_of}
 use Rattle.pj_join.proofs.Standing.{stands-taken}
 use Rattle.pj_join.proofs.Calling.{several, done-fits, none-pending, take-finds}
 use Rattle.pj_join.proofs.Kept.{all-states, first-is, own-there, shapes, takes-now, wide}
-use Rattle.pj_join.proofs.Routed.{route_at, route_there}
+use Rattle.pj_probe.proofs.Routed.{route_at, route_there}
 use Rattle.pj_join.specs.Insides.{lowest}
 use Rattle.pj_join.proofs.Lowest.{lowest_take}
 use Rattle.pj_join.proofs.Watched.{watched_rises}

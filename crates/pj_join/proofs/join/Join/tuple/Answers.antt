@@ -2,22 +2,22 @@ use Rattle.std.proofs.Common.{◌≡◌, ◌<◌, ◌+◌, ◌++◌, ◌∷◌, 
 use Rattle.std.proofs.lemmas.Bool.{false≢true}
 use Rattle.std.specs.Arc.{arc_value}
 use Rattle.pj_events.specs.Join.{TupleAt, Value, arity, inputs}
-use Rattle.pj_join.specs.Joins.{join_data}
-use Rattle.pj_join.specs.Sides.{log_of, puncts_of, tuples_in}
+use Rattle.pj_recheck.specs.Judging.{join_data}
+use Rattle.pj_join.specs.Sides.{log_of, puncts_of}
+use Rattle.pj_rows.specs.Tuples.{tuples_in}
 use Rattle.pj_join.proofs.Standing.{stands-tuple}
 use Rattle.pj_join.proofs.Calling.{several, tuple-keeps}
 use Rattle.pj_join.proofs.Kept.{all-states, columns-of-below, join-more, log-more, rows-of-below}
-use Rattle.pj_join.proofs.Looped.{state_is}
-use Rattle.pj_join.proofs.Routed.{routes_kept}
+use Rattle.pj_rows.proofs.States.{state_is}
+use Rattle.pj_probe.proofs.Routed.{routes_kept}
 use Rattle.pj_state.specs.States.{StateView}
 use Rattle.pj_join.proofs.Lowest.{lowest_tuple}
 use Rattle.pj_join.specs.Insides.{lowest}
 use Rattle.pj_join.proofs.Watched.{watched_tuple}
-use Rattle.pj_join.specs.Holding.{AreHeld}
-use Rattle.pj_join.specs.Watching.{AreWatched}
+use Rattle.pj_join.specs.Held.{AreHeld}
+use Rattle.pj_join.specs.Watched.{AreWatched}
 use Rattle.pj_join.proofs.Holding.{held_more}
-use Rattle.pj_state.specs.States.{StateView}
-use Rattle.pj_join.proofs.Rechecked.{columns_set, routes_stay}
+use Rattle.pj_recheck.proofs.Rechecked.{columns_set, routes_stay}
 use Rattle.pj_join.proofs.join.Join.tuple.Goals as goal
 
 pub index_mut-requires : goal.index_mut-requires

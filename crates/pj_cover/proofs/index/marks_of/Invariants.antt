@@ -1,6 +1,0 @@
-use Rattle.std.proofs.Common.{◌≡◌, map, take}
-use Rattle.pj_cover.specs.Indexed.{is_constant}
-use Rattle.pj_cover.proofs.index.marks_of.Given as goal
-
-abbrev pub invariant-loop-pattern : goal.invariant-loop-pattern
-invariant-loop-pattern l = l.marks ≡ map is_constant (take l.pattern-index l.patterns)

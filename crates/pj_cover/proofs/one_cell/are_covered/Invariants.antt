@@ -1,7 +1,0 @@
-use Rattle.std.proofs.Common.{◌≡◌, drop}
-use Rattle.pj_events.specs.Patterns.{covers}
-use Rattle.pj_cover.specs.Givens.{one_cell}
-use Rattle.pj_cover.proofs.one_cell.are_covered.Given as goal
-
-abbrev pub invariant-loop-at : goal.invariant-loop-at
-invariant-loop-at l = covers l.patterns (one_cell l.count l.column l.value) ≡ covers (drop l.at l.patterns) (drop l.at (one_cell l.count l.column l.value))

@@ -1,9 +1,0 @@
-use Rattle.std.proofs.Common.{List}
-use Rattle.pj_events.specs.Join.{In}
-use Rattle.pj_join.specs.declared.routes.RecheckRoute.{RecheckRoute}
-use Rattle.pj_join.specs.Recheck.{HaveRoutes, RoutesFit}
-use Rattle.pj_join.specs.Watching.{asker}
-use Rattle.pj_join.proofs.compiling.Path.add_routes.Given as goal
-
-abbrev pub invariant-loop-entry : goal.invariant-loop-entry
-invariant-loop-entry l = HaveRoutes (asker l.self) l.entry l.input l.routes × (RoutesFit l.self.states l.fn.routes → RoutesFit l.self.states l.routes) × ((route : RecheckRoute) → In route l.fn.routes → In route l.routes)

@@ -1,5 +1,0 @@
-use Rattle.pj_join.proofs.Woken.{within}
-use Rattle.pj_join.proofs.compiling.lead_at.Goals as goal
-
-pub returns-in-Some-clause-indexed : goal.returns-in-Some-clause-indexed
-returns-in-Some-clause-indexed c = within c.in-Some.own c.args.side.now.state.columns c.in-Some.ensures.indexed

@@ -1,5 +1,0 @@
-use Rattle.pj_join.specs.Recheck.{AreLeads, LeadsIn, entry_with}
-use Rattle.pj_join.proofs.compiling.leads_of.Given as goal
-
-abbrev pub invariant-loop-column : goal.invariant-loop-column
-invariant-loop-column l = AreLeads l.classes (entry_with l.input l.scheme) l.side.input l.leads × LeadsIn l.side.state.columns l.leads

@@ -1,5 +1,0 @@
-use Rattle.pj_join.specs.Recheck.{LeadTo}
-use Rattle.pj_join.proofs.compiling.routes_from.Given as goal
-
-abbrev pub invariant-loop-owner : goal.invariant-loop-owner
-invariant-loop-owner l = LeadTo l.join l.states l.input l.owner l.routes

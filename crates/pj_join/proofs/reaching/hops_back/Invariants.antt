@@ -1,6 +1,0 @@
-use Rattle.std.proofs.Common.{drop}
-use Rattle.pj_join.proofs.Backward.{HopsGoOn}
-use Rattle.pj_join.proofs.reaching.hops_back.Given as goal
-
-abbrev pub invariant-loop-hop : goal.invariant-loop-hop
-invariant-loop-hop l = HopsGoOn l.states l.hops l.fn.found (drop l.hop-index l.hops) l.found

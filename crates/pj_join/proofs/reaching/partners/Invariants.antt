@@ -1,6 +1,0 @@
-use Rattle.std.proofs.Common.{take}
-use Rattle.pj_join.specs.Watching.{HavePartners}
-use Rattle.pj_join.proofs.reaching.partners.Given as goal
-
-abbrev pub invariant-loop-ticket : goal.invariant-loop-ticket
-invariant-loop-ticket l = HavePartners l.state.rows l.others.rows l.pair (take l.ticket-index l.tickets) l.found

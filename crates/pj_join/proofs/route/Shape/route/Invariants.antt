@@ -1,5 +1,0 @@
-use Rattle.pj_join.specs.Routes.{AreBegun, columns_of}
-use Rattle.pj_join.proofs.route.Shape.route.Given as goal
-
-abbrev pub invariant-loop-round : goal.invariant-loop-round
-invariant-loop-round l = AreBegun l.self.classes.now (columns_of l.self.states.now) l.self.own l.steps

@@ -1,5 +1,0 @@
-use Rattle.pj_join.specs.Routes.{AreBegun, AreReached, columns_of}
-use Rattle.pj_join.proofs.route.Shape.step_to_rest.Given as goal
-
-abbrev pub invariant-loop-input : goal.invariant-loop-input
-invariant-loop-input l = AreBegun l.self.classes.now (columns_of l.self.states.now) l.self.own l.steps × AreReached l.input l.self.own l.steps

@@ -1,5 +1,0 @@
-use Rattle.pj_join.specs.Routes.{AreRoutesTo, columns_of}
-use Rattle.pj_join.proofs.route.probe_routes.Given as goal
-
-abbrev pub invariant-loop-own : goal.invariant-loop-own
-invariant-loop-own l = AreRoutesTo l.classes (columns_of l.states) l.own l.routes

@@ -1,5 +1,0 @@
-use Rattle.pj_join.proofs.Listed.{TakesUnder}
-use Rattle.pj_join.proofs.waiting.Waiting.append_under.Given as goal
-
-abbrev pub invariant-loop-listing : goal.invariant-loop-listing
-invariant-loop-listing l = TakesUnder l.holder l.initial.listing-iterator l.listing-iterator l.initial.listed l.listed

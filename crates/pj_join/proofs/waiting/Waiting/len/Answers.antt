@@ -1,9 +1,0 @@
-use Rattle.std.proofs.Common.{subst}
-use Rattle.pj_state.specs.Rising.{IsRising}
-use Rattle.pj_join.specs.Holding.{WaitingView}
-use Rattle.pj_join.specs.Sides.{heard_at}
-use Rattle.pj_join.proofs.Listed.{entries_rise}
-use Rattle.pj_join.proofs.waiting.Waiting.len.Goals as goal
-
-pub returns-clause-rising : goal.returns-clause-rising
-returns-clause-rising c = subst (λ (w : WaitingView). IsRising heard_at w.puncts) c.self.view_is (entries_rise c.self.inside.puncts.entries c.len.ensures.ordered)

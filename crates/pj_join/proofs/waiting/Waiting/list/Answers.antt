@@ -1,5 +1,0 @@
-use Rattle.pj_join.proofs.Listed.{keeps_listed}
-use Rattle.pj_join.proofs.waiting.Waiting.list.Goals as goal
-
-pub returns-clause-keeps : goal.returns-clause-keeps
-returns-clause-keeps c = rw (← c.self.view_is) (keeps_listed c.self.inside.lists.keys c.insert.new.self (c.args.holder, c.args.ticket) c.in_ok-insert.ensures.updates)

@@ -1,0 +1,17 @@
+use Rattle.std.proofs.Common.{[], List, ap, length, refl, sym, subst, arith}
+use Rattle.pj_probe.specs.Hops.{FindAll}
+use Rattle.pj_probe.specs.declared.route.ProbeStep.{ProbeStep}
+use Rattle.pj_probe.proofs.Hopped.{Pairs, all_found, found_begin}
+use Rattle.pj_probe.proofs.choosing.choices.Goals as goal
+
+pub loop-at-init : goal.loop-at-init
+loop-at-init c = found_begin c.args.own.now c.args.sides.now [] c.in_ok-lists.lists.items (length c.args.sides.now) refl refl c.requires.there c.in_ok-lists.ensures
+
+pub returns-then-branch-clause-same : goal.returns-then-branch-clause-same
+returns-then-branch-clause-same c =
+    subst (λ (lists : List Pairs). FindAll c.args.own.now c.args.sides.now c.args.route.now.steps lists) (sym c.of.ensures)
+    (subst (λ (steps : List ProbeStep). FindAll c.args.own.now c.args.sides.now steps c.follow.new.lists.items) c.as_slice-steps.ensures (c.in_ok-follow.ensures.none c.if-branch.true))
+
+pub returns-clause-same : goal.returns-clause-same
+returns-clause-same c =
+    all_found c.args.own.now c.args.sides.now c.args.route.now.steps c.loop-at.lists.items c.of-2.result c.loop-at.at c.loop-at.invariant (omega (arith, c.loop-at-test.false, ap (λ (steps : List ProbeStep). length steps) c.as_slice-steps.ensures)) c.requires.route c.requires.there c.of-2.ensures

@@ -1,0 +1,298 @@
+// The routes of probes: in which order the other inputs are reached from a tuple, and where their rows are looked up.
+ghost use Rattle.std.specs.Prelude.{◌≡◌, ◌+◌, ◌<◌, ◌==◌, true, ◌∷◌, [], length, slice_get, slice_index_or, Some, IfOk, IfSome, OnOk};
+ghost use Rattle.std.specs.List.{list_any};
+ghost use Rattle.pj_probe.specs.Routes.{AreBegun, AreProbeRoutes, AreReached, FirstDecides, InOneClass, IsLinkOf, IsProbeRoute, LeadsTo, TwoDecide, columns_of, is_reached};
+
+use pj_rows::{Arrived, column_in};
+use pj_shape::ClassCol;
+use pj_state::State;
+use pj_value::{List, NoMemory};
+use std::alloc::Global;
+
+/// Two columns that are equal wherever tuples join: one of which an index is kept, and one of an input that was reached before.
+#[derive(Clone, Copy)]
+pub struct ProbeLink {
+    pub index_column: u32,
+    pub from_input: usize,
+    pub from_column: u32,
+}
+
+/// A step to another input. Without a link all its rows are looked at.
+#[derive(Clone, Copy)]
+pub struct ProbeStep {
+    pub input: usize,
+    pub link: Option<ProbeLink>,
+}
+
+/// How the tuples of an input reach the rows of all others, and whether the columns of the first step decide that two join.
+#[derive(Drop)]
+pub struct ProbeRoute {
+    pub steps: List<ProbeStep>,
+    pub decides: bool,
+}
+
+impl ProbeRoute {
+    /// The input of its one step and the link to it, where it has one step and that a link.
+    pub fn one_link(&self) -> Option<(usize, ProbeLink)>
+        ensures { IfSome result (λ one. slice_get self.now.steps 0 ≡ Some (record { input = one.0; link = Some one.1 })) }
+    {
+        one_link(self.steps.as_slice())
+    }
+}
+
+// What a route is made of: the classes, the states of the inputs, and the own input.
+#[derive(Clone, Copy)]
+struct Shape<'a> {
+    classes: &'a [List<ClassCol>],
+    states: &'a [State],
+    own: usize,
+}
+
+/// The routes of the probes of each input.
+#[tactic(auto, using(crate::proofs::Routed::routes_more, crate::proofs::Routed::routes_none))]
+pub fn probe_routes(
+    alloc: Global,
+    classes: &[List<ClassCol>],
+    states: &[State],
+) -> Result<List<ProbeRoute>, NoMemory>
+    ensures { IfOk result (AreProbeRoutes classes.now (columns_of states.now)) }
+{
+    let mut routes = List::with_room(alloc, states.len())?;
+    for own in 0..states.len() {
+        let shape = Shape {
+            classes,
+            states,
+            own,
+        };
+        routes.push(shape.route(alloc)?)?;
+    }
+    Ok(routes)
+}
+
+/// The route of a tuple's input.
+pub fn route_of<'a>(routes: &'a List<ProbeRoute>, own: &Arrived<'_>) -> &'a ProbeRoute
+    requires { own.now.input < length routes.now }
+    ensures { slice_get routes.now own.now.input ≡ Some result.now }
+{
+    &routes.as_slice()[own.input() as usize]
+}
+
+impl<'a> Shape<'a> {
+    // The route of the own input. An input that no class leads to is reached when all others are.
+    #[tactic(auto, using(crate::proofs::Routed::route_made, crate::proofs::Routed::begun_none))]
+    fn route(&self, alloc: Global) -> Result<ProbeRoute, NoMemory>
+        ensures { IfOk result (IsProbeRoute self.now.classes.now (columns_of self.now.states.now) self.now.own) }
+    {
+        let mut steps = List::with_room(alloc, self.states.len())?;
+        for _round in 0..self.states.len() {
+            self.step_by_links(&mut steps)?;
+        }
+        self.step_to_rest(&mut steps)?;
+        let decides = self.first_decides(steps.as_slice());
+        Ok(ProbeRoute { steps, decides })
+    }
+
+    // Goes to each input in order that was not reached and to which a class leads from one that was.
+    fn step_by_links(&self, steps: &mut List<ProbeStep>) -> Result<(), NoMemory>
+        requires { AreBegun self.now.classes.now (columns_of self.now.states.now) self.now.own steps.old }
+        ensures { OnOk result (AreBegun self.now.classes.now (columns_of self.now.states.now) self.now.own steps.new) }
+    {
+        for input in 0..self.states.len() {
+            self.step_by_link(steps, input)?;
+        }
+        Ok(())
+    }
+
+    // The same of one input.
+    #[tactic(auto, using(crate::proofs::Routed::begun_linked))]
+    fn step_by_link(&self, steps: &mut List<ProbeStep>, input: usize) -> Result<(), NoMemory>
+        requires there { input < length self.now.states.now }
+        requires begun { AreBegun self.now.classes.now (columns_of self.now.states.now) self.now.own steps.old }
+        ensures { OnOk result (AreBegun self.now.classes.now (columns_of self.now.states.now) self.now.own steps.new) }
+    {
+        if is_reached(self.own, steps.as_slice(), input) {
+            return Ok(());
+        }
+        match self.indexed_link(steps.as_slice(), input) {
+            None => Ok(()),
+            Some(link) => {
+                steps.push(ProbeStep {
+                    input,
+                    link: Some(link),
+                })?;
+                Ok(())
+            }
+        }
+    }
+
+    // Goes to each input that was not reached.
+    fn step_to_rest(&self, steps: &mut List<ProbeStep>) -> Result<(), NoMemory>
+        requires { AreBegun self.now.classes.now (columns_of self.now.states.now) self.now.own steps.old }
+        ensures begun { OnOk result (AreBegun self.now.classes.now (columns_of self.now.states.now) self.now.own steps.new) }
+        ensures all { OnOk result (AreReached (length self.now.states.now) self.now.own steps.new) }
+    {
+        for input in 0..self.states.len() {
+            self.step_anyhow(steps, input)?;
+        }
+        Ok(())
+    }
+
+    // The same of one input, where those before it are reached.
+    #[tactic(auto, using(crate::proofs::Routed::begun_plain, crate::proofs::Routed::reached_more, crate::proofs::Routed::reached_by_step))]
+    fn step_anyhow(&self, steps: &mut List<ProbeStep>, input: usize) -> Result<(), NoMemory>
+        requires there { input < length self.now.states.now }
+        requires begun { AreBegun self.now.classes.now (columns_of self.now.states.now) self.now.own steps.old }
+        requires before { AreReached input self.now.own steps.old }
+        ensures begun { OnOk result (AreBegun self.now.classes.now (columns_of self.now.states.now) self.now.own steps.new) }
+        ensures reached { OnOk result (AreReached (input + 1) self.now.own steps.new) }
+    {
+        if is_reached(self.own, steps.as_slice(), input) {
+            return Ok(());
+        }
+        steps.push(ProbeStep { input, link: None })?;
+        Ok(())
+    }
+
+    // A link to the input of which an index is kept, from one that was reached.
+    fn indexed_link(&self, steps: &[ProbeStep], input: usize) -> Option<ProbeLink>
+        requires { input < length self.now.states.now }
+        ensures class { IfSome result (InOneClass self.now.classes.now input) }
+        ensures leads { IfSome result (LeadsTo (slice_index_or (columns_of self.now.states.now) input []) self.now.own steps.now) }
+    {
+        match self.nearest_link(steps, input) {
+            None => None,
+            Some(link) => {
+                if self.states[input].is_indexed(link.index_column) {
+                    return Some(link);
+                }
+                None
+            }
+        }
+    }
+
+    // A link from the own input, whose tuple is one alone; from another one where no class has both.
+    #[tactic(auto, using(crate::proofs::Routed::reached_from_own))]
+    fn nearest_link(&self, steps: &[ProbeStep], input: usize) -> Option<ProbeLink>
+        ensures class { IfSome result (InOneClass self.now.classes.now input) }
+        ensures from { IfSome result (λ link. is_reached self.now.own steps.now link.from_input ≡ true) }
+    {
+        match find_link(self.classes, self.own, &[], input) {
+            Some(link) => Some(link),
+            None => find_link(self.classes, self.own, steps, input),
+        }
+    }
+
+    // Whether the columns of the first step decide which tuples join.
+    #[tactic(auto, using(crate::proofs::Routed::first_by_link))]
+    fn first_decides(&self, steps: &[ProbeStep]) -> bool
+        ensures { result ≡ true → FirstDecides self.now.classes.now self.now.own steps.now }
+    {
+        match one_link(steps) {
+            None => false,
+            Some((input, link)) => two_decide(self.classes, self.own, input, link),
+        }
+    }
+}
+
+// The input of the one step and the link to it.
+fn one_link(steps: &[ProbeStep]) -> Option<(usize, ProbeLink)>
+    ensures { IfSome result (λ one. slice_get steps.now 0 ≡ Some (record { input = one.0; link = Some one.1 })) }
+{
+    match steps {
+        [step] => match step.link {
+            None => None,
+            Some(link) => Some((step.input, link)),
+        },
+        _ => None,
+    }
+}
+
+// Whether the input is that of a step, or the own one.
+fn is_reached(own: usize, steps: &[ProbeStep], input: usize) -> bool
+    ensures { result ≡ is_reached own steps.now input }
+{
+    has_step(steps, input) || own == input
+}
+
+fn has_step(steps: &[ProbeStep], input: usize) -> bool
+    ensures { result ≡ list_any (λ step. step.input == input) steps.now }
+{
+    steps.iter().any(|step| step.input == input)
+}
+
+// The first column of this input in the class, and the first one of an input that was reached.
+#[tactic(auto, using(crate::proofs::Routed::link_found))]
+fn link_in(class: &[ClassCol], own: usize, steps: &[ProbeStep], input: usize) -> Option<ProbeLink>
+    ensures { IfSome result (IsLinkOf class.now own steps.now input) }
+{
+    let index_column = column_in(class, input)?;
+    for at in class {
+        let from_input = at.input as usize;
+        if is_reached(own, steps, from_input) {
+            return Some(ProbeLink {
+                index_column,
+                from_input,
+                from_column: at.column,
+            });
+        }
+    }
+    None
+}
+
+// The same of the first class that has both.
+#[tactic(auto, using(crate::proofs::Routed::link_by_class))]
+fn find_link(
+    classes: &[List<ClassCol>],
+    own: usize,
+    steps: &[ProbeStep],
+    input: usize,
+) -> Option<ProbeLink>
+    ensures class { IfSome result (InOneClass classes.now input) }
+    ensures from { IfSome result (λ link. is_reached own steps.now link.from_input ≡ true) }
+{
+    for class in classes {
+        match link_in(class.as_slice(), own, steps, input) {
+            Some(link) => return Some(link),
+            None => {}
+        }
+    }
+    None
+}
+
+// Whether the columns of the link to this input decide which tuples join: the one class has no others.
+fn two_decide(classes: &[List<ClassCol>], own: usize, input: usize, link: ProbeLink) -> bool
+    ensures { result ≡ true → TwoDecide classes.now own input link.from_column link.index_column }
+{
+    match classes {
+        [class] => class_decides(class.as_slice(), own, input, link),
+        _ => false,
+    }
+}
+
+// The same of the one class.
+fn class_decides(class: &[ClassCol], own: usize, input: usize, link: ProbeLink) -> bool
+    ensures { result ≡ true → TwoDecide (class.now ∷ []) own input link.from_column link.index_column }
+{
+    if own == input {
+        return false;
+    }
+    match class {
+        [a, b] => {
+            if is_at(*a, own, link.from_column) {
+                return is_at(*b, input, link.index_column);
+            }
+            if is_at(*b, own, link.from_column) {
+                return is_at(*a, input, link.index_column);
+            }
+            false
+        }
+        _ => false,
+    }
+}
+
+// Whether it is this column of this input.
+fn is_at(at: ClassCol, input: usize, column: u32) -> bool
+    ensures { result ≡ true → at ≡ record { input = input; column = column } }
+{
+    at.input as usize == input && at.column == column
+}

@@ -1,0 +1,10 @@
+pub mod Alone
+pub mod Cellwise
+pub mod Chains
+pub mod Covering
+pub mod Filing
+pub mod Firsts
+pub mod Lent
+pub mod Lookups
+pub mod Numbered
+pub mod SingleCell

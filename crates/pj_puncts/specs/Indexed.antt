@@ -1,0 +1,225 @@
+-- How punctuations are found by their forms.
+use Rattle.std.specs.Prelude.{ℕ, ◌+◌, ◌<◌, ◌≤◌, ◌≡◌, ◌⊎◌, ⊤, Bool, true, false, ◌&&◌, nat_lt, nat_eq, if◌then◌else◌, List, [], ◌∷◌, ◌++◌, length, Option, Some, None, slice_get, slice_index_or}
+use Rattle.indexmap.specs.IndexMap.{get}
+use Rattle.pj_value.specs.Lists.{In}
+use Rattle.pj_value.specs.declared.values.Value.{Value}
+use Rattle.pj_pattern.specs.declared.pattern.Form.TheVariants.{Wild, Empty, Constant, Range, Members}
+use Rattle.pj_events.specs.Patterns.{Pattern, covers, covers_punct, is_wild}
+use Rattle.pj_puncts.specs.Prints.{print_of}
+use Rattle.pj_puncts.specs.Stores.{AreRising, IsAbove}
+use Rattle.pj_puncts.specs.declared.store.NumberedPunct.{NumberedPunct}
+use Rattle.pj_puncts.specs.declared.index.ConstantSet.{ConstantSet}
+use Rattle.pj_puncts.specs.declared.index.Chain.{Chain}
+use Rattle.pj_puncts.specs.declared.index.Index.{Index}
+
+-- ---- the least number of a punctuation that covers some cells
+
+-- the number of the first punctuation that covers the cells
+abbrev pub first_covering : List NumberedPunct → List (Option Value) → Option ℕ
+first_covering [] cells = None
+first_covering (k ∷ ks) cells = if covers k.punct cells then Some k.number else first_covering ks cells
+
+-- one of these has this number and covers the cells
+abbrev pub IsCovering : List NumberedPunct → List (Option Value) → ℕ → Type 0
+IsCovering kept cells n = (k : NumberedPunct) × In k kept × (covers k.punct cells ≡ true) × (k.number ≡ n)
+
+-- the lesser of two numbers that may be there
+abbrev pub least : Option ℕ → Option ℕ → Option ℕ
+least None other = other
+least (Some n) None = Some n
+least (Some n) (Some m) = if nat_lt m n then Some m else Some n
+
+abbrev pub is_below : Option ℕ → ℕ → Bool
+is_below None below = false
+is_below (Some n) below = nat_lt n below
+
+-- ---- what is found at places
+
+-- the number of a punctuation that is there and covers the cells
+abbrev pub number_in : List (Option Value) → Option NumberedPunct → Option ℕ
+number_in cells None = None
+number_in cells (Some k) = if covers k.punct cells then Some k.number else None
+
+abbrev pub number_at : List NumberedPunct → List (Option Value) → ℕ → Option ℕ
+number_at kept cells at = number_in cells (slice_get kept at)
+
+abbrev pub first_of : Option ℕ → Option ℕ → Option ℕ
+first_of None other = other
+first_of (Some n) other = Some n
+
+-- that of the first of these places that has one
+abbrev pub first_at : List NumberedPunct → List (Option Value) → List ℕ → Option ℕ
+first_at kept cells [] = None
+first_at kept cells (at ∷ ats) = first_of (number_at kept cells at) (first_at kept cells ats)
+
+-- the place that a set of columns leads to
+abbrev pub slot : List (Option Value) → ConstantSet → Option ℕ
+slot cells set = get nat_eq set.places (print_of set.marks cells)
+
+abbrev pub number_under : List NumberedPunct → List (Option Value) → Option ℕ → Option ℕ
+number_under kept cells None = None
+number_under kept cells (Some at) = number_at kept cells at
+
+-- the least of this number and those of the places that the sets lead to
+abbrev pub least_of_sets : List NumberedPunct → List (Option Value) → Option ℕ → List ConstantSet → Option ℕ
+least_of_sets kept cells best [] = best
+least_of_sets kept cells best (set ∷ sets) = least_of_sets kept cells (least best (number_under kept cells (slot cells set))) sets
+
+-- the least of this number and the first ones of the chains
+abbrev pub least_of_chains : List NumberedPunct → List (Option Value) → Option ℕ → List Chain → Option ℕ
+least_of_chains kept cells best [] = best
+least_of_chains kept cells best (chain ∷ chains) = least_of_chains kept cells (least best (first_at kept cells chain.places)) chains
+
+-- the least of all numbers that the index leads to
+abbrev pub least_of : List NumberedPunct → List (Option Value) → Index → Option ℕ
+least_of kept cells index =
+    least (least_of_chains kept cells (least_of_sets kept cells None index.sets.items) index.chains.items) (first_at kept cells index.rest)
+
+-- ---- the form of a punctuation
+
+abbrev pub is_constant : Pattern → Bool
+is_constant Wild = false
+is_constant Empty = false
+is_constant (Constant c) = true
+is_constant (Range low high) = false
+is_constant (Members ms) = false
+
+-- a constant where it is marked, and a wildcard where not
+abbrev pub fits_mark : Bool → Pattern → Bool
+fits_mark false p = is_wild p
+fits_mark true p = is_constant p
+
+-- constants in the marked columns and wildcards elsewhere
+abbrev pub fits_marks : List Bool → List Pattern → Bool
+fits_marks [] [] = true
+fits_marks [] (p ∷ ps) = false
+fits_marks (mark ∷ marks) [] = false
+fits_marks (mark ∷ marks) (p ∷ ps) = fits_mark mark p && fits_marks marks ps
+
+-- ---- the index of a list of punctuations
+
+-- the place is one of those that these sets lead to
+abbrev pub InSets : List (Option Value) → ℕ → List ConstantSet → Type 0
+InSets cells at [] = ⊥
+InSets cells at (set ∷ sets) = (slot cells set ≡ Some at) ⊎ InSets cells at sets
+
+abbrev pub InChains : ℕ → List Chain → Type 0
+InChains at [] = ⊥
+InChains at (chain ∷ chains) = In at chain.places ⊎ InChains at chains
+
+-- the index leads from the cells to this place
+abbrev pub IsLedTo : Index → List (Option Value) → ℕ → Type 0
+IsLedTo index cells at = InSets cells at index.sets.items ⊎ (InChains at index.chains.items ⊎ In at index.rest)
+
+-- the punctuation at this place has no greater number, and covers the cells
+pub record IsAtLeastAt (kept : List NumberedPunct) (number at : ℕ) (cells : List (Option Value)) : Type 0 where
+  pub punct : NumberedPunct
+  pub there : slice_get kept at ≡ Some punct
+  pub number_is : punct.number ≤ number
+  pub covers_too : covers punct.punct cells ≡ true
+
+-- from all cells that the punctuation covers the index leads to one that does it too, and is no later
+abbrev pub IsHeld : List NumberedPunct → Index → NumberedPunct → Type 0
+IsHeld kept index k = (cells : List (Option Value)) → covers k.punct cells ≡ true → (at : ℕ) × IsLedTo index cells at × IsAtLeastAt kept k.number at cells
+
+-- each place is below the count, and above the one before
+abbrev pub ArePlaces : ℕ → ℕ → List ℕ → Type 0
+ArePlaces from count [] = ⊤
+ArePlaces from count (at ∷ ats) = (from ≤ at) × (at < count) × ArePlaces (at + 1) count ats
+
+-- the punctuation at each place of the chain covers all cells that the one before covers
+abbrev pub IsChain : List NumberedPunct → List ℕ → Type 0
+IsChain kept places = (cells : List (Option Value)) (i n : ℕ) → i + 1 < length places → number_at kept cells (slice_index_or places i 0) ≡ Some n
+    → (m : ℕ) × (number_at kept cells (slice_index_or places (i + 1) 0) ≡ Some m)
+
+pub record IsChained (kept : List NumberedPunct) (chain : Chain) : Type 0 where
+  pub places_are : ArePlaces 0 (length kept) chain.places
+  pub grows : IsChain kept chain.places
+
+abbrev pub AreChained : List NumberedPunct → List Chain → Type 0
+AreChained kept [] = ⊤
+AreChained kept (chain ∷ chains) = IsChained kept chain × AreChained kept chains
+
+abbrev pub AreHeld : List NumberedPunct → Index → Type 0
+AreHeld kept index = (k : NumberedPunct) → In k kept → IsHeld kept index k
+
+-- the index is that of these punctuations
+pub record IsIndexed (kept : List NumberedPunct) (index : Index) : Type 0 where
+  pub rising : AreRising kept
+  pub held : AreHeld kept index
+  pub chained : AreChained kept index.chains.items
+  pub others : ArePlaces 0 (length kept) index.rest
+
+-- ---- one punctuation more, at the last place
+
+-- the punctuation at this place covers the cells
+pub record IsCoveredAt (kept : List NumberedPunct) (at : ℕ) (cells : List (Option Value)) : Type 0 where
+  pub punct : NumberedPunct
+  pub there : slice_get kept at ≡ Some punct
+  pub covers_too : covers punct.punct cells ≡ true
+
+-- from all cells that the punctuation at this place covers, the places of the second kind lead to one that does it too
+abbrev pub AreLed : List NumberedPunct → ℕ → (List (Option Value) → ℕ → Type 0) → Type 0
+AreLed kept at leads =
+    (k : NumberedPunct) (cells : List (Option Value)) → slice_get kept at ≡ Some k → covers k.punct cells ≡ true
+    → (a : ℕ) × leads cells a × IsCoveredAt kept a cells
+
+-- what the first leads to the second leads to
+abbrev pub Grows : (List (Option Value) → ℕ → Type 0) → (List (Option Value) → ℕ → Type 0) → Type 0
+Grows old new = (cells : List (Option Value)) (a : ℕ) → old cells a → new cells a
+
+abbrev pub IsInSlot : ConstantSet → List (Option Value) → ℕ → Type 0
+IsInSlot set cells at = slot cells set ≡ Some at
+
+abbrev pub IsInSets : List ConstantSet → List (Option Value) → ℕ → Type 0
+IsInSets sets cells at = InSets cells at sets
+
+abbrev pub IsInChain : Chain → List (Option Value) → ℕ → Type 0
+IsInChain chain cells at = In at chain.places
+
+abbrev pub IsInChains : List Chain → List (Option Value) → ℕ → Type 0
+IsInChains chains cells at = InChains at chains
+
+-- the patterns at this place fit the marks
+abbrev pub FitsAt : List NumberedPunct → ℕ → List Bool → Type 0
+FitsAt kept at marks = (k : NumberedPunct) → slice_get kept at ≡ Some k → fits_marks marks k.punct ≡ true
+
+-- this set has the marks of the patterns
+pub record IsSetFor (sets : List ConstantSet) (patterns : List Pattern) (at : ℕ) : Type 0 where
+  pub within : at < length sets
+  pub fits : (d : ConstantSet) → fits_marks (slice_index_or sets at d).marks patterns ≡ true
+
+abbrev pub covers_in : Option NumberedPunct → List Pattern → Bool
+covers_in None patterns = false
+covers_in (Some k) patterns = covers_punct k.punct patterns
+
+abbrev pub covered_in : Option NumberedPunct → List Pattern → Bool
+covered_in None patterns = false
+covered_in (Some k) patterns = covers_punct patterns k.punct
+
+pub record ChainGrew (kept : List NumberedPunct) (at : ℕ) (old new : Chain) : Type 0 where
+  pub grow : Grows (IsInChain old) (IsInChain new)
+  pub leads : AreLed kept at (IsInChain new)
+  pub chained : (ks : List NumberedPunct) (k : NumberedPunct) → kept ≡ ks ++ k ∷ [] → IsChained ks old → IsChained kept new
+
+-- whether the chain took the punctuation in
+abbrev pub ChainTakes : List NumberedPunct → ℕ → Chain → Chain → Bool → Type 0
+ChainTakes kept at old new false = new ≡ old
+ChainTakes kept at old new true = ChainGrew kept at old new
+
+pub record ChainsGrew (kept : List NumberedPunct) (at : ℕ) (old new : List Chain) : Type 0 where
+  pub grow : Grows (IsInChains old) (IsInChains new)
+  pub leads : AreLed kept at (IsInChains new)
+  pub chained : (ks : List NumberedPunct) (k : NumberedPunct) → kept ≡ ks ++ k ∷ [] → AreChained ks old → AreChained kept new
+
+abbrev pub ChainsTake : List NumberedPunct → ℕ → List Chain → List Chain → Bool → Type 0
+ChainsTake kept at old new false = new ≡ old
+ChainsTake kept at old new true = ChainsGrew kept at old new
+
+-- where the old index is that of all but the last, whose number is above theirs, the new one is that of all
+abbrev pub IsFiled : List NumberedPunct → Index → Index → Type 0
+IsFiled kept old new = (ks : List NumberedPunct) (k : NumberedPunct) → kept ≡ ks ++ k ∷ [] → IsAbove k.number ks → IsIndexed ks old → IsIndexed kept new
+
+-- the new index is that of the same punctuations
+abbrev pub IsUnfiled : Index → Index → Type 0
+IsUnfiled old new = (ks : List NumberedPunct) → IsIndexed ks old → IsIndexed ks new

@@ -1,0 +1,8 @@
+pub mod Alike
+pub mod Alone
+pub mod Givens
+pub mod Held
+pub mod Indexed
+pub mod Numbers
+pub mod Prints
+pub mod Stores

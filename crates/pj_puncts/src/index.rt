@@ -1,0 +1,461 @@
+// An index of punctuations by their forms.
+ghost use Rattle.std.specs.Prelude.{◌≡◌, ◌<◌, ◌≤◌, ◌+◌, [], true, None, IfOk, IfSome, OnOk, OnErr, length, map, slice_get};
+ghost use Rattle.pj_puncts.specs.Indexed.{AreChained, AreLed, ChainTakes, ChainsTake, FitsAt, Grows, IsChained, IsCovering, IsFiled, IsInSets, IsInSlot, IsIndexed, IsSetFor, IsUnfiled, covered_in, covers_in, first_at, first_covering, fits_mark, fits_marks, is_constant, least, least_of_chains, least_of_sets, number_at, number_under, slot};
+
+use crate::cells::{Cells, constants_print};
+use crate::store::NumberedPunct;
+use indexmap::IndexMap;
+use pj_pattern::{Pattern, Punct, Shape};
+use pj_shape::Scheme;
+use pj_value::{List, NoMemory};
+use std::alloc::Global;
+
+/// The punctuations with constants in the marked columns and wildcards elsewhere: for each print of constants the place of
+/// the first punctuation that has it.
+#[derive(Drop)]
+pub struct ConstantSet {
+    marks: List<bool>,
+    places: IndexMap<u64, usize>,
+}
+
+/// Punctuations of which each covers all that the one before it covers, as watermarks of one column; by their places.
+#[derive(Drop)]
+pub struct Chain {
+    column: usize,
+    has_low: bool,
+    places: List<usize>,
+}
+
+/// Where to look for a punctuation that covers some cells: which it can be, by their places.
+#[derive(Drop)]
+pub struct Index {
+    sets: Vec<ConstantSet>,
+    chains: Vec<Chain>,
+    rest: List<usize>,
+}
+
+impl Index {
+    /// The index of no punctuations.
+    pub fn new(alloc: Global) -> Index
+        ensures { IsIndexed [] result }
+    {
+        Index {
+            sets: Vec::new(alloc),
+            chains: Vec::new(alloc),
+            rest: List::new(alloc),
+        }
+    }
+
+    /// The number of the first of the punctuations that cover the cells.
+    #[tactic(auto, using(crate::proofs::Lookups::index_first))]
+    pub fn first<C: Cells>(&self, kept: &[NumberedPunct], cells: &C) -> Option<u64>
+        requires { IsIndexed kept.now self.now }
+        ensures { result ≡ first_covering kept.now (C.cells cells.now) }
+    {
+        let best = least_of_sets(self.sets.as_slice(), kept, cells);
+        let best = least_of_chains(self.chains.as_slice(), kept, cells, best);
+        least(best, first_at(self.rest.as_slice(), kept, cells))
+    }
+
+    /// The number of a punctuation that covers the cells, looked for among those with constants in exactly these columns.
+    pub fn first_with<C: Cells>(
+        &self,
+        scheme: &Scheme,
+        kept: &[NumberedPunct],
+        cells: &C,
+    ) -> Option<u64>
+        ensures { IfSome result (IsCovering kept.now (C.cells cells.now)) }
+    {
+        for set in &self.sets {
+            if has_marks(set.marks.as_slice(), scheme) {
+                return number_in_set(set, kept, cells);
+            }
+        }
+        None
+    }
+
+    /// Takes in the punctuation at the last place. On a refusal the index is still that of those before.
+    pub fn file(&mut self, alloc: Global, kept: &[NumberedPunct], at: usize) -> Result<(), NoMemory>
+        requires { at + 1 ≡ length kept.now }
+        ensures ok { OnOk result (IsFiled kept.now self.old self.new) }
+        ensures err { OnErr result (IsUnfiled self.old self.new) }
+    {
+        if file_in_sets(&mut self.sets, alloc, kept, at)? {
+            return Ok(());
+        }
+        if file_in_chains(&mut self.chains, alloc, kept, at)? {
+            return Ok(());
+        }
+        self.rest.push(at)?;
+        Ok(())
+    }
+}
+
+// ---- looking up
+
+/// The lesser of two numbers that may be there.
+pub fn least(one: Option<u64>, other: Option<u64>) -> Option<u64>
+    ensures { result ≡ least one other }
+{
+    match one {
+        None => other,
+        Some(n) => match other {
+            None => Some(n),
+            Some(m) => { if m < n { Some(m) } else { Some(n) } }
+        },
+    }
+}
+
+// The number of the punctuation at a place, where it covers the cells.
+fn number_at<C: Cells>(kept: &[NumberedPunct], at: usize, cells: &C) -> Option<u64>
+    ensures { result ≡ number_at kept.now (C.cells cells.now) at }
+{
+    match kept.get(at) {
+        None => None,
+        Some(one) => {
+            if cells.are_covered_by(&one.punct) {
+                Some(one.number)
+            } else {
+                None
+            }
+        }
+    }
+}
+
+fn number_in_set<C: Cells>(set: &ConstantSet, kept: &[NumberedPunct], cells: &C) -> Option<u64>
+    ensures { result ≡ number_under kept.now (C.cells cells.now) (slot (C.cells cells.now) set.now) }
+{
+    match set.places.get(&cells.print(set.marks.as_slice())) {
+        None => None,
+        Some(at) => number_at(kept, *at, cells),
+    }
+}
+
+fn least_of_sets<C: Cells>(sets: &[ConstantSet], kept: &[NumberedPunct], cells: &C) -> Option<u64>
+    ensures { result ≡ least_of_sets kept.now (C.cells cells.now) None sets.now }
+{
+    let mut best = None;
+    for set in sets {
+        best = least(best, number_in_set(set, kept, cells));
+    }
+    best
+}
+
+fn least_of_chains<C: Cells>(
+    chains: &[Chain],
+    kept: &[NumberedPunct],
+    cells: &C,
+    best: Option<u64>,
+) -> Option<u64>
+    requires { AreChained kept.now chains.now }
+    ensures { result ≡ least_of_chains kept.now (C.cells cells.now) best chains.now }
+{
+    let mut lesser = best;
+    for chain in chains {
+        lesser = least(lesser, first_in_chain(chain, kept, cells));
+    }
+    lesser
+}
+
+// The place to look at next between these: in steps from the end that grow, then in the middle.
+fn next_place(low: usize, high: usize, step: usize) -> usize
+    requires { low < high }
+    ensures from { low ≤ result }
+    ensures below { result < high }
+{
+    let half = (high - low) / 2;
+    if step < half {
+        high - 1 - step
+    } else {
+        low + half
+    }
+}
+
+// The first number of a chain. What is asked for is mostly covered by no place, or by one of the last alone.
+fn first_in_chain<C: Cells>(chain: &Chain, kept: &[NumberedPunct], cells: &C) -> Option<u64>
+    requires { IsChained kept.now chain.now }
+    ensures { result ≡ first_at kept.now (C.cells cells.now) chain.now.places }
+{
+    let places = chain.places.as_slice();
+    let mut low = 0;
+    let mut high = places.len();
+    let mut step = 0_usize;
+    let mut found = None;
+    while low < high {
+        let middle = next_place(low, high, step);
+        match number_at(kept, places[middle], cells) {
+            None => low = middle + 1,
+            Some(number) => {
+                found = Some(number);
+                high = middle;
+                step = step.saturating_mul(2).saturating_add(1);
+            }
+        }
+    }
+    found
+}
+
+// The number of the first punctuation at these places that covers the cells.
+fn first_at<C: Cells>(places: &[usize], kept: &[NumberedPunct], cells: &C) -> Option<u64>
+    ensures { result ≡ first_at kept.now (C.cells cells.now) places.now }
+{
+    for at in places {
+        match number_at(kept, *at, cells) {
+            None => {}
+            Some(number) => return Some(number),
+        }
+    }
+    None
+}
+
+// ---- taking in
+
+// Whether these are the marks of the scheme.
+fn has_marks(marks: &[bool], scheme: &Scheme) -> bool {
+    if marks.len() != scheme.len() {
+        return false;
+    }
+    for column in 0..marks.len() {
+        if marks[column] != *scheme.at(column) {
+            return false;
+        }
+    }
+    true
+}
+
+// Whether the patterns are constants in the marked columns and wildcards elsewhere.
+fn fits_marks(marks: &[bool], patterns: &[Pattern]) -> bool
+    ensures { result ≡ fits_marks marks.now patterns.now }
+{
+    if marks.len() != patterns.len() {
+        return false;
+    }
+    for column in 0..marks.len() {
+        if !fits_mark(marks[column], &patterns[column]) {
+            return false;
+        }
+    }
+    true
+}
+
+fn fits_mark(is_marked: bool, pattern: &Pattern) -> bool
+    ensures { result ≡ fits_mark is_marked pattern.now }
+{
+    if is_marked {
+        is_constant(pattern)
+    } else {
+        pattern.is_wild()
+    }
+}
+
+fn is_constant(pattern: &Pattern) -> bool
+    ensures { result ≡ is_constant pattern.now }
+{
+    match pattern.shape() {
+        Shape::Wild => false,
+        Shape::Empty => false,
+        Shape::Constant(_) => true,
+        Shape::Range(_, _) => false,
+        Shape::Members(_) => false,
+    }
+}
+
+// Which columns have constants.
+fn marks_of(alloc: Global, patterns: &[Pattern]) -> Result<List<bool>, NoMemory>
+    ensures { IfOk result (λ marks. marks ≡ map is_constant patterns.now) }
+{
+    let mut marks = List::with_room(alloc, patterns.len())?;
+    for pattern in patterns {
+        marks.push(is_constant(pattern))?;
+    }
+    Ok(marks)
+}
+
+// The place of the first set that the patterns fit.
+fn set_for(sets: &[ConstantSet], patterns: &[Pattern]) -> Option<usize>
+    ensures { IfSome result (IsSetFor sets.now patterns.now) }
+{
+    for at in 0..sets.len() {
+        if fits_marks(sets[at].marks.as_slice(), patterns) {
+            return Some(at);
+        }
+    }
+    None
+}
+
+// Whether the punctuation at a place covers the other.
+fn covers_there(kept: &[NumberedPunct], place: usize, other: &Punct) -> bool
+    ensures { result ≡ covers_in (slice_get kept.now place) other.now }
+{
+    match kept.get(place) {
+        None => false,
+        Some(one) => one.punct.covers(other),
+    }
+}
+
+// Whether it is covered by the other.
+fn is_covered_there(kept: &[NumberedPunct], place: usize, other: &Punct) -> bool
+    ensures { result ≡ covered_in (slice_get kept.now place) other.now }
+{
+    match kept.get(place) {
+        None => false,
+        Some(one) => other.covers(&one.punct),
+    }
+}
+
+impl ConstantSet {
+    // The set of this punctuation, which has constants and wildcards alone.
+    fn of(
+        alloc: Global,
+        marks: List<bool>,
+        kept: &[NumberedPunct],
+        at: usize,
+    ) -> Result<ConstantSet, NoMemory>
+        requires there { at < length kept.now }
+        requires fits { FitsAt kept.now at marks }
+        ensures { IfOk result (λ set. AreLed kept.now at (IsInSlot set)) }
+    {
+        let print = constants_print(marks.as_slice(), kept[at].punct.as_slice());
+        let mut places = IndexMap::new(alloc);
+        places.insert(print, at)?;
+        Ok(ConstantSet { marks, places })
+    }
+
+    // Takes in the punctuation at a place, where none of its print or one that covers it is there; or not.
+    fn file(&mut self, kept: &[NumberedPunct], at: usize) -> Result<bool, NoMemory>
+        requires there { at < length kept.now }
+        requires fits { FitsAt kept.now at self.old.marks }
+        ensures grows { Grows (IsInSlot self.old) (IsInSlot self.new) }
+        ensures leads { IfOk result (λ filed. filed ≡ true → AreLed kept.now at (IsInSlot self.new)) }
+    {
+        let punct = &kept[at].punct;
+        let print = constants_print(self.marks.as_slice(), punct.as_slice());
+        match self.places.get(&print) {
+            None => {
+                self.places.insert(print, at)?;
+                Ok(true)
+            }
+            Some(first) => Ok(covers_there(kept, *first, punct)),
+        }
+    }
+}
+
+// Takes in the punctuation at a place, where it has constants and wildcards alone and its print is free; or not.
+fn file_in_sets(
+    sets: &mut Vec<ConstantSet>,
+    alloc: Global,
+    kept: &[NumberedPunct],
+    at: usize,
+) -> Result<bool, NoMemory>
+    requires there { at < length kept.now }
+    ensures grows { Grows (IsInSets sets.old.items) (IsInSets sets.new.items) }
+    ensures leads { IfOk result (λ filed. filed ≡ true → AreLed kept.now at (IsInSets sets.new.items)) }
+{
+    let patterns = kept[at].punct.as_slice();
+    match set_for(sets.as_slice(), patterns) {
+        Some(place) => sets[place].file(kept, at),
+        None => file_in_new_set(sets, alloc, kept, at),
+    }
+}
+
+fn file_in_new_set(
+    sets: &mut Vec<ConstantSet>,
+    alloc: Global,
+    kept: &[NumberedPunct],
+    at: usize,
+) -> Result<bool, NoMemory>
+    requires there { at < length kept.now }
+    ensures grows { Grows (IsInSets sets.old.items) (IsInSets sets.new.items) }
+    ensures leads { IfOk result (λ filed. filed ≡ true → AreLed kept.now at (IsInSets sets.new.items)) }
+{
+    let patterns = kept[at].punct.as_slice();
+    let marks = marks_of(alloc, patterns)?;
+    if !fits_marks(marks.as_slice(), patterns) {
+        return Ok(false);
+    }
+    sets.push(ConstantSet::of(alloc, marks, kept, at)?)?;
+    Ok(true)
+}
+
+impl Chain {
+    // Takes in the punctuation at the last place, where the chain's last one covers it or is covered by it; or not.
+    fn file(&mut self, kept: &[NumberedPunct], at: usize) -> Result<bool, NoMemory>
+        requires { at + 1 ≡ length kept.now }
+        ensures ok { IfOk result (ChainTakes kept.now at self.old self.new) }
+        ensures err { OnErr result (self.new ≡ self.old) }
+    {
+        let punct = &kept[at].punct;
+        let count = self.places.len();
+        if count > 0 {
+            let last = self.places.as_slice()[count - 1];
+            if covers_there(kept, last, punct) {
+                return Ok(true);
+            }
+            if !is_covered_there(kept, last, punct) {
+                return Ok(false);
+            }
+        }
+        self.places.push(at)?;
+        Ok(true)
+    }
+}
+
+// Takes in the punctuation at the last place, where it is a watermark that fits a chain; or not.
+fn file_in_chains(
+    chains: &mut Vec<Chain>,
+    alloc: Global,
+    kept: &[NumberedPunct],
+    at: usize,
+) -> Result<bool, NoMemory>
+    requires { at + 1 ≡ length kept.now }
+    ensures ok { IfOk result (ChainsTake kept.now at chains.old.items chains.new.items) }
+    ensures err { OnErr result (chains.new.items ≡ chains.old.items) }
+{
+    match watermark(kept[at].punct.as_slice()) {
+        None => Ok(false),
+        Some((column, has_low)) => match chain_for(chains.as_slice(), column, has_low) {
+            Some(place) => chains[place].file(kept, at),
+            None => {
+                let mut places = List::new(alloc);
+                places.push(at)?;
+                chains.push(Chain {
+                    column,
+                    has_low,
+                    places,
+                })?;
+                Ok(true)
+            }
+        },
+    }
+}
+
+// The column of the only pattern that is no wildcard, where this is a range with one end, and whether that is the low one.
+fn watermark(patterns: &[Pattern]) -> Option<(usize, bool)> {
+    let mut found = None;
+    for column in 0..patterns.len() {
+        match patterns[column].shape() {
+            Shape::Wild => {}
+            Shape::Empty => return None,
+            Shape::Constant(_) => return None,
+            Shape::Members(_) => return None,
+            Shape::Range(low, high) => {
+                if found.is_some() || low.is_some() == high.is_some() {
+                    return None;
+                }
+                found = Some((column, low.is_some()));
+            }
+        }
+    }
+    found
+}
+
+fn chain_for(chains: &[Chain], column: usize, has_low: bool) -> Option<usize>
+    ensures { IfSome result (λ at. at < length chains.now) }
+{
+    for at in 0..chains.len() {
+        if chains[at].column == column && chains[at].has_low == has_low {
+            return Some(at);
+        }
+    }
+    None
+}

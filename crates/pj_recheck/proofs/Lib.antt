@@ -1,0 +1,11 @@
+pub mod Backward
+pub mod Compiled
+pub mod Elsewhere
+pub mod Looped
+pub mod Paths
+pub mod Picked
+pub mod Rechecked
+pub mod Roused
+pub mod RowPairs
+pub mod Through
+pub mod Woken

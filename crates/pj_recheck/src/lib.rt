@@ -1,0 +1,22 @@
+//! Which stored rows of a join may have become ripe, since a punctuation came or a row went, and which of them are.
+#![tactic(auto)]
+
+mod compiling;
+mod marks;
+mod orders;
+mod partners;
+mod reaching;
+mod routes;
+mod stored;
+mod sweeping;
+mod waking;
+mod watches;
+
+pub use compiling::{Certified, routes_of};
+pub use marks::{Judged, Watches};
+pub use orders::keep_orders;
+pub use partners::mark_dependents;
+pub use routes::InputRoutes;
+pub use stored::Inputs;
+pub use sweeping::Judge;
+pub use waking::mark_covered;

@@ -1,0 +1,202 @@
+// Which stored tuples of an input are ripe.
+ghost use Rattle.std.specs.Prelude.{◌≡◌, ◌≤◌, ◌++◌, false, length, map, slice_get, take, Some, OnOk, OnErr, IfOk};
+ghost use Rattle.pj_value.specs.Lists.{In};
+ghost use Rattle.pj_state.specs.declared.shared.Stored.{Stored};
+ghost use Rattle.pj_state.specs.Rising.{IsRising, itself};
+ghost use Rattle.pj_state.specs.States.{stored, ticket_of};
+ghost use Rattle.pj_recheck.specs.Judging.{BothMore, one_if, ripe_rows, ripe_tickets, row_in, rows_at};
+ghost use Rattle.pj_recheck.specs.Watching.{AreJudged, AreLookedAt, IsOneJudged, IsVerdict, NoneIsRipe, all_picked, is_passed, marked_by, picked};
+
+use crate::marks::{Judged, Watches};
+use crate::stored::Inputs;
+use pj_cover::{Verdict, judge_row};
+use pj_puncts::PunctStore;
+use pj_rows::in_order;
+use pj_shape::{Cert, JoinSpec, Schemes};
+use pj_state::{Spot, State};
+use pj_value::{List, NoMemory, Row};
+use std::alloc::Global;
+use std::marker::Model;
+
+/// What the stored rows of an input are judged by: the join's shape and schemes, the input's certificate, the rows and the
+/// punctuations of all inputs, and the low-water ticket.
+#[derive(Drop)]
+pub struct Judge<'a> {
+    pub spec: &'a JoinSpec,
+    pub schemes: &'a Schemes,
+    pub cert: &'a Cert,
+    pub input: u32,
+    pub states: &'a [State],
+    pub stores: &'a [PunctStore],
+    pub low: u64,
+}
+
+impl<'a> Model for Judge<'a> {
+    ghost use Rattle.pj_recheck.specs.Judging.{JudgeView, MayJudge};
+
+    ghost Value = { JudgeView };
+
+    ghost view = { λ j. record { spec = j.spec.now; schemes = j.schemes.now; cert = j.cert.now; input = j.input; states = j.states.now; stores = j.stores.now; low = j.low } };
+
+    ghost invariant = { λ j. MayJudge j.spec.now j.schemes.now j.cert.now j.input j.states.now j.stores.now };
+}
+
+// Puts the row at the end of those that go, and its ticket to theirs, where it is ripe; or neither.
+fn sort_out(
+    alloc: Global,
+    goes: bool,
+    ticket: u64,
+    row: &Row,
+    gone: &mut List<u64>,
+    removed: &mut List<Row>,
+) -> Result<(), NoMemory>
+    ensures ok { OnOk result (BothMore gone.old gone.new (one_if goes ticket) removed.old removed.new (one_if goes row.now)) }
+    ensures err { OnErr result (removed.new ≡ removed.old) }
+{
+    if goes {
+        gone.push(ticket)?;
+        removed.push(row.copy(alloc)?)?;
+    }
+    Ok(())
+}
+
+// Puts the ticket at the end of those that are marked where the row is judged again: where punctuations from the low-water
+// ticket on alone cover what it asks for. Where none does, it is passed over until one comes.
+fn keep_marked(verdict: Verdict, ticket: u64, marked: &mut List<u64>) -> Result<(), NoMemory>
+    ensures { OnOk result (marked.new ≡ marked.old ++ one_if (marked_by verdict) ticket) }
+{
+    match verdict {
+        Verdict::Ripe => Ok(()),
+        Verdict::Open => Ok(()),
+        Verdict::Lagging => marked.push(ticket),
+    }
+}
+
+// The tickets of the rows from a ticket on.
+fn young(alloc: Global, state: &State, from: u64) -> Result<List<u64>, NoMemory>
+    ensures order { IsRising ticket_of state.now.rows }
+    ensures young { IfOk result (λ list. (s : Stored) → In s state.now.rows → from ≤ s.ticket → In s.ticket list) }
+{
+    let mut list = List::new(alloc);
+    let count = state.len();
+    let mut rows = state.cursor();
+    for back in 0..count {
+        let (ticket, _) = rows.nth(count - 1 - back);
+        if ticket < from {
+            return Ok(list);
+        }
+        list.push(ticket)?;
+    }
+    Ok(list)
+}
+
+// The tickets of the rows that are judged, and maybe others, in order.
+fn to_judge(alloc: Global, watches: &Watches, state: &State) -> Result<Vec<u64>, NoMemory>
+    ensures order { IsRising ticket_of state.now.rows }
+    ensures rising { IfOk result (λ tickets. IsRising itself tickets.items) }
+    ensures all { IfOk result (λ tickets. (s : Stored) → In s state.now.rows → is_passed watches.now s.ticket ≡ false → In s.ticket tickets.items) }
+{
+    let mut list = young(alloc, state, watches.from)?;
+    if watches.marked.len() > 0 {
+        list.append(watches.marked.as_slice())?;
+    }
+    Ok(in_order(list))
+}
+
+impl<'a> Judge<'a> {
+    // What is said of a row that is stored.
+    fn verdict(&self, ticket: u64, row: &Row) -> Verdict
+        requires { (at : _) × (slice_get (rows_at self.now) at ≡ Some (stored ticket row.now)) }
+        ensures { IsVerdict self.now (stored ticket row.now) result }
+    {
+        if self.low <= ticket {
+            return Verdict::Open;
+        }
+        let rows = Inputs {
+            states: self.states,
+        };
+        judge_row(
+            self.spec,
+            self.schemes,
+            self.cert,
+            self.input,
+            row,
+            &rows,
+            self.stores,
+            self.low,
+        )
+    }
+
+    // Judges the row with a ticket, where there is one. It goes where it is ripe, or is marked where it is judged again.
+    fn judge_one(
+        &self,
+        alloc: Global,
+        ticket: u64,
+        near: &mut Spot,
+        judged: &mut Judged,
+        removed: &mut List<Row>,
+    ) -> Result<(), NoMemory>
+        ensures ok { OnOk result (IsOneJudged self.now ticket judged.old judged.new) }
+        ensures removed { OnOk result (removed.new ≡ removed.old ++ map row_in (picked self.now ticket)) }
+        ensures err { OnErr result (removed.new ≡ removed.old) }
+    {
+        match self.states[self.input as usize].get_near(ticket, near) {
+            None => Ok(()),
+            Some(row) => {
+                let verdict = self.verdict(ticket, row);
+                keep_marked(verdict, ticket, &mut judged.marked)?;
+                sort_out(
+                    alloc,
+                    verdict.is_ripe(),
+                    ticket,
+                    row,
+                    &mut judged.gone,
+                    removed,
+                )?;
+                Ok(())
+            }
+        }
+    }
+
+    // Judges the rows with these tickets.
+    fn judge_all(
+        &self,
+        alloc: Global,
+        tickets: &[u64],
+        removed: &mut List<Row>,
+    ) -> Result<Judged, NoMemory>
+        ensures judged { IfOk result (λ judged. AreJudged self.now tickets.now judged) }
+        ensures removed { OnOk result (removed.new ≡ removed.old ++ map row_in (all_picked self.now tickets.now)) }
+        ensures err { OnErr result (take (length removed.old) removed.new ≡ removed.old) }
+    {
+        let mut judged = Judged {
+            gone: List::new(alloc),
+            marked: List::new(alloc),
+        };
+        let mut near = Spot::new();
+        for ticket in tickets {
+            self.judge_one(alloc, *ticket, &mut near, &mut judged, removed)?;
+        }
+        Ok(judged)
+    }
+
+    /// Puts the rows that are ripe at the end of `removed`, and answers their tickets, and which others are marked now. Those
+    /// that are passed over are not looked at. After a refusal `removed` begins as before.
+    pub fn ripe_ones(
+        &self,
+        alloc: Global,
+        watches: &Watches,
+        removed: &mut List<Row>,
+    ) -> Result<Judged, NoMemory>
+        requires passed { NoneIsRipe self.now watches.now }
+        ensures gone { IfOk result (λ judged. judged.gone ≡ ripe_tickets self.now) }
+        ensures rising { IfOk result (λ judged. IsRising itself judged.gone) }
+        ensures left { IfOk result (λ judged. AreLookedAt self.now watches.now judged.marked) }
+        ensures removed { OnOk result (removed.new ≡ removed.old ++ ripe_rows self.now) }
+        ensures err { OnErr result (take (length removed.old) removed.new ≡ removed.old) }
+    {
+        let tickets = to_judge(alloc, watches, &self.states[self.input as usize])?;
+        let judged = self.judge_all(alloc, tickets.as_slice(), removed)?;
+        Ok(judged)
+    }
+}

@@ -1,0 +1,324 @@
+// Which stored rows a punctuation marks.
+ghost use Rattle.std.specs.Prelude.{◌≡◌, ◌<◌, length, slice_get, Some, IfOk, IfSome, OnOk};
+ghost use Rattle.pj_pattern.specs.declared.pattern.Form.TheVariants.{Constant};
+ghost use Rattle.pj_rows.specs.Tuples.{AreWide};
+ghost use Rattle.pj_recheck.specs.Recheck.{HasKey, HasLimit, LeavesOwner, RouteFinds, RouteFits, RouteLeaves, RoutesFit, RoutesLeave, StopFinds, StopFits, StopsFit, StopsFind};
+ghost use Rattle.pj_recheck.specs.Watching.{AreFewer, IsFewer};
+
+use crate::marks::Watches;
+use crate::reaching::{owners, rows_of};
+use crate::routes::{Lead, RecheckRoute, Stop};
+use crate::watches::{Limit, is_wild_elsewhere, matching_tickets};
+use pj_pattern::Punct;
+use pj_rows::Lookup;
+use pj_state::State;
+use pj_value::{List, NoMemory};
+use std::alloc::Global;
+
+// The lead's column of rows, and the constant of the punctuation that leads there.
+fn key_by<'a>(lead: Lead, punct: &'a Punct) -> Option<Lookup<'a>>
+    ensures column { IfSome result (λ key. key.column ≡ lead.column) }
+    ensures value { IfSome result (λ key. slice_get punct.now lead.asked ≡ Some (Constant key.value.now)) }
+{
+    if lead.asked as usize >= punct.len() {
+        return None;
+    }
+    match punct.at(lead.asked as usize).as_constant() {
+        None => None,
+        Some(value) => Some(Lookup {
+            column: lead.column,
+            value,
+        }),
+    }
+}
+
+// The same of the first lead for which there is one.
+fn key_of<'a>(leads: &[Lead], punct: &'a Punct) -> Option<Lookup<'a>>
+    ensures { IfSome result (λ key. HasKey leads.now punct.now key.column key.value.now) }
+{
+    for lead in leads {
+        match key_by(*lead, punct) {
+            Some(key) => return Some(key),
+            None => {}
+        }
+    }
+    None
+}
+
+// The lead's column of rows, and the pattern of the punctuation that leads there, where that is no wildcard.
+fn limit_by<'a>(lead: Lead, punct: &'a Punct) -> Option<Limit<'a>>
+    ensures column { IfSome result (λ limit. limit.column ≡ lead.column) }
+    ensures value { IfSome result (λ limit. slice_get punct.now lead.asked ≡ Some limit.pattern.now) }
+{
+    if lead.asked as usize >= punct.len() {
+        return None;
+    }
+    let pattern = punct.at(lead.asked as usize);
+    if pattern.is_wild() {
+        return None;
+    }
+    Some(Limit {
+        column: lead.column,
+        pattern,
+    })
+}
+
+// The same of the first lead for which there is one.
+fn limit_of<'a>(leads: &[Lead], punct: &'a Punct) -> Option<Limit<'a>>
+    ensures { IfSome result (λ limit. HasLimit leads.now punct.now limit.column limit.pattern.now) }
+{
+    for lead in leads {
+        match limit_by(*lead, punct) {
+            Some(limit) => return Some(limit),
+            None => {}
+        }
+    }
+    None
+}
+
+// The tickets of the rows that ask for what the punctuation covers, where a constant of it tells the value of the rows at the
+// stop.
+fn by_key(
+    alloc: Global,
+    states: &[State],
+    stop: &Stop,
+    punct: &Punct,
+) -> Result<Option<List<u64>>, NoMemory>
+    requires wide { AreWide states.now }
+    requires fits { StopFits states.now stop.now }
+    ensures { IfOk result (λ found. IfSome found (StopFinds states.now stop.now punct.now)) }
+{
+    match rows_of(states, stop.input) {
+        None => Ok(None),
+        Some(state) => match key_of(stop.leads.as_slice(), punct) {
+            None => Ok(None),
+            Some(key) => match &stop.way {
+                None => Ok(None),
+                Some(way) => {
+                    let found = owners(alloc, states, way, state.tickets(key.column, key.value))?;
+                    Ok(found)
+                }
+            },
+        },
+    }
+}
+
+// The same where a pattern of the punctuation limits the values.
+fn by_limit(
+    alloc: Global,
+    states: &[State],
+    stop: &Stop,
+    punct: &Punct,
+) -> Result<Option<List<u64>>, NoMemory>
+    requires wide { AreWide states.now }
+    requires fits { StopFits states.now stop.now }
+    ensures { IfOk result (λ found. IfSome found (StopFinds states.now stop.now punct.now)) }
+{
+    match rows_of(states, stop.input) {
+        None => Ok(None),
+        Some(state) => match limit_of(stop.leads.as_slice(), punct) {
+            None => Ok(None),
+            Some(limit) => match &stop.way {
+                None => Ok(None),
+                Some(way) => {
+                    let tickets = matching_tickets(alloc, state, limit.column, limit.pattern)?;
+                    let found = owners(alloc, states, way, tickets.as_slice())?;
+                    Ok(found)
+                }
+            },
+        },
+    }
+}
+
+// The tickets of the rows that ask for what the punctuation covers, where a constant of it tells their own value.
+fn own_rows<'a>(states: &'a [State], route: &RecheckRoute, punct: &Punct) -> Option<&'a [u64]>
+    requires wide { AreWide states.now }
+    requires fits { RouteFits states.now route.now }
+    ensures { IfSome result (λ found. RouteFinds states.now route.now punct.now found.now) }
+{
+    match rows_of(states, route.owner) {
+        None => None,
+        Some(state) => match key_of(route.own.as_slice(), punct) {
+            None => None,
+            Some(key) => Some(state.tickets(key.column, key.value)),
+        },
+    }
+}
+
+// The same where a pattern of the punctuation limits their own values.
+fn own_limited(
+    alloc: Global,
+    states: &[State],
+    route: &RecheckRoute,
+    punct: &Punct,
+) -> Result<Option<List<u64>>, NoMemory>
+    requires wide { AreWide states.now }
+    requires fits { RouteFits states.now route.now }
+    ensures { IfOk result (λ found. IfSome found (RouteFinds states.now route.now punct.now)) }
+{
+    match rows_of(states, route.owner) {
+        None => Ok(None),
+        Some(state) => match limit_of(route.own.as_slice(), punct) {
+            None => Ok(None),
+            Some(limit) => {
+                let found = matching_tickets(alloc, state, limit.column, limit.pattern)?;
+                Ok(Some(found))
+            }
+        },
+    }
+}
+
+// The tickets of the rows that ask for what the punctuation covers, by the first of these stops where a constant tells.
+fn behind_by_key(
+    alloc: Global,
+    states: &[State],
+    stops: &[Stop],
+    punct: &Punct,
+) -> Result<Option<List<u64>>, NoMemory>
+    requires wide { AreWide states.now }
+    requires fit { StopsFit states.now stops.now }
+    ensures { IfOk result (λ found. IfSome found (StopsFind states.now stops.now punct.now)) }
+{
+    for stop in stops {
+        match by_key(alloc, states, stop, punct)? {
+            None => {}
+            Some(found) => return Ok(Some(found)),
+        }
+    }
+    Ok(None)
+}
+
+// The same by the first where a pattern limits the values.
+fn behind_by_limit(
+    alloc: Global,
+    states: &[State],
+    stops: &[Stop],
+    punct: &Punct,
+) -> Result<Option<List<u64>>, NoMemory>
+    requires wide { AreWide states.now }
+    requires fit { StopsFit states.now stops.now }
+    ensures { IfOk result (λ found. IfSome found (StopsFind states.now stops.now punct.now)) }
+{
+    for stop in stops {
+        match by_limit(alloc, states, stop, punct)? {
+            None => {}
+            Some(found) => return Ok(Some(found)),
+        }
+    }
+    Ok(None)
+}
+
+// The tickets of the rows that ask by the route for what the punctuation covers, where patterns limit them; `None` where none
+// does.
+fn limited(
+    alloc: Global,
+    states: &[State],
+    route: &RecheckRoute,
+    punct: &Punct,
+) -> Result<Option<List<u64>>, NoMemory>
+    requires wide { AreWide states.now }
+    requires fits { RouteFits states.now route.now }
+    ensures { IfOk result (λ found. IfSome found (RouteFinds states.now route.now punct.now)) }
+{
+    match own_limited(alloc, states, route, punct)? {
+        Some(found) => Ok(Some(found)),
+        None => {
+            let found = behind_by_limit(alloc, states, route.behind.as_slice(), punct)?;
+            Ok(found)
+        }
+    }
+}
+
+// The same by the rows at the first stop where a constant tells, or else by patterns.
+fn asking(
+    alloc: Global,
+    states: &[State],
+    route: &RecheckRoute,
+    punct: &Punct,
+) -> Result<Option<List<u64>>, NoMemory>
+    requires wide { AreWide states.now }
+    requires fits { RouteFits states.now route.now }
+    ensures { IfOk result (λ found. IfSome found (RouteFinds states.now route.now punct.now)) }
+{
+    match behind_by_key(alloc, states, route.behind.as_slice(), punct)? {
+        Some(found) => Ok(Some(found)),
+        None => {
+            let found = limited(alloc, states, route, punct)?;
+            Ok(found)
+        }
+    }
+}
+
+// Marks the rows that ask by the route for what the punctuation covers; or all.
+fn mark_by(
+    alloc: Global,
+    watches: &mut Watches,
+    route: &RecheckRoute,
+    states: &[State],
+    punct: &Punct,
+) -> Result<(), NoMemory>
+    requires wide { AreWide states.now }
+    requires fits { RouteFits states.now route.now }
+    ensures fewer { IsFewer watches.old watches.new }
+    ensures left { OnOk result (RouteLeaves states.now route.now punct.now watches.new) }
+{
+    if !is_wild_elsewhere(&route.scheme, punct) {
+        return Ok(());
+    }
+    match own_rows(states, route, punct) {
+        Some(found) => watches.mark(found),
+        None => match asking(alloc, states, route, punct)? {
+            None => {
+                watches.mark_all();
+                Ok(())
+            }
+            Some(found) => watches.mark(found.as_slice()),
+        },
+    }
+}
+
+// The same among those of the route's owner.
+fn mark_owner(
+    alloc: Global,
+    watches: &mut Vec<Watches>,
+    route: &RecheckRoute,
+    states: &[State],
+    punct: &Punct,
+) -> Result<(), NoMemory>
+    requires wide { AreWide states.now }
+    requires fits { RouteFits states.now route.now }
+    ensures fewer { AreFewer watches.old.items watches.new.items }
+    ensures left { OnOk result (LeavesOwner states.now route.now punct.now watches.new.items) }
+{
+    if route.owner as usize >= watches.len() {
+        return Ok(());
+    }
+    mark_by(
+        alloc,
+        &mut watches[route.owner as usize],
+        route,
+        states,
+        punct,
+    )?;
+    Ok(())
+}
+
+/// Marks the rows of each input that ask for what a punctuation covers that comes where these routes begin. On a refusal some
+/// may be marked.
+pub fn mark_covered(
+    alloc: Global,
+    watches: &mut Vec<Watches>,
+    routes: &[RecheckRoute],
+    states: &[State],
+    punct: &Punct,
+) -> Result<(), NoMemory>
+    requires wide { AreWide states.now }
+    requires fit { RoutesFit states.now routes.now }
+    ensures fewer { AreFewer watches.old.items watches.new.items }
+    ensures left { OnOk result (RoutesLeave states.now routes.now punct.now watches.new.items) }
+{
+    for route in routes {
+        mark_owner(alloc, watches, route, states, punct)?;
+    }
+    Ok(())
+}

@@ -1,0 +1,10 @@
+pub mod Agreeing
+pub mod Found
+pub mod Halved
+pub mod Indexed
+pub mod Looked
+pub mod Ranged
+pub mod Rising
+pub mod Spared
+pub mod States
+pub mod Under

@@ -1,0 +1,4 @@
+pub mod Finding
+pub mod Ranges
+pub mod Suits
+pub mod Tuples

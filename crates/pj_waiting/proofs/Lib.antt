@@ -1,0 +1,5 @@
+pub mod Holding
+pub mod Leaving
+pub mod Listed
+pub mod Looped
+pub mod SortedOut
