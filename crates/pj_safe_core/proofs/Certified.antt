@@ -19,8 +19,8 @@ use Rattle.pj_safety.specs.Certificates.{AreCertificates, certificates_at, certi
 use Rattle.pj_safety.specs.Safety.{schemes_at, spec_at, spec_in}
 use Rattle.pj_laws.specs.HistoryLaws.{AllAreCertified}
 use Rattle.pj_core.specs.Plans.{nodes_of, run_plan}
-use Rattle.pj_verified_core.specs.Verified.{AreVerified, AreVerifiedAt}
-use Rattle.pj_verified_core.proofs.Verified.{verified_certified}
+use Rattle.pj_safe_core.specs.Verified.{AreVerified, AreVerifiedAt}
+use Rattle.pj_safe_core.proofs.Verified.{verified_certified}
 
 -- behind the last node stands none
 none-behind : (nodes : List PlanNode) (n : ℕ) → length nodes ≤ n → get_or nodes n no_node ≡ no_node

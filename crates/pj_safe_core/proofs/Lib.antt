@@ -1,1 +1,3 @@
+pub mod Verified
+pub mod OneByOne
 pub mod Certified

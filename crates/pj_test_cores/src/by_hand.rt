@@ -6,9 +6,9 @@ use pj_alone::{Judged, judge};
 use pj_core::{Core, Out};
 use pj_plan::Plan;
 use pj_plan_text::read_plan;
+use pj_safe_core::verified_core;
 use pj_shape::{Cert, CertStep};
 use pj_value::{List, NoMemory, Row};
-use pj_verified_core::verified_core;
 use std::alloc::Global;
 
 // A ring of three streams: each has a column in common with either of the others, and a scheme for each of its columns.

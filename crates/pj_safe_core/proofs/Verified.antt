@@ -20,7 +20,7 @@ use Rattle.pj_join.specs.Joins.{join_data}
 use Rattle.pj_core.specs.Plans.{nodes_of, operator_of, run_plan}
 use Rattle.pj_core.proofs.Frames.{certs_at, operator-is}
 use Rattle.pj_core.proofs.Planned.{with-long}
-use Rattle.pj_verified_core.specs.Verified.{AreCertificatesFor, AreVerified, AreVerifiedAt}
+use Rattle.pj_safe_core.specs.Verified.{AreCertificatesFor, AreVerified, AreVerifiedAt}
 
 -- ---- the place of a join among the joins
 

@@ -1,7 +1,7 @@
 use Rattle.std.proofs.Common.{subst}
-use Rattle.pj_verified_core.specs.Verified.{AreVerified}
-use Rattle.pj_verified_core.proofs.Verified.{verified_certified}
-use Rattle.pj_verified_core.proofs.opening.verified_core.Goals as goal
+use Rattle.pj_safe_core.specs.Verified.{AreVerified}
+use Rattle.pj_safe_core.proofs.Verified.{verified_certified}
+use Rattle.pj_safe_core.proofs.verifying.verified_core.Goals as goal
 
 pub new-requires-clause-certified : goal.new-requires-clause-certified
 new-requires-clause-certified c =

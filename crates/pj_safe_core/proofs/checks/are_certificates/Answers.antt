@@ -1,8 +1,8 @@
 use Rattle.std.proofs.Common.{ℕ, ◌<◌, [], length, subst, ◌∙◌, arith}
 use Rattle.std.proofs.lemmas.List.{get_or_default}
 use Rattle.pj_shape.specs.Certificates.{IsCertificate}
-use Rattle.pj_verified_core.proofs.OneByOne.{one_more}
-use Rattle.pj_verified_core.proofs.checks.are_certificates.Goals as goal
+use Rattle.pj_safe_core.proofs.OneByOne.{one_more}
+use Rattle.pj_safe_core.proofs.checks.are_certificates.Goals as goal
 
 pub loop-input-preserved : goal.loop-input-preserved
 loop-input-preserved c =

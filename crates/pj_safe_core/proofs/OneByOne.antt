@@ -10,7 +10,7 @@ use Rattle.pj_plan.specs.declared.node.PlanNode.{PlanNode}
 use Rattle.pj_plan.specs.Canonical.{node_at}
 use Rattle.pj_plan.specs.Nodes.{inputs_of, is_join, join_in, joins_of, numbers_from}
 use Rattle.pj_scheme.specs.Derived.{inputs_schemes, schemes_of}
-use Rattle.pj_verified_core.specs.Verified.{AreCertificatesFor, AreVerified, AreVerifiedAt}
+use Rattle.pj_safe_core.specs.Verified.{AreCertificatesFor, AreVerified, AreVerifiedAt}
 
 -- ---- the nodes of the joins
 

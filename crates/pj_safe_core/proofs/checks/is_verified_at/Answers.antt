@@ -2,8 +2,8 @@ use Rattle.std.proofs.Common.{Bool, List, ap₂, sym, ◌∙◌}
 use Rattle.pj_plan.specs.declared.node.Node.{Node as Operation}
 use Rattle.pj_plan.specs.Nodes.{inputs_of}
 use Rattle.pj_scheme.specs.Derived.{inputs_schemes}
-use Rattle.pj_verified_core.proofs.OneByOne.{at_join}
-use Rattle.pj_verified_core.proofs.checks.is_verified_at.Goals as goal
+use Rattle.pj_safe_core.proofs.OneByOne.{at_join}
+use Rattle.pj_safe_core.proofs.checks.is_verified_at.Goals as goal
 
 pub returns : goal.returns
 returns c =

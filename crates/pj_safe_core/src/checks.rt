@@ -4,7 +4,7 @@ ghost use Rattle.pj_plan.specs.Canonical.{node_at};
 ghost use Rattle.pj_plan.specs.Nodes.{is_join};
 ghost use Rattle.pj_scheme.specs.Derived.{schemes_of};
 ghost use Rattle.pj_shape.specs.Sound.{FitSchemes, IsSoundSpec};
-ghost use Rattle.pj_verified_core.specs.Verified.{AreCertificatesFor, AreVerified, AreVerifiedAt};
+ghost use Rattle.pj_safe_core.specs.Verified.{AreCertificatesFor, AreVerified, AreVerifiedAt};
 
 use pj_cert::verify;
 use pj_plan::{Node, Plan};

@@ -2,7 +2,7 @@
 ghost use Rattle.std.specs.Prelude.{◌≤◌, ◌^◌, ◌↔◌, IfOk, IfSome, IsSome};
 ghost use Rattle.pj_core.specs.Calls.{IsFresh};
 ghost use Rattle.pj_core.specs.Plans.{run_plan};
-ghost use Rattle.pj_verified_core.specs.Verified.{AreVerified};
+ghost use Rattle.pj_safe_core.specs.Verified.{AreVerified};
 
 use crate::checks::are_verified;
 use pj_core::Core;

@@ -1,8 +1,8 @@
 use Rattle.std.proofs.Common.{ℕ, ◌<◌, ◌≡◌, length, ap, refl, sym, ◌∙◌, subst, arith}
 use Rattle.std.proofs.lemmas.Bool.{false≢true}
 use Rattle.pj_plan.specs.Nodes.{joins_of}
-use Rattle.pj_verified_core.proofs.OneByOne.{FirstVerified, all_verified, at_place, one_more_join, one_unverified}
-use Rattle.pj_verified_core.proofs.checks.are_verified.Goals as goal
+use Rattle.pj_safe_core.proofs.OneByOne.{FirstVerified, all_verified, at_place, one_more_join, one_unverified}
+use Rattle.pj_safe_core.proofs.checks.are_verified.Goals as goal
 
 pub returns-then-not-branch : goal.returns-then-not-branch
 returns-then-not-branch c =
