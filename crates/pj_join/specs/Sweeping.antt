@@ -23,10 +23,6 @@ is_let_go stored input p = (p.input == input) && not (is_held stored p)
 abbrev pub waiting_on : List TupleAt → ℕ → List PunctAt → List PunctAt
 waiting_on stored input ps = filter (λ p. not (p.input == input) || is_held stored p) ps
 
--- those that are let go, widened
-abbrev pub going_up : List (List Column) → List TupleAt → ℕ → List PunctAt → List (List Pattern)
-going_up schemas stored input ps = map (widened_among schemas) (filter (is_let_go stored input) ps)
-
 -- the tuples of the input that a sweep removes: exactly the ripe ones, in order of tickets
 abbrev pub swept_off : JoinView → ℕ → List TupleAt
 swept_off join input = filter (λ x. (x.input == input) && kept_ripe join.spec join.kept x) join.kept.stored

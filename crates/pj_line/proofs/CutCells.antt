@@ -1,5 +1,5 @@
 -- The loop that cuts a line.
-use Rattle.std.proofs.Common.{◌≡◌, ◌≢◌, ℕ, ◌+◌, ◌-◌, ◌<◌, ◌≤◌, false, get_or, List, [], ◌∷◌, ◌++◌, length, take, drop, slice_range, Option, Some, None, Err, refl, ap, sym, ◌∙◌, subst, arith, length-append, append_assoc, append-nil}
+use Rattle.std.proofs.Common.{◌≡◌, ◌≢◌, ℕ, ◌+◌, ◌-◌, ◌<◌, ◌≤◌, false, get_or, List, [], ◌∷◌, ◌++◌, length, take, drop, slice_range, Option, Some, None, Err, refl, ap, sym, ◌∙◌, subst, arith, length-append, append_assoc}
 use Rattle.pj_value.specs.Options.{with_first, with_front}
 use Rattle.pj_line.specs.declared.cell.Place.{Place}
 use Rattle.std.proofs.lemmas.List.{drop-drop, get_or-drop, length-drop, length-take-le}

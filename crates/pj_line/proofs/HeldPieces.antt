@@ -1,11 +1,9 @@
 -- The pieces that end with a line feed.
-use Rattle.std.proofs.Common.{◌≡◌, ℕ, ◌+◌, ◌<◌, List, [], ◌∷◌, ◌++◌, None, Some, length, take, drop, refl, ap, ap₂, sym, ◌∙◌, subst, arith, zero-add}
+use Rattle.std.proofs.Common.{◌≡◌, ℕ, ◌+◌, ◌<◌, List, [], ◌∷◌, ◌++◌, Some, length, take, drop, refl, ap, ap₂, sym, ◌∙◌, arith}
 use Rattle.std.proofs.lemmas.List.{drop-drop, length-drop}
 use Rattle.std.proofs.lemmas.Bool.Decides.{nat_tests}
-use Rattle.memchr.specs.Find.{IsFirstByte, is_byte}
 use Rattle.pj_line.specs.Lines.{fed_pieces, onto_first, HasNo}
-use Rattle.pj_line.specs.Held.{IsFeedAt}
-use Rattle.pj_line.proofs.Feeds.{searched_none, searched_some}
+use Rattle.pj_line.specs.FirstFeed.{IsFeedAt}
 
 fed_at_other : (b : ℕ) (bs : List ℕ) → (b ≡ 10 → ⊥) → fed_pieces (b ∷ bs) ≡ onto_first b (fed_pieces bs)
 fed_at_other b bs is_not = grind (arith, nat_tests)
@@ -14,18 +12,14 @@ fed_first : (piece rest : List ℕ) → HasNo 10 piece → fed_pieces (piece ++ 
 fed_first [] rest none = refl
 fed_first (b ∷ bs) rest none = fed_at_other b (bs ++ 10 ∷ rest) none.0 ∙ ap (onto_first b) (fed_first bs rest none.1)
 
-none_fed : (bytes : List ℕ) → HasNo 10 bytes → fed_pieces bytes ≡ []
+pub none_fed : (bytes : List ℕ) → HasNo 10 bytes → fed_pieces bytes ≡ []
 none_fed [] none = refl
 none_fed (b ∷ bs) none = fed_at_other b bs none.0 ∙ ap (onto_first b) (none_fed bs none.1)
 
--- what a search tells of them
-pub no_fed_piece : (bytes : List ℕ) → IsFirstByte (is_byte 10) bytes None → fed_pieces bytes ≡ []
-no_fed_piece bytes none = none_fed bytes (searched_none bytes bytes 0 refl tt none)
-
-pub fed_parts : (bytes piece behind rest : List ℕ) (at : ℕ) → IsFirstByte (is_byte 10) bytes (Some at) → piece ≡ take at bytes → behind ≡ drop at bytes → rest ≡ drop 1 behind
+-- what a line feed tells of them
+pub fed_parts : (bytes piece behind rest : List ℕ) (at : ℕ) → IsFeedAt bytes (Some at) → piece ≡ take at bytes → behind ≡ drop at bytes → rest ≡ drop 1 behind
     → (fed_pieces bytes ≡ piece ∷ fed_pieces rest) × (length rest < length bytes)
-fed_parts bytes piece behind rest at first is_piece is_behind is_rest =
-    let feed : IsFeedAt bytes (Some at) = subst (λ (n : ℕ). IsFeedAt bytes (Some n)) (zero-add at) (searched_some bytes bytes 0 at (omega arith) refl tt first) in
+fed_parts bytes piece behind rest at feed is_piece is_behind is_rest =
     let all : rest ≡ drop (at + 1) bytes = is_rest ∙ (ap (drop 1) is_behind ∙ drop-drop 1 at bytes) in (
       ap fed_pieces feed.2 ∙ (fed_first (take at bytes) (drop (at + 1) bytes) feed.1 ∙ ap₂ (λ (p r : List ℕ). p ∷ fed_pieces r) (sym is_piece) (sym all)),
       omega (arith, ap length all, length-drop (at + 1) bytes, feed.0),

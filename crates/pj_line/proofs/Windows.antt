@@ -1,7 +1,7 @@
 -- What a window holds after a step.
 use Rattle.std.proofs.Common.{◌≡◌, ℕ, ◌+◌, ◌-◌, ◌≤◌, List, ◌++◌, Ok, Err, take, drop, ap, sym, ◌∙◌, arith}
 use Rattle.std.specs.Prelude.{Result, OnErr}
-use Rattle.std.proofs.lemmas.List.{drop-drop, drop-take}
+use Rattle.std.proofs.lemmas.List.{drop-drop, drop-take, take-take}
 use Rattle.std.proofs.Math.Seq.{take-add}
 
 pub skipped : (xs : List ℕ) (start end n : ℕ) → start + n ≤ end → take (end - (start + n)) (drop (start + n) xs) ≡ drop n (take (end - start) (drop start xs))
@@ -27,6 +27,10 @@ front_grows xs ys start end n le same =
     ∙ (take-add (end - start) n (drop start ys)
     ∙ (ap (λ (front : List ℕ). front ++ take n (drop (end - start) (drop start ys))) (front_keeps xs ys start end le same)
     ∙ ap (λ (rest : List ℕ). take (end - start) (drop start xs) ++ take n rest) (drop-drop (end - start) start ys ∙ ap (λ k. drop k ys) {x = start + (end - start)} {y = end} (omega arith))))
+
+-- what was held stands in front of what is held then
+pub front_of_more : (xs ys : List ℕ) (start end n : ℕ) → start ≤ end → take end ys ≡ take end xs → take (end - start) (take (end + n - start) (drop start ys)) ≡ take (end - start) (drop start xs)
+front_of_more xs ys start end n le same = take-take (end - start) (end + n - start) (drop start ys) (omega arith) ∙ front_keeps xs ys start end le same
 
 pub on_err : {T E : Type 0} (r : Result T E) (P : Type 0) → P → OnErr r P
 on_err (Ok x) P p = tt

@@ -4,6 +4,7 @@ pub mod Cutting
 pub mod Fed
 pub mod Filled
 pub mod Folds
+pub mod FirstFeed
 pub mod Held
 pub mod Lines
 pub mod PieceLaws

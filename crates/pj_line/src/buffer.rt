@@ -5,7 +5,7 @@ ghost use Rattle.std.specs.Io.BufRead.{Rests};
 ghost use Rattle.pj_line.specs.Buffers.{fresh, line_is_held, Called, KnowsEnd};
 
 use crate::lines::line_of_piece;
-use crate::pieces::{Found, PieceBuf};
+use crate::pieces::{FoundPiece, PieceBuf};
 use pj_io::Source;
 use pj_value::NoMemory;
 use std::alloc::Global;
@@ -82,12 +82,12 @@ impl LineBuf {
         ensures later { (S.state source.old).faults ≤ (S.state source.new).faults }
     {
         match self.pieces.advance(source)? {
-            Found::Piece { start, end } => {
+            FoundPiece::Piece { start, end } => {
                 let piece = self.pieces.window.part(start, end);
                 Ok(Line::Whole(line_of_piece(piece)))
             }
-            Found::LongPiece => Ok(Line::TooLong),
-            Found::NoPiece => Ok(Line::End),
+            FoundPiece::LongPiece => Ok(Line::TooLong),
+            FoundPiece::NoPiece => Ok(Line::End),
         }
     }
 }

@@ -26,7 +26,7 @@ pub(crate) struct PieceBuf {
 
 // What a search found, and where in the buffer it stands.
 #[derive(Clone, Copy)]
-pub(crate) enum Found {
+pub(crate) enum FoundPiece {
     Piece { start: usize, end: usize },
     LongPiece,
     NoPiece,
@@ -34,7 +34,6 @@ pub(crate) enum Found {
 
 impl PieceBuf {
     ghost use Rattle.std.specs.Prelude.{◌≡◌, ◌≤◌, ◌<◌, ◌+◌, ◌^◌, [], false, None, IsTrue, IfOk, IfSome, length, take, drop};
-    ghost use Rattle.pj_line.specs.Lines.{HasNo};
     ghost use Rattle.pj_line.specs.Buffers.{fresh, line_is_held, KnowsEnd};
     ghost use Rattle.pj_line.specs.Searches.{buffered, Finds, FindsLine, IsTaken, PassesOver, ReadsOn, StandsIn};
     ghost use Rattle.pj_line.specs.Held.{held};
@@ -59,11 +58,13 @@ impl PieceBuf {
     pub(crate) fn holds_line(&self) -> bool
         ensures { result ≡ line_is_held (buffered self.now) }
     {
-        self.stopped.is_some() || self.ended || holds_piece(self.window.as_slice(), self.size)
+        self.stopped.is_some()
+            || self.ended
+            || holds_piece(self.window.as_slice(), self.window.feed(), self.size)
     }
 
     // The next piece, or the stop that came before.
-    pub(crate) fn advance<S: Source>(&mut self, source: &mut S) -> Result<Found, LineStop>
+    pub(crate) fn advance<S: Source>(&mut self, source: &mut S) -> Result<FoundPiece, LineStop>
         requires { KnowsEnd (buffered self.old) (S.state source.old) }
         ensures called { FindsLine self.old self.new result (S.state source.old) (S.state source.new) }
         ensures places { IfOk result (λ found. StandsIn found self.new.window.bytes.items) }
@@ -78,7 +79,7 @@ impl PieceBuf {
     }
 
     // The next piece of a buffer that has not stopped.
-    fn search<S: Source>(&mut self, source: &mut S) -> Result<Found, LineStop>
+    fn search<S: Source>(&mut self, source: &mut S) -> Result<FoundPiece, LineStop>
         requires goes_on { self.old.stopped ≡ None }
         requires ended { KnowsEnd (buffered self.old) (S.state source.old) }
         ensures called { FindsLine self.old self.new result (S.state source.old) (S.state source.new) }
@@ -87,29 +88,24 @@ impl PieceBuf {
         ensures name { (S.state source.new).name ≡ (S.state source.old).name }
         ensures later { (S.state source.old).faults ≤ (S.state source.new).faults }
     {
-        let mut searched = 0;
         let mut too_long = false;
         loop {
-            match self.find_held(searched, too_long) {
+            match self.find_held(too_long) {
                 Some(found) => return Ok(found),
                 None => {}
             }
             too_long = self.pass_over(too_long);
-            searched = self.window.len();
             self.read_on(source)?;
         }
     }
 
-    // Takes the next piece out of what is held, if its end is there. So many bytes at the front were searched before, and
-    // bytes of the same piece may have been passed over.
-    fn find_held(&mut self, searched: usize, too_long: bool) -> Option<Found>
-        requires within { searched ≤ length (held self.old.window) }
-        requires searched { HasNo 10 (take searched (held self.old.window)) }
+    // Takes the next piece out of what is held, if its end is there; bytes of the same piece may have been passed over.
+    fn find_held(&mut self, too_long: bool) -> Option<FoundPiece>
         ensures finds { Finds (buffered self.old) too_long (buffered self.new) self.new.window.bytes.items result }
         ensures same { buffered self.new ≡ record (buffered self.old) { held = held self.new.window } }
         ensures places { IfSome result (λ found. StandsIn found self.new.window.bytes.items) }
     {
-        match self.window.find_feed(searched) {
+        match self.window.feed() {
             Some(len) => Some(self.take_piece(len, 1, too_long)),
             None => {
                 if !self.ended {
@@ -117,7 +113,7 @@ impl PieceBuf {
                 }
                 let len = self.window.len();
                 if len == 0 && !too_long {
-                    return Some(Found::NoPiece);
+                    return Some(FoundPiece::NoPiece);
                 }
                 Some(self.take_piece(len, 0, too_long))
             }
@@ -125,7 +121,7 @@ impl PieceBuf {
     }
 
     // Takes a piece of so many bytes off the front, with so many bytes behind it.
-    fn take_piece(&mut self, len: usize, behind: usize, too_long: bool) -> Found
+    fn take_piece(&mut self, len: usize, behind: usize, too_long: bool) -> FoundPiece
         requires { len + behind ≤ length (held self.old.window) }
         ensures held { held self.new.window ≡ drop (len + behind) (held self.old.window) }
         ensures same { buffered self.new ≡ record (buffered self.old) { held = held self.new.window } }
@@ -134,9 +130,9 @@ impl PieceBuf {
     {
         let start = self.window.skip(len + behind);
         if too_long || len > self.size as usize {
-            Found::LongPiece
+            FoundPiece::LongPiece
         } else {
-            Found::Piece {
+            FoundPiece::Piece {
                 start,
                 end: start + len,
             }

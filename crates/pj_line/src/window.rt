@@ -1,18 +1,22 @@
 // A buffer of a fixed length, and the bytes of it that are in use.
-ghost use Rattle.std.specs.Prelude.{◌≤◌, vec_len};
+ghost use Rattle.std.specs.Prelude.{◌≡◌, ◌≤◌, length, take, slice_range, vec_len};
+ghost use Rattle.pj_line.specs.FirstFeed.{IsFeedAt, first_feed};
+ghost use Rattle.pj_line.specs.Lines.{HasNo};
 
 use crate::reading::read_behind;
 use memchr::memchr;
 use pj_io::{Failed, Source};
 
-// The bytes from `start` to `end` are in use.
+// The bytes from `start` to `end` are in use. `feed` says how many of them stand in front of the first line feed.
 #[derive(Drop)]
 pub(crate) struct Window {
     bytes: Vec<u8>,
     start: usize,
     end: usize,
+    feed: Option<usize>,
     ghost ordered: { start ≤ end },
     ghost within: { end ≤ vec_len bytes },
+    ghost found: { feed ≡ first_feed (slice_range bytes.items start end) },
 }
 
 impl Window {
@@ -20,8 +24,8 @@ impl Window {
     ghost use Rattle.pj_io.specs.Causes.{HasCause};
     ghost use Rattle.pj_io.specs.Pieces.{Consumes};
     ghost use Rattle.pj_line.specs.Filled.{FillsUp};
-    ghost use Rattle.pj_line.specs.Lines.{HasNo};
-    ghost use Rattle.pj_line.specs.Held.{held, IsFeedAt};
+    ghost use Rattle.pj_line.specs.FirstFeed.{IsFeedAt};
+    ghost use Rattle.pj_line.specs.Held.{held};
 
     // A window that holds nothing, over these bytes.
     pub(crate) fn new(bytes: Vec<u8>) -> Window
@@ -32,6 +36,7 @@ impl Window {
             bytes,
             start: 0,
             end: 0,
+            feed: None,
         }
     }
 
@@ -59,17 +64,11 @@ impl Window {
         &all[start..end]
     }
 
-    // How many bytes in use stand in front of the first line feed. So many at the front were searched before.
-    pub(crate) fn find_feed(&self, searched: usize) -> Option<usize>
-        requires within { searched ≤ length (held self.now) }
-        requires searched { HasNo 10 (take searched (held self.now)) }
+    // How many bytes in use stand in front of the first line feed.
+    pub(crate) fn feed(&self) -> Option<usize>
         ensures { IsFeedAt (held self.now) result }
     {
-        let (_, rest) = self.as_slice().split_at(searched);
-        match memchr(b'\n', rest) {
-            None => None,
-            Some(at) => Some(searched + at),
-        }
+        self.feed
     }
 
     // Lets go of so many bytes at the front, and says where they began.
@@ -82,7 +81,9 @@ impl Window {
         ensures within { result + count ≤ vec_len self.new.bytes }
     {
         let start = self.start;
+        let feed = feed_behind(self.part(start + count, self.end), None, 0);
         self.start = start + count;
+        self.feed = feed;
         start
     }
 
@@ -93,6 +94,7 @@ impl Window {
     {
         self.start = 0;
         self.end = 0;
+        self.feed = None;
     }
 
     // Moves what is in use to the front where there is no room behind it, or where that is nothing.
@@ -123,8 +125,37 @@ impl Window {
         ensures cause { HasCause (S.state source.old).faults (S.state source.new).faults result }
     {
         self.make_room();
-        let count = read_behind(source, self.bytes.as_mut_slice(), self.end, most)?;
-        self.end += count;
+        let (start, end) = (self.start, self.end);
+        let count = read_behind(source, self.bytes.as_mut_slice(), end, most)?;
+        let held = &self.bytes.as_slice()[start..end + count];
+        let feed = feed_behind(held, self.feed, end - start);
+        self.end = end + count;
+        self.feed = feed;
         Ok(count)
+    }
+}
+
+// How many of these bytes stand in front of the first line feed; `feed` says so of the first `searched` ones.
+fn feed_behind(bytes: &[u8], feed: Option<usize>, searched: usize) -> Option<usize>
+    requires within { searched ≤ length bytes.now }
+    requires searched { IsFeedAt (take searched bytes.now) feed }
+    ensures { IsFeedAt bytes.now result }
+{
+    match feed {
+        Some(at) => Some(at),
+        None => find_behind(bytes, searched),
+    }
+}
+
+// The same, where there is none among the first ones.
+fn find_behind(bytes: &[u8], searched: usize) -> Option<usize>
+    requires within { searched ≤ length bytes.now }
+    requires searched { HasNo 10 (take searched bytes.now) }
+    ensures { IsFeedAt bytes.now result }
+{
+    let (_, rest) = bytes.split_at(searched);
+    match memchr(b'\n', rest) {
+        None => None,
+        Some(at) => Some(searched + at),
     }
 }

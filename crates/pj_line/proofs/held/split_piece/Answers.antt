@@ -1,8 +1,11 @@
-use Rattle.pj_line.proofs.HeldPieces.{no_fed_piece, fed_parts}
+use Rattle.std.proofs.Common.{Some, refl, subst, arith, zero-add}
+use Rattle.pj_line.specs.FirstFeed.{IsFeedAt}
+use Rattle.pj_line.proofs.HeldPieces.{none_fed}
+use Rattle.pj_line.proofs.Feeds.{searched_none, searched_some}
 use Rattle.pj_line.proofs.held.split_piece.Goals as goal
 
 pub returns-in-None : goal.returns-in-None
-returns-in-None c = no_fed_piece c.args.bytes.now c.in-None.ensures
+returns-in-None c = none_fed c.args.bytes.now (searched_none c.args.bytes.now c.args.bytes.now 0 refl tt c.in-None.ensures)
 
-pub returns-in-Some : goal.returns-in-Some
-returns-in-Some c = fed_parts c.args.bytes.now _ _ _ c.in-Some.at c.in-Some.ensures c.split_at.ensures.front c.split_at.ensures.back c.split_at-in-Some.ensures.back
+pub cut_at_feed-requires : goal.cut_at_feed-requires
+cut_at_feed-requires c = subst (λ n. IsFeedAt c.args.bytes.now (Some n)) (zero-add c.in-Some.at) (searched_some c.args.bytes.now c.args.bytes.now 0 c.in-Some.at (omega arith) refl tt c.in-Some.ensures)
