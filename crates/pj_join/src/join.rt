@@ -239,7 +239,6 @@ impl Join {
                 let probe = probe_of(
                     self.alloc,
                     self.node,
-                    &self.spec,
                     route_of(&self.routes, &own),
                     &own,
                     self.states.as_slice(),
@@ -279,7 +278,6 @@ impl Join {
                 let ticket = own.ticket();
                 hand_out_found(
                     self.alloc,
-                    &self.spec,
                     route_of(&self.routes, &own),
                     &own,
                     self.states.as_slice(),

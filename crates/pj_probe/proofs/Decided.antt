@@ -13,8 +13,9 @@ use Rattle.pj_events.specs.Join.{ClassCol, In, TupleAt, no_value, value_at}
 use Rattle.pj_rows.specs.Suits.{all_have, suits, suits_class}
 use Rattle.pj_value.proofs.Members.{In-filter}
 use Rattle.pj_state.specs.declared.shared.Stored.{Stored}
-use Rattle.pj_state.specs.States.{has_value, rows_with}
-use Rattle.pj_probe.specs.Decided.{AllSuit}
+use Rattle.pj_state.specs.States.{has_value}
+use Rattle.pj_probe.specs.Partners.{AllAgree, AreLinkedTo}
+use Rattle.pj_probe.proofs.Pairs.{own-pair}
 use Rattle.pj_probe.specs.Routes.{TwoDecide}
 use Rattle.pj_probe.specs.declared.route.ProbeLink.{ProbeLink}
 
@@ -58,16 +59,16 @@ two_columns (a ∷ b ∷ []) d e least below = refl
 two_columns (a ∷ b ∷ c ∷ cs) d e least below = absurd (omega (arith, below))
 
 -- rows that have the tuple's own value in the column that decides join with it
-pub decided_join : (classes : List (List ClassCol)) (x : TupleAt) (input : ℕ) (link : ProbeLink) (value : Value) (rows found : List Stored) → TwoDecide classes x.input input link.from_column link.index_column → Some value ≡ slice_get x.row link.from_column
-    → found ≡ rows_with link.index_column value rows → AllSuit classes x input found
-decided_join classes x input link value rows found two own is s h = go (slice_get s.row link.index_column) refl (In-filter (has_value link.index_column value) s rows (subst (λ (ss : List Stored). In s ss) is h)).1
+pub decided_agree : (classes : List (List ClassCol)) (own : TupleAt) (input : ℕ) (link : ProbeLink) (rows found : List Stored) → TwoDecide classes own.input input link.from_column link.index_column → AreLinkedTo own link rows found → AllAgree classes own input found
+decided_agree classes own input link rows found two (value, has, is) s h =
+    own-pair classes own (tuple_in input s) (two.alone own refl) (go (slice_get s.row link.index_column) refl (In-filter (has_value link.index_column value) s rows (subst (λ (ss : List Stored). In s ss) is h)).1)
   where
-    go : (o : Option Value) → slice_get s.row link.index_column ≡ o → is_value value o ≡ true → suits classes (x ∷ []) (tuple_in input s) ≡ true
+    go : (o : Option Value) → slice_get s.row link.index_column ≡ o → is_value value o ≡ true → suits classes (own ∷ []) (tuple_in input s) ≡ true
     go None e u = absurd (false≢true u)
     go (Some w) e u =
         let there : value_at s.row link.index_column ≡ w = get_or_from_slice_get s.row link.index_column w no_value e in
-        let equal : w ≡ value_at x.row link.from_column = same_if_equal w value u ∙ sym (get_or_from_slice_get x.row link.from_column value no_value (sym own)) in
-        two.both x (tuple_in input s) refl refl ∙ ap₂ (λ (a b : Value). value_eq a b) there (sym equal) ∙ equal_itself w
+        let equal : w ≡ value_at own.row link.from_column = same_if_equal w value u ∙ sym (get_or_from_slice_get own.row link.from_column value no_value has) in
+        two.both own (tuple_in input s) refl refl ∙ ap₂ (λ (a b : Value). value_eq a b) there (sym equal) ∙ equal_itself w
 
 -- ---- a class with one column of an input
 

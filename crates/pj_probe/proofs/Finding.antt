@@ -20,7 +20,7 @@ map-map_upto {A} {B} g f base (suc n) = ap (λ (ys : List B). g (f base) ∷ ys)
 
 -- ---- the tuple stands in each combination
 
-product-has : {A : Type 0} (x : A) (f : ℕ → List A) (i base n : ℕ) → f i ≡ x ∷ [] → base ≤ i → i < base + n → (c : List A) → In c (product (map f (upto_from base n))) → In x c
+pub product-has : {A : Type 0} (x : A) (f : ℕ → List A) (i base n : ℕ) → f i ≡ x ∷ [] → base ≤ i → i < base + n → (c : List A) → In c (product (map f (upto_from base n))) → In x c
 product-has x f i base zero e le lt c h = absurd (omega (arith, le, lt))
 product-has {A} x f i base (suc n) e le lt c h = go (eqb base i) refl (In-flat_map (λ (y : A). map (λ d. y ∷ d) (product (map f (upto_from (base + 1) n)))) c (f base) h) (product-has x f i (base + 1) n e)
   where

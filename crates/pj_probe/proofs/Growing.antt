@@ -26,6 +26,3 @@ grows-none told old rows none t = sym (append-nil old) ∙ ap (λ (rs : List (Li
 -- the same rows, said otherwise
 pub grows-same : (told : Bool) (old new rows same : List (List Value)) → rows ≡ same → Grows told old new rows → Grows told old new same
 grows-same told old new rows same e grown t = grown t ∙ ap (λ (rs : List (List Value)). old ++ rs) e
-
-pub front-same : (told : Bool) (old new rows same : List (List Value)) → rows ≡ same → GrowsByFront told old new rows → GrowsByFront told old new same
-front-same told old new rows same e grown t = let f = grown t in (f.0, f.1, sym e ∙ f.2, f.3)

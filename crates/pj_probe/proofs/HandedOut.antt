@@ -1,17 +1,15 @@
 -- The rows that a tuple of two inputs is joined to.
-use Rattle.std.proofs.Common.{ℕ, zero, suc, ◌-◌, ◌<◌, Bool, true, false, cond, List, [], ◌∷◌, ◌++◌, ◌≡◌, map, filter, flat_map, length, get_or, refl, sym, ap, ap₂, ◌∙◌, eqb, arith, append-nil, Option, Some, None, IfSome}
+use Rattle.std.proofs.Common.{ℕ, zero, suc, ◌-◌, ◌<◌, Bool, true, false, cond, List, [], ◌∷◌, ◌++◌, ◌≡◌, map, filter, flat_map, length, get_or, refl, sym, ap, ap₂, ◌∙◌, eqb, arith, append-nil}
 use Rattle.std.proofs.lemmas.Bool.{eq-eqb, false_from_ne_true, false≢true, eqb-true}
 use Rattle.pj_events.specs.declared.events.Out.{Out}
 use Rattle.pj_events.specs.declared.events.Out.TheVariants.{Tuple}
 use Rattle.pj_events.specs.Join.{TupleAt, ClassCol, Value, agree, joined, product, upto_from}
-use Rattle.pj_probe.specs.Results.{AreTuples, found_out, pair_of, pairs_out, rows_of}
+use Rattle.pj_probe.specs.Results.{AreTuples, pair_of, pairs_out, rows_of}
 use Rattle.std.proofs.lemmas.List.{map-append}
 use Rattle.pj_probe.specs.Choices.{AllJoin, choice, choices, older_joins, pair, pairs}
-use Rattle.pj_rows.proofs.States.{same-at, tuples-length, side_at}
 use Rattle.pj_probe.proofs.Pairs.{pairs-found}
 use Rattle.pj_state.specs.declared.shared.Stored.{Stored}
-use Rattle.pj_state.specs.States.{StateView}
-use Rattle.pj_rows.specs.Tuples.{tuple_in, tuples_in}
+use Rattle.pj_rows.specs.Tuples.{tuple_in}
 
 own-choice : (classes : List (List ClassCol)) (own : TupleAt) (sides : List (List TupleAt)) (k : ℕ) → k ≡ own.input → choice classes own sides k ≡ own ∷ []
 own-choice classes own sides k e = ap (λ (b : Bool). cond b (own ∷ []) (filter (older_joins classes own) (get_or sides k []))) (eq-eqb k own.input e)
@@ -35,7 +33,7 @@ second-pairs own ys e =
 two-choices : (classes : List (List ClassCol)) (own : TupleAt) (sides : List (List TupleAt)) → length sides ≡ 2 → choices classes own sides ≡ choice classes own sides 0 ∷ choice classes own sides 1 ∷ []
 two-choices classes own sides two = ap (λ (n : ℕ). map (choice classes own sides) (upto_from 0 n)) two
 
-both-found : (classes : List (List ClassCol)) (own : TupleAt) (sides : List (List TupleAt)) (input : ℕ) → own.input < 2 → length sides ≡ 2 → AllJoin classes (choices classes own sides) → input ≡ 1 - own.input
+pub both-found : (classes : List (List ClassCol)) (own : TupleAt) (sides : List (List TupleAt)) (input : ℕ) → own.input < 2 → length sides ≡ 2 → AllJoin classes (choices classes own sides) → input ≡ 1 - own.input
     → map (pair_of own) (filter (older_joins classes own) (get_or sides input [])) ≡ map joined (filter (agree classes) (product (choices classes own sides)))
 both-found classes own sides input lt two all is = go (eqb 0 own.input) refl
   where
@@ -64,23 +62,6 @@ both-found classes own sides input lt two all is = go (eqb 0 own.input) refl
             elsewhere zero l g = absurd (false≢true (sym g))
             elsewhere (suc zero) l g = refl
             elsewhere (suc (suc n)) l g = absurd (omega (arith, l))
-
--- among the tuples of the other input are all that the results are joined of
-pub pairs-are-found : (classes : List (List ClassCol)) (own : TupleAt) (sides : List (List TupleAt)) (input : ℕ) (side among : List TupleAt) → own.input < 2 → length sides ≡ 2 → AllJoin classes (choices classes own sides)
-    → input ≡ 1 - own.input → side ≡ get_or sides input side → filter (older_joins classes own) among ≡ filter (older_joins classes own) side → pairs_out classes own among ≡ found_out classes own sides
-pairs-are-found classes own sides input side among lt two all is here same =
-    ap (λ (ys : List TupleAt). map Tuple (map (pair_of own) ys)) (same ∙ ap (filter (older_joins classes own)) (here ∙ same-at sides input side [] (omega (arith, is, two))))
-    ∙ ap (map Tuple) (both-found classes own sides input lt two all is)
-
--- the same of what a call answers
-pub partners_found : (classes : List (List ClassCol)) (own : TupleAt) (states : List StateView) (input : ℕ) (state : StateView) (found : Option (List Stored)) → own.input < 2 → length states ≡ 2 → AllJoin classes (choices classes own (tuples_in 0 states))
-    → input ≡ 1 - own.input → state ≡ get_or states input state → IfSome found (λ f. filter (older_joins classes own) (map (tuple_in input) f) ≡ filter (older_joins classes own) (map (tuple_in input) state.rows))
-    → IfSome found (λ f. pairs_out classes own (map (tuple_in (1 - own.input)) f) ≡ found_out classes own (tuples_in 0 states))
-partners_found classes own states input state None lt two all is here same = tt
-partners_found classes own states input state (Some f) lt two all is here same =
-    ap (λ n. pairs_out classes own (map (tuple_in n) f)) (sym is)
-    ∙ pairs-are-found classes own (tuples_in 0 states) input (map (tuple_in input) state.rows) (map (tuple_in input) f) lt (tuples-length 0 states ∙ two) all is
-    (sym (side_at states input state (omega (arith, is, two)) here) ∙ same-at (tuples_in 0 states) input [] (map (tuple_in input) state.rows) (omega (arith, is, two, tuples-length 0 states))) same
 
 -- no rows, no pairs
 pub pairs_none : (classes : List (List ClassCol)) (own : TupleAt) (input : ℕ) (among : List Stored) (outs : List Out) → length among ≡ 0 → outs ≡ outs ++ pairs_out classes own (map (tuple_in input) among)

@@ -1,6 +1,6 @@
 pub mod Placing
 pub mod Columns
-pub mod Cells
+pub mod Checked
 pub mod Classes
 pub mod Combining
 pub mod Growing
@@ -12,6 +12,7 @@ pub mod HandedOut
 pub mod Hopped
 pub mod Looped
 pub mod Pairs
+pub mod Partners
 pub mod Probed
 pub mod Routed
 pub mod Suiting

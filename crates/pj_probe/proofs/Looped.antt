@@ -13,7 +13,7 @@ use Rattle.pj_events.specs.declared.events.Out.{Out}
 use Rattle.pj_events.specs.declared.events.Out.TheVariants.{Tuple}
 use Rattle.pj_events.specs.Join.{ClassCol, TupleAt, Value}
 use Rattle.pj_probe.specs.Walks.{sides_at, tuple_at}
-use Rattle.pj_probe.specs.Results.{pair_of, pairs_out}
+use Rattle.pj_probe.specs.Results.{older_agrees, pair_of, pairs_out}
 use Rattle.pj_rows.specs.Tuples.{tuple_in}
 use Rattle.pj_probe.specs.Choices.{IsNarrowed, may_join, older_joins}
 use Rattle.pj_rows.specs.Suits.{suits}
@@ -52,17 +52,17 @@ pairs_more classes own input rows i s first outs outs' at e n =
   where
     out-append : (xs ys : List TupleAt) → pairs_out classes own (xs ++ ys) ≡ pairs_out classes own xs ++ pairs_out classes own ys
     out-append xs ys =
-        ap (λ (zs : List TupleAt). map Tuple (map (pair_of own) zs)) (filter-append (older_joins classes own) xs ys)
-        ∙ ap (map Tuple) (map-append (pair_of own) (filter (older_joins classes own) xs) (filter (older_joins classes own) ys))
-        ∙ map-append Tuple (map (pair_of own) (filter (older_joins classes own) xs)) (map (pair_of own) (filter (older_joins classes own) ys))
+        ap (λ (zs : List TupleAt). map Tuple (map (pair_of own) zs)) (filter-append (older_agrees classes own) xs ys)
+        ∙ ap (map Tuple) (map-append (pair_of own) (filter (older_agrees classes own) xs) (filter (older_agrees classes own) ys))
+        ∙ map-append Tuple (map (pair_of own) (filter (older_agrees classes own) xs)) (map (pair_of own) (filter (older_agrees classes own) ys))
 
 pub pairs_stop : (classes : List (List ClassCol)) (own : TupleAt) (input : ℕ) (rows : List Stored) (i : ℕ) (s : Stored) → IsRising ticket_of rows → slice_get rows i ≡ Some s → own.ticket ≤ s.ticket
     → pairs_out classes own (map (tuple_in input) (take i rows)) ≡ pairs_out classes own (map (tuple_in input) rows)
 pairs_stop classes own input rows i s rising at le =
     ap (λ (zs : List TupleAt). map Tuple (map (pair_of own) zs))
-    (filter_map_swap (older_joins classes own) (tuple_in input) (take i rows)
-    ∙ ap (map (tuple_in input)) (picked_stop (λ t. older_joins classes own (tuple_in input t)) ticket_of own.ticket rows i s rising (λ t k. ltb-true t.ticket own.ticket (and_parts (ltb t.ticket own.ticket) _ k).0) at le)
-    ∙ sym (filter_map_swap (older_joins classes own) (tuple_in input) rows))
+    (filter_map_swap (older_agrees classes own) (tuple_in input) (take i rows)
+    ∙ ap (map (tuple_in input)) (picked_stop (λ t. older_agrees classes own (tuple_in input t)) ticket_of own.ticket rows i s rising (λ t k. ltb-true t.ticket own.ticket (and_parts (ltb t.ticket own.ticket) _ k).0) at le)
+    ∙ sym (filter_map_swap (older_agrees classes own) (tuple_in input) rows))
 
 -- ---- lists of each input
 

@@ -33,7 +33,7 @@ pairs-found classes lists xs ys all e =
 
 -- ---- the choices of a tuple of two inputs
 
-own-pair : (classes : List (List ClassCol)) (own y : TupleAt) → suits classes [] own ≡ true → suits classes (own ∷ []) y ≡ true → agree classes (own ∷ y ∷ []) ≡ true
+pub own-pair : (classes : List (List ClassCol)) (own y : TupleAt) → suits classes [] own ≡ true → suits classes (own ∷ []) y ≡ true → agree classes (own ∷ y ∷ []) ≡ true
 own-pair classes own y alone t = suits-agree classes (own ∷ []) y (suits-agree classes [] own (agree-none classes) alone) t
 
 other-pair : (classes : List (List ClassCol)) (own y : TupleAt) → suits classes [] own ≡ true → suits classes (own ∷ []) y ≡ true → agree classes (y ∷ own ∷ []) ≡ true

@@ -1,5 +1,6 @@
 -- Routes of probes that are made step by step.
 use Rattle.std.proofs.Common.{ℕ, zero, suc, ◌+◌, ◌<◌, ◌==◌, Bool, true, false, ◌||◌, List, [], ◌∷◌, ◌++◌, ◌≡◌, ◌⊎◌, Option, Some, None, set, take, length, get_or, refl, sym, ap, ◌∙◌, subst, inl, inr, arith}
+use Rattle.std.specs.Arc.{arc_value}
 use Rattle.std.specs.List.{list_any, slice_get}
 use Rattle.std.specs.Prelude.{IfSome}
 use Rattle.std.proofs.lemmas.Bool.{cases_lt, eqb-true, eq-eqb, false≢true, or_cases, or_left, or_right}
@@ -138,11 +139,12 @@ link_leads states state own steps input link b lt at from t is = record { from =
 -- ---- a whole route
 
 pub route_made : (classes : List (List ClassCol)) (states : List StateView) (own : ℕ) (route : ProbeRoute) → AreBegun classes (columns_of states) own route.steps → AreReached (length states) own route.steps
-    → (route.decides ≡ true → FirstDecides classes own route.steps) → IsProbeRoute classes (columns_of states) own route
-route_made classes states own route begun all decides = record {
+    → (route.decides ≡ true → FirstDecides classes own route.steps) → arc_value route.checks ≡ classes → IsProbeRoute classes (columns_of states) own route
+route_made classes states own route begun all decides checks = record {
   leads = record { ordered = begun.ordered; all = λ k lt. all k (omega (arith, lt, length-map states (λ (s : StateView). s.columns))) };
   classes_have = begun.classes_have;
   decides = decides;
+  checks = checks;
 }
 
 -- the first step alone has the link
@@ -207,9 +209,15 @@ one_class_link classes steps input link are at =
 pub route_there : (classes : List (List ClassCol)) (states : List StateView) (routes : List ProbeRoute) (own : ℕ) → AreProbeRoutes classes (columns_of states) routes → own < length states → own < length routes
 route_there classes states routes own are lt = omega (arith, lt, are.count, length-map states (λ (s : StateView). s.columns))
 
+-- it is right by the classes that its checks were made of, which are those of the join
 pub route_at : (classes : List (List ClassCol)) (states lent : List StateView) (routes : List ProbeRoute) (own : ℕ) (route : ProbeRoute) → AreProbeRoutes classes (columns_of states) routes → lent ≡ states → slice_get routes own ≡ Some route
-    → IsProbeRoute classes (columns_of lent) own route
-route_at classes states lent routes own route are same at = subst (λ (ss : List StateView). IsProbeRoute classes (columns_of ss) own route) (sym same) (are.each own route at)
+    → IsProbeRoute (arc_value route.checks) (columns_of lent) own route
+route_at classes states lent routes own route are same at =
+    subst (λ (cs : List (List ClassCol)). IsProbeRoute cs (columns_of lent) own route) (sym (are.each own route at).checks)
+    (subst (λ (ss : List StateView). IsProbeRoute classes (columns_of ss) own route) (sym same) (are.each own route at))
+
+pub route_classes : (classes : List (List ClassCol)) (states : List StateView) (routes : List ProbeRoute) (own : ℕ) (route : ProbeRoute) → AreProbeRoutes classes (columns_of states) routes → slice_get routes own ≡ Some route → arc_value route.checks ≡ classes
+route_classes classes states routes own route are at = (are.each own route at).checks
 
 -- a state with the same columns
 pub routes_kept : (classes : List (List ClassCol)) (states : List StateView) (routes : List ProbeRoute) (k : ℕ) (s s' : StateView) → AreProbeRoutes classes (columns_of states) routes → k < length states → s ≡ get_or states k s → s'.columns ≡ s.columns

@@ -1,9 +1,9 @@
 pub mod Walks
-pub mod Cells
 pub mod Walking
 pub mod Visits
+pub mod Checks
 pub mod Choices
-pub mod Decided
+pub mod Partners
 pub mod Hops
 pub mod Lookups
 pub mod Results

@@ -1,8 +1,8 @@
 -- The results of a tuple, as they are handed out.
-use Rattle.std.specs.Prelude.{◌≡◌, ◌==◌, if◌then◌else◌, List, [], ◌∷◌, map, filter}
+use Rattle.std.specs.Prelude.{◌≡◌, ◌==◌, ◌&&◌, Bool, nat_lt, if◌then◌else◌, List, [], ◌∷◌, map, filter}
 use Rattle.pj_events.specs.declared.events.Out.{Out}
 use Rattle.pj_events.specs.Join.{ClassCol, TupleAt, Value, agree, joined, product}
-use Rattle.pj_probe.specs.Choices.{choices, older_joins, pair}
+use Rattle.pj_probe.specs.Choices.{choices, pair}
 
 -- the rows of the tuples among these
 abbrev pub rows_of : List Out → List (List Value)
@@ -19,9 +19,13 @@ AreTuples outs = outs ≡ map Out.Tuple (rows_of outs)
 abbrev pub pair_of : TupleAt → TupleAt → List Value
 pair_of own y = if own.input == 0 then pair own y else pair y own
 
+-- whether a tuple is older than this one and the two join
+abbrev pub older_agrees : List (List ClassCol) → TupleAt → TupleAt → Bool
+older_agrees classes own y = nat_lt y.ticket own.ticket && agree classes (own ∷ y ∷ [])
+
 -- the rows of the tuple with those of these that are older and join with it
 abbrev pub pairs_out : List (List ClassCol) → TupleAt → List TupleAt → List Out
-pairs_out classes own ys = map Out.Tuple (map (pair_of own) (filter (older_joins classes own) ys))
+pairs_out classes own ys = map Out.Tuple (map (pair_of own) (filter (older_agrees classes own) ys))
 
 -- the rows of the ways to take one of each choice of the tuple that join
 abbrev pub found_out : List (List ClassCol) → TupleAt → List (List TupleAt) → List Out

@@ -1,5 +1,6 @@
 -- The routes of probes: in which order other inputs are reached from a tuple, and where their rows are looked up.
 use Rattle.std.specs.Prelude.{ℕ, ◌≡◌, ◌<◌, ◌==◌, ◌||◌, Bool, true, false, List, [], ◌∷◌, Some, IfSome, length, map, slice_get, slice_index_or, take}
+use Rattle.std.specs.Arc.{arc_value}
 use Rattle.std.specs.List.{list_any}
 use Rattle.pj_value.specs.Values.{value_eq}
 use Rattle.pj_state.specs.States.{StateView}
@@ -76,6 +77,7 @@ pub record IsProbeRoute (classes : List (List ClassCol)) (columns : List (List �
   pub leads : IsRoute columns own route.steps
   pub classes_have : AreInClasses classes route.steps
   pub decides : route.decides ≡ true → FirstDecides classes own route.steps
+  pub checks : arc_value route.checks ≡ classes
 
 -- there is one for each of the first so many inputs
 pub record AreRoutesTo (classes : List (List ClassCol)) (columns : List (List ℕ)) (upto : ℕ) (routes : List ProbeRoute) : Type 0 where

@@ -1,7 +1,7 @@
 -- What a probe finds over the candidates of each input, and the combinations that a visitor sees.
 use Rattle.std.specs.Prelude.{ℕ, ◌+◌, List, [], ◌∷◌, map, filter, flat_map, slice_index_or}
 use Rattle.pj_probe.specs.declared.probe.Found.{Found}
-use Rattle.pj_events.specs.Join.{ClassCol, Part, TupleAt, Value, agree, joined, product}
+use Rattle.pj_events.specs.Join.{ClassCol, TupleAt, Value, agree, joined, product}
 
 -- the ways to take one of each list that join, as rows
 abbrev pub combined : List (List ClassCol) → List (List TupleAt) → List (List Value)

@@ -1,24 +1,24 @@
 // What a join hands out.
 ghost use Rattle.std.specs.Prelude.{◌≡◌, ◌<◌, ◌≤◌, ◌-◌, ◌++◌, ◌∷◌, [], true, map, length, take, OnOk, OnErr, IfOk, IfSome};
 ghost use Rattle.std.specs.Arc.{arc_value};
-ghost use Rattle.pj_probe.specs.Decided.{AllSuit};
-ghost use Rattle.pj_rows.specs.Suits.{suits};
+ghost use Rattle.pj_events.specs.Join.{In, agree};
+ghost use Rattle.pj_probe.specs.Partners.{AllAgree, AreLinkedTo, ArePartners};
 ghost use Rattle.pj_probe.specs.Results.{found_out, pair_of, pairs_out};
 ghost use Rattle.pj_probe.specs.Routes.{IsProbeRoute, columns_of};
-ghost use Rattle.pj_rows.specs.Tuples.{AreWide, tuple_in, tuples_in};
+ghost use Rattle.pj_rows.specs.Tuples.{AreWide, state_at, tuple_in, tuples_in};
 
 use crate::choosing::choices;
-use crate::narrowing::{FEW, Narrowed, candidates, joins_with};
-use crate::route::ProbeRoute;
-use crate::{Joined, Visit, each_lent};
+use crate::route::{ProbeLink, ProbeRoute};
+use crate::{JoinChecks, Joined, Visit, each_lent};
 use pj_events::Out;
 use pj_rows::Arrived;
-use pj_shape::{ClassCol, JoinSpec};
 use pj_state::{Matching, Spot, State};
 use pj_value::{List, NoMemory, Row};
 use std::alloc::Global;
 use std::marker::Model;
-use std::sync::Arc;
+
+// Room for so many candidates is made at once.
+const FEW: usize = 64;
 
 // Makes room for so many elements where none are there.
 fn make_room(alloc: Global, outs: &mut List<Out>, count: usize) -> Result<(), NoMemory>
@@ -30,37 +30,42 @@ fn make_room(alloc: Global, outs: &mut List<Out>, count: usize) -> Result<(), No
     Ok(())
 }
 
-// The rows of the other one of two inputs among which all are that the tuple is joined with; `None` where no index tells.
-fn partners<'a>(
-    classes: &[List<ClassCol>],
-    route: &ProbeRoute,
+// The rows of an input to which the link leads from the tuple; `None` where that has no such column.
+fn linked_to<'a>(
     own: &Arrived<'a>,
     sides: &'a [State],
-) -> Option<Narrowed<'a>>
+    input: usize,
+    link: ProbeLink,
+) -> Option<Matching<'a>>
+    requires there { input < length sides.now }
+    requires indexed { In link.index_column (state_at sides.now input).columns }
+    ensures { IfSome result (AreLinkedTo own.now link (state_at sides.now input).rows) }
+{
+    match own.row().get(link.from_column as usize) {
+        None => None,
+        Some(value) => Some(sides[input].matching(link.index_column, value)),
+    }
+}
+
+// The rows of the other one of two inputs among which all are that the tuple is joined with; `None` where no index tells.
+fn partners<'a>(route: &ProbeRoute, own: &Arrived<'a>, sides: &'a [State]) -> Option<Matching<'a>>
     requires there { own.now.input < length sides.now }
     requires wide { AreWide sides.now }
-    requires route { IsProbeRoute classes.now (columns_of sides.now) own.now.input route.now }
-    ensures found { IfSome result (λ found. pairs_out classes.now own.now (map (tuple_in (1 - own.now.input)) found.among) ≡ found_out classes.now own.now (tuples_in 0 sides.now)) }
-    ensures join { IfSome result (λ found. found.all_join ≡ true → AllSuit classes.now own.now (1 - own.now.input) found.among) }
+    requires route { IsProbeRoute (arc_value route.now.checks) (columns_of sides.now) own.now.input route.now }
+    ensures { IfSome result (ArePartners route.now own.now sides.now) }
 {
     if sides.len() != 2 {
         return None;
     }
     match route.one_link() {
         None => None,
-        Some((input, link)) => {
-            match candidates(classes, own, sides, input, link, route.decides) {
-                None => None,
-                Some(found) => Some(found),
-            }
-        }
+        Some((input, link)) => linked_to(own, sides, input, link),
     }
 }
 
 /// Puts the results of a tuple at the end, over the stored tuples of each input; on a refusal the list is as before.
 pub fn hand_out_found(
     alloc: Global,
-    spec: &Arc<JoinSpec, Global>,
     route: &ProbeRoute,
     own: &Arrived<'_>,
     sides: &[State],
@@ -69,44 +74,33 @@ pub fn hand_out_found(
     requires few { length sides.now ≤ 16 }
     requires there { own.now.input < length sides.now }
     requires wide { AreWide sides.now }
-    requires route { IsProbeRoute (arc_value spec.now).classes (columns_of sides.now) own.now.input route.now }
-    ensures ok { OnOk result (outs.new ≡ outs.old ++ found_out (arc_value spec.now).classes own.now (tuples_in 0 sides.now)) }
+    requires route { IsProbeRoute (arc_value route.now.checks) (columns_of sides.now) own.now.input route.now }
+    ensures ok { OnOk result (outs.new ≡ outs.old ++ found_out (arc_value route.now.checks) own.now (tuples_in 0 sides.now)) }
     ensures err { OnErr result (outs.new ≡ outs.old) }
 {
-    match partners(spec.classes.as_slice(), route, own, sides) {
-        Some(found) => hand_out_pairs(
-            alloc,
-            spec.classes.as_slice(),
-            own,
-            &found.among,
-            found.all_join,
-            outs,
-        ),
-        None => hand_out_probed(alloc, spec, route, own, sides, outs),
+    match partners(route, own, sides) {
+        Some(among) => hand_out_pairs(alloc, route, own, &among, outs),
+        None => hand_over(outs, found_among(alloc, route, own, sides)?),
     }
 }
 
-// The same for any number of inputs.
-fn hand_out_probed(
+// The results of a tuple of any number of inputs.
+fn found_among(
     alloc: Global,
-    spec: &Arc<JoinSpec, Global>,
     route: &ProbeRoute,
     own: &Arrived<'_>,
     sides: &[State],
-    outs: &mut List<Out>,
-) -> Result<(), NoMemory>
+) -> Result<List<Out>, NoMemory>
     requires few { length sides.now ≤ 16 }
     requires there { own.now.input < length sides.now }
     requires wide { AreWide sides.now }
-    requires route { IsProbeRoute (arc_value spec.now).classes (columns_of sides.now) own.now.input route.now }
-    ensures ok { OnOk result (outs.new ≡ outs.old ++ found_out (arc_value spec.now).classes own.now (tuples_in 0 sides.now)) }
-    ensures err { OnErr result (outs.new ≡ outs.old) }
+    requires route { IsProbeRoute (arc_value route.now.checks) (columns_of sides.now) own.now.input route.now }
+    ensures { IfOk result (λ outs. outs ≡ found_out (arc_value route.now.checks) own.now (tuples_in 0 sides.now)) }
 {
-    let classes = spec.classes.as_slice();
     let lists = choices(alloc, route, own, sides)?;
     let mut results = Results::new(alloc);
-    each_lent(classes, lists.as_slice(), &mut results)?;
-    hand_over(outs, results.into_outs())
+    each_lent(&route.checks, lists.as_slice(), &mut results)?;
+    Ok(results.into_outs())
 }
 
 // Results of a tuple as a join hands them out, seen as their rows.
@@ -204,14 +198,14 @@ fn append_outs(outs: &mut List<Out>, more: List<Out>) -> Result<(), NoMemory>
 #[tactic(auto, using(crate::proofs::HandedOut::pairs_none))]
 fn hand_out_pairs<'a>(
     alloc: Global,
-    classes: &[List<ClassCol>],
+    route: &ProbeRoute,
     own: &Arrived<'a>,
     among: &Matching<'a>,
-    all_join: bool,
     outs: &mut List<Out>,
 ) -> Result<(), NoMemory>
-    requires { all_join ≡ true → AllSuit classes.now own.now (1 - own.now.input) among.now }
-    ensures ok { OnOk result (outs.new ≡ outs.old ++ pairs_out classes.now own.now (map (tuple_in (1 - own.now.input)) among.now)) }
+    requires two { own.now.input < 2 }
+    requires join { route.now.decides ≡ true → AllAgree (arc_value route.now.checks) own.now (1 - own.now.input) among.now }
+    ensures ok { OnOk result (outs.new ≡ outs.old ++ pairs_out (arc_value route.now.checks) own.now (map (tuple_in (1 - own.now.input)) among.now)) }
     ensures err { OnErr result (outs.new ≡ outs.old) }
 {
     if among.len() == 0 {
@@ -219,7 +213,7 @@ fn hand_out_pairs<'a>(
     }
     make_room(alloc, outs, among.len().min(FEW))?;
     let before = outs.len();
-    match append_pairs(alloc, classes, own, among, all_join, outs) {
+    match append_pairs(alloc, route, own, among, outs) {
         Ok(()) => Ok(()),
         Err(stop) => {
             outs.truncate(before);
@@ -230,14 +224,14 @@ fn hand_out_pairs<'a>(
 
 fn append_pairs<'a>(
     alloc: Global,
-    classes: &[List<ClassCol>],
+    route: &ProbeRoute,
     own: &Arrived<'a>,
     among: &Matching<'a>,
-    all_join: bool,
     outs: &mut List<Out>,
 ) -> Result<(), NoMemory>
-    requires { all_join ≡ true → AllSuit classes.now own.now (1 - own.now.input) among.now }
-    ensures ok { OnOk result (outs.new ≡ outs.old ++ pairs_out classes.now own.now (map (tuple_in (1 - own.now.input)) among.now)) }
+    requires two { own.now.input < 2 }
+    requires join { route.now.decides ≡ true → AllAgree (arc_value route.now.checks) own.now (1 - own.now.input) among.now }
+    ensures ok { OnOk result (outs.new ≡ outs.old ++ pairs_out (arc_value route.now.checks) own.now (map (tuple_in (1 - own.now.input)) among.now)) }
     ensures err { OnErr result (take (length outs.old) outs.new ≡ outs.old) }
 {
     let input = 1u32.saturating_sub(own.input());
@@ -248,7 +242,7 @@ fn append_pairs<'a>(
             return Ok(());
         }
         let other = Arrived::of(ticket, input, row);
-        append_pair(alloc, classes, own, &other, all_join, outs)?;
+        append_pair(alloc, route, own, &other, outs)?;
     }
     Ok(())
 }
@@ -256,22 +250,36 @@ fn append_pairs<'a>(
 // Puts the row of the tuple with the other one at the end, where that joins with it.
 fn append_pair<'a>(
     alloc: Global,
-    classes: &[List<ClassCol>],
+    route: &ProbeRoute,
     own: &Arrived<'a>,
     other: &Arrived<'a>,
-    all_join: bool,
     outs: &mut List<Out>,
 ) -> Result<(), NoMemory>
-    requires joins { all_join ≡ true → suits classes.now (own.now ∷ []) other.now ≡ true }
+    requires two { (own.now.input < 2) × (other.now.input ≡ 1 - own.now.input) }
+    requires joins { route.now.decides ≡ true → agree (arc_value route.now.checks) (own.now ∷ other.now ∷ []) ≡ true }
     requires older { other.now.ticket < own.now.ticket }
-    ensures ok { OnOk result (outs.new ≡ outs.old ++ pairs_out classes.now own.now (other.now ∷ [])) }
+    ensures ok { OnOk result (outs.new ≡ outs.old ++ pairs_out (arc_value route.now.checks) own.now (other.now ∷ [])) }
     ensures err { OnErr result (outs.new ≡ outs.old) }
 {
-    if all_join || joins_with(classes, own, other) {
+    if route.decides || agree(&route.checks, own, other) {
         let (first, second) = in_order(own, other);
         outs.push(Out::Tuple(Row::pair(alloc, first, second)?))?;
     }
     Ok(())
+}
+
+// Whether the tuples join, which are of the two inputs.
+#[inline(never)]
+#[tactic(auto, using(crate::proofs::Partners::first_before, crate::proofs::Partners::second_before))]
+fn agree<'a>(checks: &JoinChecks, own: &Arrived<'a>, other: &Arrived<'a>) -> bool
+    requires { (own.now.input < 2) × (other.now.input ≡ 1 - own.now.input) }
+    ensures { result ≡ agree checks.now (own.now ∷ other.now ∷ []) }
+{
+    if own.input() == 0 {
+        checks.both_fit(own.row(), other.row())
+    } else {
+        checks.both_fit(other.row(), own.row())
+    }
 }
 
 // The rows of two tuples, that of the first input first.

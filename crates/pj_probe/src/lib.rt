@@ -2,18 +2,18 @@
 //! combinations of its row with one of each that join, walked without copying a row.
 #![tactic(auto)]
 
-mod agreeing;
+mod checks;
 mod choosing;
 mod handing;
 mod joined;
 mod lent;
 mod making;
-mod narrowing;
 mod probe;
 mod route;
 mod visit;
 mod walk;
 
+pub use checks::{Check, JoinChecks};
 pub use handing::hand_out_found;
 pub use joined::Joined;
 pub use lent::Lent;

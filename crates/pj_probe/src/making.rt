@@ -6,15 +6,14 @@ ghost use Rattle.pj_rows.specs.Tuples.{AreWide, tuples_in};
 ghost use Rattle.pj_probe.specs.Choices.{choices};
 ghost use Rattle.pj_probe.specs.Walks.{found_in};
 
+use crate::checks::share_checks;
 use crate::choosing::{Rows, choices};
 use crate::route::ProbeRoute;
 use crate::{Lent, Probe};
 use pj_rows::Arrived;
-use pj_shape::JoinSpec;
 use pj_state::{Shared, State};
 use pj_value::{List, NoMemory};
 use std::alloc::Global;
-use std::sync::Arc;
 
 /// The probe of this tuple at the join with this number, over the stored tuples of each of at most 16 inputs; or `NoMemory`.
 /// It keeps handles of the rows that may join with the tuple: of another input those that are older, and of its own the
@@ -22,7 +21,6 @@ use std::sync::Arc;
 pub fn probe_of(
     alloc: Global,
     join: u32,
-    spec: &Arc<JoinSpec, Global>,
     route: &ProbeRoute,
     own: &Arrived<'_>,
     sides: &[State],
@@ -30,20 +28,13 @@ pub fn probe_of(
     requires few { length sides.now ≤ 16 }
     requires there { own.now.input < length sides.now }
     requires wide { AreWide sides.now }
-    requires route { IsProbeRoute (arc_value spec.now).classes (columns_of sides.now) own.now.input route.now }
-    ensures { let classes = (arc_value spec.now).classes in IfOk result (λ probe. probe ≡ found_in join own.now.ticket classes (choices classes own.now (tuples_in 0 sides.now))) }
+    requires route { IsProbeRoute (arc_value route.now.checks) (columns_of sides.now) own.now.input route.now }
+    ensures { let classes = arc_value route.now.checks in IfOk result (λ probe. probe ≡ found_in join own.now.ticket classes (choices classes own.now (tuples_in 0 sides.now))) }
 {
-    let spec = share_spec(spec)?;
+    let checks = share_checks(&route.checks)?;
     let lent = choices(alloc, route, own, sides)?;
     let sides = share_all(alloc, lent.as_slice())?;
-    Ok(Probe::new(join, own.ticket(), spec, sides))
-}
-
-/// A second handle of the same shape.
-fn share_spec(spec: &Arc<JoinSpec, Global>) -> Result<Arc<JoinSpec, Global>, NoMemory>
-    ensures { IfOk result (λ copy. arc_value copy ≡ arc_value spec.now) }
-{
-    Ok(Arc::try_clone(spec)?)
+    Ok(Probe::new(join, own.ticket(), checks, sides))
 }
 
 // Handles of these rows.

@@ -5,8 +5,7 @@ ghost use Rattle.pj_probe.specs.Walks.{combined, found_in, sides_at};
 ghost use Rattle.pj_probe.specs.Visits.{Grows, GrowsByFront};
 
 use crate::walk::walk_all;
-use crate::{Joined, Lent, Visit};
-use pj_shape::{ClassCol, JoinSpec};
+use crate::{JoinChecks, Joined, Lent, Visit};
 use pj_state::Shared;
 use pj_value::{List, NoMemory, Row};
 use std::alloc::Global;
@@ -26,7 +25,7 @@ pub struct Found {
 pub struct Probe {
     join: u32,
     ticket: u64,
-    spec: Arc<JoinSpec, Global>,
+    checks: Arc<JoinChecks, Global>,
     sides: List<List<(u64, Shared)>>,
 }
 
@@ -38,27 +37,27 @@ impl Model for Probe {
 
     ghost Value = { Found };
 
-    ghost view = { λ p. found_in p.join p.ticket (arc_value p.spec).classes (sides_at 0 p.sides) };
+    ghost view = { λ p. found_in p.join p.ticket (arc_value p.checks) (sides_at 0 p.sides) };
 
     ghost invariant = { λ p. length p.sides ≤ 16 };
 }
 
 impl Probe {
-    /// The probe with this ticket at the join with this number, of at most 16 inputs. For each input in order the
+    /// The probe with this ticket at the join with this number and these checks, of at most 16 inputs. For each input in order the
     /// candidates with their tickets, in the order of these; for the probe's own its own row alone.
     pub fn new(
         join: u32,
         ticket: u64,
-        spec: Arc<JoinSpec, Global>,
+        checks: Arc<JoinChecks, Global>,
         sides: List<List<(u64, Shared)>>,
     ) -> Probe
         requires { length sides ≤ 16 }
-        ensures { result ≡ found_in join ticket (arc_value spec).classes (sides_at 0 sides) }
+        ensures { result ≡ found_in join ticket (arc_value checks) (sides_at 0 sides) }
     {
         Probe {
             join,
             ticket,
-            spec,
+            checks,
             sides,
         }
     }
@@ -85,7 +84,7 @@ impl Probe {
         ensures ok { OnOk result (Grows (V.told visit.new) (V.list visit.old) (V.list visit.new) self.now.rows) }
         ensures err { OnErr result (GrowsByFront (V.told visit.new) (V.list visit.old) (V.list visit.new) self.now.rows) }
     {
-        walk_all(self.spec.classes.as_slice(), self.sides.as_slice(), visit)
+        walk_all(&self.checks, self.sides.as_slice(), visit)
     }
 
     /// Finds its results: the row of each combination of one candidate of each input in which all classes agree, in the
@@ -109,16 +108,16 @@ impl Probe {
 /// Shows the visitor each combination of one candidate of each of at most 16 inputs, whose rows are lent, in which all classes
 /// agree, in the order of `Probe::each`. Where the visitor refuses one the walk ends there.
 pub fn each_lent<V: Visit>(
-    classes: &[List<ClassCol>],
+    checks: &JoinChecks,
     sides: &[List<(u64, Lent<'_>)>],
     visit: &mut V,
 ) -> Result<(), NoMemory>
     requires { length sides.now ≤ 16 }
     ensures told { IsTrue (V.told visit.new) → IsTrue (V.told visit.old) }
-    ensures ok { OnOk result (Grows (V.told visit.new) (V.list visit.old) (V.list visit.new) (combined classes.now (sides_at 0 sides.now))) }
-    ensures err { OnErr result (GrowsByFront (V.told visit.new) (V.list visit.old) (V.list visit.new) (combined classes.now (sides_at 0 sides.now))) }
+    ensures ok { OnOk result (Grows (V.told visit.new) (V.list visit.old) (V.list visit.new) (combined checks.now (sides_at 0 sides.now))) }
+    ensures err { OnErr result (GrowsByFront (V.told visit.new) (V.list visit.old) (V.list visit.new) (combined checks.now (sides_at 0 sides.now))) }
 {
-    walk_all(classes, sides, visit)
+    walk_all(checks, sides, visit)
 }
 
 // Makes the joined rows.

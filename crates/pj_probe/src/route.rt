@@ -1,13 +1,16 @@
 // The routes of probes: in which order the other inputs are reached from a tuple, and where their rows are looked up.
 ghost use Rattle.std.specs.Prelude.{◌≡◌, ◌+◌, ◌<◌, ◌==◌, true, ◌∷◌, [], length, slice_get, slice_index_or, Some, IfOk, IfSome, OnOk};
+ghost use Rattle.std.specs.Arc.{arc_value};
 ghost use Rattle.std.specs.List.{list_any};
 ghost use Rattle.pj_probe.specs.Routes.{AreBegun, AreProbeRoutes, AreReached, FirstDecides, InOneClass, IsLinkOf, IsProbeRoute, LeadsTo, TwoDecide, columns_of, is_reached};
 
+use crate::checks::{JoinChecks, share_checks};
 use pj_rows::{Arrived, column_in};
 use pj_shape::ClassCol;
 use pj_state::State;
 use pj_value::{List, NoMemory};
 use std::alloc::Global;
+use std::sync::Arc;
 
 /// Two columns that are equal wherever tuples join: one of which an index is kept, and one of an input that was reached before.
 #[derive(Clone, Copy)]
@@ -24,11 +27,13 @@ pub struct ProbeStep {
     pub link: Option<ProbeLink>,
 }
 
-/// How the tuples of an input reach the rows of all others, and whether the columns of the first step decide that two join.
+/// How the tuples of an input reach the rows of all others, whether the columns of the first step decide that two join, and what
+/// else is compared of rows that are found.
 #[derive(Drop)]
 pub struct ProbeRoute {
     pub steps: List<ProbeStep>,
     pub decides: bool,
+    pub checks: Arc<JoinChecks, Global>,
 }
 
 impl ProbeRoute {
@@ -57,6 +62,7 @@ pub fn probe_routes(
 ) -> Result<List<ProbeRoute>, NoMemory>
     ensures { IfOk result (AreProbeRoutes classes.now (columns_of states.now)) }
 {
+    let checks = JoinChecks::new(alloc, classes)?;
     let mut routes = List::with_room(alloc, states.len())?;
     for own in 0..states.len() {
         let shape = Shape {
@@ -64,7 +70,7 @@ pub fn probe_routes(
             states,
             own,
         };
-        routes.push(shape.route(alloc)?)?;
+        routes.push(shape.route(alloc, share_checks(&checks)?)?)?;
     }
     Ok(routes)
 }
@@ -80,7 +86,8 @@ pub fn route_of<'a>(routes: &'a List<ProbeRoute>, own: &Arrived<'_>) -> &'a Prob
 impl<'a> Shape<'a> {
     // The route of the own input. An input that no class leads to is reached when all others are.
     #[tactic(auto, using(crate::proofs::Routed::route_made, crate::proofs::Routed::begun_none))]
-    fn route(&self, alloc: Global) -> Result<ProbeRoute, NoMemory>
+    fn route(&self, alloc: Global, checks: Arc<JoinChecks, Global>) -> Result<ProbeRoute, NoMemory>
+        requires { arc_value checks ≡ self.now.classes.now }
         ensures { IfOk result (IsProbeRoute self.now.classes.now (columns_of self.now.states.now) self.now.own) }
     {
         let mut steps = List::with_room(alloc, self.states.len())?;
@@ -89,7 +96,11 @@ impl<'a> Shape<'a> {
         }
         self.step_to_rest(&mut steps)?;
         let decides = self.first_decides(steps.as_slice());
-        Ok(ProbeRoute { steps, decides })
+        Ok(ProbeRoute {
+            steps,
+            decides,
+            checks,
+        })
     }
 
     // Goes to each input in order that was not reached and to which a class leads from one that was.

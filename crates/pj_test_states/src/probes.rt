@@ -1,23 +1,12 @@
 // What no clause says: that the calls succeed with ample memory, and what the definitions mean on a join by hand.
 ghost use Rattle.std.specs.Prelude.{◌≡◌, ◌≤◌, length, IfOk};
 
-use pj_probe::{Joined, Lent, Probe, Visit, each_lent};
-use pj_shape::{ClassCol, Column, JoinSpec, Schema};
+use pj_probe::{JoinChecks, Joined, Lent, Probe, Visit, each_lent};
+use pj_shape::ClassCol;
 use pj_state::Shared;
-use pj_value::{Kind, List, NoMemory, Row, Value};
+use pj_value::{List, NoMemory, Row, Value};
 use std::alloc::Global;
 use std::sync::Arc;
-
-fn schema(alloc: Global) -> Result<Schema, NoMemory> {
-    let mut columns = List::new(alloc);
-    for name in [b"a", b"b"] {
-        columns.push(Column {
-            name: List::copy_of(alloc, name)?,
-            kind: Kind::Int,
-        })?;
-    }
-    Ok(Schema::of(columns))
-}
 
 fn class(alloc: Global, a: (u32, u32), b: (u32, u32)) -> Result<List<ClassCol>, NoMemory> {
     let mut class = List::new(alloc);
@@ -27,16 +16,12 @@ fn class(alloc: Global, a: (u32, u32), b: (u32, u32)) -> Result<List<ClassCol>, 
     Ok(class)
 }
 
-// A join of three inputs of two columns: the first columns of 0 and 1 are equal, and the second ones of 1 and 2.
-fn triple(alloc: Global) -> Result<Arc<JoinSpec, Global>, NoMemory> {
-    let mut inputs = List::new(alloc);
-    for _ in 0..3 {
-        inputs.push(schema(alloc)?)?;
-    }
+// The checks of a join of three inputs: the first columns of 0 and 1 are equal, and the second ones of 1 and 2.
+fn triple(alloc: Global) -> Result<Arc<JoinChecks, Global>, NoMemory> {
     let mut classes = List::new(alloc);
     classes.push(class(alloc, (0, 0), (1, 0))?)?;
     classes.push(class(alloc, (1, 1), (2, 1))?)?;
-    Ok(Arc::new(alloc, JoinSpec { inputs, classes })?)
+    JoinChecks::new(alloc, classes.as_slice())
 }
 
 fn shared(alloc: Global, a: i64, b: i64) -> Result<Shared, NoMemory> {
@@ -101,9 +86,9 @@ fn three(
     own: List<(u64, Shared)>,
     last: List<(u64, Shared)>,
 ) -> Result<Probe, NoMemory> {
-    let spec = triple(alloc)?;
+    let checks = triple(alloc)?;
     let sides = three_sides(alloc, first, own, last)?;
-    Ok(Probe::new(7, 9, spec, sides))
+    Ok(Probe::new(7, 9, checks, sides))
 }
 
 fn three_sides(
@@ -186,14 +171,14 @@ fn noted(alloc: Global, most: usize) -> Result<Vec<i64>, NoMemory> {
 
 // What is noted of the combinations of the same rows, lent.
 fn noted_lent(alloc: Global) -> Result<Vec<i64>, NoMemory> {
-    let spec = triple(alloc)?;
+    let checks = triple(alloc)?;
     let (first, own, last) = (first(alloc)?, own(alloc)?, last(alloc)?);
     let sides = lent_sides(alloc, first.as_slice(), own.as_slice(), last.as_slice())?;
     let mut notes = Notes {
         numbers: Vec::new(alloc),
         left: 4,
     };
-    each_lent(spec.classes.as_slice(), sides.as_slice(), &mut notes)?;
+    each_lent(&checks, sides.as_slice(), &mut notes)?;
     let Notes { numbers, left: _ } = notes;
     Ok(numbers)
 }

@@ -1,6 +1,5 @@
-use Rattle.std.proofs.Common.{◌∙◌, ℕ, List, ap, subst, sym}
+use Rattle.std.proofs.Common.{◌∙◌, ℕ, List, subst, sym}
 use Rattle.std.specs.Arc.{arc_value}
-use Rattle.pj_shape.specs.declared.joins.JoinSpec.{JoinSpec}
 use Rattle.pj_events.specs.Join.{Value}
 use Rattle.pj_probe.specs.Hops.{FindSame}
 use Rattle.pj_probe.proofs.Probed.{probe_is}
@@ -8,6 +7,6 @@ use Rattle.pj_probe.proofs.making.probe_of.Goals as goal
 
 pub returns : goal.returns
 returns c =
-    probe_is c.args.join c.ticket.result c.args.own.now (arc_value c.args.spec.now) (arc_value c.in_ok-spec.spec) (arc_value c.args.spec.now).classes c.args.sides.now c.in_ok-sides.sides c.new.result
-    c.new.ensures c.ticket.ensures c.in_ok-spec.ensures (ap (λ (s : JoinSpec). s.classes) (sym c.in_ok-spec.ensures))
-    (subst (λ (lists : List (List (ℕ × List Value))). FindSame (arc_value c.args.spec.now).classes c.args.own.now c.args.sides.now lists) (sym (c.in_ok-sides.ensures ∙ c.as_slice.ensures)) (c.in_ok-lent.ensures.same (arc_value c.args.spec.now).classes c.requires.route.classes_have))
+    probe_is c.args.join c.ticket.result c.args.own.now (arc_value c.args.route.now.checks) (arc_value c.in_ok-checks.checks) c.args.sides.now c.in_ok-sides.sides c.new.result
+    c.new.ensures c.ticket.ensures c.in_ok-checks.ensures
+    (subst (λ (lists : List (List (ℕ × List Value))). FindSame (arc_value c.args.route.now.checks) c.args.own.now c.args.sides.now lists) (sym (c.in_ok-sides.ensures ∙ c.as_slice.ensures)) (c.in_ok-lent.ensures.same (arc_value c.args.route.now.checks) c.requires.route.classes_have))

@@ -13,4 +13,4 @@ abbrev pub invariant-walk-loop-place : goal.invariant-walk-loop-place
 invariant-walk-loop-place g l =
     (l.rows.items ≡ l.fn.rows.items)
     × (IsTrue (g.V.Visit.told l.visit) → IsTrue (g.V.Visit.told l.fn.visit))
-    × Grows (g.V.Visit.told l.visit) (g.V.Visit.list l.fn.visit) (g.V.Visit.list l.visit) (walked_upto l.classes (map g.S.Candidates.pairs l.sides) l.fn.rows.items l.place)
+    × Grows (g.V.Visit.told l.visit) (g.V.Visit.list l.fn.visit) (g.V.Visit.list l.visit) (walked_upto l.checks (map g.S.Candidates.pairs l.sides) l.fn.rows.items l.place)

@@ -8,7 +8,7 @@ use Rattle.pj_join.specs.Sides.{first_of, log_of, puncts_of}
 use Rattle.pj_join.proofs.Standing.{stands-probed}
 use Rattle.pj_join.proofs.Calling.{several, done-fits, none-pending, probe-does-at, probe-hands}
 use Rattle.pj_join.proofs.Kept.{all-states, first-is, own-there, probes-now, shapes, wide}
-use Rattle.pj_probe.proofs.Routed.{route_at, route_there}
+use Rattle.pj_probe.proofs.Routed.{route_at, route_classes, route_there}
 use Rattle.pj_join.specs.Insides.{lowest}
 use Rattle.pj_join.proofs.Lowest.{lowest_probe}
 use Rattle.pj_join.proofs.Watched.{watched_rises}
@@ -47,7 +47,7 @@ pub returns-in_ok-hand_out_found-in-Some-clause-hands : goal.returns-in_ok-hand_
 returns-in_ok-hand_out_found-in-Some-clause-hands c =
     probe-hands c.self.inside.node (join_data (arc_value c.self.inside.spec) c.self.inside.schemes c.self.inside.certs) c.self.inside.limit c.self.inside.next c.self.inside.done (log_of c.self.inside.states.items) (tuples_in 0 c.self.inside.states.items) (puncts_of c.self.inside.stores.items) c.self.inside.waiting.puncts c.self.inside.taken.items c.in-Some.own
     c.self.invariant.0.ordered (c.in-Some.ensures ∙ ap (λ (ss : List StateView). first_of ss c.self.inside.pending) c.as_slice.ensures.value ∙ first-is (join_data (arc_value c.self.inside.spec) c.self.inside.schemes c.self.inside.certs) c.self.inside.limit c.self.inside.next c.self.inside.done c.self.inside.states.items c.self.inside.stores.items c.self.inside.pending c.self.inside.taken.items c.self.invariant.0) c.args.self.now c.self.view_is c.ticket-ticket.result c.ticket-ticket.ensures c.args.outs.now c.hand_out_found.new.outs
-    (rw (← c.as_slice-in-Some.ensures.value) c.in_ok-hand_out_found-in-Some.ensures.ok)
+    (rw (← c.as_slice-in-Some.ensures.value, ← route_classes (arc_value c.self.inside.spec).classes c.self.inside.states.items c.self.inside.routes c.in-Some.own.input c.route_of.result.now c.self.invariant.3 c.route_of.ensures) c.in_ok-hand_out_found-in-Some.ensures.ok)
 
 pub returns-in_ok-hand_out_found-in-Some-clause-stands : goal.returns-in_ok-hand_out_found-in-Some-clause-stands
 returns-in_ok-hand_out_found-in-Some-clause-stands c =

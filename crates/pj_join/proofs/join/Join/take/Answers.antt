@@ -9,7 +9,7 @@ use Rattle.pj_join.specs.Sides.{first_of, log_of, puncts_of}
 use Rattle.pj_join.proofs.Standing.{stands-taken}
 use Rattle.pj_join.proofs.Calling.{several, done-fits, none-pending, take-finds}
 use Rattle.pj_join.proofs.Kept.{all-states, first-is, own-there, shapes, takes-now, wide}
-use Rattle.pj_probe.proofs.Routed.{route_at, route_there}
+use Rattle.pj_probe.proofs.Routed.{route_at, route_classes, route_there}
 use Rattle.pj_join.specs.Insides.{lowest}
 use Rattle.pj_join.proofs.Lowest.{lowest_take}
 use Rattle.pj_join.proofs.Watched.{watched_rises}
@@ -43,7 +43,7 @@ returns-in-None-clause-takes c = rw (← c.self.view_is) (none-pending (log_of c
 pub returns-in_ok-push-in-Some-clause-takes : goal.returns-in_ok-push-in-Some-clause-takes
 returns-in_ok-push-in-Some-clause-takes c =
     rw (← c.self.view_is) (take-finds c.self.inside.node (join_data (arc_value c.self.inside.spec) c.self.inside.schemes c.self.inside.certs) c.self.inside.limit c.self.inside.next c.self.inside.done (log_of c.self.inside.states.items) (tuples_in 0 c.self.inside.states.items) (puncts_of c.self.inside.stores.items) c.self.inside.waiting.puncts c.self.inside.taken.items c.push.new.self.items c.in-Some.own c.in_ok-probe-in-Some.probe c.ticket.result c.self.invariant.0.ordered
-    (c.in-Some.ensures ∙ ap (λ (ss : List StateView). first_of ss c.self.inside.pending) c.as_slice.ensures.value ∙ first-is (join_data (arc_value c.self.inside.spec) c.self.inside.schemes c.self.inside.certs) c.self.inside.limit c.self.inside.next c.self.inside.done c.self.inside.states.items c.self.inside.stores.items c.self.inside.pending c.self.inside.taken.items c.self.invariant.0) (rw (← c.as_slice-in-Some.ensures.value) c.in_ok-probe-in-Some.ensures) c.ticket.ensures c.in_ok-push-in-Some.ensures.items)
+    (c.in-Some.ensures ∙ ap (λ (ss : List StateView). first_of ss c.self.inside.pending) c.as_slice.ensures.value ∙ first-is (join_data (arc_value c.self.inside.spec) c.self.inside.schemes c.self.inside.certs) c.self.inside.limit c.self.inside.next c.self.inside.done c.self.inside.states.items c.self.inside.stores.items c.self.inside.pending c.self.inside.taken.items c.self.invariant.0) (rw (← c.as_slice-in-Some.ensures.value, ← route_classes (arc_value c.self.inside.spec).classes c.self.inside.states.items c.self.inside.routes c.in-Some.own.input c.route_of.result.now c.self.invariant.3 c.route_of.ensures) c.in_ok-probe-in-Some.ensures) c.ticket.ensures c.in_ok-push-in-Some.ensures.items)
 
 pub returns-in_ok-push-in-Some-clause-stands : goal.returns-in_ok-push-in-Some-clause-stands
 returns-in_ok-push-in-Some-clause-stands c =

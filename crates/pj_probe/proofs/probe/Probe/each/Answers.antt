@@ -9,12 +9,12 @@ use Rattle.pj_probe.proofs.probe.Probe.each.Goals as goal
 
 pub returns-clause-ok : goal.returns-clause-ok
 returns-clause-ok g c =
-    let found : combined c.as_slice.result.now (sides_at 0 (map (λ (s : List (ℕ × List Value)). s) c.as_slice-2.result.now)) ≡ c.args.self.now.rows =
-    rw (← c.self.view_is, c.as_slice.ensures, c.as_slice-2.ensures, c.deref.ensures) (ap (λ (ss : List (List (ℕ × List Value))). combined (arc_value c.self.inside.spec).classes (sides_at 0 ss)) (map-id c.self.inside.sides)) in
+    let found : combined c.deref.result.now (sides_at 0 (map (λ (s : List (ℕ × List Value)). s) c.as_slice.result.now)) ≡ c.args.self.now.rows =
+    rw (← c.self.view_is, c.as_slice.ensures, c.deref.ensures) (ap (λ (ss : List (List (ℕ × List Value))). combined (arc_value c.self.inside.checks) (sides_at 0 ss)) (map-id c.self.inside.sides)) in
     subst (λ (rows : List (List Value)). OnOk c.walk_all.result (Grows (g.V.Visit.told c.walk_all.new.visit) (g.V.Visit.list c.args.visit.now) (g.V.Visit.list c.walk_all.new.visit) rows)) found c.walk_all.ensures.ok
 
 pub returns-clause-err : goal.returns-clause-err
 returns-clause-err g c =
-    let found : combined c.as_slice.result.now (sides_at 0 (map (λ (s : List (ℕ × List Value)). s) c.as_slice-2.result.now)) ≡ c.args.self.now.rows =
-    rw (← c.self.view_is, c.as_slice.ensures, c.as_slice-2.ensures, c.deref.ensures) (ap (λ (ss : List (List (ℕ × List Value))). combined (arc_value c.self.inside.spec).classes (sides_at 0 ss)) (map-id c.self.inside.sides)) in
+    let found : combined c.deref.result.now (sides_at 0 (map (λ (s : List (ℕ × List Value)). s) c.as_slice.result.now)) ≡ c.args.self.now.rows =
+    rw (← c.self.view_is, c.as_slice.ensures, c.deref.ensures) (ap (λ (ss : List (List (ℕ × List Value))). combined (arc_value c.self.inside.checks) (sides_at 0 ss)) (map-id c.self.inside.sides)) in
     subst (λ (rows : List (List Value)). OnErr c.walk_all.result (GrowsByFront (g.V.Visit.told c.walk_all.new.visit) (g.V.Visit.list c.args.visit.now) (g.V.Visit.list c.walk_all.new.visit) rows)) found c.walk_all.ensures.err

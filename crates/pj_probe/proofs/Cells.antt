@@ -1,1 +1,0 @@
--- The value in a column of a row.
