@@ -8,3 +8,6 @@ pub mod Below
 pub mod Bound
 pub mod Steps
 pub mod Partners
+pub mod Making
+pub mod Linked
+pub mod Instances

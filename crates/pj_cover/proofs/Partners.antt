@@ -7,28 +7,23 @@ use Rattle.std.proofs.lemmas.List.{take_more}
 use Rattle.std.proofs.lemmas.Option.{get_or_from_slice_get, slice_get_within, slice_get-get_or}
 use Rattle.pj_value.specs.declared.values.Value.{Value}
 use Rattle.pj_value.specs.Values.{value_eq}
-use Rattle.pj_value.proofs.Members.{in-place, In-append_cases, In-append_right, In-filter_from, In-flat_map_from, In-map, In-map_from}
+use Rattle.pj_value.proofs.Members.{In-append_cases, In-filter_from, In-map, In-map_from}
 use Rattle.pj_value.proofs.Orders.{equal_itself}
 use Rattle.pj_value.specs.Options.{is_value}
 use Rattle.pj_shape.specs.declared.joins.JoinSpec.{JoinSpec}
-use Rattle.pj_shape.specs.Joining.{values_in}
 use Rattle.pj_shape.specs.Sound.{IsSoundSpec, arities_of}
 use Rattle.pj_events.specs.Join.{In, TupleAt, ClassCol, CertEntry, CertStep, agree, no_value, part_of, value_at, values}
-use Rattle.pj_join_laws.proofs.Matching.{agree-at, value-in}
+use Rattle.pj_join_laws.proofs.Matching.{agree-at, value-in, values-mono}
 use Rattle.pj_cover.specs.declared.ripeness.Verdict.{Verdict}
 use Rattle.pj_cover.specs.declared.ripeness.Verdict.TheVariants.{Ripe}
 use Rattle.pj_puncts.specs.Stores.{Store}
 use Rattle.pj_cover.specs.Rising.{AreAbove, AreRisingRows, has_there_value, row_with, tickets_with}
 use Rattle.pj_rows.specs.Tuples.{ticket_in}
-use Rattle.pj_cover.specs.Asking.{Known, AreDone, AreDoneUnder, AreParts, IsOnWalk, ClassTells, HaveLength, HavePartners, IsDone, IsJudgedThrough, IsJudgedUnder, IsJudgedWith, IsPartnerKey, first_there, or_else, says_ripe, there, tuple_of}
-use Rattle.pj_cover.proofs.Bound.{class-cells, there-values}
+use Rattle.pj_cover.specs.Asking.{Known, AreDone, AreDoneUnder, AreParts, IsOnWalk, HaveLength, HavePartners, IsDone, IsJudgedThrough, IsJudgedUnder, IsJudgedWith, IsPartnerKey, says_ripe, tuple_of}
+use Rattle.pj_cover.proofs.Bound.{class-cells}
 use Rattle.pj_cover.proofs.Judged.{says_more, says_yes}
 use Rattle.pj_puncts.proofs.Lent.{drop_here}
 use Rattle.pj_cover.proofs.Steps.{length-map}
-
-pub told_by_class : (classes : List (List ClassCol)) (xs : List TupleAt) (class : List ClassCol) (i input column : ℕ) (value : Value) → i < length classes → class ≡ get_or classes i class → ClassTells class xs input column value
-    → IsPartnerKey classes xs input column value
-told_by_class classes xs class i input column value lt is tells = (class, subst (λ (c : List ClassCol). In c classes) (sym is) (in-place classes class i lt), tells)
 
 -- the rows of a step's input fit
 pub step_fits : (spec : JoinSpec) (schemes : List (List (List Bool))) (rows : ℕ → List (ℕ × List Value)) (stores : List Store) (cert : List CertStep) (at : ℕ) (step : CertStep) (xs : List TupleAt)
@@ -39,28 +34,13 @@ step_fits spec schemes rows stores cert at step xs parts walk here =
     let below : step.input < length (arities_of spec.inputs) = w.walk.0 in
     parts.fit step.input (omega (arith, n, below))
 
--- the value of a class in rows is among its values there
-first-there-in : (class : List ClassCol) (xs : List TupleAt) (v : Value) → first_there xs class ≡ Some v → (at : ClassCol) × In at class × ((rest : List Value) × (values_in (map part_of xs) at ≡ v ∷ rest))
-first-there-in [] xs v e = absurd (cc)
-first-there-in (a ∷ class) xs v e = go (there xs a) refl e (first-there-in class xs v)
-  where
-    go : (o : Option Value) → there xs a ≡ o → or_else o (first_there xs class) ≡ Some v → (first_there xs class ≡ Some v → (at : ClassCol) × In at class × ((rest : List Value) × (values_in (map part_of xs) at ≡ v ∷ rest)))
-        → (at : ClassCol) × In at (a ∷ class) × ((rest : List Value) × (values_in (map part_of xs) at ≡ v ∷ rest))
-    go (Some w) f g ih = (a, inl refl, there-values xs a v (f ∙ g))
-    go None f g ih = let r = ih g in (r.0, inr r.1, r.2)
-
 -- a row that joins with these has the value that the class tells
 partner-value : (classes : List (List ClassCol)) (xs : List TupleAt) (y : TupleAt) (input column : ℕ) (value : Value) → IsPartnerKey classes xs input column value → y.input ≡ input → agree classes (y ∷ xs) ≡ true
     → value_at y.row column ≡ value
 partner-value classes xs y input column value key of joins =
-    let c = first-there-in key.0 xs value key.2.1 in
     let own : ClassCol = record { input = input; column = column } in
-    let one : Value → List Value = λ v. v ∷ [] in
-    let front : List Value = cond (eqb y.input c.0.input) (one (get_or y.row c.0.column no_value)) [] in
-    let theirs : In value (values (map part_of (y ∷ xs)) key.0) =
-    In-flat_map_from (values_in (map part_of (y ∷ xs))) value c.0 key.0 c.1
-    (In-append_right value front (values_in (map part_of xs) c.0) (subst (λ (vs : List Value). In value vs) (sym c.2.1) (inl refl))) in
-    agree-at classes (y ∷ xs) key.0 (get_or y.row column no_value) value joins key.1 (value-in (y ∷ xs) key.0 y own (inl refl) key.2.0 of) theirs
+    let theirs : In value (values (map part_of (y ∷ xs)) key.0) = values-mono xs (y ∷ xs) key.0 (λ x h. inr h) value key.3 in
+    agree-at classes (y ∷ xs) key.0 (get_or y.row column no_value) value joins key.1 (value-in (y ∷ xs) key.0 y own (inl refl) key.2 of) theirs
 
 pub have_partners : (spec : JoinSpec) (xs : List TupleAt) (rows : List (ℕ × List Value)) (input column : ℕ) (value : Value) → IsSoundSpec spec → HaveLength (get_or (arities_of spec.inputs) input 0) rows
     → IsPartnerKey spec.classes xs input column value → HavePartners spec.classes xs (map (tuple_of input) rows) (tickets_with column value rows)
@@ -71,7 +51,7 @@ have_partners spec xs rows input column value sound fit key y h joins =
       | inl q ↦ subst (λ (w : TupleAt). length w.row ≡ get_or (arities_of spec.inputs) w.input 0) (r.2 ∙ q) (fit r.0 r.1)
       | inr n ↦ absurd n
     ] in
-    let lt : column < length y.row = class-cells spec key.0 (y ∷ []) sound key.1 fits (record { input = input; column = column }) key.2.0 y (inl refl) of in
+    let lt : column < length y.row = class-cells spec key.0 (y ∷ []) sound key.1 fits (record { input = input; column = column }) key.2 y (inl refl) of in
     let have : is_value value (slice_get y.row column) ≡ true =
     ap (is_value value) (slice_get-get_or y.row column no_value lt) ∙ ap (λ (v : Value). value_eq v value) (partner-value spec.classes xs y input column value key of joins) ∙ equal_itself value in
     let its : has_there_value column value r.0 ≡ true = ap (λ (z : TupleAt). is_value value (slice_get z.row column)) r.2 ∙ have in

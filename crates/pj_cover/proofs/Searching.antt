@@ -38,12 +38,10 @@ in_here (y ∷ xs) zero x e = inl (get_or_from_slice_get (y ∷ xs) 0 x x e)
 in_here (y ∷ xs) (suc at) x e = inr (in_here xs at x e)
 
 -- what the step at the place needs
-pub ready : (spec : JoinSpec) (schemes : List (List (List Bool))) (rows : Rows) (stores : List Store) (cert : List CertStep) (at : ℕ) (step : CertStep) (xs ys : List TupleAt)
-    → AreParts spec rows stores → IsOnWalk spec schemes (drop at cert) xs → slice_get cert at ≡ Some step → ys ≡ xs → IsStep spec schemes stores step ys
-ready spec schemes rows stores cert at step xs ys parts walk here same =
-    step_ready spec schemes rows stores step (drop (at + 1) cert) ys parts
-    (subst (λ (zs : List TupleAt). IsOnWalk spec schemes (step ∷ drop (at + 1) cert) zs) (sym same)
-    (subst (λ (steps : List CertStep). IsOnWalk spec schemes steps xs) (drop_here cert at step here) walk))
+pub ready : (spec : JoinSpec) (schemes : List (List (List Bool))) (rows : Rows) (stores : List Store) (cert : List CertStep) (at : ℕ) (step : CertStep) (xs : List TupleAt)
+    → AreParts spec rows stores → IsOnWalk spec schemes (drop at cert) xs → slice_get cert at ≡ Some step → IsStep schemes stores step
+ready spec schemes rows stores cert at step xs parts walk here =
+    step_ready spec schemes rows stores step (drop (at + 1) cert) xs parts (subst (λ (steps : List CertStep). IsOnWalk spec schemes steps xs) (drop_here cert at step here) walk)
 
 -- it is not covered
 pub found_here : (k : Known) (schemes : List (List (List Bool))) (cert : List CertStep) (at : ℕ) (step : CertStep) (xs ys : List TupleAt) (v : Verdict)

@@ -8,14 +8,13 @@ use Rattle.std.proofs.lemmas.Map.Steps.{length-le_from_distinct_below}
 use Rattle.pj_value.specs.declared.values.Value.{Value}
 use Rattle.pj_value.proofs.Members.{any_at, any_from}
 use Rattle.pj_shape.specs.declared.joins.JoinSpec.{JoinSpec}
-use Rattle.pj_shape.specs.Sound.{arities_of, FitSchemes}
+use Rattle.pj_shape.specs.Sound.{arities_of, FitSchemes, IsSoundSpec}
 use Rattle.pj_shape.specs.Certificates.{IsCertificate}
 use Rattle.pj_events.specs.Join.{In, TupleAt, CertStep, agree}
 use Rattle.pj_puncts.specs.Stores.{Store}
 use Rattle.pj_cover.specs.Asking.{AreParts, IsOnWalk, IsStep, entries, inputs_of, marks_of}
 use Rattle.pj_rows.proofs.Agreeing.{alone_agree}
-use Rattle.pj_cover.proofs.Bound.{are_found}
-use Rattle.pj_join_laws.specs.Walks.{AreListedOnce, IsWalk}
+use Rattle.pj_join_laws.specs.Walks.{AreListedOnce, IsCertified, IsWalk}
 use Rattle.pj_join_laws.proofs.Walks.{is_certified}
 
 pub listed_input : {A : Type 0} (schemes : List (List A)) (input scheme : ℕ) → scheme < length (get_or schemes input []) → input < length schemes
@@ -41,7 +40,7 @@ at-most-sum ns i n le = let most : get_or ns i 0 + 0 ≤ sum ns = fold-most 0 ns
 
 -- what a step of a walk needs
 pub step_ready : (spec : JoinSpec) (schemes : List (List (List Bool))) (rows : ℕ → List (ℕ × List Value)) (stores : List Store) (step : CertStep) (steps : List CertStep) (xs : List TupleAt)
-    → AreParts spec rows stores → IsOnWalk spec schemes (step ∷ steps) xs → IsStep spec schemes stores step xs
+    → AreParts spec rows stores → IsOnWalk spec schemes (step ∷ steps) xs → IsStep schemes stores step
 step_ready spec schemes rows stores step steps xs parts walk =
     let count : length stores ≡ length (arities_of spec.inputs) = sym (length-map (λ (s : Store). s.arity) stores) ∙ ap length parts.one_each in
     let within : step.input < length (arities_of spec.inputs) = walk.walk.0 in
@@ -53,7 +52,6 @@ step_ready spec schemes rows stores step steps xs parts walk =
       store = here;
       fits = λ d. same ∙ ap (λ (ns : List ℕ). get_or ns step.input 0) (sym parts.one_each) ∙ get_or-map (λ (s : Store). s.arity) stores step.input d 0 here;
       few = omega (arith, same, few);
-      found = are_found spec step.input (marks_of schemes step) xs parts.sound walk.fit walk.walk.2;
     }
 
 -- one row more, for the first step
@@ -89,24 +87,29 @@ few_steps spec schemes (step ∷ steps) known listed walk apart below =
     more q n (inl same) e = subst (λ (m : ℕ). m < length (arities_of spec.inputs)) (same ∙ sym e) walk.0
     more q n (inr h) e = below q (any_from (eqb q) known n h (eq-eqb q n e))
 
+-- with an input's own there are at most 16
+pub certified_few : (spec : JoinSpec) (schemes : List (List (List Bool))) (steps : List CertStep) (own : ℕ) → IsSoundSpec spec → own < length spec.inputs → IsCertified spec schemes own steps → 1 + length steps ≤ 16
+unfolding IsDistinct
+certified_few spec schemes steps own sound within cert =
+    let count : length (arities_of spec.inputs) ≡ length spec.inputs = length-map length spec.inputs in
+    let most : length spec.inputs ≤ 16 = sound.few_inputs.1 in
+    let few : 1 + length steps ≤ length (arities_of spec.inputs) = few_steps spec schemes steps (own ∷ []) cert.listed cert.walk (IsDistinct-cons eqb own [] tt tt)
+    (λ q t. let m = any_at (eqb q) (own ∷ []) t in let e : q ≡ m.0 = eqb-true q m.0 m.2 in only q m.0 m.1 e) in
+    omega (arith, few, most, count)
+  where
+    only : (q n : ℕ) → (own ≡ n) ⊎ ⊥ → q ≡ n → q < length (arities_of spec.inputs)
+    only q n (inl same) e = let count : length (arities_of spec.inputs) ≡ length spec.inputs = length-map length spec.inputs in omega (arith, same, e, count, within)
+    only q n (inr none) e = absurd none
+
 -- the certificate of a row that fits its input
 pub walk_starts : (spec : JoinSpec) (schemes : List (List (List Bool))) (rows : ℕ → List (ℕ × List Value)) (stores : List Store) (steps : List CertStep) (x : TupleAt)
     → AreParts spec rows stores → x.input < length spec.inputs → FitSchemes spec.inputs schemes → IsCertificate spec schemes x.input steps → length x.row ≡ get_or (arities_of spec.inputs) x.input 0 → IsOnWalk spec schemes steps (x ∷ [])
-unfolding IsDistinct
 walk_starts spec schemes rows stores steps x parts within schemed certificate fit =
     let cert = is_certified spec schemes x.input steps parts.sound.apart schemed certificate in
-    let count : length (arities_of spec.inputs) ≡ length spec.inputs = length-map length spec.inputs in
-    let most : length spec.inputs ≤ 16 = parts.sound.few_inputs.1 in
-    let few : 1 + length steps ≤ length (arities_of spec.inputs) = few_steps spec schemes steps (x.input ∷ []) cert.listed cert.walk (IsDistinct-cons eqb x.input [] tt tt)
-    (λ q t. let m = any_at (eqb q) (x.input ∷ []) t in let e : q ≡ m.0 = eqb-true q m.0 m.2 in only q m.0 m.1 e) in
     record {
       listed = cert.listed;
       walk = cert.walk;
       fit = λ z h. elim h [ inl q ↦ subst (λ (y : TupleAt). length y.row ≡ get_or (arities_of spec.inputs) y.input 0) q fit | inr n ↦ absurd n ];
       joined = alone_agree spec x parts.sound;
-      few = omega (arith, few, most, count);
+      few = certified_few spec schemes steps x.input parts.sound within cert;
     }
-  where
-    only : (q n : ℕ) → (x.input ≡ n) ⊎ ⊥ → q ≡ n → q < length (arities_of spec.inputs)
-    only q n (inl same) e = let count : length (arities_of spec.inputs) ≡ length spec.inputs = length-map length spec.inputs in omega (arith, same, e, count, within)
-    only q n (inr none) e = absurd none

@@ -1,12 +1,12 @@
 -- What a row asks for over the stored rows, and the first of it that is not covered.
-use Rattle.std.specs.Prelude.{⊤, ℕ, zero, suc, ◌+◌, ◌<◌, ◌≡◌, Bool, true, false, nat_lt, ◌==◌, ◌&&◌, if◌then◌else◌, List, [], ◌∷◌, ◌++◌, length, map, slice_get, slice_index, slice_index_or, ◌≤◌, Option, Some, None}
+use Rattle.std.specs.Prelude.{⊤, ℕ, zero, suc, ◌+◌, ◌<◌, ◌≡◌, Bool, true, false, nat_lt, ◌&&◌, if◌then◌else◌, List, [], ◌∷◌, ◌++◌, length, map, slice_index, slice_index_or, ◌≤◌}
 use Rattle.std.specs.List.{list_all}
 use Rattle.pj_value.specs.declared.values.Value.{Value}
 use Rattle.pj_value.specs.Lists.{In}
 use Rattle.pj_shape.specs.declared.joins.JoinSpec.{JoinSpec}
 use Rattle.pj_shape.specs.Joining.{has_column}
 use Rattle.pj_shape.specs.Sound.{IsSoundSpec, arities_of}
-use Rattle.pj_events.specs.Join.{TupleAt, PunctAt, ClassCol, CertStep, CertEntry, Demand, agree, constant, class_with, covered, demand, entry_of, need, older, older_puncts}
+use Rattle.pj_events.specs.Join.{TupleAt, PunctAt, ClassCol, CertStep, CertEntry, Demand, agree, constant, class_with, covered, demand, entry_of, need, older, older_puncts, part_of, values}
 use Rattle.pj_puncts.specs.Stores.{Store}
 use Rattle.pj_puncts.specs.declared.store.NumberedPunct.{NumberedPunct}
 use Rattle.pj_cover.specs.declared.ripeness.Verdict.{Verdict}
@@ -149,37 +149,12 @@ IsJudgedUnder k cert xs ys tickets v = Says (AreDoneUnder k cert xs ys tickets) 
 abbrev pub HavePartners : List (List ClassCol) → List TupleAt → List TupleAt → List ℕ → Type 0
 HavePartners classes xs ys tickets = (y : TupleAt) → In y ys → agree classes (y ∷ xs) ≡ true → In y.ticket tickets
 
--- ---- the constants of an instance
-
--- the value that the first of these rows that is of its input has in a column
-abbrev pub there : List TupleAt → ClassCol → Option Value
-there [] at = None
-there (x ∷ xs) at = if x.input == at.input then slice_get x.row at.column else there xs at
-
-abbrev pub or_else : Option Value → Option Value → Option Value
-or_else None other = other
-or_else (Some v) other = Some v
-
--- the value that these rows have in the first column of a class that is there
-abbrev pub first_there : List TupleAt → List ClassCol → Option Value
-first_there xs [] = None
-first_there xs (at ∷ class) = or_else (there xs at) (first_there xs class)
-
--- the value of the class is found in these rows
-abbrev pub IsFound : List ClassCol → List TupleAt → Type 0
-IsFound class xs = (v : Value) × (first_there xs class ≡ Some v) × (constant class xs ≡ v)
-
--- the class has this column of the input, and its value in these rows is this one
-abbrev pub ClassTells : List ClassCol → List TupleAt → ℕ → ℕ → Value → Type 0
-ClassTells class xs input column value = In (record { input = input; column = column }) class × (first_there xs class ≡ Some value)
-
--- one of the classes does
+-- a class has this column of the input, and rows that join have this value in it
 abbrev pub IsPartnerKey : List (List ClassCol) → List TupleAt → ℕ → ℕ → Value → Type 0
-IsPartnerKey classes xs input column value = (class : List ClassCol) × In class classes × ClassTells class xs input column value
+IsPartnerKey classes xs input column value =
+    (class : List ClassCol) × In class classes × In (record { input = input; column = column }) class × In value (values (map part_of xs) class)
 
--- that of each marked column is
-abbrev pub AreFound : List (List ClassCol) → ℕ → List Bool → List TupleAt → Type 0
-AreFound classes input marks xs = (column : ℕ) → slice_get marks column ≡ Some true → IsFound (class_with classes input column) xs
+-- ---- the constants of an instance
 
 -- the constant of a column, where it is marked
 abbrev pub constant_if : Bool → List (List ClassCol) → ℕ → ℕ → List TupleAt → List Value
@@ -223,13 +198,12 @@ pub record IsOnWalk (spec : JoinSpec) (schemes : List (List (List Bool))) (steps
 abbrev pub marks_of : List (List (List Bool)) → CertStep → List Bool
 marks_of schemes step = (entry_of schemes step).marks
 
--- what is asked for by a step can be looked up: it has a scheme, there is a store of its arity, and the constants are found
-pub record IsStep (spec : JoinSpec) (schemes : List (List (List Bool))) (stores : List Store) (step : CertStep) (xs : List TupleAt) : Type 0 where
+-- what is asked for by a step can be looked up: it has a scheme, and there is a store of its arity
+pub record IsStep (schemes : List (List (List Bool))) (stores : List Store) (step : CertStep) : Type 0 where
   pub scheme : step.scheme < length (slice_index_or schemes step.input [])
   pub store : step.input < length stores
   pub fits : (d : Store) → length (marks_of schemes step) ≡ (slice_index_or stores step.input d).arity
   pub few : length (marks_of schemes step) ≤ 120
-  pub found : AreFound spec.classes step.input (marks_of schemes step) xs
 
 -- whether the row is below the low-water ticket, and all that it asks for is covered
 abbrev pub is_ripe : Known → List CertEntry → TupleAt → Bool

@@ -1,10 +1,13 @@
 -- What a judge of stored rows looks at.
-use Rattle.std.specs.Prelude.{ℕ, List, drop}
+use Rattle.std.specs.Prelude.{ℕ, List, Option, drop, slice_index_or}
 use Rattle.pj_value.specs.declared.values.Value.{Value}
-use Rattle.pj_events.specs.Join.{CertEntry, TupleAt}
-use Rattle.pj_cover.specs.Asking.{AreParts, IsJudgedThrough, IsJudgedUnder, IsJudgedWith, IsOnWalk, Known, entries, known_of, tuples_at}
+use Rattle.pj_events.specs.Join.{CertEntry, TupleAt, entry_of, instance_from}
+use Rattle.pj_puncts.specs.Stores.{Store, TellsCover}
+use Rattle.pj_cover.specs.Asking.{AreParts, IsJudgedThrough, IsJudgedUnder, IsJudgedWith, IsOnWalk, Known, entries, inputs_of, known_of, marks_of, tuples_at}
+use Rattle.pj_cover.specs.Routes.{AreSteps, IsPurgeStep, IsReady, steps_in}
 use Rattle.pj_cover.specs.declared.ripeness.Verdict.{Verdict}
 use Rattle.pj_cover.specs.declared.ripeness.Judge.{Judge}
+use Rattle.pj_cover.specs.declared.route.PurgeStep.{PurgeStep}
 
 -- the rows of each input with their tickets
 abbrev pub Rows : Type 0
@@ -18,13 +21,30 @@ known_by rows j = known_of j.spec.now rows j.stores.now j.low
 abbrev pub MayJudge : {R : Type 0} → Rows → Judge R → Type 0
 MayJudge rows j = AreParts j.spec.now rows j.stores.now
 
--- the steps of the certificate from a place on
+-- the entries of the certificate that the route follows, from a place on
 abbrev pub steps_from : {R : Type 0} → Judge R → ℕ → List CertEntry
-steps_from j at = entries j.schemes.now (drop at j.cert.now)
+steps_from j at = entries j.schemes.now (drop at (steps_in j.route.now))
 
 -- these rows were gone through, up to the place
 abbrev pub IsWalkAt : {R : Type 0} → Judge R → ℕ → List TupleAt → Type 0
-IsWalkAt j at xs = IsOnWalk j.spec.now j.schemes.now (drop at j.cert.now) xs
+IsWalkAt j at xs = IsOnWalk j.spec.now j.schemes.now (drop at (steps_in j.route.now)) xs
+
+-- the links of the steps from the place on are right for them
+abbrev pub IsRouteAt : {R : Type 0} → Judge R → ℕ → List TupleAt → Type 0
+IsRouteAt j at xs = AreSteps j.spec.now.classes j.schemes.now j.route.now.links (inputs_of xs) (drop at j.route.now.steps)
+
+-- those of this step are
+abbrev pub IsStepHere : {R : Type 0} → Judge R → List TupleAt → PurgeStep → Type 0
+IsStepHere j xs step = IsPurgeStep j.spec.now.classes (entry_of j.schemes.now step.step) (inputs_of xs) j.route.now.links step
+
+-- what they lead to is there
+abbrev pub IsReadyAt : {R : Type 0} → Judge R → PurgeStep → List TupleAt → Type 0
+IsReadyAt j step xs = IsReady j.spec.now.classes (entry_of j.schemes.now step.step) j.route.now.links step xs
+
+-- what a number of a punctuation tells of the instance that the step asks for
+abbrev pub TellsStep : {R : Type 0} → Judge R → PurgeStep → List TupleAt → Option ℕ → Type 0
+TellsStep j step xs told =
+    (d : Store) → TellsCover (slice_index_or j.stores.now step.step.input d).kept j.low (instance_from j.spec.now.classes step.step.input 0 (marks_of j.schemes.now step.step) xs) told
 
 -- what is said of what is asked for, by the steps from a place on, with the rows of the input
 abbrev pub IsJudgedAt : {R : Type 0} → Rows → Judge R → ℕ → ℕ → List TupleAt → Verdict → Type 0

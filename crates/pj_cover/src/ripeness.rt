@@ -5,26 +5,19 @@ ghost use Rattle.pj_shape.specs.Sound.{FitSchemes, IsSoundSpec, arities_of};
 ghost use Rattle.pj_shape.specs.Certificates.{IsCertificate};
 ghost use Rattle.pj_events.specs.Join.{agree, demand, entry_of};
 ghost use Rattle.pj_cover.specs.Rising.{AreRisingRows};
-ghost use Rattle.pj_cover.specs.Asking.{AreParts, HaveLength, HavePartners, IsJudged, IsStep, IsStepJudged, all_covered, entries, is_ripe, known_of, marks_of, says_ripe, tuple_of, tuples_at};
-ghost use Rattle.pj_cover.specs.Judges.{IsJudgedAmong, IsJudgedAt, IsJudgedBy, IsWalkAt, MayJudge, known_by, steps_from};
+ghost use Rattle.pj_cover.specs.Asking.{AreParts, HaveLength, HavePartners, IsJudged, IsStep, IsStepJudged, all_covered, entries, is_ripe, known_of, says_ripe, tuple_of, tuples_at};
+ghost use Rattle.pj_cover.specs.Routes.{IsPurgeRoute, steps_in};
+ghost use Rattle.pj_cover.specs.Judges.{IsJudgedAmong, IsJudgedAt, IsJudgedBy, IsReadyAt, IsRouteAt, IsStepHere, IsWalkAt, MayJudge, TellsStep, known_by, steps_from};
 
 use crate::StoredRows;
-use crate::asked::{Lent, partner_key, suits};
-use crate::instances::covering_instance;
+use crate::covering::{covering_all, covering_one};
+use crate::lent::{Lent, key_of, match_all};
+use crate::route::{PurgeRoute, PurgeStep, purge_route, scheme_of};
 use arrayvec::ArrayVec;
 use pj_puncts::PunctStore;
-use pj_shape::{Cert, CertStep, JoinSpec, Scheme, Schemes};
+use pj_shape::{Cert, JoinSpec, Schemes};
 use pj_value::Row;
 use std::slice::from_ref;
-
-// The scheme of a certificate's step.
-#[tactic(auto, using(crate::proofs::Steps::listed_input))]
-fn scheme_of(schemes: &Schemes, step: CertStep) -> &Scheme
-    requires { step.scheme < length (slice_index_or schemes.now step.input []) }
-    ensures { result.now ≡ marks_of schemes.now step }
-{
-    &schemes.at(step.input as usize).as_slice()[step.scheme as usize]
-}
 
 /// What a judge says of a stored row by what it asks for over the stored rows below the low-water ticket: all of it is covered
 /// by punctuations below that ticket; or no punctuation at all covers an instance of it, and so it stays until one comes that
@@ -51,36 +44,42 @@ impl Verdict {
     }
 }
 
-// What a row is judged by: the join's shape and schemes, the certificate of the row's input, the stored rows, the punctuations of
-// each input, and the low-water ticket.
+// What a row is judged by: the join's shape and schemes, the route that follows the certificate of the row's input, the stored
+// rows, the punctuations of each input, and the low-water ticket.
 #[derive(Clone, Copy)]
 struct Judge<'a, R> {
     spec: &'a JoinSpec,
     schemes: &'a Schemes,
-    cert: &'a Cert,
+    route: &'a PurgeRoute,
     rows: &'a R,
     stores: &'a [PunctStore],
     low: u64,
 }
 
 impl<'a, R: StoredRows> Judge<'a, R> {
-    // What is said of the instance that a step asks for of these rows.
-    #[inline(never)]
-    fn judge_step(&self, step: CertStep, parts: &[Lent<'_>]) -> Verdict
-        requires { IsStep self.now.spec.now self.now.schemes.now self.now.stores.now step parts.now }
-        ensures { IsStepJudged (known_by (R.rows self.now.rows.now) self.now) (demand self.now.spec.now.classes (entry_of self.now.schemes.now step) parts.now) result }
+    // The number of a punctuation that covers the instance that a step asks for of these rows, one below the low-water ticket
+    // where there is one; `None` exactly where none covers it.
+    fn covering(&self, step: PurgeStep, parts: &[Lent<'_>]) -> Option<u64>
+        requires step { IsStep self.now.schemes.now self.now.stores.now step.step }
+        requires ready { IsReadyAt self.now step parts.now }
+        ensures { TellsStep self.now step parts.now result }
     {
-        let scheme = scheme_of(self.schemes, step);
-        let store = &self.stores[step.input as usize];
-        let covering = covering_instance(
-            self.spec.classes.as_slice(),
-            step.input,
-            scheme,
-            parts,
-            store,
-            self.low,
-        );
-        match covering {
+        let scheme = scheme_of(self.schemes, step.step);
+        let store = &self.stores[step.step.input as usize];
+        match step.single {
+            None => covering_all(scheme, self.route.links_of(step), parts, store, self.low),
+            Some(link) => covering_one(scheme.len(), link, parts, store, self.low),
+        }
+    }
+
+    // What is said of that instance.
+    #[inline(never)]
+    fn judge_step(&self, step: PurgeStep, parts: &[Lent<'_>]) -> Verdict
+        requires step { IsStep self.now.schemes.now self.now.stores.now step.step }
+        requires ready { IsReadyAt self.now step parts.now }
+        ensures { IsStepJudged (known_by (R.rows self.now.rows.now) self.now) (demand self.now.spec.now.classes (entry_of self.now.schemes.now step.step) parts.now) result }
+    {
+        match self.covering(step, parts) {
             None => Verdict::Open,
             Some(number) => {
                 if number < self.low {
@@ -92,16 +91,19 @@ impl<'a, R: StoredRows> Judge<'a, R> {
         }
     }
 
-    // The tickets of stored rows of an input, among which are all that join with these rows, where an index tells.
-    fn partners(&self, input: u32, parts: &[Lent<'_>]) -> Option<&'a [u64]>
+    // The tickets of stored rows of a step's input, among which are all that join with these rows, where an index tells.
+    fn partners(&self, step: PurgeStep, parts: &[Lent<'_>]) -> Option<&'a [u64]>
         requires sound { IsSoundSpec self.now.spec.now }
-        requires fit { HaveLength (slice_index (arities_of self.now.spec.now.inputs) input) (R.rows self.now.rows.now input) }
-        ensures all { IfSome result (λ tickets. HavePartners self.now.spec.now.classes parts.now (tuples_at (R.rows self.now.rows.now) input) tickets.now) }
-        ensures rising { IfSome result (λ tickets. AreRisingRows (R.rows self.now.rows.now input)) }
+        requires fit { HaveLength (slice_index (arities_of self.now.spec.now.inputs) step.step.input) (R.rows self.now.rows.now step.step.input) }
+        requires links { IsStepHere self.now parts.now step }
+        ensures all { IfSome result (λ tickets. HavePartners self.now.spec.now.classes parts.now (tuples_at (R.rows self.now.rows.now) step.step.input) tickets.now) }
+        ensures rising { IfSome result (λ tickets. AreRisingRows (R.rows self.now.rows.now step.step.input)) }
     {
-        match partner_key(self.spec.classes.as_slice(), input, parts) {
+        match key_of(self.route.links_of(step), parts) {
             None => None,
-            Some(key) => self.rows.tickets_with(input, key.column, key.value),
+            Some(key) => self
+                .rows
+                .tickets_with(step.step.input, key.column, key.value),
         }
     }
 
@@ -111,13 +113,14 @@ impl<'a, R: StoredRows> Judge<'a, R> {
     fn seek(&self, at: usize, parts: &mut ArrayVec<Lent<'a>, 16>) -> Verdict
         requires parts { MayJudge (R.rows self.now.rows.now) self.now }
         requires walk { IsWalkAt self.now at parts.old.items }
+        requires route { IsRouteAt self.now at parts.old.items }
         ensures same { parts.new.items ≡ parts.old.items }
         ensures judged { IsJudged (known_by (R.rows self.now.rows.now) self.now) (steps_from self.now at) parts.old.items result }
     {
-        if at >= self.cert.len() {
+        if at >= self.route.len() {
             return Verdict::Ripe;
         }
-        let step = *self.cert.at(at);
+        let step = self.route.at(at);
         let first = self.judge_step(step, parts.as_slice());
         if !first.is_ripe() {
             return first;
@@ -127,17 +130,23 @@ impl<'a, R: StoredRows> Judge<'a, R> {
 
     // The same through each stored row that may stand for the step at the place, which itself is covered.
     #[cycle(judging)]
-    fn seek_through(&self, at: usize, step: CertStep, parts: &mut ArrayVec<Lent<'a>, 16>) -> Verdict
+    fn seek_through(
+        &self,
+        at: usize,
+        step: PurgeStep,
+        parts: &mut ArrayVec<Lent<'a>, 16>,
+    ) -> Verdict
         requires parts { MayJudge (R.rows self.now.rows.now) self.now }
         requires walk { IsWalkAt self.now at parts.old.items }
-        requires step { slice_get self.now.cert.now at ≡ Some step }
+        requires route { IsRouteAt self.now at parts.old.items }
+        requires step { slice_get self.now.route.now.steps at ≡ Some step }
         ensures same { parts.new.items ≡ parts.old.items }
-        ensures judged { IsJudgedAt (R.rows self.now.rows.now) self.now at step.input parts.old.items result }
+        ensures judged { IsJudgedAt (R.rows self.now.rows.now) self.now at step.step.input parts.old.items result }
     {
-        if self.cert.len() <= at + 1 {
+        if self.route.len() <= at + 1 {
             return Verdict::Ripe;
         }
-        match self.partners(step.input, parts.as_slice()) {
+        match self.partners(step, parts.as_slice()) {
             None => self.seek_each(at, step, parts),
             Some(tickets) => self.seek_among(at, step, tickets, parts),
         }
@@ -145,16 +154,17 @@ impl<'a, R: StoredRows> Judge<'a, R> {
 
     // The same where each row of the step's input is looked at.
     #[cycle(judging)]
-    fn seek_each(&self, at: usize, step: CertStep, parts: &mut ArrayVec<Lent<'a>, 16>) -> Verdict
+    fn seek_each(&self, at: usize, step: PurgeStep, parts: &mut ArrayVec<Lent<'a>, 16>) -> Verdict
         requires parts { MayJudge (R.rows self.now.rows.now) self.now }
         requires walk { IsWalkAt self.now at parts.old.items }
-        requires step { slice_get self.now.cert.now at ≡ Some step }
+        requires route { IsRouteAt self.now at parts.old.items }
+        requires step { slice_get self.now.route.now.steps at ≡ Some step }
         requires fits { at + 1 < 2 ^ 64 }
         ensures same { parts.new.items ≡ parts.old.items }
-        ensures judged { IsJudgedAt (R.rows self.now.rows.now) self.now at step.input parts.old.items result }
+        ensures judged { IsJudgedAt (R.rows self.now.rows.now) self.now at step.step.input parts.old.items result }
     {
-        for n in 0..self.rows.count(step.input) {
-            let (ticket, row) = self.rows.nth(step.input, n);
+        for n in 0..self.rows.count(step.step.input) {
+            let (ticket, row) = self.rows.nth(step.step.input, n);
             let through = self.seek_with(at, step, ticket, row, parts);
             if !through.is_ripe() {
                 return through;
@@ -168,17 +178,18 @@ impl<'a, R: StoredRows> Judge<'a, R> {
     fn seek_among(
         &self,
         at: usize,
-        step: CertStep,
+        step: PurgeStep,
         tickets: &[u64],
         parts: &mut ArrayVec<Lent<'a>, 16>,
     ) -> Verdict
         requires parts { MayJudge (R.rows self.now.rows.now) self.now }
         requires walk { IsWalkAt self.now at parts.old.items }
-        requires step { slice_get self.now.cert.now at ≡ Some step }
+        requires route { IsRouteAt self.now at parts.old.items }
+        requires step { slice_get self.now.route.now.steps at ≡ Some step }
         requires fits { at + 1 < 2 ^ 64 }
-        requires rising { AreRisingRows (R.rows self.now.rows.now step.input) }
+        requires rising { AreRisingRows (R.rows self.now.rows.now step.step.input) }
         ensures same { parts.new.items ≡ parts.old.items }
-        ensures judged { IsJudgedAmong (R.rows self.now.rows.now) self.now at step.input tickets.now parts.old.items result }
+        ensures judged { IsJudgedAmong (R.rows self.now.rows.now) self.now at step.step.input tickets.now parts.old.items result }
     {
         for ticket in tickets {
             let through = self.seek_under(at, step, *ticket, parts);
@@ -194,19 +205,20 @@ impl<'a, R: StoredRows> Judge<'a, R> {
     fn seek_under(
         &self,
         at: usize,
-        step: CertStep,
+        step: PurgeStep,
         ticket: u64,
         parts: &mut ArrayVec<Lent<'a>, 16>,
     ) -> Verdict
         requires parts { MayJudge (R.rows self.now.rows.now) self.now }
         requires walk { IsWalkAt self.now at parts.old.items }
-        requires step { slice_get self.now.cert.now at ≡ Some step }
+        requires route { IsRouteAt self.now at parts.old.items }
+        requires step { slice_get self.now.route.now.steps at ≡ Some step }
         requires fits { at + 1 < 2 ^ 64 }
-        requires rising { AreRisingRows (R.rows self.now.rows.now step.input) }
+        requires rising { AreRisingRows (R.rows self.now.rows.now step.step.input) }
         ensures same { parts.new.items ≡ parts.old.items }
-        ensures judged { IsJudgedAmong (R.rows self.now.rows.now) self.now at step.input (ticket ∷ []) parts.old.items result }
+        ensures judged { IsJudgedAmong (R.rows self.now.rows.now) self.now at step.step.input (ticket ∷ []) parts.old.items result }
     {
-        match self.rows.get(step.input, ticket) {
+        match self.rows.get(step.step.input, ticket) {
             None => Verdict::Ripe,
             Some(row) => self.seek_with(at, step, ticket, row, parts),
         }
@@ -217,24 +229,25 @@ impl<'a, R: StoredRows> Judge<'a, R> {
     fn seek_with(
         &self,
         at: usize,
-        step: CertStep,
+        step: PurgeStep,
         ticket: u64,
         row: &'a Row,
         parts: &mut ArrayVec<Lent<'a>, 16>,
     ) -> Verdict
         requires parts { MayJudge (R.rows self.now.rows.now) self.now }
         requires walk { IsWalkAt self.now at parts.old.items }
-        requires step { slice_get self.now.cert.now at ≡ Some step }
+        requires route { IsRouteAt self.now at parts.old.items }
+        requires step { slice_get self.now.route.now.steps at ≡ Some step }
         requires fits { at + 1 < 2 ^ 64 }
-        requires stored { In (ticket, row.now) (R.rows self.now.rows.now step.input) }
+        requires stored { In (ticket, row.now) (R.rows self.now.rows.now step.step.input) }
         ensures same { parts.new.items ≡ parts.old.items }
-        ensures judged { IsJudgedBy (R.rows self.now.rows.now) self.now at parts.old.items (tuple_of step.input (ticket, row.now)) result }
+        ensures judged { IsJudgedBy (R.rows self.now.rows.now) self.now at parts.old.items (tuple_of step.step.input (ticket, row.now)) result }
     {
         if ticket >= self.low {
             return Verdict::Ripe;
         }
-        let next = Lent::of(ticket, step.input, row);
-        if !suits(self.spec.classes.as_slice(), parts.as_slice(), &next) {
+        let next = Lent::of(ticket, step.step.input, row);
+        if !match_all(self.route.links_of(step), parts.as_slice(), &next) {
             return Verdict::Ripe;
         }
         parts.insert(0, next);
@@ -245,11 +258,12 @@ impl<'a, R: StoredRows> Judge<'a, R> {
 
     // What is said of what a row asks for after the first step, which is covered.
     #[inline(never)]
-    fn judge_through(&self, step: CertStep, own: Lent<'a>) -> Verdict
+    fn judge_through(&self, step: PurgeStep, own: Lent<'a>) -> Verdict
         requires parts { MayJudge (R.rows self.now.rows.now) self.now }
         requires walk { IsWalkAt self.now 0 (own ∷ []) }
-        requires step { slice_get self.now.cert.now 0 ≡ Some step }
-        ensures { IsJudgedAt (R.rows self.now.rows.now) self.now 0 step.input (own.entry ∷ []) result }
+        requires route { IsRouteAt self.now 0 (own ∷ []) }
+        requires step { slice_get self.now.route.now.steps 0 ≡ Some step }
+        ensures { IsJudgedAt (R.rows self.now.rows.now) self.now 0 step.step.input (own.entry ∷ []) result }
     {
         let mut parts = ArrayVec::new();
         parts.push(own);
@@ -261,17 +275,18 @@ impl<'a, R: StoredRows> Judge<'a, R> {
     fn judge(&self, own: Lent<'a>) -> Verdict
         requires parts { MayJudge (R.rows self.now.rows.now) self.now }
         requires walk { IsWalkAt self.now 0 (own ∷ []) }
+        requires route { IsRouteAt self.now 0 (own ∷ []) }
         ensures { IsJudged (known_by (R.rows self.now.rows.now) self.now) (steps_from self.now 0) (own.entry ∷ []) result }
     {
-        if self.cert.len() == 0 {
+        if self.route.len() == 0 {
             return Verdict::Ripe;
         }
-        let step = *self.cert.at(0);
+        let step = self.route.at(0);
         let first = self.judge_step(step, from_ref(&own));
         if !first.is_ripe() {
             return first;
         }
-        if self.cert.len() == 1 {
+        if self.route.len() == 1 {
             return Verdict::Ripe;
         }
         self.judge_through(step, own)
@@ -279,13 +294,13 @@ impl<'a, R: StoredRows> Judge<'a, R> {
 }
 
 /// Judges a row of an input by what it asks for, by the input's certificate, over the stored rows below the low-water ticket: it
-/// is ripe exactly where punctuations below that ticket cover all of it. The join is sound, the certificate is one of the input,
-/// all rows fit it, and there is one store of punctuations for each input.
+/// is ripe exactly where punctuations below that ticket cover all of it. The join is sound, the route follows a certificate of the
+/// input, all rows fit it, and there is one store of punctuations for each input.
 #[inline(always)]
 pub fn judge_row<R: StoredRows>(
     spec: &JoinSpec,
     schemes: &Schemes,
-    cert: &Cert,
+    route: &PurgeRoute,
     input: u32,
     row: &Row,
     rows: &R,
@@ -295,15 +310,16 @@ pub fn judge_row<R: StoredRows>(
     requires parts { AreParts spec.now (R.rows rows.now) stores.now }
     requires input { input < length spec.now.inputs }
     requires schemes { FitSchemes spec.now.inputs schemes.now }
-    requires certified { IsCertificate spec.now schemes.now input cert.now }
+    requires certified { IsCertificate spec.now schemes.now input (steps_in route.now) }
+    requires route { IsPurgeRoute spec.now schemes.now (steps_in route.now) input route.now }
     requires fits { length row.now ≡ slice_index (arities_of spec.now.inputs) input }
-    ensures ripe { (ticket : ℕ) → says_ripe result ≡ all_covered (known_of spec.now (R.rows rows.now) stores.now low) (entries schemes.now cert.now) (tuple_of input (ticket, row.now) ∷ []) }
-    ensures asks { (ticket : ℕ) → IsJudged (known_of spec.now (R.rows rows.now) stores.now low) (entries schemes.now cert.now) (tuple_of input (ticket, row.now) ∷ []) result }
+    ensures ripe { (ticket : ℕ) → says_ripe result ≡ all_covered (known_of spec.now (R.rows rows.now) stores.now low) (entries schemes.now (steps_in route.now)) (tuple_of input (ticket, row.now) ∷ []) }
+    ensures asks { (ticket : ℕ) → IsJudged (known_of spec.now (R.rows rows.now) stores.now low) (entries schemes.now (steps_in route.now)) (tuple_of input (ticket, row.now) ∷ []) result }
 {
     let judge = Judge {
         spec,
         schemes,
-        cert,
+        route,
         rows,
         stores,
         low,
@@ -335,5 +351,6 @@ pub fn ripe<R: StoredRows>(
     if low <= ticket {
         return false;
     }
-    judge_row(spec, schemes, cert, input, row, rows, stores, low).is_ripe()
+    let route = purge_route(spec, schemes, cert, input);
+    judge_row(spec, schemes, &route, input, row, rows, stores, low).is_ripe()
 }

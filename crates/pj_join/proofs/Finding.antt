@@ -1,5 +1,5 @@
 -- The choices of a tuple give all its results.
-use Rattle.std.proofs.Common.{ℕ, zero, suc, ◌-◌, ◌<◌, List, [], ◌∷◌, ◌≡◌, map, filter, flat_map, length, get_or, refl, sym, ap, ◌∙◌, inl, inr, arith, append-nil}
+use Rattle.std.proofs.Common.{ℕ, zero, suc, ◌<◌, List, [], ◌∷◌, ◌≡◌, map, filter, flat_map, length, get_or, refl, sym, ap, ◌∙◌, inl, inr, arith, append-nil}
 use Rattle.std.proofs.lemmas.List.{length-map}
 use Rattle.pj_events.specs.Join.{In, JoinData, TupleAt, agree, product, joined, upto_from, candidates, combinations, results}
 use Rattle.pj_probe.specs.Choices.{choices}

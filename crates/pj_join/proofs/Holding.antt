@@ -9,7 +9,7 @@ use Rattle.pj_events.specs.Join.{In, PunctAt, Sweep, TupleAt, has, is_held, of_i
 use Rattle.pj_events.specs.KeptState.{kept_ripe, swept}
 use Rattle.pj_waiting.specs.Holding.{AreFreed, AreHeldBy, IsHeldBy, IsListedIf, KeepsLists, StayHeld, WaitingView, is_listed, tickets_where, heard_at}
 use Rattle.pj_join.specs.Held.{AreHeld, AreHeldBehind, IsHolder, holds}
-use Rattle.pj_rows.specs.Finding.{IsStaying, stays, still_held}
+use Rattle.pj_rows.specs.Finding.{IsStaying, still_held}
 use Rattle.pj_join.specs.Joins.{JoinView, after}
 use Rattle.pj_waiting.specs.Letting.{lets_go, waiting_with}
 use Rattle.pj_rows.specs.Tuples.{tuple_in}

@@ -16,6 +16,8 @@ use Rattle.pj_events.specs.KeptState.{KeptState, kept_low, kept_ripe}
 use Rattle.pj_join_laws.proofs.Upto.{get_or-upto}
 use Rattle.pj_join.specs.declared.place.Place.{Place}
 use Rattle.pj_join.specs.Insides.{IsJoin, inside}
+use Rattle.pj_shape.specs.Certificates.{IsCertificate}
+use Rattle.pj_cover.specs.Routes.{IsPurgeRoute, RouteView}
 use Rattle.pj_recheck.specs.Judging.{JudgeView, MayJudge, ripe_at}
 use Rattle.pj_join.specs.Sides.{IsShaped, heard_in, heard_of, log_of, puncts_of}
 use Rattle.pj_rows.specs.Tuples.{row_pairs, state_at, tuple_in}
@@ -211,13 +213,14 @@ module _ (spec : JoinData) (limit next done : ℕ) (states : List StateView) (st
           ∙ ap (older low) (same-rows n)
           ∙ sym (filter-swap (λ (y : TupleAt). eqb y.input n) (λ (y : TupleAt). ltb y.ticket low) (log_of states))
 
-  may-judge : (input : ℕ) → input < inputs spec → MayJudge spec.shape spec.schemes (steps_of spec input) input states stores
-  may-judge input lt = record {
+  may-judge : (input : ℕ) → input < inputs spec → (route : RouteView) → IsPurgeRoute spec.shape spec.schemes (steps_of spec input) input route → MayJudge spec.shape spec.schemes route input states stores
+  may-judge input lt route is = record {
     parts = record { sound = j.ordered.sound; fit = fit; one_each = j.heard.arities };
     count = all-states spec limit next done states stores pending taken j ∙ shapes;
     there = omega (arith, lt, shapes);
     fitting = j.ordered.certified.fitting;
-    certified = j.ordered.certified.each input lt;
+    certified = subst (λ (cert : List CertStep). IsCertificate spec.shape spec.schemes input cert) (sym is.follows) (j.ordered.certified.each input lt);
+    leads = subst (λ (cert : List CertStep). IsPurgeRoute spec.shape spec.schemes cert input route) (sym is.follows) is;
   }
     where
       fit : (k : ℕ) → k < length spec.shape.inputs → HaveLength (get_or (arities spec) k 0) (row_pairs states k)
@@ -227,10 +230,9 @@ module _ (spec : JoinData) (limit next done : ℕ) (states : List StateView) (st
           subst (λ (q : ℕ × List Value). length q.1 ≡ get_or (arities spec) k 0) s.2 (shape.fit s.0 s.1)
 
   -- the same of what a call is lent
-  pub may_judge_by : (input : ℕ) → input < inputs spec → (shape : JoinSpec) (cert : List CertStep) (states' : List StateView) (stores' : List Store) → shape ≡ spec.shape → cert ≡ steps_of spec input → states' ≡ states → stores' ≡ stores
-      → MayJudge shape spec.schemes cert input states' stores'
-  may_judge_by input lt shape cert states' stores' a b c d =
-      subst (λ (s : JoinSpec). MayJudge s spec.schemes cert input states' stores') (sym a)
-      (subst (λ (cs : List CertStep). MayJudge spec.shape spec.schemes cs input states' stores') (sym b)
-      (subst (λ (ss : List StateView). MayJudge spec.shape spec.schemes (steps_of spec input) input ss stores') (sym c)
-      (subst (λ (ps : List Store). MayJudge spec.shape spec.schemes (steps_of spec input) input states ps) (sym d) (may-judge input lt))))
+  pub may_judge_by : (input : ℕ) → input < inputs spec → (shape : JoinSpec) (route : RouteView) (states' : List StateView) (stores' : List Store) → shape ≡ spec.shape → IsPurgeRoute spec.shape spec.schemes (steps_of spec input) input route → states' ≡ states → stores' ≡ stores
+      → MayJudge shape spec.schemes route input states' stores'
+  may_judge_by input lt shape route states' stores' a is c d =
+      subst (λ (s : JoinSpec). MayJudge s spec.schemes route input states' stores') (sym a)
+      (subst (λ (ss : List StateView). MayJudge spec.shape spec.schemes route input ss stores') (sym c)
+      (subst (λ (ps : List Store). MayJudge spec.shape spec.schemes route input states ps) (sym d) (may-judge input lt route is)))

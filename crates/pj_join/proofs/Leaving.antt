@@ -1,5 +1,5 @@
 -- What is left of the punctuations that wait.
-use Rattle.std.proofs.Common.{ℕ, Bool, true, false, not, ◌&&◌, ◌||◌, List, ◌≡◌, refl, ap, ◌∙◌, eqb, arith}
+use Rattle.std.proofs.Common.{ℕ, Bool, true, false, not, ◌&&◌, ◌||◌, List, ◌≡◌, refl, ap, ◌∙◌, eqb}
 use Rattle.pj_value.proofs.Members.{filter-agree}
 use Rattle.pj_state.specs.Rising.{IsRising}
 use Rattle.pj_events.specs.Join.{PunctAt, TupleAt, has, is_held}

@@ -16,3 +16,4 @@ pub mod Lowest
 pub mod Settled
 pub mod Leaving
 pub mod Spared
+pub mod Purged

@@ -1,5 +1,5 @@
 -- What rows that stay or go tell of punctuations.
-use Rattle.std.proofs.Common.{ℕ, List, ◌≡◌, arith}
+use Rattle.std.proofs.Common.{ℕ, List, ◌≡◌}
 use Rattle.pj_recheck.specs.Judging.{JudgeView, ripe_at, ripe_tickets, rows_at}
 use Rattle.pj_rows.specs.Finding.{AreSome}
 

@@ -1,3 +1,4 @@
+pub mod Purges
 pub mod Joins
 pub mod Sides
 pub mod Insides

@@ -3,7 +3,6 @@ pub use Rattle.pj_cover.specs.Asking.{AsksStill}
 pub use Rattle.pj_recheck.specs.declared.marks.Watches.{Watches}
 pub use Rattle.pj_recheck.specs.declared.marks.Judged.{Judged}
 use Rattle.std.specs.Prelude.{ℕ, ◌<◌, ◌≤◌, ◌≡◌, true, false, List, length}
-use Rattle.pj_state.specs.States.{stored}
 use Rattle.pj_events.specs.Join.{In, JoinData, PunctAt, TupleAt, cert_of, has, inputs}
 use Rattle.pj_events.specs.KeptState.{kept_low, kept_ripe}
 use Rattle.pj_join.specs.Joins.{JoinView}

@@ -1,5 +1,5 @@
 // A join of two and more inputs: its calls.
-ghost use Rattle.std.specs.Prelude.{true, ◌≡◌, ◌<◌, ◌≤◌, ◌+◌, ◌^◌, ◌↔◌, All, List, [], ◌∷◌, ◌++◌, length, OnOk, OnErr, IfOk, IsErrOf, IsTrue, Err, map, slice_index_or, take, ◌==◌};
+ghost use Rattle.std.specs.Prelude.{true, ◌≡◌, ◌<◌, ◌≤◌, ◌+◌, ◌^◌, ◌↔◌, All, List, [], ◌∷◌, ◌++◌, length, OnOk, OnErr, IfOk, IsErrOf, IsTrue, Err, map, take, ◌==◌};
 ghost use Rattle.pj_state.specs.Rising.{IsRising};
 ghost use Rattle.pj_state.specs.States.{state_of, stored};
 ghost use Rattle.pj_shape.specs.Sound.{IsSoundSpec};
@@ -18,7 +18,8 @@ ghost use Rattle.pj_join.specs.Watched.{AreOpenBut};
 use crate::JoinStop;
 use crate::place::{Place, first_pending};
 use crate::settling::{Left, has_young, remove_all, sweep};
-use crate::starting::{empty_states, empty_stores, empty_watches};
+use crate::starting::{empty_states, empty_stores, empty_watches, purge_routes};
+use pj_cover::PurgeRoute;
 use pj_events::Out;
 use pj_join_laws::{forgetting_is_safe, lawfulness, ripeness, standing};
 use pj_pattern::Punct;
@@ -47,6 +48,7 @@ pub struct Join {
     certs: List<Cert>,
     routes: List<ProbeRoute>,
     rechecks: Vec<InputRoutes>,
+    purges: Vec<PurgeRoute>,
     limit: u64,
     next: u64,
     states: Vec<State>,
@@ -69,12 +71,13 @@ impl Model for Join {
     ghost use Rattle.pj_probe.specs.Routes.{AreProbeRoutes, columns_of};
     ghost use Rattle.pj_recheck.specs.Recheck.{AreRoutes};
     ghost use Rattle.pj_events.specs.Join.{inputs};
+    ghost use Rattle.pj_join.specs.Purges.{ArePurgeRoutes};
 
     ghost Value = { JoinView };
 
     ghost view = { λ j. seen (made_with j.node (join_data (arc_value j.spec) j.schemes j.certs) j.limit) j.next j.done (log_of j.states.items) (puncts_of j.stores.items) j.waiting.puncts j.taken.items };
 
-    ghost invariant = { λ j. IsJoin (join_data (arc_value j.spec) j.schemes j.certs) j.limit (inside j.next j.done j.states.items j.stores.items j.pending j.taken.items) × AreWatched (join_data (arc_value j.spec) j.schemes j.certs) j.next (lowest j.next j.done (log_of j.states.items) j.taken.items) (log_of j.states.items) (puncts_of j.stores.items) j.watches.items × AreHeld j.next (log_of j.states.items) j.waiting × AreProbeRoutes (arc_value j.spec).classes (columns_of j.states.items) j.routes × AreRoutes (join_data (arc_value j.spec) j.schemes j.certs) j.states.items (inputs (join_data (arc_value j.spec) j.schemes j.certs)) j.rechecks.items };
+    ghost invariant = { λ j. IsJoin (join_data (arc_value j.spec) j.schemes j.certs) j.limit (inside j.next j.done j.states.items j.stores.items j.pending j.taken.items) × AreWatched (join_data (arc_value j.spec) j.schemes j.certs) j.next (lowest j.next j.done (log_of j.states.items) j.taken.items) (log_of j.states.items) (puncts_of j.stores.items) j.watches.items × AreHeld j.next (log_of j.states.items) j.waiting × AreProbeRoutes (arc_value j.spec).classes (columns_of j.states.items) j.routes × AreRoutes (join_data (arc_value j.spec) j.schemes j.certs) j.states.items (inputs (join_data (arc_value j.spec) j.schemes j.certs)) j.rechecks.items × ArePurgeRoutes (join_data (arc_value j.spec) j.schemes j.certs) (inputs (join_data (arc_value j.spec) j.schemes j.certs)) j.purges.items };
 }
 
 impl Join {
@@ -106,6 +109,7 @@ impl Join {
             },
             states.as_slice(),
         )?;
+        let purges = purge_routes(alloc, &spec, &schemes, certs.as_slice())?;
         Ok(Join {
             alloc,
             node,
@@ -114,6 +118,7 @@ impl Join {
             certs,
             routes,
             rechecks,
+            purges,
             limit,
             next: 0,
             states,
@@ -396,13 +401,11 @@ impl Join {
         ensures out { OnOk result (out.new ≡ out.old ++ puncts_let_go (with_waiting waiting.old.puncts self.now) input) }
         ensures err { OnErr result ((take (length removed.old) removed.new ≡ removed.old) × (take (length out.old) out.new ≡ out.old)) }
     {
-        let none = Cert::of(List::new(self.alloc));
-        let cert = cert_of(self.certs.as_slice(), &none, input);
         let low = self.low();
         let judge = Judge {
             spec: &self.spec,
             schemes: &self.schemes,
-            cert,
+            route: &self.purges[input as usize],
             input,
             states: self.states.as_slice(),
             stores: self.stores.as_slice(),
@@ -517,17 +520,6 @@ fn store(
             pending.pop_last();
             Err(stop)
         }
-    }
-}
-
-// The certificate of an input; none where it has none.
-fn cert_of<'a>(certs: &'a [Cert], none: &'a Cert, input: u32) -> &'a Cert
-    requires { none.now ≡ [] }
-    ensures { result.now ≡ slice_index_or certs.now input [] }
-{
-    match certs.get(input as usize) {
-        None => none,
-        Some(cert) => cert,
     }
 }
 

@@ -1,14 +1,17 @@
 // A join with no rows and no punctuations.
-ghost use Rattle.std.specs.Prelude.{◌≡◌, ◌<◌, ◌≤◌, ℕ, [], length, map, slice_index, sum, All, IfOk, OnOk};
-ghost use Rattle.pj_shape.specs.Sound.{arities_of};
-ghost use Rattle.pj_events.specs.Join.{of_input, upto_from};
+ghost use Rattle.std.specs.Prelude.{◌≡◌, ◌<◌, ◌≤◌, ℕ, [], length, map, slice_index, slice_index_or, sum, All, IfOk, OnOk};
+ghost use Rattle.pj_shape.specs.Sound.{IsSoundSpec, arities_of};
+ghost use Rattle.pj_events.specs.Join.{AreCertified, inputs, of_input, upto_from};
+ghost use Rattle.pj_recheck.specs.Judging.{join_data};
+ghost use Rattle.pj_join.specs.Purges.{ArePurgeRoutes};
 ghost use Rattle.pj_join.specs.Sides.{AreAllShaped, IsShaped, heard_in, heard_of};
 ghost use Rattle.pj_rows.specs.Tuples.{tuples_in};
 ghost use Rattle.pj_recheck.specs.Watching.{watches_at};
 
+use pj_cover::{PurgeRoute, purge_route};
 use pj_puncts::PunctStore;
 use pj_recheck::Watches;
-use pj_shape::{ClassCol, JoinSpec, Schema};
+use pj_shape::{Cert, ClassCol, JoinSpec, Schema, Schemes};
 use pj_state::State;
 use pj_value::{List, NoMemory};
 use std::alloc::Global;
@@ -96,4 +99,36 @@ pub fn empty_watches(alloc: Global, inputs: usize) -> Result<Vec<Watches>, NoMem
         watches.push(Watches::new(alloc))?;
     }
     Ok(watches)
+}
+
+// The certificate of an input; none where it has none.
+fn cert_of<'a>(certs: &'a [Cert], none: &'a Cert, input: u32) -> &'a Cert
+    requires { none.now ≡ [] }
+    ensures { result.now ≡ slice_index_or certs.now input [] }
+{
+    match certs.get(input as usize) {
+        None => none,
+        Some(cert) => cert,
+    }
+}
+
+/// The route of each input by which its tuples are judged.
+#[tactic(auto, using(crate::proofs::Purged::purge_given, crate::proofs::Purged::purges_none))]
+pub fn purge_routes(
+    alloc: Global,
+    spec: &JoinSpec,
+    schemes: &Schemes,
+    certs: &[Cert],
+) -> Result<Vec<PurgeRoute>, NoMemory>
+    requires sound { IsSoundSpec spec.now }
+    requires certified { AreCertified (join_data spec.now schemes.now certs.now) }
+    ensures { IfOk result (λ routes. ArePurgeRoutes (join_data spec.now schemes.now certs.now) (inputs (join_data spec.now schemes.now certs.now)) routes.items) }
+{
+    let none = Cert::of(List::new(alloc));
+    let mut routes = Vec::new(alloc);
+    for input in 0..spec.inputs.len() {
+        let cert = cert_of(certs, &none, input as u32);
+        routes.push(purge_route(spec, schemes, cert, input as u32))?;
+    }
+    Ok(routes)
 }

@@ -1,5 +1,5 @@
 -- What the loops of a join cite.
-use Rattle.std.proofs.Common.{ℕ, ◌+◌, Bool, true, false, cond, List, [], ◌∷◌, ◌++◌, ◌≡◌, Some, map, filter, take, length, get_or, refl, sym, ap, ap₂, ◌∙◌, subst, arith, append_assoc}
+use Rattle.std.proofs.Common.{ℕ, ◌+◌, Bool, true, false, cond, List, [], ◌∷◌, ◌++◌, ◌≡◌, Some, map, filter, take, length, get_or, refl, sym, ap, ap₂, ◌∙◌, subst, append_assoc}
 use Rattle.std.specs.List.{slice_get}
 use Rattle.std.proofs.lemmas.List.{map-append, take_more}
 use Rattle.std.proofs.lemmas.List.Elements.{filter-append}
@@ -9,7 +9,8 @@ use Rattle.pj_state.specs.declared.shared.Stored.{Stored}
 use Rattle.pj_state.specs.States.{StateView, pair_of as pair_stored, stored}
 use Rattle.pj_puncts.specs.Stores.{Store}
 use Rattle.pj_shape.specs.Sound.{arities_of}
-use Rattle.pj_events.specs.Join.{CertStep, In, JoinSpec, Value}
+use Rattle.pj_events.specs.Join.{In, JoinSpec, Value}
+use Rattle.pj_cover.specs.Routes.{RouteView}
 use Rattle.pj_recheck.specs.Judging.{MayJudge, one_if}
 use Rattle.pj_rows.specs.Tuples.{state_at}
 
@@ -33,9 +34,9 @@ picked_more {A} {B} p f xs i x b first ys ys' at is e n =
 -- ---- rows that are judged
 
 -- a row that is stored fits its input
-pub row_fits : (spec : JoinSpec) (schemes : List (List (List Bool))) (cert : List CertStep) (input : ℕ) (states : List StateView) (stores : List Store) (ticket : ℕ) (row : List Value) → MayJudge spec schemes cert input states stores
+pub row_fits : (spec : JoinSpec) (schemes : List (List (List Bool))) (route : RouteView) (input : ℕ) (states : List StateView) (stores : List Store) (ticket : ℕ) (row : List Value) → MayJudge spec schemes route input states stores
     → (at : ℕ) × (slice_get (state_at states input).rows at ≡ Some (stored ticket row)) → length row ≡ get_or (arities_of spec.inputs) input 0
-row_fits spec schemes cert input states stores ticket row may (at, e) =
+row_fits spec schemes route input states stores ticket row may (at, e) =
     may.parts.fit input may.there (ticket, row) (In-map_from pair_stored (stored ticket row) (state_at states input).rows
     (subst (λ (s : Stored). In s (state_at states input).rows) (get_or_from_slice_get (state_at states input).rows at (stored ticket row) (stored ticket row) e)
     (in-place (state_at states input).rows (stored ticket row) at (slice_get_within (state_at states input).rows at (stored ticket row) e))))

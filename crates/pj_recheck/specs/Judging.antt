@@ -1,5 +1,5 @@
 -- What the stored rows of an input are judged by, and which are ripe.
-use Rattle.std.specs.Prelude.{Bool, List, ℕ, ◌≡◌, ◌<◌, ◌+◌, if◌then◌else◌, [], ◌∷◌, ◌++◌, map, filter, length}
+use Rattle.std.specs.Prelude.{Bool, List, ℕ, ◌≡◌, ◌<◌, if◌then◌else◌, [], ◌∷◌, ◌++◌, map, filter, length}
 use Rattle.pj_shape.specs.declared.joins.CertStep.{CertStep}
 use Rattle.pj_shape.specs.declared.joins.JoinSpec.{JoinSpec}
 use Rattle.pj_events.specs.Join.{JoinData}
@@ -10,6 +10,7 @@ use Rattle.pj_state.specs.declared.shared.Stored.{Stored}
 use Rattle.pj_state.specs.States.{StateView, pair_of, tickets_of}
 use Rattle.pj_puncts.specs.Stores.{Store}
 use Rattle.pj_cover.specs.Asking.{AreParts, entries, is_ripe, known_of, tuple_of}
+use Rattle.pj_cover.specs.Routes.{IsPurgeRoute, RouteView, steps_in}
 use Rattle.pj_rows.specs.Tuples.{row_pairs, state_at}
 
 -- a join of this shape with these schemes and certificates of its inputs, which hands up rows and punctuations
@@ -27,13 +28,14 @@ pub record JudgeView : Type 0 where
   pub stores : List Store
   pub low : ℕ
 
--- these can be judged by: the parts and the schemes fit, and the certificate is one of the input
-pub record MayJudge (spec : JoinSpec) (schemes : List (List (List Bool))) (cert : List CertStep) (input : ℕ) (states : List StateView) (stores : List Store) : Type 0 where
+-- these can be judged by: the parts and the schemes fit, and the route follows a certificate of the input
+pub record MayJudge (spec : JoinSpec) (schemes : List (List (List Bool))) (route : RouteView) (input : ℕ) (states : List StateView) (stores : List Store) : Type 0 where
   pub parts : AreParts spec (row_pairs states) stores
   pub count : length states ≡ length spec.inputs
   pub there : input < length spec.inputs
   pub fitting : FitSchemes spec.inputs schemes
-  pub certified : IsCertificate spec schemes input cert
+  pub certified : IsCertificate spec schemes input (steps_in route)
+  pub leads : IsPurgeRoute spec schemes (steps_in route) input route
 
 -- the rows of the input
 abbrev pub rows_at : JudgeView → List Stored

@@ -9,22 +9,22 @@ ghost use Rattle.pj_recheck.specs.Watching.{AreJudged, AreLookedAt, IsOneJudged,
 
 use crate::marks::{Judged, Watches};
 use crate::stored::Inputs;
-use pj_cover::{Verdict, judge_row};
+use pj_cover::{PurgeRoute, Verdict, judge_row};
 use pj_puncts::PunctStore;
 use pj_rows::in_order;
-use pj_shape::{Cert, JoinSpec, Schemes};
+use pj_shape::{JoinSpec, Schemes};
 use pj_state::{Spot, State};
 use pj_value::{List, NoMemory, Row};
 use std::alloc::Global;
 use std::marker::Model;
 
-/// What the stored rows of an input are judged by: the join's shape and schemes, the input's certificate, the rows and the
-/// punctuations of all inputs, and the low-water ticket.
+/// What the stored rows of an input are judged by: the join's shape and schemes, the route that follows the input's certificate,
+/// the rows and the punctuations of all inputs, and the low-water ticket.
 #[derive(Drop)]
 pub struct Judge<'a> {
     pub spec: &'a JoinSpec,
     pub schemes: &'a Schemes,
-    pub cert: &'a Cert,
+    pub route: &'a PurgeRoute,
     pub input: u32,
     pub states: &'a [State],
     pub stores: &'a [PunctStore],
@@ -32,13 +32,14 @@ pub struct Judge<'a> {
 }
 
 impl<'a> Model for Judge<'a> {
+    ghost use Rattle.pj_cover.specs.Routes.{steps_in};
     ghost use Rattle.pj_recheck.specs.Judging.{JudgeView, MayJudge};
 
     ghost Value = { JudgeView };
 
-    ghost view = { λ j. record { spec = j.spec.now; schemes = j.schemes.now; cert = j.cert.now; input = j.input; states = j.states.now; stores = j.stores.now; low = j.low } };
+    ghost view = { λ j. record { spec = j.spec.now; schemes = j.schemes.now; cert = steps_in j.route.now; input = j.input; states = j.states.now; stores = j.stores.now; low = j.low } };
 
-    ghost invariant = { λ j. MayJudge j.spec.now j.schemes.now j.cert.now j.input j.states.now j.stores.now };
+    ghost invariant = { λ j. MayJudge j.spec.now j.schemes.now j.route.now j.input j.states.now j.stores.now };
 }
 
 // Puts the row at the end of those that go, and its ticket to theirs, where it is ripe; or neither.
@@ -118,7 +119,7 @@ impl<'a> Judge<'a> {
         judge_row(
             self.spec,
             self.schemes,
-            self.cert,
+            self.route,
             self.input,
             row,
             &rows,

@@ -5,7 +5,7 @@ ghost use Rattle.pj_puncts.specs.Stores.{IsAbove};
 ghost use Rattle.pj_test_states.specs.Chain.{at, chain, chain_cert, chain_schemes, firsts, number, pair, pairs, seconds, two_rows};
 ghost use Rattle.pj_value.specs.Options.{is_value};
 
-use pj_cover::{StoredRows, Verdict, judge_row, ripe};
+use pj_cover::{StoredRows, Verdict, judge_row, purge_route, ripe};
 use pj_pattern::{Pattern, Punct, Shape};
 use pj_puncts::{Given, NumberedPunct, PunctStore};
 use pj_shape::{Cert, CertStep, ClassCol, Column, JoinSpec, Schema, Scheme, Schemes};
@@ -571,7 +571,8 @@ fn judged(alloc: Global, stores: &[PunctStore], low: u64) -> Result<(Verdict, bo
     let cert = cert(alloc)?;
     let rows = two_rows(alloc)?;
     let own = pair_row(alloc, 7, 1)?;
-    let said = judge_row(&spec, &schemes, &cert, 0, &own, &rows, stores, low);
+    let route = purge_route(&spec, &schemes, &cert, 0);
+    let said = judge_row(&spec, &schemes, &route, 0, &own, &rows, stores, low);
     let is_ripe = ripe(&spec, &schemes, &cert, 0, 0, &own, &rows, stores, low);
     Ok((said, is_ripe))
 }

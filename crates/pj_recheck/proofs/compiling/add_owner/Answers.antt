@@ -1,6 +1,5 @@
-use Rattle.std.proofs.Common.{[], List, ap, get_or, length, subst, ◌∙◌}
+use Rattle.std.proofs.Common.{[], ap, get_or, length, subst, ◌∙◌}
 use Rattle.pj_cover.specs.Asking.{entries}
-use Rattle.pj_shape.specs.declared.joins.CertStep.{CertStep}
 use Rattle.pj_events.specs.Join.{JoinData}
 use Rattle.pj_recheck.specs.Recheck.{BacksFit, HaveBacks, HaveRoutes, RoutesFit}
 use Rattle.pj_recheck.specs.Watching.{PathView, asker}

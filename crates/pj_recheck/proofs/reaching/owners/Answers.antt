@@ -1,4 +1,4 @@
-use Rattle.std.proofs.Common.{ap, IfOk, IfSome, List, ℕ, subst, Option}
+use Rattle.std.proofs.Common.{IfSome, List, subst}
 use Rattle.pj_recheck.specs.declared.routes.Hop.{Hop}
 use Rattle.pj_recheck.specs.Recheck.{HopsLead}
 use Rattle.pj_recheck.proofs.Backward.{way_leads}

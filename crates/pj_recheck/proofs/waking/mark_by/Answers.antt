@@ -1,6 +1,6 @@
 use Rattle.std.proofs.Common.{ℕ, List, Option, IfSome, ◌∙◌, subst, sym}
 use Rattle.pj_recheck.specs.Recheck.{RouteFinds}
-use Rattle.pj_recheck.proofs.Rechecked.{leaves_all, leaves_elsewhere, leaves_found}
+use Rattle.pj_recheck.proofs.Rechecked.{leaves_elsewhere, leaves_found}
 use Rattle.pj_recheck.proofs.waking.mark_by.Goals as goal
 
 pub returns-then-not-is_wild_elsewhere-clause-left : goal.returns-then-not-is_wild_elsewhere-clause-left

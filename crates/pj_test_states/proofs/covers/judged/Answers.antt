@@ -23,7 +23,9 @@ pub ripe-is_ripe-requires-clause-schemes : goal.ripe-is_ripe-requires-clause-sch
 ripe-is_ripe-requires-clause-schemes c = fitting c.in_ok-spec.spec c.in_ok-schemes.schemes c.in_ok-spec.ensures c.in_ok-schemes.ensures
 
 pub judge_row-said-requires-clause-certified : goal.judge_row-said-requires-clause-certified
-judge_row-said-requires-clause-certified c = certified c.in_ok-spec.spec c.in_ok-schemes.schemes c.in_ok-cert.cert c.in_ok-spec.ensures c.in_ok-schemes.ensures c.in_ok-cert.ensures
+judge_row-said-requires-clause-certified c =
+    subst (IsCertificate c.in_ok-spec.spec c.in_ok-schemes.schemes 0) (sym c.purge_route-route.ensures.follows)
+    (certified c.in_ok-spec.spec c.in_ok-schemes.schemes c.in_ok-cert.cert c.in_ok-spec.ensures c.in_ok-schemes.ensures c.in_ok-cert.ensures)
 
 pub ripe-is_ripe-requires-clause-certified : goal.ripe-is_ripe-requires-clause-certified
 ripe-is_ripe-requires-clause-certified c = certified c.in_ok-spec.spec c.in_ok-schemes.schemes c.in_ok-cert.cert c.in_ok-spec.ensures c.in_ok-schemes.ensures c.in_ok-cert.ensures

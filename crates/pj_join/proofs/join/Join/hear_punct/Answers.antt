@@ -5,6 +5,7 @@ use Rattle.pj_puncts.specs.Stores.{IsAbove, Store}
 use Rattle.pj_shape.specs.declared.joins.JoinSpec.{JoinSpec}
 use Rattle.pj_events.specs.Join.{PunctAt, inputs}
 use Rattle.pj_join.specs.Insides.{IsJoin, inside, lowest, made_with, seen}
+use Rattle.pj_join.specs.Purges.{ArePurgeRoutes}
 use Rattle.pj_join.proofs.Lowest.{lowest_punct}
 use Rattle.pj_recheck.specs.Judging.{join_data}
 use Rattle.pj_waiting.specs.Letting.{going_at_once}
@@ -55,14 +56,14 @@ pub mark_covered-requires-clause-wide : goal.mark_covered-requires-clause-wide
 mark_covered-requires-clause-wide c = subst (λ (ss : List StateView). AreWide ss) (sym c.as_slice-2.ensures.value) (wide (join_data (arc_value c.self.inside.spec) c.self.inside.schemes c.self.inside.certs) c.self.inside.limit c.self.inside.next c.self.inside.done c.self.inside.states.items c.self.inside.stores.items c.self.inside.pending c.self.inside.taken.items c.self.invariant.0)
 
 pub invariant_of-self : goal.invariant_of-self
-invariant_of-self c = (c.self.invariant.0, (watched_fewer (join_data (arc_value c.self.inside.spec) c.self.inside.schemes c.self.inside.certs) c.self.inside.next (lowest c.self.inside.next c.self.inside.done (log_of c.self.inside.states.items) c.self.inside.taken.items) (log_of c.self.inside.states.items) (puncts_of c.self.inside.stores.items) c.self.inside.watches.items c.mark_covered.new.watches.items c.mark_covered.ensures.fewer c.self.invariant.1), c.self.invariant.2, c.self.invariant.3, c.self.invariant.4)
+invariant_of-self c = (c.self.invariant.0, (watched_fewer (join_data (arc_value c.self.inside.spec) c.self.inside.schemes c.self.inside.certs) c.self.inside.next (lowest c.self.inside.next c.self.inside.done (log_of c.self.inside.states.items) c.self.inside.taken.items) (log_of c.self.inside.states.items) (puncts_of c.self.inside.stores.items) c.self.inside.watches.items c.mark_covered.new.watches.items c.mark_covered.ensures.fewer c.self.invariant.1), c.self.invariant.2, c.self.invariant.3, c.self.invariant.4, c.self.invariant.5)
 
 pub invariant_of-self-in_err-hear : goal.invariant_of-self-in_err-hear
 invariant_of-self-in_err-hear c =
     let lt : c.args.input < inputs c.args.self.now.spec = c.requires.fits.0 in
     let there : c.args.input < inputs (join_data (arc_value c.self.inside.spec) c.self.inside.schemes c.self.inside.certs) = rw (← c.self.view_is) at lt in
-    subst (λ (ss : List Store). IsJoin (join_data (arc_value c.self.inside.spec) c.self.inside.schemes c.self.inside.certs) c.self.inside.limit (inside c.self.inside.next c.self.inside.done c.self.inside.states.items ss c.self.inside.pending c.self.inside.taken.items) × AreWatched (join_data (arc_value c.self.inside.spec) c.self.inside.schemes c.self.inside.certs) c.self.inside.next (lowest c.self.inside.next c.self.inside.done (log_of c.self.inside.states.items) c.self.inside.taken.items) (log_of c.self.inside.states.items) (puncts_of ss) c.mark_covered.new.watches.items × AreHeld c.self.inside.next (log_of c.self.inside.states.items) c.hear.new.waiting × AreProbeRoutes (arc_value c.self.inside.spec).classes (columns_of c.self.inside.states.items) c.self.inside.routes × AreRoutes (join_data (arc_value c.self.inside.spec) c.self.inside.schemes c.self.inside.certs) c.self.inside.states.items (inputs (join_data (arc_value c.self.inside.spec) c.self.inside.schemes c.self.inside.certs)) c.self.inside.rechecks.items)
-    (sym (same-stores (join_data (arc_value c.self.inside.spec) c.self.inside.schemes c.self.inside.certs) c.self.inside.limit c.self.inside.next c.self.inside.done c.self.inside.states.items c.self.inside.stores.items c.self.inside.pending c.self.inside.taken.items c.self.invariant.0 c.args.input c.index_mut.result.now c.hear.new.store there c.index_mut.ensures.value c.in_err-hear.ensures.arity c.in_err-hear.ensures.err.0)) (c.self.invariant.0, (watched_fewer (join_data (arc_value c.self.inside.spec) c.self.inside.schemes c.self.inside.certs) c.self.inside.next (lowest c.self.inside.next c.self.inside.done (log_of c.self.inside.states.items) c.self.inside.taken.items) (log_of c.self.inside.states.items) (puncts_of c.self.inside.stores.items) c.self.inside.watches.items c.mark_covered.new.watches.items c.mark_covered.ensures.fewer c.self.invariant.1), held_same c.self.inside.next (log_of c.self.inside.states.items) c.self.inside.waiting c.hear.new.waiting c.in_err-hear.ensures.err.1 c.in_err-hear.ensures.keeps c.self.invariant.2, c.self.invariant.3, c.self.invariant.4)
+    subst (λ (ss : List Store). IsJoin (join_data (arc_value c.self.inside.spec) c.self.inside.schemes c.self.inside.certs) c.self.inside.limit (inside c.self.inside.next c.self.inside.done c.self.inside.states.items ss c.self.inside.pending c.self.inside.taken.items) × AreWatched (join_data (arc_value c.self.inside.spec) c.self.inside.schemes c.self.inside.certs) c.self.inside.next (lowest c.self.inside.next c.self.inside.done (log_of c.self.inside.states.items) c.self.inside.taken.items) (log_of c.self.inside.states.items) (puncts_of ss) c.mark_covered.new.watches.items × AreHeld c.self.inside.next (log_of c.self.inside.states.items) c.hear.new.waiting × AreProbeRoutes (arc_value c.self.inside.spec).classes (columns_of c.self.inside.states.items) c.self.inside.routes × AreRoutes (join_data (arc_value c.self.inside.spec) c.self.inside.schemes c.self.inside.certs) c.self.inside.states.items (inputs (join_data (arc_value c.self.inside.spec) c.self.inside.schemes c.self.inside.certs)) c.self.inside.rechecks.items × ArePurgeRoutes (join_data (arc_value c.self.inside.spec) c.self.inside.schemes c.self.inside.certs) (inputs (join_data (arc_value c.self.inside.spec) c.self.inside.schemes c.self.inside.certs)) c.self.inside.purges.items)
+    (sym (same-stores (join_data (arc_value c.self.inside.spec) c.self.inside.schemes c.self.inside.certs) c.self.inside.limit c.self.inside.next c.self.inside.done c.self.inside.states.items c.self.inside.stores.items c.self.inside.pending c.self.inside.taken.items c.self.invariant.0 c.args.input c.index_mut.result.now c.hear.new.store there c.index_mut.ensures.value c.in_err-hear.ensures.arity c.in_err-hear.ensures.err.0)) (c.self.invariant.0, (watched_fewer (join_data (arc_value c.self.inside.spec) c.self.inside.schemes c.self.inside.certs) c.self.inside.next (lowest c.self.inside.next c.self.inside.done (log_of c.self.inside.states.items) c.self.inside.taken.items) (log_of c.self.inside.states.items) (puncts_of c.self.inside.stores.items) c.self.inside.watches.items c.mark_covered.new.watches.items c.mark_covered.ensures.fewer c.self.invariant.1), held_same c.self.inside.next (log_of c.self.inside.states.items) c.self.inside.waiting c.hear.new.waiting c.in_err-hear.ensures.err.1 c.in_err-hear.ensures.keeps c.self.invariant.2, c.self.invariant.3, c.self.invariant.4, c.self.invariant.5)
 
 pub invariant_of-self-2 : goal.invariant_of-self-2
 invariant_of-self-2 c =
@@ -76,6 +77,7 @@ invariant_of-self-2 c =
           refl refl c.in_ok-hear.ensures.waiting c.in_ok-hear.ensures.keeps c.in_ok-hear.ensures.listed c.self.invariant.2,
       c.self.invariant.3,
       c.self.invariant.4,
+      c.self.invariant.5,
     )
 
 pub returns-clause-keeps : goal.returns-clause-keeps

@@ -1,7 +1,8 @@
 use Rattle.std.proofs.Common.{◌∙◌, [], List, map, length, ap, ap₂, arith, sym, subst}
 use Rattle.pj_shape.specs.declared.columns.Column.{Column}
 use Rattle.pj_shape.specs.Sound.{arities_of}
-use Rattle.pj_events.specs.Join.{ClassCol, PunctAt, TupleAt, upto_from}
+use Rattle.pj_shape.specs.declared.joins.CertStep.{CertStep}
+use Rattle.pj_events.specs.Join.{AreCertified, ClassCol, PunctAt, TupleAt, upto_from}
 use Rattle.pj_probe.specs.Routes.{AreProbeRoutes, columns_of}
 use Rattle.pj_state.specs.States.{StateView}
 use Rattle.pj_join.specs.Insides.{lowest, made_with, seen}
@@ -17,6 +18,9 @@ use Rattle.pj_join.proofs.join.Join.new.Goals as goal
 pub routes_of-requires : goal.routes_of-requires
 routes_of-requires c = omega (arith, c.requires.sound.few_inputs.1, length-map c.args.spec.inputs (λ schema. length schema))
 
+pub purge_routes-requires-clause-certified : goal.purge_routes-requires-clause-certified
+purge_routes-requires-clause-certified c = subst (λ (certs : List (List CertStep)). AreCertified (join_data c.args.spec c.args.schemes certs)) (sym c.as_slice-6.ensures) c.requires.certified
+
 pub invariant_of-result : goal.invariant_of-result
 invariant_of-result c = (
   rw (c.of.ensures, c.new-3.ensures.items, c.new-4.ensures.items, c.in_ok-new.ensures.ok)
@@ -29,6 +33,7 @@ invariant_of-result c = (
   rw (c.in_ok-new.ensures.ok) (subst (λ (classes : List (List ClassCol)). AreProbeRoutes classes (columns_of c.in_ok-states.states.items) c.in_ok-routes.routes) c.as_slice-2.ensures
       (subst (λ (states : List StateView). AreProbeRoutes c.as_slice-2.result.now (columns_of states) c.in_ok-routes.routes) c.as_slice-3.ensures.value c.in_ok-routes.ensures)),
   rw (c.in_ok-new.ensures.ok) (rw (c.as_slice-4.ensures, c.as_slice-5.ensures.value) at c.in_ok-rechecks.ensures),
+  rw (c.in_ok-new.ensures.ok) (rw (c.as_slice-6.ensures) at c.in_ok-purges.ensures),
 )
 
 pub returns : goal.returns

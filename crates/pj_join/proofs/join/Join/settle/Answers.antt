@@ -73,6 +73,7 @@ invariant_of-self c =
       held_none c.self.inside.next _ c.self.inside.waiting none,
       routes_kept (arc_value c.self.inside.spec).classes c.self.inside.states.items c.self.inside.routes c.args.input c.index_mut-2.result.now c.remove_all.new.state c.self.invariant.3 (omega (arith, there, (all-states (join_data (arc_value c.self.inside.spec) c.self.inside.schemes c.self.inside.certs) c.self.inside.limit c.self.inside.next c.self.inside.done c.self.inside.states.items c.self.inside.stores.items c.self.inside.pending c.self.inside.taken.items c.self.invariant.0))) c.index_mut-2.ensures.value (ap (λ (s : StateView). s.columns) c.remove_all.ensures),
       routes_stay (join_data (arc_value c.self.inside.spec) c.self.inside.schemes c.self.inside.certs) c.self.inside.states.items (set c.self.inside.states.items c.args.input c.remove_all.new.state) (inputs (join_data (arc_value c.self.inside.spec) c.self.inside.schemes c.self.inside.certs)) c.self.inside.rechecks.items (columns_set c.self.inside.states.items c.args.input c.index_mut-2.result.now c.remove_all.new.state c.index_mut-2.ensures.value (ap (λ (s : StateView). s.columns) c.remove_all.ensures)) c.self.invariant.4,
+      c.self.invariant.5,
     )
 
 pub returns-clause-sweeps : goal.returns-clause-sweeps

@@ -35,7 +35,7 @@ overflow_add-self c = let f : c.self.inside.done < 2 ^ 40 + 1 = done-fits (join_
 
 pub invariant_of-self-in-Some : goal.invariant_of-self-in-Some
 invariant_of-self-in-Some c =
-    (takes-now (join_data (arc_value c.self.inside.spec) c.self.inside.schemes c.self.inside.certs) c.self.inside.limit c.self.inside.next c.self.inside.done c.self.inside.states.items c.self.inside.stores.items c.self.inside.pending c.self.inside.taken.items c.self.invariant.0 c.in-Some.own c.push.new.self.items c.pop_first.new.self (c.in-Some.ensures ∙ ap (λ (ss : List StateView). first_of ss c.self.inside.pending) c.as_slice.ensures.value ∙ first-is (join_data (arc_value c.self.inside.spec) c.self.inside.schemes c.self.inside.certs) c.self.inside.limit c.self.inside.next c.self.inside.done c.self.inside.states.items c.self.inside.stores.items c.self.inside.pending c.self.inside.taken.items c.self.invariant.0) (c.in_ok-push-in-Some.ensures.items ∙ ap (λ n. c.self.inside.taken.items ++ n ∷ []) (c.ticket.ensures ∙ ap (λ (f : Found). f.ticket) c.in_ok-probe-in-Some.ensures)) c.pop_first.ensures, watched_rises (join_data (arc_value c.self.inside.spec) c.self.inside.schemes c.self.inside.certs) c.self.inside.next (lowest c.self.inside.next c.self.inside.done (log_of c.self.inside.states.items) c.self.inside.taken.items) (lowest c.self.inside.next (c.self.inside.done + 1) (log_of c.self.inside.states.items) c.push.new.self.items) (log_of c.self.inside.states.items) (puncts_of c.self.inside.stores.items) c.self.inside.watches.items (lowest_take c.self.inside.next c.self.inside.done (log_of c.self.inside.states.items) c.self.inside.taken.items c.push.new.self.items c.in-Some.own (c.in-Some.ensures ∙ ap (λ (ss : List StateView). first_of ss c.self.inside.pending) c.as_slice.ensures.value ∙ first-is (join_data (arc_value c.self.inside.spec) c.self.inside.schemes c.self.inside.certs) c.self.inside.limit c.self.inside.next c.self.inside.done c.self.inside.states.items c.self.inside.stores.items c.self.inside.pending c.self.inside.taken.items c.self.invariant.0) (c.in_ok-push-in-Some.ensures.items ∙ ap (λ n. c.self.inside.taken.items ++ n ∷ []) (c.ticket.ensures ∙ ap (λ (f : Found). f.ticket) c.in_ok-probe-in-Some.ensures))) c.self.invariant.1, c.self.invariant.2, c.self.invariant.3, c.self.invariant.4)
+    (takes-now (join_data (arc_value c.self.inside.spec) c.self.inside.schemes c.self.inside.certs) c.self.inside.limit c.self.inside.next c.self.inside.done c.self.inside.states.items c.self.inside.stores.items c.self.inside.pending c.self.inside.taken.items c.self.invariant.0 c.in-Some.own c.push.new.self.items c.pop_first.new.self (c.in-Some.ensures ∙ ap (λ (ss : List StateView). first_of ss c.self.inside.pending) c.as_slice.ensures.value ∙ first-is (join_data (arc_value c.self.inside.spec) c.self.inside.schemes c.self.inside.certs) c.self.inside.limit c.self.inside.next c.self.inside.done c.self.inside.states.items c.self.inside.stores.items c.self.inside.pending c.self.inside.taken.items c.self.invariant.0) (c.in_ok-push-in-Some.ensures.items ∙ ap (λ n. c.self.inside.taken.items ++ n ∷ []) (c.ticket.ensures ∙ ap (λ (f : Found). f.ticket) c.in_ok-probe-in-Some.ensures)) c.pop_first.ensures, watched_rises (join_data (arc_value c.self.inside.spec) c.self.inside.schemes c.self.inside.certs) c.self.inside.next (lowest c.self.inside.next c.self.inside.done (log_of c.self.inside.states.items) c.self.inside.taken.items) (lowest c.self.inside.next (c.self.inside.done + 1) (log_of c.self.inside.states.items) c.push.new.self.items) (log_of c.self.inside.states.items) (puncts_of c.self.inside.stores.items) c.self.inside.watches.items (lowest_take c.self.inside.next c.self.inside.done (log_of c.self.inside.states.items) c.self.inside.taken.items c.push.new.self.items c.in-Some.own (c.in-Some.ensures ∙ ap (λ (ss : List StateView). first_of ss c.self.inside.pending) c.as_slice.ensures.value ∙ first-is (join_data (arc_value c.self.inside.spec) c.self.inside.schemes c.self.inside.certs) c.self.inside.limit c.self.inside.next c.self.inside.done c.self.inside.states.items c.self.inside.stores.items c.self.inside.pending c.self.inside.taken.items c.self.invariant.0) (c.in_ok-push-in-Some.ensures.items ∙ ap (λ n. c.self.inside.taken.items ++ n ∷ []) (c.ticket.ensures ∙ ap (λ (f : Found). f.ticket) c.in_ok-probe-in-Some.ensures))) c.self.invariant.1, c.self.invariant.2, c.self.invariant.3, c.self.invariant.4, c.self.invariant.5)
 
 pub returns-in-None-clause-takes : goal.returns-in-None-clause-takes
 returns-in-None-clause-takes c = rw (← c.self.view_is) (none-pending (log_of c.self.inside.states.items) c.self.inside.done (c.in-None.ensures ∙ ap (λ (ss : List StateView). first_of ss c.self.inside.pending) c.as_slice.ensures.value ∙ first-is (join_data (arc_value c.self.inside.spec) c.self.inside.schemes c.self.inside.certs) c.self.inside.limit c.self.inside.next c.self.inside.done c.self.inside.states.items c.self.inside.stores.items c.self.inside.pending c.self.inside.taken.items c.self.invariant.0), refl)

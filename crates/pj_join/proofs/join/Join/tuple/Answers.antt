@@ -57,6 +57,7 @@ invariant_of-self-2 c =
           (state_is c.self.inside.states.items c.args.input _ (inputs (join_data (arc_value c.self.inside.spec) c.self.inside.schemes c.self.inside.certs)) (all-states (join_data (arc_value c.self.inside.spec) c.self.inside.schemes c.self.inside.certs) c.self.inside.limit c.self.inside.next c.self.inside.done c.self.inside.states.items c.self.inside.stores.items c.self.inside.pending c.self.inside.taken.items c.self.invariant.0) there c.index_mut.ensures.value) (rw (← c.in_ok-row.ensures) c.in_ok-store.ensures.state))) (held_more c.self.inside.next (log_of c.self.inside.states.items) (record { ticket = c.self.inside.next; input = c.args.input; row = c.args.row }) c.self.inside.waiting c.self.invariant.2),
       routes_kept (arc_value c.self.inside.spec).classes c.self.inside.states.items c.self.inside.routes c.args.input c.index_mut.result.now c.store.new.state c.self.invariant.3 (omega (arith, there, (all-states (join_data (arc_value c.self.inside.spec) c.self.inside.schemes c.self.inside.certs) c.self.inside.limit c.self.inside.next c.self.inside.done c.self.inside.states.items c.self.inside.stores.items c.self.inside.pending c.self.inside.taken.items c.self.invariant.0))) c.index_mut.ensures.value (ap (λ (s : StateView). s.columns) c.in_ok-store.ensures.state),
       routes_stay (join_data (arc_value c.self.inside.spec) c.self.inside.schemes c.self.inside.certs) c.self.inside.states.items (set c.self.inside.states.items c.args.input c.store.new.state) (inputs (join_data (arc_value c.self.inside.spec) c.self.inside.schemes c.self.inside.certs)) c.self.inside.rechecks.items (columns_set c.self.inside.states.items c.args.input c.index_mut.result.now c.store.new.state c.index_mut.ensures.value (ap (λ (s : StateView). s.columns) c.in_ok-store.ensures.state)) c.self.invariant.4,
+      c.self.invariant.5,
     )
 
 pub returns-clause-keeps : goal.returns-clause-keeps

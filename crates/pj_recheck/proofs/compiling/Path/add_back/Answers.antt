@@ -1,4 +1,4 @@
-use Rattle.std.proofs.Common.{ap, refl, sym, ◌∙◌, IfSome, Some, ℕ, ◌≡◌, ◌<◌, arith}
+use Rattle.std.proofs.Common.{ap, sym, ◌∙◌, IfSome, Some, ℕ, ◌≡◌, arith}
 use Rattle.pj_recheck.specs.declared.routes.BackRoute.{BackRoute}
 use Rattle.pj_recheck.specs.Recheck.{WayFits}
 use Rattle.pj_recheck.specs.Watching.{PathView, asker}

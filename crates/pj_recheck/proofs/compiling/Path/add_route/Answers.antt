@@ -1,7 +1,7 @@
-use Rattle.std.proofs.Common.{ap, refl, subst, sym}
+use Rattle.std.proofs.Common.{ap, subst, sym}
 use Rattle.pj_recheck.specs.declared.routes.RecheckRoute.{RecheckRoute}
 use Rattle.pj_events.specs.Join.{CertEntry, entry_of}
-use Rattle.pj_recheck.specs.Recheck.{IsRecheckRoute, RouteFits, entry_with}
+use Rattle.pj_recheck.specs.Recheck.{IsRecheckRoute, RouteFits}
 use Rattle.pj_recheck.specs.Watching.{PathView, asker}
 use Rattle.pj_recheck.proofs.Compiled.{all_more, entry_here, entry_is, kept_more, routes_next, routes_past}
 use Rattle.pj_recheck.proofs.compiling.Path.add_route.Goals as goal

@@ -1,4 +1,3 @@
-use Rattle.std.proofs.Common.{List}
 use Rattle.pj_events.specs.Join.{In}
 use Rattle.pj_recheck.specs.declared.routes.RecheckRoute.{RecheckRoute}
 use Rattle.pj_recheck.specs.Recheck.{HaveRoutes, RoutesFit}

@@ -1,4 +1,4 @@
-use Rattle.std.proofs.Common.{ap, subst, sym}
+use Rattle.std.proofs.Common.{subst, sym}
 use Rattle.pj_recheck.specs.Watching.{PathView}
 use Rattle.pj_recheck.specs.Recheck.{LeadsFit}
 use Rattle.pj_recheck.proofs.compiling.Path.route.Goals as goal

@@ -9,7 +9,7 @@ use Rattle.pj_recheck.proofs.sweeping.Judge.verdict.Goals as goal
 
 pub judge_row-requires-clause-fits : goal.judge_row-requires-clause-fits
 judge_row-requires-clause-fits c =
-    row_fits c.self.inside.spec.now c.self.inside.schemes.now c.self.inside.cert.now c.self.inside.input c.self.inside.states.now c.self.inside.stores.now c.args.ticket c.args.row.now c.self.invariant (rw (← c.self.view_is) at c.requires)
+    row_fits c.self.inside.spec.now c.self.inside.schemes.now c.self.inside.route.now c.self.inside.input c.self.inside.states.now c.self.inside.stores.now c.args.ticket c.args.row.now c.self.invariant (rw (← c.self.view_is) at c.requires)
 
 pub returns : goal.returns
 returns c =
