@@ -538,19 +538,16 @@ rose-stop old mid from es e rest rest' all stop R q s =
     subst (λ (xs : List Element). IsEmitStop old.operators from xs stop) (sym (R.parts ∙ ap (λ (xs : List Element). es ++ xs) q))
     (stops-then old mid from es (e ∷ rest') R.emits R.stays.frames stop (stops-front mid.operators from (e ∷ []) rest' stop s))
 
-pub rose-these : (old mid new : Scene) (from : ℕ) (es fs rest rest' all : List Element) → Rose old mid from es rest all → rest ≡ fs ++ rest' → Emits mid new from fs
-    → StaysAs mid.operators new.operators → take (length mid.outs) new.outs ≡ mid.outs → Rose old new from (es ++ fs) rest' all
-rose-these old mid new from es fs rest rest' all R q C stays front = record {
-  emits = emits-then old mid from es fs R.emits R.stays.frames new C;
-  stays = stays-then old.operators mid.operators new.operators R.stays stays;
-  front = front-then old.outs mid.outs new.outs R.front front;
-  parts = R.parts ∙ ap (λ (xs : List Element). es ++ xs) q ∙ sym (append_assoc es fs rest');
-}
+-- ---- the same elements
 
-pub rose-stop-these : (old mid : Scene) (from : ℕ) (es fs rest rest' all : List Element) (stop : Stop) → Rose old mid from es rest all → rest ≡ fs ++ rest' → IsEmitStop mid.operators from fs stop → IsEmitStop old.operators from all stop
-rose-stop-these old mid from es fs rest rest' all stop R q s =
-    subst (λ (xs : List Element). IsEmitStop old.operators from xs stop) (sym (R.parts ∙ ap (λ (xs : List Element). es ++ xs) q))
-    (stops-then old mid from es (fs ++ rest') R.emits R.stays.frames stop (stops-front mid.operators from fs rest' stop s))
+pub may-these : (operators : List RunningOperator) (from : ℕ) (es fs : List Element) → es ≡ fs → MayEmit operators from fs → MayEmit operators from es
+may-these operators from es fs e may = subst (MayEmit operators from) (sym e) may
+
+pub emits-these : (old new : Scene) (from : ℕ) (es fs : List Element) → es ≡ fs → Emits old new from es → Emits old new from fs
+emits-these old new from es fs e emits = subst (Emits old new from) e emits
+
+pub stops-these : (operators : List RunningOperator) (from : ℕ) (es fs : List Element) (stop : Stop) → es ≡ fs → IsEmitStop operators from es stop → IsEmitStop operators from fs stop
+stops-these operators from es fs stop e stops = subst (λ (xs : List Element). IsEmitStop operators from xs stop) e stops
 
 -- the node above, as it is read
 pub feeds-at : (operators : List RunningOperator) (n : ℕ) (d : RunningOperator) (o : Option (ℕ × ℕ)) → n < length operators → (get_or operators n d).above ≡ o → (running_at operators n).above ≡ o

@@ -8,9 +8,11 @@ use Rattle.pj_probe.specs.declared.probe.Found.{Found}
 use Rattle.pj_join.specs.Handed.{JoinProbes, StandsProbed, rows_probed}
 use Rattle.pj_join.specs.Joins.{IsTaken, JoinTakes, JoinView, StandsFor as JoinStandsFor, StandsTaken, after}
 use Rattle.pj_operator.specs.declared.operator.OperatorState.{OperatorState}
-use Rattle.pj_operator.specs.declared.operator.OperatorState.TheVariants.{Join as RunningJoin}
-use Rattle.pj_operator.specs.Acts.{JoinProbed, StateProbes, StateTakes}
-use Rattle.pj_operator.specs.Operators.{IsOrderly, IsOrderlyJoin, KeepsOpen, kept_seen, pending_kept}
+use Rattle.pj_operator.specs.declared.operator.OperatorState.TheVariants.{Stream as RunningStream, Select as RunningSelect, Project as RunningProject, Union as RunningUnion, Join as RunningJoin, Group as RunningGroup}
+use Rattle.pj_operator.specs.declared.act.Swept.{Swept}
+use Rattle.pj_operator.specs.Acts.{HasJoinInput, JoinActs, JoinProbed, JoinSwept, StateProbes, StateTakes}
+use Rattle.pj_operator.specs.Lent.{HasNoJoin}
+use Rattle.pj_operator.specs.Operators.{IsOrderly, IsOrderlyJoin, IsTakenIn, KeepsOpen, kept_seen, pending_kept}
 use Rattle.pj_value.proofs.Members.{In-filter, filter_few}
 
 -- ---- lists
@@ -131,3 +133,38 @@ state_probes (Some u) old new before behind p h s = record {
   is = ap RunningJoin p.1;
   hands = h;
 }
+
+-- ---- a node that is no join
+
+pub keeps_same : (old new : OperatorState) → new ≡ old → KeepsOpen old new
+keeps_same old new e = subst (KeepsOpen old) (sym e) (λ o. (o, λ u h. h))
+
+pending-none : (state : OperatorState) → HasNoJoin state → pending_kept (kept_seen state) ≡ 0
+pending-none (RunningJoin join) none = absurd none
+pending-none RunningStream none = refl
+pending-none (RunningSelect test) none = refl
+pending-none (RunningProject columns) none = refl
+pending-none (RunningUnion union) none = refl
+pending-none (RunningGroup group) none = refl
+
+pub takes_none : (old new : OperatorState) → HasNoJoin old → new ≡ old → StateTakes old new None
+takes_none old new none e = (e, pending-none old none)
+
+pub probes_none : (old new : OperatorState) (before behind : List Out) → HasNoJoin old → new ≡ old → behind ≡ before → StateProbes old new before behind None
+probes_none old new before behind none e same = (e, same, pending-none old none)
+
+pub gives_none : (old new : OperatorState) (ticket : ℕ) → HasNoJoin old → IsTakenIn (kept_seen old) ticket → JoinActs old new (Give ticket)
+gives_none (RunningJoin join) new ticket none taken = absurd none
+gives_none RunningStream new ticket none taken = absurd taken
+gives_none (RunningSelect test) new ticket none taken = absurd taken
+gives_none (RunningProject columns) new ticket none taken = absurd taken
+gives_none (RunningUnion union) new ticket none taken = absurd taken
+gives_none (RunningGroup group) new ticket none taken = absurd taken
+
+pub sweeps_none : (old new : OperatorState) (input : ℕ) (swept : Swept) → HasNoJoin old → HasJoinInput old input → JoinSwept old new input swept
+sweeps_none (RunningJoin join) new input swept none inside = absurd none
+sweeps_none RunningStream new input swept none inside = absurd inside
+sweeps_none (RunningSelect test) new input swept none inside = absurd inside
+sweeps_none (RunningProject columns) new input swept none inside = absurd inside
+sweeps_none (RunningUnion union) new input swept none inside = absurd inside
+sweeps_none (RunningGroup group) new input swept none inside = absurd inside

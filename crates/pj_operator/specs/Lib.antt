@@ -3,3 +3,4 @@ pub mod Emitting
 pub mod Acts
 pub mod Handed
 pub mod Looks
+pub mod Lent

@@ -1,5 +1,9 @@
 -- What is seen of the nodes of a core, and which nodes of a history they stand for.
-use Rattle.std.specs.Prelude.{ℕ, ◌+◌, ◌^◌, ◌<◌, ◌≤◌, ◌≡◌, true, List, [], ◌∷◌, map, length, max, slice_index_or, sum, Option, Some, None, All}
+use Rattle.std.specs.Prelude.{ℕ, ◌+◌, ◌^◌, ◌<◌, ◌≤◌, ◌≡◌, true, List, map, length, max, slice_index_or, sum, Option, Some, None, All}
+use Rattle.std.specs.Option.{option_to_list}
+use Rattle.std.specs.Vec.Iter.{into_iter_items}
+use Rattle.std.specs.declared.alloc.Global.{Global}
+use Rattle.std.specs.declared.vec.IntoIter.{IntoIter}
 use Rattle.pj_pattern.specs.Patterns.{Pattern}
 use Rattle.pj_pattern.specs.declared.element.Element.{Element}
 use Rattle.pj_pattern.specs.declared.element.Element.TheVariants.{Tuple, Punct}
@@ -8,6 +12,8 @@ use Rattle.pj_value.specs.declared.values.Value.{Value}
 use Rattle.pj_events.specs.Operators.{GroupSpec, Sent}
 use Rattle.pj_group.specs.Steps.{Fits}
 use Rattle.pj_group.specs.Tables.{StandsFor as HoldsGroup}
+use Rattle.pj_events.specs.declared.events.Out.{Out}
+use Rattle.pj_events.specs.Outcomes.{elements_out}
 use Rattle.pj_events.specs.Plan.{Operator, Stream, Select, Project, Union, Join, Group, Node, Comes, after, hands, operator_at}
 use Rattle.pj_events.specs.CoreKept.{KeptOperator, NothingKept, UnionKept, JoinKept, GroupKept, kept_in}
 use Rattle.pj_laws.specs.Climb.{Above, above, IsTree}
@@ -20,7 +26,7 @@ use Rattle.pj_operator.specs.declared.operator.OperatorState.{OperatorState}
 use Rattle.pj_operator.specs.declared.operator.OperatorState.TheVariants.{Stream as RunningStream, Select as RunningSelect, Project as RunningProject, Union as RunningUnion, Join as RunningJoin, Group as RunningGroup}
 use Rattle.pj_operator.specs.declared.operator.RunningOperator.{RunningOperator}
 use Rattle.pj_operator.specs.declared.operator.Emitted.{Emitted}
-use Rattle.pj_operator.specs.declared.operator.Emitted.TheVariants.{Nothing, One, Puncts, All as EmittedElements}
+use Rattle.pj_operator.specs.declared.operator.Emitted.TheVariants.{AtMostOne, Rows, Puncts, All as EmittedElements, Found}
 
 -- ---- tickets
 
@@ -243,12 +249,17 @@ width_of (Punct patterns) = length patterns
 abbrev pub AreWide : ℕ → List Element → Type 0
 AreWide width es = (e : Element) → In e es → width_of e ≡ width
 
--- what an operator emits
+-- the elements among those that are left
+abbrev pub elements_left : IntoIter Out Global → List Element
+elements_left found = elements_out (into_iter_items found)
+
+-- what is emitted
 abbrev pub emitted_list : Emitted → List Element
-emitted_list Nothing = []
-emitted_list (One element) = element ∷ []
-emitted_list (Puncts puncts) = map Punct puncts
-emitted_list (EmittedElements elements) = elements
+emitted_list (AtMostOne element) = option_to_list element
+emitted_list (Rows rows) = map Tuple (into_iter_items rows)
+emitted_list (Puncts puncts) = map Punct (into_iter_items puncts)
+emitted_list (EmittedElements elements) = into_iter_items elements
+emitted_list (Found found) = elements_left found
 
 -- the state is as the operator of the history after the element, and what is emitted is what that hands up
 pub record Follows (state : OperatorState) (up : Emitted) (operator : Operator) (input : ℕ) (element : Element) : Type 0 where

@@ -1,15 +1,17 @@
 // What the joins of a core do of their own.
 ghost use Rattle.std.specs.Prelude.{None, ◌≡◌, ◌<◌, ◌≤◌, length, map, take, IfOk, IfErr, IfSome, OnOk, OnErr};
+ghost use Rattle.std.specs.Borrow.{sem};
 ghost use Rattle.pj_events.specs.Join.{Give};
 ghost use Rattle.pj_pattern.specs.declared.element.Element.TheVariants.{Tuple};
 ghost use Rattle.pj_operator.specs.Operators.{AreLinked, IsOrderly, KeepsOpen, running_at, frame_of, frames_in, kept_seen, kind_of, stored_kept, IsTakenIn, pending_kept};
 ghost use Rattle.pj_operator.specs.Emitting.{AreOrderly, MayEmit, StayOpen};
 ghost use Rattle.pj_operator.specs.Looks.{HasNoNumbers};
+ghost use Rattle.pj_operator.specs.Lent.{HasNoJoin, LendsJoin};
 ghost use Rattle.pj_operator.specs.Acts.{OperatorSwept, HasGivenAt, HasGivenOn, HasJoinInput, HasSweptAt, IsGiveStop, IsProbeStop, IsSweepStop, JoinActs, JoinSwept, ProbesOn, TakesFirst, StateProbes, StateTakes, first_pending};
 
-use crate::emitting::{emit_found, emit_puncts, emit_rows};
+use crate::emitting::emit_each;
 use crate::handed::hand_out_notes;
-use crate::operator::{OperatorState, RunningOperator};
+use crate::operator::{Emitted, OperatorState, RunningOperator};
 use pj_events::{Out, Stop};
 use pj_join::{Join, Probe};
 use pj_pattern::Punct;
@@ -43,62 +45,50 @@ impl RunningOperator {
 
 impl OperatorState {
     /// Takes the least ticket that is pending; `None` where none is. On a refusal all is as before.
-    #[tactic(auto, using(crate::proofs::Joins::state_takes, crate::proofs::Joins::took_keeps))]
+    #[tactic(auto, using(crate::proofs::Joins::state_takes, crate::proofs::Joins::takes_none, crate::proofs::Joins::took_keeps, crate::proofs::Joins::keeps_same))]
     pub fn take(&mut self) -> Result<Option<Probe>, NoMemory>
         ensures ok { IfOk result (λ answer. StateTakes self.old self.new answer) }
         ensures open { OnOk result (KeepsOpen self.old self.new) }
         ensures kind { kind_of self.new ≡ kind_of self.old }
         ensures err { OnErr result (self.new ≡ self.old) }
     {
-        match self {
-            OperatorState::Stream => Ok(None),
-            OperatorState::Select(_test) => Ok(None),
-            OperatorState::Project(_columns) => Ok(None),
-            OperatorState::Union(_union) => Ok(None),
-            OperatorState::Join(join) => join.take(),
-            OperatorState::Group(_group) => Ok(None),
+        match self.as_join_mut() {
+            None => Ok(None),
+            Some(join) => join.take(),
         }
     }
 
     /// Gives the ticket of a probe, which was taken here and is not given.
-    #[tactic(auto, using(crate::proofs::Joins::gave_orderly))]
+    #[tactic(auto, using(crate::proofs::Joins::gave_orderly, crate::proofs::Joins::gives_none))]
     pub fn give(&mut self, probe: Probe)
         requires { IsTakenIn (kept_seen self.old) probe.ticket }
         ensures acts { JoinActs self.old self.new (Give probe.ticket) }
         ensures orderly { IsOrderly self.old → IsOrderly self.new }
         ensures kind { kind_of self.new ≡ kind_of self.old }
     {
-        match self {
-            OperatorState::Stream => {}
-            OperatorState::Select(_test) => {}
-            OperatorState::Project(_columns) => {}
-            OperatorState::Union(_union) => {}
-            OperatorState::Join(join) => join.give(probe),
-            OperatorState::Group(_group) => {}
+        match self.as_join_mut() {
+            None => {},
+            Some(join) => join.give(probe),
         }
     }
 
     /// Takes the least ticket that is pending, puts the rows that its work finds at the end of `rows`, and gives it; `None`
     /// where none is pending. On a refusal all is as before.
-    #[tactic(auto, using(crate::proofs::Joins::state_probes, crate::proofs::Joins::probed_orderly))]
+    #[tactic(auto, using(crate::proofs::Joins::state_probes, crate::proofs::Joins::probes_none, crate::proofs::Joins::probed_orderly))]
     pub fn probe(&mut self, rows: &mut List<Out>) -> Result<Option<u64>, NoMemory>
         ensures ok { IfOk result (λ answer. StateProbes self.old self.new rows.old rows.new answer) }
         ensures orderly { OnOk result (IsOrderly self.old → IsOrderly self.new) }
         ensures kind { kind_of self.new ≡ kind_of self.old }
         ensures err { OnErr result ((self.new ≡ self.old) × (rows.new ≡ rows.old)) }
     {
-        match self {
-            OperatorState::Stream => Ok(None),
-            OperatorState::Select(_test) => Ok(None),
-            OperatorState::Project(_columns) => Ok(None),
-            OperatorState::Union(_union) => Ok(None),
-            OperatorState::Join(join) => join.probe_next(rows),
-            OperatorState::Group(_group) => Ok(None),
+        match self.as_join_mut() {
+            None => Ok(None),
+            Some(join) => join.probe_next(rows),
         }
     }
 
     /// Sweeps an input of the join that it is. On a refusal all is as before.
-    #[tactic(auto, using(crate::proofs::Joins::swept_keeps))]
+    #[tactic(auto, using(crate::proofs::Joins::swept_keeps, crate::proofs::Joins::sweeps_none, crate::proofs::Joins::keeps_same))]
     pub fn sweep(&mut self, alloc: Global, input: u32) -> Result<Swept, NoMemory>
         requires { HasJoinInput self.old input }
         ensures ok { IfOk result (λ swept. JoinSwept self.old self.new input swept) }
@@ -108,13 +98,9 @@ impl OperatorState {
     {
         let mut removed = List::new(alloc);
         let mut puncts = List::new(alloc);
-        let count = match self {
-            OperatorState::Stream => 0,
-            OperatorState::Select(_test) => 0,
-            OperatorState::Project(_columns) => 0,
-            OperatorState::Union(_union) => 0,
-            OperatorState::Join(join) => join.sweep(input, &mut removed, &mut puncts)?,
-            OperatorState::Group(_group) => 0,
+        let count = match self.as_join_mut() {
+            None => 0,
+            Some(join) => join.sweep(input, &mut removed, &mut puncts)?,
         };
         Ok(Swept {
             count,
@@ -127,6 +113,22 @@ impl OperatorState {
     pub(crate) fn as_join(&self) -> Option<&Join>
         ensures join { IfSome result (λ join. self.now ≡ OperatorState.Join join.now) }
         ensures none { result ≡ None → HasNoNumbers (kept_seen self.now) }
+    {
+        match self {
+            OperatorState::Stream => None,
+            OperatorState::Select(_test) => None,
+            OperatorState::Project(_columns) => None,
+            OperatorState::Union(_union) => None,
+            OperatorState::Join(join) => Some(join),
+            OperatorState::Group(_group) => None,
+        }
+    }
+
+    // The same, lent for a change.
+    fn as_join_mut(&mut self) -> Option<&mut Join>
+        ensures* lends { sem 𝓛 (LendsJoin self.entry result) }
+        ensures join { IfSome result (λ join. self.old ≡ OperatorState.Join join.now) }
+        ensures none { result ≡ None → HasNoJoin self.old }
     {
         match self {
             OperatorState::Stream => None,
@@ -222,7 +224,7 @@ pub fn give_found(
     let before = outs.len();
     let from = probe.join();
     give_at(operators, probe);
-    match emit_rows(alloc, operators, from, rows, outs) {
+    match emit_each(alloc, operators, from, Emitted::of_rows(rows), outs) {
         Ok(()) => Ok(()),
         Err(stop) => {
             outs.truncate(before);
@@ -325,7 +327,13 @@ fn probe_up(
     let mut found = List::new(alloc);
     match operators[place as usize].state.probe(&mut found) {
         Ok(None) => Ok(false),
-        Ok(Some(_ticket)) => match emit_found(alloc, operators, place, found, outs) {
+        Ok(Some(_ticket)) => match emit_each(
+            alloc,
+            operators,
+            place,
+            Emitted::of_found(found),
+            outs,
+        ) {
             Ok(()) => Ok(true),
             Err(stop) => Err(stop),
         },
@@ -389,7 +397,7 @@ fn sweep_on(
                 puncts,
             },
         ) => match hand_out_notes(outs, trace, place, input, removed) {
-            Ok(()) => match emit_puncts(alloc, operators, place, puncts, outs) {
+            Ok(()) => match emit_each(alloc, operators, place, Emitted::of_puncts(puncts), outs) {
                 Ok(()) => Ok(count),
                 Err(stop) => Err(stop),
             },

@@ -1,21 +1,25 @@
 // An operator of a plan as it runs.
 ghost use Rattle.std.specs.Prelude.{◌≡◌, ◌↔◌, ◌<◌, ◌+◌, ◌≤◌, List, All, IfOk, OnOk, OnErr, IsErrOf, length, map};
+ghost use Rattle.std.specs.Iterator.{YieldsFirst, item_count};
 ghost use Rattle.pj_events.specs.Join.{arity, inputs};
 ghost use Rattle.pj_events.specs.Operators.{group_after, group_hands, project_hands, select_hands, union_after, union_hands};
+ghost use Rattle.pj_events.specs.Outcomes.{elements_out};
 ghost use Rattle.pj_events.specs.Plan.{Operator, join_step};
 ghost use Rattle.pj_value.specs.declared.values.Value.{Value};
 ghost use Rattle.pj_group.specs.Steps.{Fits};
 ghost use Rattle.pj_group.specs.Tables.{StandsFor as HoldsGroup};
 ghost use Rattle.pj_join.specs.Joins.{after};
 ghost use Rattle.pj_join.specs.Sweeping.{puncts_up};
-ghost use Rattle.pj_operator.specs.Operators.{AreWide, FitsKind, Follows, IsAs, IsFull, IsOrderly, KeepsOpen, count_in, count_seen, counted_by, frame_of, emitted_list, kind_of, stop_of_group, width_of, width_up};
+ghost use Rattle.pj_operator.specs.Operators.{AreWide, FitsKind, Follows, IsAs, IsFull, IsOrderly, KeepsOpen, count_in, count_seen, counted_by, elements_left, frame_of, emitted_list, kind_of, stop_of_group, width_of, width_up};
 
+use pj_events::Out;
 use pj_flow::{Union, project_punct, project_tuple, select_tuple};
 use pj_group::{Group, GroupStop};
 use pj_join::{Join, JoinStop};
 use pj_pattern::{Element, Punct};
-use pj_value::{List, NoMemory};
+use pj_value::{List, NoMemory, Row};
 use std::alloc::Global;
+use std::vec::IntoIter;
 
 /// What an operator is, with what it keeps. A stream, a select and a project keep nothing.
 #[derive(Drop)]
@@ -38,13 +42,79 @@ pub struct RunningOperator {
     pub peak: u64,
 }
 
-/// What an operator emits at an element: most often one, and then in no list.
+/// The elements that a node emits, one after the other: at most one, which is in no list, or those of a list.
 #[derive(Drop)]
 pub enum Emitted {
-    Nothing,
-    One(Element),
-    Puncts(List<Punct>),
-    All(List<Element>),
+    AtMostOne(Option<Element>),
+    Rows(IntoIter<Row, Global>),
+    Puncts(IntoIter<Punct, Global>),
+    All(IntoIter<Element, Global>),
+    Found(IntoIter<Out, Global>),
+}
+
+impl Iterator for Emitted {
+    type Item = Element;
+
+    ghost next_gives = { YieldsFirst emitted_list };
+
+    ghost remaining = { item_count emitted_list };
+
+    fn next(&mut self) -> Option<Element> {
+        match self {
+            Emitted::AtMostOne(element) => element.take(),
+            Emitted::Rows(rows) => match rows.next() {
+                Some(row) => Some(Element::Tuple(row)),
+                None => None,
+            },
+            Emitted::Puncts(puncts) => match puncts.next() {
+                Some(punct) => Some(Element::Punct(punct)),
+                None => None,
+            },
+            Emitted::All(elements) => elements.next(),
+            Emitted::Found(found) => next_element(found),
+        }
+    }
+}
+
+// The next element among these; `None` where none is left.
+fn next_element(found: &mut IntoIter<Out, Global>) -> Option<Element>
+    ensures { YieldsFirst elements_left found.old result found.new }
+{
+    while let Some(out) = found.next() {
+        match out {
+            Out::Tuple(row) => return Some(Element::Tuple(row)),
+            Out::Punct(punct) => return Some(Element::Punct(punct)),
+            Out::Purged {
+                join: _,
+                input: _,
+                row: _,
+            } => {}
+        }
+    }
+    None
+}
+
+impl Emitted {
+    // These rows.
+    pub(crate) fn of_rows(rows: List<Row>) -> Emitted
+        ensures { emitted_list result ≡ map Element.Tuple rows }
+    {
+        Emitted::Rows(rows.into_vec().into_iter())
+    }
+
+    // These punctuations.
+    pub(crate) fn of_puncts(puncts: List<Punct>) -> Emitted
+        ensures { emitted_list result ≡ map Element.Punct puncts }
+    {
+        Emitted::Puncts(puncts.into_vec().into_iter())
+    }
+
+    // The elements among these.
+    pub(crate) fn of_found(found: List<Out>) -> Emitted
+        ensures { emitted_list result ≡ elements_out found }
+    {
+        Emitted::Found(found.into_vec().into_iter())
+    }
 }
 
 impl RunningOperator {
@@ -90,7 +160,7 @@ impl OperatorState {
         ensures wide { IfOk result (λ up. IsOrderly self.old → AreWide (width_up (kind_of self.old) (width_of element)) (emitted_list up)) }
     {
         match self {
-            OperatorState::Stream => Ok(Emitted::Nothing),
+            OperatorState::Stream => Ok(Emitted::AtMostOne(None)),
             OperatorState::Select(test) => Ok(selected(test, element)),
             OperatorState::Project(columns) => Ok(projected(alloc, columns.as_slice(), element)?),
             OperatorState::Union(union) => Ok(united(alloc, union, input, element)?),
@@ -106,10 +176,10 @@ fn selected(test: &Punct, element: Element) -> Emitted
 {
     match element {
         Element::Tuple(row) => match select_tuple(test, row) {
-            Some(row) => Emitted::One(Element::Tuple(row)),
-            None => Emitted::Nothing,
+            Some(row) => Emitted::AtMostOne(Some(Element::Tuple(row))),
+            None => Emitted::AtMostOne(None),
         },
-        Element::Punct(punct) => Emitted::One(Element::Punct(punct)),
+        Element::Punct(punct) => Emitted::AtMostOne(Some(Element::Punct(punct))),
     }
 }
 
@@ -121,11 +191,11 @@ fn projected(alloc: Global, columns: &[u32], element: Element) -> Result<Emitted
     match element {
         Element::Tuple(row) => {
             let kept = project_tuple(alloc, columns, &row)?;
-            Ok(Emitted::One(Element::Tuple(kept)))
+            Ok(Emitted::AtMostOne(Some(Element::Tuple(kept))))
         }
         Element::Punct(punct) => match project_punct(alloc, columns, &punct)? {
-            Some(kept) => Ok(Emitted::One(Element::Punct(kept))),
-            None => Ok(Emitted::Nothing),
+            Some(kept) => Ok(Emitted::AtMostOne(Some(Element::Punct(kept)))),
+            None => Ok(Emitted::AtMostOne(None)),
         },
     }
 }
@@ -143,11 +213,11 @@ fn united(
     ensures refused { OnErr result (union.new ≡ union.old) }
 {
     match element {
-        Element::Tuple(row) => Ok(Emitted::One(Element::Tuple(row))),
+        Element::Tuple(row) => Ok(Emitted::AtMostOne(Some(Element::Tuple(row)))),
         Element::Punct(punct) => {
             let mut up = List::new(alloc);
             union.punct(input, punct, &mut up)?;
-            Ok(Emitted::Puncts(up))
+            Ok(Emitted::of_puncts(up))
         }
     }
 }
@@ -163,12 +233,12 @@ fn joined(alloc: Global, join: &mut Join, input: u32, element: Element) -> Resul
     match element {
         Element::Tuple(row) => {
             join.tuple(input, row)?;
-            Ok(Emitted::Nothing)
+            Ok(Emitted::AtMostOne(None))
         }
         Element::Punct(punct) => {
             let mut up = List::new(alloc);
             join.punct(input, punct, &mut up)?;
-            Ok(Emitted::Puncts(up))
+            Ok(Emitted::of_puncts(up))
         }
     }
 }
@@ -185,13 +255,13 @@ fn grouped(alloc: Global, group: &mut Group, element: Element) -> Result<Emitted
 {
     match element {
         Element::Tuple(row) => match group.tuple(row) {
-            Ok(()) => Ok(Emitted::Nothing),
+            Ok(()) => Ok(Emitted::AtMostOne(None)),
             Err(stop) => Err(as_join_stop(stop)),
         },
         Element::Punct(punct) => {
             let mut up = List::new(alloc);
             match group.punct(punct, &mut up) {
-                Ok(()) => Ok(Emitted::All(up)),
+                Ok(()) => Ok(Emitted::All(up.into_vec().into_iter())),
                 Err(stop) => Err(as_join_stop(stop)),
             }
         }

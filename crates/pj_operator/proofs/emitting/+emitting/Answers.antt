@@ -1,11 +1,6 @@
-use Rattle.std.proofs.Common.{◌≡◌, [], ◌∷◌, List, None, map, sym, ap, subst, arith}
-use Rattle.std.proofs.lemmas.List.{map-append}
-use Rattle.std.specs.Vec.Iter.{into_iter_items}
-use Rattle.pj_pattern.specs.declared.element.Element.{Element}
-use Rattle.pj_pattern.specs.declared.element.Element.TheVariants.{Punct}
+use Rattle.std.proofs.Common.{[], ◌∷◌, None, arith}
 use Rattle.pj_operator.specs.Operators.{emitted_list}
-use Rattle.pj_operator.specs.Emitting.{Emits}
-use Rattle.pj_operator.proofs.Emits.{Rose, emits-none, emits-out, emits-up, receive_stop, feeds-at, fits-at, may-rose, may-up, err_through, rose-none, rose-stop, rose-then, stops-up}
+use Rattle.pj_operator.proofs.Emits.{emits-out, emits-up, receive_stop, feeds-at, fits-at, may-rose, may-up, err_through, rose-none, rose-stop, rose-then, stops-up}
 use Rattle.pj_operator.proofs.emitting.+emitting.Goals as goal
 
 pub emit_one-receive-requires-clause-there : goal.emit_one-receive-requires-clause-there
@@ -56,57 +51,25 @@ emit_one-returns-in_err-up-in-Some-clause-err t c =
     (receive_stop c.args.operators.now c.args.from c.in-Some.place c.in-Some.input c.args.element c.in_err-up-in-Some.field-0.0 c.requires.there c.requires.may.linked
     (feeds-at c.args.operators.now c.args.from _ _ c.requires.there c.in-Some.is) c.in_err-up-in-Some.ensures.err)
 
-pub emit_each-returns-in-Nothing-clause-ok : goal.emit_each-returns-in-Nothing-clause-ok
-emit_each-returns-in-Nothing-clause-ok t c =
-    let e : emitted_list c.args.up ≡ [] = ap emitted_list c.in-Nothing.is in
-    subst (λ (es : List Element). Emits (record { operators = c.args.operators.now; outs = c.args.outs.now }) (record { operators = c.args.operators.now; outs = c.args.outs.now }) c.args.from es) (sym e)
-    (emits-none (record { operators = c.args.operators.now; outs = c.args.outs.now }) c.args.from)
-
-pub emit_all-emit_one-requires : goal.emit_all-emit_one-requires
-emit_all-emit_one-requires t c =
+pub emit_each-emit_one-requires : goal.emit_each-emit_one-requires
+emit_each-emit_one-requires t c =
     let there = c.requires.there in
     let long = c.loop-element.auto.operators in (
       omega (arith, c.decreases, there, long),
       (
         omega (arith, there, long),
-        may-rose _ _ c.args.from c.loop-element.yielded (c.in-Some.element ∷ []) _ (into_iter_items c.next.new.self) c.args.elements c.requires.may c.loop-element.invariant c.in-Some.ensures.steps.0,
+        may-rose _ _ c.args.from c.loop-element.yielded (c.in-Some.element ∷ []) _ (emitted_list c.next.new.self) (emitted_list c.args.elements) c.requires.may c.loop-element.invariant c.in-Some.ensures.steps,
       ),
     )
 
-pub emit_puncts-emit_one-requires : goal.emit_puncts-emit_one-requires
-emit_puncts-emit_one-requires t c =
-    let there = c.requires.there in
-    let long = c.loop-punct.auto.operators in (
-      omega (arith, c.decreases, there, long),
-      (
-        omega (arith, there, long),
-        may-rose _ _ c.args.from (map Punct c.loop-punct.yielded) (Punct c.in-Some.punct ∷ []) _ (map Punct (into_iter_items c.next.new.self)) (map Punct c.args.puncts) c.requires.may c.loop-punct.invariant
-            (ap (map Punct) c.in-Some.ensures.steps.0),
-      ),
-    )
+pub emit_each-loop-element-init : goal.emit_each-loop-element-init
+emit_each-loop-element-init t c = rose-none _ c.args.from _ _ (cc)
 
-pub emit_all-loop-element-init : goal.emit_all-loop-element-init
-emit_all-loop-element-init t c = rose-none _ c.args.from _ _ (cc)
+pub emit_each-loop-element-preserved : goal.emit_each-loop-element-preserved
+emit_each-loop-element-preserved t c =
+    rose-then _ _ _ c.args.from c.loop-element.yielded c.in-Some.element _ _ _ c.loop-element.invariant c.in-Some.ensures.steps c.in_ok-emit_one.ensures.ok c.emit_one.ensures.stays c.emit_one.ensures.front
 
-pub emit_all-loop-element-preserved : goal.emit_all-loop-element-preserved
-emit_all-loop-element-preserved t c =
-    rose-then _ _ _ c.args.from c.loop-element.yielded c.in-Some.element _ _ _ c.loop-element.invariant c.in-Some.ensures.steps.0 c.in_ok-emit_one.ensures.ok c.emit_one.ensures.stays c.emit_one.ensures.front
-
-pub emit_all-returns-in_err-emit_one-clause-err : goal.emit_all-returns-in_err-emit_one-clause-err
-emit_all-returns-in_err-emit_one-clause-err t c =
+pub emit_each-returns-in_err-emit_one-clause-err : goal.emit_each-returns-in_err-emit_one-clause-err
+emit_each-returns-in_err-emit_one-clause-err t c =
     err_through _ c.from_residual.result c.in_err-emit_one.field-0.0 c.from_residual.ensures.1
-    (rose-stop _ _ c.args.from c.loop-element.yielded c.in-Some.element _ _ _ c.in_err-emit_one.field-0.0 c.loop-element.invariant c.in-Some.ensures.steps.0 c.in_err-emit_one.ensures.err)
-
-pub emit_puncts-loop-punct-init : goal.emit_puncts-loop-punct-init
-emit_puncts-loop-punct-init t c = rose-none _ c.args.from _ _ (cc)
-
-pub emit_puncts-loop-punct-preserved : goal.emit_puncts-loop-punct-preserved
-emit_puncts-loop-punct-preserved t c =
-    subst (λ (es : List Element). Rose (record { operators = c.args.operators.now; outs = c.args.outs.now }) (record { operators = c.emit_one.new.operators; outs = c.emit_one.new.outs }) c.args.from es (map Punct (into_iter_items c.next.new.self)) (map Punct c.args.puncts))
-    (sym (map-append Punct c.loop-punct.yielded (c.in-Some.punct ∷ [])))
-    (rose-then _ _ _ c.args.from (map Punct c.loop-punct.yielded) (Punct c.in-Some.punct) _ _ _ c.loop-punct.invariant (ap (map Punct) c.in-Some.ensures.steps.0) c.in_ok-emit_one.ensures.ok c.emit_one.ensures.stays c.emit_one.ensures.front)
-
-pub emit_puncts-returns-in_err-emit_one-clause-err : goal.emit_puncts-returns-in_err-emit_one-clause-err
-emit_puncts-returns-in_err-emit_one-clause-err t c =
-    err_through _ c.from_residual.result c.in_err-emit_one.field-0.0 c.from_residual.ensures.1
-    (rose-stop _ _ c.args.from (map Punct c.loop-punct.yielded) (Punct c.in-Some.punct) _ _ _ c.in_err-emit_one.field-0.0 c.loop-punct.invariant (ap (map Punct) c.in-Some.ensures.steps.0) c.in_err-emit_one.ensures.err)
+    (rose-stop _ _ c.args.from c.loop-element.yielded c.in-Some.element _ _ _ c.in_err-emit_one.field-0.0 c.loop-element.invariant c.in-Some.ensures.steps c.in_err-emit_one.ensures.err)
