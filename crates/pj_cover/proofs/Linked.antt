@@ -10,13 +10,13 @@ use Rattle.pj_value.proofs.Members.{In-filter, In-map_from, all_at, map-same, al
 use Rattle.pj_value.proofs.Orders.{same_if_equal, equal_if_same}
 use Rattle.pj_shape.specs.declared.joins.JoinSpec.{JoinSpec}
 use Rattle.pj_shape.specs.Joining.{all_equal, cell_value, has_column}
-use Rattle.pj_shape.specs.Sound.{AreApart, AreOfOtherInputs, IsSoundSpec, arities_of}
+use Rattle.pj_shape.specs.Sound.{AreApart, IsSoundSpec, arities_of}
 use Rattle.pj_shape.proofs.Classes.{has_in}
 use Rattle.pj_shape.proofs.Joining.{all_equal-from}
 use Rattle.pj_events.specs.Join.{CertEntry, CertStep, ClassCol, TupleAt, agree, class_with, constant, entry_of, no_value, part_of, values}
 use Rattle.pj_join_laws.proofs.Matching.{agree-at, value-in, values-mono}
 use Rattle.pj_rows.specs.Suits.{suits}
-use Rattle.pj_rows.proofs.Agreeing.{front_agree, front_suits, source-of}
+use Rattle.pj_rows.proofs.Agreeing.{alone_agree, front_agree, front_suits, source-of}
 use Rattle.pj_puncts.proofs.Lent.{drop_here}
 use Rattle.pj_cover.specs.declared.route.PurgeLink.{PurgeLink}
 use Rattle.pj_cover.specs.declared.route.PurgeStep.{PurgeStep}
@@ -37,18 +37,17 @@ first-has (class ∷ classes) at c h = go (has_column class at) refl h (first-ha
     go true e k ih = has_in class at e
     go false e k ih = ih k
 
-has-own : (class : List ClassCol) (at : ClassCol) → In at class → has_column class at ≡ true
-has-own class at h =
-    any_from (λ (c : ClassCol). eqb c.input at.input && eqb c.column at.column) class at h (and_from (eqb at.input at.input) (eqb at.column at.column) (eq-eqb at.input at.input refl) (eq-eqb at.column at.column refl))
-
 first-of : (classes : List (List ClassCol)) (class : List ClassCol) (at : ClassCol) → AreApart classes → In class classes → In at class → first_class classes at ≡ class
 first-of [] class at apart h ha = absurd h
 first-of (k ∷ classes) class at apart h ha = go (has_column k at) refl h (first-of classes class at apart.1)
   where
+    has : In at k → has_column k at ≡ true
+    has there = any_from (λ (c : ClassCol). eqb c.input at.input && eqb c.column at.column) k at there (and_from (eqb at.input at.input) (eqb at.column at.column) (eq-eqb at.input at.input refl) (eq-eqb at.column at.column refl))
+
     go : (b : Bool) → has_column k at ≡ b → (k ≡ class) ⊎ In class classes → (In class classes → In at class → first_class classes at ≡ class) → cond b k (first_class classes at) ≡ class
     go true e (inl same) ih = same
     go true e (inr m) ih = absurd (apart.0 class m at (has_in k at e) ha)
-    go false e (inl same) ih = absurd (false≢true (sym e ∙ has-own k at (subst (λ (cs : List ClassCol). In at cs) (sym same) ha)))
+    go false e (inl same) ih = absurd (false≢true (sym e ∙ has (subst (λ (cs : List ClassCol). In at cs) (sym same) ha)))
     go false e (inr m) ih = ih m ha
 
 in-classes : (classes : List (List ClassCol)) (input column : ℕ) (c : ClassCol) → In c (class_with classes input column) → In (class_with classes input column) classes
@@ -65,13 +64,6 @@ own-in classes input column c h =
 
 class-of : (classes : List (List ClassCol)) (class : List ClassCol) (at : ClassCol) → AreApart classes → In class classes → In at class → class_with classes at.input at.column ≡ class
 class-of classes class at apart h ha = sym (first_class_is classes at) ∙ first-of classes class at apart h ha
-
-one-each : (class : List ClassCol) (a b : ClassCol) → AreOfOtherInputs class → In a class → In b class → a.input ≡ b.input → a ≡ b
-one-each [] a b others ha hb e = absurd ha
-one-each (c ∷ class) a b others (inl p) (inl q) e = sym p ∙ q
-one-each (c ∷ class) a b others (inl p) (inr k) e = absurd (others.0 b k (sym e ∙ ap (λ (z : ClassCol). z.input) (sym p)))
-one-each (c ∷ class) a b others (inr k) (inl q) e = absurd (others.0 a k (e ∙ ap (λ (z : ClassCol). z.input) (sym q)))
-one-each (c ∷ class) a b others (inr k) (inr l) e = one-each class a b others.1 k l e
 
 -- ---- what a source is
 
@@ -210,8 +202,7 @@ module _ (spec : JoinSpec) (xs : List TupleAt) (sound : IsSoundSpec spec) (fit :
         both : (class : List ClassCol) → In class spec.classes → (a b : ClassCol) (x z : TupleAt) → In a class → In b class → x.input ≡ a.input → z.input ≡ b.input → (y ≡ x) ⊎ In x xs → (y ≡ z) ⊎ In z xs
             → get_or x.row a.column no_value ≡ get_or z.row b.column no_value
         both class h a b x z ha hb i j (inl p) (inl q) =
-            let same : a ≡ b = one-each class a b (sound.sound_classes class h).one_each ha hb (sym i ∙ ap (λ (u : TupleAt). u.input) (sym p ∙ q) ∙ j) in
-            ap (λ (u : TupleAt). get_or u.row a.column no_value) (sym p ∙ q) ∙ ap (λ (c : ClassCol). get_or z.row c.column no_value) same
+            agree-at spec.classes (y ∷ []) class (get_or x.row a.column no_value) (get_or z.row b.column no_value) (alone_agree spec y sound) h (value-in (y ∷ []) class x a (inl p) ha i) (value-in (y ∷ []) class z b (inl q) hb j)
         both class h a b x z ha hb i j (inl p) (inr k) =
             ap (λ (u : TupleAt). get_or u.row a.column no_value) (sym p) ∙ new-old class t h a ha (ap (λ (u : TupleAt). u.input) p ∙ i) b z hb k j
         both class h a b x z ha hb i j (inr k) (inl q) =

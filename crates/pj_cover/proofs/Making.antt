@@ -2,8 +2,8 @@
 use Rattle.std.proofs.Common.{ℕ, zero, suc, ◌+◌, ◌<◌, ◌≤◌, ◌≡◌, Bool, true, false, cond, ◌||◌, List, [], ◌∷◌, ◌++◌, Option, Some, None, drop, get_or, length, map, sum, take, refl, sym, ap, ap₂, ◌∙◌, subst, inl, inr, eqb, arith, append_assoc, length-append}
 use Rattle.std.specs.List.{fold}
 use Rattle.std.specs.Prelude.{IfSome, slice_get}
-use Rattle.std.proofs.lemmas.Bool.{cases_lt, eqb-true, eq-eqb, false_from_ne_true}
-use Rattle.std.proofs.lemmas.List.{append-nil, take_all, take_more}
+use Rattle.std.proofs.lemmas.Bool.{cases_lt, eqb-true, eq-eqb, false_from_ne_true, ne_eqb}
+use Rattle.std.proofs.lemmas.List.{append-nil, take_more}
 use Rattle.std.proofs.lemmas.Option.{get_or_from_slice_get, slice_get_within}
 use Rattle.pj_value.specs.Lists.{In, has}
 use Rattle.pj_value.proofs.Members.{In-append_cases, In-append_left, In-append_right, any_at}
@@ -16,7 +16,7 @@ use Rattle.pj_events.specs.Join.{CertEntry, CertStep, ClassCol, class_with, entr
 use Rattle.pj_puncts.proofs.Lent.{drop_here}
 use Rattle.pj_cover.specs.declared.route.PurgeLink.{PurgeLink}
 use Rattle.pj_cover.specs.declared.route.PurgeStep.{PurgeStep}
-use Rattle.pj_cover.specs.Routes.{AddsLinks, AreLinks, AreSteps, IsLink, IsPurgeRoute, IsPurgeStep, IsSingle, RouteView, column_of, links_of, marked_columns, marked_links, step_of, steps_in}
+use Rattle.pj_cover.specs.Routes.{AddsLinks, AreLinks, AreSteps, IsLink, IsPurgeStep, IsSingle, RouteView, column_of, links_of, marked_columns, marked_links, step_of, steps_in}
 use Rattle.pj_cover.specs.Making.{AddsLink, AreMarksKnown, FindsLink, IsBegun, IsStepMade, columns_known, entry_with, known_after, listed}
 use Rattle.pj_cover.proofs.Bound.{bound-at}
 use Rattle.pj_cover.proofs.Steps.{certified_few, length-map}
@@ -103,14 +103,6 @@ more_links classes known input marks column mark old mid new here bound (more, i
 
 -- ---- steps
 
-drop-front : {A : Type 0} (xs ys : List A) → drop (length xs) (xs ++ ys) ≡ ys
-drop-front [] ys = refl
-drop-front (x ∷ xs) ys = drop-front xs ys
-
--- the links that were put at the end
-pub links_added : (old new more : List PurgeLink) (first count : ℕ) → new ≡ old ++ more → first ≡ length old → count ≡ length more → take count (drop first new) ≡ more
-links_added old new more first count is at n = ap₂ (λ ls k. take count (drop k ls)) is at ∙ ap (λ ls. take count ls) (drop-front old more) ∙ take_all count more (let e : count ≡ length more = n in omega (arith, e))
-
 take-drop-front : {A : Type 0} (xs ys : List A) (first count : ℕ) → first + count ≤ length xs → take count (drop first (xs ++ ys)) ≡ take count (drop first xs)
 take-drop-front xs ys first zero le = refl
 take-drop-front [] ys first (suc count) le = absurd (omega (arith, le))
@@ -148,13 +140,10 @@ map-append f (x ∷ xs) ys = ap (λ zs. f x ∷ zs) (map-append f xs ys)
 has-not : (known : List ℕ) (i : ℕ) → (In i known → ⊥) → has known i ≡ false
 has-not known i f = false_from_ne_true (has known i) (λ t. let m = any_at (λ n. eqb n i) known t in f (subst (λ n. In n known) (eqb-true m.0 i m.2) m.1))
 
-eqb-not : (a b : ℕ) → (a ≡ b → ⊥) → eqb a b ≡ false
-eqb-not a b f = false_from_ne_true (eqb a b) (λ t. f (eqb-true a b t))
-
 before-same : (from : ℕ) (arities : List ℕ) (i : ℕ) (known : List ℕ) → i < from → columns_known from arities (i ∷ known) ≡ columns_known from arities known
 before-same from [] i known lt = refl
 before-same from (n ∷ arities) i known lt =
-    ap₂ (λ a b. a + b) (ap (λ b. cond (b || has known from) n 0) (eqb-not i from (λ e. absurd (omega (arith, lt, e))))) (before-same (from + 1) arities i known (omega (arith, lt)))
+    ap₂ (λ a b. a + b) (ap (λ b. cond (b || has known from) n 0) (ne_eqb i from (λ e. absurd (omega (arith, lt, e))))) (before-same (from + 1) arities i known (omega (arith, lt)))
 
 columns-more : (from : ℕ) (arities : List ℕ) (k : ℕ) (known : List ℕ) → k < length arities → (In (from + k) known → ⊥) → columns_known from arities ((from + k) ∷ known) ≡ columns_known from arities known + get_or arities k 0
 columns-more from [] k known lt f = absurd (omega (arith, lt))
@@ -166,7 +155,7 @@ columns-more from (n ∷ arities) zero known lt f =
     omega (arith, own, not, rest)
 columns-more from (n ∷ arities) (suc k) known lt f =
     let z : from + suc k ≡ from + 1 + k = omega arith in
-    let head : cond (eqb (from + suc k) from || has known from) n 0 ≡ cond (has known from) n 0 = ap (λ b. cond (b || has known from) n 0) (eqb-not (from + suc k) from (λ e. absurd (omega (arith, e)))) in
+    let head : cond (eqb (from + suc k) from || has known from) n 0 ≡ cond (has known from) n 0 = ap (λ b. cond (b || has known from) n 0) (ne_eqb (from + suc k) from (λ e. absurd (omega (arith, e)))) in
     let rest : columns_known (from + 1) arities ((from + suc k) ∷ known) ≡ columns_known (from + 1) arities known + get_or arities k 0 =
     ap (λ j. columns_known (from + 1) arities (j ∷ known)) z ∙ columns-more (from + 1) arities k known (omega (arith, lt)) (λ h. f (subst (λ j. In j known) (sym z) h)) in
     omega (arith, head, rest)
@@ -279,6 +268,3 @@ begun_none spec schemes cert own known route sound within schemed certificate kn
       walk = subst (λ (ns : List ℕ). IsWalk spec (map (entry_of schemes) cert) ns) (sym knows) is.walk;
       listed_once = subst (λ (ns : List ℕ). AreListedOnce schemes cert ns) (sym knows) is.listed;
     }
-
-pub begun_whole : (spec : JoinSpec) (schemes : List (List (List Bool))) (cert : List CertStep) (own done : ℕ) (known : List ℕ) (route : RouteView) → length cert ≤ done → IsBegun spec schemes cert own done known route → IsPurgeRoute spec schemes cert own route
-begun_whole spec schemes cert own done known route le begun = record { follows = begun.follows ∙ take_all done cert le; leads = begun.leads }

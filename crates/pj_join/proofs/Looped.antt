@@ -1,7 +1,7 @@
 -- What the loops of a join cite.
 use Rattle.std.proofs.Common.{ℕ, zero, suc, ◌+◌, ◌<◌, ◌≤◌, Bool, true, false, not, ◌&&◌, ◌||◌, List, [], ◌∷◌, ◌++◌, ◌≡◌, map, sum, take, length, get_or, refl, sym, ap, ap₂, ◌∙◌, subst, eqb, arith}
 use Rattle.std.proofs.lemmas.Bool.{eq-eqb, eqb-true, false≢true}
-use Rattle.std.proofs.lemmas.List.{map-append, take_all, take_more}
+use Rattle.std.proofs.lemmas.List.{map-append, take_more}
 use Rattle.pj_value.proofs.Members.{filter-agree, filter-all, filter-filter}
 use Rattle.pj_state.specs.declared.shared.Stored.{Stored}
 use Rattle.pj_state.specs.States.{StateView, ticket_of}
@@ -9,8 +9,7 @@ use Rattle.pj_state.specs.Rising.{is_other, without}
 use Rattle.pj_puncts.specs.Stores.{Store}
 use Rattle.pj_cover.specs.Asking.{punct_of}
 use Rattle.pj_shape.specs.Sound.{arities_of}
-use Rattle.pj_events.specs.Join.{ClassCol, PunctAt, TupleAt, has, of_input, upto_from}
-use Rattle.pj_probe.specs.Results.{pairs_out}
+use Rattle.pj_events.specs.Join.{PunctAt, TupleAt, has, of_input, upto_from}
 use Rattle.pj_join.specs.Sweeping.{rows_without}
 use Rattle.pj_join.specs.Sides.{AreAllShaped, IsShaped, heard_of, heard_in}
 use Rattle.pj_rows.specs.Tuples.{tuple_in, tuples_in}
@@ -50,9 +49,6 @@ without_more gone i t d rows lt is =
         parts true c = refl
         parts false true = refl
         parts false false = refl
-
-pub pairs_end : (classes : List (List ClassCol)) (own : TupleAt) (input i : ℕ) (rows : List Stored) → length rows ≤ i → pairs_out classes own (map (tuple_in input) (take i rows)) ≡ pairs_out classes own (map (tuple_in input) rows)
-pairs_end classes own input i rows le = ap (λ (xs : List Stored). pairs_out classes own (map (tuple_in input) xs)) (take_all i rows le)
 
 -- ---- a new join
 

@@ -44,9 +44,6 @@ purge_given spec input cert certified lt e =
     let same : inputs spec ≡ length spec.shape.inputs = length-map spec.shape.inputs (λ schema. length schema) in
     subst (λ (c : List CertStep). IsCertificate spec.shape spec.schemes input c) (sym e) (certified.each input (omega (arith, same, lt)))
 
-pub purges_whole : (spec : JoinData) (routes : List RouteView) (n : ℕ) → n ≡ length spec.shape.inputs → ArePurgeRoutes spec n routes → ArePurgeRoutes spec (inputs spec) routes
-purges_whole spec routes n e are = subst (λ (m : ℕ). ArePurgeRoutes spec m routes) (e ∙ sym (length-map spec.shape.inputs (λ schema. length schema))) are
-
 -- that of an input
 pub purge_here : (spec : JoinData) (routes : List RouteView) (input : ℕ) (route : RouteView) → ArePurgeRoutes spec (inputs spec) routes → input < inputs spec → route ≡ get_or routes input route
     → IsPurgeRoute spec.shape spec.schemes (steps_of spec input) input route

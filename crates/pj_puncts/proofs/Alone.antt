@@ -179,9 +179,6 @@ all-covered [] (c ∷ cells) t e = absurd (omega (arith, e))
 all-covered (p ∷ ps) [] t e = absurd (omega (arith, e))
 all-covered (p ∷ ps) (c ∷ cells) t e = let a = and_parts (is_wild p) (are_wild ps) t in wild-covers p c ps cells a.0 (all-covered ps cells a.1 (omega (arith, e)))
 
-some-value : (v w : Value) → Some v ≡ Some w → v ≡ w
-some-value v w e = cc
-
 covered-there : (c : ℕ) (v : Value) (ps : List Pattern) (cells : List (Option Value)) → has_only c v ps ≡ true → length ps ≡ length cells → cell_at cells c ≡ Some v → covers ps cells ≡ true
 covered-there c v [] cells t e f = absurd (false≢true t)
 covered-there c v (p ∷ ps) [] t e f = absurd (omega (arith, e))

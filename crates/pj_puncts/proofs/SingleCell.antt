@@ -1,7 +1,6 @@
 -- Cells of which one has a value.
-use Rattle.std.proofs.Common.{◌≡◌, ℕ, zero, suc, ◌+◌, ◌<◌, ◌≤◌, Bool, true, false, not, ◌&&◌, List, [], ◌∷◌, Option, Some, None, length, get_or, drop, replicate, refl, sym, ap, ap₂, ◌∙◌, arith}
-use Rattle.std.specs.List.{slice_get}
-use Rattle.std.proofs.lemmas.Bool.{and_parts, false≢true}
+use Rattle.std.proofs.Common.{◌≡◌, ℕ, zero, suc, ◌+◌, ◌<◌, ◌≤◌, Bool, true, false, ◌&&◌, List, [], ◌∷◌, Option, Some, None, length, get_or, drop, replicate, refl, sym, ap, ap₂, ◌∙◌, arith}
+use Rattle.std.proofs.lemmas.Bool.{false≢true}
 use Rattle.pj_value.specs.declared.values.Value.{Value}
 use Rattle.pj_events.specs.Join.{ClassCol, TupleAt, class_with, constant, instance_from}
 use Rattle.pj_events.specs.Patterns.{Pattern, covers}
@@ -72,16 +71,6 @@ pub only_at : (marks : List Bool) → first_marked marks < length marks → none
 only_at [] lt t = absurd (omega (arith, lt))
 only_at (true ∷ marks) lt t = t
 only_at (false ∷ marks) lt t = let n : suc (first_marked marks) + 1 ≡ suc (first_marked marks + 1) = omega arith in only_at marks (omega (arith, lt)) (ap (λ i. none_marked (drop i (false ∷ marks))) (sym n) ∙ t)
-
-pub mark_within : (marks : List Bool) (column : ℕ) → only_marked column marks ≡ true → column < length marks
-mark_within [] column t = absurd (false≢true t)
-mark_within (m ∷ marks) zero t = omega arith
-mark_within (m ∷ marks) (suc column) t = let lt : column < length marks = mark_within marks column (and_parts (not m) (only_marked column marks) t).1 in omega (arith, lt)
-
-pub mark_there : (marks : List Bool) (column : ℕ) → only_marked column marks ≡ true → slice_get marks column ≡ Some true
-mark_there [] column t = absurd (false≢true t)
-mark_there (m ∷ marks) zero t = ap Some (and_parts m (none_marked marks) t).0
-mark_there (m ∷ marks) (suc column) t = mark_there marks column (and_parts (not m) (only_marked column marks) t).1
 
 module _ (classes : List (List ClassCol)) (input : ℕ) (xs : List TupleAt) where
   none-instance : (from : ℕ) (marks : List Bool) → none_marked marks ≡ true → replicate (length marks) None ≡ instance_from classes input from marks xs

@@ -1,7 +1,7 @@
 -- What routes find.
-use Rattle.std.proofs.Common.{ℕ, zero, suc, ◌+◌, ◌<◌, ◌≤◌, Bool, true, false, not, List, [], ◌∷◌, ◌++◌, ◌≡◌, ◌⊎◌, Option, Some, None, IfSome, Ok, Err, Result, OnOk, length, get_or, set, take, refl, sym, ap, ap₂, ◌∙◌, subst, inl, inr, eqb, ltb, arith}
+use Rattle.std.proofs.Common.{ℕ, zero, suc, ◌+◌, ◌<◌, ◌≤◌, Bool, true, false, List, [], ◌∷◌, ◌++◌, ◌≡◌, ◌⊎◌, Option, Some, None, IfSome, Ok, Err, Result, OnOk, length, get_or, set, take, refl, sym, ap, ap₂, ◌∙◌, subst, inl, inr, eqb, arith}
 use Rattle.std.specs.List.{slice_get}
-use Rattle.std.proofs.lemmas.Bool.{and_parts, eq-eqb, eqb-true, false≢true, ltb-true}
+use Rattle.std.proofs.lemmas.Bool.{eq-eqb, eqb-true, false≢true}
 use Rattle.std.proofs.lemmas.List.{take_all, take_more}
 use Rattle.pj_value.specs.declared.values.Value.{Value}
 use Rattle.pj_value.proofs.Members.{In-append_cases, in-place}
@@ -17,7 +17,7 @@ use Rattle.pj_recheck.specs.declared.routes.InputRoutes.{InputRoutes}
 use Rattle.pj_rows.specs.Ranges.{HoldTrue}
 use Rattle.pj_rows.specs.Tuples.{AreWide, state_at}
 use Rattle.pj_recheck.specs.Recheck.{AreLeads, AreRoutes, BackLeaves, BacksFit, BacksLeave, HasKey, HasLimit, IsWay, LeadTo, LeadsFit, LeadsIn, LeavesBackOwner, LeavesOwner, RouteFinds, RouteFits, RouteLeaves, RoutesFit, RoutesLeave, StopFinds, StopFits, StopsFind, StopsFit, WayFits, WayLeads, entry_on, routes_at}
-use Rattle.pj_recheck.specs.Watching.{AreAside, AreFewer, AreLeft, AreRoused, CoverageView, IsAsideAt, IsFewer, IsKey, IsLeftBy, IsUnmet, LeadsBack, Limits, PathView, PunctView, SideView, asker, is_passed, is_wild_elsewhere, side_at, watches_at}
+use Rattle.pj_recheck.specs.Watching.{AreAside, AreFewer, AreLeft, AreRoused, CoverageView, IsAsideAt, IsFewer, IsKey, IsLeftBy, IsUnmet, LeadsBack, Limits, PathView, PunctView, SideView, asker, is_wild_elsewhere, side_at, watches_at}
 use Rattle.pj_recheck.specs.declared.marks.Watches.{Watches}
 use Rattle.pj_rows.specs.Finding.{has_match}
 use Rattle.pj_recheck.proofs.Paths.{found_by_key, found_by_limit, left_at, left_other, left_unmet, unmet_elsewhere, unmet_marked}
@@ -152,13 +152,6 @@ pub leaves_found : {E V : Type 0} (r : Result V E) (states : List StateView) (ro
     → RouteFinds states route patterns found → new.from ≡ old.from → OnOk r (new.marked ≡ old.marked ++ found) → OnOk r (RouteLeaves states route patterns new)
 leaves_found (Ok done) states route patterns old new found finds from marked = λ path entry c same pats of is. unmet_marked path entry c old new found (finds path entry c same pats of is) from marked
 leaves_found (Err stop) states route patterns old new found finds from marked = tt
-
--- none is passed over
-none-passed : (w : Watches) (ticket : ℕ) → w.from ≡ 0 → is_passed w ticket ≡ true → ⊥
-none-passed w ticket from t = let lt : ticket < w.from = ltb-true ticket w.from (and_parts (ltb ticket w.from) (not (has w.marked ticket)) t).0 in absurd (omega (arith, lt, from))
-
-pub leaves_all : (states : List StateView) (route : RecheckRoute) (patterns : List Pattern) (w : Watches) → w.from ≡ 0 → RouteLeaves states route patterns w
-leaves_all states route patterns w from path entry c same pats of is x rows asks along count passed = absurd (none-passed w x.ticket from passed)
 
 -- ---- all routes
 
