@@ -42,67 +42,67 @@ other-fails input one instance p f =
     let two = and_parts (one p.ticket) (eqb p.input input && covers p.patterns instance) t in
     f (eqb-true p.input input (and_parts (eqb p.input input) (covers p.patterns instance) two.1).0))
 
-from-on : (stores : List Store) (from : ℕ) (p : PunctAt) → In p (puncts_from from stores) → from ≤ p.input
+from-on : (punct_stores : List Store) (from : ℕ) (p : PunctAt) → In p (puncts_from from punct_stores) → from ≤ p.input
 from-on [] from p h = absurd h
-from-on (s ∷ stores) from p h = elim (In-append_cases p (map (punct_of from) s.kept) (puncts_from (from + 1) stores) h) [
+from-on (s ∷ punct_stores) from p h = elim (In-append_cases p (map (punct_of from) s.kept) (puncts_from (from + 1) punct_stores) h) [
   | inl k ↦
       let m = In-map (punct_of from) p s.kept k in
       let e : from ≡ p.input = ap (λ (q : PunctAt). q.input) m.2 in
       omega (arith, e)
-  | inr k ↦ let le : from + 1 ≤ p.input = from-on stores (from + 1) p k in omega (arith, le)
+  | inr k ↦ let le : from + 1 ≤ p.input = from-on punct_stores (from + 1) p k in omega (arith, le)
 ]
 
-own-only : (stores : List Store) (from k : ℕ) (one : ℕ → Bool) (instance : List (Option Value)) (d : Store) → k < length stores
-    → list_any (test (from + k) one instance) (puncts_from from stores) ≡ covered-by (get_or stores k d).kept one instance
+own-only : (punct_stores : List Store) (from k : ℕ) (one : ℕ → Bool) (instance : List (Option Value)) (d : Store) → k < length punct_stores
+    → list_any (test (from + k) one instance) (puncts_from from punct_stores) ≡ covered-by (get_or punct_stores k d).kept one instance
 own-only [] from k one instance d lt = absurd (omega (arith, lt))
-own-only (s ∷ stores) from zero one instance d lt =
+own-only (s ∷ punct_stores) from zero one instance d lt =
     let n : from + 0 ≡ from = omega arith in
-    ap (λ i. list_any (test i one instance) (puncts_from from (s ∷ stores))) n
-    ∙ list_any-append (test from one instance) (map (punct_of from) s.kept) (puncts_from (from + 1) stores)
+    ap (λ i. list_any (test i one instance) (puncts_from from (s ∷ punct_stores))) n
+    ∙ list_any-append (test from one instance) (map (punct_of from) s.kept) (puncts_from (from + 1) punct_stores)
     ∙ ap₂ (λ a b. a || b) (own from one instance s.kept)
-    (none_from (test from one instance) (puncts_from (from + 1) stores) (λ p h. other-fails from one instance p (λ e. let le : from + 1 ≤ p.input = from-on stores (from + 1) p h in omega (arith, le, e))))
+    (none_from (test from one instance) (puncts_from (from + 1) punct_stores) (λ p h. other-fails from one instance p (λ e. let le : from + 1 ≤ p.input = from-on punct_stores (from + 1) p h in omega (arith, le, e))))
     ∙ or-false (covered-by s.kept one instance)
-own-only (s ∷ stores) from (suc k) one instance d lt =
+own-only (s ∷ punct_stores) from (suc k) one instance d lt =
     let n : from + suc k ≡ from + 1 + k = omega arith in
-    ap (λ i. list_any (test i one instance) (puncts_from from (s ∷ stores))) n
-    ∙ list_any-append (test (from + 1 + k) one instance) (map (punct_of from) s.kept) (puncts_from (from + 1) stores)
+    ap (λ i. list_any (test i one instance) (puncts_from from (s ∷ punct_stores))) n
+    ∙ list_any-append (test (from + 1 + k) one instance) (map (punct_of from) s.kept) (puncts_from (from + 1) punct_stores)
     ∙ ap₂ (λ a b. a || b)
     (none_from (test (from + 1 + k) one instance) (map (punct_of from) s.kept) (λ p h. other-fails (from + 1 + k) one instance p (λ e.
     let m = In-map (punct_of from) p s.kept h in
     let same : from ≡ p.input = ap (λ (q : PunctAt). q.input) m.2 in
     omega (arith, same, e))))
-    (own-only stores (from + 1) k one instance d (omega (arith, lt)))
+    (own-only punct_stores (from + 1) k one instance d (omega (arith, lt)))
 
 -- the punctuations of the input are those of its store
-own-covered : (stores : List Store) (input : ℕ) (one : ℕ → Bool) (instance : List (Option Value)) (d : Store) → input < length stores
-    → list_any (test input one instance) (puncts_from 0 stores) ≡ covered-by (get_or stores input d).kept one instance
-own-covered stores input one instance d lt =
+own-covered : (punct_stores : List Store) (input : ℕ) (one : ℕ → Bool) (instance : List (Option Value)) (d : Store) → input < length punct_stores
+    → list_any (test input one instance) (puncts_from 0 punct_stores) ≡ covered-by (get_or punct_stores input d).kept one instance
+own-covered punct_stores input one instance d lt =
     let n : input ≡ 0 + input = omega arith in
-    ap (λ i. list_any (test i one instance) (puncts_from 0 stores)) n ∙ own-only stores 0 input one instance d lt
+    ap (λ i. list_any (test i one instance) (puncts_from 0 punct_stores)) n ∙ own-only punct_stores 0 input one instance d lt
 
-pub covered_by_own : (stores : List Store) (input low : ℕ) (instance : List (Option Value)) (d : Store) → input < length stores
-    → covered (older_puncts low (puncts_from 0 stores)) (record { input = input; instance = instance }) ≡ covered_below (get_or stores input d).kept low instance
-covered_by_own stores input low instance d lt =
-    sym (any-filter (λ (p : PunctAt). ltb p.ticket low) (λ (p : PunctAt). eqb p.input input && covers p.patterns instance) (puncts_from 0 stores))
-    ∙ own-covered stores input (λ n. ltb n low) instance d lt
+pub covered_by_own : (punct_stores : List Store) (input low : ℕ) (instance : List (Option Value)) (d : Store) → input < length punct_stores
+    → covered (older_puncts low (puncts_from 0 punct_stores)) (record { input = input; instance = instance }) ≡ covered_below (get_or punct_stores input d).kept low instance
+covered_by_own punct_stores input low instance d lt =
+    sym (any-filter (λ (p : PunctAt). ltb p.ticket low) (λ (p : PunctAt). eqb p.input input && covers p.patterns instance) (puncts_from 0 punct_stores))
+    ∙ own-covered punct_stores input (λ n. ltb n low) instance d lt
 
-pub covered_by_own_any : (stores : List Store) (input : ℕ) (instance : List (Option Value)) (d : Store) → input < length stores
-    → covered (puncts_from 0 stores) (record { input = input; instance = instance }) ≡ covered_by_any (get_or stores input d).kept instance
-covered_by_own_any stores input instance d lt = own-covered stores input (λ n. true) instance d lt
+pub covered_by_own_any : (punct_stores : List Store) (input : ℕ) (instance : List (Option Value)) (d : Store) → input < length punct_stores
+    → covered (puncts_from 0 punct_stores) (record { input = input; instance = instance }) ≡ covered_by_any (get_or punct_stores input d).kept instance
+covered_by_own_any punct_stores input instance d lt = own-covered punct_stores input (λ n. true) instance d lt
 
 -- what the number of a punctuation of the store tells of the instance, or that there is none
-module _ (stores : List Store) (low input : ℕ) (instance : List (Option Value)) (d : Store) (k : Known) (lt : input < length stores) (ps : k.puncts ≡ puncts_from 0 stores) (is : k.low ≡ low) where
+module _ (punct_stores : List Store) (low input : ℕ) (instance : List (Option Value)) (d : Store) (k : Known) (lt : input < length punct_stores) (ps : k.puncts ≡ puncts_from 0 punct_stores) (is : k.low ≡ low) where
   abbrev asked : Demand
   asked = record { input = input; instance = instance }
 
   abbrev tells : Option ℕ → Type 0
-  tells o = TellsCover (get_or stores input d).kept low instance o
+  tells o = TellsCover (get_or punct_stores input d).kept low instance o
 
-  any-told : covered k.puncts asked ≡ covered_by_any (get_or stores input d).kept instance
-  any-told = ap (λ qs. covered qs asked) ps ∙ covered_by_own_any stores input instance d lt
+  any-told : covered k.puncts asked ≡ covered_by_any (get_or punct_stores input d).kept instance
+  any-told = ap (λ qs. covered qs asked) ps ∙ covered_by_own_any punct_stores input instance d lt
 
   below-told : (n : ℕ) → tells (Some n) → is_covered k asked ≡ ltb n low
-  below-told n t = ap₂ (λ l qs. covered (older_puncts l qs) asked) is ps ∙ covered_by_own stores input low instance d lt ∙ sym t.1
+  below-told n t = ap₂ (λ l qs. covered (older_puncts l qs) asked) is ps ∙ covered_by_own punct_stores input low instance d lt ∙ sym t.1
 
   pub told_none : tells None → IsStepJudged k asked Open
   told_none t = any-told ∙ t

@@ -26,9 +26,9 @@ use Rattle.pj_puncts.proofs.Lent.{drop_here}
 use Rattle.pj_cover.proofs.Steps.{length-map}
 
 -- the rows of a step's input fit
-pub step_fits : (spec : JoinSpec) (schemes : List (List (List Bool))) (rows : ℕ → List (ℕ × List Value)) (stores : List Store) (cert : List CertStep) (at : ℕ) (step : CertStep) (xs : List TupleAt)
-    → AreParts spec rows stores → IsOnWalk spec schemes (drop at cert) xs → slice_get cert at ≡ Some step → HaveLength (get_or (arities_of spec.inputs) step.input 0) (rows step.input)
-step_fits spec schemes rows stores cert at step xs parts walk here =
+pub step_fits : (spec : JoinSpec) (schemes : List (List (List Bool))) (rows : ℕ → List (ℕ × List Value)) (punct_stores : List Store) (cert : List CertStep) (at : ℕ) (step : CertStep) (xs : List TupleAt)
+    → AreParts spec rows punct_stores → IsOnWalk spec schemes (drop at cert) xs → slice_get cert at ≡ Some step → HaveLength (get_or (arities_of spec.inputs) step.input 0) (rows step.input)
+step_fits spec schemes rows punct_stores cert at step xs parts walk here =
     let w = subst (λ (steps : List CertStep). IsOnWalk spec schemes steps xs) (drop_here cert at step here) walk in
     let n : length (arities_of spec.inputs) ≡ length spec.inputs = length-map length spec.inputs in
     let below : step.input < length (arities_of spec.inputs) = w.walk.0 in

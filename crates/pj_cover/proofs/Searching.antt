@@ -38,10 +38,10 @@ in_here (y ∷ xs) zero x e = inl (get_or_from_slice_get (y ∷ xs) 0 x x e)
 in_here (y ∷ xs) (suc at) x e = inr (in_here xs at x e)
 
 -- what the step at the place needs
-pub ready : (spec : JoinSpec) (schemes : List (List (List Bool))) (rows : Rows) (stores : List Store) (cert : List CertStep) (at : ℕ) (step : CertStep) (xs : List TupleAt)
-    → AreParts spec rows stores → IsOnWalk spec schemes (drop at cert) xs → slice_get cert at ≡ Some step → IsStep schemes stores step
-ready spec schemes rows stores cert at step xs parts walk here =
-    step_ready spec schemes rows stores step (drop (at + 1) cert) xs parts (subst (λ (steps : List CertStep). IsOnWalk spec schemes steps xs) (drop_here cert at step here) walk)
+pub ready : (spec : JoinSpec) (schemes : List (List (List Bool))) (rows : Rows) (punct_stores : List Store) (cert : List CertStep) (at : ℕ) (step : CertStep) (xs : List TupleAt)
+    → AreParts spec rows punct_stores → IsOnWalk spec schemes (drop at cert) xs → slice_get cert at ≡ Some step → IsStep schemes punct_stores step
+ready spec schemes rows punct_stores cert at step xs parts walk here =
+    step_ready spec schemes rows punct_stores step (drop (at + 1) cert) xs parts (subst (λ (steps : List CertStep). IsOnWalk spec schemes steps xs) (drop_here cert at step here) walk)
 
 -- it is not covered
 pub found_here : (k : Known) (schemes : List (List (List Bool))) (cert : List CertStep) (at : ℕ) (step : CertStep) (xs ys : List TupleAt) (v : Verdict)
@@ -52,16 +52,16 @@ found_here k schemes cert at step xs ys v here same s unripe =
     (subst (λ (zs : List TupleAt). IsStepJudged k (demand k.classes (entry_of schemes step) zs) v) same s) unripe)
 
 -- it is covered, and the rows of its input were gone through
-pub gone_through : (spec : JoinSpec) (schemes : List (List (List Bool))) (rows : Rows) (stores : List Store) (low : ℕ) (cert : List CertStep) (at : ℕ) (step : CertStep) (xs ys : List TupleAt) (own v : Verdict)
-    → slice_get cert at ≡ Some step → ys ≡ xs → IsStepJudged (known_of spec rows stores low) (demand spec.classes (entry_of schemes step) ys) own → says_ripe own ≡ true
-    → IsJudgedThrough (known_of spec rows stores low) (entries schemes (drop at cert)) xs (map (tuple_of step.input) (rows step.input)) v → IsJudged (known_of spec rows stores low) (entries schemes (drop at cert)) xs v
-gone_through spec schemes rows stores low cert at step xs ys own v here same s holds j =
-    subst (λ (steps : List CertStep). IsJudged (known_of spec rows stores low) (entries schemes steps) xs v) (sym (drop_here cert at step here))
-    (judged_through (known_of spec rows stores low) (entry_of schemes step) (entries schemes (drop (at + 1) cert)) xs (map (tuple_of step.input) (rows step.input)) v
-    (step_covered (known_of spec rows stores low) (demand spec.classes (entry_of schemes step) xs) own
-    (subst (λ (zs : List TupleAt). IsStepJudged (known_of spec rows stores low) (demand spec.classes (entry_of schemes step) zs) own) same s) holds)
+pub gone_through : (spec : JoinSpec) (schemes : List (List (List Bool))) (rows : Rows) (punct_stores : List Store) (low : ℕ) (cert : List CertStep) (at : ℕ) (step : CertStep) (xs ys : List TupleAt) (own v : Verdict)
+    → slice_get cert at ≡ Some step → ys ≡ xs → IsStepJudged (known_of spec rows punct_stores low) (demand spec.classes (entry_of schemes step) ys) own → says_ripe own ≡ true
+    → IsJudgedThrough (known_of spec rows punct_stores low) (entries schemes (drop at cert)) xs (map (tuple_of step.input) (rows step.input)) v → IsJudged (known_of spec rows punct_stores low) (entries schemes (drop at cert)) xs v
+gone_through spec schemes rows punct_stores low cert at step xs ys own v here same s holds j =
+    subst (λ (steps : List CertStep). IsJudged (known_of spec rows punct_stores low) (entries schemes steps) xs v) (sym (drop_here cert at step here))
+    (judged_through (known_of spec rows punct_stores low) (entry_of schemes step) (entries schemes (drop (at + 1) cert)) xs (map (tuple_of step.input) (rows step.input)) v
+    (step_covered (known_of spec rows punct_stores low) (demand spec.classes (entry_of schemes step) xs) own
+    (subst (λ (zs : List TupleAt). IsStepJudged (known_of spec rows punct_stores low) (demand spec.classes (entry_of schemes step) zs) own) same s) holds)
     (λ y h e. in-tuples rows (length spec.inputs) step.input y h e)
-    (subst (λ (steps : List CertStep). IsJudgedThrough (known_of spec rows stores low) (entries schemes steps) xs (map (tuple_of step.input) (rows step.input)) v) (drop_here cert at step here) j))
+    (subst (λ (steps : List CertStep). IsJudgedThrough (known_of spec rows punct_stores low) (entries schemes steps) xs (map (tuple_of step.input) (rows step.input)) v) (drop_here cert at step here) j))
 
 pub last_step : (k : Known) (schemes : List (List (List Bool))) (cert : List CertStep) (at : ℕ) (step : CertStep) (xs ys : List TupleAt) → slice_get cert at ≡ Some step → length cert ≤ at + 1
     → AreDone k (entries schemes (drop at cert)) xs ys
@@ -94,10 +94,10 @@ not_older k schemes cert at step xs y here le =
     subst (λ (steps : List CertStep). IsJudgedWith k (entries schemes steps) xs y Ripe) (sym (drop_here cert at step here)) (λ m. let lt = m.below in absurd (omega (arith, le, lt)))
 
 -- one row more may be lent
-pub goes_on : (spec : JoinSpec) (schemes : List (List (List Bool))) (rows : Rows) (stores : List Store) (cert : List CertStep) (at : ℕ) (step : CertStep) (xs ys : List TupleAt) (r : ℕ × List Value)
-    → AreParts spec rows stores → IsOnWalk spec schemes (drop at cert) xs → slice_get cert at ≡ Some step → In r (rows step.input) → suits spec.classes xs (tuple_of step.input r) ≡ true → ys ≡ tuple_of step.input r ∷ xs
+pub goes_on : (spec : JoinSpec) (schemes : List (List (List Bool))) (rows : Rows) (punct_stores : List Store) (cert : List CertStep) (at : ℕ) (step : CertStep) (xs ys : List TupleAt) (r : ℕ × List Value)
+    → AreParts spec rows punct_stores → IsOnWalk spec schemes (drop at cert) xs → slice_get cert at ≡ Some step → In r (rows step.input) → suits spec.classes xs (tuple_of step.input r) ≡ true → ys ≡ tuple_of step.input r ∷ xs
     → IsOnWalk spec schemes (drop (at + 1) cert) ys
-goes_on spec schemes rows stores cert at step xs ys r parts walk here stored suited same =
+goes_on spec schemes rows punct_stores cert at step xs ys r parts walk here stored suited same =
     let w = subst (λ (steps : List CertStep). IsOnWalk spec schemes steps xs) (drop_here cert at step here) walk in
     let n : length (arities_of spec.inputs) ≡ length spec.inputs = length-map length spec.inputs in
     let below : step.input < length (arities_of spec.inputs) = w.walk.0 in
@@ -111,15 +111,15 @@ has_room spec schemes cert at step xs walk here =
     omega (arith, few, some)
 
 -- what was said from the next place on
-pub went_on : (spec : JoinSpec) (schemes : List (List (List Bool))) (rows : Rows) (stores : List Store) (low : ℕ) (cert : List CertStep) (at : ℕ) (step : CertStep) (xs ys : List TupleAt) (r : ℕ × List Value) (v : Verdict)
+pub went_on : (spec : JoinSpec) (schemes : List (List (List Bool))) (rows : Rows) (punct_stores : List Store) (low : ℕ) (cert : List CertStep) (at : ℕ) (step : CertStep) (xs ys : List TupleAt) (r : ℕ × List Value) (v : Verdict)
     → IsOnWalk spec schemes (drop at cert) xs → slice_get cert at ≡ Some step → In r (rows step.input) → r.0 < low → suits spec.classes xs (tuple_of step.input r) ≡ true → ys ≡ tuple_of step.input r ∷ xs
-    → IsJudged (known_of spec rows stores low) (entries schemes (drop (at + 1) cert)) ys v
-    → IsJudgedWith (known_of spec rows stores low) (entries schemes (drop at cert)) xs (tuple_of step.input r) v
-went_on spec schemes rows stores low cert at step xs ys r v walk here stored lt suited same j =
+    → IsJudged (known_of spec rows punct_stores low) (entries schemes (drop (at + 1) cert)) ys v
+    → IsJudgedWith (known_of spec rows punct_stores low) (entries schemes (drop at cert)) xs (tuple_of step.input r) v
+went_on spec schemes rows punct_stores low cert at step xs ys r v walk here stored lt suited same j =
     let w = subst (λ (steps : List CertStep). IsOnWalk spec schemes steps xs) (drop_here cert at step here) walk in
     let n : length (arities_of spec.inputs) ≡ length spec.inputs = length-map length spec.inputs in
     let below : step.input < length (arities_of spec.inputs) = w.walk.0 in
-    subst (λ (steps : List CertStep). IsJudgedWith (known_of spec rows stores low) (entries schemes steps) xs (tuple_of step.input r) v) (sym (drop_here cert at step here))
-    (judged_with (known_of spec rows stores low) (entry_of schemes step) (entries schemes (drop (at + 1) cert)) xs (tuple_of step.input r) v lt refl (front_agree spec.classes xs (tuple_of step.input r) walk.joined suited)
+    subst (λ (steps : List CertStep). IsJudgedWith (known_of spec rows punct_stores low) (entries schemes steps) xs (tuple_of step.input r) v) (sym (drop_here cert at step here))
+    (judged_with (known_of spec rows punct_stores low) (entry_of schemes step) (entries schemes (drop (at + 1) cert)) xs (tuple_of step.input r) v lt refl (front_agree spec.classes xs (tuple_of step.input r) walk.joined suited)
     (tuples-in rows (length spec.inputs) step.input r (omega (arith, n, below)) stored)
-    (subst (λ (zs : List TupleAt). IsJudged (known_of spec rows stores low) (entries schemes (drop (at + 1) cert)) zs v) same j))
+    (subst (λ (zs : List TupleAt). IsJudged (known_of spec rows punct_stores low) (entries schemes (drop (at + 1) cert)) zs v) same j))

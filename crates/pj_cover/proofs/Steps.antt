@@ -39,18 +39,18 @@ at-most-sum : (ns : List ℕ) (i n : ℕ) → sum ns ≤ n → get_or ns i 0 ≤
 at-most-sum ns i n le = let most : get_or ns i 0 + 0 ≤ sum ns = fold-most 0 ns i in omega (arith, most, le)
 
 -- what a step of a walk needs
-pub step_ready : (spec : JoinSpec) (schemes : List (List (List Bool))) (rows : ℕ → List (ℕ × List Value)) (stores : List Store) (step : CertStep) (steps : List CertStep) (xs : List TupleAt)
-    → AreParts spec rows stores → IsOnWalk spec schemes (step ∷ steps) xs → IsStep schemes stores step
-step_ready spec schemes rows stores step steps xs parts walk =
-    let count : length stores ≡ length (arities_of spec.inputs) = sym (length-map (λ (s : Store). s.arity) stores) ∙ ap length parts.one_each in
+pub step_ready : (spec : JoinSpec) (schemes : List (List (List Bool))) (rows : ℕ → List (ℕ × List Value)) (punct_stores : List Store) (step : CertStep) (steps : List CertStep) (xs : List TupleAt)
+    → AreParts spec rows punct_stores → IsOnWalk spec schemes (step ∷ steps) xs → IsStep schemes punct_stores step
+step_ready spec schemes rows punct_stores step steps xs parts walk =
+    let count : length punct_stores ≡ length (arities_of spec.inputs) = sym (length-map (λ (s : Store). s.arity) punct_stores) ∙ ap length parts.one_each in
     let within : step.input < length (arities_of spec.inputs) = walk.walk.0 in
-    let here : step.input < length stores = omega (arith, count, within) in
+    let here : step.input < length punct_stores = omega (arith, count, within) in
     let same : length (marks_of schemes step) ≡ get_or (arities_of spec.inputs) step.input 0 = walk.walk.1 in
     let few : get_or (arities_of spec.inputs) step.input 0 ≤ 120 = at-most-sum (arities_of spec.inputs) step.input 120 parts.sound.few_columns in
     record {
       scheme = walk.listed.0;
       store = here;
-      fits = λ d. same ∙ ap (λ (ns : List ℕ). get_or ns step.input 0) (sym parts.one_each) ∙ get_or-map (λ (s : Store). s.arity) stores step.input d 0 here;
+      fits = λ d. same ∙ ap (λ (ns : List ℕ). get_or ns step.input 0) (sym parts.one_each) ∙ get_or-map (λ (s : Store). s.arity) punct_stores step.input d 0 here;
       few = omega (arith, same, few);
     }
 
@@ -102,9 +102,9 @@ certified_few spec schemes steps own sound within cert =
     only q n (inr none) e = absurd none
 
 -- the certificate of a row that fits its input
-pub walk_starts : (spec : JoinSpec) (schemes : List (List (List Bool))) (rows : ℕ → List (ℕ × List Value)) (stores : List Store) (steps : List CertStep) (x : TupleAt)
-    → AreParts spec rows stores → x.input < length spec.inputs → FitSchemes spec.inputs schemes → IsCertificate spec schemes x.input steps → length x.row ≡ get_or (arities_of spec.inputs) x.input 0 → IsOnWalk spec schemes steps (x ∷ [])
-walk_starts spec schemes rows stores steps x parts within schemed certificate fit =
+pub walk_starts : (spec : JoinSpec) (schemes : List (List (List Bool))) (rows : ℕ → List (ℕ × List Value)) (punct_stores : List Store) (steps : List CertStep) (x : TupleAt)
+    → AreParts spec rows punct_stores → x.input < length spec.inputs → FitSchemes spec.inputs schemes → IsCertificate spec schemes x.input steps → length x.row ≡ get_or (arities_of spec.inputs) x.input 0 → IsOnWalk spec schemes steps (x ∷ [])
+walk_starts spec schemes rows punct_stores steps x parts within schemed certificate fit =
     let cert = is_certified spec schemes x.input steps parts.sound.apart schemed certificate in
     record {
       listed = cert.listed;

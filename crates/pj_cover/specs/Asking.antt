@@ -33,7 +33,7 @@ punct_of input k = record { ticket = k.number; input = input; patterns = k.punct
 -- the punctuations of the inputs from this one on
 abbrev pub puncts_from : ℕ → List Store → List PunctAt
 puncts_from input [] = []
-puncts_from input (s ∷ stores) = map (punct_of input) s.kept ++ puncts_from (input + 1) stores
+puncts_from input (s ∷ punct_stores) = map (punct_of input) s.kept ++ puncts_from (input + 1) punct_stores
 
 -- the certificate of these steps
 abbrev pub entries : List (List (List Bool)) → List CertStep → List CertEntry
@@ -49,10 +49,10 @@ pub record Known : Type 0 where
   pub low : ℕ
 
 abbrev pub known_of : JoinSpec → (ℕ → List (ℕ × List Value)) → List Store → ℕ → Known
-known_of spec rows stores low = record {
+known_of spec rows punct_stores low = record {
   classes = spec.classes;
   stored = tuples_of rows (length spec.inputs);
-  puncts = puncts_from 0 stores;
+  puncts = puncts_from 0 punct_stores;
   low = low;
 }
 
@@ -178,10 +178,10 @@ abbrev pub HaveLength : ℕ → List (ℕ × List Value) → Type 0
 HaveLength n rs = (r : ℕ × List Value) → In r rs → length r.1 ≡ n
 
 -- a sound join, rows that fit it, and one store of punctuations for each input
-pub record AreParts (spec : JoinSpec) (rows : ℕ → List (ℕ × List Value)) (stores : List Store) : Type 0 where
+pub record AreParts (spec : JoinSpec) (rows : ℕ → List (ℕ × List Value)) (punct_stores : List Store) : Type 0 where
   pub sound : IsSoundSpec spec
   pub fit : (input : ℕ) → input < length spec.inputs → HaveLength (slice_index (arities_of spec.inputs) input) (rows input)
-  pub one_each : map (λ s. s.arity) stores ≡ arities_of spec.inputs
+  pub one_each : map (λ s. s.arity) punct_stores ≡ arities_of spec.inputs
 
 abbrev pub inputs_of : List TupleAt → List ℕ
 inputs_of xs = map (λ x. x.input) xs
@@ -199,10 +199,10 @@ abbrev pub marks_of : List (List (List Bool)) → CertStep → List Bool
 marks_of schemes step = (entry_of schemes step).marks
 
 -- what is asked for by a step can be looked up: it has a scheme, and there is a store of its arity
-pub record IsStep (schemes : List (List (List Bool))) (stores : List Store) (step : CertStep) : Type 0 where
+pub record IsStep (schemes : List (List (List Bool))) (punct_stores : List Store) (step : CertStep) : Type 0 where
   pub scheme : step.scheme < length (slice_index_or schemes step.input [])
-  pub store : step.input < length stores
-  pub fits : (d : Store) → length (marks_of schemes step) ≡ (slice_index_or stores step.input d).arity
+  pub store : step.input < length punct_stores
+  pub fits : (d : Store) → length (marks_of schemes step) ≡ (slice_index_or punct_stores step.input d).arity
   pub few : length (marks_of schemes step) ≤ 120
 
 -- whether the row is below the low-water ticket, and all that it asks for is covered

@@ -15,11 +15,11 @@ Rows = ℕ → List (ℕ × List Value)
 
 -- what is known of the join
 abbrev pub known_by : {R : Type 0} → Rows → Judge R → Known
-known_by rows j = known_of j.spec.now rows j.stores.now j.low
+known_by rows j = known_of j.spec.now rows j.punct_stores.now j.low
 
 -- the parts fit each other
 abbrev pub MayJudge : {R : Type 0} → Rows → Judge R → Type 0
-MayJudge rows j = AreParts j.spec.now rows j.stores.now
+MayJudge rows j = AreParts j.spec.now rows j.punct_stores.now
 
 -- the entries of the certificate that the route follows, from a place on
 abbrev pub steps_from : {R : Type 0} → Judge R → ℕ → List CertEntry
@@ -44,7 +44,7 @@ IsReadyAt j step xs = IsReady j.spec.now.classes (entry_of j.schemes.now step.st
 -- what a number of a punctuation tells of the instance that the step asks for
 abbrev pub TellsStep : {R : Type 0} → Judge R → PurgeStep → List TupleAt → Option ℕ → Type 0
 TellsStep j step xs told =
-    (d : Store) → TellsCover (slice_index_or j.stores.now step.step.input d).kept j.low (instance_from j.spec.now.classes step.step.input 0 (marks_of j.schemes.now step.step) xs) told
+    (d : Store) → TellsCover (slice_index_or j.punct_stores.now step.step.input d).kept j.low (instance_from j.spec.now.classes step.step.input 0 (marks_of j.schemes.now step.step) xs) told
 
 -- what is said of what is asked for, by the steps from a place on, with the rows of the input
 abbrev pub IsJudgedAt : {R : Type 0} → Rows → Judge R → ℕ → ℕ → List TupleAt → Verdict → Type 0

@@ -52,7 +52,7 @@ struct Judge<'a, R> {
     schemes: &'a Schemes,
     route: &'a PurgeRoute,
     rows: &'a R,
-    stores: &'a [PunctStore],
+    punct_stores: &'a [PunctStore],
     low: u64,
 }
 
@@ -60,12 +60,12 @@ impl<'a, R: StoredRows> Judge<'a, R> {
     // The number of a punctuation that covers the instance that a step asks for of these rows, one below the low-water ticket
     // where there is one; `None` exactly where none covers it.
     fn covering(&self, step: PurgeStep, parts: &[Lent<'_>]) -> Option<u64>
-        requires step { IsStep self.now.schemes.now self.now.stores.now step.step }
+        requires step { IsStep self.now.schemes.now self.now.punct_stores.now step.step }
         requires ready { IsReadyAt self.now step parts.now }
         ensures { TellsStep self.now step parts.now result }
     {
         let scheme = scheme_of(self.schemes, step.step);
-        let store = &self.stores[step.step.input as usize];
+        let store = &self.punct_stores[step.step.input as usize];
         match step.single {
             None => covering_all(scheme, self.route.links_of(step), parts, store, self.low),
             Some(link) => covering_one(scheme.len(), link, parts, store, self.low),
@@ -75,7 +75,7 @@ impl<'a, R: StoredRows> Judge<'a, R> {
     // What is said of that instance.
     #[inline(never)]
     fn judge_step(&self, step: PurgeStep, parts: &[Lent<'_>]) -> Verdict
-        requires step { IsStep self.now.schemes.now self.now.stores.now step.step }
+        requires step { IsStep self.now.schemes.now self.now.punct_stores.now step.step }
         requires ready { IsReadyAt self.now step parts.now }
         ensures { IsStepJudged (known_by (R.rows self.now.rows.now) self.now) (demand self.now.spec.now.classes (entry_of self.now.schemes.now step.step) parts.now) result }
     {
@@ -304,24 +304,24 @@ pub fn judge_row<R: StoredRows>(
     input: u32,
     row: &Row,
     rows: &R,
-    stores: &[PunctStore],
+    punct_stores: &[PunctStore],
     low: u64,
 ) -> Verdict
-    requires parts { AreParts spec.now (R.rows rows.now) stores.now }
+    requires parts { AreParts spec.now (R.rows rows.now) punct_stores.now }
     requires input { input < length spec.now.inputs }
     requires schemes { FitSchemes spec.now.inputs schemes.now }
     requires certified { IsCertificate spec.now schemes.now input (steps_in route.now) }
     requires route { IsPurgeRoute spec.now schemes.now (steps_in route.now) input route.now }
     requires fits { length row.now ≡ slice_index (arities_of spec.now.inputs) input }
-    ensures ripe { (ticket : ℕ) → says_ripe result ≡ all_covered (known_of spec.now (R.rows rows.now) stores.now low) (entries schemes.now (steps_in route.now)) (tuple_of input (ticket, row.now) ∷ []) }
-    ensures asks { (ticket : ℕ) → IsJudged (known_of spec.now (R.rows rows.now) stores.now low) (entries schemes.now (steps_in route.now)) (tuple_of input (ticket, row.now) ∷ []) result }
+    ensures ripe { (ticket : ℕ) → says_ripe result ≡ all_covered (known_of spec.now (R.rows rows.now) punct_stores.now low) (entries schemes.now (steps_in route.now)) (tuple_of input (ticket, row.now) ∷ []) }
+    ensures asks { (ticket : ℕ) → IsJudged (known_of spec.now (R.rows rows.now) punct_stores.now low) (entries schemes.now (steps_in route.now)) (tuple_of input (ticket, row.now) ∷ []) result }
 {
     let judge = Judge {
         spec,
         schemes,
         route,
         rows,
-        stores,
+        punct_stores,
         low,
     };
     judge.judge(Lent::of(0, input, row))
@@ -338,19 +338,19 @@ pub fn ripe<R: StoredRows>(
     ticket: u64,
     row: &Row,
     rows: &R,
-    stores: &[PunctStore],
+    punct_stores: &[PunctStore],
     low: u64,
 ) -> bool
-    requires parts { AreParts spec.now (R.rows rows.now) stores.now }
+    requires parts { AreParts spec.now (R.rows rows.now) punct_stores.now }
     requires input { input < length spec.now.inputs }
     requires schemes { FitSchemes spec.now.inputs schemes.now }
     requires certified { IsCertificate spec.now schemes.now input cert.now }
     requires fits { length row.now ≡ slice_index (arities_of spec.now.inputs) input }
-    ensures { result ≡ is_ripe (known_of spec.now (R.rows rows.now) stores.now low) (entries schemes.now cert.now) (tuple_of input (ticket, row.now)) }
+    ensures { result ≡ is_ripe (known_of spec.now (R.rows rows.now) punct_stores.now low) (entries schemes.now cert.now) (tuple_of input (ticket, row.now)) }
 {
     if low <= ticket {
         return false;
     }
     let route = purge_route(spec, schemes, cert, input);
-    judge_row(spec, schemes, &route, input, row, rows, stores, low).is_ripe()
+    judge_row(spec, schemes, &route, input, row, rows, punct_stores, low).is_ripe()
 }

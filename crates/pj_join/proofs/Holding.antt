@@ -7,7 +7,7 @@ use Rattle.pj_state.specs.Rising.{IsRising}
 use Rattle.pj_events.specs.Patterns.{matches_row}
 use Rattle.pj_events.specs.Join.{In, PunctAt, Sweep, TupleAt, has, is_held, of_input, widened}
 use Rattle.pj_events.specs.KeptState.{kept_ripe, swept}
-use Rattle.pj_waiting.specs.Holding.{AreFreed, AreHeldBy, IsHeldBy, IsListedIf, KeepsLists, StayHeld, WaitingView, is_listed, tickets_where, heard_at}
+use Rattle.pj_waiting.specs.Holding.{AreFreed, AreHeldBy, IsHeldBy, IsListedIf, KeepsLists, StayHeld, WaitingView, is_listed, tickets_where, held_at}
 use Rattle.pj_join.specs.Held.{AreHeld, AreHeldBehind, IsHolder, holds}
 use Rattle.pj_rows.specs.Finding.{IsStaying, still_held}
 use Rattle.pj_join.specs.Joins.{JoinView, after}
@@ -46,7 +46,7 @@ held_none next stored w none = record {
   held = λ p h. absurd (subst (λ (ps : List PunctAt). In p ps) none h);
 }
 
--- a row of an input is a holder
+-- a row of an input is a blocker
 row_holds : (stored : List TupleAt) (rows : List Stored) (input : ℕ) (p : PunctAt) (s : Stored) → map (tuple_in input) rows ≡ of_input input stored → p.input ≡ input → In s rows → matches_row p.patterns s.row ≡ true → IsHolder stored p s.ticket
 row_holds stored rows input p s side own i m = (
   tuple_in input s,
@@ -103,7 +103,7 @@ held_rows next stored rows input w side are = record { held = λ p h own. let t 
 
 -- each punctuation that waits on is listed under a tuple that is left
 pub held_behind : (join : JoinView) (input : ℕ) (rows : List Stored) (gone goes : List ℕ) (freed : List (ℕ × ℕ)) (w w' : WaitingView) → map (tuple_in input) rows ≡ of_input input join.kept.stored
-    → ((x : TupleAt) → In x join.kept.stored → has gone x.ticket ≡ (eqb x.input input && kept_ripe join.spec join.kept x)) → IsRising heard_at w.puncts → goes ≡ tickets_where (lets_go rows gone input) w.puncts → AreFreed gone freed
+    → ((x : TupleAt) → In x join.kept.stored → has gone x.ticket ≡ (eqb x.input input && kept_ripe join.spec join.kept x)) → IsRising held_at w.puncts → goes ≡ tickets_where (lets_go rows gone input) w.puncts → AreFreed gone freed
     → AreHeld join.kept.next join.kept.stored w → w'.puncts ≡ w.puncts → KeepsLists w w' → StayHeld rows gone input w' → AreHeldBehind (swept join.spec join.kept input) goes freed w'
 held_behind join input rows gone goes freed w w' side tells r goes-are of are same keeps stay p h waits = go (eqb p.input input) refl
   where

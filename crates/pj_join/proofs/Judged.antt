@@ -19,10 +19,10 @@ use Rattle.pj_join.specs.Insides.{IsJoin, inside}
 use Rattle.pj_shape.specs.Certificates.{IsCertificate}
 use Rattle.pj_cover.specs.Routes.{IsPurgeRoute, RouteView}
 use Rattle.pj_recheck.specs.Judging.{JudgeView, MayJudge, ripe_at}
-use Rattle.pj_join.specs.Sides.{IsShaped, heard_in, heard_of, log_of, puncts_of}
+use Rattle.pj_join.specs.Sides.{IsShaped, held_in, heard_of, log_of, puncts_of}
 use Rattle.pj_rows.specs.Tuples.{row_pairs, state_at, tuple_in}
 use Rattle.pj_probe.proofs.Filtering.{flat_map-agree}
-use Rattle.pj_join.proofs.Kept.{all-states, all-stores, heard-length, shaped-at, side-is}
+use Rattle.pj_join.proofs.Kept.{all-row_states, all-punct_stores, heard-length, shaped-at, side-is}
 
 -- ---- lists
 
@@ -87,13 +87,13 @@ pairs-in input (s ∷ rows) = ap (λ (xs : List TupleAt). tuple_in input s ∷ x
 
 -- ---- punctuations
 
-none-later : (m base : ℕ) (stores : List Store) → m < base → heard_of m (puncts_from base stores) ≡ []
+none-later : (m base : ℕ) (punct_stores : List Store) → m < base → heard_of m (puncts_from base punct_stores) ≡ []
 none-later m base [] lt = refl
 none-later m base (s ∷ ss) lt =
     filter-append (λ (p : PunctAt). eqb p.input m) (map (punct_of base) s.kept) (puncts_from (base + 1) ss)
     ∙ ap₂ (λ (xs ys : List PunctAt). xs ++ ys) (none-here (λ (p : PunctAt). p.input) (punct_of base) base (λ r. refl) m (λ e. omega (arith, lt, e)) s.kept) (none-later m (base + 1) ss (omega (arith, lt)))
 
-from-at : (base : ℕ) (stores : List Store) (k : ℕ) → heard_of (base + k) (puncts_from base stores) ≡ get_or (heard_in base stores) k []
+from-at : (base : ℕ) (punct_stores : List Store) (k : ℕ) → heard_of (base + k) (puncts_from base punct_stores) ≡ get_or (held_in base punct_stores) k []
 from-at base [] zero = refl
 from-at base [] (suc k) = refl
 from-at base (s ∷ ss) zero =
@@ -150,26 +150,26 @@ need-same classes xs ys same (e ∷ cert) zs =
 
 -- a judge of an input over these rows and punctuations
 abbrev pub judge_at : JoinData → ℕ → List StateView → List Store → ℕ → JudgeView
-judge_at spec input states stores low =
-    record { spec = spec.shape; schemes = spec.schemes; cert = steps_of spec input; input = input; states = states; stores = stores; low = low }
+judge_at spec input row_states punct_stores low =
+    record { spec = spec.shape; schemes = spec.schemes; cert = steps_of spec input; input = input; row_states = row_states; punct_stores = punct_stores; low = low }
 
-module _ (spec : JoinData) (limit next done : ℕ) (states : List StateView) (stores : List Store) (pending : List Place) (taken : List ℕ) (j : IsJoin spec limit (inside next done states stores pending taken)) where
+module _ (spec : JoinData) (limit next done : ℕ) (row_states : List StateView) (punct_stores : List Store) (pending : List Place) (taken : List ℕ) (j : IsJoin spec limit (inside next done row_states punct_stores pending taken)) where
   shapes : inputs spec ≡ length spec.shape.inputs
   shapes = length-map spec.shape.inputs (λ schema. length schema)
 
-  pub same-rows : (k : ℕ) → of_input k (tuples_of (row_pairs states) (length spec.shape.inputs)) ≡ of_input k (log_of states)
+  pub same-rows : (k : ℕ) → of_input k (tuples_of (row_pairs row_states) (length spec.shape.inputs)) ≡ of_input k (log_of row_states)
   same-rows k = go (ltb k (length spec.shape.inputs)) refl
     where
-      go : (b : Bool) → ltb k (length spec.shape.inputs) ≡ b → of_input k (tuples_of (row_pairs states) (length spec.shape.inputs)) ≡ of_input k (log_of states)
+      go : (b : Bool) → ltb k (length spec.shape.inputs) ≡ b → of_input k (tuples_of (row_pairs row_states) (length spec.shape.inputs)) ≡ of_input k (log_of row_states)
       go true e =
           let lt = ltb-true k (length spec.shape.inputs) e in
-          tuples-here (row_pairs states) (length spec.shape.inputs) k lt ∙ pairs-in k (state_at states k).rows ∙ side-is spec limit next done states stores pending taken j k (omega (arith, lt, shapes))
+          tuples-here (row_pairs row_states) (length spec.shape.inputs) k lt ∙ pairs-in k (state_at row_states k).rows ∙ side-is spec limit next done row_states punct_stores pending taken j k (omega (arith, lt, shapes))
       go false e =
           let le = ltb-false k (length spec.shape.inputs) e in
-          tuples-past (row_pairs states) (length spec.shape.inputs) k le ∙ sym (none-past (λ (x : TupleAt). x.input) k (log_of states) (λ x h q. let lt = j.ordered.placed x h in omega (arith, lt, q, le)))
+          tuples-past (row_pairs row_states) (length spec.shape.inputs) k le ∙ sym (none-past (λ (x : TupleAt). x.input) k (log_of row_states) (λ x h q. let lt = j.ordered.placed x h in omega (arith, lt, q, le)))
 
-  pub same-puncts : (k : ℕ) → heard_of k (puncts_from 0 stores) ≡ heard_of k (puncts_of stores)
-  same-puncts k = ap (λ m. heard_of m (puncts_from 0 stores)) (zero-plus k) ∙ from-at 0 stores k ∙ go (ltb k (inputs spec)) refl
+  pub same-puncts : (k : ℕ) → heard_of k (puncts_from 0 punct_stores) ≡ heard_of k (puncts_of punct_stores)
+  same-puncts k = ap (λ m. heard_of m (puncts_from 0 punct_stores)) (zero-plus k) ∙ from-at 0 punct_stores k ∙ go (ltb k (inputs spec)) refl
     where
       zero-plus : (n : ℕ) → n ≡ 0 + n
       zero-plus n = omega arith
@@ -180,26 +180,26 @@ module _ (spec : JoinData) (limit next done : ℕ) (states : List StateView) (st
       past (x ∷ xs) zero le = absurd (omega (arith, le))
       past (x ∷ xs) (suc i) le = past xs i (omega (arith, le))
 
-      go : (b : Bool) → ltb k (inputs spec) ≡ b → get_or (heard_in 0 stores) k [] ≡ heard_of k (puncts_of stores)
-      go true e = ap (λ (hs : List (List PunctAt)). get_or hs k []) j.heard.by_input ∙ get_or-upto (λ i. heard_of i (puncts_of stores)) 0 (inputs spec) k [] (ltb-true k (inputs spec) e) ∙ ap (λ i. heard_of i (puncts_of stores)) (sym (zero-plus k))
+      go : (b : Bool) → ltb k (inputs spec) ≡ b → get_or (held_in 0 punct_stores) k [] ≡ heard_of k (puncts_of punct_stores)
+      go true e = ap (λ (hs : List (List PunctAt)). get_or hs k []) j.heard.by_input ∙ get_or-upto (λ i. heard_of i (puncts_of punct_stores)) 0 (inputs spec) k [] (ltb-true k (inputs spec) e) ∙ ap (λ i. heard_of i (puncts_of punct_stores)) (sym (zero-plus k))
       go false e =
           let le = ltb-false k (inputs spec) e in
-          past (heard_in 0 stores) k (omega (arith, le, heard-length 0 stores, all-stores spec limit next done states stores pending taken j))
-          ∙ sym (none-past (λ (p : PunctAt). p.input) k (puncts_of stores) (λ p h q. let lt = j.heard.placed p h in omega (arith, lt, q, le)))
+          past (held_in 0 punct_stores) k (omega (arith, le, heard-length 0 punct_stores, all-punct_stores spec limit next done row_states punct_stores pending taken j))
+          ∙ sym (none-past (λ (p : PunctAt). p.input) k (puncts_of punct_stores) (λ p h q. let lt = j.heard.placed p h in omega (arith, lt, q, le)))
 
   -- the judge's yes over the rows is that over all stored tuples
-  pub ripe-is : (k : KeptState) → k.stored ≡ log_of states → k.puncts ≡ puncts_of stores → (low : ℕ) → low ≡ kept_low k → (input : ℕ) (s : Stored)
-      → ripe_at (judge_at spec input states stores low) s ≡ kept_ripe spec k (tuple_in input s)
+  pub ripe-is : (k : KeptState) → k.stored ≡ log_of row_states → k.puncts ≡ puncts_of punct_stores → (low : ℕ) → low ≡ kept_low k → (input : ℕ) (s : Stored)
+      → ripe_at (judge_at spec input row_states punct_stores low) s ≡ kept_ripe spec k (tuple_in input s)
   ripe-is k rows puncts low is input s =
       ap (λ b. ltb s.ticket low && b)
-      (all-same (is_covered known) (covered (older_puncts low (puncts_of stores))) (need spec.shape.classes (older low known.stored) cert (x ∷ [])) (λ d. covered-of low d known.puncts ∙ ap (list_any (λ p. ltb p.ticket low && covers p.patterns d.instance)) (same-puncts d.input) ∙ sym (covered-of low d (puncts_of stores)))
-      ∙ ap (list_all (covered (older_puncts low (puncts_of stores)))) (need-same spec.shape.classes (older low known.stored) (older low (log_of states)) same-older cert (x ∷ [])))
+      (all-same (is_covered known) (covered (older_puncts low (puncts_of punct_stores))) (need spec.shape.classes (older low known.stored) cert (x ∷ [])) (λ d. covered-of low d known.puncts ∙ ap (list_any (λ p. ltb p.ticket low && covers p.patterns d.instance)) (same-puncts d.input) ∙ sym (covered-of low d (puncts_of punct_stores)))
+      ∙ ap (list_all (covered (older_puncts low (puncts_of punct_stores)))) (need-same spec.shape.classes (older low known.stored) (older low (log_of row_states)) same-older cert (x ∷ [])))
       ∙ ap₂ (λ (xs : List TupleAt) (ps : List PunctAt). ltb s.ticket low && list_all (covered (older_puncts low ps)) (need spec.shape.classes (older low xs) cert (x ∷ []))) (sym rows) (sym puncts)
       ∙ ap (λ l. ltb s.ticket l && list_all (covered (older_puncts l k.puncts)) (need spec.shape.classes (older l k.stored) cert (x ∷ []))) is
       ∙ ap (λ (ds : List Demand). ltb s.ticket (kept_low k) && list_all (covered (older_puncts (kept_low k) k.puncts)) ds) (need_alone spec.shape (older (kept_low k) k.stored) cert x j.ordered.sound)
     where
       known : Known
-      known = known_of spec.shape (row_pairs states) stores low
+      known = known_of spec.shape (row_pairs row_states) punct_stores low
 
       cert : List CertEntry
       cert = entries spec.schemes (steps_of spec input)
@@ -207,32 +207,32 @@ module _ (spec : JoinData) (limit next done : ℕ) (states : List StateView) (st
       x : TupleAt
       x = tuple_in input s
 
-      same-older : (n : ℕ) → of_input n (older low known.stored) ≡ of_input n (older low (log_of states))
+      same-older : (n : ℕ) → of_input n (older low known.stored) ≡ of_input n (older low (log_of row_states))
       same-older n =
           filter-swap (λ (y : TupleAt). eqb y.input n) (λ (y : TupleAt). ltb y.ticket low) known.stored
           ∙ ap (older low) (same-rows n)
-          ∙ sym (filter-swap (λ (y : TupleAt). eqb y.input n) (λ (y : TupleAt). ltb y.ticket low) (log_of states))
+          ∙ sym (filter-swap (λ (y : TupleAt). eqb y.input n) (λ (y : TupleAt). ltb y.ticket low) (log_of row_states))
 
-  may-judge : (input : ℕ) → input < inputs spec → (route : RouteView) → IsPurgeRoute spec.shape spec.schemes (steps_of spec input) input route → MayJudge spec.shape spec.schemes route input states stores
+  may-judge : (input : ℕ) → input < inputs spec → (route : RouteView) → IsPurgeRoute spec.shape spec.schemes (steps_of spec input) input route → MayJudge spec.shape spec.schemes route input row_states punct_stores
   may-judge input lt route is = record {
     parts = record { sound = j.ordered.sound; fit = fit; one_each = j.heard.arities };
-    count = all-states spec limit next done states stores pending taken j ∙ shapes;
+    count = all-row_states spec limit next done row_states punct_stores pending taken j ∙ shapes;
     there = omega (arith, lt, shapes);
     fitting = j.ordered.certified.fitting;
     certified = subst (λ (cert : List CertStep). IsCertificate spec.shape spec.schemes input cert) (sym is.follows) (j.ordered.certified.each input lt);
     leads = subst (λ (cert : List CertStep). IsPurgeRoute spec.shape spec.schemes cert input route) (sym is.follows) is;
   }
     where
-      fit : (k : ℕ) → k < length spec.shape.inputs → HaveLength (get_or (arities spec) k 0) (row_pairs states k)
+      fit : (k : ℕ) → k < length spec.shape.inputs → HaveLength (get_or (arities spec) k 0) (row_pairs row_states k)
       fit k l r h =
-          let s = In-map pair_of r (state_at states k).rows h in
-          let shape : IsShaped (get_or (arities spec) k 0) (state_at states k) = shaped-at (arities spec) states k j.shaped (omega (arith, l, shapes)) in
+          let s = In-map pair_of r (state_at row_states k).rows h in
+          let shape : IsShaped (get_or (arities spec) k 0) (state_at row_states k) = shaped-at (arities spec) row_states k j.shaped (omega (arith, l, shapes)) in
           subst (λ (q : ℕ × List Value). length q.1 ≡ get_or (arities spec) k 0) s.2 (shape.fit s.0 s.1)
 
   -- the same of what a call is lent
-  pub may_judge_by : (input : ℕ) → input < inputs spec → (shape : JoinSpec) (route : RouteView) (states' : List StateView) (stores' : List Store) → shape ≡ spec.shape → IsPurgeRoute spec.shape spec.schemes (steps_of spec input) input route → states' ≡ states → stores' ≡ stores
-      → MayJudge shape spec.schemes route input states' stores'
-  may_judge_by input lt shape route states' stores' a is c d =
-      subst (λ (s : JoinSpec). MayJudge s spec.schemes route input states' stores') (sym a)
-      (subst (λ (ss : List StateView). MayJudge spec.shape spec.schemes route input ss stores') (sym c)
-      (subst (λ (ps : List Store). MayJudge spec.shape spec.schemes route input states ps) (sym d) (may-judge input lt route is)))
+  pub may_judge_by : (input : ℕ) → input < inputs spec → (shape : JoinSpec) (route : RouteView) (row_states' : List StateView) (punct_stores' : List Store) → shape ≡ spec.shape → IsPurgeRoute spec.shape spec.schemes (steps_of spec input) input route → row_states' ≡ row_states → punct_stores' ≡ punct_stores
+      → MayJudge shape spec.schemes route input row_states' punct_stores'
+  may_judge_by input lt shape route row_states' punct_stores' a is c d =
+      subst (λ (s : JoinSpec). MayJudge s spec.schemes route input row_states' punct_stores') (sym a)
+      (subst (λ (ss : List StateView). MayJudge spec.shape spec.schemes route input ss punct_stores') (sym c)
+      (subst (λ (ps : List Store). MayJudge spec.shape spec.schemes route input row_states ps) (sym d) (may-judge input lt route is)))

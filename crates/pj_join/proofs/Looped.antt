@@ -11,7 +11,7 @@ use Rattle.pj_cover.specs.Asking.{punct_of}
 use Rattle.pj_shape.specs.Sound.{arities_of}
 use Rattle.pj_events.specs.Join.{PunctAt, TupleAt, has, of_input, upto_from}
 use Rattle.pj_join.specs.Sweeping.{rows_without}
-use Rattle.pj_join.specs.Sides.{AreAllShaped, IsShaped, heard_of, heard_in}
+use Rattle.pj_join.specs.Sides.{AreAllShaped, IsShaped, heard_of, held_in}
 use Rattle.pj_rows.specs.Tuples.{tuple_in, tuples_in}
 use Rattle.pj_shape.specs.declared.columns.Column.{Column}
 use Rattle.std.proofs.lemmas.List.Sums.{sum_by-cons}
@@ -52,36 +52,36 @@ without_more gone i t d rows lt is =
 
 -- ---- a new join
 
-pub tuples_push : (base : ℕ) (states : List StateView) (s : StateView) → s.rows ≡ [] → tuples_in base (states ++ s ∷ []) ≡ tuples_in base states ++ [] ∷ []
+pub tuples_push : (base : ℕ) (row_states : List StateView) (s : StateView) → s.rows ≡ [] → tuples_in base (row_states ++ s ∷ []) ≡ tuples_in base row_states ++ [] ∷ []
 tuples_push base [] s e = ap (λ (rs : List Stored). map (tuple_in base) rs ∷ []) e
 tuples_push base (r ∷ rs) s e = ap (λ (xs : List (List TupleAt)). map (tuple_in base) r.rows ∷ xs) (tuples_push (base + 1) rs s e)
 
-pub heard_push : (base : ℕ) (stores : List Store) (s : Store) → s.kept ≡ [] → heard_in base (stores ++ s ∷ []) ≡ heard_in base stores ++ [] ∷ []
+pub heard_push : (base : ℕ) (punct_stores : List Store) (s : Store) → s.kept ≡ [] → held_in base (punct_stores ++ s ∷ []) ≡ held_in base punct_stores ++ [] ∷ []
 heard_push base [] s e = ap (λ ks. map (punct_of base) ks ∷ []) e
 heard_push base (r ∷ rs) s e = ap (λ (xs : List (List PunctAt)). map (punct_of base) r.kept ∷ xs) (heard_push (base + 1) rs s e)
 
 -- ---- one state or store more
 
-pub states_more : (states new : List StateView) (s : StateView) (i : ℕ) (ns : List ℕ) → new ≡ states ++ s ∷ [] → s.rows ≡ [] → tuples_in 0 states ≡ map (λ k. of_input k []) (upto_from 0 i) → tuples_in 0 new ≡ map (λ k. of_input k []) (upto_from 0 (i + 1))
-states_more states new s i ns e none before =
-    more-choices (λ k. of_input k []) i (tuples_in 0 states) (tuples_in 0 new) [] before refl (ap (tuples_in 0) e ∙ tuples_push 0 states s none)
+pub states_more : (row_states new : List StateView) (s : StateView) (i : ℕ) (ns : List ℕ) → new ≡ row_states ++ s ∷ [] → s.rows ≡ [] → tuples_in 0 row_states ≡ map (λ k. of_input k []) (upto_from 0 i) → tuples_in 0 new ≡ map (λ k. of_input k []) (upto_from 0 (i + 1))
+states_more row_states new s i ns e none before =
+    more-choices (λ k. of_input k []) i (tuples_in 0 row_states) (tuples_in 0 new) [] before refl (ap (tuples_in 0) e ∙ tuples_push 0 row_states s none)
 
 arities_more : (i : ℕ) (schemas : List (List Column)) (schema : List Column) → i < length schemas → schema ≡ get_or schemas i schema → arities_of (take (i + 1) schemas) ≡ arities_of (take i schemas) ++ length schema ∷ []
 arities_more i schemas schema lt at =
     ap arities_of (take_more schemas i schema lt ∙ ap (λ (c : List Column). take i schemas ++ c ∷ []) (sym at)) ∙ map-append (λ (c : List Column). length c) (take i schemas) (schema ∷ [])
 
-pub shaped_more : (states new : List StateView) (s : StateView) (i n : ℕ) (schemas : List (List Column)) (schema : List Column) → new ≡ states ++ s ∷ [] → i < length schemas → schema ≡ get_or schemas i schema → n ≡ length schema → IsShaped n s
-    → AreAllShaped (arities_of (take i schemas)) states → AreAllShaped (arities_of (take (i + 1) schemas)) new
-shaped_more states new s i n schemas schema e lt at long is before =
+pub shaped_more : (row_states new : List StateView) (s : StateView) (i n : ℕ) (schemas : List (List Column)) (schema : List Column) → new ≡ row_states ++ s ∷ [] → i < length schemas → schema ≡ get_or schemas i schema → n ≡ length schema → IsShaped n s
+    → AreAllShaped (arities_of (take i schemas)) row_states → AreAllShaped (arities_of (take (i + 1) schemas)) new
+shaped_more row_states new s i n schemas schema e lt at long is before =
     subst (λ (ss : List StateView). AreAllShaped (arities_of (take (i + 1) schemas)) ss) (sym e)
-    (subst (λ ns. AreAllShaped ns (states ++ s ∷ [])) (sym (arities_more i schemas schema lt at)) (shaped-push (arities_of (take i schemas)) states (length schema) s before (subst (λ m. IsShaped m s) long is)))
+    (subst (λ ns. AreAllShaped ns (row_states ++ s ∷ [])) (sym (arities_more i schemas schema lt at)) (shaped-push (arities_of (take i schemas)) row_states (length schema) s before (subst (λ m. IsShaped m s) long is)))
 
-pub stores_more : (stores new : List Store) (s : Store) (i : ℕ) (schemas : List (List Column)) (schema : List Column) → new ≡ stores ++ s ∷ [] → s.kept ≡ [] → s.arity ≡ length schema → i < length schemas → schema ≡ get_or schemas i schema
-    → (heard_in 0 stores ≡ map (λ k. heard_of k []) (upto_from 0 i)) × (map (λ t. t.arity) stores ≡ arities_of (take i schemas))
-    → (heard_in 0 new ≡ map (λ k. heard_of k []) (upto_from 0 (i + 1))) × (map (λ t. t.arity) new ≡ arities_of (take (i + 1) schemas))
-stores_more stores new s i schemas schema e none width lt at before = (
-  more-choices (λ k. heard_of k []) i (heard_in 0 stores) (heard_in 0 new) [] before.0 refl (ap (heard_in 0) e ∙ heard_push 0 stores s none),
-  ap (map (λ (t : Store). t.arity)) e ∙ map-append (λ (t : Store). t.arity) stores (s ∷ []) ∙ ap₂ (λ ns n. ns ++ n ∷ []) before.1 width ∙ sym (arities_more i schemas schema lt at),
+pub stores_more : (punct_stores new : List Store) (s : Store) (i : ℕ) (schemas : List (List Column)) (schema : List Column) → new ≡ punct_stores ++ s ∷ [] → s.kept ≡ [] → s.arity ≡ length schema → i < length schemas → schema ≡ get_or schemas i schema
+    → (held_in 0 punct_stores ≡ map (λ k. heard_of k []) (upto_from 0 i)) × (map (λ t. t.arity) punct_stores ≡ arities_of (take i schemas))
+    → (held_in 0 new ≡ map (λ k. heard_of k []) (upto_from 0 (i + 1))) × (map (λ t. t.arity) new ≡ arities_of (take (i + 1) schemas))
+stores_more punct_stores new s i schemas schema e none width lt at before = (
+  more-choices (λ k. heard_of k []) i (held_in 0 punct_stores) (held_in 0 new) [] before.0 refl (ap (held_in 0) e ∙ heard_push 0 punct_stores s none),
+  ap (map (λ (t : Store). t.arity)) e ∙ map-append (λ (t : Store). t.arity) punct_stores (s ∷ []) ∙ ap₂ (λ ns n. ns ++ n ∷ []) before.1 width ∙ sym (arities_more i schemas schema lt at),
 )
 
 pub small_schema : (schemas : List (List Column)) (i : ℕ) (schema : List Column) → sum (arities_of schemas) ≤ 120 → i < length schemas → schema ≡ get_or schemas i schema → length schema ≤ 120

@@ -17,7 +17,7 @@ use Rattle.pj_recheck.specs.Judging.{JudgeView, ripe_at, ripe_rows, ripe_tickets
 use Rattle.pj_join.specs.Sweeping.{is_let_go, rows_without, waiting_on, puncts_up, rows_off, swept_off}
 use Rattle.pj_waiting.specs.Letting.{letting_go, lets_go}
 use Rattle.pj_join.specs.Sides.{IsShaped, log_of, merged, place_of, puncts_of, ticket_at}
-use Rattle.pj_waiting.specs.Holding.{heard_at, tickets_where}
+use Rattle.pj_waiting.specs.Holding.{held_at, tickets_where}
 use Rattle.pj_rows.specs.Tuples.{state_at, tuple_in, tuples_in}
 use Rattle.pj_rows.specs.Finding.{stays, still_held}
 use Rattle.pj_join.proofs.Classes.{eqb-below}
@@ -74,29 +74,29 @@ gone-has from p (y ∷ ys) end r x (inr h) = go (p y) (gone-has (y.ticket + 1) p
 
 -- ---- one sweep
 
-module _ (node : ℕ) (spec : JoinData) (limit next done : ℕ) (states : List StateView) (stores : List Store) (pending : List Place) (taken : List ℕ) (waiting : List PunctAt) (input : ℕ) (j : IsJoin spec limit (inside next done states stores pending taken)) (lt : input < inputs spec) where
+module _ (node : ℕ) (spec : JoinData) (limit next done : ℕ) (row_states : List StateView) (punct_stores : List Store) (pending : List Place) (taken : List ℕ) (waiting : List PunctAt) (input : ℕ) (j : IsJoin spec limit (inside next done row_states punct_stores pending taken)) (lt : input < inputs spec) where
   abbrev log : List TupleAt
-  log = log_of states
+  log = log_of row_states
 
   abbrev join : JoinView
-  join = seen (made_with node spec limit) next done log (puncts_of stores) waiting taken
+  join = seen (made_with node spec limit) next done log (puncts_of punct_stores) waiting taken
 
   abbrev rows : List Stored
-  rows = (state_at states input).rows
+  rows = (state_at row_states input).rows
 
   abbrev judge-of : ℕ → JudgeView
-  judge-of low = judge_at spec input states stores low
+  judge-of low = judge_at spec input row_states punct_stores low
 
   abbrev goes : TupleAt → Bool
   goes x = eqb x.input input && kept_ripe spec join.kept x
 
   side : map (tuple_in input) rows ≡ of_input input log
-  side = side-is spec limit next done states stores pending taken j input lt
+  side = side-is spec limit next done row_states punct_stores pending taken j input lt
 
   -- the ripe rows are the tuples that the sweep removes
   ripe-are : (low : ℕ) → low ≡ kept_low join.kept → map (tuple_in input) (filter (ripe_at (judge-of low)) rows) ≡ swept_off join input
   ripe-are low is =
-      ap (map (tuple_in input)) (filter-agree (ripe_at (judge-of low)) (λ s. kept_ripe spec join.kept (tuple_in input s)) rows (λ s h. ripe-is spec limit next done states stores pending taken j join.kept refl refl low is input s))
+      ap (map (tuple_in input)) (filter-agree (ripe_at (judge-of low)) (λ s. kept_ripe spec join.kept (tuple_in input s)) rows (λ s h. ripe-is spec limit next done row_states punct_stores pending taken j join.kept refl refl low is input s))
       ∙ sym (filter_map_swap (kept_ripe spec join.kept) (tuple_in input) rows)
       ∙ ap (filter (kept_ripe spec join.kept)) side
       ∙ filter-filter (λ (x : TupleAt). eqb x.input input) (kept_ripe spec join.kept) log
@@ -138,7 +138,7 @@ module _ (node : ℕ) (spec : JoinData) (limit next done : ℕ) (states : List S
         go false e = refl
 
     pub goes-are : (up : List ℕ) → up ≡ tickets_where (lets_go rows gone input) waiting → up ≡ tickets_where (is_let_go (swept spec join.kept input) input) waiting
-    goes-are up e = e ∙ ap (map heard_at) (filter-agree (lets_go rows gone input) (is_let_go (swept spec join.kept input) input) waiting (λ p h. lets-go-is p))
+    goes-are up e = e ∙ ap (map held_at) (filter-agree (lets_go rows gone input) (is_let_go (swept spec join.kept input) input) waiting (λ p h. lets-go-is p))
 
     pub going-are : (old new : List (List Pattern)) → new ≡ old ++ letting_go spec.shape.inputs rows gone input waiting → new ≡ old ++ puncts_up join (Sweep input)
     going-are old new e = e ∙ ap (λ (ps : List PunctAt). old ++ map (widened spec) ps) (filter-agree (lets_go rows gone input) (is_let_go (swept spec join.kept input) input) waiting (λ p h. lets-go-is p))
@@ -149,43 +149,43 @@ module _ (node : ℕ) (spec : JoinData) (limit next done : ℕ) (states : List S
     count-is = ap (λ ts. length ts) are ∙ length-map (swept_off join input) (λ (x : TupleAt). x.ticket) ∙ sym (count_gone join input (swept spec join.kept input) refl)
 
     pub few-gone : length gone ≤ done
-    few-gone = let f = gone_taken node spec limit next done log (tuples_in 0 states) (puncts_of stores) waiting taken input (swept spec join.kept input) j.ordered refl in omega (arith, f, count-is)
+    few-gone = let f = gone_taken node spec limit next done log (tuples_in 0 row_states) (puncts_of punct_stores) waiting taken input (swept spec join.kept input) j.ordered refl in omega (arith, f, count-is)
 
-    module _ (old new : StateView) (is : old ≡ state_at states input) (left : new ≡ state_of old.columns (rows_without gone old.rows)) where
+    module _ (old new : StateView) (is : old ≡ state_at row_states input) (left : new ≡ state_of old.columns (rows_without gone old.rows)) where
       new-rows : map (tuple_in input) new.rows ≡ of_input input (swept spec join.kept input)
       new-rows = ap (λ (s : StateView). map (tuple_in input) s.rows) (left ∙ ap (λ (s : StateView). state_of s.columns (rows_without gone s.rows)) is) ∙ left-are
 
-      sides-left : tuples_in 0 (set states input new) ≡ set (tuples_in 0 states) input (map (tuple_in input) new.rows)
-      sides-left = tuples-set 0 states input new ∙ ap (λ n. set (tuples_in 0 states) input (map (tuple_in n) new.rows)) (zero-plus input)
+      sides-left : tuples_in 0 (set row_states input new) ≡ set (tuples_in 0 row_states) input (map (tuple_in input) new.rows)
+      sides-left = tuples-set 0 row_states input new ∙ ap (λ n. set (tuples_in 0 row_states) input (map (tuple_in n) new.rows)) (zero-plus input)
         where
           zero-plus : (n : ℕ) → 0 + n ≡ n
           zero-plus n = omega arith
 
-      ordered-left : IsOrdered spec limit next (done - length gone) (swept spec join.kept input) (set (tuples_in 0 states) input (map (tuple_in input) new.rows)) taken
+      ordered-left : IsOrdered spec limit next (done - length gone) (swept spec join.kept input) (set (tuples_in 0 row_states) input (map (tuple_in input) new.rows)) taken
       ordered-left =
-          subst (λ n. IsOrdered spec limit next (done - n) (swept spec join.kept input) (set (tuples_in 0 states) input (map (tuple_in input) new.rows)) taken) (sym count-is)
-          (swept_ordered node spec limit next done log (tuples_in 0 states) (puncts_of stores) waiting taken input (swept spec join.kept input) j.ordered refl lt (map (tuple_in input) new.rows) new-rows)
+          subst (λ n. IsOrdered spec limit next (done - n) (swept spec join.kept input) (set (tuples_in 0 row_states) input (map (tuple_in input) new.rows)) taken) (sym count-is)
+          (swept_ordered node spec limit next done log (tuples_in 0 row_states) (puncts_of punct_stores) waiting taken input (swept spec join.kept input) j.ordered refl lt (map (tuple_in input) new.rows) new-rows)
 
-      pub log-left : log_of (set states input new) ≡ swept spec join.kept input
+      pub log-left : log_of (set row_states input new) ≡ swept spec join.kept input
       log-left =
           ap (merged ticket_at) (sides-left ∙ ordered-left.by_input)
           ∙ merged-is ticket_at (λ (x : TupleAt). x.input) (length spec.shape.inputs) (swept spec join.kept input) next ordered-left.rising ordered-left.placed
 
-      pub join-swept : IsJoin spec limit (inside next (done - length gone) (set states input new) stores pending taken)
+      pub join-swept : IsJoin spec limit (inside next (done - length gone) (set row_states input new) punct_stores pending taken)
       join-swept = record {
         ordered =
-            subst (λ (xs : List TupleAt). IsOrdered spec limit next (done - length gone) xs (tuples_in 0 (set states input new)) taken) (sym log-left)
+            subst (λ (xs : List TupleAt). IsOrdered spec limit next (done - length gone) xs (tuples_in 0 (set row_states input new)) taken) (sym log-left)
             (subst (λ (ss : List (List TupleAt)). IsOrdered spec limit next (done - length gone) (swept spec join.kept input) ss taken) (sym sides-left) ordered-left);
-        shaped = shaped-set (arities spec) states input new j.shaped lt shaped-new;
+        shaped = shaped-set (arities spec) row_states input new j.shaped lt shaped-new;
         heard = j.heard;
         queued =
             j.queued
             ∙ sym (ap (λ (xs : List TupleAt). map place_of (drop (done - length gone) xs)) log-left ∙ ap (λ n. map place_of (drop (done - n) (swept spec join.kept input))) count-is
-            ∙ ap (map place_of) (still_pending node spec limit next done log (tuples_in 0 states) (puncts_of stores) waiting taken input (swept spec join.kept input) j.ordered refl));
+            ∙ ap (map place_of) (still_pending node spec limit next done log (tuples_in 0 row_states) (puncts_of punct_stores) waiting taken input (swept spec join.kept input) j.ordered refl));
       }
         where
-          shape : IsShaped (get_or (arities spec) input 0) (state_at states input)
-          shape = shaped-at (arities spec) states input j.shaped lt
+          shape : IsShaped (get_or (arities spec) input 0) (state_at row_states input)
+          shape = shaped-at (arities spec) row_states input j.shaped lt
 
           shaped-new : IsShaped (get_or (arities spec) input 0) new
           shaped-new =
@@ -193,27 +193,27 @@ module _ (node : ℕ) (spec : JoinData) (limit next done : ℕ) (states : List S
               (record { indexed = shape.indexed; fit = λ s h. shape.fit s (In-filter (λ (t : Stored). not (has gone t.ticket)) s rows h).0 })
 
       pub view-left : (on : List PunctAt) → on ≡ waiting_on (swept spec join.kept input) input waiting
-          → seen (made_with node spec limit) next (done - length gone) (log_of (set states input new)) (puncts_of stores) on taken ≡ after join (Sweep input)
+          → seen (made_with node spec limit) next (done - length gone) (log_of (set row_states input new)) (puncts_of punct_stores) on taken ≡ after join (Sweep input)
       view-left on w =
-          ap₂ (λ n (xs : List TupleAt). seen (made_with node spec limit) next (done - n) xs (puncts_of stores) on taken) count-is log-left
-          ∙ swept_view node spec limit next done log (tuples_in 0 states) (puncts_of stores) waiting taken input (swept spec join.kept input) j.ordered refl on w
+          ap₂ (λ n (xs : List TupleAt). seen (made_with node spec limit) next (done - n) xs (puncts_of punct_stores) on taken) count-is log-left
+          ∙ swept_view node spec limit next done log (tuples_in 0 row_states) (puncts_of punct_stores) waiting taken input (swept spec join.kept input) j.ordered refl on w
 
       -- the low-water ticket stays
-      pub lowest-left : lowest next (done - length gone) (log_of (set states input new)) taken ≡ lowest next done log taken
+      pub lowest-left : lowest next (done - length gone) (log_of (set row_states input new)) taken ≡ lowest next done log taken
       lowest-left = ap (λ (v : JoinView). kept_low v.kept) (view-left (waiting_on (swept spec join.kept input) input waiting) refl)
 
 -- whether a row matches, before any goes
-pub held-at-first : (spec : JoinData) (limit next done : ℕ) (states : List StateView) (stores : List Store) (pending : List Place) (taken : List ℕ) → IsJoin spec limit (inside next done states stores pending taken)
-    → (state : StateView) (p : PunctAt) → p.input < inputs spec → state ≡ state_at states p.input → still_held state.rows [] p.patterns ≡ is_held (log_of states) p
-held-at-first spec limit next done states stores pending taken j state p lt is =
+pub held-at-first : (spec : JoinData) (limit next done : ℕ) (row_states : List StateView) (punct_stores : List Store) (pending : List Place) (taken : List ℕ) → IsJoin spec limit (inside next done row_states punct_stores pending taken)
+    → (state : StateView) (p : PunctAt) → p.input < inputs spec → state ≡ state_at row_states p.input → still_held state.rows [] p.patterns ≡ is_held (log_of row_states) p
+held-at-first spec limit next done row_states punct_stores pending taken j state p lt is =
     any-same (stays [] p.patterns) (λ s. matches_row p.patterns s.row) state.rows (λ s. and-turned (matches_row p.patterns s.row) true)
     ∙ ap (λ (s : StateView). list_any (λ (t : Stored). matches_row p.patterns t.row) s.rows) is
-    ∙ sym (any-map (λ (x : TupleAt). matches_row p.patterns x.row) (tuple_in p.input) (state_at states p.input).rows)
-    ∙ ap (list_any (λ (x : TupleAt). matches_row p.patterns x.row)) (side-is spec limit next done states stores pending taken j p.input lt)
-    ∙ sym (any-filter (λ (x : TupleAt). eqb x.input p.input) (λ x. matches_row p.patterns x.row) (log_of states))
+    ∙ sym (any-map (λ (x : TupleAt). matches_row p.patterns x.row) (tuple_in p.input) (state_at row_states p.input).rows)
+    ∙ ap (list_any (λ (x : TupleAt). matches_row p.patterns x.row)) (side-is spec limit next done row_states punct_stores pending taken j p.input lt)
+    ∙ sym (any-filter (λ (x : TupleAt). eqb x.input p.input) (λ x. matches_row p.patterns x.row) (log_of row_states))
 
 -- ---- the same, of what a call is lent
 
-pub same-judge : (spec : JoinData) (input low : ℕ) (shape : JoinSpec) (cert : List CertStep) (states states' : List StateView) (stores stores' : List Store) → shape ≡ spec.shape → cert ≡ steps_of spec input → states ≡ states' → stores ≡ stores'
-    → record { spec = shape; schemes = spec.schemes; cert = cert; input = input; states = states; stores = stores; low = low } ≡ judge_at spec input states' stores' low
-same-judge spec input low shape cert states states' stores stores' a b c d = λ i. record { spec = a i; schemes = spec.schemes; cert = b i; input = input; states = c i; stores = d i; low = low }
+pub same-judge : (spec : JoinData) (input low : ℕ) (shape : JoinSpec) (cert : List CertStep) (row_states row_states' : List StateView) (punct_stores punct_stores' : List Store) → shape ≡ spec.shape → cert ≡ steps_of spec input → row_states ≡ row_states' → punct_stores ≡ punct_stores'
+    → record { spec = shape; schemes = spec.schemes; cert = cert; input = input; row_states = row_states; punct_stores = punct_stores; low = low } ≡ judge_at spec input row_states' punct_stores' low
+same-judge spec input low shape cert row_states row_states' punct_stores punct_stores' a b c d = λ i. record { spec = a i; schemes = spec.schemes; cert = b i; input = input; row_states = c i; punct_stores = d i; low = low }

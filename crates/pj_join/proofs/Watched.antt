@@ -21,14 +21,14 @@ use Rattle.pj_rows.specs.Tuples.{row_pairs, state_at, tuple_in}
 use Rattle.pj_join.specs.Sweeping.{swept_off}
 use Rattle.pj_recheck.specs.Watching.{AreFewer, AreLeft, AreLookedAt, AreRoused, AreStored, PunctView, NoneIsRipe, come_at, is_passed, known, watches_at}
 use Rattle.pj_join.specs.Watched.{AreOpenBut, AreWatched}
-use Rattle.pj_recheck.specs.declared.marks.Watches.{Watches}
+use Rattle.pj_recheck.specs.declared.marks.DueRechecks.{DueRechecks}
 use Rattle.pj_recheck.proofs.Woken.{at-place, at-set, by-place, set-count}
 use Rattle.pj_waiting.proofs.Holding.{filter-none}
 use Rattle.pj_join.proofs.Judged.{covered-all-of, judge_at, ripe-is, same-puncts, same-rows}
 use Rattle.pj_join.proofs.Kept.{shapes, side-is}
 
 module _ (spec : JoinData) where
-  pub watched_start : (ws : List Watches) → length ws ≡ inputs spec → ((input : ℕ) → (watches_at ws input).from ≡ 0) → AreWatched spec 0 0 [] [] ws
+  pub watched_start : (ws : List DueRechecks) → length ws ≡ inputs spec → ((input : ℕ) → (watches_at ws input).from ≡ 0) → AreWatched spec 0 0 [] [] ws
   watched_start ws count none = record { count = count; reached = λ input. (let e = none input in omega (arith, e)); asks = λ x h. absurd h }
 
   -- more is stored, and the low-water ticket is not lower
@@ -38,7 +38,7 @@ module _ (spec : JoinData) where
       (rows, asks, record { there = λ y h. more y (by.there y h); below = λ y h. (let b = by.below y h in omega (arith, b, le)); asked = by.asked; uncovered = by.uncovered })
 
   -- a tuple comes
-  pub watched_tuple : (next low low' : ℕ) (stored : List TupleAt) (puncts : List PunctAt) (ws : List Watches) (x : TupleAt) → x.ticket ≡ next → low ≤ low' → AreWatched spec next low stored puncts ws
+  pub watched_tuple : (next low low' : ℕ) (stored : List TupleAt) (puncts : List PunctAt) (ws : List DueRechecks) (x : TupleAt) → x.ticket ≡ next → low ≤ low' → AreWatched spec next low stored puncts ws
       → AreWatched spec (next + 1) low' (stored ++ x ∷ []) puncts ws
   watched_tuple next low low' stored puncts ws x is le w = record {
     count = w.count;
@@ -56,11 +56,11 @@ module _ (spec : JoinData) where
           let q : x.ticket ≡ y.ticket = ap (λ (z : TupleAt). z.ticket) e in omega (arith, lt, l, q, is)
 
   -- the low-water ticket rises
-  pub watched_rises : (next low low' : ℕ) (stored : List TupleAt) (puncts : List PunctAt) (ws : List Watches) → low ≤ low' → AreWatched spec next low stored puncts ws → AreWatched spec next low' stored puncts ws
+  pub watched_rises : (next low low' : ℕ) (stored : List TupleAt) (puncts : List PunctAt) (ws : List DueRechecks) → low ≤ low' → AreWatched spec next low stored puncts ws → AreWatched spec next low' stored puncts ws
   watched_rises next low low' stored puncts ws le w = record { count = w.count; reached = w.reached; asks = λ x h t. still-more stored stored puncts low low' (cert_of spec x.input) x (λ z m. m) le (w.asks x h t) }
 
   -- fewer are passed over
-  pub watched_fewer : (next low : ℕ) (stored : List TupleAt) (puncts : List PunctAt) (ws ws' : List Watches) → AreFewer ws ws' → AreWatched spec next low stored puncts ws → AreWatched spec next low stored puncts ws'
+  pub watched_fewer : (next low : ℕ) (stored : List TupleAt) (puncts : List PunctAt) (ws ws' : List DueRechecks) → AreFewer ws ws' → AreWatched spec next low stored puncts ws → AreWatched spec next low stored puncts ws'
   watched_fewer next low stored puncts ws ws' f w = record {
     count = f.count ∙ w.count;
     reached = λ input. (let l : (watches_at ws input).from ≤ next = w.reached input in let m : (watches_at ws' input).from ≤ (watches_at ws input).from = (f.each input).from in omega (arith, l, m));
@@ -76,11 +76,11 @@ module _ (spec : JoinData) where
       go false q ih = ih q f
 
   -- a punctuation that covers nothing of what is asked for
-  still-both : (stored : List TupleAt) (states : List StateView) (low : ℕ) (cert : List CertEntry) (puncts : List PunctAt) (p : PunctAt) (x : TupleAt)
-      → ((y : TupleAt) → In y stored → (s : Stored) × In s (state_at states y.input).rows × (tuple_in y.input s ≡ y))
-      → ((rows : List TupleAt) (asks : Demand) → AreStored states rows → IsAsked spec.shape.classes cert rows (x ∷ []) asks → covered (p ∷ []) asks ≡ false)
+  still-both : (stored : List TupleAt) (row_states : List StateView) (low : ℕ) (cert : List CertEntry) (puncts : List PunctAt) (p : PunctAt) (x : TupleAt)
+      → ((y : TupleAt) → In y stored → (s : Stored) × In s (state_at row_states y.input).rows × (tuple_in y.input s ≡ y))
+      → ((rows : List TupleAt) (asks : Demand) → AreStored row_states rows → IsAsked spec.shape.classes cert rows (x ∷ []) asks → covered (p ∷ []) asks ≡ false)
       → AsksStill (known spec.shape.classes stored puncts low) cert x → AsksStill (known spec.shape.classes stored (puncts ++ p ∷ []) low) cert x
-  still-both stored states low cert puncts p x row left (rows, asks, by) = (
+  still-both stored row_states low cert puncts p x row left (rows, asks, by) = (
     rows,
     asks,
     record {
@@ -91,12 +91,12 @@ module _ (spec : JoinData) where
     },
   )
 
-  module _ (limit next done : ℕ) (states : List StateView) (stores : List Store) (pending : List Place) (taken : List ℕ) (j : IsJoin spec limit (inside next done states stores pending taken)) where
+  module _ (limit next done : ℕ) (row_states : List StateView) (punct_stores : List Store) (pending : List Place) (taken : List ℕ) (j : IsJoin spec limit (inside next done row_states punct_stores pending taken)) where
     abbrev log : List TupleAt
-    log = log_of states
+    log = log_of row_states
 
-    pub in-row : (x : TupleAt) → In x log → (s : Stored) × In s (state_at states x.input).rows × (tuple_in x.input s ≡ x)
-    in-row x h = found (state_at states x.input).rows (subst (λ (xs : List TupleAt). In x xs) (sym (side-is spec limit next done states stores pending taken j x.input (let l = j.ordered.placed x h in omega (arith, l, shapes spec limit next done states stores pending taken j)))) (In-filter_from (λ (y : TupleAt). eqb y.input x.input) x log h (eq-eqb x.input x.input refl)))
+    pub in-row : (x : TupleAt) → In x log → (s : Stored) × In s (state_at row_states x.input).rows × (tuple_in x.input s ≡ x)
+    in-row x h = found (state_at row_states x.input).rows (subst (λ (xs : List TupleAt). In x xs) (sym (side-is spec limit next done row_states punct_stores pending taken j x.input (let l = j.ordered.placed x h in omega (arith, l, shapes spec limit next done row_states punct_stores pending taken j)))) (In-filter_from (λ (y : TupleAt). eqb y.input x.input) x log h (eq-eqb x.input x.input refl)))
       where
         found : (rows : List Stored) → In x (map (tuple_in x.input) rows) → (s : Stored) × In s rows × (tuple_in x.input s ≡ x)
         found [] k = absurd k
@@ -104,20 +104,20 @@ module _ (spec : JoinData) where
         found (s ∷ rows) (inr k) = let r = found rows k in (r.0, inr r.1, r.2)
 
     -- a punctuation comes
-    pub watched_punct : (ws ws' : List Watches) (low low' : ℕ) (come : PunctView) (ticket : ℕ) → AreFewer ws ws' → AreLeft spec states come ws' (length ws) → low ≤ low' → AreWatched spec next low log (puncts_of stores) ws
-        → AreWatched spec (next + 1) low' log (puncts_of stores ++ come_at come ticket ∷ []) ws'
+    pub watched_punct : (ws ws' : List DueRechecks) (low low' : ℕ) (come : PunctView) (ticket : ℕ) → AreFewer ws ws' → AreLeft spec row_states come ws' (length ws) → low ≤ low' → AreWatched spec next low log (puncts_of punct_stores) ws
+        → AreWatched spec (next + 1) low' log (puncts_of punct_stores ++ come_at come ticket ∷ []) ws'
     watched_punct ws ws' low low' come ticket f left le w = record {
       count = f.count ∙ w.count;
       reached = λ input. (let l : (watches_at ws input).from ≤ next = w.reached input in let m : (watches_at ws' input).from ≤ (watches_at ws input).from = (f.each input).from in omega (arith, l, m));
       asks = λ x h t.
-          still-more log log (puncts_of stores ++ come_at come ticket ∷ []) low low' (cert_of spec x.input) x (λ z m. m) le
-          (still-both log states low (cert_of spec x.input) (puncts_of stores) (come_at come ticket) x in-row (new x h t) (w.asks x h ((f.each x.input).passed x.ticket t)));
+          still-more log log (puncts_of punct_stores ++ come_at come ticket ∷ []) low low' (cert_of spec x.input) x (λ z m. m) le
+          (still-both log row_states low (cert_of spec x.input) (puncts_of punct_stores) (come_at come ticket) x in-row (new x h t) (w.asks x h ((f.each x.input).passed x.ticket t)));
     }
       where
         within : (x : TupleAt) → In x log → x.input < length ws
-        within x h = let l = j.ordered.placed x h in let c : length ws ≡ inputs spec = w.count in omega (arith, l, c, shapes spec limit next done states stores pending taken j)
+        within x h = let l = j.ordered.placed x h in let c : length ws ≡ inputs spec = w.count in omega (arith, l, c, shapes spec limit next done row_states punct_stores pending taken j)
 
-        new : (x : TupleAt) → In x log → is_passed (watches_at ws' x.input) x.ticket ≡ true → (rows : List TupleAt) (asks : Demand) → AreStored states rows → IsAsked spec.shape.classes (cert_of spec x.input) rows (x ∷ []) asks
+        new : (x : TupleAt) → In x log → is_passed (watches_at ws' x.input) x.ticket ≡ true → (rows : List TupleAt) (asks : Demand) → AreStored row_states rows → IsAsked spec.shape.classes (cert_of spec x.input) rows (x ∷ []) asks
             → covered (come_at come ticket ∷ []) asks ≡ false
         new x h t rows asks stored asked =
             let s = in-row x h in
@@ -156,30 +156,30 @@ module _ (spec : JoinData) where
         no : list_all (covered (older_puncts n puncts)) (need classes (older n stored) cert (x ∷ [])) ≡ true → ⊥
         no t = false≢true (sym (covered-fewer n puncts asks by.uncovered) ∙ all_at (covered (older_puncts n puncts)) (need classes (older n stored) cert (x ∷ [])) asks t there)
 
-    module _ (k : KeptState) (stored-are : k.stored ≡ log_of states) (puncts-are : k.puncts ≡ puncts_of stores) (low : ℕ) (is : low ≡ kept_low k) (input : ℕ) (lt : input < inputs spec) where
-      still-kept : (x : TupleAt) (cert : List CertEntry) → AsksStill (known spec.shape.classes (log_of states) (puncts_of stores) low) cert x → list_all (covered (older_puncts (kept_low k) k.puncts)) (need spec.shape.classes (older (kept_low k) k.stored) cert (x ∷ [])) ≡ false
+    module _ (k : KeptState) (stored-are : k.stored ≡ log_of row_states) (puncts-are : k.puncts ≡ puncts_of punct_stores) (low : ℕ) (is : low ≡ kept_low k) (input : ℕ) (lt : input < inputs spec) where
+      still-kept : (x : TupleAt) (cert : List CertEntry) → AsksStill (known spec.shape.classes (log_of row_states) (puncts_of punct_stores) low) cert x → list_all (covered (older_puncts (kept_low k) k.puncts)) (need spec.shape.classes (older (kept_low k) k.stored) cert (x ∷ [])) ≡ false
       still-kept x cert a =
           still-not_ripe spec.shape.classes cert k.stored k.puncts (kept_low k) x
           (subst (λ (n : ℕ). AsksStill (known spec.shape.classes k.stored k.puncts n) cert x) is
           (subst (λ (xs : List TupleAt). AsksStill (known spec.shape.classes xs k.puncts low) cert x) (sym stored-are)
-          (subst (λ (ps : List PunctAt). AsksStill (known spec.shape.classes (log_of states) ps low) cert x) (sym puncts-are) a)))
+          (subst (λ (ps : List PunctAt). AsksStill (known spec.shape.classes (log_of row_states) ps low) cert x) (sym puncts-are) a)))
 
-      not_ripe : (x : TupleAt) → AsksStill (known spec.shape.classes (log_of states) (puncts_of stores) low) (cert_of spec x.input) x → kept_ripe spec k x ≡ false
+      not_ripe : (x : TupleAt) → AsksStill (known spec.shape.classes (log_of row_states) (puncts_of punct_stores) low) (cert_of spec x.input) x → kept_ripe spec k x ≡ false
       not_ripe x a = and_right (ltb x.ticket (kept_low k)) _
           (ap (list_all (covered (older_puncts (kept_low k) k.puncts))) (sym (need_alone spec.shape (older (kept_low k) k.stored) (cert_of spec x.input) x j.ordered.sound)) ∙ still-kept x (cert_of spec x.input) a)
 
-      in-log : (s : Stored) → In s (state_at states input).rows → In (tuple_in input s) log
-      in-log s h = (In-filter (λ (y : TupleAt). eqb y.input input) (tuple_in input s) log (subst (λ (xs : List TupleAt). In (tuple_in input s) xs) (side-is spec limit next done states stores pending taken j input lt) (In-map_from (tuple_in input) s (state_at states input).rows h))).0
+      in-log : (s : Stored) → In s (state_at row_states input).rows → In (tuple_in input s) log
+      in-log s h = (In-filter (λ (y : TupleAt). eqb y.input input) (tuple_in input s) log (subst (λ (xs : List TupleAt). In (tuple_in input s) xs) (side-is spec limit next done row_states punct_stores pending taken j input lt) (In-map_from (tuple_in input) s (state_at row_states input).rows h))).0
 
-      pub none_ripe : (ws : List Watches) → AreWatched spec next low log (puncts_of stores) ws → NoneIsRipe (judge_at spec input states stores low) (watches_at ws input)
-      none_ripe ws w s h t = ripe-is spec limit next done states stores pending taken j k stored-are puncts-are low is input s ∙ not_ripe (tuple_in input s) (w.asks (tuple_in input s) (in-log s h) t)
+      pub none_ripe : (ws : List DueRechecks) → AreWatched spec next low log (puncts_of punct_stores) ws → NoneIsRipe (judge_at spec input row_states punct_stores low) (watches_at ws input)
+      none_ripe ws w s h t = ripe-is spec limit next done row_states punct_stores pending taken j k stored-are puncts-are low is input s ∙ not_ripe (tuple_in input s) (w.asks (tuple_in input s) (in-log s h) t)
 
       -- where no row is marked, and none is young, none goes
-      pub none_off : (node : ℕ) (waiting : List PunctAt) (ws : List Watches) → k ≡ (seen (made_with node spec limit) next done (log_of states) (puncts_of stores) waiting taken).kept → AreWatched spec next low log (puncts_of stores) ws
-          → (watches_at ws input).marked ≡ [] → ((s : Stored) → In s (state_at states input).rows → s.ticket < (watches_at ws input).from) → swept_off (seen (made_with node spec limit) next done (log_of states) (puncts_of stores) waiting taken) input ≡ []
-      none_off node waiting ws same w unmarked old = filter-none (λ x. eqb x.input input && kept_ripe spec (seen (made_with node spec limit) next done (log_of states) (puncts_of stores) waiting taken).kept x) log each
+      pub none_off : (node : ℕ) (waiting : List PunctAt) (ws : List DueRechecks) → k ≡ (seen (made_with node spec limit) next done (log_of row_states) (puncts_of punct_stores) waiting taken).kept → AreWatched spec next low log (puncts_of punct_stores) ws
+          → (watches_at ws input).marked ≡ [] → ((s : Stored) → In s (state_at row_states input).rows → s.ticket < (watches_at ws input).from) → swept_off (seen (made_with node spec limit) next done (log_of row_states) (puncts_of punct_stores) waiting taken) input ≡ []
+      none_off node waiting ws same w unmarked old = filter-none (λ x. eqb x.input input && kept_ripe spec (seen (made_with node spec limit) next done (log_of row_states) (puncts_of punct_stores) waiting taken).kept x) log each
         where
-          each : (x : TupleAt) → In x log → (eqb x.input input && kept_ripe spec (seen (made_with node spec limit) next done (log_of states) (puncts_of stores) waiting taken).kept x) ≡ false
+          each : (x : TupleAt) → In x log → (eqb x.input input && kept_ripe spec (seen (made_with node spec limit) next done (log_of row_states) (puncts_of punct_stores) waiting taken).kept x) ≡ false
           each x h = ap (λ (q : KeptState). eqb x.input input && kept_ripe spec q x) (sym same) ∙ go (eqb x.input input) refl
             where
               go : (b : Bool) → eqb x.input input ≡ b → (b && kept_ripe spec k x) ≡ false
@@ -189,40 +189,40 @@ module _ (spec : JoinData) where
                   of : x.input ≡ input
                   of = eqb-true x.input input e
 
-                  s : (s : Stored) × In s (state_at states x.input).rows × (tuple_in x.input s ≡ x)
+                  s : (s : Stored) × In s (state_at row_states x.input).rows × (tuple_in x.input s ≡ x)
                   s = in-row x h
 
                   lower : x.ticket < (watches_at ws input).from
-                  lower = subst (λ n. n < (watches_at ws input).from) (ap (λ (y : TupleAt). y.ticket) s.2) (old s.0 (subst (λ i. In s.0 (state_at states i).rows) of s.1))
+                  lower = subst (λ n. n < (watches_at ws input).from) (ap (λ (y : TupleAt). y.ticket) s.2) (old s.0 (subst (λ i. In s.0 (state_at row_states i).rows) of s.1))
 
                   passed : is_passed (watches_at ws x.input) x.ticket ≡ true
                   passed = ap (λ i. is_passed (watches_at ws i) x.ticket) of ∙ ap₂ (λ a (ms : List ℕ). a && not (has ms x.ticket)) (lt-ltb x.ticket (watches_at ws input).from lower) unmarked
 
-      covered-all : (d : Demand) → covered (puncts_from 0 stores) d ≡ covered (puncts_of stores) d
+      covered-all : (d : Demand) → covered (puncts_from 0 punct_stores) d ≡ covered (puncts_of punct_stores) d
       covered-all d =
-          covered-all-of d (puncts_from 0 stores)
-          ∙ ap (list_any (λ p. covers p.patterns d.instance)) (same-puncts spec limit next done states stores pending taken j d.input)
-          ∙ sym (covered-all-of d (puncts_of stores))
+          covered-all-of d (puncts_from 0 punct_stores)
+          ∙ ap (list_any (λ p. covers p.patterns d.instance)) (same-puncts spec limit next done row_states punct_stores pending taken j d.input)
+          ∙ sym (covered-all-of d (puncts_of punct_stores))
 
-      in-stored : (y : TupleAt) → In y (tuples_of (row_pairs states) (length spec.shape.inputs)) → In y log
+      in-stored : (y : TupleAt) → In y (tuples_of (row_pairs row_states) (length spec.shape.inputs)) → In y log
       in-stored y h =
           (In-filter (λ (z : TupleAt). eqb z.input y.input) y log
-          (subst (λ (xs : List TupleAt). In y xs) (same-rows spec limit next done states stores pending taken j y.input) (In-filter_from (λ (z : TupleAt). eqb z.input y.input) y (tuples_of (row_pairs states) (length spec.shape.inputs)) h (eq-eqb y.input y.input refl)))).0
+          (subst (λ (xs : List TupleAt). In y xs) (same-rows spec limit next done row_states punct_stores pending taken j y.input) (In-filter_from (λ (z : TupleAt). eqb z.input y.input) y (tuples_of (row_pairs row_states) (length spec.shape.inputs)) h (eq-eqb y.input y.input refl)))).0
 
-      still-all : (cert : List CertEntry) (x : TupleAt) → AsksStill (known_of spec.shape (row_pairs states) stores low) cert x → AsksStill (known spec.shape.classes log (puncts_of stores) low) cert x
+      still-all : (cert : List CertEntry) (x : TupleAt) → AsksStill (known_of spec.shape (row_pairs row_states) punct_stores low) cert x → AsksStill (known spec.shape.classes log (puncts_of punct_stores) low) cert x
       still-all cert x (rows, asks, by) = (rows, asks, record { there = λ y h. in-stored y (by.there y h); below = by.below; asked = by.asked; uncovered = sym (covered-all asks) ∙ by.uncovered })
 
       -- what was judged and is neither ripe nor marked asks for something that is not covered
-      pub open_but : (node : ℕ) (waiting : List PunctAt) (ws : List Watches) (marked : List ℕ) → k ≡ (seen (made_with node spec limit) next done (log_of states) (puncts_of stores) waiting taken).kept → AreWatched spec next low log (puncts_of stores) ws
-          → AreLookedAt (judge_at spec input states stores low) (watches_at ws input) marked
-          → AreOpenBut (seen (made_with node spec limit) next done (log_of states) (puncts_of stores) waiting taken) input marked
+      pub open_but : (node : ℕ) (waiting : List PunctAt) (ws : List DueRechecks) (marked : List ℕ) → k ≡ (seen (made_with node spec limit) next done (log_of row_states) (puncts_of punct_stores) waiting taken).kept → AreWatched spec next low log (puncts_of punct_stores) ws
+          → AreLookedAt (judge_at spec input row_states punct_stores low) (watches_at ws input) marked
+          → AreOpenBut (seen (made_with node spec limit) next done (log_of row_states) (puncts_of punct_stores) waiting taken) input marked
       open_but node waiting ws marked same w looked x h of below ripe none = by-pass (is_passed (watches_at ws input) x.ticket) refl
         where
-          s : (s : Stored) × In s (state_at states x.input).rows × (tuple_in x.input s ≡ x)
+          s : (s : Stored) × In s (state_at row_states x.input).rows × (tuple_in x.input s ≡ x)
           s = in-row x h
 
-          here : In s.0 (state_at states input).rows
-          here = subst (λ i. In s.0 (state_at states i).rows) of s.1
+          here : In s.0 (state_at row_states input).rows
+          here = subst (λ i. In s.0 (state_at row_states i).rows) of s.1
 
           is-x : tuple_in input s.0 ≡ x
           is-x = ap (λ i. tuple_in i s.0) (sym of) ∙ s.2
@@ -233,22 +233,22 @@ module _ (spec : JoinData) where
           lower : s.0.ticket < low
           lower = let b : x.ticket < kept_low k = subst (λ (q : KeptState). x.ticket < kept_low q) (sym same) below in omega (arith, b, ticket, is)
 
-          unripe : ripe_at (judge_at spec input states stores low) s.0 ≡ false
+          unripe : ripe_at (judge_at spec input row_states punct_stores low) s.0 ≡ false
           unripe =
-              ripe-is spec limit next done states stores pending taken j k stored-are puncts-are low is input s.0
+              ripe-is spec limit next done row_states punct_stores pending taken j k stored-are puncts-are low is input s.0
               ∙ ap (kept_ripe spec k) is-x ∙ ap (λ (q : KeptState). kept_ripe spec q x) same ∙ ripe
 
-          lows : low ≡ kept_low (seen (made_with node spec limit) next done (log_of states) (puncts_of stores) waiting taken).kept
+          lows : low ≡ kept_low (seen (made_with node spec limit) next done (log_of row_states) (puncts_of punct_stores) waiting taken).kept
           lows = is ∙ ap kept_low same
 
-          at-low : AsksStill (known spec.shape.classes log (puncts_of stores) low) (cert_of spec input) x → AsksStill (known spec.shape.classes log (puncts_of stores) (kept_low (seen (made_with node spec limit) next done (log_of states) (puncts_of stores) waiting taken).kept)) (cert_of spec input) x
-          at-low a = subst (λ n. AsksStill (known spec.shape.classes log (puncts_of stores) n) (cert_of spec input) x) lows a
+          at-low : AsksStill (known spec.shape.classes log (puncts_of punct_stores) low) (cert_of spec input) x → AsksStill (known spec.shape.classes log (puncts_of punct_stores) (kept_low (seen (made_with node spec limit) next done (log_of row_states) (puncts_of punct_stores) waiting taken).kept)) (cert_of spec input) x
+          at-low a = subst (λ n. AsksStill (known spec.shape.classes log (puncts_of punct_stores) n) (cert_of spec input) x) lows a
 
-          by-pass : (b : Bool) → is_passed (watches_at ws input) x.ticket ≡ b → AsksStill (known spec.shape.classes log (puncts_of stores) (kept_low (seen (made_with node spec limit) next done (log_of states) (puncts_of stores) waiting taken).kept)) (cert_of spec input) x
-          by-pass true e = at-low (subst (λ i. AsksStill (known spec.shape.classes log (puncts_of stores) low) (cert_of spec i) x) of (w.asks x h (ap (λ i. is_passed (watches_at ws i) x.ticket) of ∙ e)))
+          by-pass : (b : Bool) → is_passed (watches_at ws input) x.ticket ≡ b → AsksStill (known spec.shape.classes log (puncts_of punct_stores) (kept_low (seen (made_with node spec limit) next done (log_of row_states) (puncts_of punct_stores) waiting taken).kept)) (cert_of spec input) x
+          by-pass true e = at-low (subst (λ i. AsksStill (known spec.shape.classes log (puncts_of punct_stores) low) (cert_of spec i) x) of (w.asks x h (ap (λ i. is_passed (watches_at ws i) x.ticket) of ∙ e)))
           by-pass false e =
               let l = looked s.0 here (ap (is_passed (watches_at ws input)) ticket ∙ e) lower unripe (ap (has marked) ticket ∙ none) in
-              at-low (subst (λ (y : TupleAt). AsksStill (known spec.shape.classes log (puncts_of stores) low) (cert_of spec input) y) is-x (still-all (cert_of spec input) (tuple_in input s.0) l))
+              at-low (subst (λ (y : TupleAt). AsksStill (known spec.shape.classes log (puncts_of punct_stores) low) (cert_of spec input) y) is-x (still-all (cert_of spec input) (tuple_in input s.0) l))
 
 -- ---- a sweep
 
@@ -257,9 +257,9 @@ least-within next [] = omega arith
 least-within next (t ∷ ts) = omega (arith, least-within next ts)
 
 -- what is left of a sweep and is passed over asks for something, over all that was stored
-module _ (join : JoinView) (input low : ℕ) (marked : List ℕ) (ws : List Watches) (is : low ≡ kept_low join.kept) (there : input < inputs join.spec)
+module _ (join : JoinView) (input low : ℕ) (marked : List ℕ) (ws : List DueRechecks) (is : low ≡ kept_low join.kept) (there : input < inputs join.spec)
     (w : AreWatched join.spec join.kept.next (kept_low join.kept) join.kept.stored join.kept.puncts ws) (open-but : AreOpenBut join input marked) where
-  abbrev v : Watches
+  abbrev v : DueRechecks
   v = record { from = low; marked = marked }
 
   lt : input < length ws
@@ -274,17 +274,17 @@ module _ (join : JoinView) (input low : ℕ) (marked : List ℕ) (ws : List Watc
   by-input x h n true e t =
       let of : x.input ≡ input = eqb-true x.input input e in
       let p : is_passed (watches_at (set ws input v) input) x.ticket ≡ true = ap (λ i. is_passed (watches_at (set ws input v) i) x.ticket) (sym of) ∙ t in
-      let q : is_passed v x.ticket ≡ true = ap (λ (u : Watches). is_passed u x.ticket) (sym (at-place ws input v lt)) ∙ p in
+      let q : is_passed v x.ticket ≡ true = ap (λ (u : DueRechecks). is_passed u x.ticket) (sym (at-place ws input v lt)) ∙ p in
       let both = and_parts (ltb x.ticket low) (not (has marked x.ticket)) q in
       let below : x.ticket < low = ltb-true x.ticket low both.0 in
       subst (λ i. AsksStill (known join.spec.shape.classes join.kept.stored join.kept.puncts (kept_low join.kept)) (cert_of join.spec i) x) (sym of)
       (open-but x h of (omega (arith, below, is)) (not-false (kept_ripe join.spec join.kept x) (ap (λ b. not (b && kept_ripe join.spec join.kept x)) (sym e) ∙ n)) (not-false (has marked x.ticket) both.1))
-  by-input x h n false e t = w.asks x h (ap (λ (u : Watches). is_passed u x.ticket) (sym (at-set ws input x.input v lt (λ q. false≢true (sym e ∙ eq-eqb x.input input q)))) ∙ t)
+  by-input x h n false e t = w.asks x h (ap (λ (u : DueRechecks). is_passed u x.ticket) (sym (at-set ws input x.input v lt (λ q. false≢true (sym e ∙ eq-eqb x.input input q)))) ∙ t)
 
   -- one that goes leaves none that asks through it
-  module _ (states : List StateView) (gone : List ℕ) (new : List Watches) (row : (y : TupleAt) → In y join.kept.stored → (s : Stored) × In s (state_at states y.input).rows × (tuple_in y.input s ≡ y))
+  module _ (row_states : List StateView) (gone : List ℕ) (new : List DueRechecks) (row : (y : TupleAt) → In y join.kept.stored → (s : Stored) × In s (state_at row_states y.input).rows × (tuple_in y.input s ≡ y))
       (placed : (y : TupleAt) → In y join.kept.stored → y.input < inputs join.spec) (are : gone ≡ tickets (swept_off join input)) (fewer : AreFewer (set ws input v) new)
-      (roused : AreRoused join.spec states input gone new (length (set ws input v))) where
+      (roused : AreRoused join.spec row_states input gone new (length (set ws input v))) where
     within : (x : TupleAt) → In x join.kept.stored → x.input < length (set ws input v)
     within x h = let p = placed x h in let c : length ws ≡ inputs join.spec = w.count in let d = set-count ws input v in omega (arith, p, c, d)
 
@@ -314,8 +314,8 @@ module _ (join : JoinView) (input low : ℕ) (marked : List ℕ) (ws : List Watc
           let m : (watches_at new k).from ≤ (watches_at (set ws input v) k).from = (fewer.each k).from in
           let n : (watches_at (set ws input v) k).from ≤ join.kept.next =
           by-place (λ i. (watches_at (set ws input v) i).from ≤ join.kept.next) input k
-          (subst (λ (u : Watches). u.from ≤ join.kept.next) (sym (at-place ws input v lt)) (omega (arith, is, least-within join.kept.next join.kept.opened)))
-          (λ ne. subst (λ (u : Watches). u.from ≤ join.kept.next) (sym (at-set ws input k v lt ne)) (w.reached k)) in omega (arith, m, n);
+          (subst (λ (u : DueRechecks). u.from ≤ join.kept.next) (sym (at-place ws input v lt)) (omega (arith, is, least-within join.kept.next join.kept.opened)))
+          (λ ne. subst (λ (u : DueRechecks). u.from ≤ join.kept.next) (sym (at-set ws input k v lt ne)) (w.reached k)) in omega (arith, m, n);
       asks = λ x h t.
           let in-stored = In-filter (λ (z : TupleAt). not (eqb z.input input && kept_ripe join.spec join.kept z)) x join.kept.stored h in
           still-stays x in-stored.0 t (by-input x in-stored.0 in-stored.1 (eqb x.input input) refl ((fewer.each x.input).passed x.ticket t));
@@ -323,21 +323,21 @@ module _ (join : JoinView) (input low : ℕ) (marked : List ℕ) (ws : List Watc
 
 -- ---- the same, of what a call is lent
 
-pub watch_is : (ws : List Watches) (i : ℕ) (w : Watches) → i < length ws → w ≡ get_or ws i w → w ≡ watches_at ws i
+pub watch_is : (ws : List DueRechecks) (i : ℕ) (w : DueRechecks) → i < length ws → w ≡ get_or ws i w → w ≡ watches_at ws i
 watch_is [] i w lt e = absurd (omega (arith, lt))
 watch_is (v ∷ ws) zero w lt e = e
 watch_is (v ∷ ws) (suc i) w lt e = watch_is ws i w (omega (arith, lt)) e
 
-pub same_none : (j k : JudgeView) (w w' : Watches) → j ≡ k → w ≡ w' → NoneIsRipe k w' → NoneIsRipe j w
-same_none j k w w' a b n = subst (λ (l : JudgeView). NoneIsRipe l w) (sym a) (subst (λ (v : Watches). NoneIsRipe k v) (sym b) n)
+pub same_none : (j k : JudgeView) (w w' : DueRechecks) → j ≡ k → w ≡ w' → NoneIsRipe k w' → NoneIsRipe j w
+same_none j k w w' a b n = subst (λ (l : JudgeView). NoneIsRipe l w) (sym a) (subst (λ (v : DueRechecks). NoneIsRipe k v) (sym b) n)
 
-pub same_looked : (marked : List ℕ) (j k : JudgeView) (w w' : Watches) → j ≡ k → w ≡ w' → AreLookedAt j w marked → AreLookedAt k w' marked
-same_looked marked j k w w' a b n = subst (λ (v : Watches). AreLookedAt k v marked) b (subst (λ (l : JudgeView). AreLookedAt l w marked) a n)
+pub same_looked : (marked : List ℕ) (j k : JudgeView) (w w' : DueRechecks) → j ≡ k → w ≡ w' → AreLookedAt j w marked → AreLookedAt k w' marked
+same_looked marked j k w w' a b n = subst (λ (v : DueRechecks). AreLookedAt k v marked) b (subst (λ (l : JudgeView). AreLookedAt l w marked) a n)
 
-pub watches_more : (ws ws' : List Watches) (n : ℕ) → length ws ≡ n → ((input : ℕ) → (watches_at ws input).from ≡ 0) → (v : Watches) → v.from ≡ 0 → ws' ≡ ws ++ v ∷ [] → (length ws' ≡ n + 1) × ((input : ℕ) → (watches_at ws' input).from ≡ 0)
+pub watches_more : (ws ws' : List DueRechecks) (n : ℕ) → length ws ≡ n → ((input : ℕ) → (watches_at ws input).from ≡ 0) → (v : DueRechecks) → v.from ≡ 0 → ws' ≡ ws ++ v ∷ [] → (length ws' ≡ n + 1) × ((input : ℕ) → (watches_at ws' input).from ≡ 0)
 watches_more ws ws' n count none v e is = (ap length is ∙ length-append ws (v ∷ []) ∙ ap (λ k. k + 1) count, λ input. ap (λ us. (watches_at us input).from) is ∙ go ws input none)
   where
-    go : (us : List Watches) (input : ℕ) → ((k : ℕ) → (watches_at us k).from ≡ 0) → (watches_at (us ++ v ∷ []) input).from ≡ 0
+    go : (us : List DueRechecks) (input : ℕ) → ((k : ℕ) → (watches_at us k).from ≡ 0) → (watches_at (us ++ v ∷ []) input).from ≡ 0
     go [] zero f = e
     go [] (suc input) f = refl
     go (u ∷ us) zero f = f 0

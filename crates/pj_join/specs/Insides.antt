@@ -6,7 +6,7 @@ use Rattle.pj_shape.specs.Sound.{IsSoundSpec}
 use Rattle.pj_events.specs.Join.{In, JoinData, TupleAt, PunctAt, AreCertified, arities, inputs, of_input, upto_from}
 use Rattle.pj_events.specs.KeptState.{least}
 use Rattle.pj_join.specs.Joins.{JoinView}
-use Rattle.pj_join.specs.Sides.{AreAllShaped, heard_in, heard_of, log_of, place_of, puncts_of}
+use Rattle.pj_join.specs.Sides.{AreAllShaped, held_in, heard_of, log_of, place_of, puncts_of}
 use Rattle.pj_rows.specs.Tuples.{tuples_in}
 use Rattle.pj_join.specs.declared.place.Place.{Place}
 
@@ -61,28 +61,28 @@ pub record IsOrdered (spec : JoinData) (limit next done : ℕ) (log : List Tuple
   pub by_input : sides ≡ map (λ k. of_input k log) (upto_from 0 (length spec.shape.inputs))
 
 -- the tickets of the punctuations rise, and the stores hold them by their inputs
-pub record AreHeard (spec : JoinData) (next : ℕ) (puncts : List PunctAt) (stores : List Store) : Type 0 where
+pub record AreHeard (spec : JoinData) (next : ℕ) (puncts : List PunctAt) (punct_stores : List Store) : Type 0 where
   pub rising : Rise 0 (map (λ p. p.ticket) puncts) next
   pub placed : (p : PunctAt) → In p puncts → p.input < inputs spec
-  pub by_input : heard_in 0 stores ≡ map (λ k. heard_of k puncts) (upto_from 0 (inputs spec))
-  pub arities : map (λ s. s.arity) stores ≡ arities spec
+  pub by_input : held_in 0 punct_stores ≡ map (λ k. heard_of k puncts) (upto_from 0 (inputs spec))
+  pub arities : map (λ s. s.arity) punct_stores ≡ arities spec
 
 -- what a join keeps its rows and punctuations in: the next ticket, how many of the stored tuples are taken, a state and a
 -- store for each input, where the pending tuples stand, and the tickets that are taken and not given
 pub record Inside : Type 0 where
   pub next : ℕ
   pub done : ℕ
-  pub states : List StateView
-  pub stores : List Store
+  pub row_states : List StateView
+  pub punct_stores : List Store
   pub pending : List Place
   pub taken : List ℕ
 
 abbrev pub inside : ℕ → ℕ → List StateView → List Store → List Place → List ℕ → Inside
-inside next done states stores pending taken = record { next = next; done = done; states = states; stores = stores; pending = pending; taken = taken }
+inside next done row_states punct_stores pending taken = record { next = next; done = done; row_states = row_states; punct_stores = punct_stores; pending = pending; taken = taken }
 
 -- all fits together
 pub record IsJoin (spec : JoinData) (limit : ℕ) (i : Inside) : Type 0 where
-  pub ordered : IsOrdered spec limit i.next i.done (log_of i.states) (tuples_in 0 i.states) i.taken
-  pub shaped : AreAllShaped (arities spec) i.states
-  pub heard : AreHeard spec i.next (puncts_of i.stores) i.stores
-  pub queued : i.pending ≡ map place_of (drop i.done (log_of i.states))
+  pub ordered : IsOrdered spec limit i.next i.done (log_of i.row_states) (tuples_in 0 i.row_states) i.taken
+  pub shaped : AreAllShaped (arities spec) i.row_states
+  pub heard : AreHeard spec i.next (puncts_of i.punct_stores) i.punct_stores
+  pub queued : i.pending ≡ map place_of (drop i.done (log_of i.row_states))

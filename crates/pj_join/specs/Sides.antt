@@ -7,7 +7,7 @@ use Rattle.pj_cover.specs.Asking.{punct_of}
 use Rattle.pj_events.specs.Join.{In, PunctAt, TupleAt, Value}
 use Rattle.pj_join.specs.declared.place.Place.{Place}
 use Rattle.pj_rows.specs.Tuples.{tuples_in, state_at}
-use Rattle.pj_waiting.specs.Holding.{heard_at}
+use Rattle.pj_waiting.specs.Holding.{held_at}
 
 -- ---- one list of several, in order of numbers
 
@@ -30,7 +30,7 @@ ticket_at x = x.ticket
 
 -- all stored tuples, in order of tickets
 abbrev pub log_of : List StateView → List TupleAt
-log_of states = merged ticket_at (tuples_in 0 states)
+log_of row_states = merged ticket_at (tuples_in 0 row_states)
 
 -- where a tuple stands
 abbrev pub place_of : TupleAt → Place
@@ -43,12 +43,12 @@ arrived_with p (Some row) = Some (record { ticket = p.ticket; input = p.input; r
 
 -- the tuple that stands at a place
 abbrev pub arrived_at : List StateView → Place → Option TupleAt
-arrived_at states p = arrived_with p (row_under p.ticket (state_at states p.input).rows)
+arrived_at row_states p = arrived_with p (row_under p.ticket (state_at row_states p.input).rows)
 
 -- the tuple that stands at the first of these places
 abbrev pub first_of : List StateView → List Place → Option TupleAt
-first_of states [] = None
-first_of states (p ∷ ps) = arrived_at states p
+first_of row_states [] = None
+first_of row_states (p ∷ ps) = arrived_at row_states p
 
 -- the indexed columns are columns of the input, and its rows fit it
 pub record IsShaped (n : ℕ) (state : StateView) : Type 0 where
@@ -63,13 +63,13 @@ AreAllShaped (n ∷ ns) [] = ⊥
 AreAllShaped (n ∷ ns) (s ∷ ss) = IsShaped n s × AreAllShaped ns ss
 
 -- the punctuations of the inputs from this one on, which stand in these stores
-abbrev pub heard_in : ℕ → List Store → List (List PunctAt)
-heard_in input [] = []
-heard_in input (s ∷ ss) = map (punct_of input) s.kept ∷ heard_in (input + 1) ss
+abbrev pub held_in : ℕ → List Store → List (List PunctAt)
+held_in input [] = []
+held_in input (s ∷ ss) = map (punct_of input) s.kept ∷ held_in (input + 1) ss
 
 -- all punctuations, in order of tickets
 abbrev pub puncts_of : List Store → List PunctAt
-puncts_of stores = merged heard_at (heard_in 0 stores)
+puncts_of punct_stores = merged held_at (held_in 0 punct_stores)
 
 -- those of an input
 abbrev pub heard_of : ℕ → List PunctAt → List PunctAt

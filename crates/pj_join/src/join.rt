@@ -7,7 +7,7 @@ ghost use Rattle.pj_events.specs.Join.{AreCertified, Step, TupleComes, PunctCome
 ghost use Rattle.pj_events.specs.KeptState.{kept_of, kept_low, swept, without};
 ghost use Rattle.std.specs.List.{position};
 ghost use Rattle.pj_join.specs.Held.{AreHeld, AreHeldBehind};
-ghost use Rattle.pj_waiting.specs.Holding.{KeepsLists, tickets_where, heard_at};
+ghost use Rattle.pj_waiting.specs.Holding.{KeepsLists, tickets_where, held_at};
 ghost use Rattle.pj_join.specs.Handed.{JoinProbes, StandsProbed, rows_probed};
 ghost use Rattle.pj_join.specs.Insides.{Rise, tickets};
 ghost use Rattle.pj_join.specs.Sweeping.{is_let_go, waiting_on, GoesWhereCovered, HandsUp, HasBeenLawful, IsForgotten, StaysRipeUntil, puncts_let_go, puncts_up, rows_off, swept_off};
@@ -26,12 +26,13 @@ use pj_pattern::Punct;
 use pj_probe::{Probe, ProbeRoute, hand_out_found, probe_of, probe_routes, route_of};
 use pj_puncts::PunctStore;
 use pj_recheck::{
-    Certified, InputRoutes, Judge, Watches, keep_orders, mark_covered, mark_dependents, routes_of,
+    Certified, DueRechecks, InputRoutes, Judge, keep_orders, mark_covered, mark_dependents,
+    routes_of,
 };
 use pj_shape::{Cert, JoinSpec, Schemes};
 use pj_state::{Remaining, Shared, State};
 use pj_value::{List, NoMemory, Row};
-use pj_waiting::{Coming, Waiting, hear};
+use pj_waiting::{ArrivingPunct, Waiting, receive};
 use std::alloc::Global;
 use std::marker::Model;
 use std::sync::Arc;
@@ -51,9 +52,9 @@ pub struct Join {
     purges: Vec<PurgeRoute>,
     limit: u64,
     next: u64,
-    states: Vec<State>,
-    stores: Vec<PunctStore>,
-    watches: Vec<Watches>,
+    row_states: Vec<State>,
+    punct_stores: Vec<PunctStore>,
+    due: Vec<DueRechecks>,
     waiting: Waiting,
     pending: Remaining<Place>,
     done: usize,
@@ -75,9 +76,9 @@ impl Model for Join {
 
     ghost Value = { JoinView };
 
-    ghost view = { λ j. seen (made_with j.node (join_data (arc_value j.spec) j.schemes j.certs) j.limit) j.next j.done (log_of j.states.items) (puncts_of j.stores.items) j.waiting.puncts j.taken.items };
+    ghost view = { λ j. seen (made_with j.node (join_data (arc_value j.spec) j.schemes j.certs) j.limit) j.next j.done (log_of j.row_states.items) (puncts_of j.punct_stores.items) j.waiting.puncts j.taken.items };
 
-    ghost invariant = { λ j. IsJoin (join_data (arc_value j.spec) j.schemes j.certs) j.limit (inside j.next j.done j.states.items j.stores.items j.pending j.taken.items) × AreWatched (join_data (arc_value j.spec) j.schemes j.certs) j.next (lowest j.next j.done (log_of j.states.items) j.taken.items) (log_of j.states.items) (puncts_of j.stores.items) j.watches.items × AreHeld j.next (log_of j.states.items) j.waiting × AreProbeRoutes (arc_value j.spec).classes (columns_of j.states.items) j.routes × AreRoutes (join_data (arc_value j.spec) j.schemes j.certs) j.states.items (inputs (join_data (arc_value j.spec) j.schemes j.certs)) j.rechecks.items × ArePurgeRoutes (join_data (arc_value j.spec) j.schemes j.certs) (inputs (join_data (arc_value j.spec) j.schemes j.certs)) j.purges.items };
+    ghost invariant = { λ j. IsJoin (join_data (arc_value j.spec) j.schemes j.certs) j.limit (inside j.next j.done j.row_states.items j.punct_stores.items j.pending j.taken.items) × AreWatched (join_data (arc_value j.spec) j.schemes j.certs) j.next (lowest j.next j.done (log_of j.row_states.items) j.taken.items) (log_of j.row_states.items) (puncts_of j.punct_stores.items) j.due.items × AreHeld j.next (log_of j.row_states.items) j.waiting × AreProbeRoutes (arc_value j.spec).classes (columns_of j.row_states.items) j.routes × AreRoutes (join_data (arc_value j.spec) j.schemes j.certs) j.row_states.items (inputs (join_data (arc_value j.spec) j.schemes j.certs)) j.rechecks.items × ArePurgeRoutes (join_data (arc_value j.spec) j.schemes j.certs) (inputs (join_data (arc_value j.spec) j.schemes j.certs)) j.purges.items };
 }
 
 impl Join {
@@ -96,10 +97,10 @@ impl Join {
         requires limit { (1 ≤ limit) × (limit ≤ 2 ^ 40) }
         ensures { IfOk result (λ join. join ≡ record { node = node; spec = join_data spec schemes certs; limit = limit; kept = kept_of start }) }
     {
-        let states = empty_states(alloc, &spec)?;
-        let stores = empty_stores(alloc, spec.inputs.as_slice())?;
-        let watches = empty_watches(alloc, spec.inputs.len())?;
-        let routes = probe_routes(alloc, spec.classes.as_slice(), states.as_slice())?;
+        let row_states = empty_states(alloc, &spec)?;
+        let punct_stores = empty_stores(alloc, spec.inputs.as_slice())?;
+        let due = empty_watches(alloc, spec.inputs.len())?;
+        let routes = probe_routes(alloc, spec.classes.as_slice(), row_states.as_slice())?;
         let rechecks = routes_of(
             alloc,
             &Certified {
@@ -107,7 +108,7 @@ impl Join {
                 schemes: &schemes,
                 certs: certs.as_slice(),
             },
-            states.as_slice(),
+            row_states.as_slice(),
         )?;
         let purges = purge_routes(alloc, &spec, &schemes, certs.as_slice())?;
         Ok(Join {
@@ -121,9 +122,9 @@ impl Join {
             purges,
             limit,
             next: 0,
-            states,
-            stores,
-            watches,
+            row_states,
+            punct_stores,
+            due,
             waiting: Waiting::new(alloc),
             pending: Remaining::of(Vec::new(alloc)),
             done: 0,
@@ -150,7 +151,7 @@ impl Join {
         let row = Shared::new(self.alloc, row)?;
         store(
             &mut self.pending,
-            &mut self.states[input as usize],
+            &mut self.row_states[input as usize],
             Place { ticket, input },
             row,
         )?;
@@ -178,7 +179,7 @@ impl Join {
         ensures refused { OnErr result ((self.new ≡ self.old) × (out.new ≡ out.old)) }
     {
         keep_orders(
-            &mut self.states,
+            &mut self.row_states,
             self.rechecks[input as usize].orders.as_slice(),
             &punct,
         );
@@ -208,18 +209,18 @@ impl Join {
         let ticket = self.next;
         mark_covered(
             self.alloc,
-            &mut self.watches,
+            &mut self.due,
             self.rechecks[input as usize].recheck.as_slice(),
-            self.states.as_slice(),
+            self.row_states.as_slice(),
             &punct,
         )?;
-        hear(
+        receive(
             self.alloc,
             self.spec.inputs.as_slice(),
-            &self.states[input as usize],
-            &mut self.stores[input as usize],
+            &self.row_states[input as usize],
+            &mut self.punct_stores[input as usize],
             &mut self.waiting,
-            Coming {
+            ArrivingPunct {
                 ticket,
                 input,
                 punct,
@@ -238,7 +239,7 @@ impl Join {
     {
         standing();
         forgetting_is_safe();
-        match first_pending(self.states.as_slice(), &self.pending) {
+        match first_pending(self.row_states.as_slice(), &self.pending) {
             None => Ok(None),
             Some(own) => {
                 let probe = probe_of(
@@ -246,7 +247,7 @@ impl Join {
                     self.node,
                     route_of(&self.routes, &own),
                     &own,
-                    self.states.as_slice(),
+                    self.row_states.as_slice(),
                 )?;
                 self.taken.push(probe.ticket())?;
                 self.pending.pop_first();
@@ -277,7 +278,7 @@ impl Join {
     {
         standing();
         forgetting_is_safe();
-        match first_pending(self.states.as_slice(), &self.pending) {
+        match first_pending(self.row_states.as_slice(), &self.pending) {
             None => Ok(None),
             Some(own) => {
                 let ticket = own.ticket();
@@ -285,7 +286,7 @@ impl Join {
                     self.alloc,
                     route_of(&self.routes, &own),
                     &own,
-                    self.states.as_slice(),
+                    self.row_states.as_slice(),
                     outs,
                 )?;
                 self.pending.pop_first();
@@ -339,8 +340,8 @@ impl Join {
         requires there { input < inputs self.now.spec }
         ensures { result ≡ true → swept_off self.now input ≡ [] }
     {
-        let watches = &self.watches[input as usize];
-        watches.marked.len() == 0 && !has_young(&self.states[input as usize], watches.from)
+        let due = &self.due[input as usize];
+        due.marked.len() == 0 && !has_young(&self.row_states[input as usize], due.from)
     }
 
     // The same, where the punctuations that wait stand beside the join.
@@ -396,7 +397,7 @@ impl Join {
         ensures held { IfOk result (λ left. AreHeldBehind (swept self.now.spec self.now.kept input) left.waiting.goes left.waiting.freed waiting.new) }
         ensures puncts { waiting.new.puncts ≡ waiting.old.puncts }
         ensures keeps { KeepsLists waiting.old waiting.new }
-        ensures rising { OnOk result (IsRising heard_at waiting.old.puncts) }
+        ensures rising { OnOk result (IsRising held_at waiting.old.puncts) }
         ensures removed { OnOk result (removed.new ≡ removed.old ++ rows_off self.now input) }
         ensures out { OnOk result (out.new ≡ out.old ++ puncts_let_go (with_waiting waiting.old.puncts self.now) input) }
         ensures err { OnErr result ((take (length removed.old) removed.new ≡ removed.old) × (take (length out.old) out.new ≡ out.old)) }
@@ -407,14 +408,14 @@ impl Join {
             schemes: &self.schemes,
             route: &self.purges[input as usize],
             input,
-            states: self.states.as_slice(),
-            stores: self.stores.as_slice(),
+            row_states: self.row_states.as_slice(),
+            punct_stores: self.punct_stores.as_slice(),
             low,
         };
         let left = sweep(
             &judge,
             self.alloc,
-            &self.watches[input as usize],
+            &self.due[input as usize],
             waiting,
             removed,
             out,
@@ -439,15 +440,15 @@ impl Join {
         let count = gone.len();
         let from = self.low();
         self.done -= count;
-        self.watches[input as usize] = Watches { from, marked };
+        self.due[input as usize] = DueRechecks { from, marked };
         mark_dependents(
             self.alloc,
-            &mut self.watches,
+            &mut self.due,
             self.rechecks[input as usize].back.as_slice(),
-            self.states.as_slice(),
+            self.row_states.as_slice(),
             gone.as_slice(),
         );
-        remove_all(&mut self.states[input as usize], gone.as_slice());
+        remove_all(&mut self.row_states[input as usize], gone.as_slice());
         count as u64
     }
 

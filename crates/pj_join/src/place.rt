@@ -13,10 +13,10 @@ pub struct Place {
 }
 
 // The tuple that stands at a place; `None` exactly where none does.
-fn arrived<'a>(states: &'a [State], place: Place) -> Option<Arrived<'a>>
-    ensures { result ≡ arrived_at states.now place }
+fn arrived<'a>(row_states: &'a [State], place: Place) -> Option<Arrived<'a>>
+    ensures { result ≡ arrived_at row_states.now place }
 {
-    match states.get(place.input as usize) {
+    match row_states.get(place.input as usize) {
         None => None,
         Some(state) => match state.get(place.ticket) {
             None => None,
@@ -26,11 +26,11 @@ fn arrived<'a>(states: &'a [State], place: Place) -> Option<Arrived<'a>>
 }
 
 /// The tuple that stands at the first of these places.
-pub fn first_pending<'a>(states: &'a [State], pending: &Remaining<Place>) -> Option<Arrived<'a>>
-    ensures { result ≡ first_of states.now pending.now }
+pub fn first_pending<'a>(row_states: &'a [State], pending: &Remaining<Place>) -> Option<Arrived<'a>>
+    ensures { result ≡ first_of row_states.now pending.now }
 {
     match pending.as_slice().split_first() {
         None => None,
-        Some((place, _)) => arrived(states, *place),
+        Some((place, _)) => arrived(row_states, *place),
     }
 }

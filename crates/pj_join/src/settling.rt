@@ -4,14 +4,14 @@ ghost use Rattle.pj_value.specs.Lists.{In};
 ghost use Rattle.pj_state.specs.declared.shared.Stored.{Stored};
 ghost use Rattle.pj_state.specs.Rising.{IsRising};
 ghost use Rattle.pj_state.specs.States.{state_of};
-ghost use Rattle.pj_waiting.specs.Holding.{AreFreed, AreHeldBy, KeepsLists, StayHeld, tickets_where, heard_at};
+ghost use Rattle.pj_waiting.specs.Holding.{AreFreed, AreHeldBy, KeepsLists, StayHeld, tickets_where, held_at};
 ghost use Rattle.pj_waiting.specs.Letting.{letting_go, lets_go};
 ghost use Rattle.pj_recheck.specs.Judging.{ripe_rows, ripe_tickets, rows_at};
 ghost use Rattle.pj_join.specs.Sweeping.{rows_without};
 ghost use Rattle.pj_recheck.specs.Watching.{AreLookedAt, NoneIsRipe};
 
 use pj_pattern::Punct;
-use pj_recheck::{Judge, Judged, Watches};
+use pj_recheck::{DueRechecks, Judge, SweepResult};
 use pj_state::State;
 use pj_value::{List, NoMemory, Row};
 use pj_waiting::{StillWaiting, Swept, Waiting};
@@ -32,31 +32,31 @@ pub struct Left {
 pub fn sweep(
     judge: &Judge<'_>,
     alloc: Global,
-    watches: &Watches,
+    due: &DueRechecks,
     waiting: &mut Waiting,
     removed: &mut List<Row>,
     out: &mut List<Punct>,
 ) -> Result<Left, NoMemory>
-    requires passed { NoneIsRipe judge.now watches.now }
+    requires passed { NoneIsRipe judge.now due.now }
     requires held { AreHeldBy (rows_at judge.now) judge.now.input waiting.old }
     ensures gone { IfOk result (λ left. left.gone ≡ ripe_tickets judge.now) }
-    ensures left { IfOk result (λ left. AreLookedAt judge.now watches.now left.marked) }
+    ensures left { IfOk result (λ left. AreLookedAt judge.now due.now left.marked) }
     ensures goes { IfOk result (λ left. left.waiting.goes ≡ tickets_where (lets_go (rows_at judge.now) left.gone judge.now.input) waiting.old.puncts) }
     ensures freed { IfOk result (λ left. AreFreed left.gone left.waiting.freed) }
     ensures held { IfOk result (λ left. StayHeld (rows_at judge.now) left.gone judge.now.input waiting.new) }
     ensures puncts { waiting.new.puncts ≡ waiting.old.puncts }
     ensures keeps { KeepsLists waiting.old waiting.new }
-    ensures rising { OnOk result (IsRising heard_at waiting.old.puncts) }
+    ensures rising { OnOk result (IsRising held_at waiting.old.puncts) }
     ensures removed { OnOk result (removed.new ≡ removed.old ++ ripe_rows judge.now) }
     ensures out { IfOk result (λ left. out.new ≡ out.old ++ letting_go judge.now.spec.inputs (rows_at judge.now) left.gone judge.now.input waiting.old.puncts) }
     ensures err { OnErr result ((take (length removed.old) removed.new ≡ removed.old) × (take (length out.old) out.new ≡ out.old)) }
 {
-    let judged = judge.ripe_ones(alloc, watches, removed)?;
-    let Judged { gone, marked } = judged;
+    let judged = judge.ripe_ones(alloc, due, removed)?;
+    let SweepResult { gone, marked } = judged;
     let swept = Swept {
         schemas: judge.spec.inputs.as_slice(),
         input: judge.input,
-        state: &judge.states[judge.input as usize],
+        state: &judge.row_states[judge.input as usize],
         gone: gone.as_slice(),
     };
     let waiting = swept.let_go(alloc, waiting, out)?;

@@ -4,13 +4,13 @@ ghost use Rattle.pj_shape.specs.Sound.{IsSoundSpec, arities_of};
 ghost use Rattle.pj_events.specs.Join.{AreCertified, inputs, of_input, upto_from};
 ghost use Rattle.pj_recheck.specs.Judging.{join_data};
 ghost use Rattle.pj_join.specs.Purges.{ArePurgeRoutes};
-ghost use Rattle.pj_join.specs.Sides.{AreAllShaped, IsShaped, heard_in, heard_of};
+ghost use Rattle.pj_join.specs.Sides.{AreAllShaped, IsShaped, held_in, heard_of};
 ghost use Rattle.pj_rows.specs.Tuples.{tuples_in};
 ghost use Rattle.pj_recheck.specs.Watching.{watches_at};
 
 use pj_cover::{PurgeRoute, purge_route};
 use pj_puncts::PunctStore;
-use pj_recheck::Watches;
+use pj_recheck::DueRechecks;
 use pj_shape::{Cert, ClassCol, JoinSpec, Schema, Schemes};
 use pj_state::State;
 use pj_value::{List, NoMemory};
@@ -65,40 +65,40 @@ fn empty_state(
 
 /// A state with no rows for each input.
 pub fn empty_states(alloc: Global, spec: &JoinSpec) -> Result<Vec<State>, NoMemory>
-    ensures rows { IfOk result (λ states. tuples_in 0 states.items ≡ map (λ k. of_input k []) (upto_from 0 (length spec.now.inputs))) }
-    ensures shaped { IfOk result (λ states. AreAllShaped (arities_of spec.now.inputs) states.items) }
+    ensures rows { IfOk result (λ row_states. tuples_in 0 row_states.items ≡ map (λ k. of_input k []) (upto_from 0 (length spec.now.inputs))) }
+    ensures shaped { IfOk result (λ row_states. AreAllShaped (arities_of spec.now.inputs) row_states.items) }
 {
-    let mut states = Vec::new(alloc);
+    let mut row_states = Vec::new(alloc);
     for input in 0..spec.inputs.len() {
         let arity = spec.inputs.as_slice()[input].len();
-        states.push(empty_state(alloc, spec.classes.as_slice(), input, arity)?)?;
+        row_states.push(empty_state(alloc, spec.classes.as_slice(), input, arity)?)?;
     }
-    Ok(states)
+    Ok(row_states)
 }
 
 /// A store with no punctuations for each input.
 pub fn empty_stores(alloc: Global, schemas: &[Schema]) -> Result<Vec<PunctStore>, NoMemory>
     requires { sum (arities_of schemas.now) ≤ 120 }
-    ensures heard { IfOk result (λ stores. heard_in 0 stores.items ≡ map (λ k. heard_of k []) (upto_from 0 (length schemas.now))) }
-    ensures arities { IfOk result (λ stores. map (λ s. s.arity) stores.items ≡ arities_of schemas.now) }
+    ensures heard { IfOk result (λ punct_stores. held_in 0 punct_stores.items ≡ map (λ k. heard_of k []) (upto_from 0 (length schemas.now))) }
+    ensures arities { IfOk result (λ punct_stores. map (λ s. s.arity) punct_stores.items ≡ arities_of schemas.now) }
 {
-    let mut stores = Vec::new(alloc);
+    let mut punct_stores = Vec::new(alloc);
     for schema in schemas {
-        stores.push(PunctStore::new(alloc, schema.len() as u32)?)?;
+        punct_stores.push(PunctStore::new(alloc, schema.len() as u32)?)?;
     }
-    Ok(stores)
+    Ok(punct_stores)
 }
 
 /// For each of so many inputs that all its rows are judged.
-pub fn empty_watches(alloc: Global, inputs: usize) -> Result<Vec<Watches>, NoMemory>
-    ensures count { IfOk result (λ watches. length watches.items ≡ inputs) }
-    ensures none { IfOk result (λ watches. (input : ℕ) → (watches_at watches.items input).from ≡ 0) }
+pub fn empty_watches(alloc: Global, inputs: usize) -> Result<Vec<DueRechecks>, NoMemory>
+    ensures count { IfOk result (λ due. length due.items ≡ inputs) }
+    ensures none { IfOk result (λ due. (input : ℕ) → (watches_at due.items input).from ≡ 0) }
 {
-    let mut watches = Vec::new(alloc);
+    let mut due = Vec::new(alloc);
     for _input in 0..inputs {
-        watches.push(Watches::new(alloc))?;
+        due.push(DueRechecks::new(alloc))?;
     }
-    Ok(watches)
+    Ok(due)
 }
 
 // The certificate of an input; none where it has none.

@@ -178,19 +178,19 @@ linked_anyhow state mine theirs below others (Ok found) is = (
 
 -- ---- combinations of older tuples
 
-older-own : (own : TupleAt) (states : List StateView) → older_at own states own.input ≡ own ∷ []
-older-own own states = ap (λ b. cond b (own ∷ []) (map (tuple_at own.input) (pairs (rows_below own.ticket (state_at states own.input).rows)))) (eq-eqb own.input own.input refl)
+older-own : (own : TupleAt) (row_states : List StateView) → older_at own row_states own.input ≡ own ∷ []
+older-own own row_states = ap (λ b. cond b (own ∷ []) (map (tuple_at own.input) (pairs (rows_below own.ticket (state_at row_states own.input).rows)))) (eq-eqb own.input own.input refl)
 
-older-others : (own : TupleAt) (states : List StateView) (k : ℕ) → (k ≡ own.input → ⊥) → older_at own states k ≡ map (tuple_at k) (pairs (rows_below own.ticket (state_at states k).rows))
-older-others own states k ne = ap (λ b. cond b (own ∷ []) (map (tuple_at k) (pairs (rows_below own.ticket (state_at states k).rows)))) (false_from_ne_true (eqb k own.input) (λ t. ne (eqb-true k own.input t)))
+older-others : (own : TupleAt) (row_states : List StateView) (k : ℕ) → (k ≡ own.input → ⊥) → older_at own row_states k ≡ map (tuple_at k) (pairs (rows_below own.ticket (state_at row_states k).rows))
+older-others own row_states k ne = ap (λ b. cond b (own ∷ []) (map (tuple_at k) (pairs (rows_below own.ticket (state_at row_states k).rows)))) (false_from_ne_true (eqb k own.input) (λ t. ne (eqb-true k own.input t)))
 
-older-input : (own : TupleAt) (states : List StateView) (k : ℕ) (y : TupleAt) → In y (older_at own states k) → y.input ≡ k
-older-input own states k y h = go (eqb k own.input) refl h
+older-input : (own : TupleAt) (row_states : List StateView) (k : ℕ) (y : TupleAt) → In y (older_at own row_states k) → y.input ≡ k
+older-input own row_states k y h = go (eqb k own.input) refl h
   where
-    go : (b : Bool) → eqb k own.input ≡ b → In y (cond b (own ∷ []) (map (tuple_at k) (pairs (rows_below own.ticket (state_at states k).rows)))) → y.input ≡ k
+    go : (b : Bool) → eqb k own.input ≡ b → In y (cond b (own ∷ []) (map (tuple_at k) (pairs (rows_below own.ticket (state_at row_states k).rows)))) → y.input ≡ k
     go true e (inl same) = ap (λ (z : TupleAt). z.input) (sym same) ∙ sym (eqb-true k own.input e)
     go true e (inr n) = absurd n
-    go false e m = let r = In-map (tuple_at k) y (pairs (rows_below own.ticket (state_at states k).rows)) m in ap (λ (z : TupleAt). z.input) (sym r.2)
+    go false e m = let r = In-map (tuple_at k) y (pairs (rows_below own.ticket (state_at row_states k).rows)) m in ap (λ (z : TupleAt). z.input) (sym r.2)
 
 product-of : (f : ℕ → List TupleAt) → ((k : ℕ) (y : TupleAt) → In y (f k) → y.input ≡ k) → (base n : ℕ) (c : List TupleAt) → In c (product (map f (upto_from base n))) → (y : TupleAt) → In y c → In y (f y.input)
 product-of f own base zero c (inl e) y h = absurd (subst (λ (d : List TupleAt). In y d) (sym e) h)
@@ -245,19 +245,19 @@ cut-by tickets i xs =
             false≢true (sym e ∙ ap (has tickets) (sym m.2) ∙ f.1)))
 
 -- a tuple of an input that is older
-older-row : (own : TupleAt) (states : List StateView) (k : ℕ) (y : TupleAt) → (k ≡ own.input → ⊥) → In y (older_at own states k) → (s : Stored) × In s (rows_below own.ticket (state_at states k).rows) × (tuple_at k (pair_of s) ≡ y)
-older-row own states k y ne h =
-    let p = In-map (tuple_at k) y (pairs (rows_below own.ticket (state_at states k).rows)) (subst (λ (ys : List TupleAt). In y ys) (older-others own states k ne) h) in
-    let s = In-map pair_of p.0 (rows_below own.ticket (state_at states k).rows) p.1 in
+older-row : (own : TupleAt) (row_states : List StateView) (k : ℕ) (y : TupleAt) → (k ≡ own.input → ⊥) → In y (older_at own row_states k) → (s : Stored) × In s (rows_below own.ticket (state_at row_states k).rows) × (tuple_at k (pair_of s) ≡ y)
+older-row own row_states k y ne h =
+    let p = In-map (tuple_at k) y (pairs (rows_below own.ticket (state_at row_states k).rows)) (subst (λ (ys : List TupleAt). In y ys) (older-others own row_states k ne) h) in
+    let s = In-map pair_of p.0 (rows_below own.ticket (state_at row_states k).rows) p.1 in
     (s.0, s.1, ap (tuple_at k) s.2 ∙ p.2)
 
 -- the rows that a link finds beside those of another input
-hopped : (classes : List (List ClassCol)) (own : TupleAt) (states : List StateView) (input : ℕ) (link : ProbeLink) (rows found : Pairs) → IsChoice classes own states link.from_input rows → link.from_input < length states → (input ≡ own.input → ⊥)
-    → InOneClass classes input link → AreLinked (state_at states input) link.index_column link.from_column rows own.ticket found → IsChoice classes own states input found
-hopped classes own states input link rows found choice within ne class linked = record {
-  cut = ap (map (tuple_at input)) linked.2 ∙ cut-by linked.0 input (rows_below own.ticket (state_at states input).rows)
-      ∙ ap (λ (f : Pairs). filter (is_among f) (map (tuple_at input) (pairs (rows_below own.ticket (state_at states input).rows)))) (sym linked.2)
-      ∙ ap (filter (is_among found)) (sym (older-others own states input ne));
+hopped : (classes : List (List ClassCol)) (own : TupleAt) (row_states : List StateView) (input : ℕ) (link : ProbeLink) (rows found : Pairs) → IsChoice classes own row_states link.from_input rows → link.from_input < length row_states → (input ≡ own.input → ⊥)
+    → InOneClass classes input link → AreLinked (state_at row_states input) link.index_column link.from_column rows own.ticket found → IsChoice classes own row_states input found
+hopped classes own row_states input link rows found choice within ne class linked = record {
+  cut = ap (map (tuple_at input)) linked.2 ∙ cut-by linked.0 input (rows_below own.ticket (state_at row_states input).rows)
+      ∙ ap (λ (f : Pairs). filter (is_among f) (map (tuple_at input) (pairs (rows_below own.ticket (state_at row_states input).rows)))) (sym linked.2)
+      ∙ ap (filter (is_among found)) (sym (older-others own row_states input ne));
   passes = pass;
 }
   where
@@ -270,32 +270,32 @@ hopped classes own states input link rows found choice within ne class linked = 
     theirs : ℕ
     theirs = link.from_column
 
-    pass : (c : List TupleAt) → In c (product (all_older own states)) → agree classes c ≡ true → (y : TupleAt) → In y c → y.input ≡ input → is_among found y ≡ true
+    pass : (c : List TupleAt) → In c (product (all_older own row_states)) → agree classes c ≡ true → (y : TupleAt) → In y c → y.input ≡ input → is_among found y ≡ true
     pass c h a y hy yi =
-        let x = product-some (older_at own states) 0 (length states) other (omega arith) (omega (arith, within)) c h in
-        let xi : x.0.input ≡ other = older-input own states other x.0 x.2 in
-        let r = In-map (tuple_at other) x.0 rows (subst (λ (ys : List TupleAt). In x.0 ys) (sym choice.cut) (In-filter_from (is_among rows) x.0 (older_at own states other) x.2 (choice.passes c h a x.0 x.1 xi))) in
-        let s = older-row own states input y ne (subst (λ (k : ℕ). In y (older_at own states k)) yi (product-of (older_at own states) (older-input own states) 0 (length states) c h y hy)) in
-        let f = In-filter (is_below own.ticket) s.0 (state_at states input).rows s.1 in
+        let x = product-some (older_at own row_states) 0 (length row_states) other (omega arith) (omega (arith, within)) c h in
+        let xi : x.0.input ≡ other = older-input own row_states other x.0 x.2 in
+        let r = In-map (tuple_at other) x.0 rows (subst (λ (ys : List TupleAt). In x.0 ys) (sym choice.cut) (In-filter_from (is_among rows) x.0 (older_at own row_states other) x.2 (choice.passes c h a x.0 x.1 xi))) in
+        let s = older-row own row_states input y ne (subst (λ (k : ℕ). In y (older_at own row_states k)) yi (product-of (older_at own row_states) (older-input own row_states) 0 (length row_states) c h y hy)) in
+        let f = In-filter (is_below own.ticket) s.0 (state_at row_states input).rows s.1 in
         let same : value_at y.row mine ≡ value_at x.0.row theirs =
         agree-at classes c class.0 (value_at y.row mine) (value_at x.0.row theirs) a class.1 (value-in c class.0 y (record { input = input; column = mine }) hy class.2 yi) (value-in c class.0 x.0 (record { input = other; column = theirs }) x.1 class.3 xi) in
         let told : In s.0.ticket linked.0 =
         linked.1 r.0 r.1 s.0 f.0 (ap (λ (z : TupleAt). value_at z.row mine) s.2 ∙ same ∙ ap (λ (z : TupleAt). value_at z.row theirs) (sym r.2)) in
         subst (λ (z : TupleAt). is_among found z ≡ true) s.2 (subst (λ (ps : Pairs). is_among ps (tuple_at input (pair_of s.0)) ≡ true) (sym linked.2)
-        (among-from input (filter (has_ticket linked.0) (rows_below own.ticket (state_at states input).rows)) s.0
-        (In-filter_from (has_ticket linked.0) s.0 (rows_below own.ticket (state_at states input).rows) s.1 (in-has linked.0 s.0.ticket told))))
+        (among-from input (filter (has_ticket linked.0) (rows_below own.ticket (state_at row_states input).rows)) s.0
+        (In-filter_from (has_ticket linked.0) s.0 (rows_below own.ticket (state_at row_states input).rows) s.1 (in-has linked.0 s.0.ticket told))))
 
 -- all older rows
-all_chosen : (classes : List (List ClassCol)) (own : TupleAt) (states : List StateView) (input : ℕ) (found : Pairs) → (input ≡ own.input → ⊥) → found ≡ pairs (rows_below own.ticket (state_at states input).rows) → IsChoice classes own states input found
-all_chosen classes own states input found ne is = record {
-  cut = ap (map (tuple_at input)) is ∙ sym (filter-all (is_among found) (map (tuple_at input) (pairs rows)) every) ∙ ap (filter (is_among found)) (sym (older-others own states input ne));
+all_chosen : (classes : List (List ClassCol)) (own : TupleAt) (row_states : List StateView) (input : ℕ) (found : Pairs) → (input ≡ own.input → ⊥) → found ≡ pairs (rows_below own.ticket (state_at row_states input).rows) → IsChoice classes own row_states input found
+all_chosen classes own row_states input found ne is = record {
+  cut = ap (map (tuple_at input)) is ∙ sym (filter-all (is_among found) (map (tuple_at input) (pairs rows)) every) ∙ ap (filter (is_among found)) (sym (older-others own row_states input ne));
   passes = λ c h a y hy yi.
-      let s = older-row own states input y ne (subst (λ (k : ℕ). In y (older_at own states k)) yi (product-of (older_at own states) (older-input own states) 0 (length states) c h y hy)) in
+      let s = older-row own row_states input y ne (subst (λ (k : ℕ). In y (older_at own row_states k)) yi (product-of (older_at own row_states) (older-input own row_states) 0 (length row_states) c h y hy)) in
       subst (λ (z : TupleAt). is_among found z ≡ true) s.2 (it s.0 s.1);
 }
   where
     rows : List Stored
-    rows = rows_below own.ticket (state_at states input).rows
+    rows = rows_below own.ticket (state_at row_states input).rows
 
     it : (s : Stored) → In s rows → is_among found (tuple_at input (pair_of s)) ≡ true
     it s h = subst (λ (ps : Pairs). is_among ps (tuple_at input (pair_of s)) ≡ true) (sym is) (among-from input rows s h)
@@ -307,11 +307,11 @@ all_chosen classes own states input found ne is = record {
         subst (λ (z : TupleAt). is_among found z ≡ true) (ap (tuple_at input) s.2 ∙ p.2) (it s.0 s.1)
 
 -- the tuple's own row
-own-chosen : (classes : List (List ClassCol)) (own : TupleAt) (states : List StateView) (rows : Pairs) → map (tuple_at own.input) rows ≡ own ∷ [] → IsChoice classes own states own.input rows
-own-chosen classes own states rows is = record {
-  cut = is ∙ sym (ap (filter (is_among rows)) (older-own own states) ∙ ap (λ b. cond b (own ∷ []) []) among);
+own-chosen : (classes : List (List ClassCol)) (own : TupleAt) (row_states : List StateView) (rows : Pairs) → map (tuple_at own.input) rows ≡ own ∷ [] → IsChoice classes own row_states own.input rows
+own-chosen classes own row_states rows is = record {
+  cut = is ∙ sym (ap (filter (is_among rows)) (older-own own row_states) ∙ ap (λ b. cond b (own ∷ []) []) among);
   passes = λ c h a y hy yi.
-      let o = subst (λ (ys : List TupleAt). In y ys) (older-own own states) (subst (λ (k : ℕ). In y (older_at own states k)) yi (product-of (older_at own states) (older-input own states) 0 (length states) c h y hy)) in
+      let o = subst (λ (ys : List TupleAt). In y ys) (older-own own row_states) (subst (λ (k : ℕ). In y (older_at own row_states k)) yi (product-of (older_at own row_states) (older-input own row_states) 0 (length row_states) c h y hy)) in
       elim o [ inl same ↦ subst (λ (z : TupleAt). is_among rows z ≡ true) same among | inr n ↦ absurd n ];
 }
   where
@@ -348,53 +348,53 @@ begun_more own input lists lists' b list begun is it f = record {
         ap (λ (ps : Pairs). map (tuple_at own.input) ps) (get_or_append_left lists (list ∷ []) [] own.input (omega (arith, lt, ne, begun.lists_are))) ∙ begun.itself (omega (arith, lt, ne))
 
 -- the tuple's own row was found
-pub found_begin : (own : TupleAt) (states : List StateView) (steps : List ProbeStep) (lists : List Pairs) (count : ℕ) → steps ≡ [] → count ≡ length states → own.input < length states → BeginsWith own count lists → AreFound own states steps lists
-found_begin own states steps lists count none e lt begun = subst (λ (ss : List ProbeStep). AreFound own states ss lists) (sym none) record {
+pub found_begin : (own : TupleAt) (row_states : List StateView) (steps : List ProbeStep) (lists : List Pairs) (count : ℕ) → steps ≡ [] → count ≡ length row_states → own.input < length row_states → BeginsWith own count lists → AreFound own row_states steps lists
+found_begin own row_states steps lists count none e lt begun = subst (λ (ss : List ProbeStep). AreFound own row_states ss lists) (sym none) record {
   count = begun.lists_are ∙ e;
   within = λ k h. omega (arith, lt, eqb-true own.input k h);
   each = λ classes links k h.
-      subst (λ (i : ℕ). IsChoice classes own states i (get_or lists i [])) (eqb-true own.input k h) (own-chosen classes own states (get_or lists own.input []) (begun.itself (omega (arith, lt, e))));
+      subst (λ (i : ℕ). IsChoice classes own row_states i (get_or lists i [])) (eqb-true own.input k h) (own-chosen classes own row_states (get_or lists own.input []) (begun.itself (omega (arith, lt, e))));
 }
 
 -- what a step finds is a choice of its input
-step-found : (own : TupleAt) (states : List StateView) (steps : List ProbeStep) (step : ProbeStep) (lists : List Pairs) (rows : Pairs) → AreFound own states steps lists → IsStep (columns_of states) own.input steps step
-    → AreStepped step.link (state_at states step.input) own.ticket lists rows → (classes : List (List ClassCol)) → AreInClasses classes (steps ++ step ∷ []) → IsChoice classes own states step.input rows
-step-found own states steps step lists rows found is stepped classes links = go step.link stepped is.link (links step (In-append_right step steps (step ∷ []) (inl refl)))
+step-found : (own : TupleAt) (row_states : List StateView) (steps : List ProbeStep) (step : ProbeStep) (lists : List Pairs) (rows : Pairs) → AreFound own row_states steps lists → IsStep (columns_of row_states) own.input steps step
+    → AreStepped step.link (state_at row_states step.input) own.ticket lists rows → (classes : List (List ClassCol)) → AreInClasses classes (steps ++ step ∷ []) → IsChoice classes own row_states step.input rows
+step-found own row_states steps step lists rows found is stepped classes links = go step.link stepped is.link (links step (In-append_right step steps (step ∷ []) (inl refl)))
   where
     ne : step.input ≡ own.input → ⊥
     ne e = false≢true (sym is.other ∙ ap (is_reached own.input steps) e ∙ own_reached own.input steps)
 
-    go : (l : Option ProbeLink) → AreStepped l (state_at states step.input) own.ticket lists rows → IfSome l (LeadsTo (get_or (columns_of states) step.input []) own.input steps) → IfSome l (InOneClass classes step.input) → IsChoice classes own states step.input rows
-    go None all lead class = all_chosen classes own states step.input rows ne all
+    go : (l : Option ProbeLink) → AreStepped l (state_at row_states step.input) own.ticket lists rows → IfSome l (LeadsTo (get_or (columns_of row_states) step.input []) own.input steps) → IfSome l (InOneClass classes step.input) → IsChoice classes own row_states step.input rows
+    go None all lead class = all_chosen classes own row_states step.input rows ne all
     go (Some link) linked lead class =
-        hopped classes own states step.input link (get_or lists link.from_input []) rows (found.each classes (λ s h. links s (In-append_left s steps (step ∷ []) h)) link.from_input lead.from) (found.within link.from_input lead.from) ne class linked
+        hopped classes own row_states step.input link (get_or lists link.from_input []) rows (found.each classes (λ s h. links s (In-append_left s steps (step ∷ []) h)) link.from_input lead.from) (found.within link.from_input lead.from) ne class linked
 
-found-more : (own : TupleAt) (states : List StateView) (steps : List ProbeStep) (step : ProbeStep) (lists lists' : List Pairs) (rows : Pairs) → AreFound own states steps lists → step.input < length states
-    → ((classes : List (List ClassCol)) → AreInClasses classes (steps ++ step ∷ []) → IsChoice classes own states step.input rows) → lists' ≡ set lists step.input rows → AreFound own states (steps ++ step ∷ []) lists'
-found-more own states steps step lists lists' rows found lt choice f = record {
+found-more : (own : TupleAt) (row_states : List StateView) (steps : List ProbeStep) (step : ProbeStep) (lists lists' : List Pairs) (rows : Pairs) → AreFound own row_states steps lists → step.input < length row_states
+    → ((classes : List (List ClassCol)) → AreInClasses classes (steps ++ step ∷ []) → IsChoice classes own row_states step.input rows) → lists' ≡ set lists step.input rows → AreFound own row_states (steps ++ step ∷ []) lists'
+found-more own row_states steps step lists lists' rows found lt choice f = record {
   count = ap (λ (ls : List Pairs). length ls) f ∙ set-length lists step.input rows ∙ found.count;
   within = λ k h. elim (reached_by own.input steps step k h) [ inl a ↦ found.within k a | inr e ↦ omega (arith, lt, e) ];
   each = λ classes links k h. at classes links k h (eqb k step.input) refl;
 }
   where
-    at : (classes : List (List ClassCol)) → AreInClasses classes (steps ++ step ∷ []) → (k : ℕ) → is_reached own.input (steps ++ step ∷ []) k ≡ true → (b : Bool) → eqb k step.input ≡ b → IsChoice classes own states k (get_or lists' k [])
+    at : (classes : List (List ClassCol)) → AreInClasses classes (steps ++ step ∷ []) → (k : ℕ) → is_reached own.input (steps ++ step ∷ []) k ≡ true → (b : Bool) → eqb k step.input ≡ b → IsChoice classes own row_states k (get_or lists' k [])
     at classes links k h true q =
         let same : k ≡ step.input = eqb-true k step.input q in
         let there : get_or lists' k [] ≡ rows = ap₂ (λ (ls : List Pairs) i. get_or ls i []) f same ∙ get_or-set_same lists step.input rows [] (omega (arith, lt, found.count)) in
-        subst (λ (ps : Pairs). IsChoice classes own states k ps) (sym there) (subst (λ (i : ℕ). IsChoice classes own states i rows) (sym same) (choice classes links))
+        subst (λ (ps : Pairs). IsChoice classes own row_states k ps) (sym there) (subst (λ (i : ℕ). IsChoice classes own row_states i rows) (sym same) (choice classes links))
     at classes links k h false q =
         let ne : k ≡ step.input → ⊥ = λ s. false≢true (sym q ∙ eq-eqb k step.input s) in
         let before : is_reached own.input steps k ≡ true = elim (reached_by own.input steps step k h) [ inl a ↦ a | inr e ↦ absurd (ne (sym e)) ] in
-        subst (λ (ps : Pairs). IsChoice classes own states k ps) (sym (ap (λ (ls : List Pairs). get_or ls k []) f ∙ get_or-set_other lists step.input k rows [] ne))
+        subst (λ (ps : Pairs). IsChoice classes own row_states k ps) (sym (ap (λ (ls : List Pairs). get_or ls k []) f ∙ get_or-set_other lists step.input k rows [] ne))
         (found.each classes (λ s m. links s (In-append_left s steps (step ∷ []) m)) k before)
 
 -- a step of a route goes on from what was found
-pub route_step : (own : TupleAt) (states : List StateView) (steps : List ProbeStep) (i : ℕ) (step : ProbeStep) (below : ℕ) (lists lists' : List Pairs) (rows : Pairs) → IsRoute (columns_of states) own.input steps → slice_get steps i ≡ Some step
-    → AreFound own states (take i steps) lists → below ≡ own.ticket → AreStepped step.link (state_at states step.input) below lists rows → lists' ≡ set lists step.input rows → AreFound own states (take (i + 1) steps) lists'
-route_step own states steps i step below lists lists' rows route at found b stepped f =
-    subst (λ (ss : List ProbeStep). AreFound own states ss lists') (sym (steps_with steps i step at))
-    (found-more own states (take i steps) step lists lists' rows found (step_there own.input states steps i step route at)
-    (step-found own states (take i steps) step lists rows found (route.ordered i step at) (subst (λ (n : ℕ). AreStepped step.link (state_at states step.input) n lists rows) b stepped)) f)
+pub route_step : (own : TupleAt) (row_states : List StateView) (steps : List ProbeStep) (i : ℕ) (step : ProbeStep) (below : ℕ) (lists lists' : List Pairs) (rows : Pairs) → IsRoute (columns_of row_states) own.input steps → slice_get steps i ≡ Some step
+    → AreFound own row_states (take i steps) lists → below ≡ own.ticket → AreStepped step.link (state_at row_states step.input) below lists rows → lists' ≡ set lists step.input rows → AreFound own row_states (take (i + 1) steps) lists'
+route_step own row_states steps i step below lists lists' rows route at found b stepped f =
+    subst (λ (ss : List ProbeStep). AreFound own row_states ss lists') (sym (steps_with steps i step at))
+    (found-more own row_states (take i steps) step lists lists' rows found (step_there own.input row_states steps i step route at)
+    (step-found own row_states (take i steps) step lists rows found (route.ordered i step at) (subst (λ (n : ℕ). AreStepped step.link (state_at row_states step.input) n lists rows) b stepped)) f)
 
 -- ---- all that joins is found
 
@@ -404,90 +404,90 @@ sides-get base (x ∷ xs) zero lt = ap (λ n. map (tuple_at n) x) (omega arith)
 sides-get base (x ∷ xs) (suc k) lt = sides-get (base + 1) xs k (omega (arith, lt)) ∙ ap (λ n. map (tuple_at n) (get_or xs k [])) (omega arith)
 
 -- the combinations of older tuples that join are all results
-older-finds : (classes : List (List ClassCol)) (own : TupleAt) (states : List StateView) → own.input < length states → filter (agree classes) (product (all_older own states)) ≡ filter (agree classes) (product (choices classes own (tuples_in 0 states)))
-older-finds classes own states lt = narrowed-finds classes own (tuples_in 0 states) (all_older own states) narrowed (omega (arith, lt, tuples-length 0 states))
+older-finds : (classes : List (List ClassCol)) (own : TupleAt) (row_states : List StateView) → own.input < length row_states → filter (agree classes) (product (all_older own row_states)) ≡ filter (agree classes) (product (choices classes own (tuples_in 0 row_states)))
+older-finds classes own row_states lt = narrowed-finds classes own (tuples_in 0 row_states) (all_older own row_states) narrowed (omega (arith, lt, tuples-length 0 row_states))
   where
-    narrowed : AreNarrowed classes own (tuples_in 0 states) (all_older own states)
+    narrowed : AreNarrowed classes own (tuples_in 0 row_states) (all_older own row_states)
     narrowed = record {
-      count = length-map (upto_from 0 (length states)) (older_at own states) ∙ length-upto 0 (length states) ∙ sym (tuples-length 0 states);
-      each = λ k l. subst (λ (ys : List TupleAt). IsNarrowed classes own (tuples_in 0 states) k ys) (sym (at k l)) (of k (bound k l) (eqb k own.input) refl);
+      count = length-map (upto_from 0 (length row_states)) (older_at own row_states) ∙ length-upto 0 (length row_states) ∙ sym (tuples-length 0 row_states);
+      each = λ k l. subst (λ (ys : List TupleAt). IsNarrowed classes own (tuples_in 0 row_states) k ys) (sym (at k l)) (of k (bound k l) (eqb k own.input) refl);
     }
       where
-        bound : (k : ℕ) → k < length (all_older own states) → k < length states
-        bound k l = omega (arith, l, length-map (upto_from 0 (length states)) (older_at own states), length-upto 0 (length states))
+        bound : (k : ℕ) → k < length (all_older own row_states) → k < length row_states
+        bound k l = omega (arith, l, length-map (upto_from 0 (length row_states)) (older_at own row_states), length-upto 0 (length row_states))
 
-        at : (k : ℕ) → k < length (all_older own states) → get_or (all_older own states) k [] ≡ older_at own states k
-        at k l = get_or-upto (older_at own states) 0 (length states) k [] (bound k l) ∙ ap (older_at own states) (omega arith)
+        at : (k : ℕ) → k < length (all_older own row_states) → get_or (all_older own row_states) k [] ≡ older_at own row_states k
+        at k l = get_or-upto (older_at own row_states) 0 (length row_states) k [] (bound k l) ∙ ap (older_at own row_states) (omega arith)
 
-        of : (k : ℕ) → k < length states → (b : Bool) → eqb k own.input ≡ b → IsNarrowed classes own (tuples_in 0 states) k (older_at own states k)
+        of : (k : ℕ) → k < length row_states → (b : Bool) → eqb k own.input ≡ b → IsNarrowed classes own (tuples_in 0 row_states) k (older_at own row_states k)
         of k l true q = let same : k ≡ own.input = eqb-true k own.input q in record {
-          alone = λ e. ap (λ i. older_at own states i) e ∙ older-own own states;
-          among = ap (λ i. filter (may_join classes own) (older_at own states i)) same ∙ ap (filter (may_join classes own)) (older-own own states)
+          alone = λ e. ap (λ i. older_at own row_states i) e ∙ older-own own row_states;
+          among = ap (λ i. filter (may_join classes own) (older_at own row_states i)) same ∙ ap (filter (may_join classes own)) (older-own own row_states)
               ∙ ap (λ b. cond (b || suits classes (own ∷ []) own) (own ∷ []) []) (eq-eqb own.input own.input refl)
-              ∙ sym (ap (λ b. cond b (own ∷ []) (filter (older_joins classes own) (get_or (tuples_in 0 states) k []))) q);
+              ∙ sym (ap (λ b. cond b (own ∷ []) (filter (older_joins classes own) (get_or (tuples_in 0 row_states) k []))) q);
         }
         of k l false q =
             let ne : k ≡ own.input → ⊥ = λ s. false≢true (sym q ∙ eq-eqb k own.input s) in
-            subst (λ (ys : List TupleAt). IsNarrowed classes own (tuples_in 0 states) k ys) (sym (older-others own states k ne))
-            (narrowed_choice classes own (tuples_in 0 states) k (pairs (rows_below own.ticket (state_at states k).rows)) (map (tuple_in k) (state_at states k).rows) ne (side_at states k (state_at states k) l (same-at states k no_state (state_at states k) l))
-            (all_hold classes own (state_at states k).rows (pairs (rows_below own.ticket (state_at states k).rows)) k refl))
+            subst (λ (ys : List TupleAt). IsNarrowed classes own (tuples_in 0 row_states) k ys) (sym (older-others own row_states k ne))
+            (narrowed_choice classes own (tuples_in 0 row_states) k (pairs (rows_below own.ticket (state_at row_states k).rows)) (map (tuple_in k) (state_at row_states k).rows) ne (side_at row_states k (state_at row_states k) l (same-at row_states k no_state (state_at row_states k) l))
+            (all_hold classes own (state_at row_states k).rows (pairs (rows_below own.ticket (state_at row_states k).rows)) k refl))
 
 -- where the rows of each input were found a probe finds the same over them
-pub all_found : (own : TupleAt) (states : List StateView) (steps : List ProbeStep) (lists found : List Pairs) (i : ℕ) → AreFound own states (take i steps) lists → length steps ≤ i → IsRoute (columns_of states) own.input steps → own.input < length states → found ≡ lists
-    → FindAll own states steps found
-all_found own states steps lists found i are le route lt is classes links =
+pub all_found : (own : TupleAt) (row_states : List StateView) (steps : List ProbeStep) (lists found : List Pairs) (i : ℕ) → AreFound own row_states (take i steps) lists → length steps ≤ i → IsRoute (columns_of row_states) own.input steps → own.input < length row_states → found ≡ lists
+    → FindAll own row_states steps found
+all_found own row_states steps lists found i are le route lt is classes links =
     ap (λ (ls : List Pairs). filter (agree classes) (product (sides_at 0 ls))) is
     ∙ ap (λ (ls : List (List TupleAt)). filter (agree classes) (product ls)) cut-sides
-    ∙ ap (filter (agree classes)) (product-filter keep (all_older own states))
-    ∙ filter-filter (list_all keep) (agree classes) (product (all_older own states))
-    ∙ filter-agree (λ c. list_all keep c && agree classes c) (agree classes) (product (all_older own states)) passing
-    ∙ older-finds classes own states lt
+    ∙ ap (filter (agree classes)) (product-filter keep (all_older own row_states))
+    ∙ filter-filter (list_all keep) (agree classes) (product (all_older own row_states))
+    ∙ filter-agree (λ c. list_all keep c && agree classes c) (agree classes) (product (all_older own row_states)) passing
+    ∙ older-finds classes own row_states lt
   where
     keep : TupleAt → Bool
     keep y = is_among (get_or lists y.input []) y
 
-    chosen : (k : ℕ) → k < length states → IsChoice classes own states k (get_or lists k [])
+    chosen : (k : ℕ) → k < length row_states → IsChoice classes own row_states k (get_or lists k [])
     chosen k l =
-        let whole : AreFound own states steps lists = subst (λ (ss : List ProbeStep). AreFound own states ss lists) (take_all i steps le) are in
-        whole.each classes links k (route.all k (omega (arith, l, length-map states (λ (s : StateView). s.columns))))
+        let whole : AreFound own row_states steps lists = subst (λ (ss : List ProbeStep). AreFound own row_states ss lists) (take_all i steps le) are in
+        whole.each classes links k (route.all k (omega (arith, l, length-map row_states (λ (s : StateView). s.columns))))
 
     minus-none : (k : ℕ) → k - 0 ≡ k
     minus-none k = omega arith
 
-    one : (k : ℕ) → k < 0 + length states → get_or (sides_at 0 lists) (k - 0) [] ≡ filter keep (older_at own states k)
+    one : (k : ℕ) → k < 0 + length row_states → get_or (sides_at 0 lists) (k - 0) [] ≡ filter keep (older_at own row_states k)
     one k l =
-        let within : k < length states = omega (arith, l) in
+        let within : k < length row_states = omega (arith, l) in
         ap (λ i. get_or (sides_at 0 lists) i []) (minus-none k)
         ∙ sides-get 0 lists k (omega (arith, within, are.count))
         ∙ ap (λ n. map (tuple_at n) (get_or lists k [])) (omega arith)
         ∙ (chosen k within).cut
-        ∙ filter-agree (is_among (get_or lists k [])) keep (older_at own states k) (λ y h. ap (λ i. is_among (get_or lists i []) y) (sym (older-input own states k y h)))
+        ∙ filter-agree (is_among (get_or lists k [])) keep (older_at own row_states k) (λ y h. ap (λ i. is_among (get_or lists i []) y) (sym (older-input own row_states k y h)))
 
-    cut-sides : sides_at 0 lists ≡ map (filter keep) (all_older own states)
+    cut-sides : sides_at 0 lists ≡ map (filter keep) (all_older own row_states)
     cut-sides =
         as-upto [] 0 (sides_at 0 lists)
         ∙ ap (λ n. map (λ k. get_or (sides_at 0 lists) (k - 0) []) (upto_from 0 n)) (sides-length 0 lists ∙ are.count)
-        ∙ map-upto (λ k. get_or (sides_at 0 lists) (k - 0) []) (λ k. filter keep (older_at own states k)) 0 (length states) one
-        ∙ sym (map-map_upto (filter keep) (older_at own states) 0 (length states))
+        ∙ map-upto (λ k. get_or (sides_at 0 lists) (k - 0) []) (λ k. filter keep (older_at own row_states k)) 0 (length row_states) one
+        ∙ sym (map-map_upto (filter keep) (older_at own row_states) 0 (length row_states))
 
-    passing : (c : List TupleAt) → In c (product (all_older own states)) → (list_all keep c && agree classes c) ≡ agree classes c
+    passing : (c : List TupleAt) → In c (product (all_older own row_states)) → (list_all keep c && agree classes c) ≡ agree classes c
     passing c h = go (agree classes c) refl
       where
         every : agree classes c ≡ true → list_all keep c ≡ true
         every a = all_from keep c (λ y hy.
-            let there = product-of (older_at own states) (older-input own states) 0 (length states) c h y hy in
-            let within : y.input < length states = input-below y there in
+            let there = product-of (older_at own row_states) (older-input own row_states) 0 (length row_states) c h y hy in
+            let within : y.input < length row_states = input-below y there in
             (chosen y.input within).passes c h a y hy refl)
           where
-            input-below : (y : TupleAt) → In y (older_at own states y.input) → y.input < length states
+            input-below : (y : TupleAt) → In y (older_at own row_states y.input) → y.input < length row_states
             input-below y k = below (eqb y.input own.input) refl k
               where
-                below : (b : Bool) → eqb y.input own.input ≡ b → In y (cond b (own ∷ []) (map (tuple_at y.input) (pairs (rows_below own.ticket (state_at states y.input).rows)))) → y.input < length states
+                below : (b : Bool) → eqb y.input own.input ≡ b → In y (cond b (own ∷ []) (map (tuple_at y.input) (pairs (rows_below own.ticket (state_at row_states y.input).rows)))) → y.input < length row_states
                 below true q m = let e : y.input ≡ own.input = eqb-true y.input own.input q in omega (arith, e, lt)
-                below false q m = elim (cases_lt y.input (length states)) [
+                below false q m = elim (cases_lt y.input (length row_states)) [
                   | inl l ↦ l
                   | inr ge ↦
-                      let none : (state_at states y.input).rows ≡ [] = ap (λ (s : StateView). s.rows) (get_or_past states y.input no_state ge) in
+                      let none : (state_at row_states y.input).rows ≡ [] = ap (λ (s : StateView). s.rows) (get_or_past row_states y.input no_state ge) in
                       absurd (subst (λ (rs : List Stored). In y (map (tuple_at y.input) (pairs (rows_below own.ticket rs)))) none m)
                 ]
 
@@ -500,25 +500,25 @@ all_found own states steps lists found i are le route lt is classes links =
             none false = refl
 
 -- a step's link leads from rows that were found, to a column of which an index is kept
-pub step_link : (own : TupleAt) (states : List StateView) (steps : List ProbeStep) (i : ℕ) (step : ProbeStep) (lists : List Pairs) → IsRoute (columns_of states) own.input steps → slice_get steps i ≡ Some step
-    → AreFound own states (take i steps) lists → IfSome step.link (λ link. (link.from_input < length lists) × In link.index_column (state_at states step.input).columns)
-step_link own states steps i step lists route at found = go step.link (route.ordered i step at).link
+pub step_link : (own : TupleAt) (row_states : List StateView) (steps : List ProbeStep) (i : ℕ) (step : ProbeStep) (lists : List Pairs) → IsRoute (columns_of row_states) own.input steps → slice_get steps i ≡ Some step
+    → AreFound own row_states (take i steps) lists → IfSome step.link (λ link. (link.from_input < length lists) × In link.index_column (state_at row_states step.input).columns)
+step_link own row_states steps i step lists route at found = go step.link (route.ordered i step at).link
   where
-    go : (l : Option ProbeLink) → IfSome l (LeadsTo (get_or (columns_of states) step.input []) own.input (take i steps)) → IfSome l (λ link. (link.from_input < length lists) × In link.index_column (state_at states step.input).columns)
+    go : (l : Option ProbeLink) → IfSome l (LeadsTo (get_or (columns_of row_states) step.input []) own.input (take i steps)) → IfSome l (λ link. (link.from_input < length lists) × In link.index_column (state_at row_states step.input).columns)
     go None lead = tt
     go (Some link) lead =
-        let within : link.from_input < length states = found.within link.from_input lead.from in (
+        let within : link.from_input < length row_states = found.within link.from_input lead.from in (
           omega (arith, within, found.count),
-          subst (λ (cs : List ℕ). In link.index_column cs) (columns_at states step.input no_state (step_there own.input states steps i step route at)) lead.indexed,
+          subst (λ (cs : List ℕ). In link.index_column cs) (columns_at row_states step.input no_state (step_there own.input row_states steps i step route at)) lead.indexed,
         )
 
 -- where a step found no row nothing joins
-pub none_found : (own : TupleAt) (states : List StateView) (steps : List ProbeStep) (i : ℕ) (step : ProbeStep) (lists lists' : List Pairs) (rows : Pairs) → IsRoute (columns_of states) own.input steps → slice_get steps i ≡ Some step → own.input < length states
-    → AreFound own states (take (i + 1) steps) lists' → length lists ≡ length states → lists' ≡ set lists step.input rows → length rows ≡ 0 → FindAll own states steps lists'
-none_found own states steps i step lists lists' rows route at own-there are count f none classes links =
+pub none_found : (own : TupleAt) (row_states : List StateView) (steps : List ProbeStep) (i : ℕ) (step : ProbeStep) (lists lists' : List Pairs) (rows : Pairs) → IsRoute (columns_of row_states) own.input steps → slice_get steps i ≡ Some step → own.input < length row_states
+    → AreFound own row_states (take (i + 1) steps) lists' → length lists ≡ length row_states → lists' ≡ set lists step.input rows → length rows ≡ 0 → FindAll own row_states steps lists'
+none_found own row_states steps i step lists lists' rows route at own-there are count f none classes links =
     map-nil joined (filter (agree classes) (product (sides_at 0 lists'))) (combined-lacking classes lists' (step.input, within, lacks))
-    ∙ sym (filter-none (product (all_older own states)) (λ c h. false_from_ne_true (agree classes c) (λ a. apart c h a)))
-    ∙ older-finds classes own states own-there
+    ∙ sym (filter-none (product (all_older own row_states)) (λ c h. false_from_ne_true (agree classes c) (λ a. apart c h a)))
+    ∙ older-finds classes own row_states own-there
   where
     map-nil : {A B : Type 0} (g : A → B) (xs : List A) → map g xs ≡ [] → xs ≡ []
     map-nil g [] e = refl
@@ -532,8 +532,8 @@ none_found own states steps i step lists lists' rows route at own-there are coun
     empty [] e = refl
     empty (p ∷ ps) e = absurd (omega (arith, e))
 
-    there : step.input < length states
-    there = step_there own.input states steps i step route at
+    there : step.input < length row_states
+    there = step_there own.input row_states steps i step route at
 
     in-lists : step.input < length lists
     in-lists = omega (arith, there, count)
@@ -553,9 +553,9 @@ none_found own states steps i step lists lists' rows route at own-there are coun
     reached : is_reached own.input (take (i + 1) steps) step.input ≡ true
     reached = subst (λ (ss : List ProbeStep). is_reached own.input ss step.input ≡ true) (sym (steps_with steps i step at)) (reached_now own.input (take i steps) step)
 
-    apart : (c : List TupleAt) → In c (product (all_older own states)) → agree classes c ≡ true → ⊥
+    apart : (c : List TupleAt) → In c (product (all_older own row_states)) → agree classes c ≡ true → ⊥
     apart c h a =
-        let x = product-some (older_at own states) 0 (length states) step.input (omega arith) (omega (arith, there)) c h in
+        let x = product-some (older_at own row_states) 0 (length row_states) step.input (omega arith) (omega (arith, there)) c h in
         let choice = are.each classes (λ s m. links s (in-take (i + 1) steps s m)) step.input reached in
-        let among : is_among (get_or lists' step.input []) x.0 ≡ true = choice.passes c h a x.0 x.1 (older-input own states step.input x.0 x.2) in
+        let among : is_among (get_or lists' step.input []) x.0 ≡ true = choice.passes c h a x.0 x.1 (older-input own row_states step.input x.0 x.2) in
         false≢true (subst (λ (ps : Pairs). is_among ps x.0 ≡ true) lacks among)

@@ -99,5 +99,5 @@ two_choices classes own sides lt two alone =
     (two-of classes (choice classes own sides 0) (choice classes own sides 1) (λ x y hx hy. two-join classes own sides x y lt alone hx hy))
 
 -- the same over states
-pub two_states : (classes : List (List ClassCol)) (own : TupleAt) (states : List StateView) → own.input < 2 → length states ≡ 2 → suits classes [] own ≡ true → AllJoin classes (choices classes own (tuples_in 0 states))
-two_states classes own states lt two alone = two_choices classes own (tuples_in 0 states) lt (tuples-length 0 states ∙ two) alone
+pub two_states : (classes : List (List ClassCol)) (own : TupleAt) (row_states : List StateView) → own.input < 2 → length row_states ≡ 2 → suits classes [] own ≡ true → AllJoin classes (choices classes own (tuples_in 0 row_states))
+two_states classes own row_states lt two alone = two_choices classes own (tuples_in 0 row_states) lt (tuples-length 0 row_states ∙ two) alone

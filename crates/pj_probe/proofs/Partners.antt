@@ -81,50 +81,50 @@ none-found classes own sides lt not = ap (λ (cs : List (List TupleAt)). map Tup
     inside c h z (inr k) = absurd k
 
 -- among rows that hold all which may join are all that the results are joined of
-pairs-found : (classes : List (List ClassCol)) (own : TupleAt) (states : List StateView) (input : ℕ) (among : List TupleAt) → own.input < 2 → length states ≡ 2 → input ≡ 1 - own.input
-    → filter (older_joins classes own) among ≡ filter (older_joins classes own) (map (tuple_in input) (state_at states input).rows) → pairs_out classes own among ≡ found_out classes own (tuples_in 0 states)
-pairs-found classes own states input among lt two is same = go (suits classes [] own) refl
+pairs-found : (classes : List (List ClassCol)) (own : TupleAt) (row_states : List StateView) (input : ℕ) (among : List TupleAt) → own.input < 2 → length row_states ≡ 2 → input ≡ 1 - own.input
+    → filter (older_joins classes own) among ≡ filter (older_joins classes own) (map (tuple_in input) (state_at row_states input).rows) → pairs_out classes own among ≡ found_out classes own (tuples_in 0 row_states)
+pairs-found classes own row_states input among lt two is same = go (suits classes [] own) refl
   where
-    there : input < length states
+    there : input < length row_states
     there = omega (arith, is, two)
 
-    side : map (tuple_in input) (state_at states input).rows ≡ get_or (tuples_in 0 states) input []
-    side = sym (side_at states input (state_at states input) there (same-at states input no_state (state_at states input) there))
+    side : map (tuple_in input) (state_at row_states input).rows ≡ get_or (tuples_in 0 row_states) input []
+    side = sym (side_at row_states input (state_at row_states input) there (same-at row_states input no_state (state_at row_states input) there))
 
-    go : (b : Bool) → suits classes [] own ≡ b → pairs_out classes own among ≡ found_out classes own (tuples_in 0 states)
+    go : (b : Bool) → suits classes [] own ≡ b → pairs_out classes own among ≡ found_out classes own (tuples_in 0 row_states)
     go true alone =
         ap (λ (ys : List TupleAt). map Tuple (map (pair_of own) ys))
         (filter-agree (older_agrees classes own) (older_joins classes own) among (λ y h. ap (λ b. ltb y.ticket own.ticket && b) (agree-suits classes own y ∙ ap (λ b. b && suits classes (own ∷ []) y) alone))
         ∙ same
         ∙ ap (filter (older_joins classes own)) side)
-        ∙ ap (map Tuple) (both-found classes own (tuples_in 0 states) input lt (tuples-length 0 states ∙ two) (two_states classes own states lt two alone) is)
+        ∙ ap (map Tuple) (both-found classes own (tuples_in 0 row_states) input lt (tuples-length 0 row_states ∙ two) (two_states classes own row_states lt two alone) is)
     go false not =
         ap (λ (ys : List TupleAt). map Tuple (map (pair_of own) ys)) (filter-none (older_agrees classes own) among (λ y. false_from_ne_true (older_agrees classes own y) (λ t. false≢true (sym not ∙ (and_parts (suits classes [] own) (suits classes (own ∷ []) y) (sym (agree-suits classes own y) ∙ (and_parts (ltb y.ticket own.ticket) (agree classes (own ∷ y ∷ [])) t).1)).0))))
-        ∙ sym (none-found classes own (tuples_in 0 states) (omega (arith, lt, two, tuples-length 0 states)) not)
+        ∙ sym (none-found classes own (tuples_in 0 row_states) (omega (arith, lt, two, tuples-length 0 row_states)) not)
 
 -- rows that a route's one link leads to are such
-pub partners_found : (own : TupleAt) (states : List StateView) (route : ProbeRoute) (input : ℕ) (link : ProbeLink) (found : List Stored) → own.input < length states → length states ≡ 2 → AreWide states → IsProbeRoute (arc_value route.checks) (columns_of states) own.input route
-    → slice_get route.steps 0 ≡ Some (record { input = input; link = Some link }) → AreLinkedTo own link (state_at states input).rows found → ArePartners route own states found
-partners_found own states route input link found lt two wide right first linked = record {
+pub partners_found : (own : TupleAt) (row_states : List StateView) (route : ProbeRoute) (input : ℕ) (link : ProbeLink) (found : List Stored) → own.input < length row_states → length row_states ≡ 2 → AreWide row_states → IsProbeRoute (arc_value route.checks) (columns_of row_states) own.input route
+    → slice_get route.steps 0 ≡ Some (record { input = input; link = Some link }) → AreLinkedTo own link (state_at row_states input).rows found → ArePartners route own row_states found
+partners_found own row_states route input link found lt two wide right first linked = record {
   two = omega (arith, lt, two);
-  all = ap (λ n. pairs_out classes own (map (tuple_in n) found)) (sym other) ∙ pairs-found classes own states input (map (tuple_in input) found) (omega (arith, lt, two)) two other
-      (candidates_hold classes own (state_at states input) found input link.index_column linked.0 (wide input one.there) (wanted_by_link classes own input link linked.0 one.from (one_class_link classes route.steps input link right.classes_have first) (sym linked.1)) one.indexed linked.2);
-  decided = λ t. subst (λ n. AllAgree classes own n found) other (decided_agree classes own input link (state_at states input).rows found (right.decides t (record { input = input; link = Some link }) link first refl) linked);
+  all = ap (λ n. pairs_out classes own (map (tuple_in n) found)) (sym other) ∙ pairs-found classes own row_states input (map (tuple_in input) found) (omega (arith, lt, two)) two other
+      (candidates_hold classes own (state_at row_states input) found input link.index_column linked.0 (wide input one.there) (wanted_by_link classes own input link linked.0 one.from (one_class_link classes route.steps input link right.classes_have first) (sym linked.1)) one.indexed linked.2);
+  decided = λ t. subst (λ n. AllAgree classes own n found) other (decided_agree classes own input link (state_at row_states input).rows found (right.decides t (record { input = input; link = Some link }) link first refl) linked);
 }
   where
     classes : List (List ClassCol)
     classes = arc_value route.checks
 
-    one : IsOneLink states own.input input link
-    one = one_link own.input states route.steps input link right.leads first
+    one : IsOneLink row_states own.input input link
+    one = one_link own.input row_states route.steps input link right.leads first
 
     other : input ≡ 1 - own.input
-    other = let there : input < length states = one.there in two_numbers input own.input (omega (arith, there, two)) (omega (arith, lt, two)) one.other
+    other = let there : input < length row_states = one.there in two_numbers input own.input (omega (arith, there, two)) (omega (arith, lt, two)) one.other
       where
         two_numbers : (n m : ℕ) → n < 2 → m < 2 → (n ≡ m → ⊥) → n ≡ 1 - m
         two_numbers n m a b differ = omega (arith, a, b, differ)
 
-pub partners_if : (own : TupleAt) (states : List StateView) (route : ProbeRoute) (input : ℕ) (link : ProbeLink) (found : Option (List Stored)) → own.input < length states → length states ≡ 2 → AreWide states → IsProbeRoute (arc_value route.checks) (columns_of states) own.input route
-    → slice_get route.steps 0 ≡ Some (record { input = input; link = Some link }) → IfSome found (AreLinkedTo own link (state_at states input).rows) → IfSome found (ArePartners route own states)
-partners_if own states route input link None lt two wide right first linked = tt
-partners_if own states route input link (Some found) lt two wide right first linked = partners_found own states route input link found lt two wide right first linked
+pub partners_if : (own : TupleAt) (row_states : List StateView) (route : ProbeRoute) (input : ℕ) (link : ProbeLink) (found : Option (List Stored)) → own.input < length row_states → length row_states ≡ 2 → AreWide row_states → IsProbeRoute (arc_value route.checks) (columns_of row_states) own.input route
+    → slice_get route.steps 0 ≡ Some (record { input = input; link = Some link }) → IfSome found (AreLinkedTo own link (state_at row_states input).rows) → IfSome found (ArePartners route own row_states)
+partners_if own row_states route input link None lt two wide right first linked = tt
+partners_if own row_states route input link (Some found) lt two wide right first linked = partners_found own row_states route input link found lt two wide right first linked

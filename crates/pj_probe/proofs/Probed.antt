@@ -8,9 +8,9 @@ use Rattle.pj_probe.specs.Choices.{choices}
 use Rattle.pj_probe.specs.Hops.{FindSame}
 use Rattle.pj_rows.specs.Tuples.{tuples_in}
 
-pub probe_is : (join ticket : ℕ) (own : TupleAt) (classes used : List (List ClassCol)) (states : List StateView) (lists : List (List (ℕ × List Value))) (result : Found) → result ≡ found_in join ticket used (sides_at 0 lists) → ticket ≡ own.ticket → used ≡ classes
-    → FindSame classes own states lists → result ≡ found_in join own.ticket classes (choices classes own (tuples_in 0 states))
-probe_is join ticket own classes used states lists result e t same found =
+pub probe_is : (join ticket : ℕ) (own : TupleAt) (classes used : List (List ClassCol)) (row_states : List StateView) (lists : List (List (ℕ × List Value))) (result : Found) → result ≡ found_in join ticket used (sides_at 0 lists) → ticket ≡ own.ticket → used ≡ classes
+    → FindSame classes own row_states lists → result ≡ found_in join own.ticket classes (choices classes own (tuples_in 0 row_states))
+probe_is join ticket own classes used row_states lists result e t same found =
     e
     ∙ ap (λ (cs : List (List ClassCol)). found_in join ticket cs (sides_at 0 lists)) same
     ∙ ap (λ n. found_in join n classes (sides_at 0 lists)) t

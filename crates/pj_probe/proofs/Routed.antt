@@ -87,22 +87,22 @@ begun_none classes columns own steps e = subst (λ (ss : List ProbeStep). AreBeg
     none = record { ordered = λ i s at. absurd (omega (arith, slice_get_within [] i s at)); classes_have = λ s h. absurd h }
 
 -- with one step more
-begun-more : (classes : List (List ClassCol)) (states : List StateView) (own : ℕ) (steps new : List ProbeStep) (step : ProbeStep) → AreBegun classes (columns_of states) own steps → step.input < length states
-    → is_reached own steps step.input ≡ false → IfSome step.link (InOneClass classes step.input) → IfSome step.link (LeadsTo (get_or (columns_of states) step.input []) own steps) → new ≡ steps ++ step ∷ [] → AreBegun classes (columns_of states) own new
-begun-more classes states own steps new step begun lt other class leads e = subst (λ (ss : List ProbeStep). AreBegun classes (columns_of states) own ss) (sym e) record {
-  ordered = steps-more (columns_of states) own steps step begun.ordered (record { there = omega (arith, lt, length-map states (λ (s : StateView). s.columns)); other = other; link = leads });
+begun-more : (classes : List (List ClassCol)) (row_states : List StateView) (own : ℕ) (steps new : List ProbeStep) (step : ProbeStep) → AreBegun classes (columns_of row_states) own steps → step.input < length row_states
+    → is_reached own steps step.input ≡ false → IfSome step.link (InOneClass classes step.input) → IfSome step.link (LeadsTo (get_or (columns_of row_states) step.input []) own steps) → new ≡ steps ++ step ∷ [] → AreBegun classes (columns_of row_states) own new
+begun-more classes row_states own steps new step begun lt other class leads e = subst (λ (ss : List ProbeStep). AreBegun classes (columns_of row_states) own ss) (sym e) record {
+  ordered = steps-more (columns_of row_states) own steps step begun.ordered (record { there = omega (arith, lt, length-map row_states (λ (s : StateView). s.columns)); other = other; link = leads });
   classes_have = classes-more classes steps step begun.classes_have class;
 }
 
 -- a step by a link
-pub begun_linked : (classes : List (List ClassCol)) (states : List StateView) (own : ℕ) (steps new : List ProbeStep) (input : ℕ) (link : ProbeLink) → AreBegun classes (columns_of states) own steps → input < length states → false ≡ is_reached own steps input
-    → InOneClass classes input link → LeadsTo (get_or (columns_of states) input []) own steps link → new ≡ steps ++ record { input = input; link = Some link } ∷ [] → AreBegun classes (columns_of states) own new
-begun_linked classes states own steps new input link begun lt other class leads e = begun-more classes states own steps new (record { input = input; link = Some link }) begun lt (sym other) class leads e
+pub begun_linked : (classes : List (List ClassCol)) (row_states : List StateView) (own : ℕ) (steps new : List ProbeStep) (input : ℕ) (link : ProbeLink) → AreBegun classes (columns_of row_states) own steps → input < length row_states → false ≡ is_reached own steps input
+    → InOneClass classes input link → LeadsTo (get_or (columns_of row_states) input []) own steps link → new ≡ steps ++ record { input = input; link = Some link } ∷ [] → AreBegun classes (columns_of row_states) own new
+begun_linked classes row_states own steps new input link begun lt other class leads e = begun-more classes row_states own steps new (record { input = input; link = Some link }) begun lt (sym other) class leads e
 
 -- a step to an input whose rows are all looked at
-pub begun_plain : (classes : List (List ClassCol)) (states : List StateView) (own : ℕ) (steps new : List ProbeStep) (input : ℕ) → AreBegun classes (columns_of states) own steps → input < length states → false ≡ is_reached own steps input
-    → new ≡ steps ++ record { input = input; link = None } ∷ [] → AreBegun classes (columns_of states) own new
-begun_plain classes states own steps new input begun lt other e = begun-more classes states own steps new (record { input = input; link = None }) begun lt (sym other) tt tt e
+pub begun_plain : (classes : List (List ClassCol)) (row_states : List StateView) (own : ℕ) (steps new : List ProbeStep) (input : ℕ) → AreBegun classes (columns_of row_states) own steps → input < length row_states → false ≡ is_reached own steps input
+    → new ≡ steps ++ record { input = input; link = None } ∷ [] → AreBegun classes (columns_of row_states) own new
+begun_plain classes row_states own steps new input begun lt other e = begun-more classes row_states own steps new (record { input = input; link = None }) begun lt (sym other) tt tt e
 
 -- one input more is reached
 pub reached_more : (own count : ℕ) (steps : List ProbeStep) → AreReached count own steps → true ≡ is_reached own steps count → AreReached (count + 1) own steps
@@ -126,22 +126,22 @@ pub link_by_class : (classes : List (List ClassCol)) (class : List ClassCol) (i 
 link_by_class classes class i own steps input link lt is of = (class, subst (λ (c : List ClassCol). In c classes) (sym is) (in-place classes class i lt), of.mine, of.theirs)
 
 -- the columns of a state are those of its input
-pub columns_at : (states : List StateView) (k : ℕ) (d : StateView) → k < length states → get_or (columns_of states) k [] ≡ (get_or states k d).columns
+pub columns_at : (row_states : List StateView) (k : ℕ) (d : StateView) → k < length row_states → get_or (columns_of row_states) k [] ≡ (get_or row_states k d).columns
 columns_at [] k d lt = absurd (omega (arith, lt))
 columns_at (t ∷ ts) zero d lt = refl
 columns_at (t ∷ ts) (suc k) d lt = columns_at ts k d (omega (arith, lt))
 
 -- a link to a column of which the state keeps an index
-pub link_leads : (states : List StateView) (state : StateView) (own : ℕ) (steps : List ProbeStep) (input : ℕ) (link : ProbeLink) (b : Bool) → input < length states → state ≡ get_or states input state → is_reached own steps link.from_input ≡ true
-    → b ≡ true → b ≡ list_any (λ c. link.index_column == c) state.columns → LeadsTo (get_or (columns_of states) input []) own steps link
-link_leads states state own steps input link b lt at from t is = record { from = from; indexed = subst (λ (cs : List ℕ). In link.index_column cs) (sym (columns_at states input state lt ∙ ap (λ (s : StateView). s.columns) (sym at))) (indexed-in link.index_column state.columns (sym is ∙ t)) }
+pub link_leads : (row_states : List StateView) (state : StateView) (own : ℕ) (steps : List ProbeStep) (input : ℕ) (link : ProbeLink) (b : Bool) → input < length row_states → state ≡ get_or row_states input state → is_reached own steps link.from_input ≡ true
+    → b ≡ true → b ≡ list_any (λ c. link.index_column == c) state.columns → LeadsTo (get_or (columns_of row_states) input []) own steps link
+link_leads row_states state own steps input link b lt at from t is = record { from = from; indexed = subst (λ (cs : List ℕ). In link.index_column cs) (sym (columns_at row_states input state lt ∙ ap (λ (s : StateView). s.columns) (sym at))) (indexed-in link.index_column state.columns (sym is ∙ t)) }
 
 -- ---- a whole route
 
-pub route_made : (classes : List (List ClassCol)) (states : List StateView) (own : ℕ) (route : ProbeRoute) → AreBegun classes (columns_of states) own route.steps → AreReached (length states) own route.steps
-    → (route.decides ≡ true → FirstDecides classes own route.steps) → arc_value route.checks ≡ classes → IsProbeRoute classes (columns_of states) own route
-route_made classes states own route begun all decides checks = record {
-  leads = record { ordered = begun.ordered; all = λ k lt. all k (omega (arith, lt, length-map states (λ (s : StateView). s.columns))) };
+pub route_made : (classes : List (List ClassCol)) (row_states : List StateView) (own : ℕ) (route : ProbeRoute) → AreBegun classes (columns_of row_states) own route.steps → AreReached (length row_states) own route.steps
+    → (route.decides ≡ true → FirstDecides classes own route.steps) → arc_value route.checks ≡ classes → IsProbeRoute classes (columns_of row_states) own route
+route_made classes row_states own route begun all decides checks = record {
+  leads = record { ordered = begun.ordered; all = λ k lt. all k (omega (arith, lt, length-map row_states (λ (s : StateView). s.columns))) };
   classes_have = begun.classes_have;
   decides = decides;
   checks = checks;
@@ -177,25 +177,25 @@ routes_none classes columns routes e = subst (λ (rs : List ProbeRoute). AreRout
 pub steps_with : (steps : List ProbeStep) (i : ℕ) (step : ProbeStep) → slice_get steps i ≡ Some step → take (i + 1) steps ≡ take i steps ++ step ∷ []
 steps_with steps i step at = take_more steps i step (slice_get_within steps i step at) ∙ ap (λ (t : ProbeStep). take i steps ++ t ∷ []) (get_or_from_slice_get steps i step step at)
 
-pub step_there : (own : ℕ) (states : List StateView) (steps : List ProbeStep) (i : ℕ) (step : ProbeStep) → IsRoute (columns_of states) own steps → slice_get steps i ≡ Some step → step.input < length states
-step_there own states steps i step route at = omega (arith, (route.ordered i step at).there, length-map states (λ (s : StateView). s.columns))
+pub step_there : (own : ℕ) (row_states : List StateView) (steps : List ProbeStep) (i : ℕ) (step : ProbeStep) → IsRoute (columns_of row_states) own steps → slice_get steps i ≡ Some step → step.input < length row_states
+step_there own row_states steps i step route at = omega (arith, (route.ordered i step at).there, length-map row_states (λ (s : StateView). s.columns))
 
 -- where it is one step, that leads from the own input to another
-pub record IsOneLink (states : List StateView) (own input : ℕ) (link : ProbeLink) : Type 0 where
-  pub there : input < length states
+pub record IsOneLink (row_states : List StateView) (own input : ℕ) (link : ProbeLink) : Type 0 where
+  pub there : input < length row_states
   pub other : input ≡ own → ⊥
   pub from : link.from_input ≡ own
-  pub indexed : In link.index_column (get_or states input no_state).columns
+  pub indexed : In link.index_column (get_or row_states input no_state).columns
 
-pub one_link : (own : ℕ) (states : List StateView) (steps : List ProbeStep) (input : ℕ) (link : ProbeLink) → IsRoute (columns_of states) own steps → slice_get steps 0 ≡ Some (record { input = input; link = Some link }) → IsOneLink states own input link
-one_link own states steps input link route at = record {
-  there = step_there own states steps 0 (record { input = input; link = Some link }) route at;
+pub one_link : (own : ℕ) (row_states : List StateView) (steps : List ProbeStep) (input : ℕ) (link : ProbeLink) → IsRoute (columns_of row_states) own steps → slice_get steps 0 ≡ Some (record { input = input; link = Some link }) → IsOneLink row_states own input link
+one_link own row_states steps input link route at = record {
+  there = step_there own row_states steps 0 (record { input = input; link = Some link }) route at;
   other = λ e. false≢true (sym is.other ∙ eq-eqb own input (sym e));
   from = sym (eqb-true own link.from_input is.link.from);
-  indexed = subst (λ (cs : List ℕ). In link.index_column cs) (columns_at states input no_state (step_there own states steps 0 (record { input = input; link = Some link }) route at)) is.link.indexed;
+  indexed = subst (λ (cs : List ℕ). In link.index_column cs) (columns_at row_states input no_state (step_there own row_states steps 0 (record { input = input; link = Some link }) route at)) is.link.indexed;
 }
   where
-    is : IsStep (columns_of states) own [] (record { input = input; link = Some link })
+    is : IsStep (columns_of row_states) own [] (record { input = input; link = Some link })
     is = route.ordered 0 (record { input = input; link = Some link }) at
 
 pub one_class_link : (classes : List (List ClassCol)) (steps : List ProbeStep) (input : ℕ) (link : ProbeLink) → AreInClasses classes steps → slice_get steps 0 ≡ Some (record { input = input; link = Some link }) → InOneClass classes input link
@@ -206,23 +206,23 @@ one_class_link classes steps input link are at =
 
 -- ---- the routes of a join
 
-pub route_there : (classes : List (List ClassCol)) (states : List StateView) (routes : List ProbeRoute) (own : ℕ) → AreProbeRoutes classes (columns_of states) routes → own < length states → own < length routes
-route_there classes states routes own are lt = omega (arith, lt, are.count, length-map states (λ (s : StateView). s.columns))
+pub route_there : (classes : List (List ClassCol)) (row_states : List StateView) (routes : List ProbeRoute) (own : ℕ) → AreProbeRoutes classes (columns_of row_states) routes → own < length row_states → own < length routes
+route_there classes row_states routes own are lt = omega (arith, lt, are.count, length-map row_states (λ (s : StateView). s.columns))
 
 -- it is right by the classes that its checks were made of, which are those of the join
-pub route_at : (classes : List (List ClassCol)) (states lent : List StateView) (routes : List ProbeRoute) (own : ℕ) (route : ProbeRoute) → AreProbeRoutes classes (columns_of states) routes → lent ≡ states → slice_get routes own ≡ Some route
+pub route_at : (classes : List (List ClassCol)) (row_states lent : List StateView) (routes : List ProbeRoute) (own : ℕ) (route : ProbeRoute) → AreProbeRoutes classes (columns_of row_states) routes → lent ≡ row_states → slice_get routes own ≡ Some route
     → IsProbeRoute (arc_value route.checks) (columns_of lent) own route
-route_at classes states lent routes own route are same at =
+route_at classes row_states lent routes own route are same at =
     subst (λ (cs : List (List ClassCol)). IsProbeRoute cs (columns_of lent) own route) (sym (are.each own route at).checks)
     (subst (λ (ss : List StateView). IsProbeRoute classes (columns_of ss) own route) (sym same) (are.each own route at))
 
-pub route_classes : (classes : List (List ClassCol)) (states : List StateView) (routes : List ProbeRoute) (own : ℕ) (route : ProbeRoute) → AreProbeRoutes classes (columns_of states) routes → slice_get routes own ≡ Some route → arc_value route.checks ≡ classes
-route_classes classes states routes own route are at = (are.each own route at).checks
+pub route_classes : (classes : List (List ClassCol)) (row_states : List StateView) (routes : List ProbeRoute) (own : ℕ) (route : ProbeRoute) → AreProbeRoutes classes (columns_of row_states) routes → slice_get routes own ≡ Some route → arc_value route.checks ≡ classes
+route_classes classes row_states routes own route are at = (are.each own route at).checks
 
 -- a state with the same columns
-pub routes_kept : (classes : List (List ClassCol)) (states : List StateView) (routes : List ProbeRoute) (k : ℕ) (s s' : StateView) → AreProbeRoutes classes (columns_of states) routes → k < length states → s ≡ get_or states k s → s'.columns ≡ s.columns
-    → AreProbeRoutes classes (columns_of (set states k s')) routes
-routes_kept classes states routes k s s' are lt at same = subst (λ (cs : List (List ℕ)). AreProbeRoutes classes cs routes) (sym (kept states k lt at)) are
+pub routes_kept : (classes : List (List ClassCol)) (row_states : List StateView) (routes : List ProbeRoute) (k : ℕ) (s s' : StateView) → AreProbeRoutes classes (columns_of row_states) routes → k < length row_states → s ≡ get_or row_states k s → s'.columns ≡ s.columns
+    → AreProbeRoutes classes (columns_of (set row_states k s')) routes
+routes_kept classes row_states routes k s s' are lt at same = subst (λ (cs : List (List ℕ)). AreProbeRoutes classes cs routes) (sym (kept row_states k lt at)) are
   where
     kept : (ss : List StateView) (n : ℕ) → n < length ss → s ≡ get_or ss n s → columns_of (set ss n s') ≡ columns_of ss
     kept [] n l e = absurd (omega (arith, l))

@@ -12,23 +12,23 @@ use Rattle.pj_probe.specs.Choices.{choices}
 
 -- the older tuples of an input; of the tuple's own input itself alone
 abbrev pub older_at : TupleAt → List StateView → ℕ → List TupleAt
-older_at own states k = if k == own.input then (own ∷ []) else map (tuple_at k) (pairs (rows_below own.ticket (state_at states k).rows))
+older_at own row_states k = if k == own.input then (own ∷ []) else map (tuple_at k) (pairs (rows_below own.ticket (state_at row_states k).rows))
 
 abbrev pub all_older : TupleAt → List StateView → List (List TupleAt)
-all_older own states = map (older_at own states) (upto_from 0 (length states))
+all_older own row_states = map (older_at own row_states) (upto_from 0 (length row_states))
 
 -- the tuple has one of the tickets of these rows
 abbrev pub is_among : List (ℕ × List Value) → TupleAt → Bool
 is_among rows y = has (map ticket_in rows) y.ticket
 
 -- these are rows of an input in order, among which all are that stand in a combination with the tuple
-pub record IsChoice (classes : List (List ClassCol)) (own : TupleAt) (states : List StateView) (k : ℕ) (rows : List (ℕ × List Value)) : Type 0 where
-  pub cut : map (tuple_at k) rows ≡ filter (is_among rows) (older_at own states k)
-  pub passes : (c : List TupleAt) → In c (product (all_older own states)) → agree classes c ≡ true → (y : TupleAt) → In y c → y.input ≡ k → is_among rows y ≡ true
+pub record IsChoice (classes : List (List ClassCol)) (own : TupleAt) (row_states : List StateView) (k : ℕ) (rows : List (ℕ × List Value)) : Type 0 where
+  pub cut : map (tuple_at k) rows ≡ filter (is_among rows) (older_at own row_states k)
+  pub passes : (c : List TupleAt) → In c (product (all_older own row_states)) → agree classes c ≡ true → (y : TupleAt) → In y c → y.input ≡ k → is_among rows y ≡ true
 
 -- with these lists a probe finds what it finds with all
 abbrev pub FindSame : List (List ClassCol) → TupleAt → List StateView → List (List (ℕ × List Value)) → Type 0
-FindSame classes own states lists = filter (agree classes) (product (sides_at 0 lists)) ≡ filter (agree classes) (product (choices classes own (tuples_in 0 states)))
+FindSame classes own row_states lists = filter (agree classes) (product (sides_at 0 lists)) ≡ filter (agree classes) (product (choices classes own (tuples_in 0 row_states)))
 
 -- the row has one of these tickets
 abbrev pub has_ticket : List ℕ → Stored → Bool
@@ -68,11 +68,11 @@ pub record BeginsWith (own : TupleAt) (count : ℕ) (lists : List (List (ℕ × 
   pub itself : own.input < count → map (tuple_at own.input) (slice_index_or lists own.input []) ≡ own ∷ []
 
 -- the rows were found of each input that these steps reach
-pub record AreFound (own : TupleAt) (states : List StateView) (steps : List ProbeStep) (lists : List (List (ℕ × List Value))) : Type 0 where
-  pub count : length lists ≡ length states
-  pub within : (k : ℕ) → is_reached own.input steps k ≡ true → k < length states
-  pub each : (classes : List (List ClassCol)) → AreInClasses classes steps → (k : ℕ) → is_reached own.input steps k ≡ true → IsChoice classes own states k (slice_index_or lists k [])
+pub record AreFound (own : TupleAt) (row_states : List StateView) (steps : List ProbeStep) (lists : List (List (ℕ × List Value))) : Type 0 where
+  pub count : length lists ≡ length row_states
+  pub within : (k : ℕ) → is_reached own.input steps k ≡ true → k < length row_states
+  pub each : (classes : List (List ClassCol)) → AreInClasses classes steps → (k : ℕ) → is_reached own.input steps k ≡ true → IsChoice classes own row_states k (slice_index_or lists k [])
 
 -- with these lists a probe finds what it finds with all, by whatever classes the links of these steps stand in
 abbrev pub FindAll : TupleAt → List StateView → List ProbeStep → List (List (ℕ × List Value)) → Type 0
-FindAll own states steps lists = (classes : List (List ClassCol)) → AreInClasses classes steps → FindSame classes own states lists
+FindAll own row_states steps lists = (classes : List (List ClassCol)) → AreInClasses classes steps → FindSame classes own row_states lists

@@ -19,7 +19,7 @@ abbrev pub AreLinkedTo : TupleAt → ProbeLink → List Stored → List Stored �
 AreLinkedTo own link rows found = (value : Value) × (slice_get own.row link.from_column ≡ Some value) × (found ≡ rows_with link.index_column value rows)
 
 -- the tuple is of one of two inputs, and all that it finds is found among these rows of the other; where the route decides, each joins with it
-pub record ArePartners (route : ProbeRoute) (own : TupleAt) (states : List StateView) (found : List Stored) : Type 0 where
+pub record ArePartners (route : ProbeRoute) (own : TupleAt) (row_states : List StateView) (found : List Stored) : Type 0 where
   pub two : own.input < 2
-  pub all : pairs_out (arc_value route.checks) own (map (tuple_in (1 - own.input)) found) ≡ found_out (arc_value route.checks) own (tuples_in 0 states)
+  pub all : pairs_out (arc_value route.checks) own (map (tuple_in (1 - own.input)) found) ≡ found_out (arc_value route.checks) own (tuples_in 0 row_states)
   pub decided : route.decides ≡ true → AllAgree (arc_value route.checks) own (1 - own.input) found

@@ -12,7 +12,7 @@ use Rattle.pj_probe.specs.declared.route.ProbeRoute.{ProbeRoute}
 
 -- the columns of which each input keeps an index
 abbrev pub columns_of : List StateView → List (List ℕ)
-columns_of states = map (λ s. s.columns) states
+columns_of row_states = map (λ s. s.columns) row_states
 
 -- the input is that of one of these steps, or the own one
 abbrev pub is_reached : ℕ → List ProbeStep → ℕ → Bool

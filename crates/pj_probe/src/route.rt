@@ -49,7 +49,7 @@ impl ProbeRoute {
 #[derive(Clone, Copy)]
 struct Shape<'a> {
     classes: &'a [List<ClassCol>],
-    states: &'a [State],
+    row_states: &'a [State],
     own: usize,
 }
 
@@ -58,16 +58,16 @@ struct Shape<'a> {
 pub fn probe_routes(
     alloc: Global,
     classes: &[List<ClassCol>],
-    states: &[State],
+    row_states: &[State],
 ) -> Result<List<ProbeRoute>, NoMemory>
-    ensures { IfOk result (AreProbeRoutes classes.now (columns_of states.now)) }
+    ensures { IfOk result (AreProbeRoutes classes.now (columns_of row_states.now)) }
 {
     let checks = JoinChecks::new(alloc, classes)?;
-    let mut routes = List::with_room(alloc, states.len())?;
-    for own in 0..states.len() {
+    let mut routes = List::with_room(alloc, row_states.len())?;
+    for own in 0..row_states.len() {
         let shape = Shape {
             classes,
-            states,
+            row_states,
             own,
         };
         routes.push(shape.route(alloc, share_checks(&checks)?)?)?;
@@ -88,10 +88,10 @@ impl<'a> Shape<'a> {
     #[tactic(auto, using(crate::proofs::Routed::route_made, crate::proofs::Routed::begun_none))]
     fn route(&self, alloc: Global, checks: Arc<JoinChecks, Global>) -> Result<ProbeRoute, NoMemory>
         requires { arc_value checks ≡ self.now.classes.now }
-        ensures { IfOk result (IsProbeRoute self.now.classes.now (columns_of self.now.states.now) self.now.own) }
+        ensures { IfOk result (IsProbeRoute self.now.classes.now (columns_of self.now.row_states.now) self.now.own) }
     {
-        let mut steps = List::with_room(alloc, self.states.len())?;
-        for _round in 0..self.states.len() {
+        let mut steps = List::with_room(alloc, self.row_states.len())?;
+        for _round in 0..self.row_states.len() {
             self.step_by_links(&mut steps)?;
         }
         self.step_to_rest(&mut steps)?;
@@ -105,10 +105,10 @@ impl<'a> Shape<'a> {
 
     // Goes to each input in order that was not reached and to which a class leads from one that was.
     fn step_by_links(&self, steps: &mut List<ProbeStep>) -> Result<(), NoMemory>
-        requires { AreBegun self.now.classes.now (columns_of self.now.states.now) self.now.own steps.old }
-        ensures { OnOk result (AreBegun self.now.classes.now (columns_of self.now.states.now) self.now.own steps.new) }
+        requires { AreBegun self.now.classes.now (columns_of self.now.row_states.now) self.now.own steps.old }
+        ensures { OnOk result (AreBegun self.now.classes.now (columns_of self.now.row_states.now) self.now.own steps.new) }
     {
-        for input in 0..self.states.len() {
+        for input in 0..self.row_states.len() {
             self.step_by_link(steps, input)?;
         }
         Ok(())
@@ -117,9 +117,9 @@ impl<'a> Shape<'a> {
     // The same of one input.
     #[tactic(auto, using(crate::proofs::Routed::begun_linked))]
     fn step_by_link(&self, steps: &mut List<ProbeStep>, input: usize) -> Result<(), NoMemory>
-        requires there { input < length self.now.states.now }
-        requires begun { AreBegun self.now.classes.now (columns_of self.now.states.now) self.now.own steps.old }
-        ensures { OnOk result (AreBegun self.now.classes.now (columns_of self.now.states.now) self.now.own steps.new) }
+        requires there { input < length self.now.row_states.now }
+        requires begun { AreBegun self.now.classes.now (columns_of self.now.row_states.now) self.now.own steps.old }
+        ensures { OnOk result (AreBegun self.now.classes.now (columns_of self.now.row_states.now) self.now.own steps.new) }
     {
         if is_reached(self.own, steps.as_slice(), input) {
             return Ok(());
@@ -138,11 +138,11 @@ impl<'a> Shape<'a> {
 
     // Goes to each input that was not reached.
     fn step_to_rest(&self, steps: &mut List<ProbeStep>) -> Result<(), NoMemory>
-        requires { AreBegun self.now.classes.now (columns_of self.now.states.now) self.now.own steps.old }
-        ensures begun { OnOk result (AreBegun self.now.classes.now (columns_of self.now.states.now) self.now.own steps.new) }
-        ensures all { OnOk result (AreReached (length self.now.states.now) self.now.own steps.new) }
+        requires { AreBegun self.now.classes.now (columns_of self.now.row_states.now) self.now.own steps.old }
+        ensures begun { OnOk result (AreBegun self.now.classes.now (columns_of self.now.row_states.now) self.now.own steps.new) }
+        ensures all { OnOk result (AreReached (length self.now.row_states.now) self.now.own steps.new) }
     {
-        for input in 0..self.states.len() {
+        for input in 0..self.row_states.len() {
             self.step_anyhow(steps, input)?;
         }
         Ok(())
@@ -151,10 +151,10 @@ impl<'a> Shape<'a> {
     // The same of one input, where those before it are reached.
     #[tactic(auto, using(crate::proofs::Routed::begun_plain, crate::proofs::Routed::reached_more, crate::proofs::Routed::reached_by_step))]
     fn step_anyhow(&self, steps: &mut List<ProbeStep>, input: usize) -> Result<(), NoMemory>
-        requires there { input < length self.now.states.now }
-        requires begun { AreBegun self.now.classes.now (columns_of self.now.states.now) self.now.own steps.old }
+        requires there { input < length self.now.row_states.now }
+        requires begun { AreBegun self.now.classes.now (columns_of self.now.row_states.now) self.now.own steps.old }
         requires before { AreReached input self.now.own steps.old }
-        ensures begun { OnOk result (AreBegun self.now.classes.now (columns_of self.now.states.now) self.now.own steps.new) }
+        ensures begun { OnOk result (AreBegun self.now.classes.now (columns_of self.now.row_states.now) self.now.own steps.new) }
         ensures reached { OnOk result (AreReached (input + 1) self.now.own steps.new) }
     {
         if is_reached(self.own, steps.as_slice(), input) {
@@ -166,14 +166,14 @@ impl<'a> Shape<'a> {
 
     // A link to the input of which an index is kept, from one that was reached.
     fn indexed_link(&self, steps: &[ProbeStep], input: usize) -> Option<ProbeLink>
-        requires { input < length self.now.states.now }
+        requires { input < length self.now.row_states.now }
         ensures class { IfSome result (InOneClass self.now.classes.now input) }
-        ensures leads { IfSome result (LeadsTo (slice_index_or (columns_of self.now.states.now) input []) self.now.own steps.now) }
+        ensures leads { IfSome result (LeadsTo (slice_index_or (columns_of self.now.row_states.now) input []) self.now.own steps.now) }
     {
         match self.nearest_link(steps, input) {
             None => None,
             Some(link) => {
-                if self.states[input].is_indexed(link.index_column) {
+                if self.row_states[input].is_indexed(link.index_column) {
                     return Some(link);
                 }
                 None

@@ -132,19 +132,19 @@ along-joins path x rows asks (suc at) (suc before) y z along lt ey ez = asked-bo
 -- ---- one hop back
 
 hop_back : (path : PathView) (at before : ℕ) (hop : Hop) (tickets found : List ℕ) → IsHop (asker path) at before hop
-    → HavePartners (state_at path.states hop.input).rows (state_at path.states hop.other).rows hop.pair tickets found → HopsBack path at before tickets found
+    → HavePartners (state_at path.row_states hop.input).rows (state_at path.row_states hop.other).rows hop.pair tickets found → HopsBack path at before tickets found
 hop_back path at before hop tickets found is are x rows asks along y z ey ez h =
     subst (λ n. In n found) (ap (λ (u : TupleAt). u.ticket) stored-z.2)
     (are stored-z.0 stored-y.0
-    (subst (λ n. In stored-z.0 (state_at path.states n).rows) own-z stored-z.1)
-    (subst (λ n. In stored-y.0 (state_at path.states n).rows) own-y stored-y.1)
+    (subst (λ n. In stored-z.0 (state_at path.row_states n).rows) own-z stored-z.1)
+    (subst (λ n. In stored-y.0 (state_at path.row_states n).rows) own-y stored-y.1)
     (subst (λ n. In n tickets) (sym (ap (λ (u : TupleAt). u.ticket) stored-y.2)) h)
     (ap (λ (u : TupleAt). value_at u.row hop.pair.mine) stored-z.2 ∙ same ∙ sym (ap (λ (u : TupleAt). value_at u.row hop.pair.theirs) stored-y.2)))
   where
-    stored-y : (t : Stored) × In t (state_at path.states y.input).rows × (tuple_in y.input t ≡ y)
+    stored-y : (t : Stored) × In t (state_at path.row_states y.input).rows × (tuple_in y.input t ≡ y)
     stored-y = along.stored y (in_at (x ∷ rows) at y ey)
 
-    stored-z : (s : Stored) × In s (state_at path.states z.input).rows × (tuple_in z.input s ≡ z)
+    stored-z : (s : Stored) × In s (state_at path.row_states z.input).rows × (tuple_in z.input s ≡ z)
     stored-z = along.stored z (in_at (x ∷ rows) before z ez)
 
     own-y : y.input ≡ hop.other
@@ -165,36 +165,36 @@ leads_over path at before tickets next found lt hops leads x rows asks along y e
     let ez : slice_get (x ∷ rows) before ≡ Some (get_or (x ∷ rows) before x) = slice_get-get_or (x ∷ rows) before x there in
     leads x rows asks along (get_or (x ∷ rows) before x) ez (hops x rows asks along y (get_or (x ∷ rows) before x) ey ez h)
 
-pub hop_leads : (states : List StateView) (hop : Hop) (hops : List Hop) (tickets next found : List ℕ) → HavePartners (state_at states hop.input).rows (state_at states hop.other).rows hop.pair tickets next → HopsLead states hops next found
-    → HopsLead states (hop ∷ hops) tickets found
-hop_leads states hop hops tickets next found are leads path at same (before, is, rest) =
+pub hop_leads : (row_states : List StateView) (hop : Hop) (hops : List Hop) (tickets next found : List ℕ) → HavePartners (state_at row_states hop.input).rows (state_at row_states hop.other).rows hop.pair tickets next → HopsLead row_states hops next found
+    → HopsLead row_states (hop ∷ hops) tickets found
+hop_leads row_states hop hops tickets next found are leads path at same (before, is, rest) =
     leads_over path at before tickets next found is.earlier
     (hop_back path at before hop tickets next is (subst (λ (ss : List StateView). HavePartners (state_at ss hop.input).rows (state_at ss hop.other).rows hop.pair tickets next) (sym same) are))
     (leads path before same rest)
 
 -- what leads on from these steps leads back from all
 abbrev pub HopsGoOn : List StateView → List Hop → List ℕ → List Hop → List ℕ → Type 0
-HopsGoOn states all tickets hops found = (list : List ℕ) → HopsLead states hops found list → HopsLead states all tickets list
+HopsGoOn row_states all tickets hops found = (list : List ℕ) → HopsLead row_states hops found list → HopsLead row_states all tickets list
 
-pub hops_next : (states : List StateView) (all : List Hop) (tickets : List ℕ) (i : ℕ) (d : Hop) (found lent next : List ℕ) (told : Option (List ℕ)) → i < length all → lent ≡ found → told ≡ Some next
-    → IfSome told (HavePartners (state_at states (get_or all i d).input).rows (state_at states (get_or all i d).other).rows (get_or all i d).pair lent) → HopsGoOn states all tickets (drop i all) found → HopsGoOn states all tickets (drop (i + 1) all) next
-hops_next states all tickets i d found lent next told lt same some are on list leads =
+pub hops_next : (row_states : List StateView) (all : List Hop) (tickets : List ℕ) (i : ℕ) (d : Hop) (found lent next : List ℕ) (told : Option (List ℕ)) → i < length all → lent ≡ found → told ≡ Some next
+    → IfSome told (HavePartners (state_at row_states (get_or all i d).input).rows (state_at row_states (get_or all i d).other).rows (get_or all i d).pair lent) → HopsGoOn row_states all tickets (drop i all) found → HopsGoOn row_states all tickets (drop (i + 1) all) next
+hops_next row_states all tickets i d found lent next told lt same some are on list leads =
     on list
-    (subst (λ (hs : List Hop). HopsLead states hs found list) (sym (drop_one all i (get_or all i d) (slice_get-get_or all i d lt)))
-    (hop_leads states (get_or all i d) (drop (i + 1) all) found next list
-    (subst (λ (ns : List ℕ). HavePartners (state_at states (get_or all i d).input).rows (state_at states (get_or all i d).other).rows (get_or all i d).pair ns next) same
-    (subst (λ (o : Option (List ℕ)). IfSome o (HavePartners (state_at states (get_or all i d).input).rows (state_at states (get_or all i d).other).rows (get_or all i d).pair lent)) some are)) leads))
+    (subst (λ (hs : List Hop). HopsLead row_states hs found list) (sym (drop_one all i (get_or all i d) (slice_get-get_or all i d lt)))
+    (hop_leads row_states (get_or all i d) (drop (i + 1) all) found next list
+    (subst (λ (ns : List ℕ). HavePartners (state_at row_states (get_or all i d).input).rows (state_at row_states (get_or all i d).other).rows (get_or all i d).pair ns next) same
+    (subst (λ (o : Option (List ℕ)). IfSome o (HavePartners (state_at row_states (get_or all i d).input).rows (state_at row_states (get_or all i d).other).rows (get_or all i d).pair lent)) some are)) leads))
 
 -- where no step is left, the rows are the own ones
-none_lead : (states : List StateView) (found : List ℕ) → HopsLead states [] found found
-none_lead states found path at same zero-at x rows asks along y ey h =
+none_lead : (row_states : List StateView) (found : List ℕ) → HopsLead row_states [] found found
+none_lead row_states found path at same zero-at x rows asks along y ey h =
     subst (λ (z : TupleAt). In z.ticket found) (sym (same_Some x y (subst (λ k. slice_get (x ∷ rows) k ≡ Some y) zero-at ey))) h
 
-pub hops_end : (states : List StateView) (all : List Hop) (tickets : List ℕ) (i : ℕ) (found : List ℕ) → length all ≤ i → HopsGoOn states all tickets (drop i all) found → HopsLead states all tickets found
-hops_end states all tickets i found le on = on found (subst (λ (hs : List Hop). HopsLead states hs found found) (sym (drop_all i all le)) (none_lead states found))
+pub hops_end : (row_states : List StateView) (all : List Hop) (tickets : List ℕ) (i : ℕ) (found : List ℕ) → length all ≤ i → HopsGoOn row_states all tickets (drop i all) found → HopsLead row_states all tickets found
+hops_end row_states all tickets i found le on = on found (subst (λ (hs : List Hop). HopsLead row_states hs found found) (sym (drop_all i all le)) (none_lead row_states found))
 
-pub way_leads : (states : List StateView) (way : Way) (tickets next : List ℕ) (told found : Option (List ℕ)) → told ≡ Some next
-    → IfSome told (HavePartners (state_at states way.first.input).rows (state_at states way.first.other).rows way.first.pair tickets) → IfSome found (HopsLead states way.rest next) → IfSome found (WayLeads states way tickets)
-way_leads states way tickets next told None some are leads = tt
-way_leads states way tickets next told (Some list) some are leads =
-    hop_leads states way.first way.rest tickets next list (subst (λ (o : Option (List ℕ)). IfSome o (HavePartners (state_at states way.first.input).rows (state_at states way.first.other).rows way.first.pair tickets)) some are) leads
+pub way_leads : (row_states : List StateView) (way : Way) (tickets next : List ℕ) (told found : Option (List ℕ)) → told ≡ Some next
+    → IfSome told (HavePartners (state_at row_states way.first.input).rows (state_at row_states way.first.other).rows way.first.pair tickets) → IfSome found (HopsLead row_states way.rest next) → IfSome found (WayLeads row_states way tickets)
+way_leads row_states way tickets next told None some are leads = tt
+way_leads row_states way tickets next told (Some list) some are leads =
+    hop_leads row_states way.first way.rest tickets next list (subst (λ (o : Option (List ℕ)). IfSome o (HavePartners (state_at row_states way.first.input).rows (state_at row_states way.first.other).rows way.first.pair tickets)) some are) leads

@@ -63,9 +63,9 @@ marks_none schemes step list at none =
 same-input : (input : ℕ) (side : SideView) → Some input ≡ Some side.input → side.input ≡ input
 same-input input side e = cc
 
-pub own_fit : (states : List StateView) (input : ℕ) (side : SideView) (leads : List Lead) → Some input ≡ Some side.input → side ≡ side_at states side.input → LeadsIn side.state.columns leads → LeadsFit states input leads
-own_fit states input side leads here is fit =
-    subst (λ k. LeadsFit states k leads) (same-input input side here) (subst (λ (d : SideView). LeadsIn d.state.columns leads) is fit)
+pub own_fit : (row_states : List StateView) (input : ℕ) (side : SideView) (leads : List Lead) → Some input ≡ Some side.input → side ≡ side_at row_states side.input → LeadsIn side.state.columns leads → LeadsFit row_states input leads
+own_fit row_states input side leads here is fit =
+    subst (λ k. LeadsFit row_states k leads) (same-input input side here) (subst (λ (d : SideView). LeadsIn d.state.columns leads) is fit)
 
 pub own_are : (classes : List (List ClassCol)) (e : CertEntry) (input : ℕ) (side : SideView) (leads : List Lead) → Some input ≡ Some side.input → AreLeads classes e side.input leads → AreLeads classes e input leads
 own_are classes e input side leads here are = subst (λ k. AreLeads classes e k leads) (same-input input side here) are
@@ -134,11 +134,11 @@ backs_next a at other old new back more owned way all k behind lt here = go (eqb
 
 -- ---- all inputs
 
-pub lead_next : (spec : JoinData) (states : List StateView) (input owner : ℕ) (old new : InputRoutes) (cert : List CertEntry) → cert ≡ cert_of spec owner
+pub lead_next : (spec : JoinData) (row_states : List StateView) (input owner : ℕ) (old new : InputRoutes) (cert : List CertEntry) → cert ≡ cert_of spec owner
     → HaveRoutes (record { classes = spec.shape.classes; cert = cert; input = owner }) (length cert) input new.recheck → HaveBacks (record { classes = spec.shape.classes; cert = cert; input = owner }) (length cert) input new.back
-    → ((r : RecheckRoute) → In r old.recheck → In r new.recheck) → ((b : BackRoute) → In b old.back → In b new.back) → (RoutesFit states old.recheck → RoutesFit states new.recheck) → (BacksFit states old.back → BacksFit states new.back)
-    → LeadTo spec states input owner old → LeadTo spec states input (owner + 1) new
-lead_next spec states input owner old new cert is recheck back kept kept-back fit fit-back all = record {
+    → ((r : RecheckRoute) → In r old.recheck → In r new.recheck) → ((b : BackRoute) → In b old.back → In b new.back) → (RoutesFit row_states old.recheck → RoutesFit row_states new.recheck) → (BacksFit row_states old.back → BacksFit row_states new.back)
+    → LeadTo spec row_states input owner old → LeadTo spec row_states input (owner + 1) new
+lead_next spec row_states input owner old new cert is recheck back kept kept-back fit fit-back all = record {
   recheck = λ k lt.
       by-place (λ k. k < owner + 1 → HaveRoutes (asker_at spec k) (length (cert_of spec k)) input new.recheck) owner k
       (λ l. subst (λ (cs : List CertEntry). HaveRoutes (record { classes = spec.shape.classes; cert = cs; input = owner }) (length cs) input new.recheck) is recheck)
@@ -162,15 +162,15 @@ at-before [] x d k lt = absurd (omega (arith, lt))
 at-before (y ∷ xs) x d zero lt = refl
 at-before (y ∷ xs) x d (suc k) lt = at-before xs x d k (omega (arith, lt))
 
-pub routes_more : (spec : JoinData) (states : List StateView) (count all : ℕ) (old new : List InputRoutes) (r : InputRoutes) → new ≡ old ++ r ∷ [] → all ≡ inputs spec → LeadTo spec states count all r → AreRoutes spec states count old → AreRoutes spec states (count + 1) new
-routes_more spec states count all old new r more whole lead are = record {
+pub routes_more : (spec : JoinData) (row_states : List StateView) (count all : ℕ) (old new : List InputRoutes) (r : InputRoutes) → new ≡ old ++ r ∷ [] → all ≡ inputs spec → LeadTo spec row_states count all r → AreRoutes spec row_states count old → AreRoutes spec row_states (count + 1) new
+routes_more spec row_states count all old new r more whole lead are = record {
   long = ap length more ∙ length-append old (r ∷ []) ∙ ap (λ n. n + 1) are.long;
   each = λ input lt.
-      subst (λ (rs : List InputRoutes). LeadTo spec states input (inputs spec) (routes_at rs input)) (sym more)
-      (by-place (λ k. k < count + 1 → LeadTo spec states k (inputs spec) (routes_at (old ++ r ∷ []) k)) count input
-      (λ l. subst (λ (q : InputRoutes). LeadTo spec states count (inputs spec) q) (sym (at-last old r no_routes count are.long)) (subst (λ n. LeadTo spec states count n r) whole lead))
+      subst (λ (rs : List InputRoutes). LeadTo spec row_states input (inputs spec) (routes_at rs input)) (sym more)
+      (by-place (λ k. k < count + 1 → LeadTo spec row_states k (inputs spec) (routes_at (old ++ r ∷ []) k)) count input
+      (λ l. subst (λ (q : InputRoutes). LeadTo spec row_states count (inputs spec) q) (sym (at-last old r no_routes count are.long)) (subst (λ n. LeadTo spec row_states count n r) whole lead))
       (λ ne l.
       let long = are.long in
       let within : input < count = omega (arith, l, ne) in
-      subst (λ (q : InputRoutes). LeadTo spec states input (inputs spec) q) (sym (at-before old r no_routes input (omega (arith, within, long)))) (are.each input within)) lt);
+      subst (λ (q : InputRoutes). LeadTo spec row_states input (inputs spec) q) (sym (at-before old r no_routes input (omega (arith, within, long)))) (are.each input within)) lt);
 }

@@ -34,9 +34,9 @@ picked_more {A} {B} p f xs i x b first ys ys' at is e n =
 -- ---- rows that are judged
 
 -- a row that is stored fits its input
-pub row_fits : (spec : JoinSpec) (schemes : List (List (List Bool))) (route : RouteView) (input : ℕ) (states : List StateView) (stores : List Store) (ticket : ℕ) (row : List Value) → MayJudge spec schemes route input states stores
-    → (at : ℕ) × (slice_get (state_at states input).rows at ≡ Some (stored ticket row)) → length row ≡ get_or (arities_of spec.inputs) input 0
-row_fits spec schemes route input states stores ticket row may (at, e) =
-    may.parts.fit input may.there (ticket, row) (In-map_from pair_stored (stored ticket row) (state_at states input).rows
-    (subst (λ (s : Stored). In s (state_at states input).rows) (get_or_from_slice_get (state_at states input).rows at (stored ticket row) (stored ticket row) e)
-    (in-place (state_at states input).rows (stored ticket row) at (slice_get_within (state_at states input).rows at (stored ticket row) e))))
+pub row_fits : (spec : JoinSpec) (schemes : List (List (List Bool))) (route : RouteView) (input : ℕ) (row_states : List StateView) (punct_stores : List Store) (ticket : ℕ) (row : List Value) → MayJudge spec schemes route input row_states punct_stores
+    → (at : ℕ) × (slice_get (state_at row_states input).rows at ≡ Some (stored ticket row)) → length row ≡ get_or (arities_of spec.inputs) input 0
+row_fits spec schemes route input row_states punct_stores ticket row may (at, e) =
+    may.parts.fit input may.there (ticket, row) (In-map_from pair_stored (stored ticket row) (state_at row_states input).rows
+    (subst (λ (s : Stored). In s (state_at row_states input).rows) (get_or_from_slice_get (state_at row_states input).rows at (stored ticket row) (stored ticket row) e)
+    (in-place (state_at row_states input).rows (stored ticket row) at (slice_get_within (state_at row_states input).rows at (stored ticket row) e))))

@@ -15,7 +15,7 @@ use Rattle.pj_events.specs.Join.{CertEntry, ClassCol, Demand, In, JoinData, Tupl
 use Rattle.pj_rows.specs.Tuples.{AreWide, IsWide, no_state, state_at, tuple_in}
 use Rattle.pj_rows.specs.Ranges.{HoldTrue}
 use Rattle.pj_recheck.specs.Watching.{AreLeftAt, AreStored, AsksAlong, CoverageView, FindCovered, IsKey, IsLeftBy, IsOfEntry, IsUnmet, LeadsBack, Limits, PathView, PunctView, SideView, Tells, input_at, is_met, is_wild_elsewhere, side_at}
-use Rattle.pj_recheck.specs.declared.marks.Watches.{Watches}
+use Rattle.pj_recheck.specs.declared.marks.DueRechecks.{DueRechecks}
 use Rattle.pj_rows.specs.Finding.{has_match}
 use Rattle.pj_recheck.proofs.Elsewhere.{elsewhere_uncovered}
 use Rattle.pj_rows.proofs.Ranged.{held_by}
@@ -80,19 +80,19 @@ short-of classes [] ys xs asks asked = absurd asked
 short-of classes (f ∷ cert) [] xs asks asked = omega arith
 short-of classes (f ∷ cert) (y ∷ ys) xs asks asked = let lt = short-of classes cert ys (y ∷ xs) asks asked.2 in omega (arith, lt)
 
-state-or-none : (states : List StateView) (k : ℕ) → (k < length states) ⊎ (state_at states k ≡ no_state)
+state-or-none : (row_states : List StateView) (k : ℕ) → (k < length row_states) ⊎ (state_at row_states k ≡ no_state)
 state-or-none [] k = inr refl
-state-or-none (s ∷ states) zero = inl (omega arith)
-state-or-none (s ∷ states) (suc k) = elim (state-or-none states k) [ inl lt ↦ inl (omega (arith, lt)) | inr e ↦ inr e ]
+state-or-none (s ∷ row_states) zero = inl (omega arith)
+state-or-none (s ∷ row_states) (suc k) = elim (state-or-none row_states k) [ inl lt ↦ inl (omega (arith, lt)) | inr e ↦ inr e ]
 
-pub wide-there : (states : List StateView) (k : ℕ) → AreWide states → IsWide (state_at states k)
-wide-there states k wide = elim (state-or-none states k) [ inl lt ↦ wide k lt | inr e ↦ subst (λ (s : StateView). IsWide s) (sym e) (λ s h. absurd h) ]
+pub wide-there : (row_states : List StateView) (k : ℕ) → AreWide row_states → IsWide (state_at row_states k)
+wide-there row_states k wide = elim (state-or-none row_states k) [ inl lt ↦ wide k lt | inr e ↦ subst (λ (s : StateView). IsWide s) (sym e) (λ s h. absurd h) ]
 
 -- ---- rows found back from a position
 
 -- the rows at a position for which what is asked for may be covered lead back to those that ask for what is
 found-back : (path : PathView) (entry : ℕ) (c : CoverageView) (at : ℕ) (side : SideView) (p : Stored → Bool) (tickets found : List ℕ)
-    → IsOfEntry path entry c → at ≤ entry → input_at path at ≡ Some side.input → side ≡ side_at path.states side.input → HoldTrue p side.state.rows tickets
+    → IsOfEntry path entry c → at ≤ entry → input_at path at ≡ Some side.input → side ≡ side_at path.row_states side.input → HoldTrue p side.state.rows tickets
     → ((t : Stored) → In t side.state.rows → p t ≡ false → (xs : List TupleAt) → Tells c.classes xs (tuple_in side.input t) → is_met c xs ≡ false)
     → LeadsBack path at tickets found → FindCovered path entry c found
 found-back path entry c at side p tickets found of le here own held differs leads x rows asks along count t = go (p s.0) refl
@@ -112,7 +112,7 @@ found-back path entry c at side p tickets found of le here own held differs lead
     z-in : In z.0 (x ∷ rows)
     z-in = in_here (x ∷ rows) at z.0 z.1
 
-    s : (t : Stored) × In t (state_at path.states z.0.input).rows × (tuple_in z.0.input t ≡ z.0)
+    s : (t : Stored) × In t (state_at path.row_states z.0.input).rows × (tuple_in z.0.input t ≡ z.0)
     s = along.stored z.0 z-in
 
     same : z.0.input ≡ side.input
@@ -121,8 +121,8 @@ found-back path entry c at side p tickets found of le here own held differs lead
         one : Some z.0.input ≡ Some side.input → z.0.input ≡ side.input
         one q = cc
 
-    rows-are : (state_at path.states z.0.input).rows ≡ side.state.rows
-    rows-are = ap (λ n. (state_at path.states n).rows) same ∙ ap (λ (d : SideView). d.state.rows) (sym own)
+    rows-are : (state_at path.row_states z.0.input).rows ≡ side.state.rows
+    rows-are = ap (λ n. (state_at path.row_states n).rows) same ∙ ap (λ (d : SideView). d.state.rows) (sym own)
 
     s-in : In s.0 side.state.rows
     s-in = subst (λ (ts : List Stored). In s.0 ts) rows-are s.1
@@ -140,18 +140,18 @@ found-back path entry c at side p tickets found of le here own held differs lead
     go true q = leads x rows asks along z.0 z.1 (subst (λ n. In n tickets) (ap (λ (y : TupleAt). y.ticket) z-is) (held s.0 s-in q))
     go false q = absurd (false≢true (sym (differs s.0 s-in q all.0 tells) ∙ met))
 
-wide-side : (path : PathView) (side : SideView) → AreWide path.states → side ≡ side_at path.states side.input → IsWide side.state
-wide-side path side wide own = subst (λ (s : StateView). IsWide s) (ap (λ (d : SideView). d.state) (sym own)) (wide-there path.states side.input wide)
+wide-side : (path : PathView) (side : SideView) → AreWide path.row_states → side ≡ side_at path.row_states side.input → IsWide side.state
+wide-side path side wide own = subst (λ (s : StateView). IsWide s) (ap (λ (d : SideView). d.state) (sym own)) (wide-there path.row_states side.input wide)
 
 pub found_by_key : (path : PathView) (entry : ℕ) (c : CoverageView) (at : ℕ) (side : SideView) (column : ℕ) (v : Value) (tickets found : List ℕ)
-    → AreWide path.states → IsOfEntry path entry c → at ≤ entry → input_at path at ≡ Some side.input → side ≡ side_at path.states side.input → IsKey side c column v → tickets ≡ tickets_of (rows_with column v side.state.rows)
+    → AreWide path.row_states → IsOfEntry path entry c → at ≤ entry → input_at path at ≡ Some side.input → side ≡ side_at path.row_states side.input → IsKey side c column v → tickets ≡ tickets_of (rows_with column v side.state.rows)
     → LeadsBack path at tickets found → FindCovered path entry c found
 found_by_key path entry c at side column v tickets found wide of le here own key are leads =
     found-back path entry c at side (has_value column v) tickets found of le here own (held_by (has_value column v) side.state.rows tickets are)
     (λ t h e xs tells. key.1 (tuple_in side.input t) xs tells refl (all-in (λ k. k < length t.row) side.state.columns (wide-side path side wide own t h) column key.0) e) leads
 
 pub found_by_limit : (path : PathView) (entry : ℕ) (c : CoverageView) (at : ℕ) (side : SideView) (column : ℕ) (q : Pattern) (tickets found : List ℕ)
-    → AreWide path.states → IsOfEntry path entry c → at ≤ entry → input_at path at ≡ Some side.input → side ≡ side_at path.states side.input → In column side.state.columns → Limits side c column q → HoldTrue (has_match column q) side.state.rows tickets
+    → AreWide path.row_states → IsOfEntry path entry c → at ≤ entry → input_at path at ≡ Some side.input → side ≡ side_at path.row_states side.input → In column side.state.columns → Limits side c column q → HoldTrue (has_match column q) side.state.rows tickets
     → LeadsBack path at tickets found → FindCovered path entry c found
 found_by_limit path entry c at side column q tickets found wide of le here own indexed limits held leads =
     found-back path entry c at side (has_match column q) tickets found of le here own held
@@ -160,12 +160,12 @@ found_by_limit path entry c at side column q tickets found wide of le here own i
 -- ---- what is left
 
 -- a punctuation that is no wildcard in some other column covers nothing
-pub unmet_elsewhere : (path : PathView) (entry : ℕ) (c : CoverageView) (w : Watches) → IsOfEntry path entry c → is_wild_elsewhere c.marks c.patterns ≡ false → IsUnmet path entry c w
+pub unmet_elsewhere : (path : PathView) (entry : ℕ) (c : CoverageView) (w : DueRechecks) → IsOfEntry path entry c → is_wild_elsewhere c.marks c.patterns ≡ false → IsUnmet path entry c w
 unmet_elsewhere path entry c w of none x rows asks along count passed =
     let all = along-of path x rows asks (record { input = c.input; marks = c.marks }) (ap (λ n. slice_get path.cert n) count ∙ of.entry_is) along.asked in
     ap (λ (d : Demand). covers c.patterns d.instance) (sym all.1) ∙ elsewhere_uncovered path.classes c.input 0 c.marks c.patterns all.0 none
 
-pub unmet_marked : (path : PathView) (entry : ℕ) (c : CoverageView) (old new : Watches) (found : List ℕ) → FindCovered path entry c found → new.from ≡ old.from → new.marked ≡ old.marked ++ found → IsUnmet path entry c new
+pub unmet_marked : (path : PathView) (entry : ℕ) (c : CoverageView) (old new : DueRechecks) (found : List ℕ) → FindCovered path entry c found → new.from ≡ old.from → new.marked ≡ old.marked ++ found → IsUnmet path entry c new
 unmet_marked path entry c old new found finds from marked x rows asks along count passed =
     false_from_ne_true (covers c.patterns asks.instance) (λ t. false≢true (sym (passed_more old new found from marked x.ticket passed).1
     ∙ any_from (λ m. eqb m x.ticket) found x.ticket (finds x rows asks along count t) (eq-eqb x.ticket x.ticket refl)))
@@ -174,13 +174,13 @@ unmet_marked path entry c old new found finds from marked x rows asks along coun
 asks-input : (path : PathView) (x : TupleAt) (rows : List TupleAt) (asks : Demand) (e : CertEntry) → slice_get path.cert (length rows) ≡ Some e → AsksAlong path x rows asks → asks.input ≡ e.input
 asks-input path x rows asks e at along = let all = along-of path x rows asks e at along.asked in ap (λ (d : Demand). d.input) (sym all.1)
 
-pub left_other : (path : PathView) (entry : ℕ) (e : CertEntry) (c : PunctView) (w : Watches) → slice_get path.cert entry ≡ Some e → (e.input ≡ c.input → ⊥) → IsLeftBy path entry c w
+pub left_other : (path : PathView) (entry : ℕ) (e : CertEntry) (c : PunctView) (w : DueRechecks) → slice_get path.cert entry ≡ Some e → (e.input ≡ c.input → ⊥) → IsLeftBy path entry c w
 left_other path entry e c w at ne ticket x rows asks along count passed =
     let here : slice_get path.cert (length rows) ≡ Some e = ap (slice_get path.cert) count ∙ at in
     let input : asks.input ≡ e.input = asks-input path x rows asks e here along in
     ap (λ b. (b && covers c.patterns asks.instance) || false) (false_from_ne_true (eqb c.input asks.input) (λ t. ne (sym input ∙ sym (eqb-true c.input asks.input t))))
 
-pub left_unmet : (path : PathView) (entry : ℕ) (c : CoverageView) (p : PunctView) (w : Watches) → c.patterns ≡ p.patterns → IsUnmet path entry c w → IsLeftBy path entry p w
+pub left_unmet : (path : PathView) (entry : ℕ) (c : CoverageView) (p : PunctView) (w : DueRechecks) → c.patterns ≡ p.patterns → IsUnmet path entry c w → IsLeftBy path entry p w
 left_unmet path entry c p w same unmet ticket x rows asks along count passed =
     go (eqb p.input asks.input) (covers p.patterns asks.instance) (ap (λ (ps : List Pattern). covers ps asks.instance) (sym same) ∙ unmet x rows asks along count passed)
   where
@@ -190,10 +190,10 @@ left_unmet path entry c p w same unmet ticket x rows asks along count passed =
 
 -- ---- all entries
 
-pub left_at : (spec : JoinData) (states : List StateView) (c : PunctView) (w : Watches) (input : ℕ)
-    → ((entry : ℕ) (e : CertEntry) → entry < length (cert_of spec input) → slice_get (cert_of spec input) entry ≡ Some e → IsLeftBy (record { classes = spec.shape.classes; cert = cert_of spec input; input = input; states = states }) entry c w)
-    → AreLeftAt spec states c w input
-left_at spec states c w input all ticket s h passed rows asks stored asked =
+pub left_at : (spec : JoinData) (row_states : List StateView) (c : PunctView) (w : DueRechecks) (input : ℕ)
+    → ((entry : ℕ) (e : CertEntry) → entry < length (cert_of spec input) → slice_get (cert_of spec input) entry ≡ Some e → IsLeftBy (record { classes = spec.shape.classes; cert = cert_of spec input; input = input; row_states = row_states }) entry c w)
+    → AreLeftAt spec row_states c w input
+left_at spec row_states c w input all ticket s h passed rows asks stored asked =
     all (length rows) entry.0 lt entry.1 ticket (tuple_in input s) rows asks (record { own = refl; stored = there; asked = asked }) refl passed
   where
     lt : length rows < length (cert_of spec input)
@@ -202,6 +202,6 @@ left_at spec states c w input all ticket s h passed rows asks stored asked =
     entry : (e : CertEntry) × (slice_get (cert_of spec input) (length rows) ≡ Some e)
     entry = at-place-there (cert_of spec input) (length rows) lt
 
-    there : AreStored states (tuple_in input s ∷ rows)
-    there y (inl e) = subst (λ (z : TupleAt). (t : Stored) × In t (state_at states z.input).rows × (tuple_in z.input t ≡ z)) e (s, h, refl)
+    there : AreStored row_states (tuple_in input s ∷ rows)
+    there y (inl e) = subst (λ (z : TupleAt). (t : Stored) × In t (state_at row_states z.input).rows × (tuple_in z.input t ≡ z)) e (s, h, refl)
     there y (inr k) = stored y k

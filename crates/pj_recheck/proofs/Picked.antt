@@ -17,8 +17,8 @@ use Rattle.pj_events.specs.Join.{CertEntry, In, TupleAt, has}
 use Rattle.pj_recheck.specs.Judging.{JudgeView, one_if, ripe_at, row_in, rows_at}
 use Rattle.pj_rows.specs.Tuples.{row_pairs, under_with}
 use Rattle.pj_recheck.specs.Watching.{AreJudged, AreLookedAt, IsLookedAt, IsOneJudged, IsVerdict, NoneIsRipe, all_picked, is_passed, marked_by, picked}
-use Rattle.pj_recheck.specs.declared.marks.Judged.{Judged}
-use Rattle.pj_recheck.specs.declared.marks.Watches.{Watches}
+use Rattle.pj_recheck.specs.declared.marks.SweepResult.{SweepResult}
+use Rattle.pj_recheck.specs.declared.marks.DueRechecks.{DueRechecks}
 use Rattle.pj_rows.proofs.Rising.{above-in, rising-append, rising-filter, rising-same}
 use Rattle.pj_rows.proofs.Under.{flat-more, under-in, under-own}
 
@@ -61,7 +61,7 @@ pub append_empty : (xs ys : List ℕ) → length ys ≡ 0 → xs ≡ xs ++ ys
 append_empty xs [] e = sym (append-nil xs)
 append_empty xs (y ∷ ys) e = absurd (omega (arith, e))
 
-pub judged_all : (w : Watches) (rows : List Stored) (young list tickets : List ℕ) → ((s : Stored) → In s rows → w.from ≤ s.ticket → In s.ticket young) → list ≡ young ++ w.marked → ((n : ℕ) → In n list → In n tickets)
+pub judged_all : (w : DueRechecks) (rows : List Stored) (young list tickets : List ℕ) → ((s : Stored) → In s rows → w.from ≤ s.ticket → In s.ticket young) → list ≡ young ++ w.marked → ((n : ℕ) → In n list → In n tickets)
     → (s : Stored) → In s rows → is_passed w s.ticket ≡ false → In s.ticket tickets
 judged_all w rows young list tickets all is more s h f = more s.ticket (subst (λ (ns : List ℕ). In s.ticket ns) (sym is) (go (ltb s.ticket w.from) refl (has w.marked s.ticket) refl f))
   where
@@ -89,12 +89,12 @@ last_below (y ∷ rows) (suc i) from x r at le lt s (inl e) =
 -- ---- one row
 
 pub verdict_is : (j : JudgeView) (s : Stored) (v : Verdict) → s.ticket < j.low → (x : TupleAt) → x ≡ tuple_of j.input (pair_of s)
-    → says_ripe v ≡ all_covered (known_of j.spec (row_pairs j.states) j.stores j.low) (entries j.schemes j.cert) (x ∷ [])
-    → IsJudged (known_of j.spec (row_pairs j.states) j.stores j.low) (entries j.schemes j.cert) (x ∷ []) v → IsVerdict j s v
+    → says_ripe v ≡ all_covered (known_of j.spec (row_pairs j.row_states) j.punct_stores j.low) (entries j.schemes j.cert) (x ∷ [])
+    → IsJudged (known_of j.spec (row_pairs j.row_states) j.punct_stores j.low) (entries j.schemes j.cert) (x ∷ []) v → IsVerdict j s v
 verdict_is j s v lt x is = subst (λ (y : TupleAt). says_ripe v ≡ all_covered facts cert (y ∷ []) → IsJudged facts cert (y ∷ []) v → IsVerdict j s v) (sym is) (go v)
   where
     facts : Known
-    facts = known_of j.spec (row_pairs j.states) j.stores j.low
+    facts = known_of j.spec (row_pairs j.row_states) j.punct_stores j.low
 
     cert : List CertEntry
     cert = entries j.schemes j.cert
@@ -122,7 +122,7 @@ under_at (s ∷ rows) ticket row e = go (eqb s.ticket ticket) refl e (under_at r
 has-split : (ns ms : List ℕ) (n : ℕ) → has (ns ++ ms) n ≡ false → (has ns n ≡ false) × (has ms n ≡ false)
 has-split ns ms n e = or_parts (has ns n) (has ms n) (sym (list_any-append (λ m. eqb m n) ns ms) ∙ e)
 
-pub judged_none : (j : JudgeView) (ticket : ℕ) (old : Judged) → None ≡ row_under ticket (rows_at j) → IsOneJudged j ticket old old
+pub judged_none : (j : JudgeView) (ticket : ℕ) (old : SweepResult) → None ≡ row_under ticket (rows_at j) → IsOneJudged j ticket old old
 judged_none j ticket old e = record {
   gone = sym (append-nil old.gone) ∙ ap (λ (o : Option (List Value)). old.gone ++ tickets_of (filter (ripe_at j) (under_with ticket o))) e;
   more = λ m f. f;
@@ -132,7 +132,7 @@ judged_none j ticket old e = record {
     clash : {row : List Value} → None ≡ Some row → ⊥
     clash q = cc
 
-pub judged_row : (j : JudgeView) (ticket : ℕ) (row : List Value) (v : Verdict) (old new : Judged) → Some row ≡ row_under ticket (rows_at j) → IsVerdict j (stored ticket row) v
+pub judged_row : (j : JudgeView) (ticket : ℕ) (row : List Value) (v : Verdict) (old new : SweepResult) → Some row ≡ row_under ticket (rows_at j) → IsVerdict j (stored ticket row) v
     → new.gone ≡ old.gone ++ one_if (says_ripe v) ticket → new.marked ≡ old.marked ++ one_if (marked_by v) ticket → IsOneJudged j ticket old new
 judged_row j ticket row v old new at is gone marked = record {
   gone = gone ∙ ap (λ (ts : List ℕ). old.gone ++ ts) (picks v is ∙ ap (λ (o : Option (List Value)). tickets_of (filter (ripe_at j) (under_with ticket o))) at);
@@ -157,7 +157,7 @@ judged_row j ticket row v old new at is gone marked = record {
 next-picked : (j : JudgeView) (tickets : List ℕ) (i t : ℕ) → i < length tickets → t ≡ get_or tickets i 0 → all_picked j (take (i + 1) tickets) ≡ all_picked j (take i tickets) ++ picked j t
 next-picked j tickets i t lt is = ap (all_picked j) (take_more tickets i 0 lt ∙ ap (λ n. take i tickets ++ n ∷ []) (sym is)) ∙ flat-more (picked j) (take i tickets) t
 
-pub judged_more : (j : JudgeView) (tickets : List ℕ) (i t : ℕ) (old new : Judged) → i < length tickets → t ≡ get_or tickets i 0
+pub judged_more : (j : JudgeView) (tickets : List ℕ) (i t : ℕ) (old new : SweepResult) → i < length tickets → t ≡ get_or tickets i 0
     → AreJudged j (take i tickets) old → IsOneJudged j t old new → AreJudged j (take (i + 1) tickets) new
 judged_more j tickets i t old new lt is before one = record {
   gone = one.gone ∙ ap (λ (ts : List ℕ). ts ++ tickets_of (picked j t)) before.gone ∙ sym (ap tickets_of (next-picked j tickets i t lt is) ∙ map-append ticket_of (all_picked j (take i tickets)) (picked j t));
@@ -217,11 +217,11 @@ picks_are j tickets r t all = rising-same ticket_of (all_picked j tickets) (filt
         (In-filter_from (ripe_at j) s (under_with s.ticket (row_under s.ticket (rows_at j))) (subst (λ (o : Option (List Value)). In s (under_with s.ticket o)) (under-own (rows_at j) s r f.0) (inl refl)) f.1)
 
 -- what is not passed over was judged, and what is passed over is not ripe
-pub all_ripe : (j : JudgeView) (w : Watches) (tickets : List ℕ) → IsRising ticket_of (rows_at j) → IsRising itself tickets → NoneIsRipe j w
+pub all_ripe : (j : JudgeView) (w : DueRechecks) (tickets : List ℕ) → IsRising ticket_of (rows_at j) → IsRising itself tickets → NoneIsRipe j w
     → ((s : Stored) → In s (rows_at j) → is_passed w s.ticket ≡ false → In s.ticket tickets) → all_picked j tickets ≡ filter (ripe_at j) (rows_at j)
 all_ripe j w tickets r t none all =
     picks_are j tickets r t (λ s h ripe. all s h (false_from_ne_true (is_passed w s.ticket) (λ p. false≢true (sym (none s h p) ∙ ripe))))
 
-pub all_looked : (j : JudgeView) (w : Watches) (tickets : List ℕ) (judged : Judged) → IsRising ticket_of (rows_at j)
+pub all_looked : (j : JudgeView) (w : DueRechecks) (tickets : List ℕ) (judged : SweepResult) → IsRising ticket_of (rows_at j)
     → ((s : Stored) → In s (rows_at j) → is_passed w s.ticket ≡ false → In s.ticket tickets) → AreJudged j tickets judged → AreLookedAt j w judged.marked
 all_looked j w tickets judged r all are s h f = are.looked s.ticket (all s h f) s.row (under-own (rows_at j) s r h)

@@ -18,7 +18,7 @@ use Rattle.pj_rows.specs.Ranges.{HoldTrue}
 use Rattle.pj_rows.specs.Tuples.{AreWide, state_at}
 use Rattle.pj_recheck.specs.Recheck.{AreLeads, AreRoutes, BackLeaves, BacksFit, BacksLeave, HasKey, HasLimit, IsWay, LeadTo, LeadsFit, LeadsIn, LeavesBackOwner, LeavesOwner, RouteFinds, RouteFits, RouteLeaves, RoutesFit, RoutesLeave, StopFinds, StopFits, StopsFind, StopsFit, WayFits, WayLeads, entry_on, routes_at}
 use Rattle.pj_recheck.specs.Watching.{AreAside, AreFewer, AreLeft, AreRoused, CoverageView, IsAsideAt, IsFewer, IsKey, IsLeftBy, IsUnmet, LeadsBack, Limits, PathView, PunctView, SideView, asker, is_wild_elsewhere, side_at, watches_at}
-use Rattle.pj_recheck.specs.declared.marks.Watches.{Watches}
+use Rattle.pj_recheck.specs.declared.marks.DueRechecks.{DueRechecks}
 use Rattle.pj_rows.specs.Finding.{has_match}
 use Rattle.pj_recheck.proofs.Paths.{found_by_key, found_by_limit, left_at, left_other, left_unmet, unmet_elsewhere, unmet_marked}
 use Rattle.pj_recheck.proofs.Roused.{roused_along}
@@ -40,50 +40,50 @@ limit_there c side leads column q are indexed (lead, is-in, same, there) = (
 )
 
 -- the column that a lead tells is indexed
-pub key_indexed : (states : List StateView) (input : ℕ) (state : StateView) (leads lent : List Lead) (patterns : List Pattern) (column : ℕ) (v : Value) → LeadsFit states input leads → state ≡ state_at states input → lent ≡ leads → HasKey lent patterns column v → In column state.columns
-key_indexed states input state leads lent patterns column v fit own same (lead, is-in, told, there) =
+pub key_indexed : (row_states : List StateView) (input : ℕ) (state : StateView) (leads lent : List Lead) (patterns : List Pattern) (column : ℕ) (v : Value) → LeadsFit row_states input leads → state ≡ state_at row_states input → lent ≡ leads → HasKey lent patterns column v → In column state.columns
+key_indexed row_states input state leads lent patterns column v fit own same (lead, is-in, told, there) =
     subst (λ k. In k state.columns) told (subst (λ (s : StateView). In lead.column s.columns) (sym own) (fit lead (subst (λ (ls : List Lead). In lead ls) same is-in)))
 
-pub limit_indexed : (states : List StateView) (input : ℕ) (state : StateView) (leads lent : List Lead) (patterns : List Pattern) (column : ℕ) (q : Pattern) → LeadsFit states input leads → state ≡ state_at states input → lent ≡ leads → HasLimit lent patterns column q → In column state.columns
-limit_indexed states input state leads lent patterns column q fit own same (lead, is-in, told, there) =
+pub limit_indexed : (row_states : List StateView) (input : ℕ) (state : StateView) (leads lent : List Lead) (patterns : List Pattern) (column : ℕ) (q : Pattern) → LeadsFit row_states input leads → state ≡ state_at row_states input → lent ≡ leads → HasLimit lent patterns column q → In column state.columns
+limit_indexed row_states input state leads lent patterns column q fit own same (lead, is-in, told, there) =
     subst (λ k. In k state.columns) told (subst (λ (s : StateView). In lead.column s.columns) (sym own) (fit lead (subst (λ (ls : List Lead). In lead ls) same is-in)))
 
 -- ---- a stop
 
-stop_key : (states : List StateView) (stop : Stop) (patterns : List Pattern) (column : ℕ) (v : Value) (tickets found : List ℕ) (way : Way) → AreWide states → StopFits states stop → HasKey stop.leads patterns column v → stop.way ≡ Some way
-    → tickets ≡ tickets_of (rows_with column v (state_at states stop.input).rows) → WayLeads states way tickets found → StopFinds states stop patterns found
-stop_key states stop patterns column v tickets found way wide fits has there are leads path entry c same pats of is =
-    found_by_key path entry c is.at (side_at path.states stop.input) column v tickets found (subst (λ (ss : List StateView). AreWide ss) (sym same) wide) of is.within is.here refl
-    (key_there c (side_at path.states stop.input) stop.leads column v
+stop_key : (row_states : List StateView) (stop : Stop) (patterns : List Pattern) (column : ℕ) (v : Value) (tickets found : List ℕ) (way : Way) → AreWide row_states → StopFits row_states stop → HasKey stop.leads patterns column v → stop.way ≡ Some way
+    → tickets ≡ tickets_of (rows_with column v (state_at row_states stop.input).rows) → WayLeads row_states way tickets found → StopFinds row_states stop patterns found
+stop_key row_states stop patterns column v tickets found way wide fits has there are leads path entry c same pats of is =
+    found_by_key path entry c is.at (side_at path.row_states stop.input) column v tickets found (subst (λ (ss : List StateView). AreWide ss) (sym same) wide) of is.within is.here refl
+    (key_there c (side_at path.row_states stop.input) stop.leads column v
     (subst (λ (ks : List (List ClassCol)). AreLeads ks (entry_on c) stop.input stop.leads) (sym of.classes) is.leads)
     (subst (λ (ss : List StateView). LeadsIn (state_at ss stop.input).columns stop.leads) (sym same) fits.leads)
     (subst (λ (ps : List Pattern). HasKey stop.leads ps column v) (sym pats) has))
     (are ∙ ap (λ (ss : List StateView). tickets_of (rows_with column v (state_at ss stop.input).rows)) (sym same))
     (leads path is.at same (subst (λ (o : Option Way). IfSome o (IsWay (asker path) is.at)) there is.way))
 
-stop_limit : (states : List StateView) (stop : Stop) (patterns : List Pattern) (column : ℕ) (q : Pattern) (tickets found : List ℕ) (way : Way) → AreWide states → StopFits states stop → HasLimit stop.leads patterns column q → stop.way ≡ Some way
-    → HoldTrue (has_match column q) (state_at states stop.input).rows tickets → WayLeads states way tickets found → StopFinds states stop patterns found
-stop_limit states stop patterns column q tickets found way wide fits has there are leads path entry c same pats of is =
-    let limit = limit_there c (side_at path.states stop.input) stop.leads column q
+stop_limit : (row_states : List StateView) (stop : Stop) (patterns : List Pattern) (column : ℕ) (q : Pattern) (tickets found : List ℕ) (way : Way) → AreWide row_states → StopFits row_states stop → HasLimit stop.leads patterns column q → stop.way ≡ Some way
+    → HoldTrue (has_match column q) (state_at row_states stop.input).rows tickets → WayLeads row_states way tickets found → StopFinds row_states stop patterns found
+stop_limit row_states stop patterns column q tickets found way wide fits has there are leads path entry c same pats of is =
+    let limit = limit_there c (side_at path.row_states stop.input) stop.leads column q
     (subst (λ (ks : List (List ClassCol)). AreLeads ks (entry_on c) stop.input stop.leads) (sym of.classes) is.leads)
     (subst (λ (ss : List StateView). LeadsIn (state_at ss stop.input).columns stop.leads) (sym same) fits.leads)
     (subst (λ (ps : List Pattern). HasLimit stop.leads ps column q) (sym pats) has) in
-    found_by_limit path entry c is.at (side_at path.states stop.input) column q tickets found (subst (λ (ss : List StateView). AreWide ss) (sym same) wide) of is.within is.here refl limit.0 limit.1
+    found_by_limit path entry c is.at (side_at path.row_states stop.input) column q tickets found (subst (λ (ss : List StateView). AreWide ss) (sym same) wide) of is.within is.here refl limit.0 limit.1
     (subst (λ (ss : List StateView). HoldTrue (has_match column q) (state_at ss stop.input).rows tickets) (sym same) are)
     (leads path is.at same (subst (λ (o : Option Way). IfSome o (IsWay (asker path) is.at)) there is.way))
 
-pub stop_by_key : (states : List StateView) (stop : Stop) (patterns : List Pattern) (state : StateView) (lent : List Lead) (column : ℕ) (v : Value) (tickets : List ℕ) (found : Option (List ℕ)) (way : Way) → AreWide states → StopFits states stop → state ≡ state_at states stop.input
-    → lent ≡ stop.leads → HasKey lent patterns column v → stop.way ≡ Some way → tickets ≡ tickets_of (rows_with column v state.rows) → IfSome found (WayLeads states way tickets) → IfSome found (StopFinds states stop patterns)
-stop_by_key states stop patterns state lent column v tickets None way wide fits own same has there are leads = tt
-stop_by_key states stop patterns state lent column v tickets (Some found) way wide fits own same has there are leads =
-    stop_key states stop patterns column v tickets found way wide fits (subst (λ (ls : List Lead). HasKey ls patterns column v) same has) there (are ∙ ap (λ (s : StateView). tickets_of (rows_with column v s.rows)) own) leads
+pub stop_by_key : (row_states : List StateView) (stop : Stop) (patterns : List Pattern) (state : StateView) (lent : List Lead) (column : ℕ) (v : Value) (tickets : List ℕ) (found : Option (List ℕ)) (way : Way) → AreWide row_states → StopFits row_states stop → state ≡ state_at row_states stop.input
+    → lent ≡ stop.leads → HasKey lent patterns column v → stop.way ≡ Some way → tickets ≡ tickets_of (rows_with column v state.rows) → IfSome found (WayLeads row_states way tickets) → IfSome found (StopFinds row_states stop patterns)
+stop_by_key row_states stop patterns state lent column v tickets None way wide fits own same has there are leads = tt
+stop_by_key row_states stop patterns state lent column v tickets (Some found) way wide fits own same has there are leads =
+    stop_key row_states stop patterns column v tickets found way wide fits (subst (λ (ls : List Lead). HasKey ls patterns column v) same has) there (are ∙ ap (λ (s : StateView). tickets_of (rows_with column v s.rows)) own) leads
 
-pub stop_by_limit : (states : List StateView) (stop : Stop) (patterns : List Pattern) (state : StateView) (lent : List Lead) (column : ℕ) (q : Pattern) (tickets passed : List ℕ) (found : Option (List ℕ)) (way : Way) → AreWide states → StopFits states stop → state ≡ state_at states stop.input
-    → lent ≡ stop.leads → HasLimit lent patterns column q → stop.way ≡ Some way → HoldTrue (has_match column q) state.rows tickets → passed ≡ tickets → IfSome found (WayLeads states way passed) → IfSome found (StopFinds states stop patterns)
-stop_by_limit states stop patterns state lent column q tickets passed None way wide fits own same has there are given leads = tt
-stop_by_limit states stop patterns state lent column q tickets passed (Some found) way wide fits own same has there are given leads =
-    stop_limit states stop patterns column q passed found way wide fits (subst (λ (ls : List Lead). HasLimit ls patterns column q) same has) there
-    (subst (λ (ns : List ℕ). HoldTrue (has_match column q) (state_at states stop.input).rows ns) (sym given) (subst (λ (s : StateView). HoldTrue (has_match column q) s.rows tickets) own are)) leads
+pub stop_by_limit : (row_states : List StateView) (stop : Stop) (patterns : List Pattern) (state : StateView) (lent : List Lead) (column : ℕ) (q : Pattern) (tickets passed : List ℕ) (found : Option (List ℕ)) (way : Way) → AreWide row_states → StopFits row_states stop → state ≡ state_at row_states stop.input
+    → lent ≡ stop.leads → HasLimit lent patterns column q → stop.way ≡ Some way → HoldTrue (has_match column q) state.rows tickets → passed ≡ tickets → IfSome found (WayLeads row_states way passed) → IfSome found (StopFinds row_states stop patterns)
+stop_by_limit row_states stop patterns state lent column q tickets passed None way wide fits own same has there are given leads = tt
+stop_by_limit row_states stop patterns state lent column q tickets passed (Some found) way wide fits own same has there are given leads =
+    stop_limit row_states stop patterns column q passed found way wide fits (subst (λ (ls : List Lead). HasLimit ls patterns column q) same has) there
+    (subst (λ (ns : List ℕ). HoldTrue (has_match column q) (state_at row_states stop.input).rows ns) (sym given) (subst (λ (s : StateView). HoldTrue (has_match column q) s.rows tickets) own are)) leads
 
 -- ---- a route
 
@@ -93,73 +93,73 @@ same-some e = cc
 own-leads : (path : PathView) (tickets : List ℕ) → LeadsBack path 0 tickets tickets
 own-leads path tickets x rows asks along y at h = subst (λ (z : TupleAt). In z.ticket tickets) (same-some at) h
 
-pub own_by_key : (states : List StateView) (route : RecheckRoute) (patterns : List Pattern) (state : StateView) (lent : List Lead) (column : ℕ) (v : Value) (tickets : List ℕ) → AreWide states → RouteFits states route → state ≡ state_at states route.owner → lent ≡ route.own → HasKey lent patterns column v
-    → tickets ≡ tickets_of (rows_with column v state.rows) → RouteFinds states route patterns tickets
-own_by_key states route patterns state lent column v tickets wide fits own lend has are path entry c same pats of is =
-    found_by_key path entry c 0 (side_at path.states path.input) column v tickets tickets (subst (λ (ss : List StateView). AreWide ss) (sym same) wide) of (omega arith) refl refl
-    (key_there c (side_at path.states path.input) route.own column v
+pub own_by_key : (row_states : List StateView) (route : RecheckRoute) (patterns : List Pattern) (state : StateView) (lent : List Lead) (column : ℕ) (v : Value) (tickets : List ℕ) → AreWide row_states → RouteFits row_states route → state ≡ state_at row_states route.owner → lent ≡ route.own → HasKey lent patterns column v
+    → tickets ≡ tickets_of (rows_with column v state.rows) → RouteFinds row_states route patterns tickets
+own_by_key row_states route patterns state lent column v tickets wide fits own lend has are path entry c same pats of is =
+    found_by_key path entry c 0 (side_at path.row_states path.input) column v tickets tickets (subst (λ (ss : List StateView). AreWide ss) (sym same) wide) of (omega arith) refl refl
+    (key_there c (side_at path.row_states path.input) route.own column v
     (subst (λ (ks : List (List ClassCol)). AreLeads ks (entry_on c) path.input route.own) (sym of.classes) is.own)
     (subst (λ (s : StateView). LeadsIn s.columns route.own) (sym here) fits.own)
     (subst (λ (ps : List Pattern). HasKey route.own ps column v) (sym pats) (subst (λ (ls : List Lead). HasKey ls patterns column v) lend has)))
     (are ∙ ap (λ (s : StateView). tickets_of (rows_with column v s.rows)) (own ∙ sym here))
     (own-leads path tickets)
   where
-    here : state_at path.states path.input ≡ state_at states route.owner
+    here : state_at path.row_states path.input ≡ state_at row_states route.owner
     here = ap₂ (λ (ss : List StateView) k. state_at ss k) same (sym is.owner)
 
-pub own_by_limit : (states : List StateView) (route : RecheckRoute) (patterns : List Pattern) (state : StateView) (lent : List Lead) (column : ℕ) (q : Pattern) (tickets : List ℕ) → AreWide states → RouteFits states route → state ≡ state_at states route.owner → lent ≡ route.own → HasLimit lent patterns column q
-    → HoldTrue (has_match column q) state.rows tickets → RouteFinds states route patterns tickets
-own_by_limit states route patterns state lent column q tickets wide fits own lend has are path entry c same pats of is =
-    let limit = limit_there c (side_at path.states path.input) route.own column q
+pub own_by_limit : (row_states : List StateView) (route : RecheckRoute) (patterns : List Pattern) (state : StateView) (lent : List Lead) (column : ℕ) (q : Pattern) (tickets : List ℕ) → AreWide row_states → RouteFits row_states route → state ≡ state_at row_states route.owner → lent ≡ route.own → HasLimit lent patterns column q
+    → HoldTrue (has_match column q) state.rows tickets → RouteFinds row_states route patterns tickets
+own_by_limit row_states route patterns state lent column q tickets wide fits own lend has are path entry c same pats of is =
+    let limit = limit_there c (side_at path.row_states path.input) route.own column q
     (subst (λ (ks : List (List ClassCol)). AreLeads ks (entry_on c) path.input route.own) (sym of.classes) is.own)
     (subst (λ (s : StateView). LeadsIn s.columns route.own) (sym here) fits.own)
     (subst (λ (ps : List Pattern). HasLimit route.own ps column q) (sym pats) (subst (λ (ls : List Lead). HasLimit ls patterns column q) lend has)) in
-    found_by_limit path entry c 0 (side_at path.states path.input) column q tickets tickets (subst (λ (ss : List StateView). AreWide ss) (sym same) wide) of (omega arith) refl refl limit.0 limit.1
+    found_by_limit path entry c 0 (side_at path.row_states path.input) column q tickets tickets (subst (λ (ss : List StateView). AreWide ss) (sym same) wide) of (omega arith) refl refl limit.0 limit.1
     (subst (λ (s : StateView). HoldTrue (has_match column q) s.rows tickets) (own ∙ sym here) are)
     (own-leads path tickets)
   where
-    here : state_at path.states path.input ≡ state_at states route.owner
+    here : state_at path.row_states path.input ≡ state_at row_states route.owner
     here = ap₂ (λ (ss : List StateView) k. state_at ss k) same (sym is.owner)
 
 -- what a stop finds its route does
-pub stops_serve : (states : List StateView) (route : RecheckRoute) (patterns : List Pattern) (found : List ℕ) → StopsFind states route.behind patterns found → RouteFinds states route patterns found
-stops_serve states route patterns found (stop, is-in, finds) path entry c same pats of is = finds path entry c same pats of (is.behind stop is-in)
+pub stops_serve : (row_states : List StateView) (route : RecheckRoute) (patterns : List Pattern) (found : List ℕ) → StopsFind row_states route.behind patterns found → RouteFinds row_states route patterns found
+stops_serve row_states route patterns found (stop, is-in, finds) path entry c same pats of is = finds path entry c same pats of (is.behind stop is-in)
 
-pub stops_may : (states : List StateView) (route : RecheckRoute) (patterns : List Pattern) (stops : List Stop) (found : Option (List ℕ)) → stops ≡ route.behind → IfSome found (StopsFind states stops patterns) → IfSome found (RouteFinds states route patterns)
-stops_may states route patterns stops None same finds = tt
-stops_may states route patterns stops (Some found) same finds = stops_serve states route patterns found (subst (λ (ss : List Stop). StopsFind states ss patterns found) same finds)
+pub stops_may : (row_states : List StateView) (route : RecheckRoute) (patterns : List Pattern) (stops : List Stop) (found : Option (List ℕ)) → stops ≡ route.behind → IfSome found (StopsFind row_states stops patterns) → IfSome found (RouteFinds row_states route patterns)
+stops_may row_states route patterns stops None same finds = tt
+stops_may row_states route patterns stops (Some found) same finds = stops_serve row_states route patterns found (subst (λ (ss : List Stop). StopsFind row_states ss patterns found) same finds)
 
-pub stops_told : (states : List StateView) (route : RecheckRoute) (patterns : List Pattern) (stops : List Stop) (told : Option (List ℕ)) (found : List ℕ) → stops ≡ route.behind → told ≡ Some found → IfSome told (StopsFind states stops patterns) → RouteFinds states route patterns found
-stops_told states route patterns stops told found same some finds = stops_may states route patterns stops (Some found) same (subst (λ (o : Option (List ℕ)). IfSome o (StopsFind states stops patterns)) some finds)
+pub stops_told : (row_states : List StateView) (route : RecheckRoute) (patterns : List Pattern) (stops : List Stop) (told : Option (List ℕ)) (found : List ℕ) → stops ≡ route.behind → told ≡ Some found → IfSome told (StopsFind row_states stops patterns) → RouteFinds row_states route patterns found
+stops_told row_states route patterns stops told found same some finds = stops_may row_states route patterns stops (Some found) same (subst (λ (o : Option (List ℕ)). IfSome o (StopsFind row_states stops patterns)) some finds)
 
-pub stops_fit : (states : List StateView) (route : RecheckRoute) (stops : List Stop) → RouteFits states route → stops ≡ route.behind → StopsFit states stops
-stops_fit states route stops fits same = subst (λ (ss : List Stop). StopsFit states ss) (sym same) fits.behind
+pub stops_fit : (row_states : List StateView) (route : RecheckRoute) (stops : List Stop) → RouteFits row_states route → stops ≡ route.behind → StopsFit row_states stops
+stops_fit row_states route stops fits same = subst (λ (ss : List Stop). StopsFit row_states ss) (sym same) fits.behind
 
 pub item_in : {A : Type 0} (xs : List A) (i : ℕ) (x : A) → i < length xs → x ≡ get_or xs i x → In x xs
 item_in {A} xs i x lt is = subst (λ (y : A). In y xs) (sym is) (in-place xs x i lt)
 
-pub stops_find : (states : List StateView) (stops : List Stop) (patterns : List Pattern) (i : ℕ) (stop : Stop) (told : Option (List ℕ)) (found : List ℕ) → i < length stops → stop ≡ get_or stops i stop → told ≡ Some found → IfSome told (StopFinds states stop patterns)
-    → StopsFind states stops patterns found
-stops_find states stops patterns i stop told found lt is some finds = (stop, item_in stops i stop lt is, subst (λ (o : Option (List ℕ)). IfSome o (StopFinds states stop patterns)) some finds)
+pub stops_find : (row_states : List StateView) (stops : List Stop) (patterns : List Pattern) (i : ℕ) (stop : Stop) (told : Option (List ℕ)) (found : List ℕ) → i < length stops → stop ≡ get_or stops i stop → told ≡ Some found → IfSome told (StopFinds row_states stop patterns)
+    → StopsFind row_states stops patterns found
+stops_find row_states stops patterns i stop told found lt is some finds = (stop, item_in stops i stop lt is, subst (λ (o : Option (List ℕ)). IfSome o (StopFinds row_states stop patterns)) some finds)
 
 -- ---- what is left
 
-pub leaves_elsewhere : (states : List StateView) (route : RecheckRoute) (patterns : List Pattern) (w : Watches) → is_wild_elsewhere route.scheme patterns ≡ false → RouteLeaves states route patterns w
-leaves_elsewhere states route patterns w none path entry c same pats of is =
+pub leaves_elsewhere : (row_states : List StateView) (route : RecheckRoute) (patterns : List Pattern) (w : DueRechecks) → is_wild_elsewhere route.scheme patterns ≡ false → RouteLeaves row_states route patterns w
+leaves_elsewhere row_states route patterns w none path entry c same pats of is =
     unmet_elsewhere path entry c w of (ap₂ (λ (ms : List Bool) (ps : List Pattern). is_wild_elsewhere ms ps) (sym is.scheme) pats ∙ none)
 
-pub leaves_found : {E V : Type 0} (r : Result V E) (states : List StateView) (route : RecheckRoute) (patterns : List Pattern) (old new : Watches) (found : List ℕ)
-    → RouteFinds states route patterns found → new.from ≡ old.from → OnOk r (new.marked ≡ old.marked ++ found) → OnOk r (RouteLeaves states route patterns new)
-leaves_found (Ok done) states route patterns old new found finds from marked = λ path entry c same pats of is. unmet_marked path entry c old new found (finds path entry c same pats of is) from marked
-leaves_found (Err stop) states route patterns old new found finds from marked = tt
+pub leaves_found : {E V : Type 0} (r : Result V E) (row_states : List StateView) (route : RecheckRoute) (patterns : List Pattern) (old new : DueRechecks) (found : List ℕ)
+    → RouteFinds row_states route patterns found → new.from ≡ old.from → OnOk r (new.marked ≡ old.marked ++ found) → OnOk r (RouteLeaves row_states route patterns new)
+leaves_found (Ok done) row_states route patterns old new found finds from marked = λ path entry c same pats of is. unmet_marked path entry c old new found (finds path entry c same pats of is) from marked
+leaves_found (Err stop) row_states route patterns old new found finds from marked = tt
 
 -- ---- all routes
 
 -- what holds of each route and the rows of its owner
-abbrev AllHold : {R : Type 0} → (R → ℕ) → (R → Watches → Type 0) → List R → List Watches → Type 0
+abbrev AllHold : {R : Type 0} → (R → ℕ) → (R → DueRechecks → Type 0) → List R → List DueRechecks → Type 0
 AllHold {R} owner P routes ws = (r : R) → In r routes → owner r < length ws → P r (watches_at ws (owner r))
 
-hold-next : {R : Type 0} (owner : R → ℕ) (P : R → Watches → Type 0) → ((r : R) (u v : Watches) → IsFewer u v → P r u → P r v) → (routes : List R) (cur new : List Watches) (i : ℕ) (route : R) → i < length routes → route ≡ get_or routes i route
+hold-next : {R : Type 0} (owner : R → ℕ) (P : R → DueRechecks → Type 0) → ((r : R) (u v : DueRechecks) → IsFewer u v → P r u → P r v) → (routes : List R) (cur new : List DueRechecks) (i : ℕ) (route : R) → i < length routes → route ≡ get_or routes i route
     → AreFewer cur new → AllHold owner P (take i routes) cur → (owner route < length new → P route (watches_at new (owner route))) → AllHold owner P (take (i + 1) routes) new
 hold-next {R} owner P fewer routes cur new i route lt is less all one r is-in within =
     go (In-append_cases r (take i routes) (route ∷ []) (subst (λ (rs : List R). In r rs) (take_more routes i route lt ∙ ap (λ (q : R). take i routes ++ q ∷ []) (sym is)) is-in))
@@ -169,38 +169,38 @@ hold-next {R} owner P fewer routes cur new i route lt is less all one r is-in wi
     go (inr (inl e)) = subst (λ (q : R). P q (watches_at new (owner q))) e (one (subst (λ (q : R). owner q < length new) (sym e) within))
     go (inr (inr h)) = absurd h
 
-pub leave_next : (states : List StateView) (patterns : List Pattern) (routes : List RecheckRoute) (cur new : List Watches) (i : ℕ) (route : RecheckRoute) → i < length routes → route ≡ get_or routes i route → AreFewer cur new
-    → RoutesLeave states (take i routes) patterns cur → LeavesOwner states route patterns new → RoutesLeave states (take (i + 1) routes) patterns new
-leave_next states patterns routes cur new i route lt is less all one =
-    hold-next (λ (r : RecheckRoute). r.owner) (λ (r : RecheckRoute) (u : Watches). RouteLeaves states r patterns u)
+pub leave_next : (row_states : List StateView) (patterns : List Pattern) (routes : List RecheckRoute) (cur new : List DueRechecks) (i : ℕ) (route : RecheckRoute) → i < length routes → route ≡ get_or routes i route → AreFewer cur new
+    → RoutesLeave row_states (take i routes) patterns cur → LeavesOwner row_states route patterns new → RoutesLeave row_states (take (i + 1) routes) patterns new
+leave_next row_states patterns routes cur new i route lt is less all one =
+    hold-next (λ (r : RecheckRoute). r.owner) (λ (r : RecheckRoute) (u : DueRechecks). RouteLeaves row_states r patterns u)
     (λ r u z fewer leaves path entry c same pats of its x rows asks along count passed. leaves path entry c same pats of its x rows asks along count (fewer.passed x.ticket passed))
     routes cur new i route lt is less all one
 
-pub back_next : (states : List StateView) (gone : List ℕ) (backs : List BackRoute) (cur new : List Watches) (i : ℕ) (back : BackRoute) → i < length backs → back ≡ get_or backs i back → AreFewer cur new
-    → BacksLeave states (take i backs) gone cur → LeavesBackOwner states back gone new → BacksLeave states (take (i + 1) backs) gone new
-back_next states gone backs cur new i back lt is less all one =
-    hold-next (λ (r : BackRoute). r.owner) (λ (r : BackRoute) (u : Watches). BackLeaves states r gone u)
+pub back_next : (row_states : List StateView) (gone : List ℕ) (backs : List BackRoute) (cur new : List DueRechecks) (i : ℕ) (back : BackRoute) → i < length backs → back ≡ get_or backs i back → AreFewer cur new
+    → BacksLeave row_states (take i backs) gone cur → LeavesBackOwner row_states back gone new → BacksLeave row_states (take (i + 1) backs) gone new
+back_next row_states gone backs cur new i back lt is less all one =
+    hold-next (λ (r : BackRoute). r.owner) (λ (r : BackRoute) (u : DueRechecks). BackLeaves row_states r gone u)
     (λ r u z fewer leaves path at same its x rows asks along passed. leaves path at same its x rows asks along (fewer.passed x.ticket passed))
     backs cur new i back lt is less all one
 
 -- the whole list is gone over
-pub leave_all : (states : List StateView) (patterns : List Pattern) (routes : List RecheckRoute) (ws : List Watches) (i : ℕ) → length routes ≤ i → RoutesLeave states (take i routes) patterns ws → RoutesLeave states routes patterns ws
-leave_all states patterns routes ws i le all = subst (λ (rs : List RecheckRoute). RoutesLeave states rs patterns ws) (take_all i routes le) all
+pub leave_all : (row_states : List StateView) (patterns : List Pattern) (routes : List RecheckRoute) (ws : List DueRechecks) (i : ℕ) → length routes ≤ i → RoutesLeave row_states (take i routes) patterns ws → RoutesLeave row_states routes patterns ws
+leave_all row_states patterns routes ws i le all = subst (λ (rs : List RecheckRoute). RoutesLeave row_states rs patterns ws) (take_all i routes le) all
 
-pub back_whole : (states : List StateView) (gone : List ℕ) (backs : List BackRoute) (ws : List Watches) (i : ℕ) → length backs ≤ i → BacksLeave states (take i backs) gone ws → BacksLeave states backs gone ws
-back_whole states gone backs ws i le all = subst (λ (rs : List BackRoute). BacksLeave states rs gone ws) (take_all i backs le) all
+pub back_whole : (row_states : List StateView) (gone : List ℕ) (backs : List BackRoute) (ws : List DueRechecks) (i : ℕ) → length backs ≤ i → BacksLeave row_states (take i backs) gone ws → BacksLeave row_states backs gone ws
+back_whole row_states gone backs ws i le all = subst (λ (rs : List BackRoute). BacksLeave row_states rs gone ws) (take_all i backs le) all
 
-pub fewer_more : (a b c : List Watches) → AreFewer a b → AreFewer b c → AreFewer a c
+pub fewer_more : (a b c : List DueRechecks) → AreFewer a b → AreFewer b c → AreFewer a c
 fewer_more a b c f g = record { count = g.count ∙ f.count; each = λ k. fewer-then (watches_at a k) (watches_at b k) (watches_at c k) (f.each k) (g.each k) }
 
 -- ---- all inputs
 
-pub left_by_routes : (spec : JoinData) (states : List StateView) (c : PunctView) (routes : InputRoutes) (ws : List Watches) (count : ℕ) → LeadTo spec states c.input count routes → length ws ≡ count → RoutesLeave states routes.recheck c.patterns ws
-    → AreLeft spec states c ws count
-left_by_routes spec states c routes ws count lead long leaves input lt = left_at spec states c (watches_at ws input) input each
+pub left_by_routes : (spec : JoinData) (row_states : List StateView) (c : PunctView) (routes : InputRoutes) (ws : List DueRechecks) (count : ℕ) → LeadTo spec row_states c.input count routes → length ws ≡ count → RoutesLeave row_states routes.recheck c.patterns ws
+    → AreLeft spec row_states c ws count
+left_by_routes spec row_states c routes ws count lead long leaves input lt = left_at spec row_states c (watches_at ws input) input each
   where
     path : PathView
-    path = record { classes = spec.shape.classes; cert = cert_of spec input; input = input; states = states }
+    path = record { classes = spec.shape.classes; cert = cert_of spec input; input = input; row_states = row_states }
 
     each : (entry : ℕ) (e : CertEntry) → entry < length (cert_of spec input) → slice_get (cert_of spec input) entry ≡ Some e → IsLeftBy path entry c (watches_at ws input)
     each entry e within at = go (eqb e.input c.input) refl
@@ -215,12 +215,12 @@ left_by_routes spec states c routes ws count lead long leaves input lt = left_at
             (subst (λ k. IsUnmet path entry cover (watches_at ws k)) owned
             (leaves route.0 route.1 (omega (arith, owned, lt, long)) path entry cover refl refl (record { classes = refl; entry_is = at }) route.2))
 
-pub roused_by_routes : (spec : JoinData) (states now : List StateView) (other : ℕ) (gone : List ℕ) (routes : InputRoutes) (ws : List Watches) (count : ℕ) → LeadTo spec now other count routes → length ws ≡ count → BacksLeave states routes.back gone ws
-    → AreRoused spec states other gone ws count
-roused_by_routes spec states now other gone routes ws count lead long leaves input lt = roused_along spec states other gone (watches_at ws input) input aside
+pub roused_by_routes : (spec : JoinData) (row_states now : List StateView) (other : ℕ) (gone : List ℕ) (routes : InputRoutes) (ws : List DueRechecks) (count : ℕ) → LeadTo spec now other count routes → length ws ≡ count → BacksLeave row_states routes.back gone ws
+    → AreRoused spec row_states other gone ws count
+roused_by_routes spec row_states now other gone routes ws count lead long leaves input lt = roused_along spec row_states other gone (watches_at ws input) input aside
   where
     path : PathView
-    path = record { classes = spec.shape.classes; cert = cert_of spec input; input = input; states = states }
+    path = record { classes = spec.shape.classes; cert = cert_of spec input; input = input; row_states = row_states }
 
     aside : AreAside path (length (cert_of spec input)) other gone (watches_at ws input)
     aside at behind within here =
@@ -235,35 +235,35 @@ routes_is [] input r lt is = absurd (omega (arith, lt))
 routes_is (q ∷ routes) zero r lt is = is
 routes_is (q ∷ routes) (suc input) r lt is = routes_is routes input r (omega (arith, lt)) is
 
-there : (spec : JoinData) (states : List StateView) (routes : List InputRoutes) (input : ℕ) (r : InputRoutes) → AreRoutes spec states (inputs spec) routes → input < inputs spec → r ≡ get_or routes input r → r ≡ routes_at routes input
-there spec states routes input r are lt is = let long = are.long in routes_is routes input r (omega (arith, long, lt)) is
+there : (spec : JoinData) (row_states : List StateView) (routes : List InputRoutes) (input : ℕ) (r : InputRoutes) → AreRoutes spec row_states (inputs spec) routes → input < inputs spec → r ≡ get_or routes input r → r ≡ routes_at routes input
+there spec row_states routes input r are lt is = let long = are.long in routes_is routes input r (omega (arith, long, lt)) is
 
-pub fit_now : (spec : JoinData) (states lent : List StateView) (routes : List InputRoutes) (input : ℕ) (r : InputRoutes) (given : List RecheckRoute) → AreRoutes spec states (inputs spec) routes → input < inputs spec → r ≡ get_or routes input r → given ≡ r.recheck → lent ≡ states → RoutesFit lent given
-fit_now spec states lent routes input r given are lt is same own =
+pub fit_now : (spec : JoinData) (row_states lent : List StateView) (routes : List InputRoutes) (input : ℕ) (r : InputRoutes) (given : List RecheckRoute) → AreRoutes spec row_states (inputs spec) routes → input < inputs spec → r ≡ get_or routes input r → given ≡ r.recheck → lent ≡ row_states → RoutesFit lent given
+fit_now spec row_states lent routes input r given are lt is same own =
     subst (λ (ss : List StateView). RoutesFit ss given) (sym own)
-    (subst (λ (rs : List RecheckRoute). RoutesFit states rs) (sym (same ∙ ap (λ (q : InputRoutes). q.recheck) (there spec states routes input r are lt is))) (are.each input lt).fit)
+    (subst (λ (rs : List RecheckRoute). RoutesFit row_states rs) (sym (same ∙ ap (λ (q : InputRoutes). q.recheck) (there spec row_states routes input r are lt is))) (are.each input lt).fit)
 
-pub back_fit_now : (spec : JoinData) (states lent : List StateView) (routes : List InputRoutes) (input : ℕ) (r : InputRoutes) (given : List BackRoute) → AreRoutes spec states (inputs spec) routes → input < inputs spec → r ≡ get_or routes input r → given ≡ r.back → lent ≡ states → BacksFit lent given
-back_fit_now spec states lent routes input r given are lt is same own =
+pub back_fit_now : (spec : JoinData) (row_states lent : List StateView) (routes : List InputRoutes) (input : ℕ) (r : InputRoutes) (given : List BackRoute) → AreRoutes spec row_states (inputs spec) routes → input < inputs spec → r ≡ get_or routes input r → given ≡ r.back → lent ≡ row_states → BacksFit lent given
+back_fit_now spec row_states lent routes input r given are lt is same own =
     subst (λ (ss : List StateView). BacksFit ss given) (sym own)
-    (subst (λ (bs : List BackRoute). BacksFit states bs) (sym (same ∙ ap (λ (q : InputRoutes). q.back) (there spec states routes input r are lt is))) (are.each input lt).back_fit)
+    (subst (λ (bs : List BackRoute). BacksFit row_states bs) (sym (same ∙ ap (λ (q : InputRoutes). q.back) (there spec row_states routes input r are lt is))) (are.each input lt).back_fit)
 
-pub left_now : (spec : JoinData) (states lent : List StateView) (routes : List InputRoutes) (c : PunctView) (r : InputRoutes) (given : List RecheckRoute) (old new : List Watches) → AreRoutes spec states (inputs spec) routes → c.input < inputs spec → r ≡ get_or routes c.input r → given ≡ r.recheck → lent ≡ states
-    → length old ≡ inputs spec → AreFewer old new → RoutesLeave lent given c.patterns new → AreLeft spec states c new (length old)
-left_now spec states lent routes c r given old new are lt is same own count fewer leaves =
-    subst (λ n. AreLeft spec states c new n) (sym count)
-    (left_by_routes spec states c (routes_at routes c.input) new (inputs spec) (are.each c.input lt) (fewer.count ∙ count)
+pub left_now : (spec : JoinData) (row_states lent : List StateView) (routes : List InputRoutes) (c : PunctView) (r : InputRoutes) (given : List RecheckRoute) (old new : List DueRechecks) → AreRoutes spec row_states (inputs spec) routes → c.input < inputs spec → r ≡ get_or routes c.input r → given ≡ r.recheck → lent ≡ row_states
+    → length old ≡ inputs spec → AreFewer old new → RoutesLeave lent given c.patterns new → AreLeft spec row_states c new (length old)
+left_now spec row_states lent routes c r given old new are lt is same own count fewer leaves =
+    subst (λ n. AreLeft spec row_states c new n) (sym count)
+    (left_by_routes spec row_states c (routes_at routes c.input) new (inputs spec) (are.each c.input lt) (fewer.count ∙ count)
     (subst (λ (ss : List StateView). RoutesLeave ss (routes_at routes c.input).recheck c.patterns new) own
-    (subst (λ (rs : List RecheckRoute). RoutesLeave lent rs c.patterns new) (same ∙ ap (λ (q : InputRoutes). q.recheck) (there spec states routes c.input r are lt is)) leaves)))
+    (subst (λ (rs : List RecheckRoute). RoutesLeave lent rs c.patterns new) (same ∙ ap (λ (q : InputRoutes). q.recheck) (there spec row_states routes c.input r are lt is)) leaves)))
 
-pub roused_now : (spec : JoinData) (states lent : List StateView) (routes : List InputRoutes) (input : ℕ) (gone passed : List ℕ) (r : InputRoutes) (given : List BackRoute) (old new : List Watches) → AreRoutes spec states (inputs spec) routes → input < inputs spec → r ≡ get_or routes input r → given ≡ r.back → lent ≡ states → passed ≡ gone
-    → length old ≡ inputs spec → AreFewer old new → BacksLeave lent given passed new → AreRoused spec states input gone new (length old)
-roused_now spec states lent routes input gone passed r given old new are lt is same own handed count fewer leaves =
-    subst (λ n. AreRoused spec states input gone new n) (sym count)
-    (roused_by_routes spec states states input gone (routes_at routes input) new (inputs spec) (are.each input lt) (fewer.count ∙ count)
-    (subst (λ (ns : List ℕ). BacksLeave states (routes_at routes input).back ns new) handed
+pub roused_now : (spec : JoinData) (row_states lent : List StateView) (routes : List InputRoutes) (input : ℕ) (gone passed : List ℕ) (r : InputRoutes) (given : List BackRoute) (old new : List DueRechecks) → AreRoutes spec row_states (inputs spec) routes → input < inputs spec → r ≡ get_or routes input r → given ≡ r.back → lent ≡ row_states → passed ≡ gone
+    → length old ≡ inputs spec → AreFewer old new → BacksLeave lent given passed new → AreRoused spec row_states input gone new (length old)
+roused_now spec row_states lent routes input gone passed r given old new are lt is same own handed count fewer leaves =
+    subst (λ n. AreRoused spec row_states input gone new n) (sym count)
+    (roused_by_routes spec row_states row_states input gone (routes_at routes input) new (inputs spec) (are.each input lt) (fewer.count ∙ count)
+    (subst (λ (ns : List ℕ). BacksLeave row_states (routes_at routes input).back ns new) handed
     (subst (λ (ss : List StateView). BacksLeave ss (routes_at routes input).back passed new) own
-    (subst (λ (bs : List BackRoute). BacksLeave lent bs passed new) (same ∙ ap (λ (q : InputRoutes). q.back) (there spec states routes input r are lt is)) leaves))))
+    (subst (λ (bs : List BackRoute). BacksLeave lent bs passed new) (same ∙ ap (λ (q : InputRoutes). q.back) (there spec row_states routes input r are lt is)) leaves))))
 
 -- ---- the same columns are indexed
 
@@ -301,9 +301,9 @@ routes_stay spec old new count routes same are = record {
 }
 
 -- a state that is put in place of one with the same columns
-pub columns_set : (states : List StateView) (i : ℕ) (old new : StateView) → old ≡ get_or states i old → new.columns ≡ old.columns → SameColumns states (set states i new)
+pub columns_set : (row_states : List StateView) (i : ℕ) (old new : StateView) → old ≡ get_or row_states i old → new.columns ≡ old.columns → SameColumns row_states (set row_states i new)
 columns_set [] i old new is same input = refl
-columns_set (s ∷ states) zero old new is same zero = same ∙ ap (λ (t : StateView). t.columns) is
-columns_set (s ∷ states) zero old new is same (suc input) = refl
-columns_set (s ∷ states) (suc i) old new is same zero = refl
-columns_set (s ∷ states) (suc i) old new is same (suc input) = columns_set states i old new is same input
+columns_set (s ∷ row_states) zero old new is same zero = same ∙ ap (λ (t : StateView). t.columns) is
+columns_set (s ∷ row_states) zero old new is same (suc input) = refl
+columns_set (s ∷ row_states) (suc i) old new is same zero = refl
+columns_set (s ∷ row_states) (suc i) old new is same (suc input) = columns_set row_states i old new is same input

@@ -11,13 +11,13 @@ use Rattle.pj_join_laws.proofs.Matching.{agree-at, value-in}
 use Rattle.pj_recheck.specs.declared.routes.Pair.{Pair}
 use Rattle.pj_rows.specs.Tuples.{state_at, tuple_in}
 use Rattle.pj_recheck.specs.Watching.{AreAside, AreMarked, AreStored, IsPair, IsRousedAt, first_column, is_passed}
-use Rattle.pj_recheck.specs.declared.marks.Watches.{Watches}
+use Rattle.pj_recheck.specs.declared.marks.DueRechecks.{DueRechecks}
 use Rattle.pj_recheck.proofs.Through.{first-in_class}
 use Rattle.pj_recheck.proofs.Woken.{passed_more}
 
 -- ---- what is marked
 
-pub marked_now : (old new : Watches) (tickets : List ℕ) → new.from ≡ old.from → new.marked ≡ old.marked ++ tickets → AreMarked tickets new
+pub marked_now : (old new : DueRechecks) (tickets : List ℕ) → new.from ≡ old.from → new.marked ≡ old.marked ++ tickets → AreMarked tickets new
 marked_now old new tickets from marked t h =
     false_from_ne_true (is_passed new t) (λ p. false≢true (sym (passed_more old new tickets from marked t p).1 ∙ any_from (λ m. eqb m t) tickets t h (eq-eqb t t refl)))
 
@@ -46,12 +46,12 @@ asked-at classes (e ∷ f ∷ cert) (z ∷ rows) xs asks y asked (inl q) = (0, a
 asked-at classes (e ∷ f ∷ cert) (z ∷ rows) xs asks y asked (inr h) =
     let r = asked-at classes (f ∷ cert) rows (z ∷ xs) asks y asked.2 h in (suc r.0, r.1, (let l = r.2 in omega (arith, l)), r.3)
 
-pub roused_along : (spec : JoinData) (states : List StateView) (other : ℕ) (gone : List ℕ) (w : Watches) (input : ℕ)
-    → AreAside (record { classes = spec.shape.classes; cert = cert_of spec input; input = input; states = states }) (length (cert_of spec input)) other gone w → IsRousedAt spec states other gone w input
-roused_along spec states other gone w input aside s h passed rows asks stored asked y k same goes =
+pub roused_along : (spec : JoinData) (row_states : List StateView) (other : ℕ) (gone : List ℕ) (w : DueRechecks) (input : ℕ)
+    → AreAside (record { classes = spec.shape.classes; cert = cert_of spec input; input = input; row_states = row_states }) (length (cert_of spec input)) other gone w → IsRousedAt spec row_states other gone w input
+roused_along spec row_states other gone w input aside s h passed rows asks stored asked y k same goes =
     let at = asked-at spec.shape.classes (cert_of spec input) rows (tuple_in input s ∷ []) asks y asked k in
     aside (suc at.0) (omega arith) at.2 (at.3 ∙ ap (λ n. Some n) same) (tuple_in input s) rows asks (record { own = refl; stored = all; asked = asked }) passed y at.1 goes
   where
-    all : AreStored states (tuple_in input s ∷ rows)
-    all z (inl e) = (s, subst (λ n. In s (state_at states n).rows) (ap (λ (u : TupleAt). u.input) e) h, ap (λ (u : TupleAt). tuple_in u.input s) (sym e) ∙ e)
+    all : AreStored row_states (tuple_in input s ∷ rows)
+    all z (inl e) = (s, subst (λ n. In s (state_at row_states n).rows) (ap (λ (u : TupleAt). u.input) e) h, ap (λ (u : TupleAt). tuple_in u.input s) (sym e) ∙ e)
     all z (inr i) = stored z i

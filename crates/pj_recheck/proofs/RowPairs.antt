@@ -19,21 +19,21 @@ rising-rows (s ∷ rows) r = (above rows s.ticket r.0, rising-rows rows r.1)
     above [] n a = tt
     above (x ∷ xs) n a = (a.0, above xs n a.1)
 
-pub rising_at : (states : List StateView) (k : ℕ) (s : StateView) → k < length states → IsRising ticket_of (get_or states k s).rows → AreRisingRows (row_pairs states k)
-rising_at states k s lt r = subst (λ (t : StateView). AreRisingRows (pairs t.rows)) (same-at states k s no_state lt) (rising-rows (get_or states k s).rows r)
+pub rising_at : (row_states : List StateView) (k : ℕ) (s : StateView) → k < length row_states → IsRising ticket_of (get_or row_states k s).rows → AreRisingRows (row_pairs row_states k)
+rising_at row_states k s lt r = subst (λ (t : StateView). AreRisingRows (pairs t.rows)) (same-at row_states k s no_state lt) (rising-rows (get_or row_states k s).rows r)
 
 -- an input with a row has a state
-some-state : (states : List StateView) (k at : ℕ) → at < length (row_pairs states k) → k < length states
+some-state : (row_states : List StateView) (k at : ℕ) → at < length (row_pairs row_states k) → k < length row_states
 some-state [] zero at lt = absurd (omega (arith, lt))
 some-state [] (suc k) at lt = absurd (omega (arith, lt))
 some-state (s ∷ ss) zero at lt = omega arith
 some-state (s ∷ ss) (suc k) at lt = let l = some-state ss k at lt in omega (arith, l)
 
-pub pair_there : (states : List StateView) (k at : ℕ) (s : StateView) (ticket : ℕ) (row : List Value) → at < length (row_pairs states k) → slice_get (get_or states k s).rows at ≡ Some (stored ticket row) → slice_get (row_pairs states k) at ≡ Some (ticket, row)
-pair_there states k at s ticket row lt e = go (state_at states k).rows at (ap (λ (t : StateView). slice_get t.rows at) same ∙ e)
+pub pair_there : (row_states : List StateView) (k at : ℕ) (s : StateView) (ticket : ℕ) (row : List Value) → at < length (row_pairs row_states k) → slice_get (get_or row_states k s).rows at ≡ Some (stored ticket row) → slice_get (row_pairs row_states k) at ≡ Some (ticket, row)
+pair_there row_states k at s ticket row lt e = go (state_at row_states k).rows at (ap (λ (t : StateView). slice_get t.rows at) same ∙ e)
   where
-    same : state_at states k ≡ get_or states k s
-    same = same-at states k no_state s (some-state states k at lt)
+    same : state_at row_states k ≡ get_or row_states k s
+    same = same-at row_states k no_state s (some-state row_states k at lt)
 
     go : (rows : List Stored) (i : ℕ) → slice_get rows i ≡ Some (stored ticket row) → slice_get (pairs rows) i ≡ Some (ticket, row)
     go [] i q = absurd (cc)
@@ -53,11 +53,11 @@ under-pairs (s ∷ rows) ticket = go (eqb s.ticket ticket) (under-pairs rows tic
     go true e = refl
     go false e = e
 
-pub under_pair : (states : List StateView) (k ticket : ℕ) (s : StateView) → k < length states → row_under ticket (get_or states k s).rows ≡ row_with ticket (row_pairs states k)
-under_pair states k ticket s lt = under-pairs (get_or states k s).rows ticket ∙ ap (λ (t : StateView). row_with ticket (pairs t.rows)) (same-at states k s no_state lt)
+pub under_pair : (row_states : List StateView) (k ticket : ℕ) (s : StateView) → k < length row_states → row_under ticket (get_or row_states k s).rows ≡ row_with ticket (row_pairs row_states k)
+under_pair row_states k ticket s lt = under-pairs (get_or row_states k s).rows ticket ∙ ap (λ (t : StateView). row_with ticket (pairs t.rows)) (same-at row_states k s no_state lt)
 
 -- no row is found where there is no such input
-pub none_there : (states : List StateView) (k ticket : ℕ) → length states ≤ k → row_with ticket (row_pairs states k) ≡ None
+pub none_there : (row_states : List StateView) (k ticket : ℕ) → length row_states ≤ k → row_with ticket (row_pairs row_states k) ≡ None
 none_there [] zero ticket le = refl
 none_there [] (suc k) ticket le = refl
 none_there (s ∷ ss) zero ticket le = absurd (omega (arith, le))
@@ -78,5 +78,5 @@ with-pairs (s ∷ rows) column value = go (is_value value (slice_get s.row colum
     go true false e ih = absurd (false≢true (sym e))
     go false true e ih = absurd (false≢true e)
 
-pub with_pair : (states : List StateView) (k column : ℕ) (value : Value) (s : StateView) → k < length states → tickets_of (rows_with column value (get_or states k s).rows) ≡ tickets_with column value (row_pairs states k)
-with_pair states k column value s lt = with-pairs (get_or states k s).rows column value ∙ ap (λ (t : StateView). tickets_with column value (pairs t.rows)) (same-at states k s no_state lt)
+pub with_pair : (row_states : List StateView) (k column : ℕ) (value : Value) (s : StateView) → k < length row_states → tickets_of (rows_with column value (get_or row_states k s).rows) ≡ tickets_with column value (row_pairs row_states k)
+with_pair row_states k column value s lt = with-pairs (get_or row_states k s).rows column value ∙ ap (λ (t : StateView). tickets_with column value (pairs t.rows)) (same-at row_states k s no_state lt)

@@ -14,7 +14,7 @@ use Rattle.pj_cover.proofs.Classes.{first_class_is}
 use Rattle.pj_events.specs.Patterns.{Pattern, covers, matches_value}
 use Rattle.pj_events.specs.Join.{ClassCol, In, TupleAt, class_with, constant, has, instance_from, no_value, part_of, value_at, values}
 use Rattle.pj_recheck.specs.Watching.{CoverageView, IsFewer, IsKey, Limits, SideView, Tells, first_column, is_met, is_passed, watches_at}
-use Rattle.pj_recheck.specs.declared.marks.Watches.{Watches}
+use Rattle.pj_recheck.specs.declared.marks.DueRechecks.{DueRechecks}
 use Rattle.pj_rows.specs.Finding.{is_match}
 
 -- ---- what is asked for
@@ -97,7 +97,7 @@ key_is side c at own v of marked first indexed const = (indexed, uncovered)
 -- ---- what is passed over
 
 -- a ticket that is passed over is among none of those that were marked, and was passed over before
-pub passed_more : (old new : Watches) (ts : List ℕ) → new.from ≡ old.from → new.marked ≡ old.marked ++ ts → (ticket : ℕ) → is_passed new ticket ≡ true → (is_passed old ticket ≡ true) × (has ts ticket ≡ false)
+pub passed_more : (old new : DueRechecks) (ts : List ℕ) → new.from ≡ old.from → new.marked ≡ old.marked ++ ts → (ticket : ℕ) → is_passed new ticket ≡ true → (is_passed old ticket ≡ true) × (has ts ticket ≡ false)
 passed_more old new ts from marked ticket t =
     go (has old.marked ticket) refl (has ts ticket) refl (ap₂ (λ n (ms : List ℕ). ltb ticket n && not (has ms ticket)) (sym from) (sym marked) ∙ t)
   where
@@ -114,24 +114,24 @@ passed_more old new ts from marked ticket t =
 
 -- ---- all inputs
 
-pub at-set : (ws : List Watches) (i k : ℕ) (w : Watches) → i < length ws → (k ≡ i → ⊥) → watches_at (set ws i w) k ≡ watches_at ws k
+pub at-set : (ws : List DueRechecks) (i k : ℕ) (w : DueRechecks) → i < length ws → (k ≡ i → ⊥) → watches_at (set ws i w) k ≡ watches_at ws k
 at-set [] i k w lt ne = absurd (omega (arith, lt))
 at-set (v ∷ ws) zero zero w lt ne = absurd (ne refl)
 at-set (v ∷ ws) zero (suc k) w lt ne = refl
 at-set (v ∷ ws) (suc i) zero w lt ne = refl
 at-set (v ∷ ws) (suc i) (suc k) w lt ne = at-set ws i k w (omega (arith, lt)) (λ e. ne (ap suc e))
 
-pub at-place : (ws : List Watches) (i : ℕ) (w : Watches) → i < length ws → watches_at (set ws i w) i ≡ w
+pub at-place : (ws : List DueRechecks) (i : ℕ) (w : DueRechecks) → i < length ws → watches_at (set ws i w) i ≡ w
 at-place [] i w lt = absurd (omega (arith, lt))
 at-place (v ∷ ws) zero w lt = refl
 at-place (v ∷ ws) (suc i) w lt = at-place ws i w (omega (arith, lt))
 
-pub set-count : (ws : List Watches) (i : ℕ) (w : Watches) → length (set ws i w) ≡ length ws
+pub set-count : (ws : List DueRechecks) (i : ℕ) (w : DueRechecks) → length (set ws i w) ≡ length ws
 set-count [] i w = refl
 set-count (v ∷ ws) zero w = refl
 set-count (v ∷ ws) (suc i) w = ap suc (set-count ws i w)
 
-pub fewer-then : (a b c : Watches) → IsFewer a b → IsFewer b c → IsFewer a c
+pub fewer-then : (a b c : DueRechecks) → IsFewer a b → IsFewer b c → IsFewer a c
 fewer-then a b c f g = let l = f.from in let m = g.from in record { from = omega (arith, l, m); passed = λ ticket t. f.passed ticket (g.passed ticket t) }
 
 pub by-place : (P : ℕ → Type 0) (i k : ℕ) → P i → ((k ≡ i → ⊥) → P k) → P k

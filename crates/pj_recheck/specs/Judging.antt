@@ -24,14 +24,14 @@ pub record JudgeView : Type 0 where
   pub schemes : List (List (List Bool))
   pub cert : List CertStep
   pub input : ℕ
-  pub states : List StateView
-  pub stores : List Store
+  pub row_states : List StateView
+  pub punct_stores : List Store
   pub low : ℕ
 
 -- these can be judged by: the parts and the schemes fit, and the route follows a certificate of the input
-pub record MayJudge (spec : JoinSpec) (schemes : List (List (List Bool))) (route : RouteView) (input : ℕ) (states : List StateView) (stores : List Store) : Type 0 where
-  pub parts : AreParts spec (row_pairs states) stores
-  pub count : length states ≡ length spec.inputs
+pub record MayJudge (spec : JoinSpec) (schemes : List (List (List Bool))) (route : RouteView) (input : ℕ) (row_states : List StateView) (punct_stores : List Store) : Type 0 where
+  pub parts : AreParts spec (row_pairs row_states) punct_stores
+  pub count : length row_states ≡ length spec.inputs
   pub there : input < length spec.inputs
   pub fitting : FitSchemes spec.inputs schemes
   pub certified : IsCertificate spec schemes input (steps_in route)
@@ -39,11 +39,11 @@ pub record MayJudge (spec : JoinSpec) (schemes : List (List (List Bool))) (route
 
 -- the rows of the input
 abbrev pub rows_at : JudgeView → List Stored
-rows_at j = (state_at j.states j.input).rows
+rows_at j = (state_at j.row_states j.input).rows
 
 -- whether a row of the input is ripe
 abbrev pub ripe_at : JudgeView → Stored → Bool
-ripe_at j s = is_ripe (known_of j.spec (row_pairs j.states) j.stores j.low) (entries j.schemes j.cert) (tuple_of j.input (pair_of s))
+ripe_at j s = is_ripe (known_of j.spec (row_pairs j.row_states) j.punct_stores j.low) (entries j.schemes j.cert) (tuple_of j.input (pair_of s))
 
 abbrev pub row_in : Stored → List Value
 row_in s = s.row

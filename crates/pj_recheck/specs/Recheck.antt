@@ -15,7 +15,7 @@ use Rattle.pj_recheck.specs.declared.routes.BackRoute.{BackRoute}
 use Rattle.pj_recheck.specs.declared.routes.InputRoutes.{InputRoutes}
 use Rattle.pj_rows.specs.Tuples.{state_at}
 use Rattle.pj_recheck.specs.Watching.{Asker, CoverageView, FindCovered, IsAsideAt, IsOfEntry, IsPair, IsUnmet, LeadsBack, PathView, asker, first_column, input_of, watches_at}
-use Rattle.pj_recheck.specs.declared.marks.Watches.{Watches}
+use Rattle.pj_recheck.specs.declared.marks.DueRechecks.{DueRechecks}
 
 -- ---- routes of a plan
 
@@ -78,30 +78,30 @@ abbrev pub LeadsIn : List ℕ → List Lead → Type 0
 LeadsIn columns leads = (lead : Lead) → In lead leads → In lead.column columns
 
 abbrev pub LeadsFit : List StateView → ℕ → List Lead → Type 0
-LeadsFit states input leads = LeadsIn (state_at states input).columns leads
+LeadsFit row_states input leads = LeadsIn (state_at row_states input).columns leads
 
 abbrev pub HopFits : List StateView → Hop → Type 0
-HopFits states hop = In hop.pair.mine (state_at states hop.input).columns
+HopFits row_states hop = In hop.pair.mine (state_at row_states hop.input).columns
 
 abbrev pub HopsFit : List StateView → List Hop → Type 0
-HopsFit states hops = (hop : Hop) → In hop hops → HopFits states hop
+HopsFit row_states hops = (hop : Hop) → In hop hops → HopFits row_states hop
 
 abbrev pub WayFits : List StateView → Way → Type 0
-WayFits states way = HopFits states way.first × HopsFit states way.rest
+WayFits row_states way = HopFits row_states way.first × HopsFit row_states way.rest
 
-pub record StopFits (states : List StateView) (stop : Stop) : Type 0 where
-  pub leads : LeadsFit states stop.input stop.leads
-  pub way : IfSome stop.way (WayFits states)
+pub record StopFits (row_states : List StateView) (stop : Stop) : Type 0 where
+  pub leads : LeadsFit row_states stop.input stop.leads
+  pub way : IfSome stop.way (WayFits row_states)
 
 abbrev pub StopsFit : List StateView → List Stop → Type 0
-StopsFit states stops = (stop : Stop) → In stop stops → StopFits states stop
+StopsFit row_states stops = (stop : Stop) → In stop stops → StopFits row_states stop
 
-pub record RouteFits (states : List StateView) (route : RecheckRoute) : Type 0 where
-  pub own : LeadsFit states route.owner route.own
-  pub behind : StopsFit states route.behind
+pub record RouteFits (row_states : List StateView) (route : RecheckRoute) : Type 0 where
+  pub own : LeadsFit row_states route.owner route.own
+  pub behind : StopsFit row_states route.behind
 
 abbrev pub RoutesFit : List StateView → List RecheckRoute → Type 0
-RoutesFit states routes = (route : RecheckRoute) → In route routes → RouteFits states route
+RoutesFit row_states routes = (route : RecheckRoute) → In route routes → RouteFits row_states route
 
 -- ---- what is found by them
 
@@ -115,10 +115,10 @@ HasLimit leads patterns column pattern = (lead : Lead) × In lead leads × (lead
 
 -- the steps lead from rows with these tickets to the rows that ask
 abbrev pub HopsLead : List StateView → List Hop → List ℕ → List ℕ → Type 0
-HopsLead states hops tickets found = (path : PathView) (at : ℕ) → path.states ≡ states → AreHops (asker path) at hops → LeadsBack path at tickets found
+HopsLead row_states hops tickets found = (path : PathView) (at : ℕ) → path.row_states ≡ row_states → AreHops (asker path) at hops → LeadsBack path at tickets found
 
 abbrev pub WayLeads : List StateView → Way → List ℕ → List ℕ → Type 0
-WayLeads states way tickets found = HopsLead states (way.first ∷ way.rest) tickets found
+WayLeads row_states way tickets found = HopsLead row_states (way.first ∷ way.rest) tickets found
 
 -- what an entry asks for that has this coverage
 abbrev pub entry_on : CoverageView → CertEntry
@@ -126,28 +126,28 @@ entry_on c = entry_with c.input c.marks
 
 -- these are the tickets of all rows that ask for what the punctuation covers, by an entry up to which the stop is
 abbrev pub StopFinds : List StateView → Stop → List Pattern → List ℕ → Type 0
-StopFinds states stop patterns found =
-    (path : PathView) (entry : ℕ) (c : CoverageView) → path.states ≡ states → c.patterns ≡ patterns → IsOfEntry path entry c → IsStop (asker path) entry (entry_on c) stop → FindCovered path entry c found
+StopFinds row_states stop patterns found =
+    (path : PathView) (entry : ℕ) (c : CoverageView) → path.row_states ≡ row_states → c.patterns ≡ patterns → IsOfEntry path entry c → IsStop (asker path) entry (entry_on c) stop → FindCovered path entry c found
 
 abbrev pub StopsFind : List StateView → List Stop → List Pattern → List ℕ → Type 0
-StopsFind states stops patterns found = (stop : Stop) × In stop stops × StopFinds states stop patterns found
+StopsFind row_states stops patterns found = (stop : Stop) × In stop stops × StopFinds row_states stop patterns found
 
 -- the same by the entry of the route
 abbrev pub RouteFinds : List StateView → RecheckRoute → List Pattern → List ℕ → Type 0
-RouteFinds states route patterns found =
-    (path : PathView) (entry : ℕ) (c : CoverageView) → path.states ≡ states → c.patterns ≡ patterns → IsOfEntry path entry c → IsRecheckRoute (asker path) entry (entry_on c) route → FindCovered path entry c found
+RouteFinds row_states route patterns found =
+    (path : PathView) (entry : ℕ) (c : CoverageView) → path.row_states ≡ row_states → c.patterns ≡ patterns → IsOfEntry path entry c → IsRecheckRoute (asker path) entry (entry_on c) route → FindCovered path entry c found
 
 -- the punctuation covers nothing that rows ask for by the entry of the route that are passed over
-abbrev pub RouteLeaves : List StateView → RecheckRoute → List Pattern → Watches → Type 0
-RouteLeaves states route patterns w =
-    (path : PathView) (entry : ℕ) (c : CoverageView) → path.states ≡ states → c.patterns ≡ patterns → IsOfEntry path entry c → IsRecheckRoute (asker path) entry (entry_on c) route → IsUnmet path entry c w
+abbrev pub RouteLeaves : List StateView → RecheckRoute → List Pattern → DueRechecks → Type 0
+RouteLeaves row_states route patterns w =
+    (path : PathView) (entry : ℕ) (c : CoverageView) → path.row_states ≡ row_states → c.patterns ≡ patterns → IsOfEntry path entry c → IsRecheckRoute (asker path) entry (entry_on c) route → IsUnmet path entry c w
 
 -- the same among the rows of its owner
-abbrev pub LeavesOwner : List StateView → RecheckRoute → List Pattern → List Watches → Type 0
-LeavesOwner states route patterns ws = route.owner < length ws → RouteLeaves states route patterns (watches_at ws route.owner)
+abbrev pub LeavesOwner : List StateView → RecheckRoute → List Pattern → List DueRechecks → Type 0
+LeavesOwner row_states route patterns ws = route.owner < length ws → RouteLeaves row_states route patterns (watches_at ws route.owner)
 
-abbrev pub RoutesLeave : List StateView → List RecheckRoute → List Pattern → List Watches → Type 0
-RoutesLeave states routes patterns ws = (route : RecheckRoute) → In route routes → LeavesOwner states route patterns ws
+abbrev pub RoutesLeave : List StateView → List RecheckRoute → List Pattern → List DueRechecks → Type 0
+RoutesLeave row_states routes patterns ws = (route : RecheckRoute) → In route routes → LeavesOwner row_states route patterns ws
 
 -- ---- rows that go
 
@@ -157,18 +157,18 @@ HaveBacks a count other backs =
     (at : ℕ) → 0 < at → at < count → input_of a at ≡ Some other → (back : BackRoute) × In back backs × (back.owner ≡ a.input) × IfSome back.way (IsWay a at)
 
 abbrev pub BacksFit : List StateView → List BackRoute → Type 0
-BacksFit states backs = (back : BackRoute) → In back backs → IfSome back.way (WayFits states)
+BacksFit row_states backs = (back : BackRoute) → In back backs → IfSome back.way (WayFits row_states)
 
 -- no row that is passed over asks through one with such a ticket at the position from which the route leads back
-abbrev pub BackLeaves : List StateView → BackRoute → List ℕ → Watches → Type 0
-BackLeaves states back gone w = (path : PathView) (at : ℕ) → path.states ≡ states → IfSome back.way (IsWay (asker path) at) → IsAsideAt path at gone w
+abbrev pub BackLeaves : List StateView → BackRoute → List ℕ → DueRechecks → Type 0
+BackLeaves row_states back gone w = (path : PathView) (at : ℕ) → path.row_states ≡ row_states → IfSome back.way (IsWay (asker path) at) → IsAsideAt path at gone w
 
 -- the same among the rows of its owner
-abbrev pub LeavesBackOwner : List StateView → BackRoute → List ℕ → List Watches → Type 0
-LeavesBackOwner states back gone ws = back.owner < length ws → BackLeaves states back gone (watches_at ws back.owner)
+abbrev pub LeavesBackOwner : List StateView → BackRoute → List ℕ → List DueRechecks → Type 0
+LeavesBackOwner row_states back gone ws = back.owner < length ws → BackLeaves row_states back gone (watches_at ws back.owner)
 
-abbrev pub BacksLeave : List StateView → List BackRoute → List ℕ → List Watches → Type 0
-BacksLeave states backs gone ws = (back : BackRoute) → In back backs → LeavesBackOwner states back gone ws
+abbrev pub BacksLeave : List StateView → List BackRoute → List ℕ → List DueRechecks → Type 0
+BacksLeave row_states backs gone ws = (back : BackRoute) → In back backs → LeavesBackOwner row_states back gone ws
 
 -- ---- all routes of a join
 
@@ -182,13 +182,13 @@ abbrev pub routes_at : List InputRoutes → ℕ → InputRoutes
 routes_at routes input = slice_index_or routes input no_routes
 
 -- these are the routes from an input to the first so many inputs
-pub record LeadTo (spec : JoinData) (states : List StateView) (input count : ℕ) (routes : InputRoutes) : Type 0 where
+pub record LeadTo (spec : JoinData) (row_states : List StateView) (input count : ℕ) (routes : InputRoutes) : Type 0 where
   pub recheck : (owner : ℕ) → owner < count → HaveRoutes (asker_at spec owner) (length (cert_of spec owner)) input routes.recheck
-  pub fit : RoutesFit states routes.recheck
+  pub fit : RoutesFit row_states routes.recheck
   pub back : (owner : ℕ) → owner < count → HaveBacks (asker_at spec owner) (length (cert_of spec owner)) input routes.back
-  pub back_fit : BacksFit states routes.back
+  pub back_fit : BacksFit row_states routes.back
 
 -- these are the routes of the first so many inputs
-pub record AreRoutes (spec : JoinData) (states : List StateView) (count : ℕ) (routes : List InputRoutes) : Type 0 where
+pub record AreRoutes (spec : JoinData) (row_states : List StateView) (count : ℕ) (routes : List InputRoutes) : Type 0 where
   pub long : length routes ≡ count
-  pub each : (input : ℕ) → input < count → LeadTo spec states input (inputs spec) (routes_at routes input)
+  pub each : (input : ℕ) → input < count → LeadTo spec row_states input (inputs spec) (routes_at routes input)

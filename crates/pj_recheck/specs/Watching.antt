@@ -1,7 +1,7 @@
 -- Which stored tuples of an input a sweep has to judge.
 pub use Rattle.pj_cover.specs.Asking.{AsksStill}
-pub use Rattle.pj_recheck.specs.declared.marks.Watches.{Watches}
-pub use Rattle.pj_recheck.specs.declared.marks.Judged.{Judged}
+pub use Rattle.pj_recheck.specs.declared.marks.DueRechecks.{DueRechecks}
+pub use Rattle.pj_recheck.specs.declared.marks.SweepResult.{SweepResult}
 use Rattle.std.specs.Option.{option_map}
 use Rattle.std.specs.Prelude.{ℕ, zero, suc, ◌<◌, ◌≤◌, ◌≡◌, ◌==◌, if◌then◌else◌, Bool, true, false, not, nat_lt, ◌&&◌, ◌||◌, List, [], ◌∷◌, ◌++◌, Option, Some, None, filter, flat_map, length, slice_get, slice_index_or}
 use Rattle.pj_value.specs.declared.values.Value.{Value}
@@ -18,14 +18,14 @@ use Rattle.pj_rows.specs.Tuples.{row_pairs, state_at, tuple_in, under_with}
 use Rattle.pj_recheck.specs.declared.routes.Pair.{Pair}
 use Rattle.pj_rows.specs.Finding.{is_match}
 
-abbrev pub no_watches : Watches
-no_watches = record { from = 0; marked = [] }
+abbrev pub none_due : DueRechecks
+none_due = record { from = 0; marked = [] }
 
-abbrev pub watches_at : List Watches → ℕ → Watches
-watches_at ws input = slice_index_or ws input no_watches
+abbrev pub watches_at : List DueRechecks → ℕ → DueRechecks
+watches_at ws input = slice_index_or ws input none_due
 
 -- the tuple with this ticket was judged, and is not marked: it is passed over
-abbrev pub is_passed : Watches → ℕ → Bool
+abbrev pub is_passed : DueRechecks → ℕ → Bool
 is_passed w ticket = nat_lt ticket w.from && not (has w.marked ticket)
 
 abbrev pub known : List (List ClassCol) → List TupleAt → List PunctAt → ℕ → Known
@@ -34,7 +34,7 @@ known classes stored puncts low = record { classes = classes; stored = stored; p
 -- ---- what a punctuation marks
 
 -- no row more is passed over
-pub record IsFewer (old new : Watches) : Type 0 where
+pub record IsFewer (old new : DueRechecks) : Type 0 where
   pub from : new.from ≤ old.from
   pub passed : (ticket : ℕ) → is_passed new ticket ≡ true → is_passed old ticket ≡ true
 
@@ -44,7 +44,7 @@ pub record SideView : Type 0 where
   pub state : StateView
 
 abbrev pub side_at : List StateView → ℕ → SideView
-side_at states input = record { input = input; state = state_at states input }
+side_at row_states input = record { input = input; state = state_at row_states input }
 
 -- a punctuation that comes: its input and its patterns
 pub record PunctView : Type 0 where
@@ -57,20 +57,20 @@ come_at c ticket = record { ticket = ticket; input = c.input; patterns = c.patte
 
 -- the tuples stand in these states
 abbrev pub AreStored : List StateView → List TupleAt → Type 0
-AreStored states ys = (y : TupleAt) → In y ys → (t : Stored) × In t (state_at states y.input).rows × (tuple_in y.input t ≡ y)
+AreStored row_states ys = (y : TupleAt) → In y ys → (t : Stored) × In t (state_at row_states y.input).rows × (tuple_in y.input t ≡ y)
 
 -- whatever its ticket, the punctuation covers nothing that a row asks for, through whatever rows, that is passed over
-abbrev pub AreLeftAt : JoinData → List StateView → PunctView → Watches → ℕ → Type 0
-AreLeftAt spec states c w input =
-    (ticket : ℕ) (s : Stored) → In s (state_at states input).rows → is_passed w s.ticket ≡ true → (rows : List TupleAt) (asks : Demand) → AreStored states rows
+abbrev pub AreLeftAt : JoinData → List StateView → PunctView → DueRechecks → ℕ → Type 0
+AreLeftAt spec row_states c w input =
+    (ticket : ℕ) (s : Stored) → In s (state_at row_states input).rows → is_passed w s.ticket ≡ true → (rows : List TupleAt) (asks : Demand) → AreStored row_states rows
     → IsAsked spec.shape.classes (cert_of spec input) rows (tuple_in input s ∷ []) asks → covered (come_at c ticket ∷ []) asks ≡ false
 
 -- the same of the first so many inputs
-abbrev pub AreLeft : JoinData → List StateView → PunctView → List Watches → ℕ → Type 0
-AreLeft spec states c ws count = (input : ℕ) → input < count → AreLeftAt spec states c (watches_at ws input) input
+abbrev pub AreLeft : JoinData → List StateView → PunctView → List DueRechecks → ℕ → Type 0
+AreLeft spec row_states c ws count = (input : ℕ) → input < count → AreLeftAt spec row_states c (watches_at ws input) input
 
 -- of no input are more rows passed over
-pub record AreFewer (old new : List Watches) : Type 0 where
+pub record AreFewer (old new : List DueRechecks) : Type 0 where
   pub count : length new ≡ length old
   pub each : (input : ℕ) → IsFewer (watches_at old input) (watches_at new input)
 
@@ -121,7 +121,7 @@ IsPair classes input other pair =
     (x y : TupleAt) → x.input ≡ input → y.input ≡ other → agree classes (y ∷ x ∷ []) ≡ true → value_at x.row pair.mine ≡ value_at y.row pair.theirs
 
 -- no row with one of these tickets is passed over
-abbrev pub AreMarked : List ℕ → Watches → Type 0
+abbrev pub AreMarked : List ℕ → DueRechecks → Type 0
 AreMarked tickets w = (t : ℕ) → In t tickets → is_passed w t ≡ false
 
 -- these are the tickets of all rows that have one value in these columns with a row of these other tickets
@@ -134,12 +134,12 @@ pub record PathView : Type 0 where
   pub classes : List (List ClassCol)
   pub cert : List CertEntry
   pub input : ℕ
-  pub states : List StateView
+  pub row_states : List StateView
 
 -- the tuple is a row of the path's input, and asks for this through these rows
 pub record AsksAlong (path : PathView) (x : TupleAt) (rows : List TupleAt) (asks : Demand) : Type 0 where
   pub own : x.input ≡ path.input
-  pub stored : AreStored path.states (x ∷ rows)
+  pub stored : AreStored path.row_states (x ∷ rows)
   pub asked : IsAsked path.classes path.cert rows (x ∷ []) asks
 
 -- an input, and the certificate by which its rows ask
@@ -175,12 +175,12 @@ FindCovered path entry c found =
     (x : TupleAt) (rows : List TupleAt) (asks : Demand) → AsksAlong path x rows asks → length rows ≡ entry → covers c.patterns asks.instance ≡ true → In x.ticket found
 
 -- whatever its ticket, the punctuation covers nothing that the path's rows ask for by this entry that are passed over
-abbrev pub IsLeftBy : PathView → ℕ → PunctView → Watches → Type 0
+abbrev pub IsLeftBy : PathView → ℕ → PunctView → DueRechecks → Type 0
 IsLeftBy path entry c w =
     (ticket : ℕ) (x : TupleAt) (rows : List TupleAt) (asks : Demand) → AsksAlong path x rows asks → length rows ≡ entry → is_passed w x.ticket ≡ true → covered (come_at c ticket ∷ []) asks ≡ false
 
 -- the same of a punctuation of the entry's input
-abbrev pub IsUnmet : PathView → ℕ → CoverageView → Watches → Type 0
+abbrev pub IsUnmet : PathView → ℕ → CoverageView → DueRechecks → Type 0
 IsUnmet path entry c w = (x : TupleAt) (rows : List TupleAt) (asks : Demand) → AsksAlong path x rows asks → length rows ≡ entry → is_passed w x.ticket ≡ true → covers c.patterns asks.instance ≡ false
 
 -- the coverage is of what is asked for by this entry
@@ -189,29 +189,29 @@ pub record IsOfEntry (path : PathView) (entry : ℕ) (c : CoverageView) : Type 0
   pub entry_is : slice_get path.cert entry ≡ Some (record { input = c.input; marks = c.marks })
 
 -- no row of the path's input that is passed over asks through one with such a ticket at this position
-abbrev pub IsAsideAt : PathView → ℕ → List ℕ → Watches → Type 0
+abbrev pub IsAsideAt : PathView → ℕ → List ℕ → DueRechecks → Type 0
 IsAsideAt path at gone w =
     (x : TupleAt) (rows : List TupleAt) (asks : Demand) → AsksAlong path x rows asks → is_passed w x.ticket ≡ true → (y : TupleAt) → slice_get (x ∷ rows) at ≡ Some y → In y.ticket gone → ⊥
 
 -- nor at any of the first so many positions, its own aside, that are of the other input
-abbrev pub AreAside : PathView → ℕ → ℕ → List ℕ → Watches → Type 0
+abbrev pub AreAside : PathView → ℕ → ℕ → List ℕ → DueRechecks → Type 0
 AreAside path count other gone w = (at : ℕ) → 0 < at → at < count → input_at path at ≡ Some other → IsAsideAt path at gone w
 
 -- no row of the input that is passed over asks through a row of the other one that goes
-abbrev pub IsRousedAt : JoinData → List StateView → ℕ → List ℕ → Watches → ℕ → Type 0
-IsRousedAt spec states other gone w input =
-    (s : Stored) → In s (state_at states input).rows → is_passed w s.ticket ≡ true → (rows : List TupleAt) (asks : Demand) → AreStored states rows
+abbrev pub IsRousedAt : JoinData → List StateView → ℕ → List ℕ → DueRechecks → ℕ → Type 0
+IsRousedAt spec row_states other gone w input =
+    (s : Stored) → In s (state_at row_states input).rows → is_passed w s.ticket ≡ true → (rows : List TupleAt) (asks : Demand) → AreStored row_states rows
     → IsAsked spec.shape.classes (cert_of spec input) rows (tuple_in input s ∷ []) asks → (y : TupleAt) → In y rows → y.input ≡ other → In y.ticket gone → ⊥
 
 -- the same of the first so many inputs
-abbrev pub AreRoused : JoinData → List StateView → ℕ → List ℕ → List Watches → ℕ → Type 0
-AreRoused spec states other gone ws count = (input : ℕ) → input < count → IsRousedAt spec states other gone (watches_at ws input) input
+abbrev pub AreRoused : JoinData → List StateView → ℕ → List ℕ → List DueRechecks → ℕ → Type 0
+AreRoused spec row_states other gone ws count = (input : ℕ) → input < count → IsRousedAt spec row_states other gone (watches_at ws input) input
 
 -- ---- what a judge says
 
 -- through rows below the low-water ticket the row asks for something that no punctuation covers
 abbrev pub IsOpenAt : JudgeView → Stored → Type 0
-IsOpenAt j s = AsksStill (known_of j.spec (row_pairs j.states) j.stores j.low) (entries j.schemes j.cert) (tuple_in j.input s)
+IsOpenAt j s = AsksStill (known_of j.spec (row_pairs j.row_states) j.punct_stores j.low) (entries j.schemes j.cert) (tuple_in j.input s)
 
 -- it is ripe; or it is not, and where it is below the low-water ticket asks for something that no punctuation covers; or it is
 -- not ripe
@@ -237,20 +237,20 @@ abbrev pub IsLookedAt : JudgeView → List ℕ → Stored → Type 0
 IsLookedAt j marked s = s.ticket < j.low → ripe_at j s ≡ false → has marked s.ticket ≡ false → IsOpenAt j s
 
 -- the row with this ticket was judged
-pub record IsOneJudged (j : JudgeView) (ticket : ℕ) (old new : Judged) : Type 0 where
+pub record IsOneJudged (j : JudgeView) (ticket : ℕ) (old new : SweepResult) : Type 0 where
   pub gone : new.gone ≡ old.gone ++ tickets_of (picked j ticket)
   pub more : (m : ℕ) → has new.marked m ≡ false → has old.marked m ≡ false
   pub looked : (row : List Value) → Some row ≡ row_under ticket (rows_at j) → IsLookedAt j new.marked (stored ticket row)
 
 -- the rows with these tickets were
-pub record AreJudged (j : JudgeView) (tickets : List ℕ) (judged : Judged) : Type 0 where
+pub record AreJudged (j : JudgeView) (tickets : List ℕ) (judged : SweepResult) : Type 0 where
   pub gone : judged.gone ≡ tickets_of (all_picked j tickets)
   pub looked : (t : ℕ) → In t tickets → (row : List Value) → Some row ≡ row_under t (rows_at j) → IsLookedAt j judged.marked (stored t row)
 
 -- no row that is passed over is ripe
-abbrev pub NoneIsRipe : JudgeView → Watches → Type 0
+abbrev pub NoneIsRipe : JudgeView → DueRechecks → Type 0
 NoneIsRipe j w = (s : Stored) → In s (rows_at j) → is_passed w s.ticket ≡ true → ripe_at j s ≡ false
 
 -- each other row was judged
-abbrev pub AreLookedAt : JudgeView → Watches → List ℕ → Type 0
+abbrev pub AreLookedAt : JudgeView → DueRechecks → List ℕ → Type 0
 AreLookedAt j w marked = (s : Stored) → In s (rows_at j) → is_passed w s.ticket ≡ false → IsLookedAt j marked s

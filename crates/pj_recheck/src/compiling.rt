@@ -56,7 +56,7 @@ struct Path<'a> {
     schemes: &'a Schemes,
     cert: &'a Cert,
     input: u32,
-    states: &'a [State],
+    row_states: &'a [State],
 }
 
 impl<'a> Model for Path<'a> {
@@ -65,28 +65,28 @@ impl<'a> Model for Path<'a> {
 
     ghost Value = { PathView };
 
-    ghost view = { λ p. record { classes = p.classes.now; cert = entries p.schemes.now p.cert.now; input = p.input; states = p.states.now } };
+    ghost view = { λ p. record { classes = p.classes.now; cert = entries p.schemes.now p.cert.now; input = p.input; row_states = p.row_states.now } };
 }
 
 // A step back to a position before.
 #[derive(Clone, Copy)]
-struct Link {
+struct SharedColumn {
     before: usize,
     hop: Hop,
 }
 
 impl<'a> Certified<'a> {
     // The path of the rows of an input, by its certificate.
-    fn path(&self, cert: &'a Cert, input: usize, states: &'a [State]) -> Path<'a>
+    fn path(&self, cert: &'a Cert, input: usize, row_states: &'a [State]) -> Path<'a>
         requires few { input < 2 ^ 32 }
-        ensures { result ≡ record { classes = self.now.shape.classes; cert = entries self.now.schemes cert.now; input = input; states = states.now } }
+        ensures { result ≡ record { classes = self.now.shape.classes; cert = entries self.now.schemes cert.now; input = input; row_states = row_states.now } }
     {
         Path {
             classes: self.spec.classes.as_slice(),
             schemes: self.schemes,
             cert,
             input: input as u32,
-            states,
+            row_states,
         }
     }
 }
@@ -271,11 +271,11 @@ impl<'a> Path<'a> {
     // The rows of the input at a position.
     fn side(&self, at: usize) -> Option<Side<'a>>
         ensures input { IfSome result (λ side. input_at self.now at ≡ Some side.input) }
-        ensures rows { IfSome result (λ side. side ≡ side_at self.now.states side.input) }
+        ensures rows { IfSome result (λ side. side ≡ side_at self.now.row_states side.input) }
     {
         match self.input_at(at) {
             None => None,
-            Some(input) => match self.states.get(input as usize) {
+            Some(input) => match self.row_states.get(input as usize) {
                 None => None,
                 Some(state) => Some(Side { input, state }),
             },
@@ -283,9 +283,9 @@ impl<'a> Path<'a> {
     }
 
     // The step back to the first position before this one whose input shares a class with the one here, by an indexed column.
-    fn link(&self, at: usize) -> Option<Link>
+    fn link(&self, at: usize) -> Option<SharedColumn>
         ensures hop { IfSome result (λ link. IsHop (asker self.now) at link.before link.hop) }
-        ensures fits { IfSome result (λ link. HopFits self.now.states link.hop) }
+        ensures fits { IfSome result (λ link. HopFits self.now.row_states link.hop) }
     {
         match self.input_at(at) {
             None => None,
@@ -293,7 +293,7 @@ impl<'a> Path<'a> {
                 for before in 0..at {
                     match self.link_to(before, other) {
                         None => {}
-                        Some(hop) => return Some(Link { before, hop }),
+                        Some(hop) => return Some(SharedColumn { before, hop }),
                     }
                 }
                 None
@@ -306,7 +306,7 @@ impl<'a> Path<'a> {
         ensures input { IfSome result (λ hop. input_at self.now before ≡ Some hop.input) }
         ensures other { IfSome result (λ hop. hop.other ≡ other) }
         ensures joins { IfSome result (λ hop. IsPair self.now.classes hop.input other hop.pair) }
-        ensures fits { IfSome result (HopFits self.now.states) }
+        ensures fits { IfSome result (HopFits self.now.row_states) }
     {
         match self.side(before) {
             None => None,
@@ -324,7 +324,7 @@ impl<'a> Path<'a> {
     // The steps back from a position to the own one.
     fn hops(&self, alloc: Global, at: usize) -> Result<Option<List<Hop>>, NoMemory>
         ensures hops { IfOk result (λ told. IfSome told (AreHops (asker self.now) at)) }
-        ensures fits { IfOk result (λ told. IfSome told (HopsFit self.now.states)) }
+        ensures fits { IfOk result (λ told. IfSome told (HopsFit self.now.row_states)) }
     {
         let mut hops = List::new(alloc);
         let mut at = at;
@@ -343,7 +343,7 @@ impl<'a> Path<'a> {
     // The way back from a position behind the own one.
     fn way(&self, alloc: Global, at: usize) -> Result<Option<Way>, NoMemory>
         ensures way { IfOk result (λ told. IfSome told (IsWay (asker self.now) at)) }
-        ensures fits { IfOk result (λ told. IfSome told (WayFits self.now.states)) }
+        ensures fits { IfOk result (λ told. IfSome told (WayFits self.now.row_states)) }
     {
         match self.link(at) {
             None => Ok(None),
@@ -360,7 +360,7 @@ impl<'a> Path<'a> {
     // How the columns of a punctuation lead to the rows of the path's own input.
     fn own_leads(&self, alloc: Global, input: u32, scheme: &Scheme) -> Result<List<Lead>, NoMemory>
         ensures leads { IfOk result (AreLeads self.now.classes (entry_with input scheme.now) self.now.input) }
-        ensures fits { IfOk result (LeadsFit self.now.states self.now.input) }
+        ensures fits { IfOk result (LeadsFit self.now.row_states self.now.input) }
     {
         match self.side(0) {
             None => Ok(List::new(alloc)),
@@ -380,7 +380,7 @@ impl<'a> Path<'a> {
         scheme: &Scheme,
     ) -> Result<Option<Stop>, NoMemory>
         ensures stop { IfOk result (λ told. IfSome told (IsStop (asker self.now) at (entry_with input scheme.now))) }
-        ensures fits { IfOk result (λ told. IfSome told (StopFits self.now.states)) }
+        ensures fits { IfOk result (λ told. IfSome told (StopFits self.now.row_states)) }
     {
         match self.side(at) {
             None => Ok(None),
@@ -406,7 +406,7 @@ impl<'a> Path<'a> {
         stops: &mut List<Stop>,
     ) -> Result<(), NoMemory>
         ensures stops { OnOk result (KeepStops (asker self.now) at (entry_with input scheme.now) stops.old stops.new) }
-        ensures fit { OnOk result (StopsFit self.now.states stops.old → StopsFit self.now.states stops.new) }
+        ensures fit { OnOk result (StopsFit self.now.row_states stops.old → StopsFit self.now.row_states stops.new) }
     {
         match self.stop(alloc, at, input, scheme)? {
             None => Ok(()),
@@ -427,7 +427,7 @@ impl<'a> Path<'a> {
     ) -> Result<List<Stop>, NoMemory>
         requires few { entry + 1 < 2 ^ 64 }
         ensures stops { IfOk result (AreStops (asker self.now) entry (entry_with input scheme.now)) }
-        ensures fit { IfOk result (StopsFit self.now.states) }
+        ensures fit { IfOk result (StopsFit self.now.row_states) }
     {
         let mut stops = List::new(alloc);
         for at in 1..entry + 1 {
@@ -446,7 +446,7 @@ impl<'a> Path<'a> {
     ) -> Result<RecheckRoute, NoMemory>
         requires few { entry + 1 < 2 ^ 64 }
         ensures route { IfOk result (IsRecheckRoute (asker self.now) entry (entry_with input scheme)) }
-        ensures fits { IfOk result (RouteFits self.now.states) }
+        ensures fits { IfOk result (RouteFits self.now.row_states) }
     {
         let own = self.own_leads(alloc, input, &scheme)?;
         let behind = self.stops(alloc, entry, input, &scheme)?;
@@ -469,7 +469,7 @@ impl<'a> Path<'a> {
         requires within { entry < length self.now.cert }
         requires few { entry + 1 < 2 ^ 64 }
         ensures routes { OnOk result (HaveRoutes (asker self.now) entry input routes.old → HaveRoutes (asker self.now) (entry + 1) input routes.new) }
-        ensures fit { OnOk result (RoutesFit self.now.states routes.old → RoutesFit self.now.states routes.new) }
+        ensures fit { OnOk result (RoutesFit self.now.row_states routes.old → RoutesFit self.now.row_states routes.new) }
         ensures keeps { OnOk result ((route : RecheckRouteView) → In route routes.old → In route routes.new) }
     {
         let step = *self.cert.at(entry);
@@ -489,7 +489,7 @@ impl<'a> Path<'a> {
         routes: &mut List<RecheckRoute>,
     ) -> Result<(), NoMemory>
         ensures routes { OnOk result (HaveRoutes (asker self.now) (length self.now.cert) input routes.new) }
-        ensures fit { OnOk result (RoutesFit self.now.states routes.old → RoutesFit self.now.states routes.new) }
+        ensures fit { OnOk result (RoutesFit self.now.row_states routes.old → RoutesFit self.now.row_states routes.new) }
         ensures keeps { OnOk result ((route : RecheckRouteView) → In route routes.old → In route routes.new) }
     {
         for entry in 0..self.cert.len() {
@@ -508,7 +508,7 @@ impl<'a> Path<'a> {
     ) -> Result<(), NoMemory>
         requires within { (0 < at) × (at < length self.now.cert) }
         ensures backs { OnOk result (HaveBacks (asker self.now) at other backs.old → HaveBacks (asker self.now) (at + 1) other backs.new) }
-        ensures fit { OnOk result (BacksFit self.now.states backs.old → BacksFit self.now.states backs.new) }
+        ensures fit { OnOk result (BacksFit self.now.row_states backs.old → BacksFit self.now.row_states backs.new) }
         ensures keeps { OnOk result ((back : BackRouteView) → In back backs.old → In back backs.new) }
     {
         if self.cert.at(at - 1).input != other {
@@ -531,7 +531,7 @@ impl<'a> Path<'a> {
         backs: &mut List<BackRoute>,
     ) -> Result<(), NoMemory>
         ensures backs { OnOk result (HaveBacks (asker self.now) (length self.now.cert) other backs.new) }
-        ensures fit { OnOk result (BacksFit self.now.states backs.old → BacksFit self.now.states backs.new) }
+        ensures fit { OnOk result (BacksFit self.now.row_states backs.old → BacksFit self.now.row_states backs.new) }
         ensures keeps { OnOk result ((back : BackRouteView) → In back backs.old → In back backs.new) }
     {
         for at in 1..self.cert.len() {
@@ -586,18 +586,18 @@ fn orders_of(
 fn add_owner(
     alloc: Global,
     join: &Certified<'_>,
-    states: &[State],
+    row_states: &[State],
     owner: usize,
     input: u32,
     routes: &mut InputRoutes,
 ) -> Result<(), NoMemory>
     requires few { owner < 2 ^ 32 }
-    ensures { OnOk result (LeadTo join.now states.now input owner routes.old → LeadTo join.now states.now input (owner + 1) routes.new) }
+    ensures { OnOk result (LeadTo join.now row_states.now input owner routes.old → LeadTo join.now row_states.now input (owner + 1) routes.new) }
 {
     match join.certs.get(owner) {
         None => Ok(()),
         Some(cert) => {
-            let path = join.path(cert, owner, states);
+            let path = join.path(cert, owner, row_states);
             path.add_routes(alloc, input, &mut routes.recheck)?;
             path.add_backs(alloc, input, &mut routes.back)?;
             Ok(())
@@ -609,12 +609,12 @@ fn add_owner(
 fn routes_from(
     alloc: Global,
     join: &Certified<'_>,
-    states: &[State],
+    row_states: &[State],
     count: usize,
     input: u32,
 ) -> Result<InputRoutes, NoMemory>
     requires few { count < 2 ^ 32 }
-    ensures { IfOk result (LeadTo join.now states.now input count) }
+    ensures { IfOk result (LeadTo join.now row_states.now input count) }
 {
     let mut routes = InputRoutes {
         recheck: List::new(alloc),
@@ -622,7 +622,7 @@ fn routes_from(
         orders: orders_of(alloc, join.spec.classes.as_slice(), input)?,
     };
     for owner in 0..count {
-        add_owner(alloc, join, states, owner, input, &mut routes)?;
+        add_owner(alloc, join, row_states, owner, input, &mut routes)?;
     }
     Ok(routes)
 }
@@ -631,15 +631,15 @@ fn routes_from(
 pub fn routes_of(
     alloc: Global,
     join: &Certified<'_>,
-    states: &[State],
+    row_states: &[State],
 ) -> Result<Vec<InputRoutes>, NoMemory>
     requires few { inputs join.now < 2 ^ 32 }
-    ensures { IfOk result (λ routes. AreRoutes join.now states.now (inputs join.now) routes.items) }
+    ensures { IfOk result (λ routes. AreRoutes join.now row_states.now (inputs join.now) routes.items) }
 {
     let count = join.spec.inputs.len();
     let mut routes = Vec::new(alloc);
     for input in 0..count {
-        routes.push(routes_from(alloc, join, states, count, input as u32)?)?;
+        routes.push(routes_from(alloc, join, row_states, count, input as u32)?)?;
     }
     Ok(routes)
 }

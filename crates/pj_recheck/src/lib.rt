@@ -2,6 +2,7 @@
 #![tactic(auto)]
 
 mod compiling;
+mod due_rechecks;
 mod marks;
 mod orders;
 mod partners;
@@ -10,10 +11,9 @@ mod routes;
 mod stored;
 mod sweeping;
 mod waking;
-mod watches;
 
 pub use compiling::{Certified, routes_of};
-pub use marks::{Judged, Watches};
+pub use marks::{DueRechecks, SweepResult};
 pub use orders::keep_orders;
 pub use partners::mark_dependents;
 pub use routes::InputRoutes;

@@ -8,11 +8,11 @@ use pj_shape::ClassCol;
 use pj_state::State;
 
 // Keeps the integers of a column of an input in order.
-fn keep_order(states: &mut Vec<State>, at: ClassCol)
-    ensures { states.new.items ≡ states.old.items }
+fn keep_order(row_states: &mut Vec<State>, at: ClassCol)
+    ensures { row_states.new.items ≡ row_states.old.items }
 {
-    if (at.input as usize) < states.len() {
-        states[at.input as usize].keep_order(at.column);
+    if (at.input as usize) < row_states.len() {
+        row_states[at.input as usize].keep_order(at.column);
     }
 }
 
@@ -22,12 +22,12 @@ fn has_range(punct: &Punct, column: u32) -> bool {
 }
 
 /// Keeps the integers in order of the columns in which rows are looked for by the ranges of a punctuation.
-pub fn keep_orders(states: &mut Vec<State>, orders: &[OrderRoute], punct: &Punct)
-    ensures { states.new.items ≡ states.old.items }
+pub fn keep_orders(row_states: &mut Vec<State>, orders: &[OrderRoute], punct: &Punct)
+    ensures { row_states.new.items ≡ row_states.old.items }
 {
     for order in orders {
         if has_range(punct, order.column) {
-            keep_order(states, order.at);
+            keep_order(row_states, order.at);
         }
     }
 }

@@ -4,25 +4,31 @@ ghost use Rattle.pj_rows.specs.Tuples.{AreWide};
 ghost use Rattle.pj_recheck.specs.Recheck.{BackLeaves, BacksFit, BacksLeave, LeavesBackOwner, WayFits};
 ghost use Rattle.pj_recheck.specs.Watching.{AreFewer, IsFewer};
 
-use crate::marks::Watches;
+use crate::marks::DueRechecks;
 use crate::reaching::owners;
 use crate::routes::BackRoute;
 use pj_state::State;
 use std::alloc::Global;
 
 // Marks the rows to which the route leads back from rows with these tickets; or all.
-fn mark_back(alloc: Global, watches: &mut Watches, back: &BackRoute, states: &[State], gone: &[u64])
-    requires wide { AreWide states.now }
-    requires fits { IfSome back.now.way (WayFits states.now) }
-    ensures fewer { IsFewer watches.old watches.new }
-    ensures aside { BackLeaves states.now back.now gone.now watches.new }
+fn mark_back(
+    alloc: Global,
+    due: &mut DueRechecks,
+    back: &BackRoute,
+    row_states: &[State],
+    gone: &[u64],
+)
+    requires wide { AreWide row_states.now }
+    requires fits { IfSome back.now.way (WayFits row_states.now) }
+    ensures fewer { IsFewer due.old due.new }
+    ensures aside { BackLeaves row_states.now back.now gone.now due.new }
 {
     match &back.way {
-        None => watches.mark_all(),
-        Some(way) => match owners(alloc, states, way, gone) {
-            Ok(Some(found)) => watches.mark_or_all(found.as_slice()),
-            Ok(None) => watches.mark_all(),
-            Err(_) => watches.mark_all(),
+        None => due.mark_all(),
+        Some(way) => match owners(alloc, row_states, way, gone) {
+            Ok(Some(found)) => due.mark_or_all(found.as_slice()),
+            Ok(None) => due.mark_all(),
+            Err(_) => due.mark_all(),
         },
     }
 }
@@ -30,38 +36,38 @@ fn mark_back(alloc: Global, watches: &mut Watches, back: &BackRoute, states: &[S
 // The same among those of the route's owner.
 fn mark_owner(
     alloc: Global,
-    watches: &mut Vec<Watches>,
+    due: &mut Vec<DueRechecks>,
     back: &BackRoute,
-    states: &[State],
+    row_states: &[State],
     gone: &[u64],
 )
-    requires wide { AreWide states.now }
-    requires fits { IfSome back.now.way (WayFits states.now) }
-    ensures fewer { AreFewer watches.old.items watches.new.items }
-    ensures aside { LeavesBackOwner states.now back.now gone.now watches.new.items }
+    requires wide { AreWide row_states.now }
+    requires fits { IfSome back.now.way (WayFits row_states.now) }
+    ensures fewer { AreFewer due.old.items due.new.items }
+    ensures aside { LeavesBackOwner row_states.now back.now gone.now due.new.items }
 {
-    if (back.owner as usize) < watches.len() {
-        mark_back(alloc, &mut watches[back.owner as usize], back, states, gone);
+    if (back.owner as usize) < due.len() {
+        mark_back(alloc, &mut due[back.owner as usize], back, row_states, gone);
     }
 }
 
 /// Marks the rows of each input that ask through rows with these tickets, where these routes back begin.
 pub fn mark_dependents(
     alloc: Global,
-    watches: &mut Vec<Watches>,
+    due: &mut Vec<DueRechecks>,
     backs: &[BackRoute],
-    states: &[State],
+    row_states: &[State],
     gone: &[u64],
 )
-    requires wide { AreWide states.now }
-    requires fit { BacksFit states.now backs.now }
-    ensures fewer { AreFewer watches.old.items watches.new.items }
-    ensures aside { BacksLeave states.now backs.now gone.now watches.new.items }
+    requires wide { AreWide row_states.now }
+    requires fit { BacksFit row_states.now backs.now }
+    ensures fewer { AreFewer due.old.items due.new.items }
+    ensures aside { BacksLeave row_states.now backs.now gone.now due.new.items }
 {
     if gone.len() == 0 {
         return;
     }
     for back in backs {
-        mark_owner(alloc, watches, back, states, gone);
+        mark_owner(alloc, due, back, row_states, gone);
     }
 }

@@ -42,26 +42,26 @@ fn partners(
 }
 
 /// The stored rows of an input.
-pub fn rows_of(states: &[State], input: u32) -> Option<&State>
-    ensures { IfSome result (λ state. state.now ≡ state_at states.now input) }
+pub fn rows_of(row_states: &[State], input: u32) -> Option<&State>
+    ensures { IfSome result (λ state. state.now ≡ state_at row_states.now input) }
 {
-    states.get(input as usize)
+    row_states.get(input as usize)
 }
 
 // The tickets of the rows to which a step leads back from those with these tickets; `None` where that cannot be told.
 fn hop_back(
     alloc: Global,
-    states: &[State],
+    row_states: &[State],
     hop: Hop,
     tickets: &[u64],
 ) -> Result<Option<List<u64>>, NoMemory>
-    requires wide { AreWide states.now }
-    requires fits { HopFits states.now hop }
-    ensures { IfOk result (λ found. IfSome found (HavePartners (state_at states.now hop.input).rows (state_at states.now hop.other).rows hop.pair tickets.now)) }
+    requires wide { AreWide row_states.now }
+    requires fits { HopFits row_states.now hop }
+    ensures { IfOk result (λ found. IfSome found (HavePartners (state_at row_states.now hop.input).rows (state_at row_states.now hop.other).rows hop.pair tickets.now)) }
 {
-    match rows_of(states, hop.input) {
+    match rows_of(row_states, hop.input) {
         None => Ok(None),
-        Some(state) => match rows_of(states, hop.other) {
+        Some(state) => match rows_of(row_states, hop.other) {
             None => Ok(None),
             Some(others) => partners(alloc, hop.pair, state, others, tickets),
         },
@@ -71,17 +71,17 @@ fn hop_back(
 // The same along all of these steps.
 fn hops_back(
     alloc: Global,
-    states: &[State],
+    row_states: &[State],
     hops: &[Hop],
     found: List<u64>,
 ) -> Result<Option<List<u64>>, NoMemory>
-    requires wide { AreWide states.now }
-    requires fit { HopsFit states.now hops.now }
-    ensures { IfOk result (λ own. IfSome own (HopsLead states.now hops.now found)) }
+    requires wide { AreWide row_states.now }
+    requires fit { HopsFit row_states.now hops.now }
+    ensures { IfOk result (λ own. IfSome own (HopsLead row_states.now hops.now found)) }
 {
     let mut found = found;
     for hop in hops {
-        match hop_back(alloc, states, *hop, found.as_slice())? {
+        match hop_back(alloc, row_states, *hop, found.as_slice())? {
             None => return Ok(None),
             Some(next) => found = next,
         }
@@ -93,18 +93,18 @@ fn hops_back(
 /// where that cannot be told.
 pub fn owners(
     alloc: Global,
-    states: &[State],
+    row_states: &[State],
     way: &Way,
     tickets: &[u64],
 ) -> Result<Option<List<u64>>, NoMemory>
-    requires wide { AreWide states.now }
-    requires fits { WayFits states.now way.now }
-    ensures { IfOk result (λ own. IfSome own (WayLeads states.now way.now tickets.now)) }
+    requires wide { AreWide row_states.now }
+    requires fits { WayFits row_states.now way.now }
+    ensures { IfOk result (λ own. IfSome own (WayLeads row_states.now way.now tickets.now)) }
 {
-    match hop_back(alloc, states, way.first, tickets)? {
+    match hop_back(alloc, row_states, way.first, tickets)? {
         None => Ok(None),
         Some(next) => {
-            let own = hops_back(alloc, states, way.rest.as_slice(), next)?;
+            let own = hops_back(alloc, row_states, way.rest.as_slice(), next)?;
             Ok(own)
         }
     }

@@ -9,28 +9,28 @@ use pj_value::{Row, Value};
 /// The states of all inputs, lent.
 #[derive(Drop)]
 pub struct Inputs<'a> {
-    pub states: &'a [State],
+    pub row_states: &'a [State],
 }
 
 impl<'a> StoredRows for Inputs<'a> {
-    ghost rows = { λ s. row_pairs s.states.now };
+    ghost rows = { λ s. row_pairs s.row_states.now };
 
     fn count(&self, input: u32) -> usize {
-        if input as usize >= self.states.len() {
+        if input as usize >= self.row_states.len() {
             return 0;
         }
-        self.states[input as usize].len()
+        self.row_states[input as usize].len()
     }
 
     fn nth(&self, input: u32, at: usize) -> (u64, &Row) {
-        self.states[input as usize].nth(at)
+        self.row_states[input as usize].nth(at)
     }
 
     fn tickets_with(&self, input: u32, column: u32, value: &Value) -> Option<&[u64]> {
-        if input as usize >= self.states.len() {
+        if input as usize >= self.row_states.len() {
             return None;
         }
-        let state = &self.states[input as usize];
+        let state = &self.row_states[input as usize];
         if !state.is_indexed(column) {
             return None;
         }
@@ -38,9 +38,9 @@ impl<'a> StoredRows for Inputs<'a> {
     }
 
     fn get(&self, input: u32, ticket: u64) -> Option<&Row> {
-        if input as usize >= self.states.len() {
+        if input as usize >= self.row_states.len() {
             return None;
         }
-        self.states[input as usize].get(ticket)
+        self.row_states[input as usize].get(ticket)
     }
 }

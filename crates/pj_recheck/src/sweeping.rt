@@ -7,7 +7,7 @@ ghost use Rattle.pj_state.specs.States.{stored, ticket_of};
 ghost use Rattle.pj_recheck.specs.Judging.{BothMore, one_if, ripe_rows, ripe_tickets, row_in, rows_at};
 ghost use Rattle.pj_recheck.specs.Watching.{AreJudged, AreLookedAt, IsOneJudged, IsVerdict, NoneIsRipe, all_picked, is_passed, marked_by, picked};
 
-use crate::marks::{Judged, Watches};
+use crate::marks::{DueRechecks, SweepResult};
 use crate::stored::Inputs;
 use pj_cover::{PurgeRoute, Verdict, judge_row};
 use pj_puncts::PunctStore;
@@ -26,8 +26,8 @@ pub struct Judge<'a> {
     pub schemes: &'a Schemes,
     pub route: &'a PurgeRoute,
     pub input: u32,
-    pub states: &'a [State],
-    pub stores: &'a [PunctStore],
+    pub row_states: &'a [State],
+    pub punct_stores: &'a [PunctStore],
     pub low: u64,
 }
 
@@ -37,9 +37,9 @@ impl<'a> Model for Judge<'a> {
 
     ghost Value = { JudgeView };
 
-    ghost view = { λ j. record { spec = j.spec.now; schemes = j.schemes.now; cert = steps_in j.route.now; input = j.input; states = j.states.now; stores = j.stores.now; low = j.low } };
+    ghost view = { λ j. record { spec = j.spec.now; schemes = j.schemes.now; cert = steps_in j.route.now; input = j.input; row_states = j.row_states.now; punct_stores = j.punct_stores.now; low = j.low } };
 
-    ghost invariant = { λ j. MayJudge j.spec.now j.schemes.now j.route.now j.input j.states.now j.stores.now };
+    ghost invariant = { λ j. MayJudge j.spec.now j.schemes.now j.route.now j.input j.row_states.now j.punct_stores.now };
 }
 
 // Puts the row at the end of those that go, and its ticket to theirs, where it is ripe; or neither.
@@ -92,14 +92,14 @@ fn young(alloc: Global, state: &State, from: u64) -> Result<List<u64>, NoMemory>
 }
 
 // The tickets of the rows that are judged, and maybe others, in order.
-fn to_judge(alloc: Global, watches: &Watches, state: &State) -> Result<Vec<u64>, NoMemory>
+fn to_judge(alloc: Global, due: &DueRechecks, state: &State) -> Result<Vec<u64>, NoMemory>
     ensures order { IsRising ticket_of state.now.rows }
     ensures rising { IfOk result (λ tickets. IsRising itself tickets.items) }
-    ensures all { IfOk result (λ tickets. (s : Stored) → In s state.now.rows → is_passed watches.now s.ticket ≡ false → In s.ticket tickets.items) }
+    ensures all { IfOk result (λ tickets. (s : Stored) → In s state.now.rows → is_passed due.now s.ticket ≡ false → In s.ticket tickets.items) }
 {
-    let mut list = young(alloc, state, watches.from)?;
-    if watches.marked.len() > 0 {
-        list.append(watches.marked.as_slice())?;
+    let mut list = young(alloc, state, due.from)?;
+    if due.marked.len() > 0 {
+        list.append(due.marked.as_slice())?;
     }
     Ok(in_order(list))
 }
@@ -114,7 +114,7 @@ impl<'a> Judge<'a> {
             return Verdict::Open;
         }
         let rows = Inputs {
-            states: self.states,
+            row_states: self.row_states,
         };
         judge_row(
             self.spec,
@@ -123,7 +123,7 @@ impl<'a> Judge<'a> {
             self.input,
             row,
             &rows,
-            self.stores,
+            self.punct_stores,
             self.low,
         )
     }
@@ -134,14 +134,14 @@ impl<'a> Judge<'a> {
         alloc: Global,
         ticket: u64,
         near: &mut Spot,
-        judged: &mut Judged,
+        judged: &mut SweepResult,
         removed: &mut List<Row>,
     ) -> Result<(), NoMemory>
         ensures ok { OnOk result (IsOneJudged self.now ticket judged.old judged.new) }
         ensures removed { OnOk result (removed.new ≡ removed.old ++ map row_in (picked self.now ticket)) }
         ensures err { OnErr result (removed.new ≡ removed.old) }
     {
-        match self.states[self.input as usize].get_near(ticket, near) {
+        match self.row_states[self.input as usize].get_near(ticket, near) {
             None => Ok(()),
             Some(row) => {
                 let verdict = self.verdict(ticket, row);
@@ -165,12 +165,12 @@ impl<'a> Judge<'a> {
         alloc: Global,
         tickets: &[u64],
         removed: &mut List<Row>,
-    ) -> Result<Judged, NoMemory>
+    ) -> Result<SweepResult, NoMemory>
         ensures judged { IfOk result (λ judged. AreJudged self.now tickets.now judged) }
         ensures removed { OnOk result (removed.new ≡ removed.old ++ map row_in (all_picked self.now tickets.now)) }
         ensures err { OnErr result (take (length removed.old) removed.new ≡ removed.old) }
     {
-        let mut judged = Judged {
+        let mut judged = SweepResult {
             gone: List::new(alloc),
             marked: List::new(alloc),
         };
@@ -186,17 +186,17 @@ impl<'a> Judge<'a> {
     pub fn ripe_ones(
         &self,
         alloc: Global,
-        watches: &Watches,
+        due: &DueRechecks,
         removed: &mut List<Row>,
-    ) -> Result<Judged, NoMemory>
-        requires passed { NoneIsRipe self.now watches.now }
+    ) -> Result<SweepResult, NoMemory>
+        requires passed { NoneIsRipe self.now due.now }
         ensures gone { IfOk result (λ judged. judged.gone ≡ ripe_tickets self.now) }
         ensures rising { IfOk result (λ judged. IsRising itself judged.gone) }
-        ensures left { IfOk result (λ judged. AreLookedAt self.now watches.now judged.marked) }
+        ensures left { IfOk result (λ judged. AreLookedAt self.now due.now judged.marked) }
         ensures removed { OnOk result (removed.new ≡ removed.old ++ ripe_rows self.now) }
         ensures err { OnErr result (take (length removed.old) removed.new ≡ removed.old) }
     {
-        let tickets = to_judge(alloc, watches, &self.states[self.input as usize])?;
+        let tickets = to_judge(alloc, due, &self.row_states[self.input as usize])?;
         let judged = self.judge_all(alloc, tickets.as_slice(), removed)?;
         Ok(judged)
     }

@@ -5,10 +5,10 @@ ghost use Rattle.pj_rows.specs.Tuples.{AreWide};
 ghost use Rattle.pj_recheck.specs.Recheck.{HasKey, HasLimit, LeavesOwner, RouteFinds, RouteFits, RouteLeaves, RoutesFit, RoutesLeave, StopFinds, StopFits, StopsFit, StopsFind};
 ghost use Rattle.pj_recheck.specs.Watching.{AreFewer, IsFewer};
 
-use crate::marks::Watches;
+use crate::due_rechecks::{Limit, is_wild_elsewhere, matching_tickets};
+use crate::marks::DueRechecks;
 use crate::reaching::{owners, rows_of};
 use crate::routes::{Lead, RecheckRoute, Stop};
-use crate::watches::{Limit, is_wild_elsewhere, matching_tickets};
 use pj_pattern::Punct;
 use pj_rows::Lookup;
 use pj_state::State;
@@ -80,22 +80,27 @@ fn limit_of<'a>(leads: &[Lead], punct: &'a Punct) -> Option<Limit<'a>>
 // stop.
 fn by_key(
     alloc: Global,
-    states: &[State],
+    row_states: &[State],
     stop: &Stop,
     punct: &Punct,
 ) -> Result<Option<List<u64>>, NoMemory>
-    requires wide { AreWide states.now }
-    requires fits { StopFits states.now stop.now }
-    ensures { IfOk result (λ found. IfSome found (StopFinds states.now stop.now punct.now)) }
+    requires wide { AreWide row_states.now }
+    requires fits { StopFits row_states.now stop.now }
+    ensures { IfOk result (λ found. IfSome found (StopFinds row_states.now stop.now punct.now)) }
 {
-    match rows_of(states, stop.input) {
+    match rows_of(row_states, stop.input) {
         None => Ok(None),
         Some(state) => match key_of(stop.leads.as_slice(), punct) {
             None => Ok(None),
             Some(key) => match &stop.way {
                 None => Ok(None),
                 Some(way) => {
-                    let found = owners(alloc, states, way, state.tickets(key.column, key.value))?;
+                    let found = owners(
+                        alloc,
+                        row_states,
+                        way,
+                        state.tickets(key.column, key.value),
+                    )?;
                     Ok(found)
                 }
             },
@@ -106,15 +111,15 @@ fn by_key(
 // The same where a pattern of the punctuation limits the values.
 fn by_limit(
     alloc: Global,
-    states: &[State],
+    row_states: &[State],
     stop: &Stop,
     punct: &Punct,
 ) -> Result<Option<List<u64>>, NoMemory>
-    requires wide { AreWide states.now }
-    requires fits { StopFits states.now stop.now }
-    ensures { IfOk result (λ found. IfSome found (StopFinds states.now stop.now punct.now)) }
+    requires wide { AreWide row_states.now }
+    requires fits { StopFits row_states.now stop.now }
+    ensures { IfOk result (λ found. IfSome found (StopFinds row_states.now stop.now punct.now)) }
 {
-    match rows_of(states, stop.input) {
+    match rows_of(row_states, stop.input) {
         None => Ok(None),
         Some(state) => match limit_of(stop.leads.as_slice(), punct) {
             None => Ok(None),
@@ -122,7 +127,7 @@ fn by_limit(
                 None => Ok(None),
                 Some(way) => {
                     let tickets = matching_tickets(alloc, state, limit.column, limit.pattern)?;
-                    let found = owners(alloc, states, way, tickets.as_slice())?;
+                    let found = owners(alloc, row_states, way, tickets.as_slice())?;
                     Ok(found)
                 }
             },
@@ -131,12 +136,12 @@ fn by_limit(
 }
 
 // The tickets of the rows that ask for what the punctuation covers, where a constant of it tells their own value.
-fn own_rows<'a>(states: &'a [State], route: &RecheckRoute, punct: &Punct) -> Option<&'a [u64]>
-    requires wide { AreWide states.now }
-    requires fits { RouteFits states.now route.now }
-    ensures { IfSome result (λ found. RouteFinds states.now route.now punct.now found.now) }
+fn own_rows<'a>(row_states: &'a [State], route: &RecheckRoute, punct: &Punct) -> Option<&'a [u64]>
+    requires wide { AreWide row_states.now }
+    requires fits { RouteFits row_states.now route.now }
+    ensures { IfSome result (λ found. RouteFinds row_states.now route.now punct.now found.now) }
 {
-    match rows_of(states, route.owner) {
+    match rows_of(row_states, route.owner) {
         None => None,
         Some(state) => match key_of(route.own.as_slice(), punct) {
             None => None,
@@ -148,15 +153,15 @@ fn own_rows<'a>(states: &'a [State], route: &RecheckRoute, punct: &Punct) -> Opt
 // The same where a pattern of the punctuation limits their own values.
 fn own_limited(
     alloc: Global,
-    states: &[State],
+    row_states: &[State],
     route: &RecheckRoute,
     punct: &Punct,
 ) -> Result<Option<List<u64>>, NoMemory>
-    requires wide { AreWide states.now }
-    requires fits { RouteFits states.now route.now }
-    ensures { IfOk result (λ found. IfSome found (RouteFinds states.now route.now punct.now)) }
+    requires wide { AreWide row_states.now }
+    requires fits { RouteFits row_states.now route.now }
+    ensures { IfOk result (λ found. IfSome found (RouteFinds row_states.now route.now punct.now)) }
 {
-    match rows_of(states, route.owner) {
+    match rows_of(row_states, route.owner) {
         None => Ok(None),
         Some(state) => match limit_of(route.own.as_slice(), punct) {
             None => Ok(None),
@@ -171,16 +176,16 @@ fn own_limited(
 // The tickets of the rows that ask for what the punctuation covers, by the first of these stops where a constant tells.
 fn behind_by_key(
     alloc: Global,
-    states: &[State],
+    row_states: &[State],
     stops: &[Stop],
     punct: &Punct,
 ) -> Result<Option<List<u64>>, NoMemory>
-    requires wide { AreWide states.now }
-    requires fit { StopsFit states.now stops.now }
-    ensures { IfOk result (λ found. IfSome found (StopsFind states.now stops.now punct.now)) }
+    requires wide { AreWide row_states.now }
+    requires fit { StopsFit row_states.now stops.now }
+    ensures { IfOk result (λ found. IfSome found (StopsFind row_states.now stops.now punct.now)) }
 {
     for stop in stops {
-        match by_key(alloc, states, stop, punct)? {
+        match by_key(alloc, row_states, stop, punct)? {
             None => {}
             Some(found) => return Ok(Some(found)),
         }
@@ -191,16 +196,16 @@ fn behind_by_key(
 // The same by the first where a pattern limits the values.
 fn behind_by_limit(
     alloc: Global,
-    states: &[State],
+    row_states: &[State],
     stops: &[Stop],
     punct: &Punct,
 ) -> Result<Option<List<u64>>, NoMemory>
-    requires wide { AreWide states.now }
-    requires fit { StopsFit states.now stops.now }
-    ensures { IfOk result (λ found. IfSome found (StopsFind states.now stops.now punct.now)) }
+    requires wide { AreWide row_states.now }
+    requires fit { StopsFit row_states.now stops.now }
+    ensures { IfOk result (λ found. IfSome found (StopsFind row_states.now stops.now punct.now)) }
 {
     for stop in stops {
-        match by_limit(alloc, states, stop, punct)? {
+        match by_limit(alloc, row_states, stop, punct)? {
             None => {}
             Some(found) => return Ok(Some(found)),
         }
@@ -212,18 +217,18 @@ fn behind_by_limit(
 // does.
 fn limited(
     alloc: Global,
-    states: &[State],
+    row_states: &[State],
     route: &RecheckRoute,
     punct: &Punct,
 ) -> Result<Option<List<u64>>, NoMemory>
-    requires wide { AreWide states.now }
-    requires fits { RouteFits states.now route.now }
-    ensures { IfOk result (λ found. IfSome found (RouteFinds states.now route.now punct.now)) }
+    requires wide { AreWide row_states.now }
+    requires fits { RouteFits row_states.now route.now }
+    ensures { IfOk result (λ found. IfSome found (RouteFinds row_states.now route.now punct.now)) }
 {
-    match own_limited(alloc, states, route, punct)? {
+    match own_limited(alloc, row_states, route, punct)? {
         Some(found) => Ok(Some(found)),
         None => {
-            let found = behind_by_limit(alloc, states, route.behind.as_slice(), punct)?;
+            let found = behind_by_limit(alloc, row_states, route.behind.as_slice(), punct)?;
             Ok(found)
         }
     }
@@ -232,18 +237,18 @@ fn limited(
 // The same by the rows at the first stop where a constant tells, or else by patterns.
 fn asking(
     alloc: Global,
-    states: &[State],
+    row_states: &[State],
     route: &RecheckRoute,
     punct: &Punct,
 ) -> Result<Option<List<u64>>, NoMemory>
-    requires wide { AreWide states.now }
-    requires fits { RouteFits states.now route.now }
-    ensures { IfOk result (λ found. IfSome found (RouteFinds states.now route.now punct.now)) }
+    requires wide { AreWide row_states.now }
+    requires fits { RouteFits row_states.now route.now }
+    ensures { IfOk result (λ found. IfSome found (RouteFinds row_states.now route.now punct.now)) }
 {
-    match behind_by_key(alloc, states, route.behind.as_slice(), punct)? {
+    match behind_by_key(alloc, row_states, route.behind.as_slice(), punct)? {
         Some(found) => Ok(Some(found)),
         None => {
-            let found = limited(alloc, states, route, punct)?;
+            let found = limited(alloc, row_states, route, punct)?;
             Ok(found)
         }
     }
@@ -252,27 +257,27 @@ fn asking(
 // Marks the rows that ask by the route for what the punctuation covers; or all.
 fn mark_by(
     alloc: Global,
-    watches: &mut Watches,
+    due: &mut DueRechecks,
     route: &RecheckRoute,
-    states: &[State],
+    row_states: &[State],
     punct: &Punct,
 ) -> Result<(), NoMemory>
-    requires wide { AreWide states.now }
-    requires fits { RouteFits states.now route.now }
-    ensures fewer { IsFewer watches.old watches.new }
-    ensures left { OnOk result (RouteLeaves states.now route.now punct.now watches.new) }
+    requires wide { AreWide row_states.now }
+    requires fits { RouteFits row_states.now route.now }
+    ensures fewer { IsFewer due.old due.new }
+    ensures left { OnOk result (RouteLeaves row_states.now route.now punct.now due.new) }
 {
     if !is_wild_elsewhere(&route.scheme, punct) {
         return Ok(());
     }
-    match own_rows(states, route, punct) {
-        Some(found) => watches.mark(found),
-        None => match asking(alloc, states, route, punct)? {
+    match own_rows(row_states, route, punct) {
+        Some(found) => due.mark(found),
+        None => match asking(alloc, row_states, route, punct)? {
             None => {
-                watches.mark_all();
+                due.mark_all();
                 Ok(())
             }
-            Some(found) => watches.mark(found.as_slice()),
+            Some(found) => due.mark(found.as_slice()),
         },
     }
 }
@@ -280,24 +285,24 @@ fn mark_by(
 // The same among those of the route's owner.
 fn mark_owner(
     alloc: Global,
-    watches: &mut Vec<Watches>,
+    due: &mut Vec<DueRechecks>,
     route: &RecheckRoute,
-    states: &[State],
+    row_states: &[State],
     punct: &Punct,
 ) -> Result<(), NoMemory>
-    requires wide { AreWide states.now }
-    requires fits { RouteFits states.now route.now }
-    ensures fewer { AreFewer watches.old.items watches.new.items }
-    ensures left { OnOk result (LeavesOwner states.now route.now punct.now watches.new.items) }
+    requires wide { AreWide row_states.now }
+    requires fits { RouteFits row_states.now route.now }
+    ensures fewer { AreFewer due.old.items due.new.items }
+    ensures left { OnOk result (LeavesOwner row_states.now route.now punct.now due.new.items) }
 {
-    if route.owner as usize >= watches.len() {
+    if route.owner as usize >= due.len() {
         return Ok(());
     }
     mark_by(
         alloc,
-        &mut watches[route.owner as usize],
+        &mut due[route.owner as usize],
         route,
-        states,
+        row_states,
         punct,
     )?;
     Ok(())
@@ -307,18 +312,18 @@ fn mark_owner(
 /// may be marked.
 pub fn mark_covered(
     alloc: Global,
-    watches: &mut Vec<Watches>,
+    due: &mut Vec<DueRechecks>,
     routes: &[RecheckRoute],
-    states: &[State],
+    row_states: &[State],
     punct: &Punct,
 ) -> Result<(), NoMemory>
-    requires wide { AreWide states.now }
-    requires fit { RoutesFit states.now routes.now }
-    ensures fewer { AreFewer watches.old.items watches.new.items }
-    ensures left { OnOk result (RoutesLeave states.now routes.now punct.now watches.new.items) }
+    requires wide { AreWide row_states.now }
+    requires fit { RoutesFit row_states.now routes.now }
+    ensures fewer { AreFewer due.old.items due.new.items }
+    ensures left { OnOk result (RoutesLeave row_states.now routes.now punct.now due.new.items) }
 {
     for route in routes {
-        mark_owner(alloc, watches, route, states, punct)?;
+        mark_owner(alloc, due, route, row_states, punct)?;
     }
     Ok(())
 }

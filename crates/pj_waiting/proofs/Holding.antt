@@ -9,7 +9,7 @@ use Rattle.pj_state.specs.Rising.{IsRising, itself}
 use Rattle.pj_events.specs.Patterns.{Pattern, matches_row}
 use Rattle.pj_events.specs.Join.{In, PunctAt, has}
 use Rattle.pj_waiting.specs.declared.widening.Swept.{Swept}
-use Rattle.pj_waiting.specs.Holding.{AreHeldBy, IsHeldBy, IsLetGo, KeepsLists, StayHeld, StaysListed, WaitingView, is_listed, tickets_where, heard_at, goes_up}
+use Rattle.pj_waiting.specs.Holding.{AreHeldBy, IsHeldBy, IsLetGo, KeepsLists, StayHeld, StaysListed, WaitingView, is_listed, tickets_where, held_at, goes_up}
 use Rattle.pj_rows.specs.Finding.{IsStaying, stays, still_held}
 use Rattle.pj_waiting.specs.Letting.{letting_go, lets_go, widened_among}
 use Rattle.pj_waiting.proofs.Leaving.{alone}
@@ -44,18 +44,18 @@ goes_parts rows gone input p t = let parts = and_parts (eqb p.input input) (not 
 -- ---- one punctuation
 
 -- the only one with its ticket
-of_ticket : (Q : PunctAt → Type 0) (w : WaitingView) (q : PunctAt) (ticket : ℕ) → IsRising heard_at w.puncts → In q w.puncts → q.ticket ≡ ticket → Q q → (p : PunctAt) → In p w.puncts → p.ticket ≡ ticket → Q p
+of_ticket : (Q : PunctAt → Type 0) (w : WaitingView) (q : PunctAt) (ticket : ℕ) → IsRising held_at w.puncts → In q w.puncts → q.ticket ≡ ticket → Q q → (p : PunctAt) → In p w.puncts → p.ticket ≡ ticket → Q p
 of_ticket Q w q ticket r h e x p i f = subst Q (alone w.puncts q p r h i (e ∙ sym f)) x
 
 -- it is of another input
-pub one_elsewhere : (s : Swept) (w : WaitingView) (q : PunctAt) (ticket : ℕ) → IsRising heard_at w.puncts → In q w.puncts → q.ticket ≡ ticket → (q.input ≡ s.input → ⊥) → StaysListed s w ticket
+pub one_elsewhere : (s : Swept) (w : WaitingView) (q : PunctAt) (ticket : ℕ) → IsRising held_at w.puncts → In q w.puncts → q.ticket ≡ ticket → (q.input ≡ s.input → ⊥) → StaysListed s w ticket
 one_elsewhere s w q ticket r h e other = record {
   stays = of_ticket (λ p. goes_up s p ≡ false) w q ticket r h e (ap (λ b. b && not (still_held s.state.now.rows s.gone.now q.patterns)) (false_from_ne_true (eqb q.input s.input) (λ t. other (eqb-true q.input s.input t))));
   held = λ p i f own. absurd (other (ap (λ (x : PunctAt). x.input) (alone w.puncts q p r h i (e ∙ sym f)) ∙ own));
 }
 
 -- a row that stays matches it, under which it is listed
-pub one_listed : (s : Swept) (w w' : WaitingView) (q : PunctAt) (ticket found : ℕ) → IsRising heard_at w.puncts → In q w.puncts → q.ticket ≡ ticket → IsStaying s.state.now.rows s.gone.now q.patterns found
+pub one_listed : (s : Swept) (w w' : WaitingView) (q : PunctAt) (ticket found : ℕ) → IsRising held_at w.puncts → In q w.puncts → q.ticket ≡ ticket → IsStaying s.state.now.rows s.gone.now q.patterns found
     → w'.puncts ≡ w.puncts → is_listed w' (found, ticket) ≡ true → StaysListed s w' ticket
 one_listed s w w' q ticket found r h e stay same listed = record {
   stays = λ p i. of_ticket (λ x. goes_up s x ≡ false) w q ticket r h e (stays_where s.state.now.rows s.gone.now s.input q (found_held s.state.now.rows s.gone.now q.patterns found stay)) p (back p i);
@@ -70,9 +70,9 @@ one_listed s w w' q ticket found r h e stay same listed = record {
 -- those with these tickets that go up are put at the ends, and no other
 pub record AreLetGo (s : Swept) (ps : List PunctAt) (tickets goes : List ℕ) (first out : List (List Pattern)) : Type 0 where
   pub up : List PunctAt
-  pub goes_are : goes ≡ map heard_at up
+  pub goes_are : goes ≡ map held_at up
   pub out_are : out ≡ first ++ map (widened_among s.schemas.now) up
-  pub rises : IsRising heard_at up
+  pub rises : IsRising held_at up
   pub sound : (p : PunctAt) → In p up → In p ps × (goes_up s p ≡ true) × In p.ticket tickets
   pub all : (p : PunctAt) → In p ps → goes_up s p ≡ true → In p.ticket tickets → In p up
 
@@ -83,7 +83,7 @@ AreListed s w tickets = (p : PunctAt) → In p w.puncts → In p.ticket tickets 
 pub let_go_none : (s : Swept) (ps : List PunctAt) (goes : List ℕ) (out : List (List Pattern)) → goes ≡ [] → AreLetGo s ps [] goes out out
 let_go_none s ps goes out none = record { up = []; goes_are = none; out_are = sym (append-nil out); rises = tt; sound = λ p h. absurd h; all = λ p h t k. k }
 
-pub let_go_more : (s : Swept) (w : WaitingView) (ps : List PunctAt) (tickets goes goes' : List ℕ) (first out out' : List (List Pattern)) (ticket : ℕ) → w.puncts ≡ ps → IsRising heard_at ps → ((n : ℕ) → In n tickets → n < ticket)
+pub let_go_more : (s : Swept) (w : WaitingView) (ps : List PunctAt) (tickets goes goes' : List ℕ) (first out out' : List (List Pattern)) (ticket : ℕ) → w.puncts ≡ ps → IsRising held_at ps → ((n : ℕ) → In n tickets → n < ticket)
     → AreLetGo s ps tickets goes first out → IsLetGo s w ticket goes goes' out out' → AreLetGo s ps (tickets ++ ticket ∷ []) goes' first out'
 let_go_more s w ps tickets goes goes' first out out' ticket same r later before (inl (same-goes, same-out, stay)) = record {
   up = before.up;
@@ -100,10 +100,10 @@ let_go_more s w ps tickets goes goes' first out out' ticket same r later before 
     go p h t (inr (inr k)) = absurd k
 let_go_more s w ps tickets goes goes' first out out' ticket same r later before (inr (more-goes, (q, h, e, t, more-out))) = record {
   up = before.up ++ q ∷ [];
-  goes_are = more-goes ∙ ap₂ (λ (ns : List ℕ) n. ns ++ n ∷ []) before.goes_are (sym e) ∙ sym (map-append heard_at before.up (q ∷ []));
+  goes_are = more-goes ∙ ap₂ (λ (ns : List ℕ) n. ns ++ n ∷ []) before.goes_are (sym e) ∙ sym (map-append held_at before.up (q ∷ []));
   out_are = more-out ∙ ap (λ (os : List (List Pattern)). os ++ widened_among s.schemas.now q ∷ []) before.out_are ∙ append_assoc first (map (widened_among s.schemas.now) before.up) (widened_among s.schemas.now q ∷ [])
       ∙ ap (λ (os : List (List Pattern)). first ++ os) (sym (map-append (widened_among s.schemas.now) before.up (q ∷ [])));
-  rises = rising-append heard_at before.up (q ∷ []) before.rises (tt, tt) (λ x y i k. below x y i k);
+  rises = rising-append held_at before.up (q ∷ []) before.rises (tt, tt) (λ x y i k. below x y i k);
   sound = λ p i. sound p (In-append_cases p before.up (q ∷ []) i);
   all = λ p i g k. all p i g (In-append_cases p.ticket tickets (ticket ∷ []) k);
 }
@@ -112,7 +112,7 @@ let_go_more s w ps tickets goes goes' first out out' ticket same r later before 
     inside = subst (λ (qs : List PunctAt). In q qs) same h
 
     below : (x y : PunctAt) → In x before.up → In y (q ∷ []) → x.ticket < y.ticket
-    below x y i (inl k) = let l = later x.ticket (before.sound x i).2 in let n : q.ticket ≡ y.ticket = ap heard_at k in omega (arith, l, n, e)
+    below x y i (inl k) = let l = later x.ticket (before.sound x i).2 in let n : q.ticket ≡ y.ticket = ap held_at k in omega (arith, l, n, e)
     below x y i (inr k) = absurd k
 
     sound : (p : PunctAt) → In p before.up ⊎ In p (q ∷ []) → In p ps × (goes_up s p ≡ true) × In p.ticket (tickets ++ ticket ∷ [])
@@ -125,7 +125,7 @@ let_go_more s w ps tickets goes goes' first out out' ticket same r later before 
     all p i g (inr (inl k)) = In-append_right p before.up (q ∷ []) (inl (alone ps q p r inside i (e ∙ k)))
     all p i g (inr (inr k)) = absurd k
 
-pub listed_more : (s : Swept) (w w' : WaitingView) (tickets goes goes' : List ℕ) (out out' : List (List Pattern)) (ticket : ℕ) → w'.puncts ≡ w.puncts → KeepsLists w w' → IsRising heard_at w.puncts → IsLetGo s w' ticket goes goes' out out'
+pub listed_more : (s : Swept) (w w' : WaitingView) (tickets goes goes' : List ℕ) (out out' : List (List Pattern)) (ticket : ℕ) → w'.puncts ≡ w.puncts → KeepsLists w w' → IsRising held_at w.puncts → IsLetGo s w' ticket goes goes' out out'
     → AreListed s w tickets → AreListed s w' (tickets ++ ticket ∷ [])
 listed_more s w w' tickets goes goes' out out' ticket same keeps r done before p h k own waits = go (In-append_cases p.ticket tickets (ticket ∷ []) k)
   where
@@ -148,13 +148,13 @@ below_next (x ∷ xs) zero n r lt h = absurd h
 below_next (x ∷ xs) (suc i) n r lt (inl e) = let a : x < get_or xs i 0 = above-in itself x xs (get_or xs i 0) r.0 (in-place xs 0 i (omega (arith, lt))) in omega (arith, a, e)
 below_next (x ∷ xs) (suc i) n r lt (inr k) = below_next xs i n r.1 (omega (arith, lt)) k
 
-pub let_go_next : (s : Swept) (w : WaitingView) (ps : List PunctAt) (tickets goes goes' : List ℕ) (first out out' : List (List Pattern)) (i : ℕ) → i < length tickets → w.puncts ≡ ps → IsRising heard_at ps → IsRising itself tickets
+pub let_go_next : (s : Swept) (w : WaitingView) (ps : List PunctAt) (tickets goes goes' : List ℕ) (first out out' : List (List Pattern)) (i : ℕ) → i < length tickets → w.puncts ≡ ps → IsRising held_at ps → IsRising itself tickets
     → AreLetGo s ps (take i tickets) goes first out → IsLetGo s w (get_or tickets i 0) goes goes' out out' → AreLetGo s ps (take (i + 1) tickets) goes' first out'
 let_go_next s w ps tickets goes goes' first out out' i lt same r rising before done =
     subst (λ (ns : List ℕ). AreLetGo s ps ns goes' first out') (sym (take_more tickets i 0 lt))
     (let_go_more s w ps (take i tickets) goes goes' first out out' (get_or tickets i 0) same r (λ n h. below_next tickets i n rising lt h) before done)
 
-pub listed_next : (s : Swept) (w w' : WaitingView) (tickets goes goes' : List ℕ) (out out' : List (List Pattern)) (i : ℕ) → i < length tickets → w'.puncts ≡ w.puncts → KeepsLists w w' → IsRising heard_at w.puncts
+pub listed_next : (s : Swept) (w w' : WaitingView) (tickets goes goes' : List ℕ) (out out' : List (List Pattern)) (i : ℕ) → i < length tickets → w'.puncts ≡ w.puncts → KeepsLists w w' → IsRising held_at w.puncts
     → IsLetGo s w' (get_or tickets i 0) goes goes' out out' → AreListed s w (take i tickets) → AreListed s w' (take (i + 1) tickets)
 listed_next s w w' tickets goes goes' out out' i lt same keeps r done before =
     subst (λ (ns : List ℕ). AreListed s w' ns) (sym (take_more tickets i 0 lt)) (listed_more s w w' (take i tickets) goes goes' out out' (get_or tickets i 0) same keeps r done before)
@@ -180,10 +180,10 @@ reached s w freed looked p by all more h own = go (by.held p h own)
             let gone : In t s.gone.now = subst (λ n. In n s.gone.now) (eqb-true g.0 x.ticket g.2 ∙ e) g.1 in
             inl (more p.ticket (In-map_from (λ (q : ℕ × ℕ). q.1) (t, p.ticket) freed (all t p.ticket gone listed)))
 
-pub all_let_go : (s : Swept) (w : WaitingView) (freed : List (ℕ × ℕ)) (looked goes : List ℕ) (first out : List (List Pattern)) → AreHeldBy s.state.now.rows s.input w → IsRising heard_at w.puncts
+pub all_let_go : (s : Swept) (w : WaitingView) (freed : List (ℕ × ℕ)) (looked goes : List ℕ) (first out : List (List Pattern)) → AreHeldBy s.state.now.rows s.input w → IsRising held_at w.puncts
     → ((t n : ℕ) → In t s.gone.now → is_listed w (t, n) ≡ true → In (t, n) freed) → ((n : ℕ) → In n (map (λ q. q.1) freed) → In n looked)
     → AreLetGo s w.puncts looked goes first out → (goes ≡ tickets_where (goes_up s) w.puncts) × (out ≡ first ++ letting_go s.schemas.now s.state.now.rows s.gone.now s.input w.puncts)
-all_let_go s w freed looked goes first out by r all more are = (are.goes_are ∙ ap (map heard_at) same, are.out_are ∙ ap (λ (ps : List PunctAt). first ++ map (widened_among s.schemas.now) ps) same)
+all_let_go s w freed looked goes first out by r all more are = (are.goes_are ∙ ap (map held_at) same, are.out_are ∙ ap (λ (ps : List PunctAt). first ++ map (widened_among s.schemas.now) ps) same)
   where
     back : (p : PunctAt) → In p (filter (goes_up s) w.puncts) → In p are.up
     back p h = go (reached s w freed looked p by all more inside.0 parts.0)
@@ -199,7 +199,7 @@ all_let_go s w freed looked goes first out by r all more are = (are.goes_are ∙
         go (inr (t, stay, _)) = absurd (false≢true (sym parts.1 ∙ found_held s.state.now.rows s.gone.now p.patterns t stay))
 
     same : are.up ≡ filter (goes_up s) w.puncts
-    same = rising-same heard_at are.up (filter (goes_up s) w.puncts) are.rises (rising-filter heard_at (goes_up s) w.puncts r) (λ p h. let f = are.sound p h in In-filter_from (goes_up s) p w.puncts f.0 f.1) back
+    same = rising-same held_at are.up (filter (goes_up s) w.puncts) are.rises (rising-filter held_at (goes_up s) w.puncts r) (λ p h. let f = are.sound p h in In-filter_from (goes_up s) p w.puncts f.0 f.1) back
 
 pub all_listed : (s : Swept) (w w' : WaitingView) (freed : List (ℕ × ℕ)) (looked : List ℕ) → AreHeldBy s.state.now.rows s.input w → w'.puncts ≡ w.puncts → KeepsLists w w'
     → ((t n : ℕ) → In t s.gone.now → is_listed w (t, n) ≡ true → In (t, n) freed) → ((n : ℕ) → In n (map (λ q. q.1) freed) → In n looked)
@@ -229,7 +229,7 @@ filter-none q (x ∷ xs) f = ap (λ b. cond b (x ∷ filter q xs) (filter q xs))
 pub none_let_go : (s : Swept) (w : WaitingView) (out : List (List Pattern)) → AreHeldBy s.state.now.rows s.input w → w.puncts ≡ [] ⊎ s.gone.now ≡ []
     → ([] ≡ tickets_where (goes_up s) w.puncts) × (out ≡ out ++ letting_go s.schemas.now s.state.now.rows s.gone.now s.input w.puncts) × StayHeld s.state.now.rows s.gone.now s.input w
 none_let_go s w out by none =
-    (sym (ap (map heard_at) up), sym (ap (λ (ps : List PunctAt). out ++ map (widened_among s.schemas.now) ps) up ∙ append-nil out), λ p h own waits. (all_stay s w by none p h).1 own)
+    (sym (ap (map held_at) up), sym (ap (λ (ps : List PunctAt). out ++ map (widened_among s.schemas.now) ps) up ∙ append-nil out), λ p h own waits. (all_stay s w by none p h).1 own)
   where
     up : filter (goes_up s) w.puncts ≡ []
     up = filter-none (goes_up s) w.puncts (λ p h. (all_stay s w by none p h).0)

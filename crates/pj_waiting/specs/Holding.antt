@@ -10,11 +10,11 @@ use Rattle.pj_events.specs.Join.{In, PunctAt}
 use Rattle.pj_waiting.specs.declared.widening.Swept.{Swept}
 use Rattle.pj_waiting.specs.Letting.{lets_go, widened_among}
 use Rattle.pj_rows.specs.Finding.{stays, IsStaying, AreSome}
-use Rattle.pj_waiting.specs.declared.held.Coming.{Coming}
+use Rattle.pj_waiting.specs.declared.held.ArrivingPunct.{ArrivingPunct}
 use Rattle.pj_state.specs.Rising.{IsRising, itself}
 
 -- a punctuation that waits, without its ticket
-pub record HeardView : Type 0 where
+pub record HeldPunctView : Type 0 where
   pub input : ℕ
   pub patterns : List Pattern
 
@@ -23,11 +23,11 @@ pub record WaitingView : Type 0 where
   pub puncts : List PunctAt
   pub listed : List (ℕ × ℕ)
 
-abbrev pub waits_at : ℕ → HeardView → PunctAt
+abbrev pub waits_at : ℕ → HeldPunctView → PunctAt
 waits_at ticket p = record { ticket = ticket; input = p.input; patterns = p.patterns }
 
 -- the punctuations of a map by tickets
-abbrev pub waiting_in : List (ℕ × HeardView) → List PunctAt
+abbrev pub waiting_in : List (ℕ × HeldPunctView) → List PunctAt
 waiting_in entries = map (λ e. waits_at e.0 e.1) entries
 
 -- by the tuple, then by the punctuation
@@ -61,12 +61,12 @@ IsListedIf false rows patterns ticket w = Unit {0}
 abbrev pub StayHeld : List Stored → List ℕ → ℕ → WaitingView → Type 0
 StayHeld rows gone input w = (p : PunctAt) → In p w.puncts → p.input ≡ input → lets_go rows gone input p ≡ false → IsHeldBy rows gone w p
 
-abbrev pub heard_at : PunctAt → ℕ
-heard_at p = p.ticket
+abbrev pub held_at : PunctAt → ℕ
+held_at p = p.ticket
 
 -- the tickets of the punctuations that pass
 abbrev pub tickets_where : (PunctAt → Bool) → List PunctAt → List ℕ
-tickets_where goes ps = map heard_at (filter goes ps)
+tickets_where goes ps = map held_at (filter goes ps)
 
 -- whether the punctuation goes up
 abbrev pub goes_up : Swept → PunctAt → Bool
@@ -92,8 +92,8 @@ AreFreed gone freed = (q : ℕ × ℕ) → In q freed → In q.0 gone
 -- ---- punctuations
 
 -- the punctuation that comes
-abbrev pub coming_punct : Coming → PunctAt
-coming_punct p = record { ticket = p.ticket; input = p.input; patterns = p.punct }
+abbrev pub arriving_punct : ArrivingPunct → PunctAt
+arriving_punct p = record { ticket = p.ticket; input = p.input; patterns = p.punct }
 
 -- those that go are some of the rows of an input, in order of tickets
 pub record IsSwept (s : Swept) : Type 0 where

@@ -15,7 +15,7 @@ abbrev pub KeepsOthers : List (ℕ × ℕ) → WaitingView → WaitingView → T
 KeepsOthers freed old new = (q : ℕ × ℕ) → is_listed old q ≡ true → (In q freed → ⊥) → is_listed new q ≡ true
 
 -- what is listed under the tuple came to these listings, and nothing under another
-pub record HasUnder (w : WaitingView) (holder : ℕ) (old new : List (ℕ × ℕ)) : Type 0 where
-  pub all : (n : ℕ) → is_listed w (holder, n) ≡ true → In (holder, n) new
+pub record HasUnder (w : WaitingView) (blocker : ℕ) (old new : List (ℕ × ℕ)) : Type 0 where
+  pub all : (n : ℕ) → is_listed w (blocker, n) ≡ true → In (blocker, n) new
   pub kept : (q : ℕ × ℕ) → In q old → In q new
-  pub those : (q : ℕ × ℕ) → In q new → In q old ⊎ (q.0 ≡ holder)
+  pub those : (q : ℕ × ℕ) → In q new → In q old ⊎ (q.0 ≡ blocker)

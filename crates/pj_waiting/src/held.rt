@@ -8,7 +8,7 @@ use std::marker::Model;
 
 /// A punctuation that comes, with its ticket and its input.
 #[derive(Drop)]
-pub struct Coming {
+pub struct ArrivingPunct {
     pub ticket: u64,
     pub input: u32,
     pub punct: Punct,
@@ -16,25 +16,25 @@ pub struct Coming {
 
 /// A punctuation that waits, with its input.
 #[derive(Drop)]
-pub struct Heard {
+pub struct HeldPunct {
     input: u32,
     punct: Punct,
 }
 
-impl Model for Heard {
-    ghost use Rattle.pj_waiting.specs.Holding.{HeardView};
+impl Model for HeldPunct {
+    ghost use Rattle.pj_waiting.specs.Holding.{HeldPunctView};
 
-    ghost Value = { HeardView };
+    ghost Value = { HeldPunctView };
 
     ghost view = { λ p. record { input = p.input; patterns = p.punct } };
 }
 
-impl Heard {
+impl HeldPunct {
     /// A copy of a punctuation with its input.
-    pub fn new(alloc: Global, input: u32, punct: &Punct) -> Result<Heard, NoMemory>
+    pub fn new(alloc: Global, input: u32, punct: &Punct) -> Result<HeldPunct, NoMemory>
         ensures { IfOk result (λ p. p ≡ record { input = input; patterns = punct.now }) }
     {
-        Ok(Heard {
+        Ok(HeldPunct {
             input,
             punct: punct.copy(alloc)?,
         })

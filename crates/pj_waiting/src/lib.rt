@@ -5,6 +5,6 @@ mod held;
 mod waiting;
 mod widening;
 
-pub use held::{Coming, Heard};
+pub use held::{ArrivingPunct, HeldPunct};
 pub use waiting::{StillWaiting, Waiting};
-pub use widening::{Swept, hear};
+pub use widening::{Swept, receive};

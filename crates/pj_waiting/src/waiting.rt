@@ -2,10 +2,10 @@
 ghost use Rattle.std.specs.Prelude.{ℕ, ◌≡◌, ◌<◌, ◌≤◌, ◌++◌, ◌∷◌, [], true, false, length, IfSome, IfNone, IfOk, OnOk, OnErr};
 ghost use Rattle.pj_events.specs.Join.{In, PunctAt};
 ghost use Rattle.pj_state.specs.Rising.{IsRising, itself};
-ghost use Rattle.pj_waiting.specs.Holding.{AreFreed, KeepsLists, is_listed, waits_at, heard_at};
+ghost use Rattle.pj_waiting.specs.Holding.{AreFreed, KeepsLists, is_listed, waits_at, held_at};
 ghost use Rattle.pj_waiting.specs.Leaving.{HasUnder, KeepsOthers, puncts_but, puncts_without};
 
-use crate::held::Heard;
+use crate::held::HeldPunct;
 use pj_value::{List, NoMemory};
 use std::alloc::Global;
 use std::collections::{BTreeMap, BTreeSet};
@@ -16,8 +16,8 @@ use std::ops::Bound;
 /// those are found which tuples that go held back.
 #[derive(Drop)]
 pub struct Waiting {
-    puncts: BTreeMap<u64, Heard>,
-    lists: BTreeSet<(u64, u64)>,
+    puncts: BTreeMap<u64, HeldPunct>,
+    by_blocker: BTreeSet<(u64, u64)>,
 }
 
 /// What a sweep leaves of the punctuations that wait: the tickets of those that go up, which rise, and what was listed under
@@ -33,7 +33,7 @@ impl Model for Waiting {
 
     ghost Value = { WaitingView };
 
-    ghost view = { λ w. record { puncts = waiting_in w.puncts.entries; listed = w.lists.keys } };
+    ghost view = { λ w. record { puncts = waiting_in w.puncts.entries; listed = w.by_blocker.keys } };
 }
 
 impl Waiting {
@@ -43,51 +43,51 @@ impl Waiting {
     {
         Waiting {
             puncts: BTreeMap::new(alloc),
-            lists: BTreeSet::new(alloc),
+            by_blocker: BTreeSet::new(alloc),
         }
     }
 
     /// How many wait.
     pub fn len(&self) -> usize
         ensures len { result ≡ length self.now.puncts }
-        ensures rising { IsRising heard_at self.now.puncts }
+        ensures rising { IsRising held_at self.now.puncts }
     {
         self.puncts.len()
     }
 
     /// One more waits, which came last.
-    pub fn push(&mut self, ticket: u64, punct: Heard) -> Result<(), NoMemory>
+    pub fn push(&mut self, ticket: u64, punct: HeldPunct) -> Result<(), NoMemory>
         requires { (p : PunctAt) → In p self.old.puncts → p.ticket < ticket }
         ensures ok { OnOk result (self.new.puncts ≡ self.old.puncts ++ waits_at ticket punct ∷ []) }
         ensures err { OnErr result (self.new.puncts ≡ self.old.puncts) }
-        ensures lists { self.new.listed ≡ self.old.listed }
+        ensures by_blocker { self.new.listed ≡ self.old.listed }
     {
         self.puncts.insert(ticket, punct)?;
         Ok(())
     }
 
     /// Lists a punctuation under a tuple.
-    pub fn list(&mut self, holder: u64, ticket: u64) -> Result<(), NoMemory>
-        ensures ok { OnOk result (is_listed self.new (holder, ticket) ≡ true) }
+    pub fn list(&mut self, blocker: u64, ticket: u64) -> Result<(), NoMemory>
+        ensures ok { OnOk result (is_listed self.new (blocker, ticket) ≡ true) }
         ensures keeps { KeepsLists self.old self.new }
         ensures puncts { self.new.puncts ≡ self.old.puncts }
     {
-        self.lists.insert((holder, ticket))?;
+        self.by_blocker.insert((blocker, ticket))?;
         Ok(())
     }
 
     /// What is listed under these tuples, whose tickets rise: each time the tuple's ticket and the punctuation's. Steps over
     /// the tuples that nothing is listed under.
-    pub fn listed_under(&self, alloc: Global, holders: &[u64]) -> Result<List<(u64, u64)>, NoMemory>
-        requires { IsRising itself holders.now }
-        ensures all { IfOk result (λ listed. (t n : ℕ) → In t holders.now → is_listed self.now (t, n) ≡ true → In (t, n) listed) }
-        ensures those { IfOk result (λ listed. AreFreed holders.now listed) }
+    pub fn blocked_by(&self, alloc: Global, blockers: &[u64]) -> Result<List<(u64, u64)>, NoMemory>
+        requires { IsRising itself blockers.now }
+        ensures all { IfOk result (λ listed. (t n : ℕ) → In t blockers.now → is_listed self.now (t, n) ≡ true → In (t, n) listed) }
+        ensures those { IfOk result (λ listed. AreFreed blockers.now listed) }
     {
         let mut listed = List::new(alloc);
         let mut next = 0;
-        for holder in holders {
-            if *holder >= next {
-                match self.append_under(*holder, &mut listed)? {
+        for blocker in blockers {
+            if *blocker >= next {
+                match self.append_under(*blocker, &mut listed)? {
                     None => return Ok(listed),
                     Some(first) => next = first,
                 }
@@ -99,16 +99,16 @@ impl Waiting {
     // Puts what is listed under a tuple at the end of `listed`. Answers the next tuple behind it that something is listed under.
     fn append_under(
         &self,
-        holder: u64,
+        blocker: u64,
         listed: &mut List<(u64, u64)>,
     ) -> Result<Option<u64>, NoMemory>
-        ensures found { OnOk result (HasUnder self.now holder listed.old listed.new) }
-        ensures none { IfOk result (λ next. IfNone next ((t n : ℕ) → holder < t → is_listed self.now (t, n) ≡ false)) }
-        ensures some { IfOk result (λ next. IfSome next (λ first. (t n : ℕ) → holder < t → is_listed self.now (t, n) ≡ true → first ≤ t)) }
+        ensures found { OnOk result (HasUnder self.now blocker listed.old listed.new) }
+        ensures none { IfOk result (λ next. IfNone next ((t n : ℕ) → blocker < t → is_listed self.now (t, n) ≡ false)) }
+        ensures some { IfOk result (λ next. IfSome next (λ first. (t n : ℕ) → blocker < t → is_listed self.now (t, n) ≡ true → first ≤ t)) }
     {
-        let from = Bound::Included((holder, 0));
-        for listing in self.lists.range((from, Bound::Unbounded)) {
-            if listing.0 != holder {
+        let from = Bound::Included((blocker, 0));
+        for listing in self.by_blocker.range((from, Bound::Unbounded)) {
+            if listing.0 != blocker {
                 return Ok(Some(listing.0));
             }
             listed.push(*listing)?;
@@ -117,7 +117,7 @@ impl Waiting {
     }
 
     /// The punctuation with a ticket; `None` exactly where none waits.
-    pub fn get(&self, ticket: u64) -> Option<&Heard>
+    pub fn get(&self, ticket: u64) -> Option<&HeldPunct>
         ensures found { IfSome result (λ punct. In (waits_at ticket punct.now) self.now.puncts) }
         ensures missing { IfNone result ((p : PunctAt) → In p self.now.puncts → p.ticket ≡ ticket → ⊥) }
     {
@@ -127,7 +127,7 @@ impl Waiting {
     /// Takes out the punctuation with a ticket, where one waits.
     pub fn remove(&mut self, ticket: u64)
         ensures puncts { self.new.puncts ≡ puncts_but ticket self.old.puncts }
-        ensures lists { self.new.listed ≡ self.old.listed }
+        ensures by_blocker { self.new.listed ≡ self.old.listed }
     {
         self.puncts.remove(&ticket);
     }
@@ -135,13 +135,13 @@ impl Waiting {
     /// Takes over what a sweep leaves.
     pub fn leave(&mut self, left: &StillWaiting)
         ensures puncts { self.new.puncts ≡ puncts_without left.now.goes self.old.puncts }
-        ensures lists { KeepsOthers left.now.freed self.old self.new }
+        ensures by_blocker { KeepsOthers left.now.freed self.old self.new }
     {
         for ticket in left.goes.as_slice() {
             self.remove(*ticket);
         }
         for listing in left.freed.as_slice() {
-            self.lists.remove(listing);
+            self.by_blocker.remove(listing);
         }
     }
 }

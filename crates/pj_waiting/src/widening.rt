@@ -5,11 +5,11 @@ ghost use Rattle.pj_events.specs.Patterns.{all_wild};
 ghost use Rattle.pj_shape.specs.Sound.{arities_of};
 ghost use Rattle.pj_state.specs.Rising.{IsRising};
 ghost use Rattle.pj_puncts.specs.Stores.{IsAbove};
-ghost use Rattle.pj_waiting.specs.Holding.{AreFreed, AreHeldBy, IsLetGo, IsListedIf, KeepsLists, StayHeld, is_listed, tickets_where, coming_punct, heard_at, IsSwept, goes_up};
+ghost use Rattle.pj_waiting.specs.Holding.{AreFreed, AreHeldBy, IsLetGo, IsListedIf, KeepsLists, StayHeld, is_listed, tickets_where, arriving_punct, held_at, IsSwept, goes_up};
 ghost use Rattle.pj_waiting.specs.Letting.{going_at_once, letting_go, waiting_with, widened_among};
 ghost use Rattle.pj_rows.specs.Finding.{still_held};
 
-use crate::held::{Coming, Heard};
+use crate::held::{ArrivingPunct, HeldPunct};
 use crate::waiting::{StillWaiting, Waiting};
 use pj_pattern::{Pattern, Punct, append_copies, append_wild};
 use pj_puncts::PunctStore;
@@ -80,7 +80,7 @@ fn punct_tickets(alloc: Global, listed: &[(u64, u64)]) -> Result<List<u64>, NoMe
 
 impl<'a> Swept<'a> {
     // Puts the punctuation of the input with a ticket at the end of those that go up, widened, where no row that stays matches
-    // it; else lists it under one.
+    // it; else by_blocker it under one.
     fn let_one_go(
         &self,
         alloc: Global,
@@ -90,7 +90,7 @@ impl<'a> Swept<'a> {
         out: &mut List<Punct>,
     ) -> Result<(), NoMemory>
         requires swept { IsSwept self.now }
-        requires rising { IsRising heard_at waiting.old.puncts }
+        requires rising { IsRising held_at waiting.old.puncts }
         ensures ok { OnOk result (IsLetGo self.now waiting.new ticket goes.old goes.new out.old out.new) }
         ensures err { OnErr result (out.new ≡ out.old) }
         ensures puncts { waiting.new.puncts ≡ waiting.old.puncts }
@@ -119,7 +119,7 @@ impl<'a> Swept<'a> {
     }
 
     /// Puts the waiting punctuations of the input that none of its rows but those that go matches at the end of `out`, widened,
-    /// and answers what is left of those that wait. Looks at those alone that are listed under a row that goes, and lists each
+    /// and answers what is left of those that wait. Looks at those alone that are listed under a row that goes, and by_blocker each
     /// that waits on under one that stays.
     pub fn let_go(
         &self,
@@ -134,7 +134,7 @@ impl<'a> Swept<'a> {
         ensures held { OnOk result (StayHeld self.now.state.now.rows self.now.gone.now self.now.input waiting.new) }
         ensures puncts { waiting.new.puncts ≡ waiting.old.puncts }
         ensures keeps { KeepsLists waiting.old waiting.new }
-        ensures rising { OnOk result (IsRising heard_at waiting.old.puncts) }
+        ensures rising { OnOk result (IsRising held_at waiting.old.puncts) }
         ensures ok { let s = self.now in OnOk result (out.new ≡ out.old ++ letting_go s.schemas.now s.state.now.rows s.gone.now s.input waiting.old.puncts) }
         ensures err { OnErr result (take (length out.old) out.new ≡ out.old) }
     {
@@ -144,7 +144,7 @@ impl<'a> Swept<'a> {
                 freed: List::new(alloc),
             });
         }
-        let freed = waiting.listed_under(alloc, self.gone)?;
+        let freed = waiting.blocked_by(alloc, self.gone)?;
         let tickets = in_order(punct_tickets(alloc, freed.as_slice())?);
         let mut goes = List::new(alloc);
         for ticket in tickets.as_slice() {
@@ -159,26 +159,26 @@ fn keep_waiting(
     alloc: Global,
     store: &mut PunctStore,
     waiting: &mut Waiting,
-    coming: Coming,
-    holder: u64,
+    arriving: ArrivingPunct,
+    blocker: u64,
 ) -> Result<(), NoMemory>
-    requires fits { length coming.punct ≡ store.old.arity }
-    requires rises { IsAbove coming.ticket store.old.kept }
-    requires before { (p : PunctAt) → In p waiting.old.puncts → p.ticket < coming.ticket }
+    requires fits { length arriving.punct ≡ store.old.arity }
+    requires rises { IsAbove arriving.ticket store.old.kept }
+    requires before { (p : PunctAt) → In p waiting.old.puncts → p.ticket < arriving.ticket }
     ensures arity { store.new.arity ≡ store.old.arity }
-    ensures store { OnOk result (store.new.kept ≡ store.old.kept ++ record { punct = coming.punct; number = coming.ticket } ∷ []) }
-    ensures waiting { OnOk result (waiting.new.puncts ≡ waiting.old.puncts ++ coming_punct coming ∷ []) }
-    ensures listed { OnOk result (is_listed waiting.new (holder, coming.ticket) ≡ true) }
+    ensures store { OnOk result (store.new.kept ≡ store.old.kept ++ record { punct = arriving.punct; number = arriving.ticket } ∷ []) }
+    ensures waiting { OnOk result (waiting.new.puncts ≡ waiting.old.puncts ++ arriving_punct arriving ∷ []) }
+    ensures listed { OnOk result (is_listed waiting.new (blocker, arriving.ticket) ≡ true) }
     ensures keeps { KeepsLists waiting.old waiting.new }
     ensures err { OnErr result ((store.new.kept ≡ store.old.kept) × (waiting.new.puncts ≡ waiting.old.puncts)) }
 {
-    let Coming {
+    let ArrivingPunct {
         ticket,
         input,
         punct,
-    } = coming;
-    waiting.list(holder, ticket)?;
-    waiting.push(ticket, Heard::new(alloc, input, &punct)?)?;
+    } = arriving;
+    waiting.list(blocker, ticket)?;
+    waiting.push(ticket, HeldPunct::new(alloc, input, &punct)?)?;
     match store.push(punct, ticket) {
         Ok(()) => Ok(()),
         Err(stop) => {
@@ -193,22 +193,22 @@ fn hand_up(
     alloc: Global,
     schemas: &[Schema],
     store: &mut PunctStore,
-    coming: Coming,
+    arriving: ArrivingPunct,
     out: &mut List<Punct>,
 ) -> Result<(), NoMemory>
-    requires there { coming.input < length schemas.now }
-    requires fits { length coming.punct ≡ store.old.arity }
-    requires rises { IsAbove coming.ticket store.old.kept }
+    requires there { arriving.input < length schemas.now }
+    requires fits { length arriving.punct ≡ store.old.arity }
+    requires rises { IsAbove arriving.ticket store.old.kept }
     ensures arity { store.new.arity ≡ store.old.arity }
-    ensures store { OnOk result (store.new.kept ≡ store.old.kept ++ record { punct = coming.punct; number = coming.ticket } ∷ []) }
-    ensures out { OnOk result (out.new ≡ out.old ++ widened_among schemas.now (coming_punct coming) ∷ []) }
+    ensures store { OnOk result (store.new.kept ≡ store.old.kept ++ record { punct = arriving.punct; number = arriving.ticket } ∷ []) }
+    ensures out { OnOk result (out.new ≡ out.old ++ widened_among schemas.now (arriving_punct arriving) ∷ []) }
     ensures err { OnErr result ((store.new.kept ≡ store.old.kept) × (out.new ≡ out.old)) }
 {
-    let Coming {
+    let ArrivingPunct {
         ticket,
         input,
         punct,
-    } = coming;
+    } = arriving;
     let count = out.len();
     out.push(widened(alloc, schemas, input, punct.as_slice())?)?;
     match store.push(punct, ticket) {
@@ -222,29 +222,29 @@ fn hand_up(
 
 /// Keeps a punctuation of an input with these rows: it waits where a row matches it, and is put at the end of `out` where none
 /// does, widened. On a refusal all is as before, but for what is listed.
-pub fn hear(
+pub fn receive(
     alloc: Global,
     schemas: &[Schema],
     state: &State,
     store: &mut PunctStore,
     waiting: &mut Waiting,
-    coming: Coming,
+    arriving: ArrivingPunct,
     out: &mut List<Punct>,
 ) -> Result<(), NoMemory>
-    requires there { coming.input < length schemas.now }
-    requires fits { length coming.punct ≡ store.old.arity }
-    requires rises { IsAbove coming.ticket store.old.kept }
-    requires before { (p : PunctAt) → In p waiting.old.puncts → p.ticket < coming.ticket }
+    requires there { arriving.input < length schemas.now }
+    requires fits { length arriving.punct ≡ store.old.arity }
+    requires rises { IsAbove arriving.ticket store.old.kept }
+    requires before { (p : PunctAt) → In p waiting.old.puncts → p.ticket < arriving.ticket }
     ensures arity { store.new.arity ≡ store.old.arity }
-    ensures store { OnOk result (store.new.kept ≡ store.old.kept ++ record { punct = coming.punct; number = coming.ticket } ∷ []) }
-    ensures waiting { let held = still_held state.now.rows [] coming.punct in OnOk result (waiting.new.puncts ≡ waiting_with held waiting.old.puncts (coming_punct coming)) }
-    ensures listed { OnOk result (IsListedIf (still_held state.now.rows [] coming.punct) state.now.rows coming.punct coming.ticket waiting.new) }
+    ensures store { OnOk result (store.new.kept ≡ store.old.kept ++ record { punct = arriving.punct; number = arriving.ticket } ∷ []) }
+    ensures waiting { let held = still_held state.now.rows [] arriving.punct in OnOk result (waiting.new.puncts ≡ waiting_with held waiting.old.puncts (arriving_punct arriving)) }
+    ensures listed { OnOk result (IsListedIf (still_held state.now.rows [] arriving.punct) state.now.rows arriving.punct arriving.ticket waiting.new) }
     ensures keeps { KeepsLists waiting.old waiting.new }
-    ensures out { let held = still_held state.now.rows [] coming.punct in OnOk result (out.new ≡ out.old ++ going_at_once schemas.now held (coming_punct coming)) }
+    ensures out { let held = still_held state.now.rows [] arriving.punct in OnOk result (out.new ≡ out.old ++ going_at_once schemas.now held (arriving_punct arriving)) }
     ensures err { OnErr result ((store.new.kept ≡ store.old.kept) × (waiting.new.puncts ≡ waiting.old.puncts) × (out.new ≡ out.old)) }
 {
-    match find(state, &[], &coming.punct) {
-        Some(found) => keep_waiting(alloc, store, waiting, coming, found),
-        None => hand_up(alloc, schemas, store, coming, out),
+    match find(state, &[], &arriving.punct) {
+        Some(found) => keep_waiting(alloc, store, waiting, arriving, found),
+        None => hand_up(alloc, schemas, store, arriving, out),
     }
 }

@@ -6,4 +6,4 @@ use Rattle.pj_rows.specs.Tuples.{tuples_in}
 use Rattle.pj_join.proofs.starting.empty_states.Given as goal
 
 abbrev pub invariant-loop-input : goal.invariant-loop-input
-invariant-loop-input l = (tuples_in 0 l.states.items ≡ map (λ k. of_input k []) (upto_from 0 l.input)) × AreAllShaped (arities_of (take l.input l.spec.inputs)) l.states.items
+invariant-loop-input l = (tuples_in 0 l.row_states.items ≡ map (λ k. of_input k []) (upto_from 0 l.input)) × AreAllShaped (arities_of (take l.input l.spec.inputs)) l.row_states.items

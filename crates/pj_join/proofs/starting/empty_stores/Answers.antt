@@ -9,4 +9,4 @@ overflow_cast-len c =
 
 pub loop-schema-preserved : goal.loop-schema-preserved
 loop-schema-preserved c =
-    stores_more c.loop-schema.stores.items c.push.new.self.items c.in_ok-new.field-0 c.loop-schema.schema-index c.args.schemas.now c.schema-item.result c.in_ok-push.ensures.items c.in_ok-new.ensures.1 (c.in_ok-new.ensures.0 ∙ c.len.ensures) c.loop-schema-test.true c.schema-item.is c.loop-schema.invariant
+    stores_more c.loop-schema.punct_stores.items c.push.new.self.items c.in_ok-new.field-0 c.loop-schema.schema-index c.args.schemas.now c.schema-item.result c.in_ok-push.ensures.items c.in_ok-new.ensures.1 (c.in_ok-new.ensures.0 ∙ c.len.ensures) c.loop-schema-test.true c.schema-item.is c.loop-schema.invariant

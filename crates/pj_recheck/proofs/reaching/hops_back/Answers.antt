@@ -12,7 +12,7 @@ hop_back-requires-clause-fits c = c.requires.fit (get_or c.args.hops.now c.loop-
 
 pub loop-hop-preserved : goal.loop-hop-preserved
 loop-hop-preserved c =
-    hops_next c.args.states.now c.args.hops.now c.args.found c.loop-hop.hop-index none c.loop-hop.found c.as_slice.result.now c.in-Some.next c.in_ok-hop_back.field-0 c.loop-hop-test.true c.as_slice.ensures c.in-Some.is c.in_ok-hop_back.ensures c.loop-hop.invariant
+    hops_next c.args.row_states.now c.args.hops.now c.args.found c.loop-hop.hop-index none c.loop-hop.found c.as_slice.result.now c.in-Some.next c.in_ok-hop_back.field-0 c.loop-hop-test.true c.as_slice.ensures c.in-Some.is c.in_ok-hop_back.ensures c.loop-hop.invariant
 
 pub returns : goal.returns
-returns c = hops_end c.args.states.now c.args.hops.now c.args.found c.loop-hop.hop-index c.loop-hop.found c.loop-hop-test.false c.loop-hop.invariant
+returns c = hops_end c.args.row_states.now c.args.hops.now c.args.found c.loop-hop.hop-index c.loop-hop.found c.loop-hop-test.false c.loop-hop.invariant

@@ -6,5 +6,5 @@ use Rattle.pj_recheck.proofs.reaching.owners.Goals as goal
 
 pub returns-in_ok-own-in-Some : goal.returns-in_ok-own-in-Some
 returns-in_ok-own-in-Some c =
-    way_leads c.args.states.now c.args.way.now c.args.tickets.now c.in-Some.next c.in_ok-hop_back.field-0 c.in_ok-own-in-Some.own c.in-Some.is c.in_ok-hop_back.ensures
-    (subst (λ (hops : List Hop). IfSome c.in_ok-own-in-Some.own (HopsLead c.args.states.now hops c.in-Some.next)) c.as_slice.ensures c.in_ok-own-in-Some.ensures)
+    way_leads c.args.row_states.now c.args.way.now c.args.tickets.now c.in-Some.next c.in_ok-hop_back.field-0 c.in_ok-own-in-Some.own c.in-Some.is c.in_ok-hop_back.ensures
+    (subst (λ (hops : List Hop). IfSome c.in_ok-own-in-Some.own (HopsLead c.args.row_states.now hops c.in-Some.next)) c.as_slice.ensures c.in_ok-own-in-Some.ensures)

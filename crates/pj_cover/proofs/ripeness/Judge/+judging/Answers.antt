@@ -13,7 +13,7 @@ use Rattle.pj_cover.proofs.ripeness.Judge.+judging.Goals as goal
 
 pub seek-judge_step-first-requires-clause-step : goal.seek-judge_step-first-requires-clause-step
 seek-judge_step-first-requires-clause-step g t c =
-    ready c.args.self.now.spec.now c.args.self.now.schemes.now (g.R.StoredRows.rows c.args.self.now.rows.now) c.args.self.now.stores.now (steps_in c.args.self.now.route.now) c.args.at c.at-step.result.step c.args.parts.now.items c.requires.parts c.requires.walk
+    ready c.args.self.now.spec.now c.args.self.now.schemes.now (g.R.StoredRows.rows c.args.self.now.rows.now) c.args.self.now.punct_stores.now (steps_in c.args.self.now.route.now) c.args.at c.at-step.result.step c.args.parts.now.items c.requires.parts c.requires.walk
     (map_here step_of c.args.self.now.route.now.steps c.args.at c.at-step.result c.at-step.ensures)
 
 pub seek-judge_step-first-requires-clause-ready : goal.seek-judge_step-first-requires-clause-ready
@@ -22,19 +22,19 @@ seek-judge_step-first-requires-clause-ready g t c =
 
 pub seek-returns-then-not-is_ripe-clause-judged : goal.seek-returns-then-not-is_ripe-clause-judged
 seek-returns-then-not-is_ripe-clause-judged g t c =
-    found_here (known_of c.args.self.now.spec.now (g.R.StoredRows.rows c.args.self.now.rows.now) c.args.self.now.stores.now c.args.self.now.low) c.args.self.now.schemes.now (steps_in c.args.self.now.route.now) c.args.at c.at-step.result.step c.args.parts.now.items c.as_slice.result.now c.judge_step-first.result
+    found_here (known_of c.args.self.now.spec.now (g.R.StoredRows.rows c.args.self.now.rows.now) c.args.self.now.punct_stores.now c.args.self.now.low) c.args.self.now.schemes.now (steps_in c.args.self.now.route.now) c.args.at c.at-step.result.step c.args.parts.now.items c.as_slice.result.now c.judge_step-first.result
     (map_here step_of c.args.self.now.route.now.steps c.args.at c.at-step.result c.at-step.ensures) c.as_slice.ensures.value c.judge_step-first.ensures (sym c.is_ripe.ensures ∙ c.if-not-is_ripe.true)
 
 pub seek-returns-clause-judged : goal.seek-returns-clause-judged
 seek-returns-clause-judged g t c =
-    gone_through c.args.self.now.spec.now c.args.self.now.schemes.now (g.R.StoredRows.rows c.args.self.now.rows.now) c.args.self.now.stores.now c.args.self.now.low (steps_in c.args.self.now.route.now) c.args.at c.at-step.result.step c.args.parts.now.items c.as_slice.result.now c.judge_step-first.result c.seek_through.result
+    gone_through c.args.self.now.spec.now c.args.self.now.schemes.now (g.R.StoredRows.rows c.args.self.now.rows.now) c.args.self.now.punct_stores.now c.args.self.now.low (steps_in c.args.self.now.route.now) c.args.at c.at-step.result.step c.args.parts.now.items c.as_slice.result.now c.judge_step-first.result c.seek_through.result
     (map_here step_of c.args.self.now.route.now.steps c.args.at c.at-step.result c.at-step.ensures) c.as_slice.ensures.value c.judge_step-first.ensures (sym c.is_ripe.ensures ∙ c.if-not-is_ripe.false) c.seek_through.ensures.judged
 
 pub seek_through-returns-then-len-at-clause-judged : goal.seek_through-returns-then-len-at-clause-judged
 seek_through-returns-then-len-at-clause-judged g t c =
     let n : length (steps_in c.args.self.now.route.now) ≡ length c.args.self.now.route.now.steps = length-map step_of c.args.self.now.route.now.steps in
     let le : length (steps_in c.args.self.now.route.now) ≤ c.args.at + 1 = omega (arith, c.if-len-at.true, c.len.ensures, n) in
-    last_step (known_of c.args.self.now.spec.now (g.R.StoredRows.rows c.args.self.now.rows.now) c.args.self.now.stores.now c.args.self.now.low) c.args.self.now.schemes.now (steps_in c.args.self.now.route.now) c.args.at c.args.step.step c.args.parts.now.items (map (tuple_of c.args.step.step.input) (g.R.StoredRows.rows c.args.self.now.rows.now c.args.step.step.input)) (map_here step_of c.args.self.now.route.now.steps c.args.at c.args.step c.requires.step) le
+    last_step (known_of c.args.self.now.spec.now (g.R.StoredRows.rows c.args.self.now.rows.now) c.args.self.now.punct_stores.now c.args.self.now.low) c.args.self.now.schemes.now (steps_in c.args.self.now.route.now) c.args.at c.args.step.step c.args.parts.now.items (map (tuple_of c.args.step.step.input) (g.R.StoredRows.rows c.args.self.now.rows.now c.args.step.step.input)) (map_here step_of c.args.self.now.route.now.steps c.args.at c.args.step c.requires.step) le
 
 pub seek_each-seek_with-through-requires : goal.seek_each-seek_with-through-requires
 seek_each-seek_with-through-requires g t c κs l =
@@ -45,19 +45,19 @@ seek_each-seek_with-through-requires g t c κs l =
 pub seek_each-loop-n-preserved : goal.seek_each-loop-n-preserved
 seek_each-loop-n-preserved g t c = (
   c.seek_with-through.ensures.same ∙ c.loop-n.invariant.0,
-  one_more (known_of c.args.self.now.spec.now (g.R.StoredRows.rows c.args.self.now.rows.now) c.args.self.now.stores.now c.args.self.now.low) (entries c.args.self.now.schemes.now (drop c.args.at (steps_in c.args.self.now.route.now))) c.args.step.step.input c.args.parts.now.items c.loop-n.parts.items (g.R.StoredRows.rows c.args.self.now.rows.now c.args.step.step.input) c.loop-n.n (c.nth-ticket.result.0, c.nth-ticket.result.1.now) c.seek_with-through.result
+  one_more (known_of c.args.self.now.spec.now (g.R.StoredRows.rows c.args.self.now.rows.now) c.args.self.now.punct_stores.now c.args.self.now.low) (entries c.args.self.now.schemes.now (drop c.args.at (steps_in c.args.self.now.route.now))) c.args.step.step.input c.args.parts.now.items c.loop-n.parts.items (g.R.StoredRows.rows c.args.self.now.rows.now c.args.step.step.input) c.loop-n.n (c.nth-ticket.result.0, c.nth-ticket.result.1.now) c.seek_with-through.result
       c.nth-ticket.ensures c.loop-n.invariant.0 c.loop-n.invariant.1 c.seek_with-through.ensures.judged (sym c.is_ripe.ensures ∙ c.if-not-is_ripe.false),
 )
 
 pub seek_each-returns-then-not-is_ripe-clause-judged : goal.seek_each-returns-then-not-is_ripe-clause-judged
 seek_each-returns-then-not-is_ripe-clause-judged g t c =
     let xs = c.loop-n.parts.items in
-    subst (λ (zs : List TupleAt). IsJudgedThrough (known_of c.args.self.now.spec.now (g.R.StoredRows.rows c.args.self.now.rows.now) c.args.self.now.stores.now c.args.self.now.low) (entries c.args.self.now.schemes.now (drop c.args.at (steps_in c.args.self.now.route.now))) zs (map (tuple_of c.args.step.step.input) (g.R.StoredRows.rows c.args.self.now.rows.now c.args.step.step.input)) c.seek_with-through.result) c.loop-n.invariant.0
-    (says_unripe (IsDone (known_of c.args.self.now.spec.now (g.R.StoredRows.rows c.args.self.now.rows.now) c.args.self.now.stores.now c.args.self.now.low) (entries c.args.self.now.schemes.now (drop c.args.at (steps_in c.args.self.now.route.now))) xs (tuple_of c.args.step.step.input (c.nth-ticket.result.0, c.nth-ticket.result.1.now))) (AreDone (known_of c.args.self.now.spec.now (g.R.StoredRows.rows c.args.self.now.rows.now) c.args.self.now.stores.now c.args.self.now.low) (entries c.args.self.now.schemes.now (drop c.args.at (steps_in c.args.self.now.route.now))) xs (map (tuple_of c.args.step.step.input) (g.R.StoredRows.rows c.args.self.now.rows.now c.args.step.step.input))) (known_of c.args.self.now.spec.now (g.R.StoredRows.rows c.args.self.now.rows.now) c.args.self.now.stores.now c.args.self.now.low) (entries c.args.self.now.schemes.now (drop c.args.at (steps_in c.args.self.now.route.now))) xs c.seek_with-through.result
+    subst (λ (zs : List TupleAt). IsJudgedThrough (known_of c.args.self.now.spec.now (g.R.StoredRows.rows c.args.self.now.rows.now) c.args.self.now.punct_stores.now c.args.self.now.low) (entries c.args.self.now.schemes.now (drop c.args.at (steps_in c.args.self.now.route.now))) zs (map (tuple_of c.args.step.step.input) (g.R.StoredRows.rows c.args.self.now.rows.now c.args.step.step.input)) c.seek_with-through.result) c.loop-n.invariant.0
+    (says_unripe (IsDone (known_of c.args.self.now.spec.now (g.R.StoredRows.rows c.args.self.now.rows.now) c.args.self.now.punct_stores.now c.args.self.now.low) (entries c.args.self.now.schemes.now (drop c.args.at (steps_in c.args.self.now.route.now))) xs (tuple_of c.args.step.step.input (c.nth-ticket.result.0, c.nth-ticket.result.1.now))) (AreDone (known_of c.args.self.now.spec.now (g.R.StoredRows.rows c.args.self.now.rows.now) c.args.self.now.punct_stores.now c.args.self.now.low) (entries c.args.self.now.schemes.now (drop c.args.at (steps_in c.args.self.now.route.now))) xs (map (tuple_of c.args.step.step.input) (g.R.StoredRows.rows c.args.self.now.rows.now c.args.step.step.input))) (known_of c.args.self.now.spec.now (g.R.StoredRows.rows c.args.self.now.rows.now) c.args.self.now.punct_stores.now c.args.self.now.low) (entries c.args.self.now.schemes.now (drop c.args.at (steps_in c.args.self.now.route.now))) xs c.seek_with-through.result
     (sym c.is_ripe.ensures ∙ c.if-not-is_ripe.true) c.seek_with-through.ensures.judged)
 
 pub seek_with-returns-then-not-match_all-clause-judged : goal.seek_with-returns-then-not-match_all-clause-judged
-seek_with-returns-then-not-match_all-clause-judged g t c = not_suited (known_of c.args.self.now.spec.now (g.R.StoredRows.rows c.args.self.now.rows.now) c.args.self.now.stores.now c.args.self.now.low) c.args.self.now.schemes.now (steps_in c.args.self.now.route.now) c.args.at c.args.step.step c.args.parts.now.items (tuple_of c.args.step.step.input (c.args.ticket, c.args.row.now)) (map_here step_of c.args.self.now.route.now.steps c.args.at c.args.step c.requires.step) (suits_here c.args.self.now.spec.now c.args.self.now.schemes.now c.args.self.now.route.now.links c.args.self.now.route.now.steps c.args.at c.args.step c.args.parts.now.items (tuple_of c.args.step.step.input (c.args.ticket, c.args.row.now)) c.requires.parts.sound c.requires.walk c.requires.route c.requires.step refl
+seek_with-returns-then-not-match_all-clause-judged g t c = not_suited (known_of c.args.self.now.spec.now (g.R.StoredRows.rows c.args.self.now.rows.now) c.args.self.now.punct_stores.now c.args.self.now.low) c.args.self.now.schemes.now (steps_in c.args.self.now.route.now) c.args.at c.args.step.step c.args.parts.now.items (tuple_of c.args.step.step.input (c.args.ticket, c.args.row.now)) (map_here step_of c.args.self.now.route.now.steps c.args.at c.args.step c.requires.step) (suits_here c.args.self.now.spec.now c.args.self.now.schemes.now c.args.self.now.route.now.links c.args.self.now.route.now.steps c.args.at c.args.step c.args.parts.now.items (tuple_of c.args.step.step.input (c.args.ticket, c.args.row.now)) c.requires.parts.sound c.requires.walk c.requires.route c.requires.step refl
     ∙ rw (← c.links_of.ensures.is, ← c.as_slice.ensures.value, ← c.of-next.ensures) (sym c.match_all.ensures ∙ c.if-not-match_all.true))
 
 pub seek_with-insert-requires : goal.seek_with-insert-requires
@@ -76,7 +76,7 @@ seek_with-seek-through-requires g t c κs l =
         (
           c.requires.parts,
           (
-            goes_on c.args.self.now.spec.now c.args.self.now.schemes.now (g.R.StoredRows.rows c.args.self.now.rows.now) c.args.self.now.stores.now (steps_in c.args.self.now.route.now) c.args.at c.args.step.step c.args.parts.now.items c.insert.new.self.items (c.args.ticket, c.args.row.now)
+            goes_on c.args.self.now.spec.now c.args.self.now.schemes.now (g.R.StoredRows.rows c.args.self.now.rows.now) c.args.self.now.punct_stores.now (steps_in c.args.self.now.route.now) c.args.at c.args.step.step c.args.parts.now.items c.insert.new.self.items (c.args.ticket, c.args.row.now)
                 c.requires.parts c.requires.walk (map_here step_of c.args.self.now.route.now.steps c.args.at c.args.step c.requires.step) c.requires.stored suited same,
             steps_on c.args.self.now.spec.now.classes c.args.self.now.schemes.now c.args.self.now.route.now.links c.args.parts.now.items c.insert.new.self.items c.args.self.now.route.now.steps c.args.at c.args.step (c.args.ticket, c.args.row.now) c.requires.route c.requires.step same,
           ),
@@ -86,23 +86,23 @@ seek_with-seek-through-requires g t c κs l =
 
 pub seek_with-returns-then-ticket-self-clause-judged : goal.seek_with-returns-then-ticket-self-clause-judged
 seek_with-returns-then-ticket-self-clause-judged g t c =
-    not_older (known_of c.args.self.now.spec.now (g.R.StoredRows.rows c.args.self.now.rows.now) c.args.self.now.stores.now c.args.self.now.low) c.args.self.now.schemes.now (steps_in c.args.self.now.route.now) c.args.at c.args.step.step c.args.parts.now.items (tuple_of c.args.step.step.input (c.args.ticket, c.args.row.now)) (map_here step_of c.args.self.now.route.now.steps c.args.at c.args.step c.requires.step) c.if-ticket-self.true
+    not_older (known_of c.args.self.now.spec.now (g.R.StoredRows.rows c.args.self.now.rows.now) c.args.self.now.punct_stores.now c.args.self.now.low) c.args.self.now.schemes.now (steps_in c.args.self.now.route.now) c.args.at c.args.step.step c.args.parts.now.items (tuple_of c.args.step.step.input (c.args.ticket, c.args.row.now)) (map_here step_of c.args.self.now.route.now.steps c.args.at c.args.step c.requires.step) c.if-ticket-self.true
 
 pub seek_with-returns-clause-judged : goal.seek_with-returns-clause-judged
 seek_with-returns-clause-judged g t c =
     let suited : suits c.args.self.now.spec.now.classes c.args.parts.now.items (tuple_of c.args.step.step.input (c.args.ticket, c.args.row.now)) ≡ true = (suits_here c.args.self.now.spec.now c.args.self.now.schemes.now c.args.self.now.route.now.links c.args.self.now.route.now.steps c.args.at c.args.step c.args.parts.now.items (tuple_of c.args.step.step.input (c.args.ticket, c.args.row.now)) c.requires.parts.sound c.requires.walk c.requires.route c.requires.step refl
     ∙ rw (← c.links_of.ensures.is, ← c.as_slice.ensures.value, ← c.of-next.ensures) (sym c.match_all.ensures ∙ c.if-not-match_all.false)) in
     let same : c.insert.new.self.items ≡ tuple_of c.args.step.step.input (c.args.ticket, c.args.row.now) ∷ c.args.parts.now.items = c.insert.ensures.items ∙ ap (λ (x : TupleAt). x ∷ c.args.parts.now.items) c.of-next.ensures in
-    went_on c.args.self.now.spec.now c.args.self.now.schemes.now (g.R.StoredRows.rows c.args.self.now.rows.now) c.args.self.now.stores.now c.args.self.now.low (steps_in c.args.self.now.route.now) c.args.at c.args.step.step c.args.parts.now.items c.insert.new.self.items (c.args.ticket, c.args.row.now) c.seek-through.result
+    went_on c.args.self.now.spec.now c.args.self.now.schemes.now (g.R.StoredRows.rows c.args.self.now.rows.now) c.args.self.now.punct_stores.now c.args.self.now.low (steps_in c.args.self.now.route.now) c.args.at c.args.step.step c.args.parts.now.items c.insert.new.self.items (c.args.ticket, c.args.row.now) c.seek-through.result
     c.requires.walk (map_here step_of c.args.self.now.route.now.steps c.args.at c.args.step c.requires.step) c.requires.stored c.if-ticket-self.false suited same c.seek-through.ensures.judged
 
 pub seek_through-partners-requires-clause-fit : goal.seek_through-partners-requires-clause-fit
 seek_through-partners-requires-clause-fit g t c =
-    step_fits c.args.self.now.spec.now c.args.self.now.schemes.now (g.R.StoredRows.rows c.args.self.now.rows.now) c.args.self.now.stores.now (steps_in c.args.self.now.route.now) c.args.at c.args.step.step c.args.parts.now.items c.requires.parts c.requires.walk (map_here step_of c.args.self.now.route.now.steps c.args.at c.args.step c.requires.step)
+    step_fits c.args.self.now.spec.now c.args.self.now.schemes.now (g.R.StoredRows.rows c.args.self.now.rows.now) c.args.self.now.punct_stores.now (steps_in c.args.self.now.route.now) c.args.at c.args.step.step c.args.parts.now.items c.requires.parts c.requires.walk (map_here step_of c.args.self.now.route.now.steps c.args.at c.args.step c.requires.step)
 
 pub seek_through-returns-in-Some-clause-judged : goal.seek_through-returns-in-Some-clause-judged
 seek_through-returns-in-Some-clause-judged g t c =
-    whole_under (known_of c.args.self.now.spec.now (g.R.StoredRows.rows c.args.self.now.rows.now) c.args.self.now.stores.now c.args.self.now.low) (entries c.args.self.now.schemes.now (drop c.args.at (steps_in c.args.self.now.route.now))) c.args.parts.now.items c.as_slice.result.now (map (tuple_of c.args.step.step.input) (g.R.StoredRows.rows c.args.self.now.rows.now c.args.step.step.input)) c.in-Some.tickets.now c.seek_among.result c.as_slice.ensures.value c.in-Some.ensures.all c.seek_among.ensures.judged
+    whole_under (known_of c.args.self.now.spec.now (g.R.StoredRows.rows c.args.self.now.rows.now) c.args.self.now.punct_stores.now c.args.self.now.low) (entries c.args.self.now.schemes.now (drop c.args.at (steps_in c.args.self.now.route.now))) c.args.parts.now.items c.as_slice.result.now (map (tuple_of c.args.step.step.input) (g.R.StoredRows.rows c.args.self.now.rows.now c.args.step.step.input)) c.in-Some.tickets.now c.seek_among.result c.as_slice.ensures.value c.in-Some.ensures.all c.seek_among.ensures.judged
 
 pub seek_among-seek_under-through-requires : goal.seek_among-seek_under-through-requires
 seek_among-seek_under-through-requires g t c κs l =
@@ -119,25 +119,25 @@ seek_under-seek_with-requires g t c κs l =
 
 pub seek_under-returns-in-None-clause-judged : goal.seek_under-returns-in-None-clause-judged
 seek_under-returns-in-None-clause-judged g t c =
-    no_row_under (known_of c.args.self.now.spec.now (g.R.StoredRows.rows c.args.self.now.rows.now) c.args.self.now.stores.now c.args.self.now.low) (entries c.args.self.now.schemes.now (drop c.args.at (steps_in c.args.self.now.route.now))) c.args.parts.now.items c.args.step.step.input c.args.ticket (g.R.StoredRows.rows c.args.self.now.rows.now c.args.step.step.input) (sym c.in-None.ensures)
+    no_row_under (known_of c.args.self.now.spec.now (g.R.StoredRows.rows c.args.self.now.rows.now) c.args.self.now.punct_stores.now c.args.self.now.low) (entries c.args.self.now.schemes.now (drop c.args.at (steps_in c.args.self.now.route.now))) c.args.parts.now.items c.args.step.step.input c.args.ticket (g.R.StoredRows.rows c.args.self.now.rows.now c.args.step.step.input) (sym c.in-None.ensures)
 
 pub seek_under-returns-in-Some-clause-judged : goal.seek_under-returns-in-Some-clause-judged
 seek_under-returns-in-Some-clause-judged g t c =
-    row_under_judged (known_of c.args.self.now.spec.now (g.R.StoredRows.rows c.args.self.now.rows.now) c.args.self.now.stores.now c.args.self.now.low) (entries c.args.self.now.schemes.now (drop c.args.at (steps_in c.args.self.now.route.now))) c.args.parts.now.items c.args.step.step.input c.args.ticket c.in-Some.row.now (g.R.StoredRows.rows c.args.self.now.rows.now c.args.step.step.input) c.seek_with.result
+    row_under_judged (known_of c.args.self.now.spec.now (g.R.StoredRows.rows c.args.self.now.rows.now) c.args.self.now.punct_stores.now c.args.self.now.low) (entries c.args.self.now.schemes.now (drop c.args.at (steps_in c.args.self.now.route.now))) c.args.parts.now.items c.args.step.step.input c.args.ticket c.in-Some.row.now (g.R.StoredRows.rows c.args.self.now.rows.now c.args.step.step.input) c.seek_with.result
     c.requires.rising (sym c.in-Some.ensures) c.seek_with.ensures.judged
 
 pub seek_among-loop-ticket-preserved : goal.seek_among-loop-ticket-preserved
 seek_among-loop-ticket-preserved g t c = (
   c.seek_under-through.ensures.same ∙ c.loop-ticket.invariant.0,
-  one_more_under (known_of c.args.self.now.spec.now (g.R.StoredRows.rows c.args.self.now.rows.now) c.args.self.now.stores.now c.args.self.now.low) (entries c.args.self.now.schemes.now (drop c.args.at (steps_in c.args.self.now.route.now))) c.args.parts.now.items c.loop-ticket.parts.items (map (tuple_of c.args.step.step.input) (g.R.StoredRows.rows c.args.self.now.rows.now c.args.step.step.input)) c.args.tickets.now c.loop-ticket.ticket-index (get_or c.args.tickets.now c.loop-ticket.ticket-index 0) c.seek_under-through.result
+  one_more_under (known_of c.args.self.now.spec.now (g.R.StoredRows.rows c.args.self.now.rows.now) c.args.self.now.punct_stores.now c.args.self.now.low) (entries c.args.self.now.schemes.now (drop c.args.at (steps_in c.args.self.now.route.now))) c.args.parts.now.items c.loop-ticket.parts.items (map (tuple_of c.args.step.step.input) (g.R.StoredRows.rows c.args.self.now.rows.now c.args.step.step.input)) c.args.tickets.now c.loop-ticket.ticket-index (get_or c.args.tickets.now c.loop-ticket.ticket-index 0) c.seek_under-through.result
       (slice_get-get_or c.args.tickets.now c.loop-ticket.ticket-index 0 c.loop-ticket-test.true) c.loop-ticket.invariant.0 c.loop-ticket.invariant.1 c.seek_under-through.ensures.judged (sym c.is_ripe.ensures ∙ c.if-not-is_ripe.false),
 )
 
 pub seek_among-returns-then-not-is_ripe-clause-judged : goal.seek_among-returns-then-not-is_ripe-clause-judged
 seek_among-returns-then-not-is_ripe-clause-judged g t c =
     let xs = c.loop-ticket.parts.items in
-    subst (λ (zs : List TupleAt). IsJudgedUnder (known_of c.args.self.now.spec.now (g.R.StoredRows.rows c.args.self.now.rows.now) c.args.self.now.stores.now c.args.self.now.low) (entries c.args.self.now.schemes.now (drop c.args.at (steps_in c.args.self.now.route.now))) zs (map (tuple_of c.args.step.step.input) (g.R.StoredRows.rows c.args.self.now.rows.now c.args.step.step.input)) c.args.tickets.now c.seek_under-through.result) c.loop-ticket.invariant.0
-    (says_unripe (AreDoneUnder (known_of c.args.self.now.spec.now (g.R.StoredRows.rows c.args.self.now.rows.now) c.args.self.now.stores.now c.args.self.now.low) (entries c.args.self.now.schemes.now (drop c.args.at (steps_in c.args.self.now.route.now))) xs (map (tuple_of c.args.step.step.input) (g.R.StoredRows.rows c.args.self.now.rows.now c.args.step.step.input)) (get_or c.args.tickets.now c.loop-ticket.ticket-index 0 ∷ [])) (AreDoneUnder (known_of c.args.self.now.spec.now (g.R.StoredRows.rows c.args.self.now.rows.now) c.args.self.now.stores.now c.args.self.now.low) (entries c.args.self.now.schemes.now (drop c.args.at (steps_in c.args.self.now.route.now))) xs (map (tuple_of c.args.step.step.input) (g.R.StoredRows.rows c.args.self.now.rows.now c.args.step.step.input)) c.args.tickets.now) (known_of c.args.self.now.spec.now (g.R.StoredRows.rows c.args.self.now.rows.now) c.args.self.now.stores.now c.args.self.now.low) (entries c.args.self.now.schemes.now (drop c.args.at (steps_in c.args.self.now.route.now))) xs c.seek_under-through.result
+    subst (λ (zs : List TupleAt). IsJudgedUnder (known_of c.args.self.now.spec.now (g.R.StoredRows.rows c.args.self.now.rows.now) c.args.self.now.punct_stores.now c.args.self.now.low) (entries c.args.self.now.schemes.now (drop c.args.at (steps_in c.args.self.now.route.now))) zs (map (tuple_of c.args.step.step.input) (g.R.StoredRows.rows c.args.self.now.rows.now c.args.step.step.input)) c.args.tickets.now c.seek_under-through.result) c.loop-ticket.invariant.0
+    (says_unripe (AreDoneUnder (known_of c.args.self.now.spec.now (g.R.StoredRows.rows c.args.self.now.rows.now) c.args.self.now.punct_stores.now c.args.self.now.low) (entries c.args.self.now.schemes.now (drop c.args.at (steps_in c.args.self.now.route.now))) xs (map (tuple_of c.args.step.step.input) (g.R.StoredRows.rows c.args.self.now.rows.now c.args.step.step.input)) (get_or c.args.tickets.now c.loop-ticket.ticket-index 0 ∷ [])) (AreDoneUnder (known_of c.args.self.now.spec.now (g.R.StoredRows.rows c.args.self.now.rows.now) c.args.self.now.punct_stores.now c.args.self.now.low) (entries c.args.self.now.schemes.now (drop c.args.at (steps_in c.args.self.now.route.now))) xs (map (tuple_of c.args.step.step.input) (g.R.StoredRows.rows c.args.self.now.rows.now c.args.step.step.input)) c.args.tickets.now) (known_of c.args.self.now.spec.now (g.R.StoredRows.rows c.args.self.now.rows.now) c.args.self.now.punct_stores.now c.args.self.now.low) (entries c.args.self.now.schemes.now (drop c.args.at (steps_in c.args.self.now.route.now))) xs c.seek_under-through.result
     (sym c.is_ripe.ensures ∙ c.if-not-is_ripe.true) c.seek_under-through.ensures.judged)
 
 pub seek-seek_through-requires : goal.seek-seek_through-requires

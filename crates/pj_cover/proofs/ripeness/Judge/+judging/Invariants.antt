@@ -24,9 +24,9 @@ decreases-seek_with g l = 5 * (length l.self.now.route.now.steps - (l.at + 1)) +
 abbrev pub invariant-seek_each-loop-n : goal.invariant-seek_each-loop-n
 invariant-seek_each-loop-n g l =
     (l.parts.items ≡ l.fn.parts.items)
-    × AreDone (known_of l.self.spec.now (g.R.StoredRows.rows l.self.rows.now) l.self.stores.now l.self.low) (entries l.self.schemes.now (drop l.at (steps_in l.self.route.now))) l.fn.parts.items (take l.n (map (tuple_of l.step.step.input) (g.R.StoredRows.rows l.self.rows.now l.step.step.input)))
+    × AreDone (known_of l.self.spec.now (g.R.StoredRows.rows l.self.rows.now) l.self.punct_stores.now l.self.low) (entries l.self.schemes.now (drop l.at (steps_in l.self.route.now))) l.fn.parts.items (take l.n (map (tuple_of l.step.step.input) (g.R.StoredRows.rows l.self.rows.now l.step.step.input)))
 
 abbrev pub invariant-seek_among-loop-ticket : goal.invariant-seek_among-loop-ticket
 invariant-seek_among-loop-ticket g l =
     (l.parts.items ≡ l.fn.parts.items)
-    × AreDoneUnder (known_of l.self.spec.now (g.R.StoredRows.rows l.self.rows.now) l.self.stores.now l.self.low) (entries l.self.schemes.now (drop l.at (steps_in l.self.route.now))) l.fn.parts.items (map (tuple_of l.step.step.input) (g.R.StoredRows.rows l.self.rows.now l.step.step.input)) (take l.ticket-index l.tickets)
+    × AreDoneUnder (known_of l.self.spec.now (g.R.StoredRows.rows l.self.rows.now) l.self.punct_stores.now l.self.low) (entries l.self.schemes.now (drop l.at (steps_in l.self.route.now))) l.fn.parts.items (map (tuple_of l.step.step.input) (g.R.StoredRows.rows l.self.rows.now l.step.step.input)) (take l.ticket-index l.tickets)

@@ -9,9 +9,9 @@ covering_all-requires-clause-count g c =
 pub returns-in-None : goal.returns-in-None
 returns-in-None g c d =
     all_told c.args.self.now.spec.now.classes (entry_of c.args.self.now.schemes.now c.args.step.step) c.args.self.now.route.now.links c.args.step c.args.parts.now c.requires.ready c.scheme_of-scheme.result.now c.scheme_of-scheme.ensures
-    c.links_of.result.now c.args.self.now.stores.now c.args.self.now.low c.covering_all.result d c.index-self-step.result c.links_of.ensures.is c.requires.step.store c.covering_all.ensures
+    c.links_of.result.now c.args.self.now.punct_stores.now c.args.self.now.low c.covering_all.result d c.index-self-step.result c.links_of.ensures.is c.requires.step.store c.covering_all.ensures
 
 pub returns-in-Some : goal.returns-in-Some
 returns-in-Some g c d =
     one_told c.args.self.now.spec.now.classes (entry_of c.args.self.now.schemes.now c.args.step.step) c.args.self.now.route.now.links c.args.step c.args.parts.now c.requires.ready c.scheme_of-scheme.result.now c.scheme_of-scheme.ensures
-    c.in-Some.link c.len.result c.args.self.now.stores.now c.args.self.now.low c.covering_one.result d c.index-self-step.result c.in-Some.is c.len.ensures c.requires.step.store c.covering_one.ensures
+    c.in-Some.link c.len.result c.args.self.now.punct_stores.now c.args.self.now.low c.covering_one.result d c.index-self-step.result c.in-Some.is c.len.ensures c.requires.step.store c.covering_one.ensures

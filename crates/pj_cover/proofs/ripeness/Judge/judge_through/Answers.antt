@@ -16,6 +16,6 @@ seek_through-requires g c =
 
 pub returns : goal.returns
 returns g c =
-    let k = known_of c.args.self.now.spec.now (g.R.StoredRows.rows c.args.self.now.rows.now) c.args.self.now.stores.now c.args.self.now.low in
+    let k = known_of c.args.self.now.spec.now (g.R.StoredRows.rows c.args.self.now.rows.now) c.args.self.now.punct_stores.now c.args.self.now.low in
     let alone : c.push.new.self.items ≡ c.args.own ∷ [] = c.push.ensures.items ∙ ap (λ (xs : List TupleAt). xs ++ c.args.own ∷ []) c.new-parts.ensures in
     subst (λ (xs : List TupleAt). IsJudgedThrough k (entries c.args.self.now.schemes.now (steps_in c.args.self.now.route.now)) xs (map (tuple_of c.args.step.step.input) (g.R.StoredRows.rows c.args.self.now.rows.now c.args.step.step.input)) c.seek_through.result) alone c.seek_through.ensures.judged

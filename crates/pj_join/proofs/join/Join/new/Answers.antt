@@ -24,14 +24,14 @@ purge_routes-requires-clause-certified c = subst (λ (certs : List (List CertSte
 pub invariant_of-result : goal.invariant_of-result
 invariant_of-result c = (
   rw (c.of.ensures, c.new-3.ensures.items, c.new-4.ensures.items, c.in_ok-new.ensures.ok)
-      (join-starts (join_data c.args.spec c.args.schemes c.args.certs) c.args.limit c.in_ok-states.states.items c.in_ok-stores.stores.items c.in_ok-states.ensures.rows (c.in_ok-stores.ensures.heard ∙ ap (λ (ss : List (List Column)). map (λ k. heard_of k []) (upto_from 0 (length ss))) c.as_slice.ensures) c.requires.sound c.requires.certified c.requires.limit.1 c.in_ok-states.ensures.shaped
-      (c.in_ok-stores.ensures.arities ∙ ap arities_of c.as_slice.ensures)),
-  rw (c.new-4.ensures.items, c.in_ok-new.ensures.ok) (subst (λ (xs : List TupleAt). AreWatched (join_data c.args.spec c.args.schemes c.args.certs) 0 (lowest 0 0 xs []) xs (puncts_of c.in_ok-stores.stores.items) c.in_ok-watches.watches.items) (sym (log-none (join_data c.args.spec c.args.schemes c.args.certs) c.args.limit c.in_ok-states.states.items c.in_ok-stores.stores.items c.in_ok-states.ensures.rows (c.in_ok-stores.ensures.heard ∙ ap (λ (ss : List (List Column)). map (λ k. heard_of k []) (upto_from 0 (length ss))) c.as_slice.ensures)))
-      (subst (λ (ps : List PunctAt). AreWatched (join_data c.args.spec c.args.schemes c.args.certs) 0 (lowest 0 0 [] []) [] ps c.in_ok-watches.watches.items) (sym (puncts-none (join_data c.args.spec c.args.schemes c.args.certs) c.args.limit c.in_ok-states.states.items c.in_ok-stores.stores.items c.in_ok-states.ensures.rows (c.in_ok-stores.ensures.heard ∙ ap (λ (ss : List (List Column)). map (λ k. heard_of k []) (upto_from 0 (length ss))) c.as_slice.ensures)))
-      (watched_start (join_data c.args.spec c.args.schemes c.args.certs) c.in_ok-watches.watches.items (c.in_ok-watches.ensures.count ∙ c.len.ensures ∙ sym (length-map c.args.spec.inputs (λ schema. length schema))) c.in_ok-watches.ensures.none))),
+      (join-starts (join_data c.args.spec c.args.schemes c.args.certs) c.args.limit c.in_ok-row_states.row_states.items c.in_ok-punct_stores.punct_stores.items c.in_ok-row_states.ensures.rows (c.in_ok-punct_stores.ensures.heard ∙ ap (λ (ss : List (List Column)). map (λ k. heard_of k []) (upto_from 0 (length ss))) c.as_slice.ensures) c.requires.sound c.requires.certified c.requires.limit.1 c.in_ok-row_states.ensures.shaped
+      (c.in_ok-punct_stores.ensures.arities ∙ ap arities_of c.as_slice.ensures)),
+  rw (c.new-4.ensures.items, c.in_ok-new.ensures.ok) (subst (λ (xs : List TupleAt). AreWatched (join_data c.args.spec c.args.schemes c.args.certs) 0 (lowest 0 0 xs []) xs (puncts_of c.in_ok-punct_stores.punct_stores.items) c.in_ok-due.due.items) (sym (log-none (join_data c.args.spec c.args.schemes c.args.certs) c.args.limit c.in_ok-row_states.row_states.items c.in_ok-punct_stores.punct_stores.items c.in_ok-row_states.ensures.rows (c.in_ok-punct_stores.ensures.heard ∙ ap (λ (ss : List (List Column)). map (λ k. heard_of k []) (upto_from 0 (length ss))) c.as_slice.ensures)))
+      (subst (λ (ps : List PunctAt). AreWatched (join_data c.args.spec c.args.schemes c.args.certs) 0 (lowest 0 0 [] []) [] ps c.in_ok-due.due.items) (sym (puncts-none (join_data c.args.spec c.args.schemes c.args.certs) c.args.limit c.in_ok-row_states.row_states.items c.in_ok-punct_stores.punct_stores.items c.in_ok-row_states.ensures.rows (c.in_ok-punct_stores.ensures.heard ∙ ap (λ (ss : List (List Column)). map (λ k. heard_of k []) (upto_from 0 (length ss))) c.as_slice.ensures)))
+      (watched_start (join_data c.args.spec c.args.schemes c.args.certs) c.in_ok-due.due.items (c.in_ok-due.ensures.count ∙ c.len.ensures ∙ sym (length-map c.args.spec.inputs (λ schema. length schema))) c.in_ok-due.ensures.none))),
   held_none 0 _ c.new-2.result c.new-2.ensures,
-  rw (c.in_ok-new.ensures.ok) (subst (λ (classes : List (List ClassCol)). AreProbeRoutes classes (columns_of c.in_ok-states.states.items) c.in_ok-routes.routes) c.as_slice-2.ensures
-      (subst (λ (states : List StateView). AreProbeRoutes c.as_slice-2.result.now (columns_of states) c.in_ok-routes.routes) c.as_slice-3.ensures.value c.in_ok-routes.ensures)),
+  rw (c.in_ok-new.ensures.ok) (subst (λ (classes : List (List ClassCol)). AreProbeRoutes classes (columns_of c.in_ok-row_states.row_states.items) c.in_ok-routes.routes) c.as_slice-2.ensures
+      (subst (λ (row_states : List StateView). AreProbeRoutes c.as_slice-2.result.now (columns_of row_states) c.in_ok-routes.routes) c.as_slice-3.ensures.value c.in_ok-routes.ensures)),
   rw (c.in_ok-new.ensures.ok) (rw (c.as_slice-4.ensures, c.as_slice-5.ensures.value) at c.in_ok-rechecks.ensures),
   rw (c.in_ok-new.ensures.ok) (rw (c.as_slice-6.ensures) at c.in_ok-purges.ensures),
 )
@@ -40,5 +40,5 @@ pub returns : goal.returns
 returns c =
     rw (c.new-2.ensures, c.new-4.ensures.items, c.in_ok-new.ensures.ok)
     (ap₂ (λ (xs : List TupleAt) (ps : List PunctAt). seen (made_with c.args.node (join_data c.args.spec c.args.schemes c.args.certs) c.args.limit) 0 0 xs ps [] [])
-    (log-none (join_data c.args.spec c.args.schemes c.args.certs) c.args.limit c.in_ok-states.states.items c.in_ok-stores.stores.items c.in_ok-states.ensures.rows (c.in_ok-stores.ensures.heard ∙ ap (λ (ss : List (List Column)). map (λ k. heard_of k []) (upto_from 0 (length ss))) c.as_slice.ensures))
-    (puncts-none (join_data c.args.spec c.args.schemes c.args.certs) c.args.limit c.in_ok-states.states.items c.in_ok-stores.stores.items c.in_ok-states.ensures.rows (c.in_ok-stores.ensures.heard ∙ ap (λ (ss : List (List Column)). map (λ k. heard_of k []) (upto_from 0 (length ss))) c.as_slice.ensures)))
+    (log-none (join_data c.args.spec c.args.schemes c.args.certs) c.args.limit c.in_ok-row_states.row_states.items c.in_ok-punct_stores.punct_stores.items c.in_ok-row_states.ensures.rows (c.in_ok-punct_stores.ensures.heard ∙ ap (λ (ss : List (List Column)). map (λ k. heard_of k []) (upto_from 0 (length ss))) c.as_slice.ensures))
+    (puncts-none (join_data c.args.spec c.args.schemes c.args.certs) c.args.limit c.in_ok-row_states.row_states.items c.in_ok-punct_stores.punct_stores.items c.in_ok-row_states.ensures.rows (c.in_ok-punct_stores.ensures.heard ∙ ap (λ (ss : List (List Column)). map (λ k. heard_of k []) (upto_from 0 (length ss))) c.as_slice.ensures)))

@@ -20,8 +20,8 @@ returns-clause-sweeps c =
     rw (← c.self.view_is)
     (on_both c.sweep_rows-swept.result
     (λ sweeps waits. ap (with_waiting c.sweep_rows-swept.new.waiting.puncts) (c.self-2.view_is ∙ sweeps)
-    ∙ ap (λ (ps : List PunctAt). with_waiting ps (after (seen (made_with c.self.inside.node (join_data (arc_value c.self.inside.spec) c.self.inside.schemes c.self.inside.certs) c.self.inside.limit) c.self.inside.next c.self.inside.done (log_of c.self.inside.states.items) (puncts_of c.self.inside.stores.items) c.self.inside.waiting.puncts c.self.inside.taken.items) (Sweep c.args.input)))
-    (waits ∙ ap (λ w. waiting_on (swept (seen (made_with c.self.inside.node (join_data (arc_value c.self.inside.spec) c.self.inside.schemes c.self.inside.certs) c.self.inside.limit) c.self.inside.next c.self.inside.done (log_of c.self.inside.states.items) (puncts_of c.self.inside.stores.items) c.new.result.puncts c.self.inside.taken.items).spec (seen (made_with c.self.inside.node (join_data (arc_value c.self.inside.spec) c.self.inside.schemes c.self.inside.certs) c.self.inside.limit) c.self.inside.next c.self.inside.done (log_of c.self.inside.states.items) (puncts_of c.self.inside.stores.items) c.new.result.puncts c.self.inside.taken.items).kept c.args.input) c.args.input w.puncts) c.replace-waiting.ensures.value))
+    ∙ ap (λ (ps : List PunctAt). with_waiting ps (after (seen (made_with c.self.inside.node (join_data (arc_value c.self.inside.spec) c.self.inside.schemes c.self.inside.certs) c.self.inside.limit) c.self.inside.next c.self.inside.done (log_of c.self.inside.row_states.items) (puncts_of c.self.inside.punct_stores.items) c.self.inside.waiting.puncts c.self.inside.taken.items) (Sweep c.args.input)))
+    (waits ∙ ap (λ w. waiting_on (swept (seen (made_with c.self.inside.node (join_data (arc_value c.self.inside.spec) c.self.inside.schemes c.self.inside.certs) c.self.inside.limit) c.self.inside.next c.self.inside.done (log_of c.self.inside.row_states.items) (puncts_of c.self.inside.punct_stores.items) c.new.result.puncts c.self.inside.taken.items).spec (seen (made_with c.self.inside.node (join_data (arc_value c.self.inside.spec) c.self.inside.schemes c.self.inside.certs) c.self.inside.limit) c.self.inside.next c.self.inside.done (log_of c.self.inside.row_states.items) (puncts_of c.self.inside.punct_stores.items) c.new.result.puncts c.self.inside.taken.items).kept c.args.input) c.args.input w.puncts) c.replace-waiting.ensures.value))
     c.sweep_rows-swept.ensures.sweeps c.sweep_rows-swept.ensures.waiting)
 
 pub returns-clause-count : goal.returns-clause-count
@@ -33,7 +33,7 @@ returns-clause-removed c = rw (← c.self.view_is) c.sweep_rows-swept.ensures.re
 pub returns-clause-stands : goal.returns-clause-stands
 returns-clause-stands c =
     let some : 0 < inputs c.args.self.now.spec = omega (arith, c.requires.there) in
-    on_both c.sweep_rows-swept.result (λ sweeps certified. stands-sweep c.args.self.now (with_waiting c.sweep_rows-swept.new.waiting.puncts (seen (made_with c.self-2.inside.node (join_data (arc_value c.self-2.inside.spec) c.self-2.inside.schemes c.self-2.inside.certs) c.self-2.inside.limit) c.self-2.inside.next c.self-2.inside.done (log_of c.self-2.inside.states.items) (puncts_of c.self-2.inside.stores.items) c.self-2.inside.waiting.puncts c.self-2.inside.taken.items)) c.args.input (c.standing.ensures c.args.self.now.spec some) (rw (← c.self.view_is) certified) c.requires.there sweeps)
+    on_both c.sweep_rows-swept.result (λ sweeps certified. stands-sweep c.args.self.now (with_waiting c.sweep_rows-swept.new.waiting.puncts (seen (made_with c.self-2.inside.node (join_data (arc_value c.self-2.inside.spec) c.self-2.inside.schemes c.self-2.inside.certs) c.self-2.inside.limit) c.self-2.inside.next c.self-2.inside.done (log_of c.self-2.inside.row_states.items) (puncts_of c.self-2.inside.punct_stores.items) c.self-2.inside.waiting.puncts c.self-2.inside.taken.items)) c.args.input (c.standing.ensures c.args.self.now.spec some) (rw (← c.self.view_is) certified) c.requires.there sweeps)
     (returns-clause-sweeps c) c.sweep_rows-swept.ensures.certified
 
 pub returns-clause-hands : goal.returns-clause-hands
@@ -56,14 +56,14 @@ returns-clause-stays c =
 pub returns-then-is_idle-clause-sweeps : goal.returns-then-is_idle-clause-sweeps
 returns-then-is_idle-clause-sweeps c =
     let none : swept_off c.args.self.now c.args.input ≡ [] = c.is_idle.ensures c.if-is_idle.true in
-    let off : swept_off (seen (made_with c.self.inside.node (join_data (arc_value c.self.inside.spec) c.self.inside.schemes c.self.inside.certs) c.self.inside.limit) c.self.inside.next c.self.inside.done (log_of c.self.inside.states.items) (puncts_of c.self.inside.stores.items) c.self.inside.waiting.puncts c.self.inside.taken.items) c.args.input ≡ [] = rw (← c.self.view_is) at none in
-    rw (← c.self.view_is) (idle (seen (made_with c.self.inside.node (join_data (arc_value c.self.inside.spec) c.self.inside.schemes c.self.inside.certs) c.self.inside.limit) c.self.inside.next c.self.inside.done (log_of c.self.inside.states.items) (puncts_of c.self.inside.stores.items) c.self.inside.waiting.puncts c.self.inside.taken.items) c.args.input c.self.inside.waiting off refl c.self.invariant.2).0
+    let off : swept_off (seen (made_with c.self.inside.node (join_data (arc_value c.self.inside.spec) c.self.inside.schemes c.self.inside.certs) c.self.inside.limit) c.self.inside.next c.self.inside.done (log_of c.self.inside.row_states.items) (puncts_of c.self.inside.punct_stores.items) c.self.inside.waiting.puncts c.self.inside.taken.items) c.args.input ≡ [] = rw (← c.self.view_is) at none in
+    rw (← c.self.view_is) (idle (seen (made_with c.self.inside.node (join_data (arc_value c.self.inside.spec) c.self.inside.schemes c.self.inside.certs) c.self.inside.limit) c.self.inside.next c.self.inside.done (log_of c.self.inside.row_states.items) (puncts_of c.self.inside.punct_stores.items) c.self.inside.waiting.puncts c.self.inside.taken.items) c.args.input c.self.inside.waiting off refl c.self.invariant.2).0
 
 pub returns-then-is_idle-clause-out : goal.returns-then-is_idle-clause-out
 returns-then-is_idle-clause-out c =
     let none : swept_off c.args.self.now c.args.input ≡ [] = c.is_idle.ensures c.if-is_idle.true in
-    let off : swept_off (seen (made_with c.self.inside.node (join_data (arc_value c.self.inside.spec) c.self.inside.schemes c.self.inside.certs) c.self.inside.limit) c.self.inside.next c.self.inside.done (log_of c.self.inside.states.items) (puncts_of c.self.inside.stores.items) c.self.inside.waiting.puncts c.self.inside.taken.items) c.args.input ≡ [] = rw (← c.self.view_is) at none in
-    rw (← c.self.view_is) (sym (ap (λ (ps : List (List Pattern)). c.args.out.now ++ ps) (idle (seen (made_with c.self.inside.node (join_data (arc_value c.self.inside.spec) c.self.inside.schemes c.self.inside.certs) c.self.inside.limit) c.self.inside.next c.self.inside.done (log_of c.self.inside.states.items) (puncts_of c.self.inside.stores.items) c.self.inside.waiting.puncts c.self.inside.taken.items) c.args.input c.self.inside.waiting off refl c.self.invariant.2).1 ∙ append-nil c.args.out.now))
+    let off : swept_off (seen (made_with c.self.inside.node (join_data (arc_value c.self.inside.spec) c.self.inside.schemes c.self.inside.certs) c.self.inside.limit) c.self.inside.next c.self.inside.done (log_of c.self.inside.row_states.items) (puncts_of c.self.inside.punct_stores.items) c.self.inside.waiting.puncts c.self.inside.taken.items) c.args.input ≡ [] = rw (← c.self.view_is) at none in
+    rw (← c.self.view_is) (sym (ap (λ (ps : List (List Pattern)). c.args.out.now ++ ps) (idle (seen (made_with c.self.inside.node (join_data (arc_value c.self.inside.spec) c.self.inside.schemes c.self.inside.certs) c.self.inside.limit) c.self.inside.next c.self.inside.done (log_of c.self.inside.row_states.items) (puncts_of c.self.inside.punct_stores.items) c.self.inside.waiting.puncts c.self.inside.taken.items) c.args.input c.self.inside.waiting off refl c.self.invariant.2).1 ∙ append-nil c.args.out.now))
 
 pub returns-then-is_idle-clause-stands : goal.returns-then-is_idle-clause-stands
 returns-then-is_idle-clause-stands c =

@@ -16,7 +16,7 @@ pub returns-in-Ok-clause-held : goal.returns-in-Ok-clause-held
 returns-in-Ok-clause-held c =
     subst (λ (j : JoinView). AreHeld j.kept.next j.kept.stored c.leave.new.self) (sym c.settle.ensures.sweeps)
     (held_left c.args.self.now.kept.next c.args.self.now.kept.stored (swept c.args.self.now.spec c.args.self.now.kept c.args.input) c.in-Ok.left.waiting.goes c.in-Ok.left.waiting.freed c.args.waiting.now c.judge.new.waiting c.leave.new.self
-    c.requires.held c.judge.ensures.puncts c.leave.ensures.puncts c.leave.ensures.lists c.in-Ok.ensures.held)
+    c.requires.held c.judge.ensures.puncts c.leave.ensures.puncts c.leave.ensures.by_blocker c.in-Ok.ensures.held)
 
 pub returns-in-Err-clause-held : goal.returns-in-Err-clause-held
 returns-in-Err-clause-held c = held_same c.args.self.now.kept.next c.args.self.now.kept.stored c.args.waiting.now c.judge.new.waiting c.judge.ensures.puncts c.judge.ensures.keeps c.requires.held

@@ -6,4 +6,4 @@ use Rattle.pj_probe.proofs.route.Shape.indexed_link.Goals as goal
 
 pub returns-then-is_indexed-clause-leads : goal.returns-then-is_indexed-clause-leads
 returns-then-is_indexed-clause-leads c =
-    link_leads c.args.self.now.states.now c.index-self-input.result c.args.self.now.own c.args.steps.now c.args.input c.in-Some.link c.is_indexed.result c.requires c.index-self-input.is c.in-Some.ensures.from c.if-is_indexed.true (c.is_indexed.ensures ∙ ap (λ (s : StateView). list_any (λ own. c.in-Some.link.index_column == own) s.columns) (sym c.index-self-input.is))
+    link_leads c.args.self.now.row_states.now c.index-self-input.result c.args.self.now.own c.args.steps.now c.args.input c.in-Some.link c.is_indexed.result c.requires c.index-self-input.is c.in-Some.ensures.from c.if-is_indexed.true (c.is_indexed.ensures ∙ ap (λ (s : StateView). list_any (λ own. c.in-Some.link.index_column == own) s.columns) (sym c.index-self-input.is))

@@ -19,7 +19,7 @@ returns-clause-backs c =
     backs_next (asker c.args.self.now) c.args.at c.args.other c.args.backs.now c.push.new.self (record { owner = c.self.inside.input; way = c.in_ok-way.way }) c.in_ok-push.ensures.ok (ap (λ (p : PathView). p.input) c.self.view_is) c.in_ok-way.ensures.way
 
 pub returns-clause-fit : goal.returns-clause-fit
-returns-clause-fit c = λ all. all_more (λ (b : BackRoute). IfSome b.way (WayFits c.args.self.now.states)) c.args.backs.now c.push.new.self (record { owner = c.self.inside.input; way = c.in_ok-way.way }) c.in_ok-push.ensures.ok all c.in_ok-way.ensures.fits
+returns-clause-fit c = λ all. all_more (λ (b : BackRoute). IfSome b.way (WayFits c.args.self.now.row_states)) c.args.backs.now c.push.new.self (record { owner = c.self.inside.input; way = c.in_ok-way.way }) c.in_ok-push.ensures.ok all c.in_ok-way.ensures.fits
 
 pub returns-clause-keeps : goal.returns-clause-keeps
 returns-clause-keeps c = kept_more c.args.backs.now c.push.new.self (record { owner = c.self.inside.input; way = c.in_ok-way.way }) c.in_ok-push.ensures.ok

@@ -17,7 +17,7 @@ returns-clause-routes c =
     (subst (λ (e : CertEntry). IsRecheckRoute (asker c.args.self.now) c.args.entry e c.in_ok-route.field-0) (entry_is c.self.inside.schemes.now c.at-step.result.now c.args.input c.in_ok-scheme.scheme c.if-step-input.false c.in_ok-scheme.ensures) c.in_ok-route.ensures.route)
 
 pub returns-clause-fit : goal.returns-clause-fit
-returns-clause-fit c = λ all. all_more (λ (r : RecheckRoute). RouteFits c.args.self.now.states r) c.args.routes.now c.push.new.self c.in_ok-route.field-0 c.in_ok-push.ensures.ok all c.in_ok-route.ensures.fits
+returns-clause-fit c = λ all. all_more (λ (r : RecheckRoute). RouteFits c.args.self.now.row_states r) c.args.routes.now c.push.new.self c.in_ok-route.field-0 c.in_ok-push.ensures.ok all c.in_ok-route.ensures.fits
 
 pub returns-clause-keeps : goal.returns-clause-keeps
 returns-clause-keeps c = kept_more c.args.routes.now c.push.new.self c.in_ok-route.field-0 c.in_ok-push.ensures.ok

@@ -12,5 +12,5 @@ returns-in_ok-push-in-Some-clause-stops c =
 
 pub returns-in_ok-push-in-Some-clause-fit : goal.returns-in_ok-push-in-Some-clause-fit
 returns-in_ok-push-in-Some-clause-fit c =
-    λ all. all_more (λ (s : Stop). StopFits c.args.self.now.states s) c.args.stops.now c.push.new.self c.in-Some.stop c.in_ok-push-in-Some.ensures.ok all
-    (subst (λ (o : Option Stop). IfSome o (StopFits c.args.self.now.states)) c.in-Some.is c.in_ok-stop.ensures.fits)
+    λ all. all_more (λ (s : Stop). StopFits c.args.self.now.row_states s) c.args.stops.now c.push.new.self c.in-Some.stop c.in_ok-push-in-Some.ensures.ok all
+    (subst (λ (o : Option Stop). IfSome o (StopFits c.args.self.now.row_states)) c.in-Some.is c.in_ok-stop.ensures.fits)

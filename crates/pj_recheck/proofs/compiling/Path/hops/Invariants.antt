@@ -4,7 +4,7 @@ use Rattle.pj_recheck.proofs.Compiled.{HopsFrom}
 use Rattle.pj_recheck.proofs.compiling.Path.hops.Given as goal
 
 abbrev pub invariant-loop-at : goal.invariant-loop-at
-invariant-loop-at l = HopsFrom (asker l.self) l.fn.at l.at l.hops × HopsFit l.self.states l.hops
+invariant-loop-at l = HopsFrom (asker l.self) l.fn.at l.at l.hops × HopsFit l.self.row_states l.hops
 
 abbrev pub decreases-loop-at : goal.decreases-loop-at
 decreases-loop-at l = l.at

@@ -5,6 +5,6 @@ use Rattle.pj_recheck.proofs.compiling.Path.route.Goals as goal
 
 pub returns-clause-fits : goal.returns-clause-fits
 returns-clause-fits c = record {
-  own = subst (λ (p : PathView). LeadsFit c.args.self.now.states p.input c.in_ok-own.own) (sym c.self.view_is) c.in_ok-own.ensures.fits;
+  own = subst (λ (p : PathView). LeadsFit c.args.self.now.row_states p.input c.in_ok-own.own) (sym c.self.view_is) c.in_ok-own.ensures.fits;
   behind = c.in_ok-behind.ensures.fit;
 }

@@ -13,7 +13,7 @@ loop-ticket-preserved c =
     record {
       puncts = c.remove.ensures.puncts ∙ ap (puncts_but (get_or slice at 0)) c.loop-ticket.invariant.puncts
           ∙ without_more c.args.left.now.goes at (get_or slice at 0) 0 c.args.self.now.puncts (subst (λ (ns : List ℕ). at < length ns) c.as_slice-ticket-items.ensures c.loop-ticket-test.true) (ap (λ (ns : List ℕ). get_or ns at 0) c.as_slice-ticket-items.ensures);
-      listed = c.remove.ensures.lists ∙ c.loop-ticket.invariant.listed;
+      listed = c.remove.ensures.by_blocker ∙ c.loop-ticket.invariant.listed;
     }
 
 pub loop-listing-preserved : goal.loop-listing-preserved
@@ -22,6 +22,6 @@ loop-listing-preserved c =
     let slice = c.as_slice-listing-items.result.now in
     record {
       puncts = c.loop-listing.invariant.puncts;
-      listed = frees_more c.args.left.now.freed at (get_or slice at (0, 0)) (0, 0) c.args.self.now.listed c.loop-listing.self-inside.lists c.remove-in-loop-listing.new.self
+      listed = frees_more c.args.left.now.freed at (get_or slice at (0, 0)) (0, 0) c.args.self.now.listed c.loop-listing.self-inside.by_blocker c.remove-in-loop-listing.new.self
           (subst (λ (ks : List (ℕ × ℕ)). at < length ks) c.as_slice-listing-items.ensures c.loop-listing-test.true) (ap (λ (ks : List (ℕ × ℕ)). get_or ks at (0, 0)) c.as_slice-listing-items.ensures) c.remove-in-loop-listing.ensures.updates c.loop-listing.invariant.listed;
     }

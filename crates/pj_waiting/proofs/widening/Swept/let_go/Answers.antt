@@ -2,7 +2,7 @@ use Rattle.std.proofs.Common.{ℕ, ◌≡◌, ◌∙◌, ◌++◌, ◌⊎◌, Li
 use Rattle.std.proofs.lemmas.List.{take_all}
 use Rattle.pj_events.specs.Join.{In, PunctAt}
 use Rattle.pj_state.specs.Rising.{IsRising, itself}
-use Rattle.pj_waiting.specs.Holding.{tickets_where, heard_at, goes_up}
+use Rattle.pj_waiting.specs.Holding.{tickets_where, held_at, goes_up}
 use Rattle.pj_waiting.specs.Letting.{letting_go}
 use Rattle.pj_waiting.proofs.Holding.{AreLetGo, AreListed, all_let_go, all_listed, let_go_next, let_go_none, listed_next, no_items, none_let_go}
 use Rattle.pj_waiting.proofs.widening.Swept.let_go.Goals as goal
@@ -24,7 +24,7 @@ pub returns-then-len-eq0-clause-held : goal.returns-then-len-eq0-clause-held
 returns-then-len-eq0-clause-held c = (none_let_go c.args.self.now c.args.waiting.now c.args.out.now c.requires.held (nothing c)).2
 
 pub let_one_go-requires-clause-rising : goal.let_one_go-requires-clause-rising
-let_one_go-requires-clause-rising c = subst (λ (ps : List PunctAt). IsRising heard_at ps) (sym c.loop-ticket.invariant.puncts) c.len.ensures.rising
+let_one_go-requires-clause-rising c = subst (λ (ps : List PunctAt). IsRising held_at ps) (sym c.loop-ticket.invariant.puncts) c.len.ensures.rising
 
 pub loop-ticket-init : goal.loop-ticket-init
 loop-ticket-init c = record {
@@ -41,7 +41,7 @@ loop-ticket-preserved c =
       goes = let_go_next c.args.self.now c.let_one_go.new.waiting c.args.waiting.now.puncts c.as_slice-ticket-items.result.now c.loop-ticket.goes c.let_one_go.new.goes c.args.out.now c.loop-ticket.out c.let_one_go.new.out c.loop-ticket.ticket-index c.loop-ticket-test.true
           (c.let_one_go.ensures.puncts ∙ c.loop-ticket.invariant.puncts) c.len.ensures.rising rising c.loop-ticket.invariant.goes c.in_ok-let_one_go.ensures.ok;
       listed = listed_next c.args.self.now c.loop-ticket.waiting c.let_one_go.new.waiting c.as_slice-ticket-items.result.now c.loop-ticket.goes c.let_one_go.new.goes c.loop-ticket.out c.let_one_go.new.out c.loop-ticket.ticket-index c.loop-ticket-test.true
-          c.let_one_go.ensures.puncts c.let_one_go.ensures.keeps (subst (λ (ps : List PunctAt). IsRising heard_at ps) (sym c.loop-ticket.invariant.puncts) c.len.ensures.rising) c.in_ok-let_one_go.ensures.ok c.loop-ticket.invariant.listed;
+          c.let_one_go.ensures.puncts c.let_one_go.ensures.keeps (subst (λ (ps : List PunctAt). IsRising held_at ps) (sym c.loop-ticket.invariant.puncts) c.len.ensures.rising) c.in_ok-let_one_go.ensures.ok c.loop-ticket.invariant.listed;
       puncts = c.let_one_go.ensures.puncts ∙ c.loop-ticket.invariant.puncts;
       keeps = λ q t. c.let_one_go.ensures.keeps q (c.loop-ticket.invariant.keeps q t);
     }

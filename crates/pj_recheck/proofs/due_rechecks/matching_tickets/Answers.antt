@@ -1,7 +1,7 @@
 use Rattle.std.proofs.Common.{ℕ, List, Option, IfSome, subst}
 use Rattle.pj_rows.specs.Ranges.{HasAmong, HoldAll}
 use Rattle.pj_rows.proofs.Ranged.{held_among}
-use Rattle.pj_recheck.proofs.watches.matching_tickets.Goals as goal
+use Rattle.pj_recheck.proofs.due_rechecks.matching_tickets.Goals as goal
 
 pub returns-in-Some-2 : goal.returns-in-Some-2
 returns-in-Some-2 c =

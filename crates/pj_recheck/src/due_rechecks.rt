@@ -5,10 +5,10 @@ ghost use Rattle.pj_state.specs.States.{stored, tickets_of};
 ghost use Rattle.pj_value.specs.Lists.{In};
 ghost use Rattle.pj_recheck.specs.Judging.{one_if};
 ghost use Rattle.pj_rows.specs.Ranges.{HoldTrue};
-ghost use Rattle.pj_recheck.specs.Watching.{AreMarked, IsFewer, is_wild_elsewhere, no_watches};
+ghost use Rattle.pj_recheck.specs.Watching.{AreMarked, IsFewer, is_wild_elsewhere, none_due};
 ghost use Rattle.pj_rows.specs.Finding.{has_match, is_match};
 
-use crate::marks::Watches;
+use crate::marks::DueRechecks;
 use pj_pattern::{Pattern, Punct};
 use pj_rows::{numbers_of, tickets_among};
 use pj_shape::Scheme;
@@ -23,12 +23,12 @@ pub struct Limit<'a> {
     pub pattern: &'a Pattern,
 }
 
-impl Watches {
+impl DueRechecks {
     /// All rows are judged.
-    pub fn new(alloc: Global) -> Watches
-        ensures { result ≡ no_watches }
+    pub fn new(alloc: Global) -> DueRechecks
+        ensures { result ≡ none_due }
     {
-        Watches {
+        DueRechecks {
             from: 0,
             marked: List::new(alloc),
         }

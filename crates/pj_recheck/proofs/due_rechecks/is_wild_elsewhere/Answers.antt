@@ -1,6 +1,6 @@
 use Rattle.std.proofs.Common.{◌∙◌, sym}
 use Rattle.pj_recheck.proofs.Elsewhere.{elsewhere_not, elsewhere_on}
-use Rattle.pj_recheck.proofs.watches.is_wild_elsewhere.Goals as goal
+use Rattle.pj_recheck.proofs.due_rechecks.is_wild_elsewhere.Goals as goal
 
 pub returns-then-not-is_marked_or_wild : goal.returns-then-not-is_marked_or_wild
 returns-then-not-is_marked_or_wild c =

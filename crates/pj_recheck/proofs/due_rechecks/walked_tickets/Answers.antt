@@ -4,7 +4,7 @@ use Rattle.pj_state.specs.declared.shared.Stored.{Stored}
 use Rattle.pj_state.specs.States.{stored, ticket_of}
 use Rattle.pj_rows.specs.Finding.{has_match}
 use Rattle.pj_recheck.proofs.Looped.{picked_more}
-use Rattle.pj_recheck.proofs.watches.walked_tickets.Goals as goal
+use Rattle.pj_recheck.proofs.due_rechecks.walked_tickets.Goals as goal
 
 pub loop-at-preserved : goal.loop-at-preserved
 loop-at-preserved c = (
