@@ -15,8 +15,8 @@ use Rattle.pj_shape.proofs.Classes.{has_in}
 use Rattle.pj_shape.proofs.Joining.{all_equal-from}
 use Rattle.pj_events.specs.Join.{CertEntry, CertStep, ClassCol, TupleAt, agree, class_with, constant, entry_of, no_value, part_of, values}
 use Rattle.pj_join_laws.proofs.Matching.{agree-at, value-in, values-mono}
-use Rattle.pj_rows.specs.Suits.{suits}
-use Rattle.pj_rows.proofs.Agreeing.{alone_agree, front_agree, front_suits, source-of}
+use Rattle.pj_rows.specs.AgreesWith.{agrees_with}
+use Rattle.pj_rows.proofs.Agreeing.{alone_agree, front_agree, front_agrees_with, source-of}
 use Rattle.pj_puncts.proofs.Lent.{drop_here}
 use Rattle.pj_cover.specs.declared.route.PurgeLink.{PurgeLink}
 use Rattle.pj_cover.specs.declared.route.PurgeStep.{PurgeStep}
@@ -209,12 +209,12 @@ module _ (spec : JoinSpec) (xs : List TupleAt) (sound : IsSoundSpec spec) (fit :
             sym (ap (λ (u : TupleAt). get_or u.row b.column no_value) (sym q) ∙ new-old class t h b hb (ap (λ (u : TupleAt). u.input) q ∙ j) a x ha k i)
         both class h a b x z ha hb i j (inr k) (inr l) = agree-at spec.classes xs class (get_or x.row a.column no_value) (get_or z.row b.column no_value) joined h (value-in xs class x a k ha i) (value-in xs class z b l hb j)
 
-    pub suits_matched : suits spec.classes xs y ≡ match_all (links_of links step) xs y
-    suits_matched = go (match_all (links_of links step) xs y) refl
+    pub agrees_with_matched : agrees_with spec.classes xs y ≡ match_all (links_of links step) xs y
+    agrees_with_matched = go (match_all (links_of links step) xs y) refl
       where
-        go : (b : Bool) → match_all (links_of links step) xs y ≡ b → suits spec.classes xs y ≡ b
-        go true m = front_suits spec.classes xs y (match-agree m)
-        go false m = false_from_ne_true (suits spec.classes xs y) (λ s. false≢true (sym m ∙ agree-match (front_agree spec.classes xs y joined s)))
+        go : (b : Bool) → match_all (links_of links step) xs y ≡ b → agrees_with spec.classes xs y ≡ b
+        go true m = front_agrees_with spec.classes xs y (match-agree m)
+        go false m = false_from_ne_true (agrees_with spec.classes xs y) (λ s. false≢true (sym m ∙ agree-match (front_agree spec.classes xs y joined s)))
 
 -- ---- along a certificate
 
@@ -235,8 +235,8 @@ ready_here spec schemes links steps at step xs ys sound walk are here same =
     (is_ready spec xs sound walk.fit walk.joined (entry_of schemes step.step) links step (step_here spec.classes schemes links (inputs_of xs) steps at step are here))
 
 -- a row of its input joins where it has the values of its links
-pub suits_here : (spec : JoinSpec) (schemes : List (List (List Bool))) (links : List PurgeLink) (steps : List PurgeStep) (at : ℕ) (step : PurgeStep) (xs : List TupleAt) (y : TupleAt) → IsSoundSpec spec → IsOnWalk spec schemes (drop at (map step_of steps)) xs
-    → AreSteps spec.classes schemes links (inputs_of xs) (drop at steps) → slice_get steps at ≡ Some step → y.input ≡ step.step.input → suits spec.classes xs y ≡ match_all (links_of links step) xs y
-suits_here spec schemes links steps at step xs y sound walk are here of =
+pub agrees_with_here : (spec : JoinSpec) (schemes : List (List (List Bool))) (links : List PurgeLink) (steps : List PurgeStep) (at : ℕ) (step : PurgeStep) (xs : List TupleAt) (y : TupleAt) → IsSoundSpec spec → IsOnWalk spec schemes (drop at (map step_of steps)) xs
+    → AreSteps spec.classes schemes links (inputs_of xs) (drop at steps) → slice_get steps at ≡ Some step → y.input ≡ step.step.input → agrees_with spec.classes xs y ≡ match_all (links_of links step) xs y
+agrees_with_here spec schemes links steps at step xs y sound walk are here of =
     let w = subst (λ (ss : List CertStep). IsOnWalk spec schemes ss xs) (drop_here (map step_of steps) at step.step (map_here step_of steps at step here)) walk in
-    suits_matched spec xs sound walk.fit walk.joined (entry_of schemes step.step) links step y (step_here spec.classes schemes links (inputs_of xs) steps at step are here) of w.walk.1
+    agrees_with_matched spec xs sound walk.fit walk.joined (entry_of schemes step.step) links step y (step_here spec.classes schemes links (inputs_of xs) steps at step are here) of w.walk.1

@@ -10,9 +10,9 @@ use Rattle.pj_events.specs.Join.{In, TupleAt, CertEntry, CertStep, demand, entry
 use Rattle.pj_cover.specs.declared.ripeness.Verdict.{Verdict}
 use Rattle.pj_cover.specs.declared.ripeness.Verdict.TheVariants.{Ripe}
 use Rattle.pj_puncts.specs.Stores.{Store}
-use Rattle.pj_rows.specs.Suits.{suits}
+use Rattle.pj_rows.specs.AgreesWith.{agrees_with}
 use Rattle.pj_cover.specs.Asking.{Known, AreParts, AreDone, IsDone, IsJudged, IsJudgedThrough, IsJudgedWith, IsOnWalk, IsStep, IsStepJudged, entries, known_of, says_ripe, tuple_of}
-use Rattle.pj_rows.proofs.Agreeing.{front_agree, front_suits}
+use Rattle.pj_rows.proofs.Agreeing.{front_agree, front_agrees_with}
 use Rattle.pj_cover.proofs.Stored.{in-tuples, tuples-in}
 use Rattle.pj_cover.proofs.Steps.{length-map, step_ready, walk_more}
 use Rattle.pj_puncts.proofs.Lent.{drop_here}
@@ -81,11 +81,11 @@ all_gone k cert xs ys n le done = subst (λ (zs : List TupleAt). AreDone k cert 
 
 -- ---- with one row
 
-pub not_suited : (k : Known) (schemes : List (List (List Bool))) (cert : List CertStep) (at : ℕ) (step : CertStep) (xs : List TupleAt) (y : TupleAt) → slice_get cert at ≡ Some step → suits k.classes xs y ≡ false
+pub not_suited : (k : Known) (schemes : List (List (List Bool))) (cert : List CertStep) (at : ℕ) (step : CertStep) (xs : List TupleAt) (y : TupleAt) → slice_get cert at ≡ Some step → agrees_with k.classes xs y ≡ false
     → IsJudgedWith k (entries schemes (drop at cert)) xs y Ripe
 not_suited k schemes cert at step xs y here f =
     subst (λ (steps : List CertStep). IsJudgedWith k (entries schemes steps) xs y Ripe) (sym (drop_here cert at step here))
-    (done_apart k (entry_of schemes step) (entries schemes (drop (at + 1) cert)) xs y (λ a. let t : suits k.classes xs y ≡ true = front_suits k.classes xs y a in cc))
+    (done_apart k (entry_of schemes step) (entries schemes (drop (at + 1) cert)) xs y (λ a. let t : agrees_with k.classes xs y ≡ true = front_agrees_with k.classes xs y a in cc))
 
 -- it is not below the low-water ticket
 pub not_older : (k : Known) (schemes : List (List (List Bool))) (cert : List CertStep) (at : ℕ) (step : CertStep) (xs : List TupleAt) (y : TupleAt) → slice_get cert at ≡ Some step → k.low ≤ y.ticket
@@ -95,7 +95,7 @@ not_older k schemes cert at step xs y here le =
 
 -- one row more may be lent
 pub goes_on : (spec : JoinSpec) (schemes : List (List (List Bool))) (rows : Rows) (punct_stores : List Store) (cert : List CertStep) (at : ℕ) (step : CertStep) (xs ys : List TupleAt) (r : ℕ × List Value)
-    → AreParts spec rows punct_stores → IsOnWalk spec schemes (drop at cert) xs → slice_get cert at ≡ Some step → In r (rows step.input) → suits spec.classes xs (tuple_of step.input r) ≡ true → ys ≡ tuple_of step.input r ∷ xs
+    → AreParts spec rows punct_stores → IsOnWalk spec schemes (drop at cert) xs → slice_get cert at ≡ Some step → In r (rows step.input) → agrees_with spec.classes xs (tuple_of step.input r) ≡ true → ys ≡ tuple_of step.input r ∷ xs
     → IsOnWalk spec schemes (drop (at + 1) cert) ys
 goes_on spec schemes rows punct_stores cert at step xs ys r parts walk here stored suited same =
     let w = subst (λ (steps : List CertStep). IsOnWalk spec schemes steps xs) (drop_here cert at step here) walk in
@@ -112,7 +112,7 @@ has_room spec schemes cert at step xs walk here =
 
 -- what was said from the next place on
 pub went_on : (spec : JoinSpec) (schemes : List (List (List Bool))) (rows : Rows) (punct_stores : List Store) (low : ℕ) (cert : List CertStep) (at : ℕ) (step : CertStep) (xs ys : List TupleAt) (r : ℕ × List Value) (v : Verdict)
-    → IsOnWalk spec schemes (drop at cert) xs → slice_get cert at ≡ Some step → In r (rows step.input) → r.0 < low → suits spec.classes xs (tuple_of step.input r) ≡ true → ys ≡ tuple_of step.input r ∷ xs
+    → IsOnWalk spec schemes (drop at cert) xs → slice_get cert at ≡ Some step → In r (rows step.input) → r.0 < low → agrees_with spec.classes xs (tuple_of step.input r) ≡ true → ys ≡ tuple_of step.input r ∷ xs
     → IsJudged (known_of spec rows punct_stores low) (entries schemes (drop (at + 1) cert)) ys v
     → IsJudgedWith (known_of spec rows punct_stores low) (entries schemes (drop at cert)) xs (tuple_of step.input r) v
 went_on spec schemes rows punct_stores low cert at step xs ys r v walk here stored lt suited same j =

@@ -1,6 +1,6 @@
 // What happens to a plan that runs, and what it hands out.
 use pj_pattern::{Element, Punct};
-use pj_value::Row;
+use pj_value::{NoMemory, Row};
 
 /// What is handed out: an element of the root, or the note of a row that a sweep removed from an input of a join.
 #[derive(Drop)]
@@ -15,6 +15,17 @@ pub enum Out {
 pub enum Stop {
     Limit { node: u32 },
     NoMemory,
+}
+
+impl From<NoMemory> for Stop {
+    ghost use Rattle.std.specs.Prelude.{◌≡◌};
+    ghost use Rattle.pj_events.specs.declared.events.Stop.TheVariants.{NoMemory as OutOfMemory};
+
+    ghost from_gives = { λ _ stop. stop ≡ OutOfMemory };
+
+    fn from(_: NoMemory) -> Stop {
+        Stop::NoMemory
+    }
 }
 
 /// An event. `stream` is a number among the streams; `join` and `node` are numbers of nodes.

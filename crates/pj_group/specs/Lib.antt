@@ -1,7 +1,7 @@
 pub mod Indexes
 pub mod Insides
 pub mod Orders
-pub mod Prints
+pub mod Hashes
 pub mod Renewing
 pub mod Slots
 pub mod States

@@ -3,16 +3,16 @@ ghost use Rattle.std.specs.Prelude.{◌≡◌, ◌<◌, All, IfOk, IfSome, lengt
 ghost use Rattle.pj_value.specs.Values.{row_eq, value_eq};
 ghost use Rattle.pj_events.specs.Operators.{picked_cells};
 ghost use Rattle.pj_group.specs.Slots.{MatchesOnly};
-ghost use Rattle.pj_print.specs.Prints.{with_value};
-ghost use Rattle.pj_group.specs.Prints.{print_of};
+ghost use Rattle.pj_hash.specs.Hashes.{with_value};
+ghost use Rattle.pj_group.specs.Hashes.{hash_of};
 ghost use Rattle.std.specs.Cmp.{decided, partial_equiv_from_equiv};
 ghost use Rattle.std.proofs.Common.{ap};
 ghost use Rattle.pj_value.proofs.Orders.{equal_if_same, row_equal_if_same, row_same_if_equal, same_if_equal};
 ghost use Rattle.std.specs.Hash as fed;
 
 use pj_flow::project_tuple;
+use pj_hash::with_value;
 use pj_pattern::{Punct, Shape};
-use pj_print::with_value;
 use pj_value::{List, NoMemory, Row, Value};
 use std::alloc::Global;
 use std::hash::{Hash, Hasher};
@@ -83,12 +83,12 @@ impl Eq for Key {
 }
 
 impl Hash for Key {
-    ghost hash_input = { λ key. fed.u64 (print_of key) };
+    ghost hash_input = { λ key. fed.u64 (hash_of key) };
 
-    ghost respects_eq = { λ x y t. ap (λ key. fed.u64 (print_of key)) (row_same_if_equal x y t) };
+    ghost respects_eq = { λ x y t. ap (λ key. fed.u64 (hash_of key)) (row_same_if_equal x y t) };
 
     fn hash<H: Hasher>(&self, state: &mut H) {
-        state.write_u64(print(&self.row));
+        state.write_u64(hash_value(&self.row));
     }
 }
 
@@ -141,12 +141,12 @@ impl Hash for ColumnValue {
     }
 }
 
-fn print(row: &Row) -> u64
-    ensures { result ≡ print_of row.now }
+fn hash_value(row: &Row) -> u64
+    ensures { result ≡ hash_of row.now }
 {
-    let mut print = 0;
+    let mut hash_value = 0;
     for column in 0..row.len() {
-        print = with_value(print, row.at(column));
+        hash_value = with_value(hash_value, row.at(column));
     }
-    print
+    hash_value
 }

@@ -6,12 +6,12 @@ ghost use Rattle.std.specs.Hash as fed;
 ghost use Rattle.pj_value.specs.Values.{row_eq};
 ghost use Rattle.pj_value.proofs.Orders.{row_equal_where_same, row_same_if_equal};
 ghost use Rattle.pj_events.specs.Operators.{picked_cells};
-ghost use Rattle.pj_group.specs.Prints.{print_of};
+ghost use Rattle.pj_group.specs.Hashes.{hash_of};
 
 use crate::keys::Key;
 use indexmap::Equivalent;
 use pj_flow::cell;
-use pj_print::with_value;
+use pj_hash::with_value;
 use pj_value::{NoMemory, Row, Value};
 use std::alloc::Global;
 use std::hash::{Hash, Hasher};
@@ -65,14 +65,14 @@ impl<'a> LentKey<'a> {
         cell(self.row, self.columns[at])
     }
 
-    fn print(&self) -> u64
-        ensures { result ≡ print_of self.now }
+    fn hash_value(&self) -> u64
+        ensures { result ≡ hash_of self.now }
     {
-        let mut print = 0;
+        let mut hash_value = 0;
         for at in 0..self.len() {
-            print = with_value(print, self.at(at));
+            hash_value = with_value(hash_value, self.at(at));
         }
-        print
+        hash_value
     }
 
     #[tactic(auto, using(pj_value::proofs::Slices::same_front))]
@@ -121,19 +121,19 @@ impl<'a> Eq for LentKey<'a> {
 }
 
 impl<'a> Hash for LentKey<'a> {
-    ghost hash_input = { λ key. fed.u64 (print_of key) };
+    ghost hash_input = { λ key. fed.u64 (hash_of key) };
 
-    ghost respects_eq = { λ x y t. ap (λ key. fed.u64 (print_of key)) (row_same_if_equal x y t) };
+    ghost respects_eq = { λ x y t. ap (λ key. fed.u64 (hash_of key)) (row_same_if_equal x y t) };
 
     fn hash<H: Hasher>(&self, state: &mut H) {
-        state.write_u64(self.print());
+        state.write_u64(self.hash_value());
     }
 }
 
 impl<'a> Equivalent<Key> for &LentKey<'a> {
     ghost equivalent = { λ q. row_eq q.now };
 
-    ghost respects_hash = { λ q k t. ap (λ key. fed.u64 (print_of key)) (row_same_if_equal q.now k t) };
+    ghost respects_hash = { λ q k t. ap (λ key. fed.u64 (hash_of key)) (row_same_if_equal q.now k t) };
 
     ghost respects_eq = { λ q. (decided row_eq row_equal_where_same).congr q.now };
 

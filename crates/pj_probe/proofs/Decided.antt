@@ -10,7 +10,7 @@ use Rattle.std.proofs.Math.Bool.{and-true}
 use Rattle.pj_value.proofs.Orders.{equal_itself, same_if_equal}
 use Rattle.pj_value.specs.Options.{is_value}
 use Rattle.pj_events.specs.Join.{ClassCol, In, TupleAt, no_value, value_at}
-use Rattle.pj_rows.specs.Suits.{all_have, suits, suits_class}
+use Rattle.pj_rows.specs.AgreesWith.{all_have, agrees_with, agrees_with_class}
 use Rattle.pj_value.proofs.Members.{In-filter}
 use Rattle.pj_state.specs.declared.shared.Stored.{Stored}
 use Rattle.pj_state.specs.States.{has_value}
@@ -39,14 +39,14 @@ apart : (m n : ℕ) → (m ≡ n → ⊥) → (m == n) ≡ false
 apart m n differ = false_from_ne_true (m == n) (λ e. differ (eqb-true m n e))
 
 first_decides : (a b : ClassCol) (own input : ℕ) → a.input ≡ own → b.input ≡ input → (own ≡ input → ⊥) → (x y : TupleAt) → x.input ≡ own → y.input ≡ input
-    → suits_class (x ∷ []) y (a ∷ b ∷ []) ≡ value_eq (value_at y.row b.column) (value_at x.row a.column)
+    → agrees_with_class (x ∷ []) y (a ∷ b ∷ []) ≡ value_eq (value_at y.row b.column) (value_at x.row a.column)
 first_decides a b own input ea eb differ = λ x y ex ey.
     let v = value_at y.row b.column in
     both_first (y.input == a.input) (y.input == b.input) (x.input == a.input) (x.input == b.input) (value_eq v v) (all_have (a ∷ b ∷ []) (x ∷ []) y (value_at y.row a.column)) (value_eq v (value_at y.row a.column)) (value_eq v (value_at x.row a.column)) (value_eq v (value_at x.row b.column))
     (apart y.input a.input (λ e. differ (sym ea ∙ (sym e ∙ ey)))) (eq-eqb y.input b.input (ey ∙ sym eb)) (eq-eqb x.input a.input (ex ∙ sym ea)) (apart x.input b.input (λ e. differ (sym ex ∙ (e ∙ eb)))) (equal_itself v)
 
 second_decides : (a b : ClassCol) (own input : ℕ) → b.input ≡ own → a.input ≡ input → (own ≡ input → ⊥) → (x y : TupleAt) → x.input ≡ own → y.input ≡ input
-    → suits_class (x ∷ []) y (a ∷ b ∷ []) ≡ value_eq (value_at y.row a.column) (value_at x.row b.column)
+    → agrees_with_class (x ∷ []) y (a ∷ b ∷ []) ≡ value_eq (value_at y.row a.column) (value_at x.row b.column)
 second_decides a b own input eb ea differ = λ x y ex ey.
     let v = value_at y.row a.column in
     both_second (y.input == a.input) (y.input == b.input) (x.input == a.input) (x.input == b.input) (value_eq v v) (all_have (a ∷ b ∷ []) (x ∷ []) y (value_at y.row b.column)) (value_eq v (value_at x.row a.column)) (value_eq v (value_at x.row b.column)) (value_eq v (value_at y.row b.column))
@@ -63,7 +63,7 @@ pub decided_agree : (classes : List (List ClassCol)) (own : TupleAt) (input : �
 decided_agree classes own input link rows found two (value, has, is) s h =
     own-pair classes own (tuple_in input s) (two.alone own refl) (go (slice_get s.row link.index_column) refl (In-filter (has_value link.index_column value) s rows (subst (λ (ss : List Stored). In s ss) is h)).1)
   where
-    go : (o : Option Value) → slice_get s.row link.index_column ≡ o → is_value value o ≡ true → suits classes (own ∷ []) (tuple_in input s) ≡ true
+    go : (o : Option Value) → slice_get s.row link.index_column ≡ o → is_value value o ≡ true → agrees_with classes (own ∷ []) (tuple_in input s) ≡ true
     go None e u = absurd (false≢true u)
     go (Some w) e u =
         let there : value_at s.row link.index_column ≡ w = get_or_from_slice_get s.row link.index_column w no_value e in
@@ -86,12 +86,12 @@ one_first p q rest u v eq ev = rw (eq, ev) (last p)
     last true = refl
     last false = refl
 
-first_apart : (a b : ClassCol) (input : ℕ) → (a.input ≡ input → ⊥) → (x : TupleAt) → x.input ≡ input → suits_class [] x (a ∷ b ∷ []) ≡ true
+first_apart : (a b : ClassCol) (input : ℕ) → (a.input ≡ input → ⊥) → (x : TupleAt) → x.input ≡ input → agrees_with_class [] x (a ∷ b ∷ []) ≡ true
 first_apart a b input differ = λ x own.
     one_second (x.input == a.input) (x.input == b.input) (all_have (a ∷ b ∷ []) [] x (value_at x.row a.column)) (value_eq (value_at x.row b.column) (value_at x.row a.column)) (value_eq (value_at x.row b.column) (value_at x.row b.column))
     (apart x.input a.input (λ e. differ (sym e ∙ own))) (equal_itself (value_at x.row b.column))
 
-second_apart : (a b : ClassCol) (input : ℕ) → (b.input ≡ input → ⊥) → (x : TupleAt) → x.input ≡ input → suits_class [] x (a ∷ b ∷ []) ≡ true
+second_apart : (a b : ClassCol) (input : ℕ) → (b.input ≡ input → ⊥) → (x : TupleAt) → x.input ≡ input → agrees_with_class [] x (a ∷ b ∷ []) ≡ true
 second_apart a b input differ = λ x own.
     one_first (x.input == a.input) (x.input == b.input) (all_have (a ∷ b ∷ []) [] x (value_at x.row b.column)) (value_eq (value_at x.row a.column) (value_at x.row b.column)) (value_eq (value_at x.row a.column) (value_at x.row a.column))
     (apart x.input b.input (λ e. differ (sym e ∙ own))) (equal_itself (value_at x.row a.column))
@@ -101,8 +101,8 @@ second_apart a b input differ = λ x own.
 pub own_first : (class : List ClassCol) (own input : ℕ) (link : ProbeLink) (d e : ClassCol) → 2 ≤ length class → length class < 3 → (own ≡ input → ⊥) → get_or class 0 d ≡ record { input = own; column = link.from_column } → get_or class 1 e ≡ record { input = input; column = link.index_column }
     → TwoDecide (class ∷ []) own input link.from_column link.index_column
 own_first class own input link d e least below differ first second = subst (λ (cs : List ClassCol). TwoDecide (cs ∷ []) own input link.from_column link.index_column) (sym (two_columns class d e least below ∙ ap₂ (λ (a b : ClassCol). a ∷ b ∷ []) first second)) record {
-  alone = λ x at. and-true (suits_class [] x (mine ∷ theirs ∷ [])) ∙ second_apart mine theirs own (λ q. differ (sym q)) x at;
-  both = λ x y ex ey. and-true (suits_class (x ∷ []) y (mine ∷ theirs ∷ [])) ∙ first_decides mine theirs own input refl refl differ x y ex ey;
+  alone = λ x at. and-true (agrees_with_class [] x (mine ∷ theirs ∷ [])) ∙ second_apart mine theirs own (λ q. differ (sym q)) x at;
+  both = λ x y ex ey. and-true (agrees_with_class (x ∷ []) y (mine ∷ theirs ∷ [])) ∙ first_decides mine theirs own input refl refl differ x y ex ey;
 }
   where
     mine : ClassCol
@@ -114,8 +114,8 @@ own_first class own input link d e least below differ first second = subst (λ (
 pub own_second : (class : List ClassCol) (own input : ℕ) (link : ProbeLink) (d e : ClassCol) → 2 ≤ length class → length class < 3 → (own ≡ input → ⊥) → get_or class 1 e ≡ record { input = own; column = link.from_column } → get_or class 0 d ≡ record { input = input; column = link.index_column }
     → TwoDecide (class ∷ []) own input link.from_column link.index_column
 own_second class own input link d e least below differ first second = subst (λ (cs : List ClassCol). TwoDecide (cs ∷ []) own input link.from_column link.index_column) (sym (two_columns class d e least below ∙ ap₂ (λ (a b : ClassCol). a ∷ b ∷ []) second first)) record {
-  alone = λ x at. and-true (suits_class [] x (theirs ∷ mine ∷ [])) ∙ first_apart theirs mine own (λ q. differ (sym q)) x at;
-  both = λ x y ex ey. and-true (suits_class (x ∷ []) y (theirs ∷ mine ∷ [])) ∙ second_decides theirs mine own input refl refl differ x y ex ey;
+  alone = λ x at. and-true (agrees_with_class [] x (theirs ∷ mine ∷ [])) ∙ first_apart theirs mine own (λ q. differ (sym q)) x at;
+  both = λ x y ex ey. and-true (agrees_with_class (x ∷ []) y (theirs ∷ mine ∷ [])) ∙ second_decides theirs mine own input refl refl differ x y ex ey;
 }
   where
     mine : ClassCol

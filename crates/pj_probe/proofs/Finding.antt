@@ -5,9 +5,9 @@ use Rattle.std.proofs.lemmas.Bool.{eqb-true, eq-eqb, false≢true, or_right}
 use Rattle.std.proofs.lemmas.List.{length-map}
 use Rattle.pj_events.specs.Join.{In, JoinData, TupleAt, ClassCol, agree, product, of_input, older, upto_from, candidates}
 use Rattle.pj_probe.specs.Choices.{AreNarrowed, may_join, choice, choices}
-use Rattle.pj_rows.specs.Suits.{suits}
+use Rattle.pj_rows.specs.AgreesWith.{agrees_with}
 use Rattle.pj_value.proofs.Members.{In-flat_map, In-map, all_from, filter-agree, filter-filter}
-use Rattle.pj_probe.proofs.Suiting.{pair-suits}
+use Rattle.pj_probe.proofs.Suiting.{pair-agrees_with}
 use Rattle.pj_probe.proofs.Filtering.{product-filter}
 use Rattle.pj_join_laws.proofs.Upto.{length-upto, get_or-upto, map-upto}
 use Rattle.pj_join_laws.proofs.Matching.{agree-mono}
@@ -57,28 +57,28 @@ agree-own classes x c h = go (agree classes c) (agree classes (x ∷ c)) (agree-
 
 -- of an input's candidates those of the tuple's own input, and of others what suits it, are its choice
 choice-candidates : (classes : List (List ClassCol)) (x : TupleAt) (log : List TupleAt) (sides : List (List TupleAt)) (k : ℕ) → get_or sides k [] ≡ of_input k log
-    → filter (λ y. eqb y.input x.input || suits classes (x ∷ []) y) (candidates x log k) ≡ choice classes x sides k
+    → filter (λ y. eqb y.input x.input || agrees_with classes (x ∷ []) y) (candidates x log k) ≡ choice classes x sides k
 choice-candidates classes x log sides k e = go (eqb k x.input) refl
   where
     same : eqb k x.input ≡ false → (y : TupleAt) → In y log
-        → ((ltb y.ticket x.ticket && eqb y.input k) && (eqb y.input x.input || suits classes (x ∷ []) y)) ≡ (eqb y.input k && (ltb y.ticket x.ticket && suits classes (x ∷ []) y))
+        → ((ltb y.ticket x.ticket && eqb y.input k) && (eqb y.input x.input || agrees_with classes (x ∷ []) y)) ≡ (eqb y.input k && (ltb y.ticket x.ticket && agrees_with classes (x ∷ []) y))
     same f y h = cases (ltb y.ticket x.ticket) (eqb y.input k) refl
       where
-        cases : (a b : Bool) → eqb y.input k ≡ b → ((a && b) && (eqb y.input x.input || suits classes (x ∷ []) y)) ≡ (b && (a && suits classes (x ∷ []) y))
-        cases true true q = ap (λ c. c || suits classes (x ∷ []) y) (ap (λ m. eqb m x.input) (eqb-true y.input k q) ∙ f)
+        cases : (a b : Bool) → eqb y.input k ≡ b → ((a && b) && (eqb y.input x.input || agrees_with classes (x ∷ []) y)) ≡ (b && (a && agrees_with classes (x ∷ []) y))
+        cases true true q = ap (λ c. c || agrees_with classes (x ∷ []) y) (ap (λ m. eqb m x.input) (eqb-true y.input k q) ∙ f)
         cases true false q = refl
         cases false true q = refl
         cases false false q = refl
 
     go : (b : Bool) → eqb k x.input ≡ b
-        → filter (λ y. eqb y.input x.input || suits classes (x ∷ []) y) (cond b (x ∷ []) (of_input k (older x.ticket log))) ≡ cond b (x ∷ []) (filter (λ y. ltb y.ticket x.ticket && suits classes (x ∷ []) y) (get_or sides k []))
-    go true q = ap (λ b. cond (b || suits classes (x ∷ []) x) (x ∷ []) []) (eq-eqb x.input x.input refl)
+        → filter (λ y. eqb y.input x.input || agrees_with classes (x ∷ []) y) (cond b (x ∷ []) (of_input k (older x.ticket log))) ≡ cond b (x ∷ []) (filter (λ y. ltb y.ticket x.ticket && agrees_with classes (x ∷ []) y) (get_or sides k []))
+    go true q = ap (λ b. cond (b || agrees_with classes (x ∷ []) x) (x ∷ []) []) (eq-eqb x.input x.input refl)
     go false q =
-        ap (filter (λ y. eqb y.input x.input || suits classes (x ∷ []) y)) (filter-filter (λ (y : TupleAt). ltb y.ticket x.ticket) (λ (y : TupleAt). eqb y.input k) log)
-        ∙ filter-filter (λ (y : TupleAt). ltb y.ticket x.ticket && eqb y.input k) (λ (y : TupleAt). eqb y.input x.input || suits classes (x ∷ []) y) log
-        ∙ filter-agree (λ (y : TupleAt). (ltb y.ticket x.ticket && eqb y.input k) && (eqb y.input x.input || suits classes (x ∷ []) y)) (λ (y : TupleAt). eqb y.input k && (ltb y.ticket x.ticket && suits classes (x ∷ []) y)) log (same q)
-        ∙ sym (filter-filter (λ (y : TupleAt). eqb y.input k) (λ (y : TupleAt). ltb y.ticket x.ticket && suits classes (x ∷ []) y) log)
-        ∙ ap (filter (λ y. ltb y.ticket x.ticket && suits classes (x ∷ []) y)) (sym e)
+        ap (filter (λ y. eqb y.input x.input || agrees_with classes (x ∷ []) y)) (filter-filter (λ (y : TupleAt). ltb y.ticket x.ticket) (λ (y : TupleAt). eqb y.input k) log)
+        ∙ filter-filter (λ (y : TupleAt). ltb y.ticket x.ticket && eqb y.input k) (λ (y : TupleAt). eqb y.input x.input || agrees_with classes (x ∷ []) y) log
+        ∙ filter-agree (λ (y : TupleAt). (ltb y.ticket x.ticket && eqb y.input k) && (eqb y.input x.input || agrees_with classes (x ∷ []) y)) (λ (y : TupleAt). eqb y.input k && (ltb y.ticket x.ticket && agrees_with classes (x ∷ []) y)) log (same q)
+        ∙ sym (filter-filter (λ (y : TupleAt). eqb y.input k) (λ (y : TupleAt). ltb y.ticket x.ticket && agrees_with classes (x ∷ []) y) log)
+        ∙ ap (filter (λ y. ltb y.ticket x.ticket && agrees_with classes (x ∷ []) y)) (sym e)
 
 -- the combinations of the choices that join are those of all candidates
 pub choices-combinations : (spec : JoinData) (x : TupleAt) (log : List TupleAt) (sides : List (List TupleAt)) → x.input < length spec.shape.inputs → sides ≡ map (λ k. of_input k log) (upto_from 0 (length spec.shape.inputs))
@@ -87,14 +87,14 @@ choices-combinations spec x log sides lt e =
     ap (λ m. filter (agree spec.shape.classes) (product (map (choice spec.shape.classes x sides) (upto_from 0 m)))) count
     ∙ sym (own-first (choice spec.shape.classes x sides) own-choice)
     ∙ ap (λ (lists : List (List TupleAt)). filter (λ c. agree spec.shape.classes (x ∷ c)) (product lists)) (sym filtered)
-    ∙ sym (product-filter (λ y. eqb y.input x.input || suits spec.shape.classes (x ∷ []) y) (λ c. agree spec.shape.classes (x ∷ c)) (map (candidates x log) (upto_from 0 (length spec.shape.inputs))) all-pass)
+    ∙ sym (product-filter (λ y. eqb y.input x.input || agrees_with spec.shape.classes (x ∷ []) y) (λ c. agree spec.shape.classes (x ∷ c)) (map (candidates x log) (upto_from 0 (length spec.shape.inputs))) all-pass)
     ∙ own-first (candidates x log) own-candidate
   where
     count : length sides ≡ length spec.shape.inputs
     count = ap (λ (s : List (List TupleAt)). length s) e ∙ length-map (upto_from 0 (length spec.shape.inputs)) (λ k. of_input k log) ∙ length-upto 0 (length spec.shape.inputs)
 
     own-choice : choice spec.shape.classes x sides x.input ≡ x ∷ []
-    own-choice = ap (λ b. cond b (x ∷ []) (filter (λ y. ltb y.ticket x.ticket && suits spec.shape.classes (x ∷ []) y) (get_or sides x.input []))) (eq-eqb x.input x.input refl)
+    own-choice = ap (λ b. cond b (x ∷ []) (filter (λ y. ltb y.ticket x.ticket && agrees_with spec.shape.classes (x ∷ []) y) (get_or sides x.input []))) (eq-eqb x.input x.input refl)
 
     own-candidate : candidates x log x.input ≡ x ∷ []
     own-candidate = ap (λ b. cond b (x ∷ []) (of_input x.input (older x.ticket log))) (eq-eqb x.input x.input refl)
@@ -107,13 +107,13 @@ choices-combinations spec x log sides lt e =
     side-at : (k : ℕ) → k < 0 + length spec.shape.inputs → get_or sides k [] ≡ of_input k log
     side-at k l = ap (λ (s : List (List TupleAt)). get_or s k []) e ∙ get_or-upto (λ i. of_input i log) 0 (length spec.shape.inputs) k [] (omega (arith, l)) ∙ ap (λ i. of_input i log) (omega arith)
 
-    filtered : map (filter (λ y. eqb y.input x.input || suits spec.shape.classes (x ∷ []) y)) (map (candidates x log) (upto_from 0 (length spec.shape.inputs))) ≡ map (choice spec.shape.classes x sides) (upto_from 0 (length spec.shape.inputs))
+    filtered : map (filter (λ y. eqb y.input x.input || agrees_with spec.shape.classes (x ∷ []) y)) (map (candidates x log) (upto_from 0 (length spec.shape.inputs))) ≡ map (choice spec.shape.classes x sides) (upto_from 0 (length spec.shape.inputs))
     filtered =
-        map-map_upto (filter (λ y. eqb y.input x.input || suits spec.shape.classes (x ∷ []) y)) (candidates x log) 0 (length spec.shape.inputs)
-        ∙ map-upto (λ k. filter (λ y. eqb y.input x.input || suits spec.shape.classes (x ∷ []) y) (candidates x log k)) (choice spec.shape.classes x sides) 0 (length spec.shape.inputs) (λ k l. choice-candidates spec.shape.classes x log sides k (side-at k l))
+        map-map_upto (filter (λ y. eqb y.input x.input || agrees_with spec.shape.classes (x ∷ []) y)) (candidates x log) 0 (length spec.shape.inputs)
+        ∙ map-upto (λ k. filter (λ y. eqb y.input x.input || agrees_with spec.shape.classes (x ∷ []) y) (candidates x log k)) (choice spec.shape.classes x sides) 0 (length spec.shape.inputs) (λ k l. choice-candidates spec.shape.classes x log sides k (side-at k l))
 
-    all-pass : (c : List TupleAt) → agree spec.shape.classes (x ∷ c) ≡ true → list_all (λ y. eqb y.input x.input || suits spec.shape.classes (x ∷ []) y) c ≡ true
-    all-pass c t = all_from (λ y. eqb y.input x.input || suits spec.shape.classes (x ∷ []) y) c (λ y h. or_right (eqb y.input x.input) (suits spec.shape.classes (x ∷ []) y) (pair-suits spec.shape.classes (x ∷ c) x y t (inl refl) (inr h)))
+    all-pass : (c : List TupleAt) → agree spec.shape.classes (x ∷ c) ≡ true → list_all (λ y. eqb y.input x.input || agrees_with spec.shape.classes (x ∷ []) y) c ≡ true
+    all-pass c t = all_from (λ y. eqb y.input x.input || agrees_with spec.shape.classes (x ∷ []) y) c (λ y h. or_right (eqb y.input x.input) (agrees_with spec.shape.classes (x ∷ []) y) (pair-agrees_with spec.shape.classes (x ∷ c) x y t (inl refl) (inr h)))
 
 -- ---- lists among which the choices are
 
@@ -161,7 +161,7 @@ narrowed-finds classes x sides lists n lt =
         ∙ sym (ap (λ (qs : List (List TupleAt)). filter (λ c. agree classes (x ∷ c)) (product qs)) e)
 
     own-choices : filter (agree classes) (product (choices classes x sides)) ≡ filter (λ c. agree classes (x ∷ c)) (product (choices classes x sides))
-    own-choices = first-of (length sides) (choice classes x sides) lt (ap (λ b. cond b (x ∷ []) (filter (λ y. ltb y.ticket x.ticket && suits classes (x ∷ []) y) (get_or sides x.input []))) (eq-eqb x.input x.input refl))
+    own-choices = first-of (length sides) (choice classes x sides) lt (ap (λ b. cond b (x ∷ []) (filter (λ y. ltb y.ticket x.ticket && agrees_with classes (x ∷ []) y) (get_or sides x.input []))) (eq-eqb x.input x.input refl))
 
     filtered : map (filter (may_join classes x)) lists ≡ choices classes x sides
     filtered =
@@ -171,4 +171,4 @@ narrowed-finds classes x sides lists n lt =
         ∙ ap (λ m. map (choice classes x sides) (upto_from 0 m)) n.count
 
     all-pass : (c : List TupleAt) → agree classes (x ∷ c) ≡ true → list_all (may_join classes x) c ≡ true
-    all-pass c t = all_from (may_join classes x) c (λ y h. or_right (eqb y.input x.input) (suits classes (x ∷ []) y) (pair-suits classes (x ∷ c) x y t (inl refl) (inr h)))
+    all-pass c t = all_from (may_join classes x) c (λ y h. or_right (eqb y.input x.input) (agrees_with classes (x ∷ []) y) (pair-agrees_with classes (x ∷ c) x y t (inl refl) (inr h)))

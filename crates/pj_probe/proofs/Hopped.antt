@@ -26,7 +26,7 @@ use Rattle.pj_probe.specs.declared.route.ProbeStep.{ProbeStep}
 use Rattle.pj_probe.proofs.Routed.{columns_at, own_reached, reached_by, reached_now, step_there, steps_with}
 use Rattle.pj_rows.specs.Tuples.{IsWide, state_at, under_with, no_state, tuple_in, tuples_in, ticket_in}
 use Rattle.pj_probe.specs.Choices.{AreNarrowed, IsNarrowed, choices, may_join, older_joins}
-use Rattle.pj_rows.specs.Suits.{suits}
+use Rattle.pj_rows.specs.AgreesWith.{agrees_with}
 use Rattle.pj_join_laws.proofs.Upto.{length-upto, get_or-upto, map-upto}
 use Rattle.pj_join_laws.proofs.Results.{product-filter}
 use Rattle.pj_rows.proofs.States.{same-at, tuples-length, side_at}
@@ -423,7 +423,7 @@ older-finds classes own row_states lt = narrowed-finds classes own (tuples_in 0 
         of k l true q = let same : k ≡ own.input = eqb-true k own.input q in record {
           alone = λ e. ap (λ i. older_at own row_states i) e ∙ older-own own row_states;
           among = ap (λ i. filter (may_join classes own) (older_at own row_states i)) same ∙ ap (filter (may_join classes own)) (older-own own row_states)
-              ∙ ap (λ b. cond (b || suits classes (own ∷ []) own) (own ∷ []) []) (eq-eqb own.input own.input refl)
+              ∙ ap (λ b. cond (b || agrees_with classes (own ∷ []) own) (own ∷ []) []) (eq-eqb own.input own.input refl)
               ∙ sym (ap (λ b. cond b (own ∷ []) (filter (older_joins classes own) (get_or (tuples_in 0 row_states) k []))) q);
         }
         of k l false q =

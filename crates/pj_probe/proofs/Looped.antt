@@ -16,7 +16,7 @@ use Rattle.pj_probe.specs.Walks.{sides_at, tuple_at}
 use Rattle.pj_probe.specs.Results.{older_agrees, pair_of, pairs_out}
 use Rattle.pj_rows.specs.Tuples.{tuple_in}
 use Rattle.pj_probe.specs.Choices.{IsNarrowed, may_join, older_joins}
-use Rattle.pj_rows.specs.Suits.{suits}
+use Rattle.pj_rows.specs.AgreesWith.{agrees_with}
 
 -- behind one that has at least this number none passes
 pub picked_stop : {A : Type 0} (p : A → Bool) (number : A → ℕ) (low : ℕ) (xs : List A) (i : ℕ) (x : A) → IsRising number xs → ((y : A) → p y ≡ true → number y < low) → slice_get xs i ≡ Some x → low ≤ number x → filter p (take i xs) ≡ filter p xs
@@ -72,7 +72,7 @@ sides-length base (x ∷ xs) = ap suc (sides-length (base + 1) xs)
 
 -- a choice of another input's tuples
 pub narrowed_choice : (classes : List (List ClassCol)) (own : TupleAt) (sides : List (List TupleAt)) (input : ℕ) (rows : List (ℕ × List Value)) (side : List TupleAt) → (input ≡ own.input → ⊥) → get_or sides input [] ≡ side
-    → filter (suits classes (own ∷ [])) (map (tuple_at input) rows) ≡ filter (older_joins classes own) side → IsNarrowed classes own sides input (map (tuple_at input) rows)
+    → filter (agrees_with classes (own ∷ [])) (map (tuple_at input) rows) ≡ filter (older_joins classes own) side → IsNarrowed classes own sides input (map (tuple_at input) rows)
 narrowed_choice classes own sides input rows side ne at e = record {
   alone = λ q. absurd (ne q);
   among = suit rows ∙ e ∙ sym (ap (λ b. cond b (own ∷ []) (filter (older_joins classes own) (get_or sides input []))) apart ∙ ap (filter (older_joins classes own)) at);
@@ -81,8 +81,8 @@ narrowed_choice classes own sides input rows side ne at e = record {
     apart : eqb input own.input ≡ false
     apart = false_from_ne_true (eqb input own.input) (λ t. ne (eqb-true input own.input t))
 
-    suit : (rs : List (ℕ × List Value)) → filter (may_join classes own) (map (tuple_at input) rs) ≡ filter (suits classes (own ∷ [])) (map (tuple_at input) rs)
+    suit : (rs : List (ℕ × List Value)) → filter (may_join classes own) (map (tuple_at input) rs) ≡ filter (agrees_with classes (own ∷ [])) (map (tuple_at input) rs)
     suit [] = refl
     suit (r ∷ rs) =
-        ap (λ b. cond (b || suits classes (own ∷ []) (tuple_at input r)) (tuple_at input r ∷ filter (may_join classes own) (map (tuple_at input) rs)) (filter (may_join classes own) (map (tuple_at input) rs))) apart
-        ∙ ap (λ (xs : List TupleAt). cond (suits classes (own ∷ []) (tuple_at input r)) (tuple_at input r ∷ xs) xs) (suit rs)
+        ap (λ b. cond (b || agrees_with classes (own ∷ []) (tuple_at input r)) (tuple_at input r ∷ filter (may_join classes own) (map (tuple_at input) rs)) (filter (may_join classes own) (map (tuple_at input) rs))) apart
+        ∙ ap (λ (xs : List TupleAt). cond (agrees_with classes (own ∷ []) (tuple_at input r)) (tuple_at input r ∷ xs) xs) (suit rs)

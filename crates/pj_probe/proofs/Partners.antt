@@ -11,9 +11,9 @@ use Rattle.pj_shape.specs.Joining.{parts_on}
 use Rattle.pj_events.specs.declared.events.Out.TheVariants.{Tuple}
 use Rattle.pj_events.specs.Join.{ClassCol, In, TupleAt, agree, joined, joins, product}
 use Rattle.pj_join_laws.proofs.Matching.{agree-mono}
-use Rattle.pj_rows.specs.Suits.{suits}
+use Rattle.pj_rows.specs.AgreesWith.{agrees_with}
 use Rattle.pj_rows.specs.Tuples.{AreWide, no_state, state_at, tuple_in, tuples_in}
-use Rattle.pj_rows.proofs.Agreeing.{suits-from}
+use Rattle.pj_rows.proofs.Agreeing.{agrees_with-from}
 use Rattle.pj_rows.proofs.States.{same-at, side_at, tuples-length}
 use Rattle.pj_probe.specs.Choices.{choice, choices, older_joins}
 use Rattle.pj_probe.specs.Partners.{AllAgree, AreLinkedTo, ArePartners}
@@ -33,11 +33,11 @@ use Rattle.pj_probe.proofs.Wanted.{candidates_hold, wanted_by_link}
 -- ---- two tuples
 
 -- two tuples join where the first agrees with itself and the second suits it
-agree-suits : (classes : List (List ClassCol)) (own y : TupleAt) → agree classes (own ∷ y ∷ []) ≡ (suits classes [] own && suits classes (own ∷ []) y)
-agree-suits classes own y = same-ways (agree classes (own ∷ y ∷ [])) (suits classes [] own && suits classes (own ∷ []) y) parts (λ t. let two = and_parts (suits classes [] own) (suits classes (own ∷ []) y) t in own-pair classes own y two.0 two.1)
+agree-agrees_with : (classes : List (List ClassCol)) (own y : TupleAt) → agree classes (own ∷ y ∷ []) ≡ (agrees_with classes [] own && agrees_with classes (own ∷ []) y)
+agree-agrees_with classes own y = same-ways (agree classes (own ∷ y ∷ [])) (agrees_with classes [] own && agrees_with classes (own ∷ []) y) parts (λ t. let two = and_parts (agrees_with classes [] own) (agrees_with classes (own ∷ []) y) t in own-pair classes own y two.0 two.1)
   where
-    parts : agree classes (own ∷ y ∷ []) ≡ true → (suits classes [] own && suits classes (own ∷ []) y) ≡ true
-    parts t = and_from (suits classes [] own) (suits classes (own ∷ []) y) (suits-from classes [] own (agree-mono classes (own ∷ []) (own ∷ y ∷ []) first t)) (suits-from classes (own ∷ []) y t)
+    parts : agree classes (own ∷ y ∷ []) ≡ true → (agrees_with classes [] own && agrees_with classes (own ∷ []) y) ≡ true
+    parts t = and_from (agrees_with classes [] own) (agrees_with classes (own ∷ []) y) (agrees_with-from classes [] own (agree-mono classes (own ∷ []) (own ∷ y ∷ []) first t)) (agrees_with-from classes (own ∷ []) y t)
       where
         first : (z : TupleAt) → In z (own ∷ []) → In z (own ∷ y ∷ [])
         first z (inl e) = inl e
@@ -66,8 +66,8 @@ second_before classes own other first second b one zero p q is =
 -- ---- the rows of the other input
 
 -- where the tuple does not agree with itself nothing is found
-none-found : (classes : List (List ClassCol)) (own : TupleAt) (sides : List (List TupleAt)) → own.input < length sides → suits classes [] own ≡ false → found_out classes own sides ≡ []
-none-found classes own sides lt not = ap (λ (cs : List (List TupleAt)). map Tuple (map joined cs)) (nothing (product (choices classes own sides)) (λ c h. false_from_ne_true (agree classes c) (λ t. false≢true (sym not ∙ suits-from classes [] own (agree-mono classes (own ∷ []) c (inside c h) t)))))
+none-found : (classes : List (List ClassCol)) (own : TupleAt) (sides : List (List TupleAt)) → own.input < length sides → agrees_with classes [] own ≡ false → found_out classes own sides ≡ []
+none-found classes own sides lt not = ap (λ (cs : List (List TupleAt)). map Tuple (map joined cs)) (nothing (product (choices classes own sides)) (λ c h. false_from_ne_true (agree classes c) (λ t. false≢true (sym not ∙ agrees_with-from classes [] own (agree-mono classes (own ∷ []) c (inside c h) t)))))
   where
     nothing : (cs : List (List TupleAt)) → ((c : List TupleAt) → In c cs → agree classes c ≡ false) → filter (agree classes) cs ≡ []
     nothing [] f = refl
@@ -83,7 +83,7 @@ none-found classes own sides lt not = ap (λ (cs : List (List TupleAt)). map Tup
 -- among rows that hold all which may join are all that the results are joined of
 pairs-found : (classes : List (List ClassCol)) (own : TupleAt) (row_states : List StateView) (input : ℕ) (among : List TupleAt) → own.input < 2 → length row_states ≡ 2 → input ≡ 1 - own.input
     → filter (older_joins classes own) among ≡ filter (older_joins classes own) (map (tuple_in input) (state_at row_states input).rows) → pairs_out classes own among ≡ found_out classes own (tuples_in 0 row_states)
-pairs-found classes own row_states input among lt two is same = go (suits classes [] own) refl
+pairs-found classes own row_states input among lt two is same = go (agrees_with classes [] own) refl
   where
     there : input < length row_states
     there = omega (arith, is, two)
@@ -91,15 +91,15 @@ pairs-found classes own row_states input among lt two is same = go (suits classe
     side : map (tuple_in input) (state_at row_states input).rows ≡ get_or (tuples_in 0 row_states) input []
     side = sym (side_at row_states input (state_at row_states input) there (same-at row_states input no_state (state_at row_states input) there))
 
-    go : (b : Bool) → suits classes [] own ≡ b → pairs_out classes own among ≡ found_out classes own (tuples_in 0 row_states)
+    go : (b : Bool) → agrees_with classes [] own ≡ b → pairs_out classes own among ≡ found_out classes own (tuples_in 0 row_states)
     go true alone =
         ap (λ (ys : List TupleAt). map Tuple (map (pair_of own) ys))
-        (filter-agree (older_agrees classes own) (older_joins classes own) among (λ y h. ap (λ b. ltb y.ticket own.ticket && b) (agree-suits classes own y ∙ ap (λ b. b && suits classes (own ∷ []) y) alone))
+        (filter-agree (older_agrees classes own) (older_joins classes own) among (λ y h. ap (λ b. ltb y.ticket own.ticket && b) (agree-agrees_with classes own y ∙ ap (λ b. b && agrees_with classes (own ∷ []) y) alone))
         ∙ same
         ∙ ap (filter (older_joins classes own)) side)
         ∙ ap (map Tuple) (both-found classes own (tuples_in 0 row_states) input lt (tuples-length 0 row_states ∙ two) (two_states classes own row_states lt two alone) is)
     go false not =
-        ap (λ (ys : List TupleAt). map Tuple (map (pair_of own) ys)) (filter-none (older_agrees classes own) among (λ y. false_from_ne_true (older_agrees classes own y) (λ t. false≢true (sym not ∙ (and_parts (suits classes [] own) (suits classes (own ∷ []) y) (sym (agree-suits classes own y) ∙ (and_parts (ltb y.ticket own.ticket) (agree classes (own ∷ y ∷ [])) t).1)).0))))
+        ap (λ (ys : List TupleAt). map Tuple (map (pair_of own) ys)) (filter-none (older_agrees classes own) among (λ y. false_from_ne_true (older_agrees classes own y) (λ t. false≢true (sym not ∙ (and_parts (agrees_with classes [] own) (agrees_with classes (own ∷ []) y) (sym (agree-agrees_with classes own y) ∙ (and_parts (ltb y.ticket own.ticket) (agree classes (own ∷ y ∷ [])) t).1)).0))))
         ∙ sym (none-found classes own (tuples_in 0 row_states) (omega (arith, lt, two, tuples-length 0 row_states)) not)
 
 -- rows that a route's one link leads to are such

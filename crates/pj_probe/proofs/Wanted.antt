@@ -14,7 +14,7 @@ use Rattle.pj_value.proofs.Members.{all_at}
 use Rattle.pj_value.proofs.Orders.{equal_itself, same_if_equal}
 use Rattle.pj_value.specs.Options.{is_value}
 use Rattle.pj_events.specs.Join.{ClassCol, In, TupleAt, no_value, value_at}
-use Rattle.pj_rows.specs.Suits.{all_have, has_there, suits, suits_class}
+use Rattle.pj_rows.specs.AgreesWith.{all_have, has_there, agrees_with, agrees_with_class}
 use Rattle.pj_probe.specs.Choices.{older_joins}
 use Rattle.pj_probe.specs.Lookups.{IsWanted}
 use Rattle.pj_probe.specs.Routes.{InOneClass}
@@ -36,7 +36,7 @@ wanted_by_link classes x input link value from share has = λ y of suited.
     let at : ClassCol = record { input = input; column = link.index_column } in
     let there : ClassCol = record { input = link.from_input; column = link.from_column } in
     let v = value_at y.row link.index_column in
-    let by_class : suits_class (x ∷ []) y class ≡ true = all_at (suits_class (x ∷ []) y) classes class suited share.1 in
+    let by_class : agrees_with_class (x ∷ []) y class ≡ true = all_at (agrees_with_class (x ∷ []) y) classes class suited share.1 in
     let own : (y.input == at.input) ≡ true = ap (λ (n : ℕ). n == input) of ∙ same_number input in
     let have : all_have class (x ∷ []) y v ≡ true = past (y.input == at.input) (all_have class (x ∷ []) y v) own
     (all_at (λ a. not (y.input == a.input) || all_have class (x ∷ []) y (value_at y.row a.column)) class at by_class share.2) in
@@ -47,7 +47,7 @@ wanted_by_link classes x input link value from share has = λ y of suited.
 
 -- a row that may join has the value that is wanted
 has-wanted : (classes : List (List ClassCol)) (x : TupleAt) (input column : ℕ) (value : Value) (state : StateView) → IsWanted classes (x ∷ []) input column value → IsWide state → In column state.columns
-    → (s : Stored) → In s state.rows → suits classes (x ∷ []) (tuple_in input s) ≡ true → has_value column value s ≡ true
+    → (s : Stored) → In s state.rows → agrees_with classes (x ∷ []) (tuple_in input s) ≡ true → has_value column value s ≡ true
 has-wanted classes x input column value state wants wide indexed s h t =
     ap (is_value value) (slice_get-get_or s.row column no_value (all-in (λ c. c < length s.row) state.columns (wide s h) column indexed))
     ∙ ap (λ (v : Value). value_eq v value) (wants (tuple_in input s) refl t)
@@ -70,19 +70,19 @@ map-pairs : (input : ℕ) (rows : List Stored) → map (tuple_at input) (pairs r
 map-pairs input [] = refl
 map-pairs input (s ∷ rows) = ap (λ (xs : List TupleAt). tuple_in input s ∷ xs) (map-pairs input rows)
 
-below-pairs : (classes : List (List ClassCol)) (x : TupleAt) (input : ℕ) (rows : List Stored) → filter (suits classes (x ∷ [])) (map (tuple_at input) (pairs (rows_below x.ticket rows))) ≡ filter (older_joins classes x) (map (tuple_in input) rows)
+below-pairs : (classes : List (List ClassCol)) (x : TupleAt) (input : ℕ) (rows : List Stored) → filter (agrees_with classes (x ∷ [])) (map (tuple_at input) (pairs (rows_below x.ticket rows))) ≡ filter (older_joins classes x) (map (tuple_in input) rows)
 below-pairs classes x input rows =
-    ap (filter (suits classes (x ∷ []))) (map-pairs input (rows_below x.ticket rows))
-    ∙ passing (tuple_in input) (is_below x.ticket) (suits classes (x ∷ [])) (older_joins classes x) rows (λ s h. refl)
+    ap (filter (agrees_with classes (x ∷ []))) (map-pairs input (rows_below x.ticket rows))
+    ∙ passing (tuple_in input) (is_below x.ticket) (agrees_with classes (x ∷ [])) (older_joins classes x) rows (λ s h. refl)
 
 -- older tuples that join are found among the rows with the value that is wanted
 pub candidates_hold : (classes : List (List ClassCol)) (x : TupleAt) (state : StateView) (found : List Stored) (input column : ℕ) (value : Value) → IsWide state → IsWanted classes (x ∷ []) input column value → In column state.columns
     → found ≡ rows_with column value state.rows → filter (older_joins classes x) (map (tuple_in input) found) ≡ filter (older_joins classes x) (map (tuple_in input) state.rows)
 candidates_hold classes x state found input column value wide wants indexed is =
     ap (λ (rows : List Stored). filter (older_joins classes x) (map (tuple_in input) rows)) is
-    ∙ passing (tuple_in input) (has_value column value) (older_joins classes x) (older_joins classes x) state.rows (λ s h. only s h (has_value column value s) refl (suits classes (x ∷ []) (tuple_in input s)) refl (ltb s.ticket x.ticket))
+    ∙ passing (tuple_in input) (has_value column value) (older_joins classes x) (older_joins classes x) state.rows (λ s h. only s h (has_value column value s) refl (agrees_with classes (x ∷ []) (tuple_in input s)) refl (ltb s.ticket x.ticket))
   where
-    only : (s : Stored) → In s state.rows → (a : Bool) → has_value column value s ≡ a → (b : Bool) → suits classes (x ∷ []) (tuple_in input s) ≡ b → (c : Bool) → (a && (c && b)) ≡ (c && b)
+    only : (s : Stored) → In s state.rows → (a : Bool) → has_value column value s ≡ a → (b : Bool) → agrees_with classes (x ∷ []) (tuple_in input s) ≡ b → (c : Bool) → (a && (c && b)) ≡ (c && b)
     only s h true e b g c = refl
     only s h false e true g c = absurd (false≢true (sym e ∙ has-wanted classes x input column value state wants wide indexed s h g))
     only s h false e false g true = refl
@@ -90,6 +90,6 @@ candidates_hold classes x state found input column value wide wants indexed is =
 
 -- all with smaller tickets
 pub all_hold : (classes : List (List ClassCol)) (x : TupleAt) (rows : List Stored) (found : List (ℕ × List Value)) (input : ℕ) → found ≡ pairs (rows_below x.ticket rows)
-    → filter (suits classes (x ∷ [])) (map (tuple_at input) found) ≡ filter (older_joins classes x) (map (tuple_in input) rows)
+    → filter (agrees_with classes (x ∷ [])) (map (tuple_at input) found) ≡ filter (older_joins classes x) (map (tuple_in input) rows)
 all_hold classes x rows found input is =
-    ap (λ (rs : List (ℕ × List Value)). filter (suits classes (x ∷ [])) (map (tuple_at input) rs)) is ∙ below-pairs classes x input rows
+    ap (λ (rs : List (ℕ × List Value)). filter (agrees_with classes (x ∷ [])) (map (tuple_at input) rs)) is ∙ below-pairs classes x input rows

@@ -5,7 +5,7 @@ use Rattle.std.specs.List.{list_any}
 use Rattle.pj_value.specs.Values.{value_eq}
 use Rattle.pj_state.specs.States.{StateView}
 use Rattle.pj_events.specs.Join.{ClassCol, In, TupleAt, value_at}
-use Rattle.pj_rows.specs.Suits.{suits}
+use Rattle.pj_rows.specs.AgreesWith.{agrees_with}
 use Rattle.pj_probe.specs.declared.route.ProbeLink.{ProbeLink}
 use Rattle.pj_probe.specs.declared.route.ProbeStep.{ProbeStep}
 use Rattle.pj_probe.specs.declared.route.ProbeRoute.{ProbeRoute}
@@ -64,8 +64,8 @@ pub record IsLinkOf (class : List ClassCol) (own : ℕ) (before : List ProbeStep
 
 -- tuples of two inputs join exactly where their values in these columns are equal, and each of the first with itself
 pub record TwoDecide (classes : List (List ClassCol)) (own input mine theirs : ℕ) : Type 0 where
-  pub alone : (x : TupleAt) → x.input ≡ own → suits classes [] x ≡ true
-  pub both : (x y : TupleAt) → x.input ≡ own → y.input ≡ input → suits classes (x ∷ []) y ≡ value_eq (value_at y.row theirs) (value_at x.row mine)
+  pub alone : (x : TupleAt) → x.input ≡ own → agrees_with classes [] x ≡ true
+  pub both : (x y : TupleAt) → x.input ≡ own → y.input ≡ input → agrees_with classes (x ∷ []) y ≡ value_eq (value_at y.row theirs) (value_at x.row mine)
 
 -- the columns of the first step do
 abbrev pub FirstDecides : List (List ClassCol) → ℕ → List ProbeStep → Type 0

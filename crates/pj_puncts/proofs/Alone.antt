@@ -13,7 +13,7 @@ use Rattle.pj_value.specs.Options.{is_value}
 use Rattle.pj_pattern.specs.declared.pattern.Form.TheVariants.{Wild, Empty, Constant as Fixed, Range, Members}
 use Rattle.pj_events.specs.Patterns.{Pattern, all_wild, covers, is_wild, matches_value}
 use Rattle.pj_pattern.specs.Patterns.{constant_in}
-use Rattle.pj_puncts.specs.Prints.{cell_at}
+use Rattle.pj_puncts.specs.Hashes.{cell_at}
 use Rattle.pj_puncts.specs.Stores.{AllAbove, AreRising, IsAbove}
 use Rattle.pj_puncts.specs.Indexed.{IsCovering, IsFiled, IsUnfiled, first_covering, is_below, least}
 use Rattle.pj_puncts.specs.Numbers.{HasNone, are_wild, constant, has_only, is_alone, number_of, numbers_in, numbers_with, same_constant, told, with_last}

@@ -1,4 +1,4 @@
--- Cells of rows, instances and punctuations, and their prints.
+-- Cells of rows, instances and punctuations, and their hashes.
 use Rattle.std.proofs.Common.{◌≡◌, ℕ, zero, suc, ◌+◌, ◌<◌, ◌≤◌, Bool, true, false, cond, ◌&&◌, List, [], ◌∷◌, Option, Some, None, length, get_or, drop, take, eqb, refl, sym, ap, ◌∙◌, arith}
 use Rattle.std.specs.List.{slice_get}
 use Rattle.std.proofs.lemmas.Bool.{and_parts, eq-eqb, eqb-true, false_from_ne_true, false≢true}
@@ -12,7 +12,7 @@ use Rattle.pj_pattern.specs.Patterns.{covers_pattern, constant_in}
 use Rattle.pj_pattern.proofs.Covering.{covered}
 use Rattle.pj_events.specs.Patterns.{Pattern, covers, covers_punct, is_wild, matches_row, matches_value}
 use Rattle.pj_puncts.specs.Givens.{cell_of, marked}
-use Rattle.pj_puncts.specs.Prints.{cell_at, constants_of, print_from, print_of, row_cells, with_cell}
+use Rattle.pj_puncts.specs.Hashes.{cell_at, constants_of, hash_from, hash_of, row_cells, with_cell}
 use Rattle.pj_puncts.specs.Indexed.{fits_mark, fits_marks, is_constant}
 use Rattle.pj_shape.specs.Instances.{instance_of}
 
@@ -74,26 +74,26 @@ marked_more (m ∷ marks) (suc column) mark e =
     let ih : marked (take (column + 1) marks) ≡ marked (take column marks) + cond mark 1 0 = marked_more marks column mark e in
     rw n (omega (arith, ih))
 
--- ---- prints, cell by cell
+-- ---- hashes, cell by cell
 
-pub print_of_equal : (marks : List Bool) (cells : List (Option Value)) → length marks ≡ length cells → print_of marks cells ≡ print_from 0 marks cells
-print_of_equal marks cells e = ap (λ b. cond b (print_from 0 marks cells) 0) (eq-eqb (length marks) (length cells) e)
+pub hash_of_equal : (marks : List Bool) (cells : List (Option Value)) → length marks ≡ length cells → hash_of marks cells ≡ hash_from 0 marks cells
+hash_of_equal marks cells e = ap (λ b. cond b (hash_from 0 marks cells) 0) (eq-eqb (length marks) (length cells) e)
 
-pub print_of_other : (marks : List Bool) (cells : List (Option Value)) → (length marks ≡ length cells → ⊥) → print_of marks cells ≡ 0
-print_of_other marks cells f = ap (λ b. cond b (print_from 0 marks cells) 0) (false_from_ne_true (eqb (length marks) (length cells)) (λ t. f (eqb-true (length marks) (length cells) t)))
+pub hash_of_other : (marks : List Bool) (cells : List (Option Value)) → (length marks ≡ length cells → ⊥) → hash_of marks cells ≡ 0
+hash_of_other marks cells f = ap (λ b. cond b (hash_from 0 marks cells) 0) (false_from_ne_true (eqb (length marks) (length cells)) (λ t. f (eqb-true (length marks) (length cells) t)))
 
-pub print_ends : (p : ℕ) (marks : List Bool) (column : ℕ) (cells : List (Option Value)) → length marks ≤ column → print_from p (drop column marks) cells ≡ p
-print_ends p [] zero cells le = refl
-print_ends p [] (suc column) cells le = refl
-print_ends p (m ∷ marks) zero cells le = absurd (omega (arith, le))
-print_ends p (m ∷ marks) (suc column) cells le = print_ends p marks column cells (omega (arith, le))
+pub hash_ends : (p : ℕ) (marks : List Bool) (column : ℕ) (cells : List (Option Value)) → length marks ≤ column → hash_from p (drop column marks) cells ≡ p
+hash_ends p [] zero cells le = refl
+hash_ends p [] (suc column) cells le = refl
+hash_ends p (m ∷ marks) zero cells le = absurd (omega (arith, le))
+hash_ends p (m ∷ marks) (suc column) cells le = hash_ends p marks column cells (omega (arith, le))
 
-pub print_step : (p : ℕ) (ms : List Bool) (cells : List (Option Value)) (i : ℕ) → i < length ms → length ms ≡ length cells
-    → print_from p (drop i ms) (drop i cells) ≡ print_from (with_cell p (get_or ms i false) (get_or cells i None)) (drop (i + 1) ms) (drop (i + 1) cells)
-print_step p [] cells i lt e = absurd (omega (arith, lt))
-print_step p (m ∷ ms) [] i lt e = absurd (omega (arith, e))
-print_step p (m ∷ ms) (c ∷ cells) zero lt e = refl
-print_step p (m ∷ ms) (c ∷ cells) (suc i) lt e = let n : suc i + 1 ≡ suc (i + 1) = omega arith in rw n (print_step p ms cells i (omega (arith, lt)) (omega (arith, e)))
+pub hash_step : (p : ℕ) (ms : List Bool) (cells : List (Option Value)) (i : ℕ) → i < length ms → length ms ≡ length cells
+    → hash_from p (drop i ms) (drop i cells) ≡ hash_from (with_cell p (get_or ms i false) (get_or cells i None)) (drop (i + 1) ms) (drop (i + 1) cells)
+hash_step p [] cells i lt e = absurd (omega (arith, lt))
+hash_step p (m ∷ ms) [] i lt e = absurd (omega (arith, e))
+hash_step p (m ∷ ms) (c ∷ cells) zero lt e = refl
+hash_step p (m ∷ ms) (c ∷ cells) (suc i) lt e = let n : suc i + 1 ≡ suc (i + 1) = omega arith in rw n (hash_step p ms cells i (omega (arith, lt)) (omega (arith, e)))
 
 row-cell : (row : List Value) (i : ℕ) → get_or (row_cells row) i None ≡ slice_get row i
 row-cell [] i = refl
@@ -102,17 +102,17 @@ row-cell (v ∷ row) (suc i) = row-cell row i
 
 -- one column more of a row
 pub row_step : (p : ℕ) (ms : List Bool) (row : List Value) (i next : ℕ) (cell : Option Value) → i < length ms → length ms ≡ length row → cell ≡ slice_get row i → next ≡ with_cell p (get_or ms i false) cell
-    → print_from p (drop i ms) (drop i (row_cells row)) ≡ print_from next (drop (i + 1) ms) (drop (i + 1) (row_cells row))
+    → hash_from p (drop i ms) (drop i (row_cells row)) ≡ hash_from next (drop (i + 1) ms) (drop (i + 1) (row_cells row))
 row_step p ms row i next cell lt e is to =
-    print_step p ms (row_cells row) i lt (e ∙ sym (length-map row Some))
-    ∙ ap (λ n. print_from n (drop (i + 1) ms) (drop (i + 1) (row_cells row))) (ap (with_cell p (get_or ms i false)) (row-cell row i ∙ sym is) ∙ sym to)
+    hash_step p ms (row_cells row) i lt (e ∙ sym (length-map row Some))
+    ∙ ap (λ n. hash_from n (drop (i + 1) ms) (drop (i + 1) (row_cells row))) (ap (with_cell p (get_or ms i false)) (row-cell row i ∙ sym is) ∙ sym to)
 
 -- one column more of a punctuation
 pub constants_step : (p : ℕ) (ms : List Bool) (ps : List Pattern) (i next : ℕ) (q : Pattern) (cell : Option Value) → i < length ms → length ms ≡ length ps → q ≡ get_or ps i q → cell ≡ constant_in q
-    → next ≡ with_cell p (get_or ms i false) cell → print_from p (drop i ms) (drop i (constants_of ps)) ≡ print_from next (drop (i + 1) ms) (drop (i + 1) (constants_of ps))
+    → next ≡ with_cell p (get_or ms i false) cell → hash_from p (drop i ms) (drop i (constants_of ps)) ≡ hash_from next (drop (i + 1) ms) (drop (i + 1) (constants_of ps))
 constants_step p ms ps i next q cell lt e is cell_is to =
-    print_step p ms (constants_of ps) i lt (e ∙ sym (length-map ps constant_in))
-    ∙ ap (λ n. print_from n (drop (i + 1) ms) (drop (i + 1) (constants_of ps)))
+    hash_step p ms (constants_of ps) i lt (e ∙ sym (length-map ps constant_in))
+    ∙ ap (λ n. hash_from n (drop (i + 1) ms) (drop (i + 1) (constants_of ps)))
     (ap (with_cell p (get_or ms i false)) (get_or-map constant_in ps i q None (omega (arith, lt, e)) ∙ (ap constant_in (sym is) ∙ sym cell_is)) ∙ sym to)
 
 instance-first : (mark : Bool) (marks : List Bool) (vs : List Value) (taken : ℕ) → instance_of (mark ∷ marks) (drop taken vs) ≡ cell_of mark (slice_get vs taken) ∷ instance_of marks (drop (taken + cond mark 1 0) vs)
@@ -125,14 +125,14 @@ instance-first true marks (v ∷ vs) (suc taken) = let e : suc taken + 1 ≡ suc
 -- one column more of an instance
 pub instance_step : (p : ℕ) (ms scheme : List Bool) (vs : List Value) (i taken next : ℕ) (mark : Bool) (cell : Option Value) → i < length ms → length ms ≡ length scheme → slice_get scheme i ≡ Some mark
     → cell ≡ cell_of mark (slice_get vs taken) → next ≡ with_cell p (get_or ms i false) cell
-    → print_from p (drop i ms) (instance_of (drop i scheme) (drop taken vs)) ≡ print_from next (drop (i + 1) ms) (instance_of (drop (i + 1) scheme) (drop (taken + cond mark 1 0) vs))
+    → hash_from p (drop i ms) (instance_of (drop i scheme) (drop taken vs)) ≡ hash_from next (drop (i + 1) ms) (instance_of (drop (i + 1) scheme) (drop (taken + cond mark 1 0) vs))
 instance_step p [] scheme vs i taken next mark cell lt e f is to = absurd (omega (arith, lt))
 instance_step p (m ∷ ms) [] vs i taken next mark cell lt e f is to = absurd (omega (arith, e))
 instance_step p (m ∷ ms) (s ∷ scheme) vs zero taken next mark cell lt e f is to =
     let same : s ≡ mark = some-same s mark f in
-    ap (λ x. print_from p (m ∷ ms) (instance_of (x ∷ scheme) (drop taken vs))) same
-    ∙ (ap (print_from p (m ∷ ms)) (instance-first mark scheme vs taken)
-    ∙ ap (λ n. print_from n ms (instance_of scheme (drop (taken + cond mark 1 0) vs))) (ap (with_cell p m) (sym is) ∙ sym to))
+    ap (λ x. hash_from p (m ∷ ms) (instance_of (x ∷ scheme) (drop taken vs))) same
+    ∙ (ap (hash_from p (m ∷ ms)) (instance-first mark scheme vs taken)
+    ∙ ap (λ n. hash_from n ms (instance_of scheme (drop (taken + cond mark 1 0) vs))) (ap (with_cell p m) (sym is) ∙ sym to))
   where
     some-same : (a b : Bool) → Some a ≡ Some b → a ≡ b
     some-same a b q = cc
@@ -193,18 +193,18 @@ rest-covers : (p : Pattern) (cell : Option Value) (ps : List Pattern) (cells : L
 rest-covers p None ps cells t = (and_parts (is_wild p) (covers ps cells) t).1
 rest-covers p (Some v) ps cells t = (and_parts (matches_value p v) (covers ps cells) t).1
 
-same-from : (n : ℕ) (ms : List Bool) (ps : List Pattern) (cells : List (Option Value)) → fits_marks ms ps ≡ true → covers ps cells ≡ true → print_from n ms cells ≡ print_from n ms (constants_of ps)
+same-from : (n : ℕ) (ms : List Bool) (ps : List Pattern) (cells : List (Option Value)) → fits_marks ms ps ≡ true → covers ps cells ≡ true → hash_from n ms cells ≡ hash_from n ms (constants_of ps)
 same-from n [] ps cells t u = refl
 same-from n (m ∷ ms) [] cells t u = absurd (false≢true t)
 same-from n (m ∷ ms) (p ∷ ps) [] t u = absurd (false≢true u)
 same-from n (true ∷ ms) (p ∷ ps) (cell ∷ cells) t u =
     let f = and_parts (is_constant p) (fits_marks ms ps) t in
-    ap (λ k. print_from k ms cells) (cell-same n p cell ps cells f.0 u) ∙ same-from (with_cell n true (constant_in p)) ms ps cells f.1 (rest-covers p cell ps cells u)
+    ap (λ k. hash_from k ms cells) (cell-same n p cell ps cells f.0 u) ∙ same-from (with_cell n true (constant_in p)) ms ps cells f.1 (rest-covers p cell ps cells u)
 same-from n (false ∷ ms) (p ∷ ps) (cell ∷ cells) t u =
     let f = and_parts (is_wild p) (fits_marks ms ps) t in
     same-from n ms ps cells f.1 (rest-covers p cell ps cells u)
 
-pub print_same : (ms : List Bool) (ps : List Pattern) (cells : List (Option Value)) → fits_marks ms ps ≡ true → covers ps cells ≡ true → print_of ms cells ≡ print_of ms (constants_of ps)
-print_same ms ps cells t u =
+pub hash_same : (ms : List Bool) (ps : List Pattern) (cells : List (Option Value)) → fits_marks ms ps ≡ true → covers ps cells ≡ true → hash_of ms cells ≡ hash_of ms (constants_of ps)
+hash_same ms ps cells t u =
     let a : length ms ≡ length ps = fits_equal ms ps t in
-    print_of_equal ms cells (a ∙ covers_equal ps cells u) ∙ (same-from 0 ms ps cells t u ∙ sym (print_of_equal ms (constants_of ps) (a ∙ sym (length-map ps constant_in))))
+    hash_of_equal ms cells (a ∙ covers_equal ps cells u) ∙ (same-from 0 ms ps cells t u ∙ sym (hash_of_equal ms (constants_of ps) (a ∙ sym (length-map ps constant_in))))

@@ -14,9 +14,9 @@ use Rattle.pj_puncts.specs.declared.index.Chain.{Chain}
 use Rattle.pj_puncts.specs.declared.index.ConstantSet.{ConstantSet}
 use Rattle.pj_puncts.specs.declared.index.Index.{Index}
 use Rattle.pj_puncts.specs.Stores.{AreRising, IsAbove}
-use Rattle.pj_puncts.specs.Prints.{constants_of, print_of}
+use Rattle.pj_puncts.specs.Hashes.{constants_of, hash_of}
 use Rattle.pj_puncts.specs.Indexed.{AreChained, AreLed, ArePlaces, ChainGrew, ChainTakes, ChainsGrew, ChainsTake, FitsAt, Grows, InChains, InSets, IsChain, IsChained, IsCoveredAt, IsFiled, IsHeld, IsInChains, IsInSets, IsInSlot, IsLedTo, IsUnfiled, covered_in, covers_in, number_at, number_in, slot}
-use Rattle.pj_puncts.proofs.Cellwise.{covers_through, print_same}
+use Rattle.pj_puncts.proofs.Cellwise.{covers_through, hash_same}
 use Rattle.pj_puncts.proofs.Firsts.{rising-push}
 
 -- ---- lists
@@ -56,15 +56,15 @@ below-all n (x ∷ ks) j all (inr h) = below-all n ks j all.1 h
 
 -- ---- sets
 
--- the punctuation's own print leads to a place where it is covered
-pub slot_leads : (kept : List NumberedPunct) (at a print : ℕ) (s : ConstantSet) (q : NumberedPunct) → FitsAt kept at s.marks → at < length kept → q ≡ get_or kept at q → print ≡ print_of s.marks (constants_of q.punct)
-    → get eqb s.places print ≡ Some a → covers_in (slice_get kept a) q.punct ≡ true → AreLed kept at (IsInSlot s)
-slot_leads kept at a print s q fits lt is print_is found t k cells e u =
+-- the punctuation's own hash leads to a place where it is covered
+pub slot_leads : (kept : List NumberedPunct) (at a hash_value : ℕ) (s : ConstantSet) (q : NumberedPunct) → FitsAt kept at s.marks → at < length kept → q ≡ get_or kept at q → hash_value ≡ hash_of s.marks (constants_of q.punct)
+    → get eqb s.places hash_value ≡ Some a → covers_in (slice_get kept a) q.punct ≡ true → AreLed kept at (IsInSlot s)
+slot_leads kept at a hash_value s q fits lt is hash_is found t k cells e u =
     let same : q ≡ k = some-same q k (sym (there kept at q lt is) ∙ e) in
     let own : covers q.punct cells ≡ true = ap (λ (y : NumberedPunct). covers y.punct cells) same ∙ u in
     let r = go (slice_get kept a) refl t own in (
       a,
-      ap (get eqb s.places) (print_same s.marks q.punct cells (fits q (there kept at q lt is)) own ∙ sym print_is) ∙ found,
+      ap (get eqb s.places) (hash_same s.marks q.punct cells (fits q (there kept at q lt is)) own ∙ sym hash_is) ∙ found,
       r,
     )
   where
@@ -73,13 +73,13 @@ slot_leads kept at a print s q fits lt is print_is found t k cells e u =
     go (Some j) f v own = record { punct = j; there = f; covers_too = covers_through j.punct q.punct cells v own }
 
 -- or to its own place
-pub slot_leads_here : (kept : List NumberedPunct) (at print : ℕ) (s : ConstantSet) (q : NumberedPunct) → FitsAt kept at s.marks → at < length kept → q ≡ get_or kept at q → print ≡ print_of s.marks (constants_of q.punct)
-    → get eqb s.places print ≡ Some at → AreLed kept at (IsInSlot s)
-slot_leads_here kept at print s q fits lt is print_is found k cells e u =
+pub slot_leads_here : (kept : List NumberedPunct) (at hash_value : ℕ) (s : ConstantSet) (q : NumberedPunct) → FitsAt kept at s.marks → at < length kept → q ≡ get_or kept at q → hash_value ≡ hash_of s.marks (constants_of q.punct)
+    → get eqb s.places hash_value ≡ Some at → AreLed kept at (IsInSlot s)
+slot_leads_here kept at hash_value s q fits lt is hash_is found k cells e u =
     let same : q ≡ k = some-same q k (sym (there kept at q lt is) ∙ e) in
     let own : covers q.punct cells ≡ true = ap (λ (y : NumberedPunct). covers y.punct cells) same ∙ u in (
       at,
-      ap (get eqb s.places) (print_same s.marks q.punct cells (fits q (there kept at q lt is)) own ∙ sym print_is) ∙ found,
+      ap (get eqb s.places) (hash_same s.marks q.punct cells (fits q (there kept at q lt is)) own ∙ sym hash_is) ∙ found,
       record { punct = k; there = e; covers_too = u },
     )
 

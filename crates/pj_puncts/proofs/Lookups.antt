@@ -11,7 +11,7 @@ use Rattle.pj_puncts.specs.declared.index.Chain.{Chain}
 use Rattle.pj_puncts.specs.declared.index.ConstantSet.{ConstantSet}
 use Rattle.pj_puncts.specs.declared.index.Index.{Index}
 use Rattle.pj_puncts.specs.Stores.{AllAbove, AreRising, TellsCover, covered_below, covered_by_any, first_match_of}
-use Rattle.pj_puncts.specs.Prints.{row_cells}
+use Rattle.pj_puncts.specs.Hashes.{row_cells}
 use Rattle.pj_puncts.specs.Indexed.{IsCovering, AreChained, ArePlaces, IsAtLeastAt, IsIndexed, InChains, InSets, first_at, first_covering, first_of, is_below, least, least_of, least_of_chains, least_of_sets, number_at, number_in, number_under, slot}
 use Rattle.pj_puncts.proofs.Cellwise.{row_covered}
 

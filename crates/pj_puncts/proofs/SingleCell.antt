@@ -5,7 +5,7 @@ use Rattle.pj_value.specs.declared.values.Value.{Value}
 use Rattle.pj_events.specs.Join.{ClassCol, TupleAt, class_with, constant, instance_from}
 use Rattle.pj_events.specs.Patterns.{Pattern, covers}
 use Rattle.pj_puncts.specs.Givens.{covers_cell, first_marked, none_marked, one_cell, only_marked}
-use Rattle.pj_puncts.specs.Prints.{cell_at}
+use Rattle.pj_puncts.specs.Hashes.{cell_at}
 
 nones-length : (n : ℕ) → length (replicate {A = Option Value} n None) ≡ n
 nones-length zero = refl

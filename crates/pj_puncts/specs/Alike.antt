@@ -4,7 +4,7 @@ use Rattle.std.proofs.lemmas.Bool.{eqb-true, eq-eqb, true≢false}
 use Rattle.std.specs.Cmp.{IsEquivalence, decided}
 use Rattle.pj_value.specs.Values.{value_eq}
 use Rattle.pj_value.proofs.Orders.{equal_itself, same_if_equal}
-use Rattle.pj_puncts.specs.Numbers.{constant, constant_print, same_constant}
+use Rattle.pj_puncts.specs.Numbers.{constant, constant_hash, same_constant}
 use Rattle.pj_puncts.specs.declared.numbers.Constant.{Constant}
 use Rattle.std.specs.Hash as fed
 
@@ -22,8 +22,8 @@ constant_equal_itself x = ap₂ (λ a b. a && b) (eq-eqb x.column x.column refl)
 pub constant_equal_if_same : (x y : Constant) → x ≡ y → same_constant x y ≡ true
 constant_equal_if_same x y e = subst (λ z. same_constant x z ≡ true) e (constant_equal_itself x)
 
-pub constant_prints_agree : (x y : Constant) → same_constant x y ≡ true → fed.u64 (constant_print x) ≡ fed.u64 (constant_print y)
-constant_prints_agree x y t = ap (λ z. fed.u64 (constant_print z)) (constant_same_if_equal x y t)
+pub constant_hashes_agree : (x y : Constant) → same_constant x y ≡ true → fed.u64 (constant_hash x) ≡ fed.u64 (constant_hash y)
+constant_hashes_agree x y t = ap (λ z. fed.u64 (constant_hash z)) (constant_same_if_equal x y t)
 
 pub constants_equal : IsEquivalence same_constant
 constants_equal = decided same_constant (λ x y. (constant_same_if_equal x y, constant_equal_if_same x y))

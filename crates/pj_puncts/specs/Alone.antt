@@ -4,7 +4,7 @@ use Rattle.pj_value.specs.Lists.{In}
 use Rattle.pj_value.specs.declared.values.Value.{Value}
 use Rattle.pj_pattern.specs.declared.pattern.Form.TheVariants.{Wild, Constant as Fixed}
 use Rattle.pj_events.specs.Patterns.{Pattern, all_wild}
-use Rattle.pj_puncts.specs.Prints.{cell_at}
+use Rattle.pj_puncts.specs.Hashes.{cell_at}
 use Rattle.pj_puncts.specs.Stores.{AreRising}
 use Rattle.pj_puncts.specs.Indexed.{IsIndexed, least}
 use Rattle.pj_puncts.specs.Numbers.{AreTold, Changes, HasNone, IsOnly, has_only, told, with_last}

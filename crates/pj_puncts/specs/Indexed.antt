@@ -5,7 +5,7 @@ use Rattle.pj_value.specs.Lists.{In}
 use Rattle.pj_value.specs.declared.values.Value.{Value}
 use Rattle.pj_pattern.specs.declared.pattern.Form.TheVariants.{Wild, Empty, Constant, Range, Members}
 use Rattle.pj_events.specs.Patterns.{Pattern, covers, covers_punct, is_wild}
-use Rattle.pj_puncts.specs.Prints.{print_of}
+use Rattle.pj_puncts.specs.Hashes.{hash_of}
 use Rattle.pj_puncts.specs.Stores.{AreRising, IsAbove}
 use Rattle.pj_puncts.specs.declared.store.NumberedPunct.{NumberedPunct}
 use Rattle.pj_puncts.specs.declared.index.ConstantSet.{ConstantSet}
@@ -54,7 +54,7 @@ first_at kept cells (at ∷ ats) = first_of (number_at kept cells at) (first_at 
 
 -- the place that a set of columns leads to
 abbrev pub slot : List (Option Value) → ConstantSet → Option ℕ
-slot cells set = get nat_eq set.places (print_of set.marks cells)
+slot cells set = get nat_eq set.places (hash_of set.marks cells)
 
 abbrev pub number_under : List NumberedPunct → List (Option Value) → Option ℕ → Option ℕ
 number_under kept cells None = None

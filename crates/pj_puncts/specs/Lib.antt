@@ -4,5 +4,5 @@ pub mod Givens
 pub mod Held
 pub mod Indexed
 pub mod Numbers
-pub mod Prints
+pub mod Hashes
 pub mod Stores

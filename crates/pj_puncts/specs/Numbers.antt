@@ -5,7 +5,7 @@ use Rattle.pj_value.specs.Values.{value_eq}
 use Rattle.pj_value.specs.declared.values.Value.{Value}
 use Rattle.pj_value.specs.Options.{is_value}
 use Rattle.pj_events.specs.Patterns.{Pattern, is_wild}
-use Rattle.pj_print.specs.Prints.{with_value}
+use Rattle.pj_hash.specs.Hashes.{with_value}
 use Rattle.pj_pattern.specs.Patterns.{constant_in}
 use Rattle.pj_puncts.specs.declared.store.NumberedPunct.{NumberedPunct}
 use Rattle.pj_puncts.specs.declared.numbers.Constant.{Constant}
@@ -41,8 +41,8 @@ abbrev pub same_constant : Constant → Constant → Bool
 same_constant x y = nat_eq x.column y.column && value_eq x.value y.value
 
 -- equal constants have equal ones
-abbrev pub constant_print : Constant → ℕ
-constant_print x = with_value x.column x.value
+abbrev pub constant_hash : Constant → ℕ
+constant_hash x = with_value x.column x.value
 
 abbrev pub numbers_in : Option (List ℕ) → List ℕ
 numbers_in None = []

@@ -4,11 +4,11 @@ ghost use Rattle.std.specs.Option.{option_copied};
 ghost use Rattle.pj_value.specs.declared.values.Value.{Value as AnyValue};
 ghost use Rattle.pj_events.specs.Patterns.{covers, is_wild};
 ghost use Rattle.pj_puncts.specs.Givens.{cell_of, covers_cell, marked};
-ghost use Rattle.pj_puncts.specs.Prints.{cell_at, constants_of, print_of, row_cells};
+ghost use Rattle.pj_puncts.specs.Hashes.{cell_at, constants_of, hash_of, row_cells};
 ghost use Rattle.pj_shape.specs.Instances.{instance_of};
 
 use crate::Given;
-use crate::prints::with_cell;
+use crate::hashes::with_cell;
 use pj_pattern::{Pattern, Punct};
 use pj_shape::Scheme;
 use pj_value::{Row, Value};
@@ -25,9 +25,9 @@ pub trait Cells {
     fn cell(&self, column: usize) -> Option<&Value>
         ensures { option_copied result ≡ cell_at (cells self.now) column };
 
-    /// The print of the values in the marked columns.
-    fn print(&self, marks: &[bool]) -> u64
-        ensures { result ≡ print_of marks.now (cells self.now) };
+    /// The hash of the values in the marked columns.
+    fn hash_value(&self, marks: &[bool]) -> u64
+        ensures { result ≡ hash_of marks.now (cells self.now) };
 
     /// Whether the punctuation has a wildcard in each column without a value, and matches the value of each other one.
     fn are_covered_by(&self, punct: &Punct) -> bool
@@ -54,15 +54,15 @@ impl Cells for Row {
         self.get(column)
     }
 
-    fn print(&self, marks: &[bool]) -> u64 {
+    fn hash_value(&self, marks: &[bool]) -> u64 {
         if marks.len() != self.len() {
             return 0;
         }
-        let mut print = 0;
+        let mut hash_value = 0;
         for column in 0..marks.len() {
-            print = with_cell(print, marks[column], self.get(column));
+            hash_value = with_cell(hash_value, marks[column], self.get(column));
         }
-        print
+        hash_value
     }
 
     #[tactic(auto, using(crate::proofs::Cellwise::row_covered))]
@@ -85,8 +85,8 @@ impl<'a, 'b> Cells for Instance<'a, 'b> {
         instance_cell(self.scheme, self.given, column)
     }
 
-    fn print(&self, marks: &[bool]) -> u64 {
-        instance_print(marks, self.scheme, self.given)
+    fn hash_value(&self, marks: &[bool]) -> u64 {
+        instance_hash(marks, self.scheme, self.given)
     }
 
     fn are_covered_by(&self, punct: &Punct) -> bool {
@@ -119,21 +119,21 @@ fn marks_before(scheme: &Scheme, column: usize) -> usize
     count
 }
 
-fn instance_print(marks: &[bool], scheme: &Scheme, given: &Given<'_>) -> u64
-    ensures { result ≡ print_of marks.now (instance_of scheme.now given.now) }
+fn instance_hash(marks: &[bool], scheme: &Scheme, given: &Given<'_>) -> u64
+    ensures { result ≡ hash_of marks.now (instance_of scheme.now given.now) }
 {
     if marks.len() != scheme.len() {
         return 0;
     }
-    let mut print = 0;
+    let mut hash_value = 0;
     let mut taken = 0;
     for column in 0..marks.len() {
         let is_given = *scheme.at(column);
         let cell = cell_of(is_given, given.get(taken));
-        print = with_cell(print, marks[column], cell);
+        hash_value = with_cell(hash_value, marks[column], cell);
         taken += one_if(is_given);
     }
-    print
+    hash_value
 }
 
 // The cell of a column: the next constant where it is marked.
@@ -143,18 +143,18 @@ fn cell_of<'a>(is_marked: bool, constant: Option<&'a Value>) -> Option<&'a Value
     if is_marked { constant } else { None }
 }
 
-/// The print of a punctuation's constants in the marked columns.
-pub fn constants_print(marks: &[bool], patterns: &[Pattern]) -> u64
-    ensures { result ≡ print_of marks.now (constants_of patterns.now) }
+/// The hash of a punctuation's constants in the marked columns.
+pub fn constants_hash(marks: &[bool], patterns: &[Pattern]) -> u64
+    ensures { result ≡ hash_of marks.now (constants_of patterns.now) }
 {
     if marks.len() != patterns.len() {
         return 0;
     }
-    let mut print = 0;
+    let mut hash_value = 0;
     for column in 0..marks.len() {
-        print = with_cell(print, marks[column], patterns[column].as_constant());
+        hash_value = with_cell(hash_value, marks[column], patterns[column].as_constant());
     }
-    print
+    hash_value
 }
 
 // Whether the patterns cover the instance of the scheme with these constants.

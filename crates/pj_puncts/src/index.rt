@@ -2,7 +2,7 @@
 ghost use Rattle.std.specs.Prelude.{◌≡◌, ◌<◌, ◌≤◌, ◌+◌, [], true, None, IfOk, IfSome, OnOk, OnErr, length, map, slice_get};
 ghost use Rattle.pj_puncts.specs.Indexed.{AreChained, AreLed, ChainTakes, ChainsTake, FitsAt, Grows, IsChained, IsCovering, IsFiled, IsInSets, IsInSlot, IsIndexed, IsSetFor, IsUnfiled, covered_in, covers_in, first_at, first_covering, fits_mark, fits_marks, is_constant, least, least_of_chains, least_of_sets, number_at, number_under, slot};
 
-use crate::cells::{Cells, constants_print};
+use crate::cells::{Cells, constants_hash};
 use crate::store::NumberedPunct;
 use indexmap::IndexMap;
 use pj_pattern::{Pattern, Punct, Shape};
@@ -10,7 +10,7 @@ use pj_shape::Scheme;
 use pj_value::{List, NoMemory};
 use std::alloc::Global;
 
-/// The punctuations with constants in the marked columns and wildcards elsewhere: for each print of constants the place of
+/// The punctuations with constants in the marked columns and wildcards elsewhere: for each hash of constants the place of
 /// the first punctuation that has it.
 #[derive(Drop)]
 pub struct ConstantSet {
@@ -125,7 +125,7 @@ fn number_at<C: Cells>(kept: &[NumberedPunct], at: usize, cells: &C) -> Option<u
 fn number_in_set<C: Cells>(set: &ConstantSet, kept: &[NumberedPunct], cells: &C) -> Option<u64>
     ensures { result ≡ number_under kept.now (C.cells cells.now) (slot (C.cells cells.now) set.now) }
 {
-    match set.places.get(&cells.print(set.marks.as_slice())) {
+    match set.places.get(&cells.hash_value(set.marks.as_slice())) {
         None => None,
         Some(at) => number_at(kept, *at, cells),
     }
@@ -315,13 +315,13 @@ impl ConstantSet {
         requires fits { FitsAt kept.now at marks }
         ensures { IfOk result (λ set. AreLed kept.now at (IsInSlot set)) }
     {
-        let print = constants_print(marks.as_slice(), kept[at].punct.as_slice());
+        let hash_value = constants_hash(marks.as_slice(), kept[at].punct.as_slice());
         let mut places = IndexMap::new(alloc);
-        places.insert(print, at)?;
+        places.insert(hash_value, at)?;
         Ok(ConstantSet { marks, places })
     }
 
-    // Takes in the punctuation at a place, where none of its print or one that covers it is there; or not.
+    // Takes in the punctuation at a place, where none of its hash or one that covers it is there; or not.
     fn file(&mut self, kept: &[NumberedPunct], at: usize) -> Result<bool, NoMemory>
         requires there { at < length kept.now }
         requires fits { FitsAt kept.now at self.old.marks }
@@ -329,10 +329,10 @@ impl ConstantSet {
         ensures leads { IfOk result (λ filed. filed ≡ true → AreLed kept.now at (IsInSlot self.new)) }
     {
         let punct = &kept[at].punct;
-        let print = constants_print(self.marks.as_slice(), punct.as_slice());
-        match self.places.get(&print) {
+        let hash_value = constants_hash(self.marks.as_slice(), punct.as_slice());
+        match self.places.get(&hash_value) {
             None => {
-                self.places.insert(print, at)?;
+                self.places.insert(hash_value, at)?;
                 Ok(true)
             }
             Some(first) => Ok(covers_there(kept, *first, punct)),
@@ -340,7 +340,7 @@ impl ConstantSet {
     }
 }
 
-// Takes in the punctuation at a place, where it has constants and wildcards alone and its print is free; or not.
+// Takes in the punctuation at a place, where it has constants and wildcards alone and its hash is free; or not.
 fn file_in_sets(
     sets: &mut Vec<ConstantSet>,
     alloc: Global,

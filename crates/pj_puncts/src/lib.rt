@@ -3,11 +3,11 @@
 
 mod cells;
 mod given;
+mod hashes;
 mod index;
 mod number_list;
 mod numbers;
 mod one_cell;
-mod prints;
 mod store;
 
 pub use cells::Cells;

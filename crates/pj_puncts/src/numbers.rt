@@ -5,15 +5,15 @@ ghost use Rattle.std.specs.Hash as fed;
 ghost use Rattle.std.specs.Option.{option_copied};
 ghost use Rattle.pj_value.specs.Lists.{In};
 ghost use Rattle.pj_puncts.specs.Alone.{AreAmong, AreSame, IsAdded, IsOneMore, IsTaken, first_in_cell, first_told, least_in};
-ghost use Rattle.pj_puncts.specs.Numbers.{AreTold, Changes, HasNone, IsOnly, are_wild, constant, constant_print, first_filled, same_constant, told, with_last};
-ghost use Rattle.pj_puncts.specs.Alike.{constant_prints_agree, constants_equal};
+ghost use Rattle.pj_puncts.specs.Numbers.{AreTold, Changes, HasNone, IsOnly, are_wild, constant, constant_hash, first_filled, same_constant, told, with_last};
+ghost use Rattle.pj_puncts.specs.Alike.{constant_hashes_agree, constants_equal};
 
 use crate::cells::Cells;
 use crate::index::least;
 use crate::number_list::NumberList;
 use indexmap::{Equivalent, IndexMap};
+use pj_hash::with_value;
 use pj_pattern::Pattern;
-use pj_print::with_value;
 use pj_value::{List, NoMemory, Value};
 use std::alloc::Global;
 use std::hash::{Hash, Hasher};
@@ -47,9 +47,9 @@ impl Eq for Constant {
 }
 
 impl Hash for Constant {
-    ghost hash_input = { λ key. fed.u64 (constant_print key) };
+    ghost hash_input = { λ key. fed.u64 (constant_hash key) };
 
-    ghost respects_eq = { λ x y t. constant_prints_agree x y t };
+    ghost respects_eq = { λ x y t. constant_hashes_agree x y t };
 
     fn hash<H: Hasher>(&self, state: &mut H) {
         state.write_u64(with_value(self.column as u64, &self.value));
@@ -71,9 +71,9 @@ impl<'a> Eq for LentConstant<'a> {
 }
 
 impl<'a> Hash for LentConstant<'a> {
-    ghost hash_input = { λ key. fed.u64 (constant_print (constant key.column key.value.now)) };
+    ghost hash_input = { λ key. fed.u64 (constant_hash (constant key.column key.value.now)) };
 
-    ghost respects_eq = { λ x y t. constant_prints_agree (constant x.column x.value.now) (constant y.column y.value.now) t };
+    ghost respects_eq = { λ x y t. constant_hashes_agree (constant x.column x.value.now) (constant y.column y.value.now) t };
 
     fn hash<H: Hasher>(&self, state: &mut H) {
         state.write_u64(with_value(self.column as u64, self.value));
@@ -83,7 +83,7 @@ impl<'a> Hash for LentConstant<'a> {
 impl<'a> Equivalent<Constant> for LentConstant<'a> {
     ghost equivalent = { λ q. same_constant (constant q.column q.value.now) };
 
-    ghost respects_hash = { λ q k t. constant_prints_agree (constant q.column q.value.now) k t };
+    ghost respects_hash = { λ q k t. constant_hashes_agree (constant q.column q.value.now) k t };
 
     ghost respects_eq = { λ q x y t. constants_equal.congr (constant q.column q.value.now) x y t };
 

@@ -3,10 +3,10 @@ ghost use Rattle.std.specs.Prelude.{◌≡◌, ◌<◌, ◌+◌, true, IfSome, l
 ghost use Rattle.std.specs.Option.{option_copied};
 ghost use Rattle.pj_events.specs.Patterns.{covers};
 ghost use Rattle.pj_puncts.specs.Givens.{first_marked, none_marked, one_cell, only_marked};
-ghost use Rattle.pj_puncts.specs.Prints.{cell_at, print_of};
+ghost use Rattle.pj_puncts.specs.Hashes.{cell_at, hash_of};
 
 use crate::cells::{Cells, covers_cell};
-use crate::prints::with_cell;
+use crate::hashes::with_cell;
 use pj_pattern::{Pattern, Punct};
 use pj_shape::Scheme;
 use pj_value::Value;
@@ -33,8 +33,8 @@ impl<'a> Cells for OneCell<'a> {
         value_at(self.count, self.column, self.value, column)
     }
 
-    fn print(&self, marks: &[bool]) -> u64 {
-        print(self.count, self.column, self.value, marks)
+    fn hash_value(&self, marks: &[bool]) -> u64 {
+        hash_value(self.count, self.column, self.value, marks)
     }
 
     fn are_covered_by(&self, punct: &Punct) -> bool {
@@ -55,17 +55,17 @@ fn value_at(count: usize, column: usize, value: &Value, at: usize) -> Option<&Va
     Some(value)
 }
 
-fn print(count: usize, column: usize, value: &Value, marks: &[bool]) -> u64
-    ensures { result ≡ print_of marks.now (one_cell count column value.now) }
+fn hash_value(count: usize, column: usize, value: &Value, marks: &[bool]) -> u64
+    ensures { result ≡ hash_of marks.now (one_cell count column value.now) }
 {
     if marks.len() != count {
         return 0;
     }
-    let mut print = 0;
+    let mut hash_value = 0;
     for at in 0..marks.len() {
-        print = with_cell(print, marks[at], value_at(count, column, value, at));
+        hash_value = with_cell(hash_value, marks[at], value_at(count, column, value, at));
     }
-    print
+    hash_value
 }
 
 fn are_covered(count: usize, column: usize, value: &Value, patterns: &[Pattern]) -> bool

@@ -7,7 +7,7 @@ use Rattle.pj_shape.specs.Joining.{values_in, all_equal}
 use Rattle.pj_shape.specs.declared.joins.JoinSpec.{JoinSpec}
 use Rattle.pj_shape.specs.Sound.{AreOfOtherInputs, IsSoundSpec}
 use Rattle.pj_events.specs.Join.{In, TupleAt, ClassCol, Value, Part, no_value, values, part_of, agree, CertEntry, need}
-use Rattle.pj_rows.specs.Suits.{has_there, all_have, suits_class, suits}
+use Rattle.pj_rows.specs.AgreesWith.{has_there, all_have, agrees_with_class, agrees_with}
 use Rattle.pj_shape.proofs.Joining.{all_equal-from}
 use Rattle.pj_value.proofs.Orders.{same_if_equal, equal_if_same}
 use Rattle.pj_value.proofs.Members.{In-append_left, In-append_right, In-append_cases, In-map, In-flat_map, all_at, all_from}
@@ -88,9 +88,9 @@ unguarded : (a b : ℕ) (c : Bool) → (not (eqb a b) || c) ≡ true → a ≡ b
 unguarded a b c t e = subst (λ d. (not d || c) ≡ true) (eq-eqb a b e) t
 
 -- a tuple that joins with the others suits them
-pub suits-from : (classes : List (List ClassCol)) (xs : List TupleAt) (more : TupleAt) → agree classes (xs ++ more ∷ []) ≡ true → suits classes xs more ≡ true
-suits-from classes xs more t =
-    all_from (suits_class xs more) classes (λ class h.
+pub agrees_with-from : (classes : List (List ClassCol)) (xs : List TupleAt) (more : TupleAt) → agree classes (xs ++ more ∷ []) ≡ true → agrees_with classes xs more ≡ true
+agrees_with-from classes xs more t =
+    all_from (agrees_with_class xs more) classes (λ class h.
     all_from (λ at. not (eqb more.input at.input) || all_have class xs more (get_or more.row at.column no_value)) class (λ at ha.
     guarded more.input at.input (all_have class xs more (get_or more.row at.column no_value)) (λ e.
     all_have-from class xs more (get_or more.row at.column no_value) (λ other x ho hx eo.
@@ -99,8 +99,8 @@ suits-from classes xs more t =
     (value-in (xs ++ more ∷ []) class x other hx ho eo)))))
 
 -- a tuple that suits tuples that join does join with them
-pub suits-agree : (classes : List (List ClassCol)) (xs : List TupleAt) (more : TupleAt) → agree classes xs ≡ true → suits classes xs more ≡ true → agree classes (xs ++ more ∷ []) ≡ true
-suits-agree classes xs more t s =
+pub agrees_with-agree : (classes : List (List ClassCol)) (xs : List TupleAt) (more : TupleAt) → agree classes xs ≡ true → agrees_with classes xs more ≡ true → agree classes (xs ++ more ∷ []) ≡ true
+agrees_with-agree classes xs more t s =
     all_from (λ k. all_equal (values (map part_of (xs ++ more ∷ [])) k)) classes (λ class h.
     all_equal-from (values (map part_of (xs ++ more ∷ [])) class) (λ v w hv hw.
     both class h v w (source-of (xs ++ more ∷ []) class v hv) (source-of (xs ++ more ∷ []) class w hw)))
@@ -110,7 +110,7 @@ suits-agree classes xs more t s =
     first class h v w a same b =
         let e : more.input ≡ a.at.input = ap (λ (x : TupleAt). x.input) same ∙ a.same_input in
         let here : v ≡ get_or more.row a.at.column no_value = sym a.value ∙ ap (λ (x : TupleAt). get_or x.row a.at.column no_value) (sym same) in
-        let one = all_at (λ at. not (eqb more.input at.input) || all_have class xs more (get_or more.row at.column no_value)) class a.at (all_at (suits_class xs more) classes class s h) a.of_class in
+        let one = all_at (λ at. not (eqb more.input at.input) || all_have class xs more (get_or more.row at.column no_value)) class a.at (all_at (agrees_with_class xs more) classes class s h) a.of_class in
         here ∙ all_have-at class xs more (get_or more.row a.at.column no_value) b.at b.tuple (unguarded more.input a.at.input (all_have class xs more (get_or more.row a.at.column no_value)) one e) b.of_class b.of_tuples b.same_input ∙ b.value
 
     old : (class : List ClassCol) → In class classes → (v w : Value) → (a : IsSource (xs ++ more ∷ []) class v) (b : IsSource (xs ++ more ∷ []) class w) → In a.tuple xs → In b.tuple xs → v ≡ w
@@ -127,15 +127,15 @@ suits-agree classes xs more t s =
     both class h v w a b = go class h v w a b (In-append_cases a.tuple xs (more ∷ []) a.of_tuples) (In-append_cases b.tuple xs (more ∷ []) b.of_tuples)
 
 -- one row more in front of rows that join
-pub front_agree : (classes : List (List ClassCol)) (xs : List TupleAt) (more : TupleAt) → agree classes xs ≡ true → suits classes xs more ≡ true → agree classes (more ∷ xs) ≡ true
-front_agree classes xs more t s = agree-mono classes (more ∷ xs) (xs ++ more ∷ []) sub (suits-agree classes xs more t s)
+pub front_agree : (classes : List (List ClassCol)) (xs : List TupleAt) (more : TupleAt) → agree classes xs ≡ true → agrees_with classes xs more ≡ true → agree classes (more ∷ xs) ≡ true
+front_agree classes xs more t s = agree-mono classes (more ∷ xs) (xs ++ more ∷ []) sub (agrees_with-agree classes xs more t s)
   where
     sub : (z : TupleAt) → In z (more ∷ xs) → In z (xs ++ more ∷ [])
     sub z (inl e) = In-append_right z xs (more ∷ []) (inl e)
     sub z (inr k) = In-append_left z xs (more ∷ []) k
 
-pub front_suits : (classes : List (List ClassCol)) (xs : List TupleAt) (more : TupleAt) → agree classes (more ∷ xs) ≡ true → suits classes xs more ≡ true
-front_suits classes xs more t = suits-from classes xs more (agree-mono classes (xs ++ more ∷ []) (more ∷ xs) sub t)
+pub front_agrees_with : (classes : List (List ClassCol)) (xs : List TupleAt) (more : TupleAt) → agree classes (more ∷ xs) ≡ true → agrees_with classes xs more ≡ true
+front_agrees_with classes xs more t = agrees_with-from classes xs more (agree-mono classes (xs ++ more ∷ []) (more ∷ xs) sub t)
   where
     sub : (z : TupleAt) → In z (xs ++ more ∷ []) → In z (more ∷ xs)
     sub z h = elim (In-append_cases z xs (more ∷ []) h) [ inl k ↦ inr k | inr k ↦ elim k [ inl e ↦ inl e | inr n ↦ absurd n ] ]

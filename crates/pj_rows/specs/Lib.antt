@@ -1,4 +1,4 @@
 pub mod Finding
 pub mod Ranges
-pub mod Suits
+pub mod AgreesWith
 pub mod Tuples

@@ -5,7 +5,7 @@ use Rattle.std.specs.Cmp.{IsEquivalence, decided}
 use Rattle.pj_value.specs.declared.values.Value.{Value}
 use Rattle.pj_value.specs.declared.values.Value.TheVariants.{Text}
 use Rattle.pj_value.proofs.Orders.{equal_itself, same_if_equal}
-use Rattle.pj_state.specs.Keys.{same_text, text_key, text_print}
+use Rattle.pj_state.specs.Keys.{same_text, text_key, text_hash}
 use Rattle.pj_state.specs.declared.texts.TextKey.{TextKey}
 
 -- the key of a value's text
@@ -19,8 +19,8 @@ text_same_if_equal x y h = ap key_of (same_if_equal (Text x.text) (Text y.text) 
 pub text_equal_if_same : (x y : TextKey) → x ≡ y → same_text x y ≡ true
 text_equal_if_same x y e = subst (λ (z : TextKey). same_text x z ≡ true) e (equal_itself (Text x.text))
 
-pub text_prints_agree : (x y : TextKey) → same_text x y ≡ true → fed.u64 (text_print x) ≡ fed.u64 (text_print y)
-text_prints_agree x y t = ap (λ (z : TextKey). fed.u64 (text_print z)) (text_same_if_equal x y t)
+pub text_hashes_agree : (x y : TextKey) → same_text x y ≡ true → fed.u64 (text_hash x) ≡ fed.u64 (text_hash y)
+text_hashes_agree x y t = ap (λ (z : TextKey). fed.u64 (text_hash z)) (text_same_if_equal x y t)
 
 pub texts_equal : IsEquivalence same_text
 texts_equal = decided same_text (λ x y. (text_same_if_equal x y, text_equal_if_same x y))

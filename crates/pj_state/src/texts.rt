@@ -2,11 +2,11 @@
 ghost use Rattle.std.specs.Prelude.{◌≡◌};
 ghost use Rattle.std.specs.Cmp.{on_equiv, partial_equiv_from_equiv};
 ghost use Rattle.std.specs.Hash as fed;
-ghost use Rattle.pj_state.specs.Keys.{same_text, text_key, text_print};
-ghost use Rattle.pj_state.specs.Alike.{text_prints_agree, texts_equal};
+ghost use Rattle.pj_state.specs.Keys.{same_text, text_key, text_hash};
+ghost use Rattle.pj_state.specs.Alike.{text_hashes_agree, texts_equal};
 
 use indexmap::Equivalent;
-use pj_print::text_print;
+use pj_hash::text_hash;
 use pj_value::SharedText;
 use std::hash::{Hash, Hasher};
 
@@ -57,12 +57,12 @@ impl Eq for TextKey {
 }
 
 impl Hash for TextKey {
-    ghost hash_input = { λ key. fed.u64 (text_print key) };
+    ghost hash_input = { λ key. fed.u64 (text_hash key) };
 
-    ghost respects_eq = { λ x y t. text_prints_agree x y t };
+    ghost respects_eq = { λ x y t. text_hashes_agree x y t };
 
     fn hash<H: Hasher>(&self, state: &mut H) {
-        state.write_u64(text_print(self.text.as_slice()));
+        state.write_u64(text_hash(self.text.as_slice()));
     }
 }
 
@@ -81,19 +81,19 @@ impl<'a> Eq for LentText<'a> {
 }
 
 impl<'a> Hash for LentText<'a> {
-    ghost hash_input = { λ key. fed.u64 (text_print (text_key key.bytes.now)) };
+    ghost hash_input = { λ key. fed.u64 (text_hash (text_key key.bytes.now)) };
 
-    ghost respects_eq = { λ x y t. text_prints_agree (text_key x.bytes.now) (text_key y.bytes.now) t };
+    ghost respects_eq = { λ x y t. text_hashes_agree (text_key x.bytes.now) (text_key y.bytes.now) t };
 
     fn hash<H: Hasher>(&self, state: &mut H) {
-        state.write_u64(text_print(self.bytes));
+        state.write_u64(text_hash(self.bytes));
     }
 }
 
 impl<'a> Equivalent<TextKey> for LentText<'a> {
     ghost equivalent = { λ q. same_text (text_key q.bytes.now) };
 
-    ghost respects_hash = { λ q k t. text_prints_agree (text_key q.bytes.now) k t };
+    ghost respects_hash = { λ q k t. text_hashes_agree (text_key q.bytes.now) k t };
 
     ghost respects_eq = { λ q x y t. texts_equal.congr (text_key q.bytes.now) x y t };
 

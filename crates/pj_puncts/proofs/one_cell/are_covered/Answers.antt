@@ -1,7 +1,7 @@
 use Rattle.std.proofs.Common.{◌≡◌, ◌+◌, ◌&&◌, Bool, length, drop, ap, sym, ◌∙◌, arith}
 use Rattle.pj_events.specs.Patterns.{covers}
 use Rattle.pj_puncts.specs.Givens.{covers_cell, one_cell}
-use Rattle.pj_puncts.specs.Prints.{cell_at}
+use Rattle.pj_puncts.specs.Hashes.{cell_at}
 use Rattle.pj_puncts.proofs.Covering.{covers_length}
 use Rattle.pj_puncts.proofs.SingleCell.{covers_end, covers_step, one_length}
 use Rattle.pj_puncts.proofs.one_cell.are_covered.Goals as goal

@@ -1,10 +1,10 @@
 use Rattle.std.proofs.Common.{rules, ◌≡◌, drop, ◌<◌, ◌≤◌, ◌+◌, [], ◌∷◌, refl, sym, ap, ◌∙◌, subst, true, length, map, List, get_or, arith}
 use Rattle.std.proofs.lemmas.Option.{slice_get-get_or}
 use Rattle.pj_events.specs.Join.{TupleAt, entry_of}
-use Rattle.pj_rows.specs.Suits.{suits}
+use Rattle.pj_rows.specs.AgreesWith.{agrees_with}
 use Rattle.pj_cover.specs.Asking.{AreDone, AreDoneUnder, IsDone, IsJudgedThrough, IsJudgedUnder, IsOnWalk, entries, inputs_of, known_of, tuple_of}
 use Rattle.pj_cover.specs.Routes.{AreSteps, IsPurgeStep, step_of, steps_in}
-use Rattle.pj_cover.proofs.Linked.{ready_here, step_here, steps_on, suits_here}
+use Rattle.pj_cover.proofs.Linked.{ready_here, step_here, steps_on, agrees_with_here}
 use Rattle.pj_cover.proofs.Steps.{length-map}
 use Rattle.pj_cover.proofs.Judged.{says_unripe}
 use Rattle.pj_cover.proofs.Searching.{found_here, goes_on, gone_through, has_room, in_here, last_step, map_here, not_older, not_suited, one_more, ready, went_on}
@@ -57,7 +57,7 @@ seek_each-returns-then-not-is_ripe-clause-judged g t c =
     (sym c.is_ripe.ensures ∙ c.if-not-is_ripe.true) c.seek_with-through.ensures.judged)
 
 pub seek_with-returns-then-not-match_all-clause-judged : goal.seek_with-returns-then-not-match_all-clause-judged
-seek_with-returns-then-not-match_all-clause-judged g t c = not_suited (known_of c.args.self.now.spec.now (g.R.StoredRows.rows c.args.self.now.rows.now) c.args.self.now.punct_stores.now c.args.self.now.low) c.args.self.now.schemes.now (steps_in c.args.self.now.route.now) c.args.at c.args.step.step c.args.parts.now.items (tuple_of c.args.step.step.input (c.args.ticket, c.args.row.now)) (map_here step_of c.args.self.now.route.now.steps c.args.at c.args.step c.requires.step) (suits_here c.args.self.now.spec.now c.args.self.now.schemes.now c.args.self.now.route.now.links c.args.self.now.route.now.steps c.args.at c.args.step c.args.parts.now.items (tuple_of c.args.step.step.input (c.args.ticket, c.args.row.now)) c.requires.parts.sound c.requires.walk c.requires.route c.requires.step refl
+seek_with-returns-then-not-match_all-clause-judged g t c = not_suited (known_of c.args.self.now.spec.now (g.R.StoredRows.rows c.args.self.now.rows.now) c.args.self.now.punct_stores.now c.args.self.now.low) c.args.self.now.schemes.now (steps_in c.args.self.now.route.now) c.args.at c.args.step.step c.args.parts.now.items (tuple_of c.args.step.step.input (c.args.ticket, c.args.row.now)) (map_here step_of c.args.self.now.route.now.steps c.args.at c.args.step c.requires.step) (agrees_with_here c.args.self.now.spec.now c.args.self.now.schemes.now c.args.self.now.route.now.links c.args.self.now.route.now.steps c.args.at c.args.step c.args.parts.now.items (tuple_of c.args.step.step.input (c.args.ticket, c.args.row.now)) c.requires.parts.sound c.requires.walk c.requires.route c.requires.step refl
     ∙ rw (← c.links_of.ensures.is, ← c.as_slice.ensures.value, ← c.of-next.ensures) (sym c.match_all.ensures ∙ c.if-not-match_all.true))
 
 pub seek_with-insert-requires : goal.seek_with-insert-requires
@@ -67,7 +67,7 @@ seek_with-insert-requires g t c =
 
 pub seek_with-seek-through-requires : goal.seek_with-seek-through-requires
 seek_with-seek-through-requires g t c κs l =
-    let suited : suits c.args.self.now.spec.now.classes c.args.parts.now.items (tuple_of c.args.step.step.input (c.args.ticket, c.args.row.now)) ≡ true = (suits_here c.args.self.now.spec.now c.args.self.now.schemes.now c.args.self.now.route.now.links c.args.self.now.route.now.steps c.args.at c.args.step c.args.parts.now.items (tuple_of c.args.step.step.input (c.args.ticket, c.args.row.now)) c.requires.parts.sound c.requires.walk c.requires.route c.requires.step refl
+    let suited : agrees_with c.args.self.now.spec.now.classes c.args.parts.now.items (tuple_of c.args.step.step.input (c.args.ticket, c.args.row.now)) ≡ true = (agrees_with_here c.args.self.now.spec.now c.args.self.now.schemes.now c.args.self.now.route.now.links c.args.self.now.route.now.steps c.args.at c.args.step c.args.parts.now.items (tuple_of c.args.step.step.input (c.args.ticket, c.args.row.now)) c.requires.parts.sound c.requires.walk c.requires.route c.requires.step refl
     ∙ rw (← c.links_of.ensures.is, ← c.as_slice.ensures.value, ← c.of-next.ensures) (sym c.match_all.ensures ∙ c.if-not-match_all.false)) in
     let same : c.insert.new.self.items ≡ tuple_of c.args.step.step.input (c.args.ticket, c.args.row.now) ∷ c.args.parts.now.items = c.insert.ensures.items ∙ ap (λ (x : TupleAt). x ∷ c.args.parts.now.items) c.of-next.ensures in (
       search rules,
@@ -90,7 +90,7 @@ seek_with-returns-then-ticket-self-clause-judged g t c =
 
 pub seek_with-returns-clause-judged : goal.seek_with-returns-clause-judged
 seek_with-returns-clause-judged g t c =
-    let suited : suits c.args.self.now.spec.now.classes c.args.parts.now.items (tuple_of c.args.step.step.input (c.args.ticket, c.args.row.now)) ≡ true = (suits_here c.args.self.now.spec.now c.args.self.now.schemes.now c.args.self.now.route.now.links c.args.self.now.route.now.steps c.args.at c.args.step c.args.parts.now.items (tuple_of c.args.step.step.input (c.args.ticket, c.args.row.now)) c.requires.parts.sound c.requires.walk c.requires.route c.requires.step refl
+    let suited : agrees_with c.args.self.now.spec.now.classes c.args.parts.now.items (tuple_of c.args.step.step.input (c.args.ticket, c.args.row.now)) ≡ true = (agrees_with_here c.args.self.now.spec.now c.args.self.now.schemes.now c.args.self.now.route.now.links c.args.self.now.route.now.steps c.args.at c.args.step c.args.parts.now.items (tuple_of c.args.step.step.input (c.args.ticket, c.args.row.now)) c.requires.parts.sound c.requires.walk c.requires.route c.requires.step refl
     ∙ rw (← c.links_of.ensures.is, ← c.as_slice.ensures.value, ← c.of-next.ensures) (sym c.match_all.ensures ∙ c.if-not-match_all.false)) in
     let same : c.insert.new.self.items ≡ tuple_of c.args.step.step.input (c.args.ticket, c.args.row.now) ∷ c.args.parts.now.items = c.insert.ensures.items ∙ ap (λ (x : TupleAt). x ∷ c.args.parts.now.items) c.of-next.ensures in
     went_on c.args.self.now.spec.now c.args.self.now.schemes.now (g.R.StoredRows.rows c.args.self.now.rows.now) c.args.self.now.punct_stores.now c.args.self.now.low (steps_in c.args.self.now.route.now) c.args.at c.args.step.step c.args.parts.now.items c.insert.new.self.items (c.args.ticket, c.args.row.now) c.seek-through.result

@@ -2,7 +2,7 @@ use Rattle.std.proofs.Common.{◌≡◌, ◌∙◌, List, ap, ap₂, sym, subst}
 use Rattle.pj_puncts.specs.declared.store.NumberedPunct.{NumberedPunct}
 use Rattle.pj_puncts.specs.Alone.{kept_of}
 use Rattle.pj_puncts.specs.Indexed.{first_covering, least}
-use Rattle.pj_puncts.specs.Prints.{row_cells}
+use Rattle.pj_puncts.specs.Hashes.{row_cells}
 use Rattle.pj_puncts.specs.Stores.{AreRising, IsLeastMatch, Store}
 use Rattle.pj_puncts.proofs.Alone.{first_of_all}
 use Rattle.pj_puncts.proofs.Firsts.{first_least}

@@ -1,9 +1,0 @@
-use Rattle.std.proofs.Common.{◌+◌, ◌∙◌, ap, sym, drop}
-use Rattle.pj_print.specs.Prints.{with_values}
-use Rattle.pj_group.proofs.Equality.{print_more}
-use Rattle.pj_group.proofs.keys.print.Goals as goal
-
-pub loop-column-preserved : goal.loop-column-preserved
-loop-column-preserved c =
-    c.loop-column.invariant ∙ (print_more c.args.row.now c.loop-column.print c.loop-column.column c.at.result.now c.at.ensures
-    ∙ ap (λ p. with_values p (drop (c.loop-column.column + 1) c.args.row.now)) (sym c.with_value-print.ensures))
