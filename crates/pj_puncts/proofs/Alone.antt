@@ -141,7 +141,7 @@ named_in (c ∷ columns) column t = go (eqb c column) refl t (named_in columns c
 
 -- ---- patterns with one constant
 
-is-wild : (p : Pattern) → is_wild p ≡ true → p ≡ Wild
+pub is-wild : (p : Pattern) → is_wild p ≡ true → p ≡ Wild
 is-wild Wild t = refl
 is-wild Empty t = absurd (false≢true t)
 is-wild (Fixed c) t = absurd (false≢true t)
@@ -155,7 +155,7 @@ is-fixed (Fixed c) v t = ap (λ (w : Value). Fixed w) (same_if_equal c v t)
 is-fixed (Range low high) v t = absurd (false≢true t)
 is-fixed (Members ms) v t = absurd (false≢true t)
 
-wild-is : (ps : List Pattern) → are_wild ps ≡ true → ps ≡ all_wild (length ps)
+pub wild-is : (ps : List Pattern) → are_wild ps ≡ true → ps ≡ all_wild (length ps)
 wild-is [] t = refl
 wild-is (p ∷ ps) t = let a = and_parts (is_wild p) (are_wild ps) t in ap₂ (λ (q : Pattern) (qs : List Pattern). q ∷ qs) (is-wild p a.0) (wild-is ps a.1)
 
@@ -190,7 +190,7 @@ covered-there zero v (p ∷ ps) (cell ∷ cells) t e f =
 covered-there (suc c) v (p ∷ ps) (cell ∷ cells) t e f =
     let a = and_parts (is_wild p) (has_only c v ps) t in wild-covers p cell ps cells a.0 (covered-there c v ps cells a.1 (omega (arith, e)) f)
 
-rest-covered : (p : Pattern) (cell : Option Value) (ps : List Pattern) (cells : List (Option Value)) → covers (p ∷ ps) (cell ∷ cells) ≡ true → covers ps cells ≡ true
+pub rest-covered : (p : Pattern) (cell : Option Value) (ps : List Pattern) (cells : List (Option Value)) → covers (p ∷ ps) (cell ∷ cells) ≡ true → covers ps cells ≡ true
 rest-covered p None ps cells t = (and_parts (is_wild p) (covers ps cells) t).1
 rest-covered p (Some v) ps cells t = (and_parts (matches_value p v) (covers ps cells) t).1
 

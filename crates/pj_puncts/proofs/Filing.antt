@@ -9,13 +9,15 @@ use Rattle.pj_value.specs.Lists.{In}
 use Rattle.pj_value.specs.declared.values.Value.{Value}
 use Rattle.pj_value.proofs.Members.{In-append_cases, In-append_left, In-append_right}
 use Rattle.pj_events.specs.Patterns.{Pattern, covers, covers_punct}
+use Rattle.pj_intervals.specs.Intervals.{Entry}
 use Rattle.pj_puncts.specs.declared.store.NumberedPunct.{NumberedPunct}
 use Rattle.pj_puncts.specs.declared.index.Chain.{Chain}
+use Rattle.pj_puncts.specs.declared.index.ColumnIndex.{ColumnIndex}
 use Rattle.pj_puncts.specs.declared.index.ConstantSet.{ConstantSet}
 use Rattle.pj_puncts.specs.declared.index.Index.{Index}
 use Rattle.pj_puncts.specs.Stores.{AreRising, IsAbove}
 use Rattle.pj_puncts.specs.Hashes.{constants_of, hash_of}
-use Rattle.pj_puncts.specs.Indexed.{AreChained, AreLed, ArePlaces, ChainGrew, ChainTakes, ChainsGrew, ChainsTake, FitsAt, Grows, InChains, InSets, IsChain, IsChained, IsCoveredAt, IsFiled, IsHeld, IsInChains, IsInSets, IsInSlot, IsLedTo, IsUnfiled, covered_in, covers_in, number_at, number_in, slot}
+use Rattle.pj_puncts.specs.Indexed.{AreChained, AreColumns, AreEntries, AreLed, ArePlaces, ChainGrew, ChainTakes, ChainsGrew, ChainsTake, ColumnsGrew, ColumnsStay, FitsAt, Grows, InChains, InColumns, InSets, IsChain, IsChained, IsColumn, IsCoveredAt, IsFiled, IsHeld, IsInChains, IsInColumns, IsInSets, IsInSlot, IsLedTo, IsUnfiled, covered_in, covers_in, number_at, number_in, slot}
 use Rattle.pj_puncts.proofs.Cellwise.{covers_through, hash_same}
 use Rattle.pj_puncts.proofs.Firsts.{rising-push}
 
@@ -292,13 +294,16 @@ chains_more kept at cs c count to = record {
 -- ---- the index
 
 -- what an index that grew needs
-pub filed : (kept : List NumberedPunct) (at : ℕ) (old new : Index) → at + 1 ≡ length kept → Grows (IsLedTo old) (IsLedTo new) → AreLed kept at (IsLedTo new)
+pub filed : (kept : List NumberedPunct) (at : ℕ) (old new : Index) → at + 1 ≡ length kept → Grows (IsLedTo old) (IsLedTo new)
+    → ((ks : List NumberedPunct) (k : NumberedPunct) → kept ≡ ks ++ k ∷ [] → AreColumns ks old.columns.items → AreLed kept at (IsLedTo new))
     → ((ks : List NumberedPunct) (k : NumberedPunct) → kept ≡ ks ++ k ∷ [] → AreChained ks old.chains.items → AreChained kept new.chains.items)
+    → ((ks : List NumberedPunct) (k : NumberedPunct) → kept ≡ ks ++ k ∷ [] → AreColumns ks old.columns.items → AreColumns kept new.columns.items)
     → ((ks : List NumberedPunct) (k : NumberedPunct) → kept ≡ ks ++ k ∷ [] → ArePlaces 0 (length ks) old.rest → ArePlaces 0 (length kept) new.rest) → IsFiled kept old new
-filed kept at old new count grow leads chained others ks k e above is = record {
+filed kept at old new count grow leads chained columned others ks k e above is = record {
   rising = subst AreRising (sym e) (rising-push ks k is.rising above);
   held = λ x h. go x (In-append_cases x ks (k ∷ []) (subst (In x) e h));
   chained = chained ks k e is.chained;
+  columned = columned ks k e is.columned;
   others = others ks k e is.others;
 }
   where
@@ -325,7 +330,7 @@ filed kept at old new count grow leads chained others ks k e above is = record {
           },
         )
     go x (inr (inl q)) cells t =
-        let r = leads k cells last (ap (λ (y : NumberedPunct). covers y.punct cells) q ∙ t) in (
+        let r = leads ks k e is.columned k cells last (ap (λ (y : NumberedPunct). covers y.punct cells) q ∙ t) in (
           r.0,
           r.1,
           record {
@@ -340,35 +345,70 @@ filed kept at old new count grow leads chained others ks k e above is = record {
 same-chains : (kept : List NumberedPunct) (cs ds : List Chain) → ds ≡ cs → (ks : List NumberedPunct) (k : NumberedPunct) → kept ≡ ks ++ k ∷ [] → AreChained ks cs → AreChained kept ds
 same-chains kept cs ds same ks k e are = subst (λ (xs : List NumberedPunct). AreChained xs ds) (sym e) (subst (AreChained (ks ++ k ∷ [])) (sym same) (all-chained-more ks k cs are))
 
+pub entries-more : (ks : List NumberedPunct) (k : NumberedPunct) (arity column : ℕ) (es : List Entry) → AreEntries ks arity column es → AreEntries (ks ++ k ∷ []) arity column es
+entries-more ks k arity column [] are = tt
+entries-more ks k arity column (e ∷ es) are = (
+  record { punct = are.0.punct; there = get-more ks k e.place (within ks e.place are.0.punct are.0.there) ∙ are.0.there; alone = are.0.alone },
+  entries-more ks k arity column es are.1,
+)
+
+pub column-more : (ks : List NumberedPunct) (k : NumberedPunct) (c : ColumnIndex) → IsColumn ks c → IsColumn (ks ++ k ∷ []) c
+column-more ks k c is = record { entries = is.entries; answers = is.answers; are = entries-more ks k c.arity c.column is.entries is.are }
+
+pub all-columns-more : (ks : List NumberedPunct) (k : NumberedPunct) (cs : List ColumnIndex) → AreColumns ks cs → AreColumns (ks ++ k ∷ []) cs
+all-columns-more ks k [] are = tt
+all-columns-more ks k (c ∷ cs) are = (column-more ks k c are.0, all-columns-more ks k cs are.1)
+
+same-columns : (kept : List NumberedPunct) (cs ds : List ColumnIndex) → ds ≡ cs → (ks : List NumberedPunct) (k : NumberedPunct) → kept ≡ ks ++ k ∷ [] → AreColumns ks cs → AreColumns kept ds
+same-columns kept cs ds same ks k e are = subst (λ (xs : List NumberedPunct). AreColumns xs ds) (sym e) (subst (AreColumns (ks ++ k ∷ [])) (sym same) (all-columns-more ks k cs are))
+
 same-rest : (kept : List NumberedPunct) (ps qs : List ℕ) → qs ≡ ps → (ks : List NumberedPunct) (k : NumberedPunct) → kept ≡ ks ++ k ∷ [] → ArePlaces 0 (length ks) ps → ArePlaces 0 (length kept) qs
 same-rest kept ps qs same ks k e are = subst (λ (xs : List NumberedPunct). ArePlaces 0 (length xs) qs) (sym e) (subst (ArePlaces 0 (length (ks ++ k ∷ []))) (sym same) (subst (λ n. ArePlaces 0 n ps) (sym (length-more ks k)) (places-more 0 (length ks) ps are)))
 
-led-grows : (old new : Index) → Grows (IsInSets old.sets.items) (IsInSets new.sets.items) → Grows (IsInChains old.chains.items) (IsInChains new.chains.items) → ((a : ℕ) → In a old.rest → In a new.rest) → Grows (IsLedTo old) (IsLedTo new)
-led-grows old new f g h cells a (inl s) = inl (f cells a s)
-led-grows old new f g h cells a (inr (inl c)) = inr (inl (g cells a c))
-led-grows old new f g h cells a (inr (inr r)) = inr (inr (h a r))
+led-grows : (old new : Index) → Grows (IsInSets old.sets.items) (IsInSets new.sets.items) → Grows (IsInChains old.chains.items) (IsInChains new.chains.items)
+    → Grows (IsInColumns old.columns.items) (IsInColumns new.columns.items) → ((a : ℕ) → In a old.rest → In a new.rest) → Grows (IsLedTo old) (IsLedTo new)
+led-grows old new f g i h cells a (inl s) = inl (f cells a s)
+led-grows old new f g i h cells a (inr (inl c)) = inr (inl (g cells a c))
+led-grows old new f g i h cells a (inr (inr (inl c))) = inr (inr (inl (i cells a c)))
+led-grows old new f g i h cells a (inr (inr (inr r))) = inr (inr (inr (h a r)))
 
 chains-same : (cs ds : List Chain) → ds ≡ cs → Grows (IsInChains cs) (IsInChains ds)
 chains-same cs ds e cells a h = subst (InChains a) (sym e) h
 
+columns-same : (cs ds : List ColumnIndex) → ds ≡ cs → Grows (IsInColumns cs) (IsInColumns ds)
+columns-same cs ds e cells a h = subst (InColumns cells a) (sym e) h
+
 -- a set took it in
-pub filed_in_sets : (kept : List NumberedPunct) (at : ℕ) (old new : Index) → at + 1 ≡ length kept → Grows (IsInSets old.sets.items) (IsInSets new.sets.items) → AreLed kept at (IsInSets new.sets.items) → new.chains.items ≡ old.chains.items → new.rest ≡ old.rest → IsFiled kept old new
-filed_in_sets kept at old new count grow leads chains rest =
-    filed kept at old new count (led-grows old new grow (chains-same old.chains.items new.chains.items chains) (λ a h. subst (In a) (sym rest) h))
-    (λ k cells e t. let r = leads k cells e t in (r.0, inl r.1, r.2)) (same-chains kept old.chains.items new.chains.items chains) (same-rest kept old.rest new.rest rest)
+pub filed_in_sets : (kept : List NumberedPunct) (at : ℕ) (old new : Index) → at + 1 ≡ length kept → Grows (IsInSets old.sets.items) (IsInSets new.sets.items) → AreLed kept at (IsInSets new.sets.items)
+    → new.chains.items ≡ old.chains.items → new.columns.items ≡ old.columns.items → new.rest ≡ old.rest → IsFiled kept old new
+filed_in_sets kept at old new count grow leads chains columns rest =
+    filed kept at old new count
+    (led-grows old new grow (chains-same old.chains.items new.chains.items chains) (columns-same old.columns.items new.columns.items columns) (λ a h. subst (In a) (sym rest) h))
+    (λ ks j q are k cells e t. let r = leads k cells e t in (r.0, inl r.1, r.2)) (same-chains kept old.chains.items new.chains.items chains) (same-columns kept old.columns.items new.columns.items columns)
+    (same-rest kept old.rest new.rest rest)
 
 -- a chain did
-pub filed_in_chains : (kept : List NumberedPunct) (at : ℕ) (old new : Index) → at + 1 ≡ length kept → Grows (IsInSets old.sets.items) (IsInSets new.sets.items) → ChainsGrew kept at old.chains.items new.chains.items → new.rest ≡ old.rest → IsFiled kept old new
-filed_in_chains kept at old new count grow g rest =
-    filed kept at old new count (led-grows old new grow g.grow (λ a h. subst (In a) (sym rest) h))
-    (λ k cells e t. let r = g.leads k cells e t in (r.0, inr (inl r.1), r.2)) g.chained (same-rest kept old.rest new.rest rest)
+pub filed_in_chains : (kept : List NumberedPunct) (at : ℕ) (old new : Index) → at + 1 ≡ length kept → Grows (IsInSets old.sets.items) (IsInSets new.sets.items) → ChainsGrew kept at old.chains.items new.chains.items
+    → new.columns.items ≡ old.columns.items → new.rest ≡ old.rest → IsFiled kept old new
+filed_in_chains kept at old new count grow g columns rest =
+    filed kept at old new count (led-grows old new grow g.grow (columns-same old.columns.items new.columns.items columns) (λ a h. subst (In a) (sym rest) h))
+    (λ ks j q are k cells e t. let r = g.leads k cells e t in (r.0, inr (inl r.1), r.2)) g.chained (same-columns kept old.columns.items new.columns.items columns) (same-rest kept old.rest new.rest rest)
+
+-- a column's index did
+pub filed_in_columns : (kept : List NumberedPunct) (at : ℕ) (old new : Index) → at + 1 ≡ length kept → Grows (IsInSets old.sets.items) (IsInSets new.sets.items) → new.chains.items ≡ old.chains.items
+    → ColumnsGrew kept at old.columns.items new.columns.items → new.rest ≡ old.rest → IsFiled kept old new
+filed_in_columns kept at old new count grow chains g rest =
+    filed kept at old new count (led-grows old new grow (chains-same old.chains.items new.chains.items chains) g.grow (λ a h. subst (In a) (sym rest) h))
+    (λ ks j q are k cells e t. let r = g.leads ks j q are k cells e t in (r.0, inr (inr (inl r.1)), r.2)) (same-chains kept old.chains.items new.chains.items chains) g.columned (same-rest kept old.rest new.rest rest)
 
 -- it stands among the others
-pub filed_in_rest : (kept : List NumberedPunct) (at : ℕ) (old new : Index) → at + 1 ≡ length kept → Grows (IsInSets old.sets.items) (IsInSets new.sets.items) → new.chains.items ≡ old.chains.items → new.rest ≡ old.rest ++ at ∷ [] → IsFiled kept old new
-filed_in_rest kept at old new count grow chains rest =
-    filed kept at old new count (led-grows old new grow (chains-same old.chains.items new.chains.items chains) (λ a h. subst (In a) (sym rest) (In-append_left a old.rest (at ∷ []) h)))
-    (λ k cells e t. (at, inr (inr (subst (In at) (sym rest) (In-append_right at old.rest (at ∷ []) (inl refl)))), record { punct = k; there = e; covers_too = t }))
-    (same-chains kept old.chains.items new.chains.items chains)
+pub filed_in_rest : (kept : List NumberedPunct) (at : ℕ) (old new : Index) → at + 1 ≡ length kept → Grows (IsInSets old.sets.items) (IsInSets new.sets.items) → new.chains.items ≡ old.chains.items
+    → new.columns.items ≡ old.columns.items → new.rest ≡ old.rest ++ at ∷ [] → IsFiled kept old new
+filed_in_rest kept at old new count grow chains columns rest =
+    filed kept at old new count
+    (led-grows old new grow (chains-same old.chains.items new.chains.items chains) (columns-same old.columns.items new.columns.items columns) (λ a h. subst (In a) (sym rest) (In-append_left a old.rest (at ∷ []) h)))
+    (λ ks j q are k cells e t. (at, inr (inr (inr (subst (In at) (sym rest) (In-append_right at old.rest (at ∷ []) (inl refl))))), record { punct = k; there = e; covers_too = t }))
+    (same-chains kept old.chains.items new.chains.items chains) (same-columns kept old.columns.items new.columns.items columns)
     (λ ks k e are.
     let size : at ≡ length ks = omega (arith, count, ap length e, length-more ks k) in
     subst (λ (xs : List NumberedPunct). ArePlaces 0 (length xs) new.rest) (sym e)
@@ -376,15 +416,19 @@ filed_in_rest kept at old new count grow chains rest =
     (subst (λ n. ArePlaces 0 n (old.rest ++ length ks ∷ [])) (sym (length-more ks k)) (places_push 0 (length ks) old.rest (omega arith) are))))
 
 -- none did, for want of memory
-pub unfiled : (old new : Index) → Grows (IsInSets old.sets.items) (IsInSets new.sets.items) → new.chains.items ≡ old.chains.items → new.rest ≡ old.rest → IsUnfiled old new
-unfiled old new grow chains rest ks is = record {
+pub unfiled : (old new : Index) → Grows (IsInSets old.sets.items) (IsInSets new.sets.items) → new.chains.items ≡ old.chains.items → ColumnsStay old.columns.items new.columns.items → new.rest ≡ old.rest → IsUnfiled old new
+unfiled old new grow chains stay rest ks is = record {
   rising = is.rising;
   held = λ k h cells t.
       let r = is.held k h cells t in
-      (r.0, led-grows old new grow (chains-same old.chains.items new.chains.items chains) (λ a g. subst (In a) (sym rest) g) cells r.0 r.1, r.2);
+      (r.0, led-grows old new grow (chains-same old.chains.items new.chains.items chains) stay.grow (λ a g. subst (In a) (sym rest) g) cells r.0 r.1, r.2);
   chained = subst (AreChained ks) (sym chains) is.chained;
+  columned = stay.columned ks is.columned;
   others = subst (ArePlaces 0 (length ks)) (sym rest) is.others;
 }
+
+pub columns_stay : (cs ds : List ColumnIndex) → ds ≡ cs → ColumnsStay cs ds
+columns_stay cs ds e = record { grow = columns-same cs ds e; columned = λ ks are. subst (AreColumns ks) (sym e) are }
 
 pub on_err : {A E : Type 0} (r : Result A E) (P : Type 0) → P → OnErr r P
 on_err (Ok a) P p = tt

@@ -1,6 +1,7 @@
 pub mod Alone
 pub mod Cellwise
 pub mod Chains
+pub mod Columns
 pub mod Covering
 pub mod Filing
 pub mod Firsts

@@ -8,11 +8,12 @@ use Rattle.pj_value.specs.declared.values.Value.{Value}
 use Rattle.pj_events.specs.Patterns.{covers, matches_row}
 use Rattle.pj_puncts.specs.declared.store.NumberedPunct.{NumberedPunct}
 use Rattle.pj_puncts.specs.declared.index.Chain.{Chain}
+use Rattle.pj_puncts.specs.declared.index.ColumnIndex.{ColumnIndex}
 use Rattle.pj_puncts.specs.declared.index.ConstantSet.{ConstantSet}
 use Rattle.pj_puncts.specs.declared.index.Index.{Index}
 use Rattle.pj_puncts.specs.Stores.{AllAbove, AreRising, TellsCover, covered_below, covered_by_any, first_match_of}
 use Rattle.pj_puncts.specs.Hashes.{row_cells}
-use Rattle.pj_puncts.specs.Indexed.{IsCovering, AreChained, ArePlaces, IsAtLeastAt, IsIndexed, InChains, InSets, first_at, first_covering, first_of, is_below, least, least_of, least_of_chains, least_of_sets, number_at, number_in, number_under, slot}
+use Rattle.pj_puncts.specs.Indexed.{IsCovering, AreChained, ArePlaces, IsAtLeastAt, IsIndexed, InChains, InColumns, InSets, IsLeastOfColumns, first_at, first_covering, first_of, is_below, least, least_of_chains, least_of_sets, number_at, number_in, number_under, slot}
 use Rattle.pj_puncts.proofs.Cellwise.{row_covered}
 
 -- ---- bounds
@@ -106,10 +107,17 @@ module _ (kept : List NumberedPunct) (cells : List (Option Value)) where
   sound-chains best [] s = s
   sound-chains best (chain ∷ chains) s = sound-chains (least best (first_at kept cells chain.places)) chains (sound-least best (first_at kept cells chain.places) s (sound-first chain.places))
 
-  sound-index : (index : Index) → IsSound (least_of kept cells index)
-  sound-index index =
-      sound-least (least_of_chains kept cells (least_of_sets kept cells None index.sets.items) index.chains.items) (first_at kept cells index.rest)
-      (sound-chains (least_of_sets kept cells None index.sets.items) index.chains.items (sound-sets None index.sets.items sound-none))
+  sound-columns : (best : Option ℕ) (columns : List ColumnIndex) (o : Option ℕ) → IsSound best → IsLeastOfColumns kept cells best columns o → IsSound o
+  sound-columns best [] o s is = subst IsSound (sym is) s
+  sound-columns best (column ∷ columns) o s is = sound-columns (least best is.0) columns o (sound-least best is.0 s is.1.sound) is.2
+
+  sound-index : (index : Index) (o : Option ℕ) → IsLeastOfColumns kept cells (least_of_chains kept cells (least_of_sets kept cells None index.sets.items) index.chains.items) index.columns.items o
+      → IsSound (least o (first_at kept cells index.rest))
+  sound-index index o is =
+      let sets = least_of_sets kept cells None index.sets.items in
+      let chains = least_of_chains kept cells sets index.chains.items in
+      sound-least o (first_at kept cells index.rest)
+      (sound-columns chains index.columns.items o (sound-chains sets index.chains.items (sound-sets None index.sets.items sound-none)) is)
       (sound-first index.rest)
 
   -- ---- nothing less is passed over
@@ -191,18 +199,34 @@ module _ (kept : List NumberedPunct) (cells : List (Option Value)) where
       (least-right best (first_at kept cells chain.places) m (first-up-to chain.places 0 (length kept) at m rises are.0.places_are q e))
   chains-up-to best (chain ∷ chains) at m rises are (inr h) e = chains-up-to (least best (first_at kept cells chain.places)) chains at m rises are.1 h e
 
-  index-up-to : (index : Index) (n : ℕ) → IsIndexed kept index → Covering n → IsUpTo (least_of kept cells index) n
-  index-up-to index n is c =
+  columns-keep : (best : Option ℕ) (columns : List ColumnIndex) (o : Option ℕ) (n : ℕ) → IsLeastOfColumns kept cells best columns o → IsUpTo best n → IsUpTo o n
+  columns-keep best [] o n is h = subst (λ (x : Option ℕ). IsUpTo x n) (sym is) h
+  columns-keep best (column ∷ columns) o n is h = columns-keep (least best is.0) columns o n is.2 (least-left best is.0 n h)
+
+  columns-up-to : (best : Option ℕ) (columns : List ColumnIndex) (o : Option ℕ) (at m : ℕ) → IsLeastOfColumns kept cells best columns o → InColumns cells at columns → number_at kept cells at ≡ Some m → IsUpTo o m
+  columns-up-to best [] o at m is h e = absurd h
+  columns-up-to best (column ∷ columns) o at m is (inl q) e =
+      let here : is.0 ≡ Some m = is.1.leads at q ∙ e in
+      columns-keep (least best is.0) columns o m is.2 (least-right best is.0 m (subst (λ (x : Option ℕ). IsUpTo x m) (sym here) (omega arith)))
+  columns-up-to best (column ∷ columns) o at m is (inr h) e = columns-up-to (least best is.0) columns o at m is.2 h e
+
+  index-up-to : (index : Index) (o : Option ℕ) (n : ℕ) → IsIndexed kept index
+      → IsLeastOfColumns kept cells (least_of_chains kept cells (least_of_sets kept cells None index.sets.items) index.chains.items) index.columns.items o → Covering n
+      → IsUpTo (least o (first_at kept cells index.rest)) n
+  index-up-to index o n is of c =
       let held = is.held c.0 c.1 cells c.2 in
       let there = number-there c.0.number held.0 held.2 in
       let sets = least_of_sets kept cells None index.sets.items in
       let chains = least_of_chains kept cells sets index.chains.items in
       let other = first_at kept cells index.rest in
-      up-to-more (least chains other) there.0 n (elim held.1 [
-        | inl s ↦ least-left chains other there.0 (chains-keep sets index.chains.items there.0 (sets-up-to None index.sets.items held.0 there.0 s there.1))
+      up-to-more (least o other) there.0 n (elim held.1 [
+        | inl s ↦ least-left o other there.0 (columns-keep chains index.columns.items o there.0 of (chains-keep sets index.chains.items there.0 (sets-up-to None index.sets.items held.0 there.0 s there.1)))
         | inr k ↦ elim k [
-          | inl s ↦ least-left chains other there.0 (chains-up-to sets index.chains.items held.0 there.0 is.rising is.chained s there.1)
-          | inr s ↦ least-right chains other there.0 (first-up-to index.rest 0 (length kept) held.0 there.0 is.rising is.others s there.1)
+          | inl s ↦ least-left o other there.0 (columns-keep chains index.columns.items o there.0 of (chains-up-to sets index.chains.items held.0 there.0 is.rising is.chained s there.1))
+          | inr r ↦ elim r [
+            | inl s ↦ least-left o other there.0 (columns-up-to chains index.columns.items o held.0 there.0 of s there.1)
+            | inr s ↦ least-right o other there.0 (first-up-to index.rest 0 (length kept) held.0 there.0 is.rising is.others s there.1)
+          ]
         ]
       ]) (omega (arith, there.2, c.3))
 
@@ -241,9 +265,11 @@ one-least ks cells (Some n) None s t f g = absurd (g n (s n refl))
 one-least ks cells (Some n) (Some m) s t f g = let a : n ≤ m = f m (t m refl) in let b : m ≤ n = g n (s n refl) in ap Some (omega (arith, a, b))
 
 -- what the index leads to is the first number
-pub index_first : (kept : List NumberedPunct) (cells : List (Option Value)) (index : Index) → IsIndexed kept index → least_of kept cells index ≡ first_covering kept cells
-index_first kept cells index is =
-    one-least kept cells (least_of kept cells index) (first_covering kept cells) (sound-index kept cells index) (first-sound kept cells) (λ n c. index-up-to kept cells index n is c) (λ n c. first-least kept cells n is.rising c)
+pub index_first : (kept : List NumberedPunct) (cells : List (Option Value)) (index : Index) (o : Option ℕ) → IsIndexed kept index
+    → IsLeastOfColumns kept cells (least_of_chains kept cells (least_of_sets kept cells None index.sets.items) index.chains.items) index.columns.items o
+    → least o (first_at kept cells index.rest) ≡ first_covering kept cells
+index_first kept cells index o is of =
+    one-least kept cells (least o (first_at kept cells index.rest)) (first_covering kept cells) (sound-index kept cells index o of) (first-sound kept cells) (λ n c. index-up-to kept cells index o n is of c) (λ n c. first-least kept cells n is.rising c)
 
 pub first_for_row : (kept : List NumberedPunct) (row : List Value) → first_covering kept (row_cells row) ≡ first_match_of kept row
 first_for_row [] row = refl

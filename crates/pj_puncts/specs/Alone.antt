@@ -1,12 +1,12 @@
 -- Punctuations of one constant, of which the constant and the numbers are kept alone.
-use Rattle.std.specs.Prelude.{ℕ, zero, suc, ◌≡◌, ◌⊎◌, Bool, true, false, nat_lt, nat_eq, if◌then◌else◌, List, [], ◌∷◌, ◌++◌, length, map, Option, Some, None, slice_get}
+use Rattle.std.specs.Prelude.{ℕ, ◌≡◌, ◌⊎◌, Bool, true, false, nat_lt, nat_eq, if◌then◌else◌, List, [], ◌∷◌, ◌++◌, length, map, Option, Some, None, slice_get}
 use Rattle.pj_value.specs.Lists.{In}
 use Rattle.pj_value.specs.declared.values.Value.{Value}
-use Rattle.pj_pattern.specs.declared.pattern.Form.TheVariants.{Wild, Constant as Fixed}
-use Rattle.pj_events.specs.Patterns.{Pattern, all_wild}
+use Rattle.pj_pattern.specs.declared.pattern.Form.TheVariants.{Constant as Fixed}
+use Rattle.pj_events.specs.Patterns.{Pattern}
 use Rattle.pj_puncts.specs.Hashes.{cell_at}
 use Rattle.pj_puncts.specs.Stores.{AreRising}
-use Rattle.pj_puncts.specs.Indexed.{IsIndexed, least}
+use Rattle.pj_puncts.specs.Indexed.{IsIndexed, filled, least}
 use Rattle.pj_puncts.specs.Numbers.{AreTold, Changes, HasNone, IsOnly, has_only, told, with_last}
 use Rattle.pj_puncts.specs.declared.index.Index.{Index}
 use Rattle.pj_puncts.specs.declared.store.NumberedPunct.{NumberedPunct}
@@ -15,9 +15,7 @@ use Rattle.pj_puncts.specs.declared.numbers.NumberLists.{NumberLists}
 
 -- the constant in its column, and wildcards elsewhere
 abbrev pub only : ℕ → ℕ → Value → List Pattern
-only zero column value = []
-only (suc arity) zero value = Fixed value ∷ all_wild arity
-only (suc arity) (suc column) value = Wild ∷ only arity column value
+only arity column value = filled arity column (Fixed value)
 
 abbrev pub alone : ℕ → Constant → ℕ → NumberedPunct
 alone arity key number = record { punct = only arity key.column key.value; number = number }

@@ -1,15 +1,17 @@
 -- How punctuations are found by their forms.
-use Rattle.std.specs.Prelude.{ℕ, ◌+◌, ◌<◌, ◌≤◌, ◌≡◌, ◌⊎◌, ⊤, Bool, true, false, ◌&&◌, nat_lt, nat_eq, if◌then◌else◌, List, [], ◌∷◌, ◌++◌, length, Option, Some, None, slice_get, slice_index_or}
+use Rattle.std.specs.Prelude.{ℕ, zero, suc, ◌+◌, ◌<◌, ◌≤◌, ◌≡◌, ◌⊎◌, ⊤, Bool, true, false, ◌&&◌, nat_lt, nat_eq, if◌then◌else◌, List, [], ◌∷◌, ◌++◌, length, Option, Some, None, slice_get, slice_index_or}
 use Rattle.indexmap.specs.IndexMap.{get}
 use Rattle.pj_value.specs.Lists.{In}
 use Rattle.pj_value.specs.declared.values.Value.{Value}
 use Rattle.pj_pattern.specs.declared.pattern.Form.TheVariants.{Wild, Empty, Constant, Range, Members}
-use Rattle.pj_events.specs.Patterns.{Pattern, covers, covers_punct, is_wild}
-use Rattle.pj_puncts.specs.Hashes.{hash_of}
+use Rattle.pj_events.specs.Patterns.{Pattern, all_wild, covers, covers_punct, is_wild}
+use Rattle.pj_intervals.specs.Intervals.{Answers, Entry, first_place}
+use Rattle.pj_puncts.specs.Hashes.{cell_at, hash_of}
 use Rattle.pj_puncts.specs.Stores.{AreRising, IsAbove}
 use Rattle.pj_puncts.specs.declared.store.NumberedPunct.{NumberedPunct}
 use Rattle.pj_puncts.specs.declared.index.ConstantSet.{ConstantSet}
 use Rattle.pj_puncts.specs.declared.index.Chain.{Chain}
+use Rattle.pj_puncts.specs.declared.index.ColumnIndex.{ColumnIndex}
 use Rattle.pj_puncts.specs.declared.index.Index.{Index}
 
 -- ---- the least number of a punctuation that covers some cells
@@ -70,10 +72,23 @@ abbrev pub least_of_chains : List NumberedPunct → List (Option Value) → Opti
 least_of_chains kept cells best [] = best
 least_of_chains kept cells best (chain ∷ chains) = least_of_chains kept cells (least best (first_at kept cells chain.places)) chains
 
--- the least of all numbers that the index leads to
-abbrev pub least_of : List NumberedPunct → List (Option Value) → Index → Option ℕ
-least_of kept cells index =
-    least (least_of_chains kept cells (least_of_sets kept cells None index.sets.items) index.chains.items) (first_at kept cells index.rest)
+-- the column's index leads from the cells to this place: that of the first pattern that the value of its cell matches
+pub record IsInColumn (column : ColumnIndex) (cells : List (Option Value)) (at : ℕ) : Type 0 where
+  pub value : Value
+  pub entries : List Entry
+  pub cell : cell_at cells column.column ≡ Some value
+  pub answers : Answers column.patterns entries
+  pub first : first_place value entries ≡ Some at
+
+-- a number that a column's index leads to: that of the punctuation at the place, where this covers the cells
+pub record IsOfColumn (kept : List NumberedPunct) (cells : List (Option Value)) (column : ColumnIndex) (number : Option ℕ) : Type 0 where
+  pub sound : (n : ℕ) → number ≡ Some n → IsCovering kept cells n
+  pub leads : (at : ℕ) → IsInColumn column cells at → number ≡ number_at kept cells at
+
+-- the least of a number and those that the columns' indexes lead to
+abbrev pub IsLeastOfColumns : List NumberedPunct → List (Option Value) → Option ℕ → List ColumnIndex → Option ℕ → Type 0
+IsLeastOfColumns kept cells best [] result = result ≡ best
+IsLeastOfColumns kept cells best (column ∷ columns) result = (n : Option ℕ) × IsOfColumn kept cells column n × IsLeastOfColumns kept cells (least best n) columns result
 
 -- ---- the form of a punctuation
 
@@ -96,6 +111,18 @@ fits_marks [] (p ∷ ps) = false
 fits_marks (mark ∷ marks) [] = false
 fits_marks (mark ∷ marks) (p ∷ ps) = fits_mark mark p && fits_marks marks ps
 
+-- so many patterns: this one in this column, and wildcards elsewhere
+abbrev pub filled : ℕ → ℕ → Pattern → List Pattern
+filled zero column p = []
+filled (suc arity) zero p = p ∷ all_wild arity
+filled (suc arity) (suc column) p = Wild ∷ filled arity column p
+
+-- this column alone has no wildcard
+pub record IsFilled (patterns : List Pattern) (column : ℕ) : Type 0 where
+  pub within : column < length patterns
+  pub not_wild : (d : Pattern) → is_wild (slice_index_or patterns column d) ≡ false
+  pub filled_is : (d : Pattern) → patterns ≡ filled (length patterns) column (slice_index_or patterns column d)
+
 -- ---- the index of a list of punctuations
 
 -- the place is one of those that these sets lead to
@@ -107,9 +134,13 @@ abbrev pub InChains : ℕ → List Chain → Type 0
 InChains at [] = ⊥
 InChains at (chain ∷ chains) = In at chain.places ⊎ InChains at chains
 
+abbrev pub InColumns : List (Option Value) → ℕ → List ColumnIndex → Type 0
+InColumns cells at [] = ⊥
+InColumns cells at (column ∷ columns) = IsInColumn column cells at ⊎ InColumns cells at columns
+
 -- the index leads from the cells to this place
 abbrev pub IsLedTo : Index → List (Option Value) → ℕ → Type 0
-IsLedTo index cells at = InSets cells at index.sets.items ⊎ (InChains at index.chains.items ⊎ In at index.rest)
+IsLedTo index cells at = InSets cells at index.sets.items ⊎ (InChains at index.chains.items ⊎ (InColumns cells at index.columns.items ⊎ In at index.rest))
 
 -- the punctuation at this place has no greater number, and covers the cells
 pub record IsAtLeastAt (kept : List NumberedPunct) (number at : ℕ) (cells : List (Option Value)) : Type 0 where
@@ -140,6 +171,25 @@ abbrev pub AreChained : List NumberedPunct → List Chain → Type 0
 AreChained kept [] = ⊤
 AreChained kept (chain ∷ chains) = IsChained kept chain × AreChained kept chains
 
+-- the punctuation at the entry's place has its pattern in this column, and wildcards elsewhere
+pub record IsEntry (kept : List NumberedPunct) (arity column : ℕ) (entry : Entry) : Type 0 where
+  pub punct : NumberedPunct
+  pub there : slice_get kept entry.place ≡ Some punct
+  pub alone : punct.punct ≡ filled arity column entry.pattern
+
+abbrev pub AreEntries : List NumberedPunct → ℕ → ℕ → List Entry → Type 0
+AreEntries kept arity column [] = ⊤
+AreEntries kept arity column (entry ∷ entries) = IsEntry kept arity column entry × AreEntries kept arity column entries
+
+pub record IsColumn (kept : List NumberedPunct) (column : ColumnIndex) : Type 0 where
+  pub entries : List Entry
+  pub answers : Answers column.patterns entries
+  pub are : AreEntries kept column.arity column.column entries
+
+abbrev pub AreColumns : List NumberedPunct → List ColumnIndex → Type 0
+AreColumns kept [] = ⊤
+AreColumns kept (column ∷ columns) = IsColumn kept column × AreColumns kept columns
+
 abbrev pub AreHeld : List NumberedPunct → Index → Type 0
 AreHeld kept index = (k : NumberedPunct) → In k kept → IsHeld kept index k
 
@@ -148,6 +198,7 @@ pub record IsIndexed (kept : List NumberedPunct) (index : Index) : Type 0 where
   pub rising : AreRising kept
   pub held : AreHeld kept index
   pub chained : AreChained kept index.chains.items
+  pub columned : AreColumns kept index.columns.items
   pub others : ArePlaces 0 (length kept) index.rest
 
 -- ---- one punctuation more, at the last place
@@ -179,6 +230,9 @@ IsInChain chain cells at = In at chain.places
 
 abbrev pub IsInChains : List Chain → List (Option Value) → ℕ → Type 0
 IsInChains chains cells at = InChains at chains
+
+abbrev pub IsInColumns : List ColumnIndex → List (Option Value) → ℕ → Type 0
+IsInColumns columns cells at = InColumns cells at columns
 
 -- the patterns at this place fit the marks
 abbrev pub FitsAt : List NumberedPunct → ℕ → List Bool → Type 0
@@ -215,6 +269,27 @@ pub record ChainsGrew (kept : List NumberedPunct) (at : ℕ) (old new : List Cha
 abbrev pub ChainsTake : List NumberedPunct → ℕ → List Chain → List Chain → Bool → Type 0
 ChainsTake kept at old new false = new ≡ old
 ChainsTake kept at old new true = ChainsGrew kept at old new
+
+-- the place of a column's index for so many columns
+pub record IsColumnFor (columns : List ColumnIndex) (arity column at : ℕ) : Type 0 where
+  pub within : at < length columns
+  pub arity_is : (d : ColumnIndex) → (slice_index_or columns at d).arity ≡ arity
+  pub column_is : (d : ColumnIndex) → (slice_index_or columns at d).column ≡ column
+
+-- the columns' indexes took the punctuation in
+pub record ColumnsGrew (kept : List NumberedPunct) (at : ℕ) (old new : List ColumnIndex) : Type 0 where
+  pub grow : Grows (IsInColumns old) (IsInColumns new)
+  pub leads : (ks : List NumberedPunct) (k : NumberedPunct) → kept ≡ ks ++ k ∷ [] → AreColumns ks old → AreLed kept at (IsInColumns new)
+  pub columned : (ks : List NumberedPunct) (k : NumberedPunct) → kept ≡ ks ++ k ∷ [] → AreColumns ks old → AreColumns kept new
+
+abbrev pub ColumnsTake : List NumberedPunct → ℕ → List ColumnIndex → List ColumnIndex → Bool → Type 0
+ColumnsTake kept at old new false = new ≡ old
+ColumnsTake kept at old new true = ColumnsGrew kept at old new
+
+-- they lead to where they led
+pub record ColumnsStay (old new : List ColumnIndex) : Type 0 where
+  pub grow : Grows (IsInColumns old) (IsInColumns new)
+  pub columned : (ks : List NumberedPunct) → AreColumns ks old → AreColumns ks new
 
 -- where the old index is that of all but the last, whose number is above theirs, the new one is that of all
 abbrev pub IsFiled : List NumberedPunct → Index → Index → Type 0

@@ -1,10 +1,12 @@
 // An index of punctuations by their forms.
 ghost use Rattle.std.specs.Prelude.{◌≡◌, ◌<◌, ◌≤◌, ◌+◌, [], true, None, IfOk, IfSome, OnOk, OnErr, length, map, slice_get};
-ghost use Rattle.pj_puncts.specs.Indexed.{AreChained, AreLed, ChainTakes, ChainsTake, FitsAt, Grows, IsChained, IsCovering, IsFiled, IsInSets, IsInSlot, IsIndexed, IsSetFor, IsUnfiled, covered_in, covers_in, first_at, first_covering, fits_mark, fits_marks, is_constant, least, least_of_chains, least_of_sets, number_at, number_under, slot};
+ghost use Rattle.pj_puncts.specs.Indexed.{AreChained, AreLed, ChainTakes, ChainsTake, ColumnsStay, ColumnsTake, FitsAt, Grows, IsChained, IsColumnFor, IsCovering, IsFiled, IsFilled, IsInSets, IsInSlot, IsIndexed, IsLeastOfColumns, IsOfColumn, IsSetFor, IsUnfiled, covered_in, covers_in, first_at, first_covering, fits_mark, fits_marks, is_constant, least, least_of_chains, least_of_sets, number_at, number_under, slot};
 
 use crate::cells::{Cells, constants_hash};
+use crate::numbers::{are_wild_from, first_filled};
 use crate::store::NumberedPunct;
 use indexmap::IndexMap;
+use pj_intervals::FirstIndex;
 use pj_pattern::{Pattern, Punct, Shape};
 use pj_shape::Scheme;
 use pj_value::{List, NoMemory};
@@ -26,11 +28,21 @@ pub struct Chain {
     places: List<usize>,
 }
 
+/// Punctuations of so many columns with wildcards in all but this one, as ranges and lists of one column: the places by the
+/// patterns there.
+#[derive(Drop)]
+pub struct ColumnIndex {
+    arity: usize,
+    column: usize,
+    patterns: FirstIndex,
+}
+
 /// Where to look for a punctuation that covers some cells: which it can be, by their places.
 #[derive(Drop)]
 pub struct Index {
     sets: Vec<ConstantSet>,
     chains: Vec<Chain>,
+    columns: Vec<ColumnIndex>,
     rest: List<usize>,
 }
 
@@ -42,6 +54,7 @@ impl Index {
         Index {
             sets: Vec::new(alloc),
             chains: Vec::new(alloc),
+            columns: Vec::new(alloc),
             rest: List::new(alloc),
         }
     }
@@ -54,6 +67,7 @@ impl Index {
     {
         let best = least_of_sets(self.sets.as_slice(), kept, cells);
         let best = least_of_chains(self.chains.as_slice(), kept, cells, best);
+        let best = least_of_columns(self.columns.as_slice(), kept, cells, best);
         least(best, first_at(self.rest.as_slice(), kept, cells))
     }
 
@@ -84,6 +98,9 @@ impl Index {
             return Ok(());
         }
         if file_in_chains(&mut self.chains, alloc, kept, at)? {
+            return Ok(());
+        }
+        if file_in_columns(&mut self.columns, alloc, kept, at)? {
             return Ok(());
         }
         self.rest.push(at)?;
@@ -193,6 +210,34 @@ fn first_in_chain<C: Cells>(chain: &Chain, kept: &[NumberedPunct], cells: &C) ->
         }
     }
     found
+}
+
+// The number of the first punctuation of a column that covers the cells.
+fn number_in_column<C: Cells>(index: &ColumnIndex, kept: &[NumberedPunct], cells: &C) -> Option<u64>
+    ensures { IsOfColumn kept.now (C.cells cells.now) index.now result }
+{
+    match cells.cell(index.column) {
+        None => None,
+        Some(value) => match index.patterns.first(value) {
+            None => None,
+            Some(at) => number_at(kept, at, cells),
+        },
+    }
+}
+
+fn least_of_columns<C: Cells>(
+    columns: &[ColumnIndex],
+    kept: &[NumberedPunct],
+    cells: &C,
+    best: Option<u64>,
+) -> Option<u64>
+    ensures { IsLeastOfColumns kept.now (C.cells cells.now) best columns.now result }
+{
+    let mut lesser = best;
+    for column in columns {
+        lesser = least(lesser, number_in_column(column, kept, cells));
+    }
+    lesser
 }
 
 // The number of the first punctuation at these places that covers the cells.
@@ -454,6 +499,64 @@ fn chain_for(chains: &[Chain], column: usize, has_low: bool) -> Option<usize>
 {
     for at in 0..chains.len() {
         if chains[at].column == column && chains[at].has_low == has_low {
+            return Some(at);
+        }
+    }
+    None
+}
+
+// Takes in the punctuation at the last place, where it has wildcards in all columns but one; or not.
+fn file_in_columns(
+    columns: &mut Vec<ColumnIndex>,
+    alloc: Global,
+    kept: &[NumberedPunct],
+    at: usize,
+) -> Result<bool, NoMemory>
+    requires { at < length kept.now }
+    ensures ok { IfOk result (ColumnsTake kept.now at columns.old.items columns.new.items) }
+    ensures err { OnErr result (ColumnsStay columns.old.items columns.new.items) }
+{
+    let patterns = kept[at].punct.as_slice();
+    match only_filled(patterns) {
+        None => Ok(false),
+        Some(column) => match column_for(columns.as_slice(), patterns.len(), column) {
+            Some(place) => {
+                columns[place].patterns.insert(&patterns[column], at)?;
+                Ok(true)
+            }
+            None => {
+                let mut index = FirstIndex::new(alloc);
+                index.insert(&patterns[column], at)?;
+                columns.push(ColumnIndex {
+                    arity: patterns.len(),
+                    column,
+                    patterns: index,
+                })?;
+                Ok(true)
+            }
+        },
+    }
+}
+
+// The only column without a wildcard.
+fn only_filled(patterns: &[Pattern]) -> Option<usize>
+    ensures { IfSome result (IsFilled patterns.now) }
+{
+    let column = first_filled(patterns);
+    if column >= patterns.len() {
+        return None;
+    }
+    if !are_wild_from(patterns, column + 1) {
+        return None;
+    }
+    Some(column)
+}
+
+fn column_for(columns: &[ColumnIndex], arity: usize, column: usize) -> Option<usize>
+    ensures { IfSome result (IsColumnFor columns.now arity column) }
+{
+    for at in 0..columns.len() {
+        if columns[at].column == column && columns[at].arity == arity {
             return Some(at);
         }
     }

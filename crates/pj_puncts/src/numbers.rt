@@ -232,8 +232,8 @@ fn only_constant(patterns: &[Pattern]) -> Option<LentConstant<'_>>
     }
 }
 
-// The first column without a wildcard, or the number of columns.
-fn first_filled(patterns: &[Pattern]) -> usize
+/// The first column without a wildcard, or the number of columns.
+pub fn first_filled(patterns: &[Pattern]) -> usize
     ensures { result ≡ first_filled patterns.now }
 {
     for column in 0..patterns.len() {
@@ -244,8 +244,8 @@ fn first_filled(patterns: &[Pattern]) -> usize
     patterns.len()
 }
 
-// Whether all patterns from a column on are wildcards.
-fn are_wild_from(patterns: &[Pattern], from: usize) -> bool
+/// Whether all patterns from a column on are wildcards.
+pub fn are_wild_from(patterns: &[Pattern], from: usize) -> bool
     requires { from < length patterns.now + 1 }
     ensures { result ≡ are_wild (drop from patterns.now) }
 {
