@@ -15,15 +15,14 @@ use Rattle.pj_state.specs.declared.shared.Stored.{Stored}
 use Rattle.pj_state.specs.Rising.{IsRising, itself}
 use Rattle.pj_state.specs.States.{StateView, is_below, has_value, pair_of, pairs, row_under, rows_below, rows_with, stored, ticket_of, tickets_of}
 use Rattle.pj_probe.specs.Walks.{sides_at, tuple_at}
-use Rattle.pj_events.specs.Join.{ClassCol, In, TupleAt, Value, agree, has, no_value, product, upto_from, value_at, joined}
-use Rattle.pj_probe.proofs.Combining.{combined-lacking}
+use Rattle.pj_events.specs.Join.{ClassCol, In, TupleAt, Value, agree, has, no_value, product, upto_from, value_at}
 use Rattle.pj_join_laws.proofs.Matching.{agree-at, value-in}
 use Rattle.pj_rows.proofs.Halved.{some_rise}
 use Rattle.pj_probe.specs.Hops.{AreFound, AreLinked, AreMore, AreStepped, BeginsWith, FindAll, HaveTickets, IsChoice, all_older, all_under, has_ticket, is_among, older_at, older_under}
 use Rattle.pj_probe.specs.Routes.{AreInClasses, InOneClass, IsRoute, IsStep, LeadsTo, columns_of, is_reached}
 use Rattle.pj_probe.specs.declared.route.ProbeLink.{ProbeLink}
 use Rattle.pj_probe.specs.declared.route.ProbeStep.{ProbeStep}
-use Rattle.pj_probe.proofs.Routed.{columns_at, own_reached, reached_by, reached_now, step_there, steps_with}
+use Rattle.pj_probe.proofs.Routed.{columns_at, own_reached, reached_by, step_there, steps_with}
 use Rattle.pj_rows.specs.Tuples.{IsWide, state_at, under_with, no_state, tuple_in, tuples_in, ticket_in}
 use Rattle.pj_probe.specs.Choices.{AreNarrowed, IsNarrowed, choices, may_join, older_joins}
 use Rattle.pj_rows.specs.AgreesWith.{agrees_with}
@@ -178,13 +177,13 @@ linked_anyhow state mine theirs below others (Ok found) is = (
 
 -- ---- combinations of older tuples
 
-older-own : (own : TupleAt) (row_states : List StateView) → older_at own row_states own.input ≡ own ∷ []
+pub older-own : (own : TupleAt) (row_states : List StateView) → older_at own row_states own.input ≡ own ∷ []
 older-own own row_states = ap (λ b. cond b (own ∷ []) (map (tuple_at own.input) (pairs (rows_below own.ticket (state_at row_states own.input).rows)))) (eq-eqb own.input own.input refl)
 
 older-others : (own : TupleAt) (row_states : List StateView) (k : ℕ) → (k ≡ own.input → ⊥) → older_at own row_states k ≡ map (tuple_at k) (pairs (rows_below own.ticket (state_at row_states k).rows))
 older-others own row_states k ne = ap (λ b. cond b (own ∷ []) (map (tuple_at k) (pairs (rows_below own.ticket (state_at row_states k).rows)))) (false_from_ne_true (eqb k own.input) (λ t. ne (eqb-true k own.input t)))
 
-older-input : (own : TupleAt) (row_states : List StateView) (k : ℕ) (y : TupleAt) → In y (older_at own row_states k) → y.input ≡ k
+pub older-input : (own : TupleAt) (row_states : List StateView) (k : ℕ) (y : TupleAt) → In y (older_at own row_states k) → y.input ≡ k
 older-input own row_states k y h = go (eqb k own.input) refl h
   where
     go : (b : Bool) → eqb k own.input ≡ b → In y (cond b (own ∷ []) (map (tuple_at k) (pairs (rows_below own.ticket (state_at row_states k).rows)))) → y.input ≡ k
@@ -203,7 +202,7 @@ product-of f own base (suc n) c h y k =
       | inr t ↦ product-of f own (base + 1) n d.0 d.1 y t
     ]
 
-product-some : (f : ℕ → List TupleAt) (base n i : ℕ) → base ≤ i → i < base + n → (c : List TupleAt) → In c (product (map f (upto_from base n))) → (x : TupleAt) × In x c × In x (f i)
+pub product-some : (f : ℕ → List TupleAt) (base n i : ℕ) → base ≤ i → i < base + n → (c : List TupleAt) → In c (product (map f (upto_from base n))) → (x : TupleAt) × In x c × In x (f i)
 product-some f base zero i le lt c h = absurd (omega (arith, le, lt))
 product-some f base (suc n) i le lt c h =
     let m = In-flat_map (λ (z : TupleAt). map (λ d. z ∷ d) (product (map f (upto_from (base + 1) n)))) c (f base) h in
@@ -245,7 +244,7 @@ cut-by tickets i xs =
             false≢true (sym e ∙ ap (has tickets) (sym m.2) ∙ f.1)))
 
 -- a tuple of an input that is older
-older-row : (own : TupleAt) (row_states : List StateView) (k : ℕ) (y : TupleAt) → (k ≡ own.input → ⊥) → In y (older_at own row_states k) → (s : Stored) × In s (rows_below own.ticket (state_at row_states k).rows) × (tuple_at k (pair_of s) ≡ y)
+pub older-row : (own : TupleAt) (row_states : List StateView) (k : ℕ) (y : TupleAt) → (k ≡ own.input → ⊥) → In y (older_at own row_states k) → (s : Stored) × In s (rows_below own.ticket (state_at row_states k).rows) × (tuple_at k (pair_of s) ≡ y)
 older-row own row_states k y ne h =
     let p = In-map (tuple_at k) y (pairs (rows_below own.ticket (state_at row_states k).rows)) (subst (λ (ys : List TupleAt). In y ys) (older-others own row_states k ne) h) in
     let s = In-map pair_of p.0 (rows_below own.ticket (state_at row_states k).rows) p.1 in
@@ -324,7 +323,7 @@ own-chosen classes own row_states rows is = record {
 
 -- ---- steps
 
-set-length : {A : Type 0} (xs : List A) (i : ℕ) (v : A) → length (set xs i v) ≡ length xs
+pub set-length : {A : Type 0} (xs : List A) (i : ℕ) (v : A) → length (set xs i v) ≡ length xs
 set-length [] i v = refl
 set-length (x ∷ xs) zero v = refl
 set-length (x ∷ xs) (suc i) v = ap suc (set-length xs i v)
@@ -334,12 +333,21 @@ end-there-or [] v d = refl
 end-there-or (x ∷ xs) v d = end-there-or xs v d
 
 pub begun_more : (own : TupleAt) (input : ℕ) (lists lists' : List Pairs) (b : Bool) (list : Pairs) → BeginsWith own input lists → b ≡ eqb input own.input → (b ≡ true → map (tuple_at own.input) list ≡ own ∷ [])
-    → lists' ≡ lists ++ list ∷ [] → BeginsWith own (input + 1) lists'
-begun_more own input lists lists' b list begun is it f = record {
+    → (b ≡ false → list ≡ []) → lists' ≡ lists ++ list ∷ [] → BeginsWith own (input + 1) lists'
+begun_more own input lists lists' b list begun is it none f = record {
   lists_are = omega (arith, ap (λ (ls : List Pairs). length ls) f, length-append lists (list ∷ []), begun.lists_are);
   itself = λ lt. ap (λ (ls : List Pairs). map (tuple_at own.input) (get_or ls own.input [])) f ∙ here lt (eqb input own.input) refl;
+  others = λ k lt ne. ap (λ (ls : List Pairs). get_or ls k []) f ∙ other k lt ne (eqb input k) refl;
 }
   where
+    other : (k : ℕ) → k < input + 1 → (k ≡ own.input → ⊥) → (c : Bool) → eqb input k ≡ c → get_or (lists ++ list ∷ []) k [] ≡ []
+    other k lt ne true q =
+        let apart : eqb input own.input ≡ false = false_from_ne_true (eqb input own.input) (λ t. ne (sym (eqb-true input k q) ∙ eqb-true input own.input t)) in
+        ap (λ n. get_or (lists ++ list ∷ []) n []) (sym (eqb-true input k q) ∙ sym begun.lists_are) ∙ end-there-or lists list [] ∙ none (is ∙ apart)
+    other k lt ne false q =
+        let below : input ≡ k → ⊥ = λ s. false≢true (sym q ∙ eq-eqb input k s) in
+        get_or_append_left lists (list ∷ []) [] k (omega (arith, lt, below, begun.lists_are)) ∙ begun.others k (omega (arith, lt, below)) ne
+
     here : own.input < input + 1 → (c : Bool) → eqb input own.input ≡ c → map (tuple_at own.input) (get_or (lists ++ list ∷ []) own.input []) ≡ own ∷ []
     here lt true q =
         ap (λ (ps : Pairs). map (tuple_at own.input) ps) (ap (λ k. get_or (lists ++ list ∷ []) k []) (sym (eqb-true input own.input q) ∙ sym begun.lists_are) ∙ end-there-or lists list []) ∙ it (is ∙ q)
@@ -404,7 +412,7 @@ sides-get base (x ∷ xs) zero lt = ap (λ n. map (tuple_at n) x) (omega arith)
 sides-get base (x ∷ xs) (suc k) lt = sides-get (base + 1) xs k (omega (arith, lt)) ∙ ap (λ n. map (tuple_at n) (get_or xs k [])) (omega arith)
 
 -- the combinations of older tuples that join are all results
-older-finds : (classes : List (List ClassCol)) (own : TupleAt) (row_states : List StateView) → own.input < length row_states → filter (agree classes) (product (all_older own row_states)) ≡ filter (agree classes) (product (choices classes own (tuples_in 0 row_states)))
+pub older-finds : (classes : List (List ClassCol)) (own : TupleAt) (row_states : List StateView) → own.input < length row_states → filter (agree classes) (product (all_older own row_states)) ≡ filter (agree classes) (product (choices classes own (tuples_in 0 row_states)))
 older-finds classes own row_states lt = narrowed-finds classes own (tuples_in 0 row_states) (all_older own row_states) narrowed (omega (arith, lt, tuples-length 0 row_states))
   where
     narrowed : AreNarrowed classes own (tuples_in 0 row_states) (all_older own row_states)
@@ -511,51 +519,3 @@ step_link own row_states steps i step lists route at found = go step.link (route
           omega (arith, within, found.count),
           subst (λ (cs : List ℕ). In link.index_column cs) (columns_at row_states step.input no_state (step_there own.input row_states steps i step route at)) lead.indexed,
         )
-
--- where a step found no row nothing joins
-pub none_found : (own : TupleAt) (row_states : List StateView) (steps : List ProbeStep) (i : ℕ) (step : ProbeStep) (lists lists' : List Pairs) (rows : Pairs) → IsRoute (columns_of row_states) own.input steps → slice_get steps i ≡ Some step → own.input < length row_states
-    → AreFound own row_states (take (i + 1) steps) lists' → length lists ≡ length row_states → lists' ≡ set lists step.input rows → length rows ≡ 0 → FindAll own row_states steps lists'
-none_found own row_states steps i step lists lists' rows route at own-there are count f none classes links =
-    map-nil joined (filter (agree classes) (product (sides_at 0 lists'))) (combined-lacking classes lists' (step.input, within, lacks))
-    ∙ sym (filter-none (product (all_older own row_states)) (λ c h. false_from_ne_true (agree classes c) (λ a. apart c h a)))
-    ∙ older-finds classes own row_states own-there
-  where
-    map-nil : {A B : Type 0} (g : A → B) (xs : List A) → map g xs ≡ [] → xs ≡ []
-    map-nil g [] e = refl
-    map-nil {A} {B} g (x ∷ xs) e = absurd (omega (arith, ap (λ (ys : List B). length ys) e))
-
-    filter-none : (cs : List (List TupleAt)) → ((c : List TupleAt) → In c cs → agree classes c ≡ false) → filter (agree classes) cs ≡ []
-    filter-none [] all = refl
-    filter-none (c ∷ cs) all = ap (λ b. cond b (c ∷ filter (agree classes) cs) (filter (agree classes) cs)) (all c (inl refl)) ∙ filter-none cs (λ d h. all d (inr h))
-
-    empty : (ps : Pairs) → length ps ≡ 0 → ps ≡ []
-    empty [] e = refl
-    empty (p ∷ ps) e = absurd (omega (arith, e))
-
-    there : step.input < length row_states
-    there = step_there own.input row_states steps i step route at
-
-    in-lists : step.input < length lists
-    in-lists = omega (arith, there, count)
-
-    lacks : get_or lists' step.input [] ≡ []
-    lacks = ap (λ (ls : List Pairs). get_or ls step.input []) f ∙ get_or-set_same lists step.input rows [] in-lists ∙ empty rows none
-
-    within : step.input < length lists'
-    within = omega (arith, in-lists, ap (λ (ls : List Pairs). length ls) f, set-length lists step.input rows)
-
-    in-take : (n : ℕ) (ss : List ProbeStep) (s : ProbeStep) → In s (take n ss) → In s ss
-    in-take zero ss s h = absurd h
-    in-take (suc n) [] s h = absurd h
-    in-take (suc n) (t ∷ ss) s (inl e) = inl e
-    in-take (suc n) (t ∷ ss) s (inr h) = inr (in-take n ss s h)
-
-    reached : is_reached own.input (take (i + 1) steps) step.input ≡ true
-    reached = subst (λ (ss : List ProbeStep). is_reached own.input ss step.input ≡ true) (sym (steps_with steps i step at)) (reached_now own.input (take i steps) step)
-
-    apart : (c : List TupleAt) → In c (product (all_older own row_states)) → agree classes c ≡ true → ⊥
-    apart c h a =
-        let x = product-some (older_at own row_states) 0 (length row_states) step.input (omega arith) (omega (arith, there)) c h in
-        let choice = are.each classes (λ s m. links s (in-take (i + 1) steps s m)) step.input reached in
-        let among : is_among (get_or lists' step.input []) x.0 ≡ true = choice.passes c h a x.0 x.1 (older-input own row_states step.input x.0 x.2) in
-        false≢true (subst (λ (ps : Pairs). is_among ps x.0 ≡ true) lacks among)

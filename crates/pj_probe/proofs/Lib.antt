@@ -10,6 +10,7 @@ pub mod Filtering
 pub mod Finding
 pub mod HandedOut
 pub mod Hopped
+pub mod Lacking
 pub mod Looped
 pub mod Pairs
 pub mod Partners

@@ -1,5 +1,5 @@
 -- How the rows are found that may stand in a combination with a tuple, from one input to the next.
-use Rattle.std.specs.Prelude.{ℕ, ◌≡◌, ◌<◌, ◌==◌, if◌then◌else◌, Bool, true, List, [], ◌∷◌, Option, None, Some, filter, flat_map, length, map, slice_index_or}
+use Rattle.std.specs.Prelude.{ℕ, ◌≡◌, ◌<◌, ◌==◌, ◌⊎◌, if◌then◌else◌, Bool, true, List, [], ◌∷◌, Option, None, Some, filter, flat_map, length, map, slice_get, slice_index_or}
 use Rattle.pj_state.specs.declared.shared.Stored.{Stored}
 use Rattle.pj_state.specs.States.{StateView, pairs, row_under, rows_below}
 use Rattle.pj_probe.specs.Walks.{sides_at, tuple_at}
@@ -9,6 +9,7 @@ use Rattle.pj_probe.specs.declared.route.ProbeLink.{ProbeLink}
 use Rattle.pj_probe.specs.declared.route.ProbeStep.{ProbeStep}
 use Rattle.pj_rows.specs.Tuples.{state_at, tuples_in, under_with, ticket_in}
 use Rattle.pj_probe.specs.Choices.{choices}
+use Rattle.pj_probe.specs.Partners.{AreLinkedTo}
 
 -- the older tuples of an input; of the tuple's own input itself alone
 abbrev pub older_at : TupleAt → List StateView → ℕ → List TupleAt
@@ -62,10 +63,21 @@ abbrev pub AreStepped : Option ProbeLink → StateView → ℕ → List (List (�
 AreStepped None state below lists found = found ≡ pairs (rows_below below state.rows)
 AreStepped (Some link) state below lists found = AreLinked state link.index_column link.from_column (slice_index_or lists link.from_input []) below found
 
--- so many inputs were begun with, the tuple's own with its row alone
+-- so many inputs were begun with, the tuple's own with its row alone and each other one with none
 pub record BeginsWith (own : TupleAt) (count : ℕ) (lists : List (List (ℕ × List Value))) : Type 0 where
   pub lists_are : length lists ≡ count
   pub itself : own.input < count → map (tuple_at own.input) (slice_index_or lists own.input []) ≡ own ∷ []
+  pub others : (k : ℕ) → k < count → (k ≡ own.input → ⊥) → slice_index_or lists k [] ≡ []
+
+-- no row of a step's input can stand beside the tuple: there is none, or the link leads from the tuple and none has its value
+abbrev pub LacksPartner : TupleAt → List StateView → ProbeStep → Type 0
+LacksPartner own row_states step =
+    ((state_at row_states step.input).rows ≡ [])
+    ⊎ ((link : ProbeLink) × (step.link ≡ Some link) × (link.from_input ≡ own.input) × AreLinkedTo own link (state_at row_states step.input).rows [])
+
+-- so of one of these steps
+abbrev pub LacksAny : TupleAt → List StateView → List ProbeStep → Type 0
+LacksAny own row_states steps = (i : ℕ) × (step : ProbeStep) × (slice_get steps i ≡ Some step) × LacksPartner own row_states step
 
 -- the rows were found of each input that these steps reach
 pub record AreFound (own : TupleAt) (row_states : List StateView) (steps : List ProbeStep) (lists : List (List (ℕ × List Value))) : Type 0 where

@@ -1,18 +1,19 @@
 // The rows that may stand in a combination with a tuple, for each input.
-ghost use Rattle.std.specs.Prelude.{◌≡◌, ℕ, true, ◌+◌, ◌<◌, ◌++◌, ◌∷◌, [], length, map, slice_set, take, IfOk, IfSome, OnOk};
+ghost use Rattle.std.specs.Prelude.{◌≡◌, ℕ, false, true, ◌+◌, ◌<◌, ◌++◌, ◌∷◌, [], length, map, slice_set, take, IfOk, IfSome, OnOk};
 ghost use Rattle.pj_value.specs.Lists.{In};
 ghost use Rattle.pj_events.specs.Join.{value_at};
 ghost use Rattle.pj_state.specs.Rising.{IsRising};
 ghost use Rattle.pj_state.specs.States.{pairs, rows_below, ticket_of};
 ghost use Rattle.pj_probe.specs.Walks.{tuple_at};
-ghost use Rattle.pj_probe.specs.Hops.{AreFound, AreLinked, AreMore, AreStepped, BeginsWith, FindAll, HaveTickets, all_under, older_under};
+ghost use Rattle.pj_probe.specs.Hops.{AreFound, AreLinked, AreMore, AreStepped, BeginsWith, FindAll, HaveTickets, LacksAny, LacksPartner, all_under, older_under};
+ghost use Rattle.pj_probe.specs.Partners.{AreLinkedTo};
 ghost use Rattle.pj_probe.specs.Routes.{IsRoute, columns_of};
 ghost use Rattle.pj_rows.specs.Tuples.{AreWide, IsWide, state_at};
 
 use crate::Lent;
 use crate::route::{ProbeLink, ProbeRoute, ProbeStep};
 use pj_rows::{Arrived, in_order};
-use pj_state::{Spot, State};
+use pj_state::{Matching, Spot, State};
 use pj_value::{List, NoMemory, Row};
 use std::alloc::Global;
 use std::mem;
@@ -31,7 +32,8 @@ fn alone<'a>(alloc: Global, own: &Arrived<'a>) -> Result<Rows<'a>, NoMemory>
 
 // The tuple's own row where it is asked for, and else none.
 fn alone_if<'a>(alloc: Global, own: &Arrived<'a>, is_own: bool) -> Result<Rows<'a>, NoMemory>
-    ensures { IfOk result (λ list. is_own ≡ true → map (tuple_at own.now.input) list ≡ own.now ∷ []) }
+    ensures own { IfOk result (λ list. is_own ≡ true → map (tuple_at own.now.input) list ≡ own.now ∷ []) }
+    ensures other { IfOk result (λ list. is_own ≡ false → list ≡ []) }
 {
     if is_own {
         return alone(alloc, own);
@@ -257,8 +259,64 @@ fn follow<'a>(
     Ok(is_none)
 }
 
+/// The rows of an input to which the link leads from the tuple; `None` where that has no such column.
+pub fn linked_to<'a>(
+    own: &Arrived<'a>,
+    sides: &'a [State],
+    input: usize,
+    link: ProbeLink,
+) -> Option<Matching<'a>>
+    requires there { input < length sides.now }
+    requires indexed { In link.index_column (state_at sides.now input).columns }
+    ensures { IfSome result (AreLinkedTo own.now link (state_at sides.now input).rows) }
+{
+    match own.row().get(link.from_column as usize) {
+        None => None,
+        Some(value) => Some(sides[input].matching(link.index_column, value)),
+    }
+}
+
+// Whether no row of a step's input can stand beside the tuple: it has none, or the link leads from the tuple and none has its
+// value.
+fn lacks_partner(step: ProbeStep, own: &Arrived<'_>, sides: &[State]) -> bool
+    requires there { step.input < length sides.now }
+    requires indexed { IfSome step.link (λ link. In link.index_column (state_at sides.now step.input).columns) }
+    ensures { result ≡ true → LacksPartner own.now sides.now step }
+{
+    if sides[step.input].len() == 0 {
+        return true;
+    }
+    match step.link {
+        None => false,
+        Some(link) => {
+            if link.from_input != own.input() as usize {
+                return false;
+            }
+            match linked_to(own, sides, step.input, link) {
+                None => false,
+                Some(found) => found.len() == 0,
+            }
+        }
+    }
+}
+
+// Whether a step lacks partners of the tuple, as is seen before any row is taken.
+fn lacks_any(steps: &[ProbeStep], own: &Arrived<'_>, sides: &[State]) -> bool
+    requires wide { AreWide sides.now }
+    requires route { IsRoute (columns_of sides.now) own.now.input steps.now }
+    ensures { result ≡ true → LacksAny own.now sides.now steps.now }
+{
+    for at in 0..steps.len() {
+        if lacks_partner(steps[at], own, sides) {
+            return true;
+        }
+    }
+    false
+}
+
 /// For each input rows that hold all which may stand in a combination with this tuple: of its own input its own row alone,
-/// of each other older ones, as the steps of the route find them. Where a step finds none there are none of those behind it.
+/// of each other older ones, as the steps of the route find them. Where a step finds none, or of several steps one is seen to
+/// find none before they are gone, there are none of those behind it.
 pub fn choices<'a>(
     alloc: Global,
     route: &ProbeRoute,
@@ -273,6 +331,9 @@ pub fn choices<'a>(
 {
     let mut lists = begin(alloc, own, sides.len())?;
     let steps = route.steps.as_slice();
+    if steps.len() > 1 && lacks_any(steps, own, sides) {
+        return Ok(List::of(lists));
+    }
     for at in 0..steps.len() {
         if follow(alloc, steps, at, own, sides, &mut lists)? {
             return Ok(List::of(lists));

@@ -1,14 +1,14 @@
 // What a join hands out.
 ghost use Rattle.std.specs.Prelude.{◌≡◌, ◌<◌, ◌≤◌, ◌-◌, ◌++◌, ◌∷◌, [], true, map, length, take, OnOk, OnErr, IfOk, IfSome};
 ghost use Rattle.std.specs.Arc.{arc_value};
-ghost use Rattle.pj_events.specs.Join.{In, agree};
-ghost use Rattle.pj_probe.specs.Partners.{AllAgree, AreLinkedTo, ArePartners};
+ghost use Rattle.pj_events.specs.Join.{agree};
+ghost use Rattle.pj_probe.specs.Partners.{AllAgree, ArePartners};
 ghost use Rattle.pj_probe.specs.Results.{found_out, pair_of, pairs_out};
 ghost use Rattle.pj_probe.specs.Routes.{IsProbeRoute, columns_of};
-ghost use Rattle.pj_rows.specs.Tuples.{AreWide, state_at, tuple_in, tuples_in};
+ghost use Rattle.pj_rows.specs.Tuples.{AreWide, tuple_in, tuples_in};
 
-use crate::choosing::choices;
-use crate::route::{ProbeLink, ProbeRoute};
+use crate::choosing::{choices, linked_to};
+use crate::route::ProbeRoute;
 use crate::{JoinChecks, Joined, Visit, each_lent};
 use pj_events::Out;
 use pj_rows::Arrived;
@@ -28,23 +28,6 @@ fn make_room(alloc: Global, outs: &mut List<Out>, count: usize) -> Result<(), No
         *outs = List::with_room(alloc, count)?;
     }
     Ok(())
-}
-
-// The rows of an input to which the link leads from the tuple; `None` where that has no such column.
-fn linked_to<'a>(
-    own: &Arrived<'a>,
-    sides: &'a [State],
-    input: usize,
-    link: ProbeLink,
-) -> Option<Matching<'a>>
-    requires there { input < length sides.now }
-    requires indexed { In link.index_column (state_at sides.now input).columns }
-    ensures { IfSome result (AreLinkedTo own.now link (state_at sides.now input).rows) }
-{
-    match own.row().get(link.from_column as usize) {
-        None => None,
-        Some(value) => Some(sides[input].matching(link.index_column, value)),
-    }
 }
 
 // The rows of the other one of two inputs among which all are that the tuple is joined with; `None` where no index tells.

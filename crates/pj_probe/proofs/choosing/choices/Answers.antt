@@ -1,15 +1,24 @@
 use Rattle.std.proofs.Common.{[], List, ap, length, refl, sym, subst, arith}
 use Rattle.pj_probe.specs.Hops.{FindAll}
+use Rattle.pj_probe.specs.Routes.{IsRoute, columns_of}
 use Rattle.pj_probe.specs.declared.route.ProbeStep.{ProbeStep}
 use Rattle.pj_probe.proofs.Hopped.{Pairs, all_found, found_begin}
+use Rattle.pj_probe.proofs.Lacking.{lacking_found}
 use Rattle.pj_probe.proofs.choosing.choices.Goals as goal
 
 pub loop-at-init : goal.loop-at-init
 loop-at-init c = found_begin c.args.own.now c.args.sides.now [] c.in_ok-lists.lists.items (length c.args.sides.now) refl refl c.requires.there c.in_ok-lists.ensures
 
+pub returns-then-lacks_any-clause-same : goal.returns-then-lacks_any-clause-same
+returns-then-lacks_any-clause-same c =
+    subst (λ (steps : List ProbeStep). FindAll c.args.own.now c.args.sides.now steps c.of.result) c.as_slice-steps.ensures
+    (lacking_found c.args.own.now c.args.sides.now c.as_slice-steps.result.now c.in_ok-lists.lists.items c.of.result (length c.args.sides.now)
+    (subst (λ (steps : List ProbeStep). IsRoute (columns_of c.args.sides.now) c.args.own.now.input steps) (sym c.as_slice-steps.ensures) c.requires.route)
+    c.requires.wide c.requires.there refl c.in_ok-lists.ensures (c.lacks_any.ensures c.if-lacks_any.true) c.of.ensures)
+
 pub returns-then-branch-clause-same : goal.returns-then-branch-clause-same
 returns-then-branch-clause-same c =
-    subst (λ (lists : List Pairs). FindAll c.args.own.now c.args.sides.now c.args.route.now.steps lists) (sym c.of.ensures)
+    subst (λ (lists : List Pairs). FindAll c.args.own.now c.args.sides.now c.args.route.now.steps lists) (sym c.of-then-branch.ensures)
     (subst (λ (steps : List ProbeStep). FindAll c.args.own.now c.args.sides.now steps c.follow.new.lists.items) c.as_slice-steps.ensures (c.in_ok-follow.ensures.none c.if-branch.true))
 
 pub returns-clause-same : goal.returns-clause-same

@@ -6,7 +6,8 @@ use Rattle.pj_events.specs.Join.{In}
 use Rattle.pj_probe.specs.Hops.{AreStepped}
 use Rattle.pj_rows.specs.Tuples.{state_at}
 use Rattle.pj_probe.specs.declared.route.ProbeStep.{ProbeStep}
-use Rattle.pj_probe.proofs.Hopped.{Pairs, none_found, route_step, step_link}
+use Rattle.pj_probe.proofs.Hopped.{Pairs, route_step, step_link}
+use Rattle.pj_probe.proofs.Lacking.{none_found}
 use Rattle.pj_probe.proofs.Routed.{step_there}
 use Rattle.pj_probe.proofs.choosing.follow.Goals as goal
 
