@@ -11,3 +11,4 @@ pub mod Partners
 pub mod Making
 pub mod Linked
 pub mod Instances
+pub mod Determined

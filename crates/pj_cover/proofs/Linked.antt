@@ -50,13 +50,13 @@ first-of (k ∷ classes) class at apart h ha = go (has_column k at) refl h (firs
     go false e (inl same) ih = absurd (false≢true (sym e ∙ has (subst (λ (cs : List ClassCol). In at cs) (sym same) ha)))
     go false e (inr m) ih = ih m ha
 
-in-classes : (classes : List (List ClassCol)) (input column : ℕ) (c : ClassCol) → In c (class_with classes input column) → In (class_with classes input column) classes
+pub in-classes : (classes : List (List ClassCol)) (input column : ℕ) (c : ClassCol) → In c (class_with classes input column) → In (class_with classes input column) classes
 in-classes classes input column c h =
     let at : ClassCol = record { input = input; column = column } in
     let same : first_class classes at ≡ class_with classes input column = first_class_is classes at in
     subst (λ (cs : List ClassCol). In cs classes) same (class-is classes at c (subst (λ (cs : List ClassCol). In c cs) (sym same) h))
 
-own-in : (classes : List (List ClassCol)) (input column : ℕ) (c : ClassCol) → In c (class_with classes input column) → In (record { input = input; column = column }) (class_with classes input column)
+pub own-in : (classes : List (List ClassCol)) (input column : ℕ) (c : ClassCol) → In c (class_with classes input column) → In (record { input = input; column = column }) (class_with classes input column)
 own-in classes input column c h =
     let at : ClassCol = record { input = input; column = column } in
     let same : first_class classes at ≡ class_with classes input column = first_class_is classes at in

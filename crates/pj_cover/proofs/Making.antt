@@ -116,6 +116,7 @@ step-keeps classes e known old more s is =
       within = let l : length (old ++ more) ≡ length old + length more = length-append old more in let w = is.within in omega (arith, l, w);
       leads = subst (λ (ls : List PurgeLink). AreLinks classes known e (length e.marks) ls) (sym same) is.leads;
       single = subst (λ (ls : List PurgeLink). IfSome s.single (IsSingle ls e.marks)) (sym same) is.single;
+      determined = is.determined;
     }
 
 steps-more : (classes : List (List ClassCol)) (schemes : List (List (List Bool))) (known : List ℕ) (old more : List PurgeLink) (steps : List PurgeStep) (s : PurgeStep)

@@ -15,13 +15,12 @@ use Rattle.pj_shape.specs.Sound.{IsSoundSpec, arities_of}
 use Rattle.pj_events.specs.Join.{In, TupleAt, ClassCol, CertEntry, CertStep, agree, no_value, part_of, value_at, values}
 use Rattle.pj_join_laws.proofs.Matching.{agree-at, value-in, values-mono}
 use Rattle.pj_cover.specs.declared.ripeness.Verdict.{Verdict}
-use Rattle.pj_cover.specs.declared.ripeness.Verdict.TheVariants.{Ripe}
 use Rattle.pj_puncts.specs.Stores.{Store}
 use Rattle.pj_cover.specs.Rising.{AreAbove, AreRisingRows, has_there_value, row_with, tickets_with}
 use Rattle.pj_rows.specs.Tuples.{ticket_in}
-use Rattle.pj_cover.specs.Asking.{Known, AreDone, AreDoneUnder, AreParts, IsOnWalk, HaveLength, HavePartners, IsDone, IsJudgedThrough, IsJudgedUnder, IsJudgedWith, IsPartnerKey, says_ripe, tuple_of}
+use Rattle.pj_cover.specs.Asking.{Known, AreDone, AreDoneUnder, AreParts, Decides, IsOnWalk, HaveLength, HavePartners, IsDone, IsJudgedThrough, IsJudgedUnder, IsPartnerKey, tuple_of}
 use Rattle.pj_cover.proofs.Bound.{class-cells}
-use Rattle.pj_cover.proofs.Judged.{says_more, says_yes}
+use Rattle.pj_cover.proofs.Judged.{says_more}
 use Rattle.pj_puncts.proofs.Lent.{drop_here}
 use Rattle.pj_cover.proofs.Steps.{length-map}
 
@@ -105,36 +104,44 @@ found_in ticket row (q ∷ rows) e = go (eqb q.0 ticket) refl e (found_in ticket
 
 -- ---- what was judged through rows under tickets
 
-pub no_row_under : (k : Known) (cert : List CertEntry) (xs : List TupleAt) (input ticket : ℕ) (rows : List (ℕ × List Value)) → row_with ticket rows ≡ None → IsJudgedUnder k cert xs (map (tuple_of input) rows) (ticket ∷ []) Ripe
+pub no_row_under : (k : Known) (cert : List CertEntry) (xs : List TupleAt) (input ticket : ℕ) (rows : List (ℕ × List Value)) → row_with ticket rows ≡ None → AreDoneUnder k cert xs (map (tuple_of input) rows) (ticket ∷ [])
 no_row_under k cert xs input ticket rows none = λ y h n. elim n [
   | inl is ↦ let r = In-map (tuple_of input) y rows h in absurd (no-such ticket rows none r.0 r.1 (ap (λ (z : TupleAt). z.ticket) r.2 ∙ sym is))
   | inr n' ↦ absurd n'
 ]
 
-pub row_under_judged : (k : Known) (cert : List CertEntry) (xs : List TupleAt) (input ticket : ℕ) (row : List Value) (rows : List (ℕ × List Value)) (v : Verdict) → AreRisingRows rows → row_with ticket rows ≡ Some row
-    → IsJudgedWith k cert xs (tuple_of input (ticket, row)) v → IsJudgedUnder k cert xs (map (tuple_of input) rows) (ticket ∷ []) v
-row_under_judged k cert xs input ticket row rows v rises is j =
-    says_more (IsDone k cert xs (tuple_of input (ticket, row))) (AreDoneUnder k cert xs (map (tuple_of input) rows) (ticket ∷ [])) k cert xs v
-    (λ done y h n. elim n [
-      | inl same ↦
-          let r = In-map (tuple_of input) y rows h in
-          let one : r.0 ≡ (ticket, row) = the-one ticket row rows rises is r.0 r.1 (ap (λ (z : TupleAt). z.ticket) r.2 ∙ sym same) in
-          let it : tuple_of input (ticket, row) ≡ y = ap (tuple_of input) (sym one) ∙ r.2 in
-          subst (λ (z : TupleAt). IsDone k cert xs z) it done
-      | inr n' ↦ absurd n'
-    ]) j
+one-done : (k : Known) (cert : List CertEntry) (xs : List TupleAt) (input ticket : ℕ) (row : List Value) (rows : List (ℕ × List Value)) → AreRisingRows rows → row_with ticket rows ≡ Some row
+    → IsDone k cert xs (tuple_of input (ticket, row)) → AreDoneUnder k cert xs (map (tuple_of input) rows) (ticket ∷ [])
+one-done k cert xs input ticket row rows rises is done y h n = elim n [
+  | inl same ↦
+      let r = In-map (tuple_of input) y rows h in
+      let one : r.0 ≡ (ticket, row) = the-one ticket row rows rises is r.0 r.1 (ap (λ (z : TupleAt). z.ticket) r.2 ∙ sym same) in
+      let it : tuple_of input (ticket, row) ≡ y = ap (tuple_of input) (sym one) ∙ r.2 in
+      subst (λ (z : TupleAt). IsDone k cert xs z) it done
+  | inr n' ↦ absurd n'
+]
+
+-- the one row with the ticket decides as it is
+pub row_under_decides : (k : Known) (cert : List CertEntry) (xs : List TupleAt) (input ticket : ℕ) (row : List Value) (rows : List (ℕ × List Value)) (told : Option Verdict) → AreRisingRows rows → row_with ticket rows ≡ Some row
+    → Decides (IsDone k cert xs (tuple_of input (ticket, row))) k cert xs (map (tuple_of input) rows) told → Decides (AreDoneUnder k cert xs (map (tuple_of input) rows) (ticket ∷ [])) k cert xs (map (tuple_of input) rows) told
+row_under_decides k cert xs input ticket row rows None rises is d = one-done k cert xs input ticket row rows rises is d
+row_under_decides k cert xs input ticket row rows (Some v) rises is d = d
 
 under-more : (k : Known) (cert : List CertEntry) (xs ys : List TupleAt) (before : List ℕ) (ticket : ℕ) → AreDoneUnder k cert xs ys before → AreDoneUnder k cert xs ys (ticket ∷ []) → AreDoneUnder k cert xs ys (before ++ ticket ∷ [])
 under-more k cert xs ys before ticket a b = λ y h n. elim (In-append_cases y.ticket before (ticket ∷ []) n) [ inl q ↦ a y h q | inr q ↦ b y h q ]
 
 -- one ticket more
-pub one_more_under : (k : Known) (cert : List CertEntry) (xs zs ys : List TupleAt) (tickets : List ℕ) (n ticket : ℕ) (v : Verdict) → slice_get tickets n ≡ Some ticket → zs ≡ xs → AreDoneUnder k cert xs ys (take n tickets)
-    → IsJudgedUnder k cert zs ys (ticket ∷ []) v → says_ripe v ≡ true → AreDoneUnder k cert xs ys (take (n + 1) tickets)
-one_more_under k cert xs zs ys tickets n ticket v here same done j holds =
-    let now : AreDoneUnder k cert xs ys (ticket ∷ []) =
-    subst (λ (ws : List TupleAt). AreDoneUnder k cert ws ys (ticket ∷ [])) same (says_yes (AreDoneUnder k cert zs ys (ticket ∷ [])) k cert zs v holds j) in
+pub one_more_under : (k : Known) (cert : List CertEntry) (xs zs ys : List TupleAt) (tickets : List ℕ) (n ticket : ℕ) → slice_get tickets n ≡ Some ticket → zs ≡ xs → AreDoneUnder k cert xs ys (take n tickets)
+    → AreDoneUnder k cert zs ys (ticket ∷ []) → AreDoneUnder k cert xs ys (take (n + 1) tickets)
+one_more_under k cert xs zs ys tickets n ticket here same done more =
+    let now : AreDoneUnder k cert xs ys (ticket ∷ []) = subst (λ (ws : List TupleAt). AreDoneUnder k cert ws ys (ticket ∷ [])) same more in
     subst (λ (ts : List ℕ). AreDoneUnder k cert xs ys ts) (sym (take_more tickets n ticket (slice_get_within tickets n ticket here) ∙ ap (λ t. take n tickets ++ t ∷ []) (get_or_from_slice_get tickets n ticket ticket here)))
     (under-more k cert xs ys (take n tickets) ticket done now)
+
+-- what is said of all is said of those
+pub said_under : (k : Known) (cert : List CertEntry) (xs zs ys : List TupleAt) (tickets : List ℕ) (v : Verdict) → zs ≡ xs → IsJudgedThrough k cert zs ys v → IsJudgedUnder k cert xs ys tickets v
+said_under k cert xs zs ys tickets v same j =
+    says_more (AreDone k cert xs ys) (AreDoneUnder k cert xs ys tickets) k cert xs v (λ done y h n. done y h) (subst (λ (ws : List TupleAt). IsJudgedThrough k cert ws ys v) same j)
 
 under-whole : (k : Known) (cert : List CertEntry) (xs ys : List TupleAt) (tickets : List ℕ) → HavePartners k.classes xs ys tickets → AreDoneUnder k cert xs ys tickets → AreDone k cert xs ys
 under-whole k [] xs ys tickets have done = λ y h. tt

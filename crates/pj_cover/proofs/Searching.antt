@@ -8,7 +8,6 @@ use Rattle.pj_shape.specs.declared.joins.JoinSpec.{JoinSpec}
 use Rattle.pj_shape.specs.Sound.{arities_of}
 use Rattle.pj_events.specs.Join.{In, TupleAt, CertEntry, CertStep, demand, entry_of}
 use Rattle.pj_cover.specs.declared.ripeness.Verdict.{Verdict}
-use Rattle.pj_cover.specs.declared.ripeness.Verdict.TheVariants.{Ripe}
 use Rattle.pj_puncts.specs.Stores.{Store}
 use Rattle.pj_rows.specs.AgreesWith.{agrees_with}
 use Rattle.pj_cover.specs.Asking.{Known, AreParts, AreDone, IsDone, IsJudged, IsJudgedThrough, IsJudgedWith, IsOnWalk, IsStep, IsStepJudged, entries, known_of, says_ripe, tuple_of}
@@ -16,7 +15,7 @@ use Rattle.pj_rows.proofs.Agreeing.{front_agree, front_agrees_with}
 use Rattle.pj_cover.proofs.Stored.{in-tuples, tuples-in}
 use Rattle.pj_cover.proofs.Steps.{length-map, step_ready, walk_more}
 use Rattle.pj_puncts.proofs.Lent.{drop_here}
-use Rattle.pj_cover.proofs.Judged.{judged_here, judged_through, step_covered, done_last, done_more, done_apart, judged_with, says_yes}
+use Rattle.pj_cover.proofs.Judged.{judged_here, judged_through, step_covered, done_last, done_more, done_apart, judged_with}
 
 abbrev pub Rows : Type 0
 Rows = ℕ → List (ℕ × List Value)
@@ -69,12 +68,11 @@ last_step k schemes cert at step xs ys here le =
     let e : drop at cert ≡ step ∷ [] = drop_here cert at step here ∙ ap (λ (steps : List CertStep). step ∷ steps) (drop-past (at + 1) cert le) in
     subst (λ (steps : List CertStep). AreDone k (entries schemes steps) xs ys) (sym e) (done_last k (entry_of schemes step) xs ys)
 
-pub one_more : (k : Known) (cert : List CertEntry) (input : ℕ) (xs zs : List TupleAt) (rs : List (ℕ × List Value)) (n : ℕ) (r : ℕ × List Value) (v : Verdict)
+pub one_more : (k : Known) (cert : List CertEntry) (input : ℕ) (xs zs : List TupleAt) (rs : List (ℕ × List Value)) (n : ℕ) (r : ℕ × List Value)
     → slice_get rs n ≡ Some r → zs ≡ xs → AreDone k cert xs (take n (map (tuple_of input) rs))
-    → IsJudgedWith k cert zs (tuple_of input r) v → says_ripe v ≡ true → AreDone k cert xs (take (n + 1) (map (tuple_of input) rs))
-one_more k cert input xs zs rs n r v row same done j holds =
-    done_more k cert xs (map (tuple_of input) rs) n (tuple_of input r) (map_here (tuple_of input) rs n r row) done
-    (subst (λ (ws : List TupleAt). IsDone k cert ws (tuple_of input r)) same (says_yes (IsDone k cert zs (tuple_of input r)) k cert zs v holds j))
+    → IsDone k cert zs (tuple_of input r) → AreDone k cert xs (take (n + 1) (map (tuple_of input) rs))
+one_more k cert input xs zs rs n r row same done more =
+    done_more k cert xs (map (tuple_of input) rs) n (tuple_of input r) (map_here (tuple_of input) rs n r row) done (subst (λ (ws : List TupleAt). IsDone k cert ws (tuple_of input r)) same more)
 
 pub all_gone : (k : Known) (cert : List CertEntry) (xs ys : List TupleAt) (n : ℕ) → length ys ≤ n → AreDone k cert xs (take n ys) → AreDone k cert xs ys
 all_gone k cert xs ys n le done = subst (λ (zs : List TupleAt). AreDone k cert xs zs) (take_all n ys le) done
@@ -82,16 +80,16 @@ all_gone k cert xs ys n le done = subst (λ (zs : List TupleAt). AreDone k cert 
 -- ---- with one row
 
 pub not_suited : (k : Known) (schemes : List (List (List Bool))) (cert : List CertStep) (at : ℕ) (step : CertStep) (xs : List TupleAt) (y : TupleAt) → slice_get cert at ≡ Some step → agrees_with k.classes xs y ≡ false
-    → IsJudgedWith k (entries schemes (drop at cert)) xs y Ripe
+    → IsDone k (entries schemes (drop at cert)) xs y
 not_suited k schemes cert at step xs y here f =
-    subst (λ (steps : List CertStep). IsJudgedWith k (entries schemes steps) xs y Ripe) (sym (drop_here cert at step here))
+    subst (λ (steps : List CertStep). IsDone k (entries schemes steps) xs y) (sym (drop_here cert at step here))
     (done_apart k (entry_of schemes step) (entries schemes (drop (at + 1) cert)) xs y (λ a. let t : agrees_with k.classes xs y ≡ true = front_agrees_with k.classes xs y a in cc))
 
 -- it is not below the low-water ticket
 pub not_older : (k : Known) (schemes : List (List (List Bool))) (cert : List CertStep) (at : ℕ) (step : CertStep) (xs : List TupleAt) (y : TupleAt) → slice_get cert at ≡ Some step → k.low ≤ y.ticket
-    → IsJudgedWith k (entries schemes (drop at cert)) xs y Ripe
+    → IsDone k (entries schemes (drop at cert)) xs y
 not_older k schemes cert at step xs y here le =
-    subst (λ (steps : List CertStep). IsJudgedWith k (entries schemes steps) xs y Ripe) (sym (drop_here cert at step here)) (λ m. let lt = m.below in absurd (omega (arith, le, lt)))
+    subst (λ (steps : List CertStep). IsDone k (entries schemes steps) xs y) (sym (drop_here cert at step here)) (λ m. let lt = m.below in absurd (omega (arith, le, lt)))
 
 -- one row more may be lent
 pub goes_on : (spec : JoinSpec) (schemes : List (List (List Bool))) (rows : Rows) (punct_stores : List Store) (cert : List CertStep) (at : ℕ) (step : CertStep) (xs ys : List TupleAt) (r : ℕ × List Value)

@@ -1,5 +1,5 @@
 -- What a row asks for over the stored rows, and the first of it that is not covered.
-use Rattle.std.specs.Prelude.{⊤, ℕ, zero, suc, ◌+◌, ◌<◌, ◌≡◌, Bool, true, false, nat_lt, ◌&&◌, if◌then◌else◌, List, [], ◌∷◌, ◌++◌, length, map, slice_index, slice_index_or, ◌≤◌}
+use Rattle.std.specs.Prelude.{⊤, ℕ, zero, suc, ◌+◌, ◌<◌, ◌≡◌, Bool, true, false, nat_lt, ◌&&◌, if◌then◌else◌, List, [], ◌∷◌, ◌++◌, Option, None, Some, length, map, slice_index, slice_index_or, ◌≤◌}
 use Rattle.std.specs.List.{list_all}
 use Rattle.pj_value.specs.declared.values.Value.{Value}
 use Rattle.pj_value.specs.Lists.{In}
@@ -111,6 +111,10 @@ Says holds k cert xs Lagging = AskEarly k cert xs
 abbrev pub IsJudged : Known → List CertEntry → List TupleAt → Verdict → Type 0
 IsJudged k cert xs v = Says (all_covered k cert xs ≡ true) k cert xs v
 
+-- it tells whether a row of the input with any ticket is ripe by what it asks for
+abbrev pub TellsRipe : Known → List CertEntry → ℕ → List Value → Verdict → Type 0
+TellsRipe k cert input row v = (ticket : ℕ) → says_ripe v ≡ all_covered k cert (tuple_of input (ticket, row) ∷ [])
+
 -- of one instance
 abbrev pub IsStepJudged : Known → Demand → Verdict → Type 0
 IsStepJudged k d Ripe = is_covered k d ≡ true
@@ -144,6 +148,11 @@ AreDoneUnder k cert xs ys tickets = (y : TupleAt) → In y ys → In y.ticket ti
 
 abbrev pub IsJudgedUnder : Known → List CertEntry → List TupleAt → List TupleAt → List ℕ → Verdict → Type 0
 IsJudgedUnder k cert xs ys tickets v = Says (AreDoneUnder k cert xs ys tickets) k cert xs v
+
+-- nothing is told where this holds; else what is said is so of all the rows
+abbrev pub Decides : Type 0 → Known → List CertEntry → List TupleAt → List TupleAt → Option Verdict → Type 0
+Decides holds k cert xs ys None = holds
+Decides holds k cert xs ys (Some v) = IsJudgedThrough k cert xs ys v
 
 -- each of the rows that joins with these has one of the tickets
 abbrev pub HavePartners : List (List ClassCol) → List TupleAt → List TupleAt → List ℕ → Type 0

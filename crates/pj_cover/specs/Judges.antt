@@ -1,9 +1,9 @@
 -- What a judge of stored rows looks at.
-use Rattle.std.specs.Prelude.{ℕ, List, Option, drop, slice_index_or}
+use Rattle.std.specs.Prelude.{ℕ, List, [], ◌∷◌, Option, drop, slice_index_or}
 use Rattle.pj_value.specs.declared.values.Value.{Value}
 use Rattle.pj_events.specs.Join.{CertEntry, TupleAt, entry_of, instance_from}
 use Rattle.pj_puncts.specs.Stores.{Store, TellsCover}
-use Rattle.pj_cover.specs.Asking.{AreParts, IsJudgedThrough, IsJudgedUnder, IsJudgedWith, IsOnWalk, Known, entries, inputs_of, known_of, marks_of, tuples_at}
+use Rattle.pj_cover.specs.Asking.{AreDoneUnder, AreParts, Decides, IsDone, IsJudgedThrough, IsJudgedUnder, IsOnWalk, Known, entries, inputs_of, known_of, marks_of, tuples_at}
 use Rattle.pj_cover.specs.Routes.{AreSteps, IsPurgeStep, IsReady, steps_in}
 use Rattle.pj_cover.specs.declared.ripeness.Verdict.{Verdict}
 use Rattle.pj_cover.specs.declared.ripeness.Judge.{Judge}
@@ -54,6 +54,11 @@ IsJudgedAt rows j at input xs v = IsJudgedThrough (known_by rows j) (steps_from 
 abbrev pub IsJudgedAmong : {R : Type 0} → Rows → Judge R → ℕ → ℕ → List ℕ → List TupleAt → Verdict → Type 0
 IsJudgedAmong rows j at input tickets xs v = IsJudgedUnder (known_by rows j) (steps_from j at) xs (tuples_at rows input) tickets v
 
--- the same with this row alone
-abbrev pub IsJudgedBy : {R : Type 0} → Rows → Judge R → ℕ → List TupleAt → TupleAt → Verdict → Type 0
-IsJudgedBy rows j at xs y v = IsJudgedWith (known_by rows j) (steps_from j at) xs y v
+-- nothing is told where this row is done; else what is said is so of all rows of its input
+abbrev pub IsDecidedBy : {R : Type 0} → Rows → Judge R → ℕ → List TupleAt → TupleAt → Option Verdict → Type 0
+IsDecidedBy rows j at xs y told = Decides (IsDone (known_by rows j) (steps_from j at) xs y) (known_by rows j) (steps_from j at) xs (tuples_at rows y.input) told
+
+-- the same with the row of the input that has this ticket
+abbrev pub IsDecidedUnder : {R : Type 0} → Rows → Judge R → ℕ → ℕ → ℕ → List TupleAt → Option Verdict → Type 0
+IsDecidedUnder rows j at input ticket xs told =
+    Decides (AreDoneUnder (known_by rows j) (steps_from j at) xs (tuples_at rows input) (ticket ∷ [])) (known_by rows j) (steps_from j at) xs (tuples_at rows input) told

@@ -56,6 +56,14 @@ AddsLinks classes known e upto old new = (more : List PurgeLink) × (new ≡ old
 
 -- ---- steps
 
+-- where the class has a column of the input, it has one of a known input
+abbrev pub IsFixed : List ℕ → ℕ → List ClassCol → Type 0
+IsFixed known input class = (at : ClassCol) → In at class → at.input ≡ input → (c : ClassCol) × In c class × In c.input known
+
+-- each of the classes does: the rows of the known inputs tell the value of each column of the input that is in a class
+abbrev pub AreFixed : List (List ClassCol) → List ℕ → ℕ → Type 0
+AreFixed classes known input = (class : List ClassCol) → In class classes → IsFixed known input class
+
 -- the links of a step
 abbrev pub links_of : List PurgeLink → PurgeStep → List PurgeLink
 links_of links step = take step.count (drop step.first links)
@@ -69,6 +77,7 @@ pub record IsPurgeStep (classes : List (List ClassCol)) (e : CertEntry) (known :
   pub within : step.first + step.count ≤ length links
   pub leads : AreLinks classes known e (length e.marks) (links_of links step)
   pub single : IfSome step.single (IsSingle (links_of links step) e.marks)
+  pub determined : step.is_determined ≡ true → AreFixed classes known e.input
 
 -- a route: its steps, and the links of all of them
 pub record RouteView : Type 0 where

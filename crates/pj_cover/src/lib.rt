@@ -9,5 +9,5 @@ mod rows;
 
 pub use pj_puncts::{Given, NumberedPunct, PunctStore};
 pub use ripeness::{Verdict, judge_row, ripe};
-pub use route::{PurgeLink, PurgeRoute, PurgeStep, Source, purge_route};
+pub use route::{PurgeLink, PurgeRoute, PurgeStep, Source, first_class, purge_route};
 pub use rows::StoredRows;

@@ -5,9 +5,9 @@ ghost use Rattle.pj_shape.specs.Sound.{FitSchemes, IsSoundSpec, arities_of};
 ghost use Rattle.pj_shape.specs.Certificates.{IsCertificate};
 ghost use Rattle.pj_events.specs.Join.{agree, demand, entry_of};
 ghost use Rattle.pj_cover.specs.Rising.{AreRisingRows};
-ghost use Rattle.pj_cover.specs.Asking.{AreParts, HaveLength, HavePartners, IsJudged, IsStep, IsStepJudged, all_covered, entries, is_ripe, known_of, says_ripe, tuple_of, tuples_at};
+ghost use Rattle.pj_cover.specs.Asking.{AreParts, HaveLength, HavePartners, IsJudged, IsStep, IsStepJudged, TellsRipe, entries, is_ripe, known_of, says_ripe, tuple_of, tuples_at};
 ghost use Rattle.pj_cover.specs.Routes.{IsPurgeRoute, steps_in};
-ghost use Rattle.pj_cover.specs.Judges.{IsJudgedAmong, IsJudgedAt, IsJudgedBy, IsReadyAt, IsRouteAt, IsStepHere, IsWalkAt, MayJudge, TellsStep, known_by, steps_from};
+ghost use Rattle.pj_cover.specs.Judges.{IsDecidedBy, IsDecidedUnder, IsJudgedAmong, IsJudgedAt, IsReadyAt, IsRouteAt, IsStepHere, IsWalkAt, MayJudge, TellsStep, known_by, steps_from};
 
 use crate::StoredRows;
 use crate::covering::{covering_all, covering_one};
@@ -165,9 +165,9 @@ impl<'a, R: StoredRows> Judge<'a, R> {
     {
         for n in 0..self.rows.count(step.step.input) {
             let (ticket, row) = self.rows.nth(step.step.input, n);
-            let through = self.seek_with(at, step, ticket, row, parts);
-            if !through.is_ripe() {
-                return through;
+            match self.seek_with(at, step, ticket, row, parts) {
+                None => {}
+                Some(through) => return through,
             }
         }
         Verdict::Ripe
@@ -192,15 +192,15 @@ impl<'a, R: StoredRows> Judge<'a, R> {
         ensures judged { IsJudgedAmong (R.rows self.now.rows.now) self.now at step.step.input tickets.now parts.old.items result }
     {
         for ticket in tickets {
-            let through = self.seek_under(at, step, *ticket, parts);
-            if !through.is_ripe() {
-                return through;
+            match self.seek_under(at, step, *ticket, parts) {
+                None => {}
+                Some(through) => return through,
             }
         }
         Verdict::Ripe
     }
 
-    // The same through the stored row with this ticket.
+    // The same through the stored row with this ticket; `None` where the others are still to be gone through.
     #[cycle(judging)]
     fn seek_under(
         &self,
@@ -208,7 +208,7 @@ impl<'a, R: StoredRows> Judge<'a, R> {
         step: PurgeStep,
         ticket: u64,
         parts: &mut ArrayVec<Lent<'a>, 16>,
-    ) -> Verdict
+    ) -> Option<Verdict>
         requires parts { MayJudge (R.rows self.now.rows.now) self.now }
         requires walk { IsWalkAt self.now at parts.old.items }
         requires route { IsRouteAt self.now at parts.old.items }
@@ -216,15 +216,15 @@ impl<'a, R: StoredRows> Judge<'a, R> {
         requires fits { at + 1 < 2 ^ 64 }
         requires rising { AreRisingRows (R.rows self.now.rows.now step.step.input) }
         ensures same { parts.new.items ≡ parts.old.items }
-        ensures judged { IsJudgedAmong (R.rows self.now.rows.now) self.now at step.step.input (ticket ∷ []) parts.old.items result }
+        ensures judged { IsDecidedUnder (R.rows self.now.rows.now) self.now at step.step.input ticket parts.old.items result }
     {
         match self.rows.get(step.step.input, ticket) {
-            None => Verdict::Ripe,
+            None => None,
             Some(row) => self.seek_with(at, step, ticket, row, parts),
         }
     }
 
-    // The same through this stored row.
+    // The same through this stored row; `None` where the others are still to be gone through.
     #[cycle(judging)]
     fn seek_with(
         &self,
@@ -233,7 +233,7 @@ impl<'a, R: StoredRows> Judge<'a, R> {
         ticket: u64,
         row: &'a Row,
         parts: &mut ArrayVec<Lent<'a>, 16>,
-    ) -> Verdict
+    ) -> Option<Verdict>
         requires parts { MayJudge (R.rows self.now.rows.now) self.now }
         requires walk { IsWalkAt self.now at parts.old.items }
         requires route { IsRouteAt self.now at parts.old.items }
@@ -241,19 +241,25 @@ impl<'a, R: StoredRows> Judge<'a, R> {
         requires fits { at + 1 < 2 ^ 64 }
         requires stored { In (ticket, row.now) (R.rows self.now.rows.now step.step.input) }
         ensures same { parts.new.items ≡ parts.old.items }
-        ensures judged { IsJudgedBy (R.rows self.now.rows.now) self.now at parts.old.items (tuple_of step.step.input (ticket, row.now)) result }
+        ensures judged { IsDecidedBy (R.rows self.now.rows.now) self.now at parts.old.items (tuple_of step.step.input (ticket, row.now)) result }
     {
         if ticket >= self.low {
-            return Verdict::Ripe;
+            return None;
         }
         let next = Lent::of(ticket, step.step.input, row);
         if !match_all(self.route.links_of(step), parts.as_slice(), &next) {
-            return Verdict::Ripe;
+            return None;
         }
         parts.insert(0, next);
         let through = self.seek(at + 1, parts);
         parts.remove(0);
-        through
+        if !through.is_ripe() {
+            return Some(through);
+        }
+        if step.is_determined {
+            return Some(Verdict::Ripe);
+        }
+        None
     }
 
     // What is said of what a row asks for after the first step, which is covered.
@@ -313,7 +319,7 @@ pub fn judge_row<R: StoredRows>(
     requires certified { IsCertificate spec.now schemes.now input (steps_in route.now) }
     requires route { IsPurgeRoute spec.now schemes.now (steps_in route.now) input route.now }
     requires fits { length row.now ≡ slice_index (arities_of spec.now.inputs) input }
-    ensures ripe { (ticket : ℕ) → says_ripe result ≡ all_covered (known_of spec.now (R.rows rows.now) punct_stores.now low) (entries schemes.now (steps_in route.now)) (tuple_of input (ticket, row.now) ∷ []) }
+    ensures ripe { TellsRipe (known_of spec.now (R.rows rows.now) punct_stores.now low) (entries schemes.now (steps_in route.now)) input row.now result }
     ensures asks { (ticket : ℕ) → IsJudged (known_of spec.now (R.rows rows.now) punct_stores.now low) (entries schemes.now (steps_in route.now)) (tuple_of input (ticket, row.now) ∷ []) result }
 {
     let judge = Judge {

@@ -1,11 +1,11 @@
 // The routes of purges: by which columns the rows of each step of a certificate join with those of the steps before it.
-ghost use Rattle.std.specs.Prelude.{◌≡◌, ◌<◌, ◌≤◌, ◌+◌, [], IfSome, length, slice_get, slice_index_or, Some};
+ghost use Rattle.std.specs.Prelude.{◌≡◌, ◌<◌, ◌≤◌, ◌+◌, [], IfSome, IsTrue, length, slice_get, slice_index_or, Some};
 ghost use Rattle.pj_value.specs.Lists.{In};
 ghost use Rattle.pj_shape.specs.Sound.{FitSchemes, IsSoundSpec};
 ghost use Rattle.pj_shape.specs.Certificates.{IsCertificate};
 ghost use Rattle.pj_events.specs.Join.{class_with};
 ghost use Rattle.pj_cover.specs.Asking.{first_class, marks_of};
-ghost use Rattle.pj_cover.specs.Routes.{AddsLinks, FindsPlace, FindsSource, IsPurgeRoute, IsSingle, links_of};
+ghost use Rattle.pj_cover.specs.Routes.{AddsLinks, AreFixed, FindsPlace, FindsSource, IsFixed, IsPurgeRoute, IsSingle, links_of};
 ghost use Rattle.pj_cover.specs.Making.{AddsLink, AreMarksKnown, FindsLink, IsStepMade, entry_with};
 
 use arrayvec::ArrayVec;
@@ -13,6 +13,7 @@ use pj_puncts::only_mark;
 use pj_shape::{Cert, CertStep, ClassCol, JoinSpec, Scheme, Schemes, has_column};
 use pj_value::List;
 use std::marker::Model;
+use std::slice::from_ref;
 
 /// A cell of an earlier row: the place of the row, counted from the latest one, and its column.
 #[derive(Clone, Copy)]
@@ -30,13 +31,15 @@ pub struct PurgeLink {
     pub from: Source,
 }
 
-/// A step of a certificate, where its links begin and how many they are, and that of the only marked column, where only one is.
+/// A step of a certificate, where its links begin and how many they are, that of the only marked column, where only one is, and
+/// whether the rows before it determine what its own rows tell later steps: then all rows that join with those ask for the same.
 #[derive(Clone, Copy)]
 pub struct PurgeStep {
     pub step: CertStep,
     pub first: usize,
     pub count: usize,
     pub single: Option<PurgeLink>,
+    pub is_determined: bool,
 }
 
 impl Default for PurgeLink {
@@ -62,6 +65,7 @@ impl Default for PurgeStep {
             first: 0,
             count: 0,
             single: None,
+            is_determined: false,
         }
     }
 }
@@ -112,15 +116,8 @@ impl PurgeRoute {
 
 // ---- links
 
-// The columns of the first class that has this one; none where no class has it.
-#[tactic(auto, using(crate::proofs::Classes::first_class_is))]
-fn class_with<'a>(classes: &'a [List<ClassCol>], at: ClassCol) -> &'a [ClassCol]
-    ensures { result.now ≡ class_with classes.now at.input at.column }
-{
-    first_class(classes, at)
-}
-
-fn first_class<'a>(classes: &'a [List<ClassCol>], at: ClassCol) -> &'a [ClassCol]
+/// The columns of the first class that has this one; none where no class has it.
+pub fn first_class<'a>(classes: &'a [List<ClassCol>], at: ClassCol) -> &'a [ClassCol]
     ensures { result.now ≡ first_class classes.now at }
 {
     for class in classes {
@@ -129,6 +126,14 @@ fn first_class<'a>(classes: &'a [List<ClassCol>], at: ClassCol) -> &'a [ClassCol
         }
     }
     &[]
+}
+
+// The same by the number of the class.
+#[tactic(auto, using(crate::proofs::Classes::first_class_is))]
+fn class_with<'a>(classes: &'a [List<ClassCol>], at: ClassCol) -> &'a [ClassCol]
+    ensures { result.now ≡ class_with classes.now at.input at.column }
+{
+    first_class(classes, at)
 }
 
 // The place of an input among the known ones.
@@ -240,6 +245,31 @@ fn single_of(links: &[PurgeLink], scheme: &Scheme) -> Option<PurgeLink>
     }
 }
 
+// Whether the class has a column of a known input, or none of this one.
+fn is_fixed(class: &[ClassCol], input: u32, known: &[u32]) -> bool
+    ensures { IsTrue result → IsFixed known.now input class.now }
+{
+    match source_in(class, known) {
+        Some(_) => true,
+        None => match source_in(class, from_ref(&input)) {
+            Some(_) => false,
+            None => true,
+        },
+    }
+}
+
+// Whether the rows of the known inputs tell the value of each column of this input that is in a class.
+fn is_determined(classes: &[List<ClassCol>], input: u32, known: &[u32]) -> bool
+    ensures { IsTrue result → AreFixed classes.now known.now input }
+{
+    for class in classes {
+        if !is_fixed(class.as_slice(), input, known) {
+            return false;
+        }
+    }
+    true
+}
+
 // ---- steps
 
 /// The scheme of a certificate's step.
@@ -272,6 +302,7 @@ impl PurgeRoute {
             first,
             count: self.links.len() - first,
             single: None,
+            is_determined: is_determined(classes, step.input, known),
         };
         made.single = single_of(self.links_of(made), scheme);
         self.steps.push(made);

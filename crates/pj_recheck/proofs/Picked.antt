@@ -1,7 +1,7 @@
 -- What a sweep finds over the rows that it judges.
 use Rattle.std.proofs.Common.{ℕ, zero, suc, ◌+◌, ◌-◌, ◌<◌, ◌≤◌, Bool, true, false, cond, not, ◌&&◌, ◌||◌, List, [], ◌∷◌, ◌++◌, ◌≡◌, ◌⊎◌, Option, Some, None, map, filter, take, drop, length, get_or, refl, sym, ap, ap₂, ◌∙◌, subst, inl, inr, eqb, ltb, arith, append_assoc, append-nil}
 use Rattle.std.specs.List.{slice_get}
-use Rattle.std.proofs.lemmas.Bool.{and_from, and_right, eq-eqb, eqb-true, false_from_ne_true, false≢true, lt-ltb, ltb-false, or_parts}
+use Rattle.std.proofs.lemmas.Bool.{and_from, and_parts, and_right, eq-eqb, eqb-true, false_from_ne_true, false≢true, lt-ltb, ltb-false, ltb-true, or_parts}
 use Rattle.std.proofs.lemmas.List.{map-append, take_more}
 use Rattle.std.proofs.lemmas.Option.{get_or_from_slice_get}
 use Rattle.std.proofs.lemmas.List.Folds.{list_any-append}
@@ -12,11 +12,11 @@ use Rattle.pj_state.specs.Rising.{IsRising, first_with, itself}
 use Rattle.pj_state.specs.States.{pair_of, row_in as row_found, row_under, stored, ticket_of, tickets_of}
 use Rattle.pj_cover.specs.declared.ripeness.Verdict.{Verdict}
 use Rattle.pj_cover.specs.declared.ripeness.Verdict.TheVariants.{Ripe, Open, Lagging}
-use Rattle.pj_cover.specs.Asking.{IsJudged, Known, all_covered, entries, known_of, says_ripe, tuple_of}
+use Rattle.pj_cover.specs.Asking.{IsJudged, Known, TellsRipe, all_covered, entries, known_of, says_ripe, tuple_of}
 use Rattle.pj_events.specs.Join.{CertEntry, In, TupleAt, has}
 use Rattle.pj_recheck.specs.Judging.{JudgeView, one_if, ripe_at, row_in, rows_at}
 use Rattle.pj_rows.specs.Tuples.{row_pairs, under_with}
-use Rattle.pj_recheck.specs.Watching.{AreJudged, AreLookedAt, IsLookedAt, IsOneJudged, IsVerdict, NoneIsRipe, all_picked, is_passed, marked_by, picked}
+use Rattle.pj_recheck.specs.Watching.{AreJudged, AreLookedAt, HaveBetween, HaveDue, IsLookedAt, IsOneJudged, IsVerdict, NoneIsRipe, all_picked, is_passed, marked_by, picked}
 use Rattle.pj_recheck.specs.declared.marks.SweepResult.{SweepResult}
 use Rattle.pj_recheck.specs.declared.marks.DueRechecks.{DueRechecks}
 use Rattle.pj_rows.proofs.Rising.{above-in, rising-append, rising-filter, rising-same}
@@ -29,15 +29,15 @@ drop_one [] i x e = absurd (cc)
 drop_one {A} (y ∷ ys) zero x e = ap (λ (z : A). z ∷ ys) (get_or_from_slice_get (y ∷ ys) 0 x x e)
 drop_one {A} (y ∷ ys) (suc i) x e = let n : suc (i + 1) ≡ suc i + 1 = omega arith in drop_one ys i x e ∙ ap (λ k. x ∷ drop k (y ∷ ys)) n
 
-pub young_more : (rows : List Stored) (list list' : List ℕ) (count back i : ℕ) (s : Stored) → slice_get rows i ≡ Some s → i + 1 ≡ count - back → i ≡ count - (back + 1) → list' ≡ list ++ s.ticket ∷ []
-    → ((t : Stored) → In t (drop (count - back) rows) → In t.ticket list) → (t : Stored) → In t (drop (count - (back + 1)) rows) → In t.ticket list'
-young_more rows list list' count back i s at n m is all t h =
+pub young_more : (rows : List Stored) (list list' : List ℕ) (count back i low : ℕ) (s : Stored) → slice_get rows i ≡ Some s → i + 1 ≡ count - back → i ≡ count - (back + 1) → list' ≡ list ++ one_if (ltb s.ticket low) s.ticket
+    → ((t : Stored) → In t (drop (count - back) rows) → t.ticket < low → In t.ticket list) → (t : Stored) → In t (drop (count - (back + 1)) rows) → t.ticket < low → In t.ticket list'
+young_more rows list list' count back i low s at n m is all t h lt =
     subst (λ (ns : List ℕ). In t.ticket ns) (sym is)
     (go (subst (λ (ts : List Stored). In t ts) (ap (λ k. drop k rows) (sym m) ∙ drop_one rows i s at ∙ ap (λ k. s ∷ drop k rows) n) h))
   where
-    go : In t (s ∷ drop (count - back) rows) → In t.ticket (list ++ s.ticket ∷ [])
-    go (inl e) = In-append_right t.ticket list (s.ticket ∷ []) (inl (ap ticket_of e))
-    go (inr k) = In-append_left t.ticket list (s.ticket ∷ []) (all t k)
+    go : In t (s ∷ drop (count - back) rows) → In t.ticket (list ++ one_if (ltb s.ticket low) s.ticket)
+    go (inl e) = In-append_right t.ticket list (one_if (ltb s.ticket low) s.ticket) (subst (λ b. In t.ticket (one_if b s.ticket)) (sym (lt-ltb s.ticket low (subst (λ n. n < low) (sym (ap ticket_of e)) lt))) (inl (ap ticket_of e)))
+    go (inr k) = In-append_left t.ticket list (one_if (ltb s.ticket low) s.ticket) (all t k lt)
 
 behind : (rows : List Stored) (i : ℕ) (x s : Stored) → IsRising ticket_of rows → slice_get rows i ≡ Some x → In s rows → x.ticket < s.ticket → In s (drop (i + 1) rows)
 behind [] i x s r at h lt = absurd h
@@ -53,22 +53,22 @@ behind (y ∷ ys) (suc i) x s r at (inl e) lt =
     place (z ∷ zs) (suc k) e = inr (place zs k e)
 behind (y ∷ ys) (suc i) x s r at (inr h) lt = let n : suc (i + 1) ≡ suc i + 1 = omega arith in subst (λ k. In s (drop k (y ∷ ys))) n (behind ys i x s r.1 at h lt)
 
-pub young_stop : (rows : List Stored) (list : List ℕ) (count back i from : ℕ) (x : Stored) → IsRising ticket_of rows → slice_get rows i ≡ Some x → i + 1 ≡ count - back → x.ticket < from
-    → ((t : Stored) → In t (drop (count - back) rows) → In t.ticket list) → (t : Stored) → In t rows → from ≤ t.ticket → In t.ticket list
-young_stop rows list count back i from x r at n lt all t h le = all t (subst (λ k. In t (drop k rows)) n (behind rows i x t r at h (omega (arith, lt, le))))
+pub young_stop : (rows : List Stored) (list : List ℕ) (count back i from low : ℕ) (x : Stored) → IsRising ticket_of rows → slice_get rows i ≡ Some x → i + 1 ≡ count - back → x.ticket < from
+    → ((t : Stored) → In t (drop (count - back) rows) → t.ticket < low → In t.ticket list) → HaveBetween rows from low list
+young_stop rows list count back i from low x r at n lt all t h le = all t (subst (λ k. In t (drop k rows)) n (behind rows i x t r at h (omega (arith, lt, le))))
 
 pub append_empty : (xs ys : List ℕ) → length ys ≡ 0 → xs ≡ xs ++ ys
 append_empty xs [] e = sym (append-nil xs)
 append_empty xs (y ∷ ys) e = absurd (omega (arith, e))
 
-pub judged_all : (w : DueRechecks) (rows : List Stored) (young list tickets : List ℕ) → ((s : Stored) → In s rows → w.from ≤ s.ticket → In s.ticket young) → list ≡ young ++ w.marked → ((n : ℕ) → In n list → In n tickets)
-    → (s : Stored) → In s rows → is_passed w s.ticket ≡ false → In s.ticket tickets
-judged_all w rows young list tickets all is more s h f = more s.ticket (subst (λ (ns : List ℕ). In s.ticket ns) (sym is) (go (ltb s.ticket w.from) refl (has w.marked s.ticket) refl f))
+pub judged_all : (w : DueRechecks) (rows : List Stored) (low : ℕ) (young list tickets : List ℕ) → HaveBetween rows w.from low young → list ≡ young ++ w.marked → ((n : ℕ) → In n list → In n tickets)
+    → HaveDue rows w low tickets
+judged_all w rows low young list tickets all is more s h f below = more s.ticket (subst (λ (ns : List ℕ). In s.ticket ns) (sym is) (go (ltb s.ticket w.from) refl (has w.marked s.ticket) refl f))
   where
     go : (a : Bool) → ltb s.ticket w.from ≡ a → (b : Bool) → has w.marked s.ticket ≡ b → (a && not b) ≡ false → In s.ticket (young ++ w.marked)
     go true e true g q = In-append_right s.ticket young w.marked (let m = any_at (λ n. eqb n s.ticket) w.marked g in subst (λ n. In n w.marked) (eqb-true m.0 s.ticket m.2) m.1)
     go true e false g q = absurd (false≢true (sym q))
-    go false e b g q = In-append_left s.ticket young w.marked (all s h (ltb-false s.ticket w.from e))
+    go false e b g q = In-append_left s.ticket young w.marked (all s h (ltb-false s.ticket w.from e) below)
 
 -- the last one has the greatest ticket
 pub last_below : (rows : List Stored) (i from : ℕ) (x : Stored) → IsRising ticket_of rows → slice_get rows i ≡ Some x → length rows ≤ i + 1 → x.ticket < from → (s : Stored) → In s rows → s.ticket < from
@@ -88,10 +88,9 @@ last_below (y ∷ rows) (suc i) from x r at le lt s (inl e) =
 
 -- ---- one row
 
-pub verdict_is : (j : JudgeView) (s : Stored) (v : Verdict) → s.ticket < j.low → (x : TupleAt) → x ≡ tuple_of j.input (pair_of s)
-    → says_ripe v ≡ all_covered (known_of j.spec (row_pairs j.row_states) j.punct_stores j.low) (entries j.schemes j.cert) (x ∷ [])
-    → IsJudged (known_of j.spec (row_pairs j.row_states) j.punct_stores j.low) (entries j.schemes j.cert) (x ∷ []) v → IsVerdict j s v
-verdict_is j s v lt x is = subst (λ (y : TupleAt). says_ripe v ≡ all_covered facts cert (y ∷ []) → IsJudged facts cert (y ∷ []) v → IsVerdict j s v) (sym is) (go v)
+pub verdict_is : (j : JudgeView) (s : Stored) (v : Verdict) → s.ticket < j.low → TellsRipe (known_of j.spec (row_pairs j.row_states) j.punct_stores j.low) (entries j.schemes j.cert) j.input s.row v
+    → IsJudged (known_of j.spec (row_pairs j.row_states) j.punct_stores j.low) (entries j.schemes j.cert) (tuple_of j.input (pair_of s) ∷ []) v → IsVerdict j s v
+verdict_is j s v lt tells = go v (tells s.ticket)
   where
     facts : Known
     facts = known_of j.spec (row_pairs j.row_states) j.punct_stores j.low
@@ -216,12 +215,16 @@ picks_are j tickets r t all = rising-same ticket_of (all_picked j tickets) (filt
         In-flat_map_from (picked j) s s.ticket tickets (all s f.0 f.1)
         (In-filter_from (ripe_at j) s (under_with s.ticket (row_under s.ticket (rows_at j))) (subst (λ (o : Option (List Value)). In s (under_with s.ticket o)) (under-own (rows_at j) s r f.0) (inl refl)) f.1)
 
+-- a row that is ripe has a ticket below the low-water ticket
+ripe_below : (j : JudgeView) (s : Stored) → ripe_at j s ≡ true → s.ticket < j.low
+ripe_below j s ripe = ltb-true s.ticket j.low (and_parts (ltb s.ticket j.low) _ ripe).0
+
 -- what is not passed over was judged, and what is passed over is not ripe
 pub all_ripe : (j : JudgeView) (w : DueRechecks) (tickets : List ℕ) → IsRising ticket_of (rows_at j) → IsRising itself tickets → NoneIsRipe j w
-    → ((s : Stored) → In s (rows_at j) → is_passed w s.ticket ≡ false → In s.ticket tickets) → all_picked j tickets ≡ filter (ripe_at j) (rows_at j)
+    → HaveDue (rows_at j) w j.low tickets → all_picked j tickets ≡ filter (ripe_at j) (rows_at j)
 all_ripe j w tickets r t none all =
-    picks_are j tickets r t (λ s h ripe. all s h (false_from_ne_true (is_passed w s.ticket) (λ p. false≢true (sym (none s h p) ∙ ripe))))
+    picks_are j tickets r t (λ s h ripe. all s h (false_from_ne_true (is_passed w s.ticket) (λ p. false≢true (sym (none s h p) ∙ ripe))) (ripe_below j s ripe))
 
 pub all_looked : (j : JudgeView) (w : DueRechecks) (tickets : List ℕ) (judged : SweepResult) → IsRising ticket_of (rows_at j)
-    → ((s : Stored) → In s (rows_at j) → is_passed w s.ticket ≡ false → In s.ticket tickets) → AreJudged j tickets judged → AreLookedAt j w judged.marked
-all_looked j w tickets judged r all are s h f = are.looked s.ticket (all s h f) s.row (under-own (rows_at j) s r h)
+    → HaveDue (rows_at j) w j.low tickets → AreJudged j tickets judged → AreLookedAt j w judged.marked
+all_looked j w tickets judged r all are s h f below = are.looked s.ticket (all s h f below) s.row (under-own (rows_at j) s r h) below

@@ -247,6 +247,14 @@ pub record AreJudged (j : JudgeView) (tickets : List ℕ) (judged : SweepResult)
   pub gone : judged.gone ≡ tickets_of (all_picked j tickets)
   pub looked : (t : ℕ) → In t tickets → (row : List Value) → Some row ≡ row_under t (rows_at j) → IsLookedAt j judged.marked (stored t row)
 
+-- these have the tickets of all rows from one ticket on and below another
+abbrev pub HaveBetween : List Stored → ℕ → ℕ → List ℕ → Type 0
+HaveBetween rows from low tickets = (s : Stored) → In s rows → from ≤ s.ticket → s.ticket < low → In s.ticket tickets
+
+-- these have the tickets of all rows below the low-water ticket that are not passed over
+abbrev pub HaveDue : List Stored → DueRechecks → ℕ → List ℕ → Type 0
+HaveDue rows w low tickets = (s : Stored) → In s rows → is_passed w s.ticket ≡ false → s.ticket < low → In s.ticket tickets
+
 -- no row that is passed over is ripe
 abbrev pub NoneIsRipe : JudgeView → DueRechecks → Type 0
 NoneIsRipe j w = (s : Stored) → In s (rows_at j) → is_passed w s.ticket ≡ true → ripe_at j s ≡ false

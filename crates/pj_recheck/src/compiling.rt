@@ -10,7 +10,8 @@ ghost use Rattle.pj_recheck.specs.declared.routes.RecheckRoute.{RecheckRoute as 
 ghost use Rattle.pj_recheck.specs.Recheck.{AreHops, AreLeads, AreRoutes, AreStops, BacksFit, HaveBacks, HaveRoutes, HopFits, HopsFit, IsHop, IsLead, IsRecheckRoute, IsStop, IsWay, KeepStops, LeadTo, LeadsFit, LeadsIn, RouteFits, RoutesFit, StopFits, StopsFit, WayFits, entry_with};
 
 use crate::routes::{BackRoute, Hop, InputRoutes, Lead, OrderRoute, Pair, RecheckRoute, Stop, Way};
-use pj_shape::{Cert, CertStep, ClassCol, JoinSpec, Scheme, Schemes, has_column};
+use pj_cover::first_class;
+use pj_shape::{Cert, CertStep, ClassCol, JoinSpec, Scheme, Schemes};
 use pj_state::State;
 use pj_value::{List, NoMemory};
 use std::alloc::Global;
@@ -105,18 +106,6 @@ fn first_column(class: &[ClassCol], input: u32) -> Option<u32>
     None
 }
 
-// The columns of the first class that has this one; none where no class has it.
-fn class_with<'a>(classes: &'a [List<ClassCol>], at: ClassCol) -> &'a [ClassCol]
-    ensures { result.now ≡ first_class classes.now at }
-{
-    for class in classes {
-        if has_column(class.as_slice(), at) {
-            return class.as_slice();
-        }
-    }
-    &[]
-}
-
 // The first columns of both inputs in a class, where that of the side is indexed.
 #[tactic(auto, using(pj_rows::proofs::Indexed::within))]
 fn pair_in(class: &[ClassCol], side: &Side<'_>, other: u32) -> Option<Pair>
@@ -157,7 +146,7 @@ fn own_column(classes: &[List<ClassCol>], side: &Side<'_>, at: ClassCol) -> Opti
     ensures own { IfSome result (λ column. first_column (first_class classes.now at) side.now.input ≡ Some column) }
     ensures indexed { IfSome result (λ column. list_any (λ own. column == own) side.now.state.columns ≡ true) }
 {
-    match first_column(class_with(classes, at), side.input) {
+    match first_column(first_class(classes, at), side.input) {
         None => None,
         Some(column) => {
             if side.state.is_indexed(column) {

@@ -1,11 +1,9 @@
 // Which stored tuples of an input are ripe.
-ghost use Rattle.std.specs.Prelude.{◌≡◌, ◌≤◌, ◌++◌, false, length, map, slice_get, take, Some, OnOk, OnErr, IfOk};
-ghost use Rattle.pj_value.specs.Lists.{In};
-ghost use Rattle.pj_state.specs.declared.shared.Stored.{Stored};
+ghost use Rattle.std.specs.Prelude.{◌≡◌, ◌++◌, length, map, nat_lt, slice_get, take, Some, OnOk, OnErr, IfOk};
 ghost use Rattle.pj_state.specs.Rising.{IsRising, itself};
 ghost use Rattle.pj_state.specs.States.{stored, ticket_of};
 ghost use Rattle.pj_recheck.specs.Judging.{BothMore, one_if, ripe_rows, ripe_tickets, row_in, rows_at};
-ghost use Rattle.pj_recheck.specs.Watching.{AreJudged, AreLookedAt, IsOneJudged, IsVerdict, NoneIsRipe, all_picked, is_passed, marked_by, picked};
+ghost use Rattle.pj_recheck.specs.Watching.{AreJudged, AreLookedAt, HaveBetween, HaveDue, IsOneJudged, IsVerdict, NoneIsRipe, all_picked, marked_by, picked};
 
 use crate::marks::{DueRechecks, SweepResult};
 use crate::stored::Inputs;
@@ -73,31 +71,45 @@ fn keep_marked(verdict: Verdict, ticket: u64, marked: &mut List<u64>) -> Result<
     }
 }
 
-// The tickets of the rows from a ticket on.
-fn young(alloc: Global, state: &State, from: u64) -> Result<List<u64>, NoMemory>
+// Puts the ticket at the end where it is below the low-water ticket.
+fn push_below(ticket: u64, low: u64, list: &mut List<u64>) -> Result<(), NoMemory>
+    ensures { OnOk result (list.new ≡ list.old ++ one_if (nat_lt ticket low) ticket) }
+{
+    if ticket < low {
+        list.push(ticket)?;
+    }
+    Ok(())
+}
+
+// The tickets of the rows from a ticket on and below the low-water ticket.
+fn young(alloc: Global, state: &State, from: u64, low: u64) -> Result<List<u64>, NoMemory>
     ensures order { IsRising ticket_of state.now.rows }
-    ensures young { IfOk result (λ list. (s : Stored) → In s state.now.rows → from ≤ s.ticket → In s.ticket list) }
+    ensures young { IfOk result (HaveBetween state.now.rows from low) }
 {
     let mut list = List::new(alloc);
     let count = state.len();
+    if low <= from {
+        return Ok(list);
+    }
     let mut rows = state.cursor();
     for back in 0..count {
         let (ticket, _) = rows.nth(count - 1 - back);
         if ticket < from {
             return Ok(list);
         }
-        list.push(ticket)?;
+        push_below(ticket, low, &mut list)?;
     }
     Ok(list)
 }
 
-// The tickets of the rows that are judged, and maybe others, in order.
-fn to_judge(alloc: Global, due: &DueRechecks, state: &State) -> Result<Vec<u64>, NoMemory>
+// The tickets of the rows that are judged, and maybe others, in order. A row whose ticket is not below the low-water ticket is
+// not ripe: it is judged once that has risen.
+fn to_judge(alloc: Global, due: &DueRechecks, state: &State, low: u64) -> Result<Vec<u64>, NoMemory>
     ensures order { IsRising ticket_of state.now.rows }
     ensures rising { IfOk result (λ tickets. IsRising itself tickets.items) }
-    ensures all { IfOk result (λ tickets. (s : Stored) → In s state.now.rows → is_passed due.now s.ticket ≡ false → In s.ticket tickets.items) }
+    ensures all { IfOk result (λ tickets. HaveDue state.now.rows due.now low tickets.items) }
 {
-    let mut list = young(alloc, state, due.from)?;
+    let mut list = young(alloc, state, due.from, low)?;
     if due.marked.len() > 0 {
         list.append(due.marked.as_slice())?;
     }
@@ -196,7 +208,7 @@ impl<'a> Judge<'a> {
         ensures removed { OnOk result (removed.new ≡ removed.old ++ ripe_rows self.now) }
         ensures err { OnErr result (take (length removed.old) removed.new ≡ removed.old) }
     {
-        let tickets = to_judge(alloc, due, &self.row_states[self.input as usize])?;
+        let tickets = to_judge(alloc, due, &self.row_states[self.input as usize], self.low)?;
         let judged = self.judge_all(alloc, tickets.as_slice(), removed)?;
         Ok(judged)
     }

@@ -1,6 +1,6 @@
-use Rattle.std.proofs.Common.{◌≡◌, ◌<◌, [], ◌∷◌, ap, arith, refl, subst}
+use Rattle.std.proofs.Common.{◌≡◌, ◌<◌, [], ◌∷◌, ap, arith, subst}
 use Rattle.pj_state.specs.States.{stored}
-use Rattle.pj_cover.specs.Asking.{IsJudged, all_covered, entries, known_of, says_ripe, tuple_of}
+use Rattle.pj_cover.specs.Asking.{IsJudged, TellsRipe, entries, known_of, tuple_of}
 use Rattle.pj_recheck.specs.Judging.{JudgeView}
 use Rattle.pj_rows.specs.Tuples.{row_pairs}
 use Rattle.pj_recheck.proofs.Looped.{row_fits}
@@ -15,6 +15,6 @@ pub returns : goal.returns
 returns c =
     let lt : c.args.ticket < c.args.self.now.low = let low : c.self.inside.low ≡ c.args.self.now.low = ap (λ (j : JudgeView). j.low) c.self.view_is in omega (arith, c.if-self-ticket.false, low) in
     let v = c.judge_row.result in
-    verdict_is c.args.self.now (stored c.args.ticket c.args.row.now) v lt (tuple_of c.args.self.now.input (c.args.ticket, c.args.row.now)) refl
-    (subst (λ (j : JudgeView). says_ripe v ≡ all_covered (known_of j.spec (row_pairs j.row_states) j.punct_stores j.low) (entries j.schemes j.cert) (tuple_of j.input (c.args.ticket, c.args.row.now) ∷ [])) c.self.view_is (c.judge_row.ensures.ripe c.args.ticket))
+    verdict_is c.args.self.now (stored c.args.ticket c.args.row.now) v lt
+    (subst (λ (j : JudgeView). TellsRipe (known_of j.spec (row_pairs j.row_states) j.punct_stores j.low) (entries j.schemes j.cert) j.input c.args.row.now v) c.self.view_is c.judge_row.ensures.ripe)
     (subst (λ (j : JudgeView). IsJudged (known_of j.spec (row_pairs j.row_states) j.punct_stores j.low) (entries j.schemes j.cert) (tuple_of j.input (c.args.ticket, c.args.row.now) ∷ []) v) c.self.view_is (c.judge_row.ensures.asks c.args.ticket))

@@ -1,6 +1,0 @@
-use Rattle.std.proofs.Common.{◌≡◌, drop}
-use Rattle.pj_cover.specs.Asking.{first_class}
-use Rattle.pj_recheck.proofs.compiling.class_with.Given as goal
-
-abbrev pub invariant-loop-class : goal.invariant-loop-class
-invariant-loop-class l = first_class l.classes l.at ≡ first_class (drop l.class-index l.classes) l.at
