@@ -17,20 +17,16 @@ pub fn with_value(hash: u64, value: &Value) -> u64
     ensures { result ≡ with_value hash value.now }
 {
     match value {
-        Value::Int(number) => with_number(hash, *number),
-        Value::Text(text) => with_bytes(hash, text.as_slice()),
+        Value::Int(number) => next_hash(hash, number.cast_unsigned()),
+        Value::Text(text) => with_text(hash, text.as_slice()),
     }
 }
 
-fn with_number(hash: u64, number: i64) -> u64
-    ensures { result ≡ with_value hash (AnyValue.Int number) }
+// The length goes before the bytes, so that texts beside each other are not one text.
+fn with_text(hash: u64, bytes: &[u8]) -> u64
+    ensures { result ≡ with_value hash (AnyValue.Text bytes.now) }
 {
-    let hash = if number.is_negative() {
-        next_hash(hash, 1)
-    } else {
-        hash
-    };
-    next_hash(hash, number.unsigned_abs())
+    with_bytes(next_hash(hash, bytes.len() as u64), bytes)
 }
 
 fn with_bytes(hash: u64, bytes: &[u8]) -> u64
@@ -43,8 +39,8 @@ fn with_bytes(hash: u64, bytes: &[u8]) -> u64
     hash
 }
 
-// Mixes the number in. Each step multiplies to 128 bits and joins the halves, so that keys whose hashes are equal are not found by
-// solving a line of arithmetic, as they are of a multiplication and an addition.
+// Mixes the number in. Each step multiplies to 128 bits and joins the halves, so that to choose a number for a given hash is to
+// invert that product, and not to solve a line of arithmetic, as it is of a multiplication and an addition.
 fn next_hash(hash: u64, number: u64) -> u64
     ensures { result ≡ next_hash hash number }
 {
