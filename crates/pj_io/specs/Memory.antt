@@ -1,5 +1,5 @@
 -- What the source and the sink in memory show.
-use Rattle.std.specs.Prelude.{ℕ, true, List, take, drop}
+use Rattle.std.specs.Prelude.{ℕ, true, List, [], take, drop}
 use Rattle.pj_io.specs.Plans.{FaultPlan}
 use Rattle.pj_io.specs.States.{SourceState, SinkState}
 
@@ -17,3 +17,7 @@ pub record MemSinkState : Type 0 where
 -- a source that tells these bytes, of which so many were taken
 abbrev pub source_at : List ℕ → ℕ → ℕ → List ℕ → SourceState
 source_at bytes at faults name = record { told = true; taken = take at bytes; left = drop at bytes; faults = faults; name = name }
+
+-- the sink in memory holds nothing back
+abbrev pub holding_none : SinkState → SinkState
+holding_none sink = record sink { held = [] }

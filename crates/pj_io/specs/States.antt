@@ -10,11 +10,13 @@ pub record SourceState : Type 0 where
   pub faults : ℕ
   pub name : List ℕ
 
--- A sink: whether it tells its bytes; those that were written, where it tells them; how many faults there were
+-- A sink: whether it tells its bytes; those that were written, where it tells them; how many faults there were; and the bytes that
+-- it holds back
 pub record SinkState : Type 0 where
   pub told : Bool
   pub written : List ℕ
   pub faults : ℕ
+  pub held : List ℕ
 
 -- A folder, by name: whether the contents are told; the contents, where they are told; whether a file was opened; how many
 -- bytes were taken from the file that was closed last, where it tells them; how many faults there were

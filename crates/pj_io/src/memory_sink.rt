@@ -2,6 +2,7 @@
 ghost use Rattle.std.specs.Prelude.{◌≡◌, ◌≤◌, ◌<◌, ◌+◌, ◌-◌, ◌||◌, nat_lt, [], true, length, min, is_err, IfOk, OnOk, OnErr, IsOk, IsTrue};
 ghost use Rattle.pj_io.specs.Causes.{HasCause, CountsErrors};
 ghost use Rattle.pj_io.specs.Pieces.{Appends};
+ghost use Rattle.pj_io.specs.Memory.{holding_none};
 ghost use Rattle.pj_io.specs.Plans.{fresh_plan, fails_next, after_call};
 
 use crate::{Failed, Sink};
@@ -21,13 +22,13 @@ pub struct MemSink {
 }
 
 impl Model for MemSink {
-    ghost use Rattle.std.specs.Prelude.{◌≤◌, ◌<◌, ◌+◌, true, vec_len, vec_capacity};
+    ghost use Rattle.std.specs.Prelude.{◌≤◌, ◌<◌, ◌+◌, [], true, vec_len, vec_capacity};
     ghost use Rattle.pj_io.specs.Memory.{MemSinkState};
 
     ghost Value = { MemSinkState };
 
     ghost view = { λ s. record {
-      sink = record { told = true; written = s.bytes.items; faults = s.faults };
+      sink = record { told = true; written = s.bytes.items; faults = s.faults; held = [] };
       plan = record { fails = s.fails; cut = s.cut; calls = s.calls };
       room = s.room;
     } };
@@ -36,7 +37,7 @@ impl Model for MemSink {
 }
 
 impl Sink for MemSink {
-    ghost state = { λ s. s.sink };
+    ghost state = { λ s. holding_none s.sink };
 
     /// Takes as much of the piece as is within the cut. Fails exactly at the planned calls and where there is no room
     /// for that much.
@@ -76,6 +77,7 @@ impl Sink for MemSink {
     fn flush(&mut self) -> Result<(), Failed>
         ensures told { IsTrue self.new.sink.told → IsTrue self.old.sink.told }
         ensures bytes { self.new.sink.written ≡ self.old.sink.written }
+        ensures handed_on { OnOk result ((holding_none self.new.sink).held ≡ []) }
         ensures cause { HasCause self.old.sink.faults self.new.sink.faults result }
         ensures never { IsOk result }
         ensures same { self.new ≡ self.old }
@@ -88,7 +90,7 @@ impl MemSink {
     /// An empty sink without room. `cut` is at least 1; calls are counted from 0.
     pub fn new(alloc: Global, cut: usize, fails: &[u64]) -> Result<MemSink, NoMemory>
         requires { 0 < cut }
-        ensures sink { IfOk result (λ s. s.sink ≡ record { told = true; written = []; faults = 0 }) }
+        ensures sink { IfOk result (λ s. s.sink ≡ record { told = true; written = []; faults = 0; held = [] }) }
         ensures plan { IfOk result (λ s. s.plan ≡ fresh_plan fails.now cut) }
         ensures room { IfOk result (λ s. s.room ≡ 0) }
     {

@@ -1,5 +1,5 @@
 // Where bytes go.
-ghost use Rattle.std.specs.Prelude.{◌≡◌, ◌≤◌, ◌<◌, IsTrue, length, IfOk};
+ghost use Rattle.std.specs.Prelude.{◌≡◌, ◌≤◌, ◌<◌, [], IsTrue, length, IfOk, OnOk};
 ghost use Rattle.pj_io.specs.Causes.{HasCause};
 ghost use Rattle.pj_io.specs.Pieces.{Appends, AppendsAll};
 ghost use Rattle.pj_io.specs.States.{SinkState};
@@ -19,14 +19,12 @@ pub trait Sink {
         ensures bytes { IsTrue (state self.new).told → Appends (state self.old) (state self.new) piece.now result }
         ensures cause { HasCause (state self.old).faults (state self.new).faults result };
 
-    /// Hands on what the sink holds back, if it holds anything back. What is written stays as it is.
+    /// Hands on what the sink holds back, all of it unless it fails. What is written stays as it is.
     fn flush(&mut self) -> Result<(), Failed>
         ensures told { IsTrue (state self.new).told → IsTrue (state self.old).told }
         ensures bytes { IsTrue (state self.new).told → (state self.new).written ≡ (state self.old).written }
-        ensures cause { HasCause (state self.old).faults (state self.new).faults result }
-    {
-        Ok(())
-    }
+        ensures handed_on { OnOk result ((state self.new).held ≡ []) }
+        ensures cause { HasCause (state self.old).faults (state self.new).faults result };
 }
 
 /// Writes the whole piece. On a fault a front of it that is not all of it was written.
