@@ -1,11 +1,11 @@
 -- What a front of the lines of a run spells.
-use Rattle.std.proofs.Common.{◌≡◌, ◌≢◌, ℕ, true, false, not, ◌==◌, inl, inr, List, [], ◌∷◌, ◌++◌, refl, ap, sym, ◌∙◌, append_assoc, append-nil, subst}
+use Rattle.std.proofs.Common.{◌≡◌, ◌≢◌, ℕ, true, false, not, ◌==◌, ◌⊎◌, inl, inr, List, [], ◌∷◌, ◌++◌, refl, ap, sym, ◌∙◌, append_assoc, append-nil, subst}
 use Rattle.std.specs.Prelude.{filter}
 use Rattle.std.proofs.lemmas.Bool.Decides.{eqb_tells}
 use Rattle.pj_pattern.specs.declared.element.Element.{Element}
 use Rattle.pj_pattern.specs.declared.element.Element.TheVariants.{Tuple, Punct}
 use Rattle.pj_line.specs.Lines.{HasNo}
-use Rattle.pj_element.specs.Runs.{element_line, element_lines, fed}
+use Rattle.pj_element.specs.Runs.{element_line, fed}
 use Rattle.pj_element.proofs.Feeds.{row_no_feed, punct_no_feed}
 use Rattle.pj_report.specs.Written.{flat, lines_behind, whole_lines, is_note, result_lines, Spells}
 
@@ -23,10 +23,6 @@ AreNotes (l ∷ ls) = IsNoteLine l × AreNotes ls
 pub notes-append : (xs ys : List (List ℕ)) → AreNotes xs → AreNotes ys → AreNotes (xs ++ ys)
 notes-append [] ys nx ny = ny
 notes-append (x ∷ xs) ys nx ny = (nx.0, notes-append xs ys nx.1 ny)
-
-notes_front : (xs ys : List (List ℕ)) → AreNotes (xs ++ ys) → AreNotes xs
-notes_front [] ys n = tt
-notes_front (x ∷ xs) ys n = (n.0, notes_front xs ys n.1)
 
 -- ---- whole lines
 
@@ -90,26 +86,6 @@ result_spells : (words rest : List ℕ) → HasNo 10 words → is_note words ≡
 result_spells words rest none result =
     ap (λ (ls : List (List ℕ)). filter (λ l. not (is_note l)) ls) (line_and_more [] words rest none) ∙ keep_result words (whole_lines rest) result
 
-note_behind : (ls : List (List ℕ)) (front more others words : List ℕ) → is_note words ≡ true → HasNo 10 words → ((m : List ℕ) → m ++ others ≡ flat ls → result_lines m ≡ []) → front ≡ words ++ more → more ++ others ≡ 10 ∷ flat ls → result_lines front ≡ []
-note_behind ls front [] others words note none next is all = ap result_lines (is ∙ append-nil words) ∙ part_spells words none
-note_behind ls front (m ∷ more) others words note none next is all =
-    let feed : m ≡ 10 = heads m 10 (more ++ others) (flat ls) all in
-    ap result_lines (is ∙ ap (λ x. words ++ x ∷ more) feed)
-    ∙ (note_spells words more none note ∙ next more (tails m 10 (more ++ others) (flat ls) all))
-
-note_front : (ls : List (List ℕ)) (front others words : List ℕ) → is_note words ≡ true → HasNo 10 words → ((m : List ℕ) → m ++ others ≡ flat ls → result_lines m ≡ []) → front ++ others ≡ words ++ 10 ∷ flat ls → result_lines front ≡ []
-note_front ls front others words note none next e =
-    elim (split front others words (10 ∷ flat ls) e) [
-      | Within left is ↦ part_spells front (none_front front left (subst (HasNo 10) (sym is) none))
-      | Behind more is all ↦ note_behind ls front more others words note none next is all
-    ]
-
-pub notes_spell : (notes : List (List ℕ)) (front others : List ℕ) → AreNotes notes → front ++ others ≡ flat notes → result_lines front ≡ []
-notes_spell [] [] others n e = refl
-notes_spell [] (f ∷ front) others n e = absurd (cc)
-notes_spell (l ∷ ls) front others n e =
-    note_front ls front others n.0.words n.0.note n.0.whole (λ m all. notes_spell ls m others n.1 all) (e ∙ (ap (λ (x : List ℕ). x ++ flat ls) n.0.is ∙ fed_more n.0.words (flat ls)))
-
 -- ---- fronts of results and notes
 
 element_no_feed : (e : Element) → HasNo 10 (element_line e)
@@ -120,7 +96,23 @@ element_no_note : (e : Element) → is_note (element_line e) ≡ false
 element_no_note (Tuple row) = refl
 element_no_note (Punct punct) = refl
 
--- a front of the lines of these outputs and of notes spells first ones of the outputs
+-- the lines of these outputs, in order, and notes among them
+abbrev pub AreLinesOf : List (List ℕ) → List Element → Type 0
+AreLinesOf [] [] = Unit {0}
+AreLinesOf [] (e ∷ es) = ⊥
+AreLinesOf (l ∷ ls) es = (IsNoteLine l × AreLinesOf ls es) ⊎ ((e : Element) × (rest : List Element) × (es ≡ e ∷ rest) × (l ≡ fed (element_line e)) × AreLinesOf ls rest)
+
+pub notes_are : (notes : List (List ℕ)) → AreNotes notes → AreLinesOf notes []
+notes_are [] n = tt
+notes_are (l ∷ ls) n = inl (n.0, notes_are ls n.1)
+
+pub lines-append : (xs ys : List (List ℕ)) (es fs : List Element) → AreLinesOf xs es → AreLinesOf ys fs → AreLinesOf (xs ++ ys) (es ++ fs)
+lines-append [] ys [] fs a b = b
+lines-append [] ys (e ∷ es) fs a b = absurd a
+lines-append (x ∷ xs) ys es fs (inl note) b = inl (note.0, lines-append xs ys es fs note.1 b)
+lines-append (x ∷ xs) ys es fs (inr line) b = inr (line.0, line.1 ++ fs, ap (λ (os : List Element). os ++ fs) line.2, line.3, lines-append xs ys line.1 fs line.4 b)
+
+-- a front of such lines spells first ones of the outputs
 pub record FrontSpells (outputs : List Element) (front : List ℕ) : Type 0 where
   pub first : List Element
   pub others : List Element
@@ -144,22 +136,51 @@ front_behind o os rest front (m ∷ more) others next is all =
     let feed : m ≡ 10 = heads m 10 (more ++ others) rest all in
     one_spelled o os front more (is ∙ ap (λ x. element_line o ++ x ∷ more) feed) (next more (tails m 10 (more ++ others) rest all))
 
-pub front_spells : (outputs : List Element) (notes : List (List ℕ)) (front others : List ℕ) → AreNotes notes → front ++ others ≡ flat (element_lines outputs ++ notes) → FrontSpells outputs front
-front_spells [] notes front others n e = none_spelled [] front (notes_spell notes front others n e)
-front_spells (o ∷ os) notes front others n e =
-    elim (split front others (element_line o) (10 ∷ flat (element_lines os ++ notes)) (e ∙ fed_more (element_line o) (flat (element_lines os ++ notes)))) [
-      | Within left is ↦ none_spelled (o ∷ os) front (part_spells front (none_front front left (subst (HasNo 10) (sym is) (element_no_feed o))))
-      | Behind more is all ↦ front_behind o os (flat (element_lines os ++ notes)) front more others (λ m rest. front_spells os notes m others n rest) is all
+note_behind : (ls : List (List ℕ)) (outputs : List Element) (front more others words : List ℕ) → is_note words ≡ true → HasNo 10 words → ((m : List ℕ) → m ++ others ≡ flat ls → FrontSpells outputs m)
+    → front ≡ words ++ more → more ++ others ≡ 10 ∷ flat ls → FrontSpells outputs front
+note_behind ls outputs front [] others words note none next is all = none_spelled outputs front (ap result_lines (is ∙ append-nil words) ∙ part_spells words none)
+note_behind ls outputs front (m ∷ more) others words note none next is all =
+    let feed : m ≡ 10 = heads m 10 (more ++ others) (flat ls) all in
+    let f : FrontSpells outputs more = next more (tails m 10 (more ++ others) (flat ls) all) in
+    record {
+      first = f.first;
+      others = f.others;
+      all = f.all;
+      spells = ap result_lines (is ∙ ap (λ x. words ++ x ∷ more) feed) ∙ (note_spells words more none note ∙ f.spells);
+    }
+
+note_front : (ls : List (List ℕ)) (outputs : List Element) (front others words : List ℕ) → is_note words ≡ true → HasNo 10 words → ((m : List ℕ) → m ++ others ≡ flat ls → FrontSpells outputs m)
+    → front ++ others ≡ words ++ 10 ∷ flat ls → FrontSpells outputs front
+note_front ls outputs front others words note none next e =
+    elim (split front others words (10 ∷ flat ls) e) [
+      | Within left is ↦ none_spelled outputs front (part_spells front (none_front front left (subst (HasNo 10) (sym is) none)))
+      | Behind more is all ↦ note_behind ls outputs front more others words note none next is all
     ]
 
--- whole first lines are those of first outputs, and first notes
-pub record FirstLines (outputs : List Element) (notes lines : List (List ℕ)) : Type 0 where
+line_front : (ls : List (List ℕ)) (o : Element) (os : List Element) (front others : List ℕ) → ((m : List ℕ) → m ++ others ≡ flat ls → FrontSpells os m) → front ++ others ≡ element_line o ++ 10 ∷ flat ls → FrontSpells (o ∷ os) front
+line_front ls o os front others next e =
+    elim (split front others (element_line o) (10 ∷ flat ls) e) [
+      | Within left is ↦ none_spelled (o ∷ os) front (part_spells front (none_front front left (subst (HasNo 10) (sym is) (element_no_feed o))))
+      | Behind more is all ↦ front_behind o os (flat ls) front more others next is all
+    ]
+
+pub front_spells : (lines : List (List ℕ)) (outputs : List Element) (front others : List ℕ) → AreLinesOf lines outputs → front ++ others ≡ flat lines → FrontSpells outputs front
+front_spells [] outputs [] others a e = none_spelled outputs [] refl
+front_spells [] outputs (f ∷ front) others a e = absurd (cc)
+front_spells (l ∷ ls) outputs front others (inl note) e =
+    note_front ls outputs front others note.0.words note.0.note note.0.whole (λ m all. front_spells ls outputs m others note.1 all)
+    (e ∙ (ap (λ (x : List ℕ). x ++ flat ls) note.0.is ∙ fed_more note.0.words (flat ls)))
+front_spells (l ∷ ls) outputs front others (inr line) e =
+    subst (λ (os : List Element). FrontSpells os front) (sym line.2)
+    (line_front ls line.0 line.1 front others (λ m all. front_spells ls line.1 m others line.4 all)
+    (e ∙ (ap (λ (x : List ℕ). x ++ flat ls) line.3 ∙ fed_more (element_line line.0) (flat ls))))
+
+-- whole first lines are those of first outputs, with notes among them
+pub record FirstLines (outputs : List Element) (lines : List (List ℕ)) : Type 0 where
   pub first : List Element
   pub others : List Element
   pub all : first ++ others ≡ outputs
-  pub noted : List (List ℕ)
-  pub notes_so : AreNotes noted
-  pub is : lines ≡ element_lines first ++ noted
+  pub are : AreLinesOf lines first
 
 line_heads : (x y : List ℕ) (xs ys : List (List ℕ)) → x ∷ xs ≡ y ∷ ys → x ≡ y
 line_heads x y xs ys e = cc
@@ -167,17 +188,17 @@ line_heads x y xs ys e = cc
 line_tails : (x y : List ℕ) (xs ys : List (List ℕ)) → x ∷ xs ≡ y ∷ ys → xs ≡ ys
 line_tails x y xs ys e = cc
 
-pub first_lines : (outputs : List Element) (notes lines others : List (List ℕ)) → AreNotes notes → lines ++ others ≡ element_lines outputs ++ notes → FirstLines outputs notes lines
-first_lines [] notes lines others n e = record { first = []; others = []; all = refl; noted = lines; notes_so = notes_front lines others (subst AreNotes (sym e) n); is = refl }
-first_lines (o ∷ os) notes [] others n e = record { first = []; others = o ∷ os; all = refl; noted = []; notes_so = tt; is = refl }
-first_lines (o ∷ os) notes (l ∷ ls) others n e =
-    let f = first_lines os notes ls others n (line_tails l (fed (element_line o)) (ls ++ others) (element_lines os ++ notes) e) in
-    let head : l ≡ fed (element_line o) = line_heads l (fed (element_line o)) (ls ++ others) (element_lines os ++ notes) e in
+pub first_lines : (lines others all : List (List ℕ)) (outputs : List Element) → AreLinesOf all outputs → lines ++ others ≡ all → FirstLines outputs lines
+first_lines [] others all outputs a e = record { first = []; others = outputs; all = refl; are = tt }
+first_lines (l ∷ ls) others [] outputs a e = absurd (cc)
+first_lines (l ∷ ls) others (k ∷ ks) outputs (inl note) e =
+    let f : FirstLines outputs ls = first_lines ls others ks outputs note.1 (line_tails l k (ls ++ others) ks e) in
+    record { first = f.first; others = f.others; all = f.all; are = inl (subst IsNoteLine (sym (line_heads l k (ls ++ others) ks e)) note.0, f.are) }
+first_lines (l ∷ ls) others (k ∷ ks) outputs (inr line) e =
+    let f : FirstLines line.1 ls = first_lines ls others ks line.1 line.4 (line_tails l k (ls ++ others) ks e) in
     record {
-      first = o ∷ f.first;
+      first = line.0 ∷ f.first;
       others = f.others;
-      all = ap (λ (xs : List Element). o ∷ xs) f.all;
-      noted = f.noted;
-      notes_so = f.notes_so;
-      is = ap (λ (x : List ℕ). x ∷ ls) head ∙ ap (λ (xs : List (List ℕ)). fed (element_line o) ∷ xs) f.is;
+      all = ap (λ (os : List Element). line.0 ∷ os) f.all ∙ sym line.2;
+      are = inr (line.0, f.first, refl, line_heads l k (ls ++ others) ks e ∙ line.3, f.are);
     }

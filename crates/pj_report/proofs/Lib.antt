@@ -2,3 +2,6 @@ pub mod LinesWritten
 pub mod Counting
 pub mod StopLaws
 pub mod Fronts
+pub mod NodeNames
+pub mod Sorting
+pub mod LineLists

@@ -1,3 +1,5 @@
+pub mod Laws
 pub mod Report
 pub mod Results
+pub mod Sorted
 pub mod Written

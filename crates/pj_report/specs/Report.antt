@@ -1,5 +1,5 @@
 -- The report of a run and the lines of the statuses, each with its line feed.
-use Rattle.std.specs.Prelude.{ℕ, ◌^◌, ◌-◌, min, List, [], ◌∷◌, ◌++◌, map, length, codes}
+use Rattle.std.specs.Prelude.{ℕ, ◌^◌, ◌-◌, min, ⊤, List, [], ◌∷◌, ◌++◌, map, length, codes}
 use Rattle.std.specs.Fmt.{decimal}
 use Rattle.pj_pattern.specs.declared.element.Element.{Element}
 use Rattle.pj_element.specs.declared.element.Reject.{Reject}
@@ -80,6 +80,19 @@ status_line name NoMemory = fed (codes "# stopped no memory")
 status_line name (Limit Plan) = fed (codes "# stopped limit plan")
 status_line name (Limit (Node node)) = fed (codes "# stopped limit node " ++ name)
 status_line name (Limit (File stream)) = fed (codes "# stopped limit file " ++ name)
+
+-- a status has a line, unless all was written, not all could be, or the lines have names of the plan
+abbrev pub HasLine : Status → Type 0
+HasLine Done = ⊥
+HasLine Usage = ⊤
+HasLine (PlanRefused line why) = ⊤
+HasLine (FileCount want got) = ⊤
+HasLine (Unsafe node risk) = ⊥
+HasLine (OpenFault operand) = ⊤
+HasLine (ReadFault operand) = ⊤
+HasLine WriteFault = ⊥
+HasLine NoMemory = ⊤
+HasLine (Limit what) = ⊤
 
 -- the exit status of the program
 abbrev pub status_number : Status → ℕ

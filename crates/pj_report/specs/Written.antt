@@ -41,6 +41,10 @@ abbrev pub Delivered : List ℕ → SinkState → SinkState → Type 0
 Delivered bytes old new =
     IsTrue new.told → (new.written ≡ old.written ++ bytes) ⊎ (Rose old.faults new.faults × FrontOf bytes old.written new.written)
 
+-- the sink holds nothing back, or its faults rose
+abbrev pub HandedOn : SinkState → SinkState → Type 0
+HandedOn old new = (new.held ≡ []) ⊎ Rose old.faults new.faults
+
 -- what a stop leaves of lines that were to be written
 pub data Cut : Type 0 where
   -- a front of their bytes

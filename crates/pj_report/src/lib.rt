@@ -1,13 +1,19 @@
 //! The lines that a run writes: those of its results, of its report and of its status.
 #![tactic(auto)]
 
+mod kept;
+mod laws;
+mod line_list;
 mod lines;
+mod notes;
 mod report;
 mod results;
 mod status;
 mod status_line;
 mod stops;
 
+pub use kept::KeptLines;
+pub use laws::{lines_are_of_elements, sorted_by_bags};
 pub use lines::write_piece;
 pub use report::{write_peak_line, write_results, write_stream};
 pub use results::{Counts, write_outs};

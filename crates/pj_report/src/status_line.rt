@@ -2,8 +2,8 @@
 ghost use Rattle.std.specs.Prelude.{◌≡◌, ◌≤◌, ◌<◌, ◌+◌, ◌++◌, IsTrue, length, codes};
 ghost use Rattle.std.specs.Fmt.{decimal};
 ghost use Rattle.pj_element.specs.Runs.{fed};
-ghost use Rattle.pj_report.specs.Report.{status_line, fault_words as words_of_fault};
-ghost use Rattle.pj_report.specs.Written.{Delivered, flat};
+ghost use Rattle.pj_report.specs.Report.{status_line, HasLine, fault_words as words_of_fault};
+ghost use Rattle.pj_report.specs.Written.{Delivered, HandedOn, flat};
 
 use crate::status::{LimitOf, Status};
 use arrayvec::ArrayVec;
@@ -25,6 +25,7 @@ pub fn write_status<K: Sink>(name: &[u8], status: Status, out: &mut K)
     requires { length name.now ≤ 32 }
     ensures told { IsTrue (K.state out.new).told → IsTrue (K.state out.old).told }
     ensures line { Delivered (status_line name.now status) (K.state out.old) (K.state out.new) }
+    ensures handed_on { HasLine status → HandedOn (K.state out.old) (K.state out.new) }
     ensures later { (K.state out.old).faults ≤ (K.state out.new).faults }
 {
     let mut digits = Buffer::new();
@@ -56,6 +57,7 @@ pub fn write_status<K: Sink>(name: &[u8], status: Status, out: &mut K)
 pub fn write_lines<K: Sink>(lines: &[Bytes], out: &mut K) -> Result<(), Failed>
     ensures told { IsTrue (K.state out.new).told → IsTrue (K.state out.old).told }
     ensures lines { Delivered (flat lines.now) (K.state out.old) (K.state out.new) }
+    ensures handed_on { HandedOn (K.state out.old) (K.state out.new) }
     ensures later { (K.state out.old).faults ≤ (K.state out.new).faults }
 {
     for line in lines {
@@ -68,6 +70,7 @@ pub fn write_lines<K: Sink>(lines: &[Bytes], out: &mut K) -> Result<(), Failed>
 fn write_fault<K: Sink>(line: u64, why: PlanWhy, out: &mut K) -> Result<(), Failed>
     ensures told { IsTrue (K.state out.new).told → IsTrue (K.state out.old).told }
     ensures line { Delivered (fed (codes "# refused plan line " ++ decimal line ++ words_of_fault why)) (K.state out.old) (K.state out.new) }
+    ensures handed_on { HandedOn (K.state out.old) (K.state out.new) }
     ensures later { (K.state out.old).faults ≤ (K.state out.new).faults }
 {
     let mut digits = Buffer::new();
@@ -81,6 +84,7 @@ fn write_fault<K: Sink>(line: u64, why: PlanWhy, out: &mut K) -> Result<(), Fail
 fn write_counts<K: Sink>(want: u32, got: u32, out: &mut K) -> Result<(), Failed>
     ensures told { IsTrue (K.state out.new).told → IsTrue (K.state out.old).told }
     ensures line { Delivered (fed (codes "# refused files want " ++ decimal want ++ codes " got " ++ decimal got)) (K.state out.old) (K.state out.new) }
+    ensures handed_on { HandedOn (K.state out.old) (K.state out.new) }
     ensures later { (K.state out.old).faults ≤ (K.state out.new).faults }
 {
     let mut digits = Buffer::new();
@@ -120,6 +124,7 @@ fn deliver<K: Sink>(out: &mut K, words: &[u8], name: &[u8]) -> Result<(), Failed
     requires { length words.now + length name.now < LINE }
     ensures told { IsTrue (K.state out.new).told → IsTrue (K.state out.old).told }
     ensures line { Delivered (fed (words.now ++ name.now)) (K.state out.old) (K.state out.new) }
+    ensures handed_on { HandedOn (K.state out.old) (K.state out.new) }
     ensures later { (K.state out.old).faults ≤ (K.state out.new).faults }
 {
     deliver_line(out, pieces_of(words, name))
@@ -130,6 +135,7 @@ fn deliver_line<K: Sink>(out: &mut K, text: ArrayVec<u8, LINE>) -> Result<(), Fa
     requires { length text.items < LINE }
     ensures told { IsTrue (K.state out.new).told → IsTrue (K.state out.old).told }
     ensures line { Delivered (fed text.items) (K.state out.old) (K.state out.new) }
+    ensures handed_on { HandedOn (K.state out.old) (K.state out.new) }
     ensures later { (K.state out.old).faults ≤ (K.state out.new).faults }
 {
     let mut line = text;

@@ -1,0 +1,38 @@
+-- Laws of the lines of what is handed out.
+use Rattle.std.specs.Prelude.{◌≡◌, ℕ, List, not, filter}
+use Rattle.std.specs.List.Sorted.{IsSortedBy}
+use Rattle.pj_value.specs.Bags.{SameBag}
+use Rattle.pj_pattern.specs.declared.element.Element.{Element}
+use Rattle.pj_element.specs.Runs.{rows_of, puncts_of, element_lines}
+use Rattle.pj_events.specs.declared.events.Out.{Out}
+use Rattle.pj_events.specs.Outcomes.{elements_out}
+use Rattle.pj_plan.specs.declared.node.PlanNode.{PlanNode}
+use Rattle.pj_report.specs.Results.{out_lines, NoneNoted}
+use Rattle.pj_report.specs.Sorted.{is_below, sorted_lines, sorted_form}
+use Rattle.pj_report.specs.Written.{is_note}
+
+-- without notes, the lines are those of the elements
+abbrev pub UnnotedAreElements : Type 0
+UnnotedAreElements = (nodes : List PlanNode) (outs : List Out) → NoneNoted outs → out_lines nodes outs ≡ element_lines (elements_out outs)
+
+-- with notes, the lines that are no notes are those of the elements
+abbrev pub ResultsAreElements : Type 0
+ResultsAreElements = (nodes : List PlanNode) (outs : List Out) → filter (λ line. not (is_note line)) (out_lines nodes outs) ≡ element_lines (elements_out outs)
+
+-- ---- sorted lines
+
+-- they are the same lines, each as often
+abbrev pub SortedAreSame : Type 0
+SortedAreSame = (lines : List (List ℕ)) → SameBag lines (sorted_lines lines)
+
+-- none is below one before it
+abbrev pub SortedAreInOrder : Type 0
+SortedAreInOrder = (lines : List (List ℕ)) → IsSortedBy is_below (sorted_lines lines)
+
+-- they depend on how often each line is there, and on nothing else
+abbrev pub SortedByBag : Type 0
+SortedByBag = (lines others : List (List ℕ)) → SameBag lines others → sorted_lines lines ≡ sorted_lines others
+
+-- so does the sorted form on how often each row and each punctuation is there
+abbrev pub FormByBags : Type 0
+FormByBags = (es fs : List Element) → SameBag (rows_of es) (rows_of fs) → SameBag (puncts_of es) (puncts_of fs) → sorted_form es ≡ sorted_form fs
