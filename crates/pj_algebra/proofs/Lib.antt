@@ -1,0 +1,4 @@
+pub mod Combinations
+pub mod DistinctKeys
+pub mod NodesInOrder
+pub mod Sums
