@@ -1,0 +1,15 @@
+pub mod Answered
+pub mod Asked
+pub mod Complete
+pub mod Exact
+pub mod Known
+pub mod Lines
+pub mod Numbers
+pub mod Parts
+pub mod Rows
+pub mod Scans
+pub mod Sound
+pub mod Steps
+pub mod Taken
+pub mod Values
+pub mod Walks

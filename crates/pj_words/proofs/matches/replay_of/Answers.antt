@@ -1,0 +1,23 @@
+use Rattle.std.proofs.Common.{◌∙◌, ap, sym, subst, Some, option_map}
+use Rattle.std.proofs.lemmas.Result.{IfOk-weaker}
+use Rattle.clap.specs.Words.{found_of, rows_of, subcommand_rows_of}
+use Rattle.pj_words.specs.Matches.{IsReplayFound, found_by}
+use Rattle.pj_words.specs.declared.tables.Subcommand.TheVariants.{Replay as Replaying}
+use Rattle.pj_words.proofs.Answered.{no_rows, rows_here}
+use Rattle.pj_words.proofs.matches.replay_of.Goals as goal
+
+pub replay_request-requires : goal.replay_request-requires
+replay_request-requires c =
+    let same = rows_here (subcommand_rows_of c.in_ok-matches.matches) (rows_of (found_of c.in-Some.found.now))
+    (ap (option_map (λ p. rows_of (found_of p.1.now))) (sym c.in-Some.is) ∙ c.subcommand.ensures.rows) in
+    subst IsReplayFound same c.in_ok-matches.ensures.found
+
+pub returns-in-Some : goal.returns-in-Some
+returns-in-Some c =
+    let same = rows_here (subcommand_rows_of c.in_ok-matches.matches) (rows_of (found_of c.in-Some.found.now))
+    (ap (option_map (λ p. rows_of (found_of p.1.now))) (sym c.in-Some.is) ∙ c.subcommand.ensures.rows) in
+    IfOk-weaker c.replay_request.result _ _ (λ r h. c.in_ok-matches.ensures.value ∙ ap (λ r. Some r) (ap (found_by Replaying) same ∙ sym h)) c.replay_request.ensures
+
+pub prove-unreachable-requires : goal.prove-unreachable-requires
+prove-unreachable-requires c = no_rows (subcommand_rows_of c.in_ok-matches.matches)
+    (ap (option_map (λ p. rows_of (found_of p.1.now))) (sym c.in-None.is) ∙ c.subcommand.ensures.rows) c.in_ok-matches.ensures.some
