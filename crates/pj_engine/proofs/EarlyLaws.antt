@@ -1,7 +1,5 @@
 -- A call that has no plan to run: what is opened and written, and why.
 use Rattle.std.proofs.Common.{◌≡◌, ◌≤◌, ◌<◌, ◌⊎◌, ℕ, true, false, inl, inr, List, [], ◌∷◌, length, Result, Ok, Err, refl, ap, ap₂, sym, ◌∙◌, subst, arith}
-use Rattle.std.specs.declared.string.String.{String}
-use Rattle.std.specs.declared.alloc.Global.{Global}
 use Rattle.std.proofs.lemmas.Bool.{false≢true}
 use Rattle.pj_io.specs.Causes.{Rose}
 use Rattle.pj_io.specs.States.{FolderState, SinkState}
@@ -19,18 +17,18 @@ use Rattle.pj_report.specs.declared.status.LimitOf.TheVariants.{Plan, Node, File
 use Rattle.pj_run.specs.declared.stops.FilesStop.{FilesStop}
 use Rattle.pj_run.specs.declared.stops.FilesStop.TheVariants.{Opening, Run}
 use Rattle.pj_feed.specs.declared.stops.OpeningStop.TheVariants.{Fault, NoMemory as OpeningMemory}
-use Rattle.pj_run.specs.declared.stops.RunStop.TheVariants.{ReadFault as RunFault, TooLarge, Limit as RunLimit, WriteFailed, NoMemory as RunMemory}
+use Rattle.pj_run.specs.declared.stops.RunStop.TheVariants.{ReadFault as RunFault, TooLarge, Limit as RunLimit, WriteFailed, NoMemory as RunMemory, Cut as RunCut}
+use Rattle.pj_events.specs.declared.events.Stop.TheVariants.{Limit as CoreLimit, NoMemory as CoreMemory}
 use Rattle.pj_engine.specs.declared.stops.FileStop.TheVariants.{OpenFault as NotOpened, ReadFault as NotRead, TooLong, NoMemory as FileMemory}
 use Rattle.pj_engine.specs.declared.stops.PlanStop.{PlanStop}
 use Rattle.pj_engine.specs.declared.stops.PlanStop.TheVariants.{Usage as NoWords, File as PlanFile, Refused, FileCount as OtherCount, Unsafe as Stuck, NoMemory as PlanMemory}
-use Rattle.pj_engine.specs.Commands.{Command, HasToldPlan, command_of, is_run, operands, operand, file_names, plan_bytes}
+use Rattle.pj_engine.specs.Commands.{Command, HasToldPlan, operand, file_names, plan_bytes}
 use Rattle.pj_feed.specs.Opened.{OpensFirst, OpensAtMost}
-use Rattle.pj_engine.specs.Refusals.{HasLines, IsRefused, Refuses, RefusesBytes, RefusesPlan, RefusesRead, Unprepared}
+use Rattle.pj_engine.specs.Refusals.{HasLines, IsRefused, IsRun, Refuses, RefusesBytes, RefusesPlan, RefusesRead, Unprepared}
 use Rattle.pj_engine.specs.Stops.{plan_status, refusal_text}
 use Rattle.pj_run.specs.Stops.{files_status}
 use Rattle.pj_engine.specs.Top.{AnswersRefusal, EarlyEnd, HasFault, IsBuilt, IsPlanOf, IsUnopened, OpensInOrder, StopLeaves}
 use Rattle.pj_report.specs.Written.{Delivered}
-use Rattle.pj_engine.proofs.CallLaws.{operands_are}
 use Rattle.pj_engine.proofs.Refusing.{read_as}
 
 -- ---- what is opened
@@ -38,25 +36,22 @@ use Rattle.pj_engine.proofs.Refusing.{read_as}
 none_opened : (names : List (List ℕ)) (folder : FolderState) → OpensFirst 0 names folder folder
 none_opened names folder name = (λ t. inl t, λ t. elim t [ inl was ↦ was | inr none ↦ absurd none ])
 
-some_operands : (words : List (String Global)) → is_run words ≡ true → 1 ≤ length (operands words)
-some_operands words run = let e = ap length (operands_are words run) in omega (arith, e)
-
-module _ (words : List (String Global)) (old new : FolderState) where
-  abbrev asked : Command
-  asked = command_of words old
-
+module _ (command : Command) (new : FolderState) where
   -- no more than the plan's file
-  alone : (count : ℕ) → count ≤ 1 → 1 < count → IsBuilt asked
+  alone : (count : ℕ) → count ≤ 1 → 1 < count → IsBuilt command
   alone count most more = absurd (omega (arith, most, more))
 
-  first_alone : is_run words ≡ true → OpensFirst 1 (operand (operands words) 1 ∷ []) old new → OpensFirst 1 (operands words) old new
-  first_alone run opened = subst (λ (ns : List (List ℕ)). OpensFirst 1 ns old new) (sym (operands_are words run)) opened
+  first_alone : IsRun command → OpensFirst 1 (operand command.names 1 ∷ []) command.folder new → OpensFirst 1 command.names command.folder new
+  first_alone run opened = subst (λ (ns : List (List ℕ)). OpensFirst 1 ns command.folder new) (sym run.named) opened
 
-  memory_opened : is_run words ≡ true → OpensAtMost 1 (operands words) old new → OpensInOrder NoMemory asked new
-  memory_opened run most = (most.0, most.2, (let le = most.1 in let some = some_operands words run in omega (arith, le, some)), alone most.0 most.1)
+  some_operands : IsRun command → 1 ≤ length command.names
+  some_operands run = let e = ap length run.named in omega (arith, e)
 
-  pub opened_early : (stop : PlanStop) → OpensAtMost 1 (operands words) old new → Unprepared stop asked new → OpensInOrder (plan_status stop) asked new
-  opened_early NoWords most u = subst (OpensInOrder Usage asked) (sym u.1) (0, none_opened (operands words) old, refl, alone 0 (omega arith))
+  memory_opened : IsRun command → OpensAtMost 1 command.names command.folder new → OpensInOrder NoMemory command new
+  memory_opened run most = (most.0, most.2, (let le = most.1 in let some = some_operands run in omega (arith, le, some)), alone most.0 most.1)
+
+  pub opened_early : (stop : PlanStop) → OpensAtMost 1 command.names command.folder new → Unprepared stop command new → OpensInOrder (plan_status stop) command new
+  opened_early NoWords most u = subst (OpensInOrder Usage command) (sym u.1) (0, none_opened command.names command.folder, refl, alone 0 (omega arith))
   opened_early (PlanFile NotOpened) most u = (0, u.1.0, refl, alone 0 (omega arith))
   opened_early (PlanFile NotRead) most u = (1, first_alone u.0 u.1.0, inl (refl, refl), alone 1 (omega arith))
   opened_early (PlanFile TooLong) most u = (1, first_alone u.0 u.1.0, refl, alone 1 (omega arith))
@@ -64,22 +59,23 @@ module _ (words : List (String Global)) (old new : FolderState) where
   opened_early (Refused fault) most u = (1, first_alone u.0 u.1.0, refl, alone 1 (omega arith))
   opened_early (OtherCount want got) most u = (1, first_alone u.0 u.1.0, refl, alone 1 (omega arith))
   opened_early (Stuck found) most u = (1, first_alone u.0 u.1.0.0, refl, alone 1 (omega arith))
-  opened_early PlanMemory most u = memory_opened u most
+  opened_early PlanMemory most (inl run) = memory_opened run most
+  opened_early PlanMemory most (inr same) = subst (OpensInOrder NoMemory command) (sym same) (0, none_opened command.names command.folder, omega arith, alone 0 (omega arith))
 
   -- ---- what is written
 
-  pub stopped_early : (stop : PlanStop) (first after : SinkState) → Unprepared stop asked new → Delivered (refusal_text stop) first after → StopLeaves (plan_status stop) asked new first after
+  pub stopped_early : (stop : PlanStop) (first after : SinkState) → Unprepared stop command new → Delivered (refusal_text stop) first after → StopLeaves (plan_status stop) command new first after
   stopped_early NoWords first after u line = tt
-  stopped_early (PlanFile NotOpened) first after u line = λ d. u.1.2 (operand (operands words) 1)
+  stopped_early (PlanFile NotOpened) first after u line = λ d. u.1.2 (operand command.names 1)
   stopped_early (PlanFile NotRead) first after u line = inl refl
   stopped_early (PlanFile TooLong) first after u line = inl refl
-  stopped_early (PlanFile FileMemory) first after u line = (first.written, inl refl, line)
+  stopped_early (PlanFile FileMemory) first after u line = inl (first.written, inl refl, line)
   stopped_early (Refused fault) first after u line = tt
   stopped_early (OtherCount want got) first after u line = tt
   stopped_early (Stuck found) first after u line = tt
-  stopped_early PlanMemory first after u line = (first.written, inl refl, line)
+  stopped_early PlanMemory first after u line = inl (first.written, inl refl, line)
 
-  pub early_early : (stop : PlanStop) (first after : SinkState) → Unprepared stop asked new → Delivered (refusal_text stop) first after → EarlyEnd (plan_status stop) asked new first after
+  pub early_early : (stop : PlanStop) (first after : SinkState) → Unprepared stop command new → Delivered (refusal_text stop) first after → EarlyEnd (plan_status stop) command new first after
   early_early NoWords first after u line = line
   early_early (PlanFile NotOpened) first after u line = line
   early_early (PlanFile NotRead) first after u line = λ one. line
@@ -92,13 +88,13 @@ module _ (words : List (String Global)) (old new : FolderState) where
 
   -- ---- causes
 
-  first_fault : is_run words ≡ true → Rose (old.faults (operand (operands words) 1)) (new.faults (operand (operands words) 1)) → HasFault asked new 1
-  first_fault run rose = record { first = omega arith; last = some_operands words run; rose = rose; later = λ more. absurd (omega (arith, more)) }
+  first_fault : IsRun command → Rose (command.folder.faults (operand command.names 1)) (new.faults (operand command.names 1)) → HasFault command new 1
+  first_fault run rose = record { first = omega arith; last = some_operands run; rose = rose; later = λ more. absurd (omega (arith, more)) }
 
-  pub fault_early : (stop : PlanStop) (n : ℕ) → Unprepared stop asked new → plan_status stop ≡ ReadFault n → HasFault asked new n
+  pub fault_early : (stop : PlanStop) (n : ℕ) → Unprepared stop command new → plan_status stop ≡ ReadFault n → HasFault command new n
   fault_early NoWords n u e = absurd (cc)
   fault_early (PlanFile NotOpened) n u e = absurd (cc)
-  fault_early (PlanFile NotRead) n u e = let same : 1 ≡ n = cc e in subst (HasFault asked new) same (first_fault u.0 u.1.1)
+  fault_early (PlanFile NotRead) n u e = let same : 1 ≡ n = cc e in subst (HasFault command new) same (first_fault u.0 u.1.1)
   fault_early (PlanFile TooLong) n u e = absurd (cc)
   fault_early (PlanFile FileMemory) n u e = absurd (cc)
   fault_early (Refused fault) n u e = absurd (cc)
@@ -106,11 +102,11 @@ module _ (words : List (String Global)) (old new : FolderState) where
   fault_early (Stuck found) n u e = absurd (cc)
   fault_early PlanMemory n u e = absurd (cc)
 
-  pub unopened_early : (stop : PlanStop) (n : ℕ) → Unprepared stop asked new → plan_status stop ≡ OpenFault n → IsUnopened asked new n
+  pub unopened_early : (stop : PlanStop) (n : ℕ) → Unprepared stop command new → plan_status stop ≡ OpenFault n → IsUnopened command new n
   unopened_early NoWords n u e = absurd (cc)
   unopened_early (PlanFile NotOpened) n u e =
       let same : 1 ≡ n = cc e in
-      subst (IsUnopened asked new) same (record { fault = first_fault u.0 u.1.1; before = 0; number = refl; opened = u.1.0 })
+      subst (IsUnopened command new) same (record { fault = first_fault u.0 u.1.1; before = 0; number = refl; opened = u.1.0 })
   unopened_early (PlanFile NotRead) n u e = absurd (cc)
   unopened_early (PlanFile TooLong) n u e = absurd (cc)
   unopened_early (PlanFile FileMemory) n u e = absurd (cc)
@@ -121,16 +117,15 @@ module _ (words : List (String Global)) (old new : FolderState) where
 
 -- ---- words
 
-form_or_not : (stop : PlanStop) (command : Command) (after : FolderState) → Unprepared stop command after → ((stop ≡ NoWords) × (command.is_run ≡ false)) ⊎ (command.is_run ≡ true)
-form_or_not NoWords command after u = inl (refl, u.0)
-form_or_not (PlanFile stop) command after u = inr u.0
-form_or_not (Refused fault) command after u = inr u.0
-form_or_not (OtherCount want got) command after u = inr u.0
-form_or_not (Stuck found) command after u = inr u.0
-form_or_not PlanMemory command after u = inr u
+-- a result that no words gave is this stop, and no other
+pub usage_alone : {T : Type 0} (result : Result T PlanStop) (stop : PlanStop) → result ≡ Err stop → result ≡ Err NoWords → stop ≡ NoWords
+usage_alone result stop is none = let e : Err stop ≡ Err NoWords = sym is ∙ none in cc e
 
-pub usage_early : (stop : PlanStop) (command : Command) (after : FolderState) → Unprepared stop command after → command.is_run ≡ false → plan_status stop ≡ Usage
-usage_early stop command after u not = elim (form_or_not stop command after u) [ inl is ↦ ap plan_status is.0 | inr run ↦ absurd (false≢true (sym not ∙ run)) ]
+pub not_usage : {T : Type 0} (result : Result T PlanStop) (ready : T) → result ≡ Ok ready → result ≡ Err NoWords → ⊥
+not_usage result ready is none = let e : Ok ready ≡ Err NoWords = sym is ∙ none in cc e
+
+pub memory_no_usage : (stop : PlanStop) → plan_status stop ≡ NoMemory → stop ≡ NoWords → ⊥
+memory_no_usage stop is none = let e : Usage ≡ NoMemory = sym (ap plan_status none) ∙ is in cc e
 
 pub no_words : (stop : PlanStop) (command : Command) (after : FolderState) → Unprepared stop command after → plan_status stop ≡ Usage → command.is_run ≡ false
 no_words NoWords command after u e = u.0
@@ -142,12 +137,6 @@ no_words (Refused fault) command after u e = absurd (cc)
 no_words (OtherCount want got) command after u e = absurd (cc)
 no_words (Stuck found) command after u e = absurd (cc)
 no_words PlanMemory command after u e = absurd (cc)
-
-pub memory_early : (stop : PlanStop) (command : Command) (after : FolderState) → Unprepared stop command after → plan_status stop ≡ NoMemory → command.is_run ≡ true
-memory_early stop command after u e = elim (form_or_not stop command after u) [ inl is ↦ absurd (no (sym (ap plan_status is.0) ∙ e)) | inr run ↦ run ]
-  where
-    no : Usage ≡ NoMemory → ⊥
-    no x = cc
 
 -- the lines of an unsafe plan spell no element
 pub early_lines : (stop : PlanStop) (command : Command) (after : FolderState) → Unprepared stop command after → HasLines stop
@@ -272,12 +261,12 @@ pub refused_early : (stop : PlanStop) (command : Command) (after : FolderState) 
 refused_early NoWords command after status u e p = absurd (subst IsOfPlan (sym e) p)
 refused_early (PlanFile NotOpened) command after status u e p = absurd (subst IsOfPlan (sym e) p)
 refused_early (PlanFile NotRead) command after status u e p = absurd (subst IsOfPlan (sym e) p)
-refused_early (PlanFile TooLong) command after status u e p = refused_so command u.0 (Limit Plan) status (λ told. too_long (length (file_names command)) (plan_bytes command) (u.1.1 told)) e
+refused_early (PlanFile TooLong) command after status u e p = refused_so command u.0.form (Limit Plan) status (λ told. too_long (length (file_names command)) (plan_bytes command) (u.1.1 told)) e
 refused_early (PlanFile FileMemory) command after status u e p = absurd (subst IsOfPlan (sym e) p)
-refused_early (Refused fault) command after status u e p = refused_so command u.0 (PlanRefused fault.line fault.why) status (λ told. has_fault (length (file_names command)) (plan_bytes command) fault (u.1.1 told)) e
-refused_early (OtherCount want got) command after status u e p = refused_so command u.0 (FileCount want got) status (λ told. is_unfit (FileCount want got) (length (file_names command)) (plan_bytes command) u.1.1 u.1.2 (u.1.3 told)) e
+refused_early (Refused fault) command after status u e p = refused_so command u.0.form (PlanRefused fault.line fault.why) status (λ told. has_fault (length (file_names command)) (plan_bytes command) fault (u.1.1 told)) e
+refused_early (OtherCount want got) command after status u e p = refused_so command u.0.form (FileCount want got) status (λ told. is_unfit (FileCount want got) (length (file_names command)) (plan_bytes command) u.1.1 u.1.2 (u.1.3 told)) e
 refused_early (Stuck found) command after status u e p =
-    refused_so command u.0 (Unsafe found.node found.risk) status (λ told. is_unfit (Unsafe found.node found.risk) (length (file_names command)) (plan_bytes command) u.1.0.1 u.1.0.2.0 (u.1.0.3 told)) e
+    refused_so command u.0.form (Unsafe found.node found.risk) status (λ told. is_unfit (Unsafe found.node found.risk) (length (file_names command)) (plan_bytes command) u.1.0.1 u.1.0.2.0 (u.1.0.3 told)) e
 refused_early PlanMemory command after status u e p = absurd (subst IsOfPlan (sym e) p)
 
 -- a status that a run alone has
@@ -312,6 +301,8 @@ refused_never (Opening OpeningMemory) status e p = subst IsOfPlan (sym e) p
 refused_never (Run (RunFault stream)) status e p = subst IsOfPlan (sym e) p
 refused_never (Run (TooLarge stream)) status e p = subst IsOfPlan (sym e) p
 refused_never (Run (RunLimit node)) status e p = subst IsOfPlan (sym e) p
+refused_never (Run (RunCut (CoreLimit node))) status e p = subst IsOfPlan (sym e) p
+refused_never (Run (RunCut CoreMemory)) status e p = subst IsOfPlan (sym e) p
 refused_never (Run WriteFailed) status e p = subst IsOfPlan (sym e) p
 refused_never (Run RunMemory) status e p = subst IsOfPlan (sym e) p
 
@@ -321,6 +312,8 @@ usage_never (Opening OpeningMemory) e = cc
 usage_never (Run (RunFault stream)) e = cc
 usage_never (Run (TooLarge stream)) e = cc
 usage_never (Run (RunLimit node)) e = cc
+usage_never (Run (RunCut (CoreLimit node))) e = cc
+usage_never (Run (RunCut CoreMemory)) e = cc
 usage_never (Run WriteFailed) e = cc
 usage_never (Run RunMemory) e = cc
 
@@ -328,12 +321,12 @@ pub answers_early : (stop : PlanStop) (command : Command) (after : FolderState) 
 answers_early NoWords command after u = λ told status refuses. inl (refused_alone command Usage status (inl (u.0, refl)) refuses)
 answers_early (PlanFile NotOpened) command after u = λ told status refuses. inr (inr (inl refl))
 answers_early (PlanFile NotRead) command after u = λ told status refuses. inr (inr (inr refl))
-answers_early (PlanFile TooLong) command after u = answers_so command u.0 (Limit Plan) (λ told. too_long (length (file_names command)) (plan_bytes command) (u.1.1 told))
+answers_early (PlanFile TooLong) command after u = answers_so command u.0.form (Limit Plan) (λ told. too_long (length (file_names command)) (plan_bytes command) (u.1.1 told))
 answers_early (PlanFile FileMemory) command after u = λ told status refuses. inr (inl refl)
-answers_early (Refused fault) command after u = answers_so command u.0 (PlanRefused fault.line fault.why) (λ told. has_fault (length (file_names command)) (plan_bytes command) fault (u.1.1 told))
-answers_early (OtherCount want got) command after u = answers_so command u.0 (FileCount want got) (λ told. is_unfit (FileCount want got) (length (file_names command)) (plan_bytes command) u.1.1 u.1.2 (u.1.3 told))
+answers_early (Refused fault) command after u = answers_so command u.0.form (PlanRefused fault.line fault.why) (λ told. has_fault (length (file_names command)) (plan_bytes command) fault (u.1.1 told))
+answers_early (OtherCount want got) command after u = answers_so command u.0.form (FileCount want got) (λ told. is_unfit (FileCount want got) (length (file_names command)) (plan_bytes command) u.1.1 u.1.2 (u.1.3 told))
 answers_early (Stuck found) command after u =
-    answers_so command u.0 (Unsafe found.node found.risk) (λ told. is_unfit (Unsafe found.node found.risk) (length (file_names command)) (plan_bytes command) u.1.0.1 u.1.0.2.0 (u.1.0.3 told))
+    answers_so command u.0.form (Unsafe found.node found.risk) (λ told. is_unfit (Unsafe found.node found.risk) (length (file_names command)) (plan_bytes command) u.1.0.1 u.1.0.2.0 (u.1.0.3 told))
 answers_early PlanMemory command after u = λ told status refuses. inr (inl refl)
 
 -- where there is something to run, nothing is refused

@@ -1,9 +1,9 @@
 -- First outputs of a plan's run stay right.
-use Rattle.pj_plan.specs.declared.node.Outline.{Outline}
+use Rattle.pj_run.specs.Jobs.{Job}
 use Rattle.pj_plan.specs.declared.node.PlanNode.{PlanNode}
 use Rattle.pj_shape.specs.declared.columns.Column.{Column}
 use Rattle.pj_plan.specs.Nodes.{stream_columns, streams_in}
-use Rattle.std.proofs.Common.{◌≡◌, ◌<◌, ◌≤◌, ◌+◌, ℕ, zero, suc, false, ◌⊎◌, inl, inr, List, [], ◌∷◌, ◌++◌, length, map, get_or, refl, ap, sym, ◌∙◌, subst, append_assoc, append-nil, arith}
+use Rattle.std.proofs.Common.{◌≡◌, ◌<◌, ◌≤◌, ◌+◌, ℕ, zero, suc, Bool, ◌⊎◌, inl, inr, List, [], ◌∷◌, ◌++◌, length, map, get_or, refl, ap, sym, ◌∙◌, subst, append_assoc, append-nil, arith}
 use Rattle.std.proofs.lemmas.Bool.{cases_lt}
 use Rattle.std.proofs.lemmas.List.{get_or-map, length-append, length-map}
 use Rattle.pj_value.specs.Bags.{weigh, SubBag}
@@ -39,31 +39,31 @@ use Rattle.pj_run.proofs.Planned.{IsPlanned}
 -- ---- what a history hands out grows
 
 -- the elements that a history hands out
-abbrev given_out : List Node → List Entry → List Element
-given_out nodes h = elements_out (handed_out false nodes h)
+abbrev given_out : Bool → List Node → List Entry → List Element
+given_out trace nodes h = elements_out (handed_out trace nodes h)
 
-given-append : (nodes : List Node) (xs ys : List Entry) → given_out nodes (xs ++ ys) ≡ given_out nodes xs ++ given_out (nodes_from nodes xs) ys
-given-append nodes xs ys = ap elements_out (outputs-append false nodes xs ys) ∙ elements-append (handed_out false nodes xs) (handed_out false (nodes_from nodes xs) ys)
+given-append : (trace : Bool) (nodes : List Node) (xs ys : List Entry) → given_out trace nodes (xs ++ ys) ≡ given_out trace nodes xs ++ given_out trace (nodes_from nodes xs) ys
+given-append trace nodes xs ys = ap elements_out (outputs-append trace nodes xs ys) ∙ elements-append (handed_out trace nodes xs) (handed_out trace (nodes_from nodes xs) ys)
 
 -- ---- the least front that hands out so many elements
 
 -- a front with one more entry hands out so many elements, and the front alone fewer
-record IsLeast (nodes : List Node) (history : List Entry) (count : ℕ) : Type 0 where
+record IsLeast (trace : Bool) (nodes : List Node) (history : List Entry) (count : ℕ) : Type 0 where
   front : List Entry
   last : Entry
   back : List Entry
   run : (front ++ last ∷ []) ++ back ≡ history
-  before : length (given_out nodes front) < count
-  enough : count ≤ length (given_out nodes (front ++ last ∷ []))
+  before : length (given_out trace nodes front) < count
+  enough : count ≤ length (given_out trace nodes (front ++ last ∷ []))
 
-least : (nodes : List Node) (done rest : List Entry) (count : ℕ) → length (given_out nodes done) < count → count ≤ length (given_out nodes (done ++ rest)) → IsLeast nodes (done ++ rest) count
-least nodes done [] count lt le = absurd (omega (arith, lt, le, ap (λ (h : List Entry). length (given_out nodes h)) (append-nil done)))
-least nodes done (entry ∷ rest) count lt le =
+least : (trace : Bool) (nodes : List Node) (done rest : List Entry) (count : ℕ) → length (given_out trace nodes done) < count → count ≤ length (given_out trace nodes (done ++ rest)) → IsLeast trace nodes (done ++ rest) count
+least trace nodes done [] count lt le = absurd (omega (arith, lt, le, ap (λ (h : List Entry). length (given_out trace nodes h)) (append-nil done)))
+least trace nodes done (entry ∷ rest) count lt le =
     let same = append_assoc done (entry ∷ []) rest in
-    elim (cases_lt (length (given_out nodes (done ++ entry ∷ []))) count) [
+    elim (cases_lt (length (given_out trace nodes (done ++ entry ∷ []))) count) [
       | inr enough ↦ record { front = done; last = entry; back = rest; run = same; before = lt; enough = enough }
-      | inl fewer ↦ subst (λ (h : List Entry). IsLeast nodes h count) same
-          (least nodes (done ++ entry ∷ []) rest count fewer (subst (λ (h : List Entry). count ≤ length (given_out nodes h)) (sym same) le))
+      | inl fewer ↦ subst (λ (h : List Entry). IsLeast trace nodes h count) same
+          (least trace nodes (done ++ entry ∷ []) rest count fewer (subst (λ (h : List Entry). count ≤ length (given_out trace nodes h)) (sym same) le))
     ]
 
 -- a list that is not longer than another front of the same list is its front
@@ -109,25 +109,25 @@ lawful-at (stream ∷ streams) [] k all lt there = absurd (omega (arith, there))
 lawful-at (stream ∷ streams) (es ∷ lists) zero all lt there = record { lawful = all.0; wide = all.1 }
 lawful-at (stream ∷ streams) (es ∷ lists) (suc k) all lt there = lawful-at streams lists k all.2 (omega (arith, lt)) (omega (arith, there))
 
-go_on : (plan : Outline) (h : List Entry) (more : List (List Element)) → AllLawful (streams_in plan.nodes) (streams_after plan h more) → GoOnLawfully (run_nodes plan) h (map rows_of (streams_after plan h more))
-go_on plan h more all s lt = record {
+go_on : (job : Job) (h : List Entry) (more : List (List Element)) → AllLawful (streams_in job.nodes) (streams_after job h more) → GoOnLawfully (run_nodes job) h (map rows_of (streams_after job h more))
+go_on job h more all s lt = record {
   later = rows_of g.0;
   whole = get_or-map rows_of lists s [] [] inside ∙ rows;
-  fit = λ row m. a.wide row (subst (λ (rs : List (List Value)). In row rs) (sym rows) (In-append_right row (rows_of came) (rows_of g.0) m)) ∙ ap length (sym (schema-is plan s (length (run_nodes plan)) there));
+  fit = λ row m. a.wide row (subst (λ (rs : List (List Value)). In row rs) (sym rows) (In-append_right row (rows_of came) (rows_of g.0) m)) ∙ ap length (sym (schema-is job s (length (run_nodes job)) there));
   clear = λ row m ps p. none_at ps g.0 (none-behind came g.0 (subst IsLawful parts a.lawful) ps p) row (row-in row g.0 m);
 }
   where
     n : ℕ
-    n = length (streams_in plan.nodes)
+    n = length (streams_in job.nodes)
 
     lists : List (List Element)
-    lists = streams_after plan h more
+    lists = streams_after job h more
 
     came : List Element
     came = arrived_at s h
 
     there : s < n
-    there = omega (arith, lt, count-streams plan)
+    there = omega (arith, lt, count-streams job)
 
     inside : s < length lists
     inside = let long = arrived-long n h more in omega (arith, there, long)
@@ -141,8 +141,8 @@ go_on plan h more all s lt = record {
     rows : rows_of (get_or lists s []) ≡ rows_of came ++ rows_of g.0
     rows = ap rows_of parts ∙ rows_of-append came g.0
 
-    a : IsLawfulStream (stream_columns (streams_in plan.nodes) s) (get_or lists s [])
-    a = lawful-at (streams_in plan.nodes) lists s all there inside
+    a : IsLawfulStream (stream_columns (streams_in job.nodes) s) (get_or lists s [])
+    a = lawful-at (streams_in job.nodes) lists s all there inside
 
 -- ---- first outputs stay right
 
@@ -154,21 +154,21 @@ rows_front xs ys zs e f =
     let front = sub-front (rows_of xs) (rows_of ys) f in
     omega (arith, all, parts, front)
 
-right_front : (plan : Outline) (files : List (List ℕ)) (first others : List Element) (front back : List Entry) → IsPlanned plan → front ++ back ≡ history_of plan files
-    → first ++ others ≡ given_out (run_nodes plan) front
-    → (more : List (List Element)) → AllLawful (streams_in plan.nodes) (streams_after plan front more) → SubBag (rows_of first) (answer_after plan front more)
-right_front plan files first others front back p run among more lawful f =
-    let legal = fronts-are-legal (run_nodes plan) front back (subst (IsLegal (run_nodes plan)) (sym run) (whole_run plan files p).legal) in
-    let sub = is-final (run_nodes plan) p.well_made p.some false front legal (map rows_of (streams_after plan front more)) (go_on plan front more lawful) f in
-    let plain = ap (weigh f) (answers-are-plain (plan_run plan) (map rows_of (streams_after plan front more))).answer in
-    omega (arith, sub, plain, rows_front first others (given_out (run_nodes plan) front) among f)
+right_front : (job : Job) (files : List (List ℕ)) (first others : List Element) (front back : List Entry) → IsPlanned job → front ++ back ≡ history_of job files
+    → first ++ others ≡ given_out job.trace (run_nodes job) front
+    → (more : List (List Element)) → AllLawful (streams_in job.nodes) (streams_after job front more) → SubBag (rows_of first) (answer_after job front more)
+right_front job files first others front back p run among more lawful f =
+    let legal = fronts-are-legal (run_nodes job) front back (subst (IsLegal (run_nodes job)) (sym run) (whole_run job files p).legal) in
+    let sub = is-final (run_nodes job) p.well_made p.some job.trace front legal (map rows_of (streams_after job front more)) (go_on job front more lawful) f in
+    let plain = ap (weigh f) (answers-are-plain (plan_run job) (map rows_of (streams_after job front more))).answer in
+    omega (arith, sub, plain, rows_front first others (given_out job.trace (run_nodes job) front) among f)
 
-stays_by : (plan : Outline) (files : List (List ℕ)) (first others : List Element) → IsPlanned plan → first ++ others ≡ outputs_of plan files
-    → IsLeast (run_nodes plan) (history_of plan files) (length first) → StaysRight plan files first
-stays_by plan files first others p e cut =
+stays_by : (job : Job) (files : List (List ℕ)) (first others : List Element) → IsPlanned job → first ++ others ≡ outputs_of job files
+    → IsLeast job.trace (run_nodes job) (history_of job files) (length first) → StaysRight job files first
+stays_by job files first others p e cut =
     let now = cut.front ++ cut.last ∷ [] in
-    let all = e ∙ (ap (given_out (run_nodes plan)) (sym cut.run) ∙ given-append (run_nodes plan) now cut.back) in
-    let part = front-of first others (given_out (run_nodes plan) now) (given_out (nodes_from (run_nodes plan) now) cut.back) all cut.enough in
+    let all = e ∙ (ap (given_out job.trace (run_nodes job)) (sym cut.run) ∙ given-append job.trace (run_nodes job) now cut.back) in
+    let part = front-of first others (given_out job.trace (run_nodes job) now) (given_out job.trace (nodes_from (run_nodes job) now) cut.back) all cut.enough in
     record {
       front = now;
       back = cut.back;
@@ -176,11 +176,11 @@ stays_by plan files first others p e cut =
       others = part.0;
       among = part.1;
       shortest = inr (cut.front, cut.last, refl, cut.before);
-      right = right_front plan files first part.0 now cut.back p cut.run part.1;
+      right = right_front job files first part.0 now cut.back p cut.run part.1;
     }
 
-pub stays : (plan : Outline) (files : List (List ℕ)) (first others : List Element) → IsPlanned plan → first ++ others ≡ outputs_of plan files → (first ≡ []) ⊎ StaysRight plan files first
-stays plan files [] others p e = inl refl
-stays plan files (x ∷ first) others p e =
-    inr (stays_by plan files (x ∷ first) others p e
-    (least (run_nodes plan) [] (history_of plan files) (length (x ∷ first)) (omega arith) (omega (arith, ap length e, length-append (x ∷ first) others))))
+pub stays : (job : Job) (files : List (List ℕ)) (first others : List Element) → IsPlanned job → first ++ others ≡ outputs_of job files → (first ≡ []) ⊎ StaysRight job files first
+stays job files [] others p e = inl refl
+stays job files (x ∷ first) others p e =
+    inr (stays_by job files (x ∷ first) others p e
+    (least job.trace (run_nodes job) [] (history_of job files) (length (x ∷ first)) (omega arith) (omega (arith, ap length e, length-append (x ∷ first) others))))

@@ -1,7 +1,6 @@
 pub mod CallLaws
 pub mod Completing
 pub mod EarlyLaws
-pub mod FilesLaws
 pub mod FrontLaws
 pub mod NameLaws
 pub mod Refusing

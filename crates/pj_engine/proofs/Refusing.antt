@@ -1,5 +1,5 @@
 -- Why there is no plan to run, from the plan of the file up to the words.
-use Rattle.std.proofs.Common.{◌≡◌, ◌≤◌, ℕ, Bool, true, false, List, [], ◌∷◌, length, Some, Result, Ok, Err, IsTrue, IfErr, refl, ap, sym, ◌∙◌, subst}
+use Rattle.std.proofs.Common.{◌≡◌, ◌≤◌, inl, inr, ℕ, Bool, true, false, List, [], ◌∷◌, length, Some, Result, Ok, Err, IsTrue, IfErr, refl, ap, sym, ◌∙◌, subst}
 use Rattle.std.specs.declared.string.String.{String}
 use Rattle.std.specs.declared.alloc.Global.{Global}
 use Rattle.pj_io.specs.States.{FolderState}
@@ -19,25 +19,33 @@ use Rattle.pj_engine.specs.declared.stops.FileStop.{FileStop}
 use Rattle.pj_engine.specs.declared.stops.FileStop.TheVariants.{OpenFault as NotOpened, ReadFault as NotRead, TooLong, NoMemory as FileMemory}
 use Rattle.pj_engine.specs.declared.stops.PlanStop.{PlanStop}
 use Rattle.pj_engine.specs.declared.stops.PlanStop.TheVariants.{Usage as NoWords, File as PlanFile, Refused, FileCount as OtherCount, Unsafe as Stuck, NoMemory as PlanMemory}
-use Rattle.pj_engine.specs.Commands.{Command, command_of, is_run, operands, operand, behind_first, file_names}
+use Rattle.pj_engine.specs.Commands.{command_of, Command, operand, file_names, run_of}
 use Rattle.pj_feed.specs.Opened.{OpensFirst}
 use Rattle.pj_run.specs.PlanNames.{HasShortNames}
-use Rattle.pj_engine.specs.Plans.{plan_of, plan_if}
-use Rattle.pj_engine.specs.Refusals.{BytesRefused, FileCause, FileOpens, HasLines, PlanCause, PlanUnfit, Unprepared}
-use Rattle.pj_run.specs.Runs.{IsNewCore, most_arrivals, outline_in}
+use Rattle.pj_engine.specs.Plans.{outline_in, plan_of, plan_if}
+use Rattle.pj_engine.specs.Refusals.{BytesRefused, FileCause, FileOpens, HasLines, IsRun, IsRunOf, NamesNoRun, PlanCause, PlanUnfit, Unprepared}
+use Rattle.pj_run.specs.Runs.{IsNewCore}
 use Rattle.pj_safe_core.proofs.Certified.{run_certified}
 use Rattle.pj_engine.proofs.NameLaws.{plain_names}
 
 -- ---- a plan
 
+-- the plan as it is run, with the certificates that are found for its nodes
+abbrev as_run : RunPlan → RunPlan
+as_run plan = run_plan plan.nodes (certificates_of plan.nodes) plan.trace
+
 -- a new core of a plan
-pub new_core : (core : CoreState) (plan : Outline) (certs : List (List (List CertStep))) → IsFresh core (run_plan plan.nodes certs false) most_arrivals → IsSoundPlan plan.nodes → IsMadeAgain plan
+pub new_core : (core : CoreState) (plan : Outline) (certs : List (List (List CertStep))) (trace : Bool) (limit : ℕ) → IsFresh core (run_plan plan.nodes certs trace) limit → IsSoundPlan plan.nodes → IsMadeAgain plan
     → certs ≡ certificates_of plan.nodes → AreCertificates plan.nodes → IsNewCore core
-new_core core plan certs fresh sound made found are =
-    let same : core.plan.nodes ≡ plan.nodes = ap (λ (p : RunPlan). p.nodes) fresh.of_plan in
-    subst (λ (ns : List PlanNode). IsFresh core (run_plan ns (certificates_of ns) false) most_arrivals → AllAreCertified (nodes_of (run_plan ns (certificates_of ns) false)) → HasShortNames ns → IsSoundPlan ns → IsNewCore core)
-    same (λ f c p s. record { fresh = f; certified = c; names = p; sound = s })
-    (subst (λ (cs : List (List (List CertStep))). IsFresh core (run_plan plan.nodes cs false) most_arrivals) found fresh) (run_certified plan.nodes false sound are) (plain_names plan made) sound
+new_core core plan certs trace limit fresh sound made found are =
+    let back = sym fresh.of_plan in
+    let of_certs : IsFresh core (as_run (run_plan plan.nodes certs trace)) limit = subst (λ (cs : List (List (List CertStep))). IsFresh core (run_plan plan.nodes cs trace) limit) found fresh in
+    record {
+      fresh = subst (IsFresh core (as_run core.plan)) (sym fresh.with_limit) (subst (λ (p : RunPlan). IsFresh core (as_run p) limit) back of_certs);
+      certified = subst (λ (p : RunPlan). AllAreCertified (nodes_of (as_run p))) back (run_certified plan.nodes trace sound are);
+      names = subst (λ (p : RunPlan). HasShortNames p.nodes) back (plain_names plan made);
+      sound = fresh.sound;
+    }
 
 -- ---- bytes
 
@@ -82,27 +90,24 @@ module _ (files : ℕ) (name bytes : List ℕ) (old new : FolderState) (is : IsT
   bytes_cause (Stuck found) b lines = ((opened, b.0, b.2, told_so (Ok b.0) b.1), lines)
   bytes_cause PlanMemory b lines = tt
 
--- ---- the words
+-- ---- the command
 
-unprepared_so : (stop : PlanStop) (command : Command) (after : FolderState) → command.is_run ≡ true → PlanCause stop (length (file_names command)) (operand command.names 1) command.folder after → Unprepared stop command after
+pub run_is : (plan : List ℕ) (files : List (List ℕ)) (trace : Bool) (limit : ℕ) (folder : FolderState) → IsRunOf files (run_of plan files trace limit folder)
+run_is plan files trace limit folder = record { run = record { form = refl; named = refl }; over = refl }
+
+-- words that name no run
+pub unprepared_words : (stop : PlanStop) (words : List (String Global)) (folder : FolderState) → NamesNoRun stop words → Unprepared stop (command_of words folder) folder
+unprepared_words NoWords words folder n = (n folder, refl)
+unprepared_words (PlanFile stop) words folder n = absurd n
+unprepared_words (Refused fault) words folder n = absurd n
+unprepared_words (OtherCount want got) words folder n = absurd n
+unprepared_words (Stuck found) words folder n = absurd n
+unprepared_words PlanMemory words folder n = inr refl
+
+pub unprepared_so : (stop : PlanStop) (command : Command) (after : FolderState) → IsRun command → PlanCause stop (length (file_names command)) (operand command.names 1) command.folder after → Unprepared stop command after
 unprepared_so NoWords command after run cause = absurd cause
 unprepared_so (PlanFile stop) command after run cause = (run, cause)
 unprepared_so (Refused fault) command after run cause = (run, cause)
 unprepared_so (OtherCount want got) command after run cause = (run, cause)
 unprepared_so (Stuck found) command after run cause = (run, cause)
-unprepared_so PlanMemory command after run cause = run
-
-pub unprepared : (stop : PlanStop) (words : List (String Global)) (files : ℕ) (name : List ℕ) (old new : FolderState) → is_run words ≡ true → name ≡ operand (operands words) 1 → files ≡ length (behind_first (operands words))
-    → PlanCause stop files name old new → Unprepared stop (command_of words old) new
-unprepared stop words files name old new run at count cause =
-    unprepared_so stop (command_of words old) new run
-    (subst (λ (n : List ℕ). PlanCause stop (length (behind_first (operands words))) n old new) at (subst (λ (k : ℕ). PlanCause stop k name old new) count cause))
-
--- the same of an answer
-pub unprepared_if : {T : Type 0} (result : Result T PlanStop) (words : List (String Global)) (files : ℕ) (name : List ℕ) (old new : FolderState) → is_run words ≡ true → name ≡ operand (operands words) 1
-    → files ≡ length (behind_first (operands words)) → IfErr result (λ stop. PlanCause stop files name old new) → IfErr result (λ stop. Unprepared stop (command_of words old) new)
-unprepared_if (Ok core) words files name old new run at count cause = tt
-unprepared_if (Err stop) words files name old new run at count cause = unprepared stop words files name old new run at count cause
-
-pub is_so : (one other : Bool) → one ≡ other → IsTrue one → other ≡ true
-is_so one other same t = sym same ∙ t
+unprepared_so PlanMemory command after run cause = inl run

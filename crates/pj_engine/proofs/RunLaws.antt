@@ -1,14 +1,15 @@
 -- What a run leaves written.
-use Rattle.pj_plan.specs.declared.node.Outline.{Outline}
+use Rattle.pj_run.specs.Jobs.{Job}
 use Rattle.pj_plan.specs.declared.node.PlanNode.{PlanNode}
 use Rattle.pj_core.specs.Plans.{RunPlan, nodes_of}
-use Rattle.pj_plan.specs.Nodes.{streams_in, joins_of}
-use Rattle.std.proofs.Common.{◌≡◌, ◌≤◌, ◌≢◌, ℕ, Bool, true, not, ◌==◌, inl, inr, List, [], ◌∷◌, ◌++◌, map, length, Some, IsTrue, refl, ap, sym, ◌∙◌, subst, append-nil, arith}
-use Rattle.std.specs.Prelude.{codes, nat_le}
+use Rattle.pj_plan.specs.Nodes.{inputs_of, streams_in, joins_of}
+use Rattle.std.proofs.Common.{◌≡◌, ◌≤◌, ◌≢◌, ℕ, Bool, true, not, ◌==◌, inl, inr, List, [], ◌∷◌, ◌++◌, map, length, Option, Some, None, IsTrue, refl, ap, sym, ◌∙◌, subst, append-nil, arith}
+use Rattle.std.specs.Prelude.{codes, nat_le, slice_get}
 use Rattle.std.specs.List.{list_all}
 use Rattle.std.specs.Fmt.{decimal}
 use Rattle.std.proofs.lemmas.Bool.{false≢true, and_parts}
 use Rattle.std.proofs.lemmas.Bool.Decides.{nat_tests, eqb_tells}
+use Rattle.pj_io.specs.Causes.{Rose}
 use Rattle.pj_io.specs.States.{SinkState}
 use Rattle.pj_pattern.specs.declared.element.Element.{Element}
 use Rattle.pj_pattern.specs.Elements.{rows_of, puncts_of}
@@ -16,22 +17,24 @@ use Rattle.pj_element.specs.declared.element.Reject.{Reject}
 use Rattle.pj_element.specs.declared.element.Reject.TheVariants.{TooLong, NotElement, Arity, BadCell, WrongKind, Closed}
 use Rattle.pj_element.specs.declared.tally.Tally.{Tally}
 use Rattle.pj_line.specs.Lines.{HasNo}
-use Rattle.pj_element.specs.Runs.{element_lines}
 use Rattle.pj_element.specs.Accepted.{fates_of, tally_of}
 use Rattle.pj_line.proofs.Feeds.{has_no_both}
-use Rattle.pj_element.proofs.Feeds.{decimal_no_feed}
+use Rattle.pj_element.proofs.Feeds.{decimal_no_feed, row_no_feed}
+use Rattle.pj_element.specs.Elements.{row_line}
+use Rattle.pj_value.specs.declared.values.Value.{Value}
 use Rattle.pj_events.specs.declared.events.Entry.{Entry}
-use Rattle.pj_events.specs.Outcomes.{peak_of}
-use Rattle.pj_engine.specs.Commands.{Command, plan_bytes, stream_files}
-use Rattle.pj_plan.specs.Canonical.{node_name}
+use Rattle.pj_events.specs.declared.events.Out.{Out}
+use Rattle.pj_events.specs.Outcomes.{elements_out, peak_of}
+use Rattle.pj_report.specs.Results.{input_name, name_of, out_lines, purge_line}
+use Rattle.pj_engine.specs.Commands.{Command, job_of, stream_files}
+use Rattle.pj_plan.specs.Canonical.{node_at, node_name}
 use Rattle.pj_plan.specs.Names.{is_name_byte}
 use Rattle.pj_run.specs.PlanNames.{HasShortNames, is_short, are_short}
-use Rattle.pj_engine.specs.Plans.{plan_of}
 use Rattle.pj_plan.specs.declared.fault.PlanWhy.{PlanWhy}
 use Rattle.pj_plan.specs.declared.fault.PlanWhy.TheVariants.{NotAPlan, UnknownStatement, BadShape, NameTwice, UnknownName, UnknownColumn, ColumnTwice, KindsDiffer, BadClass, BadScheme, UsedTwiceOrNever, TooMany, Output, Unreadable}
 use Rattle.pj_report.specs.declared.status.Status.TheVariants.{PlanRefused, FileCount}
 use Rattle.pj_report.specs.Report.{fault_words, status_line, stream_line, stream_lines, reject_line, reject_words, results_line, peak_line, counted_to}
-use Rattle.pj_run.specs.Runs.{outputs_of, history_of, report_of, run_lines, streams_report, peak_report, plan_run}
+use Rattle.pj_run.specs.Runs.{outs_of, outputs_of, history_of, report_of, run_lines, streams_report, peak_report, plan_run}
 use Rattle.pj_report.specs.Written.{flat, Delivered, holding}
 use Rattle.pj_report.proofs.Fronts.{IsNoteLine, AreNotes, notes-append}
 use Rattle.pj_engine.proofs.NameLaws.{name_plain, streams_plain}
@@ -39,14 +42,14 @@ use Rattle.pj_engine.proofs.NameLaws.{name_plain, streams_plain}
 -- ---- a run that is done
 
 -- all lines were written, and this holds of the outputs
-pub ran : (Holds : Outline → List (List ℕ) → List Element → List (List ℕ) → Type 0) (plan : Outline) (command : Command) (ready : List (List ℕ)) (old new : SinkState)
-    → plan_of (plan_bytes command) ≡ Some plan → ready ≡ stream_files command → new.written ≡ old.written ++ flat (run_lines plan ready) → Holds plan ready (outputs_of plan ready) (report_of plan ready (outputs_of plan ready))
-    → (plan : Outline) × (outputs : List Element) × (report : List (List ℕ)) × (plan_of (plan_bytes command) ≡ Some plan)
-    × (outputs ≡ outputs_of plan (stream_files command)) × (new.written ≡ old.written ++ flat (element_lines outputs ++ report)) × Holds plan (stream_files command) outputs report
-ran Holds plan command ready old new read same written holds =
-    subst (λ (fs : List (List ℕ)). (plan : Outline) × (outputs : List Element) × (report : List (List ℕ)) × (plan_of (plan_bytes command) ≡ Some plan)
-    × (outputs ≡ outputs_of plan fs) × (new.written ≡ old.written ++ flat (element_lines outputs ++ report)) × Holds plan fs outputs report) same
-    (plan, outputs_of plan ready, report_of plan ready (outputs_of plan ready), read, refl, written, holds)
+pub ran : (Holds : Job → List (List ℕ) → List Element → List (List ℕ) → Type 0) (job : Job) (command : Command) (ready : List (List ℕ)) (old new : SinkState)
+    → job_of command ≡ Some job → ready ≡ stream_files command → new.written ≡ old.written ++ flat (run_lines job ready) → Holds job ready (outputs_of job ready) (report_of job ready (outputs_of job ready))
+    → (job : Job) × (outs : List Out) × (report : List (List ℕ)) × (job_of command ≡ Some job)
+    × (outs ≡ outs_of job (stream_files command)) × (new.written ≡ old.written ++ flat (out_lines job.nodes outs ++ report)) × Holds job (stream_files command) (elements_out outs) report
+ran Holds job command ready old new read same written holds =
+    subst (λ (fs : List (List ℕ)). (job : Job) × (outs : List Out) × (report : List (List ℕ)) × (job_of command ≡ Some job)
+    × (outs ≡ outs_of job fs) × (new.written ≡ old.written ++ flat (out_lines job.nodes outs ++ report)) × Holds job fs (elements_out outs) report) same
+    (job, outs_of job ready, report_of job ready (outputs_of job ready), read, refl, written, holds)
 
 -- ---- what was delivered
 
@@ -60,6 +63,10 @@ same_after old new told delivered = elim (delivered told) [
   | inl e ↦ e ∙ append-nil old.written
   | inr cut ↦ cut.1.written ∙ (ap (λ (xs : List ℕ). old.written ++ xs) (nothing_left cut.1.front cut.1.others cut.1.all) ∙ append-nil old.written)
 ]
+
+-- the faults that rose before are there still
+pub later_rose : (first old new : SinkState) → Rose first.faults old.faults → old.faults ≤ new.faults → Rose first.faults new.faults
+later_rose first old new rose le = omega (arith, rose, le)
 
 -- the faults rose since before
 pub earlier_rose : (line : List ℕ) (first old new : SinkState) → first.faults ≤ old.faults → Delivered line old new → Delivered line (holding first old.written) new
@@ -174,6 +181,23 @@ peak_note name peak none =
     let all : NoFeed (codes "# peak " ++ name ++ codes " " ++ decimal peak) = and_then (and_then (and_then (literal (codes "# peak ") refl) named) (literal (codes " ") refl)) (number peak) in
     record { words = codes "# peak " ++ name ++ codes " " ++ decimal peak; is = refl; note = refl; whole = all.it }
 
+-- the note of a row that a sweep removed
+input_no_feed : (nodes : List PlanNode) (join input : ℕ) → HasShortNames nodes → HasNo 10 (input_name nodes join input)
+input_no_feed nodes join input plain = go (slice_get (inputs_of (node_at nodes join)) input)
+  where
+    go : (number : Option ℕ) → HasNo 10 (name_of nodes number)
+    go None = tt
+    go (Some number) = name_no_feed (node_name nodes number) (name_plain nodes number plain)
+
+pub purge_note : (nodes : List PlanNode) (join input : ℕ) (row : List Value) → HasShortNames nodes → IsNoteLine (purge_line nodes join input row)
+purge_note nodes join input row plain =
+    let joined : NoFeed (node_name nodes join) = record { it = name_no_feed (node_name nodes join) (name_plain nodes join plain) } in
+    let from : NoFeed (input_name nodes join input) = record { it = input_no_feed nodes join input plain } in
+    let removed : NoFeed (row_line row) = record { it = row_no_feed row } in
+    let all : NoFeed (codes "# purge " ++ node_name nodes join ++ codes " " ++ input_name nodes join input ++ codes " " ++ row_line row) =
+    and_then (and_then (and_then (and_then (and_then (literal (codes "# purge ") refl) joined) (literal (codes " ") refl)) from) (literal (codes " ") refl)) removed in
+    record { words = codes "# purge " ++ node_name nodes join ++ codes " " ++ input_name nodes join input ++ codes " " ++ row_line row; is = refl; note = refl; whole = all.it }
+
 streams_note : (streams : List PlanNode) (files : List (List ℕ)) → are_short streams ≡ true → AreNotes (streams_report streams files)
 streams_note [] files plain = tt
 streams_note (stream ∷ streams) [] plain = tt
@@ -190,8 +214,8 @@ peaks_note plan history (join ∷ joins) plain = (
   peaks_note plan history joins plain,
 )
 
-pub report_notes : (plan : Outline) (files : List (List ℕ)) (outputs : List Element) → HasShortNames plan.nodes → AreNotes (report_of plan files outputs)
-report_notes plan files outputs plain =
-    notes-append (streams_report (streams_in plan.nodes) files ++ results_line outputs ∷ []) _
-    (notes-append (streams_report (streams_in plan.nodes) files) (results_line outputs ∷ []) (streams_note (streams_in plan.nodes) files (streams_plain plan.nodes plain)) (results_note outputs, tt))
-    (peaks_note (plan_run plan) (history_of plan files) (joins_of plan.nodes) plain)
+pub report_notes : (job : Job) (files : List (List ℕ)) (outputs : List Element) → HasShortNames job.nodes → AreNotes (report_of job files outputs)
+report_notes job files outputs plain =
+    notes-append (streams_report (streams_in job.nodes) files ++ results_line outputs ∷ []) _
+    (notes-append (streams_report (streams_in job.nodes) files) (results_line outputs ∷ []) (streams_note (streams_in job.nodes) files (streams_plain job.nodes plain)) (results_note outputs, tt))
+    (peaks_note (plan_run job) (history_of job files) (joins_of job.nodes) plain)

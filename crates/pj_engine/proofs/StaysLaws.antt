@@ -1,8 +1,8 @@
 -- What was written spells outputs that stay right.
-use Rattle.pj_plan.specs.declared.node.Outline.{Outline}
+use Rattle.pj_run.specs.Jobs.{Job}
 use Rattle.pj_plan.specs.declared.node.PlanNode.{PlanNode}
 use Rattle.pj_plan.specs.Nodes.{streams_in}
-use Rattle.std.proofs.Common.{◌≡◌, ◌≤◌, ◌+◌, ◌==◌, ℕ, true, false, ◌⊎◌, inl, inr, List, [], ◌∷◌, ◌++◌, length, Some, IsTrue, refl, ap, sym, ◌∙◌, subst, append_assoc, append-nil, arith}
+use Rattle.std.proofs.Common.{◌≡◌, ◌≤◌, ◌+◌, ◌==◌, ℕ, true, false, ◌⊎◌, inl, inr, List, [], ◌∷◌, ◌++◌, length, map, Some, IsTrue, refl, ap, sym, ◌∙◌, subst, append_assoc, append-nil, arith}
 use Rattle.std.specs.Prelude.{codes}
 use Rattle.std.specs.Fmt.{decimal}
 use Rattle.std.specs.List.{list_any}
@@ -13,7 +13,7 @@ use Rattle.pj_io.specs.States.{SinkState}
 use Rattle.pj_pattern.specs.declared.element.Element.{Element}
 use Rattle.pj_pattern.specs.Elements.{IsLawful}
 use Rattle.pj_line.specs.Lines.{HasNo}
-use Rattle.pj_element.specs.Runs.{element_lines}
+use Rattle.pj_element.specs.Runs.{element_line}
 use Rattle.pj_line.proofs.Feeds.{has_no_both}
 use Rattle.pj_element.proofs.Feeds.{decimal_no_feed}
 use Rattle.pj_plan.specs.Canonical.{node_name}
@@ -28,62 +28,86 @@ use Rattle.pj_feed.specs.declared.stops.OpeningStop.TheVariants.{Fault, NoMemory
 use Rattle.pj_engine.specs.declared.stops.PlanStop.{PlanStop}
 use Rattle.pj_engine.specs.declared.stops.PlanStop.TheVariants.{Usage as NoWords, File as PlanFile, Refused, FileCount as OtherCount, Unsafe as Stuck, NoMemory as PlanMemory}
 use Rattle.pj_engine.specs.declared.stops.FileStop.TheVariants.{OpenFault as NotOpened, ReadFault as NotRead, TooLong, NoMemory as FileMemory}
-use Rattle.pj_run.specs.declared.stops.RunStop.TheVariants.{ReadFault as RunFault, TooLarge, Limit as RunLimit, WriteFailed, NoMemory as RunMemory}
-use Rattle.pj_engine.specs.Commands.{Command, plan_bytes, stream_files}
+use Rattle.pj_run.specs.declared.stops.RunStop.TheVariants.{ReadFault as RunFault, TooLarge, Limit as RunLimit, WriteFailed, NoMemory as RunMemory, Cut as RunCut}
+use Rattle.pj_engine.specs.Commands.{Command, job_of, stream_files}
 use Rattle.pj_run.specs.PlanNames.{HasShortNames, are_short}
-use Rattle.pj_engine.specs.Plans.{plan_of}
 use Rattle.pj_report.specs.Report.{status_line}
-use Rattle.pj_run.specs.Runs.{outputs_of, report_of, run_lines}
+use Rattle.pj_report.specs.Results.{out_lines}
+use Rattle.pj_events.specs.declared.events.Out.{Out}
+use Rattle.pj_events.specs.declared.events.Out.TheVariants.{Tuple as RowOut, Punct as PunctOut, Purged}
+use Rattle.pj_events.specs.Outcomes.{elements_out}
+use Rattle.pj_pattern.specs.declared.element.Element.TheVariants.{Tuple, Punct}
+use Rattle.pj_run.specs.Runs.{outs_of, outputs_of, report_of, run_lines}
 use Rattle.pj_engine.specs.Refusals.{HasLines}
 use Rattle.pj_engine.specs.Stops.{refusal_text}
-use Rattle.pj_run.specs.Stops.{files_status}
+use Rattle.pj_run.specs.Stops.{files_status, stop_line}
 use Rattle.pj_engine.specs.Top.{StaysRight, limit_name, stop_name}
 use Rattle.pj_run.specs.Cuts.{files_cut}
-use Rattle.pj_report.specs.Written.{flat, WholeLines, Delivered, Leaves, Spells}
+use Rattle.pj_report.specs.Written.{flat, FrontOf, WholeLines, Delivered, Leaves, Spells}
 use Rattle.pj_engine.proofs.FrontLaws.{stays}
-use Rattle.pj_report.proofs.Fronts.{IsNoteLine, AreNotes, notes-append, notes_spell, FrontSpells, front_spells, FirstLines, first_lines}
+use Rattle.pj_report.proofs.Fronts.{IsNoteLine, AreNotes, AreLinesOf, notes_are, lines-append, FrontSpells, front_spells, FirstLines, first_lines}
 use Rattle.pj_report.proofs.LinesWritten.{flat-append}
 use Rattle.pj_engine.proofs.NameLaws.{name_plain, streams_plain}
 use Rattle.pj_run.proofs.OutputLaws.{outputs_lawful}
 use Rattle.pj_run.proofs.Planned.{IsPlanned}
-use Rattle.pj_engine.proofs.RunLaws.{plan_refused_note, file_count_note, no_feeds, name_no_feed, name_short, report_notes, same_after}
+use Rattle.pj_engine.proofs.RunLaws.{plan_refused_note, purge_note, file_count_note, no_feeds, name_no_feed, name_short, report_notes, same_after}
 use Rattle.pj_pattern.proofs.Lawful.{lawful_front}
 
 -- the plan's bytes spell this plan, whose names are plain
-pub record IsReady (plan : Outline) (command : Command) : Type 0 where
-  pub read : plan_of (plan_bytes command) ≡ Some plan
-  pub planned : IsPlanned plan
-  pub names : HasShortNames plan.nodes
+pub record IsReady (job : Job) (command : Command) : Type 0 where
+  pub read : job_of command ≡ Some job
+  pub planned : IsPlanned job
+  pub names : HasShortNames job.nodes
 
 -- what was written behind these bytes spells outputs that stay right
 abbrev pub NoneRetracted : Command → List ℕ → List ℕ → Type 0
 NoneRetracted command before after =
     (bytes : List ℕ) × (after ≡ before ++ bytes) × (outputs : List Element) × Spells bytes outputs
-    × IsLawful outputs × ((outputs ≡ []) ⊎ ((plan : Outline) × (plan_of (plan_bytes command) ≡ Some plan) × StaysRight plan (stream_files command) outputs))
+    × IsLawful outputs × ((outputs ≡ []) ⊎ ((job : Job) × (job_of command ≡ Some job) × StaysRight job (stream_files command) outputs))
 
-or_stays : (plan : Outline) (command : Command) (first : List Element) → plan_of (plan_bytes command) ≡ Some plan → (first ≡ []) ⊎ StaysRight plan (stream_files command) first
-    → (first ≡ []) ⊎ ((p : Outline) × (plan_of (plan_bytes command) ≡ Some p) × StaysRight p (stream_files command) first)
-or_stays plan command first read (inl none) = inl none
-or_stays plan command first read (inr stay) = inr (plan, read, stay)
+or_stays : (job : Job) (command : Command) (first : List Element) → job_of command ≡ Some job → (first ≡ []) ⊎ StaysRight job (stream_files command) first
+    → (first ≡ []) ⊎ ((p : Job) × (job_of command ≡ Some p) × StaysRight p (stream_files command) first)
+or_stays job command first read (inl none) = inl none
+or_stays job command first read (inr stay) = inr (job, read, stay)
 
--- a front of the lines of first outputs, and of notes
-front_never : (plan : Outline) (command : Command) (outputs more : List Element) (notes : List (List ℕ)) (front others before after : List ℕ) → IsReady plan command
-    → outputs ++ more ≡ outputs_of plan (stream_files command) → AreNotes notes → front ++ others ≡ flat (element_lines outputs ++ notes) → after ≡ before ++ front → NoneRetracted command before after
-front_never plan command outputs more notes front others before after ready all noted is written =
+-- the lines of what is handed out
+out_lines_are : (nodes : List PlanNode) (outs : List Out) → HasShortNames nodes → AreLinesOf (out_lines nodes outs) (elements_out outs)
+out_lines_are nodes [] plain = tt
+out_lines_are nodes (RowOut row ∷ outs) plain = inr (Tuple row, elements_out outs, refl, refl, out_lines_are nodes outs plain)
+out_lines_are nodes (PunctOut punct ∷ outs) plain = inr (Punct punct, elements_out outs, refl, refl, out_lines_are nodes outs plain)
+out_lines_are nodes (Purged join input row ∷ outs) plain = inl (purge_note nodes join input row plain, out_lines_are nodes outs plain)
+
+-- all lines of a run are those of its outputs, with notes among them
+run_lines_are : (job : Job) (files : List (List ℕ)) → HasShortNames job.nodes → AreLinesOf (run_lines job files) (outputs_of job files)
+run_lines_are job files plain =
+    subst (AreLinesOf (run_lines job files)) (append-nil (outputs_of job files))
+    (lines-append (out_lines job.nodes (outs_of job files)) (report_of job files (outputs_of job files)) (outputs_of job files) [] (out_lines_are job.nodes (outs_of job files) plain)
+    (notes_are (report_of job files (outputs_of job files)) (report_notes job files (outputs_of job files) plain)))
+
+-- a front of the lines of first outputs, with notes among them
+front_never : (job : Job) (command : Command) (outputs more : List Element) (lines : List (List ℕ)) (front others before after : List ℕ) → IsReady job command
+    → outputs ++ more ≡ outputs_of job (stream_files command) → AreLinesOf lines outputs → front ++ others ≡ flat lines → after ≡ before ++ front → NoneRetracted command before after
+front_never job command outputs more lines front others before after ready all are is written =
     let files : List (List ℕ) = stream_files command in
-    let f : FrontSpells outputs front = front_spells outputs notes front others noted is in
-    let whole : f.first ++ (f.others ++ more) ≡ outputs_of plan files = sym (append_assoc f.first f.others more) ∙ (ap (λ (xs : List Element). xs ++ more) f.all ∙ all) in (
+    let f : FrontSpells outputs front = front_spells lines outputs front others are is in
+    let whole : f.first ++ (f.others ++ more) ≡ outputs_of job files = sym (append_assoc f.first f.others more) ∙ (ap (λ (xs : List Element). xs ++ more) f.all ∙ all) in (
       front,
       written,
       f.first,
       f.spells,
-      lawful_front f.first (f.others ++ more) (subst IsLawful (sym whole) (outputs_lawful plan files ready.planned)),
-      or_stays plan command f.first ready.read (stays plan files f.first (f.others ++ more) ready.planned whole),
+      lawful_front f.first (f.others ++ more) (subst IsLawful (sym whole) (outputs_lawful job files ready.planned)),
+      or_stays job command f.first ready.read (stays job files f.first (f.others ++ more) ready.planned whole),
     )
+
+none_of : (first others : List Element) → first ++ others ≡ [] → first ≡ []
+none_of [] others e = refl
+none_of (o ∷ first) others e = absurd (cc)
 
 -- nothing, and a front of notes
 notes_never : (command : Command) (lines : List (List ℕ)) (front others before after : List ℕ) → AreNotes lines → front ++ others ≡ flat lines → after ≡ before ++ front → NoneRetracted command before after
-notes_never command lines front others before after notes is written = (front, written, [], notes_spell lines front others notes is, tt, inl refl)
+notes_never command lines front others before after notes is written =
+    let f : FrontSpells [] front = front_spells lines [] front others (notes_are lines notes) is in
+    (front, written, [], f.spells ∙ ap (map element_line) (none_of f.first f.others f.all), tt, inl refl)
 
 -- ---- the lines of the statuses
 
@@ -127,10 +151,10 @@ limit_note (File stream) name none = record {
 name_at_no_feed : (nodes : List PlanNode) (n : ℕ) → are_short nodes ≡ true → HasNo 10 (node_name nodes n)
 name_at_no_feed nodes n plain = name_no_feed (node_name nodes n) (name_plain nodes n plain)
 
-limit_name_no_feed : (plan : Outline) (what : LimitOf) → HasShortNames plan.nodes → HasNo 10 (limit_name plan what)
-limit_name_no_feed plan Plan plain = tt
-limit_name_no_feed plan (Node node) plain = name_at_no_feed plan.nodes node plain
-limit_name_no_feed plan (File stream) plain = name_at_no_feed (streams_in plan.nodes) stream (streams_plain plan.nodes plain)
+limit_name_no_feed : (nodes : List PlanNode) (what : LimitOf) → HasShortNames nodes → HasNo 10 (limit_name nodes what)
+limit_name_no_feed nodes Plan plain = tt
+limit_name_no_feed nodes (Node node) plain = name_at_no_feed nodes node plain
+limit_name_no_feed nodes (File stream) plain = name_at_no_feed (streams_in nodes) stream (streams_plain nodes plain)
 
 -- the lines of an unsafe plan
 feeds_none : (xs : List ℕ) → list_any (λ b. b == 10) xs ≡ false → HasNo 10 xs
@@ -155,34 +179,23 @@ note_lines (line ∷ lines) each = (note_line line (each line (inl refl)), note_
 name_at_short : (nodes : List PlanNode) (n : ℕ) → are_short nodes ≡ true → length (node_name nodes n) ≤ 32
 name_at_short nodes n plain = name_short (node_name nodes n) (name_plain nodes n plain)
 
-pub stop_name_short : (plan : Outline) (status : Status) → HasShortNames plan.nodes → length (stop_name plan status) ≤ 32
-stop_name_short plan Done plain = omega arith
-stop_name_short plan Usage plain = omega arith
-stop_name_short plan (PlanRefused line why) plain = omega arith
-stop_name_short plan (FileCount want got) plain = omega arith
-stop_name_short plan (Unsafe node risk) plain = omega arith
-stop_name_short plan (OpenFault n) plain = omega arith
-stop_name_short plan (ReadFault n) plain = omega arith
-stop_name_short plan WriteFault plain = omega arith
-stop_name_short plan NoMemory plain = omega arith
-stop_name_short plan (Limit Plan) plain = omega arith
-stop_name_short plan (Limit (Node node)) plain = name_at_short plan.nodes node plain
-stop_name_short plan (Limit (File stream)) plain = name_at_short (streams_in plan.nodes) stream (streams_plain plan.nodes plain)
+pub stop_name_short : (nodes : List PlanNode) (status : Status) → HasShortNames nodes → length (stop_name nodes status) ≤ 32
+stop_name_short nodes Done plain = omega arith
+stop_name_short nodes Usage plain = omega arith
+stop_name_short nodes (PlanRefused line why) plain = omega arith
+stop_name_short nodes (FileCount want got) plain = omega arith
+stop_name_short nodes (Unsafe node risk) plain = omega arith
+stop_name_short nodes (OpenFault n) plain = omega arith
+stop_name_short nodes (ReadFault n) plain = omega arith
+stop_name_short nodes WriteFault plain = omega arith
+stop_name_short nodes NoMemory plain = omega arith
+stop_name_short nodes (Limit Plan) plain = omega arith
+stop_name_short nodes (Limit (Node node)) plain = name_at_short nodes node plain
+stop_name_short nodes (Limit (File stream)) plain = name_at_short (streams_in nodes) stream (streams_plain nodes plain)
 
--- it is the same of plans with the same nodes
-pub stop_name_by : (plan other : Outline) (status : Status) → plan.nodes ≡ other.nodes → stop_name plan status ≡ stop_name other status
-stop_name_by plan other Done same = refl
-stop_name_by plan other Usage same = refl
-stop_name_by plan other (PlanRefused line why) same = refl
-stop_name_by plan other (FileCount want got) same = refl
-stop_name_by plan other (Unsafe node risk) same = refl
-stop_name_by plan other (OpenFault n) same = refl
-stop_name_by plan other (ReadFault n) same = refl
-stop_name_by plan other WriteFault same = refl
-stop_name_by plan other NoMemory same = refl
-stop_name_by plan other (Limit Plan) same = refl
-stop_name_by plan other (Limit (Node node)) same = ap (λ (ns : List PlanNode). node_name ns node) same
-stop_name_by plan other (Limit (File stream)) same = ap (λ (ns : List PlanNode). node_name (streams_in ns) stream) same
+-- it is the same of equal nodes
+pub stop_name_by : (nodes others : List PlanNode) (status : Status) → nodes ≡ others → stop_name nodes status ≡ stop_name others status
+stop_name_by nodes others status same = ap (λ (ns : List PlanNode). stop_name ns status) same
 
 -- what was delivered of a line
 record Part (line before after : List ℕ) : Type 0 where
@@ -220,45 +233,51 @@ never_early (Stuck found) command old new told lines delivered = early_notes com
 never_early PlanMemory command old new told lines delivered = early_note command (status_line [] NoMemory) old new told (no_memory_note []) delivered
 
 -- whole first lines of the run, and then a front of the line of the status
-whole_never : (plan : Outline) (command : Command) (line before : List ℕ) (mid new : SinkState) → IsTrue new.told → IsReady plan command → IsNoteLine line
-    → WholeLines (run_lines plan (stream_files command)) before mid.written → Delivered line mid new → NoneRetracted command before new.written
-whole_never plan command line before mid new told ready note w delivered =
+whole_never : (job : Job) (command : Command) (line before : List ℕ) (mid new : SinkState) → IsTrue new.told → IsReady job command → IsNoteLine line
+    → WholeLines (run_lines job (stream_files command)) before mid.written → Delivered line mid new → NoneRetracted command before new.written
+whole_never job command line before mid new told ready note w delivered =
     let files : List (List ℕ) = stream_files command in
-    let outputs : List Element = outputs_of plan files in
+    let outputs : List Element = outputs_of job files in
     let p : Part line mid.written new.written = part_of line mid new told delivered in
-    let f : FirstLines outputs (report_of plan files outputs) w.first = first_lines outputs (report_of plan files outputs) w.first w.others (report_notes plan files outputs ready.names) w.all in
-    front_never plan command f.first f.others (f.noted ++ line ∷ []) (flat w.first ++ p.front) p.others before new.written ready f.all (notes-append f.noted (line ∷ []) f.notes_so (note, tt))
+    let f : FirstLines outputs w.first = first_lines w.first w.others (run_lines job files) outputs (run_lines_are job files ready.names) w.all in
+    front_never job command f.first f.others (w.first ++ line ∷ []) (flat w.first ++ p.front) p.others before new.written ready f.all
+    (subst (AreLinesOf (w.first ++ line ∷ [])) (append-nil f.first) (lines-append w.first (line ∷ []) f.first [] f.are (inl (note, tt))))
     (append_assoc (flat w.first) p.front p.others
     ∙ (ap (λ (xs : List ℕ). flat w.first ++ xs) (p.all ∙ sym (append-nil line))
-    ∙ (sym (flat-append w.first (line ∷ []))
-    ∙ ap flat (ap (λ (ls : List (List ℕ)). ls ++ line ∷ []) f.is ∙ append_assoc (element_lines f.first) f.noted (line ∷ [])))))
+    ∙ sym (flat-append w.first (line ∷ []))))
     (p.written ∙ (ap (λ (xs : List ℕ). xs ++ p.front) w.written ∙ append_assoc before (flat w.first) p.front))
 
 -- the run is done
-pub never_done : (plan : Outline) (command : Command) (before after : List ℕ) → IsReady plan command → after ≡ before ++ flat (run_lines plan (stream_files command)) → NoneRetracted command before after
-never_done plan command before after ready written =
+pub never_done : (job : Job) (command : Command) (before after : List ℕ) → IsReady job command → after ≡ before ++ flat (run_lines job (stream_files command)) → NoneRetracted command before after
+never_done job command before after ready written =
     let files : List (List ℕ) = stream_files command in
-    let outputs : List Element = outputs_of plan files in
-    front_never plan command outputs [] (report_of plan files outputs) (flat (run_lines plan files)) [] before after ready (append-nil outputs) (report_notes plan files outputs ready.names) (append-nil (flat (run_lines plan files))) written
+    let outputs : List Element = outputs_of job files in
+    front_never job command outputs [] (run_lines job files) (flat (run_lines job files)) [] before after ready (append-nil outputs) (run_lines_are job files ready.names) (append-nil (flat (run_lines job files))) written
+
+-- the output failed
+front_stopped : (job : Job) (command : Command) (before : List ℕ) (mid new : SinkState) → IsTrue new.told → IsReady job command → FrontOf (flat (run_lines job (stream_files command))) before mid.written → Delivered [] mid new
+    → NoneRetracted command before new.written
+front_stopped job command before mid new told ready left delivered =
+    let files : List (List ℕ) = stream_files command in
+    let outputs : List Element = outputs_of job files in
+    front_never job command outputs [] (run_lines job files) left.front left.others before new.written ready (append-nil outputs) (run_lines_are job files ready.names) left.all (same_after mid new told delivered ∙ left.written)
 
 -- the run stopped, and then the line of its status was written
-pub never_stopped : (stop : FilesStop) (plan : Outline) (command : Command) (name before : List ℕ) (mid new : SinkState) → IsTrue new.told → IsReady plan command
-    → name ≡ stop_name plan (files_status stop) → Leaves (files_cut stop) (run_lines plan (stream_files command)) before mid.written → Delivered (status_line name (files_status stop)) mid new → NoneRetracted command before new.written
-never_stopped (Opening (Fault stream)) plan command name before mid new told ready named left delivered =
-    whole_never plan command (status_line [] (OpenFault (2 + stream))) before mid new told ready (open_fault_note (2 + stream)) left (subst (λ (x : List ℕ). Delivered (status_line x (OpenFault (2 + stream))) mid new) named delivered)
-never_stopped (Opening OpeningMemory) plan command name before mid new told ready named left delivered = whole_never plan command (status_line name NoMemory) before mid new told ready (no_memory_note name) left delivered
-never_stopped (Run (RunFault stream)) plan command name before mid new told ready named left delivered =
-    whole_never plan command (status_line [] (ReadFault (2 + stream))) before mid new told ready (read_fault_note (2 + stream)) left (subst (λ (x : List ℕ). Delivered (status_line x (ReadFault (2 + stream))) mid new) named delivered)
-never_stopped (Run (TooLarge stream)) plan command name before mid new told ready named left delivered =
+pub never_stopped : (stop : FilesStop) (job : Job) (command : Command) (name before : List ℕ) (mid new : SinkState) → IsTrue new.told → IsReady job command
+    → name ≡ stop_name job.nodes (files_status stop) → Leaves (files_cut stop) (run_lines job (stream_files command)) before mid.written → Delivered (stop_line stop name) mid new → NoneRetracted command before new.written
+never_stopped (Opening (Fault stream)) job command name before mid new told ready named left delivered =
+    whole_never job command (status_line [] (OpenFault (2 + stream))) before mid new told ready (open_fault_note (2 + stream)) left (subst (λ (x : List ℕ). Delivered (status_line x (OpenFault (2 + stream))) mid new) named delivered)
+never_stopped (Opening OpeningMemory) job command name before mid new told ready named left delivered = whole_never job command (status_line name NoMemory) before mid new told ready (no_memory_note name) left delivered
+never_stopped (Run (RunFault stream)) job command name before mid new told ready named left delivered =
+    whole_never job command (status_line [] (ReadFault (2 + stream))) before mid new told ready (read_fault_note (2 + stream)) left (subst (λ (x : List ℕ). Delivered (status_line x (ReadFault (2 + stream))) mid new) named delivered)
+never_stopped (Run (TooLarge stream)) job command name before mid new told ready named left delivered =
     let what : LimitOf = File stream in
-    whole_never plan command (status_line (limit_name plan what) (Limit what)) before mid new told ready (limit_note what (limit_name plan what) (limit_name_no_feed plan what ready.names)) left
+    whole_never job command (status_line (limit_name job.nodes what) (Limit what)) before mid new told ready (limit_note what (limit_name job.nodes what) (limit_name_no_feed job.nodes what ready.names)) left
     (subst (λ (x : List ℕ). Delivered (status_line x (Limit what)) mid new) named delivered)
-never_stopped (Run (RunLimit node)) plan command name before mid new told ready named left delivered =
+never_stopped (Run (RunLimit node)) job command name before mid new told ready named left delivered =
     let what : LimitOf = Node node in
-    whole_never plan command (status_line (limit_name plan what) (Limit what)) before mid new told ready (limit_note what (limit_name plan what) (limit_name_no_feed plan what ready.names)) left
+    whole_never job command (status_line (limit_name job.nodes what) (Limit what)) before mid new told ready (limit_note what (limit_name job.nodes what) (limit_name_no_feed job.nodes what ready.names)) left
     (subst (λ (x : List ℕ). Delivered (status_line x (Limit what)) mid new) named delivered)
-never_stopped (Run WriteFailed) plan command name before mid new told ready named left delivered =
-    let files : List (List ℕ) = stream_files command in
-    let outputs : List Element = outputs_of plan files in
-    front_never plan command outputs [] (report_of plan files outputs) left.front left.others before new.written ready (append-nil outputs) (report_notes plan files outputs ready.names) left.all (same_after mid new told delivered ∙ left.written)
-never_stopped (Run RunMemory) plan command name before mid new told ready named left delivered = whole_never plan command (status_line name NoMemory) before mid new told ready (no_memory_note name) left delivered
+never_stopped (Run WriteFailed) job command name before mid new told ready named left delivered = front_stopped job command before mid new told ready left delivered
+never_stopped (Run (RunCut stop)) job command name before mid new told ready named left delivered = front_stopped job command before mid new told ready left delivered
+never_stopped (Run RunMemory) job command name before mid new told ready named left delivered = whole_never job command (status_line name NoMemory) before mid new told ready (no_memory_note name) left delivered

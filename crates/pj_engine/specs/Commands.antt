@@ -1,38 +1,75 @@
 -- What the words of a call ask for.
-use Rattle.std.specs.Prelude.{ℕ, Bool, true, false, ◌&&◌, ◌==◌, not, List, [], ◌∷◌, map, IsTrue, codes, slice_index_or}
-use Rattle.std.specs.Str.{bytes_eq}
+use Rattle.std.specs.Prelude.{ℕ, ◌≡◌, Bool, true, false, List, [], ◌∷◌, map, Option, Some, None, IsTrue, slice_index_or}
 use Rattle.std.specs.String.{string_bytes}
 use Rattle.std.specs.declared.string.String.{String}
 use Rattle.std.specs.declared.alloc.Global.{Global}
 use Rattle.pj_io.specs.States.{FolderState}
+use Rattle.pj_plan.specs.declared.node.Outline.{Outline}
+use Rattle.pj_words.specs.declared.request.Request.{Request}
+use Rattle.pj_words.specs.declared.request.Request.TheVariants.{Run, Replay, Check, Make}
+use Rattle.pj_words.specs.Request.{request_in}
 use Rattle.pj_feed.specs.Named.{AreTold, files_named}
+use Rattle.pj_run.specs.Jobs.{Job}
+use Rattle.pj_engine.specs.Plans.{plan_of}
 
--- ---- words
+-- ---- a command over a folder
 
--- these bytes begin with `-`
-abbrev pub begins_dash : List ℕ → Bool
-begins_dash [] = false
-begins_dash (b ∷ bs) = b == 45
+-- What is asked for: whether it is a run; the operands, which are the plan's name and those of the streams' files; whether the rows
+-- that sweeps remove are noted, and how many elements may arrive at a join or a group; and what the folder tells of itself before
+-- the call
+pub record Command : Type 0 where
+  pub is_run : Bool
+  pub names : List (List ℕ)
+  pub trace : Bool
+  pub limit : ℕ
+  pub folder : FolderState
 
-abbrev pub is_option : String Global → Bool
-is_option word = begins_dash (string_bytes word)
+-- what a request wants: the same without the folder
+pub record Wanted : Type 0 where
+  pub is_run : Bool
+  pub names : List (List ℕ)
+  pub trace : Bool
+  pub limit : ℕ
 
--- no word begins with `-`
-abbrev pub no_options : List (String Global) → Bool
-no_options [] = true
-no_options (word ∷ words) = not (is_option word) && no_options words
+abbrev pub run_wanted : List ℕ → List (List ℕ) → Bool → ℕ → Wanted
+run_wanted plan files trace limit = record { is_run = true; names = plan ∷ files; trace = trace; limit = limit }
 
--- `run`, a plan and one or more files, none of them beginning with `-`
-abbrev pub is_run : List (String Global) → Bool
-is_run [] = false
-is_run (a ∷ []) = false
-is_run (a ∷ b ∷ []) = false
-is_run (a ∷ b ∷ c ∷ ws) = bytes_eq (string_bytes a) (codes "run") && no_options (b ∷ c ∷ ws)
+-- nothing that there is
+abbrev pub nothing_wanted : Wanted
+nothing_wanted = record { is_run = false; names = []; trace = false; limit = 0 }
 
--- the words behind the command: the plan's name, and the files' names
-abbrev pub operands : List (String Global) → List (List ℕ)
-operands [] = []
-operands (command ∷ words) = map string_bytes words
+-- runs whose results are sorted, and such as are checked, are not there yet
+abbrev pub wanted_if : Bool → Bool → Wanted → Wanted
+wanted_if false false run = run
+wanted_if false true run = nothing_wanted
+wanted_if true check run = nothing_wanted
+
+-- nor are the other commands
+abbrev pub wanted : Option Request → Wanted
+wanted None = nothing_wanted
+wanted (Some (Run plan files workers sorted trace check limit)) = wanted_if sorted check (run_wanted plan files trace limit)
+wanted (Some (Replay plan script files trace limit)) = nothing_wanted
+wanted (Some (Check plan print)) = nothing_wanted
+wanted (Some (Make seed count)) = nothing_wanted
+
+abbrev pub command_by : Wanted → FolderState → Command
+command_by want folder = record { is_run = want.is_run; names = want.names; trace = want.trace; limit = want.limit; folder = folder }
+
+abbrev pub run_of : List ℕ → List (List ℕ) → Bool → ℕ → FolderState → Command
+run_of plan files trace limit folder = command_by (run_wanted plan files trace limit) folder
+
+-- what the words ask for
+abbrev pub asked_in : List (String Global) → Option Request
+asked_in words = request_in (map string_bytes words)
+
+abbrev pub command_of : List (String Global) → FolderState → Command
+command_of words folder = command_by (wanted (asked_in words)) folder
+
+-- the words ask for something
+abbrev pub AsksSomething : List (String Global) → Type 0
+AsksSomething words = (request : Request) × (asked_in words ≡ Some request)
+
+-- ---- operands
 
 -- the operand with this number, counted from 1
 abbrev pub operand : List (List ℕ) → ℕ → List ℕ
@@ -42,18 +79,6 @@ operand names n = slice_index_or ([] ∷ names) n []
 abbrev pub behind_first : List (List ℕ) → List (List ℕ)
 behind_first [] = []
 behind_first (name ∷ names) = names
-
--- ---- a command over a folder
-
--- What the words ask for: whether they have the form of a run, the operands, which are the plan's name and those of the streams'
--- files, and what the folder tells of itself before the call
-pub record Command : Type 0 where
-  pub is_run : Bool
-  pub names : List (List ℕ)
-  pub folder : FolderState
-
-abbrev pub command_of : List (String Global) → FolderState → Command
-command_of words folder = record { is_run = is_run words; names = operands words; folder = folder }
 
 -- the names of the streams' files
 abbrev pub file_names : Command → List (List ℕ)
@@ -74,3 +99,14 @@ HasToldPlan command = IsTrue (command.folder.told (operand command.names 1))
 pub record IsTold (command : Command) : Type 0 where
   pub plan : HasToldPlan command
   pub files : AreTold (file_names command) command.folder
+
+-- ---- the job
+
+-- a plan that is run as the command asks for
+abbrev pub job_if : Command → Option Outline → Option Job
+job_if command None = None
+job_if command (Some plan) = Some (record { nodes = plan.nodes; trace = command.trace; limit = command.limit })
+
+-- what the command runs, if the plan's bytes spell a plan
+abbrev pub job_of : Command → Option Job
+job_of command = job_if command (plan_of (plan_bytes command))

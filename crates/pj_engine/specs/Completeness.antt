@@ -2,12 +2,11 @@
 use Rattle.std.specs.Prelude.{ℕ, ◌≡◌, ◌<◌, ◌≤◌, ◌^◌, ◌⊎◌, List, [], length, Some, slice_index_or}
 use Rattle.pj_io.specs.Causes.{Rose}
 use Rattle.pj_io.specs.States.{FolderState, SinkState}
-use Rattle.pj_plan.specs.declared.node.Outline.{Outline}
 use Rattle.pj_report.specs.declared.status.Status.{Status}
 use Rattle.pj_report.specs.declared.status.Status.TheVariants.{Done, NoMemory}
-use Rattle.pj_engine.specs.Commands.{Command, IsTold, operand, plan_bytes, stream_files}
-use Rattle.pj_engine.specs.Plans.{plan_of}
-use Rattle.pj_run.specs.Runs.{elements_to, most_arrivals}
+use Rattle.pj_engine.specs.Commands.{Command, job_of, IsTold, operand, stream_files}
+use Rattle.pj_run.specs.Jobs.{Job}
+use Rattle.pj_run.specs.Runs.{elements_to}
 use Rattle.pj_engine.specs.Top.{IsBuilt}
 use Rattle.pj_algebra.specs.Answers.{IsCounted}
 
@@ -18,13 +17,13 @@ pub record NoneRose (command : Command) (after : FolderState) (old new : SinkSta
 
 -- no limit is gone beyond: each file has fewer bytes than would be too many, and to no join or group more elements come in all
 -- than may
-pub record IsWithinLimits (plan : Outline) (files : List (List ℕ)) : Type 0 where
+pub record IsWithinLimits (job : Job) (files : List (List ℕ)) : Type 0 where
   pub bytes : (stream : ℕ) → stream < length files → length (slice_index_or files stream []) < 2 ^ 40
-  pub elements : (node : ℕ) → IsCounted plan.nodes node → elements_to plan files node ≤ most_arrivals
+  pub elements : (node : ℕ) → IsCounted job.nodes node → elements_to job files node ≤ job.limit
 
 -- where the command is told, its plan and its files go beyond no limit
 abbrev pub HasRoom : Command → Type 0
-HasRoom command = (plan : Outline) → plan_of (plan_bytes command) ≡ Some plan → IsWithinLimits plan (stream_files command)
+HasRoom command = (job : Job) → job_of command ≡ Some job → IsWithinLimits job (stream_files command)
 
 -- Where the command is told: words of a run, a safe plan of few enough bytes with a stream for each file, counts of faults that do not
 -- rise and limits that are not gone beyond give a run that is done, or want of memory

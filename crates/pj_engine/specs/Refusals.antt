@@ -1,5 +1,7 @@
 -- What words, plan and number of files refuse, and why there is no plan to run.
 use Rattle.std.specs.Prelude.{ℕ, ◌^◌, ◌-◌, ◌<◌, ◌≤◌, ◌≡◌, ◌≢◌, ◌⊎◌, true, false, ⊤, min, List, [], ◌∷◌, Result, Ok, Err, IsTrue, length}
+use Rattle.std.specs.declared.string.String.{String}
+use Rattle.std.specs.declared.alloc.Global.{Global}
 use Rattle.pj_io.specs.Folders.{RoseAt, SameEverywhere}
 use Rattle.pj_io.specs.States.{FolderState}
 use Rattle.pj_plan.specs.declared.fault.PlanFault.{PlanFault}
@@ -14,7 +16,7 @@ use Rattle.pj_engine.specs.declared.stops.FileStop.{FileStop}
 use Rattle.pj_engine.specs.declared.stops.FileStop.TheVariants.{OpenFault, ReadFault, TooLong, NoMemory as FileMemory}
 use Rattle.pj_engine.specs.declared.stops.PlanStop.{PlanStop}
 use Rattle.pj_engine.specs.declared.stops.PlanStop.TheVariants.{Usage as NoWords, File, Refused, FileCount as OtherCount, Unsafe as Stuck, NoMemory as PlanMemory}
-use Rattle.pj_engine.specs.Commands.{Command, HasToldPlan, file_names, operand, plan_bytes}
+use Rattle.pj_engine.specs.Commands.{Command, HasToldPlan, command_of, file_names, operand, plan_bytes}
 use Rattle.pj_feed.specs.Opened.{OpensFirst}
 use Rattle.pj_safety.specs.declared.risk.PlanRisk.{PlanRisk}
 use Rattle.pj_safety.specs.Safety.{IsFirstRisk}
@@ -143,12 +145,35 @@ PlanCause (OtherCount want got) files name old new = OpenedAndUnfit (OtherCount 
 PlanCause (Stuck found) files name old new = OpenedAndUnfit (Stuck found) files name old new × HasUnsafeLines found
 PlanCause PlanMemory files name old new = ⊤
 
--- why a command has no plan to run: its words have not the form, and nothing was done; or they name a file with no such plan
+-- a command is a run, and names the plan's file
+pub record IsRun (command : Command) : Type 0 where
+  pub form : command.is_run ≡ true
+  pub named : command.names ≡ operand command.names 1 ∷ file_names command
+
+-- a command is a run over the files of these names
+pub record IsRunOf (files : List (List ℕ)) (command : Command) : Type 0 where
+  pub run : IsRun command
+  pub over : file_names command ≡ files
+
+-- why words name no run: they ask for nothing that there is, whatever the folder; or memory was wanting
+abbrev pub NamesNoRun : PlanStop → List (String Global) → Type 0
+NamesNoRun NoWords words = (folder : FolderState) → (command_of words folder).is_run ≡ false
+NamesNoRun (File stop) words = ⊥
+NamesNoRun (Refused fault) words = ⊥
+NamesNoRun (OtherCount want got) words = ⊥
+NamesNoRun (Stuck found) words = ⊥
+NamesNoRun PlanMemory words = ⊤
+
+-- it is a run, and its plan's file has no plan that can be run, for this cause
+abbrev pub RunUnfit : PlanStop → Command → FolderState → Type 0
+RunUnfit stop command after = IsRun command × PlanCause stop (length (file_names command)) (operand command.names 1) command.folder after
+
+-- why a command has no plan to run: it is no run, and nothing was done; it names a file with no such plan; or memory was wanting,
+-- maybe before the words were read
 abbrev pub Unprepared : PlanStop → Command → FolderState → Type 0
 Unprepared NoWords command after = (command.is_run ≡ false) × (after ≡ command.folder)
-Unprepared (File stop) command after = (command.is_run ≡ true) × PlanCause (File stop) (length (file_names command)) (operand command.names 1) command.folder after
-Unprepared (Refused fault) command after = (command.is_run ≡ true) × PlanCause (Refused fault) (length (file_names command)) (operand command.names 1) command.folder after
-Unprepared (OtherCount want got) command after =
-    (command.is_run ≡ true) × PlanCause (OtherCount want got) (length (file_names command)) (operand command.names 1) command.folder after
-Unprepared (Stuck found) command after = (command.is_run ≡ true) × PlanCause (Stuck found) (length (file_names command)) (operand command.names 1) command.folder after
-Unprepared PlanMemory command after = (command.is_run ≡ true)
+Unprepared (File stop) command after = RunUnfit (File stop) command after
+Unprepared (Refused fault) command after = RunUnfit (Refused fault) command after
+Unprepared (OtherCount want got) command after = RunUnfit (OtherCount want got) command after
+Unprepared (Stuck found) command after = RunUnfit (Stuck found) command after
+Unprepared PlanMemory command after = IsRun command ⊎ (after ≡ command.folder)

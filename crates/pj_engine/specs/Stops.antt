@@ -7,11 +7,17 @@ use Rattle.pj_engine.specs.declared.stops.FileStop.{FileStop}
 use Rattle.pj_engine.specs.declared.stops.FileStop.TheVariants.{OpenFault as NotOpened, ReadFault as NotRead, TooLong, NoMemory as FileMemory}
 use Rattle.pj_engine.specs.declared.stops.PlanStop.{PlanStop}
 use Rattle.pj_engine.specs.declared.stops.PlanStop.TheVariants.{Usage as NoWords, File as PlanFile, Refused, FileCount as OtherCount, Unsafe as Stuck, NoMemory as PlanMemory}
+use Rattle.pj_words.specs.declared.request.WordStop.{WordStop}
+use Rattle.pj_words.specs.declared.request.WordStop.TheVariants.{Usage as WordUsage, NoMemory as WordMemory}
 use Rattle.pj_report.specs.declared.status.Status.{Status}
 use Rattle.pj_report.specs.Report.{status_line}
 use Rattle.pj_report.specs.Written.{flat}
 use Rattle.pj_report.specs.declared.status.Status.TheVariants.{Usage, OpenFault, ReadFault as StatusFault, PlanRefused, FileCount, Unsafe, NoMemory as StatusMemory, Limit as StatusLimit}
 use Rattle.pj_report.specs.declared.status.LimitOf.TheVariants.{Plan, File}
+
+abbrev pub of_words : WordStop → PlanStop
+of_words WordUsage = NoWords
+of_words WordMemory = PlanMemory
 
 -- the status of a call whose plan's file was not read; it is operand 1
 abbrev pub file_status : FileStop → Status

@@ -13,34 +13,41 @@ use Rattle.pj_io.specs.Causes.{Rose}
 use Rattle.pj_io.specs.States.{FolderState, SinkState}
 use Rattle.pj_pattern.specs.declared.element.Element.{Element}
 use Rattle.pj_pattern.specs.Elements.{rows_of, IsLawful}
-use Rattle.pj_element.specs.Runs.{element_lines}
 use Rattle.pj_value.specs.Bags.{SubBag}
 use Rattle.pj_value.specs.Lists.{In}
 use Rattle.pj_value.specs.declared.values.Value.{Value}
 use Rattle.pj_events.specs.declared.events.Entry.{Entry}
+use Rattle.pj_events.specs.declared.events.Out.{Out}
 use Rattle.pj_events.specs.Outcomes.{elements_out, outputs_of as handed_out, elements_of as arrived_at}
 use Rattle.pj_events.specs.Join.{upto_from}
 use Rattle.pj_report.specs.declared.status.Status.{Status}
 use Rattle.pj_report.specs.declared.status.Status.TheVariants.{Done, Usage, OpenFault, ReadFault, PlanRefused, FileCount, Unsafe, WriteFault, NoMemory, Limit}
 use Rattle.pj_report.specs.declared.status.LimitOf.{LimitOf}
 use Rattle.pj_report.specs.declared.status.LimitOf.TheVariants.{Plan, Node, File}
-use Rattle.pj_engine.specs.Commands.{Command, IsTold, HasToldPlan, operand, file_names, plan_bytes, stream_files}
-use Rattle.pj_run.specs.Ends.{EndsBefore, EndsAtLimit, ArrivedOf}
+use Rattle.pj_engine.specs.Commands.{Command, job_of, IsTold, HasToldPlan, operand, file_names, plan_bytes, stream_files}
+use Rattle.pj_run.specs.Ends.{EndsBefore, EndsAtLimit, EndsCut, ArrivedOf}
 use Rattle.pj_feed.specs.Named.{AreDistinct}
 use Rattle.pj_feed.specs.Opened.{OpensFirst}
 use Rattle.pj_engine.specs.Plans.{plan_of}
 use Rattle.pj_engine.specs.Refusals.{Refuses}
 use Rattle.pj_report.specs.Report.{status_line}
-use Rattle.pj_run.specs.Runs.{outputs_of, history_of, run_lines, run_nodes, GoesBeyond}
+use Rattle.pj_report.specs.Results.{out_lines}
+use Rattle.pj_run.specs.Jobs.{Job}
+use Rattle.pj_run.specs.Runs.{outs_of, history_of, run_lines, run_nodes, GoesBeyond}
 use Rattle.pj_report.specs.Written.{flat, WholeLines, FrontOf, Delivered, Spells, holding}
 
 -- ---- a run that is done
 
--- Where the command and the sink are told: the plan's run wrote the lines of its outputs and a report, and this holds of them
-abbrev pub Ran : (Outline → List (List ℕ) → List Element → List (List ℕ) → Type 0) → Command → SinkState → SinkState → Type 0
+-- Where the command and the sink are told: the run wrote the lines of what it handed out and a report, and this holds of its outputs
+abbrev pub Ran : (Job → List (List ℕ) → List Element → List (List ℕ) → Type 0) → Command → SinkState → SinkState → Type 0
 Ran Holds command old new =
-    IsTold command → IsTrue new.told → (plan : Outline) × (outputs : List Element) × (report : List (List ℕ)) × (plan_of (plan_bytes command) ≡ Some plan)
-    × (outputs ≡ outputs_of plan (stream_files command)) × (new.written ≡ old.written ++ flat (element_lines outputs ++ report)) × Holds plan (stream_files command) outputs report
+    IsTold command → IsTrue new.told → (job : Job) × (outs : List Out) × (report : List (List ℕ)) × (job_of command ≡ Some job)
+    × (outs ≡ outs_of job (stream_files command)) × (new.written ≡ old.written ++ flat (out_lines job.nodes outs ++ report)) × Holds job (stream_files command) (elements_out outs) report
+
+-- Where the command and the sink are told: the bytes are those of the run on one thread, and of its report
+abbrev pub OneThreadBytes : Command → SinkState → SinkState → Type 0
+OneThreadBytes command old new =
+    IsTold command → IsTrue new.told → (job : Job) × (job_of command ≡ Some job) × (new.written ≡ old.written ++ flat (run_lines job (stream_files command)))
 
 -- ---- something to run
 
@@ -81,50 +88,62 @@ OpensInOrder status command after =
 -- nothing was written, or whole first lines of the plan's run
 abbrev pub LinesSoFar : Command → List ℕ → List ℕ → Type 0
 LinesSoFar command before lines =
-    (lines ≡ before) ⊎ ((plan : Outline) × (plan_of (plan_bytes command) ≡ Some plan) × WholeLines (run_lines plan (stream_files command)) before lines)
+    (lines ≡ before) ⊎ ((job : Job) × (job_of command ≡ Some job) × WholeLines (run_lines job (stream_files command)) before lines)
 
 -- the name of a stream, by its number
 abbrev pub stream_name : List PlanNode → ℕ → List ℕ
 stream_name streams n = node_name streams n
 
 -- the name of what has a limit
-abbrev pub limit_name : Outline → LimitOf → List ℕ
-limit_name plan Plan = []
-limit_name plan (Node node) = node_name plan.nodes node
-limit_name plan (File stream) = stream_name (streams_in plan.nodes) stream
+abbrev pub limit_name : List PlanNode → LimitOf → List ℕ
+limit_name nodes Plan = []
+limit_name nodes (Node node) = node_name nodes node
+limit_name nodes (File stream) = stream_name (streams_in nodes) stream
 
 -- the name that the line of a status has, if any
-abbrev pub stop_name : Outline → Status → List ℕ
-stop_name plan Done = []
-stop_name plan Usage = []
-stop_name plan (PlanRefused line why) = []
-stop_name plan (FileCount want got) = []
-stop_name plan (Unsafe node risk) = []
-stop_name plan (OpenFault n) = []
-stop_name plan (ReadFault n) = []
-stop_name plan WriteFault = []
-stop_name plan NoMemory = []
-stop_name plan (Limit what) = limit_name plan what
+abbrev pub stop_name : List PlanNode → Status → List ℕ
+stop_name nodes Done = []
+stop_name nodes Usage = []
+stop_name nodes (PlanRefused line why) = []
+stop_name nodes (FileCount want got) = []
+stop_name nodes (Unsafe node risk) = []
+stop_name nodes (OpenFault n) = []
+stop_name nodes (ReadFault n) = []
+stop_name nodes WriteFault = []
+stop_name nodes NoMemory = []
+stop_name nodes (Limit what) = limit_name nodes what
 
 -- A read of the file of this operand, a stream's, failed: the lines of the outputs were written up to a turn of that stream, and no
 -- line beyond those that were read whole was lost or made up
-abbrev pub FaultLeaves : Outline → Command → FolderState → ℕ → List ℕ → List ℕ → Type 0
-FaultLeaves plan command after n before lines =
-    (stream : ℕ) × (n ≡ 2 + stream) × (ends : EndsBefore plan (stream_files command) stream before lines)
-    × (AreDistinct command.names → ArrivedOf plan (stream_files command) stream (after.last (operand command.names n)) ends.front)
+abbrev pub FaultLeaves : Job → Command → FolderState → ℕ → List ℕ → List ℕ → Type 0
+FaultLeaves job command after n before lines =
+    (stream : ℕ) × (n ≡ 2 + stream) × (ends : EndsBefore job (stream_files command) stream before lines)
+    × (AreDistinct command.names → ArrivedOf job (stream_files command) stream (after.last (operand command.names n)) ends.front)
 
 -- what a limit leaves: the lines of the outputs up to the step that goes beyond it, or up to the turn of the stream whose file is
 -- too large
-abbrev pub LimitLeaves : Outline → List (List ℕ) → LimitOf → List ℕ → List ℕ → Type 0
-LimitLeaves plan files Plan before lines = ⊥
-LimitLeaves plan files (Node node) before lines = EndsAtLimit plan files node before lines
-LimitLeaves plan files (File stream) before lines = EndsBefore plan files stream before lines
+abbrev pub LimitLeaves : Job → List (List ℕ) → LimitOf → List ℕ → List ℕ → Type 0
+LimitLeaves job files Plan before lines = ⊥
+LimitLeaves job files (Node node) before lines = EndsAtLimit job files node before lines
+LimitLeaves job files (File stream) before lines = EndsBefore job files stream before lines
 
 -- a limit of the run was met: what it leaves was written, and the status' line
 abbrev pub LimitStops : LimitOf → Command → SinkState → SinkState → Type 0
 LimitStops what command old new =
-    (plan : Outline) × (lines : List ℕ) × (plan_of (plan_bytes command) ≡ Some plan) × LimitLeaves plan (stream_files command) what old.written lines
-    × Delivered (status_line (limit_name plan what) (Limit what)) (holding old lines) new
+    (job : Job) × (lines : List ℕ) × (job_of command ≡ Some job) × LimitLeaves job (stream_files command) what old.written lines
+    × Delivered (status_line (limit_name job.nodes what) (Limit what)) (holding old lines) new
+
+-- the output failed while the lines up to the step that goes beyond a node's limit were written: a front of them was, and no more
+abbrev pub CutAtLimit : LimitOf → Command → SinkState → SinkState → Type 0
+CutAtLimit Plan command old new = ⊥
+CutAtLimit (File stream) command old new = ⊥
+CutAtLimit (Node node) command old new =
+    (job : Job) × (job_of command ≡ Some job) × EndsCut job (stream_files command) node old.written new.written × Rose old.faults new.faults
+
+-- it failed once memory had been wanting: a front of the lines of the whole run was written, and no more
+abbrev pub CutRun : Command → SinkState → SinkState → Type 0
+CutRun command old new =
+    (job : Job) × (job_of command ≡ Some job) × FrontOf (flat (run_lines job (stream_files command))) old.written new.written × Rose old.faults new.faults
 
 -- what was written before the status' line, where there is a status line
 abbrev pub StopLeaves : Status → Command → FolderState → SinkState → SinkState → Type 0
@@ -135,16 +154,17 @@ StopLeaves (FileCount want got) command after old new = ⊤
 StopLeaves (Unsafe node risk) command after old new = ⊤
 StopLeaves (OpenFault n) command after old new = AreDistinct command.names → after.last (operand command.names n) ≡ command.folder.last (operand command.names n)
 StopLeaves (ReadFault n) command after old new =
-    (n ≡ 1) ⊎ ((plan : Outline) × (lines : List ℕ) × (plan_of (plan_bytes command) ≡ Some plan) × FaultLeaves plan command after n old.written lines
+    (n ≡ 1) ⊎ ((job : Job) × (lines : List ℕ) × (job_of command ≡ Some job) × FaultLeaves job command after n old.written lines
     × Delivered (status_line [] (ReadFault n)) (holding old lines) new)
 StopLeaves WriteFault command after old new =
-    (plan : Outline) × (plan_of (plan_bytes command) ≡ Some plan) × FrontOf (flat (run_lines plan (stream_files command))) old.written new.written
-StopLeaves NoMemory command after old new = (lines : List ℕ) × LinesSoFar command old.written lines × Delivered (status_line [] NoMemory) (holding old lines) new
-StopLeaves (Limit what) command after old new = (what ≡ Plan) ⊎ LimitStops what command old new
+    (job : Job) × (job_of command ≡ Some job) × FrontOf (flat (run_lines job (stream_files command))) old.written new.written
+StopLeaves NoMemory command after old new =
+    ((lines : List ℕ) × LinesSoFar command old.written lines × Delivered (status_line [] NoMemory) (holding old lines) new) ⊎ CutRun command old new
+StopLeaves (Limit what) command after old new = (what ≡ Plan) ⊎ LimitStops what command old new ⊎ CutAtLimit what command old new
 
 -- Where the command and the sink are told: where a write failed, a front of the bytes of the whole run was written; where memory ran
 -- out, whole first lines of the run; where a read failed or a limit was met, exactly the lines of the outputs until then. Behind
--- such lines stands the status' line
+-- such lines stands the status' line; where the output failed once the run had stopped, a front of them was written
 abbrev pub StoppedRun : Status → Command → FolderState → SinkState → SinkState → Type 0
 StoppedRun status command after old new = IsTold command → IsTrue new.told → StopLeaves status command after old new
 
@@ -180,8 +200,8 @@ gone_on (f ∷ fs) [] = f ∷ gone_on fs []
 gone_on (f ∷ fs) (m ∷ ms) = (f ++ m) ∷ gone_on fs ms
 
 -- the elements that a front of the plan's run brought to its streams, each going on with more
-abbrev pub streams_after : Outline → List Entry → List (List Element) → List (List Element)
-streams_after plan front more = gone_on (arrived_in (length (streams_in plan.nodes)) front) more
+abbrev pub streams_after : Job → List Entry → List (List Element) → List (List Element)
+streams_after job front more = gone_on (arrived_in (length (streams_in job.nodes)) front) more
 
 -- each of these rows has so many values
 abbrev pub AreOfWidth : ℕ → List (List Value) → Type 0
@@ -194,37 +214,37 @@ AllLawful (stream ∷ streams) [] = ⊤
 AllLawful (stream ∷ streams) (es ∷ lists) = IsLawful es × AreOfWidth (length stream.schema) (rows_of es) × AllLawful streams lists
 
 -- the rows of the plan's answer, where its streams go on with more elements
-abbrev pub answer_after : Outline → List Entry → List (List Element) → List (List Value)
-answer_after plan front more = answer_of plan.nodes (map rows_of (streams_after plan front more))
+abbrev pub answer_after : Job → List Entry → List (List Element) → List (List Value)
+answer_after job front more = answer_of job.nodes (map rows_of (streams_after job front more))
 
 -- the history is as long as it must be to hand out this many elements: with one entry less it hands out fewer
-abbrev pub IsShortest : Outline → List Entry → ℕ → Type 0
-IsShortest plan history count =
-    (history ≡ []) ⊎ ((front : List Entry) × (last : Entry) × (history ≡ front ++ last ∷ []) × (length (elements_out (handed_out false (run_nodes plan) front)) < count))
+abbrev pub IsShortest : Job → List Entry → ℕ → Type 0
+IsShortest job history count =
+    (history ≡ []) ⊎ ((front : List Entry) × (last : Entry) × (history ≡ front ++ last ∷ []) × (length (elements_out (handed_out job.trace (run_nodes job) front)) < count))
 
 -- These outputs are first ones of what a front of the run on one thread hands out, which is no longer than it must be;
 -- and however the streams lawfully go on from there, their rows are among those of the answer, as bags
-pub record StaysRight (plan : Outline) (files : List (List ℕ)) (outputs : List Element) : Type 0 where
+pub record StaysRight (job : Job) (files : List (List ℕ)) (outputs : List Element) : Type 0 where
   pub front : List Entry
   pub back : List Entry
-  pub run : front ++ back ≡ history_of plan files
+  pub run : front ++ back ≡ history_of job files
   pub others : List Element
-  pub among : outputs ++ others ≡ elements_out (handed_out false (run_nodes plan) front)
-  pub shortest : IsShortest plan front (length outputs)
-  pub right : (more : List (List Element)) → AllLawful (streams_in plan.nodes) (streams_after plan front more) → SubBag (rows_of outputs) (answer_after plan front more)
+  pub among : outputs ++ others ≡ elements_out (handed_out job.trace (run_nodes job) front)
+  pub shortest : IsShortest job front (length outputs)
+  pub right : (more : List (List Element)) → AllLawful (streams_in job.nodes) (streams_after job front more) → SubBag (rows_of outputs) (answer_after job front more)
 
 -- where the command and the sink are told: what was written spells lawful outputs, and there are none or they stay right
 abbrev pub NeverRetracted : Command → SinkState → SinkState → Type 0
 NeverRetracted command old new =
     IsTold command → IsTrue new.told → (bytes : List ℕ) × (new.written ≡ old.written ++ bytes) × (outputs : List Element) × Spells bytes outputs
-    × IsLawful outputs × ((outputs ≡ []) ⊎ ((plan : Outline) × (plan_of (plan_bytes command) ≡ Some plan) × StaysRight plan (stream_files command) outputs))
+    × IsLawful outputs × ((outputs ≡ []) ⊎ ((job : Job) × (job_of command ≡ Some job) × StaysRight job (stream_files command) outputs))
 
 -- ---- causes
 
 -- there is something to run, and a limit is gone beyond at this node, to which more elements come than may
 pub record BeyondLimit (command : Command) (node : ℕ) : Type 0 where
   pub built : IsBuilt command
-  pub beyond : IsTold command → (plan : Outline) × (plan_of (plan_bytes command) ≡ Some plan) × GoesBeyond plan (stream_files command) node
+  pub beyond : IsTold command → (job : Job) × (job_of command ≡ Some job) × GoesBeyond job (stream_files command) node
 
 -- there is something to run, and such a stream; where its file is told, that gave as many bytes as may be and had not ended
 pub record IsTooLarge (command : Command) (stream : ℕ) : Type 0 where

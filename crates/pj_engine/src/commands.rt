@@ -1,15 +1,16 @@
 // What the words of a call ask for: a plan, with a file for each of its streams.
-ghost use Rattle.std.specs.Prelude.{◌≡◌, ◌≤◌, ◌+◌, ◌∷◌, [], true, Some, IsTrue, IfOk, IfErr, OnOk, length};
+ghost use Rattle.std.specs.Prelude.{◌≡◌, ◌≤◌, ◌^◌, ◌⊎◌, ◌∷◌, [], true, Some, None, Err, IsTrue, IfOk, IfErr, OnOk, length};
+ghost use Rattle.pj_io.specs.States.{FolderState};
 ghost use Rattle.pj_io.specs.Folders.{NoneFalls, SameElsewhere};
 ghost use Rattle.pj_plan.specs.Nodes.{streams_of};
 ghost use Rattle.pj_plan_text.specs.PlanRead.{plan_read};
 ghost use Rattle.pj_safety.specs.Certificates.{AreCertificates, certificates_of};
 ghost use Rattle.pj_safety.specs.Safety.{IsSafePlan};
-ghost use Rattle.pj_engine.specs.Commands.{is_run as run_form, is_option as option_form, no_options as none_is_option, operands, operand, command_of, plan_bytes, HasToldPlan};
+ghost use Rattle.pj_engine.specs.Commands.{asked_in, AsksSomething, command_of, operand, plan_bytes, run_of, HasToldPlan};
 ghost use Rattle.pj_feed.specs.Opened.{OpensFirst, OpensAtMost, IsReadToEnd};
-ghost use Rattle.pj_engine.specs.Plans.{plan_of, SpellsPlan};
-ghost use Rattle.pj_engine.specs.Refusals.{BytesRefused, HasLines, PlanCause, PlanUnfit, Unprepared, counted_files};
-ghost use Rattle.pj_run.specs.Runs.{IsNewCore, outline_in};
+ghost use Rattle.pj_engine.specs.Plans.{outline_in, plan_of, IsAskedCore, SpellsPlan};
+ghost use Rattle.pj_engine.specs.Refusals.{BytesRefused, HasLines, IsRunOf, NamesNoRun, PlanCause, PlanUnfit, Unprepared, counted_files};
+ghost use Rattle.pj_run.specs.Runs.{IsNewCore};
 
 use crate::plan_file::read_file;
 use crate::stops::PlanStop;
@@ -19,32 +20,104 @@ use pj_io::Folder;
 use pj_plan::{Plan, PlanStop as ReadStop};
 use pj_plan_text::read_plan;
 use pj_shape::Cert;
-use pj_value::{List, NoMemory};
+use pj_value::{Bytes, List, NoMemory};
+use pj_words::{Request, request_of};
 use std::alloc::Global;
 
-// The most elements that may arrive at a join or a group.
-const MOST_ARRIVALS: u64 = 1 << 40;
+/// How a plan is to be run.
+#[derive(Clone, Copy)]
+pub struct Asked {
+    /// Over how many files, one for each of its streams.
+    pub files: usize,
+    /// Whether the rows that sweeps remove are noted.
+    pub trace: bool,
+    /// How many elements may arrive at a join or a group, from 1 to 2^40.
+    pub limit: u64,
+}
+
+/// A run that is asked for: the names of the plan's file and of those of its streams, and how it is to be run.
+#[derive(Drop)]
+pub struct Run {
+    pub plan: Bytes,
+    pub files: List<Bytes>,
+    pub trace: bool,
+    pub limit: u64,
+}
+
+/// A core, and the names of the files over which it is to run.
+#[derive(Drop)]
+pub struct Prepared {
+    pub core: Core,
+    pub files: List<Bytes>,
+}
 
 /// A core of the plan that the words name, if that is safe and there is a file for each of its streams.
-pub fn prepare<F: Folder>(alloc: Global, words: &[String], folder: &mut F) -> Result<Core, PlanStop>
-    ensures fresh { IfOk result (λ core. IsNewCore core) }
-    ensures safe { IfOk result (λ core. IsSafePlan core.plan.nodes) }
-    ensures count { IfOk result (λ core. length words.now ≡ 2 + length (streams_of core.plan.nodes)) }
-    ensures form { OnOk result (run_form words.now ≡ true) }
+pub fn prepare<F: Folder>(
+    alloc: Global,
+    words: &[String],
+    folder: &mut F,
+) -> Result<Prepared, PlanStop>
+    ensures fresh { IfOk result (λ ready. IsNewCore ready.core) }
+    ensures safe { IfOk result (λ ready. IsSafePlan ready.core.plan.nodes) }
+    ensures count { IfOk result (λ ready. length ready.files ≡ length (streams_of ready.core.plan.nodes)) }
+    ensures form { IfOk result (λ ready. IsRunOf ready.files (command_of words.now (F.state folder.old))) }
+    ensures asked { IfOk result (λ ready. IsAskedCore (command_of words.now (F.state folder.old)).trace (command_of words.now (F.state folder.old)).limit ready.core) }
     ensures told { (F.state folder.new).told ≡ (F.state folder.old).told }
     ensures contents { (F.state folder.new).contents ≡ (F.state folder.old).contents }
-    ensures read { HasToldPlan (command_of words.now (F.state folder.old)) → IfOk result (λ core. SpellsPlan (plan_bytes (command_of words.now (F.state folder.old))) (outline_in core)) }
-    ensures last { HasToldPlan (command_of words.now (F.state folder.old)) → OnOk result (IsReadToEnd (operand (operands words.now) 1) (F.state folder.old) (F.state folder.new)) }
-    ensures other_last { SameElsewhere (operand (operands words.now) 1) (F.state folder.old).last (F.state folder.new).last }
+    ensures read { HasToldPlan (command_of words.now (F.state folder.old)) → IfOk result (λ ready. SpellsPlan (plan_bytes (command_of words.now (F.state folder.old))) (outline_in ready.core)) }
+    ensures last { HasToldPlan (command_of words.now (F.state folder.old)) → OnOk result (IsReadToEnd (operand (command_of words.now (F.state folder.old)).names 1) (F.state folder.old) (F.state folder.new)) }
+    ensures other_last { OnOk result (SameElsewhere (operand (command_of words.now (F.state folder.old)).names 1) (F.state folder.old).last (F.state folder.new).last) }
     ensures later { NoneFalls (F.state folder.old).faults (F.state folder.new).faults }
-    ensures some_opened { OpensAtMost 1 (operands words.now) (F.state folder.old) (F.state folder.new) }
-    ensures was_opened { OnOk result (OpensFirst 1 (operands words.now) (F.state folder.old) (F.state folder.new)) }
+    ensures some_opened { OpensAtMost 1 (command_of words.now (F.state folder.old)).names (F.state folder.old) (F.state folder.new) }
+    ensures was_opened { OnOk result (OpensFirst 1 (command_of words.now (F.state folder.old)).names (F.state folder.old) (F.state folder.new)) }
     ensures cause { IfErr result (λ stop. Unprepared stop (command_of words.now (F.state folder.old)) (F.state folder.new)) }
+    ensures usage { asked_in words.now ≡ None → result ≡ Err PlanStop.Usage }
+    ensures asks { (result ≡ Err PlanStop.Usage) ⊎ AsksSomething words.now }
 {
-    if !is_run(words) {
-        return Err(PlanStop::Usage);
+    let run = read_words(alloc, words)?;
+    let Run {
+        plan,
+        files,
+        trace,
+        limit,
+    } = run;
+    let asked = Asked {
+        files: files.len(),
+        trace,
+        limit,
+    };
+    let core = read_plan_for(alloc, plan.as_slice(), asked, folder)?;
+    Ok(Prepared { core, files })
+}
+
+// The run that the words ask for.
+fn read_words(alloc: Global, words: &[String]) -> Result<Run, PlanStop>
+    ensures run { IfOk result (λ run. (folder : FolderState) → command_of words.now folder ≡ run_of run.plan run.files run.trace run.limit folder) }
+    ensures limit { IfOk result (λ run. (1 ≤ run.limit) × (run.limit ≤ 2 ^ 40)) }
+    ensures cause { IfErr result (λ stop. NamesNoRun stop words.now) }
+    ensures usage { asked_in words.now ≡ None → result ≡ Err PlanStop.Usage }
+    ensures asks { (result ≡ Err PlanStop.Usage) ⊎ AsksSomething words.now }
+{
+    match request_of(alloc, words)? {
+        Request::Run {
+            plan,
+            files,
+            workers: _,
+            sorted: false,
+            trace,
+            check: false,
+            limit,
+        } => Ok(Run {
+            plan,
+            files,
+            trace,
+            limit,
+        }),
+        Request::Run { .. } => Err(PlanStop::Usage),
+        Request::Replay { .. } => Err(PlanStop::Usage),
+        Request::Check { .. } => Err(PlanStop::Usage),
+        Request::Make { .. } => Err(PlanStop::Usage),
     }
-    read_plan_for(alloc, words[1].as_bytes(), words.len() - 2, folder)
 }
 
 // A core of the plan of this name, if it has so many streams.
@@ -52,12 +125,15 @@ pub fn prepare<F: Folder>(alloc: Global, words: &[String], folder: &mut F) -> Re
 fn read_plan_for<F: Folder>(
     alloc: Global,
     name: &[u8],
-    files: usize,
+    asked: Asked,
     folder: &mut F,
 ) -> Result<Core, PlanStop>
+    requires limit { (1 ≤ asked.limit) × (asked.limit ≤ 2 ^ 40) }
     ensures fresh { IfOk result (λ core. IsNewCore core) }
     ensures safe { IfOk result (λ core. IsSafePlan core.plan.nodes) }
-    ensures count { IfOk result (λ core. files ≡ length (streams_of core.plan.nodes)) }
+    ensures count { IfOk result (λ core. asked.files ≡ length (streams_of core.plan.nodes)) }
+    ensures trace { IfOk result (λ core. core.plan.trace ≡ asked.trace) }
+    ensures limit { IfOk result (λ core. core.limit ≡ asked.limit) }
     ensures told { (F.state folder.new).told ≡ (F.state folder.old).told }
     ensures contents { (F.state folder.new).contents ≡ (F.state folder.old).contents }
     ensures read { IsTrue ((F.state folder.old).told name.now) → IfOk result (λ core. SpellsPlan ((F.state folder.old).contents name.now) (outline_in core)) }
@@ -66,59 +142,73 @@ fn read_plan_for<F: Folder>(
     ensures later { NoneFalls (F.state folder.old).faults (F.state folder.new).faults }
     ensures some_opened { OpensAtMost 1 (name.now ∷ []) (F.state folder.old) (F.state folder.new) }
     ensures was_opened { OnOk result (OpensFirst 1 (name.now ∷ []) (F.state folder.old) (F.state folder.new)) }
-    ensures cause { IfErr result (λ stop. PlanCause stop files name.now (F.state folder.old) (F.state folder.new)) }
+    ensures cause { IfErr result (λ stop. PlanCause stop asked.files name.now (F.state folder.old) (F.state folder.new)) }
 {
     let bytes = read_file(alloc, folder, name)?;
-    Ok(core_in(alloc, bytes.as_slice(), files)?)
+    Ok(core_in(alloc, bytes.as_slice(), asked)?)
 }
 
 // A core of the plan that the bytes spell, if it has so many streams.
 #[tactic(auto, using(crate::proofs::Refusing::unfit_bytes, crate::proofs::Refusing::spelled))]
-fn core_in(alloc: Global, bytes: &[u8], files: usize) -> Result<Core, PlanStop>
+fn core_in(alloc: Global, bytes: &[u8], asked: Asked) -> Result<Core, PlanStop>
+    requires limit { (1 ≤ asked.limit) × (asked.limit ≤ 2 ^ 40) }
     ensures fresh { IfOk result (λ core. IsNewCore core) }
     ensures safe { IfOk result (λ core. IsSafePlan core.plan.nodes) }
-    ensures count { IfOk result (λ core. files ≡ length (streams_of core.plan.nodes)) }
+    ensures count { IfOk result (λ core. asked.files ≡ length (streams_of core.plan.nodes)) }
+    ensures trace { IfOk result (λ core. core.plan.trace ≡ asked.trace) }
+    ensures limit { IfOk result (λ core. core.limit ≡ asked.limit) }
     ensures read { IfOk result (λ core. plan_of bytes.now ≡ Some (outline_in core)) }
-    ensures cause { IfErr result (λ stop. BytesRefused stop files bytes.now) }
+    ensures cause { IfErr result (λ stop. BytesRefused stop asked.files bytes.now) }
     ensures lines { IfErr result HasLines }
 {
     match read_plan(alloc, bytes) {
-        Ok(plan) => Ok(core_for(alloc, plan, files)?),
+        Ok(plan) => Ok(core_for(alloc, plan, asked)?),
         Err(ReadStop::Fault(fault)) => Err(PlanStop::Refused { fault }),
         Err(ReadStop::NoMemory) => Err(PlanStop::NoMemory),
     }
 }
 
 // A core of the plan, if that has so many streams and is safe.
-fn core_for(alloc: Global, plan: Plan, files: usize) -> Result<Core, PlanStop>
+fn core_for(alloc: Global, plan: Plan, asked: Asked) -> Result<Core, PlanStop>
+    requires limit { (1 ≤ asked.limit) × (asked.limit ≤ 2 ^ 40) }
     ensures fresh { IfOk result (λ core. IsNewCore core) }
     ensures safe { OnOk result (IsSafePlan plan.nodes) }
-    ensures count { OnOk result (files ≡ length (streams_of plan.nodes)) }
+    ensures count { OnOk result (asked.files ≡ length (streams_of plan.nodes)) }
     ensures same { IfOk result (λ core. outline_in core ≡ plan) }
-    ensures cause { IfErr result (λ stop. PlanUnfit stop files plan) }
+    ensures trace { IfOk result (λ core. core.plan.trace ≡ asked.trace) }
+    ensures limit { IfOk result (λ core. core.limit ≡ asked.limit) }
+    ensures cause { IfErr result (λ stop. PlanUnfit stop asked.files plan) }
     ensures lines { IfErr result HasLines }
 {
     let want = stream_count(&plan);
-    if want as usize != files {
-        let got = file_count(files);
+    if want as usize != asked.files {
+        let got = file_count(asked.files);
         return Err(PlanStop::FileCount { want, got });
     }
     match judge(alloc, &plan)? {
-        Judged::Safe { certs } => Ok(run_core(alloc, plan, certs)?),
+        Judged::Safe { certs } => Ok(run_core(alloc, plan, certs, asked)?),
         Judged::Unsafe { found } => Err(PlanStop::Unsafe { found }),
     }
 }
 
 // A core of the plan with the certificates of its joins.
 #[tactic(auto, using(crate::proofs::Refusing::new_core))]
-fn run_core(alloc: Global, plan: Plan, certs: List<List<Cert>>) -> Result<Core, NoMemory>
+fn run_core(
+    alloc: Global,
+    plan: Plan,
+    certs: List<List<Cert>>,
+    asked: Asked,
+) -> Result<Core, NoMemory>
     requires certs { certs ≡ certificates_of plan.nodes }
     requires certified { AreCertificates plan.nodes }
+    requires limit { (1 ≤ asked.limit) × (asked.limit ≤ 2 ^ 40) }
     ensures fresh { IfOk result (λ core. IsNewCore core) }
     ensures same { IfOk result (λ core. outline_in core ≡ plan) }
+    ensures trace { IfOk result (λ core. core.plan.trace ≡ asked.trace) }
+    ensures limit { IfOk result (λ core. core.limit ≡ asked.limit) }
 {
     let _nodes = plan.nodes();
-    Ok(Core::new(alloc, plan, certs, MOST_ARRIVALS, false)?)
+    Ok(Core::new(alloc, plan, certs, asked.limit, asked.trace)?)
 }
 
 // The number of the plan's streams.
@@ -135,34 +225,4 @@ fn file_count(files: usize) -> u32
     ensures { result ≡ counted_files files }
 {
     files.min(u32::MAX as usize) as u32
-}
-
-fn is_run(words: &[String]) -> bool
-    ensures form { result ≡ run_form words.now }
-    ensures some { IsTrue result → 3 ≤ length words.now }
-{
-    match words {
-        [command, names @ ..] => names.len() >= 2 && command.as_str() == "run" && no_options(names),
-        [] => false,
-    }
-}
-
-fn no_options(words: &[String]) -> bool
-    ensures { result ≡ none_is_option words.now }
-{
-    for word in words {
-        if is_option(word) {
-            return false;
-        }
-    }
-    true
-}
-
-fn is_option(word: &String) -> bool
-    ensures { result ≡ option_form word.now }
-{
-    match word.as_bytes() {
-        [first, ..] => *first == b'-',
-        [] => false,
-    }
 }

@@ -1,6 +1,6 @@
 // What is written where there is no plan to run.
 ghost use Rattle.std.specs.Prelude.{◌≤◌, IsTrue};
-ghost use Rattle.pj_report.specs.Written.{Delivered};
+ghost use Rattle.pj_report.specs.Written.{Delivered, HandedOn};
 ghost use Rattle.pj_engine.specs.Stops.{refusal_text};
 
 use crate::stops::PlanStop;
@@ -12,6 +12,7 @@ use pj_report::{write_lines, write_status};
 pub fn write_refusal<K: Sink>(stop: &PlanStop, out: &mut K)
     ensures told { IsTrue (K.state out.new).told → IsTrue (K.state out.old).told }
     ensures lines { Delivered (refusal_text stop.now) (K.state out.old) (K.state out.new) }
+    ensures handed_on { HandedOn (K.state out.old) (K.state out.new) }
     ensures later { (K.state out.old).faults ≤ (K.state out.new).faults }
 {
     match stop {

@@ -4,6 +4,7 @@ ghost use Rattle.std.specs.Prelude.{◌≡◌};
 use pj_alone::Unsafe;
 use pj_plan::PlanFault;
 use pj_value::NoMemory;
+use pj_words::WordStop;
 
 /// Why the plan's file was not read.
 #[derive(Clone, Copy, Debug, PartialEq, Eq)]
@@ -21,7 +22,7 @@ pub enum FileStop {
 /// Why there is no plan to run.
 #[derive(Drop)]
 pub enum PlanStop {
-    /// The words have another form.
+    /// The words ask for nothing that there is.
     Usage,
     /// The plan's file was not read.
     File { stop: FileStop },
@@ -42,6 +43,19 @@ impl From<FileStop> for PlanStop {
 
     fn from(stop: FileStop) -> PlanStop {
         PlanStop::File { stop }
+    }
+}
+
+impl From<WordStop> for PlanStop {
+    ghost use Rattle.pj_engine.specs.Stops.{of_words};
+
+    ghost from_gives = { λ stop plan. plan ≡ of_words stop };
+
+    fn from(stop: WordStop) -> PlanStop {
+        match stop {
+            WordStop::Usage => PlanStop::Usage,
+            WordStop::NoMemory => PlanStop::NoMemory,
+        }
     }
 }
 

@@ -1,24 +1,26 @@
 // The top call.
-ghost use Rattle.std.specs.Prelude.{◌≡◌, ℕ, true, false};
+ghost use Rattle.std.specs.Prelude.{◌≡◌, ℕ, None, false};
 ghost use Rattle.pj_report.specs.declared.status.LimitOf.TheVariants.{Plan as PlanFile, Node, File};
 ghost use Rattle.pj_plan.specs.Canonical.{node_name as name_of_node};
 ghost use Rattle.pj_plan.specs.Nodes.{streams_in};
-ghost use Rattle.pj_engine.specs.Commands.{command_of, operands, is_run as run_form};
+ghost use Rattle.pj_engine.specs.Commands.{asked_in, command_of, AsksSomething};
 ghost use Rattle.pj_engine.specs.Completeness.{Completes};
 ghost use Rattle.pj_engine.specs.Refusals.{IsRefused, IsRightFault, IsRightCount, IsRightlyUnsafe};
 ghost use Rattle.pj_run.specs.Runs.{IsAnswer, ArePunctuations, AreLawful, AreTallies};
-ghost use Rattle.pj_engine.specs.Top.{Ran, OpensInOrder, StoppedRun, EarlyEnd, NeverRetracted, AnswersRefusal, IsBuilt, IsUnopened, WriteFails, BeyondLimit, IsTooLarge, HasFault, stream_name as name_of_stream, stop_name as stop_name_of};
+ghost use Rattle.pj_engine.specs.Top.{Ran, OneThreadBytes, OpensInOrder, StoppedRun, EarlyEnd, NeverRetracted, AnswersRefusal, IsBuilt, IsUnopened, WriteFails, BeyondLimit, IsTooLarge, HasFault, stream_name as name_of_stream, stop_name as stop_name_of};
 ghost use Rattle.pj_feed.specs.Opened.{AreReadToEnd};
+ghost use Rattle.pj_report.specs.Written.{HandedOn};
 
-use crate::commands::prepare;
+use crate::commands::{Prepared, prepare};
 use crate::refusal::write_refusal;
 use pj_io::{Folder, Sink};
 use pj_plan::Plan;
-use pj_report::{LimitOf, Status, write_status};
-use pj_run::run_files;
+use pj_report::{LimitOf, Status};
+use pj_run::{run_files, write_stop};
 
 /// Runs the command that the words spell: `run PLAN FILE ..` reads a plan, and a file for each of its streams, and writes
-/// what the plan's run on one thread hands out, and the report. A plan of which a node is not safe is refused with `Unsafe` before
+/// what the plan's run on one thread hands out, and the report; with `--trace` also a note for each row that a sweep removes, and
+/// with `--limit N` no more than N elements may arrive at a join or a group. A plan of which a node is not safe is refused with `Unsafe` before
 /// a file of a stream is opened; every other plan is run.
 ///
 /// Sweeps keep each join finite: after each punctuation the run removes the stored rows that nothing which still comes can
@@ -33,19 +35,21 @@ pub fn run_words<R: AllocGlobal, F: Folder, K: Sink>(
     ensures answer { result ≡ Status.Done → Ran IsAnswer (command_of words.now (F.state folder.old)) (K.state out.old) (K.state out.new) }
     ensures punctuations { result ≡ Status.Done → Ran ArePunctuations (command_of words.now (F.state folder.old)) (K.state out.old) (K.state out.new) }
     ensures lawful { result ≡ Status.Done → Ran AreLawful (command_of words.now (F.state folder.old)) (K.state out.old) (K.state out.new) }
+    ensures one_thread_bytes { result ≡ Status.Done → OneThreadBytes (command_of words.now (F.state folder.old)) (K.state out.old) (K.state out.new) }
     ensures tallies { result ≡ Status.Done → Ran AreTallies (command_of words.now (F.state folder.old)) (K.state out.old) (K.state out.new) }
-    ensures read_to_end { result ≡ Status.Done → AreReadToEnd (operands words.now) (F.state folder.old) (F.state folder.new) }
+    ensures read_to_end { result ≡ Status.Done → AreReadToEnd (command_of words.now (F.state folder.old)).names (F.state folder.old) (F.state folder.new) }
 
     // The run has stopped, or it never began.
     ensures stopped_run { StoppedRun result (command_of words.now (F.state folder.old)) (F.state folder.new) (K.state out.old) (K.state out.new) }
     ensures never_retracted { NeverRetracted (command_of words.now (F.state folder.old)) (K.state out.old) (K.state out.new) }
     ensures early_end { EarlyEnd result (command_of words.now (F.state folder.old)) (F.state folder.new) (K.state out.old) (K.state out.new) }
+    ensures handed_on { HandedOn (K.state out.old) (K.state out.new) }
     ensures opened_in_order { OpensInOrder result (command_of words.now (F.state folder.old)) (F.state folder.new) }
 
     // When each status comes.
     ensures cause_of_done { result ≡ Status.Done → IsBuilt (command_of words.now (F.state folder.old)) }
-    ensures cause_of_usage { result ≡ Status.Usage → run_form words.now ≡ false }
-    ensures usage { run_form words.now ≡ false → result ≡ Status.Usage }
+    ensures cause_of_usage { result ≡ Status.Usage → (command_of words.now (F.state folder.old)).is_run ≡ false }
+    ensures usage { asked_in words.now ≡ None → result ≡ Status.Usage }
     ensures cause_of_plan_limit { result ≡ Status.Limit PlanFile → IsRefused (command_of words.now (F.state folder.old)) (Status.Limit PlanFile) }
     ensures cause_of_plan_refused { IsRightFault result (command_of words.now (F.state folder.old)) }
     ensures cause_of_file_count { IsRightCount result (command_of words.now (F.state folder.old)) }
@@ -54,20 +58,23 @@ pub fn run_words<R: AllocGlobal, F: Folder, K: Sink>(
     ensures cause_of_open_fault { (n : ℕ) → result ≡ Status.OpenFault n → IsUnopened (command_of words.now (F.state folder.old)) (F.state folder.new) n }
     ensures cause_of_read_fault { (n : ℕ) → result ≡ Status.ReadFault n → HasFault (command_of words.now (F.state folder.old)) (F.state folder.new) n }
     ensures cause_of_write_fault { result ≡ Status.WriteFault → WriteFails (command_of words.now (F.state folder.old)) (K.state out.old) (K.state out.new) }
-    ensures cause_of_no_memory { result ≡ Status.NoMemory → run_form words.now ≡ true }
+    ensures cause_of_no_memory { result ≡ Status.NoMemory → AsksSomething words.now }
     ensures cause_of_limit { (node : ℕ) → result ≡ Status.Limit (Node node) → BeyondLimit (command_of words.now (F.state folder.old)) node }
     ensures cause_of_file_limit { (stream : ℕ) → result ≡ Status.Limit (File stream) → IsTooLarge (command_of words.now (F.state folder.old)) stream }
     ensures completes { Completes result (command_of words.now (F.state folder.old)) (F.state folder.new) (K.state out.old) (K.state out.new) }
 {
     match prepare(rt.alloc(), words, folder) {
-        Ok(mut core) => match run_files(rt.alloc(), &mut core, &words[2..], folder, out) {
-            Ok(()) => Status::Done,
-            Err(stop) => {
-                let status = stop.status();
-                write_status(stop_name(core.plan(), status), status, out);
-                status
+        Ok(ready) => {
+            let Prepared { mut core, files } = ready;
+            match run_files(rt.alloc(), &mut core, files.as_slice(), folder, out) {
+                Ok(()) => Status::Done,
+                Err(stop) => {
+                    let status = stop.status();
+                    write_stop(stop_name(core.plan(), status), stop, out);
+                    status
+                }
             }
-        },
+        }
         Err(stop) => {
             write_refusal(&stop, out);
             stop.status()
@@ -77,7 +84,7 @@ pub fn run_words<R: AllocGlobal, F: Folder, K: Sink>(
 
 // The name that the line of the status has, if any.
 fn stop_name(plan: &Plan, status: Status) -> &[u8]
-    ensures { result.now ≡ stop_name_of plan.now status }
+    ensures { result.now ≡ stop_name_of plan.now.nodes status }
 {
     match status {
         Status::Limit { what } => match what {

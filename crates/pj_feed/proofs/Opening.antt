@@ -5,9 +5,6 @@ use Rattle.pj_plan.specs.Canonical.{no_node}
 use Rattle.std.proofs.Common.{◌≡◌, ◌≢◌, ◌≤◌, ◌<◌, ◌+◌, ◌⊎◌, ℕ, zero, suc, Bool, inl, inr, List, [], ◌∷◌, ◌++◌, map, take, length, get_or, Some, IsTrue, refl, ap, ap₂, sym, ◌∙◌, subst, append-nil, arith}
 use Rattle.std.specs.Prelude.{⊤, slice_index_or}
 use Rattle.std.specs.List.{slice_get}
-use Rattle.std.specs.String.{string_bytes}
-use Rattle.std.specs.declared.string.String.{String}
-use Rattle.std.specs.declared.alloc.Global.{Global}
 use Rattle.std.proofs.lemmas.List.{length-append, take_more}
 use Rattle.pj_value.specs.Lists.{In}
 use Rattle.pj_value.proofs.Members.{In-append_left, In-append_right, In-append_cases}
@@ -122,15 +119,15 @@ opens_most_of name names all old new is some = subst (λ (ns : List (List ℕ)).
 
 -- ---- files that are opened one after the other
 
-one_more : (k i : ℕ) (streams : List PlanNode) (words : List (String Global)) (folder : FolderState) (feeds : List FeedState) (schema : List Column) (word : String Global) (feed : FeedState)
-    → AreFeedsOf k streams (map string_bytes words) folder feeds → length feeds ≡ i → i < length streams → i < length words → schema ≡ (get_or streams i no_node).schema → word ≡ get_or words i word
-    → IsFeedOf (k + i) schema (string_bytes word) folder feed → AreFeedsOf k streams (map string_bytes words) folder (feeds ++ feed ∷ [])
-one_more k i [] words folder feeds schema word feed all count low few here named of = absurd (omega (arith, low))
+one_more : (k i : ℕ) (streams : List PlanNode) (names : List (List ℕ)) (folder : FolderState) (feeds : List FeedState) (schema : List Column) (word : List ℕ) (feed : FeedState)
+    → AreFeedsOf k streams names folder feeds → length feeds ≡ i → i < length streams → i < length names → schema ≡ (get_or streams i no_node).schema → word ≡ get_or names i word
+    → IsFeedOf (k + i) schema word folder feed → AreFeedsOf k streams names folder (feeds ++ feed ∷ [])
+one_more k i [] names folder feeds schema word feed all count low few here named of = absurd (omega (arith, low))
 one_more k i (t ∷ ts) [] folder feeds schema word feed all count low few here named of = absurd (omega (arith, few))
 one_more k zero (t ∷ ts) (w ∷ ws) folder [] schema word feed all count low few here named of =
     let first : k + 0 ≡ k = omega arith in (
-      subst (λ (n : ℕ). IsFeedOf n t.schema (string_bytes w) folder feed) first (subst (λ (x : List Column). IsFeedOf (k + 0) x (string_bytes w) folder feed) here
-          (subst (λ (x : String Global). IsFeedOf (k + 0) schema (string_bytes x) folder feed) named of)),
+      subst (λ (n : ℕ). IsFeedOf n t.schema w folder feed) first (subst (λ (x : List Column). IsFeedOf (k + 0) x w folder feed) here
+          (subst (λ (x : List ℕ). IsFeedOf (k + 0) schema x folder feed) named of)),
       tt,
     )
 one_more k zero (t ∷ ts) (w ∷ ws) folder (f ∷ fs) schema word feed all count low few here named of = absurd (omega (arith, count))
@@ -139,7 +136,7 @@ one_more k (suc i) (t ∷ ts) (w ∷ ws) folder (f ∷ fs) schema word feed all 
     let next : k + suc i ≡ k + 1 + i = omega arith in (
       all.0,
       one_more (k + 1) i ts ws folder fs schema word feed all.1 (omega (arith, count)) (omega (arith, low)) (omega (arith, few)) here named
-          (subst (λ (n : ℕ). IsFeedOf n schema (string_bytes word) folder feed) next of),
+          (subst (λ (n : ℕ). IsFeedOf n schema word folder feed) next of),
     )
 
 -- what a folder tells of a file that is opened is what it told before
@@ -156,14 +153,14 @@ feed_before i schema name old mid feed told contents of = record {
 }
 
 -- the file of one more name was opened, by a folder that tells the same as before
-pub feeds_more : (i : ℕ) (streams : List PlanNode) (words : List (String Global)) (old mid : FolderState) (feeds news : List FeedState) (schema : List Column) (word : String Global) (name : List ℕ) (feed : FeedState)
-    → AreFeedsOf 0 streams (map string_bytes words) old feeds → length feeds ≡ i → i < length streams → length words ≡ length streams → schema ≡ (get_or streams i no_node).schema → word ≡ get_or words i word → name ≡ string_bytes word
-    → mid.told ≡ old.told → mid.contents ≡ old.contents → IsFeedOf i schema name mid feed → news ≡ feeds ++ feed ∷ [] → AreFeedsOf 0 streams (map string_bytes words) old news
-feeds_more i streams words old mid feeds news schema word name feed all count low each here named is told contents of new =
+pub feeds_more : (i : ℕ) (streams : List PlanNode) (names : List (List ℕ)) (old mid : FolderState) (feeds news : List FeedState) (schema : List Column) (word : List ℕ) (name : List ℕ) (feed : FeedState)
+    → AreFeedsOf 0 streams names old feeds → length feeds ≡ i → i < length streams → length names ≡ length streams → schema ≡ (get_or streams i no_node).schema → word ≡ get_or names i word → name ≡ word
+    → mid.told ≡ old.told → mid.contents ≡ old.contents → IsFeedOf i schema name mid feed → news ≡ feeds ++ feed ∷ [] → AreFeedsOf 0 streams names old news
+feeds_more i streams names old mid feeds news schema word name feed all count low each here named is told contents of new =
     let number : i ≡ 0 + i = omega arith in
-    subst (λ (fs : List FeedState). AreFeedsOf 0 streams (map string_bytes words) old fs) (sym new)
-    (one_more 0 i streams words old feeds schema word feed all count low (omega (arith, low, each)) here named
-    (subst (λ (n : ℕ). IsFeedOf n schema (string_bytes word) old feed) number
+    subst (λ (fs : List FeedState). AreFeedsOf 0 streams names old fs) (sym new)
+    (one_more 0 i streams names old feeds schema word feed all count low (omega (arith, low, each)) here named
+    (subst (λ (n : ℕ). IsFeedOf n schema word old feed) number
     (subst (λ (n : List ℕ). IsFeedOf i schema n old feed) is (feed_before i schema name old mid feed told contents of))))
 
 pub count_more : (i : ℕ) (feeds news : List FeedState) (feed : FeedState) → length feeds ≡ i → news ≡ feeds ++ feed ∷ [] → length news ≡ i + 1
@@ -176,10 +173,10 @@ opened_last opened (f ∷ fs) feed all last = (all.0, opened_last opened fs feed
 pub opened_more : (opened : List ℕ → Bool) (feeds news : List FeedState) (feed : FeedState) → AreOpened opened feeds → IsTrue (opened feed.source.name) → news ≡ feeds ++ feed ∷ [] → AreOpened opened news
 opened_more opened feeds news feed all last new = subst (AreOpened opened) (sym new) (opened_last opened feeds feed all last)
 
--- the name of a word that stands at a place
-pub word_at : (words : List (String Global)) (i : ℕ) (word : String Global) → i < length words → word ≡ get_or words i word → string_bytes word ≡ slice_index_or (map string_bytes words) i []
+-- a name that stands at a place
+pub word_at : (names : List (List ℕ)) (i : ℕ) (word : List ℕ) → i < length names → word ≡ get_or names i word → word ≡ slice_index_or names i []
 word_at [] i word low is = absurd (omega (arith, low))
-word_at (w ∷ ws) zero word low is = ap string_bytes is
+word_at (w ∷ ws) zero word low is = is
 word_at (w ∷ ws) (suc i) word low is = word_at ws i word (omega (arith, low)) is
 
 -- ---- feeds that were just opened

@@ -1,6 +1,5 @@
 // The files of the streams, which are read as the run goes on.
-ghost use Rattle.std.specs.Prelude.{◌≡◌, ◌≤◌, ◌<◌, ◌++◌, ◌∷◌, ℕ, List, map, [], IfOk, OnOk, IsOk, Err, length, vec_capacity};
-ghost use Rattle.std.specs.String.{string_bytes};
+ghost use Rattle.std.specs.Prelude.{◌≡◌, ◌≤◌, ◌<◌, ◌++◌, ◌∷◌, ℕ, List, [], IfOk, OnOk, IsOk, Err, length, vec_capacity};
 ghost use Rattle.pj_io.specs.Folders.{NoneFalls, SameEverywhere};
 ghost use Rattle.pj_plan.specs.Nodes.{streams_in};
 ghost use Rattle.pj_feed.specs.Feeds.{tallies_in};
@@ -13,7 +12,7 @@ use pj_intake::Intake;
 use pj_io::{Folder, OpenStop};
 use pj_plan::Plan;
 use pj_shape::Schema;
-use pj_value::{List, NoMemory};
+use pj_value::{Bytes, List, NoMemory};
 use std::alloc::Global;
 
 // A stream's file has fewer bytes than this.
@@ -26,7 +25,7 @@ pub fn open_feeds<F: Folder>(
     alloc: Global,
     folder: &mut F,
     plan: &Plan,
-    names: &[String],
+    names: &[Bytes],
     feeds: &mut Vec<Feed<F::File>>,
 ) -> Result<(), OpeningStop>
     requires none { feeds.old.items ≡ [] }
@@ -35,19 +34,19 @@ pub fn open_feeds<F: Folder>(
     requires few { length (streams_in plan.now.nodes) ≤ 128 }
     ensures told { (F.state folder.new).told ≡ (F.state folder.old).told }
     ensures contents { (F.state folder.new).contents ≡ (F.state folder.old).contents }
-    ensures feeds { AreFeedsOf 0 (streams_in plan.now.nodes) (map string_bytes names.now) (F.state folder.old) feeds.new.items }
+    ensures feeds { AreFeedsOf 0 (streams_in plan.now.nodes) names.now (F.state folder.old) feeds.new.items }
     ensures all { OnOk result (length feeds.new.items ≡ length (streams_in plan.now.nodes)) }
     ensures opened { AreOpened (F.state folder.new).opened feeds.new.items }
-    ensures some_opened { OpensAtMost (length names.now) (map string_bytes names.now) (F.state folder.old) (F.state folder.new) }
-    ensures all_opened { OnOk result (OpensFirst (length names.now) (map string_bytes names.now) (F.state folder.old) (F.state folder.new)) }
+    ensures some_opened { OpensAtMost (length names.now) names.now (F.state folder.old) (F.state folder.new) }
+    ensures all_opened { OnOk result (OpensFirst (length names.now) names.now (F.state folder.old) (F.state folder.new)) }
     ensures last { (result ≡ Err OpeningStop.NoMemory → ⊥) → SameEverywhere (F.state folder.old).last (F.state folder.new).last }
     ensures later { NoneFalls (F.state folder.old).faults (F.state folder.new).faults }
-    ensures fault { (stream : ℕ) → result ≡ Err (OpeningStop.Fault stream) → IsFaultAt stream (map string_bytes names.now) feeds.new.items (F.state folder.old) (F.state folder.new) }
+    ensures fault { (stream : ℕ) → result ≡ Err (OpeningStop.Fault stream) → IsFaultAt stream names.now feeds.new.items (F.state folder.old) (F.state folder.new) }
 {
     let streams = plan.streams();
     for i in 0..streams.len() {
         let schema = plan.schema(streams[i]);
-        let feed = open_feed(alloc, folder, i as u32, schema, names[i].as_bytes())?;
+        let feed = open_feed(alloc, folder, i as u32, schema, names[i].as_slice())?;
         feeds.push_reserved(feed);
     }
     Ok(())

@@ -4,6 +4,7 @@
 use pj_engine::run_words;
 use pj_io::{DiskFolder, StdSink};
 use std::env;
+use std::io::ErrorKind;
 use std::process::ExitCode;
 
 const NO_MEMORY: u8 = 5;
@@ -13,7 +14,7 @@ const NO_WORDS: u8 = 65;
 fn main(rt: HostRuntime) -> ExitCode {
     let words = match env::args(&rt) {
         Ok(args) => args,
-        Err(_) => return ExitCode::from(NO_WORDS),
+        Err(error) => return ExitCode::from(without_words(error.kind())),
     };
     let Ok(words) = words.skip(1).collect::<Vec<String>>(rt.alloc()) else {
         return ExitCode::from(NO_MEMORY);
@@ -24,4 +25,12 @@ fn main(rt: HostRuntime) -> ExitCode {
     };
     let status = run_words(&rt, words.as_slice(), &mut folder, &mut out);
     ExitCode::from(status.number())
+}
+
+// The exit status where the words can't be had.
+fn without_words(why: ErrorKind) -> u8 {
+    match why {
+        ErrorKind::OutOfMemory => NO_MEMORY,
+        _ => NO_WORDS,
+    }
 }

@@ -7,7 +7,7 @@ use Rattle.pj_shape.specs.declared.joins.CertStep.{CertStep}
 use Rattle.pj_scheme.specs.Derived.{schemes_of}
 use Rattle.pj_plan.specs.declared.node.Node.{Node as Operation}
 use Rattle.pj_plan.specs.declared.node.Node.TheVariants.{Stream as StreamNode, Select as SelectNode, Project as ProjectNode, Union as UnionNode, Join as JoinNode, Group as GroupNode}
-use Rattle.pj_plan.specs.declared.node.Outline.{Outline}
+use Rattle.pj_run.specs.Jobs.{Job}
 use Rattle.pj_plan.specs.declared.node.PlanNode.{PlanNode}
 use Rattle.pj_plan.specs.Nodes.{is_stream, streams_of as numbers_of, schema_in, stream_columns, streams_in}
 use Rattle.pj_plan.specs.Canonical.{no_node}
@@ -26,8 +26,8 @@ use Rattle.pj_run.proofs.StreamNodes.{same-numbers}
 
 -- ---- the streams of a plan
 
-pub count-streams : (plan : Outline) → length (streams_of (run_nodes plan)) ≡ length (streams_in plan.nodes)
-count-streams plan = ap length (same-numbers plan) ∙ count_numbers plan.nodes
+pub count-streams : (job : Job) → length (streams_of (run_nodes job)) ≡ length (streams_in job.nodes)
+count-streams job = ap length (same-numbers job) ∙ count_numbers job.nodes
 
 stream-columns : (schemes : List (List (List Bool))) (certs : List (List CertStep)) (schema : List Column) (operation : Operation) → is_stream operation ≡ true → schema_of (operator_of schemes certs schema operation) ≡ schema
 stream-columns schemes certs schema (StreamNode stated) t = refl
@@ -38,20 +38,20 @@ stream-columns schemes certs schema (JoinNode inputs spec) t = absurd (false≢t
 stream-columns schemes certs schema (GroupNode input spec) t = absurd (false≢true t)
 
 -- the columns of a stream of the plan
-pub schema-is : (plan : Outline) (k d : ℕ) → k < length (streams_in plan.nodes) → schema_of (operator_at (run_nodes plan) (get_or (streams_of (run_nodes plan)) k d)) ≡ stream_columns (streams_in plan.nodes) k
-schema-is plan k d lt =
-    ap (λ (ns : List ℕ). schema_of (operator_at (run_nodes plan) (get_or ns k d))) (same-numbers plan)
-    ∙ (ap (λ (n : ℕ). schema_of (operator_at (run_nodes plan) n)) (here.at ∙ zero-add here.place)
-    ∙ (ap schema_of (operator-is (schemes_of plan.nodes) (certificates_of plan.nodes) plan.nodes here.place here.there)
-    ∙ (ap (λ (x : PlanNode). schema_of (operator_of (schemes_of plan.nodes) (certs_at plan.nodes (certificates_of plan.nodes) here.place) x.schema x.node)) here.is
-    ∙ (stream-columns (schemes_of plan.nodes) (certs_at plan.nodes (certificates_of plan.nodes) here.place) stream.schema stream.node here.stream
-    ∙ sym (get_or-map schema_in (streams_in plan.nodes) k no_node [] lt)))))
+pub schema-is : (job : Job) (k d : ℕ) → k < length (streams_in job.nodes) → schema_of (operator_at (run_nodes job) (get_or (streams_of (run_nodes job)) k d)) ≡ stream_columns (streams_in job.nodes) k
+schema-is job k d lt =
+    ap (λ (ns : List ℕ). schema_of (operator_at (run_nodes job) (get_or ns k d))) (same-numbers job)
+    ∙ (ap (λ (n : ℕ). schema_of (operator_at (run_nodes job) n)) (here.at ∙ zero-add here.place)
+    ∙ (ap schema_of (operator-is (schemes_of job.nodes) (certificates_of job.nodes) job.nodes here.place here.there)
+    ∙ (ap (λ (x : PlanNode). schema_of (operator_of (schemes_of job.nodes) (certs_at job.nodes (certificates_of job.nodes) here.place) x.schema x.node)) here.is
+    ∙ (stream-columns (schemes_of job.nodes) (certs_at job.nodes (certificates_of job.nodes) here.place) stream.schema stream.node here.stream
+    ∙ sym (get_or-map schema_in (streams_in job.nodes) k no_node [] lt)))))
   where
     stream : PlanNode
-    stream = get_or (streams_in plan.nodes) k no_node
+    stream = get_or (streams_in job.nodes) k no_node
 
-    here : IsStreamAt 0 plan.nodes (get_or (numbers_of plan.nodes) k d) stream
-    here = stream-at plan.nodes k d lt
+    here : IsStreamAt 0 job.nodes (get_or (numbers_of job.nodes) k d) stream
+    here = stream-at job.nodes k d lt
 
 -- ---- their accepted elements
 
@@ -71,9 +71,9 @@ accepted-from (suc k) (s ∷ streams) [] lt = accepted-from k streams [] (omega 
 accepted-from (suc k) (s ∷ streams) (bytes ∷ files) lt = accepted-from k streams files (omega arith)
 
 -- the lists of accepted elements are accepted by the plan's streams
-pub accepted_lists : (plan : Outline) (files : List (List ℕ)) → AreAcceptedLists (run_nodes plan) (accepted_of (streams_in plan.nodes) files)
-accepted_lists plan files = (
-  count-accepted (streams_in plan.nodes) files ∙ sym (count-streams plan),
-  λ k lt. let there : k < length (streams_in plan.nodes) = omega (arith, lt, count-streams plan) in
-      subst (λ (ks : List Column). AreAccepted ks (get_or (accepted_of (streams_in plan.nodes) files) k [])) (sym (schema-is plan k (length (run_nodes plan)) there)) (accepted-from k (streams_in plan.nodes) files there),
+pub accepted_lists : (job : Job) (files : List (List ℕ)) → AreAcceptedLists (run_nodes job) (accepted_of (streams_in job.nodes) files)
+accepted_lists job files = (
+  count-accepted (streams_in job.nodes) files ∙ sym (count-streams job),
+  λ k lt. let there : k < length (streams_in job.nodes) = omega (arith, lt, count-streams job) in
+      subst (λ (ks : List Column). AreAccepted ks (get_or (accepted_of (streams_in job.nodes) files) k [])) (sym (schema-is job k (length (run_nodes job)) there)) (accepted-from k (streams_in job.nodes) files there),
 )

@@ -1,5 +1,5 @@
 -- How the turns of a run end.
-use Rattle.pj_plan.specs.declared.node.Outline.{Outline}
+use Rattle.pj_run.specs.Jobs.{Job}
 use Rattle.pj_plan.specs.declared.node.PlanNode.{PlanNode}
 use Rattle.pj_plan.specs.Sound.{IsSoundPlan}
 use Rattle.pj_plan.specs.Nodes.{streams_in}
@@ -23,7 +23,8 @@ use Rattle.pj_feed.specs.declared.stops.FeedStop.{FeedStop}
 use Rattle.pj_feed.specs.declared.stops.FeedWhy.{FeedWhy}
 use Rattle.pj_feed.specs.declared.stops.FeedWhy.TheVariants.{Intake, WriteFailed as FlushFailed}
 use Rattle.pj_run.specs.declared.stops.TurnStop.{TurnStop}
-use Rattle.pj_run.specs.declared.stops.TurnStop.TheVariants.{Limit as TurnLimit, WriteFailed as TurnFailed, NoMemory as TurnMemory}
+use Rattle.pj_run.specs.declared.stops.TurnStop.TheVariants.{Limit as TurnLimit, WriteFailed as TurnFailed, NoMemory as TurnMemory, Cut as TurnCut}
+use Rattle.pj_events.specs.declared.events.Stop.{Stop}
 use Rattle.pj_feed.specs.Feeds.{FeedState, files_of, AreFeeds, AreSameFeeds, AllTold, AllClosed, FeedEnds, StopsIn, BringsIn, Gives, turn_of, turn_in, tallies_in}
 use Rattle.pj_feed.specs.Opened.{AreCounted}
 use Rattle.pj_report.specs.Results.{out_lines}
@@ -36,32 +37,32 @@ use Rattle.pj_feed.proofs.AllFeeds.{feeds_long, same_at, same_long}
 use Rattle.pj_report.proofs.Counting.{out_lines-append}
 use Rattle.pj_report.proofs.LinesWritten.{first_written}
 use Rattle.pj_feed.proofs.Opening.{rose_at}
-use Rattle.pj_run.proofs.Running.{Ran, ends_at_limit, goes_beyond_here}
+use Rattle.pj_run.proofs.Running.{Ran, cut_cause_here, ends_at_limit, ends_cut, goes_beyond_here}
 use Rattle.pj_run.proofs.Planned.{IsPlanned}
 use Rattle.pj_feed.proofs.StreamNodes.{few-streams}
 
-pub few_feeds : (plan : Outline) (feeds : List FeedState) → IsSoundPlan plan.nodes → AreFeeds 0 (streams_in plan.nodes) feeds → length feeds ≤ 128
-few_feeds plan feeds sound f = let a = feeds_long 0 (streams_in plan.nodes) feeds f in let b = few-streams plan.nodes sound in omega (arith, a, b)
+pub few_feeds : (job : Job) (feeds : List FeedState) → IsSoundPlan job.nodes → AreFeeds 0 (streams_in job.nodes) feeds → length feeds ≤ 128
+few_feeds job feeds sound f = let a = feeds_long 0 (streams_in job.nodes) feeds f in let b = few-streams job.nodes sound in omega (arith, a, b)
 
 -- ---- a stream's turn that could not be made
 
 -- whole first lines of the run were written
-pub lines_so_far : (plan : Outline) (files : List (List ℕ)) (history : List Entry) (core : CoreState) (left : List Turn) (counts : Counts) (cut : Cut) (before mid : List ℕ)
-    → Ran plan files history core left counts → mid ≡ before ++ flat (out_lines (handed_out false (run_nodes plan) history))
-    → Leaves cut (out_lines (handed_out false (run_nodes plan) (history_of plan files))) before mid
-lines_so_far plan files history core left counts cut before mid ran written =
-    let nodes : List Node = nodes_from (run_nodes plan) history in
+pub lines_so_far : (job : Job) (files : List (List ℕ)) (history : List Entry) (core : CoreState) (left : List Turn) (counts : Counts) (cut : Cut) (before mid : List ℕ)
+    → Ran job files history core left counts → mid ≡ before ++ flat (out_lines job.nodes (handed_out job.trace (run_nodes job) history))
+    → Leaves cut (out_lines job.nodes (handed_out job.trace (run_nodes job) (history_of job files))) before mid
+lines_so_far job files history core left counts cut before mid ran written =
+    let nodes : List Node = nodes_from (run_nodes job) history in
     let rest : List Entry = turns_entries true nodes left in
-    first_written cut (out_lines (handed_out false (run_nodes plan) history)) (out_lines (handed_out false nodes rest)) (out_lines (handed_out false (run_nodes plan) (history_of plan files))) before mid written
-    (sym (out_lines-append (handed_out false (run_nodes plan) history) (handed_out false nodes rest))
-    ∙ (ap out_lines (sym (outputs-append false (run_nodes plan) history rest)) ∙ ap (λ (h : List Entry). out_lines (handed_out false (run_nodes plan) h)) ran.all))
+    first_written cut (out_lines job.nodes (handed_out job.trace (run_nodes job) history)) (out_lines job.nodes (handed_out job.trace nodes rest)) (out_lines job.nodes (handed_out job.trace (run_nodes job) (history_of job files))) before mid written
+    (sym (out_lines-append job.nodes (handed_out job.trace (run_nodes job) history) (handed_out job.trace nodes rest))
+    ∙ (ap (out_lines job.nodes) (sym (outputs-append job.trace (run_nodes job) history rest)) ∙ ap (λ (h : List Entry). out_lines job.nodes (handed_out job.trace (run_nodes job) h)) ran.all))
 
 -- a fault rose at the file of the stream, it is too large, or the sink's faults rose
-pub feed_cause : (plan : Outline) (start olds news : List FeedState) (at : ℕ) (stop : FeedStop) (first old new : SinkState) → StopsIn olds news at old new stop → AreSameFeeds start olds → first.faults ≤ old.faults
-    → TurnsCause (stop_at stop.stream stop.why) plan start news first new
-feed_cause plan start olds news at stop first old new s same later = go stop.why s.stops
+pub feed_cause : (job : Job) (start olds news : List FeedState) (at : ℕ) (stop : FeedStop) (first old new : SinkState) → StopsIn olds news at old new stop → AreSameFeeds start olds → first.faults ≤ old.faults
+    → TurnsCause (stop_at stop.stream stop.why) job start news first new
+feed_cause job start olds news at stop first old new s same later = go stop.why s.stops
   where
-    go : (why : FeedWhy) → FeedEnds s.old s.new old new why → TurnsCause (stop_at stop.stream why) plan start news first new
+    go : (why : FeedWhy) → FeedEnds s.old s.new old new why → TurnsCause (stop_at stop.stream why) job start news first new
     go (Intake IntakeFault) f = (s.new, s.now, let r = f.0 in omega (arith, r))
     go (Intake ByteLimit) f =
         let o = same_at start olds stop.stream s.old same s.before in
@@ -71,22 +72,27 @@ feed_cause plan start olds news at stop first old new s same later = go stop.why
 
 -- ---- a turn of the core that stopped
 
-module _ (plan : Outline) (files : List (List ℕ)) (planned : IsPlanned plan) (history : List Entry) (core : CoreState) (t : Turn) (left : List Turn) (counts : Counts) (ran : Ran plan files history core (t ∷ left) counts) where
-  pub turn_ends : (stop : TurnStop) (feeds : List FeedState) (before : List ℕ) (old new : SinkState) → old.written ≡ before ++ flat (out_lines (handed_out false (run_nodes plan) history)) → IsTrue new.told
-      → TurnStops stop core history t old new → TurnsEnd (of_turn stop) plan files feeds before new.written
-  turn_ends (TurnLimit node) feeds before old new first told ends = ends_at_limit plan files planned history core t left counts ran node before old new first told ends
+module _ (job : Job) (files : List (List ℕ)) (planned : IsPlanned job) (history : List Entry) (core : CoreState) (t : Turn) (left : List Turn) (counts : Counts) (ran : Ran job files history core (t ∷ left) counts) where
+  pub turn_ends : (stop : TurnStop) (feeds : List FeedState) (before : List ℕ) (old new : SinkState) → old.written ≡ before ++ flat (out_lines job.nodes (handed_out job.trace (run_nodes job) history)) → IsTrue new.told
+      → TurnStops stop core history t old new → TurnsEnd (of_turn stop) job files feeds before new.written
+  turn_ends (TurnLimit node) feeds before old new first told ends = ends_at_limit job files planned history core t left counts ran node before old new first told ends
   turn_ends TurnFailed feeds before old new first told ends = tt
   turn_ends TurnMemory feeds before old new first told ends = tt
+  turn_ends (TurnCut stop) feeds before old new first told ends = ends_cut job files planned history core t left counts ran stop before old new first told ends
 
 -- why it stopped, where the sink's faults rose with a failed write
-pub turn_cause : (stop : TurnStop) (plan : Outline) (olds news : List FeedState) (core : CoreState) (history : List Entry) (t : Turn) (first old new : SinkState) → first.faults ≤ old.faults → (stop ≡ TurnFailed → Rose old.faults new.faults)
-    → (AllTold olds → (left : List Turn) × (counts : Counts) × IsPlanned plan × Ran plan (files_of olds) history core (t ∷ left) counts × TurnStops stop core history t old new)
-    → TurnsCause (of_turn stop) plan olds news first new
-turn_cause (TurnLimit node) plan olds news core history t first old new later rose stops = λ told.
+pub turn_cause : (stop : TurnStop) (job : Job) (olds news : List FeedState) (core : CoreState) (history : List Entry) (t : Turn) (first old new : SinkState) → first.faults ≤ old.faults → (stop ≡ TurnFailed → Rose old.faults new.faults) → ((why : Stop) → stop ≡ TurnCut why → Rose old.faults new.faults)
+    → (AllTold olds → (left : List Turn) × (counts : Counts) × IsPlanned job × Ran job (files_of olds) history core (t ∷ left) counts × TurnStops stop core history t old new)
+    → TurnsCause (of_turn stop) job olds news first new
+turn_cause (TurnLimit node) job olds news core history t first old new later rose cut stops = λ told.
     let s = stops told in
-    goes_beyond_here plan (files_of olds) s.2 history core t s.0 s.1 s.3 node old new s.4
-turn_cause TurnFailed plan olds news core history t first old new later rose stops = let r = rose refl in omega (arith, r, later)
-turn_cause TurnMemory plan olds news core history t first old new later rose stops = tt
+    goes_beyond_here job (files_of olds) s.2 history core t s.0 s.1 s.3 node s.4.breaks
+turn_cause TurnFailed job olds news core history t first old new later rose cut stops = let r = rose refl in omega (arith, r, later)
+turn_cause TurnMemory job olds news core history t first old new later rose cut stops = tt
+turn_cause (TurnCut why) job olds news core history t first old new later rose cut stops = (
+  let r = cut why refl in omega (arith, r, later),
+  λ told. let s = stops told in cut_cause_here job (files_of olds) s.2 history core t s.0 s.1 s.3 why old new s.4,
+)
 
 -- ---- what a call of the feeds gave
 
@@ -114,6 +120,6 @@ fault_of_name olds news stream before now same counted f =
     let o = same_at olds news stream f.0 same f.1 in
     (o.0, o.1, subst (λ (m : List ℕ). Rose (before m) (now m)) o.2.name (rose_at before now news stream f.0 counted f.1 f.2))
 
-pub tallies_count : (plan : Outline) (olds news : List FeedState) (tallies lent : List Tally) → AreFeeds 0 (streams_in plan.nodes) olds → AreSameFeeds olds news → tallies ≡ tallies_in news → lent ≡ tallies → length lent ≡ length (streams_in plan.nodes)
-tallies_count plan olds news tallies lent f same is lends =
-    ap length lends ∙ (ap length is ∙ (length-map news (λ feed. feed.intake.seen.tally) ∙ (same_long olds news same ∙ feeds_long 0 (streams_in plan.nodes) olds f)))
+pub tallies_count : (job : Job) (olds news : List FeedState) (tallies lent : List Tally) → AreFeeds 0 (streams_in job.nodes) olds → AreSameFeeds olds news → tallies ≡ tallies_in news → lent ≡ tallies → length lent ≡ length (streams_in job.nodes)
+tallies_count job olds news tallies lent f same is lends =
+    ap length lends ∙ (ap length is ∙ (length-map news (λ feed. feed.intake.seen.tally) ∙ (same_long olds news same ∙ feeds_long 0 (streams_in job.nodes) olds f)))

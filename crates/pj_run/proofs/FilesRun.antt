@@ -1,12 +1,9 @@
 -- A run over files by their names, from what it leaves of the feeds of these files.
-use Rattle.pj_plan.specs.declared.node.Outline.{Outline}
+use Rattle.pj_run.specs.Jobs.{Job}
 use Rattle.pj_plan.specs.declared.node.PlanNode.{PlanNode}
 use Rattle.pj_plan.specs.Nodes.{stream_columns, streams_in}
 use Rattle.std.proofs.Common.{◌≡◌, ◌≤◌, ◌<◌, ◌+◌, ◌^◌, ℕ, zero, suc, inl, inr, List, [], ◌∷◌, ◌++◌, map, take, length, get_or, Err, IsTrue, refl, ap, ap₂, sym, ◌∙◌, subst, arith}
 use Rattle.std.specs.Prelude.{slice_index_or}
-use Rattle.std.specs.String.{string_bytes}
-use Rattle.std.specs.declared.string.String.{String}
-use Rattle.std.specs.declared.alloc.Global.{Global}
 use Rattle.std.proofs.Math.Seq.{take-append_seam}
 use Rattle.std.proofs.lemmas.List.{length-map}
 use Rattle.pj_io.specs.Causes.{Rose}
@@ -16,51 +13,45 @@ use Rattle.pj_shape.specs.declared.columns.Column.{Column}
 use Rattle.pj_feed.specs.declared.stops.OpeningStop.{OpeningStop}
 use Rattle.pj_feed.specs.declared.stops.OpeningStop.TheVariants.{Fault, NoMemory as OpeningMemory}
 use Rattle.pj_run.specs.declared.stops.RunStop.{RunStop}
-use Rattle.pj_run.specs.declared.stops.RunStop.TheVariants.{ReadFault, TooLarge, Limit, WriteFailed, NoMemory}
+use Rattle.pj_run.specs.declared.stops.RunStop.TheVariants.{ReadFault, TooLarge, Limit, WriteFailed, NoMemory, Cut as RunCut}
 use Rattle.pj_run.specs.declared.stops.FilesStop.TheVariants.{Opening, Run}
 use Rattle.pj_feed.specs.Named.{AreTold, files_named}
 use Rattle.pj_feed.specs.Named.{AreDistinct}
 use Rattle.pj_feed.specs.Feeds.{FeedState, files_of, fed_elements, AreFeeds, AllTold}
 use Rattle.pj_feed.specs.Opened.{AreFeedsOf, AgreeOn, NoneNamed, IsLast, HasLasts, OpensAtMost, IsFaultAt}
-use Rattle.pj_run.specs.RunEnds.{AreRead, FeedsCause, FeedsEnd, FilesCause, FilesEnd, FilesOpened}
+use Rattle.pj_run.specs.RunEnds.{AreRead, CutCause, FeedsCause, FeedsEnd, FilesCause, FilesEnd, FilesOpened}
 use Rattle.pj_run.specs.Runs.{GoesBeyond}
 use Rattle.pj_feed.specs.Opened.{AreReadToEnd}
 use Rattle.pj_run.specs.Turning.{TurnsEnd}
 use Rattle.pj_feed.proofs.AllFeeds.{one_of, same_at, same_long, told_still, told_at, bytes_of_feed}
 use Rattle.pj_feed.proofs.Opening.{AreNamed, named_still, named_of, feeds_of, told_of, files_are, other_at, last_at_fault, last_read, keeps_of, opens_still, opens_most_still}
 
--- ---- as many names as words
-
-pub opens_some : (words : List (String Global)) (old new : FolderState) → OpensAtMost (length words) (map string_bytes words) old new → OpensAtMost (length (map string_bytes words)) (map string_bytes words) old new
-opens_some words old new opens = subst (λ (n : ℕ). OpensAtMost n (map string_bytes words) old new) (sym (length-map words string_bytes)) opens
-
 -- ---- a run over files that were opened
 
 -- what holds of the feeds of all these files
-pub record AreAllOpened (plan : Outline) (names : List (List ℕ)) (folder : FolderState) (feeds : List FeedState) : Type 0 where
-  pub of : AreFeedsOf 0 (streams_in plan.nodes) names folder feeds
+pub record AreAllOpened (job : Job) (names : List (List ℕ)) (folder : FolderState) (feeds : List FeedState) : Type 0 where
+  pub of : AreFeedsOf 0 (streams_in job.nodes) names folder feeds
   pub each : length feeds ≡ length names
-  pub fed : AreFeeds 0 (streams_in plan.nodes) feeds
+  pub fed : AreFeeds 0 (streams_in job.nodes) feeds
   pub told : AreTold names folder → AllTold feeds × (files_of feeds ≡ files_named names folder)
 
-pub all_opened : (plan : Outline) (streams : List PlanNode) (words : List (String Global)) (folder : FolderState) (feeds : List FeedState) → streams ≡ (streams_in plan.nodes) → length words ≡ length (streams_in plan.nodes)
-    → AreFeedsOf 0 streams (map string_bytes words) folder feeds → length feeds ≡ length streams → AreAllOpened plan (map string_bytes words) folder feeds
-all_opened plan streams words folder feeds is each of all =
-    let names : List (List ℕ) = map string_bytes words in
-    let own : AreFeedsOf 0 (streams_in plan.nodes) names folder feeds = subst (λ (ss : List PlanNode). AreFeedsOf 0 ss names folder feeds) is of in
-    let many : length feeds ≡ length (streams_in plan.nodes) = all ∙ ap length is in
-    let long : length feeds ≡ length names = many ∙ (sym each ∙ sym (length-map words string_bytes)) in
+pub all_opened : (job : Job) (streams : List PlanNode) (names : List (List ℕ)) (folder : FolderState) (feeds : List FeedState) → streams ≡ (streams_in job.nodes) → length names ≡ length (streams_in job.nodes)
+    → AreFeedsOf 0 streams names folder feeds → length feeds ≡ length streams → AreAllOpened job names folder feeds
+all_opened job streams names folder feeds is each of all =
+    let own : AreFeedsOf 0 (streams_in job.nodes) names folder feeds = subst (λ (ss : List PlanNode). AreFeedsOf 0 ss names folder feeds) is of in
+    let many : length feeds ≡ length (streams_in job.nodes) = all ∙ ap length is in
+    let long : length feeds ≡ length names = many ∙ sym each in
     record {
       of = own;
       each = long;
-      fed = feeds_of 0 (streams_in plan.nodes) names folder feeds own many;
-      told = λ told. (told_of 0 (streams_in plan.nodes) names folder feeds own told, files_are 0 (streams_in plan.nodes) names folder feeds own long told);
+      fed = feeds_of 0 (streams_in job.nodes) names folder feeds own many;
+      told = λ told. (told_of 0 (streams_in job.nodes) names folder feeds own told, files_are 0 (streams_in job.nodes) names folder feeds own long told);
     }
 
 -- what the stop of the turns leaves is what the stop of the run leaves, once the files are closed
-pub run_end : (stop : RunStop) (plan : Outline) (names : List (List ℕ)) (old mid after : FolderState) (feeds : List FeedState) (written lines : List ℕ) → AreAllOpened plan names old feeds → AreTold names old
-    → FeedsEnd stop plan feeds mid after written lines → FilesEnd (Run stop) plan names old after written lines
-run_end stop plan names old mid after feeds written lines opened are_told e = go stop (subst (λ (fs : List (List ℕ)). TurnsEnd stop plan fs e.news written lines) files e.ends)
+pub run_end : (stop : RunStop) (job : Job) (names : List (List ℕ)) (old mid after : FolderState) (feeds : List FeedState) (written lines : List ℕ) → AreAllOpened job names old feeds → AreTold names old
+    → FeedsEnd stop job feeds mid after written lines → FilesEnd (Run stop) job names old after written lines
+run_end stop job names old mid after feeds written lines opened are_told e = go stop (subst (λ (fs : List (List ℕ)). TurnsEnd stop job fs e.news written lines) files e.ends)
   where
     told : AllTold feeds
     told = (opened.told are_told).0
@@ -68,18 +59,18 @@ run_end stop plan names old mid after feeds written lines opened are_told e = go
     files : files_of feeds ≡ files_named names old
     files = (opened.told are_told).1
 
-    go : (s : RunStop) → TurnsEnd s plan (files_named names old) e.news written lines → FilesEnd (Run s) plan names old after written lines
+    go : (s : RunStop) → TurnsEnd s job (files_named names old) e.news written lines → FilesEnd (Run s) job names old after written lines
     go (ReadFault stream) ends =
         let feed : FeedState = ends.0 in
         let o = same_at feeds e.news stream feed e.same ends.1 in
-        let one = one_of 0 (streams_in plan.nodes) feeds stream o.0 opened.fed o.1 in
-        let columns : feed.intake.columns ≡ stream_columns (streams_in plan.nodes) stream = o.2.columns ∙ one.schema in
+        let one = one_of 0 (streams_in job.nodes) feeds stream o.0 opened.fed o.1 in
+        let columns : feed.intake.columns ≡ stream_columns (streams_in job.nodes) stream = o.2.columns ∙ one.schema in
         let bytes : get_or (files_named names old) stream [] ≡ feed.source.taken ++ feed.source.left =
         ap (λ (fs : List (List ℕ)). get_or fs stream []) (sym files) ∙ (bytes_of_feed feeds stream o.0 o.1 ∙ sym (o.2.bytes (told_at feeds stream o.0 told o.1))) in (
           ends.2,
           λ distinct.
               let last : after.last (slice_index_or names stream []) ≡ length feed.source.taken =
-              last_at_fault 0 (streams_in plan.nodes) names old feeds e.news stream feed mid.last after.last opened.of e.same (told_still feeds e.news e.same told) distinct ends.1 e.lasts in
+              last_at_fault 0 (streams_in job.nodes) names old feeds e.news stream feed mid.last after.last opened.of e.same (told_still feeds e.news e.same told) distinct ends.1 e.lasts in
               let front : take (after.last (slice_index_or names stream [])) (get_or (files_named names old) stream []) ≡ feed.source.taken =
               ap₂ (λ (k : ℕ) (xs : List ℕ). take k xs) last bytes ∙ take-append_seam feed.source.taken feed.source.left in
               ends.3 ∙ ap₂ (λ (ks : List Column) (xs : List ℕ). fed_elements ks xs) columns (sym front),
@@ -88,22 +79,25 @@ run_end stop plan names old mid after feeds written lines opened are_told e = go
     go (Limit node) ends = ends
     go WriteFailed ends = tt
     go NoMemory ends = tt
+    go (RunCut stop) ends = ends
 
 -- why the turns stopped is why the run stopped
-pub run_cause : (stop : RunStop) (plan : Outline) (names : List (List ℕ)) (old mid after : FolderState) (feeds : List FeedState) (sink sink' : SinkState) → AreAllOpened plan names old feeds → NoneFalls old.faults mid.faults
-    → FeedsCause stop plan feeds mid after sink sink' → FilesCause (Run stop) plan names old after sink sink'
-run_cause (ReadFault stream) plan names old mid after feeds sink sink' opened falls cause =
-    let at = named_of 0 (streams_in plan.nodes) names old feeds stream cause.0 opened.of cause.1 in
+pub run_cause : (stop : RunStop) (job : Job) (names : List (List ℕ)) (old mid after : FolderState) (feeds : List FeedState) (sink sink' : SinkState) → AreAllOpened job names old feeds → NoneFalls old.faults mid.faults
+    → FeedsCause stop job feeds mid after sink sink' → FilesCause (Run stop) job names old after sink sink'
+run_cause (ReadFault stream) job names old mid after feeds sink sink' opened falls cause =
+    let at = named_of 0 (streams_in job.nodes) names old feeds stream cause.0 opened.of cause.1 in
     let name : List ℕ = cause.0.source.name in
     let up = falls name in
     let rose = cause.2 in
     record { there = at.there; rose = subst (λ (n : List ℕ). Rose (old.faults n) (after.faults n)) at.named (omega (arith, up, rose)) }
-run_cause (TooLarge stream) plan names old mid after feeds sink sink' opened falls cause =
-    let at = named_of 0 (streams_in plan.nodes) names old feeds stream cause.0 opened.of cause.1 in
+run_cause (TooLarge stream) job names old mid after feeds sink sink' opened falls cause =
+    let at = named_of 0 (streams_in job.nodes) names old feeds stream cause.0 opened.of cause.1 in
     record { there = at.there; bytes = λ t. subst (λ (xs : List ℕ). 2 ^ 40 ≤ length xs) (at.bytes t) (cause.2 (at.told t)) }
-run_cause (Limit node) plan names old mid after feeds sink sink' opened falls cause = λ told. subst (λ (fs : List (List ℕ)). GoesBeyond plan fs node) (opened.told told).1 (cause (opened.told told).0)
-run_cause WriteFailed plan names old mid after feeds sink sink' opened falls cause = cause
-run_cause NoMemory plan names old mid after feeds sink sink' opened falls cause = tt
+run_cause (Limit node) job names old mid after feeds sink sink' opened falls cause = λ told. subst (λ (fs : List (List ℕ)). GoesBeyond job fs node) (opened.told told).1 (cause (opened.told told).0)
+run_cause WriteFailed job names old mid after feeds sink sink' opened falls cause = cause
+run_cause NoMemory job names old mid after feeds sink sink' opened falls cause = tt
+run_cause (RunCut stop) job names old mid after feeds sink sink' opened falls cause =
+    (cause.0, λ told. subst (λ (fs : List (List ℕ)). CutCause stop job fs) (opened.told told).1 (cause.1 (opened.told told).0))
 
 each_read : (folder after : FolderState) (before : List ℕ → ℕ) (news feeds : List FeedState) (names : List (List ℕ)) → ((name : List ℕ) → IsTrue (folder.told name) → IsLast name (length (folder.contents name)) news (before name) (after.last name))
     → ((name : List ℕ) → NoneNamed name news → NoneNamed name feeds) → AreNamed feeds names → length feeds ≡ length names → AreReadToEnd names folder after
@@ -117,16 +111,16 @@ each_read folder after before news (f ∷ fs) (n ∷ ns) lasts none named each =
     go (inr other) = absurd ((none n other.1).0 named.0)
 
 -- the file of each name was read to its end
-pub read_to_end : (plan : Outline) (names : List (List ℕ)) (old mid after : FolderState) (feeds : List FeedState) → AreAllOpened plan names old feeds → AreRead feeds mid after → AreReadToEnd names old after
-read_to_end plan names old mid after feeds opened read =
-    each_read old after mid.last read.news read.news names (λ name told. last_read 0 (streams_in plan.nodes) names old feeds read.news mid.last after.last name opened.of read.same read.taken read.lasts told) (λ name none. none)
-    (named_still 0 (streams_in plan.nodes) names old feeds read.news opened.of read.same) (same_long feeds read.news read.same ∙ opened.each)
+pub read_to_end : (job : Job) (names : List (List ℕ)) (old mid after : FolderState) (feeds : List FeedState) → AreAllOpened job names old feeds → AreRead feeds mid after → AreReadToEnd names old after
+read_to_end job names old mid after feeds opened read =
+    each_read old after mid.last read.news read.news names (λ name told. last_read 0 (streams_in job.nodes) names old feeds read.news mid.last after.last name opened.of read.same read.taken read.lasts told) (λ name none. none)
+    (named_still 0 (streams_in job.nodes) names old feeds read.news opened.of read.same) (same_long feeds read.news read.same ∙ opened.each)
 
 -- a name whose file was read to its end before stays one
-pub still_read : (plan : Outline) (names : List (List ℕ)) (old mid after : FolderState) (feeds : List FeedState) (name : List ℕ) → AreAllOpened plan names old feeds → SameEverywhere old.last mid.last → IsTrue (old.told name)
+pub still_read : (job : Job) (names : List (List ℕ)) (old mid after : FolderState) (feeds : List FeedState) (name : List ℕ) → AreAllOpened job names old feeds → SameEverywhere old.last mid.last → IsTrue (old.told name)
     → old.last name ≡ length (old.contents name) → AreRead feeds mid after → after.last name ≡ length (old.contents name)
-still_read plan names old mid after feeds name opened same told had read =
-    keeps_of 0 (streams_in plan.nodes) names old feeds read.news mid.last after.last name opened.of read.same read.taken read.lasts told (same name ∙ had)
+still_read job names old mid after feeds name opened same told had read =
+    keeps_of 0 (streams_in job.nodes) names old feeds read.news mid.last after.last name opened.of read.same read.taken read.lasts told (same name ∙ had)
 
 -- ---- a file that was not opened
 
@@ -149,18 +143,18 @@ same_last name before now feeds (inl e) = e
 same_last name before now feeds (inr other) = other.0
 
 -- nothing was written, and of the name the number of bytes taken last stays
-pub open_end : (stop : OpeningStop) (plan : Outline) (names : List (List ℕ)) (old mid after : FolderState) (feeds : List FeedState) (written : List ℕ) → AreFeedsOf 0 (streams_in plan.nodes) names old feeds → HasLasts feeds mid.last after.last
-    → ((stop ≡ OpeningMemory → ⊥) → SameEverywhere old.last mid.last) → ((stream : ℕ) → stop ≡ Fault stream → IsFaultAt stream names feeds old mid) → FilesEnd (Opening stop) plan names old after written written
-open_end (Fault stream) plan names old mid after feeds written of lasts same fault =
+pub open_end : (stop : OpeningStop) (job : Job) (names : List (List ℕ)) (old mid after : FolderState) (feeds : List FeedState) (written : List ℕ) → AreFeedsOf 0 (streams_in job.nodes) names old feeds → HasLasts feeds mid.last after.last
+    → ((stop ≡ OpeningMemory → ⊥) → SameEverywhere old.last mid.last) → ((stream : ℕ) → stop ≡ Fault stream → IsFaultAt stream names feeds old mid) → FilesEnd (Opening stop) job names old after written written
+open_end (Fault stream) job names old mid after feeds written of lasts same fault =
     let f = fault stream refl in
     let unlike : Fault stream ≡ OpeningMemory → ⊥ = λ e. cc in (
       refl,
       λ distinct.
           let name : List ℕ = slice_index_or names stream [] in
-          let none = none_before 0 (streams_in plan.nodes) names old feeds stream of distinct f.before f.there in
+          let none = none_before 0 (streams_in job.nodes) names old feeds stream of distinct f.before f.there in
           same_last name (mid.last name) (after.last name) feeds (lasts name (mid.last name) (agree_none name (mid.last name) feeds none)) ∙ same unlike name,
     )
-open_end OpeningMemory plan names old mid after feeds written of lasts same fault = tt
+open_end OpeningMemory job names old mid after feeds written of lasts same fault = tt
 
 -- those before it were opened
 pub open_opened : (stop : OpeningStop) (names : List (List ℕ)) (old mid after : FolderState) (feeds : List FeedState) → OpensAtMost (length names) names old mid → ((stream : ℕ) → stop ≡ Fault stream → IsFaultAt stream names feeds old mid)

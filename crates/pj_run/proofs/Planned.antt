@@ -1,26 +1,26 @@
 -- What the laws of histories ask of the nodes of a sound plan's run.
 use Rattle.std.proofs.Common.{◌<◌, Bool, List, [], length, refl, sym, subst, arith}
-use Rattle.pj_plan.specs.declared.node.Outline.{Outline}
+use Rattle.pj_run.specs.Jobs.{Job}
 use Rattle.pj_laws.specs.Climb.{IsTree}
 use Rattle.pj_events.specs.Plan.{ArePlanned}
 use Rattle.pj_laws.specs.HistoryLaws.{AllAreCertified}
 use Rattle.pj_core.proofs.Planned.{not-empty, planned, tree as is_tree}
 use Rattle.pj_core.specs.Cores.{CoreState}
-use Rattle.pj_run.specs.Runs.{IsNewCore, outline_in, plan_run, run_nodes}
+use Rattle.pj_run.specs.Runs.{IsNewCore, job_in, plan_run, run_nodes}
 
 -- ---- what the laws ask
 
-pub record IsPlanned (plan : Outline) : Type 0 where
-  pub well_made : ArePlanned [] (run_nodes plan)
-  pub tree : IsTree (run_nodes plan)
-  pub some : 0 < length (run_nodes plan)
-  pub certified : AllAreCertified (run_nodes plan)
+pub record IsPlanned (job : Job) : Type 0 where
+  pub well_made : ArePlanned [] (run_nodes job)
+  pub tree : IsTree (run_nodes job)
+  pub some : 0 < length (run_nodes job)
+  pub certified : AllAreCertified (run_nodes job)
 
 -- the plan of a new core
-pub new_planned : (core : CoreState) → IsNewCore core → IsPlanned (outline_in core)
+pub new_planned : (core : CoreState) → IsNewCore core → IsPlanned (job_in core)
 new_planned core new = record {
-  well_made = planned (plan_run (outline_in core)) new.sound;
-  tree = is_tree (plan_run (outline_in core)) new.sound;
-  some = not-empty (plan_run (outline_in core)) new.sound;
+  well_made = planned (plan_run (job_in core)) new.sound;
+  tree = is_tree (plan_run (job_in core)) new.sound;
+  some = not-empty (plan_run (job_in core)) new.sound;
   certified = new.certified;
 }

@@ -1,10 +1,10 @@
 -- A run over feeds, once their files are closed.
-use Rattle.pj_plan.specs.declared.node.Outline.{Outline}
+use Rattle.pj_run.specs.Jobs.{Job}
 use Rattle.std.proofs.Common.{◌≡◌, ◌≤◌, ℕ, List, refl, arith}
 use Rattle.pj_io.specs.Causes.{Rose}
 use Rattle.pj_io.specs.States.{FolderState, SinkState}
 use Rattle.pj_run.specs.declared.stops.RunStop.{RunStop}
-use Rattle.pj_run.specs.declared.stops.RunStop.TheVariants.{ReadFault, TooLarge, Limit, WriteFailed, NoMemory}
+use Rattle.pj_run.specs.declared.stops.RunStop.TheVariants.{ReadFault, TooLarge, Limit, WriteFailed, NoMemory, Cut as RunCut}
 use Rattle.pj_report.specs.declared.stops.WriteStop.{WriteStop}
 use Rattle.pj_report.specs.declared.stops.WriteStop.TheVariants.{Failed, NoMemory as WriteMemory}
 use Rattle.pj_feed.specs.Feeds.{FeedState, AreSameFeeds}
@@ -17,13 +17,14 @@ use Rattle.pj_report.specs.Written.{write_cut}
 use Rattle.pj_run.proofs.Ending.{fault_of_name}
 
 -- why the turns stopped is why the run did
-pub feeds_cause : (stop : RunStop) (plan : Outline) (olds news : List FeedState) (before after : FolderState) (old new : SinkState) → AreSameFeeds olds news → AreCounted before.faults after.faults news
-    → TurnsCause stop plan olds news old new → FeedsCause stop plan olds before after old new
-feeds_cause (ReadFault stream) plan olds news before after old new same counted cause = fault_of_name olds news stream before.faults after.faults same counted cause
-feeds_cause (TooLarge stream) plan olds news before after old new same counted cause = cause
-feeds_cause (Limit node) plan olds news before after old new same counted cause = cause
-feeds_cause WriteFailed plan olds news before after old new same counted cause = cause
-feeds_cause NoMemory plan olds news before after old new same counted cause = tt
+pub feeds_cause : (stop : RunStop) (job : Job) (olds news : List FeedState) (before after : FolderState) (old new : SinkState) → AreSameFeeds olds news → AreCounted before.faults after.faults news
+    → TurnsCause stop job olds news old new → FeedsCause stop job olds before after old new
+feeds_cause (ReadFault stream) job olds news before after old new same counted cause = fault_of_name olds news stream before.faults after.faults same counted cause
+feeds_cause (TooLarge stream) job olds news before after old new same counted cause = cause
+feeds_cause (Limit node) job olds news before after old new same counted cause = cause
+feeds_cause WriteFailed job olds news before after old new same counted cause = cause
+feeds_cause NoMemory job olds news before after old new same counted cause = tt
+feeds_cause (RunCut stop) job olds news before after old new same counted cause = cause
 
 -- ---- a report that was not written
 
@@ -31,11 +32,11 @@ pub report_cut : (why : WriteStop) → run_cut (of_turn (of_write why)) ≡ writ
 report_cut Failed = refl
 report_cut WriteMemory = refl
 
-pub report_ends : (why : WriteStop) (plan : Outline) (files : List (List ℕ)) (feeds : List FeedState) (before lines : List ℕ) → TurnsEnd (of_turn (of_write why)) plan files feeds before lines
-report_ends Failed plan files feeds before lines = tt
-report_ends WriteMemory plan files feeds before lines = tt
+pub report_ends : (why : WriteStop) (job : Job) (files : List (List ℕ)) (feeds : List FeedState) (before lines : List ℕ) → TurnsEnd (of_turn (of_write why)) job files feeds before lines
+report_ends Failed job files feeds before lines = tt
+report_ends WriteMemory job files feeds before lines = tt
 
-pub report_cause : (why : WriteStop) (plan : Outline) (feeds : List FeedState) (before after : FolderState) (first old new : SinkState) → first.faults ≤ old.faults → (why ≡ Failed → Rose old.faults new.faults)
-    → FeedsCause (of_turn (of_write why)) plan feeds before after first new
-report_cause Failed plan feeds before after first old new later rose = let r = rose refl in omega (arith, r, later)
-report_cause WriteMemory plan feeds before after first old new later rose = tt
+pub report_cause : (why : WriteStop) (job : Job) (feeds : List FeedState) (before after : FolderState) (first old new : SinkState) → first.faults ≤ old.faults → (why ≡ Failed → Rose old.faults new.faults)
+    → FeedsCause (of_turn (of_write why)) job feeds before after first new
+report_cause Failed job feeds before after first old new later rose = let r = rose refl in omega (arith, r, later)
+report_cause WriteMemory job feeds before after first old new later rose = tt

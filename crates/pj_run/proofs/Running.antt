@@ -1,5 +1,5 @@
 -- A run on one thread, turn by turn.
-use Rattle.pj_plan.specs.declared.node.Outline.{Outline}
+use Rattle.pj_run.specs.Jobs.{Job}
 use Rattle.pj_plan.specs.declared.node.PlanNode.{PlanNode}
 use Rattle.pj_core.specs.Plans.{RunPlan, nodes_of}
 use Rattle.pj_plan.specs.Nodes.{stream_columns, streams_in}
@@ -37,19 +37,22 @@ use Rattle.pj_intake.specs.declared.intake.IntakeStop.TheVariants.{ReadFault as 
 use Rattle.pj_feed.specs.Feeds.{FeedState, feed_left, feeds_left, brought, closes, turn_in, tallies_of, all_accepted, count_of, files_of, AreFeeds, AreNew, AreSameFeeds, AllTold, BringsIn, FeedEnds, StopsIn}
 use Rattle.pj_run.specs.Outcome.{IsOutcome}
 use Rattle.pj_report.specs.Results.{out_lines, counts_of}
-use Rattle.pj_run.specs.Runs.{history_of, GoesBeyond, most_arrivals, plan_run, run_nodes}
+use Rattle.pj_run.specs.Runs.{history_of, GoesBeyond, plan_run, run_nodes}
 use Rattle.pj_feed.specs.Feeds.{accepted_of}
 use Rattle.pj_laws.proofs.Limits.{within-append}
 use Rattle.pj_laws.proofs.Histories.{outputs-append, nodes-append}
-use Rattle.pj_run.specs.Turning.{IsTurnOf, turn_outs, TurnDone, TurnsEnd, EndsTurn}
+use Rattle.pj_run.specs.RunEnds.{CutCause}
+use Rattle.pj_run.specs.Turning.{IsTurnOf, lines_of, turn_outs, BreaksOff, CutEnd, CutsTurn, EndsTurn, TurnDone, TurnsEnd}
+use Rattle.pj_events.specs.declared.events.Stop.{Stop}
+use Rattle.pj_events.specs.declared.events.Stop.TheVariants.{Limit as CoreLimit, NoMemory as CoreMemory}
 use Rattle.pj_run.specs.Ends.{EndsBefore, EndsAtLimit}
 use Rattle.pj_run.specs.Stops.{stop_at}
 use Rattle.pj_feed.specs.declared.stops.FeedStop.{FeedStop}
 use Rattle.pj_feed.specs.declared.stops.FeedWhy.{FeedWhy}
 use Rattle.pj_feed.specs.declared.stops.FeedWhy.TheVariants.{Intake, WriteFailed as FlushFailed}
 use Rattle.pj_io.specs.States.{SinkState}
-use Rattle.pj_report.specs.Written.{flat, Cut, Leaves}
-use Rattle.pj_report.proofs.LinesWritten.{stop_among, written_then}
+use Rattle.pj_report.specs.Written.{anywhere, flat, Cut, FrontOf, Leaves}
+use Rattle.pj_report.proofs.LinesWritten.{stop_among, stop_then, written_then}
 use Rattle.pj_report.proofs.Counting.{out_lines-append}
 use Rattle.pj_run.proofs.Accepting.{count-streams, schema-is}
 use Rattle.pj_run.proofs.OutputLaws.{goes_beyond, whole_run}
@@ -59,61 +62,61 @@ use Rattle.pj_run.proofs.Arrivals.{elements-turns, brought-left, arrived-is}
 
 -- ---- all turns
 
-abbrev turn_lists : Outline → List (List ℕ) → List (List Turn)
-turn_lists plan files = all_turns (run_nodes plan) 0 (streams_of (run_nodes plan)) (accepted_of (streams_in plan.nodes) files)
+abbrev turn_lists : Job → List (List ℕ) → List (List Turn)
+turn_lists job files = all_turns (run_nodes job) 0 (streams_of (run_nodes job)) (accepted_of (streams_in job.nodes) files)
 
-count-lists : (plan : Outline) (files : List (List ℕ)) → length (turn_lists plan files) ≡ length (streams_in plan.nodes)
-count-lists plan files = length-all (run_nodes plan) 0 (streams_of (run_nodes plan)) (accepted_of (streams_in plan.nodes) files) ∙ count-streams plan
+count-lists : (job : Job) (files : List (List ℕ)) → length (turn_lists job files) ≡ length (streams_in job.nodes)
+count-lists job files = length-all (run_nodes job) 0 (streams_of (run_nodes job)) (accepted_of (streams_in job.nodes) files) ∙ count-streams job
 
-list-at : (plan : Outline) (files : List (List ℕ)) (k : ℕ) → k < length (streams_in plan.nodes) → turns_of k (stream_columns (streams_in plan.nodes) k) (get_or (accepted_of (streams_in plan.nodes) files) k []) ≡ get_or (turn_lists plan files) k []
-list-at plan files k lt =
-    ap (λ (ks : List Column). turns_of k ks (get_or (accepted_of (streams_in plan.nodes) files) k [])) (sym (schema-is plan k 0 lt))
-    ∙ (ap (λ (n : ℕ). turns_of n (schema_of (operator_at (run_nodes plan) (get_or (streams_of (run_nodes plan)) k 0))) (get_or (accepted_of (streams_in plan.nodes) files) k [])) (sym (zero-add k))
-    ∙ sym (all-at (run_nodes plan) 0 k 0 (streams_of (run_nodes plan)) (accepted_of (streams_in plan.nodes) files) (omega (arith, lt, count-streams plan))))
+list-at : (job : Job) (files : List (List ℕ)) (k : ℕ) → k < length (streams_in job.nodes) → turns_of k (stream_columns (streams_in job.nodes) k) (get_or (accepted_of (streams_in job.nodes) files) k []) ≡ get_or (turn_lists job files) k []
+list-at job files k lt =
+    ap (λ (ks : List Column). turns_of k ks (get_or (accepted_of (streams_in job.nodes) files) k [])) (sym (schema-is job k 0 lt))
+    ∙ (ap (λ (n : ℕ). turns_of n (schema_of (operator_at (run_nodes job) (get_or (streams_of (run_nodes job)) k 0))) (get_or (accepted_of (streams_in job.nodes) files) k [])) (sym (zero-add k))
+    ∙ sym (all-at (run_nodes job) 0 k 0 (streams_of (run_nodes job)) (accepted_of (streams_in job.nodes) files) (omega (arith, lt, count-streams job))))
 
 -- the turns that are left in the feeds at first are those of the history
-feeds-lists : (plan : Outline) (feeds : List FeedState) → AreFeeds 0 (streams_in plan.nodes) feeds → AreNew feeds → map (feed_left (streams_in plan.nodes)) feeds ≡ turn_lists plan (files_of feeds)
-feeds-lists plan feeds f new =
-    same_lists (map (feed_left (streams_in plan.nodes)) feeds) (turn_lists plan (files_of feeds))
-    (length-map feeds (feed_left (streams_in plan.nodes)) ∙ (feeds_long 0 (streams_in plan.nodes) feeds f ∙ sym (count-lists plan (files_of feeds))))
+feeds-lists : (job : Job) (feeds : List FeedState) → AreFeeds 0 (streams_in job.nodes) feeds → AreNew feeds → map (feed_left (streams_in job.nodes)) feeds ≡ turn_lists job (files_of feeds)
+feeds-lists job feeds f new =
+    same_lists (map (feed_left (streams_in job.nodes)) feeds) (turn_lists job (files_of feeds))
+    (length-map feeds (feed_left (streams_in job.nodes)) ∙ (feeds_long 0 (streams_in job.nodes) feeds f ∙ sym (count-lists job (files_of feeds))))
     (λ k d lt. at k d lt)
   where
-    at : (k : ℕ) (d : List Turn) → k < length (map (feed_left (streams_in plan.nodes)) feeds) → get_or (map (feed_left (streams_in plan.nodes)) feeds) k d ≡ get_or (turn_lists plan (files_of feeds)) k d
+    at : (k : ℕ) (d : List Turn) → k < length (map (feed_left (streams_in job.nodes)) feeds) → get_or (map (feed_left (streams_in job.nodes)) feeds) k d ≡ get_or (turn_lists job (files_of feeds)) k d
     at k d lt =
-        let there : k < length feeds = omega (arith, lt, length-map feeds (feed_left (streams_in plan.nodes))) in
-        let place : k < length (streams_in plan.nodes) = omega (arith, there, feeds_long 0 (streams_in plan.nodes) feeds f) in
-        get_or_default (map (feed_left (streams_in plan.nodes)) feeds) k d [] lt
-        ∙ (first_left (streams_in plan.nodes) 0 (streams_in plan.nodes) feeds k f new there
-        ∙ (ap (λ (n : ℕ). brought (streams_in plan.nodes) n (get_or (accepted_of (streams_in plan.nodes) (files_of feeds)) k []) ++ closes (streams_in plan.nodes) n true) (zero-add k)
-        ∙ (list-at plan (files_of feeds) k place ∙ get_or_default (turn_lists plan (files_of feeds)) k [] d (omega (arith, place, count-lists plan (files_of feeds))))))
+        let there : k < length feeds = omega (arith, lt, length-map feeds (feed_left (streams_in job.nodes))) in
+        let place : k < length (streams_in job.nodes) = omega (arith, there, feeds_long 0 (streams_in job.nodes) feeds f) in
+        get_or_default (map (feed_left (streams_in job.nodes)) feeds) k d [] lt
+        ∙ (first_left (streams_in job.nodes) 0 (streams_in job.nodes) feeds k f new there
+        ∙ (ap (λ (n : ℕ). brought (streams_in job.nodes) n (get_or (accepted_of (streams_in job.nodes) (files_of feeds)) k []) ++ closes (streams_in job.nodes) n true) (zero-add k)
+        ∙ (list-at job (files_of feeds) k place ∙ get_or_default (turn_lists job (files_of feeds)) k [] d (omega (arith, place, count-lists job (files_of feeds))))))
 
 -- ---- what holds while the run goes on
 
 -- the turns that made this history were made, and the core stands for it; these are left
-pub record Ran (plan : Outline) (files : List (List ℕ)) (history : List Entry) (core : CoreState) (left : List Turn) (counts : Counts) : Type 0 where
-  pub of_plan : core.plan ≡ plan_run plan
-  pub limit : core.limit ≡ most_arrivals
+pub record Ran (job : Job) (files : List (List ℕ)) (history : List Entry) (core : CoreState) (left : List Turn) (counts : Counts) : Type 0 where
+  pub of_plan : core.plan ≡ plan_run job
+  pub limit : core.limit ≡ job.limit
   pub on : core.kept.stop ≡ None
   pub drained : core.kept.undrained ≡ []
   pub stands : StandsFor core history
-  pub all : history ++ turns_entries true (nodes_from (run_nodes plan) history) left ≡ history_of plan files
-  pub counted : counts ≡ counts_of (elements_out (handed_out false (run_nodes plan) history))
-  pub within : StaysWithin most_arrivals (run_nodes plan) [] history
+  pub all : history ++ turns_entries true (nodes_from (run_nodes job) history) left ≡ history_of job files
+  pub counted : counts ≡ counts_of (elements_out (handed_out job.trace (run_nodes job) history))
+  pub within : StaysWithin job.limit (run_nodes job) [] history
 
-first-turns : (plan : Outline) (feeds : List FeedState) (at : ℕ) → at ≡ 0 → AreFeeds 0 (streams_in plan.nodes) feeds → AreNew feeds
-    → feeds_left (streams_in plan.nodes) feeds at ≡ in_rounds (all_turns (run_nodes plan) 0 (streams_of (run_nodes plan)) (accepted_of (streams_in plan.nodes) (files_of feeds)))
-first-turns plan feeds at first f new =
-    ap (feeds_left (streams_in plan.nodes) feeds) first ∙ (sym (rounds-go-on (map (feed_left (streams_in plan.nodes)) feeds)) ∙ ap in_rounds (feeds-lists plan feeds f new))
+first-turns : (job : Job) (feeds : List FeedState) (at : ℕ) → at ≡ 0 → AreFeeds 0 (streams_in job.nodes) feeds → AreNew feeds
+    → feeds_left (streams_in job.nodes) feeds at ≡ in_rounds (all_turns (run_nodes job) 0 (streams_of (run_nodes job)) (accepted_of (streams_in job.nodes) (files_of feeds)))
+first-turns job feeds at first f new =
+    ap (feeds_left (streams_in job.nodes) feeds) first ∙ (sym (rounds-go-on (map (feed_left (streams_in job.nodes)) feeds)) ∙ ap in_rounds (feeds-lists job feeds f new))
 
-pub begins : (plan : Outline) (feeds : List FeedState) (at : ℕ) (core : CoreState) (counts : Counts) → AreFeeds 0 (streams_in plan.nodes) feeds → AreNew feeds → at ≡ 0 → IsFresh core (plan_run plan) most_arrivals → counts ≡ counts_of []
-    → Ran plan (files_of feeds) [] core (feeds_left (streams_in plan.nodes) feeds at) counts
-begins plan feeds at core counts f new first fresh none = record {
+pub begins : (job : Job) (feeds : List FeedState) (at : ℕ) (core : CoreState) (counts : Counts) → AreFeeds 0 (streams_in job.nodes) feeds → AreNew feeds → at ≡ 0 → IsFresh core (plan_run job) job.limit → counts ≡ counts_of []
+    → Ran job (files_of feeds) [] core (feeds_left (streams_in job.nodes) feeds at) counts
+begins job feeds at core counts f new first fresh none = record {
   of_plan = fresh.of_plan;
   limit = fresh.with_limit;
   on = fresh.on;
   drained = fresh.undrained;
   stands = fresh.stands;
-  all = ap (turns_entries true (run_nodes plan)) (first-turns plan feeds at first f new);
+  all = ap (turns_entries true (run_nodes job)) (first-turns job feeds at first f new);
   counted = none;
   within = tt;
 }
@@ -134,9 +137,9 @@ reached limit nodes whole done front (entry ∷ back) rest node e d w b = (
   refl,
 )
 
-module _ (plan : Outline) (files : List (List ℕ)) (planned : IsPlanned plan) (history : List Entry) (core : CoreState) (t : Turn) (left : List Turn) (counts : Counts) (ran : Ran plan files history core (t ∷ left) counts) where
+module _ (job : Job) (files : List (List ℕ)) (planned : IsPlanned job) (history : List Entry) (core : CoreState) (t : Turn) (left : List Turn) (counts : Counts) (ran : Ran job files history core (t ∷ left) counts) where
   abbrev nodes : List Node
-  nodes = nodes_from (run_nodes plan) history
+  nodes = nodes_from (run_nodes job) history
 
   abbrev here : List Entry
   here = turn_entries true nodes t
@@ -144,8 +147,8 @@ module _ (plan : Outline) (files : List (List ℕ)) (planned : IsPlanned plan) (
   here-is : turn_behind core history t ≡ here
   here-is = ap (λ (p : RunPlan). turn_entries true (nodes_from (nodes_of p) history) t) ran.of_plan
 
-  all-legal : IsLegal (run_nodes plan) (history ++ turns_entries true nodes (t ∷ left))
-  all-legal = subst (IsLegal (run_nodes plan)) (sym ran.all) (whole_run plan files planned).legal
+  all-legal : IsLegal (run_nodes job) (history ++ turns_entries true nodes (t ∷ left))
+  all-legal = subst (IsLegal (run_nodes job)) (sym ran.all) (whole_run job files planned).legal
 
   abbrev rest : List Entry
   rest = follow_up true (nodes_from nodes (arrival_of t ∷ [])) t.element ++ turns_entries true (nodes_from nodes here) left
@@ -154,43 +157,48 @@ module _ (plan : Outline) (files : List (List ℕ)) (planned : IsPlanned plan) (
   pub may_follow : MayFollow core history (arrival_of t)
   may_follow =
       subst (λ (p : RunPlan). IsEntryAllowed (reached_of false (nodes_of p) history) (arrival_of t)) (sym ran.of_plan)
-      ((grows-legally (run_nodes plan) history (arrival_of t)).0 (fronts-are-legal (run_nodes plan) (history ++ arrival_of t ∷ []) rest (subst (IsLegal (run_nodes plan)) (sym (append_assoc history (arrival_of t ∷ []) rest)) all-legal))).1
+      ((grows-legally (run_nodes job) history (arrival_of t)).0 (fronts-are-legal (run_nodes job) (history ++ arrival_of t ∷ []) rest (subst (IsLegal (run_nodes job)) (sym (append_assoc history (arrival_of t ∷ []) rest)) all-legal))).1
 
-  parts : (history ++ turn_behind core history t) ++ turns_entries true (nodes_from nodes here) left ≡ history_of plan files
+  parts : (history ++ turn_behind core history t) ++ turns_entries true (nodes_from nodes here) left ≡ history_of job files
   parts =
       ap (λ (xs : List Entry). (history ++ xs) ++ turns_entries true (nodes_from nodes here) left) here-is
       ∙ (append_assoc history here (turns_entries true (nodes_from nodes here) left) ∙ ran.all)
 
-  nodes-are : nodes_from (run_nodes plan) (history ++ turn_behind core history t) ≡ nodes_from nodes here
-  nodes-are = nodes-append (run_nodes plan) history (turn_behind core history t) ∙ ap (nodes_from nodes) here-is
+  nodes-are : nodes_from (run_nodes job) (history ++ turn_behind core history t) ≡ nodes_from nodes here
+  nodes-are = nodes-append (run_nodes job) history (turn_behind core history t) ∙ ap (nodes_from nodes) here-is
+
+  nodes-same : core.plan.nodes ≡ job.nodes
+  nodes-same = ap (λ (p : RunPlan). p.nodes) ran.of_plan
 
   -- what the history and the turn hand out
-  outs-are : handed_out false (run_nodes plan) (history ++ turn_behind core history t) ≡ handed_out false (run_nodes plan) history ++ turn_outs core history t
+  outs-are : handed_out job.trace (run_nodes job) (history ++ turn_behind core history t) ≡ handed_out job.trace (run_nodes job) history ++ turn_outs core history t
   outs-are =
-      outputs-append false (run_nodes plan) history (turn_behind core history t)
-      ∙ ap (λ (p : RunPlan). handed_out false (run_nodes plan) history ++ handed_out p.trace (nodes_from (nodes_of p) history) (turn_behind core history t)) (sym ran.of_plan)
+      outputs-append job.trace (run_nodes job) history (turn_behind core history t)
+      ∙ ap (λ (p : RunPlan). handed_out job.trace (run_nodes job) history ++ handed_out p.trace (nodes_from (nodes_of p) history) (turn_behind core history t)) (sym ran.of_plan)
 
-  pub turn_lines : out_lines (handed_out false (run_nodes plan) history) ++ out_lines (turn_outs core history t) ≡ out_lines (handed_out false (run_nodes plan) (history ++ turn_behind core history t))
-  turn_lines = sym (out_lines-append (handed_out false (run_nodes plan) history) (turn_outs core history t)) ∙ ap out_lines (sym outs-are)
+  pub turn_lines : out_lines job.nodes (handed_out job.trace (run_nodes job) history) ++ out_lines core.plan.nodes (turn_outs core history t) ≡ out_lines job.nodes (handed_out job.trace (run_nodes job) (history ++ turn_behind core history t))
+  turn_lines =
+      ap (λ (ns : List PlanNode). out_lines job.nodes (handed_out job.trace (run_nodes job) history) ++ out_lines ns (turn_outs core history t)) nodes-same
+      ∙ (sym (out_lines-append job.nodes (handed_out job.trace (run_nodes job) history) (turn_outs core history t)) ∙ ap (out_lines job.nodes) (sym outs-are))
 
   abbrev later : List (List ℕ)
-  later = out_lines (handed_out false (nodes_from nodes here) (turns_entries true (nodes_from nodes here) left))
+  later = out_lines job.nodes (handed_out job.trace (nodes_from nodes here) (turns_entries true (nodes_from nodes here) left))
 
-  rest_lines : (out_lines (handed_out false (run_nodes plan) history) ++ out_lines (turn_outs core history t)) ++ later ≡ out_lines (handed_out false (run_nodes plan) (history_of plan files))
+  rest_lines : (out_lines job.nodes (handed_out job.trace (run_nodes job) history) ++ out_lines core.plan.nodes (turn_outs core history t)) ++ later ≡ out_lines job.nodes (handed_out job.trace (run_nodes job) (history_of job files))
   rest_lines =
       ap (λ (ls : List (List ℕ)). ls ++ later) turn_lines
-      ∙ (ap (λ (ns : List Node). out_lines (handed_out false (run_nodes plan) (history ++ turn_behind core history t)) ++ out_lines (handed_out false ns (turns_entries true (nodes_from nodes here) left))) (sym nodes-are)
-      ∙ (sym (out_lines-append (handed_out false (run_nodes plan) (history ++ turn_behind core history t)) (handed_out false (nodes_from (run_nodes plan) (history ++ turn_behind core history t)) (turns_entries true (nodes_from nodes here) left)))
-      ∙ ap out_lines (sym (outputs-append false (run_nodes plan) (history ++ turn_behind core history t) (turns_entries true (nodes_from nodes here) left)) ∙ ap (handed_out false (run_nodes plan)) parts)))
+      ∙ (ap (λ (ns : List Node). out_lines job.nodes (handed_out job.trace (run_nodes job) (history ++ turn_behind core history t)) ++ out_lines job.nodes (handed_out job.trace ns (turns_entries true (nodes_from nodes here) left))) (sym nodes-are)
+      ∙ (sym (out_lines-append job.nodes (handed_out job.trace (run_nodes job) (history ++ turn_behind core history t)) (handed_out job.trace (nodes_from (run_nodes job) (history ++ turn_behind core history t)) (turns_entries true (nodes_from nodes here) left)))
+      ∙ ap (out_lines job.nodes) (sym (outputs-append job.trace (run_nodes job) (history ++ turn_behind core history t) (turns_entries true (nodes_from nodes here) left)) ∙ ap (handed_out job.trace (run_nodes job)) parts)))
 
   -- a turn that stopped
-  pub turn_stopped : (cut : Cut) (before mid after : List ℕ) → mid ≡ before ++ flat (out_lines (handed_out false (run_nodes plan) history))
-      → Leaves cut (out_lines (turn_outs core history t)) mid after → Leaves cut (out_lines (handed_out false (run_nodes plan) (history_of plan files))) before after
+  pub turn_stopped : (cut : Cut) (before mid after : List ℕ) → mid ≡ before ++ flat (out_lines job.nodes (handed_out job.trace (run_nodes job) history))
+      → Leaves cut (out_lines core.plan.nodes (turn_outs core history t)) mid after → Leaves cut (out_lines job.nodes (handed_out job.trace (run_nodes job) (history_of job files))) before after
   turn_stopped cut before mid after first stop =
-      stop_among cut (out_lines (handed_out false (run_nodes plan) history)) (out_lines (turn_outs core history t)) later (out_lines (handed_out false (run_nodes plan) (history_of plan files))) before mid after first stop rest_lines
+      stop_among cut (out_lines job.nodes (handed_out job.trace (run_nodes job) history)) (out_lines core.plan.nodes (turn_outs core history t)) later (out_lines job.nodes (handed_out job.trace (run_nodes job) (history_of job files))) before mid after first stop rest_lines
 
   -- a turn that was made
-  pub turn_made : (core' : CoreState) (counts' : Counts) → TurnDone core core' t counts counts' → Ran plan files (history ++ turn_behind core history t) core' left counts'
+  pub turn_made : (core' : CoreState) (counts' : Counts) → TurnDone core core' t counts counts' → Ran job files (history ++ turn_behind core history t) core' left counts'
   turn_made core' counts' done = record {
     of_plan = done.makes.plan ∙ ran.of_plan;
     limit = done.makes.limit ∙ ran.limit;
@@ -198,45 +206,66 @@ module _ (plan : Outline) (files : List (List ℕ)) (planned : IsPlanned plan) (
     drained = done.makes.undrained;
     stands = done.makes.stands history ran.stands may_follow;
     all = ap (λ (ns : List Node). (history ++ turn_behind core history t) ++ turns_entries true ns left) nodes-are ∙ parts;
-    counted = done.counted (elements_out (handed_out false (run_nodes plan) history)) ran.counted
-        ∙ ap counts_of (ap (λ (es : List Out). elements_out (handed_out false (run_nodes plan) history) ++ elements_out es) (done.makes.hands history ran.stands may_follow ∙ ap (λ (xs : List Out). xs ++ turn_outs core history t) ran.drained)
-        ∙ (sym (elements-append (handed_out false (run_nodes plan) history) (turn_outs core history t)) ∙ ap elements_out (sym outs-are)));
-    within = within-append most_arrivals (run_nodes plan) [] history (turn_behind core history t) ran.within
-        (subst (λ (n : ℕ). StaysWithin n (run_nodes plan) history (turn_behind core history t)) ran.limit
+    counted = done.counted (elements_out (handed_out job.trace (run_nodes job) history)) ran.counted
+        ∙ ap counts_of (ap (λ (es : List Out). elements_out (handed_out job.trace (run_nodes job) history) ++ elements_out es) (done.makes.hands history ran.stands may_follow ∙ ap (λ (xs : List Out). xs ++ turn_outs core history t) ran.drained)
+        ∙ (sym (elements-append (handed_out job.trace (run_nodes job) history) (turn_outs core history t)) ∙ ap elements_out (sym outs-are)));
+    within = within-append job.limit (run_nodes job) [] history (turn_behind core history t) ran.within
+        (subst (λ (n : ℕ). StaysWithin n (run_nodes job) history (turn_behind core history t)) ran.limit
         (subst (λ (p : RunPlan). StaysWithin core.limit (nodes_of p) history (turn_behind core history t)) ran.of_plan (done.makes.within history ran.stands may_follow)));
   }
 
   -- a turn that brought one element beyond the limit
-  limit_reached : (node : ℕ) (old new : SinkState) (ends : EndsTurn core history t node old new) → (r : ReachesLimit most_arrivals (run_nodes plan) (history_of plan files) node) × (r.front ≡ history ++ ends.front)
-  limit_reached node old new ends =
-      reached most_arrivals (run_nodes plan) (history_of plan files) history ends.front ends.back (turns_entries true (nodes_from nodes here) left) node
-      (sym (ap (λ (es : List Entry). history ++ (es ++ turns_entries true (nodes_from nodes here) left)) (sym ends.parts ∙ here-is) ∙ ran.all))
+  limit_reached : (node : ℕ) (off : BreaksOff core history t node) → (r : ReachesLimit job.limit (run_nodes job) (history_of job files) node) × (r.front ≡ history ++ off.front)
+  limit_reached node off =
+      reached job.limit (run_nodes job) (history_of job files) history off.front off.back (turns_entries true (nodes_from nodes here) left) node
+      (sym (ap (λ (es : List Entry). history ++ (es ++ turns_entries true (nodes_from nodes here) left)) (sym off.parts ∙ here-is) ∙ ran.all))
       ran.within
-      (subst (λ (n : ℕ). StaysWithin n (run_nodes plan) history ends.front) ran.limit (subst (λ (p : RunPlan). StaysWithin core.limit (nodes_of p) history ends.front) ran.of_plan ends.within))
-      (subst (λ (n : ℕ). BeginsBeyond n (run_nodes plan) (history ++ ends.front) ends.back node) ran.limit (subst (λ (p : RunPlan). BeginsBeyond core.limit (nodes_of p) (history ++ ends.front) ends.back node) ran.of_plan ends.beyond))
+      (subst (λ (n : ℕ). StaysWithin n (run_nodes job) history off.front) ran.limit (subst (λ (p : RunPlan). StaysWithin core.limit (nodes_of p) history off.front) ran.of_plan off.within))
+      (subst (λ (n : ℕ). BeginsBeyond n (run_nodes job) (history ++ off.front) off.back node) ran.limit (subst (λ (p : RunPlan). BeginsBeyond core.limit (nodes_of p) (history ++ off.front) off.back node) ran.of_plan off.beyond))
 
-  pub goes_beyond_here : (node : ℕ) (old new : SinkState) → EndsTurn core history t node old new → GoesBeyond plan files node
-  goes_beyond_here node old new ends = goes_beyond plan files planned node (limit_reached node old new ends).0
+  pub goes_beyond_here : (node : ℕ) → BreaksOff core history t node → GoesBeyond job files node
+  goes_beyond_here node off = goes_beyond job files planned node (limit_reached node off).0
+
+  -- the lines of what came before it
+  lines_before : (node : ℕ) (off : BreaksOff core history t node) → out_lines job.nodes (handed_out job.trace (run_nodes job) history) ++ lines_of core history off.front ≡ out_lines job.nodes (handed_out job.trace (run_nodes job) (limit_reached node off).0.front)
+  lines_before node off =
+      let r = limit_reached node off in
+      let had : List Out = handed_out job.trace (run_nodes job) history in
+      let gained : List Out = handed_out core.plan.trace (nodes_from (nodes_of core.plan) history) off.front in
+      ap (λ (ns : List PlanNode). out_lines job.nodes had ++ out_lines ns gained) nodes-same
+      ∙ (sym (out_lines-append job.nodes had gained)
+      ∙ (ap (out_lines job.nodes) (ap (λ (p : RunPlan). had ++ handed_out p.trace (nodes_from (nodes_of p) history) off.front) ran.of_plan ∙ sym (outputs-append job.trace (run_nodes job) history off.front))
+      ∙ ap (λ (h : List Entry). out_lines job.nodes (handed_out job.trace (run_nodes job) h)) (sym r.1)))
 
   -- exactly the lines of what came before it were written
-  pub ends_at_limit : (node : ℕ) (before : List ℕ) (old new : SinkState) → old.written ≡ before ++ flat (out_lines (handed_out false (run_nodes plan) history)) → IsTrue new.told → EndsTurn core history t node old new
-      → EndsAtLimit plan files node before new.written
+  pub ends_at_limit : (node : ℕ) (before : List ℕ) (old new : SinkState) → old.written ≡ before ++ flat (out_lines job.nodes (handed_out job.trace (run_nodes job) history)) → IsTrue new.told → EndsTurn core history t node old new
+      → EndsAtLimit job files node before new.written
   ends_at_limit node before old new first told ends =
-      let r = limit_reached node old new ends in
-      let had : List Out = handed_out false (run_nodes plan) history in
-      let gained : List Out = handed_out core.plan.trace (nodes_from (nodes_of core.plan) history) ends.front in
+      let had : List (List ℕ) = out_lines job.nodes (handed_out job.trace (run_nodes job) history) in
       record {
-        reaches = r.0;
-        written = written_then (out_lines had) (out_lines gained) before old.written new.written first (ends.written told)
-            ∙ (ap (λ (ls : List (List ℕ)). before ++ flat ls)
-            (sym (out_lines-append had gained) ∙ ap out_lines (ap (λ (p : RunPlan). had ++ handed_out p.trace (nodes_from (nodes_of p) history) ends.front) ran.of_plan ∙ sym (outputs-append false (run_nodes plan) history ends.front)))
-            ∙ ap (λ (h : List Entry). before ++ flat (out_lines (handed_out false (run_nodes plan) h))) (sym r.1));
+        reaches = (limit_reached node ends.breaks).0;
+        written = written_then had (lines_of core history ends.breaks.front) before old.written new.written first (ends.written told) ∙ ap (λ (ls : List (List ℕ)). before ++ flat ls) (lines_before node ends.breaks);
       }
 
+  -- or a front of their bytes was
+  pub ends_cut : (stop : Stop) (before : List ℕ) (old new : SinkState) → old.written ≡ before ++ flat (out_lines job.nodes (handed_out job.trace (run_nodes job) history)) → IsTrue new.told → CutsTurn stop core history t old new
+      → CutEnd stop job files before new.written
+  ends_cut (CoreLimit node) before old new first told ends =
+      let had : List (List ℕ) = out_lines job.nodes (handed_out job.trace (run_nodes job) history) in
+      record {
+        reaches = (limit_reached node ends.breaks).0;
+        written = subst (λ (ls : List (List ℕ)). FrontOf (flat ls) before new.written) (lines_before node ends.breaks) (stop_then anywhere had (lines_of core history ends.breaks.front) before old.written new.written first (ends.written told));
+      }
+  ends_cut CoreMemory before old new first told ends = tt
+
+  pub cut_cause_here : (stop : Stop) (old new : SinkState) → CutsTurn stop core history t old new → CutCause stop job files
+  cut_cause_here (CoreLimit node) old new ends = goes_beyond_here node ends.breaks
+  cut_cause_here CoreMemory old new ends = tt
+
 -- nothing is left
-pub all_ran : (plan : Outline) (files : List (List ℕ)) (history : List Entry) (core : CoreState) (left : List Turn) (counts : Counts) → Ran plan files history core left counts → left ≡ [] → history ≡ history_of plan files
-all_ran plan files history core left counts ran none =
-    sym (append-nil history) ∙ (ap (λ (ts : List Turn). history ++ turns_entries true (nodes_from (run_nodes plan) history) ts) (sym none) ∙ ran.all)
+pub all_ran : (job : Job) (files : List (List ℕ)) (history : List Entry) (core : CoreState) (left : List Turn) (counts : Counts) → Ran job files history core left counts → left ≡ [] → history ≡ history_of job files
+all_ran job files history core left counts ran none =
+    sym (append-nil history) ∙ (ap (λ (ts : List Turn). history ++ turns_entries true (nodes_from (run_nodes job) history) ts) (sym none) ∙ ran.all)
 
 -- what a turn brings is of one of these streams and fits its columns
 pub turn_of_feeds : (streams : List PlanNode) (feeds : List FeedState) (next : Arrival) → AreFeeds 0 streams feeds → BringsIn feeds (Some next) → IsTurnOf streams (turn_in streams next)
@@ -250,30 +279,30 @@ turn_of_feeds streams feeds (Closing stream) f b =
     (omega (arith, number, o.there), λ z. absurd (omega (arith, z)))
 
 -- the next turn is the first of those that are left
-pub ran_next : (plan : Outline) (files : List (List ℕ)) (history : List Entry) (core : CoreState) (counts : Counts) (next : Arrival) (old new : List Turn) → Ran plan files history core old counts
-    → old ≡ turn_in (streams_in plan.nodes) next ∷ new → Ran plan files history core (turn_in (streams_in core.plan.nodes) next ∷ new) counts
-ran_next plan files history core counts next old new ran gives =
-    subst (λ (ts : List Turn). Ran plan files history core ts counts)
+pub ran_next : (job : Job) (files : List (List ℕ)) (history : List Entry) (core : CoreState) (counts : Counts) (next : Arrival) (old new : List Turn) → Ran job files history core old counts
+    → old ≡ turn_in (streams_in job.nodes) next ∷ new → Ran job files history core (turn_in (streams_in core.plan.nodes) next ∷ new) counts
+ran_next job files history core counts next old new ran gives =
+    subst (λ (ts : List Turn). Ran job files history core ts counts)
     (gives ∙ ap (λ (p : RunPlan). turn_in (streams_in p.nodes) next ∷ new) (sym ran.of_plan)) ran
 
 -- what is known once nothing is left
-pub outcome_of : (plan : Outline) (files : List (List ℕ)) (history : List Entry) (core : CoreState) (left : List Turn) (counts : Counts) (tallies : List Tally) → Ran plan files history core left counts → left ≡ []
-    → tallies ≡ tallies_of (streams_in plan.nodes) files → IsOutcome plan files tallies counts
-outcome_of plan files history core left counts tallies ran none each = record {
+pub outcome_of : (job : Job) (files : List (List ℕ)) (history : List Entry) (core : CoreState) (left : List Turn) (counts : Counts) (tallies : List Tally) → Ran job files history core left counts → left ≡ []
+    → tallies ≡ tallies_of (streams_in job.nodes) files → IsOutcome job files tallies counts
+outcome_of job files history core left counts tallies ran none each = record {
   each = each;
-  results = ran.counted ∙ ap (λ (h : List Entry). counts_of (elements_out (handed_out false (run_nodes plan) h))) (all_ran plan files history core left counts ran none);
+  results = ran.counted ∙ ap (λ (h : List Entry). counts_of (elements_out (handed_out job.trace (run_nodes job) h))) (all_ran job files history core left counts ran none);
 }
 
-pub stands_at_end : (plan : Outline) (files : List (List ℕ)) (history : List Entry) (core : CoreState) (left : List Turn) (counts : Counts) → Ran plan files history core left counts → left ≡ [] → StandsFor core (history_of plan files)
-stands_at_end plan files history core left counts ran none = subst (StandsFor core) (all_ran plan files history core left counts ran none) ran.stands
+pub stands_at_end : (job : Job) (files : List (List ℕ)) (history : List Entry) (core : CoreState) (left : List Turn) (counts : Counts) → Ran job files history core left counts → left ≡ [] → StandsFor core (history_of job files)
+stands_at_end job files history core left counts ran none = subst (StandsFor core) (all_ran job files history core left counts ran none) ran.stands
 
 -- ---- a turn that could not be made
 
 -- the lines of the outputs are written up to a turn of this stream
-pub ends_before : (plan : Outline) (files : List (List ℕ)) (history : List Entry) (core : CoreState) (left : List Turn) (counts : Counts) (t : Turn) (rest : List Turn) (stream : ℕ) (before lines : List ℕ) → Ran plan files history core left counts
-    → left ≡ t ∷ rest → t.stream ≡ stream → lines ≡ before ++ flat (out_lines (handed_out false (run_nodes plan) history)) → EndsBefore plan files stream before lines
-ends_before plan files history core left counts t rest stream before lines ran is mine written =
-    let nodes : List Node = nodes_from (run_nodes plan) history in
+pub ends_before : (job : Job) (files : List (List ℕ)) (history : List Entry) (core : CoreState) (left : List Turn) (counts : Counts) (t : Turn) (rest : List Turn) (stream : ℕ) (before lines : List ℕ) → Ran job files history core left counts
+    → left ≡ t ∷ rest → t.stream ≡ stream → lines ≡ before ++ flat (out_lines job.nodes (handed_out job.trace (run_nodes job) history)) → EndsBefore job files stream before lines
+ends_before job files history core left counts t rest stream before lines ran is mine written =
+    let nodes : List Node = nodes_from (run_nodes job) history in
     record {
       front = history;
       next = arrival_of t;
@@ -285,122 +314,122 @@ ends_before plan files history core left counts t rest stream before lines ran i
     }
 
 -- what arrived at a stream so far are the elements that were accepted of it
-pub arrived_so_far : (plan : Outline) (planned : IsPlanned plan) (files : List (List ℕ)) (history : List Entry) (core : CoreState) (feeds : List FeedState) (at : ℕ) (counts : Counts) (place : ℕ) (feed : FeedState)
-    → Ran plan files history core (feeds_left (streams_in plan.nodes) feeds at) counts → AreFeeds 0 (streams_in plan.nodes) feeds → files_of feeds ≡ files → slice_get feeds place ≡ Some feed → feed.is_open ≡ true
+pub arrived_so_far : (job : Job) (planned : IsPlanned job) (files : List (List ℕ)) (history : List Entry) (core : CoreState) (feeds : List FeedState) (at : ℕ) (counts : Counts) (place : ℕ) (feed : FeedState)
+    → Ran job files history core (feeds_left (streams_in job.nodes) feeds at) counts → AreFeeds 0 (streams_in job.nodes) feeds → files_of feeds ≡ files → slice_get feeds place ≡ Some feed → feed.is_open ≡ true
     → arrived_at place history ≡ take (count_of feed) (all_accepted feed)
-arrived_so_far plan planned files history core feeds at counts place feed ran f same is still =
-    arrived-is history (turns_entries true nodes (feeds_left (streams_in plan.nodes) feeds at)) place (count_of feed) (all_accepted feed) closing (feeds_left (streams_in plan.nodes) feeds at) whole rest
+arrived_so_far job planned files history core feeds at counts place feed ran f same is still =
+    arrived-is history (turns_entries true nodes (feeds_left (streams_in job.nodes) feeds at)) place (count_of feed) (all_accepted feed) closing (feeds_left (streams_in job.nodes) feeds at) whole rest
   where
     nodes : List Node
-    nodes = nodes_from (run_nodes plan) history
+    nodes = nodes_from (run_nodes job) history
 
-    o : IsOneOf (streams_in plan.nodes) (0 + place) place feed
-    o = one_of 0 (streams_in plan.nodes) feeds place feed f is
+    o : IsOneOf (streams_in job.nodes) (0 + place) place feed
+    o = one_of 0 (streams_in job.nodes) feeds place feed f is
 
     closing : Element
-    closing = Punct (all_wild (length (stream_columns (streams_in plan.nodes) place)))
+    closing = Punct (all_wild (length (stream_columns (streams_in job.nodes) place)))
 
-    within : place < length (streams_of (run_nodes plan))
-    within = omega (arith, o.there, count-streams plan)
+    within : place < length (streams_of (run_nodes job))
+    within = omega (arith, o.there, count-streams job)
 
-    mine : get_or (accepted_of (streams_in plan.nodes) files) place [] ≡ all_accepted feed
-    mine = ap (λ (fs : List (List ℕ)). get_or (accepted_of (streams_in plan.nodes) fs) place []) (sym same) ∙ accepted_of_feed 0 (streams_in plan.nodes) feeds place feed f is
+    mine : get_or (accepted_of (streams_in job.nodes) files) place [] ≡ all_accepted feed
+    mine = ap (λ (fs : List (List ℕ)). get_or (accepted_of (streams_in job.nodes) fs) place []) (sym same) ∙ accepted_of_feed 0 (streams_in job.nodes) feeds place feed f is
 
-    whole : arrived_at place (history ++ turns_entries true nodes (feeds_left (streams_in plan.nodes) feeds at)) ≡ all_accepted feed ++ closing ∷ []
+    whole : arrived_at place (history ++ turns_entries true nodes (feeds_left (streams_in job.nodes) feeds at)) ≡ all_accepted feed ++ closing ∷ []
     whole =
         ap (arrived_at place) ran.all
-        ∙ ((whole_run plan files planned).elements place within
-        ∙ ap₂ (λ (es : List Element) (ks : List Column). es ++ Punct (all_wild (length ks)) ∷ []) mine (schema-is plan place (length (run_nodes plan)) o.there))
+        ∙ ((whole_run job files planned).elements place within
+        ∙ ap₂ (λ (es : List Element) (ks : List Column). es ++ Punct (all_wild (length ks)) ∷ []) mine (schema-is job place (length (run_nodes job)) o.there))
 
     lists : List (List Turn)
-    lists = map (feed_left (streams_in plan.nodes)) feeds
+    lists = map (feed_left (streams_in job.nodes)) feeds
 
-    split : map (feed_left (streams_in plan.nodes)) (take at feeds) ++ map (feed_left (streams_in plan.nodes)) (drop at feeds) ≡ lists
-    split = sym (map-append (feed_left (streams_in plan.nodes)) (take at feeds) (drop at feeds)) ∙ ap (map (feed_left (streams_in plan.nodes))) (take-append-drop at feeds)
+    split : map (feed_left (streams_in job.nodes)) (take at feeds) ++ map (feed_left (streams_in job.nodes)) (drop at feeds) ≡ lists
+    split = sym (map-append (feed_left (streams_in job.nodes)) (take at feeds) (drop at feeds)) ∙ ap (map (feed_left (streams_in job.nodes))) (take-append-drop at feeds)
 
-    here : get_or lists place [] ≡ feed_left (streams_in plan.nodes) feed
-    here = get_or_from_slice_get lists place (feed_left (streams_in plan.nodes) feed) [] (slice_get-map (feed_left (streams_in plan.nodes)) feeds place ∙ ap (option_map (feed_left (streams_in plan.nodes))) is)
+    here : get_or lists place [] ≡ feed_left (streams_in job.nodes) feed
+    here = get_or_from_slice_get lists place (feed_left (streams_in job.nodes) feed) [] (slice_get-map (feed_left (streams_in job.nodes)) feeds place ∙ ap (option_map (feed_left (streams_in job.nodes))) is)
 
-    tagged : AreTagged 0 (map (feed_left (streams_in plan.nodes)) (take at feeds) ++ map (feed_left (streams_in plan.nodes)) (drop at feeds))
-    tagged = subst (AreTagged 0) (sym split) (left_tagged (streams_in plan.nodes) 0 (streams_in plan.nodes) feeds f)
+    tagged : AreTagged 0 (map (feed_left (streams_in job.nodes)) (take at feeds) ++ map (feed_left (streams_in job.nodes)) (drop at feeds))
+    tagged = subst (AreTagged 0) (sym split) (left_tagged (streams_in job.nodes) 0 (streams_in job.nodes) feeds f)
 
-    long : length (map (feed_left (streams_in plan.nodes)) (take at feeds)) + length (map (feed_left (streams_in plan.nodes)) (drop at feeds)) ≡ length (streams_in plan.nodes)
-    long = sym (length-append (map (feed_left (streams_in plan.nodes)) (take at feeds)) (map (feed_left (streams_in plan.nodes)) (drop at feeds))) ∙ (ap length split ∙ (length-map feeds (feed_left (streams_in plan.nodes)) ∙ feeds_long 0 (streams_in plan.nodes) feeds f))
+    long : length (map (feed_left (streams_in job.nodes)) (take at feeds)) + length (map (feed_left (streams_in job.nodes)) (drop at feeds)) ≡ length (streams_in job.nodes)
+    long = sym (length-append (map (feed_left (streams_in job.nodes)) (take at feeds)) (map (feed_left (streams_in job.nodes)) (drop at feeds))) ∙ (ap length split ∙ (length-map feeds (feed_left (streams_in job.nodes)) ∙ feeds_long 0 (streams_in job.nodes) feeds f))
 
-    turns-elements : (es : List Element) → map (λ t. t.element) (brought (streams_in plan.nodes) feed.stream es ++ closes (streams_in plan.nodes) feed.stream true) ≡ es ++ Punct (all_wild (length (stream_columns (streams_in plan.nodes) feed.stream))) ∷ []
+    turns-elements : (es : List Element) → map (λ t. t.element) (brought (streams_in job.nodes) feed.stream es ++ closes (streams_in job.nodes) feed.stream true) ≡ es ++ Punct (all_wild (length (stream_columns (streams_in job.nodes) feed.stream))) ∷ []
     turns-elements [] = refl
     turns-elements (e ∷ es) = ap (λ (xs : List Element). e ∷ xs) (turns-elements es)
 
-    rest : arrived_at place (turns_entries true nodes (feeds_left (streams_in plan.nodes) feeds at)) ≡ drop (count_of feed) (all_accepted feed) ++ closing ∷ []
+    rest : arrived_at place (turns_entries true nodes (feeds_left (streams_in job.nodes) feeds at)) ≡ drop (count_of feed) (all_accepted feed) ++ closing ∷ []
     rest =
-        elements-turns place nodes (feeds_left (streams_in plan.nodes) feeds at)
-        ∙ (brought-left (map (feed_left (streams_in plan.nodes)) (take at feeds)) (map (feed_left (streams_in plan.nodes)) (drop at feeds)) place (tagged_parts (map (feed_left (streams_in plan.nodes)) (take at feeds)) (map (feed_left (streams_in plan.nodes)) (drop at feeds)) tagged).0 (tagged_parts (map (feed_left (streams_in plan.nodes)) (take at feeds)) (map (feed_left (streams_in plan.nodes)) (drop at feeds)) tagged).1 (omega (arith, long, o.there))
+        elements-turns place nodes (feeds_left (streams_in job.nodes) feeds at)
+        ∙ (brought-left (map (feed_left (streams_in job.nodes)) (take at feeds)) (map (feed_left (streams_in job.nodes)) (drop at feeds)) place (tagged_parts (map (feed_left (streams_in job.nodes)) (take at feeds)) (map (feed_left (streams_in job.nodes)) (drop at feeds)) tagged).0 (tagged_parts (map (feed_left (streams_in job.nodes)) (take at feeds)) (map (feed_left (streams_in job.nodes)) (drop at feeds)) tagged).1 (omega (arith, long, o.there))
         ∙ (ap (λ (ls : List (List Turn)). map (λ t. t.element) (get_or ls place [])) split
-        ∙ (ap (map (λ t. t.element)) (here ∙ ap (λ (b : Bool). brought (streams_in plan.nodes) feed.stream (drop (count_of feed) (all_accepted feed)) ++ closes (streams_in plan.nodes) feed.stream b) still)
+        ∙ (ap (map (λ t. t.element)) (here ∙ ap (λ (b : Bool). brought (streams_in job.nodes) feed.stream (drop (count_of feed) (all_accepted feed)) ++ closes (streams_in job.nodes) feed.stream b) still)
         ∙ (turns-elements (drop (count_of feed) (all_accepted feed))
-        ∙ ap (λ (n : ℕ). drop (count_of feed) (all_accepted feed) ++ Punct (all_wild (length (stream_columns (streams_in plan.nodes) n))) ∷ []) (o.is_number ∙ zero-add place)))))
+        ∙ ap (λ (n : ℕ). drop (count_of feed) (all_accepted feed) ++ Punct (all_wild (length (stream_columns (streams_in job.nodes) n))) ∷ []) (o.is_number ∙ zero-add place)))))
 
 -- ---- what holds between turns
 
 -- the feeds are those of the streams, the core goes on, and, where all bytes are told, the run is the history so far
-pub record IsGoing (plan : Outline) (start feeds : List FeedState) (at : ℕ) (history : List Entry) (core : CoreState) (counts : Counts) : Type 0 where
-  pub fed : AreFeeds 0 (streams_in plan.nodes) feeds
+pub record IsGoing (job : Job) (start feeds : List FeedState) (at : ℕ) (history : List Entry) (core : CoreState) (counts : Counts) : Type 0 where
+  pub fed : AreFeeds 0 (streams_in job.nodes) feeds
   pub same : AreSameFeeds start feeds
-  pub of_plan : core.plan ≡ plan_run plan
+  pub of_plan : core.plan ≡ plan_run job
   pub on : core.kept.stop ≡ None
   pub drained : core.kept.undrained ≡ []
-  pub ran : AllTold start → Ran plan (files_of start) history core (feeds_left (streams_in plan.nodes) feeds at) counts
+  pub ran : AllTold start → Ran job (files_of start) history core (feeds_left (streams_in job.nodes) feeds at) counts
 
-pub going_begins : (plan : Outline) (feeds : List FeedState) (at : ℕ) (core : CoreState) (counts : Counts) → AreFeeds 0 (streams_in plan.nodes) feeds → AreNew feeds → at ≡ 0 → IsFresh core (plan_run plan) most_arrivals → counts ≡ counts_of []
-    → IsGoing plan feeds feeds at [] core counts
-going_begins plan feeds at core counts f new first fresh none = record {
+pub going_begins : (job : Job) (feeds : List FeedState) (at : ℕ) (core : CoreState) (counts : Counts) → AreFeeds 0 (streams_in job.nodes) feeds → AreNew feeds → at ≡ 0 → IsFresh core (plan_run job) job.limit → counts ≡ counts_of []
+    → IsGoing job feeds feeds at [] core counts
+going_begins job feeds at core counts f new first fresh none = record {
   fed = f;
   same = all_same feeds;
   of_plan = fresh.of_plan;
   on = fresh.on;
   drained = fresh.undrained;
-  ran = λ told. begins plan feeds at core counts f new first fresh none;
+  ran = λ told. begins job feeds at core counts f new first fresh none;
 }
 
 -- the next turn, with what a call of the feeds gives
-module _ (plan : Outline) (start feeds feeds' : List FeedState) (at at' : ℕ) (history : List Entry) (core : CoreState) (counts : Counts) (next : Arrival) (going : IsGoing plan start feeds at history core counts)
+module _ (job : Job) (start feeds feeds' : List FeedState) (at at' : ℕ) (history : List Entry) (core : CoreState) (counts : Counts) (next : Arrival) (going : IsGoing job start feeds at history core counts)
     (gives : AllTold feeds → (streams : List PlanNode) → AreFeeds 0 streams feeds → feeds_left streams feeds at ≡ turn_in streams next ∷ feeds_left streams feeds' at') where
   pub going_of : BringsIn feeds (Some next) → IsTurnOf (streams_in core.plan.nodes) (turn_in (streams_in core.plan.nodes) next)
-  going_of brings = subst (λ (p : RunPlan). IsTurnOf (streams_in p.nodes) (turn_in (streams_in p.nodes) next)) (sym going.of_plan) (turn_of_feeds (streams_in plan.nodes) feeds next going.fed brings)
+  going_of brings = subst (λ (p : RunPlan). IsTurnOf (streams_in p.nodes) (turn_in (streams_in p.nodes) next)) (sym going.of_plan) (turn_of_feeds (streams_in job.nodes) feeds next going.fed brings)
 
-  pub going_next : AllTold start → Ran plan (files_of start) history core (turn_in (streams_in core.plan.nodes) next ∷ feeds_left (streams_in plan.nodes) feeds' at') counts
-  going_next told = ran_next plan (files_of start) history core counts next (feeds_left (streams_in plan.nodes) feeds at) (feeds_left (streams_in plan.nodes) feeds' at') (going.ran told) (gives (told_still start feeds going.same told) (streams_in plan.nodes) going.fed)
+  pub going_next : AllTold start → Ran job (files_of start) history core (turn_in (streams_in core.plan.nodes) next ∷ feeds_left (streams_in job.nodes) feeds' at') counts
+  going_next told = ran_next job (files_of start) history core counts next (feeds_left (streams_in job.nodes) feeds at) (feeds_left (streams_in job.nodes) feeds' at') (going.ran told) (gives (told_still start feeds going.same told) (streams_in job.nodes) going.fed)
 
-  pub going_more : IsPlanned plan → AreFeeds 0 (streams_in plan.nodes) feeds' → AreSameFeeds feeds feeds' → (core' : CoreState) (counts' : Counts) → TurnDone core core' (turn_in (streams_in core.plan.nodes) next) counts counts'
-      → IsGoing plan start feeds' at' (history ++ turn_behind core history (turn_in (streams_in core.plan.nodes) next)) core' counts'
+  pub going_more : IsPlanned job → AreFeeds 0 (streams_in job.nodes) feeds' → AreSameFeeds feeds feeds' → (core' : CoreState) (counts' : Counts) → TurnDone core core' (turn_in (streams_in core.plan.nodes) next) counts counts'
+      → IsGoing job start feeds' at' (history ++ turn_behind core history (turn_in (streams_in core.plan.nodes) next)) core' counts'
   going_more planned f' same' core' counts' done = record {
     fed = f';
     same = all_same_then start feeds feeds' going.same same';
     of_plan = done.makes.plan ∙ going.of_plan;
     on = done.makes.on.1;
     drained = done.makes.undrained;
-    ran = λ told. turn_made plan (files_of start) planned history core (turn_in (streams_in core.plan.nodes) next) (feeds_left (streams_in plan.nodes) feeds' at') counts (going_next told) core' counts' done;
+    ran = λ told. turn_made job (files_of start) planned history core (turn_in (streams_in core.plan.nodes) next) (feeds_left (streams_in job.nodes) feeds' at') counts (going_next told) core' counts' done;
   }
 
 -- a stream's turn could not be made
-pub going_stops : (plan : Outline) (planned : IsPlanned plan) (start feeds feeds' : List FeedState) (at : ℕ) (history : List Entry) (core : CoreState) (counts : Counts) (stop : FeedStop) (old new : SinkState) (before lines : List ℕ) → IsGoing plan start feeds at history core counts
-    → AreSameFeeds feeds feeds' → StopsIn feeds feeds' at old new stop → AllTold start → lines ≡ before ++ flat (out_lines (handed_out false (run_nodes plan) history)) → TurnsEnd (stop_at stop.stream stop.why) plan (files_of start) feeds' before lines
+pub going_stops : (job : Job) (planned : IsPlanned job) (start feeds feeds' : List FeedState) (at : ℕ) (history : List Entry) (core : CoreState) (counts : Counts) (stop : FeedStop) (old new : SinkState) (before lines : List ℕ) → IsGoing job start feeds at history core counts
+    → AreSameFeeds feeds feeds' → StopsIn feeds feeds' at old new stop → AllTold start → lines ≡ before ++ flat (out_lines job.nodes (handed_out job.trace (run_nodes job) history)) → TurnsEnd (stop_at stop.stream stop.why) job (files_of start) feeds' before lines
 unfolding ends_before
-going_stops plan planned start feeds feeds' at history core counts stop old new before lines going same s told written = go stop.why s.stops
+going_stops job planned start feeds feeds' at history core counts stop old new before lines going same s told written = go stop.why s.stops
   where
     told' : AllTold feeds
     told' = told_still start feeds going.same told
 
-    ran : Ran plan (files_of start) history core (feeds_left (streams_in plan.nodes) feeds at) counts
+    ran : Ran job (files_of start) history core (feeds_left (streams_in job.nodes) feeds at) counts
     ran = going.ran told
 
-    ends : EndsBefore plan (files_of start) stop.stream before lines
-    ends = let n = s.next told' (streams_in plan.nodes) going.fed in ends_before plan (files_of start) history core (feeds_left (streams_in plan.nodes) feeds at) counts n.0 n.1 stop.stream before lines ran n.2 n.3 written
+    ends : EndsBefore job (files_of start) stop.stream before lines
+    ends = let n = s.next told' (streams_in job.nodes) going.fed in ends_before job (files_of start) history core (feeds_left (streams_in job.nodes) feeds at) counts n.0 n.1 stop.stream before lines ran n.2 n.3 written
 
     arrived : arrived_at stop.stream history ≡ take (count_of s.old) (all_accepted s.old)
-    arrived = arrived_so_far plan planned (files_of start) history core feeds at counts stop.stream s.old ran going.fed (files_still start feeds going.same told) s.before s.still
+    arrived = arrived_so_far job planned (files_of start) history core feeds at counts stop.stream s.old ran going.fed (files_still start feeds going.same told) s.before s.still
 
-    go : (why : FeedWhy) → FeedEnds s.old s.new old new why → TurnsEnd (stop_at stop.stream why) plan (files_of start) feeds' before lines
+    go : (why : FeedWhy) → FeedEnds s.old s.new old new why → TurnsEnd (stop_at stop.stream why) job (files_of start) feeds' before lines
     go (Intake IntakeFault) f = (s.new, s.now, ends, arrived ∙ sym (f.1 (told_at feeds stop.stream s.old told' s.before)))
     go (Intake ByteLimit) f = ends
     go (Intake OutOfMemory) f = tt

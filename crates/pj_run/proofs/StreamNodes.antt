@@ -6,7 +6,7 @@ use Rattle.pj_scheme.specs.Derived.{schemes_of}
 use Rattle.pj_plan.specs.declared.node.Node.{Node as Operation}
 use Rattle.pj_plan.specs.declared.node.Node.TheVariants.{Stream as StreamNode, Select as SelectNode, Project as ProjectNode, Union as UnionNode, Join as JoinNode, Group as GroupNode}
 use Rattle.pj_plan.specs.declared.node.PlanNode.{PlanNode}
-use Rattle.pj_plan.specs.declared.node.Outline.{Outline}
+use Rattle.pj_run.specs.Jobs.{Job}
 use Rattle.pj_plan.specs.Nodes.{is_stream, numbers_from, streams_of}
 use Rattle.pj_events.specs.History.{is_stream as is_fed, streams_from, streams_of as streams_among}
 use Rattle.pj_core.specs.Plans.{certs_behind, nodes_with, operator_of}
@@ -28,5 +28,5 @@ same-from schemes certs n (node ∷ nodes) =
     ∙ ap (λ (b : Bool). cond b (n ∷ numbers_from is_stream (n + 1) nodes) (numbers_from is_stream (n + 1) nodes)) (same_sort schemes (get_or certs 0 []) node.schema node.node)
 
 -- the laws number the streams as the plan does
-pub same-numbers : (plan : Outline) → streams_among (run_nodes plan) ≡ streams_of plan.nodes
-same-numbers plan = same-from (schemes_of plan.nodes) (certificates_of plan.nodes) 0 plan.nodes
+pub same-numbers : (job : Job) → streams_among (run_nodes job) ≡ streams_of job.nodes
+same-numbers job = same-from (schemes_of job.nodes) (certificates_of job.nodes) 0 job.nodes

@@ -1,5 +1,5 @@
 -- The lines of the streams of a report, one stream after the other.
-use Rattle.pj_plan.specs.declared.node.Outline.{Outline}
+use Rattle.pj_run.specs.Jobs.{Job}
 use Rattle.pj_plan.specs.declared.node.PlanNode.{PlanNode}
 use Rattle.pj_plan.specs.Nodes.{streams_of, streams_in}
 use Rattle.std.proofs.Common.{◌≡◌, ℕ, zero, suc, ◌+◌, ◌≤◌, ◌<◌, List, [], ◌∷◌, ◌++◌, length, take, drop, get_or, refl, ap, ap₂, sym, ◌∙◌, append_assoc, append-nil, arith}
@@ -49,8 +49,8 @@ streams-lines (s ∷ streams) [] = refl
 streams-lines (s ∷ streams) (f ∷ files) = ap (λ (ls : List (List ℕ)). stream_lines s.name (tally_of (fates_of s.schema f)) ++ ls) (streams-lines streams files)
 
 -- the report of a run that was made to its end
-pub report_is : (plan : Outline) (files : List (List ℕ)) (tallies : List Tally) (counts : Counts) → IsOutcome plan files tallies counts
-    → report_lines (plan_run plan) tallies counts (history_of plan files) ≡ report_of plan files (outputs_of plan files)
-report_is plan files tallies counts o =
-    ap (λ (ls : List (List ℕ)). ls ++ results_text counts.rows counts.puncts ∷ [] ++ peaks_report (plan_run plan) (history_of plan files)) (ap (tally_lines (streams_in plan.nodes)) o.each ∙ streams-lines (streams_in plan.nodes) files)
-    ∙ ap (λ (c : Counts). streams_report (streams_in plan.nodes) files ++ results_text c.rows c.puncts ∷ [] ++ peaks_report (plan_run plan) (history_of plan files)) o.results
+pub report_is : (job : Job) (files : List (List ℕ)) (tallies : List Tally) (counts : Counts) → IsOutcome job files tallies counts
+    → report_lines (plan_run job) tallies counts (history_of job files) ≡ report_of job files (outputs_of job files)
+report_is job files tallies counts o =
+    ap (λ (ls : List (List ℕ)). ls ++ results_text counts.rows counts.puncts ∷ [] ++ peaks_report (plan_run job) (history_of job files)) (ap (tally_lines (streams_in job.nodes)) o.each ∙ streams-lines (streams_in job.nodes) files)
+    ∙ ap (λ (c : Counts). streams_report (streams_in job.nodes) files ++ results_text c.rows c.puncts ∷ [] ++ peaks_report (plan_run job) (history_of job files)) o.results

@@ -2,8 +2,8 @@
 use Rattle.pj_plan.specs.declared.node.PlanNode.{PlanNode}
 use Rattle.pj_plan.specs.Nodes.{streams_of, streams_in}
 use Rattle.pj_pattern.specs.declared.element.Element.{Element}
-use Rattle.pj_core.specs.Plans.{nodes_of}
-use Rattle.std.proofs.Common.{◌≡◌, ◌<◌, ℕ, List, [], ◌++◌, length, Option, Some, None, Result, Ok, Err, IfOk, IfErr, IsTrue, ap, sym, ◌∙◌, append-nil, subst, arith}
+use Rattle.pj_core.specs.Plans.{RunPlan, nodes_of}
+use Rattle.std.proofs.Common.{◌≡◌, ◌<◌, ℕ, List, [], ◌++◌, length, Option, Some, None, Result, Ok, Err, IfOk, IfErr, OnOk, IsTrue, refl, ap, sym, ◌∙◌, append-nil, subst, arith}
 use Rattle.pj_io.specs.States.{SinkState}
 use Rattle.pj_events.specs.declared.events.Entry.{Entry}
 use Rattle.pj_events.specs.declared.events.Out.{Out}
@@ -21,11 +21,15 @@ use Rattle.pj_feed.specs.declared.feeds.Arrival.TheVariants.{Brought, Closing}
 use Rattle.pj_report.specs.declared.stops.WriteStop.{WriteStop}
 use Rattle.pj_report.specs.declared.stops.WriteStop.TheVariants.{Failed, NoMemory as WriteMemory}
 use Rattle.pj_feed.specs.Feeds.{turn_in}
-use Rattle.pj_report.specs.Results.{out_lines}
-use Rattle.pj_run.specs.Stops.{of_core, of_write}
-use Rattle.pj_run.specs.Turning.{IsTurnOf, StopsBehind, Turned, TurnStops, turn_outs}
+use Rattle.pj_report.specs.Results.{counts_of, out_lines}
+use Rattle.pj_run.specs.Stops.{end_of, of_core, of_write}
+use Rattle.pj_run.specs.declared.stops.TurnStop.{TurnStop}
+use Rattle.pj_run.specs.declared.stops.TurnStop.TheVariants.{Limit as TurnLimit, WriteFailed as TurnFailed, NoMemory as TurnMemory, Cut as TurnCut}
+use Rattle.pj_report.specs.declared.results.Counts.{Counts}
+use Rattle.pj_events.specs.Outcomes.{elements_out}
+use Rattle.pj_run.specs.Turning.{IsTurnOf, CutsTurn, StopsBehind, Turned, TurnDone, TurnStops, TurnStopsBehind, turn_outs}
 use Rattle.pj_run.specs.Cuts.{turn_cut}
-use Rattle.pj_report.specs.Written.{flat, Cut, Leaves, write_cut}
+use Rattle.pj_report.specs.Written.{anywhere, between, flat, Cut, FrontOf, Leaves, WritesBy, write_cut}
 use Rattle.pj_run.proofs.Carried.{write_cut_same}
 use Rattle.pj_report.proofs.Counting.{out_lines-append}
 use Rattle.pj_report.proofs.LinesWritten.{first_written, stop_first}
@@ -52,6 +56,9 @@ refused_plan (Some s) old new turn stop refused = ap (λ (c : CoreState). c.plan
 pub turn_plan : (old new : CoreState) (turn : Turn) (result : Result (List Out) Stop) → IfOk result (λ outs. MakesTurn old new turn outs) → IfErr result (λ stop. IsTurnRefused old.kept.stop old new turn stop) → new.plan ≡ old.plan
 turn_plan old new turn (Ok outs) made refused = made.plan
 turn_plan old new turn (Err stop) made refused = refused_plan old.kept.stop old new turn stop refused
+
+pub same_nodes : {old new : RunPlan} → new ≡ old → new.nodes ≡ old.nodes
+same_nodes same = ap (λ (p : RunPlan). p.nodes) same
 
 -- ---- what a turn hands out
 
@@ -85,22 +92,42 @@ outs_front old new turn outs (Some stop) history drained turned stands may =
     let others : List Out = outputs_of old.plan.trace (nodes_from nodes f.front) f.back in
     (others, ap (λ (xs : List Out). xs ++ others) f.outs_are ∙ (sym (outputs-append old.plan.trace nodes f.front f.back) ∙ ap (outputs_of old.plan.trace nodes) (sym f.parts)))
 
+-- a turn that was made hands out all
+whole_turn : (old new : CoreState) (turn : Turn) (outs : List Out) (stop : Option Stop) (history : List Entry) → stop ≡ None → old.kept.undrained ≡ [] → Turned old new turn outs stop → StandsFor old history → MayFollow old history (arrival_of turn)
+    → outs ≡ turn_outs old history turn
+whole_turn old new turn outs stop history none drained turned stands may =
+    let made = subst (Turned old new turn outs) none turned in
+    made.hands history stands may ∙ ap (λ (xs : List Out). xs ++ turn_outs old history turn) drained
+
 module _ (old new : CoreState) (turn : Turn) (outs slice : List Out) (stop : Option Stop) (history : List Entry) (drained : old.kept.undrained ≡ []) (turned : Turned old new turn outs stop) (is : slice ≡ outs) (stands : StandsFor old history) (may : MayFollow old history (arrival_of turn)) where
-  lines_front : (others : List Out) × (out_lines slice ++ out_lines others ≡ out_lines (turn_outs old history turn))
+  lines_front : (others : List Out) × (out_lines old.plan.nodes slice ++ out_lines old.plan.nodes others ≡ out_lines old.plan.nodes (turn_outs old history turn))
   lines_front =
       let f = outs_front old new turn outs stop history drained turned stands may in
-      (f.0, ap (λ (xs : List Out). out_lines xs ++ out_lines f.0) is ∙ (sym (out_lines-append outs f.0) ∙ ap out_lines f.1))
+      (f.0, ap (λ (xs : List Out). out_lines old.plan.nodes xs ++ out_lines old.plan.nodes f.0) is ∙ (sym (out_lines-append old.plan.nodes outs f.0) ∙ ap (out_lines old.plan.nodes) f.1))
 
   -- a stop while the lines are written
-  pub write_stopped : (why : WriteStop) (before after : List ℕ) → Leaves (write_cut why) (out_lines slice) before after → Leaves (turn_cut (of_write why)) (out_lines (turn_outs old history turn)) before after
+  pub write_stopped : (why : WriteStop) (before after : List ℕ) → Leaves (write_cut why) (out_lines old.plan.nodes slice) before after → Leaves (turn_cut (of_write why)) (out_lines old.plan.nodes (turn_outs old history turn)) before after
   write_stopped why before after written =
-      subst (λ (cut : Cut). Leaves cut (out_lines (turn_outs old history turn)) before after) (sym (write_cut_same why))
-      (stop_first (write_cut why) (out_lines slice) (out_lines lines_front.0) (out_lines (turn_outs old history turn)) before after written lines_front.1)
+      subst (λ (cut : Cut). Leaves cut (out_lines old.plan.nodes (turn_outs old history turn)) before after) (sym (write_cut_same why))
+      (stop_first (write_cut why) (out_lines old.plan.nodes slice) (out_lines old.plan.nodes lines_front.0) (out_lines old.plan.nodes (turn_outs old history turn)) before after written lines_front.1)
 
-  -- the core stopped, and what it had handed out was written
-  pub core_stopped : (why : Stop) (before after : List ℕ) → after ≡ before ++ flat (out_lines slice) → Leaves (turn_cut (of_core why)) (out_lines (turn_outs old history turn)) before after
-  core_stopped why before after written =
-      first_written (turn_cut (of_core why)) (out_lines slice) (out_lines lines_front.0) (out_lines (turn_outs old history turn)) before after written lines_front.1
+  -- the lines that the turn's end leaves
+  pub end_leaves : (written : Result (Unit {0}) WriteStop) (given : Option Stop) (result : Result (Unit {0}) TurnStop) (before after : SinkState) → given ≡ stop → result ≡ end_of written given
+      → WritesBy write_cut (out_lines old.plan.nodes slice) before after written → WritesBy turn_cut (out_lines old.plan.nodes (turn_outs old history turn)) before after result
+  end_leaves written given result before after same gives wrote = subst (WritesBy turn_cut (out_lines old.plan.nodes (turn_outs old history turn)) before after) (sym gives) (go written given same wrote)
+    where
+      all : List (List ℕ)
+      all = out_lines old.plan.nodes (turn_outs old history turn)
+
+      none_stopped : stop ≡ None → out_lines old.plan.nodes slice ≡ all
+      none_stopped none = ap (out_lines old.plan.nodes) (is ∙ whole_turn old new turn outs stop history none drained turned stands may)
+
+      go : (w : Result (Unit {0}) WriteStop) (g : Option Stop) → g ≡ stop → WritesBy write_cut (out_lines old.plan.nodes slice) before after w → WritesBy turn_cut all before after (end_of w g)
+      go (Ok u) None e wrote = wrote ∙ ap (λ (ls : List (List ℕ)). before.written ++ flat ls) (none_stopped (sym e))
+      go (Err why) None e wrote = write_stopped why before.written after.written wrote
+      go (Ok u) (Some why) e wrote = first_written (turn_cut (of_core why)) (out_lines old.plan.nodes slice) (out_lines old.plan.nodes lines_front.0) all before.written after.written wrote lines_front.1
+      go (Err Failed) (Some why) e wrote = stop_first anywhere (out_lines old.plan.nodes slice) (out_lines old.plan.nodes lines_front.0) all before.written after.written wrote lines_front.1
+      go (Err WriteMemory) (Some why) e wrote = stop_first between (out_lines old.plan.nodes slice) (out_lines old.plan.nodes lines_front.0) all before.written after.written wrote lines_front.1
 
 -- a failed write says no more of the turn
 pub write_stops : (why : WriteStop) (core : CoreState) (history : List Entry) (turn : Turn) (old new : SinkState) → TurnStops (of_write why) core history turn old new
@@ -108,19 +135,66 @@ write_stops Failed core history turn old new = tt
 write_stops WriteMemory core history turn old new = tt
 
 -- at a limit exactly the lines of what came before it were written
-pub core_stops : (why : Stop) (core : CoreState) (turn : Turn) (outs slice : List Out) (old new : SinkState) → StopsBehind core turn outs why → slice ≡ outs → (IsTrue new.told → new.written ≡ old.written ++ flat (out_lines slice))
+pub core_stops : (why : Stop) (core : CoreState) (turn : Turn) (outs slice : List Out) (old new : SinkState) → StopsBehind core turn outs why → slice ≡ outs → (IsTrue new.told → new.written ≡ old.written ++ flat (out_lines core.plan.nodes slice))
     → (history : List Entry) → StandsFor core history → MayFollow core history (arrival_of turn) → TurnStops (of_core why) core history turn old new
 core_stops (Limit node) core turn outs slice old new stops is written history stands may =
     let f = stops.hands history stands may in
     record {
-      front = f.front;
-      back = f.back;
-      parts = f.parts;
-      within = f.within;
-      beyond = f.stops;
-      written = λ told. written told ∙ ap (λ (os : List Out). old.written ++ flat (out_lines os)) (is ∙ f.outs_are);
+      breaks = record { front = f.front; back = f.back; parts = f.parts; within = f.within; beyond = f.stops };
+      written = λ told. written told ∙ ap (λ (os : List Out). old.written ++ flat (out_lines core.plan.nodes os)) (is ∙ f.outs_are);
     }
 core_stops NoMemory core turn outs slice old new stops is written history stands may = tt
 
-pub turned_stops : (old new : CoreState) (turn : Turn) (outs : List Out) (given : Option Stop) (stop : Stop) → given ≡ Some stop → Turned old new turn outs given → StopsBehind old turn outs stop
-turned_stops old new turn outs given stop is turned = subst (Turned old new turn outs) is turned
+-- where the output failed then, a front of these lines was written
+pub cut_stops : (why : Stop) (core : CoreState) (turn : Turn) (outs slice : List Out) (old new : SinkState) → StopsBehind core turn outs why → slice ≡ outs → (IsTrue new.told → FrontOf (flat (out_lines core.plan.nodes slice)) old.written new.written)
+    → (history : List Entry) → StandsFor core history → MayFollow core history (arrival_of turn) → CutsTurn why core history turn old new
+cut_stops (Limit node) core turn outs slice old new stops is written history stands may =
+    let f = stops.hands history stands may in
+    record {
+      breaks = record { front = f.front; back = f.back; parts = f.parts; within = f.within; beyond = f.stops };
+      written = λ told. subst (λ (os : List Out). FrontOf (flat (out_lines core.plan.nodes os)) old.written new.written) (is ∙ f.outs_are) (written told);
+    }
+cut_stops NoMemory core turn outs slice old new stops is written history stands may = tt
+
+-- what the turn's end says of the stop
+pub end_stops : (old new : CoreState) (turn : Turn) (outs slice : List Out) (given : Option Stop) (written : Result (Unit {0}) WriteStop) (result : Result (Unit {0}) TurnStop) (before after : SinkState) → Turned old new turn outs given → slice ≡ outs
+    → result ≡ end_of written given → (IsTrue after.told → WritesBy write_cut (out_lines old.plan.nodes slice) before after written)
+    → IfErr result (λ stop. TurnStopsBehind stop old turn before after)
+end_stops old new turn outs slice given written result before after turned is gives wrote = subst (λ (r : Result (Unit {0}) TurnStop). IfErr r (λ stop. TurnStopsBehind stop old turn before after)) (sym gives) (go given written turned wrote)
+  where
+    go : (g : Option Stop) (w : Result (Unit {0}) WriteStop) → Turned old new turn outs g → (IsTrue after.told → WritesBy write_cut (out_lines old.plan.nodes slice) before after w) → IfErr (end_of w g) (λ stop. TurnStopsBehind stop old turn before after)
+    go None (Ok u) turned wrote = tt
+    go None (Err why) turned wrote = λ history stands may. write_stops why old history turn before after
+    go (Some stop) (Ok u) turned wrote = core_stops stop old turn outs slice before after turned is wrote
+    go (Some stop) (Err Failed) turned wrote = cut_stops stop old turn outs slice before after turned is wrote
+    go (Some stop) (Err WriteMemory) turned wrote = λ history stands may. tt
+
+-- a turn without a stop was made, and counted
+pub end_done : (old new : CoreState) (turn : Turn) (outs slice : List Out) (given : Option Stop) (written : Result (Unit {0}) WriteStop) (result : Result (Unit {0}) TurnStop) (first then : Counts) → Turned old new turn outs given → slice ≡ outs → result ≡ end_of written given
+    → OnOk written ((before : List Element) → first ≡ counts_of before → then ≡ counts_of (before ++ elements_out slice)) → OnOk result (TurnDone old new turn first then)
+end_done old new turn outs slice given written result first then turned is gives counted = subst (λ (r : Result (Unit {0}) TurnStop). OnOk r (TurnDone old new turn first then)) (sym gives) (go given written turned counted)
+  where
+    go : (g : Option Stop) (w : Result (Unit {0}) WriteStop) → Turned old new turn outs g → OnOk w ((before : List Element) → first ≡ counts_of before → then ≡ counts_of (before ++ elements_out slice)) → OnOk (end_of w g) (TurnDone old new turn first then)
+    go None (Ok u) turned counted = record { outs = outs; makes = turned; counted = λ es same. counted es same ∙ ap (λ (os : List Out). counts_of (es ++ elements_out os)) is }
+    go None (Err why) turned counted = tt
+    go (Some stop) (Ok u) turned counted = tt
+    go (Some stop) (Err Failed) turned counted = tt
+    go (Some stop) (Err WriteMemory) turned counted = tt
+
+-- the sink's faults rose with a write that failed, behind a stop or not
+pub end_fault : (given : Option Stop) (written : Result (Unit {0}) WriteStop) (result : Result (Unit {0}) TurnStop) (rose : Type 0) → result ≡ end_of written given → (written ≡ Err Failed → rose) → result ≡ Err TurnFailed → rose
+end_fault None (Ok u) result rose gives failed is = absurd (let e : Ok u ≡ Err TurnFailed = sym gives ∙ is in cc)
+end_fault None (Err Failed) result rose gives failed is = failed refl
+end_fault None (Err WriteMemory) result rose gives failed is = absurd (let e : Err TurnMemory ≡ Err TurnFailed = sym gives ∙ is in cc)
+end_fault (Some (Limit node)) (Ok u) result rose gives failed is = absurd (let e : Err (TurnLimit node) ≡ Err TurnFailed = sym gives ∙ is in cc)
+end_fault (Some NoMemory) (Ok u) result rose gives failed is = absurd (let e : Err TurnMemory ≡ Err TurnFailed = sym gives ∙ is in cc)
+end_fault (Some stop) (Err Failed) result rose gives failed is = failed refl
+end_fault (Some stop) (Err WriteMemory) result rose gives failed is = absurd (let e : Err TurnMemory ≡ Err TurnFailed = sym gives ∙ is in cc)
+
+pub end_cut : (given : Option Stop) (written : Result (Unit {0}) WriteStop) (result : Result (Unit {0}) TurnStop) (stop : Stop) (rose : Type 0) → result ≡ end_of written given → (written ≡ Err Failed → rose) → result ≡ Err (TurnCut stop) → rose
+end_cut given (Err Failed) result stop rose gives failed is = failed refl
+end_cut None (Ok u) result stop rose gives failed is = absurd (let e : Ok u ≡ Err (TurnCut stop) = sym gives ∙ is in cc)
+end_cut None (Err WriteMemory) result stop rose gives failed is = absurd (let e : Err TurnMemory ≡ Err (TurnCut stop) = sym gives ∙ is in cc)
+end_cut (Some (Limit node)) (Ok u) result stop rose gives failed is = absurd (let e : Err (TurnLimit node) ≡ Err (TurnCut stop) = sym gives ∙ is in cc)
+end_cut (Some NoMemory) (Ok u) result stop rose gives failed is = absurd (let e : Err TurnMemory ≡ Err (TurnCut stop) = sym gives ∙ is in cc)
+end_cut (Some other) (Err WriteMemory) result stop rose gives failed is = absurd (let e : Err TurnMemory ≡ Err (TurnCut stop) = sym gives ∙ is in cc)

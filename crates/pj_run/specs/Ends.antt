@@ -1,39 +1,44 @@
 -- Where a run that stopped ends: which front of the history's outputs it has written.
-use Rattle.std.specs.Prelude.{◌≡◌, ℕ, false, take, List, [], ◌∷◌, ◌++◌, slice_index_or}
-use Rattle.pj_plan.specs.declared.node.Outline.{Outline}
+use Rattle.std.specs.Prelude.{◌≡◌, ℕ, take, List, [], ◌∷◌, ◌++◌, slice_index_or}
+use Rattle.pj_run.specs.Jobs.{Job}
 use Rattle.pj_plan.specs.Nodes.{stream_columns, streams_in}
 use Rattle.pj_pattern.specs.declared.element.Element.{Element}
-use Rattle.pj_element.specs.Runs.{element_lines}
 use Rattle.pj_events.specs.declared.events.Entry.{Entry}
 use Rattle.pj_events.specs.declared.events.Event.TheVariants.{Arrive}
 use Rattle.pj_events.specs.Limits.{ReachesLimit}
-use Rattle.pj_events.specs.Outcomes.{elements_out, outputs_of as handed_out, elements_of as arrived_at}
+use Rattle.pj_events.specs.Outcomes.{outputs_of as handed_out, elements_of as arrived_at}
 use Rattle.pj_feed.specs.Feeds.{fed_elements}
-use Rattle.pj_run.specs.Runs.{history_of, most_arrivals, run_nodes}
-use Rattle.pj_report.specs.Written.{flat}
+use Rattle.pj_run.specs.Runs.{history_of, run_nodes}
+use Rattle.pj_report.specs.Results.{out_lines}
+use Rattle.pj_report.specs.Written.{flat, FrontOf}
 
 -- the lines of what a history hands out
-abbrev pub lines_until : Outline → List Entry → List ℕ
-lines_until plan front = flat (element_lines (elements_out (handed_out false (run_nodes plan) front)))
+abbrev pub lines_until : Job → List Entry → List ℕ
+lines_until job front = flat (out_lines job.nodes (handed_out job.trace (run_nodes job) front))
 
 -- the lines are those of the outputs of a front of the run's history, which ends before a turn of this stream
-pub record EndsBefore (plan : Outline) (files : List (List ℕ)) (stream : ℕ) (before lines : List ℕ) : Type 0 where
+pub record EndsBefore (job : Job) (files : List (List ℕ)) (stream : ℕ) (before lines : List ℕ) : Type 0 where
   pub front : List Entry
   pub next : Entry
   pub back : List Entry
-  pub run : front ++ next ∷ back ≡ history_of plan files
+  pub run : front ++ next ∷ back ≡ history_of job files
   pub element : Element
   pub turn : next.event ≡ Arrive stream element
-  pub written : lines ≡ before ++ lines_until plan front
+  pub written : lines ≡ before ++ lines_until job front
 
 -- the lines are those of the outputs of the front of the run's history that ends before the first step which brings an element
 -- beyond the limit, at this node
-pub record EndsAtLimit (plan : Outline) (files : List (List ℕ)) (node : ℕ) (before lines : List ℕ) : Type 0 where
-  pub reaches : ReachesLimit most_arrivals (run_nodes plan) (history_of plan files) node
-  pub written : lines ≡ before ++ lines_until plan reaches.front
+pub record EndsAtLimit (job : Job) (files : List (List ℕ)) (node : ℕ) (before lines : List ℕ) : Type 0 where
+  pub reaches : ReachesLimit job.limit (run_nodes job) (history_of job files) node
+  pub written : lines ≡ before ++ lines_until job reaches.front
+
+-- such a front's lines were to be written, and a front of their bytes was
+pub record EndsCut (job : Job) (files : List (List ℕ)) (node : ℕ) (before lines : List ℕ) : Type 0 where
+  pub reaches : ReachesLimit job.limit (run_nodes job) (history_of job files) node
+  pub written : FrontOf (lines_until job reaches.front) before lines
 
 -- in this history exactly the elements arrived at the stream that are accepted of the lines that end with a line feed in so many
 -- bytes of its file
-abbrev pub ArrivedOf : Outline → List (List ℕ) → ℕ → ℕ → List Entry → Type 0
-ArrivedOf plan files stream taken front =
-    arrived_at stream front ≡ fed_elements (stream_columns (streams_in plan.nodes) stream) (take taken (slice_index_or files stream []))
+abbrev pub ArrivedOf : Job → List (List ℕ) → ℕ → ℕ → List Entry → Type 0
+ArrivedOf job files stream taken front =
+    arrived_at stream front ≡ fed_elements (stream_columns (streams_in job.nodes) stream) (take taken (slice_index_or files stream []))

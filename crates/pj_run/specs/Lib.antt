@@ -1,4 +1,5 @@
 pub mod Ends
+pub mod Jobs
 pub mod Outcome
 pub mod PlanNames
 pub mod RunEnds

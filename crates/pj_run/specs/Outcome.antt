@@ -1,6 +1,6 @@
 -- What a run that was made to its end leaves for its report.
 use Rattle.std.specs.Prelude.{◌≡◌, ℕ, List, [], ◌∷◌, ◌++◌, Result, IsTrue}
-use Rattle.pj_plan.specs.declared.node.Outline.{Outline}
+use Rattle.pj_run.specs.Jobs.{Job}
 use Rattle.pj_plan.specs.declared.node.PlanNode.{PlanNode}
 use Rattle.pj_core.specs.Plans.{RunPlan}
 use Rattle.pj_plan.specs.Nodes.{streams_in}
@@ -17,9 +17,9 @@ use Rattle.pj_report.specs.Report.{stream_lines, results_text}
 use Rattle.pj_run.specs.Runs.{outputs_of, peaks_report}
 
 -- the counts of each stream, and those of the outputs
-pub record IsOutcome (plan : Outline) (files : List (List ℕ)) (tallies : List Tally) (counts : Counts) : Type 0 where
-  pub each : tallies ≡ tallies_of (streams_in plan.nodes) files
-  pub results : counts ≡ counts_of (outputs_of plan files)
+pub record IsOutcome (job : Job) (files : List (List ℕ)) (tallies : List Tally) (counts : Counts) : Type 0 where
+  pub each : tallies ≡ tallies_of (streams_in job.nodes) files
+  pub results : counts ≡ counts_of (outputs_of job files)
 
 -- the lines of streams with these counts
 abbrev pub tally_lines : List PlanNode → List Tally → List (List ℕ)

@@ -1,10 +1,12 @@
 -- How a run over files ends, and why.
 use Rattle.std.specs.Prelude.{◌≡◌, ◌<◌, ◌≤◌, ◌^◌, ℕ, ⊤, List, [], length, Result, Ok, Err, Some, IsTrue, IfErr, slice_get, slice_index_or}
-use Rattle.pj_plan.specs.declared.node.Outline.{Outline}
+use Rattle.pj_run.specs.Jobs.{Job}
 use Rattle.pj_io.specs.Causes.{Rose}
 use Rattle.pj_io.specs.States.{FolderState, SinkState}
 use Rattle.pj_run.specs.declared.stops.RunStop.{RunStop}
-use Rattle.pj_run.specs.declared.stops.RunStop.TheVariants.{ReadFault, TooLarge, Limit, WriteFailed, NoMemory}
+use Rattle.pj_run.specs.declared.stops.RunStop.TheVariants.{ReadFault, TooLarge, Limit, WriteFailed, NoMemory, Cut}
+use Rattle.pj_events.specs.declared.events.Stop.{Stop}
+use Rattle.pj_events.specs.declared.events.Stop.TheVariants.{Limit as CoreLimit, NoMemory as CoreMemory}
 use Rattle.pj_feed.specs.declared.stops.OpeningStop.TheVariants.{Fault, NoMemory as OpeningMemory}
 use Rattle.pj_run.specs.declared.stops.FilesStop.{FilesStop}
 use Rattle.pj_run.specs.declared.stops.FilesStop.TheVariants.{Opening, Run}
@@ -13,7 +15,7 @@ use Rattle.pj_run.specs.Ends.{EndsBefore, EndsAtLimit, ArrivedOf}
 use Rattle.pj_feed.specs.Feeds.{FeedState, AreSameFeeds, AreAllTaken, AllTold, bytes_of, files_of}
 use Rattle.pj_feed.specs.Opened.{HasLasts, OpensFirst, OpensAtMost}
 use Rattle.pj_run.specs.Runs.{GoesBeyond, run_lines}
-use Rattle.pj_run.specs.Turning.{TurnsEnd}
+use Rattle.pj_run.specs.Turning.{CutEnd, TurnsEnd}
 use Rattle.pj_run.specs.Cuts.{run_cut, files_cut}
 use Rattle.pj_report.specs.Written.{WritesBy}
 
@@ -24,19 +26,25 @@ abbrev pub FeedsWrite : {T : Type 0} → List FeedState → List (List ℕ) → 
 FeedsWrite feeds lines old new result = AllTold feeds → IsTrue new.told → WritesBy run_cut lines old new result
 
 -- where the files and the sink are told: what the stop of a run's turns leaves of the sink and of the feeds
-abbrev pub StoppedTurns : {T : Type 0} → Outline → List FeedState → List FeedState → SinkState → SinkState → Result T RunStop → Type 0
-StoppedTurns plan olds news old new result =
-    AllTold olds → IsTrue new.told → IfErr result (λ stop. TurnsEnd stop plan (files_of olds) news old.written new.written)
+abbrev pub StoppedTurns : {T : Type 0} → Job → List FeedState → List FeedState → SinkState → SinkState → Result T RunStop → Type 0
+StoppedTurns job olds news old new result =
+    AllTold olds → IsTrue new.told → IfErr result (λ stop. TurnsEnd stop job (files_of olds) news old.written new.written)
+
+-- why a core stopped whose last lines could not be written
+abbrev pub CutCause : Stop → Job → List (List ℕ) → Type 0
+CutCause (CoreLimit node) job files = GoesBeyond job files node
+CutCause CoreMemory job files = ⊤
 
 -- why the turns of a run stopped: a source's faults rose, a file gave too many bytes, an element went beyond a limit, or the sink's
 -- faults rose; memory may be wanting at any time
-abbrev pub TurnsCause : RunStop → Outline → List FeedState → List FeedState → SinkState → SinkState → Type 0
-TurnsCause (ReadFault stream) plan olds news old new = (feed : FeedState) × (slice_get news stream ≡ Some feed) × (1 ≤ feed.source.faults)
-TurnsCause (TooLarge stream) plan olds news old new =
+abbrev pub TurnsCause : RunStop → Job → List FeedState → List FeedState → SinkState → SinkState → Type 0
+TurnsCause (ReadFault stream) job olds news old new = (feed : FeedState) × (slice_get news stream ≡ Some feed) × (1 ≤ feed.source.faults)
+TurnsCause (TooLarge stream) job olds news old new =
     (feed : FeedState) × (slice_get olds stream ≡ Some feed) × (IsTrue feed.source.told → 2 ^ 40 ≤ length (bytes_of feed))
-TurnsCause (Limit node) plan olds news old new = AllTold olds → GoesBeyond plan (files_of olds) node
-TurnsCause WriteFailed plan olds news old new = Rose old.faults new.faults
-TurnsCause NoMemory plan olds news old new = ⊤
+TurnsCause (Limit node) job olds news old new = AllTold olds → GoesBeyond job (files_of olds) node
+TurnsCause WriteFailed job olds news old new = Rose old.faults new.faults
+TurnsCause NoMemory job olds news old new = ⊤
+TurnsCause (Cut stop) job olds news old new = Rose old.faults new.faults × (AllTold olds → CutCause stop job (files_of olds))
 
 -- all bytes of the files were taken, and they were closed
 pub record AreRead (feeds : List FeedState) (before after : FolderState) : Type 0 where
@@ -46,26 +54,27 @@ pub record AreRead (feeds : List FeedState) (before after : FolderState) : Type 
   pub lasts : HasLasts news before.last after.last
 
 -- what the stop of a run over feeds leaves of the sink and the folder
-pub record FeedsEnd (stop : RunStop) (plan : Outline) (feeds : List FeedState) (before after : FolderState) (written lines : List ℕ) : Type 0 where
+pub record FeedsEnd (stop : RunStop) (job : Job) (feeds : List FeedState) (before after : FolderState) (written lines : List ℕ) : Type 0 where
   pub news : List FeedState
   pub same : AreSameFeeds feeds news
-  pub ends : TurnsEnd stop plan (files_of feeds) news written lines
+  pub ends : TurnsEnd stop job (files_of feeds) news written lines
   pub lasts : HasLasts news before.last after.last
 
 -- the same, where the files and the sink are told
-abbrev pub StoppedFeeds : {T : Type 0} → Outline → List FeedState → FolderState → FolderState → SinkState → SinkState → Result T RunStop → Type 0
-StoppedFeeds plan feeds before after old new result =
-    AllTold feeds → IsTrue new.told → IfErr result (λ stop. FeedsEnd stop plan feeds before after old.written new.written)
+abbrev pub StoppedFeeds : {T : Type 0} → Job → List FeedState → FolderState → FolderState → SinkState → SinkState → Result T RunStop → Type 0
+StoppedFeeds job feeds before after old new result =
+    AllTold feeds → IsTrue new.told → IfErr result (λ stop. FeedsEnd stop job feeds before after old.written new.written)
 
 -- why it stopped, where the faults of a file were added to those of its name
-abbrev pub FeedsCause : RunStop → Outline → List FeedState → FolderState → FolderState → SinkState → SinkState → Type 0
-FeedsCause (ReadFault stream) plan feeds before after old new =
+abbrev pub FeedsCause : RunStop → Job → List FeedState → FolderState → FolderState → SinkState → SinkState → Type 0
+FeedsCause (ReadFault stream) job feeds before after old new =
     (feed : FeedState) × (slice_get feeds stream ≡ Some feed) × Rose (before.faults feed.source.name) (after.faults feed.source.name)
-FeedsCause (TooLarge stream) plan feeds before after old new =
+FeedsCause (TooLarge stream) job feeds before after old new =
     (feed : FeedState) × (slice_get feeds stream ≡ Some feed) × (IsTrue feed.source.told → 2 ^ 40 ≤ length (bytes_of feed))
-FeedsCause (Limit node) plan feeds before after old new = AllTold feeds → GoesBeyond plan (files_of feeds) node
-FeedsCause WriteFailed plan feeds before after old new = Rose old.faults new.faults
-FeedsCause NoMemory plan feeds before after old new = ⊤
+FeedsCause (Limit node) job feeds before after old new = AllTold feeds → GoesBeyond job (files_of feeds) node
+FeedsCause WriteFailed job feeds before after old new = Rose old.faults new.faults
+FeedsCause NoMemory job feeds before after old new = ⊤
+FeedsCause (Cut stop) job feeds before after old new = Rose old.faults new.faults × (AllTold feeds → CutCause stop job (files_of feeds))
 
 -- ---- over files by their names
 
@@ -77,27 +86,28 @@ FilesOpened (Err (Opening OpeningMemory)) names before after = OpensAtMost (leng
 FilesOpened (Err (Run stop)) names before after = OpensFirst (length names) names before after
 
 -- where the files and the sink are told: all lines of the run over these files were written, or as much of them as the stop leaves
-abbrev pub FilesWrite : {T : Type 0} → Outline → List (List ℕ) → FolderState → SinkState → SinkState → Result T FilesStop → Type 0
-FilesWrite plan names folder old new result =
-    AreTold names folder → IsTrue new.told → WritesBy files_cut (run_lines plan (files_named names folder)) old new result
+abbrev pub FilesWrite : {T : Type 0} → Job → List (List ℕ) → FolderState → SinkState → SinkState → Result T FilesStop → Type 0
+FilesWrite job names folder old new result =
+    AreTold names folder → IsTrue new.told → WritesBy files_cut (run_lines job (files_named names folder)) old new result
 
 -- what the stop of a run over these files leaves
-abbrev pub FilesEnd : FilesStop → Outline → List (List ℕ) → FolderState → FolderState → List ℕ → List ℕ → Type 0
-FilesEnd (Opening (Fault stream)) plan names before after written lines =
+abbrev pub FilesEnd : FilesStop → Job → List (List ℕ) → FolderState → FolderState → List ℕ → List ℕ → Type 0
+FilesEnd (Opening (Fault stream)) job names before after written lines =
     (lines ≡ written) × (AreDistinct names → after.last (slice_index_or names stream []) ≡ before.last (slice_index_or names stream []))
-FilesEnd (Opening OpeningMemory) plan names before after written lines = ⊤
-FilesEnd (Run (ReadFault stream)) plan names before after written lines =
-    (ends : EndsBefore plan (files_named names before) stream written lines)
-    × (AreDistinct names → ArrivedOf plan (files_named names before) stream (after.last (slice_index_or names stream [])) ends.front)
-FilesEnd (Run (TooLarge stream)) plan names before after written lines = EndsBefore plan (files_named names before) stream written lines
-FilesEnd (Run (Limit node)) plan names before after written lines = EndsAtLimit plan (files_named names before) node written lines
-FilesEnd (Run WriteFailed) plan names before after written lines = ⊤
-FilesEnd (Run NoMemory) plan names before after written lines = ⊤
+FilesEnd (Opening OpeningMemory) job names before after written lines = ⊤
+FilesEnd (Run (ReadFault stream)) job names before after written lines =
+    (ends : EndsBefore job (files_named names before) stream written lines)
+    × (AreDistinct names → ArrivedOf job (files_named names before) stream (after.last (slice_index_or names stream [])) ends.front)
+FilesEnd (Run (TooLarge stream)) job names before after written lines = EndsBefore job (files_named names before) stream written lines
+FilesEnd (Run (Limit node)) job names before after written lines = EndsAtLimit job (files_named names before) node written lines
+FilesEnd (Run WriteFailed) job names before after written lines = ⊤
+FilesEnd (Run NoMemory) job names before after written lines = ⊤
+FilesEnd (Run (Cut stop)) job names before after written lines = CutEnd stop job (files_named names before) written lines
 
 -- the same, where the files and the sink are told
-abbrev pub StoppedFiles : {T : Type 0} → Outline → List (List ℕ) → FolderState → FolderState → SinkState → SinkState → Result T FilesStop → Type 0
-StoppedFiles plan names before after old new result =
-    AreTold names before → IsTrue new.told → IfErr result (λ stop. FilesEnd stop plan names before after old.written new.written)
+abbrev pub StoppedFiles : {T : Type 0} → Job → List (List ℕ) → FolderState → FolderState → SinkState → SinkState → Result T FilesStop → Type 0
+StoppedFiles job names before after old new result =
+    AreTold names before → IsTrue new.told → IfErr result (λ stop. FilesEnd stop job names before after old.written new.written)
 
 -- there is such a file, and its faults rose
 pub record IsFaultOf (stream : ℕ) (names : List (List ℕ)) (before after : FolderState) : Type 0 where
@@ -110,11 +120,12 @@ pub record IsLargeFile (stream : ℕ) (names : List (List ℕ)) (folder : Folder
   pub bytes : IsTrue (folder.told (slice_index_or names stream [])) → 2 ^ 40 ≤ length (folder.contents (slice_index_or names stream []))
 
 -- why it stopped
-abbrev pub FilesCause : FilesStop → Outline → List (List ℕ) → FolderState → FolderState → SinkState → SinkState → Type 0
-FilesCause (Opening (Fault stream)) plan names before after old new = IsFaultOf stream names before after
-FilesCause (Opening OpeningMemory) plan names before after old new = ⊤
-FilesCause (Run (ReadFault stream)) plan names before after old new = IsFaultOf stream names before after
-FilesCause (Run (TooLarge stream)) plan names before after old new = IsLargeFile stream names before
-FilesCause (Run (Limit node)) plan names before after old new = AreTold names before → GoesBeyond plan (files_named names before) node
-FilesCause (Run WriteFailed) plan names before after old new = Rose old.faults new.faults
-FilesCause (Run NoMemory) plan names before after old new = ⊤
+abbrev pub FilesCause : FilesStop → Job → List (List ℕ) → FolderState → FolderState → SinkState → SinkState → Type 0
+FilesCause (Opening (Fault stream)) job names before after old new = IsFaultOf stream names before after
+FilesCause (Opening OpeningMemory) job names before after old new = ⊤
+FilesCause (Run (ReadFault stream)) job names before after old new = IsFaultOf stream names before after
+FilesCause (Run (TooLarge stream)) job names before after old new = IsLargeFile stream names before
+FilesCause (Run (Limit node)) job names before after old new = AreTold names before → GoesBeyond job (files_named names before) node
+FilesCause (Run WriteFailed) job names before after old new = Rose old.faults new.faults
+FilesCause (Run NoMemory) job names before after old new = ⊤
+FilesCause (Run (Cut stop)) job names before after old new = Rose old.faults new.faults × (AreTold names before → CutCause stop job (files_named names before))

@@ -1,6 +1,6 @@
 -- What a plan's run over files hands out, and the lines that it writes. There is one file for each stream.
-use Rattle.std.specs.Prelude.{◌≡◌, ◌<◌, false, true, ℕ, ◌^◌, List, [], ◌∷◌, ◌++◌, map}
-use Rattle.pj_plan.specs.declared.node.Outline.{Outline}
+use Rattle.std.specs.Prelude.{◌≡◌, ◌<◌, true, ℕ, List, [], ◌∷◌, ◌++◌, map}
+use Rattle.pj_run.specs.Jobs.{Job}
 use Rattle.pj_plan.specs.declared.node.PlanNode.{PlanNode}
 use Rattle.pj_plan.specs.Nodes.{joins_of, streams_in}
 use Rattle.pj_plan.specs.Canonical.{node_name}
@@ -9,11 +9,12 @@ use Rattle.pj_core.specs.Plans.{RunPlan, nodes_of, run_plan}
 use Rattle.pj_value.specs.Bags.{SameBag}
 use Rattle.pj_pattern.specs.declared.element.Element.{Element}
 use Rattle.pj_pattern.specs.declared.element.Element.TheVariants.{Punct}
-use Rattle.pj_element.specs.Runs.{rows_of, puncts_of, IsLawful, element_lines, closing}
+use Rattle.pj_element.specs.Runs.{rows_of, puncts_of, IsLawful, closing}
 use Rattle.pj_element.specs.Accepted.{fates_of, tally_of}
 use Rattle.pj_events.specs.Plan.{Node}
 use Rattle.pj_laws.specs.HistoryLaws.{AllAreCertified}
 use Rattle.pj_events.specs.declared.events.Entry.{Entry}
+use Rattle.pj_events.specs.declared.events.Out.{Out}
 use Rattle.pj_events.specs.Limits.{ReachesLimit}
 use Rattle.pj_events.specs.Outcomes.{elements_out, peak_of, outputs_of as handed_out}
 use Rattle.pj_events.specs.OneThread.{one_thread_of}
@@ -23,17 +24,18 @@ use Rattle.pj_plan.specs.Sound.{IsSoundPlan}
 use Rattle.pj_safety.specs.Certificates.{certificates_of}
 use Rattle.pj_run.specs.PlanNames.{HasShortNames}
 use Rattle.pj_report.specs.Report.{stream_lines, results_line, peak_line}
+use Rattle.pj_report.specs.Results.{out_lines}
 use Rattle.pj_feed.specs.Feeds.{accepted_of}
 
 -- ---- the plan as it is run
 
--- with the certificates that the checker finds for the inputs of its joins; rows that sweeps remove are not noted
-abbrev pub plan_run : Outline → RunPlan
-plan_run plan = run_plan plan.nodes (certificates_of plan.nodes) false
+-- with the certificates that the checker finds for the inputs of its joins
+abbrev pub plan_run : Job → RunPlan
+plan_run job = run_plan job.nodes (certificates_of job.nodes) job.trace
 
 -- its nodes at their starts
-abbrev pub run_nodes : Outline → List Node
-run_nodes plan = nodes_of (plan_run plan)
+abbrev pub run_nodes : Job → List Node
+run_nodes job = nodes_of (plan_run job)
 
 -- ---- what is handed out
 
@@ -44,16 +46,20 @@ with_closings (stream ∷ streams) [] = (Punct (closing stream.schema) ∷ []) �
 with_closings (stream ∷ streams) (es ∷ lists) = (es ++ Punct (closing stream.schema) ∷ []) ∷ with_closings streams lists
 
 -- the accepted elements of each stream, with the closing punctuation
-abbrev pub elements_of : Outline → List (List ℕ) → List (List Element)
-elements_of plan files = with_closings (streams_in plan.nodes) (accepted_of (streams_in plan.nodes) files)
+abbrev pub elements_of : Job → List (List ℕ) → List (List Element)
+elements_of job files = with_closings (streams_in job.nodes) (accepted_of (streams_in job.nodes) files)
 
 -- the history of the run on one thread, with sweeps
-abbrev pub history_of : Outline → List (List ℕ) → List Entry
-history_of plan files = one_thread_of true (run_nodes plan) (accepted_of (streams_in plan.nodes) files)
+abbrev pub history_of : Job → List (List ℕ) → List Entry
+history_of job files = one_thread_of true (run_nodes job) (accepted_of (streams_in job.nodes) files)
 
--- the outputs of the run on one thread
-abbrev pub outputs_of : Outline → List (List ℕ) → List Element
-outputs_of plan files = elements_out (handed_out false (run_nodes plan) (history_of plan files))
+-- what the run on one thread hands out
+abbrev pub outs_of : Job → List (List ℕ) → List Out
+outs_of job files = handed_out job.trace (run_nodes job) (history_of job files)
+
+-- its outputs
+abbrev pub outputs_of : Job → List (List ℕ) → List Element
+outputs_of job files = elements_out (outs_of job files)
 
 -- ---- the report
 
@@ -72,57 +78,53 @@ abbrev pub peaks_report : RunPlan → List Entry → List (List ℕ)
 peaks_report plan history = map (peak_report plan history) (joins_of plan.nodes)
 
 -- the report: the lines of each stream, the counts of results, and the peaks of the joins
-abbrev pub report_of : Outline → List (List ℕ) → List Element → List (List ℕ)
-report_of plan files outputs =
-    streams_report (streams_in plan.nodes) files ++ results_line outputs ∷ [] ++ peaks_report (plan_run plan) (history_of plan files)
+abbrev pub report_of : Job → List (List ℕ) → List Element → List (List ℕ)
+report_of job files outputs =
+    streams_report (streams_in job.nodes) files ++ results_line outputs ∷ [] ++ peaks_report (plan_run job) (history_of job files)
 
 -- all lines of the run
-abbrev pub run_lines : Outline → List (List ℕ) → List (List ℕ)
-run_lines plan files = element_lines (outputs_of plan files) ++ report_of plan files (outputs_of plan files)
+abbrev pub run_lines : Job → List (List ℕ) → List (List ℕ)
+run_lines job files = out_lines job.nodes (outs_of job files) ++ report_of job files (outputs_of job files)
 
 -- ---- what holds of the outputs of a run that is done
 
 -- the rows are the plan's answer over exactly the accepted rows, as a bag
-abbrev pub IsAnswer : Outline → List (List ℕ) → List Element → List (List ℕ) → Type 0
-IsAnswer plan files outputs report = SameBag (rows_of outputs) (answer_of plan.nodes (map rows_of (accepted_of (streams_in plan.nodes) files)))
+abbrev pub IsAnswer : Job → List (List ℕ) → List Element → List (List ℕ) → Type 0
+IsAnswer job files outputs report = SameBag (rows_of outputs) (answer_of job.nodes (map rows_of (accepted_of (streams_in job.nodes) files)))
 
 -- the punctuations are the plan's over those that were accepted and the closings, as a bag
-abbrev pub ArePunctuations : Outline → List (List ℕ) → List Element → List (List ℕ) → Type 0
-ArePunctuations plan files outputs report = SameBag (puncts_of outputs) (punctuations_of plan.nodes (map puncts_of (elements_of plan files)))
+abbrev pub ArePunctuations : Job → List (List ℕ) → List Element → List (List ℕ) → Type 0
+ArePunctuations job files outputs report = SameBag (puncts_of outputs) (punctuations_of job.nodes (map puncts_of (elements_of job files)))
 
 -- no row matches a punctuation before it
-abbrev pub AreLawful : Outline → List (List ℕ) → List Element → List (List ℕ) → Type 0
-AreLawful plan files outputs report = IsLawful outputs
+abbrev pub AreLawful : Job → List (List ℕ) → List Element → List (List ℕ) → Type 0
+AreLawful job files outputs report = IsLawful outputs
 
 -- the counts, the listed rejects and the peaks are those of the files, and the counts of results those of the outputs
-abbrev pub AreTallies : Outline → List (List ℕ) → List Element → List (List ℕ) → Type 0
-AreTallies plan files outputs report = report ≡ report_of plan files outputs
+abbrev pub AreTallies : Job → List (List ℕ) → List Element → List (List ℕ) → Type 0
+AreTallies job files outputs report = report ≡ report_of job files outputs
 
 -- ---- limits
 
--- how many elements may arrive at a join or a group
-abbrev pub most_arrivals : ℕ
-most_arrivals = 2 ^ 40
-
--- the plan that a core runs; there is one version
-abbrev pub outline_in : CoreState → Outline
-outline_in core = record { version = 1; nodes = core.plan.nodes }
+-- what a core runs
+abbrev pub job_in : CoreState → Job
+job_in core = record { nodes = core.plan.nodes; trace = core.plan.trace; limit = core.limit }
 
 -- a new core of a sound plan as it is run, whose certificates hold and at each of whose joins and groups so many may arrive
 pub record IsNewCore (core : CoreState) : Type 0 where
-  pub fresh : IsFresh core (plan_run (outline_in core)) most_arrivals
-  pub certified : AllAreCertified (run_nodes (outline_in core))
+  pub fresh : IsFresh core (plan_run (job_in core)) core.limit
+  pub certified : AllAreCertified (run_nodes (job_in core))
   pub names : HasShortNames core.plan.nodes
   pub sound : IsSoundPlan core.plan.nodes
 
 -- how many elements come to a node in all: the rows of its inputs' answers over the accepted rows, and its inputs' punctuations
-abbrev pub elements_to : Outline → List (List ℕ) → ℕ → ℕ
-elements_to plan files node =
-    coming_to plan.nodes (map rows_of (accepted_of (streams_in plan.nodes) files)) (map puncts_of (elements_of plan files)) node
+abbrev pub elements_to : Job → List (List ℕ) → ℕ → ℕ
+elements_to job files node =
+    coming_to job.nodes (map rows_of (accepted_of (streams_in job.nodes) files)) (map puncts_of (elements_of job files)) node
 
 -- a step of the run on one thread is the first that brings an element beyond the limit, and this is its node: a join or a group,
 -- to which more elements come in all than may
-pub record GoesBeyond (plan : Outline) (files : List (List ℕ)) (node : ℕ) : Type 0 where
-  pub reaches : ReachesLimit most_arrivals (run_nodes plan) (history_of plan files) node
-  pub counted : IsCounted plan.nodes node
-  pub many : most_arrivals < elements_to plan files node
+pub record GoesBeyond (job : Job) (files : List (List ℕ)) (node : ℕ) : Type 0 where
+  pub reaches : ReachesLimit job.limit (run_nodes job) (history_of job files) node
+  pub counted : IsCounted job.nodes node
+  pub many : job.limit < elements_to job files node

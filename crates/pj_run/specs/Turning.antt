@@ -1,6 +1,6 @@
 -- What a turn of a core hands out, and how it ends.
 use Rattle.std.specs.Prelude.{◌≡◌, ◌<◌, ℕ, ⊤, List, ◌++◌, length, Option, Some, None, Result, IsTrue, slice_get}
-use Rattle.pj_plan.specs.declared.node.Outline.{Outline}
+use Rattle.pj_run.specs.Jobs.{Job}
 use Rattle.pj_plan.specs.declared.node.PlanNode.{PlanNode}
 use Rattle.pj_plan.specs.Nodes.{stream_columns}
 use Rattle.pj_pattern.specs.declared.element.Element.{Element}
@@ -16,15 +16,16 @@ use Rattle.pj_core.specs.Cores.{CoreState, StandsFor, MayFollow, nodes_after, no
 use Rattle.pj_core.specs.Calls.{MakesTurn, turn_behind}
 use Rattle.pj_report.specs.declared.results.Counts.{Counts}
 use Rattle.pj_run.specs.declared.stops.TurnStop.{TurnStop}
-use Rattle.pj_run.specs.declared.stops.TurnStop.TheVariants.{Limit as TurnLimit, WriteFailed as TurnFailed, NoMemory as TurnMemory}
+use Rattle.pj_run.specs.declared.stops.TurnStop.TheVariants.{Limit as TurnLimit, WriteFailed as TurnFailed, NoMemory as TurnMemory, Cut as TurnCut}
 use Rattle.pj_run.specs.declared.stops.RunStop.{RunStop}
-use Rattle.pj_run.specs.declared.stops.RunStop.TheVariants.{ReadFault, TooLarge, Limit, WriteFailed, NoMemory}
+use Rattle.pj_run.specs.declared.stops.RunStop.TheVariants.{ReadFault, TooLarge, Limit, WriteFailed, NoMemory, Cut}
 use Rattle.pj_feed.specs.Feeds.{FeedState, fed_elements}
 use Rattle.pj_io.specs.States.{SinkState}
 use Rattle.pj_report.specs.Results.{counts_of, out_lines}
 use Rattle.pj_run.specs.Cuts.{turn_cut}
-use Rattle.pj_report.specs.Written.{flat, WritesBy}
-use Rattle.pj_run.specs.Ends.{EndsBefore, EndsAtLimit}
+use Rattle.pj_report.specs.Written.{flat, FrontOf, WritesBy}
+use Rattle.pj_run.specs.Ends.{EndsBefore, EndsAtLimit, EndsCut}
+use Rattle.pj_events.specs.declared.events.Stop.TheVariants.{Limit as CoreLimit, NoMemory as CoreMemory}
 
 -- the turn is of one of these streams, and what it brings fits the columns, where it is no closing
 abbrev pub IsTurnOf : List PlanNode → Turn → Type 0
@@ -64,36 +65,59 @@ pub record TurnDone (old new : CoreState) (turn : Turn) (before after : Counts) 
 abbrev pub TurnWrites : {T : Type 0} → CoreState → Turn → SinkState → SinkState → Result T TurnStop → Type 0
 TurnWrites core turn old new result =
     IsTrue new.told → (history : List Entry) → StandsFor core history → MayFollow core history (arrival_of turn)
-    → WritesBy turn_cut (out_lines (turn_outs core history turn)) old new result
+    → WritesBy turn_cut (out_lines core.plan.nodes (turn_outs core history turn)) old new result
 
--- Where a limit stopped the turn, an entry of it is the first that brings an element beyond the limit, at this node, and where the
--- sink is told exactly the lines of the outputs up to it were written
-pub record EndsTurn (core : CoreState) (history : List Entry) (turn : Turn) (node : ℕ) (old new : SinkState) : Type 0 where
+-- an entry of the turn is the first that brings an element beyond the limit, at this node
+pub record BreaksOff (core : CoreState) (history : List Entry) (turn : Turn) (node : ℕ) : Type 0 where
   pub front : List Entry
   pub back : List Entry
   pub parts : turn_behind core history turn ≡ front ++ back
   pub within : StaysWithin core.limit (nodes_in core) history front
   pub beyond : BeginsBeyond core.limit (nodes_in core) (history ++ front) back node
-  pub written : IsTrue new.told → new.written ≡ old.written ++ flat (out_lines (outputs_of core.plan.trace (nodes_after core history) front))
+
+-- the lines of what these entries hand out behind the history
+abbrev pub lines_of : CoreState → List Entry → List Entry → List (List ℕ)
+lines_of core history front = out_lines core.plan.nodes (outputs_of core.plan.trace (nodes_after core history) front)
+
+-- where a limit stopped the turn and the sink is told, exactly the lines of the outputs up to that entry were written
+pub record EndsTurn (core : CoreState) (history : List Entry) (turn : Turn) (node : ℕ) (old new : SinkState) : Type 0 where
+  pub breaks : BreaksOff core history turn node
+  pub written : IsTrue new.told → new.written ≡ old.written ++ flat (lines_of core history breaks.front)
+
+-- where the output failed then, a front of their bytes was
+pub record CutTurn (core : CoreState) (history : List Entry) (turn : Turn) (node : ℕ) (old new : SinkState) : Type 0 where
+  pub breaks : BreaksOff core history turn node
+  pub written : IsTrue new.told → FrontOf (flat (lines_of core history breaks.front)) old.written new.written
+
+abbrev pub CutsTurn : Stop → CoreState → List Entry → Turn → SinkState → SinkState → Type 0
+CutsTurn (CoreLimit node) core history turn old new = CutTurn core history turn node old new
+CutsTurn CoreMemory core history turn old new = ⊤
 
 abbrev pub TurnStops : TurnStop → CoreState → List Entry → Turn → SinkState → SinkState → Type 0
 TurnStops (TurnLimit node) core history turn old new = EndsTurn core history turn node old new
 TurnStops TurnFailed core history turn old new = ⊤
 TurnStops TurnMemory core history turn old new = ⊤
+TurnStops (TurnCut stop) core history turn old new = CutsTurn stop core history turn old new
 
 -- what the stop leaves behind each history that the core stands for and that the turn may follow
 abbrev pub TurnStopsBehind : TurnStop → CoreState → Turn → SinkState → SinkState → Type 0
 TurnStopsBehind stop core turn old new =
     (history : List Entry) → StandsFor core history → MayFollow core history (arrival_of turn) → TurnStops stop core history turn old new
 
+-- what a core's stop leaves where its last lines could not be written
+abbrev pub CutEnd : Stop → Job → List (List ℕ) → List ℕ → List ℕ → Type 0
+CutEnd (CoreLimit node) job files before lines = EndsCut job files node before lines
+CutEnd CoreMemory job files before lines = ⊤
+
 -- What the stop of a run's turns leaves: where a stream's turn could not be made, the lines of the outputs up to it, and where a
 -- read of its file failed, exactly the elements arrived that are accepted of the lines which end with a line feed in the bytes
 -- taken; at a limit, the lines of the outputs up to the entry that brought one element beyond it
-abbrev pub TurnsEnd : RunStop → Outline → List (List ℕ) → List FeedState → List ℕ → List ℕ → Type 0
-TurnsEnd (ReadFault stream) plan files feeds before lines =
-    (feed : FeedState) × (slice_get feeds stream ≡ Some feed) × (ends : EndsBefore plan files stream before lines)
+abbrev pub TurnsEnd : RunStop → Job → List (List ℕ) → List FeedState → List ℕ → List ℕ → Type 0
+TurnsEnd (ReadFault stream) job files feeds before lines =
+    (feed : FeedState) × (slice_get feeds stream ≡ Some feed) × (ends : EndsBefore job files stream before lines)
     × (arrived_at stream ends.front ≡ fed_elements feed.intake.columns feed.source.taken)
-TurnsEnd (TooLarge stream) plan files feeds before lines = EndsBefore plan files stream before lines
-TurnsEnd (Limit node) plan files feeds before lines = EndsAtLimit plan files node before lines
-TurnsEnd WriteFailed plan files feeds before lines = ⊤
-TurnsEnd NoMemory plan files feeds before lines = ⊤
+TurnsEnd (TooLarge stream) job files feeds before lines = EndsBefore job files stream before lines
+TurnsEnd (Limit node) job files feeds before lines = EndsAtLimit job files node before lines
+TurnsEnd WriteFailed job files feeds before lines = ⊤
+TurnsEnd NoMemory job files feeds before lines = ⊤
+TurnsEnd (Cut stop) job files feeds before lines = CutEnd stop job files before lines

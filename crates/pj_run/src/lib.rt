@@ -8,4 +8,5 @@ mod stops;
 mod turns;
 
 pub use run::run_files;
+pub use status::write_stop;
 pub use stops::{FilesStop, RunStop, TurnStop};

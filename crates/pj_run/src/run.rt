@@ -1,16 +1,15 @@
 // The run of a plan over its files.
-ghost use Rattle.std.specs.Prelude.{◌≡◌, ◌≤◌, map, length, IsTrue, IfErr, IfOk, OnOk, Err, Some};
+ghost use Rattle.std.specs.Prelude.{◌≡◌, ◌≤◌, [], length, IsTrue, IfErr, IfOk, OnOk, Err, Some};
 ghost use Rattle.pj_plan.specs.Nodes.{streams_in};
-ghost use Rattle.std.specs.String.{string_bytes};
 ghost use Rattle.pj_io.specs.Causes.{Rose};
 ghost use Rattle.pj_io.specs.Folders.{NoneFalls, SameEverywhere};
-ghost use Rattle.pj_element.specs.Runs.{element_lines};
+ghost use Rattle.pj_report.specs.Results.{out_lines};
 ghost use Rattle.pj_core.specs.Cores.{StandsFor};
 ghost use Rattle.pj_feed.specs.Feeds.{AreFeeds, AreNew, AreSameFeeds, AllTold, AreAllTaken, files_of, tallies_in};
 ghost use Rattle.pj_feed.specs.Opened.{AreOpened, StayReadToEnd};
 ghost use Rattle.pj_run.specs.Outcome.{IsOutcome, Reports};
 ghost use Rattle.pj_run.specs.RunEnds.{AreRead, FeedsCause, FeedsWrite, FilesCause, FilesOpened, FilesWrite, StoppedFeeds, StoppedFiles, StoppedTurns, TurnsCause};
-ghost use Rattle.pj_run.specs.Runs.{IsNewCore, history_of, outline_in, outputs_of, run_lines};
+ghost use Rattle.pj_run.specs.Runs.{IsNewCore, history_of, job_in, outs_of, run_lines};
 ghost use Rattle.pj_feed.specs.Opened.{AreReadToEnd};
 ghost use Rattle.pj_report.specs.Written.{WritesBy, write_cut};
 
@@ -22,7 +21,7 @@ use pj_element::Tally;
 use pj_feed::{Feed, Feeds, OpeningStop, close_feeds, open_feeds};
 use pj_io::{Folder, Sink, Source};
 use pj_report::{Counts, WriteStop};
-use pj_value::List as Items;
+use pj_value::{Bytes, List as Items};
 use std::alloc::Global;
 
 /// Runs the plan of a new core over the files of these names, one for each stream, which are read as the run goes on: writes the
@@ -31,7 +30,7 @@ use std::alloc::Global;
 pub fn run_files<F: Folder, K: Sink>(
     alloc: Global,
     core: &mut Core,
-    names: &[String],
+    names: &[Bytes],
     folder: &mut F,
     out: &mut K,
 ) -> Result<(), FilesStop>
@@ -39,13 +38,14 @@ pub fn run_files<F: Folder, K: Sink>(
     requires each { length names.now ≡ length (streams_in core.old.plan.nodes) }
     ensures plan { core.new.plan ≡ core.old.plan }
     ensures told { IsTrue (K.state out.new).told → IsTrue (K.state out.old).told }
-    ensures lines { FilesWrite (outline_in core.old) (map string_bytes names.now) (F.state folder.old) (K.state out.old) (K.state out.new) result }
-    ensures ends { StoppedFiles (outline_in core.old) (map string_bytes names.now) (F.state folder.old) (F.state folder.new) (K.state out.old) (K.state out.new) result }
+    ensures lines { FilesWrite (job_in core.old) names.now (F.state folder.old) (K.state out.old) (K.state out.new) result }
+    ensures ends { StoppedFiles (job_in core.old) names.now (F.state folder.old) (F.state folder.new) (K.state out.old) (K.state out.new) result }
     ensures unopened { (stop : OpeningStop) → result ≡ Err (FilesStop.Opening stop) → out.new ≡ out.old }
-    ensures last { OnOk result (AreReadToEnd (map string_bytes names.now) (F.state folder.old) (F.state folder.new)) }
+    ensures last { OnOk result (AreReadToEnd names.now (F.state folder.old) (F.state folder.new)) }
     ensures keeps { StayReadToEnd (F.state folder.old) (F.state folder.new) result }
-    ensures opened { FilesOpened result (map string_bytes names.now) (F.state folder.old) (F.state folder.new) }
-    ensures causes { IfErr result (λ stop. FilesCause stop (outline_in core.old) (map string_bytes names.now) (F.state folder.old) (F.state folder.new) (K.state out.old) (K.state out.new)) }
+    ensures handed_on { OnOk result ((K.state out.new).held ≡ []) }
+    ensures opened { FilesOpened result names.now (F.state folder.old) (F.state folder.new) }
+    ensures causes { IfErr result (λ stop. FilesCause stop (job_in core.old) names.now (F.state folder.old) (F.state folder.new) (K.state out.old) (K.state out.new)) }
     ensures folder_later { NoneFalls (F.state folder.old).faults (F.state folder.new).faults }
     ensures later { (K.state out.old).faults ≤ (K.state out.new).faults }
 {
@@ -80,10 +80,11 @@ fn run_feeds<F: Folder, K: Sink>(
     requires opened { AreOpened (F.state folder.old).opened feeds.items }
     ensures plan { core.new.plan ≡ core.old.plan }
     ensures told { IsTrue (K.state out.new).told → IsTrue (K.state out.old).told }
-    ensures lines { FeedsWrite feeds.items (run_lines (outline_in core.old) (files_of feeds.items)) (K.state out.old) (K.state out.new) result }
-    ensures ends { StoppedFeeds (outline_in core.old) feeds.items (F.state folder.old) (F.state folder.new) (K.state out.old) (K.state out.new) result }
+    ensures lines { FeedsWrite feeds.items (run_lines (job_in core.old) (files_of feeds.items)) (K.state out.old) (K.state out.new) result }
+    ensures ends { StoppedFeeds (job_in core.old) feeds.items (F.state folder.old) (F.state folder.new) (K.state out.old) (K.state out.new) result }
+    ensures handed_on { OnOk result ((K.state out.new).held ≡ []) }
     ensures last { OnOk result (AreRead feeds.items (F.state folder.old) (F.state folder.new)) }
-    ensures causes { IfErr result (λ stop. FeedsCause stop (outline_in core.old) feeds.items (F.state folder.old) (F.state folder.new) (K.state out.old) (K.state out.new)) }
+    ensures causes { IfErr result (λ stop. FeedsCause stop (job_in core.old) feeds.items (F.state folder.old) (F.state folder.new) (K.state out.old) (K.state out.new)) }
     ensures still_opened { SameEverywhere (F.state folder.old).opened (F.state folder.new).opened }
     ensures folder_later { NoneFalls (F.state folder.old).faults (F.state folder.new).faults }
     ensures later { (K.state out.old).faults ≤ (K.state out.new).faults }
@@ -110,6 +111,7 @@ fn finish<K: Sink>(
     requires each { length tallies.now ≡ length (streams_in core.now.plan.nodes) }
     ensures told { IsTrue (K.state out.new).told → IsTrue (K.state out.old).told }
     ensures lines { Reports core.now tallies.now counts (K.state out.old) (K.state out.new) result }
+    ensures handed_on { OnOk result ((K.state out.new).held ≡ []) }
     ensures later { (K.state out.old).faults ≤ (K.state out.new).faults }
     ensures fault { result ≡ Err WriteStop.Failed → Rose (K.state out.old).faults (K.state out.new).faults }
 {
@@ -134,12 +136,12 @@ fn run_streams<S: Source, K: Sink>(
     ensures on { OnOk result (core.new.kept.stop ≡ None) }
     ensures same { AreSameFeeds feeds.old.feeds.items feeds.new.feeds.items }
     ensures told { IsTrue (K.state out.new).told → IsTrue (K.state out.old).told }
-    ensures lines { FeedsWrite feeds.old.feeds.items (element_lines (outputs_of (outline_in core.old) (files_of feeds.old.feeds.items))) (K.state out.old) (K.state out.new) result }
-    ensures ends { StoppedTurns (outline_in core.old) feeds.old.feeds.items feeds.new.feeds.items (K.state out.old) (K.state out.new) result }
-    ensures outcome { AllTold feeds.old.feeds.items → IfOk result (λ counts. IsOutcome (outline_in core.old) (files_of feeds.old.feeds.items) (tallies_in feeds.new.feeds.items) counts) }
-    ensures stands { AllTold feeds.old.feeds.items → OnOk result (StandsFor core.new (history_of (outline_in core.old) (files_of feeds.old.feeds.items))) }
+    ensures lines { FeedsWrite feeds.old.feeds.items (out_lines core.old.plan.nodes (outs_of (job_in core.old) (files_of feeds.old.feeds.items))) (K.state out.old) (K.state out.new) result }
+    ensures ends { StoppedTurns (job_in core.old) feeds.old.feeds.items feeds.new.feeds.items (K.state out.old) (K.state out.new) result }
+    ensures outcome { AllTold feeds.old.feeds.items → IfOk result (λ counts. IsOutcome (job_in core.old) (files_of feeds.old.feeds.items) (tallies_in feeds.new.feeds.items) counts) }
+    ensures stands { AllTold feeds.old.feeds.items → OnOk result (StandsFor core.new (history_of (job_in core.old) (files_of feeds.old.feeds.items))) }
     ensures taken { OnOk result (AreAllTaken feeds.new.feeds.items) }
-    ensures causes { IfErr result (λ stop. TurnsCause stop (outline_in core.old) feeds.old.feeds.items feeds.new.feeds.items (K.state out.old) (K.state out.new)) }
+    ensures causes { IfErr result (λ stop. TurnsCause stop (job_in core.old) feeds.old.feeds.items feeds.new.feeds.items (K.state out.old) (K.state out.new)) }
     ensures later { (K.state out.old).faults ≤ (K.state out.new).faults }
 {
     let mut counts = Counts { rows: 0, puncts: 0 };

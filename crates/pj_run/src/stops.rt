@@ -1,6 +1,7 @@
 // Why a run, or a turn of it, ended before its end.
 ghost use Rattle.std.specs.Prelude.{◌≡◌};
 
+use pj_events::Stop;
 use pj_feed::{FeedStop, FeedWhy, OpeningStop};
 use pj_intake::IntakeStop;
 use pj_report::WriteStop;
@@ -15,6 +16,8 @@ pub enum TurnStop {
     WriteFailed,
     /// Memory could not be had.
     NoMemory,
+    /// The core stopped so, and then the output failed, before all was written that was handed out until then.
+    Cut { stop: Stop },
 }
 
 /// Why a run over files that were opened ended before its end.
@@ -30,6 +33,8 @@ pub enum RunStop {
     WriteFailed,
     /// Memory could not be had.
     NoMemory,
+    /// The core stopped so, and then the output failed, before all was written that was handed out until then.
+    Cut { stop: Stop },
 }
 
 /// Why a run over the files of its operands ended before its end.
@@ -64,6 +69,7 @@ impl From<TurnStop> for RunStop {
             TurnStop::Limit { node } => RunStop::Limit { node },
             TurnStop::WriteFailed => RunStop::WriteFailed,
             TurnStop::NoMemory => RunStop::NoMemory,
+            TurnStop::Cut { stop } => RunStop::Cut { stop },
         }
     }
 }

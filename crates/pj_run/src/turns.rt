@@ -1,10 +1,16 @@
 // Turns of a core, and the lines of what they hand out.
-ghost use Rattle.std.specs.Prelude.{◌≡◌, ◌≤◌, [], None, IsTrue, IfErr, IfOk, OnOk, Err};
+ghost use Rattle.std.specs.Prelude.{◌≡◌, ◌≤◌, ◌++◌, [], List, None, IsTrue, IfErr, IfOk, OnOk, Err};
+ghost use Rattle.pj_plan.specs.declared.node.PlanNode.{PlanNode};
 ghost use Rattle.pj_plan.specs.Nodes.{streams_in};
+ghost use Rattle.pj_pattern.specs.declared.element.Element.{Element};
+ghost use Rattle.pj_events.specs.declared.events.Stop.{Stop as CoreStop};
+ghost use Rattle.pj_events.specs.Outcomes.{elements_out};
+ghost use Rattle.pj_report.specs.Results.{counts_of, out_lines};
+ghost use Rattle.pj_report.specs.Written.{WritesBy, write_cut};
 ghost use Rattle.pj_io.specs.Causes.{Rose};
 ghost use Rattle.pj_core.specs.Calls.{IsTurnRefused, MakesTurn};
 ghost use Rattle.pj_feed.specs.Feeds.{turn_in};
-ghost use Rattle.pj_run.specs.Stops.{of_core};
+ghost use Rattle.pj_run.specs.Stops.{end_of, of_core};
 ghost use Rattle.pj_run.specs.Turning.{IsTurnOf, Turned, TurnDone, TurnStopsBehind, TurnWrites};
 
 use crate::stops::TurnStop;
@@ -12,7 +18,7 @@ use pj_core::Core;
 use pj_events::{Out, Stop};
 use pj_feed::Arrival;
 use pj_io::Sink;
-use pj_report::{Counts, write_outs};
+use pj_report::{Counts, WriteStop, write_outs};
 use pj_value::List as Items;
 use std::alloc::Global;
 
@@ -20,7 +26,7 @@ use std::alloc::Global;
 /// `text` is where lines are made.
 ///
 /// `Limit` comes where the turn brings one element beyond the limit of a node; exactly what was handed out before that is
-/// written first.
+/// written first. Where that fails, `Cut` tells the stop that came before.
 pub fn take_turn<K: Sink>(
     alloc: Global,
     core: &mut Core,
@@ -39,13 +45,46 @@ pub fn take_turn<K: Sink>(
     ensures stops { IfErr result (λ stop. TurnStopsBehind stop core.old (turn_in (streams_in core.old.plan.nodes) next) (K.state out.old) (K.state out.new)) }
     ensures later { (K.state out.old).faults ≤ (K.state out.new).faults }
     ensures fault { result ≡ Err TurnStop.WriteFailed → Rose (K.state out.old).faults (K.state out.new).faults }
+    ensures cut { (stop : CoreStop) → result ≡ Err (TurnStop.Cut stop) → Rose (K.state out.old).faults (K.state out.new).faults }
 {
     let handed = turn_core(core, next);
-    write_outs(alloc, handed.outs.as_slice(), counts, text, out)?;
-    match handed.stop {
-        None => Ok(()),
-        Some(stop) => Err(turn_stop(stop)),
+    let written = write_handed(alloc, core, handed.outs.as_slice(), counts, text, out);
+    turn_end(written, handed.stop)
+}
+
+// How a turn ends: a stop of the core stands before a failed write of what was handed out until then.
+fn turn_end(written: Result<(), WriteStop>, stop: Option<Stop>) -> Result<(), TurnStop>
+    ensures { result ≡ end_of written stop }
+{
+    match stop {
+        None => match written {
+            Ok(()) => Ok(()),
+            Err(why) => Err(TurnStop::from(why)),
+        },
+        Some(stop) => match written {
+            Ok(()) => Err(turn_stop(stop)),
+            Err(WriteStop::Failed) => Err(TurnStop::Cut { stop }),
+            Err(WriteStop::NoMemory) => Err(TurnStop::NoMemory),
+        },
     }
+}
+
+// Writes what the core handed out, and counts it.
+fn write_handed<K: Sink>(
+    alloc: Global,
+    core: &Core,
+    outs: &[Out],
+    counts: &mut Counts,
+    text: &mut Items<u8>,
+    out: &mut K,
+) -> Result<(), WriteStop>
+    ensures told { IsTrue (K.state out.new).told → IsTrue (K.state out.old).told }
+    ensures lines { (nodes : List PlanNode) → core.now.plan.nodes ≡ nodes → IsTrue (K.state out.new).told → WritesBy write_cut (out_lines nodes outs.now) (K.state out.old) (K.state out.new) result }
+    ensures counted { OnOk result ((before : List Element) → counts.old ≡ counts_of before → counts.new ≡ counts_of (before ++ elements_out outs.now)) }
+    ensures later { (K.state out.old).faults ≤ (K.state out.new).faults }
+    ensures fault { result ≡ Err WriteStop.Failed → Rose (K.state out.old).faults (K.state out.new).faults }
+{
+    write_outs(alloc, core.plan(), outs, counts, text, out)
 }
 
 // What a turn handed out, and why the core stopped in it, if it did.

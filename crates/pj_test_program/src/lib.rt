@@ -4,4 +4,6 @@
 #[cfg(test)]
 mod live;
 #[cfg(test)]
+mod options;
+#[cfg(test)]
 mod runs;

@@ -77,7 +77,7 @@ struct NotedSink<'a> {
 }
 
 impl<'a> Sink for NotedSink<'a> {
-    ghost state = { λ s. record { told = false; written = []; faults = s.faults } };
+    ghost state = { λ s. record { told = false; written = []; faults = s.faults; held = [] } };
 
     fn write(&mut self, piece: &[u8]) -> Result<usize, Failed> {
         count(&self.log.held, piece.len() as u64);

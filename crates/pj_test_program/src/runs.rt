@@ -46,7 +46,7 @@ const REJECTS_OUT: &[u8] =
 const NOTHING_OUT: &[u8] =
     b"p * *\n# stream s tuples 0 punctuations 0 rejected 0\n# results 0 punctuations 1\n";
 
-const AUCTION: &[u8] =
+pub(crate) const AUCTION: &[u8] =
     b"plan 1\nstream items item:int seller:text\nstream bids bitem:int price:int\nscheme items + _\nscheme bids + _\njoin j items bids on item=bitem\noutput j\n";
 
 // What is written of the auction over these files. The bids' punctuation goes out at its arrival, since the sweep behind the
@@ -76,7 +76,7 @@ fn words_of(alloc: Global, command: &str) -> Result<Vec<String>, Fail> {
     Ok(words)
 }
 
-fn run_in<K: Sink>(
+pub(crate) fn run_in<K: Sink>(
     rt: &HostRuntime,
     command: &str,
     folder: &mut MemFolder,
@@ -103,7 +103,7 @@ fn run_on(
 }
 
 // A sink that takes whole pieces, of which these fail.
-fn sink_of(alloc: Global, fails: &[u64]) -> Result<MemSink, Fail> {
+pub(crate) fn sink_of(alloc: Global, fails: &[u64]) -> Result<MemSink, Fail> {
     let mut out = MemSink::new(alloc, 100_000, fails)?;
     out.room(200_000)?;
     Ok(out)
@@ -487,7 +487,7 @@ struct Stuck {
 }
 
 impl Sink for Stuck {
-    ghost state = { λ s. record { told = false; written = []; faults = s.faults } };
+    ghost state = { λ s. record { told = false; written = []; faults = s.faults; held = [] } };
 
     fn write(&mut self, piece: &[u8]) -> Result<usize, Failed> {
         Ok(piece.len())

@@ -1,7 +1,5 @@
-use Rattle.std.proofs.Common.{◌∙◌, ◌<◌, ◌≡◌, [], ◌∷◌, IsTrue, ℕ, List, length, map, ap, Err, get_or, refl, subst, sym, arith}
+use Rattle.std.proofs.Common.{◌∙◌, ◌<◌, ◌≡◌, [], ◌∷◌, IsTrue, ℕ, List, length, ap, Err, get_or, refl, subst, sym, arith}
 use Rattle.std.specs.Prelude.{slice_index_or}
-use Rattle.std.specs.String.{string_bytes}
-use Rattle.std.proofs.lemmas.List.{length-map}
 use Rattle.pj_plan.specs.Nodes.{streams_in}
 use Rattle.pj_feed.specs.declared.stops.OpeningStop.TheVariants.{Fault}
 use Rattle.pj_feed.proofs.Answered.{err_is}
@@ -18,28 +16,28 @@ returns-in_err-feed-clause-opened g c =
     let mid = g.F.Folder.state c.loop-i.folder in
     let now = g.F.Folder.state c.open_feed.new.folder in
     let some = c.open_feed.ensures.opened in
-    opened_still mid.opened now.opened c.loop-i.feeds.items (opens_keep some.0 (c.as_bytes.result.now ∷ []) mid now some.2) c.loop-i.invariant.opened
+    opened_still mid.opened now.opened c.loop-i.feeds.items (opens_keep some.0 (c.as_slice.result.now ∷ []) mid now some.2) c.loop-i.invariant.opened
 
 pub returns-in_err-feed-clause-some_opened : goal.returns-in_err-feed-clause-some_opened
 returns-in_err-feed-clause-some_opened g c =
-    let words = c.args.names.now in
-    let name = c.as_bytes.result.now in
+    let names = c.args.names.now in
+    let name = c.as_slice.result.now in
     let at_stream = met-there c.args.plan.now.nodes c.streams-streams.result.now c.loop-i.i c.streams-streams.ensures c.loop-i-test.true in
-    let low : c.loop-i.i < length words = omega (arith, at_stream, c.requires.each) in
-    let at : name ≡ slice_index_or (map string_bytes words) c.loop-i.i [] = c.as_bytes.ensures.value ∙ word_at words c.loop-i.i c.index-names-i.result low c.index-names-i.is in
-    opens_most_then (length words) c.loop-i.i (map string_bytes words) name (g.F.Folder.state c.args.folder.now) (g.F.Folder.state c.loop-i.folder) (g.F.Folder.state c.open_feed.new.folder) c.loop-i.invariant.opens
-    c.open_feed.ensures.opened low (omega (arith, low, length-map words string_bytes)) at
+    let low : c.loop-i.i < length names = omega (arith, at_stream, c.requires.each) in
+    let at : name ≡ slice_index_or names c.loop-i.i [] = c.as_slice.ensures ∙ word_at names c.loop-i.i c.index-names-i.result low c.index-names-i.is in
+    opens_most_then (length names) c.loop-i.i names name (g.F.Folder.state c.args.folder.now) (g.F.Folder.state c.loop-i.folder) (g.F.Folder.state c.open_feed.new.folder) c.loop-i.invariant.opens
+    c.open_feed.ensures.opened low low at
 
 pub returns-in_err-feed-clause-fault : goal.returns-in_err-feed-clause-fault
 returns-in_err-feed-clause-fault g c = λ stream is.
-    let words = c.args.names.now in
+    let names = c.args.names.now in
     let at_stream = met-there c.args.plan.now.nodes c.streams-streams.result.now c.loop-i.i c.streams-streams.ensures c.loop-i-test.true in
-    let low : c.loop-i.i < length words = omega (arith, at_stream, c.requires.each) in
-    let at : c.as_bytes.result.now ≡ slice_index_or (map string_bytes words) c.loop-i.i [] = c.as_bytes.ensures.value ∙ word_at words c.loop-i.i c.index-names-i.result low c.index-names-i.is in
+    let low : c.loop-i.i < length names = omega (arith, at_stream, c.requires.each) in
+    let at : c.as_slice.result.now ≡ slice_index_or names c.loop-i.i [] = c.as_slice.ensures ∙ word_at names c.loop-i.i c.index-names-i.result low c.index-names-i.is in
     let same = err_is c.from_residual.result _ c.from_residual.ensures.1 in
     let why : c.in_err-feed.field-0.0 ≡ Fault stream = cc (same, is) in
-    fault_of_next c.loop-i.i stream (map string_bytes words) c.as_bytes.result.now c.loop-i.feeds.items (g.F.Folder.state c.args.folder.now) (g.F.Folder.state c.loop-i.folder) (g.F.Folder.state c.open_feed.new.folder)
-    c.loop-i.invariant.opens c.loop-i.invariant.later (c.in_err-feed.ensures.fault stream (ap Err why)) (omega (arith, low, length-map words string_bytes)) at c.loop-i.invariant.count
+    fault_of_next c.loop-i.i stream names c.as_slice.result.now c.loop-i.feeds.items (g.F.Folder.state c.args.folder.now) (g.F.Folder.state c.loop-i.folder) (g.F.Folder.state c.open_feed.new.folder)
+    c.loop-i.invariant.opens c.loop-i.invariant.later (c.in_err-feed.ensures.fault stream (ap Err why)) low at c.loop-i.invariant.count
 
 pub loop-i-preserved : goal.loop-i-preserved
 loop-i-preserved g c =
@@ -52,22 +50,22 @@ loop-i-preserved g c =
     let first = g.F.Folder.state c.args.folder.now in
     let mid = g.F.Folder.state c.loop-i.folder in
     let now = g.F.Folder.state c.open_feed.new.folder in
-    let words = c.args.names.now in
-    let name = c.as_bytes.result.now in
+    let names = c.args.names.now in
+    let name = c.as_slice.result.now in
     let at_stream = met-there c.args.plan.now.nodes c.streams-streams.result.now c.loop-i.i c.streams-streams.ensures c.loop-i-test.true in
-    let low : c.loop-i.i < length words = omega (arith, at_stream, c.requires.each) in
-    let at : name ≡ slice_index_or (map string_bytes words) c.loop-i.i [] = c.as_bytes.ensures.value ∙ word_at words c.loop-i.i c.index-names-i.result low c.index-names-i.is in
+    let low : c.loop-i.i < length names = omega (arith, at_stream, c.requires.each) in
+    let at : name ≡ slice_index_or names c.loop-i.i [] = c.as_slice.ensures ∙ word_at names c.loop-i.i c.index-names-i.result low c.index-names-i.is in
     record {
       count = count_more c.loop-i.i feeds news feed old.count kept.items;
       room = kept.capacity ∙ old.room;
       told = of.told ∙ old.told;
       contents = of.contents ∙ old.contents;
-      feeds = feeds_more c.loop-i.i (streams_in c.args.plan.now.nodes) words first mid feeds news c.schema-schema.result.now c.index-names-i.result name feed old.feeds old.count at_stream c.requires.each
+      feeds = feeds_more c.loop-i.i (streams_in c.args.plan.now.nodes) names first mid feeds news c.schema-schema.result.now c.index-names-i.result name feed old.feeds old.count at_stream c.requires.each
           (schema-met c.args.plan.now.nodes c.streams-streams.result.now c.loop-i.i (get_or c.streams-streams.result.now c.loop-i.i 0) c.schema-schema.result.now c.streams-streams.ensures c.loop-i-test.true refl c.schema-schema.ensures)
-          c.index-names-i.is c.as_bytes.ensures.value old.told old.contents of.feed kept.items;
+          c.index-names-i.is c.as_slice.ensures old.told old.contents of.feed kept.items;
       opened = opened_more now.opened feeds news feed (opened_still mid.opened now.opened feeds (opens_keep 1 (name ∷ []) mid now of.was_opened) old.opened)
           (subst (λ (n : List ℕ). IsTrue (now.opened n)) (sym of.feed.opened.named) (opens_own name [] mid now of.was_opened)) kept.items;
-      opens = opens_then c.loop-i.i (map string_bytes words) name first mid now old.opens of.was_opened (omega (arith, low, length-map words string_bytes)) at;
+      opens = opens_then c.loop-i.i names name first mid now old.opens of.was_opened low at;
       last = λ n. of.last (λ e. cc e) n ∙ old.last n;
       later = falls_none first.faults mid.faults now.faults old.later of.later;
     }

@@ -1,114 +1,113 @@
 use Rattle.pj_plan.specs.declared.node.PlanNode.{PlanNode}
 use Rattle.pj_plan.specs.Nodes.{streams_in}
 use Rattle.std.proofs.Common.{◌≡◌, ◌++◌, List, ℕ, map, subst, ap, Err}
-use Rattle.std.specs.String.{string_bytes}
 use Rattle.pj_feed.specs.Opened.{AreFeedsOf}
-use Rattle.pj_run.specs.Runs.{outline_in, run_lines}
+use Rattle.pj_run.specs.Runs.{job_in, run_lines}
 use Rattle.pj_run.specs.Cuts.{run_cut}
 use Rattle.pj_report.specs.Written.{between}
 use Rattle.pj_report.specs.Written.{flat, Leaves}
-use Rattle.pj_run.proofs.FilesRun.{AreAllOpened, all_opened, opens_some, run_end, run_cause, read_to_end, still_read, open_end, open_opened}
+use Rattle.pj_run.proofs.FilesRun.{AreAllOpened, all_opened, run_end, run_cause, read_to_end, still_read, open_end, open_opened}
 use Rattle.pj_report.proofs.LinesWritten.{none_written}
 use Rattle.pj_feed.proofs.Opening.{new_of}
 use Rattle.pj_run.proofs.run.run_files.Goals as goal
 
 pub run_feeds-requires-clause-feeds : goal.run_feeds-requires-clause-feeds
 run_feeds-requires-clause-feeds g c =
-    let plan = outline_in c.args.core.now in
-    let names = map string_bytes c.args.names.now in
+    let job = job_in c.args.core.now in
+    let names = c.args.names.now in
     let old = g.F.Folder.state c.args.folder.now in
     let feeds = c.open_feeds.new.feeds.items in
     let done = c.in-Ok-open_feeds.ensures in
-    let opened : AreAllOpened plan names old feeds = all_opened plan (streams_in c.plan.result.now.nodes) c.args.names.now old feeds (ap streams_in c.plan.ensures) c.requires.each done.feeds done.all in
+    let opened : AreAllOpened job names old feeds = all_opened job (streams_in c.plan.result.now.nodes) c.args.names.now old feeds (ap streams_in c.plan.ensures) c.requires.each done.feeds done.all in
     opened.fed
 
 pub run_feeds-requires-clause-none : goal.run_feeds-requires-clause-none
 run_feeds-requires-clause-none g c =
-    let plan = outline_in c.args.core.now in
-    let names = map string_bytes c.args.names.now in
+    let job = job_in c.args.core.now in
+    let names = c.args.names.now in
     let old = g.F.Folder.state c.args.folder.now in
     let feeds = c.open_feeds.new.feeds.items in
     let done = c.in-Ok-open_feeds.ensures in
-    let opened : AreAllOpened plan names old feeds = all_opened plan (streams_in c.plan.result.now.nodes) c.args.names.now old feeds (ap streams_in c.plan.ensures) c.requires.each done.feeds done.all in
-    new_of 0 (streams_in plan.nodes) names old feeds opened.of
+    let opened : AreAllOpened job names old feeds = all_opened job (streams_in c.plan.result.now.nodes) c.args.names.now old feeds (ap streams_in c.plan.ensures) c.requires.each done.feeds done.all in
+    new_of 0 (streams_in job.nodes) names old feeds opened.of
 
 pub returns-in-Ok-run_feeds-clause-lines : goal.returns-in-Ok-run_feeds-clause-lines
 returns-in-Ok-run_feeds-clause-lines g c = λ told t.
-    let plan = outline_in c.args.core.now in
-    let names = map string_bytes c.args.names.now in
+    let job = job_in c.args.core.now in
+    let names = c.args.names.now in
     let old = g.F.Folder.state c.args.folder.now in
     let feeds = c.open_feeds.new.feeds.items in
     let done = c.in-Ok-open_feeds.ensures in
-    let opened : AreAllOpened plan names old feeds = all_opened plan (streams_in c.plan.result.now.nodes) c.args.names.now old feeds (ap streams_in c.plan.ensures) c.requires.each done.feeds done.all in
+    let opened : AreAllOpened job names old feeds = all_opened job (streams_in c.plan.result.now.nodes) c.args.names.now old feeds (ap streams_in c.plan.ensures) c.requires.each done.feeds done.all in
     let sink = g.K.Sink.state c.args.out.now in
     let sink' = g.K.Sink.state c.run_feeds.new.out in
     let files = opened.told told in
-    subst (λ (fs : List (List ℕ)). sink'.written ≡ sink.written ++ flat (run_lines plan fs)) files.1 (c.in-Ok-run_feeds.ensures.lines files.0 t)
+    subst (λ (fs : List (List ℕ)). sink'.written ≡ sink.written ++ flat (run_lines job fs)) files.1 (c.in-Ok-run_feeds.ensures.lines files.0 t)
 
 pub returns-in-Ok-run_feeds-clause-last : goal.returns-in-Ok-run_feeds-clause-last
 returns-in-Ok-run_feeds-clause-last g c =
-    let plan = outline_in c.args.core.now in
-    let names = map string_bytes c.args.names.now in
+    let job = job_in c.args.core.now in
+    let names = c.args.names.now in
     let old = g.F.Folder.state c.args.folder.now in
     let feeds = c.open_feeds.new.feeds.items in
     let done = c.in-Ok-open_feeds.ensures in
-    let opened : AreAllOpened plan names old feeds = all_opened plan (streams_in c.plan.result.now.nodes) c.args.names.now old feeds (ap streams_in c.plan.ensures) c.requires.each done.feeds done.all in
+    let opened : AreAllOpened job names old feeds = all_opened job (streams_in c.plan.result.now.nodes) c.args.names.now old feeds (ap streams_in c.plan.ensures) c.requires.each done.feeds done.all in
     let mid = g.F.Folder.state c.open_feeds.new.folder in
     let after = g.F.Folder.state c.run_feeds.new.folder in
-    read_to_end plan names old mid after feeds opened c.in-Ok-run_feeds.ensures.last
+    read_to_end job names old mid after feeds opened c.in-Ok-run_feeds.ensures.last
 
 pub returns-in-Ok-run_feeds-clause-keeps : goal.returns-in-Ok-run_feeds-clause-keeps
 returns-in-Ok-run_feeds-clause-keeps g c = λ name told had.
-    let plan = outline_in c.args.core.now in
-    let names = map string_bytes c.args.names.now in
+    let job = job_in c.args.core.now in
+    let names = c.args.names.now in
     let old = g.F.Folder.state c.args.folder.now in
     let feeds = c.open_feeds.new.feeds.items in
     let done = c.in-Ok-open_feeds.ensures in
-    let opened : AreAllOpened plan names old feeds = all_opened plan (streams_in c.plan.result.now.nodes) c.args.names.now old feeds (ap streams_in c.plan.ensures) c.requires.each done.feeds done.all in
+    let opened : AreAllOpened job names old feeds = all_opened job (streams_in c.plan.result.now.nodes) c.args.names.now old feeds (ap streams_in c.plan.ensures) c.requires.each done.feeds done.all in
     let mid = g.F.Folder.state c.open_feeds.new.folder in
     let after = g.F.Folder.state c.run_feeds.new.folder in
-    still_read plan names old mid after feeds name opened (done.last (λ bad. cc)) told had c.in-Ok-run_feeds.ensures.last
+    still_read job names old mid after feeds name opened (done.last (λ bad. cc)) told had c.in-Ok-run_feeds.ensures.last
 
 pub returns-in-Err-run_feeds-clause-lines : goal.returns-in-Err-run_feeds-clause-lines
 returns-in-Err-run_feeds-clause-lines g c = λ told t.
-    let plan = outline_in c.args.core.now in
-    let names = map string_bytes c.args.names.now in
+    let job = job_in c.args.core.now in
+    let names = c.args.names.now in
     let old = g.F.Folder.state c.args.folder.now in
     let feeds = c.open_feeds.new.feeds.items in
     let done = c.in-Ok-open_feeds.ensures in
-    let opened : AreAllOpened plan names old feeds = all_opened plan (streams_in c.plan.result.now.nodes) c.args.names.now old feeds (ap streams_in c.plan.ensures) c.requires.each done.feeds done.all in
+    let opened : AreAllOpened job names old feeds = all_opened job (streams_in c.plan.result.now.nodes) c.args.names.now old feeds (ap streams_in c.plan.ensures) c.requires.each done.feeds done.all in
     let sink = g.K.Sink.state c.args.out.now in
     let sink' = g.K.Sink.state c.run_feeds.new.out in
     let files = opened.told told in
-    subst (λ (fs : List (List ℕ)). Leaves (run_cut c.in-Err-run_feeds.stop) (run_lines plan fs) sink.written sink'.written) files.1 (c.in-Err-run_feeds.ensures.lines files.0 t)
+    subst (λ (fs : List (List ℕ)). Leaves (run_cut c.in-Err-run_feeds.stop) (run_lines job fs) sink.written sink'.written) files.1 (c.in-Err-run_feeds.ensures.lines files.0 t)
 
 pub returns-in-Err-run_feeds-clause-ends : goal.returns-in-Err-run_feeds-clause-ends
 returns-in-Err-run_feeds-clause-ends g c = λ told t.
-    let plan = outline_in c.args.core.now in
-    let names = map string_bytes c.args.names.now in
+    let job = job_in c.args.core.now in
+    let names = c.args.names.now in
     let old = g.F.Folder.state c.args.folder.now in
     let feeds = c.open_feeds.new.feeds.items in
     let done = c.in-Ok-open_feeds.ensures in
-    let opened : AreAllOpened plan names old feeds = all_opened plan (streams_in c.plan.result.now.nodes) c.args.names.now old feeds (ap streams_in c.plan.ensures) c.requires.each done.feeds done.all in
+    let opened : AreAllOpened job names old feeds = all_opened job (streams_in c.plan.result.now.nodes) c.args.names.now old feeds (ap streams_in c.plan.ensures) c.requires.each done.feeds done.all in
     let mid = g.F.Folder.state c.open_feeds.new.folder in
     let after = g.F.Folder.state c.run_feeds.new.folder in
     let sink = g.K.Sink.state c.args.out.now in
     let sink' = g.K.Sink.state c.run_feeds.new.out in
-    run_end c.in-Err-run_feeds.stop plan names old mid after feeds sink.written sink'.written opened told (c.in-Err-run_feeds.ensures.ends (opened.told told).0 t)
+    run_end c.in-Err-run_feeds.stop job names old mid after feeds sink.written sink'.written opened told (c.in-Err-run_feeds.ensures.ends (opened.told told).0 t)
 
 pub returns-in-Err-run_feeds-clause-causes : goal.returns-in-Err-run_feeds-clause-causes
 returns-in-Err-run_feeds-clause-causes g c =
-    let plan = outline_in c.args.core.now in
-    let names = map string_bytes c.args.names.now in
+    let job = job_in c.args.core.now in
+    let names = c.args.names.now in
     let old = g.F.Folder.state c.args.folder.now in
     let feeds = c.open_feeds.new.feeds.items in
     let done = c.in-Ok-open_feeds.ensures in
-    let opened : AreAllOpened plan names old feeds = all_opened plan (streams_in c.plan.result.now.nodes) c.args.names.now old feeds (ap streams_in c.plan.ensures) c.requires.each done.feeds done.all in
+    let opened : AreAllOpened job names old feeds = all_opened job (streams_in c.plan.result.now.nodes) c.args.names.now old feeds (ap streams_in c.plan.ensures) c.requires.each done.feeds done.all in
     let mid = g.F.Folder.state c.open_feeds.new.folder in
     let after = g.F.Folder.state c.run_feeds.new.folder in
     let sink = g.K.Sink.state c.args.out.now in
     let sink' = g.K.Sink.state c.run_feeds.new.out in
-    run_cause c.in-Err-run_feeds.stop plan names old mid after feeds sink sink' opened done.later c.in-Err-run_feeds.ensures.causes
+    run_cause c.in-Err-run_feeds.stop job names old mid after feeds sink sink' opened done.later c.in-Err-run_feeds.ensures.causes
 
 pub returns-in-Err-clause-lines : goal.returns-in-Err-clause-lines
 returns-in-Err-clause-lines g c = λ told t.
@@ -116,21 +115,21 @@ returns-in-Err-clause-lines g c = λ told t.
 
 pub returns-in-Err-clause-ends : goal.returns-in-Err-clause-ends
 returns-in-Err-clause-ends g c = λ told t.
-    let plan = outline_in c.args.core.now in
-    let names = map string_bytes c.args.names.now in
+    let job = job_in c.args.core.now in
+    let names = c.args.names.now in
     let old = g.F.Folder.state c.args.folder.now in
     let mid = g.F.Folder.state c.open_feeds.new.folder in
     let after = g.F.Folder.state c.close_feeds.new.folder in
     let feeds = c.open_feeds.new.feeds.items in
-    let of : AreFeedsOf 0 (streams_in plan.nodes) names old feeds = subst (λ (ss : List PlanNode). AreFeedsOf 0 ss names old feeds) (ap streams_in c.plan.ensures) c.in-Err.ensures.feeds in
-    open_end c.in-Err.stop plan names old mid after feeds (g.K.Sink.state c.args.out.now).written of c.close_feeds.ensures.last (λ other. c.in-Err.ensures.last (λ e. other (cc e)))
+    let of : AreFeedsOf 0 (streams_in job.nodes) names old feeds = subst (λ (ss : List PlanNode). AreFeedsOf 0 ss names old feeds) (ap streams_in c.plan.ensures) c.in-Err.ensures.feeds in
+    open_end c.in-Err.stop job names old mid after feeds (g.K.Sink.state c.args.out.now).written of c.close_feeds.ensures.last (λ other. c.in-Err.ensures.last (λ e. other (cc e)))
     (λ stream is. c.in-Err.ensures.fault stream (ap Err is))
 
 pub returns-in-Err-clause-opened : goal.returns-in-Err-clause-opened
 returns-in-Err-clause-opened g c =
-    let names = map string_bytes c.args.names.now in
+    let names = c.args.names.now in
     let old = g.F.Folder.state c.args.folder.now in
     let mid = g.F.Folder.state c.open_feeds.new.folder in
     let after = g.F.Folder.state c.close_feeds.new.folder in
     let feeds = c.open_feeds.new.feeds.items in
-    open_opened c.in-Err.stop names old mid after feeds (opens_some c.args.names.now old mid c.in-Err.ensures.some_opened) (λ stream is. c.in-Err.ensures.fault stream (ap Err is)) c.close_feeds.ensures.still_opened
+    open_opened c.in-Err.stop names old mid after feeds c.in-Err.ensures.some_opened (λ stream is. c.in-Err.ensures.fault stream (ap Err is)) c.close_feeds.ensures.still_opened

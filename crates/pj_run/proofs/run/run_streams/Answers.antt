@@ -5,7 +5,7 @@ use Rattle.pj_core.specs.Calls.{turn_behind}
 use Rattle.pj_feed.specs.Feeds.{turn_in, feeds_left, files_of, tallies_in, tallies_of, AreAllTaken}
 use Rattle.pj_report.specs.Results.{out_lines}
 use Rattle.pj_run.specs.RunEnds.{TurnsCause}
-use Rattle.pj_run.specs.Runs.{history_of, outline_in, run_nodes}
+use Rattle.pj_run.specs.Runs.{history_of, job_in, run_nodes}
 use Rattle.pj_run.specs.Stops.{of_feed}
 use Rattle.pj_run.specs.Turning.{TurnsEnd, turn_outs}
 use Rattle.pj_run.specs.Cuts.{run_cut, turn_cut}
@@ -22,14 +22,14 @@ use Rattle.pj_run.proofs.run.run_streams.Goals as goal
 pub loop-next-init : goal.loop-next-init
 loop-next-init g c = (
   [],
-  going_begins (outline_in c.args.core.now) c.args.feeds.now.feeds.items c.args.feeds.now.at c.args.core.now _ c.requires.feeds c.requires.none c.requires.first c.requires.fresh.fresh refl,
+  going_begins (job_in c.args.core.now) c.args.feeds.now.feeds.items c.args.feeds.now.at c.args.core.now _ c.requires.feeds c.requires.none c.requires.first c.requires.fresh.fresh refl,
   omega arith,
   λ t. t,
   λ told t. sym (append-nil _),
 )
 
 pub next-requires-clause-few : goal.next-requires-clause-few
-next-requires-clause-few g c = few_feeds (outline_in c.args.core.now) c.loop-next.feeds.feeds.items c.requires.fresh.sound c.loop-next.invariant.1.fed
+next-requires-clause-few g c = few_feeds (job_in c.args.core.now) c.loop-next.feeds.feeds.items c.requires.fresh.sound c.loop-next.invariant.1.fed
 
 pub returns-in_err-next-clause-same : goal.returns-in_err-next-clause-same
 returns-in_err-next-clause-same g c = all_same_then c.args.feeds.now.feeds.items c.loop-next.feeds.feeds.items c.next.new.self.feeds.items c.loop-next.invariant.1.same c.in_err-next.ensures.same
@@ -37,48 +37,48 @@ returns-in_err-next-clause-same g c = all_same_then c.args.feeds.now.feeds.items
 pub returns-in_err-next-clause-lines : goal.returns-in_err-next-clause-lines
 returns-in_err-next-clause-lines g c = λ told t.
     rw (err_is c.from_residual.result _ c.from_residual.ensures.1)
-    (lines_so_far (outline_in c.args.core.now) (files_of c.args.feeds.now.feeds.items) c.loop-next.invariant.0 c.loop-next.core _ c.loop-next.counts (run_cut (of_feed c.in_err-next.field-0.0)) _ _
+    (lines_so_far (job_in c.args.core.now) (files_of c.args.feeds.now.feeds.items) c.loop-next.invariant.0 c.loop-next.core _ c.loop-next.counts (run_cut (of_feed c.in_err-next.field-0.0)) _ _
     (c.loop-next.invariant.1.ran told) (c.in_err-next.ensures.written.same t ∙ c.loop-next.invariant.4 told (c.in_err-next.ensures.written.told t)))
 
 pub returns-in_err-next-clause-ends : goal.returns-in_err-next-clause-ends
 returns-in_err-next-clause-ends g c = λ told t.
     if_err _ c.from_residual.result _ c.from_residual.ensures.1
-    (going_stops (outline_in c.args.core.now) (new_planned c.args.core.now c.requires.fresh) c.args.feeds.now.feeds.items c.loop-next.feeds.feeds.items c.next.new.self.feeds.items c.loop-next.feeds.at c.loop-next.invariant.0 c.loop-next.core c.loop-next.counts c.in_err-next.field-0.0 _ _ _ _
+    (going_stops (job_in c.args.core.now) (new_planned c.args.core.now c.requires.fresh) c.args.feeds.now.feeds.items c.loop-next.feeds.feeds.items c.next.new.self.feeds.items c.loop-next.feeds.at c.loop-next.invariant.0 c.loop-next.core c.loop-next.counts c.in_err-next.field-0.0 _ _ _ _
     c.loop-next.invariant.1 c.in_err-next.ensures.same c.in_err-next.ensures.stops told (c.in_err-next.ensures.written.same t ∙ c.loop-next.invariant.4 told (c.in_err-next.ensures.written.told t)))
 
 pub returns-in_err-next-clause-causes : goal.returns-in_err-next-clause-causes
 returns-in_err-next-clause-causes g c =
     if_err _ c.from_residual.result _ c.from_residual.ensures.1
-    (feed_cause (outline_in c.args.core.now) c.args.feeds.now.feeds.items c.loop-next.feeds.feeds.items c.next.new.self.feeds.items c.loop-next.feeds.at c.in_err-next.field-0.0 _ _ _ c.in_err-next.ensures.stops c.loop-next.invariant.1.same c.loop-next.invariant.2)
+    (feed_cause (job_in c.args.core.now) c.args.feeds.now.feeds.items c.loop-next.feeds.feeds.items c.next.new.self.feeds.items c.loop-next.feeds.at c.in_err-next.field-0.0 _ _ _ c.in_err-next.ensures.stops c.loop-next.invariant.1.same c.loop-next.invariant.2)
 
 pub take_turn-requires-clause-of : goal.take_turn-requires-clause-of
 take_turn-requires-clause-of g c =
-    going_of (outline_in c.args.core.now) c.args.feeds.now.feeds.items c.loop-next.feeds.feeds.items c.next.new.self.feeds.items c.loop-next.feeds.at c.next.new.self.at c.loop-next.invariant.0 c.loop-next.core c.loop-next.counts c.in-Some.next c.loop-next.invariant.1
+    going_of (job_in c.args.core.now) c.args.feeds.now.feeds.items c.loop-next.feeds.feeds.items c.next.new.self.feeds.items c.loop-next.feeds.at c.next.new.self.at c.loop-next.invariant.0 c.loop-next.core c.loop-next.counts c.in-Some.next c.loop-next.invariant.1
     (λ told streams f. given_some streams c.in_ok-next.field-0 c.in-Some.next _ _ c.in-Some.is (c.in_ok-next.ensures.gives told streams f))
     (brings_some c.loop-next.feeds.feeds.items c.in_ok-next.field-0 c.in-Some.next c.in-Some.is c.in_ok-next.ensures.brings)
 
 pub loop-next-preserved : goal.loop-next-preserved
 loop-next-preserved g c =
-    let plan = outline_in c.args.core.now in
+    let job = job_in c.args.core.now in
     let start = c.args.feeds.now.feeds.items in
     let feeds = c.loop-next.feeds.feeds.items in
     let feeds' = c.next.new.self.feeds.items in
     let history = c.loop-next.invariant.0 in
     let core = c.loop-next.core in
     let t = turn_in (streams_in core.plan.nodes) c.in-Some.next in
-    let left = feeds_left (streams_in plan.nodes) feeds' c.next.new.self.at in (
+    let left = feeds_left (streams_in job.nodes) feeds' c.next.new.self.at in (
       history ++ turn_behind core history t,
-      going_more plan start feeds feeds' c.loop-next.feeds.at c.next.new.self.at history core c.loop-next.counts c.in-Some.next c.loop-next.invariant.1
+      going_more job start feeds feeds' c.loop-next.feeds.at c.next.new.self.at history core c.loop-next.counts c.in-Some.next c.loop-next.invariant.1
           (λ told streams f. given_some streams c.in_ok-next.field-0 c.in-Some.next _ _ c.in-Some.is (c.in_ok-next.ensures.gives told streams f))
-          (new_planned c.args.core.now c.requires.fresh) (c.in_ok-next.ensures.fed (streams_in plan.nodes) c.loop-next.invariant.1.fed) c.in_ok-next.ensures.same c.take_turn.new.core c.take_turn.new.counts c.in_ok-take_turn.ensures.done,
+          (new_planned c.args.core.now c.requires.fresh) (c.in_ok-next.ensures.fed (streams_in job.nodes) c.loop-next.invariant.1.fed) c.in_ok-next.ensures.same c.take_turn.new.core c.take_turn.new.counts c.in_ok-take_turn.ensures.done,
       omega (arith, c.loop-next.invariant.2, c.in_ok-next.ensures.written.later, c.in_ok-take_turn.ensures.later),
       λ t'. c.loop-next.invariant.3 (c.in_ok-next.ensures.written.told (c.in_ok-take_turn.ensures.told t')),
       λ told t'.
-          let ran = going_next plan start feeds feeds' c.loop-next.feeds.at c.next.new.self.at history core c.loop-next.counts c.in-Some.next c.loop-next.invariant.1 (λ told streams f. given_some streams c.in_ok-next.field-0 c.in-Some.next _ _ c.in-Some.is (c.in_ok-next.ensures.gives told streams f)) told in
-          written_then (out_lines (handed_out false (run_nodes plan) history)) (out_lines (turn_outs core history t)) (g.K.Sink.state c.args.out.now).written (g.K.Sink.state c.next.new.out).written (g.K.Sink.state c.take_turn.new.out).written
+          let ran = going_next job start feeds feeds' c.loop-next.feeds.at c.next.new.self.at history core c.loop-next.counts c.in-Some.next c.loop-next.invariant.1 (λ told streams f. given_some streams c.in_ok-next.field-0 c.in-Some.next _ _ c.in-Some.is (c.in_ok-next.ensures.gives told streams f)) told in
+          written_then (out_lines job.nodes (handed_out job.trace (run_nodes job) history)) (out_lines core.plan.nodes (turn_outs core history t)) (g.K.Sink.state c.args.out.now).written (g.K.Sink.state c.next.new.out).written (g.K.Sink.state c.take_turn.new.out).written
           (c.in_ok-next.ensures.written.same (c.in_ok-take_turn.ensures.told t') ∙ c.loop-next.invariant.4 told (c.in_ok-next.ensures.written.told (c.in_ok-take_turn.ensures.told t')))
-          (c.in_ok-take_turn.ensures.lines t' history ran.stands (may_follow plan (files_of start) (new_planned c.args.core.now c.requires.fresh) history core t left c.loop-next.counts ran))
-          ∙ ap (λ (ls : List (List ℕ)). (g.K.Sink.state c.args.out.now).written ++ flat ls) (turn_lines plan (files_of start) (new_planned c.args.core.now c.requires.fresh) history core t left c.loop-next.counts ran),
+          (c.in_ok-take_turn.ensures.lines t' history ran.stands (may_follow job (files_of start) (new_planned c.args.core.now c.requires.fresh) history core t left c.loop-next.counts ran))
+          ∙ ap (λ (ls : List (List ℕ)). (g.K.Sink.state c.args.out.now).written ++ flat ls) (turn_lines job (files_of start) (new_planned c.args.core.now c.requires.fresh) history core t left c.loop-next.counts ran),
     )
 
 pub returns-in_err-take_turn-clause-same : goal.returns-in_err-take_turn-clause-same
@@ -86,97 +86,97 @@ returns-in_err-take_turn-clause-same g c = all_same_then c.args.feeds.now.feeds.
 
 pub returns-in_err-take_turn-clause-lines : goal.returns-in_err-take_turn-clause-lines
 returns-in_err-take_turn-clause-lines g c = λ told t'.
-    let plan = outline_in c.args.core.now in
+    let job = job_in c.args.core.now in
     let start = c.args.feeds.now.feeds.items in
     let feeds = c.loop-next.feeds.feeds.items in
     let feeds' = c.next.new.self.feeds.items in
     let history = c.loop-next.invariant.0 in
     let core = c.loop-next.core in
     let t = turn_in (streams_in core.plan.nodes) c.in-Some.next in
-    let left = feeds_left (streams_in plan.nodes) feeds' c.next.new.self.at in
-    let ran = going_next plan start feeds feeds' c.loop-next.feeds.at c.next.new.self.at history core c.loop-next.counts c.in-Some.next c.loop-next.invariant.1
+    let left = feeds_left (streams_in job.nodes) feeds' c.next.new.self.at in
+    let ran = going_next job start feeds feeds' c.loop-next.feeds.at c.next.new.self.at history core c.loop-next.counts c.in-Some.next c.loop-next.invariant.1
     (λ told streams f. given_some streams c.in_ok-next.field-0 c.in-Some.next _ _ c.in-Some.is (c.in_ok-next.ensures.gives told streams f))
     told in
     let stop = c.in_err-take_turn.field-0.0 in
     rw (err_is c.from_residual-in_err-take_turn.result _ c.from_residual-in_err-take_turn.ensures.1)
-    (subst (λ (cut : Cut). Leaves cut (out_lines (handed_out false (run_nodes plan) (history_of plan (files_of start)))) (g.K.Sink.state c.args.out.now).written (g.K.Sink.state c.take_turn.new.out).written) (sym (turn_cut_same stop))
-    (turn_stopped plan (files_of start) (new_planned c.args.core.now c.requires.fresh) history core t left c.loop-next.counts ran (turn_cut stop) (g.K.Sink.state c.args.out.now).written (g.K.Sink.state c.next.new.out).written (g.K.Sink.state c.take_turn.new.out).written
+    (subst (λ (cut : Cut). Leaves cut (out_lines job.nodes (handed_out job.trace (run_nodes job) (history_of job (files_of start)))) (g.K.Sink.state c.args.out.now).written (g.K.Sink.state c.take_turn.new.out).written) (sym (turn_cut_same stop))
+    (turn_stopped job (files_of start) (new_planned c.args.core.now c.requires.fresh) history core t left c.loop-next.counts ran (turn_cut stop) (g.K.Sink.state c.args.out.now).written (g.K.Sink.state c.next.new.out).written (g.K.Sink.state c.take_turn.new.out).written
     (c.in_ok-next.ensures.written.same (c.in_err-take_turn.ensures.told t') ∙ c.loop-next.invariant.4 told (c.in_ok-next.ensures.written.told (c.in_err-take_turn.ensures.told t')))
-    (c.in_err-take_turn.ensures.lines t' history ran.stands (may_follow plan (files_of start) (new_planned c.args.core.now c.requires.fresh) history core t left c.loop-next.counts ran))))
+    (c.in_err-take_turn.ensures.lines t' history ran.stands (may_follow job (files_of start) (new_planned c.args.core.now c.requires.fresh) history core t left c.loop-next.counts ran))))
 
 pub returns-in_err-take_turn-clause-ends : goal.returns-in_err-take_turn-clause-ends
 returns-in_err-take_turn-clause-ends g c = λ told t'.
-    let plan = outline_in c.args.core.now in
+    let job = job_in c.args.core.now in
     let start = c.args.feeds.now.feeds.items in
     let feeds = c.loop-next.feeds.feeds.items in
     let feeds' = c.next.new.self.feeds.items in
     let history = c.loop-next.invariant.0 in
     let core = c.loop-next.core in
     let t = turn_in (streams_in core.plan.nodes) c.in-Some.next in
-    let left = feeds_left (streams_in plan.nodes) feeds' c.next.new.self.at in
-    let ran = going_next plan start feeds feeds' c.loop-next.feeds.at c.next.new.self.at history core c.loop-next.counts c.in-Some.next c.loop-next.invariant.1
+    let left = feeds_left (streams_in job.nodes) feeds' c.next.new.self.at in
+    let ran = going_next job start feeds feeds' c.loop-next.feeds.at c.next.new.self.at history core c.loop-next.counts c.in-Some.next c.loop-next.invariant.1
     (λ told streams f. given_some streams c.in_ok-next.field-0 c.in-Some.next _ _ c.in-Some.is (c.in_ok-next.ensures.gives told streams f))
     told in
-    if_err (λ stop. TurnsEnd stop plan (files_of start) feeds' (g.K.Sink.state c.args.out.now).written (g.K.Sink.state c.take_turn.new.out).written) c.from_residual-in_err-take_turn.result _ c.from_residual-in_err-take_turn.ensures.1
-    (turn_ends plan (files_of start) (new_planned c.args.core.now c.requires.fresh) history core t left c.loop-next.counts ran c.in_err-take_turn.field-0.0 feeds' (g.K.Sink.state c.args.out.now).written (g.K.Sink.state c.next.new.out) (g.K.Sink.state c.take_turn.new.out)
+    if_err (λ stop. TurnsEnd stop job (files_of start) feeds' (g.K.Sink.state c.args.out.now).written (g.K.Sink.state c.take_turn.new.out).written) c.from_residual-in_err-take_turn.result _ c.from_residual-in_err-take_turn.ensures.1
+    (turn_ends job (files_of start) (new_planned c.args.core.now c.requires.fresh) history core t left c.loop-next.counts ran c.in_err-take_turn.field-0.0 feeds' (g.K.Sink.state c.args.out.now).written (g.K.Sink.state c.next.new.out) (g.K.Sink.state c.take_turn.new.out)
     (c.in_ok-next.ensures.written.same (c.in_err-take_turn.ensures.told t') ∙ c.loop-next.invariant.4 told (c.in_ok-next.ensures.written.told (c.in_err-take_turn.ensures.told t'))) t'
-    (c.in_err-take_turn.ensures.stops history ran.stands (may_follow plan (files_of start) (new_planned c.args.core.now c.requires.fresh) history core t left c.loop-next.counts ran)))
+    (c.in_err-take_turn.ensures.stops history ran.stands (may_follow job (files_of start) (new_planned c.args.core.now c.requires.fresh) history core t left c.loop-next.counts ran)))
 
 pub returns-in_err-take_turn-clause-causes : goal.returns-in_err-take_turn-clause-causes
 returns-in_err-take_turn-clause-causes g c =
-    let plan = outline_in c.args.core.now in
+    let job = job_in c.args.core.now in
     let start = c.args.feeds.now.feeds.items in
     let feeds = c.loop-next.feeds.feeds.items in
     let feeds' = c.next.new.self.feeds.items in
     let history = c.loop-next.invariant.0 in
     let core = c.loop-next.core in
     let t = turn_in (streams_in core.plan.nodes) c.in-Some.next in
-    let left = feeds_left (streams_in plan.nodes) feeds' c.next.new.self.at in
-    if_err (λ stop. TurnsCause stop plan start feeds' (g.K.Sink.state c.args.out.now) (g.K.Sink.state c.take_turn.new.out)) c.from_residual-in_err-take_turn.result _ c.from_residual-in_err-take_turn.ensures.1
-    (turn_cause c.in_err-take_turn.field-0.0 plan start feeds' core history t (g.K.Sink.state c.args.out.now) (g.K.Sink.state c.next.new.out) (g.K.Sink.state c.take_turn.new.out)
-    (let a = c.loop-next.invariant.2 in let b = c.in_ok-next.ensures.written.later in omega (arith, a, b)) (λ is. c.in_err-take_turn.ensures.fault (ap Err is))
+    let left = feeds_left (streams_in job.nodes) feeds' c.next.new.self.at in
+    if_err (λ stop. TurnsCause stop job start feeds' (g.K.Sink.state c.args.out.now) (g.K.Sink.state c.take_turn.new.out)) c.from_residual-in_err-take_turn.result _ c.from_residual-in_err-take_turn.ensures.1
+    (turn_cause c.in_err-take_turn.field-0.0 job start feeds' core history t (g.K.Sink.state c.args.out.now) (g.K.Sink.state c.next.new.out) (g.K.Sink.state c.take_turn.new.out)
+    (let a = c.loop-next.invariant.2 in let b = c.in_ok-next.ensures.written.later in omega (arith, a, b)) (λ is. c.in_err-take_turn.ensures.fault (ap Err is)) (λ why is. c.in_err-take_turn.ensures.cut why (ap Err is))
     (λ told.
-    let ran = going_next plan start feeds feeds' c.loop-next.feeds.at c.next.new.self.at history core c.loop-next.counts c.in-Some.next c.loop-next.invariant.1
+    let ran = going_next job start feeds feeds' c.loop-next.feeds.at c.next.new.self.at history core c.loop-next.counts c.in-Some.next c.loop-next.invariant.1
     (λ told streams f. given_some streams c.in_ok-next.field-0 c.in-Some.next _ _ c.in-Some.is (c.in_ok-next.ensures.gives told streams f))
     told in
-    (left, c.loop-next.counts, (new_planned c.args.core.now c.requires.fresh), ran, c.in_err-take_turn.ensures.stops history ran.stands (may_follow plan (files_of start) (new_planned c.args.core.now c.requires.fresh) history core t left c.loop-next.counts ran))))
+    (left, c.loop-next.counts, (new_planned c.args.core.now c.requires.fresh), ran, c.in_err-take_turn.ensures.stops history ran.stands (may_follow job (files_of start) (new_planned c.args.core.now c.requires.fresh) history core t left c.loop-next.counts ran))))
 
 pub returns-clause-same : goal.returns-clause-same
 returns-clause-same g c = all_same_then c.args.feeds.now.feeds.items c.loop-next.feeds.feeds.items c.next.new.self.feeds.items c.loop-next.invariant.1.same c.in_ok-next.ensures.same
 
 pub returns-clause-lines : goal.returns-clause-lines
 returns-clause-lines g c = λ told t.
-    let plan = outline_in c.args.core.now in
+    let job = job_in c.args.core.now in
     let start = c.args.feeds.now.feeds.items in
     let history = c.loop-next.invariant.0 in
     let going = c.loop-next.invariant.1 in
-    let none = given_none (streams_in plan.nodes) c.in_ok-next.field-0 _ _ c.in_default.is (c.in_ok-next.ensures.gives (told_still start c.loop-next.feeds.feeds.items going.same told) (streams_in plan.nodes) going.fed) in
+    let none = given_none (streams_in job.nodes) c.in_ok-next.field-0 _ _ c.in_default.is (c.in_ok-next.ensures.gives (told_still start c.loop-next.feeds.feeds.items going.same told) (streams_in job.nodes) going.fed) in
     c.in_ok-next.ensures.written.same t
     ∙ (c.loop-next.invariant.4 told (c.in_ok-next.ensures.written.told t)
-    ∙ ap (λ h. (g.K.Sink.state c.args.out.now).written ++ flat (out_lines (handed_out false (run_nodes plan) h))) (all_ran plan (files_of start) history c.loop-next.core _ c.loop-next.counts (going.ran told) none))
+    ∙ ap (λ h. (g.K.Sink.state c.args.out.now).written ++ flat (out_lines job.nodes (handed_out job.trace (run_nodes job) h))) (all_ran job (files_of start) history c.loop-next.core _ c.loop-next.counts (going.ran told) none))
 
 pub returns-clause-outcome : goal.returns-clause-outcome
 returns-clause-outcome g c = λ told.
-    let plan = outline_in c.args.core.now in
+    let job = job_in c.args.core.now in
     let start = c.args.feeds.now.feeds.items in
     let feeds = c.loop-next.feeds.feeds.items in
     let history = c.loop-next.invariant.0 in
     let going = c.loop-next.invariant.1 in
     let told' = told_still start feeds going.same told in
-    let none = given_none (streams_in plan.nodes) c.in_ok-next.field-0 _ _ c.in_default.is (c.in_ok-next.ensures.gives told' (streams_in plan.nodes) going.fed) in
+    let none = given_none (streams_in job.nodes) c.in_ok-next.field-0 _ _ c.in_default.is (c.in_ok-next.ensures.gives told' (streams_in job.nodes) going.fed) in
     let closed = brings_none feeds c.in_ok-next.field-0 c.in_default.is c.in_ok-next.ensures.brings in
     let same = same_none feeds c.next.new.self.feeds.items c.in_ok-next.field-0 c.in_default.is c.in_ok-next.ensures.nothing in
-    outcome_of plan (files_of start) history c.loop-next.core _ c.loop-next.counts _ (going.ran told) none
-    (ap tallies_in same ∙ (all_tallied 0 (streams_in plan.nodes) feeds going.fed closed told' ∙ ap (tallies_of (streams_in plan.nodes)) (files_still start feeds going.same told)))
+    outcome_of job (files_of start) history c.loop-next.core _ c.loop-next.counts _ (going.ran told) none
+    (ap tallies_in same ∙ (all_tallied 0 (streams_in job.nodes) feeds going.fed closed told' ∙ ap (tallies_of (streams_in job.nodes)) (files_still start feeds going.same told)))
 
 pub returns-clause-stands : goal.returns-clause-stands
 returns-clause-stands g c = λ told.
-    let plan = outline_in c.args.core.now in
+    let job = job_in c.args.core.now in
     let start = c.args.feeds.now.feeds.items in
     let going = c.loop-next.invariant.1 in
     let told' = told_still start c.loop-next.feeds.feeds.items going.same told in
-    let none = given_none (streams_in plan.nodes) c.in_ok-next.field-0 _ _ c.in_default.is (c.in_ok-next.ensures.gives told' (streams_in plan.nodes) going.fed) in
-    stands_at_end plan (files_of start) c.loop-next.invariant.0 c.loop-next.core _ c.loop-next.counts (going.ran told) none
+    let none = given_none (streams_in job.nodes) c.in_ok-next.field-0 _ _ c.in_default.is (c.in_ok-next.ensures.gives told' (streams_in job.nodes) going.fed) in
+    stands_at_end job (files_of start) c.loop-next.invariant.0 c.loop-next.core _ c.loop-next.counts (going.ran told) none
 
 pub returns-clause-taken : goal.returns-clause-taken
 returns-clause-taken g c =
