@@ -1,5 +1,5 @@
 -- The request of the words is the one that their parts ask for.
-use Rattle.std.proofs.Common.{◌≡◌, ◌∙◌, ◌≤◌, ◌↔◌, ℕ, true, false, true≢false, refl, sym, ap, ap₂, subst, arith, List, [], ◌∷◌, Option, Some, None, is_some, codes, length, leb-true, nat_le}
+use Rattle.std.proofs.Common.{◌≡◌, ◌∙◌, ◌≤◌, ◌↔◌, ℕ, true, false, true≢false, refl, sym, ap, ap₂, subst, arith, List, [], ◌∷◌, Option, Some, None, is_some, codes, drop, length, leb-true, nat_le}
 use Rattle.std.specs.List.{list_all}
 use Rattle.std.specs.Option.{unwrap_or}
 use Rattle.std.specs.Str.{bytes_eq}
@@ -9,7 +9,7 @@ use Rattle.clap.proofs.WalkLemmas.{both}
 use Rattle.pj_words.specs.Form.{Choice, Form, IsLine, Part, Spells, Text, check_form, digits_in, fit_operands, fits_option, has_option, is_among, is_digit, is_number, is_operand, make_form, options_in, replay_form, run_form, words_of}
 use Rattle.pj_words.specs.Found.{number_or}
 use Rattle.pj_words.specs.Reader.{ReadsExactly, reads, start}
-use Rattle.pj_words.specs.Request.{Asks, IsRequest, asked_by, behind, form_of, if_read, is_given, request_by, request_in, said_by, said_in, subcommand_in, subcommand_named}
+use Rattle.pj_words.specs.Request.{Asks, IsRequest, asked_by, form_of, if_read, is_given, request_by, request_in, said_by, said_in, subcommand_in, subcommand_named}
 use Rattle.pj_words.specs.declared.request.Request.{Request}
 use Rattle.pj_words.specs.declared.tables.Subcommand.{Subcommand}
 use Rattle.pj_words.specs.declared.tables.Subcommand.TheVariants.{Run as Running, Replay as Replaying, Check as Checking, Make as Making}
@@ -126,12 +126,12 @@ line_back words k parts s =
 
 pub request_is : (words : List Text) (k : Subcommand) (parts : List Part) → subcommand_in words ≡ Some k → Spells words (form_of k) parts
     → request_in words ≡ Some (request_by k (said_in parts))
-request_is words k parts e s = ap₂ asked_by e (ap behind s.spelled) ∙ ap (λ r. Some r) (said_same k parts s.line)
+request_is words k parts e s = ap₂ asked_by e (ap (drop 1) s.spelled) ∙ ap (λ r. Some r) (said_same k parts s.line)
 
 asks : (words : List Text) (request : Request) → request_in words ≡ Some request → Asks words request
 asks words request e = go (subcommand_in words) refl e
   where
-    go : (o : Option Subcommand) → subcommand_in words ≡ o → asked_by o (behind words) ≡ Some request → Asks words request
+    go : (o : Option Subcommand) → subcommand_in words ≡ o → asked_by o (drop 1 words) ≡ Some request → Asks words request
     go None is h = absurd (none_some h)
     go (Some k) is h =
         let l = line_of words k is in

@@ -1,5 +1,5 @@
 -- The program's reader takes the steps of the reading.
-use Rattle.std.proofs.Common.{◌≡◌, ◌∙◌, ◌<◌, ℕ, suc, Bool, cond, true, false, true≢false, refl, sym, ap, ap₂, List, [], ◌∷◌, map, drop, length, Option, Some, None, codes, not, ◌&&◌, ◌||◌, drop-cons, get_or, if◌then◌else◌}
+use Rattle.std.proofs.Common.{◌≡◌, ◌∙◌, ◌<◌, ℕ, suc, Bool, cond, true, false, true≢false, refl, sym, ap, ap₂, List, [], ◌∷◌, map, drop, length, Option, Some, None, codes, not, ◌&&◌, ◌||◌, drop-cons, get_or, if◌then◌else◌, is_none, option_map}
 use Rattle.std.specs.List.{list_any}
 use Rattle.std.specs.Str.{bytes_eq}
 use Rattle.std.proofs.lemmas.Slice.Eq.{bytes_eq-Decides}
@@ -11,9 +11,9 @@ use Rattle.pj_words.specs.declared.tables.Name.TheVariants.{Workers, Limit, Sort
 use Rattle.pj_words.specs.declared.reader.Given.{Given}
 use Rattle.pj_words.specs.declared.reader.Seen.{Seen as State}
 use Rattle.pj_words.specs.Form.{Form, Operand, Text, fits_kind, fits_range, is_among, is_numbered, is_operand}
-use Rattle.pj_words.specs.Reader.{Seen, begins_dash, goes_on, has_name, is_done, is_nothing, may_repeat, new_option, next_operand, number_option, operand_step, option_step, reads, step, with_name}
+use Rattle.pj_words.specs.Reader.{Seen, begins_dash, goes_on, has_name, is_done, may_repeat, new_option, next_operand, number_option, operand_step, option_step, reads, step, with_name}
 use Rattle.pj_words.specs.Request.{form_of}
-use Rattle.pj_words.specs.Steps.{LeadsTo, all_names, has_mark, marked, marks, name_text, names_given, seen_by, text_wanted, with_mark}
+use Rattle.pj_words.specs.Steps.{LeadsTo, all_names, has_mark, marked, marks, name_text, names_given, seen_by, with_mark}
 use Rattle.pj_words.proofs.Sound.{by_test, ranged_name, same_either_way}
 
 -- ---- the options that were given
@@ -168,7 +168,7 @@ module _ (c : Form) (words : List Text) (after : SameAfter c words) where
       go false = operand_same left inside a b word same
 
 reads_same : (c : Form) (words : List Text) → SameAfter c words
-reads_same c [] left inside a b wants same = ap₂ (λ (s t : Bool). is_nothing wants && (is_done left && not (s && t)))
+reads_same c [] left inside a b wants same = ap₂ (λ (s t : Bool). is_none wants && (is_done left && not (s && t)))
     (has_alike a b (codes "sorted") same) (has_alike a b (codes "trace") same)
 reads_same c (word ∷ words) left inside a b wants same = step_same c words (reads_same c words) left inside a b wants word same
 
@@ -176,9 +176,9 @@ reads_same c (word ∷ words) left inside a b wants same = step_same c words (re
 
 -- one more option
 pub option_leads : (k : Subcommand) (st : State) (name : Name) (wants : Option Name)
-    → LeadsTo k (Some (with_name (seen_by k st) (name_text name) (text_wanted wants))) (Some (record st { inside = false; given = with_mark st.given name; wants = wants }))
+    → LeadsTo k (Some (with_name (seen_by k st) (name_text name) (option_map name_text wants))) (Some (record st { inside = false; given = with_mark st.given name; wants = wants }))
 option_leads k st name wants words = reads_same (form_of k) words (drop st.place (form_of k).operands) false (name_text name ∷ names_given st.given)
-    (names_given (with_mark st.given name)) (text_wanted wants) (λ other. sym (given_with st.given name other))
+    (names_given (with_mark st.given name)) (option_map name_text wants) (λ other. sym (given_with st.given name other))
 
 -- an option that no command has
 unknown_flag : (k : Subcommand) (name : Text) → is_among all_names name ≡ false → (is_among (form_of k).flags name ≡ false) × (is_numbered (form_of k) name ≡ false)

@@ -1,19 +1,16 @@
 -- The values of an argument among the rows that clap found.
 use Rattle.std.specs.Prelude.{ℕ, List, [], Option, Some, None, Bool, ◌&&◌, nat_le, length}
 use Rattle.std.specs.List.{list_all}
+use Rattle.std.specs.Option.{unwrap_or}
 use Rattle.pj_words.specs.Form.{is_digit}
 use Rattle.clap.specs.Words.{Row, Text, all_of, first_of}
 use Rattle.std.specs.Str.Parse.{digits_value}
 
-abbrev pub or_empty : {A : Type 0} → Option (List A) → List A
-or_empty None = []
-or_empty (Some xs) = xs
-
 abbrev pub text_in : Text → List Row → Text
-text_in id rows = or_empty (first_of id rows)
+text_in id rows = unwrap_or (first_of id rows) []
 
 abbrev pub texts_in : Text → List Row → List Text
-texts_in id rows = or_empty (all_of id rows)
+texts_in id rows = unwrap_or (all_of id rows) []
 
 abbrev pub number_or : ℕ → Option Text → ℕ
 number_or n None = n

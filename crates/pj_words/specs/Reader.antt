@@ -1,5 +1,5 @@
 -- The reading of words one after the other, as a test.
-use Rattle.std.specs.Prelude.{◌≡◌, ◌↔◌, ◌==◌, ◌&&◌, Bool, true, false, not, List, [], ◌∷◌, Option, Some, None, if◌then◌else◌, codes}
+use Rattle.std.specs.Prelude.{◌≡◌, ◌↔◌, ◌==◌, ◌&&◌, Bool, true, false, not, List, [], ◌∷◌, Option, Some, None, if◌then◌else◌, codes, is_none}
 use Rattle.std.specs.List.{list_any}
 use Rattle.std.specs.Str.{bytes_eq}
 use Rattle.clap.specs.Lexer.{long_of}
@@ -51,17 +51,13 @@ step c st word = word_step c st st.wants word
 abbrev pub has_name : List Text → Text → Bool
 has_name names name = list_any (λ x. bytes_eq x name) names
 
-abbrev pub is_nothing : {A : Type 0} → Option A → Bool
-is_nothing None = true
-is_nothing (Some x) = false
-
 abbrev pub is_done : List Operand → Bool
 is_done [] = true
 is_done (o ∷ os) = false
 
 -- the words may end here
 abbrev pub may_end : Seen → Bool
-may_end st = is_nothing st.wants && (is_done st.left && not (has_name st.names (codes "sorted") && has_name st.names (codes "trace")))
+may_end st = is_none st.wants && (is_done st.left && not (has_name st.names (codes "sorted") && has_name st.names (codes "trace")))
 
 abbrev pub goes_on : (Seen → Bool) → Option Seen → Bool
 goes_on more None = false

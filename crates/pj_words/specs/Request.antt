@@ -1,5 +1,5 @@
 -- The request that words make.
-use Rattle.std.specs.Prelude.{◌≡◌, ◌↔◌, ◌≤◌, ◌&&◌, ◌||◌, ℕ, Bool, true, false, List, [], ◌∷◌, Option, Some, None, codes, length, drop, slice_index_or, if◌then◌else◌}
+use Rattle.std.specs.Prelude.{◌≡◌, ◌↔◌, ◌≤◌, ◌&&◌, ◌||◌, ℕ, Bool, true, false, List, [], ◌∷◌, Option, Some, None, codes, length, drop, slice_get, slice_index_or, if◌then◌else◌, is_none}
 use Rattle.std.specs.List.{list_all, list_any}
 use Rattle.std.specs.Str.{bytes_eq}
 use Rattle.std.specs.Str.Parse.{digits_value}
@@ -10,7 +10,7 @@ use Rattle.pj_words.specs.declared.tables.Subcommand.{Subcommand}
 use Rattle.pj_words.specs.declared.tables.Subcommand.TheVariants.{Run as Running, Replay as Replaying, Check as Checking, Make as Making}
 use Rattle.pj_words.specs.Form.{Form, Part, Spells, Text, check_form, digits_in, has_option, is_operand, make_form, operand_texts, options_in, replay_form, run_form}
 use Rattle.pj_words.specs.Found.{number_or}
-use Rattle.pj_words.specs.Reader.{begins_dash, is_nothing, reads, start}
+use Rattle.pj_words.specs.Reader.{begins_dash, reads, start}
 
 -- ---- what a line says
 
@@ -52,13 +52,9 @@ names_it name word = is_named name (long_of word)
 abbrev pub is_given : List Text → Text → Bool
 is_given words name = list_any (names_it name) words
 
-abbrev pub first_word : List Text → Option Text
-first_word [] = None
-first_word (word ∷ words) = Some word
-
 -- an option's number: what stands behind `=`, or the next word
 abbrev pub number_text : Option Text → List Text → Option Text
-number_text None words = first_word words
+number_text None words = slice_get words 0
 number_text (Some text) words = Some text
 
 abbrev pub digits_here : Text → Option (Text × Option Text) → List Text → Option Text → Option Text
@@ -73,7 +69,7 @@ digits_given (word ∷ words) name = digits_here name (long_of word) words (digi
 -- the word is an option, and the next word its number
 abbrev pub wants_next : Option (Text × Option Text) → Bool
 wants_next None = false
-wants_next (Some p) = is_nothing p.1 && (bytes_eq p.0 (codes "workers") || bytes_eq p.0 (codes "limit"))
+wants_next (Some p) = is_none p.1 && (bytes_eq p.0 (codes "workers") || bytes_eq p.0 (codes "limit"))
 
 -- the words that are operands; the first of all is not, where it is the number of the option before
 abbrev pub operands_from : Bool → List Text → List Text
@@ -105,17 +101,13 @@ abbrev pub subcommand_in : List Text → Option Subcommand
 subcommand_in [] = None
 subcommand_in (word ∷ words) = if_read (subcommand_named word) words
 
-abbrev pub behind : List Text → List Text
-behind [] = []
-behind (word ∷ words) = words
-
 abbrev pub asked_by : Option Subcommand → List Text → Option Request
 asked_by None words = None
 asked_by (Some k) words = Some (request_by k (said_by words))
 
 -- the request that the words make, if they have the form of a command
 abbrev pub request_in : List Text → Option Request
-request_in words = asked_by (subcommand_in words) (behind words)
+request_in words = asked_by (subcommand_in words) (drop 1 words)
 
 -- ---- the request of the form
 

@@ -1,5 +1,5 @@
 -- What the program's reader keeps, as the state of the reading.
-use Rattle.std.specs.Prelude.{◌≡◌, Bool, true, false, List, [], ◌∷◌, Option, Some, None, codes, drop, ℕ, if◌then◌else◌}
+use Rattle.std.specs.Prelude.{◌≡◌, Bool, true, false, List, [], ◌∷◌, Option, Some, None, codes, drop, ℕ, if◌then◌else◌, is_some, option_map}
 use Rattle.pj_words.specs.declared.tables.Subcommand.{Subcommand}
 use Rattle.pj_words.specs.declared.tables.Subcommand.TheVariants.{Run as Running, Replay as Replaying, Check as Checking, Make as Making}
 use Rattle.pj_words.specs.declared.tables.Kind.{Kind as Shape}
@@ -46,13 +46,9 @@ abbrev pub within : Option (ℕ × ℕ) → Text → Bool
 within None digits = false
 within (Some r) digits = is_number r.0 r.1 digits
 
-abbrev pub is_told_of : {A : Type 0} → Option A → Bool
-is_told_of None = false
-is_told_of (Some x) = true
-
 -- the range of the numbers of an option, where the command has it
 pub record IsRangeOf (k : Subcommand) (name : Text) (range : Option (ℕ × ℕ)) : Type 0 where
-  pub numbered : is_numbered (form_of k) name ≡ is_told_of range
+  pub numbered : is_numbered (form_of k) name ≡ is_some range
   pub fits : (digits : Text) → list_any (fits_range name digits) (form_of k).numbers ≡ within range digits
 
 -- ---- the options that were given
@@ -87,13 +83,9 @@ names_given g = marked (marks g)
 
 -- ---- the state
 
-abbrev pub text_wanted : Option Name → Option Text
-text_wanted None = None
-text_wanted (Some name) = Some (name_text name)
-
 -- what is kept, as the reading's state
 abbrev pub seen_by : Subcommand → State → Seen
-seen_by k st = record { left = drop st.place (form_of k).operands; inside = st.inside; names = names_given st.given; wants = text_wanted st.wants }
+seen_by k st = record { left = drop st.place (form_of k).operands; inside = st.inside; names = names_given st.given; wants = option_map name_text st.wants }
 
 -- whether the words are read from here on
 abbrev pub reads_from : Subcommand → Option State → List Text → Bool

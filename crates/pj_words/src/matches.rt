@@ -1,9 +1,9 @@
 // The values that clap found for the words.
-ghost use Rattle.std.specs.Prelude.{◌≡◌, ◌≤◌, ◌<◌, ◌^◌, ℕ, IfOk, codes, is_some, length, map, true, Some, None, List};
+ghost use Rattle.std.specs.Prelude.{◌≡◌, ◌≤◌, ◌<◌, ◌^◌, IfOk, codes, is_some, length, map, true, Some};
 ghost use Rattle.std.specs.String.{string_bytes};
 ghost use Rattle.std.specs.Str.Parse.{digits_value};
 ghost use Rattle.clap.specs.Lexer.{usize_max};
-ghost use Rattle.clap.specs.Words.{Text, subcommand_of, subcommand_rows_of, takes, rows_of, found_of};
+ghost use Rattle.clap.specs.Words.{subcommand_of, subcommand_rows_of, takes, rows_of, found_of};
 ghost use Rattle.pj_words.specs.Clap.{pj_app};
 ghost use Rattle.pj_words.specs.Found.{text_in, texts_in, number_in, is_numeral};
 ghost use Rattle.pj_words.specs.Matches.{FitsNumber, IsCheckFound, IsFlag, IsFound, IsMakeFound, IsReplayFound, IsRunFound, flag_in, found_by, limit_in, rows_under};
@@ -178,59 +178,35 @@ fn line_matches<'a>(
     Ok(matches_of(alloc, words)?)
 }
 
-/// The request of the words of a run.
-pub(crate) fn run_of(alloc: Global, words: &[String]) -> Result<Request, NoMemory>
-    requires { subcommand_in (map string_bytes words.now) ≡ Some Running }
-    ensures { IfOk result (λ r. request_in (map string_bytes words.now) ≡ Some r) }
+/// The request of what clap found for words of the form of this command.
+fn request_read(
+    alloc: Global,
+    command: Subcommand,
+    found: &ArgMatches<'_>,
+) -> Result<Request, NoMemory>
+    requires { IsFound command (rows_of (found_of found.now)) }
+    ensures { IfOk result (λ r. r ≡ found_by command (rows_of (found_of found.now))) }
 {
-    let matches = line_matches(alloc, Subcommand::Run, words)?;
-    match matches.subcommand() {
-        Some((_, found)) => run_request(alloc, found),
-        None => {
-            prove!(false);
-            Err(NoMemory)
-        }
+    match command {
+        Subcommand::Run => run_request(alloc, found),
+        Subcommand::Replay => replay_request(alloc, found),
+        Subcommand::Check => check_request(alloc, found),
+        Subcommand::Make => Ok(make_request(found)),
     }
 }
 
-/// The request of the words of a replay.
-pub(crate) fn replay_of(alloc: Global, words: &[String]) -> Result<Request, NoMemory>
-    requires { subcommand_in (map string_bytes words.now) ≡ Some Replaying }
+/// The request of words that have the form of this command.
+pub(crate) fn request_for(
+    alloc: Global,
+    command: Subcommand,
+    words: &[String],
+) -> Result<Request, NoMemory>
+    requires { subcommand_in (map string_bytes words.now) ≡ Some command }
     ensures { IfOk result (λ r. request_in (map string_bytes words.now) ≡ Some r) }
 {
-    let matches = line_matches(alloc, Subcommand::Replay, words)?;
+    let matches = line_matches(alloc, command, words)?;
     match matches.subcommand() {
-        Some((_, found)) => replay_request(alloc, found),
-        None => {
-            prove!(false);
-            Err(NoMemory)
-        }
-    }
-}
-
-/// The request of the words of a check.
-pub(crate) fn check_of(alloc: Global, words: &[String]) -> Result<Request, NoMemory>
-    requires { subcommand_in (map string_bytes words.now) ≡ Some Checking }
-    ensures { IfOk result (λ r. request_in (map string_bytes words.now) ≡ Some r) }
-{
-    let matches = line_matches(alloc, Subcommand::Check, words)?;
-    match matches.subcommand() {
-        Some((_, found)) => check_request(alloc, found),
-        None => {
-            prove!(false);
-            Err(NoMemory)
-        }
-    }
-}
-
-/// The request of the words that make inputs.
-pub(crate) fn make_of(alloc: Global, words: &[String]) -> Result<Request, NoMemory>
-    requires { subcommand_in (map string_bytes words.now) ≡ Some Making }
-    ensures { IfOk result (λ r. request_in (map string_bytes words.now) ≡ Some r) }
-{
-    let matches = line_matches(alloc, Subcommand::Make, words)?;
-    match matches.subcommand() {
-        Some((_, found)) => Ok(make_request(found)),
+        Some((_, found)) => request_read(alloc, command, found),
         None => {
             prove!(false);
             Err(NoMemory)

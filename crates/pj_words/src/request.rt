@@ -4,9 +4,8 @@ ghost use Rattle.std.specs.String.{string_bytes};
 ghost use Rattle.pj_words.specs.Request.{IsRequest, request_in};
 ghost use Rattle.pj_words.specs.declared.request.WordStop.TheVariants.{Usage};
 
-use crate::matches::{check_of, make_of, replay_of, run_of};
+use crate::matches::request_for;
 use crate::reader::subcommand_in;
-use crate::tables::Subcommand;
 use pj_value::{Bytes, List, NoMemory};
 use std::alloc::Global;
 
@@ -89,10 +88,7 @@ pub fn request_of(alloc: Global, words: &[String]) -> Result<Request, WordStop>
     ensures refused { request_in (map string_bytes words.now) ≡ None → result ≡ Err Usage }
 {
     match subcommand_in(words) {
-        Some(Subcommand::Run) => Ok(run_of(alloc, words)?),
-        Some(Subcommand::Replay) => Ok(replay_of(alloc, words)?),
-        Some(Subcommand::Check) => Ok(check_of(alloc, words)?),
-        Some(Subcommand::Make) => Ok(make_of(alloc, words)?),
+        Some(command) => Ok(request_for(alloc, command, words)?),
         None => Err(WordStop::Usage),
     }
 }

@@ -1,6 +1,6 @@
 // The commands, their operands and their options.
-ghost use Rattle.std.specs.Prelude.{◌≡◌, ◌∷◌, ◌<◌, [], IfSome, slice_get};
-ghost use Rattle.pj_words.specs.Form.{fits_kind, is_among, is_operand, is_number};
+ghost use Rattle.std.specs.Prelude.{◌≡◌, ◌∷◌, [], slice_get};
+ghost use Rattle.pj_words.specs.Form.{fits_kind, is_among};
 ghost use Rattle.pj_words.specs.Reader.{may_repeat};
 ghost use Rattle.pj_words.specs.Request.{form_of, subcommand_named};
 ghost use Rattle.pj_words.specs.Steps.{IsName, IsRangeOf, kind_of, kinds_of, name_text};
