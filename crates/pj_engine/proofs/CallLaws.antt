@@ -2,13 +2,10 @@
 use Rattle.pj_plan.specs.declared.node.Outline.{Outline}
 use Rattle.pj_run.specs.Jobs.{Job}
 use Rattle.pj_plan.specs.declared.node.PlanNode.{PlanNode}
-use Rattle.pj_plan.specs.Nodes.{streams_of, streams_in}
+use Rattle.pj_plan.specs.Nodes.{streams_of}
 use Rattle.pj_safety.specs.Safety.{IsSafePlan}
-use Rattle.std.proofs.Common.{◌≡◌, ◌≢◌, ◌≤◌, ◌<◌, ◌+◌, ◌-◌, ◌⊎◌, ℕ, zero, suc, Bool, true, inl, inr, List, [], ◌∷◌, map, length, take, drop, Err, Option, Some, None, IsTrue, refl, ap, ap₂, sym, ◌∙◌, subst, arith}
+use Rattle.std.proofs.Common.{◌≡◌, ◌≢◌, ◌≤◌, ◌<◌, ◌+◌, ℕ, suc, Bool, true, inl, inr, List, [], ◌∷◌, map, length, Err, Some, IsTrue, refl, ap, ap₂, sym, ◌∙◌, subst, arith}
 use Rattle.std.specs.Prelude.{slice_index_or, ◌^◌}
-use Rattle.std.proofs.lemmas.Bool.{false≢true}
-use Rattle.std.proofs.lemmas.List.{take_all, length-map}
-use Rattle.pj_value.specs.Lists.{In}
 use Rattle.pj_io.specs.Causes.{Rose}
 use Rattle.pj_io.specs.Folders.{SameElsewhere, NoneFalls}
 use Rattle.pj_io.specs.States.{FolderState, SinkState}
@@ -21,16 +18,16 @@ use Rattle.pj_feed.specs.declared.stops.OpeningStop.TheVariants.{Fault, NoMemory
 use Rattle.pj_run.specs.declared.stops.RunStop.TheVariants.{ReadFault as RunFault, TooLarge, Limit as RunLimit, WriteFailed, NoMemory as RunMemory, Cut as RunCut}
 use Rattle.pj_events.specs.declared.events.Stop.{Stop}
 use Rattle.pj_events.specs.declared.events.Stop.TheVariants.{Limit as CoreLimit, NoMemory as CoreMemory}
-use Rattle.pj_engine.specs.Commands.{asked_in, command_of, wanted, AsksSomething, Command, job_if, job_of, operand, behind_first, plan_bytes, stream_files, IsTold, HasToldPlan}
-use Rattle.pj_feed.specs.Named.{files_named, AreTold, AreDistinct, IsNoneOf}
-use Rattle.pj_run.specs.Ends.{EndsBefore, EndsAtLimit, EndsCut, ArrivedOf}
-use Rattle.pj_feed.specs.Opened.{OpensFirst, IsReadToEnd, AreReadToEnd}
-use Rattle.pj_engine.specs.Plans.{outline_in, plan_of, IsAskedCore, SpellsPlan}
-use Rattle.pj_engine.specs.Refusals.{IsRunOf}
-use Rattle.pj_words.specs.declared.request.Request.{Request}
-use Rattle.std.specs.declared.string.String.{String}
-use Rattle.std.specs.declared.alloc.Global.{Global}
-use Rattle.pj_core.specs.Cores.{CoreState}
+use Rattle.pj_engine.specs.Commands.{Command, file_names, job_if, job_of, operand, IsOnlyOperand, behind_first, plan_bytes, stream_files, IsTold, HasToldPlan}
+use Rattle.pj_feed.specs.Named.{files_named, AreTold, IsAlone}
+use Rattle.pj_run.specs.Ends.{EndsBefore, EndsAtBytes, EndsAtLimit, EndsCut, ArrivedOf}
+use Rattle.pj_feed.specs.Opened.{OpensFirst, IsReadToEnd, AreReadToEnd, StayOutside}
+use Rattle.pj_feed.proofs.Outside.{stay_then, stay_wider}
+use Rattle.pj_report.specs.declared.writer.Form.{Form}
+use Rattle.pj_engine.specs.declared.commands.Options.{Options}
+use Rattle.pj_engine.specs.declared.commands.Prepared.{Prepared}
+use Rattle.pj_engine.specs.Plans.{outline_in, plan_of, IsAsked, SpellsPlan}
+use Rattle.pj_engine.specs.Refusals.{IsRun}
 use Rattle.pj_report.specs.Report.{status_line}
 use Rattle.pj_run.specs.RunEnds.{FilesEnd, FilesCause, FilesOpened, IsFaultOf}
 use Rattle.pj_run.specs.Runs.{job_in, run_lines, GoesBeyond}
@@ -47,22 +44,17 @@ use Rattle.pj_plan.specs.Sound.{IsSoundPlan}
 pub names_are : (command : Command) (files : List (List ℕ)) → command.names ≡ operand command.names 1 ∷ files → behind_first command.names ≡ files
 names_are command files named = ap behind_first named
 
-pub named_of : (command : Command) (owned lent : List (List ℕ)) → IsRunOf owned command → lent ≡ owned → command.names ≡ operand command.names 1 ∷ lent
-named_of command owned lent run same = run.run.named ∙ ap (λ (names : List (List ℕ)). operand command.names 1 ∷ names) (run.over ∙ sym same)
+pub named_of : (command : Command) (lent : List (List ℕ)) → IsRun command → lent ≡ file_names command → command.names ≡ operand command.names 1 ∷ lent
+named_of command lent run same = run.named ∙ ap (λ (names : List (List ℕ)). operand command.names 1 ∷ names) (sym same)
 
 -- what the command asks for is what a core of its plan runs
-pub job_read : (command : Command) (core : CoreState) → IsAskedCore command.trace command.limit core → plan_of (plan_bytes command) ≡ Some (outline_in core) → job_of command ≡ Some (job_in core)
-job_read command core asked read =
+pub job_read : (command : Command) (ready : Prepared) → IsAsked command.options ready → plan_of (plan_bytes command) ≡ Some (outline_in ready.core) → job_of command ≡ Some (job_in ready.writing ready.core)
+job_read command ready asked read =
+    let nodes : List PlanNode = ready.core.plan.nodes in
+    let options : Options = command.options in
     ap (job_if command) read
-    ∙ ap₂ (λ (trace : Bool) (limit : ℕ). let job : Job = record { nodes = core.plan.nodes; trace = trace; limit = limit } in Some job) (sym asked.traced) (sym asked.limited)
-
--- words of a run ask for something
-pub asks_of : (words : List (String Global)) (folder : FolderState) → (command_of words folder).is_run ≡ true → AsksSomething words
-asks_of words folder run = go (asked_in words) refl run
-  where
-    go : (asked : Option Request) → asked_in words ≡ asked → (wanted asked).is_run ≡ true → AsksSomething words
-    go None is run = absurd (false≢true run)
-    go (Some request) is run = (request, is)
+    ∙ (ap₂ (λ (trace : Bool) (limit : ℕ). let job : Job = record { nodes = nodes; trace = trace; limit = limit; form = options.form; check = options.check } in Some job) (sym asked.traced) (sym asked.limited)
+    ∙ ap₂ (λ (form : Form) (check : Bool). let job : Job = record { nodes = nodes; trace = ready.core.plan.trace; limit = ready.core.limit; form = form; check = check } in Some job) (sym asked.formed) (sym asked.checked))
 
 -- ---- the folder once the plan was read
 
@@ -99,11 +91,6 @@ module _ (command : Command) (files : List (List ℕ)) (mid : FolderState) (name
 
 operand_at : (first : List ℕ) (names : List (List ℕ)) (stream : ℕ) → operand (first ∷ names) (2 + stream) ≡ slice_index_or names stream []
 operand_at first names stream = let e : 2 + stream ≡ suc (suc stream) = omega arith in ap (λ (m : ℕ). slice_index_or ([] ∷ first ∷ names) m []) e
-
-none_at : (first : List ℕ) (names : List (List ℕ)) (i : ℕ) → IsNoneOf first names → i < length names → slice_index_or names i [] ≢ first
-none_at first [] i none lt = absurd (omega (arith, lt))
-none_at first (n ∷ ns) zero none lt = λ e. none.0 (sym e)
-none_at first (n ∷ ns) (suc i) none lt = none_at first ns i none.1 (omega (arith, lt))
 
 -- ---- what is opened
 
@@ -150,36 +137,47 @@ module _ (command : Command) (files : List (List ℕ)) (mid new : FolderState) (
     opened_stop (Run (RunCut stop)) opened = cut_opened stop opened
     opened_stop (Run RunMemory) opened = (suc (length files), then_opened (length files) opened, omega (arith, all_counted), λ _. is_built)
 
+-- what is so of names that are no stream's is so of those that are no operand
+pub others_stay : (command : Command) (files : List (List ℕ)) (mid new : FolderState) → command.names ≡ operand command.names 1 ∷ files → StayOutside command.names command.folder mid → StayOutside files mid new
+    → StayOutside command.names command.folder new
+others_stay command files mid new named before then =
+    stay_then command.names command.folder mid new before
+    (subst (λ (ns : List (List ℕ)). StayOutside ns mid new) (sym named) (stay_wider files (operand command.names 1 ∷ files) mid new (λ name there. inr there) then))
+
 -- ---- what a stop leaves
 
 module _ (command : Command) (files : List (List ℕ)) (mid new : FolderState) (named : command.names ≡ operand command.names 1 ∷ files) (told : mid.told ≡ command.folder.told) (contents : mid.contents ≡ command.folder.contents) (others : SameElsewhere (operand command.names 1) command.folder.last mid.last) where
   at_operand : (stream : ℕ) → operand command.names (2 + stream) ≡ slice_index_or files stream []
   at_operand stream = ap (λ (ns : List (List ℕ)). operand ns (2 + stream)) named ∙ operand_at (operand command.names 1) files stream
 
-  distinct_names : AreDistinct command.names → AreDistinct (operand command.names 1 ∷ files)
-  distinct_names d = subst AreDistinct named d
+  -- no other stream's file has the name of this one, nor has the plan's, where no other operand has it
+  alone_among : (stream : ℕ) → IsOnlyOperand (2 + stream) command.names → IsAlone stream files
+  alone_among stream only other low unlike e =
+      only (2 + other) (omega arith) (let all = ap length named in omega (arith, all, low)) (λ same. unlike (omega (arith, same))) (at_operand other ∙ (e ∙ sym (at_operand stream)))
+
+  unlike_plan : (stream : ℕ) → IsOnlyOperand (2 + stream) command.names → slice_index_or files stream [] ≢ operand command.names 1
+  unlike_plan stream only e = only 1 (omega arith) (let all = ap length named in omega (arith, all)) (λ same. omega (arith, same)) (sym e ∙ sym (at_operand stream))
 
   files_are : files_named files mid ≡ stream_files command
   files_are = files_same command files mid named told contents
 
   -- a file that was not opened
-  not_opened : (job : Job) (stream : ℕ) (before lines : List ℕ) → stream < length files → FilesEnd (Opening (Fault stream)) job files mid new before lines
-      → AreDistinct command.names → new.last (operand command.names (2 + stream)) ≡ command.folder.last (operand command.names (2 + stream))
-  not_opened job stream before lines there ends = λ d.
-      let all = distinct_names d in
+  not_opened : (job : Job) (stream : ℕ) (before lines : List ℕ) → FilesEnd (Opening (Fault stream)) job files mid new before lines
+      → IsOnlyOperand (2 + stream) command.names → new.last (operand command.names (2 + stream)) ≡ command.folder.last (operand command.names (2 + stream))
+  not_opened job stream before lines ends = λ only.
       let at = at_operand stream in
-      ap new.last at ∙ (ends.1 all.1 ∙ (others (slice_index_or files stream []) (none_at (operand command.names 1) files stream all.0 there) ∙ ap command.folder.last (sym at)))
+      ap new.last at ∙ (ends.1 (alone_among stream only) ∙ (others (slice_index_or files stream []) (unlike_plan stream only) ∙ ap command.folder.last (sym at)))
 
   -- a read that failed
   not_read : (job : Job) (stream : ℕ) (before lines : List ℕ) → FilesEnd (Run (RunFault stream)) job files mid new before lines → FaultLeaves job command new (2 + stream) before lines
   not_read job stream before lines ends = go (files_named files mid) files_are ends
     where
       go : (had : List (List ℕ)) → had ≡ stream_files command
-          → (ends : EndsBefore job had stream before lines) × (AreDistinct files → ArrivedOf job had stream (new.last (slice_index_or files stream [])) ends.front)
+          → (ends : EndsBefore job had stream before lines) × (IsAlone stream files → ArrivedOf job had stream (new.last (slice_index_or files stream [])) ends.front)
           → FaultLeaves job command new (2 + stream) before lines
       go had same e =
-          subst (λ (fs : List (List ℕ)). ((s : ℕ) × (2 + stream ≡ 2 + s) × (ends : EndsBefore job fs s before lines) × (AreDistinct command.names → ArrivedOf job fs s (new.last (operand command.names (2 + stream))) ends.front))) same
-          (stream, refl, e.0, λ d. subst (λ (n : List ℕ). ArrivedOf job had stream (new.last n) e.0.front) (sym (at_operand stream)) (e.1 (distinct_names d).1))
+          subst (λ (fs : List (List ℕ)). ((s : ℕ) × (2 + stream ≡ 2 + s) × (ends : EndsBefore job fs s before lines) × (IsAlone s (file_names command) → ArrivedOf job fs s (new.last (operand command.names (2 + stream))) ends.front))) same
+          (stream, refl, e.0, λ d. subst (λ (n : List ℕ). ArrivedOf job had stream (new.last n) e.0.front) (sym (at_operand stream)) (e.1 (subst (IsAlone stream) (names_are command files named) d)))
 
   -- the core stopped, and then the output failed
   cut_left : (stop : Stop) (job : Job) (first now after : SinkState) → IsTrue after.told → job_of command ≡ Some job → FilesCause (Run (RunCut stop)) job files mid new first now
@@ -201,15 +199,15 @@ module _ (command : Command) (files : List (List ℕ)) (mid new : FolderState) (
   -- the run stopped, and then the line of its status was written
   pub stopped : (stop : FilesStop) (job : Job) (name : List ℕ) (first now after : SinkState) → IsTrue after.told → job_of command ≡ Some job → name ≡ stop_name job.nodes (files_status stop)
       → FilesCause stop job files mid new first now → Leaves (files_cut stop) (run_lines job (files_named files mid)) first.written now.written
-      → FilesEnd stop job files mid new first.written now.written → first.faults ≤ now.faults → now.faults ≤ after.faults → Delivered (stop_line stop name) now after
+      → FilesEnd stop job files mid new first.written now.written → first.faults ≤ now.faults → now.faults ≤ after.faults → Delivered (stop_line stop name) now after → IsBuilt command
       → StopLeaves (files_status stop) command new first after
-  stopped (Opening (Fault stream)) job name first now after t read named cause left ends le more line = not_opened job stream first.written now.written cause.there ends
-  stopped (Opening OpeningMemory) job name first now after t read named cause left ends le more line = inl (
+  stopped (Opening (Fault stream)) job name first now after t read named cause left ends le more line is_built = not_opened job stream first.written now.written ends
+  stopped (Opening OpeningMemory) job name first now after t read named cause left ends le more line is_built = inl (
     now.written,
-    inr (job, read, subst (λ (fs : List (List ℕ)). Leaves (files_cut (Opening OpeningMemory)) (run_lines job fs) first.written now.written) files_are left),
+    inr (is_built, job, read, subst (λ (fs : List (List ℕ)). Leaves (files_cut (Opening OpeningMemory)) (run_lines job fs) first.written now.written) files_are left),
     earlier_rose (status_line [] NoMemory) first now after le line,
   )
-  stopped (Run (RunFault stream)) job name first now after t read named cause left ends le more line =
+  stopped (Run (RunFault stream)) job name first now after t read named cause left ends le more line is_built =
       inr (
         job,
         now.written,
@@ -217,48 +215,48 @@ module _ (command : Command) (files : List (List ℕ)) (mid new : FolderState) (
         not_read job stream first.written now.written ends,
         earlier_rose (status_line [] (ReadFault (2 + stream))) first now after le (subst (λ (x : List ℕ). Delivered (status_line x (ReadFault (2 + stream))) now after) named line),
       )
-  stopped (Run (TooLarge stream)) job name first now after t read named cause left ends le more line = inr (inl (
+  stopped (Run (TooLarge stream)) job name first now after t read named cause left ends le more line is_built = inr (inl (
     job,
     now.written,
     read,
-    subst (λ (fs : List (List ℕ)). EndsBefore job fs stream first.written now.written) files_are ends,
+    subst (λ (fs : List (List ℕ)). EndsAtBytes job fs stream first.written now.written) files_are ends,
     earlier_rose (status_line (limit_name job.nodes (File stream)) (Limit (File stream))) first now after le (subst (λ (x : List ℕ). Delivered (status_line x (Limit (File stream))) now after) named line),
   ))
-  stopped (Run (RunLimit node)) job name first now after t read named cause left ends le more line = inr (inl (
+  stopped (Run (RunLimit node)) job name first now after t read named cause left ends le more line is_built = inr (inl (
     job,
     now.written,
     read,
     subst (λ (fs : List (List ℕ)). EndsAtLimit job fs node first.written now.written) files_are ends,
     earlier_rose (status_line (limit_name job.nodes (Node node)) (Limit (Node node))) first now after le (subst (λ (x : List ℕ). Delivered (status_line x (Limit (Node node))) now after) named line),
   ))
-  stopped (Run WriteFailed) job name first now after t read named cause left ends le more line = (
+  stopped (Run WriteFailed) job name first now after t read named cause left ends le more line is_built = (
     job,
     read,
     subst (λ (bytes : List ℕ). FrontOf (flat (run_lines job (stream_files command))) first.written bytes) (sym (same_after now after t line))
         (subst (λ (fs : List (List ℕ)). FrontOf (flat (run_lines job fs)) first.written now.written) files_are left),
   )
-  stopped (Run (RunCut stop)) job name first now after t read named cause left ends le more line = cut_left stop job first now after t read cause left ends more line
-  stopped (Run RunMemory) job name first now after t read named cause left ends le more line = inl (
+  stopped (Run (RunCut stop)) job name first now after t read named cause left ends le more line is_built = cut_left stop job first now after t read cause left ends more line
+  stopped (Run RunMemory) job name first now after t read named cause left ends le more line is_built = inl (
     now.written,
-    inr (job, read, subst (λ (fs : List (List ℕ)). Leaves (files_cut (Run RunMemory)) (run_lines job fs) first.written now.written) files_are left),
+    inr (is_built, job, read, subst (λ (fs : List (List ℕ)). Leaves (files_cut (Run RunMemory)) (run_lines job fs) first.written now.written) files_are left),
     earlier_rose (status_line [] NoMemory) first now after le line,
   )
 
   -- ---- a file that could not be opened
 
   pub early : (stop : FilesStop) (job : Job) (name : List ℕ) (first now after : SinkState) → name ≡ stop_name job.nodes (files_status stop)
-      → ((opening : OpeningStop) → stop ≡ Opening opening → now ≡ first) → Delivered (stop_line stop name) now after → EarlyEnd (files_status stop) command new first after
-  early (Opening (Fault stream)) job name first now after named same line =
+      → ((opening : OpeningStop) → stop ≡ Opening opening → now ≡ first) → Delivered (stop_line stop name) now after → IsBuilt command → EarlyEnd (files_status stop) command new first after
+  early (Opening (Fault stream)) job name first now after named same line is_built =
       subst (λ (s : SinkState). Delivered (status_line [] (OpenFault (2 + stream))) s after) (same (Fault stream) refl)
       (subst (λ (x : List ℕ). Delivered (status_line x (OpenFault (2 + stream))) now after) named line)
-  early (Opening OpeningMemory) job name first now after named same line = tt
-  early (Run (RunFault stream)) job name first now after named same line = λ one. absurd (omega (arith, one))
-  early (Run (TooLarge stream)) job name first now after named same line = λ what. absurd (cc)
-  early (Run (RunLimit node)) job name first now after named same line = λ what. absurd (cc)
-  early (Run (RunCut (CoreLimit node))) job name first now after named same line = λ what. absurd (cc)
-  early (Run (RunCut CoreMemory)) job name first now after named same line = tt
-  early (Run WriteFailed) job name first now after named same line = tt
-  early (Run RunMemory) job name first now after named same line = tt
+  early (Opening OpeningMemory) job name first now after named same line is_built = λ none. absurd (none is_built)
+  early (Run (RunFault stream)) job name first now after named same line is_built = λ one. absurd (omega (arith, one))
+  early (Run (TooLarge stream)) job name first now after named same line is_built = λ what. absurd (cc)
+  early (Run (RunLimit node)) job name first now after named same line is_built = λ what. absurd (cc)
+  early (Run (RunCut (CoreLimit node))) job name first now after named same line is_built = λ what. absurd (cc)
+  early (Run (RunCut CoreMemory)) job name first now after named same line is_built = λ none. absurd (none is_built)
+  early (Run WriteFailed) job name first now after named same line is_built = tt
+  early (Run RunMemory) job name first now after named same line is_built = λ none. absurd (none is_built)
 
   -- ---- causes
 

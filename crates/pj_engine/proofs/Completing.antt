@@ -7,7 +7,7 @@ use Rattle.pj_io.specs.States.{FolderState, SinkState}
 use Rattle.pj_report.specs.declared.status.Status.{Status}
 use Rattle.pj_report.specs.declared.status.Status.TheVariants.{Done, Usage, OpenFault, ReadFault, PlanRefused, FileCount, Unsafe, WriteFault, NoMemory, Limit}
 use Rattle.pj_report.specs.declared.status.LimitOf.TheVariants.{Plan, Node, File}
-use Rattle.pj_engine.specs.Commands.{Command, job_if, IsTold, behind_first, file_names, operand, stream_files}
+use Rattle.pj_engine.specs.Commands.{Command, job_if, job_with, IsTold, behind_first, file_names, operand, stream_files}
 use Rattle.pj_feed.specs.Named.{AreTold}
 use Rattle.pj_run.specs.Jobs.{Job}
 use Rattle.pj_engine.specs.Completeness.{Completes, HasRoom, NoneRose}
@@ -56,7 +56,7 @@ module _ (command : Command) (after : FolderState) (old new : SinkState) (told :
       let at = at_stream command.names stream large.there in
       let plan = (built.plan told.plan).1 in
       let long : stream < length (stream_files command) = let same = length-map names command.folder.contents in let there = large.there in omega (arith, same, there) in
-      let job : Job = record { nodes = plan.0.nodes; trace = command.trace; limit = command.limit } in
+      let job : Job = job_with command.options plan.0.nodes in
       let few = (room job (ap (job_if command) plan.1)).bytes stream long in
       let same = get_or-map command.folder.contents names stream [] [] large.there in
       let many = large.bytes (subst (λ (name : List ℕ). IsTrue (command.folder.told name)) (sym at) (told_there names command.folder stream told.files large.there)) in

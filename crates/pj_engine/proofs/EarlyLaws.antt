@@ -1,5 +1,5 @@
 -- A call that has no plan to run: what is opened and written, and why.
-use Rattle.std.proofs.Common.{◌≡◌, ◌≤◌, ◌<◌, ◌⊎◌, ℕ, true, false, inl, inr, List, [], ◌∷◌, length, Result, Ok, Err, refl, ap, ap₂, sym, ◌∙◌, subst, arith}
+use Rattle.std.proofs.Common.{◌≡◌, ◌≤◌, ◌<◌, ℕ, true, false, inl, inr, List, [], ◌∷◌, length, Result, Ok, Err, refl, ap, ap₂, sym, ◌∙◌, subst, arith}
 use Rattle.std.proofs.lemmas.Bool.{false≢true}
 use Rattle.pj_io.specs.Causes.{Rose}
 use Rattle.pj_io.specs.States.{FolderState, SinkState}
@@ -80,11 +80,11 @@ module _ (command : Command) (new : FolderState) where
   early_early (PlanFile NotOpened) first after u line = line
   early_early (PlanFile NotRead) first after u line = λ one. line
   early_early (PlanFile TooLong) first after u line = λ what. line
-  early_early (PlanFile FileMemory) first after u line = tt
+  early_early (PlanFile FileMemory) first after u line = λ none. line
   early_early (Refused fault) first after u line = line
   early_early (OtherCount want got) first after u line = line
   early_early (Stuck found) first after u line = (u.1.0.1, found.lines, λ told. (u.1.0.3 told).1, u.1.0.2.1, line)
-  early_early PlanMemory first after u line = tt
+  early_early PlanMemory first after u line = λ none. line
 
   -- ---- causes
 
@@ -120,12 +120,6 @@ module _ (command : Command) (new : FolderState) where
 -- a result that no words gave is this stop, and no other
 pub usage_alone : {T : Type 0} (result : Result T PlanStop) (stop : PlanStop) → result ≡ Err stop → result ≡ Err NoWords → stop ≡ NoWords
 usage_alone result stop is none = let e : Err stop ≡ Err NoWords = sym is ∙ none in cc e
-
-pub not_usage : {T : Type 0} (result : Result T PlanStop) (ready : T) → result ≡ Ok ready → result ≡ Err NoWords → ⊥
-not_usage result ready is none = let e : Ok ready ≡ Err NoWords = sym is ∙ none in cc e
-
-pub memory_no_usage : (stop : PlanStop) → plan_status stop ≡ NoMemory → stop ≡ NoWords → ⊥
-memory_no_usage stop is none = let e : Usage ≡ NoMemory = sym (ap plan_status none) ∙ is in cc e
 
 pub no_words : (stop : PlanStop) (command : Command) (after : FolderState) → Unprepared stop command after → plan_status stop ≡ Usage → command.is_run ≡ false
 no_words NoWords command after u e = u.0

@@ -31,7 +31,11 @@ use Rattle.pj_join_laws.proofs.Upto.{length-upto}
 use Rattle.pj_laws.proofs.Steps.{elements-append}
 use Rattle.pj_core_laws.proofs.PlainAnswers.{answers-are-plain}
 use Rattle.pj_run.specs.Runs.{history_of, outputs_of, plan_run, run_nodes}
-use Rattle.pj_engine.specs.Top.{AllLawful, AreOfWidth, answer_after, arrived_in, gone_on, streams_after, StaysRight}
+use Rattle.pj_report.specs.declared.writer.Form.{Form}
+use Rattle.pj_report.specs.declared.writer.Form.TheVariants.{AsTheyCome, Sorted}
+use Rattle.pj_report.specs.Forms.{in_form}
+use Rattle.pj_report.proofs.Forms.{formed_rows}
+use Rattle.pj_engine.specs.Top.{AllLawful, AreOfWidth, answer_after, arrived_in, gone_on, streams_after, ReachesSo, StaysRight}
 use Rattle.pj_run.proofs.Accepting.{count-streams, schema-is}
 use Rattle.pj_run.proofs.OutputLaws.{whole_run}
 use Rattle.pj_run.proofs.Planned.{IsPlanned}
@@ -155,32 +159,52 @@ rows_front xs ys zs e f =
     omega (arith, all, parts, front)
 
 right_front : (job : Job) (files : List (List ℕ)) (first others : List Element) (front back : List Entry) → IsPlanned job → front ++ back ≡ history_of job files
-    → first ++ others ≡ given_out job.trace (run_nodes job) front
+    → first ++ others ≡ in_form job.form (given_out job.trace (run_nodes job) front)
     → (more : List (List Element)) → AllLawful (streams_in job.nodes) (streams_after job front more) → SubBag (rows_of first) (answer_after job front more)
 right_front job files first others front back p run among more lawful f =
     let legal = fronts-are-legal (run_nodes job) front back (subst (IsLegal (run_nodes job)) (sym run) (whole_run job files p).legal) in
     let sub = is-final (run_nodes job) p.well_made p.some job.trace front legal (map rows_of (streams_after job front more)) (go_on job front more lawful) f in
     let plain = ap (weigh f) (answers-are-plain (plan_run job) (map rows_of (streams_after job front more))).answer in
-    omega (arith, sub, plain, rows_front first others (given_out job.trace (run_nodes job) front) among f)
+    let given = given_out job.trace (run_nodes job) front in
+    omega (arith, sub, plain, rows_front first others (in_form job.form given) among f, formed_rows job.form given f)
 
-stays_by : (job : Job) (files : List (List ℕ)) (first others : List Element) → IsPlanned job → first ++ others ≡ outputs_of job files
-    → IsLeast job.trace (run_nodes job) (history_of job files) (length first) → StaysRight job files first
-stays_by job files first others p e cut =
-    let now = cut.front ++ cut.last ∷ [] in
-    let all = e ∙ (ap (given_out job.trace (run_nodes job)) (sym cut.run) ∙ given-append job.trace (run_nodes job) now cut.back) in
-    let part = front-of first others (given_out job.trace (run_nodes job) now) (given_out job.trace (nodes_from (run_nodes job) now) cut.back) all cut.enough in
-    record {
-      front = now;
-      back = cut.back;
-      run = cut.run;
-      others = part.0;
-      among = part.1;
-      shortest = inr (cut.front, cut.last, refl, cut.before);
-      right = right_front job files first part.0 now cut.back p cut.run part.1;
-    }
+-- the form in which they are written
+module _ (job : Job) (files : List (List ℕ)) (first others : List Element) (p : IsPlanned job) where
+  least_front : job.form ≡ AsTheyCome → first ++ others ≡ outputs_of job files → IsLeast job.trace (run_nodes job) (history_of job files) (length first) → StaysRight job files first
+  least_front is e cut =
+      let now = cut.front ++ cut.last ∷ [] in
+      let all = e ∙ (ap (given_out job.trace (run_nodes job)) (sym cut.run) ∙ given-append job.trace (run_nodes job) now cut.back) in
+      let part = front-of first others (given_out job.trace (run_nodes job) now) (given_out job.trace (nodes_from (run_nodes job) now) cut.back) all cut.enough in
+      let among = part.1 ∙ ap (λ (form : Form). in_form form (given_out job.trace (run_nodes job) now)) (sym is) in
+      record {
+        front = now;
+        back = cut.back;
+        run = cut.run;
+        others = part.0;
+        among = among;
+        reaches = subst (λ (form : Form). ReachesSo form job now cut.back (length first)) (sym is) (inr (cut.front, cut.last, refl, cut.before));
+        right = right_front job files first part.0 now cut.back p cut.run among;
+      }
 
-pub stays : (job : Job) (files : List (List ℕ)) (first others : List Element) → IsPlanned job → first ++ others ≡ outputs_of job files → (first ≡ []) ⊎ StaysRight job files first
+  whole_front : job.form ≡ Sorted → first ++ others ≡ in_form job.form (outputs_of job files) → StaysRight job files first
+  whole_front is e =
+      let run = append-nil (history_of job files) in
+      record {
+        front = history_of job files;
+        back = [];
+        run = run;
+        others = others;
+        among = e;
+        reaches = subst (λ (form : Form). ReachesSo form job (history_of job files) [] (length first)) (sym is) refl;
+        right = right_front job files first others (history_of job files) [] p run e;
+      }
+
+  stays_in : (form : Form) → job.form ≡ form → first ++ others ≡ in_form job.form (outputs_of job files) → 0 < length first → StaysRight job files first
+  stays_in AsTheyCome is e some =
+      let same = e ∙ ap (λ (form : Form). in_form form (outputs_of job files)) is in
+      least_front is same (least job.trace (run_nodes job) [] (history_of job files) (length first) some (omega (arith, ap length same, length-append first others)))
+  stays_in Sorted is e some = whole_front is e
+
+pub stays : (job : Job) (files : List (List ℕ)) (first others : List Element) → IsPlanned job → first ++ others ≡ in_form job.form (outputs_of job files) → (first ≡ []) ⊎ StaysRight job files first
 stays job files [] others p e = inl refl
-stays job files (x ∷ first) others p e =
-    inr (stays_by job files (x ∷ first) others p e
-    (least job.trace (run_nodes job) [] (history_of job files) (length (x ∷ first)) (omega arith) (omega (arith, ap length e, length-append (x ∷ first) others))))
+stays job files (x ∷ first) others p e = inr (stays_in job files (x ∷ first) others p job.form refl e (omega arith))

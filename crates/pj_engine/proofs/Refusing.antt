@@ -1,12 +1,12 @@
 -- Why there is no plan to run, from the plan of the file up to the words.
-use Rattle.std.proofs.Common.{◌≡◌, ◌≤◌, inl, inr, ℕ, Bool, true, false, List, [], ◌∷◌, length, Some, Result, Ok, Err, IsTrue, IfErr, refl, ap, sym, ◌∙◌, subst}
+use Rattle.std.proofs.Common.{◌≡◌, ◌≤◌, inl, inr, ℕ, Bool, List, [], ◌∷◌, length, Option, Some, None, Result, Ok, Err, IsTrue, refl, ap, sym, ◌∙◌, subst}
 use Rattle.std.specs.declared.string.String.{String}
 use Rattle.std.specs.declared.alloc.Global.{Global}
+use Rattle.pj_io.specs.Folders.{SameElsewhere}
 use Rattle.pj_io.specs.States.{FolderState}
 use Rattle.pj_plan.specs.declared.fault.PlanFault.{PlanFault}
 use Rattle.pj_shape.specs.declared.joins.CertStep.{CertStep}
 use Rattle.pj_plan.specs.declared.node.Outline.{Outline}
-use Rattle.pj_plan.specs.declared.node.PlanNode.{PlanNode}
 use Rattle.pj_plan.specs.Kept.{IsMadeAgain}
 use Rattle.pj_plan.specs.Sound.{IsSoundPlan}
 use Rattle.pj_plan_text.specs.PlanRead.{plan_read}
@@ -19,11 +19,16 @@ use Rattle.pj_engine.specs.declared.stops.FileStop.{FileStop}
 use Rattle.pj_engine.specs.declared.stops.FileStop.TheVariants.{OpenFault as NotOpened, ReadFault as NotRead, TooLong, NoMemory as FileMemory}
 use Rattle.pj_engine.specs.declared.stops.PlanStop.{PlanStop}
 use Rattle.pj_engine.specs.declared.stops.PlanStop.TheVariants.{Usage as NoWords, File as PlanFile, Refused, FileCount as OtherCount, Unsafe as Stuck, NoMemory as PlanMemory}
-use Rattle.pj_engine.specs.Commands.{command_of, Command, operand, file_names, run_of}
-use Rattle.pj_feed.specs.Opened.{OpensFirst}
+use Rattle.pj_words.specs.declared.request.Request.{Request}
+use Rattle.pj_words.specs.declared.request.WordStop.{WordStop}
+use Rattle.pj_words.specs.declared.request.WordStop.TheVariants.{Usage as WordUsage, NoMemory as WordMemory}
+use Rattle.pj_engine.specs.Commands.{asked_in, command_of, wanted}
+use Rattle.pj_feed.specs.Opened.{OpensFirst, StayOutside}
+use Rattle.pj_feed.proofs.Outside.{stay_elsewhere}
 use Rattle.pj_run.specs.PlanNames.{HasShortNames}
 use Rattle.pj_engine.specs.Plans.{outline_in, plan_of, plan_if}
-use Rattle.pj_engine.specs.Refusals.{BytesRefused, FileCause, FileOpens, HasLines, IsRun, IsRunOf, NamesNoRun, PlanCause, PlanUnfit, Unprepared}
+use Rattle.pj_engine.specs.Stops.{of_words}
+use Rattle.pj_engine.specs.Refusals.{BytesRefused, FileCause, FileOpens, HasLines, PlanCause, PlanUnfit, Unprepared}
 use Rattle.pj_run.specs.Runs.{IsNewCore}
 use Rattle.pj_safe_core.proofs.Certified.{run_certified}
 use Rattle.pj_engine.proofs.NameLaws.{plain_names}
@@ -90,24 +95,16 @@ module _ (files : ℕ) (name bytes : List ℕ) (old new : FolderState) (is : IsT
   bytes_cause (Stuck found) b lines = ((opened, b.0, b.2, told_so (Ok b.0) b.1), lines)
   bytes_cause PlanMemory b lines = tt
 
--- ---- the command
+-- of other names nothing changes
+pub stay_but : (name : List ℕ) (old new : FolderState) → SameElsewhere name old.faults new.faults → SameElsewhere name old.last new.last → StayOutside (name ∷ []) old new
+stay_but name old new faults last = stay_elsewhere (name ∷ []) name old new (inl refl) faults last
 
-pub run_is : (plan : List ℕ) (files : List (List ℕ)) (trace : Bool) (limit : ℕ) (folder : FolderState) → IsRunOf files (run_of plan files trace limit folder)
-run_is plan files trace limit folder = record { run = record { form = refl; named = refl }; over = refl }
+-- ---- words
 
--- words that name no run
-pub unprepared_words : (stop : PlanStop) (words : List (String Global)) (folder : FolderState) → NamesNoRun stop words → Unprepared stop (command_of words folder) folder
-unprepared_words NoWords words folder n = (n folder, refl)
-unprepared_words (PlanFile stop) words folder n = absurd n
-unprepared_words (Refused fault) words folder n = absurd n
-unprepared_words (OtherCount want got) words folder n = absurd n
-unprepared_words (Stuck found) words folder n = absurd n
-unprepared_words PlanMemory words folder n = inr refl
+-- words that make no request, or for which there is no memory
+word_stop : (stop : WordStop) (words : List (String Global)) (folder : FolderState) → (stop ≡ WordUsage → asked_in words ≡ None) → Unprepared (of_words stop) (command_of words folder) folder
+word_stop WordUsage words folder none = (ap (λ (asked : Option Request). (wanted asked).is_run) (none refl), refl)
+word_stop WordMemory words folder none = inr refl
 
-pub unprepared_so : (stop : PlanStop) (command : Command) (after : FolderState) → IsRun command → PlanCause stop (length (file_names command)) (operand command.names 1) command.folder after → Unprepared stop command after
-unprepared_so NoWords command after run cause = absurd cause
-unprepared_so (PlanFile stop) command after run cause = (run, cause)
-unprepared_so (Refused fault) command after run cause = (run, cause)
-unprepared_so (OtherCount want got) command after run cause = (run, cause)
-unprepared_so (Stuck found) command after run cause = (run, cause)
-unprepared_so PlanMemory command after run cause = inl run
+pub unprepared_words : (refusal : PlanStop) (stop : WordStop) (words : List (String Global)) (folder : FolderState) → refusal ≡ of_words stop → (stop ≡ WordUsage → asked_in words ≡ None) → Unprepared refusal (command_of words folder) folder
+unprepared_words refusal stop words folder is none = subst (λ (s : PlanStop). Unprepared s (command_of words folder) folder) (sym is) (word_stop stop words folder none)

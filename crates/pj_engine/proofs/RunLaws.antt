@@ -3,7 +3,7 @@ use Rattle.pj_run.specs.Jobs.{Job}
 use Rattle.pj_plan.specs.declared.node.PlanNode.{PlanNode}
 use Rattle.pj_core.specs.Plans.{RunPlan, nodes_of}
 use Rattle.pj_plan.specs.Nodes.{inputs_of, streams_in, joins_of}
-use Rattle.std.proofs.Common.{◌≡◌, ◌≤◌, ◌≢◌, ℕ, Bool, true, not, ◌==◌, inl, inr, List, [], ◌∷◌, ◌++◌, map, length, Option, Some, None, IsTrue, refl, ap, sym, ◌∙◌, subst, append-nil, arith}
+use Rattle.std.proofs.Common.{◌≡◌, ◌≤◌, ◌≢◌, ℕ, Bool, true, false, not, ◌==◌, inl, inr, List, [], ◌∷◌, ◌++◌, map, length, Option, Some, None, IsTrue, refl, ap, sym, ◌∙◌, subst, append-nil, arith}
 use Rattle.std.specs.Prelude.{codes, nat_le, slice_get}
 use Rattle.std.specs.List.{list_all}
 use Rattle.std.specs.Fmt.{decimal}
@@ -25,7 +25,10 @@ use Rattle.pj_value.specs.declared.values.Value.{Value}
 use Rattle.pj_events.specs.declared.events.Entry.{Entry}
 use Rattle.pj_events.specs.declared.events.Out.{Out}
 use Rattle.pj_events.specs.Outcomes.{elements_out, peak_of}
-use Rattle.pj_report.specs.Results.{input_name, name_of, out_lines, purge_line}
+use Rattle.pj_report.specs.Forms.{form_lines}
+use Rattle.pj_report.specs.Results.{input_name, name_of, purge_line}
+use Rattle.pj_report.specs.declared.writer.Form.{Form}
+use Rattle.pj_report.specs.declared.writer.Form.TheVariants.{AsTheyCome, Sorted}
 use Rattle.pj_engine.specs.Commands.{Command, job_of, stream_files}
 use Rattle.pj_plan.specs.Canonical.{node_at, node_name}
 use Rattle.pj_plan.specs.Names.{is_name_byte}
@@ -33,8 +36,9 @@ use Rattle.pj_run.specs.PlanNames.{HasShortNames, is_short, are_short}
 use Rattle.pj_plan.specs.declared.fault.PlanWhy.{PlanWhy}
 use Rattle.pj_plan.specs.declared.fault.PlanWhy.TheVariants.{NotAPlan, UnknownStatement, BadShape, NameTwice, UnknownName, UnknownColumn, ColumnTwice, KindsDiffer, BadClass, BadScheme, UsedTwiceOrNever, TooMany, Output, Unreadable}
 use Rattle.pj_report.specs.declared.status.Status.TheVariants.{PlanRefused, FileCount}
-use Rattle.pj_report.specs.Report.{fault_words, status_line, stream_line, stream_lines, reject_line, reject_words, results_line, peak_line, counted_to}
-use Rattle.pj_run.specs.Runs.{outs_of, outputs_of, history_of, report_of, run_lines, streams_report, peak_report, plan_run}
+use Rattle.pj_algebra.specs.Answers.{answer_of}
+use Rattle.pj_report.specs.Report.{check_line, fault_words, status_line, stream_line, stream_lines, reject_line, reject_words, results_line, peak_line, counted_to}
+use Rattle.pj_run.specs.Runs.{accepted_rows, check_in, outs_of, outputs_of, history_of, report_of, run_lines, streams_report, peak_report, peaks_in, plan_run}
 use Rattle.pj_report.specs.Written.{flat, Delivered, holding}
 use Rattle.pj_report.proofs.Fronts.{IsNoteLine, AreNotes, notes-append}
 use Rattle.pj_engine.proofs.NameLaws.{name_plain, streams_plain}
@@ -45,10 +49,10 @@ use Rattle.pj_engine.proofs.NameLaws.{name_plain, streams_plain}
 pub ran : (Holds : Job → List (List ℕ) → List Element → List (List ℕ) → Type 0) (job : Job) (command : Command) (ready : List (List ℕ)) (old new : SinkState)
     → job_of command ≡ Some job → ready ≡ stream_files command → new.written ≡ old.written ++ flat (run_lines job ready) → Holds job ready (outputs_of job ready) (report_of job ready (outputs_of job ready))
     → (job : Job) × (outs : List Out) × (report : List (List ℕ)) × (job_of command ≡ Some job)
-    × (outs ≡ outs_of job (stream_files command)) × (new.written ≡ old.written ++ flat (out_lines job.nodes outs ++ report)) × Holds job (stream_files command) (elements_out outs) report
+    × (outs ≡ outs_of job (stream_files command)) × (new.written ≡ old.written ++ flat (form_lines job.form job.nodes outs ++ report)) × Holds job (stream_files command) (elements_out outs) report
 ran Holds job command ready old new read same written holds =
     subst (λ (fs : List (List ℕ)). (job : Job) × (outs : List Out) × (report : List (List ℕ)) × (job_of command ≡ Some job)
-    × (outs ≡ outs_of job fs) × (new.written ≡ old.written ++ flat (out_lines job.nodes outs ++ report)) × Holds job fs (elements_out outs) report) same
+    × (outs ≡ outs_of job fs) × (new.written ≡ old.written ++ flat (form_lines job.form job.nodes outs ++ report)) × Holds job fs (elements_out outs) report) same
     (job, outs_of job ready, report_of job ready (outputs_of job ready), read, refl, written, holds)
 
 -- ---- what was delivered
@@ -214,8 +218,25 @@ peaks_note plan history (join ∷ joins) plain = (
   peaks_note plan history joins plain,
 )
 
+-- the lines of the peaks that a report has, and of its check
+peaks_in_note : (form : Form) (plan : RunPlan) (history : List Entry) → HasShortNames plan.nodes → AreNotes (peaks_in form plan history)
+peaks_in_note AsTheyCome plan history plain = peaks_note plan history (joins_of plan.nodes) plain
+peaks_in_note Sorted plan history plain = tt
+
+check_note : (rows : ℕ) → IsNoteLine (check_line rows)
+check_note rows =
+    let all : NoFeed (codes "# check " ++ decimal rows) = and_then (literal (codes "# check ") refl) (number rows) in
+    record { words = codes "# check " ++ decimal rows; is = refl; note = refl; whole = all.it }
+
+check_in_note : (check : Bool) (nodes : List PlanNode) (lists : List (List (List Value))) → AreNotes (check_in check nodes lists)
+check_in_note true nodes lists = (check_note (length (answer_of nodes lists)), tt)
+check_in_note false nodes lists = tt
+
 pub report_notes : (job : Job) (files : List (List ℕ)) (outputs : List Element) → HasShortNames job.nodes → AreNotes (report_of job files outputs)
 report_notes job files outputs plain =
-    notes-append (streams_report (streams_in job.nodes) files ++ results_line outputs ∷ []) _
-    (notes-append (streams_report (streams_in job.nodes) files) (results_line outputs ∷ []) (streams_note (streams_in job.nodes) files (streams_plain job.nodes plain)) (results_note outputs, tt))
-    (peaks_note (plan_run job) (history_of job files) (joins_of job.nodes) plain)
+    let streams = streams_report (streams_in job.nodes) files in
+    let results = results_line outputs ∷ [] in
+    notes-append (streams ++ results ++ peaks_in job.form (plan_run job) (history_of job files)) _
+    (notes-append (streams ++ results) _ (notes-append streams results (streams_note (streams_in job.nodes) files (streams_plain job.nodes plain)) (results_note outputs, tt))
+    (peaks_in_note job.form (plan_run job) (history_of job files) plain))
+    (check_in_note job.check job.nodes (accepted_rows job files))

@@ -32,6 +32,9 @@ use Rattle.pj_run.specs.declared.stops.RunStop.TheVariants.{ReadFault as RunFaul
 use Rattle.pj_engine.specs.Commands.{Command, job_of, stream_files}
 use Rattle.pj_run.specs.PlanNames.{HasShortNames, are_short}
 use Rattle.pj_report.specs.Report.{status_line}
+use Rattle.pj_report.specs.declared.writer.Form.{Form}
+use Rattle.pj_report.specs.declared.writer.Form.TheVariants.{AsTheyCome, Sorted}
+use Rattle.pj_report.specs.Forms.{form_lines, in_form}
 use Rattle.pj_report.specs.Results.{out_lines}
 use Rattle.pj_events.specs.declared.events.Out.{Out}
 use Rattle.pj_events.specs.declared.events.Out.TheVariants.{Tuple as RowOut, Punct as PunctOut, Purged}
@@ -45,7 +48,8 @@ use Rattle.pj_engine.specs.Top.{StaysRight, limit_name, stop_name}
 use Rattle.pj_run.specs.Cuts.{files_cut}
 use Rattle.pj_report.specs.Written.{flat, FrontOf, WholeLines, Delivered, Leaves, Spells}
 use Rattle.pj_engine.proofs.FrontLaws.{stays}
-use Rattle.pj_report.proofs.Fronts.{IsNoteLine, AreNotes, AreLinesOf, notes_are, lines-append, FrontSpells, front_spells, FirstLines, first_lines}
+use Rattle.pj_report.proofs.Forms.{formed_lawful, sorted_elements}
+use Rattle.pj_report.proofs.Fronts.{IsNoteLine, AreNotes, AreLinesOf, elements_are, notes_are, lines-append, FrontSpells, front_spells, FirstLines, first_lines}
 use Rattle.pj_report.proofs.LinesWritten.{flat-append}
 use Rattle.pj_engine.proofs.NameLaws.{name_plain, streams_plain}
 use Rattle.pj_run.proofs.OutputLaws.{outputs_lawful}
@@ -77,25 +81,35 @@ out_lines_are nodes (RowOut row ∷ outs) plain = inr (Tuple row, elements_out o
 out_lines_are nodes (PunctOut punct ∷ outs) plain = inr (Punct punct, elements_out outs, refl, refl, out_lines_are nodes outs plain)
 out_lines_are nodes (Purged join input row ∷ outs) plain = inl (purge_note nodes join input row plain, out_lines_are nodes outs plain)
 
+-- in each form they are the lines of elements in its order
+form_lines_are : (form : Form) (nodes : List PlanNode) (outs : List Out) → HasShortNames nodes → AreLinesOf (form_lines form nodes outs) (in_form form (elements_out outs))
+form_lines_are AsTheyCome nodes outs plain = out_lines_are nodes outs plain
+form_lines_are Sorted nodes outs plain =
+    subst (λ (ls : List (List ℕ)). AreLinesOf ls (in_form Sorted (elements_out outs))) (sorted_elements (elements_out outs)) (elements_are (in_form Sorted (elements_out outs)))
+
+-- the outputs in the order in which the run writes them
+abbrev written_outputs : Job → List (List ℕ) → List Element
+written_outputs job files = in_form job.form (outputs_of job files)
+
 -- all lines of a run are those of its outputs, with notes among them
-run_lines_are : (job : Job) (files : List (List ℕ)) → HasShortNames job.nodes → AreLinesOf (run_lines job files) (outputs_of job files)
+run_lines_are : (job : Job) (files : List (List ℕ)) → HasShortNames job.nodes → AreLinesOf (run_lines job files) (written_outputs job files)
 run_lines_are job files plain =
-    subst (AreLinesOf (run_lines job files)) (append-nil (outputs_of job files))
-    (lines-append (out_lines job.nodes (outs_of job files)) (report_of job files (outputs_of job files)) (outputs_of job files) [] (out_lines_are job.nodes (outs_of job files) plain)
+    subst (AreLinesOf (run_lines job files)) (append-nil (written_outputs job files))
+    (lines-append (form_lines job.form job.nodes (outs_of job files)) (report_of job files (outputs_of job files)) (written_outputs job files) [] (form_lines_are job.form job.nodes (outs_of job files) plain)
     (notes_are (report_of job files (outputs_of job files)) (report_notes job files (outputs_of job files) plain)))
 
 -- a front of the lines of first outputs, with notes among them
 front_never : (job : Job) (command : Command) (outputs more : List Element) (lines : List (List ℕ)) (front others before after : List ℕ) → IsReady job command
-    → outputs ++ more ≡ outputs_of job (stream_files command) → AreLinesOf lines outputs → front ++ others ≡ flat lines → after ≡ before ++ front → NoneRetracted command before after
+    → outputs ++ more ≡ written_outputs job (stream_files command) → AreLinesOf lines outputs → front ++ others ≡ flat lines → after ≡ before ++ front → NoneRetracted command before after
 front_never job command outputs more lines front others before after ready all are is written =
     let files : List (List ℕ) = stream_files command in
     let f : FrontSpells outputs front = front_spells lines outputs front others are is in
-    let whole : f.first ++ (f.others ++ more) ≡ outputs_of job files = sym (append_assoc f.first f.others more) ∙ (ap (λ (xs : List Element). xs ++ more) f.all ∙ all) in (
+    let whole : f.first ++ (f.others ++ more) ≡ written_outputs job files = sym (append_assoc f.first f.others more) ∙ (ap (λ (xs : List Element). xs ++ more) f.all ∙ all) in (
       front,
       written,
       f.first,
       f.spells,
-      lawful_front f.first (f.others ++ more) (subst IsLawful (sym whole) (outputs_lawful job files ready.planned)),
+      lawful_front f.first (f.others ++ more) (subst IsLawful (sym whole) (formed_lawful job.form (outputs_of job files) (outputs_lawful job files ready.planned))),
       or_stays job command f.first ready.read (stays job files f.first (f.others ++ more) ready.planned whole),
     )
 
@@ -237,7 +251,7 @@ whole_never : (job : Job) (command : Command) (line before : List ℕ) (mid new 
     → WholeLines (run_lines job (stream_files command)) before mid.written → Delivered line mid new → NoneRetracted command before new.written
 whole_never job command line before mid new told ready note w delivered =
     let files : List (List ℕ) = stream_files command in
-    let outputs : List Element = outputs_of job files in
+    let outputs : List Element = written_outputs job files in
     let p : Part line mid.written new.written = part_of line mid new told delivered in
     let f : FirstLines outputs w.first = first_lines w.first w.others (run_lines job files) outputs (run_lines_are job files ready.names) w.all in
     front_never job command f.first f.others (w.first ++ line ∷ []) (flat w.first ++ p.front) p.others before new.written ready f.all
@@ -251,7 +265,7 @@ whole_never job command line before mid new told ready note w delivered =
 pub never_done : (job : Job) (command : Command) (before after : List ℕ) → IsReady job command → after ≡ before ++ flat (run_lines job (stream_files command)) → NoneRetracted command before after
 never_done job command before after ready written =
     let files : List (List ℕ) = stream_files command in
-    let outputs : List Element = outputs_of job files in
+    let outputs : List Element = written_outputs job files in
     front_never job command outputs [] (run_lines job files) (flat (run_lines job files)) [] before after ready (append-nil outputs) (run_lines_are job files ready.names) (append-nil (flat (run_lines job files))) written
 
 -- the output failed
@@ -259,7 +273,7 @@ front_stopped : (job : Job) (command : Command) (before : List ℕ) (mid new : S
     → NoneRetracted command before new.written
 front_stopped job command before mid new told ready left delivered =
     let files : List (List ℕ) = stream_files command in
-    let outputs : List Element = outputs_of job files in
+    let outputs : List Element = written_outputs job files in
     front_never job command outputs [] (run_lines job files) left.front left.others before new.written ready (append-nil outputs) (run_lines_are job files ready.names) left.all (same_after mid new told delivered ∙ left.written)
 
 -- the run stopped, and then the line of its status was written

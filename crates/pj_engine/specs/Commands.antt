@@ -1,62 +1,64 @@
 -- What the words of a call ask for.
-use Rattle.std.specs.Prelude.{ℕ, ◌≡◌, Bool, true, false, List, [], ◌∷◌, map, Option, Some, None, IsTrue, slice_index_or}
+use Rattle.std.specs.Prelude.{ℕ, ◌≡◌, ◌≢◌, ◌≤◌, Bool, true, false, List, [], ◌∷◌, length, map, Option, Some, None, IsTrue, slice_index_or}
 use Rattle.std.specs.String.{string_bytes}
 use Rattle.std.specs.declared.string.String.{String}
 use Rattle.std.specs.declared.alloc.Global.{Global}
 use Rattle.pj_io.specs.States.{FolderState}
 use Rattle.pj_plan.specs.declared.node.Outline.{Outline}
+use Rattle.pj_plan.specs.declared.node.PlanNode.{PlanNode}
+use Rattle.pj_report.specs.declared.writer.Form.{Form}
+use Rattle.pj_report.specs.declared.writer.Form.TheVariants.{AsTheyCome, Sorted}
 use Rattle.pj_words.specs.declared.request.Request.{Request}
 use Rattle.pj_words.specs.declared.request.Request.TheVariants.{Run, Replay, Check, Make}
 use Rattle.pj_words.specs.Request.{request_in}
 use Rattle.pj_feed.specs.Named.{AreTold, files_named}
+use Rattle.pj_feed.specs.Opened.{IsReadToEnd}
 use Rattle.pj_run.specs.Jobs.{Job}
+use Rattle.pj_engine.specs.declared.commands.Options.{Options}
 use Rattle.pj_engine.specs.Plans.{plan_of}
 
 -- ---- a command over a folder
 
--- What is asked for: whether it is a run; the operands, which are the plan's name and those of the streams' files; whether the rows
--- that sweeps remove are noted, and how many elements may arrive at a join or a group; and what the folder tells of itself before
--- the call
+-- What is asked for: whether it is a run; the operands, which are the plan's name and those of the streams' files; how it is to be
+-- run; and what the folder tells of itself before the call
 pub record Command : Type 0 where
   pub is_run : Bool
   pub names : List (List ℕ)
-  pub trace : Bool
-  pub limit : ℕ
+  pub options : Options
   pub folder : FolderState
 
 -- what a request wants: the same without the folder
 pub record Wanted : Type 0 where
   pub is_run : Bool
   pub names : List (List ℕ)
-  pub trace : Bool
-  pub limit : ℕ
+  pub options : Options
 
-abbrev pub run_wanted : List ℕ → List (List ℕ) → Bool → ℕ → Wanted
-run_wanted plan files trace limit = record { is_run = true; names = plan ∷ files; trace = trace; limit = limit }
+abbrev pub form_by : Bool → Form
+form_by true = Sorted
+form_by false = AsTheyCome
+
+abbrev pub run_wanted : List ℕ → List (List ℕ) → Options → Wanted
+run_wanted plan files options = record { is_run = true; names = plan ∷ files; options = options }
 
 -- nothing that there is
 abbrev pub nothing_wanted : Wanted
-nothing_wanted = record { is_run = false; names = []; trace = false; limit = 0 }
+nothing_wanted = record { is_run = false; names = []; options = record { trace = false; limit = 0; form = AsTheyCome; check = false } }
 
--- runs whose results are sorted, and such as are checked, are not there yet
-abbrev pub wanted_if : Bool → Bool → Wanted → Wanted
-wanted_if false false run = run
-wanted_if false true run = nothing_wanted
-wanted_if true check run = nothing_wanted
-
--- nor are the other commands
+-- the other commands are not there yet
 abbrev pub wanted : Option Request → Wanted
 wanted None = nothing_wanted
-wanted (Some (Run plan files workers sorted trace check limit)) = wanted_if sorted check (run_wanted plan files trace limit)
+wanted (Some (Run plan files workers sorted trace check limit)) =
+    run_wanted plan files (record { trace = trace; limit = limit; form = form_by sorted; check = check })
 wanted (Some (Replay plan script files trace limit)) = nothing_wanted
 wanted (Some (Check plan print)) = nothing_wanted
 wanted (Some (Make seed count)) = nothing_wanted
 
 abbrev pub command_by : Wanted → FolderState → Command
-command_by want folder = record { is_run = want.is_run; names = want.names; trace = want.trace; limit = want.limit; folder = folder }
+command_by want folder = record { is_run = want.is_run; names = want.names; options = want.options; folder = folder }
 
-abbrev pub run_of : List ℕ → List (List ℕ) → Bool → ℕ → FolderState → Command
-run_of plan files trace limit folder = command_by (run_wanted plan files trace limit) folder
+-- what a request asks for
+abbrev pub command_for : Request → FolderState → Command
+command_for request folder = command_by (wanted (Some request)) folder
 
 -- what the words ask for
 abbrev pub asked_in : List (String Global) → Option Request
@@ -74,6 +76,10 @@ AsksSomething words = (request : Request) × (asked_in words ≡ Some request)
 -- the operand with this number, counted from 1
 abbrev pub operand : List (List ℕ) → ℕ → List ℕ
 operand names n = slice_index_or ([] ∷ names) n []
+
+-- no other operand has the name of this one
+abbrev pub IsOnlyOperand : ℕ → List (List ℕ) → Type 0
+IsOnlyOperand n names = (m : ℕ) → 1 ≤ m → m ≤ length names → m ≢ n → operand names m ≢ operand names n
 
 -- the operands behind the plan's, the streams'
 abbrev pub behind_first : List (List ℕ) → List (List ℕ)
@@ -95,6 +101,10 @@ stream_files command = files_named (file_names command) command.folder
 abbrev pub HasToldPlan : Command → Type 0
 HasToldPlan command = IsTrue (command.folder.told (operand command.names 1))
 
+-- the plan's file was read to its end, where it is told
+abbrev pub HasReadPlan : Command → FolderState → Type 0
+HasReadPlan command after = HasToldPlan command → IsReadToEnd (operand command.names 1) command.folder after
+
 -- plan and files are told
 pub record IsTold (command : Command) : Type 0 where
   pub plan : HasToldPlan command
@@ -102,10 +112,19 @@ pub record IsTold (command : Command) : Type 0 where
 
 -- ---- the job
 
--- a plan that is run as the command asks for
+-- a plan of these nodes that is run with these options
+abbrev pub job_with : Options → List PlanNode → Job
+job_with options nodes = record {
+  nodes = nodes;
+  trace = options.trace;
+  limit = options.limit;
+  form = options.form;
+  check = options.check;
+}
+
 abbrev pub job_if : Command → Option Outline → Option Job
 job_if command None = None
-job_if command (Some plan) = Some (record { nodes = plan.nodes; trace = command.trace; limit = command.limit })
+job_if command (Some plan) = Some (job_with command.options plan.nodes)
 
 -- what the command runs, if the plan's bytes spell a plan
 abbrev pub job_of : Command → Option Job

@@ -1,7 +1,5 @@
 -- What words, plan and number of files refuse, and why there is no plan to run.
 use Rattle.std.specs.Prelude.{ℕ, ◌^◌, ◌-◌, ◌<◌, ◌≤◌, ◌≡◌, ◌≢◌, ◌⊎◌, true, false, ⊤, min, List, [], ◌∷◌, Result, Ok, Err, IsTrue, length}
-use Rattle.std.specs.declared.string.String.{String}
-use Rattle.std.specs.declared.alloc.Global.{Global}
 use Rattle.pj_io.specs.Folders.{RoseAt, SameEverywhere}
 use Rattle.pj_io.specs.States.{FolderState}
 use Rattle.pj_plan.specs.declared.fault.PlanFault.{PlanFault}
@@ -16,7 +14,7 @@ use Rattle.pj_engine.specs.declared.stops.FileStop.{FileStop}
 use Rattle.pj_engine.specs.declared.stops.FileStop.TheVariants.{OpenFault, ReadFault, TooLong, NoMemory as FileMemory}
 use Rattle.pj_engine.specs.declared.stops.PlanStop.{PlanStop}
 use Rattle.pj_engine.specs.declared.stops.PlanStop.TheVariants.{Usage as NoWords, File, Refused, FileCount as OtherCount, Unsafe as Stuck, NoMemory as PlanMemory}
-use Rattle.pj_engine.specs.Commands.{Command, HasToldPlan, command_of, file_names, operand, plan_bytes}
+use Rattle.pj_engine.specs.Commands.{Command, HasToldPlan, file_names, operand, plan_bytes}
 use Rattle.pj_feed.specs.Opened.{OpensFirst}
 use Rattle.pj_safety.specs.declared.risk.PlanRisk.{PlanRisk}
 use Rattle.pj_safety.specs.Safety.{IsFirstRisk}
@@ -149,20 +147,6 @@ PlanCause PlanMemory files name old new = ⊤
 pub record IsRun (command : Command) : Type 0 where
   pub form : command.is_run ≡ true
   pub named : command.names ≡ operand command.names 1 ∷ file_names command
-
--- a command is a run over the files of these names
-pub record IsRunOf (files : List (List ℕ)) (command : Command) : Type 0 where
-  pub run : IsRun command
-  pub over : file_names command ≡ files
-
--- why words name no run: they ask for nothing that there is, whatever the folder; or memory was wanting
-abbrev pub NamesNoRun : PlanStop → List (String Global) → Type 0
-NamesNoRun NoWords words = (folder : FolderState) → (command_of words folder).is_run ≡ false
-NamesNoRun (File stop) words = ⊥
-NamesNoRun (Refused fault) words = ⊥
-NamesNoRun (OtherCount want got) words = ⊥
-NamesNoRun (Stuck found) words = ⊥
-NamesNoRun PlanMemory words = ⊤
 
 -- it is a run, and its plan's file has no plan that can be run, for this cause
 abbrev pub RunUnfit : PlanStop → Command → FolderState → Type 0

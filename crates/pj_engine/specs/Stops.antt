@@ -1,8 +1,5 @@
 -- How the stop of a part becomes that of the whole.
 use Rattle.std.specs.Prelude.{ℕ, List, []}
-use Rattle.pj_events.specs.declared.events.Stop.{Stop}
-use Rattle.pj_run.specs.declared.stops.RunStop.TheVariants.{Limit}
-use Rattle.pj_feed.specs.declared.stops.OpeningStop.TheVariants.{Fault}
 use Rattle.pj_engine.specs.declared.stops.FileStop.{FileStop}
 use Rattle.pj_engine.specs.declared.stops.FileStop.TheVariants.{OpenFault as NotOpened, ReadFault as NotRead, TooLong, NoMemory as FileMemory}
 use Rattle.pj_engine.specs.declared.stops.PlanStop.{PlanStop}
@@ -13,7 +10,7 @@ use Rattle.pj_report.specs.declared.status.Status.{Status}
 use Rattle.pj_report.specs.Report.{status_line}
 use Rattle.pj_report.specs.Written.{flat}
 use Rattle.pj_report.specs.declared.status.Status.TheVariants.{Usage, OpenFault, ReadFault as StatusFault, PlanRefused, FileCount, Unsafe, NoMemory as StatusMemory, Limit as StatusLimit}
-use Rattle.pj_report.specs.declared.status.LimitOf.TheVariants.{Plan, File}
+use Rattle.pj_report.specs.declared.status.LimitOf.TheVariants.{Plan}
 
 abbrev pub of_words : WordStop → PlanStop
 of_words WordUsage = NoWords

@@ -1,5 +1,5 @@
 -- What the top call promises of a command.
-use Rattle.std.specs.Prelude.{◌≡◌, ◌<◌, ◌≤◌, ◌+◌, ◌^◌, ℕ, true, false, ◌⊎◌, ⊤, List, [], ◌∷◌, ◌++◌, map, length, Some, Ok, IsTrue}
+use Rattle.std.specs.Prelude.{◌≡◌, ◌<◌, ◌≤◌, ◌+◌, ◌^◌, ℕ, true, ◌⊎◌, ⊤, List, [], ◌∷◌, ◌++◌, map, length, Some, Ok, IsTrue}
 use Rattle.pj_plan.specs.declared.node.Outline.{Outline}
 use Rattle.pj_plan.specs.declared.node.PlanNode.{PlanNode}
 use Rattle.pj_plan.specs.Nodes.{streams_of, streams_in}
@@ -24,14 +24,16 @@ use Rattle.pj_report.specs.declared.status.Status.{Status}
 use Rattle.pj_report.specs.declared.status.Status.TheVariants.{Done, Usage, OpenFault, ReadFault, PlanRefused, FileCount, Unsafe, WriteFault, NoMemory, Limit}
 use Rattle.pj_report.specs.declared.status.LimitOf.{LimitOf}
 use Rattle.pj_report.specs.declared.status.LimitOf.TheVariants.{Plan, Node, File}
-use Rattle.pj_engine.specs.Commands.{Command, job_of, IsTold, HasToldPlan, operand, file_names, plan_bytes, stream_files}
-use Rattle.pj_run.specs.Ends.{EndsBefore, EndsAtLimit, EndsCut, ArrivedOf}
-use Rattle.pj_feed.specs.Named.{AreDistinct}
+use Rattle.pj_engine.specs.Commands.{Command, job_of, IsOnlyOperand, IsTold, HasToldPlan, operand, file_names, plan_bytes, stream_files}
+use Rattle.pj_run.specs.Ends.{EndsBefore, EndsAtBytes, EndsAtLimit, EndsCut, ArrivedOf}
+use Rattle.pj_feed.specs.Named.{IsAlone}
 use Rattle.pj_feed.specs.Opened.{OpensFirst}
 use Rattle.pj_engine.specs.Plans.{plan_of}
 use Rattle.pj_engine.specs.Refusals.{Refuses}
 use Rattle.pj_report.specs.Report.{status_line}
-use Rattle.pj_report.specs.Results.{out_lines}
+use Rattle.pj_report.specs.declared.writer.Form.{Form}
+use Rattle.pj_report.specs.declared.writer.Form.TheVariants.{AsTheyCome, Sorted}
+use Rattle.pj_report.specs.Forms.{form_lines, in_form}
 use Rattle.pj_run.specs.Jobs.{Job}
 use Rattle.pj_run.specs.Runs.{outs_of, history_of, run_lines, run_nodes, GoesBeyond}
 use Rattle.pj_report.specs.Written.{flat, WholeLines, FrontOf, Delivered, Spells, holding}
@@ -42,7 +44,7 @@ use Rattle.pj_report.specs.Written.{flat, WholeLines, FrontOf, Delivered, Spells
 abbrev pub Ran : (Job → List (List ℕ) → List Element → List (List ℕ) → Type 0) → Command → SinkState → SinkState → Type 0
 Ran Holds command old new =
     IsTold command → IsTrue new.told → (job : Job) × (outs : List Out) × (report : List (List ℕ)) × (job_of command ≡ Some job)
-    × (outs ≡ outs_of job (stream_files command)) × (new.written ≡ old.written ++ flat (out_lines job.nodes outs ++ report)) × Holds job (stream_files command) (elements_out outs) report
+    × (outs ≡ outs_of job (stream_files command)) × (new.written ≡ old.written ++ flat (form_lines job.form job.nodes outs ++ report)) × Holds job (stream_files command) (elements_out outs) report
 
 -- Where the command and the sink are told: the bytes are those of the run on one thread, and of its report
 abbrev pub OneThreadBytes : Command → SinkState → SinkState → Type 0
@@ -85,10 +87,10 @@ OpensInOrder status command after =
 
 -- ---- a run that stopped
 
--- nothing was written, or whole first lines of the plan's run
+-- nothing was written, or there is something to run, and whole first lines of its run were
 abbrev pub LinesSoFar : Command → List ℕ → List ℕ → Type 0
 LinesSoFar command before lines =
-    (lines ≡ before) ⊎ ((job : Job) × (job_of command ≡ Some job) × WholeLines (run_lines job (stream_files command)) before lines)
+    (lines ≡ before) ⊎ (IsBuilt command × (job : Job) × (job_of command ≡ Some job) × WholeLines (run_lines job (stream_files command)) before lines)
 
 -- the name of a stream, by its number
 abbrev pub stream_name : List PlanNode → ℕ → List ℕ
@@ -114,18 +116,18 @@ stop_name nodes NoMemory = []
 stop_name nodes (Limit what) = limit_name nodes what
 
 -- A read of the file of this operand, a stream's, failed: the lines of the outputs were written up to a turn of that stream, and no
--- line beyond those that were read whole was lost or made up
+-- line beyond those that were read whole was lost or made up, where no other stream's file has its name
 abbrev pub FaultLeaves : Job → Command → FolderState → ℕ → List ℕ → List ℕ → Type 0
 FaultLeaves job command after n before lines =
     (stream : ℕ) × (n ≡ 2 + stream) × (ends : EndsBefore job (stream_files command) stream before lines)
-    × (AreDistinct command.names → ArrivedOf job (stream_files command) stream (after.last (operand command.names n)) ends.front)
+    × (IsAlone stream (file_names command) → ArrivedOf job (stream_files command) stream (after.last (operand command.names n)) ends.front)
 
 -- what a limit leaves: the lines of the outputs up to the step that goes beyond it, or up to the turn of the stream whose file is
--- too large
+-- too large, at which exactly the elements of the lines had arrived that 2 ^ 40 bytes of it end
 abbrev pub LimitLeaves : Job → List (List ℕ) → LimitOf → List ℕ → List ℕ → Type 0
 LimitLeaves job files Plan before lines = ⊥
 LimitLeaves job files (Node node) before lines = EndsAtLimit job files node before lines
-LimitLeaves job files (File stream) before lines = EndsBefore job files stream before lines
+LimitLeaves job files (File stream) before lines = EndsAtBytes job files stream before lines
 
 -- a limit of the run was met: what it leaves was written, and the status' line
 abbrev pub LimitStops : LimitOf → Command → SinkState → SinkState → Type 0
@@ -152,7 +154,7 @@ StopLeaves Usage command after old new = ⊤
 StopLeaves (PlanRefused line why) command after old new = ⊤
 StopLeaves (FileCount want got) command after old new = ⊤
 StopLeaves (Unsafe node risk) command after old new = ⊤
-StopLeaves (OpenFault n) command after old new = AreDistinct command.names → after.last (operand command.names n) ≡ command.folder.last (operand command.names n)
+StopLeaves (OpenFault n) command after old new = IsOnlyOperand n command.names → after.last (operand command.names n) ≡ command.folder.last (operand command.names n)
 StopLeaves (ReadFault n) command after old new =
     (n ≡ 1) ⊎ ((job : Job) × (lines : List ℕ) × (job_of command ≡ Some job) × FaultLeaves job command after n old.written lines
     × Delivered (status_line [] (ReadFault n)) (holding old lines) new)
@@ -174,7 +176,8 @@ TellsUnsafe node risk command old new =
     (plan : Outline) × (lines : List (List ℕ)) × (HasToldPlan command → plan_read (plan_bytes command) ≡ Ok plan)
     × AreUnsafeLines plan.nodes node risk lines × Delivered (flat lines) old new
 
--- a call that is refused, or ends since a file could not be opened or the plan not be read, has written its status' line and nothing else
+-- a call that is refused, or ends since a file could not be opened or the plan not be read, has written its status' line and nothing
+-- else; so has one that found no memory where there is nothing to run
 abbrev pub EarlyEnd : Status → Command → FolderState → SinkState → SinkState → Type 0
 EarlyEnd Done command after old new = ⊤
 EarlyEnd Usage command after old new = Delivered (status_line [] Usage) old new
@@ -184,7 +187,7 @@ EarlyEnd (Unsafe node risk) command after old new = TellsUnsafe node risk comman
 EarlyEnd (OpenFault n) command after old new = Delivered (status_line [] (OpenFault n)) old new
 EarlyEnd (ReadFault n) command after old new = n ≡ 1 → Delivered (status_line [] (ReadFault n)) old new
 EarlyEnd WriteFault command after old new = ⊤
-EarlyEnd NoMemory command after old new = ⊤
+EarlyEnd NoMemory command after old new = (IsBuilt command → ⊥) → Delivered (status_line [] NoMemory) old new
 EarlyEnd (Limit what) command after old new = what ≡ Plan → Delivered (status_line [] (Limit what)) old new
 
 -- ---- what was written stays right
@@ -222,15 +225,21 @@ abbrev pub IsShortest : Job → List Entry → ℕ → Type 0
 IsShortest job history count =
     (history ≡ []) ⊎ ((front : List Entry) × (last : Entry) × (history ≡ front ++ last ∷ []) × (length (elements_out (handed_out job.trace (run_nodes job) front)) < count))
 
--- These outputs are first ones of what a front of the run on one thread hands out, which is no longer than it must be;
--- and however the streams lawfully go on from there, their rows are among those of the answer, as bags
+-- the front is no longer than it must be for so many outputs, where they are written as they come; it is the whole history, where
+-- they are sorted
+abbrev pub ReachesSo : Form → Job → List Entry → List Entry → ℕ → Type 0
+ReachesSo AsTheyCome job front back count = IsShortest job front count
+ReachesSo Sorted job front back count = back ≡ []
+
+-- These outputs are first ones, in the order of their form, of what a front of the run on one thread hands out; and however the
+-- streams lawfully go on from there, their rows are among those of the answer, as bags
 pub record StaysRight (job : Job) (files : List (List ℕ)) (outputs : List Element) : Type 0 where
   pub front : List Entry
   pub back : List Entry
   pub run : front ++ back ≡ history_of job files
   pub others : List Element
-  pub among : outputs ++ others ≡ elements_out (handed_out job.trace (run_nodes job) front)
-  pub shortest : IsShortest job front (length outputs)
+  pub among : outputs ++ others ≡ in_form job.form (elements_out (handed_out job.trace (run_nodes job) front))
+  pub reaches : ReachesSo job.form job front back (length outputs)
   pub right : (more : List (List Element)) → AllLawful (streams_in job.nodes) (streams_after job front more) → SubBag (rows_of outputs) (answer_after job front more)
 
 -- where the command and the sink are told: what was written spells lawful outputs, and there are none or they stay right

@@ -1,16 +1,17 @@
-// What the words of a call ask for: a plan, with a file for each of its streams.
-ghost use Rattle.std.specs.Prelude.{◌≡◌, ◌≤◌, ◌^◌, ◌⊎◌, ◌∷◌, [], true, Some, None, Err, IsTrue, IfOk, IfErr, OnOk, length};
+// What a request asks for: a plan, with a file for each of its streams.
+ghost use Rattle.std.specs.Prelude.{◌≡◌, ◌≤◌, ◌^◌, ◌∷◌, [], false, Some, Err, IsTrue, IfOk, IfErr, OnOk, length};
 ghost use Rattle.pj_io.specs.States.{FolderState};
 ghost use Rattle.pj_io.specs.Folders.{NoneFalls, SameElsewhere};
 ghost use Rattle.pj_plan.specs.Nodes.{streams_of};
 ghost use Rattle.pj_plan_text.specs.PlanRead.{plan_read};
 ghost use Rattle.pj_safety.specs.Certificates.{AreCertificates, certificates_of};
 ghost use Rattle.pj_safety.specs.Safety.{IsSafePlan};
-ghost use Rattle.pj_engine.specs.Commands.{asked_in, AsksSomething, command_of, operand, plan_bytes, run_of, HasToldPlan};
-ghost use Rattle.pj_feed.specs.Opened.{OpensFirst, OpensAtMost, IsReadToEnd};
-ghost use Rattle.pj_engine.specs.Plans.{outline_in, plan_of, IsAskedCore, SpellsPlan};
-ghost use Rattle.pj_engine.specs.Refusals.{BytesRefused, HasLines, IsRunOf, NamesNoRun, PlanCause, PlanUnfit, Unprepared, counted_files};
+ghost use Rattle.pj_engine.specs.Commands.{command_for, file_names, form_by, operand, plan_bytes, HasReadPlan, HasToldPlan};
+ghost use Rattle.pj_feed.specs.Opened.{OpensFirst, OpensAtMost, IsReadToEnd, StayOutside};
+ghost use Rattle.pj_engine.specs.Plans.{outline_in, plan_of, IsAsked, SpellsPlan};
+ghost use Rattle.pj_engine.specs.Refusals.{BytesRefused, HasLines, IsRun, PlanCause, PlanUnfit, Unprepared, counted_files};
 ghost use Rattle.pj_run.specs.Runs.{IsNewCore};
+ghost use Rattle.pj_words.specs.Request.{IsRequest};
 
 use crate::plan_file::read_file;
 use crate::stops::PlanStop;
@@ -19,9 +20,11 @@ use pj_core::Core;
 use pj_io::Folder;
 use pj_plan::{Plan, PlanStop as ReadStop};
 use pj_plan_text::read_plan;
+use pj_report::Form;
+use pj_run::Writing;
 use pj_shape::Cert;
 use pj_value::{Bytes, List, NoMemory};
-use pj_words::{Request, request_of};
+use pj_words::Request;
 use std::alloc::Global;
 
 /// How a plan is to be run.
@@ -35,93 +38,135 @@ pub struct Asked {
     pub limit: u64,
 }
 
-/// A run that is asked for: the names of the plan's file and of those of its streams, and how it is to be run.
-#[derive(Drop)]
-pub struct Run {
-    pub plan: Bytes,
-    pub files: List<Bytes>,
+/// What a run is asked for beside its files.
+#[derive(Clone, Copy)]
+pub struct Options {
+    /// Whether the rows that sweeps remove are noted.
     pub trace: bool,
+    /// How many elements may arrive at a join or a group, from 1 to 2^40.
     pub limit: u64,
+    /// The form in which results are written.
+    pub form: Form,
+    /// Whether the report has the line of a check.
+    pub check: bool,
 }
 
-/// A core, and the names of the files over which it is to run.
+/// A core, and what its run is to write.
 #[derive(Drop)]
 pub struct Prepared {
     pub core: Core,
-    pub files: List<Bytes>,
+    pub writing: Writing,
 }
 
-/// A core of the plan that the words name, if that is safe and there is a file for each of its streams.
+/// A core of the plan that the request names, if it asks for a run, and the plan is safe and has a stream for each file.
 pub fn prepare<F: Folder>(
     alloc: Global,
-    words: &[String],
+    request: &Request,
     folder: &mut F,
 ) -> Result<Prepared, PlanStop>
+    requires { IsRequest request.now }
     ensures fresh { IfOk result (λ ready. IsNewCore ready.core) }
     ensures safe { IfOk result (λ ready. IsSafePlan ready.core.plan.nodes) }
-    ensures count { IfOk result (λ ready. length ready.files ≡ length (streams_of ready.core.plan.nodes)) }
-    ensures form { IfOk result (λ ready. IsRunOf ready.files (command_of words.now (F.state folder.old))) }
-    ensures asked { IfOk result (λ ready. IsAskedCore (command_of words.now (F.state folder.old)).trace (command_of words.now (F.state folder.old)).limit ready.core) }
+    ensures form { OnOk result (IsRun (command_for request.now (F.state folder.old))) }
+    ensures count { IfOk result (λ ready. length (file_names (command_for request.now (F.state folder.old))) ≡ length (streams_of ready.core.plan.nodes)) }
+    ensures asked { IfOk result (IsAsked (command_for request.now (F.state folder.old)).options) }
     ensures told { (F.state folder.new).told ≡ (F.state folder.old).told }
     ensures contents { (F.state folder.new).contents ≡ (F.state folder.old).contents }
-    ensures read { HasToldPlan (command_of words.now (F.state folder.old)) → IfOk result (λ ready. SpellsPlan (plan_bytes (command_of words.now (F.state folder.old))) (outline_in ready.core)) }
-    ensures last { HasToldPlan (command_of words.now (F.state folder.old)) → OnOk result (IsReadToEnd (operand (command_of words.now (F.state folder.old)).names 1) (F.state folder.old) (F.state folder.new)) }
-    ensures other_last { OnOk result (SameElsewhere (operand (command_of words.now (F.state folder.old)).names 1) (F.state folder.old).last (F.state folder.new).last) }
+    ensures read { HasToldPlan (command_for request.now (F.state folder.old)) → IfOk result (λ ready. SpellsPlan (plan_bytes (command_for request.now (F.state folder.old))) (outline_in ready.core)) }
+    ensures last { OnOk result (HasReadPlan (command_for request.now (F.state folder.old)) (F.state folder.new)) }
+    ensures other_last { OnOk result (SameElsewhere (operand (command_for request.now (F.state folder.old)).names 1) (F.state folder.old).last (F.state folder.new).last) }
     ensures later { NoneFalls (F.state folder.old).faults (F.state folder.new).faults }
-    ensures some_opened { OpensAtMost 1 (command_of words.now (F.state folder.old)).names (F.state folder.old) (F.state folder.new) }
-    ensures was_opened { OnOk result (OpensFirst 1 (command_of words.now (F.state folder.old)).names (F.state folder.old) (F.state folder.new)) }
-    ensures cause { IfErr result (λ stop. Unprepared stop (command_of words.now (F.state folder.old)) (F.state folder.new)) }
-    ensures usage { asked_in words.now ≡ None → result ≡ Err PlanStop.Usage }
-    ensures asks { (result ≡ Err PlanStop.Usage) ⊎ AsksSomething words.now }
+    ensures some_opened { OpensAtMost 1 (command_for request.now (F.state folder.old)).names (F.state folder.old) (F.state folder.new) }
+    ensures was_opened { OnOk result (OpensFirst 1 (command_for request.now (F.state folder.old)).names (F.state folder.old) (F.state folder.new)) }
+    ensures others { StayOutside (command_for request.now (F.state folder.old)).names (F.state folder.old) (F.state folder.new) }
+    ensures cause { IfErr result (λ stop. Unprepared stop (command_for request.now (F.state folder.old)) (F.state folder.new)) }
+    ensures usage { (command_for request.now (F.state folder.old)).is_run ≡ false → result ≡ Err PlanStop.Usage }
 {
-    let run = read_words(alloc, words)?;
-    let Run {
-        plan,
-        files,
-        trace,
-        limit,
-    } = run;
-    let asked = Asked {
-        files: files.len(),
-        trace,
-        limit,
-    };
-    let core = read_plan_for(alloc, plan.as_slice(), asked, folder)?;
-    Ok(Prepared { core, files })
-}
-
-// The run that the words ask for.
-fn read_words(alloc: Global, words: &[String]) -> Result<Run, PlanStop>
-    ensures run { IfOk result (λ run. (folder : FolderState) → command_of words.now folder ≡ run_of run.plan run.files run.trace run.limit folder) }
-    ensures limit { IfOk result (λ run. (1 ≤ run.limit) × (run.limit ≤ 2 ^ 40)) }
-    ensures cause { IfErr result (λ stop. NamesNoRun stop words.now) }
-    ensures usage { asked_in words.now ≡ None → result ≡ Err PlanStop.Usage }
-    ensures asks { (result ≡ Err PlanStop.Usage) ⊎ AsksSomething words.now }
-{
-    match request_of(alloc, words)? {
+    match request {
         Request::Run {
             plan,
             files,
             workers: _,
-            sorted: false,
+            sorted,
             trace,
-            check: false,
+            check,
             limit,
-        } => Ok(Run {
-            plan,
-            files,
-            trace,
-            limit,
-        }),
-        Request::Run { .. } => Err(PlanStop::Usage),
+        } => {
+            let options = Options {
+                trace: *trace,
+                limit: *limit,
+                form: form_for(*sorted),
+                check: *check,
+            };
+            Ok(prepare_run(alloc, plan.as_slice(), files.len(), options, folder)?)
+        }
         Request::Replay { .. } => Err(PlanStop::Usage),
         Request::Check { .. } => Err(PlanStop::Usage),
         Request::Make { .. } => Err(PlanStop::Usage),
     }
 }
 
+/// The names of the streams' files that the request has.
+pub fn files_in(request: &Request) -> &[Bytes]
+    ensures { (folder : FolderState) → result.now ≡ file_names (command_for request.now folder) }
+{
+    match request {
+        Request::Run { files, .. } => files.as_slice(),
+        Request::Replay { .. } => &[],
+        Request::Check { .. } => &[],
+        Request::Make { .. } => &[],
+    }
+}
+
+// A core of the plan of this name, if it has so many streams, and what its run is to write.
+fn prepare_run<F: Folder>(
+    alloc: Global,
+    name: &[u8],
+    files: usize,
+    options: Options,
+    folder: &mut F,
+) -> Result<Prepared, PlanStop>
+    requires limit { (1 ≤ options.limit) × (options.limit ≤ 2 ^ 40) }
+    ensures fresh { IfOk result (λ ready. IsNewCore ready.core) }
+    ensures safe { IfOk result (λ ready. IsSafePlan ready.core.plan.nodes) }
+    ensures count { IfOk result (λ ready. files ≡ length (streams_of ready.core.plan.nodes)) }
+    ensures asked { IfOk result (IsAsked options) }
+    ensures told { (F.state folder.new).told ≡ (F.state folder.old).told }
+    ensures contents { (F.state folder.new).contents ≡ (F.state folder.old).contents }
+    ensures read { IsTrue ((F.state folder.old).told name.now) → IfOk result (λ ready. SpellsPlan ((F.state folder.old).contents name.now) (outline_in ready.core)) }
+    ensures last { IsTrue ((F.state folder.old).told name.now) → OnOk result (IsReadToEnd name.now (F.state folder.old) (F.state folder.new)) }
+    ensures other_last { SameElsewhere name.now (F.state folder.old).last (F.state folder.new).last }
+    ensures later { NoneFalls (F.state folder.old).faults (F.state folder.new).faults }
+    ensures some_opened { OpensAtMost 1 (name.now ∷ []) (F.state folder.old) (F.state folder.new) }
+    ensures was_opened { OnOk result (OpensFirst 1 (name.now ∷ []) (F.state folder.old) (F.state folder.new)) }
+    ensures others { StayOutside (name.now ∷ []) (F.state folder.old) (F.state folder.new) }
+    ensures cause { IfErr result (λ stop. PlanCause stop files name.now (F.state folder.old) (F.state folder.new)) }
+{
+    let asked = Asked {
+        files,
+        trace: options.trace,
+        limit: options.limit,
+    };
+    let core = read_plan_for(alloc, name, asked, folder)?;
+    let writing = Writing {
+        form: options.form,
+        check: options.check,
+    };
+    Ok(Prepared { core, writing })
+}
+
+fn form_for(sorted: bool) -> Form
+    ensures { result ≡ form_by sorted }
+{
+    if sorted {
+        Form::Sorted
+    } else {
+        Form::AsTheyCome
+    }
+}
+
 // A core of the plan of this name, if it has so many streams.
-#[tactic(auto, using(crate::proofs::Refusing::file_cause, crate::proofs::Refusing::bytes_cause))]
+#[tactic(auto, using(crate::proofs::Refusing::file_cause, crate::proofs::Refusing::bytes_cause, crate::proofs::Refusing::stay_but))]
 fn read_plan_for<F: Folder>(
     alloc: Global,
     name: &[u8],
@@ -142,6 +187,7 @@ fn read_plan_for<F: Folder>(
     ensures later { NoneFalls (F.state folder.old).faults (F.state folder.new).faults }
     ensures some_opened { OpensAtMost 1 (name.now ∷ []) (F.state folder.old) (F.state folder.new) }
     ensures was_opened { OnOk result (OpensFirst 1 (name.now ∷ []) (F.state folder.old) (F.state folder.new)) }
+    ensures others { StayOutside (name.now ∷ []) (F.state folder.old) (F.state folder.new) }
     ensures cause { IfErr result (λ stop. PlanCause stop asked.files name.now (F.state folder.old) (F.state folder.new)) }
 {
     let bytes = read_file(alloc, folder, name)?;

@@ -1,30 +1,23 @@
 // The top call.
 ghost use Rattle.std.specs.Prelude.{◌≡◌, ℕ, None, false};
 ghost use Rattle.pj_report.specs.declared.status.LimitOf.TheVariants.{Plan as PlanFile, Node, File};
-ghost use Rattle.pj_plan.specs.Canonical.{node_name as name_of_node};
-ghost use Rattle.pj_plan.specs.Nodes.{streams_in};
 ghost use Rattle.pj_engine.specs.Commands.{asked_in, command_of, AsksSomething};
 ghost use Rattle.pj_engine.specs.Completeness.{Completes};
 ghost use Rattle.pj_engine.specs.Refusals.{IsRefused, IsRightFault, IsRightCount, IsRightlyUnsafe};
 ghost use Rattle.pj_run.specs.Runs.{IsAnswer, ArePunctuations, AreLawful, AreTallies};
-ghost use Rattle.pj_engine.specs.Top.{Ran, OneThreadBytes, OpensInOrder, StoppedRun, EarlyEnd, NeverRetracted, AnswersRefusal, IsBuilt, IsUnopened, WriteFails, BeyondLimit, IsTooLarge, HasFault, stream_name as name_of_stream, stop_name as stop_name_of};
-ghost use Rattle.pj_feed.specs.Opened.{AreReadToEnd};
+ghost use Rattle.pj_engine.specs.Top.{Ran, OneThreadBytes, OpensInOrder, StoppedRun, EarlyEnd, NeverRetracted, AnswersRefusal, IsBuilt, IsUnopened, WriteFails, BeyondLimit, IsTooLarge, HasFault};
+ghost use Rattle.pj_feed.specs.Opened.{AreReadToEnd, StayOutside};
 ghost use Rattle.pj_report.specs.Written.{HandedOn};
 
-use crate::commands::{Prepared, prepare};
+use crate::alone::run_alone;
 use crate::refusal::write_refusal;
+use crate::stops::PlanStop;
 use pj_io::{Folder, Sink};
-use pj_plan::Plan;
-use pj_report::{LimitOf, Status};
-use pj_run::{run_files, write_stop};
+use pj_report::Status;
+use pj_words::request_of;
 
-/// Runs the command that the words spell: `run PLAN FILE ..` reads a plan, and a file for each of its streams, and writes
-/// what the plan's run on one thread hands out, and the report; with `--trace` also a note for each row that a sweep removes, and
-/// with `--limit N` no more than N elements may arrive at a join or a group. A plan of which a node is not safe is refused with `Unsafe` before
-/// a file of a stream is opened; every other plan is run.
-///
-/// Sweeps keep each join finite: after each punctuation the run removes the stored rows that nothing which still comes can
-/// join, and the join hands up each punctuation, widened, as soon as no stored row of its input matches it.
+/// Does what the words of a command line ask for, these being the words behind the program's name: see `run_alone`. Words that make
+/// no request are answered with `Usage`.
 pub fn run_words<R: AllocGlobal, F: Folder, K: Sink>(
     rt: &R,
     words: &[String],
@@ -45,6 +38,7 @@ pub fn run_words<R: AllocGlobal, F: Folder, K: Sink>(
     ensures early_end { EarlyEnd result (command_of words.now (F.state folder.old)) (F.state folder.new) (K.state out.old) (K.state out.new) }
     ensures handed_on { HandedOn (K.state out.old) (K.state out.new) }
     ensures opened_in_order { OpensInOrder result (command_of words.now (F.state folder.old)) (F.state folder.new) }
+    ensures others_stay { StayOutside (command_of words.now (F.state folder.old)).names (F.state folder.old) (F.state folder.new) }
 
     // When each status comes.
     ensures cause_of_done { result ≡ Status.Done → IsBuilt (command_of words.now (F.state folder.old)) }
@@ -63,66 +57,12 @@ pub fn run_words<R: AllocGlobal, F: Folder, K: Sink>(
     ensures cause_of_file_limit { (stream : ℕ) → result ≡ Status.Limit (File stream) → IsTooLarge (command_of words.now (F.state folder.old)) stream }
     ensures completes { Completes result (command_of words.now (F.state folder.old)) (F.state folder.new) (K.state out.old) (K.state out.new) }
 {
-    match prepare(rt.alloc(), words, folder) {
-        Ok(ready) => {
-            let Prepared { mut core, files } = ready;
-            match run_files(rt.alloc(), &mut core, files.as_slice(), folder, out) {
-                Ok(()) => Status::Done,
-                Err(stop) => {
-                    let status = stop.status();
-                    write_stop(stop_name(core.plan(), status), stop, out);
-                    status
-                }
-            }
-        }
+    match request_of(rt.alloc(), words) {
+        Ok(request) => run_alone(rt, &request, folder, out),
         Err(stop) => {
-            write_refusal(&stop, out);
-            stop.status()
+            let refusal = PlanStop::from(stop);
+            write_refusal(&refusal, out);
+            refusal.status()
         }
-    }
-}
-
-// The name that the line of the status has, if any.
-fn stop_name(plan: &Plan, status: Status) -> &[u8]
-    ensures { result.now ≡ stop_name_of plan.now.nodes status }
-{
-    match status {
-        Status::Limit { what } => match what {
-            LimitOf::Plan => b"",
-            LimitOf::Node(node) => node_name(plan, node),
-            LimitOf::File(stream) => stream_name(plan, stream),
-        },
-        Status::Done => b"",
-        Status::Usage => b"",
-        Status::PlanRefused { .. } => b"",
-        Status::FileCount { .. } => b"",
-        Status::Unsafe { .. } => b"",
-        Status::OpenFault { .. } => b"",
-        Status::ReadFault { .. } => b"",
-        Status::WriteFault => b"",
-        Status::NoMemory => b"",
-    }
-}
-
-// The name of a node, by its number.
-#[tactic(auto, using(crate::proofs::NameLaws::unnamed))]
-fn node_name(plan: &Plan, node: u32) -> &[u8]
-    ensures { result.now ≡ name_of_node plan.now.nodes node }
-{
-    if node < plan.nodes() {
-        plan.name(node)
-    } else {
-        b""
-    }
-}
-
-// The name of a stream, by its number.
-#[tactic(auto, using(crate::proofs::NameLaws::named_stream, crate::proofs::NameLaws::unnamed_stream))]
-fn stream_name(plan: &Plan, stream: u32) -> &[u8]
-    ensures { result.now ≡ name_of_stream (streams_in plan.now.nodes) stream }
-{
-    match plan.streams().get(stream as usize) {
-        Some(node) => node_name(plan, *node),
-        None => b"",
     }
 }

@@ -1,5 +1,5 @@
 -- Results that a `?` hands on.
-use Rattle.std.proofs.Common.{◌≡◌, Result, Ok, Err, IsErrAnd, IfErr, OnOk, refl, ap, subst, sym}
+use Rattle.std.proofs.Common.{◌≡◌, Result, Ok, Err, IsErrAnd, IfErr, ap, subst, sym}
 
 pub err_is : {T E : Type 0} (result : Result T E) (e : E) → IsErrAnd result (λ x. x ≡ e) → result ≡ Err e
 err_is (Ok u) e h = absurd h

@@ -6,8 +6,9 @@ use Rattle.pj_io.specs.Folders.{KeepsNames, NoneFalls, SameElsewhere, SameEveryw
 use Rattle.pj_io.specs.States.{FolderState, SourceState}
 use Rattle.pj_element.specs.declared.tally.Tally.{Tally}
 use Rattle.pj_feed.specs.Feeds.{FeedState, tallies_in}
-use Rattle.pj_feed.specs.Opened.{AreOpened, AgreeOn, NoneNamed, IsLast, AreCounted, HasLasts}
+use Rattle.pj_feed.specs.Opened.{AreOpened, AgreeOn, NoneNamed, IsLast, AreCounted, HasLasts, names_in, StayOutside}
 use Rattle.pj_feed.proofs.Names.{same_or_other}
+use Rattle.pj_feed.proofs.Outside.{stay_then, stay_elsewhere, name_behind}
 
 -- ---- the names
 
@@ -92,6 +93,7 @@ pub record HasClosed {E : Type 0} (feeds rest : List FeedState) (before now : Fo
   pub last : HasLasts closed before.last now.last
   pub later : NoneFalls before.faults now.faults
   pub faults : AreCounted before.faults now.faults closed
+  pub others : StayOutside (names_in feeds) before now
 
 -- what closing a file leaves of its folder
 pub record Closes (file : SourceState) (old new : FolderState) : Type 0 where
@@ -101,6 +103,7 @@ pub record Closes (file : SourceState) (old new : FolderState) : Type 0 where
   pub later : NoneFalls old.faults new.faults
   pub faults : new.faults file.name ≡ counted (old.faults file.name) file.faults
   pub last : IsTrue file.told → new.last file.name ≡ length file.taken
+  pub other_faults : SameElsewhere file.name old.faults new.faults
   pub other_last : SameElsewhere file.name old.last new.last
 
 pub one_closed : {E : Type 0} (feeds rest others : List FeedState) (feed : FeedState) (tally : Tally) (before mid now : FolderState) (old new : Result (List Tally) E) → HasClosed feeds rest before mid old → rest ≡ feed ∷ others
@@ -116,6 +119,8 @@ one_closed feeds rest others feed tally before mid now old new so_far is closes 
   last = lasts_more so_far.closed feed before.last mid.last now.last so_far.last closes.last closes.other_last;
   later = falls_none before.faults mid.faults now.faults so_far.later closes.later;
   faults = counts_more before.faults mid.faults now.faults so_far.closed feed so_far.faults so_far.later closes.later closes.faults;
+  others = stay_then (names_in feeds) before mid now so_far.others
+      (stay_elsewhere (names_in feeds) feed.source.name mid now (name_behind feeds so_far.closed rest others feed so_far.all is) closes.other_faults closes.other_last);
 }
 
 pub none_left : (feeds : List FeedState) → length feeds ≡ 0 → feeds ≡ []

@@ -6,6 +6,7 @@ pub mod Turned
 pub mod Opens
 pub mod Closing
 pub mod Opening
+pub mod Outside
 pub mod StreamNodes
 pub mod Names
 pub mod Answered

@@ -2,7 +2,7 @@
 use Rattle.pj_shape.specs.declared.columns.Column.{Column}
 use Rattle.pj_plan.specs.declared.node.PlanNode.{PlanNode}
 use Rattle.pj_plan.specs.Canonical.{no_node}
-use Rattle.std.proofs.Common.{◌≡◌, ◌≢◌, ◌≤◌, ◌<◌, ◌+◌, ◌⊎◌, ℕ, zero, suc, Bool, inl, inr, List, [], ◌∷◌, ◌++◌, map, take, length, get_or, Some, IsTrue, refl, ap, ap₂, sym, ◌∙◌, subst, append-nil, arith}
+use Rattle.std.proofs.Common.{◌≡◌, ◌≢◌, ◌≤◌, ◌<◌, ◌+◌, ◌⊎◌, ℕ, zero, suc, Bool, inl, inr, List, [], ◌∷◌, ◌++◌, take, length, get_or, Some, IsTrue, refl, ap, ap₂, sym, ◌∙◌, subst, append-nil, arith}
 use Rattle.std.specs.Prelude.{⊤, slice_index_or}
 use Rattle.std.specs.List.{slice_get}
 use Rattle.std.proofs.lemmas.List.{length-append, take_more}
@@ -11,10 +11,10 @@ use Rattle.pj_value.proofs.Members.{In-append_left, In-append_right, In-append_c
 use Rattle.pj_io.specs.Causes.{Rose, counted}
 use Rattle.pj_io.specs.Folders.{IsFresh, KeepsNames, NoneFalls, SameElsewhere, SameEverywhere}
 use Rattle.pj_io.specs.States.{FolderState}
-use Rattle.pj_feed.specs.Named.{AreTold, files_named}
-use Rattle.pj_feed.specs.Named.{AreDistinct, IsNoneOf}
+use Rattle.pj_feed.specs.Named.{AreTold, IsAlone, files_named}
 use Rattle.pj_feed.specs.Feeds.{FeedState, bytes_of, files_of, AreFeeds, AreNew, AreSameFeeds, AllTold, AreAllTaken}
 use Rattle.pj_feed.specs.Opened.{IsFeedOf, AreFeedsOf, AreOpened, AgreeOn, NoneNamed, IsLast, AreCounted, HasLasts, OpensFirst, OpensAtMost, FailsToOpen, IsFaultAt}
+use Rattle.pj_feed.proofs.AllFeeds.{all_same}
 use Rattle.pj_feed.proofs.Names.{same_or_other}
 
 -- ---- the names under which files are opened
@@ -260,32 +260,47 @@ some_named name [] i feed is named none = absurd (cc)
 some_named name (f ∷ fs) zero feed is named none = let same : f ≡ feed = cc is in none.0 (ap (λ (g : FeedState). g.source.name) same ∙ named)
 some_named name (f ∷ fs) (suc i) feed is named none = some_named name fs i feed is named none.1
 
-pub other_at : (name : List ℕ) (names : List (List ℕ)) (i : ℕ) → IsNoneOf name names → i < length names → name ≢ slice_index_or names i []
-other_at name [] i none low = absurd (omega (arith, low))
-other_at name (n ∷ ns) zero none low = none.0
-other_at name (n ∷ ns) (suc i) none low = other_at name ns i none.1 (omega (arith, low))
+-- where a name stands at none of their places, none of these has it
+none_named : (name : List ℕ) (feeds : List FeedState) (names : List (List ℕ)) → AreNamed feeds names → ((place : ℕ) → place < length feeds → place < length names → slice_index_or names place [] ≢ name) → NoneNamed name feeds
+none_named name [] names named others = tt
+none_named name (f ∷ fs) [] named others = absurd named
+none_named name (f ∷ fs) (n ∷ ns) named others =
+    (λ e. others 0 (omega arith) (omega arith) (sym named.0 ∙ e), none_named name fs ns named.1 (λ place few low. others (suc place) (omega (arith, few)) (omega (arith, low))))
 
-agree_others : (name : List ℕ) (taken : ℕ) (feeds : List FeedState) (names : List (List ℕ)) → AreNamed feeds names → IsNoneOf name names → AgreeOn name taken feeds
-agree_others name taken [] names named none = tt
-agree_others name taken (f ∷ fs) [] named none = absurd named
-agree_others name taken (f ∷ fs) (n ∷ ns) named none = (λ e. absurd (none.0 (sym e ∙ named.0)), agree_others name taken fs ns named.1 none.1)
+-- where no other place has the name of a place, none before it has the name
+pub none_before : (k : ℕ) (streams : List PlanNode) (names : List (List ℕ)) (folder : FolderState) (feeds : List FeedState) (i : ℕ) → AreFeedsOf k streams names folder feeds → length feeds ≡ i → IsAlone i names
+    → NoneNamed (slice_index_or names i []) feeds
+none_before k streams names folder feeds i all count alone =
+    none_named (slice_index_or names i []) feeds names (named_still k streams names folder feeds feeds all (all_same feeds))
+    (λ place few low. alone place low (λ e. omega (arith, few, count, e)))
 
--- where no name stands twice, only one file has the name at a place
-agree_at : (feeds : List FeedState) (names : List (List ℕ)) (i : ℕ) (feed : FeedState) → AreNamed feeds names → AreDistinct names → AllTold feeds → slice_get feeds i ≡ Some feed
+pub agree_none : (name : List ℕ) (taken : ℕ) (feeds : List FeedState) → NoneNamed name feeds → AgreeOn name taken feeds
+agree_none name taken [] none = tt
+agree_none name taken (f ∷ fs) none = (λ e. absurd (none.0 e), agree_none name taken fs none.1)
+
+-- a name behind the first that no other place has: the first is another, and no other place behind it has the name
+pub first_other : (i : ℕ) (name : List ℕ) (names : List (List ℕ)) → IsAlone (suc i) (name ∷ names) → name ≢ slice_index_or names i []
+first_other i name names alone = alone 0 (omega arith) (λ e. omega (arith, e))
+
+pub alone_behind : (i : ℕ) (name : List ℕ) (names : List (List ℕ)) → IsAlone (suc i) (name ∷ names) → IsAlone i names
+alone_behind i name names alone other low unlike = alone (suc other) (omega (arith, low)) (λ e. unlike (omega (arith, e)))
+
+-- where no other place has the name of a place, only one file has it
+agree_at : (feeds : List FeedState) (names : List (List ℕ)) (i : ℕ) (feed : FeedState) → AreNamed feeds names → IsAlone i names → AllTold feeds → slice_get feeds i ≡ Some feed
     → AgreeOn (slice_index_or names i []) (length feed.source.taken) feeds
-agree_at [] names i feed named distinct told is = absurd (cc)
-agree_at (f ∷ fs) [] i feed named distinct told is = absurd named
-agree_at (f ∷ fs) (n ∷ ns) zero feed named distinct told is =
+agree_at [] names i feed named alone told is = absurd (cc)
+agree_at (f ∷ fs) [] i feed named alone told is = absurd named
+agree_at (f ∷ fs) (n ∷ ns) zero feed named alone told is =
     let same : f ≡ feed = cc is in
-    (λ e. (told.0, ap (λ (g : FeedState). length g.source.taken) same), agree_others n (length feed.source.taken) fs ns named.1 distinct.0)
-agree_at (f ∷ fs) (n ∷ ns) (suc i) feed named distinct told is =
-    let low = (named_at fs ns i feed named.1 is).0 in
-    (λ e. absurd (other_at n ns i distinct.0 low (sym named.0 ∙ e)), agree_at fs ns i feed named.1 distinct.1 told.1 is)
+    let none : NoneNamed n fs = none_named n fs ns named.1 (λ place few low. alone (suc place) (omega (arith, low)) (λ e. omega (arith, e))) in
+    (λ e. (told.0, ap (λ (g : FeedState). length g.source.taken) same), agree_none n (length feed.source.taken) fs none)
+agree_at (f ∷ fs) (n ∷ ns) (suc i) feed named alone told is =
+    (λ e. absurd (first_other i n ns alone (sym named.0 ∙ e)), agree_at fs ns i feed named.1 (alone_behind i n ns alone) told.1 is)
 
 -- so many bytes were taken from the file of this name that was closed last
 pub last_at_fault : (k : ℕ) (streams : List PlanNode) (names : List (List ℕ)) (folder : FolderState) (olds news : List FeedState) (i : ℕ) (feed : FeedState) (before now : List ℕ → ℕ) → AreFeedsOf k streams names folder olds
-    → AreSameFeeds olds news → AllTold news → AreDistinct names → slice_get news i ≡ Some feed → HasLasts news before now → now (slice_index_or names i []) ≡ length feed.source.taken
-last_at_fault k streams names folder olds news i feed before now all same told distinct is lasts = go (lasts name (length feed.source.taken) (agree_at news names i feed named distinct told is))
+    → AreSameFeeds olds news → AllTold news → IsAlone i names → slice_get news i ≡ Some feed → HasLasts news before now → now (slice_index_or names i []) ≡ length feed.source.taken
+last_at_fault k streams names folder olds news i feed before now all same told alone is lasts = go (lasts name (length feed.source.taken) (agree_at news names i feed named alone told is))
   where
     name : List ℕ
     name = slice_index_or names i []

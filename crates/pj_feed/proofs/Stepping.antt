@@ -1,11 +1,14 @@
 -- One step of a stream's intake, as its feed has it.
 use Rattle.std.proofs.Common.{◌≡◌, ◌⊎◌, ℕ, ◌+◌, ◌-◌, ◌<◌, ◌≤◌, ◌^◌, Bool, true, false, cond, List, [], ◌∷◌, ◌++◌, length, take, drop, refl, ap, ap₂, sym, ◌∙◌, subst, append_assoc, append-nil, arith, Option, Some, None, Result, Ok, Err, IfOk, IsTrue, inl, inr}
 use Rattle.std.proofs.lemmas.List.{length-append}
+use Rattle.std.proofs.Math.Seq.{take-append_seam}
 use Rattle.pj_shape.specs.declared.columns.Column.{Column}
 use Rattle.pj_shape.specs.Columns.{domains_of}
 use Rattle.pj_io.specs.Pieces.{Consumes}
 use Rattle.pj_pattern.specs.declared.element.Element.{Element}
 use Rattle.pj_pattern.specs.Fitting.{FitsDomains}
+use Rattle.pj_line.specs.Fed.{AreFed}
+use Rattle.pj_line.specs.Lines.{HasNo}
 use Rattle.pj_element.specs.declared.element.Reject.{Reject}
 use Rattle.pj_element.specs.Accepted.{taken_of, fates_of, rejects_of}
 use Rattle.pj_intake.specs.declared.intake.Step.{Step}
@@ -178,25 +181,29 @@ module _ (old new : FeedState) (step : Step) (fed : IsFed old) (still : old.is_o
 
 -- ---- a step that could not be made
 
+-- where no line feed is left, those so far are the elements of the lines that end with one in the bytes taken
+fed_so_far : (old new : FeedState) (stop : IntakeStop) (fed : IsFed old) → Stepped old new (Err stop) → (gave : NextGives new.intake old.source new.source fed.judged (Err stop)) → AreFed (fed.judged ++ gave.more) → HasNo 10 gave.rest
+    → IsTrue old.source.told → fed_elements new.intake.columns new.source.taken ≡ take (count_of old) (all_accepted old)
+fed_so_far old new stop fed s gave whole free t =
+    let b = begins_with old fed t in
+    ap (λ (xs : List ℕ). fed_elements new.intake.columns xs) (gave.taken (subst IsTrue (sym s.told) t))
+    ∙ (ap (λ (xs : List ℕ). taken_of (fates_of new.intake.columns xs)) (fed_is (fed.judged ++ gave.more) gave.rest whole free)
+    ∙ (gave.adds.elements
+    ∙ (ap (λ (ks : List Column). taken_of (fates_of ks fed.judged)) s.columns
+    ∙ sym (those_so_far (all_accepted old) (taken_of (fates_of old.intake.columns fed.judged)) b.0 (count_of old) b.1 (counted old.intake fed.judged fed.follows.has_judged)))))
+
 pub step_stops : (old new : FeedState) (stop : IntakeStop) (fed : IsFed old) → Stepped old new (Err stop) → FeedStops old new stop
 step_stops old new ReadFault fed s =
     let gave = s.next fed.goes_on fed.judged fed.follows fed.bytes in
-    let judged = fed.judged ++ gave.more in (
-      gave.stands.2,
-      λ t.
-          let b = begins_with old fed t in
-          ap (λ (xs : List ℕ). fed_elements new.intake.columns xs) (gave.taken (subst IsTrue (sym s.told) t))
-          ∙ (ap (λ (xs : List ℕ). taken_of (fates_of new.intake.columns xs)) (fed_is judged gave.rest gave.stands.0 gave.stands.1)
-          ∙ (gave.adds.elements
-          ∙ (ap (λ (ks : List Column). taken_of (fates_of ks fed.judged)) s.columns
-          ∙ sym (those_so_far (all_accepted old) (taken_of (fates_of old.intake.columns fed.judged)) b.0 (count_of old) b.1 (counted old.intake fed.judged fed.follows.has_judged))))),
-    )
+    (gave.stands.2, fed_so_far old new ReadFault fed s gave gave.stands.0 gave.stands.1)
 step_stops old new ByteLimit fed s = λ t.
     let gave = s.next fed.goes_on fed.judged fed.follows fed.bytes in
-    let limit : new.intake.buffer.limit ≡ 2 ^ 40 = s.limit ∙ fed.limit in
     let bytes : bytes_of new ≡ bytes_of old = (stepped_same old new (Err ByteLimit) s).bytes t in
-    let taken = gave.taken (subst IsTrue (sym s.told) t) in
-    omega (arith, ap length bytes, length-append new.source.taken new.source.left, ap length taken, gave.stands.2, limit)
+    let count : length new.source.taken ≡ 2 ^ 40 = ap length (gave.taken (subst IsTrue (sym s.told) t)) ∙ (gave.stands.2 ∙ (s.limit ∙ fed.limit)) in
+    let front : take (2 ^ 40) (bytes_of old) ≡ new.source.taken = ap₂ (λ (n : ℕ) (xs : List ℕ). take n xs) (sym count) (sym bytes) ∙ take-append_seam new.source.taken new.source.left in (
+      omega (arith, ap length bytes, length-append new.source.taken new.source.left, count),
+      ap (λ (xs : List ℕ). fed_elements new.intake.columns xs) front ∙ fed_so_far old new ByteLimit fed s gave gave.stands.0 gave.stands.1 t,
+    )
 step_stops old new NoMemory fed s = tt
 
 -- ---- several steps
@@ -236,10 +243,14 @@ behind_more start now new n why b s = record {
   works = let w = stepped_works now new (Rejected n why) b.fed b.still s in omega (arith, w, b.works);
 }
 
+-- those so far are the same
+so_far_same : (start now : FeedState) → IsBehind start now → IsTrue start.source.told → take (count_of now) (all_accepted now) ≡ take (count_of start) (all_accepted start)
+so_far_same start now b t = ap₂ (λ (n : ℕ) (es : List Element). take n es) b.count (accepted_same start now b.same t)
+
 pub behind_stops : (start now new : FeedState) (stop : IntakeStop) → IsBehind start now → FeedStops now new stop → FeedStops start new stop
-behind_stops start now new ReadFault b f = (
-  omega (arith, f.0, b.same.faults),
-  λ t. f.1 (subst IsTrue (sym b.same.told) t) ∙ sym (ap₂ (λ (n : ℕ) (es : List Element). take n es) (sym b.count) (sym (accepted_same start now b.same t))),
-)
-behind_stops start now new ByteLimit b f = λ t. let e = ap length (b.same.bytes t) in let r = f (subst IsTrue (sym b.same.told) t) in omega (arith, e, r)
+behind_stops start now new ReadFault b f = (omega (arith, f.0, b.same.faults), λ t. f.1 (subst IsTrue (sym b.same.told) t) ∙ so_far_same start now b t)
+behind_stops start now new ByteLimit b f = λ t.
+    let bytes : bytes_of now ≡ bytes_of start = b.same.bytes t in
+    let r = f (subst IsTrue (sym b.same.told) t) in
+    (omega (arith, ap length bytes, r.0), ap (λ (xs : List ℕ). fed_elements new.intake.columns (take (2 ^ 40) xs)) (sym bytes) ∙ (r.1 ∙ so_far_same start now b t))
 behind_stops start now new NoMemory b f = tt

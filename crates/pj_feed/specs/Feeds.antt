@@ -21,7 +21,6 @@ use Rattle.pj_feed.specs.declared.feeds.Arrival.TheVariants.{Brought, Closing}
 use Rattle.pj_feed.specs.declared.stops.FeedStop.{FeedStop}
 use Rattle.pj_feed.specs.declared.stops.FeedWhy.{FeedWhy}
 use Rattle.pj_feed.specs.declared.stops.FeedWhy.TheVariants.{Intake, WriteFailed}
-use Rattle.pj_element.specs.Runs.{closing}
 
 -- A stream that is fed: its number, whether its closing is still to come, what its source tells of itself, and its intake
 pub record FeedState : Type 0 where
@@ -132,11 +131,11 @@ abbrev pub BringsOf : FeedState → Arrival → Type 0
 BringsOf feed (Brought stream element) = (stream ≡ feed.stream) × FitsDomains (domains_of feed.intake.columns) element
 BringsOf feed (Closing stream) = stream ≡ feed.stream
 
--- why a stream's turn was not made: a read failed, and of the file exactly the elements were accepted that the lines hold which
--- end with a line feed in the bytes taken; or so many bytes were taken
+-- why a stream's turn was not made: a read failed, or so many bytes were taken, the first of the file; and of the file exactly the
+-- elements were accepted that the lines hold which end with a line feed in the bytes taken
 abbrev pub FeedStops : FeedState → FeedState → IntakeStop → Type 0
 FeedStops old new ReadFault = Rose old.source.faults new.source.faults × (IsTrue old.source.told → fed_elements new.intake.columns new.source.taken ≡ take (count_of old) (all_accepted old))
-FeedStops old new ByteLimit = IsTrue old.source.told → 2 ^ 40 ≤ length (bytes_of old)
+FeedStops old new ByteLimit = IsTrue old.source.told → (2 ^ 40 ≤ length (bytes_of old)) × (fed_elements new.intake.columns (take (2 ^ 40) (bytes_of old)) ≡ take (count_of old) (all_accepted old))
 FeedStops old new NoMemory = ⊤
 
 -- the same, or what the sink holds back was to be handed on and its faults rose

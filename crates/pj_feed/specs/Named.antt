@@ -1,6 +1,6 @@
 -- Files by their names, and what a folder holds of them.
 -- Files by their names.
-use Rattle.std.specs.Prelude.{ℕ, ⊤, List, [], ◌∷◌, map, IsTrue, ◌≢◌}
+use Rattle.std.specs.Prelude.{◌≢◌, ◌<◌, ℕ, ⊤, List, [], ◌∷◌, length, map, IsTrue, slice_index_or}
 use Rattle.pj_io.specs.States.{FolderState}
 
 abbrev pub files_named : List (List ℕ) → FolderState → List (List ℕ)
@@ -11,12 +11,6 @@ abbrev pub AreTold : List (List ℕ) → FolderState → Type 0
 AreTold [] folder = ⊤
 AreTold (name ∷ names) folder = IsTrue (folder.told name) × AreTold names folder
 
--- a name is none of these
-abbrev pub IsNoneOf : List ℕ → List (List ℕ) → Type 0
-IsNoneOf name [] = ⊤
-IsNoneOf name (other ∷ others) = (name ≢ other) × IsNoneOf name others
-
--- no name stands twice
-abbrev pub AreDistinct : List (List ℕ) → Type 0
-AreDistinct [] = ⊤
-AreDistinct (name ∷ names) = IsNoneOf name names × AreDistinct names
+-- no other place has the name of this one
+abbrev pub IsAlone : ℕ → List (List ℕ) → Type 0
+IsAlone place names = (other : ℕ) → other < length names → other ≢ place → slice_index_or names other [] ≢ slice_index_or names place []

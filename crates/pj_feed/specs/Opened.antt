@@ -1,5 +1,5 @@
 -- The feeds of files that were opened, and what closing them leaves of a folder.
-use Rattle.std.specs.Prelude.{◌≡◌, ◌≢◌, ◌<◌, ◌≤◌, ◌⊎◌, ◌↔◌, ℕ, ◌+◌, ⊤, Bool, true, List, [], ◌∷◌, length, take, Result, OnOk, IsTrue, slice_index_or, Ok}
+use Rattle.std.specs.Prelude.{◌≡◌, ◌≢◌, ◌<◌, ◌≤◌, ◌⊎◌, ◌↔◌, ℕ, ◌+◌, ⊤, Bool, true, List, [], ◌∷◌, length, map, take, Result, OnOk, IsTrue, slice_index_or}
 use Rattle.pj_shape.specs.declared.columns.Column.{Column}
 use Rattle.pj_plan.specs.declared.node.PlanNode.{PlanNode}
 use Rattle.pj_value.specs.Lists.{In}
@@ -7,7 +7,6 @@ use Rattle.pj_io.specs.Causes.{Rose, counted}
 use Rattle.pj_io.specs.Folders.{IsNew, IsFresh, RoseAt}
 use Rattle.pj_io.specs.States.{FolderState}
 use Rattle.pj_feed.specs.Feeds.{FeedState, IsFed, count_of}
-use Rattle.pj_report.specs.declared.status.LimitOf.TheVariants.{Node}
 
 -- files were opened under the names of the first so many operands, and under no other
 abbrev pub OpensFirst : ℕ → List (List ℕ) → FolderState → FolderState → Type 0
@@ -85,3 +84,12 @@ HasLasts feeds before now = (name : List ℕ) (taken : ℕ) → AgreeOn name tak
 abbrev pub AreReadToEnd : List (List ℕ) → FolderState → FolderState → Type 0
 AreReadToEnd [] old new = ⊤
 AreReadToEnd (name ∷ names) old new = (IsTrue (old.told name) → IsReadToEnd name old new) × AreReadToEnd names old new
+
+-- the names under which the files of these feeds were opened
+abbrev pub names_in : List FeedState → List (List ℕ)
+names_in feeds = map (λ feed. feed.source.name) feeds
+
+-- of names that are not among these, the count of faults stays, and how much was taken from the file that was closed last
+pub record StayOutside (names : List (List ℕ)) (old new : FolderState) : Type 0 where
+  pub faults : (name : List ℕ) → (In name names → ⊥) → new.faults name ≡ old.faults name
+  pub last : (name : List ℕ) → (In name names → ⊥) → new.last name ≡ old.last name

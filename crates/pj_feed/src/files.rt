@@ -3,7 +3,7 @@ ghost use Rattle.std.specs.Prelude.{◌≡◌, ◌≤◌, ◌<◌, ◌++◌, ◌
 ghost use Rattle.pj_io.specs.Folders.{NoneFalls, SameEverywhere};
 ghost use Rattle.pj_plan.specs.Nodes.{streams_in};
 ghost use Rattle.pj_feed.specs.Feeds.{tallies_in};
-ghost use Rattle.pj_feed.specs.Opened.{IsFeedOf, AreFeedsOf, AreOpened, HasLasts, AreCounted, OpensFirst, OpensAtMost, FailsToOpen, IsFaultAt};
+ghost use Rattle.pj_feed.specs.Opened.{IsFeedOf, AreFeedsOf, AreOpened, HasLasts, AreCounted, OpensFirst, OpensAtMost, FailsToOpen, IsFaultAt, names_in, StayOutside};
 
 use crate::feeds::Feed;
 use crate::stops::OpeningStop;
@@ -41,6 +41,7 @@ pub fn open_feeds<F: Folder>(
     ensures all_opened { OnOk result (OpensFirst (length names.now) names.now (F.state folder.old) (F.state folder.new)) }
     ensures last { (result ≡ Err OpeningStop.NoMemory → ⊥) → SameEverywhere (F.state folder.old).last (F.state folder.new).last }
     ensures later { NoneFalls (F.state folder.old).faults (F.state folder.new).faults }
+    ensures others { StayOutside names.now (F.state folder.old) (F.state folder.new) }
     ensures fault { (stream : ℕ) → result ≡ Err (OpeningStop.Fault stream) → IsFaultAt stream names.now feeds.new.items (F.state folder.old) (F.state folder.new) }
 {
     let streams = plan.streams();
@@ -67,6 +68,7 @@ fn open_feed<F: Folder>(
     ensures was_opened { OnOk result (OpensFirst 1 (name.now ∷ []) (F.state folder.old) (F.state folder.new)) }
     ensures last { (result ≡ Err OpeningStop.NoMemory → ⊥) → SameEverywhere (F.state folder.old).last (F.state folder.new).last }
     ensures later { NoneFalls (F.state folder.old).faults (F.state folder.new).faults }
+    ensures others { StayOutside (name.now ∷ []) (F.state folder.old) (F.state folder.new) }
     ensures fault { (n : ℕ) → result ≡ Err (OpeningStop.Fault n) → (n ≡ stream) × FailsToOpen name.now (F.state folder.old) (F.state folder.new) }
 {
     let schema = columns.copy(alloc)?;
@@ -98,6 +100,7 @@ pub fn close_feeds<F: Folder>(
     ensures last { HasLasts feeds.items (F.state folder.old).last (F.state folder.new).last }
     ensures later { NoneFalls (F.state folder.old).faults (F.state folder.new).faults }
     ensures faults { AreCounted (F.state folder.old).faults (F.state folder.new).faults feeds.items }
+    ensures others { StayOutside (names_in feeds.items) (F.state folder.old) (F.state folder.new) }
 {
     let mut tallies = Ok(List::new(alloc));
     let mut rest = feeds.into_iter();

@@ -5,7 +5,7 @@ use Rattle.std.proofs.lemmas.Bool.Decides.{eqb_tells}
 use Rattle.pj_pattern.specs.declared.element.Element.{Element}
 use Rattle.pj_pattern.specs.declared.element.Element.TheVariants.{Tuple, Punct}
 use Rattle.pj_line.specs.Lines.{HasNo}
-use Rattle.pj_element.specs.Runs.{element_line, fed}
+use Rattle.pj_element.specs.Runs.{element_line, element_lines, fed}
 use Rattle.pj_element.proofs.Feeds.{row_no_feed, punct_no_feed}
 use Rattle.pj_report.specs.Written.{flat, lines_behind, whole_lines, is_note, result_lines, Spells}
 
@@ -105,6 +105,10 @@ AreLinesOf (l ∷ ls) es = (IsNoteLine l × AreLinesOf ls es) ⊎ ((e : Element)
 pub notes_are : (notes : List (List ℕ)) → AreNotes notes → AreLinesOf notes []
 notes_are [] n = tt
 notes_are (l ∷ ls) n = inl (n.0, notes_are ls n.1)
+
+pub elements_are : (es : List Element) → AreLinesOf (element_lines es) es
+elements_are [] = tt
+elements_are (e ∷ es) = inr (e, es, refl, refl, elements_are es)
 
 pub lines-append : (xs ys : List (List ℕ)) (es fs : List Element) → AreLinesOf xs es → AreLinesOf ys fs → AreLinesOf (xs ++ ys) (es ++ fs)
 lines-append [] ys [] fs a b = b

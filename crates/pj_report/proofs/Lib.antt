@@ -5,3 +5,4 @@ pub mod Fronts
 pub mod NodeNames
 pub mod Sorting
 pub mod LineLists
+pub mod Forms

@@ -3,10 +3,13 @@ use Rattle.std.specs.Prelude.{◌≡◌, ℕ, List, not, filter}
 use Rattle.std.specs.List.Sorted.{IsSortedBy}
 use Rattle.pj_value.specs.Bags.{SameBag}
 use Rattle.pj_pattern.specs.declared.element.Element.{Element}
-use Rattle.pj_element.specs.Runs.{rows_of, puncts_of, element_lines}
+use Rattle.pj_element.specs.Runs.{rows_of, puncts_of, element_lines, IsLawful}
 use Rattle.pj_events.specs.declared.events.Out.{Out}
 use Rattle.pj_events.specs.Outcomes.{elements_out}
 use Rattle.pj_plan.specs.declared.node.PlanNode.{PlanNode}
+use Rattle.pj_report.specs.declared.writer.Form.{Form}
+use Rattle.pj_report.specs.declared.writer.Form.TheVariants.{Sorted}
+use Rattle.pj_report.specs.Forms.{in_form}
 use Rattle.pj_report.specs.Results.{out_lines, NoneNoted}
 use Rattle.pj_report.specs.Sorted.{is_below, sorted_lines, sorted_form}
 use Rattle.pj_report.specs.Written.{is_note}
@@ -36,3 +39,20 @@ SortedByBag = (lines others : List (List ℕ)) → SameBag lines others → sort
 -- so does the sorted form on how often each row and each punctuation is there
 abbrev pub FormByBags : Type 0
 FormByBags = (es fs : List Element) → SameBag (rows_of es) (rows_of fs) → SameBag (puncts_of es) (puncts_of fs) → sorted_form es ≡ sorted_form fs
+
+-- ---- forms
+
+-- in each form the same rows are written, each as often, and the same punctuations
+abbrev pub FormedRows : Type 0
+FormedRows = (form : Form) (es : List Element) → SameBag (rows_of (in_form form es)) (rows_of es)
+
+abbrev pub FormedPuncts : Type 0
+FormedPuncts = (form : Form) (es : List Element) → SameBag (puncts_of (in_form form es)) (puncts_of es)
+
+-- lawful elements are lawful in the order in which a form writes them
+abbrev pub FormedAreLawful : Type 0
+FormedAreLawful = (form : Form) (es : List Element) → IsLawful es → IsLawful (in_form form es)
+
+-- the sorted form is that of the elements in this order
+abbrev pub SortedAreElements : Type 0
+SortedAreElements = (es : List Element) → element_lines (in_form Sorted es) ≡ sorted_form es

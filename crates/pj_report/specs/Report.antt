@@ -48,6 +48,10 @@ results_line outputs = results_text (counted_to (length (rows_of outputs))) (cou
 abbrev pub peak_line : List ℕ → ℕ → List ℕ
 peak_line name peak = fed (codes "# peak " ++ name ++ codes " " ++ decimal peak)
 
+-- `# check N`
+abbrev pub check_line : ℕ → List ℕ
+check_line rows = fed (codes "# check " ++ decimal rows)
+
 -- the words of a plan's fault, behind its number
 abbrev pub fault_words : PlanWhy → List ℕ
 fault_words NotAPlan = codes " P1 not a plan"

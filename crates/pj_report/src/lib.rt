@@ -11,12 +11,13 @@ mod results;
 mod status;
 mod status_line;
 mod stops;
+mod writer;
 
-pub use kept::KeptLines;
-pub use laws::{lines_are_of_elements, sorted_by_bags};
+pub use laws::{forms_write_the_same, lines_are_of_elements, sorted_by_bags};
 pub use lines::write_piece;
-pub use report::{write_peak_line, write_results, write_stream};
-pub use results::{Counts, write_outs};
+pub use report::{write_check, write_peak_line, write_results, write_stream};
+pub use results::Counts;
 pub use status::{LimitOf, Status};
 pub use status_line::{write_lines, write_status};
 pub use stops::WriteStop;
+pub use writer::{Form, ResultWriter};

@@ -3,7 +3,7 @@ ghost use Rattle.std.specs.Prelude.{◌≡◌, ◌≤◌, ◌++◌, ◌∷◌, [
 ghost use Rattle.std.specs.Fmt.{decimal};
 ghost use Rattle.pj_io.specs.Causes.{Rose};
 ghost use Rattle.pj_element.specs.Runs.{fed};
-ghost use Rattle.pj_report.specs.Report.{stream_line, stream_lines, reject_line, reject_words, results_text, peak_line};
+ghost use Rattle.pj_report.specs.Report.{check_line, stream_line, stream_lines, reject_line, reject_words, results_text, peak_line};
 ghost use Rattle.pj_report.specs.Written.{WritesBy, write_cut};
 
 use crate::lines::write_piece;
@@ -80,6 +80,28 @@ pub fn write_peak_line<K: Sink>(
 {
     peak_text(name, peak, text)?;
     write_piece(out, text.as_slice())?;
+    Ok(())
+}
+
+/// Writes the line of a check: how many rows the plan's answer has.
+pub fn write_check<K: Sink>(rows: u64, text: &mut List<u8>, out: &mut K) -> Result<(), WriteStop>
+    ensures told { IsTrue (K.state out.new).told → IsTrue (K.state out.old).told }
+    ensures lines { IsTrue (K.state out.new).told → WritesBy write_cut (check_line rows ∷ []) (K.state out.old) (K.state out.new) result }
+    ensures later { (K.state out.old).faults ≤ (K.state out.new).faults }
+    ensures fault { result ≡ Err WriteStop.Failed → Rose (K.state out.old).faults (K.state out.new).faults }
+{
+    check_text(rows, text)?;
+    write_piece(out, text.as_slice())?;
+    Ok(())
+}
+
+fn check_text(rows: u64, text: &mut List<u8>) -> Result<(), NoMemory>
+    ensures { OnOk result (text.new ≡ check_line rows) }
+{
+    text.truncate(0);
+    text.append(b"# check ")?;
+    append_number(rows, text)?;
+    text.push(b'\n')?;
     Ok(())
 }
 

@@ -55,7 +55,7 @@ schema-is job k d lt =
 
 -- ---- their accepted elements
 
-count-accepted : (streams : List PlanNode) (files : List (List ℕ)) → length (accepted_of streams files) ≡ length streams
+pub count-accepted : (streams : List PlanNode) (files : List (List ℕ)) → length (accepted_of streams files) ≡ length streams
 count-accepted [] files = refl
 count-accepted (s ∷ streams) [] = ap suc (count-accepted streams [])
 count-accepted (s ∷ streams) (bytes ∷ files) = ap suc (count-accepted streams files)

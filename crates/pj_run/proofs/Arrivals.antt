@@ -57,14 +57,15 @@ abbrev pub all_brought : ℕ → List Turn → List Element
 all_brought s [] = []
 all_brought s (t ∷ ts) = brought_by s t ++ all_brought s ts
 
+pub elements-turn : (s : ℕ) (nodes : List Node) (t : Turn) → elements_of s (turn_entries true nodes t) ≡ brought_by s t
+elements-turn s nodes t = ap (λ (xs : List Element). brought_by s t ++ xs) (none-follow s (nodes_from nodes (arrival_of t ∷ [])) t.element) ∙ append-nil (brought_by s t)
+
 pub elements-turns : (s : ℕ) (nodes : List Node) (ts : List Turn) → elements_of s (turns_entries true nodes ts) ≡ all_brought s ts
 elements-turns s nodes [] = refl
 elements-turns s nodes (t ∷ ts) =
     let here : List Entry = turn_entries true nodes t in
     elements-append s here (turns_entries true (nodes_from nodes here) ts)
-    ∙ ap₂ (λ (xs ys : List Element). xs ++ ys)
-    (ap (λ (xs : List Element). brought_by s t ++ xs) (none-follow s (nodes_from nodes (arrival_of t ∷ [])) t.element) ∙ append-nil (brought_by s t))
-    (elements-turns s (nodes_from nodes here) ts)
+    ∙ ap₂ (λ (xs ys : List Element). xs ++ ys) (elements-turn s nodes t) (elements-turns s (nodes_from nodes here) ts)
 
 brought-mine : (s : ℕ) (ts : List Turn) → all_brought s ts ≡ map (λ t. t.element) (mine s ts)
 brought-mine s [] = refl

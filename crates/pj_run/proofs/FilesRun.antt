@@ -2,10 +2,9 @@
 use Rattle.pj_run.specs.Jobs.{Job}
 use Rattle.pj_plan.specs.declared.node.PlanNode.{PlanNode}
 use Rattle.pj_plan.specs.Nodes.{stream_columns, streams_in}
-use Rattle.std.proofs.Common.{◌≡◌, ◌≤◌, ◌<◌, ◌+◌, ◌^◌, ℕ, zero, suc, inl, inr, List, [], ◌∷◌, ◌++◌, map, take, length, get_or, Err, IsTrue, refl, ap, ap₂, sym, ◌∙◌, subst, arith}
+use Rattle.std.proofs.Common.{◌≡◌, ◌≤◌, ◌^◌, ℕ, inl, inr, List, [], ◌∷◌, ◌++◌, take, length, get_or, Err, IsTrue, refl, ap, ap₂, sym, ◌∙◌, subst, arith}
 use Rattle.std.specs.Prelude.{slice_index_or}
 use Rattle.std.proofs.Math.Seq.{take-append_seam}
-use Rattle.std.proofs.lemmas.List.{length-map}
 use Rattle.pj_io.specs.Causes.{Rose}
 use Rattle.pj_io.specs.Folders.{NoneFalls, SameEverywhere}
 use Rattle.pj_io.specs.States.{FolderState, SinkState}
@@ -16,15 +15,15 @@ use Rattle.pj_run.specs.declared.stops.RunStop.{RunStop}
 use Rattle.pj_run.specs.declared.stops.RunStop.TheVariants.{ReadFault, TooLarge, Limit, WriteFailed, NoMemory, Cut as RunCut}
 use Rattle.pj_run.specs.declared.stops.FilesStop.TheVariants.{Opening, Run}
 use Rattle.pj_feed.specs.Named.{AreTold, files_named}
-use Rattle.pj_feed.specs.Named.{AreDistinct}
 use Rattle.pj_feed.specs.Feeds.{FeedState, files_of, fed_elements, AreFeeds, AllTold}
-use Rattle.pj_feed.specs.Opened.{AreFeedsOf, AgreeOn, NoneNamed, IsLast, HasLasts, OpensAtMost, IsFaultAt}
+use Rattle.pj_feed.specs.Opened.{AreFeedsOf, StayOutside, names_in, NoneNamed, IsLast, HasLasts, OpensAtMost, IsFaultAt}
 use Rattle.pj_run.specs.RunEnds.{AreRead, CutCause, FeedsCause, FeedsEnd, FilesCause, FilesEnd, FilesOpened}
 use Rattle.pj_run.specs.Runs.{GoesBeyond}
 use Rattle.pj_feed.specs.Opened.{AreReadToEnd}
 use Rattle.pj_run.specs.Turning.{TurnsEnd}
-use Rattle.pj_feed.proofs.AllFeeds.{one_of, same_at, same_long, told_still, told_at, bytes_of_feed}
-use Rattle.pj_feed.proofs.Opening.{AreNamed, named_still, named_of, feeds_of, told_of, files_are, other_at, last_at_fault, last_read, keeps_of, opens_still, opens_most_still}
+use Rattle.pj_feed.proofs.Outside.{names_among, stay_then, stay_wider}
+use Rattle.pj_feed.proofs.AllFeeds.{all_same, one_of, same_at, same_long, told_still, told_at, bytes_of_feed}
+use Rattle.pj_feed.proofs.Opening.{AreNamed, agree_none, none_before, named_still, named_of, feeds_of, told_of, files_are, last_at_fault, last_read, keeps_of, opens_still, opens_most_still}
 
 -- ---- a run over files that were opened
 
@@ -68,9 +67,9 @@ run_end stop job names old mid after feeds written lines opened are_told e = go 
         let bytes : get_or (files_named names old) stream [] ≡ feed.source.taken ++ feed.source.left =
         ap (λ (fs : List (List ℕ)). get_or fs stream []) (sym files) ∙ (bytes_of_feed feeds stream o.0 o.1 ∙ sym (o.2.bytes (told_at feeds stream o.0 told o.1))) in (
           ends.2,
-          λ distinct.
+          λ alone.
               let last : after.last (slice_index_or names stream []) ≡ length feed.source.taken =
-              last_at_fault 0 (streams_in job.nodes) names old feeds e.news stream feed mid.last after.last opened.of e.same (told_still feeds e.news e.same told) distinct ends.1 e.lasts in
+              last_at_fault 0 (streams_in job.nodes) names old feeds e.news stream feed mid.last after.last opened.of e.same (told_still feeds e.news e.same told) alone ends.1 e.lasts in
               let front : take (after.last (slice_index_or names stream [])) (get_or (files_named names old) stream []) ≡ feed.source.taken =
               ap₂ (λ (k : ℕ) (xs : List ℕ). take k xs) last bytes ∙ take-append_seam feed.source.taken feed.source.left in
               ends.3 ∙ ap₂ (λ (ks : List Column) (xs : List ℕ). fed_elements ks xs) columns (sym front),
@@ -124,20 +123,6 @@ still_read job names old mid after feeds name opened same told had read =
 
 -- ---- a file that was not opened
 
--- the files that were opened before it have other names
-none_before : (k : ℕ) (streams : List PlanNode) (names : List (List ℕ)) (folder : FolderState) (feeds : List FeedState) (i : ℕ) → AreFeedsOf k streams names folder feeds → AreDistinct names → length feeds ≡ i → i < length names
-    → NoneNamed (slice_index_or names i []) feeds
-none_before k streams names folder [] i of distinct long lt = tt
-none_before k [] names folder (f ∷ fs) i of distinct long lt = absurd of
-none_before k (s ∷ ss) [] folder (f ∷ fs) i of distinct long lt = absurd of
-none_before k (s ∷ ss) (n ∷ ns) folder (f ∷ fs) zero of distinct long lt = absurd (omega (arith, long))
-none_before k (s ∷ ss) (n ∷ ns) folder (f ∷ fs) (suc i) of distinct long lt =
-    (λ e. other_at n ns i distinct.0 (omega (arith, lt)) (sym of.0.opened.named ∙ e), none_before (k + 1) ss ns folder fs i of.1 distinct.1 (omega (arith, long)) (omega (arith, lt)))
-
-agree_none : (name : List ℕ) (taken : ℕ) (feeds : List FeedState) → NoneNamed name feeds → AgreeOn name taken feeds
-agree_none name taken [] none = tt
-agree_none name taken (f ∷ fs) none = (λ e. absurd (none.0 e), agree_none name taken fs none.1)
-
 same_last : (name : List ℕ) (before now : ℕ) (feeds : List FeedState) → IsLast name before feeds before now → now ≡ before
 same_last name before now feeds (inl e) = e
 same_last name before now feeds (inr other) = other.0
@@ -149,9 +134,9 @@ open_end (Fault stream) job names old mid after feeds written of lasts same faul
     let f = fault stream refl in
     let unlike : Fault stream ≡ OpeningMemory → ⊥ = λ e. cc in (
       refl,
-      λ distinct.
+      λ alone.
           let name : List ℕ = slice_index_or names stream [] in
-          let none = none_before 0 (streams_in job.nodes) names old feeds stream of distinct f.before f.there in
+          let none = none_before 0 (streams_in job.nodes) names old feeds stream of f.before alone in
           same_last name (mid.last name) (after.last name) feeds (lasts name (mid.last name) (agree_none name (mid.last name) feeds none)) ∙ same unlike name,
     )
 open_end OpeningMemory job names old mid after feeds written of lasts same fault = tt
@@ -161,3 +146,8 @@ pub open_opened : (stop : OpeningStop) (names : List (List ℕ)) (old mid after 
     → SameEverywhere mid.opened after.opened → FilesOpened (Err (Opening stop)) names old after
 open_opened (Fault stream) names old mid after feeds some fault same = opens_still stream names old mid after (fault stream refl).opened same
 open_opened OpeningMemory names old mid after feeds some fault same = opens_most_still (length names) names old mid after some same
+
+-- of other names nothing changes
+pub run_others : (streams : List PlanNode) (names : List (List ℕ)) (old mid after : FolderState) (feeds : List FeedState) → AreFeedsOf 0 streams names old feeds → StayOutside names old mid → StayOutside (names_in feeds) mid after
+    → StayOutside names old after
+run_others streams names old mid after feeds of opened closed = stay_then names old mid after opened (stay_wider (names_in feeds) names mid after (names_among 0 streams names old feeds feeds of (all_same feeds)) closed)

@@ -5,6 +5,7 @@ pub mod Carried
 pub mod Ending
 pub mod FilesRun
 pub mod JoinNodes
+pub mod Keeping
 pub mod OutputLaws
 pub mod Planned
 pub mod RunClosing

@@ -1,5 +1,5 @@
 -- What holds of the outputs of a plan's run on one thread.
-use Rattle.std.proofs.Common.{◌≡◌, ◌<◌, ℕ, zero, suc, true, false, List, [], ◌∷◌, ◌++◌, map, length, get_or, refl, ap, sym, ◌∙◌, subst, arith, zero-add}
+use Rattle.std.proofs.Common.{◌≡◌, ◌<◌, ℕ, zero, suc, true, List, [], ◌∷◌, ◌++◌, map, length, get_or, refl, ap, sym, ◌∙◌, subst, arith, zero-add}
 use Rattle.std.proofs.lemmas.List.{get_or_default, length-map, same_lists}
 use Rattle.pj_value.specs.Bags.{SameBag}
 use Rattle.pj_shape.specs.declared.columns.Column.{Column}

@@ -1,12 +1,13 @@
 -- What the laws of histories ask of the nodes of a sound plan's run.
-use Rattle.std.proofs.Common.{◌<◌, Bool, List, [], length, refl, sym, subst, arith}
+use Rattle.std.proofs.Common.{◌<◌, [], length}
 use Rattle.pj_run.specs.Jobs.{Job}
 use Rattle.pj_laws.specs.Climb.{IsTree}
 use Rattle.pj_events.specs.Plan.{ArePlanned}
 use Rattle.pj_laws.specs.HistoryLaws.{AllAreCertified}
 use Rattle.pj_core.proofs.Planned.{not-empty, planned, tree as is_tree}
 use Rattle.pj_core.specs.Cores.{CoreState}
-use Rattle.pj_run.specs.Runs.{IsNewCore, job_in, plan_run, run_nodes}
+use Rattle.pj_run.specs.declared.run.Writing.{Writing}
+use Rattle.pj_run.specs.Runs.{IsNewCore, job_in, plan_in, run_nodes}
 
 -- ---- what the laws ask
 
@@ -17,10 +18,10 @@ pub record IsPlanned (job : Job) : Type 0 where
   pub certified : AllAreCertified (run_nodes job)
 
 -- the plan of a new core
-pub new_planned : (core : CoreState) → IsNewCore core → IsPlanned (job_in core)
-new_planned core new = record {
-  well_made = planned (plan_run (job_in core)) new.sound;
-  tree = is_tree (plan_run (job_in core)) new.sound;
-  some = not-empty (plan_run (job_in core)) new.sound;
+pub new_planned : (writing : Writing) (core : CoreState) → IsNewCore core → IsPlanned (job_in writing core)
+new_planned writing core new = record {
+  well_made = planned (plan_in core) new.sound;
+  tree = is_tree (plan_in core) new.sound;
+  some = not-empty (plan_in core) new.sound;
   certified = new.certified;
 }

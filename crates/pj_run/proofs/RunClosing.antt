@@ -1,6 +1,6 @@
 -- A run over feeds, once their files are closed.
 use Rattle.pj_run.specs.Jobs.{Job}
-use Rattle.std.proofs.Common.{◌≡◌, ◌≤◌, ℕ, List, refl, arith}
+use Rattle.std.proofs.Common.{◌≡◌, ◌≤◌, ℕ, List, [], ◌∷◌, refl, ap₂, subst, arith}
 use Rattle.pj_io.specs.Causes.{Rose}
 use Rattle.pj_io.specs.States.{FolderState, SinkState}
 use Rattle.pj_run.specs.declared.stops.RunStop.{RunStop}
@@ -8,7 +8,7 @@ use Rattle.pj_run.specs.declared.stops.RunStop.TheVariants.{ReadFault, TooLarge,
 use Rattle.pj_report.specs.declared.stops.WriteStop.{WriteStop}
 use Rattle.pj_report.specs.declared.stops.WriteStop.TheVariants.{Failed, NoMemory as WriteMemory}
 use Rattle.pj_feed.specs.Feeds.{FeedState, AreSameFeeds}
-use Rattle.pj_feed.specs.Opened.{AreCounted}
+use Rattle.pj_feed.specs.Opened.{AreCounted, StayOutside, names_in}
 use Rattle.pj_run.specs.RunEnds.{TurnsCause, FeedsCause}
 use Rattle.pj_run.specs.Stops.{of_turn, of_write}
 use Rattle.pj_run.specs.Turning.{TurnsEnd}
@@ -25,6 +25,16 @@ feeds_cause (Limit node) job olds news before after old new same counted cause =
 feeds_cause WriteFailed job olds news before after old new same counted cause = cause
 feeds_cause NoMemory job olds news before after old new same counted cause = tt
 feeds_cause (RunCut stop) job olds news before after old new same counted cause = cause
+
+-- the feeds that are closed have the names of those that were opened
+same_names : (olds news : List FeedState) → AreSameFeeds olds news → names_in news ≡ names_in olds
+same_names [] [] same = refl
+same_names [] (new ∷ news) same = absurd same
+same_names (old ∷ olds) [] same = absurd same
+same_names (old ∷ olds) (new ∷ news) same = ap₂ (λ (n : List ℕ) (ns : List (List ℕ)). n ∷ ns) same.0.name (same_names olds news same.1)
+
+pub closed_others : (olds news : List FeedState) (before after : FolderState) → AreSameFeeds olds news → StayOutside (names_in news) before after → StayOutside (names_in olds) before after
+closed_others olds news before after same stay = subst (λ (names : List (List ℕ)). StayOutside names before after) (same_names olds news same) stay
 
 -- ---- a report that was not written
 

@@ -3,7 +3,7 @@ use Rattle.pj_run.specs.Jobs.{Job}
 use Rattle.pj_plan.specs.declared.node.PlanNode.{PlanNode}
 use Rattle.pj_core.specs.Plans.{RunPlan, nodes_of}
 use Rattle.pj_plan.specs.Nodes.{stream_columns, streams_in}
-use Rattle.std.proofs.Common.{◌≡◌, ℕ, ◌+◌, ◌<◌, false, List, [], ◌∷◌, ◌++◌, length, map, get_or, Some, None, refl, ap, ap₂, sym, ◌∙◌, append_assoc, append-nil, subst, arith, zero-add, Bool, true, take, drop, IsTrue}
+use Rattle.std.proofs.Common.{◌≡◌, ℕ, ◌+◌, ◌<◌, ◌^◌, false, List, [], ◌∷◌, ◌++◌, length, map, get_or, Some, None, refl, ap, ap₂, sym, ◌∙◌, append_assoc, append-nil, subst, arith, zero-add, Bool, true, take, drop, IsTrue}
 use Rattle.std.specs.List.{slice_get}
 use Rattle.std.specs.Option.{option_map}
 use Rattle.std.proofs.lemmas.List.{length-map, length-append, map-append, take-append-drop, same_lists, get_or_default}
@@ -32,12 +32,13 @@ use Rattle.pj_core.specs.Cores.{CoreState, StandsFor, MayFollow}
 use Rattle.pj_core.specs.Calls.{IsFresh, turn_behind}
 use Rattle.pj_feed.specs.declared.feeds.Arrival.{Arrival}
 use Rattle.pj_feed.specs.declared.feeds.Arrival.TheVariants.{Brought, Closing}
-use Rattle.pj_report.specs.declared.results.Counts.{Counts}
+use Rattle.pj_report.specs.declared.writer.ResultWriter.{ResultWriter}
+use Rattle.pj_run.specs.declared.run.Gathered.{Gathered}
 use Rattle.pj_intake.specs.declared.intake.IntakeStop.TheVariants.{ReadFault as IntakeFault, ByteLimit, NoMemory as OutOfMemory}
-use Rattle.pj_feed.specs.Feeds.{FeedState, feed_left, feeds_left, brought, closes, turn_in, tallies_of, all_accepted, count_of, files_of, AreFeeds, AreNew, AreSameFeeds, AllTold, BringsIn, FeedEnds, StopsIn}
-use Rattle.pj_run.specs.Outcome.{IsOutcome}
-use Rattle.pj_report.specs.Results.{out_lines, counts_of}
-use Rattle.pj_run.specs.Runs.{history_of, GoesBeyond, plan_run, run_nodes}
+use Rattle.pj_feed.specs.Feeds.{FeedState, bytes_of, fed_elements, feed_left, feeds_left, brought, closes, turn_in, tallies_of, all_accepted, count_of, files_of, AreFeeds, AreNew, AreSameFeeds, AllTold, BringsIn, FeedEnds, StopsIn}
+use Rattle.pj_run.specs.Outcome.{AreAccepted, IsOutcome}
+use Rattle.pj_report.specs.Forms.{shown, taken_so_far}
+use Rattle.pj_run.specs.Runs.{accepted_rows, history_of, GoesBeyond, plan_run, run_nodes}
 use Rattle.pj_feed.specs.Feeds.{accepted_of}
 use Rattle.pj_laws.proofs.Limits.{within-append}
 use Rattle.pj_laws.proofs.Histories.{outputs-append, nodes-append}
@@ -53,11 +54,11 @@ use Rattle.pj_feed.specs.declared.stops.FeedWhy.TheVariants.{Intake, WriteFailed
 use Rattle.pj_io.specs.States.{SinkState}
 use Rattle.pj_report.specs.Written.{anywhere, flat, Cut, FrontOf, Leaves}
 use Rattle.pj_report.proofs.LinesWritten.{stop_among, stop_then, written_then}
-use Rattle.pj_report.proofs.Counting.{out_lines-append}
+use Rattle.pj_report.proofs.Forms.{shown-append}
 use Rattle.pj_run.proofs.Accepting.{count-streams, schema-is}
 use Rattle.pj_run.proofs.OutputLaws.{goes_beyond, whole_run}
 use Rattle.pj_run.proofs.Planned.{IsPlanned}
-use Rattle.pj_feed.proofs.AllFeeds.{all_same, all_same_then, told_at, told_still, files_still, IsOneOf, one_of, feeds_long, first_left, left_tagged, tagged_parts, accepted_of_feed}
+use Rattle.pj_feed.proofs.AllFeeds.{same_at, bytes_of_feed, all_same, all_same_then, told_at, told_still, files_still, IsOneOf, one_of, feeds_long, first_left, left_tagged, tagged_parts, accepted_of_feed}
 use Rattle.pj_run.proofs.Arrivals.{elements-turns, brought-left, arrived-is}
 
 -- ---- all turns
@@ -93,14 +94,14 @@ feeds-lists job feeds f new =
 -- ---- what holds while the run goes on
 
 -- the turns that made this history were made, and the core stands for it; these are left
-pub record Ran (job : Job) (files : List (List ℕ)) (history : List Entry) (core : CoreState) (left : List Turn) (counts : Counts) : Type 0 where
+pub record Ran (job : Job) (files : List (List ℕ)) (history : List Entry) (core : CoreState) (left : List Turn) (results : ResultWriter) : Type 0 where
   pub of_plan : core.plan ≡ plan_run job
   pub limit : core.limit ≡ job.limit
   pub on : core.kept.stop ≡ None
   pub drained : core.kept.undrained ≡ []
   pub stands : StandsFor core history
   pub all : history ++ turns_entries true (nodes_from (run_nodes job) history) left ≡ history_of job files
-  pub counted : counts ≡ counts_of (elements_out (handed_out job.trace (run_nodes job) history))
+  pub taken : results ≡ taken_so_far job.form (elements_out (handed_out job.trace (run_nodes job) history))
   pub within : StaysWithin job.limit (run_nodes job) [] history
 
 first-turns : (job : Job) (feeds : List FeedState) (at : ℕ) → at ≡ 0 → AreFeeds 0 (streams_in job.nodes) feeds → AreNew feeds
@@ -108,16 +109,16 @@ first-turns : (job : Job) (feeds : List FeedState) (at : ℕ) → at ≡ 0 → A
 first-turns job feeds at first f new =
     ap (feeds_left (streams_in job.nodes) feeds) first ∙ (sym (rounds-go-on (map (feed_left (streams_in job.nodes)) feeds)) ∙ ap in_rounds (feeds-lists job feeds f new))
 
-pub begins : (job : Job) (feeds : List FeedState) (at : ℕ) (core : CoreState) (counts : Counts) → AreFeeds 0 (streams_in job.nodes) feeds → AreNew feeds → at ≡ 0 → IsFresh core (plan_run job) job.limit → counts ≡ counts_of []
-    → Ran job (files_of feeds) [] core (feeds_left (streams_in job.nodes) feeds at) counts
-begins job feeds at core counts f new first fresh none = record {
+pub begins : (job : Job) (feeds : List FeedState) (at : ℕ) (core : CoreState) (results : ResultWriter) → AreFeeds 0 (streams_in job.nodes) feeds → AreNew feeds → at ≡ 0 → IsFresh core (plan_run job) job.limit → results ≡ taken_so_far job.form []
+    → Ran job (files_of feeds) [] core (feeds_left (streams_in job.nodes) feeds at) results
+begins job feeds at core results f new first fresh none = record {
   of_plan = fresh.of_plan;
   limit = fresh.with_limit;
   on = fresh.on;
   drained = fresh.undrained;
   stands = fresh.stands;
   all = ap (turns_entries true (run_nodes job)) (first-turns job feeds at first f new);
-  counted = none;
+  taken = none;
   within = tt;
 }
 
@@ -137,7 +138,7 @@ reached limit nodes whole done front (entry ∷ back) rest node e d w b = (
   refl,
 )
 
-module _ (job : Job) (files : List (List ℕ)) (planned : IsPlanned job) (history : List Entry) (core : CoreState) (t : Turn) (left : List Turn) (counts : Counts) (ran : Ran job files history core (t ∷ left) counts) where
+module _ (job : Job) (files : List (List ℕ)) (planned : IsPlanned job) (history : List Entry) (core : CoreState) (t : Turn) (left : List Turn) (results : ResultWriter) (ran : Ran job files history core (t ∷ left) results) where
   abbrev nodes : List Node
   nodes = nodes_from (run_nodes job) history
 
@@ -176,38 +177,38 @@ module _ (job : Job) (files : List (List ℕ)) (planned : IsPlanned job) (histor
       outputs-append job.trace (run_nodes job) history (turn_behind core history t)
       ∙ ap (λ (p : RunPlan). handed_out job.trace (run_nodes job) history ++ handed_out p.trace (nodes_from (nodes_of p) history) (turn_behind core history t)) (sym ran.of_plan)
 
-  pub turn_lines : out_lines job.nodes (handed_out job.trace (run_nodes job) history) ++ out_lines core.plan.nodes (turn_outs core history t) ≡ out_lines job.nodes (handed_out job.trace (run_nodes job) (history ++ turn_behind core history t))
+  pub turn_lines : shown job.form job.nodes (handed_out job.trace (run_nodes job) history) ++ shown job.form core.plan.nodes (turn_outs core history t) ≡ shown job.form job.nodes (handed_out job.trace (run_nodes job) (history ++ turn_behind core history t))
   turn_lines =
-      ap (λ (ns : List PlanNode). out_lines job.nodes (handed_out job.trace (run_nodes job) history) ++ out_lines ns (turn_outs core history t)) nodes-same
-      ∙ (sym (out_lines-append job.nodes (handed_out job.trace (run_nodes job) history) (turn_outs core history t)) ∙ ap (out_lines job.nodes) (sym outs-are))
+      ap (λ (ns : List PlanNode). shown job.form job.nodes (handed_out job.trace (run_nodes job) history) ++ shown job.form ns (turn_outs core history t)) nodes-same
+      ∙ (sym (shown-append job.form job.nodes (handed_out job.trace (run_nodes job) history) (turn_outs core history t)) ∙ ap (shown job.form job.nodes) (sym outs-are))
 
   abbrev later : List (List ℕ)
-  later = out_lines job.nodes (handed_out job.trace (nodes_from nodes here) (turns_entries true (nodes_from nodes here) left))
+  later = shown job.form job.nodes (handed_out job.trace (nodes_from nodes here) (turns_entries true (nodes_from nodes here) left))
 
-  rest_lines : (out_lines job.nodes (handed_out job.trace (run_nodes job) history) ++ out_lines core.plan.nodes (turn_outs core history t)) ++ later ≡ out_lines job.nodes (handed_out job.trace (run_nodes job) (history_of job files))
+  rest_lines : (shown job.form job.nodes (handed_out job.trace (run_nodes job) history) ++ shown job.form core.plan.nodes (turn_outs core history t)) ++ later ≡ shown job.form job.nodes (handed_out job.trace (run_nodes job) (history_of job files))
   rest_lines =
       ap (λ (ls : List (List ℕ)). ls ++ later) turn_lines
-      ∙ (ap (λ (ns : List Node). out_lines job.nodes (handed_out job.trace (run_nodes job) (history ++ turn_behind core history t)) ++ out_lines job.nodes (handed_out job.trace ns (turns_entries true (nodes_from nodes here) left))) (sym nodes-are)
-      ∙ (sym (out_lines-append job.nodes (handed_out job.trace (run_nodes job) (history ++ turn_behind core history t)) (handed_out job.trace (nodes_from (run_nodes job) (history ++ turn_behind core history t)) (turns_entries true (nodes_from nodes here) left)))
-      ∙ ap (out_lines job.nodes) (sym (outputs-append job.trace (run_nodes job) (history ++ turn_behind core history t) (turns_entries true (nodes_from nodes here) left)) ∙ ap (handed_out job.trace (run_nodes job)) parts)))
+      ∙ (ap (λ (ns : List Node). shown job.form job.nodes (handed_out job.trace (run_nodes job) (history ++ turn_behind core history t)) ++ shown job.form job.nodes (handed_out job.trace ns (turns_entries true (nodes_from nodes here) left))) (sym nodes-are)
+      ∙ (sym (shown-append job.form job.nodes (handed_out job.trace (run_nodes job) (history ++ turn_behind core history t)) (handed_out job.trace (nodes_from (run_nodes job) (history ++ turn_behind core history t)) (turns_entries true (nodes_from nodes here) left)))
+      ∙ ap (shown job.form job.nodes) (sym (outputs-append job.trace (run_nodes job) (history ++ turn_behind core history t) (turns_entries true (nodes_from nodes here) left)) ∙ ap (handed_out job.trace (run_nodes job)) parts)))
 
   -- a turn that stopped
-  pub turn_stopped : (cut : Cut) (before mid after : List ℕ) → mid ≡ before ++ flat (out_lines job.nodes (handed_out job.trace (run_nodes job) history))
-      → Leaves cut (out_lines core.plan.nodes (turn_outs core history t)) mid after → Leaves cut (out_lines job.nodes (handed_out job.trace (run_nodes job) (history_of job files))) before after
+  pub turn_stopped : (cut : Cut) (before mid after : List ℕ) → mid ≡ before ++ flat (shown job.form job.nodes (handed_out job.trace (run_nodes job) history))
+      → Leaves cut (shown job.form core.plan.nodes (turn_outs core history t)) mid after → Leaves cut (shown job.form job.nodes (handed_out job.trace (run_nodes job) (history_of job files))) before after
   turn_stopped cut before mid after first stop =
-      stop_among cut (out_lines job.nodes (handed_out job.trace (run_nodes job) history)) (out_lines core.plan.nodes (turn_outs core history t)) later (out_lines job.nodes (handed_out job.trace (run_nodes job) (history_of job files))) before mid after first stop rest_lines
+      stop_among cut (shown job.form job.nodes (handed_out job.trace (run_nodes job) history)) (shown job.form core.plan.nodes (turn_outs core history t)) later (shown job.form job.nodes (handed_out job.trace (run_nodes job) (history_of job files))) before mid after first stop rest_lines
 
   -- a turn that was made
-  pub turn_made : (core' : CoreState) (counts' : Counts) → TurnDone core core' t counts counts' → Ran job files (history ++ turn_behind core history t) core' left counts'
-  turn_made core' counts' done = record {
+  pub turn_made : (core' : CoreState) (results' : ResultWriter) → TurnDone core core' t results results' → Ran job files (history ++ turn_behind core history t) core' left results'
+  turn_made core' results' done = record {
     of_plan = done.makes.plan ∙ ran.of_plan;
     limit = done.makes.limit ∙ ran.limit;
     on = done.makes.on.1;
     drained = done.makes.undrained;
     stands = done.makes.stands history ran.stands may_follow;
     all = ap (λ (ns : List Node). (history ++ turn_behind core history t) ++ turns_entries true ns left) nodes-are ∙ parts;
-    counted = done.counted (elements_out (handed_out job.trace (run_nodes job) history)) ran.counted
-        ∙ ap counts_of (ap (λ (es : List Out). elements_out (handed_out job.trace (run_nodes job) history) ++ elements_out es) (done.makes.hands history ran.stands may_follow ∙ ap (λ (xs : List Out). xs ++ turn_outs core history t) ran.drained)
+    taken = done.taken job.form (elements_out (handed_out job.trace (run_nodes job) history)) ran.taken
+        ∙ ap (taken_so_far job.form) (ap (λ (es : List Out). elements_out (handed_out job.trace (run_nodes job) history) ++ elements_out es) (done.makes.hands history ran.stands may_follow ∙ ap (λ (xs : List Out). xs ++ turn_outs core history t) ran.drained)
         ∙ (sym (elements-append (handed_out job.trace (run_nodes job) history) (turn_outs core history t)) ∙ ap elements_out (sym outs-are)));
     within = within-append job.limit (run_nodes job) [] history (turn_behind core history t) ran.within
         (subst (λ (n : ℕ). StaysWithin n (run_nodes job) history (turn_behind core history t)) ran.limit
@@ -227,44 +228,44 @@ module _ (job : Job) (files : List (List ℕ)) (planned : IsPlanned job) (histor
   goes_beyond_here node off = goes_beyond job files planned node (limit_reached node off).0
 
   -- the lines of what came before it
-  lines_before : (node : ℕ) (off : BreaksOff core history t node) → out_lines job.nodes (handed_out job.trace (run_nodes job) history) ++ lines_of core history off.front ≡ out_lines job.nodes (handed_out job.trace (run_nodes job) (limit_reached node off).0.front)
+  lines_before : (node : ℕ) (off : BreaksOff core history t node) → shown job.form job.nodes (handed_out job.trace (run_nodes job) history) ++ lines_of job.form core history off.front ≡ shown job.form job.nodes (handed_out job.trace (run_nodes job) (limit_reached node off).0.front)
   lines_before node off =
       let r = limit_reached node off in
       let had : List Out = handed_out job.trace (run_nodes job) history in
       let gained : List Out = handed_out core.plan.trace (nodes_from (nodes_of core.plan) history) off.front in
-      ap (λ (ns : List PlanNode). out_lines job.nodes had ++ out_lines ns gained) nodes-same
-      ∙ (sym (out_lines-append job.nodes had gained)
-      ∙ (ap (out_lines job.nodes) (ap (λ (p : RunPlan). had ++ handed_out p.trace (nodes_from (nodes_of p) history) off.front) ran.of_plan ∙ sym (outputs-append job.trace (run_nodes job) history off.front))
-      ∙ ap (λ (h : List Entry). out_lines job.nodes (handed_out job.trace (run_nodes job) h)) (sym r.1)))
+      ap (λ (ns : List PlanNode). shown job.form job.nodes had ++ shown job.form ns gained) nodes-same
+      ∙ (sym (shown-append job.form job.nodes had gained)
+      ∙ (ap (shown job.form job.nodes) (ap (λ (p : RunPlan). had ++ handed_out p.trace (nodes_from (nodes_of p) history) off.front) ran.of_plan ∙ sym (outputs-append job.trace (run_nodes job) history off.front))
+      ∙ ap (λ (h : List Entry). shown job.form job.nodes (handed_out job.trace (run_nodes job) h)) (sym r.1)))
 
   -- exactly the lines of what came before it were written
-  pub ends_at_limit : (node : ℕ) (before : List ℕ) (old new : SinkState) → old.written ≡ before ++ flat (out_lines job.nodes (handed_out job.trace (run_nodes job) history)) → IsTrue new.told → EndsTurn core history t node old new
+  pub ends_at_limit : (node : ℕ) (before : List ℕ) (old new : SinkState) → old.written ≡ before ++ flat (shown job.form job.nodes (handed_out job.trace (run_nodes job) history)) → IsTrue new.told → EndsTurn job.form core history t node old new
       → EndsAtLimit job files node before new.written
   ends_at_limit node before old new first told ends =
-      let had : List (List ℕ) = out_lines job.nodes (handed_out job.trace (run_nodes job) history) in
+      let had : List (List ℕ) = shown job.form job.nodes (handed_out job.trace (run_nodes job) history) in
       record {
         reaches = (limit_reached node ends.breaks).0;
-        written = written_then had (lines_of core history ends.breaks.front) before old.written new.written first (ends.written told) ∙ ap (λ (ls : List (List ℕ)). before ++ flat ls) (lines_before node ends.breaks);
+        written = written_then had (lines_of job.form core history ends.breaks.front) before old.written new.written first (ends.written told) ∙ ap (λ (ls : List (List ℕ)). before ++ flat ls) (lines_before node ends.breaks);
       }
 
   -- or a front of their bytes was
-  pub ends_cut : (stop : Stop) (before : List ℕ) (old new : SinkState) → old.written ≡ before ++ flat (out_lines job.nodes (handed_out job.trace (run_nodes job) history)) → IsTrue new.told → CutsTurn stop core history t old new
+  pub ends_cut : (stop : Stop) (before : List ℕ) (old new : SinkState) → old.written ≡ before ++ flat (shown job.form job.nodes (handed_out job.trace (run_nodes job) history)) → IsTrue new.told → CutsTurn stop job.form core history t old new
       → CutEnd stop job files before new.written
   ends_cut (CoreLimit node) before old new first told ends =
-      let had : List (List ℕ) = out_lines job.nodes (handed_out job.trace (run_nodes job) history) in
+      let had : List (List ℕ) = shown job.form job.nodes (handed_out job.trace (run_nodes job) history) in
       record {
         reaches = (limit_reached node ends.breaks).0;
-        written = subst (λ (ls : List (List ℕ)). FrontOf (flat ls) before new.written) (lines_before node ends.breaks) (stop_then anywhere had (lines_of core history ends.breaks.front) before old.written new.written first (ends.written told));
+        written = subst (λ (ls : List (List ℕ)). FrontOf (flat ls) before new.written) (lines_before node ends.breaks) (stop_then anywhere had (lines_of job.form core history ends.breaks.front) before old.written new.written first (ends.written told));
       }
   ends_cut CoreMemory before old new first told ends = tt
 
-  pub cut_cause_here : (stop : Stop) (old new : SinkState) → CutsTurn stop core history t old new → CutCause stop job files
+  pub cut_cause_here : (stop : Stop) (old new : SinkState) → CutsTurn stop job.form core history t old new → CutCause stop job files
   cut_cause_here (CoreLimit node) old new ends = goes_beyond_here node ends.breaks
   cut_cause_here CoreMemory old new ends = tt
 
 -- nothing is left
-pub all_ran : (job : Job) (files : List (List ℕ)) (history : List Entry) (core : CoreState) (left : List Turn) (counts : Counts) → Ran job files history core left counts → left ≡ [] → history ≡ history_of job files
-all_ran job files history core left counts ran none =
+pub all_ran : (job : Job) (files : List (List ℕ)) (history : List Entry) (core : CoreState) (left : List Turn) (results : ResultWriter) → Ran job files history core left results → left ≡ [] → history ≡ history_of job files
+all_ran job files history core left results ran none =
     sym (append-nil history) ∙ (ap (λ (ts : List Turn). history ++ turns_entries true (nodes_from (run_nodes job) history) ts) (sym none) ∙ ran.all)
 
 -- what a turn brings is of one of these streams and fits its columns
@@ -279,29 +280,31 @@ turn_of_feeds streams feeds (Closing stream) f b =
     (omega (arith, number, o.there), λ z. absurd (omega (arith, z)))
 
 -- the next turn is the first of those that are left
-pub ran_next : (job : Job) (files : List (List ℕ)) (history : List Entry) (core : CoreState) (counts : Counts) (next : Arrival) (old new : List Turn) → Ran job files history core old counts
-    → old ≡ turn_in (streams_in job.nodes) next ∷ new → Ran job files history core (turn_in (streams_in core.plan.nodes) next ∷ new) counts
-ran_next job files history core counts next old new ran gives =
-    subst (λ (ts : List Turn). Ran job files history core ts counts)
+pub ran_next : (job : Job) (files : List (List ℕ)) (history : List Entry) (core : CoreState) (results : ResultWriter) (next : Arrival) (old new : List Turn) → Ran job files history core old results
+    → old ≡ turn_in (streams_in job.nodes) next ∷ new → Ran job files history core (turn_in (streams_in core.plan.nodes) next ∷ new) results
+ran_next job files history core results next old new ran gives =
+    subst (λ (ts : List Turn). Ran job files history core ts results)
     (gives ∙ ap (λ (p : RunPlan). turn_in (streams_in p.nodes) next ∷ new) (sym ran.of_plan)) ran
 
 -- what is known once nothing is left
-pub outcome_of : (job : Job) (files : List (List ℕ)) (history : List Entry) (core : CoreState) (left : List Turn) (counts : Counts) (tallies : List Tally) → Ran job files history core left counts → left ≡ []
-    → tallies ≡ tallies_of (streams_in job.nodes) files → IsOutcome job files tallies counts
-outcome_of job files history core left counts tallies ran none each = record {
+pub outcome_of : (job : Job) (files : List (List ℕ)) (history : List Entry) (core : CoreState) (left : List Turn) (gathered : Gathered) (tallies : List Tally) → Ran job files history core left gathered.results → left ≡ []
+    → tallies ≡ tallies_of (streams_in job.nodes) files → gathered.accepted.asked ≡ job.check → AreAccepted (accepted_rows job files) gathered.accepted → IsOutcome job files tallies gathered
+outcome_of job files history core left gathered tallies ran none each asked rows = record {
   each = each;
-  results = ran.counted ∙ ap (λ (h : List Entry). counts_of (elements_out (handed_out job.trace (run_nodes job) h))) (all_ran job files history core left counts ran none);
+  results = ran.taken ∙ ap (λ (h : List Entry). taken_so_far job.form (elements_out (handed_out job.trace (run_nodes job) h))) (all_ran job files history core left gathered.results ran none);
+  asked = asked;
+  rows = rows;
 }
 
-pub stands_at_end : (job : Job) (files : List (List ℕ)) (history : List Entry) (core : CoreState) (left : List Turn) (counts : Counts) → Ran job files history core left counts → left ≡ [] → StandsFor core (history_of job files)
-stands_at_end job files history core left counts ran none = subst (StandsFor core) (all_ran job files history core left counts ran none) ran.stands
+pub stands_at_end : (job : Job) (files : List (List ℕ)) (history : List Entry) (core : CoreState) (left : List Turn) (results : ResultWriter) → Ran job files history core left results → left ≡ [] → StandsFor core (history_of job files)
+stands_at_end job files history core left results ran none = subst (StandsFor core) (all_ran job files history core left results ran none) ran.stands
 
 -- ---- a turn that could not be made
 
 -- the lines of the outputs are written up to a turn of this stream
-pub ends_before : (job : Job) (files : List (List ℕ)) (history : List Entry) (core : CoreState) (left : List Turn) (counts : Counts) (t : Turn) (rest : List Turn) (stream : ℕ) (before lines : List ℕ) → Ran job files history core left counts
-    → left ≡ t ∷ rest → t.stream ≡ stream → lines ≡ before ++ flat (out_lines job.nodes (handed_out job.trace (run_nodes job) history)) → EndsBefore job files stream before lines
-ends_before job files history core left counts t rest stream before lines ran is mine written =
+pub ends_before : (job : Job) (files : List (List ℕ)) (history : List Entry) (core : CoreState) (left : List Turn) (results : ResultWriter) (t : Turn) (rest : List Turn) (stream : ℕ) (before lines : List ℕ) → Ran job files history core left results
+    → left ≡ t ∷ rest → t.stream ≡ stream → lines ≡ before ++ flat (shown job.form job.nodes (handed_out job.trace (run_nodes job) history)) → EndsBefore job files stream before lines
+ends_before job files history core left results t rest stream before lines ran is mine written =
     let nodes : List Node = nodes_from (run_nodes job) history in
     record {
       front = history;
@@ -314,10 +317,10 @@ ends_before job files history core left counts t rest stream before lines ran is
     }
 
 -- what arrived at a stream so far are the elements that were accepted of it
-pub arrived_so_far : (job : Job) (planned : IsPlanned job) (files : List (List ℕ)) (history : List Entry) (core : CoreState) (feeds : List FeedState) (at : ℕ) (counts : Counts) (place : ℕ) (feed : FeedState)
-    → Ran job files history core (feeds_left (streams_in job.nodes) feeds at) counts → AreFeeds 0 (streams_in job.nodes) feeds → files_of feeds ≡ files → slice_get feeds place ≡ Some feed → feed.is_open ≡ true
+pub arrived_so_far : (job : Job) (planned : IsPlanned job) (files : List (List ℕ)) (history : List Entry) (core : CoreState) (feeds : List FeedState) (at : ℕ) (results : ResultWriter) (place : ℕ) (feed : FeedState)
+    → Ran job files history core (feeds_left (streams_in job.nodes) feeds at) results → AreFeeds 0 (streams_in job.nodes) feeds → files_of feeds ≡ files → slice_get feeds place ≡ Some feed → feed.is_open ≡ true
     → arrived_at place history ≡ take (count_of feed) (all_accepted feed)
-arrived_so_far job planned files history core feeds at counts place feed ran f same is still =
+arrived_so_far job planned files history core feeds at results place feed ran f same is still =
     arrived-is history (turns_entries true nodes (feeds_left (streams_in job.nodes) feeds at)) place (count_of feed) (all_accepted feed) closing (feeds_left (streams_in job.nodes) feeds at) whole rest
   where
     nodes : List Node
@@ -372,65 +375,72 @@ arrived_so_far job planned files history core feeds at counts place feed ran f s
 -- ---- what holds between turns
 
 -- the feeds are those of the streams, the core goes on, and, where all bytes are told, the run is the history so far
-pub record IsGoing (job : Job) (start feeds : List FeedState) (at : ℕ) (history : List Entry) (core : CoreState) (counts : Counts) : Type 0 where
+pub record IsGoing (job : Job) (start feeds : List FeedState) (at : ℕ) (history : List Entry) (core : CoreState) (results : ResultWriter) : Type 0 where
+  pub in_form : results.form ≡ job.form
   pub fed : AreFeeds 0 (streams_in job.nodes) feeds
   pub same : AreSameFeeds start feeds
   pub of_plan : core.plan ≡ plan_run job
   pub on : core.kept.stop ≡ None
   pub drained : core.kept.undrained ≡ []
-  pub ran : AllTold start → Ran job (files_of start) history core (feeds_left (streams_in job.nodes) feeds at) counts
+  pub ran : AllTold start → Ran job (files_of start) history core (feeds_left (streams_in job.nodes) feeds at) results
 
-pub going_begins : (job : Job) (feeds : List FeedState) (at : ℕ) (core : CoreState) (counts : Counts) → AreFeeds 0 (streams_in job.nodes) feeds → AreNew feeds → at ≡ 0 → IsFresh core (plan_run job) job.limit → counts ≡ counts_of []
-    → IsGoing job feeds feeds at [] core counts
-going_begins job feeds at core counts f new first fresh none = record {
+pub going_begins : (job : Job) (feeds : List FeedState) (at : ℕ) (core : CoreState) (results : ResultWriter) → AreFeeds 0 (streams_in job.nodes) feeds → AreNew feeds → at ≡ 0 → IsFresh core (plan_run job) job.limit → results ≡ taken_so_far job.form []
+    → IsGoing job feeds feeds at [] core results
+going_begins job feeds at core results f new first fresh none = record {
+  in_form = ap (λ (w : ResultWriter). w.form) none;
   fed = f;
   same = all_same feeds;
   of_plan = fresh.of_plan;
   on = fresh.on;
   drained = fresh.undrained;
-  ran = λ told. begins job feeds at core counts f new first fresh none;
+  ran = λ told. begins job feeds at core results f new first fresh none;
 }
 
 -- the next turn, with what a call of the feeds gives
-module _ (job : Job) (start feeds feeds' : List FeedState) (at at' : ℕ) (history : List Entry) (core : CoreState) (counts : Counts) (next : Arrival) (going : IsGoing job start feeds at history core counts)
+module _ (job : Job) (start feeds feeds' : List FeedState) (at at' : ℕ) (history : List Entry) (core : CoreState) (results : ResultWriter) (next : Arrival) (going : IsGoing job start feeds at history core results)
     (gives : AllTold feeds → (streams : List PlanNode) → AreFeeds 0 streams feeds → feeds_left streams feeds at ≡ turn_in streams next ∷ feeds_left streams feeds' at') where
   pub going_of : BringsIn feeds (Some next) → IsTurnOf (streams_in core.plan.nodes) (turn_in (streams_in core.plan.nodes) next)
   going_of brings = subst (λ (p : RunPlan). IsTurnOf (streams_in p.nodes) (turn_in (streams_in p.nodes) next)) (sym going.of_plan) (turn_of_feeds (streams_in job.nodes) feeds next going.fed brings)
 
-  pub going_next : AllTold start → Ran job (files_of start) history core (turn_in (streams_in core.plan.nodes) next ∷ feeds_left (streams_in job.nodes) feeds' at') counts
-  going_next told = ran_next job (files_of start) history core counts next (feeds_left (streams_in job.nodes) feeds at) (feeds_left (streams_in job.nodes) feeds' at') (going.ran told) (gives (told_still start feeds going.same told) (streams_in job.nodes) going.fed)
+  pub going_next : AllTold start → Ran job (files_of start) history core (turn_in (streams_in core.plan.nodes) next ∷ feeds_left (streams_in job.nodes) feeds' at') results
+  going_next told = ran_next job (files_of start) history core results next (feeds_left (streams_in job.nodes) feeds at) (feeds_left (streams_in job.nodes) feeds' at') (going.ran told) (gives (told_still start feeds going.same told) (streams_in job.nodes) going.fed)
 
-  pub going_more : IsPlanned job → AreFeeds 0 (streams_in job.nodes) feeds' → AreSameFeeds feeds feeds' → (core' : CoreState) (counts' : Counts) → TurnDone core core' (turn_in (streams_in core.plan.nodes) next) counts counts'
-      → IsGoing job start feeds' at' (history ++ turn_behind core history (turn_in (streams_in core.plan.nodes) next)) core' counts'
-  going_more planned f' same' core' counts' done = record {
+  pub going_more : IsPlanned job → AreFeeds 0 (streams_in job.nodes) feeds' → AreSameFeeds feeds feeds' → (core' : CoreState) (results' : ResultWriter) → TurnDone core core' (turn_in (streams_in core.plan.nodes) next) results results' → results'.form ≡ results.form
+      → IsGoing job start feeds' at' (history ++ turn_behind core history (turn_in (streams_in core.plan.nodes) next)) core' results'
+  going_more planned f' same' core' results' done kept = record {
+    in_form = kept ∙ going.in_form;
     fed = f';
     same = all_same_then start feeds feeds' going.same same';
     of_plan = done.makes.plan ∙ going.of_plan;
     on = done.makes.on.1;
     drained = done.makes.undrained;
-    ran = λ told. turn_made job (files_of start) planned history core (turn_in (streams_in core.plan.nodes) next) (feeds_left (streams_in job.nodes) feeds' at') counts (going_next told) core' counts' done;
+    ran = λ told. turn_made job (files_of start) planned history core (turn_in (streams_in core.plan.nodes) next) (feeds_left (streams_in job.nodes) feeds' at') results (going_next told) core' results' done;
   }
 
 -- a stream's turn could not be made
-pub going_stops : (job : Job) (planned : IsPlanned job) (start feeds feeds' : List FeedState) (at : ℕ) (history : List Entry) (core : CoreState) (counts : Counts) (stop : FeedStop) (old new : SinkState) (before lines : List ℕ) → IsGoing job start feeds at history core counts
-    → AreSameFeeds feeds feeds' → StopsIn feeds feeds' at old new stop → AllTold start → lines ≡ before ++ flat (out_lines job.nodes (handed_out job.trace (run_nodes job) history)) → TurnsEnd (stop_at stop.stream stop.why) job (files_of start) feeds' before lines
+pub going_stops : (job : Job) (planned : IsPlanned job) (start feeds feeds' : List FeedState) (at : ℕ) (history : List Entry) (core : CoreState) (results : ResultWriter) (stop : FeedStop) (old new : SinkState) (before lines : List ℕ) → IsGoing job start feeds at history core results
+    → AreSameFeeds feeds feeds' → StopsIn feeds feeds' at old new stop → AllTold start → lines ≡ before ++ flat (shown job.form job.nodes (handed_out job.trace (run_nodes job) history)) → TurnsEnd (stop_at stop.stream stop.why) job (files_of start) feeds' before lines
 unfolding ends_before
-going_stops job planned start feeds feeds' at history core counts stop old new before lines going same s told written = go stop.why s.stops
+going_stops job planned start feeds feeds' at history core results stop old new before lines going same s told written = go stop.why s.stops
   where
     told' : AllTold feeds
     told' = told_still start feeds going.same told
 
-    ran : Ran job (files_of start) history core (feeds_left (streams_in job.nodes) feeds at) counts
+    ran : Ran job (files_of start) history core (feeds_left (streams_in job.nodes) feeds at) results
     ran = going.ran told
 
     ends : EndsBefore job (files_of start) stop.stream before lines
-    ends = let n = s.next told' (streams_in job.nodes) going.fed in ends_before job (files_of start) history core (feeds_left (streams_in job.nodes) feeds at) counts n.0 n.1 stop.stream before lines ran n.2 n.3 written
+    ends = let n = s.next told' (streams_in job.nodes) going.fed in ends_before job (files_of start) history core (feeds_left (streams_in job.nodes) feeds at) results n.0 n.1 stop.stream before lines ran n.2 n.3 written
 
     arrived : arrived_at stop.stream history ≡ take (count_of s.old) (all_accepted s.old)
-    arrived = arrived_so_far job planned (files_of start) history core feeds at counts stop.stream s.old ran going.fed (files_still start feeds going.same told) s.before s.still
+    arrived = arrived_so_far job planned (files_of start) history core feeds at results stop.stream s.old ran going.fed (files_still start feeds going.same told) s.before s.still
 
     go : (why : FeedWhy) → FeedEnds s.old s.new old new why → TurnsEnd (stop_at stop.stream why) job (files_of start) feeds' before lines
     go (Intake IntakeFault) f = (s.new, s.now, ends, arrived ∙ sym (f.1 (told_at feeds stop.stream s.old told' s.before)))
-    go (Intake ByteLimit) f = ends
+    go (Intake ByteLimit) f =
+        let o = same_at feeds feeds' stop.stream s.new same s.now in
+        let one = one_of 0 (streams_in job.nodes) feeds stop.stream o.0 going.fed o.1 in
+        let bytes : get_or (files_of start) stop.stream [] ≡ bytes_of s.old = ap (λ (fs : List (List ℕ)). get_or fs stop.stream []) (sym (files_still start feeds going.same told)) ∙ bytes_of_feed feeds stop.stream s.old s.before in
+        (ends, arrived ∙ (sym (f (told_at feeds stop.stream s.old told' s.before)).1 ∙ ap₂ (λ (ks : List Column) (xs : List ℕ). fed_elements ks (take (2 ^ 40) xs)) (o.2.columns ∙ one.schema) (sym bytes)))
     go (Intake OutOfMemory) f = tt
     go FlushFailed f = tt

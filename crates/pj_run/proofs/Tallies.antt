@@ -2,15 +2,21 @@
 use Rattle.pj_run.specs.Jobs.{Job}
 use Rattle.pj_plan.specs.declared.node.PlanNode.{PlanNode}
 use Rattle.pj_plan.specs.Nodes.{streams_of, streams_in}
-use Rattle.std.proofs.Common.{◌≡◌, ℕ, zero, suc, ◌+◌, ◌≤◌, ◌<◌, List, [], ◌∷◌, ◌++◌, length, take, drop, get_or, refl, ap, ap₂, sym, ◌∙◌, append_assoc, append-nil, arith}
+use Rattle.std.proofs.Common.{◌≡◌, ℕ, Bool, true, false, zero, suc, ◌+◌, ◌≤◌, ◌<◌, List, [], ◌∷◌, ◌++◌, length, take, drop, get_or, refl, ap, ap₂, sym, ◌∙◌, append_assoc, append-nil, arith}
 use Rattle.std.proofs.lemmas.List.{take_all}
 use Rattle.pj_element.specs.declared.tally.Tally.{Tally}
 use Rattle.pj_element.specs.Accepted.{tally_of, fates_of}
-use Rattle.pj_report.specs.declared.results.Counts.{Counts}
+use Rattle.pj_report.specs.declared.writer.ResultWriter.{ResultWriter}
+use Rattle.pj_run.specs.declared.run.Gathered.{Gathered}
+use Rattle.pj_value.specs.declared.values.Value.{Value}
+use Rattle.pj_events.specs.declared.events.Entry.{Entry}
+use Rattle.pj_core.specs.Plans.{RunPlan}
 use Rattle.pj_feed.specs.Feeds.{tallies_of}
 use Rattle.pj_run.specs.Outcome.{tally_lines, report_lines, IsOutcome}
-use Rattle.pj_report.specs.Report.{stream_lines, results_text}
-use Rattle.pj_run.specs.Runs.{streams_report, peaks_report, report_of, history_of, outputs_of, plan_run}
+use Rattle.pj_report.specs.Report.{stream_lines, results_line, results_text}
+use Rattle.pj_run.specs.Runs.{accepted_rows, check_in, streams_report, peaks_in, report_of, run_lines, history_of, outs_of, outputs_of, plan_run}
+use Rattle.pj_report.specs.Forms.{shown, withheld}
+use Rattle.pj_report.proofs.Forms.{all_shown}
 use Rattle.pj_feed.proofs.StreamNodes.{count_numbers}
 
 pub tally_rest : (i : ℕ) (streams : List PlanNode) (tallies : List Tally) → length tallies ≡ length streams → tally_lines (take i streams) (take i tallies) ++ tally_lines (drop i streams) (drop i tallies) ≡ tally_lines streams tallies
@@ -48,9 +54,32 @@ streams-lines [] files = refl
 streams-lines (s ∷ streams) [] = refl
 streams-lines (s ∷ streams) (f ∷ files) = ap (λ (ls : List (List ℕ)). stream_lines s.name (tally_of (fates_of s.schema f)) ++ ls) (streams-lines streams files)
 
+-- the line of a check of the rows that were kept, where they were
+checked : (asked check : Bool) (nodes : List PlanNode) (lists rows : List (List (List Value))) → asked ≡ check → (asked ≡ true → lists ≡ rows) → check_in asked nodes lists ≡ check_in check nodes rows
+checked true check nodes lists rows is same = ap (check_in true nodes) (same refl) ∙ ap (λ (b : Bool). check_in b nodes rows) is
+checked false check nodes lists rows is same = ap (λ (b : Bool). check_in b nodes rows) is
+
 -- the report of a run that was made to its end
-pub report_is : (job : Job) (files : List (List ℕ)) (tallies : List Tally) (counts : Counts) → IsOutcome job files tallies counts
-    → report_lines (plan_run job) tallies counts (history_of job files) ≡ report_of job files (outputs_of job files)
-report_is job files tallies counts o =
-    ap (λ (ls : List (List ℕ)). ls ++ results_text counts.rows counts.puncts ∷ [] ++ peaks_report (plan_run job) (history_of job files)) (ap (tally_lines (streams_in job.nodes)) o.each ∙ streams-lines (streams_in job.nodes) files)
-    ∙ ap (λ (c : Counts). streams_report (streams_in job.nodes) files ++ results_text c.rows c.puncts ∷ [] ++ peaks_report (plan_run job) (history_of job files)) o.results
+pub report_is : (job : Job) (files : List (List ℕ)) (tallies : List Tally) (gathered : Gathered) → IsOutcome job files tallies gathered
+    → report_lines (plan_run job) tallies gathered (history_of job files) ≡ report_of job files (outputs_of job files)
+report_is job files tallies gathered o =
+    let plan : RunPlan = plan_run job in
+    let history : List Entry = history_of job files in
+    ap (λ (ls : List (List ℕ)). ls ++ results_text gathered.results.counts.rows gathered.results.counts.puncts ∷ [] ++ peaks_in gathered.results.form plan history
+    ++ check_in gathered.accepted.asked job.nodes gathered.accepted.lists.items) (ap (tally_lines (streams_in job.nodes)) o.each ∙ streams-lines (streams_in job.nodes) files)
+    ∙ (ap (λ (w : ResultWriter). streams_report (streams_in job.nodes) files ++ results_text w.counts.rows w.counts.puncts ∷ [] ++ peaks_in w.form plan history
+    ++ check_in gathered.accepted.asked job.nodes gathered.accepted.lists.items) o.results
+    ∙ ap (λ (ls : List (List ℕ)). streams_report (streams_in job.nodes) files ++ results_line (outputs_of job files) ∷ [] ++ peaks_in job.form plan history ++ ls)
+    (checked gathered.accepted.asked job.check job.nodes gathered.accepted.lists.items (accepted_rows job files) o.asked o.rows))
+
+-- what is written once all turns are made: the results that were withheld, and the report
+abbrev pub end_lines : Job → List (List ℕ) → List (List ℕ)
+end_lines job files = withheld job.form (outputs_of job files) ++ report_of job files (outputs_of job files)
+
+pub run_parts : (job : Job) (files : List (List ℕ)) → shown job.form job.nodes (outs_of job files) ++ end_lines job files ≡ run_lines job files
+run_parts job files =
+    sym (append_assoc (shown job.form job.nodes (outs_of job files)) (withheld job.form (outputs_of job files)) (report_of job files (outputs_of job files)))
+    ∙ ap (λ (ls : List (List ℕ)). ls ++ report_of job files (outputs_of job files)) (all_shown job.form job.nodes (outs_of job files))
+
+pub four_parts : (xs ys zs ws : List (List ℕ)) → xs ++ (ys ++ (zs ++ ws)) ≡ xs ++ ys ++ zs ++ ws
+four_parts xs ys zs ws = sym (append_assoc xs ys (zs ++ ws)) ∙ sym (append_assoc (xs ++ ys) zs ws)

@@ -1,5 +1,4 @@
 -- What a stop of a run leaves of the lines that were to be written.
-use Rattle.pj_report.specs.declared.stops.WriteStop.TheVariants.{Failed}
 use Rattle.pj_run.specs.declared.stops.TurnStop.{TurnStop}
 use Rattle.pj_run.specs.declared.stops.TurnStop.TheVariants.{Limit as TurnLimit, WriteFailed as TurnFailed, NoMemory as TurnMemory, Cut as TurnCut}
 use Rattle.pj_run.specs.declared.stops.RunStop.{RunStop}

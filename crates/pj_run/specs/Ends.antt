@@ -1,5 +1,5 @@
 -- Where a run that stopped ends: which front of the history's outputs it has written.
-use Rattle.std.specs.Prelude.{◌≡◌, ℕ, take, List, [], ◌∷◌, ◌++◌, slice_index_or}
+use Rattle.std.specs.Prelude.{◌≡◌, ◌^◌, ℕ, take, List, [], ◌∷◌, ◌++◌, slice_index_or}
 use Rattle.pj_run.specs.Jobs.{Job}
 use Rattle.pj_plan.specs.Nodes.{stream_columns, streams_in}
 use Rattle.pj_pattern.specs.declared.element.Element.{Element}
@@ -9,12 +9,12 @@ use Rattle.pj_events.specs.Limits.{ReachesLimit}
 use Rattle.pj_events.specs.Outcomes.{outputs_of as handed_out, elements_of as arrived_at}
 use Rattle.pj_feed.specs.Feeds.{fed_elements}
 use Rattle.pj_run.specs.Runs.{history_of, run_nodes}
-use Rattle.pj_report.specs.Results.{out_lines}
+use Rattle.pj_report.specs.Forms.{shown}
 use Rattle.pj_report.specs.Written.{flat, FrontOf}
 
--- the lines of what a history hands out
+-- the lines that are written of what a history hands out, before the run's end
 abbrev pub lines_until : Job → List Entry → List ℕ
-lines_until job front = flat (out_lines job.nodes (handed_out job.trace (run_nodes job) front))
+lines_until job front = flat (shown job.form job.nodes (handed_out job.trace (run_nodes job) front))
 
 -- the lines are those of the outputs of a front of the run's history, which ends before a turn of this stream
 pub record EndsBefore (job : Job) (files : List (List ℕ)) (stream : ℕ) (before lines : List ℕ) : Type 0 where
@@ -42,3 +42,8 @@ pub record EndsCut (job : Job) (files : List (List ℕ)) (node : ℕ) (before li
 abbrev pub ArrivedOf : Job → List (List ℕ) → ℕ → ℕ → List Entry → Type 0
 ArrivedOf job files stream taken front =
     arrived_at stream front ≡ fed_elements (stream_columns (streams_in job.nodes) stream) (take taken (slice_index_or files stream []))
+
+-- a front of the run's outputs that ends before a turn of this stream, at which exactly the elements had arrived that are accepted of the
+-- lines which end with a line feed in the first 2 ^ 40 bytes of its file
+abbrev pub EndsAtBytes : Job → List (List ℕ) → ℕ → List ℕ → List ℕ → Type 0
+EndsAtBytes job files stream before lines = (ends : EndsBefore job files stream before lines) × ArrivedOf job files stream (2 ^ 40) ends.front

@@ -1,7 +1,9 @@
 -- What a run that was made to its end leaves for its report.
-use Rattle.std.specs.Prelude.{◌≡◌, ℕ, List, [], ◌∷◌, ◌++◌, Result, IsTrue}
+use Rattle.std.specs.Prelude.{◌≡◌, ℕ, true, List, [], ◌∷◌, ◌++◌, Result, IsTrue}
 use Rattle.pj_run.specs.Jobs.{Job}
 use Rattle.pj_plan.specs.declared.node.PlanNode.{PlanNode}
+use Rattle.pj_value.specs.declared.values.Value.{Value}
+use Rattle.pj_pattern.specs.declared.element.Element.{Element}
 use Rattle.pj_core.specs.Plans.{RunPlan}
 use Rattle.pj_plan.specs.Nodes.{streams_in}
 use Rattle.pj_io.specs.States.{SinkState}
@@ -10,16 +12,24 @@ use Rattle.pj_core.specs.Cores.{CoreState, StandsFor}
 use Rattle.pj_report.specs.declared.stops.WriteStop.{WriteStop}
 use Rattle.pj_report.specs.Written.{WritesBy, write_cut}
 use Rattle.pj_events.specs.declared.events.Entry.{Entry}
-use Rattle.pj_report.specs.declared.results.Counts.{Counts}
+use Rattle.pj_run.specs.declared.checking.AcceptedRows.{AcceptedRows}
+use Rattle.pj_run.specs.declared.run.Gathered.{Gathered}
 use Rattle.pj_feed.specs.Feeds.{tallies_of}
-use Rattle.pj_report.specs.Results.{counts_of}
+use Rattle.pj_report.specs.declared.writer.Form.{Form}
+use Rattle.pj_report.specs.Forms.{taken_so_far, withheld}
 use Rattle.pj_report.specs.Report.{stream_lines, results_text}
-use Rattle.pj_run.specs.Runs.{outputs_of, peaks_report}
+use Rattle.pj_run.specs.Runs.{accepted_rows, check_in, outputs_of, peaks_in, peaks_report}
 
--- the counts of each stream, and those of the outputs
-pub record IsOutcome (job : Job) (files : List (List ℕ)) (tallies : List Tally) (counts : Counts) : Type 0 where
+-- the rows of each stream, where they are kept for a check
+abbrev pub AreAccepted : List (List (List Value)) → AcceptedRows → Type 0
+AreAccepted lists accepted = accepted.asked ≡ true → accepted.lists.items ≡ lists
+
+-- the counts of each stream, a writer that has taken all outputs, and the rows of each stream
+pub record IsOutcome (job : Job) (files : List (List ℕ)) (tallies : List Tally) (gathered : Gathered) : Type 0 where
   pub each : tallies ≡ tallies_of (streams_in job.nodes) files
-  pub results : counts ≡ counts_of (outputs_of job files)
+  pub results : gathered.results ≡ taken_so_far job.form (outputs_of job files)
+  pub asked : gathered.accepted.asked ≡ job.check
+  pub rows : AreAccepted (accepted_rows job files) gathered.accepted
 
 -- the lines of streams with these counts
 abbrev pub tally_lines : List PlanNode → List Tally → List (List ℕ)
@@ -27,17 +37,30 @@ tally_lines [] tallies = []
 tally_lines (stream ∷ streams) [] = []
 tally_lines (stream ∷ streams) (tally ∷ tallies) = stream_lines stream.name tally ++ tally_lines streams tallies
 
--- the lines of a report with these counts, after a history
-abbrev pub report_lines : RunPlan → List Tally → Counts → List Entry → List (List ℕ)
-report_lines plan tallies counts history =
-    tally_lines (streams_in plan.nodes) tallies ++ results_text counts.rows counts.puncts ∷ [] ++ peaks_report plan history
+-- the lines of a report of what was gathered, after a history
+abbrev pub report_lines : RunPlan → List Tally → Gathered → List Entry → List (List ℕ)
+report_lines plan tallies gathered history =
+    tally_lines (streams_in plan.nodes) tallies ++ results_text gathered.results.counts.rows gathered.results.counts.puncts ∷ []
+    ++ peaks_in gathered.results.form plan history ++ check_in gathered.accepted.asked plan.nodes gathered.accepted.lists.items
 
--- where the sink is told: these lines were written of a core after a history for which it stands, or as much of them as the stop leaves
-abbrev pub Reports : {T : Type 0} → CoreState → List Tally → Counts → SinkState → SinkState → Result T WriteStop → Type 0
-Reports core tallies counts old new result =
-    IsTrue new.told → (history : List Entry) → StandsFor core history → WritesBy write_cut (report_lines core.plan tallies counts history) old new result
+-- where the sink is told: these lines were written, which depend on a history for which the core stands, or as much of them as the stop
+-- leaves
+abbrev pub WritesOf : {T : Type 0} → (List Entry → List (List ℕ)) → CoreState → SinkState → SinkState → Result T WriteStop → Type 0
+WritesOf lines core old new result = IsTrue new.told → (history : List Entry) → StandsFor core history → WritesBy write_cut (lines history) old new result
 
--- the same of the lines of the joins' peaks alone
+-- the lines of a report
+abbrev pub Reports : {T : Type 0} → CoreState → List Tally → Gathered → SinkState → SinkState → Result T WriteStop → Type 0
+Reports core tallies gathered old new result = WritesOf (report_lines core.plan tallies gathered) core old new result
+
+-- the lines of the joins' peaks
 abbrev pub ReportsPeaks : {T : Type 0} → CoreState → SinkState → SinkState → Result T WriteStop → Type 0
-ReportsPeaks core old new result =
-    IsTrue new.told → (history : List Entry) → StandsFor core history → WritesBy write_cut (peaks_report core.plan history) old new result
+ReportsPeaks core old new result = WritesOf (peaks_report core.plan) core old new result
+
+-- those of a report in this form
+abbrev pub ReportsPeaksIn : {T : Type 0} → Form → CoreState → SinkState → SinkState → Result T WriteStop → Type 0
+ReportsPeaksIn form core old new result = WritesOf (peaks_in form core.plan) core old new result
+
+-- where the sink is told: what is written once the turns are made, the lines that were withheld of these outputs and the report
+abbrev pub Finishes : {T : Type 0} → Form → List Element → CoreState → List Tally → Gathered → SinkState → SinkState → Result T WriteStop → Type 0
+Finishes form outputs core tallies gathered old new result =
+    gathered.results ≡ taken_so_far form outputs → WritesOf (λ history. withheld form outputs ++ report_lines core.plan tallies gathered history) core old new result

@@ -10,8 +10,8 @@ use Rattle.pj_events.specs.declared.events.Stop.TheVariants.{Limit as CoreLimit,
 use Rattle.pj_feed.specs.declared.stops.OpeningStop.TheVariants.{Fault, NoMemory as OpeningMemory}
 use Rattle.pj_run.specs.declared.stops.FilesStop.{FilesStop}
 use Rattle.pj_run.specs.declared.stops.FilesStop.TheVariants.{Opening, Run}
-use Rattle.pj_feed.specs.Named.{AreTold, files_named, AreDistinct}
-use Rattle.pj_run.specs.Ends.{EndsBefore, EndsAtLimit, ArrivedOf}
+use Rattle.pj_feed.specs.Named.{AreTold, files_named, IsAlone}
+use Rattle.pj_run.specs.Ends.{EndsBefore, EndsAtBytes, EndsAtLimit, ArrivedOf}
 use Rattle.pj_feed.specs.Feeds.{FeedState, AreSameFeeds, AreAllTaken, AllTold, bytes_of, files_of}
 use Rattle.pj_feed.specs.Opened.{HasLasts, OpensFirst, OpensAtMost}
 use Rattle.pj_run.specs.Runs.{GoesBeyond, run_lines}
@@ -93,12 +93,12 @@ FilesWrite job names folder old new result =
 -- what the stop of a run over these files leaves
 abbrev pub FilesEnd : FilesStop → Job → List (List ℕ) → FolderState → FolderState → List ℕ → List ℕ → Type 0
 FilesEnd (Opening (Fault stream)) job names before after written lines =
-    (lines ≡ written) × (AreDistinct names → after.last (slice_index_or names stream []) ≡ before.last (slice_index_or names stream []))
+    (lines ≡ written) × (IsAlone stream names → after.last (slice_index_or names stream []) ≡ before.last (slice_index_or names stream []))
 FilesEnd (Opening OpeningMemory) job names before after written lines = ⊤
 FilesEnd (Run (ReadFault stream)) job names before after written lines =
     (ends : EndsBefore job (files_named names before) stream written lines)
-    × (AreDistinct names → ArrivedOf job (files_named names before) stream (after.last (slice_index_or names stream [])) ends.front)
-FilesEnd (Run (TooLarge stream)) job names before after written lines = EndsBefore job (files_named names before) stream written lines
+    × (IsAlone stream names → ArrivedOf job (files_named names before) stream (after.last (slice_index_or names stream [])) ends.front)
+FilesEnd (Run (TooLarge stream)) job names before after written lines = EndsAtBytes job (files_named names before) stream written lines
 FilesEnd (Run (Limit node)) job names before after written lines = EndsAtLimit job (files_named names before) node written lines
 FilesEnd (Run WriteFailed) job names before after written lines = ⊤
 FilesEnd (Run NoMemory) job names before after written lines = ⊤

@@ -1,5 +1,5 @@
 -- What a plan's run over files hands out, and the lines that it writes. There is one file for each stream.
-use Rattle.std.specs.Prelude.{◌≡◌, ◌<◌, true, ℕ, List, [], ◌∷◌, ◌++◌, map}
+use Rattle.std.specs.Prelude.{◌≡◌, ◌<◌, true, false, Bool, ℕ, List, [], ◌∷◌, ◌++◌, map, length}
 use Rattle.pj_run.specs.Jobs.{Job}
 use Rattle.pj_plan.specs.declared.node.PlanNode.{PlanNode}
 use Rattle.pj_plan.specs.Nodes.{joins_of, streams_in}
@@ -23,8 +23,12 @@ use Rattle.pj_core.specs.Calls.{IsFresh}
 use Rattle.pj_plan.specs.Sound.{IsSoundPlan}
 use Rattle.pj_safety.specs.Certificates.{certificates_of}
 use Rattle.pj_run.specs.PlanNames.{HasShortNames}
-use Rattle.pj_report.specs.Report.{stream_lines, results_line, peak_line}
-use Rattle.pj_report.specs.Results.{out_lines}
+use Rattle.pj_run.specs.declared.run.Writing.{Writing}
+use Rattle.pj_value.specs.declared.values.Value.{Value}
+use Rattle.pj_report.specs.declared.writer.Form.{Form}
+use Rattle.pj_report.specs.declared.writer.Form.TheVariants.{AsTheyCome, Sorted}
+use Rattle.pj_report.specs.Forms.{form_lines}
+use Rattle.pj_report.specs.Report.{check_line, stream_lines, results_line, peak_line}
 use Rattle.pj_feed.specs.Feeds.{accepted_of}
 
 -- ---- the plan as it is run
@@ -77,20 +81,35 @@ peak_report plan history join = peak_line (node_name plan.nodes join) (peak_of (
 abbrev pub peaks_report : RunPlan → List Entry → List (List ℕ)
 peaks_report plan history = map (peak_report plan history) (joins_of plan.nodes)
 
--- the report: the lines of each stream, the counts of results, and the peaks of the joins
+-- those of a report: none where results are sorted
+abbrev pub peaks_in : Form → RunPlan → List Entry → List (List ℕ)
+peaks_in AsTheyCome plan history = peaks_report plan history
+peaks_in Sorted plan history = []
+
+-- the rows that were accepted of each stream
+abbrev pub accepted_rows : Job → List (List ℕ) → List (List (List Value))
+accepted_rows job files = map rows_of (accepted_of (streams_in job.nodes) files)
+
+-- the line of a check, where there is one: the number of rows of the plan's answer over these
+abbrev pub check_in : Bool → List PlanNode → List (List (List Value)) → List (List ℕ)
+check_in false nodes lists = []
+check_in true nodes lists = check_line (length (answer_of nodes lists)) ∷ []
+
+-- the report: the lines of each stream, the counts of results, the peaks of the joins, and the check
 abbrev pub report_of : Job → List (List ℕ) → List Element → List (List ℕ)
 report_of job files outputs =
-    streams_report (streams_in job.nodes) files ++ results_line outputs ∷ [] ++ peaks_report (plan_run job) (history_of job files)
+    streams_report (streams_in job.nodes) files ++ results_line outputs ∷ [] ++ peaks_in job.form (plan_run job) (history_of job files)
+    ++ check_in job.check job.nodes (accepted_rows job files)
 
 -- all lines of the run
 abbrev pub run_lines : Job → List (List ℕ) → List (List ℕ)
-run_lines job files = out_lines job.nodes (outs_of job files) ++ report_of job files (outputs_of job files)
+run_lines job files = form_lines job.form job.nodes (outs_of job files) ++ report_of job files (outputs_of job files)
 
 -- ---- what holds of the outputs of a run that is done
 
 -- the rows are the plan's answer over exactly the accepted rows, as a bag
 abbrev pub IsAnswer : Job → List (List ℕ) → List Element → List (List ℕ) → Type 0
-IsAnswer job files outputs report = SameBag (rows_of outputs) (answer_of job.nodes (map rows_of (accepted_of (streams_in job.nodes) files)))
+IsAnswer job files outputs report = SameBag (rows_of outputs) (answer_of job.nodes (accepted_rows job files))
 
 -- the punctuations are the plan's over those that were accepted and the closings, as a bag
 abbrev pub ArePunctuations : Job → List (List ℕ) → List Element → List (List ℕ) → Type 0
@@ -100,27 +119,37 @@ ArePunctuations job files outputs report = SameBag (puncts_of outputs) (punctuat
 abbrev pub AreLawful : Job → List (List ℕ) → List Element → List (List ℕ) → Type 0
 AreLawful job files outputs report = IsLawful outputs
 
--- the counts, the listed rejects and the peaks are those of the files, and the counts of results those of the outputs
+-- the counts, the listed rejects, the peaks and the check are those of the files, and the counts of results those of the outputs
 abbrev pub AreTallies : Job → List (List ℕ) → List Element → List (List ℕ) → Type 0
 AreTallies job files outputs report = report ≡ report_of job files outputs
 
 -- ---- limits
 
--- what a core runs
-abbrev pub job_in : CoreState → Job
-job_in core = record { nodes = core.plan.nodes; trace = core.plan.trace; limit = core.limit }
+-- what a core runs, where this is to be written
+abbrev pub job_in : Writing → CoreState → Job
+job_in writing core = record {
+  nodes = core.plan.nodes;
+  trace = core.plan.trace;
+  limit = core.limit;
+  form = writing.form;
+  check = writing.check;
+}
+
+-- the plan of a core, with the certificates that the checker finds
+abbrev pub plan_in : CoreState → RunPlan
+plan_in core = run_plan core.plan.nodes (certificates_of core.plan.nodes) core.plan.trace
 
 -- a new core of a sound plan as it is run, whose certificates hold and at each of whose joins and groups so many may arrive
 pub record IsNewCore (core : CoreState) : Type 0 where
-  pub fresh : IsFresh core (plan_run (job_in core)) core.limit
-  pub certified : AllAreCertified (run_nodes (job_in core))
+  pub fresh : IsFresh core (plan_in core) core.limit
+  pub certified : AllAreCertified (nodes_of (plan_in core))
   pub names : HasShortNames core.plan.nodes
   pub sound : IsSoundPlan core.plan.nodes
 
 -- how many elements come to a node in all: the rows of its inputs' answers over the accepted rows, and its inputs' punctuations
 abbrev pub elements_to : Job → List (List ℕ) → ℕ → ℕ
 elements_to job files node =
-    coming_to job.nodes (map rows_of (accepted_of (streams_in job.nodes) files)) (map puncts_of (elements_of job files)) node
+    coming_to job.nodes (accepted_rows job files) (map puncts_of (elements_of job files)) node
 
 -- a step of the run on one thread is the first that brings an element beyond the limit, and this is its node: a join or a group,
 -- to which more elements come in all than may

@@ -14,17 +14,18 @@ use Rattle.pj_events.specs.Limits.{StaysWithin, BeginsBeyond, StopsAt}
 use Rattle.pj_events.specs.OneThread.{Turn, arrival_of}
 use Rattle.pj_core.specs.Cores.{CoreState, StandsFor, MayFollow, nodes_after, nodes_in}
 use Rattle.pj_core.specs.Calls.{MakesTurn, turn_behind}
-use Rattle.pj_report.specs.declared.results.Counts.{Counts}
+use Rattle.pj_report.specs.declared.writer.Form.{Form}
+use Rattle.pj_report.specs.declared.writer.ResultWriter.{ResultWriter}
 use Rattle.pj_run.specs.declared.stops.TurnStop.{TurnStop}
 use Rattle.pj_run.specs.declared.stops.TurnStop.TheVariants.{Limit as TurnLimit, WriteFailed as TurnFailed, NoMemory as TurnMemory, Cut as TurnCut}
 use Rattle.pj_run.specs.declared.stops.RunStop.{RunStop}
 use Rattle.pj_run.specs.declared.stops.RunStop.TheVariants.{ReadFault, TooLarge, Limit, WriteFailed, NoMemory, Cut}
 use Rattle.pj_feed.specs.Feeds.{FeedState, fed_elements}
 use Rattle.pj_io.specs.States.{SinkState}
-use Rattle.pj_report.specs.Results.{counts_of, out_lines}
+use Rattle.pj_report.specs.Forms.{shown, taken_so_far}
 use Rattle.pj_run.specs.Cuts.{turn_cut}
 use Rattle.pj_report.specs.Written.{flat, FrontOf, WritesBy}
-use Rattle.pj_run.specs.Ends.{EndsBefore, EndsAtLimit, EndsCut}
+use Rattle.pj_run.specs.Ends.{EndsBefore, EndsAtBytes, EndsAtLimit, EndsCut}
 use Rattle.pj_events.specs.declared.events.Stop.TheVariants.{Limit as CoreLimit, NoMemory as CoreMemory}
 
 -- the turn is of one of these streams, and what it brings fits the columns, where it is no closing
@@ -54,18 +55,18 @@ abbrev pub Turned : CoreState → CoreState → Turn → List Out → Option Sto
 Turned old new turn outs None = MakesTurn old new turn outs
 Turned old new turn outs (Some stop) = StopsBehind old turn outs stop
 
--- the whole turn was made, and what it handed out is counted
-pub record TurnDone (old new : CoreState) (turn : Turn) (before after : Counts) : Type 0 where
+-- the whole turn was made, and the writer has taken what it handed out
+pub record TurnDone (old new : CoreState) (turn : Turn) (before after : ResultWriter) : Type 0 where
   pub outs : List Out
   pub makes : MakesTurn old new turn outs
-  pub counted : (es : List Element) → before ≡ counts_of es → after ≡ counts_of (es ++ elements_out outs)
+  pub taken : (form : Form) (es : List Element) → before ≡ taken_so_far form es → after ≡ taken_so_far form (es ++ elements_out outs)
 
 -- where the sink is told: behind each history that the core stands for and that the turn may follow, the lines of what the turn hands
--- out were written, or as much of them as the stop leaves
-abbrev pub TurnWrites : {T : Type 0} → CoreState → Turn → SinkState → SinkState → Result T TurnStop → Type 0
-TurnWrites core turn old new result =
+-- out were written, as far as the form writes them as they come, or as much of them as the stop leaves
+abbrev pub TurnWrites : {T : Type 0} → Form → CoreState → Turn → SinkState → SinkState → Result T TurnStop → Type 0
+TurnWrites form core turn old new result =
     IsTrue new.told → (history : List Entry) → StandsFor core history → MayFollow core history (arrival_of turn)
-    → WritesBy turn_cut (out_lines core.plan.nodes (turn_outs core history turn)) old new result
+    → WritesBy turn_cut (shown form core.plan.nodes (turn_outs core history turn)) old new result
 
 -- an entry of the turn is the first that brings an element beyond the limit, at this node
 pub record BreaksOff (core : CoreState) (history : List Entry) (turn : Turn) (node : ℕ) : Type 0 where
@@ -75,34 +76,34 @@ pub record BreaksOff (core : CoreState) (history : List Entry) (turn : Turn) (no
   pub within : StaysWithin core.limit (nodes_in core) history front
   pub beyond : BeginsBeyond core.limit (nodes_in core) (history ++ front) back node
 
--- the lines of what these entries hand out behind the history
-abbrev pub lines_of : CoreState → List Entry → List Entry → List (List ℕ)
-lines_of core history front = out_lines core.plan.nodes (outputs_of core.plan.trace (nodes_after core history) front)
+-- the lines of what these entries hand out behind the history, as far as they are written as they come
+abbrev pub lines_of : Form → CoreState → List Entry → List Entry → List (List ℕ)
+lines_of form core history front = shown form core.plan.nodes (outputs_of core.plan.trace (nodes_after core history) front)
 
 -- where a limit stopped the turn and the sink is told, exactly the lines of the outputs up to that entry were written
-pub record EndsTurn (core : CoreState) (history : List Entry) (turn : Turn) (node : ℕ) (old new : SinkState) : Type 0 where
+pub record EndsTurn (form : Form) (core : CoreState) (history : List Entry) (turn : Turn) (node : ℕ) (old new : SinkState) : Type 0 where
   pub breaks : BreaksOff core history turn node
-  pub written : IsTrue new.told → new.written ≡ old.written ++ flat (lines_of core history breaks.front)
+  pub written : IsTrue new.told → new.written ≡ old.written ++ flat (lines_of form core history breaks.front)
 
 -- where the output failed then, a front of their bytes was
-pub record CutTurn (core : CoreState) (history : List Entry) (turn : Turn) (node : ℕ) (old new : SinkState) : Type 0 where
+pub record CutTurn (form : Form) (core : CoreState) (history : List Entry) (turn : Turn) (node : ℕ) (old new : SinkState) : Type 0 where
   pub breaks : BreaksOff core history turn node
-  pub written : IsTrue new.told → FrontOf (flat (lines_of core history breaks.front)) old.written new.written
+  pub written : IsTrue new.told → FrontOf (flat (lines_of form core history breaks.front)) old.written new.written
 
-abbrev pub CutsTurn : Stop → CoreState → List Entry → Turn → SinkState → SinkState → Type 0
-CutsTurn (CoreLimit node) core history turn old new = CutTurn core history turn node old new
-CutsTurn CoreMemory core history turn old new = ⊤
+abbrev pub CutsTurn : Stop → Form → CoreState → List Entry → Turn → SinkState → SinkState → Type 0
+CutsTurn (CoreLimit node) form core history turn old new = CutTurn form core history turn node old new
+CutsTurn CoreMemory form core history turn old new = ⊤
 
-abbrev pub TurnStops : TurnStop → CoreState → List Entry → Turn → SinkState → SinkState → Type 0
-TurnStops (TurnLimit node) core history turn old new = EndsTurn core history turn node old new
-TurnStops TurnFailed core history turn old new = ⊤
-TurnStops TurnMemory core history turn old new = ⊤
-TurnStops (TurnCut stop) core history turn old new = CutsTurn stop core history turn old new
+abbrev pub TurnStops : TurnStop → Form → CoreState → List Entry → Turn → SinkState → SinkState → Type 0
+TurnStops (TurnLimit node) form core history turn old new = EndsTurn form core history turn node old new
+TurnStops TurnFailed form core history turn old new = ⊤
+TurnStops TurnMemory form core history turn old new = ⊤
+TurnStops (TurnCut stop) form core history turn old new = CutsTurn stop form core history turn old new
 
 -- what the stop leaves behind each history that the core stands for and that the turn may follow
-abbrev pub TurnStopsBehind : TurnStop → CoreState → Turn → SinkState → SinkState → Type 0
-TurnStopsBehind stop core turn old new =
-    (history : List Entry) → StandsFor core history → MayFollow core history (arrival_of turn) → TurnStops stop core history turn old new
+abbrev pub TurnStopsBehind : TurnStop → Form → CoreState → Turn → SinkState → SinkState → Type 0
+TurnStopsBehind stop form core turn old new =
+    (history : List Entry) → StandsFor core history → MayFollow core history (arrival_of turn) → TurnStops stop form core history turn old new
 
 -- what a core's stop leaves where its last lines could not be written
 abbrev pub CutEnd : Stop → Job → List (List ℕ) → List ℕ → List ℕ → Type 0
@@ -111,12 +112,12 @@ CutEnd CoreMemory job files before lines = ⊤
 
 -- What the stop of a run's turns leaves: where a stream's turn could not be made, the lines of the outputs up to it, and where a
 -- read of its file failed, exactly the elements arrived that are accepted of the lines which end with a line feed in the bytes
--- taken; at a limit, the lines of the outputs up to the entry that brought one element beyond it
+-- taken; at a limit of bytes the same of those; at one of elements, the lines of the outputs up to the entry that brought one beyond it
 abbrev pub TurnsEnd : RunStop → Job → List (List ℕ) → List FeedState → List ℕ → List ℕ → Type 0
 TurnsEnd (ReadFault stream) job files feeds before lines =
     (feed : FeedState) × (slice_get feeds stream ≡ Some feed) × (ends : EndsBefore job files stream before lines)
     × (arrived_at stream ends.front ≡ fed_elements feed.intake.columns feed.source.taken)
-TurnsEnd (TooLarge stream) job files feeds before lines = EndsBefore job files stream before lines
+TurnsEnd (TooLarge stream) job files feeds before lines = EndsAtBytes job files stream before lines
 TurnsEnd (Limit node) job files feeds before lines = EndsAtLimit job files node before lines
 TurnsEnd WriteFailed job files feeds before lines = ⊤
 TurnsEnd NoMemory job files feeds before lines = ⊤

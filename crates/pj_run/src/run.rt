@@ -1,18 +1,21 @@
 // The run of a plan over its files.
-ghost use Rattle.std.specs.Prelude.{◌≡◌, ◌≤◌, [], length, IsTrue, IfErr, IfOk, OnOk, Err, Some};
+ghost use Rattle.std.specs.Prelude.{◌≡◌, ◌≤◌, List, [], length, IsTrue, IfErr, IfOk, OnOk, Err, Some};
+ghost use Rattle.pj_pattern.specs.declared.element.Element.{Element};
+ghost use Rattle.pj_report.specs.declared.writer.Form.{Form as FormOf};
 ghost use Rattle.pj_plan.specs.Nodes.{streams_in};
 ghost use Rattle.pj_io.specs.Causes.{Rose};
 ghost use Rattle.pj_io.specs.Folders.{NoneFalls, SameEverywhere};
-ghost use Rattle.pj_report.specs.Results.{out_lines};
+ghost use Rattle.pj_report.specs.Forms.{shown, taken_so_far};
 ghost use Rattle.pj_core.specs.Cores.{StandsFor};
 ghost use Rattle.pj_feed.specs.Feeds.{AreFeeds, AreNew, AreSameFeeds, AllTold, AreAllTaken, files_of, tallies_in};
-ghost use Rattle.pj_feed.specs.Opened.{AreOpened, StayReadToEnd};
-ghost use Rattle.pj_run.specs.Outcome.{IsOutcome, Reports};
+ghost use Rattle.pj_feed.specs.Opened.{AreOpened, StayOutside, StayReadToEnd, names_in};
+ghost use Rattle.pj_run.specs.Outcome.{Finishes, IsOutcome};
 ghost use Rattle.pj_run.specs.RunEnds.{AreRead, FeedsCause, FeedsWrite, FilesCause, FilesOpened, FilesWrite, StoppedFeeds, StoppedFiles, StoppedTurns, TurnsCause};
 ghost use Rattle.pj_run.specs.Runs.{IsNewCore, history_of, job_in, outs_of, run_lines};
 ghost use Rattle.pj_feed.specs.Opened.{AreReadToEnd};
 ghost use Rattle.pj_report.specs.Written.{WritesBy, write_cut};
 
+use crate::checking::AcceptedRows;
 use crate::report::write_report;
 use crate::stops::{FilesStop, RunStop};
 use crate::turns::take_turn;
@@ -20,15 +23,30 @@ use pj_core::Core;
 use pj_element::Tally;
 use pj_feed::{Feed, Feeds, OpeningStop, close_feeds, open_feeds};
 use pj_io::{Folder, Sink, Source};
-use pj_report::{Counts, WriteStop};
+use pj_report::{Form, ResultWriter, WriteStop};
 use pj_value::{Bytes, List as Items};
 use std::alloc::Global;
+
+/// What a run writes: the form of its results, and whether the report has the line of a check.
+#[derive(Clone, Copy, Debug, PartialEq, Eq)]
+pub struct Writing {
+    pub form: Form,
+    pub check: bool,
+}
+
+// What a run has gathered for its end: the writer of its results, and the rows that are kept for a check.
+#[derive(Drop)]
+pub(crate) struct Gathered {
+    pub(crate) results: ResultWriter,
+    pub(crate) accepted: AcceptedRows,
+}
 
 /// Runs the plan of a new core over the files of these names, one for each stream, which are read as the run goes on: writes the
 /// outputs of the run on one thread, and then the report, each line by a `write_all` of its own, and hands on what the sink holds
 /// back. The files are opened in order, and each that was opened is closed.
 pub fn run_files<F: Folder, K: Sink>(
     alloc: Global,
+    writing: Writing,
     core: &mut Core,
     names: &[Bytes],
     folder: &mut F,
@@ -38,14 +56,15 @@ pub fn run_files<F: Folder, K: Sink>(
     requires each { length names.now ≡ length (streams_in core.old.plan.nodes) }
     ensures plan { core.new.plan ≡ core.old.plan }
     ensures told { IsTrue (K.state out.new).told → IsTrue (K.state out.old).told }
-    ensures lines { FilesWrite (job_in core.old) names.now (F.state folder.old) (K.state out.old) (K.state out.new) result }
-    ensures ends { StoppedFiles (job_in core.old) names.now (F.state folder.old) (F.state folder.new) (K.state out.old) (K.state out.new) result }
+    ensures lines { FilesWrite (job_in writing core.old) names.now (F.state folder.old) (K.state out.old) (K.state out.new) result }
+    ensures ends { StoppedFiles (job_in writing core.old) names.now (F.state folder.old) (F.state folder.new) (K.state out.old) (K.state out.new) result }
     ensures unopened { (stop : OpeningStop) → result ≡ Err (FilesStop.Opening stop) → out.new ≡ out.old }
     ensures last { OnOk result (AreReadToEnd names.now (F.state folder.old) (F.state folder.new)) }
     ensures keeps { StayReadToEnd (F.state folder.old) (F.state folder.new) result }
     ensures handed_on { OnOk result ((K.state out.new).held ≡ []) }
     ensures opened { FilesOpened result names.now (F.state folder.old) (F.state folder.new) }
-    ensures causes { IfErr result (λ stop. FilesCause stop (job_in core.old) names.now (F.state folder.old) (F.state folder.new) (K.state out.old) (K.state out.new)) }
+    ensures others { StayOutside names.now (F.state folder.old) (F.state folder.new) }
+    ensures causes { IfErr result (λ stop. FilesCause stop (job_in writing core.old) names.now (F.state folder.old) (F.state folder.new) (K.state out.old) (K.state out.new)) }
     ensures folder_later { NoneFalls (F.state folder.old).faults (F.state folder.new).faults }
     ensures later { (K.state out.old).faults ≤ (K.state out.new).faults }
 {
@@ -55,7 +74,7 @@ pub fn run_files<F: Folder, K: Sink>(
         });
     };
     match open_feeds(alloc, folder, core.plan(), names, &mut feeds) {
-        Ok(()) => match run_feeds(alloc, core, feeds, folder, out) {
+        Ok(()) => match run_feeds(alloc, writing, core, feeds, folder, out) {
             Ok(()) => Ok(()),
             Err(stop) => Err(FilesStop::Run { stop }),
         },
@@ -69,6 +88,7 @@ pub fn run_files<F: Folder, K: Sink>(
 // Runs the plan over files that were opened, and closes them before the report.
 fn run_feeds<F: Folder, K: Sink>(
     alloc: Global,
+    writing: Writing,
     core: &mut Core,
     feeds: Vec<Feed<F::File>>,
     folder: &mut F,
@@ -80,42 +100,45 @@ fn run_feeds<F: Folder, K: Sink>(
     requires opened { AreOpened (F.state folder.old).opened feeds.items }
     ensures plan { core.new.plan ≡ core.old.plan }
     ensures told { IsTrue (K.state out.new).told → IsTrue (K.state out.old).told }
-    ensures lines { FeedsWrite feeds.items (run_lines (job_in core.old) (files_of feeds.items)) (K.state out.old) (K.state out.new) result }
-    ensures ends { StoppedFeeds (job_in core.old) feeds.items (F.state folder.old) (F.state folder.new) (K.state out.old) (K.state out.new) result }
+    ensures lines { FeedsWrite feeds.items (run_lines (job_in writing core.old) (files_of feeds.items)) (K.state out.old) (K.state out.new) result }
+    ensures ends { StoppedFeeds (job_in writing core.old) feeds.items (F.state folder.old) (F.state folder.new) (K.state out.old) (K.state out.new) result }
     ensures handed_on { OnOk result ((K.state out.new).held ≡ []) }
     ensures last { OnOk result (AreRead feeds.items (F.state folder.old) (F.state folder.new)) }
-    ensures causes { IfErr result (λ stop. FeedsCause stop (job_in core.old) feeds.items (F.state folder.old) (F.state folder.new) (K.state out.old) (K.state out.new)) }
+    ensures causes { IfErr result (λ stop. FeedsCause stop (job_in writing core.old) feeds.items (F.state folder.old) (F.state folder.new) (K.state out.old) (K.state out.new)) }
     ensures still_opened { SameEverywhere (F.state folder.old).opened (F.state folder.new).opened }
+    ensures others { StayOutside (names_in feeds.items) (F.state folder.old) (F.state folder.new) }
     ensures folder_later { NoneFalls (F.state folder.old).faults (F.state folder.new).faults }
     ensures later { (K.state out.old).faults ≤ (K.state out.new).faults }
 {
     let mut text = Items::new(alloc);
     let mut feeds = Feeds { feeds, at: 0 };
-    let ran = run_streams(alloc, core, &mut feeds, &mut text, out);
+    let ran = run_streams(alloc, writing, core, &mut feeds, &mut text, out);
     let Feeds { feeds, at: _ } = feeds;
     let closed = close_feeds(alloc, folder, feeds);
-    let counts = ran?;
+    let gathered = ran?;
     let tallies = closed?;
-    Ok(finish(core, tallies.as_slice(), counts, &mut text, out)?)
+    Ok(finish(alloc, core, tallies.as_slice(), &gathered, &mut text, out)?)
 }
 
-// Writes the report, and hands on what the sink holds back.
+// Writes the results that were withheld and the report, and hands on what the sink holds back.
 fn finish<K: Sink>(
+    alloc: Global,
     core: &Core,
     tallies: &[Tally],
-    counts: Counts,
+    gathered: &Gathered,
     text: &mut Items<u8>,
     out: &mut K,
 ) -> Result<(), WriteStop>
     requires on { core.now.kept.stop ≡ None }
     requires each { length tallies.now ≡ length (streams_in core.now.plan.nodes) }
     ensures told { IsTrue (K.state out.new).told → IsTrue (K.state out.old).told }
-    ensures lines { Reports core.now tallies.now counts (K.state out.old) (K.state out.new) result }
+    ensures lines { (form : FormOf) (outputs : List Element) → Finishes form outputs core.now tallies.now gathered.now (K.state out.old) (K.state out.new) result }
     ensures handed_on { OnOk result ((K.state out.new).held ≡ []) }
     ensures later { (K.state out.old).faults ≤ (K.state out.new).faults }
     ensures fault { result ≡ Err WriteStop.Failed → Rose (K.state out.old).faults (K.state out.new).faults }
 {
-    write_report(core, tallies, counts, text, out)?;
+    gathered.results.finish(alloc, out)?;
+    write_report(alloc, core, tallies, gathered, text, out)?;
     out.flush()?;
     Ok(())
 }
@@ -123,11 +146,12 @@ fn finish<K: Sink>(
 // Runs the plan on one thread over its streams, and writes the lines of its outputs, which are handed on before a read.
 fn run_streams<S: Source, K: Sink>(
     alloc: Global,
+    writing: Writing,
     core: &mut Core,
     feeds: &mut Feeds<S>,
     text: &mut Items<u8>,
     out: &mut K,
-) -> Result<Counts, RunStop>
+) -> Result<Gathered, RunStop>
     requires fresh { IsNewCore core.old }
     requires feeds { AreFeeds 0 (streams_in core.old.plan.nodes) feeds.old.feeds.items }
     requires none { AreNew feeds.old.feeds.items }
@@ -136,17 +160,19 @@ fn run_streams<S: Source, K: Sink>(
     ensures on { OnOk result (core.new.kept.stop ≡ None) }
     ensures same { AreSameFeeds feeds.old.feeds.items feeds.new.feeds.items }
     ensures told { IsTrue (K.state out.new).told → IsTrue (K.state out.old).told }
-    ensures lines { FeedsWrite feeds.old.feeds.items (out_lines core.old.plan.nodes (outs_of (job_in core.old) (files_of feeds.old.feeds.items))) (K.state out.old) (K.state out.new) result }
-    ensures ends { StoppedTurns (job_in core.old) feeds.old.feeds.items feeds.new.feeds.items (K.state out.old) (K.state out.new) result }
-    ensures outcome { AllTold feeds.old.feeds.items → IfOk result (λ counts. IsOutcome (job_in core.old) (files_of feeds.old.feeds.items) (tallies_in feeds.new.feeds.items) counts) }
-    ensures stands { AllTold feeds.old.feeds.items → OnOk result (StandsFor core.new (history_of (job_in core.old) (files_of feeds.old.feeds.items))) }
+    ensures lines { FeedsWrite feeds.old.feeds.items (shown writing.form core.old.plan.nodes (outs_of (job_in writing core.old) (files_of feeds.old.feeds.items))) (K.state out.old) (K.state out.new) result }
+    ensures ends { StoppedTurns (job_in writing core.old) feeds.old.feeds.items feeds.new.feeds.items (K.state out.old) (K.state out.new) result }
+    ensures outcome { AllTold feeds.old.feeds.items → IfOk result (λ gathered. IsOutcome (job_in writing core.old) (files_of feeds.old.feeds.items) (tallies_in feeds.new.feeds.items) gathered) }
+    ensures stands { AllTold feeds.old.feeds.items → OnOk result (StandsFor core.new (history_of (job_in writing core.old) (files_of feeds.old.feeds.items))) }
     ensures taken { OnOk result (AreAllTaken feeds.new.feeds.items) }
-    ensures causes { IfErr result (λ stop. TurnsCause stop (job_in core.old) feeds.old.feeds.items feeds.new.feeds.items (K.state out.old) (K.state out.new)) }
+    ensures causes { IfErr result (λ stop. TurnsCause stop (job_in writing core.old) feeds.old.feeds.items feeds.new.feeds.items (K.state out.old) (K.state out.new)) }
     ensures later { (K.state out.old).faults ≤ (K.state out.new).faults }
 {
-    let mut counts = Counts { rows: 0, puncts: 0 };
+    let mut results = ResultWriter::new(alloc, writing.form);
+    let mut accepted = AcceptedRows::new(alloc, writing.check, feeds.feeds.as_slice().len())?;
     while let Some(next) = feeds.next(out)? {
-        take_turn(alloc, core, next, &mut counts, text, out)?;
+        accepted.keep(alloc, &next)?;
+        take_turn(alloc, core, next, &mut results, text, out)?;
     }
-    Ok(counts)
+    Ok(Gathered { results, accepted })
 }

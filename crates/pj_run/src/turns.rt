@@ -5,7 +5,8 @@ ghost use Rattle.pj_plan.specs.Nodes.{streams_in};
 ghost use Rattle.pj_pattern.specs.declared.element.Element.{Element};
 ghost use Rattle.pj_events.specs.declared.events.Stop.{Stop as CoreStop};
 ghost use Rattle.pj_events.specs.Outcomes.{elements_out};
-ghost use Rattle.pj_report.specs.Results.{counts_of, out_lines};
+ghost use Rattle.pj_report.specs.declared.writer.Form.{Form};
+ghost use Rattle.pj_report.specs.Forms.{shown, taken_so_far};
 ghost use Rattle.pj_report.specs.Written.{WritesBy, write_cut};
 ghost use Rattle.pj_io.specs.Causes.{Rose};
 ghost use Rattle.pj_core.specs.Calls.{IsTurnRefused, MakesTurn};
@@ -18,11 +19,11 @@ use pj_core::Core;
 use pj_events::{Out, Stop};
 use pj_feed::Arrival;
 use pj_io::Sink;
-use pj_report::{Counts, WriteStop, write_outs};
+use pj_report::{ResultWriter, WriteStop};
 use pj_value::List as Items;
 use std::alloc::Global;
 
-/// Makes one turn of a core that has not stopped and that was drained, writes what the turn hands out, and counts it.
+/// Makes one turn of a core that has not stopped and that was drained, and gives what the turn hands out to the writer.
 /// `text` is where lines are made.
 ///
 /// `Limit` comes where the turn brings one element beyond the limit of a node; exactly what was handed out before that is
@@ -31,7 +32,7 @@ pub fn take_turn<K: Sink>(
     alloc: Global,
     core: &mut Core,
     next: Arrival,
-    counts: &mut Counts,
+    results: &mut ResultWriter,
     text: &mut Items<u8>,
     out: &mut K,
 ) -> Result<(), TurnStop>
@@ -40,15 +41,16 @@ pub fn take_turn<K: Sink>(
     requires of { IsTurnOf (streams_in core.old.plan.nodes) (turn_in (streams_in core.old.plan.nodes) next) }
     ensures plan { core.new.plan ≡ core.old.plan }
     ensures told { IsTrue (K.state out.new).told → IsTrue (K.state out.old).told }
-    ensures lines { TurnWrites core.old (turn_in (streams_in core.old.plan.nodes) next) (K.state out.old) (K.state out.new) result }
-    ensures done { OnOk result (TurnDone core.old core.new (turn_in (streams_in core.old.plan.nodes) next) counts.old counts.new) }
-    ensures stops { IfErr result (λ stop. TurnStopsBehind stop core.old (turn_in (streams_in core.old.plan.nodes) next) (K.state out.old) (K.state out.new)) }
+    ensures lines { TurnWrites results.old.form core.old (turn_in (streams_in core.old.plan.nodes) next) (K.state out.old) (K.state out.new) result }
+    ensures done { OnOk result (TurnDone core.old core.new (turn_in (streams_in core.old.plan.nodes) next) results.old results.new) }
+    ensures form { results.new.form ≡ results.old.form }
+    ensures stops { IfErr result (λ stop. TurnStopsBehind stop results.old.form core.old (turn_in (streams_in core.old.plan.nodes) next) (K.state out.old) (K.state out.new)) }
     ensures later { (K.state out.old).faults ≤ (K.state out.new).faults }
     ensures fault { result ≡ Err TurnStop.WriteFailed → Rose (K.state out.old).faults (K.state out.new).faults }
     ensures cut { (stop : CoreStop) → result ≡ Err (TurnStop.Cut stop) → Rose (K.state out.old).faults (K.state out.new).faults }
 {
     let handed = turn_core(core, next);
-    let written = write_handed(alloc, core, handed.outs.as_slice(), counts, text, out);
+    let written = write_handed(alloc, core, handed.outs.as_slice(), results, text, out);
     turn_end(written, handed.stop)
 }
 
@@ -69,22 +71,23 @@ fn turn_end(written: Result<(), WriteStop>, stop: Option<Stop>) -> Result<(), Tu
     }
 }
 
-// Writes what the core handed out, and counts it.
+// Gives what the core handed out to the writer.
 fn write_handed<K: Sink>(
     alloc: Global,
     core: &Core,
     outs: &[Out],
-    counts: &mut Counts,
+    results: &mut ResultWriter,
     text: &mut Items<u8>,
     out: &mut K,
 ) -> Result<(), WriteStop>
     ensures told { IsTrue (K.state out.new).told → IsTrue (K.state out.old).told }
-    ensures lines { (nodes : List PlanNode) → core.now.plan.nodes ≡ nodes → IsTrue (K.state out.new).told → WritesBy write_cut (out_lines nodes outs.now) (K.state out.old) (K.state out.new) result }
-    ensures counted { OnOk result ((before : List Element) → counts.old ≡ counts_of before → counts.new ≡ counts_of (before ++ elements_out outs.now)) }
+    ensures lines { (nodes : List PlanNode) → core.now.plan.nodes ≡ nodes → IsTrue (K.state out.new).told → WritesBy write_cut (shown results.old.form nodes outs.now) (K.state out.old) (K.state out.new) result }
+    ensures taken { OnOk result ((form : Form) (before : List Element) → results.old ≡ taken_so_far form before → results.new ≡ taken_so_far form (before ++ elements_out outs.now)) }
+    ensures form { results.new.form ≡ results.old.form }
     ensures later { (K.state out.old).faults ≤ (K.state out.new).faults }
     ensures fault { result ≡ Err WriteStop.Failed → Rose (K.state out.old).faults (K.state out.new).faults }
 {
-    write_outs(alloc, core.plan(), outs, counts, text, out)
+    results.take(alloc, core.plan(), outs, text, out)
 }
 
 // What a turn handed out, and why the core stopped in it, if it did.

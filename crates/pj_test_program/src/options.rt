@@ -1,6 +1,7 @@
 // What the options of a run change, and which words ask for a run.
 use crate::runs::{AUCTION, run_in, sink_of};
 use pj_io::MemFolder;
+use pj_value::List;
 use std::test::Fail;
 
 const USAGE_STATUS: u8 = 64;
@@ -70,6 +71,88 @@ fn rows_that_sweeps_remove_are_noted_in_a_trace(rt: HostRuntime) -> Result<(), F
     ] {
         assert!(rt; ends(&rt, command, ITEMS, BIDS, 0, TRACED)?, "at {command}");
     }
+    Ok(())
+}
+
+// The items' punctuation comes before the result and waits until the last sweep.
+const WAITING_BIDS: &[u8] = b"p 9 *\nt 1 50\n";
+
+const WAITING_STREAMS: &[u8] =
+    b"# stream items tuples 1 punctuations 1 rejected 0\n# stream bids tuples 1 punctuations 1 rejected 0\n# results 1 punctuations 4\n";
+
+const WAITING_SORTED: &[u8] = b"t 1 \"ann\" 1 50\np * * * *\np * * * *\np * * 9 *\np 1 * * *\n";
+
+const WAITING_RUN: &[u8] = b"p * * 9 *\nt 1 \"ann\" 1 50\np * * * *\np 1 * * *\np * * * *\n";
+
+// Whether the run over the auction with items that wait writes these results, the report and this behind it.
+fn waits_so(rt: &HostRuntime, command: &str, results: &[u8], rest: &[u8]) -> Result<bool, Fail> {
+    let mut want = List::new(rt.alloc());
+    want.append(results)?;
+    want.append(WAITING_STREAMS)?;
+    want.append(rest)?;
+    ends(rt, command, ITEMS, WAITING_BIDS, 0, want.as_slice())
+}
+
+#[test]
+fn results_are_sorted_and_checked_where_it_is_asked_for(rt: HostRuntime) -> Result<(), Fail> {
+    let sorted = WAITING_SORTED;
+    let run = WAITING_RUN;
+    assert!(rt; waits_so(&rt, "run --sorted plan items bids", sorted, b"")?);
+    assert!(rt;
+        waits_so(
+            &rt,
+            "run --sorted --check plan items bids",
+            sorted,
+            b"# check 1\n"
+        )?
+    );
+    assert!(rt;
+        waits_so(
+            &rt,
+            "run plan items bids --check",
+            run,
+            b"# peak j 2\n# check 1\n"
+        )?
+    );
+    Ok(())
+}
+
+const THREE_ITEMS: &[u8] = b"t 2 \"bob\"\nt 10 \"eve\"\nt 1 \"ann\"\n";
+
+const FOUR_BIDS: &[u8] = b"t 2 60\nt 10 70\nt 1 50\nt 1 50\n";
+
+// The order is that of the lines' bytes, and a row that is there twice is written twice.
+const FOUR_SORTED: &[u8] =
+    b"t 1 \"ann\" 1 50\nt 1 \"ann\" 1 50\nt 10 \"eve\" 10 70\nt 2 \"bob\" 2 60\np * * * *\np * * * *\n# stream items tuples 3 punctuations 0 rejected 0\n# stream bids tuples 4 punctuations 0 rejected 0\n# results 4 punctuations 2\n# check 4\n";
+
+#[test]
+fn sorted_lines_are_in_order_of_their_bytes(rt: HostRuntime) -> Result<(), Fail> {
+    let command = "run plan --check --sorted items bids";
+    assert!(rt; ends(&rt, command, THREE_ITEMS, FOUR_BIDS, 0, FOUR_SORTED)?);
+    Ok(())
+}
+
+// Whether a sorted run whose first writes go well, and the next one not, ends with a front of its bytes, of this length.
+fn breaks_off(rt: &HostRuntime, fails: u64, left: usize) -> Result<bool, Fail> {
+    let alloc = rt.alloc();
+    let mut folder = MemFolder::new(alloc, &[])?;
+    folder.add(alloc, b"plan", AUCTION, 100, &[])?;
+    folder.add(alloc, b"items", THREE_ITEMS, 9, &[])?;
+    folder.add(alloc, b"bids", FOUR_BIDS, 9, &[])?;
+    let mut out = sink_of(alloc, &[fails])?;
+    let command = "run --sorted --check plan items bids";
+    let status = run_in(rt, command, &mut folder, &mut out)?;
+    Ok(status.number() == 4 && FOUR_SORTED.starts_with(out.bytes()) && out.bytes().len() == left)
+}
+
+#[test]
+fn a_sorted_run_that_stops_writes_nothing_before_its_end(rt: HostRuntime) -> Result<(), Fail> {
+    let limited = b"# stopped limit node j\n".as_slice();
+    let command = "run --sorted --limit 3 plan items bids";
+    assert!(rt; ends(&rt, command, TWO_ITEMS, TWO_BIDS, 6, limited)?);
+    assert!(rt; breaks_off(&rt, 0, 0)?);
+    assert!(rt; breaks_off(&rt, 2, 30)?);
+    assert!(rt; breaks_off(&rt, 9, FOUR_SORTED.len() - 10)?);
     Ok(())
 }
 
@@ -148,6 +231,10 @@ fn words_of_a_run_are_taken(rt: HostRuntime) -> Result<(), Fail> {
         "run . ..",
         "run p f --limit=1 --workers 0",
         "run --workers=0 p --trace f --limit 5",
+        "run --sorted p f",
+        "run p f --sorted --check --limit 3",
+        "run --check --trace p f",
+        "run p --check f g",
     ] {
         assert!(rt; !is_usage(&rt, command)?, "at {command}");
     }
@@ -185,6 +272,9 @@ fn other_words_are_no_run(rt: HostRuntime) -> Result<(), Fail> {
         "run --trace p",
         "run p f --sorted --trace",
         "run p f --print",
+        "run p f --sorted=yes",
+        "run p f --check --check",
+        "run p f --trace g --sorted",
         "RUN p f",
         "run  f",
     ] {

@@ -11,7 +11,7 @@ loop-feed-preserved g c =
     let now = g.F.Folder.state c.close_file.new.self in
     let left = c.close_file.ensures in
     let file : SourceState = g.F.File.Source.state c.close-file.result.0 in
-    let closes : Closes file mid now = record { opened = left.opened; told = left.told; contents = left.contents; later = left.later; faults = left.faults; last = left.last; other_last = left.other_last } in
+    let closes : Closes file mid now = record { opened = left.opened; told = left.told; contents = left.contents; later = left.later; faults = left.faults; last = left.last; other_faults = left.other_faults; other_last = left.other_last } in
     record {
       so_far = one_closed c.args.feeds.items c.loop-feed.rest.rest.items c.next.new.self.rest.items c.in-Some.feed c.close-file.result.1 (g.F.Folder.state c.args.folder.now) mid now c.loop-feed.tallies c.with_tally-tallies.result
           c.loop-feed.invariant.so_far c.in-Some.ensures.items (subst (λ (s : SourceState). Closes s mid now) c.close-file.ensures.source closes) c.close-file.ensures.tally c.with_tally-tallies.ensures.all

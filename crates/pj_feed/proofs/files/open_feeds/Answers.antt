@@ -5,6 +5,7 @@ use Rattle.pj_feed.specs.declared.stops.OpeningStop.TheVariants.{Fault}
 use Rattle.pj_feed.proofs.Answered.{err_is}
 use Rattle.pj_feed.proofs.Closing.{opened_still, falls_none}
 use Rattle.pj_feed.proofs.Opening.{fault_of_next, feeds_more, count_more, opened_more, opens_keep, opens_own, opens_then, opens_most_then, word_at}
+use Rattle.pj_feed.proofs.Outside.{stay_at, stay_then}
 use Rattle.pj_feed.proofs.StreamNodes.{met-there, node-met, schema-met}
 use Rattle.pj_feed.proofs.files.open_feeds.Goals as goal
 
@@ -27,6 +28,18 @@ returns-in_err-feed-clause-some_opened g c =
     let at : name ≡ slice_index_or names c.loop-i.i [] = c.as_slice.ensures ∙ word_at names c.loop-i.i c.index-names-i.result low c.index-names-i.is in
     opens_most_then (length names) c.loop-i.i names name (g.F.Folder.state c.args.folder.now) (g.F.Folder.state c.loop-i.folder) (g.F.Folder.state c.open_feed.new.folder) c.loop-i.invariant.opens
     c.open_feed.ensures.opened low low at
+
+pub returns-in_err-feed-clause-others : goal.returns-in_err-feed-clause-others
+returns-in_err-feed-clause-others g c =
+    let names = c.args.names.now in
+    let name = c.as_slice.result.now in
+    let first = g.F.Folder.state c.args.folder.now in
+    let mid = g.F.Folder.state c.loop-i.folder in
+    let now = g.F.Folder.state c.open_feed.new.folder in
+    let at_stream = met-there c.args.plan.now.nodes c.streams-streams.result.now c.loop-i.i c.streams-streams.ensures c.loop-i-test.true in
+    let low : c.loop-i.i < length names = omega (arith, at_stream, c.requires.each) in
+    let at : name ≡ slice_index_or names c.loop-i.i [] = c.as_slice.ensures ∙ word_at names c.loop-i.i c.index-names-i.result low c.index-names-i.is in
+    stay_then names first mid now c.loop-i.invariant.others (stay_at c.loop-i.i names name mid now low at c.open_feed.ensures.others)
 
 pub returns-in_err-feed-clause-fault : goal.returns-in_err-feed-clause-fault
 returns-in_err-feed-clause-fault g c = λ stream is.
@@ -68,4 +81,5 @@ loop-i-preserved g c =
       opens = opens_then c.loop-i.i names name first mid now old.opens of.was_opened low at;
       last = λ n. of.last (λ e. cc e) n ∙ old.last n;
       later = falls_none first.faults mid.faults now.faults old.later of.later;
+      others = stay_then names first mid now old.others (stay_at c.loop-i.i names name mid now low at of.others);
     }

@@ -1,8 +1,8 @@
-use Rattle.std.proofs.Common.{◌≡◌, map, length}
+use Rattle.std.proofs.Common.{◌≡◌, length}
 use Rattle.std.specs.Prelude.{vec_capacity}
 use Rattle.pj_io.specs.Folders.{NoneFalls, SameEverywhere}
 use Rattle.pj_plan.specs.Nodes.{streams_in}
-use Rattle.pj_feed.specs.Opened.{AreFeedsOf, AreOpened, OpensFirst}
+use Rattle.pj_feed.specs.Opened.{AreFeedsOf, AreOpened, OpensFirst, StayOutside}
 use Rattle.pj_feed.proofs.files.open_feeds.Given as goal
 
 abbrev pub invariant-loop-i : goal.invariant-loop-i
@@ -16,4 +16,5 @@ invariant-loop-i g l = record {
   opens : OpensFirst l.i l.names (g.F.Folder.state l.fn.folder) (g.F.Folder.state l.folder);
   last : SameEverywhere (g.F.Folder.state l.fn.folder).last (g.F.Folder.state l.folder).last;
   later : NoneFalls (g.F.Folder.state l.fn.folder).faults (g.F.Folder.state l.folder).faults;
+  others : StayOutside l.names (g.F.Folder.state l.fn.folder) (g.F.Folder.state l.folder);
 }

@@ -1,19 +1,19 @@
 use Rattle.pj_plan.specs.declared.node.PlanNode.{PlanNode}
 use Rattle.pj_plan.specs.Nodes.{streams_in}
-use Rattle.std.proofs.Common.{◌≡◌, ◌++◌, List, ℕ, map, subst, ap, Err}
+use Rattle.std.proofs.Common.{◌≡◌, ◌++◌, List, ℕ, subst, ap, Err}
 use Rattle.pj_feed.specs.Opened.{AreFeedsOf}
 use Rattle.pj_run.specs.Runs.{job_in, run_lines}
 use Rattle.pj_run.specs.Cuts.{run_cut}
 use Rattle.pj_report.specs.Written.{between}
 use Rattle.pj_report.specs.Written.{flat, Leaves}
-use Rattle.pj_run.proofs.FilesRun.{AreAllOpened, all_opened, run_end, run_cause, read_to_end, still_read, open_end, open_opened}
+use Rattle.pj_run.proofs.FilesRun.{AreAllOpened, all_opened, run_others, run_end, run_cause, read_to_end, still_read, open_end, open_opened}
 use Rattle.pj_report.proofs.LinesWritten.{none_written}
 use Rattle.pj_feed.proofs.Opening.{new_of}
 use Rattle.pj_run.proofs.run.run_files.Goals as goal
 
 pub run_feeds-requires-clause-feeds : goal.run_feeds-requires-clause-feeds
 run_feeds-requires-clause-feeds g c =
-    let job = job_in c.args.core.now in
+    let job = job_in c.args.writing c.args.core.now in
     let names = c.args.names.now in
     let old = g.F.Folder.state c.args.folder.now in
     let feeds = c.open_feeds.new.feeds.items in
@@ -23,7 +23,7 @@ run_feeds-requires-clause-feeds g c =
 
 pub run_feeds-requires-clause-none : goal.run_feeds-requires-clause-none
 run_feeds-requires-clause-none g c =
-    let job = job_in c.args.core.now in
+    let job = job_in c.args.writing c.args.core.now in
     let names = c.args.names.now in
     let old = g.F.Folder.state c.args.folder.now in
     let feeds = c.open_feeds.new.feeds.items in
@@ -33,7 +33,7 @@ run_feeds-requires-clause-none g c =
 
 pub returns-in-Ok-run_feeds-clause-lines : goal.returns-in-Ok-run_feeds-clause-lines
 returns-in-Ok-run_feeds-clause-lines g c = λ told t.
-    let job = job_in c.args.core.now in
+    let job = job_in c.args.writing c.args.core.now in
     let names = c.args.names.now in
     let old = g.F.Folder.state c.args.folder.now in
     let feeds = c.open_feeds.new.feeds.items in
@@ -46,7 +46,7 @@ returns-in-Ok-run_feeds-clause-lines g c = λ told t.
 
 pub returns-in-Ok-run_feeds-clause-last : goal.returns-in-Ok-run_feeds-clause-last
 returns-in-Ok-run_feeds-clause-last g c =
-    let job = job_in c.args.core.now in
+    let job = job_in c.args.writing c.args.core.now in
     let names = c.args.names.now in
     let old = g.F.Folder.state c.args.folder.now in
     let feeds = c.open_feeds.new.feeds.items in
@@ -58,7 +58,7 @@ returns-in-Ok-run_feeds-clause-last g c =
 
 pub returns-in-Ok-run_feeds-clause-keeps : goal.returns-in-Ok-run_feeds-clause-keeps
 returns-in-Ok-run_feeds-clause-keeps g c = λ name told had.
-    let job = job_in c.args.core.now in
+    let job = job_in c.args.writing c.args.core.now in
     let names = c.args.names.now in
     let old = g.F.Folder.state c.args.folder.now in
     let feeds = c.open_feeds.new.feeds.items in
@@ -70,7 +70,7 @@ returns-in-Ok-run_feeds-clause-keeps g c = λ name told had.
 
 pub returns-in-Err-run_feeds-clause-lines : goal.returns-in-Err-run_feeds-clause-lines
 returns-in-Err-run_feeds-clause-lines g c = λ told t.
-    let job = job_in c.args.core.now in
+    let job = job_in c.args.writing c.args.core.now in
     let names = c.args.names.now in
     let old = g.F.Folder.state c.args.folder.now in
     let feeds = c.open_feeds.new.feeds.items in
@@ -83,7 +83,7 @@ returns-in-Err-run_feeds-clause-lines g c = λ told t.
 
 pub returns-in-Err-run_feeds-clause-ends : goal.returns-in-Err-run_feeds-clause-ends
 returns-in-Err-run_feeds-clause-ends g c = λ told t.
-    let job = job_in c.args.core.now in
+    let job = job_in c.args.writing c.args.core.now in
     let names = c.args.names.now in
     let old = g.F.Folder.state c.args.folder.now in
     let feeds = c.open_feeds.new.feeds.items in
@@ -97,7 +97,7 @@ returns-in-Err-run_feeds-clause-ends g c = λ told t.
 
 pub returns-in-Err-run_feeds-clause-causes : goal.returns-in-Err-run_feeds-clause-causes
 returns-in-Err-run_feeds-clause-causes g c =
-    let job = job_in c.args.core.now in
+    let job = job_in c.args.writing c.args.core.now in
     let names = c.args.names.now in
     let old = g.F.Folder.state c.args.folder.now in
     let feeds = c.open_feeds.new.feeds.items in
@@ -115,7 +115,7 @@ returns-in-Err-clause-lines g c = λ told t.
 
 pub returns-in-Err-clause-ends : goal.returns-in-Err-clause-ends
 returns-in-Err-clause-ends g c = λ told t.
-    let job = job_in c.args.core.now in
+    let job = job_in c.args.writing c.args.core.now in
     let names = c.args.names.now in
     let old = g.F.Folder.state c.args.folder.now in
     let mid = g.F.Folder.state c.open_feeds.new.folder in
@@ -133,3 +133,33 @@ returns-in-Err-clause-opened g c =
     let after = g.F.Folder.state c.close_feeds.new.folder in
     let feeds = c.open_feeds.new.feeds.items in
     open_opened c.in-Err.stop names old mid after feeds c.in-Err.ensures.some_opened (λ stream is. c.in-Err.ensures.fault stream (ap Err is)) c.close_feeds.ensures.still_opened
+
+pub returns-in-Ok-run_feeds-clause-others : goal.returns-in-Ok-run_feeds-clause-others
+returns-in-Ok-run_feeds-clause-others g c =
+    let names = c.args.names.now in
+    let old = g.F.Folder.state c.args.folder.now in
+    let mid = g.F.Folder.state c.open_feeds.new.folder in
+    let after = g.F.Folder.state c.run_feeds.new.folder in
+    let feeds = c.open_feeds.new.feeds.items in
+    let of = subst (λ (ss : List PlanNode). AreFeedsOf 0 ss names old feeds) (ap streams_in c.plan.ensures) c.in-Ok-open_feeds.ensures.feeds in
+    run_others (streams_in c.args.core.now.plan.nodes) names old mid after feeds of c.open_feeds.ensures.others c.run_feeds.ensures.others
+
+pub returns-in-Err-run_feeds-clause-others : goal.returns-in-Err-run_feeds-clause-others
+returns-in-Err-run_feeds-clause-others g c =
+    let names = c.args.names.now in
+    let old = g.F.Folder.state c.args.folder.now in
+    let mid = g.F.Folder.state c.open_feeds.new.folder in
+    let after = g.F.Folder.state c.run_feeds.new.folder in
+    let feeds = c.open_feeds.new.feeds.items in
+    let of = subst (λ (ss : List PlanNode). AreFeedsOf 0 ss names old feeds) (ap streams_in c.plan.ensures) c.in-Ok-open_feeds.ensures.feeds in
+    run_others (streams_in c.args.core.now.plan.nodes) names old mid after feeds of c.open_feeds.ensures.others c.run_feeds.ensures.others
+
+pub returns-in-Err-clause-others : goal.returns-in-Err-clause-others
+returns-in-Err-clause-others g c =
+    let names = c.args.names.now in
+    let old = g.F.Folder.state c.args.folder.now in
+    let mid = g.F.Folder.state c.open_feeds.new.folder in
+    let after = g.F.Folder.state c.close_feeds.new.folder in
+    let feeds = c.open_feeds.new.feeds.items in
+    let of = subst (λ (ss : List PlanNode). AreFeedsOf 0 ss names old feeds) (ap streams_in c.plan.ensures) c.in-Err.ensures.feeds in
+    run_others (streams_in c.args.core.now.plan.nodes) names old mid after feeds of c.open_feeds.ensures.others c.close_feeds.ensures.others

@@ -7,19 +7,19 @@ use Rattle.pj_run.proofs.turns.take_turn.Goals as goal
 pub returns-clause-lines : goal.returns-clause-lines
 returns-clause-lines g c = λ t history stands may.
     let core = c.args.core.now in
-    end_leaves core c.turn_core-handed.new.core (turn_in (streams_in core.plan.nodes) c.args.next) c.turn_core-handed.result.outs c.as_slice.result.now c.turn_core-handed.result.stop history c.requires.drained c.turn_core-handed.ensures.turned c.as_slice.ensures stands may
+    end_leaves c.args.results.now.form core c.turn_core-handed.new.core (turn_in (streams_in core.plan.nodes) c.args.next) c.turn_core-handed.result.outs c.as_slice.result.now c.turn_core-handed.result.stop history c.requires.drained c.turn_core-handed.ensures.turned c.as_slice.ensures stands may
     c.write_handed-written.result c.turn_core-handed.result.stop c.turn_end.result (g.K.Sink.state c.args.out.now) (g.K.Sink.state c.write_handed-written.new.out) refl c.turn_end.ensures (c.write_handed-written.ensures.lines core.plan.nodes (same_nodes c.turn_core-handed.ensures.plan) t)
 
 pub returns-clause-stops : goal.returns-clause-stops
 returns-clause-stops g c =
     let core = c.args.core.now in
-    end_stops core c.turn_core-handed.new.core (turn_in (streams_in core.plan.nodes) c.args.next) c.turn_core-handed.result.outs c.as_slice.result.now c.turn_core-handed.result.stop c.write_handed-written.result c.turn_end.result (g.K.Sink.state c.args.out.now) (g.K.Sink.state c.write_handed-written.new.out) c.turn_core-handed.ensures.turned c.as_slice.ensures c.turn_end.ensures
+    end_stops c.args.results.now.form core c.turn_core-handed.new.core (turn_in (streams_in core.plan.nodes) c.args.next) c.turn_core-handed.result.outs c.as_slice.result.now c.turn_core-handed.result.stop c.write_handed-written.result c.turn_end.result (g.K.Sink.state c.args.out.now) (g.K.Sink.state c.write_handed-written.new.out) c.turn_core-handed.ensures.turned c.as_slice.ensures c.turn_end.ensures
     (c.write_handed-written.ensures.lines core.plan.nodes (same_nodes c.turn_core-handed.ensures.plan))
 
 pub returns-clause-done : goal.returns-clause-done
 returns-clause-done g c =
     end_done c.args.core.now c.turn_core-handed.new.core (turn_in (streams_in c.args.core.now.plan.nodes) c.args.next) c.turn_core-handed.result.outs c.as_slice.result.now c.turn_core-handed.result.stop c.write_handed-written.result c.turn_end.result
-    c.args.counts.now c.write_handed-written.new.counts c.turn_core-handed.ensures.turned c.as_slice.ensures c.turn_end.ensures c.write_handed-written.ensures.counted
+    c.args.results.now c.write_handed-written.new.results c.turn_core-handed.ensures.turned c.as_slice.ensures c.turn_end.ensures c.write_handed-written.ensures.taken
 
 pub returns-clause-fault : goal.returns-clause-fault
 returns-clause-fault g c = end_fault c.turn_core-handed.result.stop c.write_handed-written.result c.turn_end.result _ c.turn_end.ensures c.write_handed-written.ensures.fault

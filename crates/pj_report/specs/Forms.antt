@@ -1,0 +1,57 @@
+-- What is written of what is handed out, and when: as it comes, or in order at the end.
+use Rattle.std.specs.Prelude.{ℕ, List, [], ◌∷◌, ◌++◌, map, if◌then◌else◌}
+use Rattle.pj_pattern.specs.declared.element.Element.{Element}
+use Rattle.pj_pattern.specs.declared.element.Element.TheVariants.{Tuple, Punct}
+use Rattle.pj_element.specs.Runs.{rows_of, puncts_of}
+use Rattle.pj_events.specs.declared.events.Out.{Out}
+use Rattle.pj_events.specs.Outcomes.{elements_out}
+use Rattle.pj_plan.specs.declared.node.PlanNode.{PlanNode}
+use Rattle.pj_report.specs.declared.kept.KeptLines.{KeptLines}
+use Rattle.pj_report.specs.declared.writer.Form.{Form}
+use Rattle.pj_report.specs.declared.writer.Form.TheVariants.{AsTheyCome, Sorted}
+use Rattle.pj_report.specs.declared.writer.ResultWriter.{ResultWriter}
+use Rattle.pj_report.specs.Results.{counts_of, out_lines}
+use Rattle.pj_report.specs.Sorted.{fed_punct, fed_row, is_below, punct_lines, row_lines, sorted_form}
+
+-- the lines of what is handed out that are written as it comes
+abbrev pub shown : Form → List PlanNode → List Out → List (List ℕ)
+shown AsTheyCome nodes outs = out_lines nodes outs
+shown Sorted nodes outs = []
+
+-- the lines of elements that are written once all were handed out
+abbrev pub withheld : Form → List Element → List (List ℕ)
+withheld AsTheyCome es = []
+withheld Sorted es = sorted_form es
+
+-- all lines of what is handed out
+abbrev pub form_lines : Form → List PlanNode → List Out → List (List ℕ)
+form_lines AsTheyCome nodes outs = out_lines nodes outs
+form_lines Sorted nodes outs = sorted_form (elements_out outs)
+
+-- ---- the elements in the order of their lines
+
+-- an element put behind those of these whose lines are below its own
+abbrev pub put_by : {A : Type 0} → (A → List ℕ) → A → List A → List A
+put_by line x [] = x ∷ []
+put_by line x (y ∷ ys) = if is_below (line y) (line x) then y ∷ put_by line x ys else x ∷ y ∷ ys
+
+-- these in order of their lines
+abbrev pub sort_by : {A : Type 0} → (A → List ℕ) → List A → List A
+sort_by line [] = []
+sort_by line (x ∷ xs) = put_by line x (sort_by line xs)
+
+-- elements in the order in which the form writes them
+abbrev pub in_form : Form → List Element → List Element
+in_form AsTheyCome es = es
+in_form Sorted es = map Tuple (sort_by fed_row (rows_of es)) ++ map Punct (sort_by fed_punct (puncts_of es))
+
+-- ---- a writer
+
+-- the lines that are kept of elements
+abbrev pub kept_of : Form → List Element → KeptLines
+kept_of AsTheyCome es = record { rows = []; puncts = [] }
+kept_of Sorted es = record { rows = row_lines es; puncts = punct_lines es }
+
+-- the writer that has taken these elements
+abbrev pub taken_so_far : Form → List Element → ResultWriter
+taken_so_far form es = record { form = form; counts = counts_of es; kept = kept_of form es }
