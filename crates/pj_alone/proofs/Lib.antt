@@ -1,5 +1,8 @@
-pub mod Joins
-pub mod Notes
-pub mod Inputs
-pub mod Plans
-pub mod Texts
+pub mod CallLaws
+pub mod Completing
+pub mod EarlyLaws
+pub mod FrontLaws
+pub mod NameLaws
+pub mod Refusing
+pub mod RunLaws
+pub mod StaysLaws

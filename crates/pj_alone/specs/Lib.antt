@@ -1,3 +1,8 @@
-pub mod Judgments
-pub mod Asked
-pub mod Checks
+pub mod Calls
+pub mod Completeness
+pub mod Endings
+pub mod Plans
+pub mod Promises
+pub mod Refusals
+pub mod Stops
+pub mod Top

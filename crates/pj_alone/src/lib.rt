@@ -1,9 +1,12 @@
-//! What is done without threads: whether a plan is safe, and what is told of it.
+//! The call of a request on one thread: reads a plan and its files, and writes the results. It never waits.
 #![tactic(auto)]
 
-mod asked;
-mod check;
-mod safety;
+mod alone;
+mod calls;
+mod plan_file;
+mod refusal;
+mod status;
+mod stops;
 
-pub use check::check_text;
-pub use safety::{Judged, Unsafe, judge};
+pub use alone::run_alone;
+pub use pj_judge::check_text;

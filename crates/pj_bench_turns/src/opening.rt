@@ -3,8 +3,8 @@ ghost use Rattle.std.specs.Prelude.{◌≡◌, ◌≤◌, length, IfOk, IfSome};
 ghost use Rattle.pj_safety.specs.Certificates.{AreCertificates, certificates_of};
 ghost use Rattle.pj_hub.specs.Seated.{AreNewSeats, hub_seats};
 
-use pj_alone::{Judged, judge};
 use pj_hub::{CoreHub, HubSeat};
+use pj_judge::{Judged, judge};
 use pj_plan::Plan;
 use pj_plan_text::read_plan;
 use pj_safe_core::safe_core;

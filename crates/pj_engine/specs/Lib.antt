@@ -1,6 +1,1 @@
-pub mod Commands
-pub mod Completeness
-pub mod Plans
-pub mod Refusals
-pub mod Stops
-pub mod Top
+pub mod Words

@@ -13,7 +13,7 @@ use Rattle.pj_io.specs.Folders.{IsFresh, KeepsNames, NoneFalls, SameElsewhere, S
 use Rattle.pj_io.specs.States.{FolderState}
 use Rattle.pj_feed.specs.Named.{AreTold, IsAlone, files_named}
 use Rattle.pj_feed.specs.Feeds.{FeedState, bytes_of, files_of, AreFeeds, AreNew, AreSameFeeds, AllTold, AreAllTaken}
-use Rattle.pj_feed.specs.Opened.{IsFeedOf, AreFeedsOf, AreOpened, AgreeOn, NoneNamed, IsLast, AreCounted, HasLasts, OpensFirst, OpensAtMost, FailsToOpen, IsFaultAt}
+use Rattle.pj_feed.specs.Opened.{IsFeedOf, AreFeedsOf, AreOpened, AgreeOn, NoneNamed, IsLast, AreCounted, HasLasts, OpensFirst, OpensAtMost, FailsToOpen, IsFaultAt, StayOutside}
 use Rattle.pj_feed.proofs.AllFeeds.{all_same}
 use Rattle.pj_feed.proofs.Names.{same_or_other}
 
@@ -34,9 +34,6 @@ opens_one first names old new opened keeps others name = (λ t. go (same_or_othe
 -- no file was opened meanwhile
 pub opens_still : (count : ℕ) (names : List (List ℕ)) (old mid new : FolderState) → OpensFirst count names old mid → SameEverywhere mid.opened new.opened → OpensFirst count names old new
 opens_still count names old mid new first same name = (λ t. (first name).0 (subst IsTrue (same name) t), λ h. subst IsTrue (sym (same name)) ((first name).1 h))
-
-pub opens_most_still : (most : ℕ) (names : List (List ℕ)) (old mid new : FolderState) → OpensAtMost most names old mid → SameEverywhere mid.opened new.opened → OpensAtMost most names old new
-opens_most_still most names old mid new some same = (some.0, some.1, opens_still some.0 names old mid new some.2 same)
 
 -- no name is lost
 pub opens_keep : (count : ℕ) (names : List (List ℕ)) (old new : FolderState) → OpensFirst count names old new → KeepsNames old.opened new.opened
@@ -86,26 +83,17 @@ opens_no_more i names others old mid new first then name = (λ t. from ((then na
     from (inl t) = (first name).0 t
     from (inr h) = absurd h
 
--- the files of some first names, and perhaps that of the next
-pub opens_most_then : (most i : ℕ) (names : List (List ℕ)) (name : List ℕ) (old mid new : FolderState) → OpensFirst i names old mid → OpensAtMost 1 (name ∷ []) mid new → i < most → i < length names → name ≡ slice_index_or names i []
-    → OpensAtMost most names old new
-opens_most_then most i names name old mid new first then few low is = go then.0 then.1 then.2
-  where
-    go : (count : ℕ) → count ≤ 1 → OpensFirst count (name ∷ []) mid new → OpensAtMost most names old new
-    go zero le opens = (i, omega (arith, few), opens_no_more i names (name ∷ []) old mid new first opens)
-    go (suc zero) le opens = (i + 1, omega (arith, few), opens_then i names name old mid new first opens low is)
-    go (suc (suc n)) le opens = absurd (omega (arith, le))
-
 -- the file of the next name could not be opened
 pub fault_of_next : (i stream : ℕ) (names : List (List ℕ)) (name : List ℕ) (feeds : List FeedState) (old mid new : FolderState) → OpensFirst i names old mid → NoneFalls old.faults mid.faults
-    → (stream ≡ i) × FailsToOpen name mid new → i < length names → name ≡ slice_index_or names i [] → length feeds ≡ i → IsFaultAt stream names feeds old new
-fault_of_next i stream names name feeds old mid new first falls fails low is count =
+    → (stream ≡ i) × FailsToOpen name mid new → i < length names → name ≡ slice_index_or names i [] → length feeds ≡ i → StayOutside (take (i + 1) names) old new → IsFaultAt stream names feeds old new
+fault_of_next i stream names name feeds old mid new first falls fails low is count others =
     subst (λ (n : ℕ). IsFaultAt n names feeds old new) (sym fails.0)
     (record {
       there = low;
       before = count;
       opened = opens_no_more i names (name ∷ []) old mid new first fails.1.0;
       rose = subst (λ (n : List ℕ). Rose (old.faults n) (new.faults n)) is (let less = falls name in let rose = fails.1.1 in omega (arith, less, rose));
+      others = others;
     })
 
 -- whatever other names there are behind the first

@@ -1,24 +1,21 @@
 -- One step of a stream's intake, as its feed has it.
-use Rattle.std.proofs.Common.{◌≡◌, ◌⊎◌, ℕ, ◌+◌, ◌-◌, ◌<◌, ◌≤◌, ◌^◌, Bool, true, false, cond, List, [], ◌∷◌, ◌++◌, length, take, drop, refl, ap, ap₂, sym, ◌∙◌, subst, append_assoc, append-nil, arith, Option, Some, None, Result, Ok, Err, IfOk, IsTrue, inl, inr}
+use Rattle.std.proofs.Common.{◌≡◌, ◌⊎◌, ℕ, ◌+◌, ◌-◌, ◌<◌, ◌≤◌, ◌^◌, Bool, true, false, cond, List, [], ◌∷◌, ◌++◌, length, take, drop, refl, ap, ap₂, sym, ◌∙◌, subst, append_assoc, append-nil, arith, None, Result, Ok, Err, IfOk, IsTrue, inl, inr}
 use Rattle.std.proofs.lemmas.List.{length-append}
 use Rattle.std.proofs.Math.Seq.{take-append_seam}
 use Rattle.pj_shape.specs.declared.columns.Column.{Column}
-use Rattle.pj_shape.specs.Columns.{domains_of}
 use Rattle.pj_io.specs.Pieces.{Consumes}
 use Rattle.pj_pattern.specs.declared.element.Element.{Element}
-use Rattle.pj_pattern.specs.Fitting.{FitsDomains}
 use Rattle.pj_line.specs.Fed.{AreFed}
 use Rattle.pj_line.specs.Lines.{HasNo}
-use Rattle.pj_element.specs.declared.element.Reject.{Reject}
 use Rattle.pj_element.specs.Accepted.{taken_of, fates_of, rejects_of}
 use Rattle.pj_intake.specs.declared.intake.Step.{Step}
-use Rattle.pj_intake.specs.declared.intake.Step.TheVariants.{Rejected, End}
+use Rattle.pj_intake.specs.declared.intake.Step.TheVariants.{End}
 use Rattle.pj_intake.specs.declared.intake.IntakeStop.{IntakeStop}
 use Rattle.pj_intake.specs.declared.intake.IntakeStop.TheVariants.{ReadFault, ByteLimit, NoMemory}
 use Rattle.pj_intake.specs.Taking.{IsOpen}
 use Rattle.pj_intake.specs.Steps.{FitsStep, NextGives, GoesOn, accepted_in, rejected_in, stop_answered}
-use Rattle.pj_feed.specs.Feeds.{FeedState, bytes_of, all_accepted, count_of, work_of, IsFed, IsSameFeed, IsNextOf, FeedStops, fed_elements}
-use Rattle.pj_feed.proofs.AllFeeds.{same_then}
+use Rattle.pj_feed.specs.declared.feeds.Arrival.TheVariants.{Brought, Closing}
+use Rattle.pj_feed.specs.Feeds.{FeedState, bytes_of, all_accepted, count_of, work_of, IsFed, IsSameFeed, GivesTurn, HasPassed, FeedStops, fed_elements, brought, closes, turn_in}
 use Rattle.pj_feed.proofs.FeedFacts.{IsAtEnd, next_left, those_so_far, counted, begins_with, nothing_left_of, fed_is}
 
 -- what one step does to a feed
@@ -78,6 +75,10 @@ more_bytes {A} count judged more added is some = elim (none_or_some more) [
   | inr more ↦ more
 ]
 
+-- the feed with its closing had
+abbrev pub shut : FeedState → FeedState
+shut feed = record { stream = feed.stream; is_open = false; source = feed.source; intake = feed.intake }
+
 module _ (old new : FeedState) (step : Step) (fed : IsFed old) (still : old.is_open ≡ true) (s : Stepped old new (Ok step)) where
   abbrev gave : NextGives new.intake old.source new.source fed.judged (Ok step)
   gave = s.next fed.goes_on fed.judged fed.follows fed.bytes
@@ -134,8 +135,8 @@ module _ (old new : FeedState) (step : Step) (fed : IsFed old) (still : old.is_o
       let w : length (fed.judged ++ gave.more) ≤ old.intake.buffer.limit = within in
       omega (arith, a, b, l, w, some)
 
-  pub rejected_works : 0 < length (rejected_in step) → work_of new < work_of old
-  rejected_works some = longer (more_bytes (λ xs. rejects_of 1 (fates_of columns xs)) fed.judged gave.more (rejected_in step) gave.adds.rejects some)
+  pub reject_works : 0 < length (rejected_in step) → work_of new < work_of old
+  reject_works some = longer (more_bytes (λ xs. rejects_of 1 (fates_of columns xs)) fed.judged gave.more (rejected_in step) gave.adds.rejects some)
 
   accepted_works : 0 < length (accepted_in step) → work_of new < work_of old
   accepted_works some = longer (more_bytes accepted fed.judged gave.more (accepted_in step) gave.adds.elements some)
@@ -161,23 +162,55 @@ module _ (old new : FeedState) (step : Step) (fed : IsFed old) (still : old.is_o
       ap (drop (count_of old)) (sym (all_same t))
       ∙ next_left (all_accepted new) (accepted fed.judged) b.0 e (count_of old) (count_of new) all old_count (new_count ∙ ap length added)
 
-  pub element_next : (e : Element) → accepted_in step ≡ e ∷ [] → FitsDomains (domains_of old.intake.columns) e → IsNextOf old new (Some e)
-  element_next e is fit =
-      let l : length (accepted_in step) ≡ 1 = ap length is in
-      (accepted_works (omega (arith, l)), fit, λ t. next_is e is t)
+  -- an element that was accepted
+  pub element_gives : (e : Element) → accepted_in step ≡ e ∷ [] → GivesTurn old new (Brought old.stream e)
+  element_gives e is t streams =
+      let rest : List Element = drop (count_of new) (all_accepted new) in
+      ap (λ (es : List Element). brought streams old.stream es ++ closes streams old.stream old.is_open) (next_is e is t)
+      ∙ ap₂ (λ (n : ℕ) (b : Bool). turn_in streams (Brought old.stream e) ∷ (brought streams n rest ++ closes streams n b)) (sym s.stream) (sym s.still)
 
-  -- nothing is left behind the end
-  pub end_next : step ≡ End → IsNextOf old new None
-  end_next is =
+  pub element_works : (e : Element) → accepted_in step ≡ e ∷ [] → work_of new < work_of old
+  element_works e is = let l : length (accepted_in step) ≡ 1 = ap length is in accepted_works (omega (arith, l))
+
+  -- a line that was rejected
+  pub reject_passes : accepted_in step ≡ [] → HasPassed old new
+  reject_passes none = record {
+    fed = stepped_fed;
+    same = stepped_same old new (Ok step) s;
+    still = s.still;
+    count = same_count none;
+    works = stepped_works;
+  }
+
+  -- at the end all was judged
+  at_end : step ≡ End → IsAtEnd new
+  at_end is = let end = gave.at_end (ap Ok is) in (end.0, sym gave.stands.1 ∙ end.1)
+
+  -- nothing is left behind the end, and the closing has its turn
+  pub end_gives : step ≡ End → GivesTurn old (shut new) (Closing old.stream)
+  end_gives is t streams =
       let none : accepted_in step ≡ [] = ap accepted_in is in
-      let end = gave.at_end (ap Ok is) in
-      let spent : IsAtEnd new = (end.0, sym gave.stands.1 ∙ end.1) in (
-        stepped_works,
-        spent.0,
-        spent.1,
-        λ t. ap₂ (λ (n : ℕ) (es : List Element). drop n es) (sym (same_count none)) (sym (all_same t)) ∙ nothing_left_of new stepped_fed spent (told' t),
-        same_count none,
-      )
+      let last : drop (count_of new) (all_accepted new) ≡ [] = nothing_left_of new stepped_fed (at_end is) (told' t) in
+      let before : drop (count_of old) (all_accepted old) ≡ [] = ap₂ (λ (n : ℕ) (es : List Element). drop n es) (sym (same_count none)) (sym (all_same t)) ∙ last in
+      ap₂ (λ (es : List Element) (b : Bool). brought streams old.stream es ++ closes streams old.stream b) before still
+      ∙ ap (λ (es : List Element). turn_in streams (Closing old.stream) ∷ (brought streams new.stream es ++ [])) (sym last)
+
+  pub end_fed : step ≡ End → IsFed (shut new)
+  end_fed is = record {
+    judged = stepped_fed.judged;
+    goes_on = stepped_fed.goes_on;
+    follows = stepped_fed.follows;
+    limit = stepped_fed.limit;
+    bytes = stepped_fed.bytes;
+    at_end = stepped_fed.at_end;
+    closed = λ c. at_end is;
+  }
+
+  pub end_works : work_of (shut new) < work_of old
+  end_works =
+      let all : work_of new ≡ (new.intake.buffer.limit - (new.intake.buffer.count - length new.intake.buffer.held)) + 1 = work_open new (s.still ∙ still) in
+      let le : work_of new ≤ work_of old = stepped_works in
+      omega (arith, all, le)
 
 -- ---- a step that could not be made
 
@@ -205,52 +238,3 @@ step_stops old new ByteLimit fed s = λ t.
       ap (λ (xs : List ℕ). fed_elements new.intake.columns xs) front ∙ fed_so_far old new ByteLimit fed s gave gave.stands.0 gave.stands.1 t,
     )
 step_stops old new NoMemory fed s = tt
-
--- ---- several steps
-
--- what holds behind rejects
-pub record IsBehind (start now : FeedState) : Type 0 where
-  pub fed : IsFed now
-  pub still : now.is_open ≡ true
-  pub same : IsSameFeed start now
-  pub count : count_of now ≡ count_of start
-  pub works : work_of now ≤ work_of start
-
--- all that is accepted is the same
-accepted_same : (start now : FeedState) → IsSameFeed start now → IsTrue start.source.told → all_accepted now ≡ all_accepted start
-accepted_same start now same t = ap₂ (λ (ks : List Column) (xs : List ℕ). taken_of (fates_of ks xs)) same.columns (same.bytes t)
-
--- the elements that are left
-left_same : (start now : FeedState) → IsSameFeed start now → count_of now ≡ count_of start → IsTrue start.source.told → drop (count_of start) (all_accepted start) ≡ drop (count_of now) (all_accepted now)
-left_same start now same count t = ap₂ (λ (n : ℕ) (es : List Element). drop n es) (sym count) (sym (accepted_same start now same t))
-
-pub behind_next : (start now new : FeedState) (next : Option Element) → IsBehind start now → IsNextOf now new next → IsNextOf start new next
-behind_next start now new None b n =
-    (omega (arith, n.0, b.works), n.1, n.2, λ t. left_same start now b.same b.count t ∙ n.3 (subst IsTrue (sym b.same.told) t), n.4 ∙ b.count)
-behind_next start now new (Some e) b n = (
-  omega (arith, n.0, b.works),
-  subst (λ (ks : List Column). FitsDomains (domains_of ks) e) b.same.columns n.1,
-  λ t. left_same start now b.same b.count t ∙ n.2 (subst IsTrue (sym b.same.told) t),
-)
-
--- a reject behind rejects
-pub behind_more : (start now new : FeedState) (n : ℕ) (why : Reject) → IsBehind start now → Stepped now new (Ok (Rejected n why)) → IsBehind start new
-behind_more start now new n why b s = record {
-  fed = stepped_fed now new (Rejected n why) b.fed b.still s;
-  still = s.still ∙ b.still;
-  same = same_then start now new b.same (stepped_same now new (Ok (Rejected n why)) s);
-  count = same_count now new (Rejected n why) b.fed b.still s refl ∙ b.count;
-  works = let w = stepped_works now new (Rejected n why) b.fed b.still s in omega (arith, w, b.works);
-}
-
--- those so far are the same
-so_far_same : (start now : FeedState) → IsBehind start now → IsTrue start.source.told → take (count_of now) (all_accepted now) ≡ take (count_of start) (all_accepted start)
-so_far_same start now b t = ap₂ (λ (n : ℕ) (es : List Element). take n es) b.count (accepted_same start now b.same t)
-
-pub behind_stops : (start now new : FeedState) (stop : IntakeStop) → IsBehind start now → FeedStops now new stop → FeedStops start new stop
-behind_stops start now new ReadFault b f = (omega (arith, f.0, b.same.faults), λ t. f.1 (subst IsTrue (sym b.same.told) t) ∙ so_far_same start now b t)
-behind_stops start now new ByteLimit b f = λ t.
-    let bytes : bytes_of now ≡ bytes_of start = b.same.bytes t in
-    let r = f (subst IsTrue (sym b.same.told) t) in
-    (omega (arith, ap length bytes, r.0), ap (λ (xs : List ℕ). fed_elements new.intake.columns (take (2 ^ 40) xs)) (sym bytes) ∙ (r.1 ∙ so_far_same start now b t))
-behind_stops start now new NoMemory b f = tt

@@ -1,17 +1,15 @@
 -- A turn of the stream that has it.
 use Rattle.pj_plan.specs.declared.node.PlanNode.{PlanNode}
-use Rattle.std.proofs.Common.{◌≡◌, ℕ, ◌+◌, ◌<◌, Bool, true, List, [], ◌∷◌, ◌++◌, length, drop, get_or, set, refl, ap, sym, ◌∙◌, subst, Some, inl, inr, IsTrue, zero-add}
+use Rattle.std.proofs.Common.{◌≡◌, ℕ, ◌+◌, ◌<◌, Bool, true, List, [], ◌∷◌, ◌++◌, length, drop, get_or, set, refl, ap, sym, ◌∙◌, subst, Some, inl, inr, IsTrue}
 use Rattle.std.specs.List.{slice_get}
 use Rattle.std.proofs.lemmas.Option.{slice_get_within, get_or_from_slice_get}
 use Rattle.pj_pattern.specs.declared.element.Element.{Element}
-use Rattle.pj_io.specs.States.{SinkState}
-use Rattle.pj_feed.specs.declared.stops.FeedWhy.{FeedWhy}
 use Rattle.pj_events.specs.OneThread.{Turn}
 use Rattle.pj_feed.specs.declared.feeds.Arrival.{Arrival}
 use Rattle.pj_feed.specs.declared.feeds.Arrival.TheVariants.{Brought, Closing}
-use Rattle.pj_feed.specs.Feeds.{FeedState, all_accepted, count_of, IsFed, FeedEnds, AreFeeds, AllTold, AllClosed, HasTurn, StopsIn, turn_in, feed_left, feeds_left, brought, closes}
-use Rattle.pj_feed.proofs.AllFeeds.{one_of, told_at, closed_done, get_set}
-use Rattle.pj_feed.proofs.Feeding.{turn_at, no_turn, turn_made_at, turn_begins}
+use Rattle.pj_feed.specs.Feeds.{FeedState, all_accepted, count_of, IsFed, AreFeeds, AllTold, AllClosed, HasTurn, turn_in, feed_left, feeds_left, brought, closes}
+use Rattle.pj_feed.proofs.AllFeeds.{one_of, told_at, closed_done}
+use Rattle.pj_feed.proofs.Feeding.{turn_at, no_turn, turn_made_at}
 
 -- the stream at the place that has the turn
 pub record IsTurnAt (feeds : List FeedState) (place : ℕ) (feed : FeedState) : Type 0 where
@@ -42,35 +40,15 @@ pub nothing_given : (streams : List PlanNode) (feeds : List FeedState) (at : ℕ
 nothing_given streams feeds at f told closed = no_turn streams feeds at (closed_done streams 0 streams feeds f told) closed
 
 -- a stream whose closing is still to come has a turn left
-record HasLeft (streams : List PlanNode) (feed : FeedState) : Type 0 where
-  first : Turn
-  rest : List Turn
-  left : feed_left streams feed ≡ first ∷ rest
-  mine : first.stream ≡ feed.stream
+pub record HasLeft (streams : List PlanNode) (feed : FeedState) : Type 0 where
+  pub first : Turn
+  pub rest : List Turn
+  pub left : feed_left streams feed ≡ first ∷ rest
+  pub mine : first.stream ≡ feed.stream
 
-has_left : (streams : List PlanNode) (feed : FeedState) → feed.is_open ≡ true → HasLeft streams feed
+pub has_left : (streams : List PlanNode) (feed : FeedState) → feed.is_open ≡ true → HasLeft streams feed
 has_left streams feed still = go (drop (count_of feed) (all_accepted feed)) (ap (λ (b : Bool). brought streams feed.stream (drop (count_of feed) (all_accepted feed)) ++ closes streams feed.stream b) still)
   where
     go : (es : List Element) → feed_left streams feed ≡ brought streams feed.stream es ++ closes streams feed.stream true → HasLeft streams feed
     go [] e = record { first = turn_in streams (Closing feed.stream); rest = []; left = e; mine = refl }
     go (x ∷ es) e = record { first = turn_in streams (Brought feed.stream x); rest = brought streams feed.stream es ++ closes streams feed.stream true; left = e; mine = refl }
-
--- the turn could not be made
-pub turn_stops : (feeds : List FeedState) (at place : ℕ) (feed feed' : FeedState) (before after : SinkState) (why : FeedWhy) → HasTurn feeds at (Some place) → IsTurnAt feeds place feed
-    → FeedEnds feed feed' before after why → StopsIn feeds (set feeds place feed') at before after (record { stream = place; why = why })
-turn_stops feeds at place feed feed' before after why has here stops = record {
-  old = feed;
-  new = feed';
-  before = here.is;
-  now = get_set feeds place feed feed' here.is;
-  stops = stops;
-  still = here.still;
-  next = λ told streams f.
-      let left = has_left streams feed here.still in
-      let o = one_of 0 streams feeds place feed f here.is in (
-        left.first,
-        _,
-        turn_at streams feeds at place (closed_done streams 0 streams feeds f told) has ∙ turn_begins streams feeds place feed left.first left.rest here.is left.left,
-        left.mine ∙ (o.is_number ∙ zero-add place),
-      );
-}

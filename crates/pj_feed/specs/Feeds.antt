@@ -4,7 +4,7 @@ use Rattle.pj_plan.specs.declared.node.PlanNode.{PlanNode}
 use Rattle.pj_plan.specs.Nodes.{stream_columns}
 use Rattle.pj_shape.specs.declared.columns.Column.{Column}
 use Rattle.pj_io.specs.Causes.{Rose}
-use Rattle.pj_io.specs.States.{SinkState, SourceState}
+use Rattle.pj_io.specs.States.{SourceState}
 use Rattle.pj_pattern.specs.declared.element.Element.{Element}
 use Rattle.pj_pattern.specs.declared.element.Element.TheVariants.{Punct}
 use Rattle.pj_element.specs.declared.tally.Tally.{Tally}
@@ -18,9 +18,6 @@ use Rattle.pj_shape.specs.Columns.{domains_of}
 use Rattle.pj_events.specs.OneThread.{Turn, heads, tails, in_rounds}
 use Rattle.pj_feed.specs.declared.feeds.Arrival.{Arrival}
 use Rattle.pj_feed.specs.declared.feeds.Arrival.TheVariants.{Brought, Closing}
-use Rattle.pj_feed.specs.declared.stops.FeedStop.{FeedStop}
-use Rattle.pj_feed.specs.declared.stops.FeedWhy.{FeedWhy}
-use Rattle.pj_feed.specs.declared.stops.FeedWhy.TheVariants.{Intake, WriteFailed}
 
 -- A stream that is fed: its number, whether its closing is still to come, what its source tells of itself, and its intake
 pub record FeedState : Type 0 where
@@ -131,25 +128,24 @@ abbrev pub BringsOf : FeedState → Arrival → Type 0
 BringsOf feed (Brought stream element) = (stream ≡ feed.stream) × FitsDomains (domains_of feed.intake.columns) element
 BringsOf feed (Closing stream) = stream ≡ feed.stream
 
+-- whatever streams these are: the turn was the first of what was left of this one
+abbrev pub GivesTurn : FeedState → FeedState → Arrival → Type 0
+GivesTurn old new next = IsTrue old.source.told → (streams : List PlanNode) → feed_left streams old ≡ turn_in streams next ∷ feed_left streams new
+
+-- lines were judged that accept nothing, so that all that was left of the stream still is
+pub record HasPassed (old new : FeedState) : Type 0 where
+  pub fed : IsFed new
+  pub same : IsSameFeed old new
+  pub still : new.is_open ≡ old.is_open
+  pub count : count_of new ≡ count_of old
+  pub works : work_of new ≤ work_of old
+
 -- why a stream's turn was not made: a read failed, or so many bytes were taken, the first of the file; and of the file exactly the
 -- elements were accepted that the lines hold which end with a line feed in the bytes taken
 abbrev pub FeedStops : FeedState → FeedState → IntakeStop → Type 0
 FeedStops old new ReadFault = Rose old.source.faults new.source.faults × (IsTrue old.source.told → fed_elements new.intake.columns new.source.taken ≡ take (count_of old) (all_accepted old))
 FeedStops old new ByteLimit = IsTrue old.source.told → (2 ^ 40 ≤ length (bytes_of old)) × (fed_elements new.intake.columns (take (2 ^ 40) (bytes_of old)) ≡ take (count_of old) (all_accepted old))
 FeedStops old new NoMemory = ⊤
-
--- the same, or what the sink holds back was to be handed on and its faults rose
-abbrev pub FeedEnds : FeedState → FeedState → SinkState → SinkState → FeedWhy → Type 0
-FeedEnds old new before after (Intake stop) = FeedStops old new stop
-FeedEnds old new before after WriteFailed = Rose before.faults after.faults
-
--- the next element of a stream is this one, or there is none and its file was judged whole
-abbrev pub IsNextOf : FeedState → FeedState → Option Element → Type 0
-IsNextOf old new None =
-    (work_of new ≤ work_of old) × (new.intake.buffer.ended ≡ true) × (new.intake.buffer.held ≡ []) × (IsTrue old.source.told → drop (count_of old) (all_accepted old) ≡ [])
-    × (count_of new ≡ count_of old)
-IsNextOf old new (Some e) =
-    (work_of new < work_of old) × FitsDomains (domains_of old.intake.columns) e × (IsTrue old.source.told → drop (count_of old) (all_accepted old) ≡ e ∷ drop (count_of new) (all_accepted new))
 
 -- ---- all streams
 
@@ -228,17 +224,6 @@ BringsIn feeds (Some next) = (place : ℕ) × (feed : FeedState) × (slice_get f
 abbrev pub WorksOn : List FeedState → List FeedState → Option Arrival → Type 0
 WorksOn olds news None = ⊤
 WorksOn olds news (Some next) = work_in news < work_in olds
-
--- the turn of one of these streams was the next, and could not be made
-pub record StopsIn (olds news : List FeedState) (at : ℕ) (sink_before sink_now : SinkState) (stop : FeedStop) : Type 0 where
-  pub old : FeedState
-  pub new : FeedState
-  pub before : slice_get olds stop.stream ≡ Some old
-  pub now : slice_get news stop.stream ≡ Some new
-  pub stops : FeedEnds old new sink_before sink_now stop.why
-  pub still : old.is_open ≡ true
-  pub next : AllTold olds → (streams : List PlanNode) → AreFeeds 0 streams olds
-      → (turn : Turn) × (rest : List Turn) × (feeds_left streams olds at ≡ turn ∷ rest) × (turn.stream ≡ stop.stream)
 
 -- the accepted elements of these streams, without their closings
 abbrev pub accepted_of : List PlanNode → List (List ℕ) → List (List Element)

@@ -16,16 +16,31 @@ OpensFirst count names old new = (name : List ℕ) → IsTrue (new.opened name) 
 abbrev pub OpensAtMost : ℕ → List (List ℕ) → FolderState → FolderState → Type 0
 OpensAtMost most names old new = (count : ℕ) × (count ≤ most) × OpensFirst count names old new
 
+-- of names that are not among these, the count of faults stays, and how much was taken from the file that was closed last
+pub record StayOutside (names : List (List ℕ)) (old new : FolderState) : Type 0 where
+  pub faults : (name : List ℕ) → (In name names → ⊥) → new.faults name ≡ old.faults name
+  pub last : (name : List ℕ) → (In name names → ⊥) → new.last name ≡ old.last name
+
+-- files were opened under the names of some first operands, no more than so many, and no other names than theirs and the next one
+-- were touched
+pub record TriesAtMost (most : ℕ) (names : List (List ℕ)) (old new : FolderState) : Type 0 where
+  pub count : ℕ
+  pub few : count ≤ most
+  pub opened : OpensFirst count names old new
+  pub others : StayOutside (take (count + 1) names) old new
+
 -- no file was opened under this name, and its faults rose
 abbrev pub FailsToOpen : List ℕ → FolderState → FolderState → Type 0
 FailsToOpen name old new = OpensFirst 0 (name ∷ []) old new × RoseAt name old.faults new.faults
 
--- the file of this stream, whose name has its place among these, could not be opened, and those before it were
+-- the file of this stream, whose name has its place among these, could not be opened, and those before it were; no names behind it
+-- were touched
 pub record IsFaultAt (stream : ℕ) (names : List (List ℕ)) (feeds : List FeedState) (old new : FolderState) : Type 0 where
   pub there : stream < length names
   pub before : length feeds ≡ stream
   pub opened : OpensFirst stream names old new
   pub rose : Rose (old.faults (slice_index_or names stream [])) (new.faults (slice_index_or names stream []))
+  pub others : StayOutside (take (stream + 1) names) old new
 
 -- the feed of a stream whose file was opened under a name, and of which nothing was taken
 pub record IsFeedOf (stream : ℕ) (schema : List Column) (name : List ℕ) (folder : FolderState) (feed : FeedState) : Type 0 where
@@ -88,8 +103,3 @@ AreReadToEnd (name ∷ names) old new = (IsTrue (old.told name) → IsReadToEnd 
 -- the names under which the files of these feeds were opened
 abbrev pub names_in : List FeedState → List (List ℕ)
 names_in feeds = map (λ feed. feed.source.name) feeds
-
--- of names that are not among these, the count of faults stays, and how much was taken from the file that was closed last
-pub record StayOutside (names : List (List ℕ)) (old new : FolderState) : Type 0 where
-  pub faults : (name : List ℕ) → (In name names → ⊥) → new.faults name ≡ old.faults name
-  pub last : (name : List ℕ) → (In name names → ⊥) → new.last name ≡ old.last name

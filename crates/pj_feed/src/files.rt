@@ -1,9 +1,9 @@
 // The files of the streams, which are read as the run goes on.
-ghost use Rattle.std.specs.Prelude.{◌≡◌, ◌≤◌, ◌<◌, ◌++◌, ◌∷◌, ℕ, List, [], IfOk, OnOk, IsOk, Err, length, vec_capacity};
+ghost use Rattle.std.specs.Prelude.{◌≡◌, ◌≤◌, ◌<◌, ◌+◌, ◌++◌, ◌∷◌, ℕ, List, [], IfOk, OnOk, IsOk, Err, length, vec_capacity};
 ghost use Rattle.pj_io.specs.Folders.{NoneFalls, SameEverywhere};
 ghost use Rattle.pj_plan.specs.Nodes.{streams_in};
 ghost use Rattle.pj_feed.specs.Feeds.{tallies_in};
-ghost use Rattle.pj_feed.specs.Opened.{IsFeedOf, AreFeedsOf, AreOpened, HasLasts, AreCounted, OpensFirst, OpensAtMost, FailsToOpen, IsFaultAt, names_in, StayOutside};
+ghost use Rattle.pj_feed.specs.Opened.{IsFeedOf, AreFeedsOf, AreOpened, HasLasts, AreCounted, OpensFirst, OpensAtMost, TriesAtMost, FailsToOpen, IsFaultAt, names_in, StayOutside};
 
 use crate::feeds::Feed;
 use crate::stops::OpeningStop;
@@ -19,7 +19,8 @@ use std::alloc::Global;
 const STREAM_LIMIT: u64 = 1 << 40;
 
 /// Opens the files of these names in order, one for each stream, and puts a feed for each into the list, which is empty and has
-/// room for them. After an `Err` the feeds are those of the files that were opened.
+/// room for them. After an `Err` the feeds are those of the files that were opened, and no names behind the one that was tried
+/// last were touched.
 #[tactic(auto, using(crate::proofs::StreamNodes::count_numbers))]
 pub fn open_feeds<F: Folder>(
     alloc: Global,
@@ -37,7 +38,7 @@ pub fn open_feeds<F: Folder>(
     ensures feeds { AreFeedsOf 0 (streams_in plan.now.nodes) names.now (F.state folder.old) feeds.new.items }
     ensures all { OnOk result (length feeds.new.items ≡ length (streams_in plan.now.nodes)) }
     ensures opened { AreOpened (F.state folder.new).opened feeds.new.items }
-    ensures some_opened { OpensAtMost (length names.now) names.now (F.state folder.old) (F.state folder.new) }
+    ensures some_opened { (tries : TriesAtMost (length names.now) names.now (F.state folder.old) (F.state folder.new)) × (length feeds.new.items ≤ tries.count) }
     ensures all_opened { OnOk result (OpensFirst (length names.now) names.now (F.state folder.old) (F.state folder.new)) }
     ensures last { (result ≡ Err OpeningStop.NoMemory → ⊥) → SameEverywhere (F.state folder.old).last (F.state folder.new).last }
     ensures later { NoneFalls (F.state folder.old).faults (F.state folder.new).faults }

@@ -1,4 +1,4 @@
-//! Streams that are fed from their files: whose turn it is, and what it brings; the files opened and closed.
+//! Streams that are fed from their files: whose turn it is, and what a step of it brings; the files opened and closed.
 #![tactic(auto)]
 
 mod feeds;
@@ -7,4 +7,4 @@ mod stops;
 
 pub use feeds::{Arrival, Feed, Feeds};
 pub use files::{close_feeds, open_feeds};
-pub use stops::{FeedStop, FeedWhy, OpeningStop};
+pub use stops::OpeningStop;

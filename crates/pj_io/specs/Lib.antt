@@ -7,3 +7,4 @@ pub mod MemoryFolders
 pub mod Pieces
 pub mod Plans
 pub mod States
+pub mod Steady

@@ -1,7 +1,6 @@
 -- The nodes of a sound plan have few inputs.
 use Rattle.std.proofs.Common.{◌≤◌, All, List, length, arith, ap, subst}
-use Rattle.std.proofs.lemmas.List.{get_or_default}
-use Rattle.std.proofs.lemmas.List.{length-map}
+use Rattle.std.proofs.lemmas.List.{get_or_default, length-map}
 use Rattle.pj_shape.specs.declared.columns.Column.{Column}
 use Rattle.pj_plan.specs.declared.node.PlanNode.{PlanNode}
 use Rattle.pj_plan.specs.declared.node.Node.{Node}

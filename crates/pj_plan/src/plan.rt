@@ -95,12 +95,14 @@ impl Plan {
         &self.outline.nodes.as_slice()[n as usize].node
     }
 
-    /// The name of a node.
+    /// The name of a node, by its number; empty where there is none.
     pub fn name(&self, n: u32) -> &[u8]
-        requires { n < length self.now.nodes }
         ensures { result.now ≡ node_name self.now.nodes n }
     {
-        self.outline.nodes.as_slice()[n as usize].name.as_slice()
+        match self.outline.nodes.as_slice().get(n as usize) {
+            Some(node) => node.name.as_slice(),
+            None => b"",
+        }
     }
 
     /// The columns of a node's rows.

@@ -4,7 +4,7 @@ use Rattle.std.proofs.lemmas.List.{take-append-drop, take_more, map-append}
 use Rattle.pj_io.specs.Pieces.{GrewByLess}
 use Rattle.pj_io.specs.States.{SinkState}
 use Rattle.pj_report.specs.Written.{anywhere, between}
-use Rattle.pj_report.specs.Written.{flat, Cut, Leaves, WritesBy, WritesNothing}
+use Rattle.pj_report.specs.Written.{flat, Cut, Leaves, WritesBy}
 
 pub flat-append : (xs ys : List (List ℕ)) → flat (xs ++ ys) ≡ flat xs ++ flat ys
 flat-append [] ys = refl
@@ -15,9 +15,6 @@ piece_written lines old new piece is grew = grew ∙ ap (λ (xs : List ℕ). old
 
 pub piece_cut : (lines : List (List ℕ)) (before after piece : List ℕ) → flat lines ≡ piece → GrewByLess before after piece → Leaves anywhere lines before after
 piece_cut lines before after piece is grew = record { front = take grew.0 piece; others = drop grew.0 piece; all = take-append-drop grew.0 piece ∙ sym is; written = grew.1.grew }
-
-pub nothing_then : (old mid new : SinkState) → WritesNothing old mid → WritesNothing mid new → WritesNothing old new
-nothing_then old mid new a b = record { told = λ t. a.told (b.told t); same = λ t. b.same t ∙ a.same (b.told t); later = omega (arith, a.later, b.later) }
 
 -- nothing was written
 pub none_written : (cut : Cut) (lines : List (List ℕ)) (before : List ℕ) → Leaves cut lines before before

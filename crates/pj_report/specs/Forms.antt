@@ -1,5 +1,5 @@
 -- What is written of what is handed out, and when: as it comes, or in order at the end.
-use Rattle.std.specs.Prelude.{ℕ, List, [], ◌∷◌, ◌++◌, map, if◌then◌else◌}
+use Rattle.std.specs.Prelude.{◌≡◌, ℕ, List, [], ◌∷◌, ◌++◌, map, if◌then◌else◌}
 use Rattle.pj_pattern.specs.declared.element.Element.{Element}
 use Rattle.pj_pattern.specs.declared.element.Element.TheVariants.{Tuple, Punct}
 use Rattle.pj_element.specs.Runs.{rows_of, puncts_of}
@@ -55,3 +55,7 @@ kept_of Sorted es = record { rows = row_lines es; puncts = punct_lines es }
 -- the writer that has taken these elements
 abbrev pub taken_so_far : Form → List Element → ResultWriter
 taken_so_far form es = record { form = form; counts = counts_of es; kept = kept_of form es }
+
+-- a writer that had taken some elements has taken these behind them
+abbrev pub TakesMore : ResultWriter → ResultWriter → List Element → Type 0
+TakesMore old new more = (form : Form) (before : List Element) → old ≡ taken_so_far form before → new ≡ taken_so_far form (before ++ more)

@@ -1,6 +1,5 @@
 // The note of a row that a sweep removed.
 ghost use Rattle.std.specs.Prelude.{◌≡◌, OnOk};
-ghost use Rattle.pj_plan.specs.Canonical.{node_name as name_of_node};
 ghost use Rattle.pj_report.specs.Results.{input_name as name_of_input, purge_line};
 
 use pj_element::row_text;
@@ -21,25 +20,13 @@ pub(crate) fn purge_text(
 {
     text.truncate(0);
     text.append(b"# purge ")?;
-    text.append(node_name(plan, join))?;
+    text.append(plan.name(join))?;
     text.push(b' ')?;
     text.append(input_name(plan, join, input))?;
     text.push(b' ')?;
     row_text(alloc, row, text)?;
     text.push(b'\n')?;
     Ok(())
-}
-
-// The name of a node, by its number; empty where there is none.
-#[tactic(auto, using(crate::proofs::NodeNames::past_names))]
-fn node_name(plan: &Plan, node: u32) -> &[u8]
-    ensures { result.now ≡ name_of_node plan.now.nodes node }
-{
-    if node < plan.nodes() {
-        plan.name(node)
-    } else {
-        b""
-    }
 }
 
 // The name of the node that feeds an input of a node; empty where there is none.
@@ -51,7 +38,7 @@ fn input_name(plan: &Plan, node: u32, input: u32) -> &[u8]
         return b"";
     }
     match plan.node(node).input(input as usize) {
-        Some(number) => node_name(plan, number),
+        Some(number) => plan.name(number),
         None => b"",
     }
 }

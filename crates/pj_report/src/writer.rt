@@ -1,9 +1,9 @@
 // What becomes of what a run hands out.
-ghost use Rattle.std.specs.Prelude.{◌≡◌, ◌≤◌, ◌++◌, [], List, IsTrue, OnOk, Err};
+ghost use Rattle.std.specs.Prelude.{◌≡◌, ◌≤◌, [], List, IsTrue, OnOk, Err};
 ghost use Rattle.pj_pattern.specs.declared.element.Element.{Element};
 ghost use Rattle.pj_io.specs.Causes.{Rose};
 ghost use Rattle.pj_events.specs.Outcomes.{elements_out};
-ghost use Rattle.pj_report.specs.Forms.{shown, withheld, taken_so_far};
+ghost use Rattle.pj_report.specs.Forms.{shown, withheld, taken_so_far, TakesMore};
 ghost use Rattle.pj_report.specs.Written.{WritesBy, write_cut};
 ghost use Rattle.pj_report.specs.declared.writer.Form.{Form as FormOf};
 
@@ -71,7 +71,7 @@ impl ResultWriter {
     ) -> Result<(), WriteStop>
         ensures told { IsTrue (K.state out.new).told → IsTrue (K.state out.old).told }
         ensures lines { IsTrue (K.state out.new).told → WritesBy write_cut (shown self.old.form plan.now.nodes outs.now) (K.state out.old) (K.state out.new) result }
-        ensures taken { OnOk result ((form : FormOf) (before : List Element) → self.old ≡ taken_so_far form before → self.new ≡ taken_so_far form (before ++ elements_out outs.now)) }
+        ensures taken { OnOk result (TakesMore self.old self.new (elements_out outs.now)) }
         ensures form { self.new.form ≡ self.old.form }
         ensures later { (K.state out.old).faults ≤ (K.state out.new).faults }
         ensures fault { result ≡ Err WriteStop.Failed → Rose (K.state out.old).faults (K.state out.new).faults }

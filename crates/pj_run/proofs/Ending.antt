@@ -19,13 +19,14 @@ use Rattle.pj_laws.proofs.Histories.{outputs-append}
 use Rattle.pj_core.specs.Cores.{CoreState}
 use Rattle.pj_feed.specs.declared.feeds.Arrival.{Arrival}
 use Rattle.pj_report.specs.declared.writer.ResultWriter.{ResultWriter}
-use Rattle.pj_feed.specs.declared.stops.FeedStop.{FeedStop}
-use Rattle.pj_feed.specs.declared.stops.FeedWhy.{FeedWhy}
-use Rattle.pj_feed.specs.declared.stops.FeedWhy.TheVariants.{Intake, WriteFailed as FlushFailed}
+use Rattle.pj_run.specs.declared.stops.FeedStop.{FeedStop}
+use Rattle.pj_run.specs.declared.stops.FeedWhy.{FeedWhy}
+use Rattle.pj_run.specs.declared.stops.FeedWhy.TheVariants.{Intake, WriteFailed as FlushFailed}
+use Rattle.pj_run.specs.Feeding.{FeedEnds, StopsIn}
 use Rattle.pj_run.specs.declared.stops.TurnStop.{TurnStop}
 use Rattle.pj_run.specs.declared.stops.TurnStop.TheVariants.{Limit as TurnLimit, WriteFailed as TurnFailed, NoMemory as TurnMemory, Cut as TurnCut}
 use Rattle.pj_events.specs.declared.events.Stop.{Stop}
-use Rattle.pj_feed.specs.Feeds.{FeedState, files_of, AreFeeds, AreSameFeeds, AllTold, AllClosed, FeedEnds, StopsIn, BringsIn, Gives, turn_of, turn_in, tallies_in}
+use Rattle.pj_feed.specs.Feeds.{FeedState, files_of, AreFeeds, AreSameFeeds, AllTold, AllClosed, BringsIn, Gives, turn_of, turn_in, tallies_in}
 use Rattle.pj_feed.specs.Opened.{AreCounted}
 use Rattle.pj_report.specs.Forms.{shown}
 use Rattle.pj_run.specs.RunEnds.{TurnsCause}

@@ -2,7 +2,7 @@
 use Rattle.pj_run.specs.Jobs.{Job}
 use Rattle.pj_plan.specs.declared.node.PlanNode.{PlanNode}
 use Rattle.pj_plan.specs.Nodes.{stream_columns, streams_in}
-use Rattle.std.proofs.Common.{◌≡◌, ◌≤◌, ◌^◌, ℕ, inl, inr, List, [], ◌∷◌, ◌++◌, take, length, get_or, Err, IsTrue, refl, ap, ap₂, sym, ◌∙◌, subst, arith}
+use Rattle.std.proofs.Common.{◌≡◌, ◌≤◌, ◌+◌, ◌^◌, ℕ, inl, inr, List, [], ◌∷◌, ◌++◌, take, length, get_or, Err, IsTrue, refl, ap, ap₂, sym, ◌∙◌, subst, arith}
 use Rattle.std.specs.Prelude.{slice_index_or}
 use Rattle.std.proofs.Math.Seq.{take-append_seam}
 use Rattle.pj_io.specs.Causes.{Rose}
@@ -16,14 +16,14 @@ use Rattle.pj_run.specs.declared.stops.RunStop.TheVariants.{ReadFault, TooLarge,
 use Rattle.pj_run.specs.declared.stops.FilesStop.TheVariants.{Opening, Run}
 use Rattle.pj_feed.specs.Named.{AreTold, files_named}
 use Rattle.pj_feed.specs.Feeds.{FeedState, files_of, fed_elements, AreFeeds, AllTold}
-use Rattle.pj_feed.specs.Opened.{AreFeedsOf, StayOutside, names_in, NoneNamed, IsLast, HasLasts, OpensAtMost, IsFaultAt}
+use Rattle.pj_feed.specs.Opened.{AreFeedsOf, StayOutside, names_in, NoneNamed, IsLast, HasLasts, TriesAtMost, IsFaultAt}
 use Rattle.pj_run.specs.RunEnds.{AreRead, CutCause, FeedsCause, FeedsEnd, FilesCause, FilesEnd, FilesOpened}
 use Rattle.pj_run.specs.Runs.{GoesBeyond}
 use Rattle.pj_feed.specs.Opened.{AreReadToEnd}
 use Rattle.pj_run.specs.Turning.{TurnsEnd}
-use Rattle.pj_feed.proofs.Outside.{names_among, stay_then, stay_wider}
-use Rattle.pj_feed.proofs.AllFeeds.{all_same, one_of, same_at, same_long, told_still, told_at, bytes_of_feed}
-use Rattle.pj_feed.proofs.Opening.{AreNamed, agree_none, none_before, named_still, named_of, feeds_of, told_of, files_are, last_at_fault, last_read, keeps_of, opens_still, opens_most_still}
+use Rattle.pj_feed.proofs.Outside.{close_stays, close_tries}
+use Rattle.pj_feed.proofs.AllFeeds.{one_of, same_at, same_long, told_still, told_at, bytes_of_feed}
+use Rattle.pj_feed.proofs.Opening.{AreNamed, agree_none, none_before, named_still, named_of, feeds_of, told_of, files_are, last_at_fault, last_read, keeps_of, opens_still}
 
 -- ---- a run over files that were opened
 
@@ -141,13 +141,21 @@ open_end (Fault stream) job names old mid after feeds written of lasts same faul
     )
 open_end OpeningMemory job names old mid after feeds written of lasts same fault = tt
 
--- those before it were opened
-pub open_opened : (stop : OpeningStop) (names : List (List ℕ)) (old mid after : FolderState) (feeds : List FeedState) → OpensAtMost (length names) names old mid → ((stream : ℕ) → stop ≡ Fault stream → IsFaultAt stream names feeds old mid)
-    → SameEverywhere mid.opened after.opened → FilesOpened (Err (Opening stop)) names old after
-open_opened (Fault stream) names old mid after feeds some fault same = opens_still stream names old mid after (fault stream refl).opened same
-open_opened OpeningMemory names old mid after feeds some fault same = opens_most_still (length names) names old mid after some same
+-- its faults rose
+pub open_cause : (stop : OpeningStop) (job : Job) (names : List (List ℕ)) (old mid after : FolderState) (feeds : List FeedState) (sink sink' : SinkState) → ((stream : ℕ) → stop ≡ Fault stream → IsFaultAt stream names feeds old mid)
+    → NoneFalls mid.faults after.faults → FilesCause (Opening stop) job names old after sink sink'
+open_cause (Fault stream) job names old mid after feeds sink sink' fault falls =
+    let f = fault stream refl in
+    let up = falls (slice_index_or names stream []) in
+    let rose = f.rose in record { there = f.there; rose = omega (arith, up, rose) }
+open_cause OpeningMemory job names old mid after feeds sink sink' fault falls = tt
 
--- of other names nothing changes
-pub run_others : (streams : List PlanNode) (names : List (List ℕ)) (old mid after : FolderState) (feeds : List FeedState) → AreFeedsOf 0 streams names old feeds → StayOutside names old mid → StayOutside (names_in feeds) mid after
-    → StayOutside names old after
-run_others streams names old mid after feeds of opened closed = stay_then names old mid after opened (stay_wider (names_in feeds) names mid after (names_among 0 streams names old feeds feeds of (all_same feeds)) closed)
+-- those before it were opened, and no names behind it were touched
+pub open_opened : (stop : OpeningStop) (streams : List PlanNode) (names : List (List ℕ)) (old mid after : FolderState) (feeds : List FeedState) → AreFeedsOf 0 streams names old feeds → StayOutside (names_in feeds) mid after
+    → (tries : TriesAtMost (length names) names old mid) × (length feeds ≤ tries.count) → ((stream : ℕ) → stop ≡ Fault stream → IsFaultAt stream names feeds old mid) → SameEverywhere mid.opened after.opened
+    → FilesOpened (Err (Opening stop)) names old after
+open_opened (Fault stream) streams names old mid after feeds of closed tried fault same =
+    let f = fault stream refl in
+    let few = f.before in
+    (opens_still stream names old mid after f.opened same, close_stays 0 streams names old mid after feeds of closed (stream + 1) (omega (arith, few)) f.others)
+open_opened OpeningMemory streams names old mid after feeds of closed tried fault same = close_tries 0 streams names old mid after feeds of closed same tried

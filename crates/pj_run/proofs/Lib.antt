@@ -3,6 +3,7 @@ pub mod Accepting
 pub mod Arrivals
 pub mod Carried
 pub mod Ending
+pub mod FeedTurns
 pub mod FilesRun
 pub mod JoinNodes
 pub mod Keeping

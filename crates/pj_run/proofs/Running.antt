@@ -35,7 +35,7 @@ use Rattle.pj_feed.specs.declared.feeds.Arrival.TheVariants.{Brought, Closing}
 use Rattle.pj_report.specs.declared.writer.ResultWriter.{ResultWriter}
 use Rattle.pj_run.specs.declared.run.Gathered.{Gathered}
 use Rattle.pj_intake.specs.declared.intake.IntakeStop.TheVariants.{ReadFault as IntakeFault, ByteLimit, NoMemory as OutOfMemory}
-use Rattle.pj_feed.specs.Feeds.{FeedState, bytes_of, fed_elements, feed_left, feeds_left, brought, closes, turn_in, tallies_of, all_accepted, count_of, files_of, AreFeeds, AreNew, AreSameFeeds, AllTold, BringsIn, FeedEnds, StopsIn}
+use Rattle.pj_feed.specs.Feeds.{FeedState, bytes_of, fed_elements, feed_left, feeds_left, brought, closes, turn_in, tallies_of, all_accepted, count_of, files_of, AreFeeds, AreNew, AreSameFeeds, AllTold, BringsIn}
 use Rattle.pj_run.specs.Outcome.{AreAccepted, IsOutcome}
 use Rattle.pj_report.specs.Forms.{shown, taken_so_far}
 use Rattle.pj_run.specs.Runs.{accepted_rows, history_of, GoesBeyond, plan_run, run_nodes}
@@ -48,9 +48,10 @@ use Rattle.pj_events.specs.declared.events.Stop.{Stop}
 use Rattle.pj_events.specs.declared.events.Stop.TheVariants.{Limit as CoreLimit, NoMemory as CoreMemory}
 use Rattle.pj_run.specs.Ends.{EndsBefore, EndsAtLimit}
 use Rattle.pj_run.specs.Stops.{stop_at}
-use Rattle.pj_feed.specs.declared.stops.FeedStop.{FeedStop}
-use Rattle.pj_feed.specs.declared.stops.FeedWhy.{FeedWhy}
-use Rattle.pj_feed.specs.declared.stops.FeedWhy.TheVariants.{Intake, WriteFailed as FlushFailed}
+use Rattle.pj_run.specs.declared.stops.FeedStop.{FeedStop}
+use Rattle.pj_run.specs.declared.stops.FeedWhy.{FeedWhy}
+use Rattle.pj_run.specs.declared.stops.FeedWhy.TheVariants.{Intake, WriteFailed as FlushFailed}
+use Rattle.pj_run.specs.Feeding.{FeedEnds, StopsIn}
 use Rattle.pj_io.specs.States.{SinkState}
 use Rattle.pj_report.specs.Written.{anywhere, flat, Cut, FrontOf, Leaves}
 use Rattle.pj_report.proofs.LinesWritten.{stop_among, stop_then, written_then}

@@ -2,7 +2,7 @@
 use Rattle.pj_run.specs.Jobs.{Job}
 use Rattle.pj_plan.specs.declared.node.PlanNode.{PlanNode}
 use Rattle.pj_plan.specs.Nodes.{streams_of, streams_in}
-use Rattle.std.proofs.Common.{◌≡◌, ℕ, Bool, true, false, zero, suc, ◌+◌, ◌≤◌, ◌<◌, List, [], ◌∷◌, ◌++◌, length, take, drop, get_or, refl, ap, ap₂, sym, ◌∙◌, append_assoc, append-nil, arith}
+use Rattle.std.proofs.Common.{◌≡◌, ℕ, Bool, true, false, zero, suc, ◌+◌, ◌≤◌, ◌<◌, List, [], ◌∷◌, ◌++◌, length, take, drop, get_or, refl, ap, ap₂, sym, ◌∙◌, append_assoc, append-nil, subst, Result, arith}
 use Rattle.std.proofs.lemmas.List.{take_all}
 use Rattle.pj_element.specs.declared.tally.Tally.{Tally}
 use Rattle.pj_element.specs.Accepted.{tally_of, fates_of}
@@ -12,10 +12,16 @@ use Rattle.pj_value.specs.declared.values.Value.{Value}
 use Rattle.pj_events.specs.declared.events.Entry.{Entry}
 use Rattle.pj_core.specs.Plans.{RunPlan}
 use Rattle.pj_feed.specs.Feeds.{tallies_of}
-use Rattle.pj_run.specs.Outcome.{tally_lines, report_lines, IsOutcome}
+use Rattle.pj_run.specs.Outcome.{tally_lines, report_lines, Finishes, IsOutcome, WritesOf}
 use Rattle.pj_report.specs.Report.{stream_lines, results_line, results_text}
 use Rattle.pj_run.specs.Runs.{accepted_rows, check_in, streams_report, peaks_in, report_of, run_lines, history_of, outs_of, outputs_of, plan_run}
-use Rattle.pj_report.specs.Forms.{shown, withheld}
+use Rattle.pj_report.specs.Forms.{shown, taken_so_far, withheld}
+use Rattle.pj_report.specs.Written.{WritesBy, write_cut}
+use Rattle.pj_report.specs.declared.stops.WriteStop.{WriteStop}
+use Rattle.pj_report.specs.declared.writer.Form.{Form}
+use Rattle.pj_core.specs.Cores.{CoreState}
+use Rattle.pj_io.specs.States.{SinkState}
+use Rattle.pj_pattern.specs.declared.element.Element.{Element}
 use Rattle.pj_report.proofs.Forms.{all_shown}
 use Rattle.pj_feed.proofs.StreamNodes.{count_numbers}
 
@@ -71,6 +77,14 @@ report_is job files tallies gathered o =
     ++ check_in gathered.accepted.asked job.nodes gathered.accepted.lists.items) o.results
     ∙ ap (λ (ls : List (List ℕ)). streams_report (streams_in job.nodes) files ++ results_line (outputs_of job files) ∷ [] ++ peaks_in job.form plan history ++ ls)
     (checked gathered.accepted.asked job.check job.nodes gathered.accepted.lists.items (accepted_rows job files) o.asked o.rows))
+
+-- in whatever form the writer has taken these outputs
+pub finished : {T : Type 0} (form : Form) (outputs : List Element) (core : CoreState) (tallies : List Tally) (gathered : Gathered) (old new : SinkState) (result : Result T WriteStop) → gathered.results ≡ taken_so_far form outputs
+    → Finishes outputs core tallies gathered old new result → WritesOf (λ history. withheld form outputs ++ report_lines core.plan tallies gathered history) core old new result
+finished form outputs core tallies gathered old new result is finishes told history stands =
+    let same : gathered.results.form ≡ form = ap (λ (w : ResultWriter). w.form) is in
+    subst (λ (f : Form). WritesBy write_cut (withheld f outputs ++ report_lines core.plan tallies gathered history) old new result) same
+    (finishes (subst (λ (f : Form). gathered.results ≡ taken_so_far f outputs) (sym same) is) told history stands)
 
 -- what is written once all turns are made: the results that were withheld, and the report
 abbrev pub end_lines : Job → List (List ℕ) → List (List ℕ)

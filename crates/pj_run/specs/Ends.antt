@@ -12,7 +12,7 @@ use Rattle.pj_run.specs.Runs.{history_of, run_nodes}
 use Rattle.pj_report.specs.Forms.{shown}
 use Rattle.pj_report.specs.Written.{flat, FrontOf}
 
--- the lines that are written of what a history hands out, before the run's end
+-- the lines that are written of what a history hands out before the run's end: none where results are sorted
 abbrev pub lines_until : Job → List Entry → List ℕ
 lines_until job front = flat (shown job.form job.nodes (handed_out job.trace (run_nodes job) front))
 

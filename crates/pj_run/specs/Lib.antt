@@ -1,5 +1,6 @@
 pub mod Checking
 pub mod Ends
+pub mod Feeding
 pub mod Jobs
 pub mod Outcome
 pub mod PlanNames

@@ -61,6 +61,7 @@ abbrev pub ReportsPeaksIn : {T : Type 0} → Form → CoreState → SinkState �
 ReportsPeaksIn form core old new result = WritesOf (peaks_in form core.plan) core old new result
 
 -- where the sink is told: what is written once the turns are made, the lines that were withheld of these outputs and the report
-abbrev pub Finishes : {T : Type 0} → Form → List Element → CoreState → List Tally → Gathered → SinkState → SinkState → Result T WriteStop → Type 0
-Finishes form outputs core tallies gathered old new result =
+abbrev pub Finishes : {T : Type 0} → List Element → CoreState → List Tally → Gathered → SinkState → SinkState → Result T WriteStop → Type 0
+Finishes outputs core tallies gathered old new result =
+    let form = gathered.results.form in
     gathered.results ≡ taken_so_far form outputs → WritesOf (λ history. withheld form outputs ++ report_lines core.plan tallies gathered history) core old new result

@@ -1,5 +1,5 @@
 -- How a run over files ends, and why.
-use Rattle.std.specs.Prelude.{◌≡◌, ◌<◌, ◌≤◌, ◌^◌, ℕ, ⊤, List, [], length, Result, Ok, Err, Some, IsTrue, IfErr, slice_get, slice_index_or}
+use Rattle.std.specs.Prelude.{◌≡◌, ◌<◌, ◌≤◌, ◌+◌, ◌^◌, ℕ, ⊤, List, [], length, take, Result, Ok, Err, Some, IsTrue, IfErr, slice_get, slice_index_or}
 use Rattle.pj_run.specs.Jobs.{Job}
 use Rattle.pj_io.specs.Causes.{Rose}
 use Rattle.pj_io.specs.States.{FolderState, SinkState}
@@ -13,7 +13,7 @@ use Rattle.pj_run.specs.declared.stops.FilesStop.TheVariants.{Opening, Run}
 use Rattle.pj_feed.specs.Named.{AreTold, files_named, IsAlone}
 use Rattle.pj_run.specs.Ends.{EndsBefore, EndsAtBytes, EndsAtLimit, ArrivedOf}
 use Rattle.pj_feed.specs.Feeds.{FeedState, AreSameFeeds, AreAllTaken, AllTold, bytes_of, files_of}
-use Rattle.pj_feed.specs.Opened.{HasLasts, OpensFirst, OpensAtMost}
+use Rattle.pj_feed.specs.Opened.{HasLasts, OpensFirst, StayOutside, TriesAtMost}
 use Rattle.pj_run.specs.Runs.{GoesBeyond, run_lines}
 use Rattle.pj_run.specs.Turning.{CutEnd, TurnsEnd}
 use Rattle.pj_run.specs.Cuts.{run_cut, files_cut}
@@ -78,11 +78,11 @@ FeedsCause (Cut stop) job feeds before after old new = Rose old.faults new.fault
 
 -- ---- over files by their names
 
--- which files were opened: all, or those before the one that could not be
+-- which files were opened: all, or those before the one that could not be; then no names behind it were touched
 abbrev pub FilesOpened : Result (Unit {0}) FilesStop → List (List ℕ) → FolderState → FolderState → Type 0
 FilesOpened (Ok u) names before after = OpensFirst (length names) names before after
-FilesOpened (Err (Opening (Fault stream))) names before after = OpensFirst stream names before after
-FilesOpened (Err (Opening OpeningMemory)) names before after = OpensAtMost (length names) names before after
+FilesOpened (Err (Opening (Fault stream))) names before after = OpensFirst stream names before after × StayOutside (take (stream + 1) names) before after
+FilesOpened (Err (Opening OpeningMemory)) names before after = TriesAtMost (length names) names before after
 FilesOpened (Err (Run stop)) names before after = OpensFirst (length names) names before after
 
 -- where the files and the sink are told: all lines of the run over these files were written, or as much of them as the stop leaves

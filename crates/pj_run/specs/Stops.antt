@@ -5,9 +5,9 @@ use Rattle.pj_events.specs.declared.events.Stop.{Stop}
 use Rattle.pj_events.specs.declared.events.Stop.TheVariants.{Limit as CoreLimit, NoMemory as CoreMemory}
 use Rattle.pj_report.specs.declared.stops.WriteStop.{WriteStop}
 use Rattle.pj_report.specs.declared.stops.WriteStop.TheVariants.{Failed, NoMemory as WriteMemory}
-use Rattle.pj_feed.specs.declared.stops.FeedStop.{FeedStop}
-use Rattle.pj_feed.specs.declared.stops.FeedWhy.{FeedWhy}
-use Rattle.pj_feed.specs.declared.stops.FeedWhy.TheVariants.{Intake, WriteFailed as FlushFailed}
+use Rattle.pj_run.specs.declared.stops.FeedStop.{FeedStop}
+use Rattle.pj_run.specs.declared.stops.FeedWhy.{FeedWhy}
+use Rattle.pj_run.specs.declared.stops.FeedWhy.TheVariants.{Intake, WriteFailed as FlushFailed}
 use Rattle.pj_run.specs.declared.stops.TurnStop.{TurnStop}
 use Rattle.pj_run.specs.declared.stops.TurnStop.TheVariants.{Limit as TurnLimit, WriteFailed as TurnFailed, NoMemory as TurnMemory, Cut as TurnCut}
 use Rattle.pj_run.specs.declared.stops.RunStop.{RunStop}

@@ -62,7 +62,7 @@ pub record TurnDone (old new : CoreState) (turn : Turn) (before after : ResultWr
   pub taken : (form : Form) (es : List Element) → before ≡ taken_so_far form es → after ≡ taken_so_far form (es ++ elements_out outs)
 
 -- where the sink is told: behind each history that the core stands for and that the turn may follow, the lines of what the turn hands
--- out were written, as far as the form writes them as they come, or as much of them as the stop leaves
+-- out were written (none where results are sorted), or as much of them as the stop leaves
 abbrev pub TurnWrites : {T : Type 0} → Form → CoreState → Turn → SinkState → SinkState → Result T TurnStop → Type 0
 TurnWrites form core turn old new result =
     IsTrue new.told → (history : List Entry) → StandsFor core history → MayFollow core history (arrival_of turn)
@@ -76,7 +76,7 @@ pub record BreaksOff (core : CoreState) (history : List Entry) (turn : Turn) (no
   pub within : StaysWithin core.limit (nodes_in core) history front
   pub beyond : BeginsBeyond core.limit (nodes_in core) (history ++ front) back node
 
--- the lines of what these entries hand out behind the history, as far as they are written as they come
+-- the lines that are written of what these entries hand out behind the history: none where results are sorted
 abbrev pub lines_of : Form → CoreState → List Entry → List Entry → List (List ℕ)
 lines_of form core history front = shown form core.plan.nodes (outputs_of core.plan.trace (nodes_after core history) front)
 

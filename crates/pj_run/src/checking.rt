@@ -1,5 +1,5 @@
 // The rows that are kept for a check, and its line.
-ghost use Rattle.std.specs.Prelude.{◌≡◌, ◌≤◌, ◌<◌, true, length, IsTrue, IfOk, OnOk, Err};
+ghost use Rattle.std.specs.Prelude.{◌≡◌, ◌≤◌, ◌<◌, true, length, if◌then◌else◌, IsTrue, IfOk, OnOk, Err};
 ghost use Rattle.pj_io.specs.Causes.{Rose};
 ghost use Rattle.pj_report.specs.Written.{WritesBy, write_cut};
 ghost use Rattle.pj_run.specs.Checking.{HoldsNone, IsThere, with_arrival, with_element};
@@ -14,7 +14,7 @@ use pj_report::{WriteStop, write_check};
 use pj_value::{List, NoMemory, Row};
 use std::alloc::Global;
 
-/// The rows that were accepted of each stream, where a check asks for them.
+/// The rows that were accepted of each stream, where a check asks for them; else no lists.
 #[derive(Drop)]
 pub(crate) struct AcceptedRows {
     pub(crate) asked: bool,
@@ -22,14 +22,15 @@ pub(crate) struct AcceptedRows {
 }
 
 impl AcceptedRows {
-    /// No rows of so many streams.
+    /// No rows of so many streams, for each of which there is a list where rows are asked for.
     #[tactic(auto, using(crate::proofs::Keeping::none_more))]
     pub(crate) fn new(alloc: Global, asked: bool, streams: usize) -> Result<AcceptedRows, NoMemory>
         ensures asked { IfOk result (λ rows. rows.asked ≡ asked) }
-        ensures none { IfOk result (λ rows. HoldsNone streams rows.lists.items) }
+        ensures none { IfOk result (λ rows. HoldsNone (if asked then streams else 0) rows.lists.items) }
     {
-        let mut lists = Vec::with_capacity(alloc, streams)?;
-        for _ in 0..streams {
+        let count = if asked { streams } else { 0 };
+        let mut lists = Vec::with_capacity(alloc, count)?;
+        for _ in 0..count {
             lists.push(List::new(alloc))?;
         }
         Ok(AcceptedRows { asked, lists })
@@ -37,7 +38,7 @@ impl AcceptedRows {
 
     /// Keeps the row that a turn brings, if it brings one and rows are asked for.
     pub(crate) fn keep(&mut self, alloc: Global, next: &Arrival) -> Result<(), NoMemory>
-        requires there { IsThere next.now self.old.lists.items }
+        requires there { self.old.asked ≡ true → IsThere next.now self.old.lists.items }
         ensures asked { self.new.asked ≡ self.old.asked }
         ensures many { length self.new.lists.items ≡ length self.old.lists.items }
         ensures kept { OnOk result (self.old.asked ≡ true → self.new.lists.items ≡ with_arrival next.now self.old.lists.items) }

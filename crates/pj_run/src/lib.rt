@@ -2,6 +2,7 @@
 #![tactic(auto)]
 
 mod checking;
+mod feeding;
 mod report;
 mod run;
 mod status;

@@ -1,21 +1,19 @@
 // The run of a plan over its files.
 ghost use Rattle.std.specs.Prelude.{◌≡◌, ◌≤◌, List, [], length, IsTrue, IfErr, IfOk, OnOk, Err, Some};
 ghost use Rattle.pj_pattern.specs.declared.element.Element.{Element};
-ghost use Rattle.pj_report.specs.declared.writer.Form.{Form as FormOf};
 ghost use Rattle.pj_plan.specs.Nodes.{streams_in};
 ghost use Rattle.pj_io.specs.Causes.{Rose};
 ghost use Rattle.pj_io.specs.Folders.{NoneFalls, SameEverywhere};
-ghost use Rattle.pj_report.specs.Forms.{shown, taken_so_far};
+ghost use Rattle.pj_report.specs.Forms.{shown};
 ghost use Rattle.pj_core.specs.Cores.{StandsFor};
 ghost use Rattle.pj_feed.specs.Feeds.{AreFeeds, AreNew, AreSameFeeds, AllTold, AreAllTaken, files_of, tallies_in};
-ghost use Rattle.pj_feed.specs.Opened.{AreOpened, StayOutside, StayReadToEnd, names_in};
+ghost use Rattle.pj_feed.specs.Opened.{AreOpened, AreReadToEnd, StayOutside, StayReadToEnd, names_in};
 ghost use Rattle.pj_run.specs.Outcome.{Finishes, IsOutcome};
 ghost use Rattle.pj_run.specs.RunEnds.{AreRead, FeedsCause, FeedsWrite, FilesCause, FilesOpened, FilesWrite, StoppedFeeds, StoppedFiles, StoppedTurns, TurnsCause};
 ghost use Rattle.pj_run.specs.Runs.{IsNewCore, history_of, job_in, outs_of, run_lines};
-ghost use Rattle.pj_feed.specs.Opened.{AreReadToEnd};
-ghost use Rattle.pj_report.specs.Written.{WritesBy, write_cut};
 
 use crate::checking::AcceptedRows;
+use crate::feeding::next_turn;
 use crate::report::write_report;
 use crate::stops::{FilesStop, RunStop};
 use crate::turns::take_turn;
@@ -132,7 +130,7 @@ fn finish<K: Sink>(
     requires on { core.now.kept.stop ≡ None }
     requires each { length tallies.now ≡ length (streams_in core.now.plan.nodes) }
     ensures told { IsTrue (K.state out.new).told → IsTrue (K.state out.old).told }
-    ensures lines { (form : FormOf) (outputs : List Element) → Finishes form outputs core.now tallies.now gathered.now (K.state out.old) (K.state out.new) result }
+    ensures lines { (outputs : List Element) → Finishes outputs core.now tallies.now gathered.now (K.state out.old) (K.state out.new) result }
     ensures handed_on { OnOk result ((K.state out.new).held ≡ []) }
     ensures later { (K.state out.old).faults ≤ (K.state out.new).faults }
     ensures fault { result ≡ Err WriteStop.Failed → Rose (K.state out.old).faults (K.state out.new).faults }
@@ -170,7 +168,7 @@ fn run_streams<S: Source, K: Sink>(
 {
     let mut results = ResultWriter::new(alloc, writing.form);
     let mut accepted = AcceptedRows::new(alloc, writing.check, feeds.feeds.as_slice().len())?;
-    while let Some(next) = feeds.next(out)? {
+    while let Some(next) = next_turn(feeds, out)? {
         accepted.keep(alloc, &next)?;
         take_turn(alloc, core, next, &mut results, text, out)?;
     }

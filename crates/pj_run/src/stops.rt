@@ -2,10 +2,27 @@
 ghost use Rattle.std.specs.Prelude.{◌≡◌};
 
 use pj_events::Stop;
-use pj_feed::{FeedStop, FeedWhy, OpeningStop};
+use pj_feed::OpeningStop;
 use pj_intake::IntakeStop;
+use pj_io::Failed;
 use pj_report::WriteStop;
 use pj_value::NoMemory;
+
+/// Why the next turn of a stream was not had.
+#[derive(Clone, Copy, Debug, PartialEq, Eq)]
+pub(crate) enum FeedWhy {
+    /// Its intake stopped.
+    Intake(IntakeStop),
+    /// The output failed, as what it holds back was to be handed on before a read.
+    WriteFailed,
+}
+
+/// Why the next turn of a stream, counted from 0, was not had.
+#[derive(Clone, Copy, Debug, PartialEq, Eq)]
+pub(crate) struct FeedStop {
+    pub(crate) stream: u32,
+    pub(crate) why: FeedWhy,
+}
 
 /// Why a turn was not made to its end, or its lines were not written.
 #[derive(Clone, Copy, Debug, PartialEq, Eq)]
@@ -44,6 +61,16 @@ pub enum FilesStop {
     Opening { stop: OpeningStop },
     /// All were, and the run ended.
     Run { stop: RunStop },
+}
+
+impl From<Failed> for FeedWhy {
+    ghost use Rattle.pj_run.specs.declared.stops.FeedWhy.TheVariants.{WriteFailed as FlushFailed};
+
+    ghost from_gives = { λ _ why. why ≡ FlushFailed };
+
+    fn from(_: Failed) -> FeedWhy {
+        FeedWhy::WriteFailed
+    }
 }
 
 impl From<WriteStop> for TurnStop {

@@ -1,13 +1,7 @@
 // Turns of a core, and the lines of what they hand out.
-ghost use Rattle.std.specs.Prelude.{◌≡◌, ◌≤◌, ◌++◌, [], List, None, IsTrue, IfErr, IfOk, OnOk, Err};
-ghost use Rattle.pj_plan.specs.declared.node.PlanNode.{PlanNode};
+ghost use Rattle.std.specs.Prelude.{◌≡◌, ◌≤◌, [], None, IsTrue, IfErr, IfOk, OnOk, Err};
 ghost use Rattle.pj_plan.specs.Nodes.{streams_in};
-ghost use Rattle.pj_pattern.specs.declared.element.Element.{Element};
 ghost use Rattle.pj_events.specs.declared.events.Stop.{Stop as CoreStop};
-ghost use Rattle.pj_events.specs.Outcomes.{elements_out};
-ghost use Rattle.pj_report.specs.declared.writer.Form.{Form};
-ghost use Rattle.pj_report.specs.Forms.{shown, taken_so_far};
-ghost use Rattle.pj_report.specs.Written.{WritesBy, write_cut};
 ghost use Rattle.pj_io.specs.Causes.{Rose};
 ghost use Rattle.pj_core.specs.Calls.{IsTurnRefused, MakesTurn};
 ghost use Rattle.pj_feed.specs.Feeds.{turn_in};
@@ -50,7 +44,7 @@ pub fn take_turn<K: Sink>(
     ensures cut { (stop : CoreStop) → result ≡ Err (TurnStop.Cut stop) → Rose (K.state out.old).faults (K.state out.new).faults }
 {
     let handed = turn_core(core, next);
-    let written = write_handed(alloc, core, handed.outs.as_slice(), results, text, out);
+    let written = results.take(alloc, core.plan(), handed.outs.as_slice(), text, out);
     turn_end(written, handed.stop)
 }
 
@@ -69,25 +63,6 @@ fn turn_end(written: Result<(), WriteStop>, stop: Option<Stop>) -> Result<(), Tu
             Err(WriteStop::NoMemory) => Err(TurnStop::NoMemory),
         },
     }
-}
-
-// Gives what the core handed out to the writer.
-fn write_handed<K: Sink>(
-    alloc: Global,
-    core: &Core,
-    outs: &[Out],
-    results: &mut ResultWriter,
-    text: &mut Items<u8>,
-    out: &mut K,
-) -> Result<(), WriteStop>
-    ensures told { IsTrue (K.state out.new).told → IsTrue (K.state out.old).told }
-    ensures lines { (nodes : List PlanNode) → core.now.plan.nodes ≡ nodes → IsTrue (K.state out.new).told → WritesBy write_cut (shown results.old.form nodes outs.now) (K.state out.old) (K.state out.new) result }
-    ensures taken { OnOk result ((form : Form) (before : List Element) → results.old ≡ taken_so_far form before → results.new ≡ taken_so_far form (before ++ elements_out outs.now)) }
-    ensures form { results.new.form ≡ results.old.form }
-    ensures later { (K.state out.old).faults ≤ (K.state out.new).faults }
-    ensures fault { result ≡ Err WriteStop.Failed → Rose (K.state out.old).faults (K.state out.new).faults }
-{
-    results.take(alloc, core.plan(), outs, text, out)
 }
 
 // What a turn handed out, and why the core stopped in it, if it did.

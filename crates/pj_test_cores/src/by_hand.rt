@@ -2,8 +2,8 @@
 use crate::cores::{
     Given, bring, cert, close, element, number_in, punct_of, step, takes, told_at, tuple_of,
 };
-use pj_alone::{Judged, judge};
 use pj_core::{Core, Out};
+use pj_judge::{Judged, judge};
 use pj_plan::Plan;
 use pj_plan_text::read_plan;
 use pj_safe_core::verified_core;

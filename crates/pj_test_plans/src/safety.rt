@@ -1,5 +1,5 @@
 // What no clause says: that plans are judged with ample memory, and that the definitions mean the format.
-use pj_alone::{Judged, Unsafe, check_text, judge};
+use pj_judge::{Judged, Unsafe, check_text, judge};
 use pj_plan::{Plan, PlanStop};
 use pj_plan_text::read_plan;
 use pj_safety::PlanRisk;

@@ -4,6 +4,8 @@
 #[cfg(test)]
 mod live;
 #[cfg(test)]
+mod operators;
+#[cfg(test)]
 mod options;
 #[cfg(test)]
 mod runs;

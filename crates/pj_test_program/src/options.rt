@@ -74,6 +74,28 @@ fn rows_that_sweeps_remove_are_noted_in_a_trace(rt: HostRuntime) -> Result<(), F
     Ok(())
 }
 
+const CHECKED: &[u8] =
+    b"t 1 \"ann\" 1 50\np * * 1 *\np 1 * * *\np * * * *\np * * * *\n# stream items tuples 1 punctuations 1 rejected 0\n# stream bids tuples 1 punctuations 1 rejected 1\n# reject bids line 3 closed by line 2\n# results 1 punctuations 4\n# peak j 2\n# check 1\n";
+
+const TRACED_AND_CHECKED: &[u8] =
+    b"t 1 \"ann\" 1 50\n# purge j bids t 1 50\np * * 1 *\n# purge j items t 1 \"ann\"\np 1 * * *\np * * * *\np * * * *\n# stream items tuples 1 punctuations 1 rejected 0\n# stream bids tuples 1 punctuations 1 rejected 1\n# reject bids line 3 closed by line 2\n# results 1 punctuations 4\n# peak j 2\n# check 1\n";
+
+// A rejected row is not among those that the check goes over.
+#[test]
+fn a_check_goes_over_accepted_rows(rt: HostRuntime) -> Result<(), Fail> {
+    for (command, want) in [
+        ("run --check plan items bids", CHECKED),
+        ("run --check plan items bids --trace", TRACED_AND_CHECKED),
+        (
+            "run --workers 0 --trace plan items bids --check",
+            TRACED_AND_CHECKED,
+        ),
+    ] {
+        assert!(rt; ends(&rt, command, ITEMS, BIDS, 0, want)?, "at {command}");
+    }
+    Ok(())
+}
+
 // The items' punctuation comes before the result and waits until the last sweep.
 const WAITING_BIDS: &[u8] = b"p 9 *\nt 1 50\n";
 
@@ -97,11 +119,11 @@ fn waits_so(rt: &HostRuntime, command: &str, results: &[u8], rest: &[u8]) -> Res
 fn results_are_sorted_and_checked_where_it_is_asked_for(rt: HostRuntime) -> Result<(), Fail> {
     let sorted = WAITING_SORTED;
     let run = WAITING_RUN;
-    assert!(rt; waits_so(&rt, "run --sorted plan items bids", sorted, b"")?);
+    assert!(rt; waits_so(&rt, "run --workers 0 --sorted plan items bids", sorted, b"")?);
     assert!(rt;
         waits_so(
             &rt,
-            "run --sorted --check plan items bids",
+            "run --workers 0 --sorted --check plan items bids",
             sorted,
             b"# check 1\n"
         )?
@@ -117,17 +139,18 @@ fn results_are_sorted_and_checked_where_it_is_asked_for(rt: HostRuntime) -> Resu
     Ok(())
 }
 
-const THREE_ITEMS: &[u8] = b"t 2 \"bob\"\nt 10 \"eve\"\nt 1 \"ann\"\n";
+const THREE_ITEMS: &[u8] = b"t 10 \"eve\"\nt 2 \"bob\"\nt 1 \"ann\"\n";
 
-const FOUR_BIDS: &[u8] = b"t 2 60\nt 10 70\nt 1 50\nt 1 50\n";
+const FOUR_BIDS: &[u8] = b"t 10 70\nt 2 60\nt 1 50\nt 1 50\n";
 
-// The order is that of the lines' bytes, and a row that is there twice is written twice.
+// The order is that of the lines' bytes, neither that in which they come nor its reverse, and a row that is there twice is written
+// twice.
 const FOUR_SORTED: &[u8] =
     b"t 1 \"ann\" 1 50\nt 1 \"ann\" 1 50\nt 10 \"eve\" 10 70\nt 2 \"bob\" 2 60\np * * * *\np * * * *\n# stream items tuples 3 punctuations 0 rejected 0\n# stream bids tuples 4 punctuations 0 rejected 0\n# results 4 punctuations 2\n# check 4\n";
 
 #[test]
 fn sorted_lines_are_in_order_of_their_bytes(rt: HostRuntime) -> Result<(), Fail> {
-    let command = "run plan --check --sorted items bids";
+    let command = "run plan --check --sorted --workers 0 items bids";
     assert!(rt; ends(&rt, command, THREE_ITEMS, FOUR_BIDS, 0, FOUR_SORTED)?);
     Ok(())
 }
@@ -145,6 +168,23 @@ fn breaks_off(rt: &HostRuntime, fails: u64, left: usize) -> Result<bool, Fail> {
     Ok(status.number() == 4 && FOUR_SORTED.starts_with(out.bytes()) && out.bytes().len() == left)
 }
 
+const SOME_RESULTS: &[u8] = b"t 10 \"eve\" 10 70\n";
+
+// Whether a run of which the second read of `items` fails ends with these lines and the status' line.
+fn stops_unread(rt: &HostRuntime, command: &str, lines: &[u8]) -> Result<bool, Fail> {
+    let alloc = rt.alloc();
+    let mut folder = MemFolder::new(alloc, &[])?;
+    folder.add(alloc, b"plan", AUCTION, 100, &[])?;
+    folder.add(alloc, b"items", THREE_ITEMS, 12, &[1])?;
+    folder.add(alloc, b"bids", FOUR_BIDS, 100, &[])?;
+    let mut out = sink_of(alloc, &[])?;
+    let status = run_in(rt, command, &mut folder, &mut out)?;
+    let mut want = List::new(alloc);
+    want.append(lines)?;
+    want.append(b"# stopped read fault operand 2\n")?;
+    Ok(status.number() == 3 && out.bytes() == want.as_slice())
+}
+
 #[test]
 fn a_sorted_run_that_stops_writes_nothing_before_its_end(rt: HostRuntime) -> Result<(), Fail> {
     let limited = b"# stopped limit node j\n".as_slice();
@@ -153,6 +193,8 @@ fn a_sorted_run_that_stops_writes_nothing_before_its_end(rt: HostRuntime) -> Res
     assert!(rt; breaks_off(&rt, 0, 0)?);
     assert!(rt; breaks_off(&rt, 2, 30)?);
     assert!(rt; breaks_off(&rt, 9, FOUR_SORTED.len() - 10)?);
+    assert!(rt; stops_unread(&rt, "run --sorted plan items bids", b"")?);
+    assert!(rt; stops_unread(&rt, "run --check plan items bids", SOME_RESULTS)?);
     Ok(())
 }
 

@@ -1,6 +1,7 @@
 // What no clause says: the exact bytes of worked files, whatever the pieces of the reads, and every failure in turn.
 ghost use Rattle.std.specs.Prelude.{[], false};
 
+use crate::operators::runs;
 use pj_engine::{Status, run_words};
 use pj_io::{Failed, MemFolder, MemSink, Sink};
 use pj_line::first_piece;
@@ -247,96 +248,6 @@ fn three_streams_are_joined(rt: HostRuntime) -> Result<(), Fail> {
     let status = run_in(&rt, "run plan a b c", &mut folder, &mut out)?;
     assert_eq!(rt; status, Status::Done);
     assert_eq!(rt; out.bytes(), THREE_OUT);
-    Ok(())
-}
-
-// Whether the run of a plan over these files, as many as it has streams, ends well and writes this.
-fn runs(
-    rt: &HostRuntime,
-    command: &str,
-    plan: &[u8],
-    files: [&[u8]; 3],
-    want: &[u8],
-) -> Result<bool, Fail> {
-    let alloc = rt.alloc();
-    let [a, b, c] = files;
-    let mut folder = MemFolder::new(alloc, &[])?;
-    folder.add(alloc, b"plan", plan, 100, &[])?;
-    folder.add(alloc, b"a", a, 7, &[])?;
-    folder.add(alloc, b"b", b, 1, &[])?;
-    folder.add(alloc, b"c", c, 100, &[])?;
-    let mut out = sink_of(alloc, &[])?;
-    let status = run_in(rt, command, &mut folder, &mut out)?;
-    Ok(status == Status::Done && out.bytes() == want)
-}
-
-#[test]
-fn selects_projects_and_unions_run(rt: HostRuntime) -> Result<(), Fail> {
-    for (command, plan, files, want) in [
-        (
-            "run plan a",
-            b"plan 1\nstream s k:int v:text\nselect f s where k [1..9] k [3..]\nproject g f v\noutput g\n".as_slice(),
-            [
-                b"t 5 \"a\"\nt 12 \"b\"\np * \"a\"\np 5 *\nt 6 \"a\"\n".as_slice(),
-                b"",
-                b"",
-            ],
-            b"t \"a\"\np \"a\"\np *\n# stream s tuples 2 punctuations 2 rejected 1\n# reject s line 5 closed by line 3\n# results 1 punctuations 2\n".as_slice(),
-        ),
-        (
-            "run plan a b",
-            b"plan 1\nstream l v:int\nstream r w:int\nunion u l r\noutput u\n",
-            [b"t 5\np [1..9]\n", b"t 5\np 5\n", b""],
-            b"t 5\nt 5\np 5\np [1..9]\np *\np *\n# stream l tuples 1 punctuations 1 rejected 0\n# stream r tuples 1 punctuations 1 rejected 0\n# results 2 punctuations 4\n",
-        ),
-    ] {
-        assert!(rt; runs(&rt, command, plan, files, want)?);
-    }
-    Ok(())
-}
-
-// A group's row goes out once a punctuation closes it: one on another column than the group's closes none. A sum is exact and
-// stops at the bounds of 64 bits, both ways.
-#[test]
-fn groups_run(rt: HostRuntime) -> Result<(), Fail> {
-    for (plan, file, want) in [
-        (
-            b"plan 1\nstream bids item:int price:int\ngroup g bids by item of n=count total=sum:price\noutput g\n".as_slice(),
-            b"t 1 50\nt 2 7\nt 1 60\np * 50\np 1 *\nt 2 9223372036854775807\n".as_slice(),
-            b"t 1 2 110\np 1 * *\nt 2 2 9223372036854775807\np * * *\n# stream bids tuples 4 punctuations 2 rejected 0\n# results 2 punctuations 2\n".as_slice(),
-        ),
-        (
-            b"plan 1\nstream s k:int v:text n:int\ngroup g s by k of low=min:v high=max:v total=sum:n\noutput g\n",
-            b"t 1 \"b\" 9223372036854775807\nt 1 \"\" 9223372036854775807\nt 2 \"x\" -9223372036854775808\nt 1 \"ba\" -1\nt 2 \"X\" -9223372036854775808\np 2 * *\n",
-            b"t 2 \"X\" \"x\" -9223372036854775808\np 2 * * *\nt 1 \"\" \"ba\" 9223372036854775807\np * * * *\n# stream s tuples 5 punctuations 1 rejected 0\n# results 2 punctuations 2\n",
-        ),
-    ] {
-        assert!(rt; runs(&rt, "run plan a", plan, [file, b"", b""], want)?);
-    }
-    Ok(())
-}
-
-// A join over a join, and a join over a select below a project and a group.
-#[test]
-fn trees_of_operators_run(rt: HostRuntime) -> Result<(), Fail> {
-    for (plan, files, want) in [
-        (
-            b"plan 1\nstream a x:int\nstream b y:int\nstream c z:int\nscheme a +\nscheme b +\nscheme c +\njoin j a b on x=y\njoin k j c on y=z\noutput k\n".as_slice(),
-            [b"t 1\n".as_slice(), b"t 1\n", b"t 1\n"],
-            b"t 1 1 1\np * * *\np * * *\np * * *\n# stream a tuples 1 punctuations 0 rejected 0\n# stream b tuples 1 punctuations 0 rejected 0\n# stream c tuples 1 punctuations 0 rejected 0\n# results 1 punctuations 3\n# peak j 2\n# peak k 2\n".as_slice(),
-        ),
-        (
-            b"plan 1\n# orders paid and shipped\nstream orders oid:int cust:text\nstream pays poid:int amount:int\nstream ships soid:int depot:text\nscheme orders + _\nscheme pays + _\nscheme ships + _\nselect big pays where amount [10..]\njoin j orders big ships on oid=poid=soid\nproject p j oid cust amount\ngroup g p by oid cust of paid=sum:amount\noutput g\n",
-            [
-                b"t 1 \"ann\"\np 1 *\nt 2 \"bob\"\np 2 *\n",
-                b"t 1 40\nt 1 5\nt 1 60\np 1 *\n",
-                b"t 1 \"east\"\np [..9] *\n",
-            ],
-            b"t 1 \"ann\" 100\np 1 * *\np * * *\np * * *\np 2 * *\np * * *\n# stream orders tuples 2 punctuations 2 rejected 0\n# stream pays tuples 3 punctuations 1 rejected 0\n# stream ships tuples 1 punctuations 1 rejected 0\n# results 1 punctuations 5\n# peak j 4\n",
-        ),
-    ] {
-        assert!(rt; runs(&rt, "run plan a b c", plan, files, want)?);
-    }
     Ok(())
 }
 

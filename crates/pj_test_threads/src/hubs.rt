@@ -9,10 +9,10 @@ ghost use Rattle.pj_hub.specs.Seated.{AreNewSeats, hub_made, hub_seats};
 ghost use Rattle.pj_turn.specs.Seats.{IsNewSeat, IsSeat, seat_name, seat_number};
 ghost use Rattle.pj_test_threads.specs.Auctions.{HasJoin, IsAuction, IsAuctionPlan, IsHeld, IsPair, bid_domains, item_domains};
 
-use pj_alone::{Judged, judge};
 use pj_core::{Out, Probe, Stop};
 use pj_element::{punct_text, row_text};
 use pj_hub::{CoreHub, HubSeat};
+use pj_judge::{Judged, judge};
 use pj_pattern::{Element, Pattern, Punct};
 use pj_plan::{Node, Plan};
 use pj_plan_text::read_plan;

@@ -19,13 +19,14 @@ pub enum Request {
         plan: Bytes,
         /// FILE, the names of the inputs in their order; at least one.
         files: List<Bytes>,
-        /// `--workers N`, how many threads look for partners; 0 is one thread for all, the only value and the default.
+        /// `--workers N`, how many threads look for partners besides the one that reads and writes. Only 0 is there, the default.
         workers: u32,
         /// `--sorted`, the rows are written sorted and before all punctuations; by default as they come. Not together with `trace`.
         sorted: bool,
         /// `--trace`, removed rows are told among the output; by default they are not.
         trace: bool,
-        /// `--check`, the rows are compared with the plan's answer over the whole inputs; by default they are not.
+        /// `--check`, the report tells how many rows the plan's answer over the accepted rows has, worked out again; by default it does
+        /// not.
         check: bool,
         /// `--limit N`, how many elements may arrive at a join or group, 1 to 1099511627776, which is the default.
         limit: u64,

@@ -1,47 +1,93 @@
-use Rattle.std.proofs.Common.{◌≡◌, ap, Err, ℕ, Option, subst, sym}
+use Rattle.std.proofs.Common.{◌≡◌, sym, subst, Option}
 use Rattle.pj_words.specs.declared.request.Request.{Request}
-use Rattle.pj_report.specs.declared.status.Status.TheVariants.{Done, OpenFault, ReadFault, Limit}
-use Rattle.pj_report.specs.declared.status.LimitOf.TheVariants.{File}
-use Rattle.pj_run.specs.Runs.{AreTallies}
-use Rattle.pj_engine.specs.Commands.{command_by, command_of, wanted, Command}
-use Rattle.pj_engine.specs.Top.{AnswersRefusal, HasFault, IsTooLarge, IsUnopened, Ran}
-use Rattle.pj_engine.proofs.EarlyLaws.{early_lines}
-use Rattle.pj_engine.proofs.Refusing.{unprepared_words}
-use Rattle.pj_engine.proofs.StaysLaws.{never_early}
+use Rattle.pj_alone.specs.Calls.{call_by, call_for, wanted}
+use Rattle.pj_alone.specs.Endings.{ending_of, Ending}
+use Rattle.pj_alone.specs.Promises.{Answers, AnswersRefusals, Ends, IsCompleted, IsRightCount, IsRightFault, IsRightFileLimit, IsRightLimit, IsRightlyDone, IsRightlyUnsafe, IsRightOpenFault, IsRightPlanLimit, IsRightReadFault, IsRightUsage, IsRightWriteFault, Punctuates, ReadsToEnd, RetractsNothing, StaysLawful, Tallies, WritesOneThread}
+use Rattle.pj_alone.specs.declared.stops.PlanStop.TheVariants.{Usage as NoWords, NoMemory as PlanMemory}
+use Rattle.pj_alone.proofs.StaysLaws.{never_early}
+use Rattle.pj_engine.specs.Words.{call_of}
+use Rattle.pj_engine.proofs.top.run_words.Given.{Over}
+use Rattle.pj_engine.proofs.top.run_words.Goals.{After-run_alone}
 use Rattle.pj_engine.proofs.top.run_words.Goals as goal
 
--- ---- words of a request: what is so of the request is so of the words
+-- ---- words of a request: what is so of the request's call is so of theirs
+
+said : (g : Over) (c : After-run_alone g) (P : Ending → Type 0)
+    → P (ending_of (call_for c.in-Ok.request (g.F.Folder.state c.args.folder.now)) c.run_alone.result (g.F.Folder.state c.run_alone.new.folder) (g.K.Sink.state c.args.out.now) (g.K.Sink.state c.run_alone.new.out))
+    → P (ending_of (call_of c.args.words.now (g.F.Folder.state c.args.folder.now)) c.run_alone.result (g.F.Folder.state c.run_alone.new.folder) (g.K.Sink.state c.args.out.now) (g.K.Sink.state c.run_alone.new.out))
+said g c P so =
+    subst (λ (asked : Option Request). P (ending_of (call_by (wanted asked) (g.F.Folder.state c.args.folder.now)) c.run_alone.result (g.F.Folder.state c.run_alone.new.folder) (g.K.Sink.state c.args.out.now) (g.K.Sink.state c.run_alone.new.out)))
+    (sym c.in-Ok.ensures.ok) so
+
+pub returns-in-Ok-clause-answer : goal.returns-in-Ok-clause-answer
+returns-in-Ok-clause-answer g c = said g (goal.at.returns-in-Ok-clause-answer g c).After-run_alone Answers c.run_alone.ensures.answer
+
+pub returns-in-Ok-clause-punctuations : goal.returns-in-Ok-clause-punctuations
+returns-in-Ok-clause-punctuations g c = said g (goal.at.returns-in-Ok-clause-punctuations g c).After-run_alone Punctuates c.run_alone.ensures.punctuations
+
+pub returns-in-Ok-clause-lawful : goal.returns-in-Ok-clause-lawful
+returns-in-Ok-clause-lawful g c = said g (goal.at.returns-in-Ok-clause-lawful g c).After-run_alone StaysLawful c.run_alone.ensures.lawful
+
+pub returns-in-Ok-clause-one_thread_bytes : goal.returns-in-Ok-clause-one_thread_bytes
+returns-in-Ok-clause-one_thread_bytes g c = said g (goal.at.returns-in-Ok-clause-one_thread_bytes g c).After-run_alone WritesOneThread c.run_alone.ensures.one_thread_bytes
 
 pub returns-in-Ok-clause-tallies : goal.returns-in-Ok-clause-tallies
-returns-in-Ok-clause-tallies g c =
-    subst (λ (command : Command). c.run_alone.result ≡ Done → Ran AreTallies command (g.K.Sink.state c.args.out.now) (g.K.Sink.state c.run_alone.new.out))
-    (sym (ap (λ (asked : Option Request). command_by (wanted asked) (g.F.Folder.state c.args.folder.now)) c.in-Ok.ensures.ok)) c.run_alone.ensures.tallies
+returns-in-Ok-clause-tallies g c = said g (goal.at.returns-in-Ok-clause-tallies g c).After-run_alone Tallies c.run_alone.ensures.tallies
+
+pub returns-in-Ok-clause-read_to_end : goal.returns-in-Ok-clause-read_to_end
+returns-in-Ok-clause-read_to_end g c = said g (goal.at.returns-in-Ok-clause-read_to_end g c).After-run_alone ReadsToEnd c.run_alone.ensures.read_to_end
+
+pub returns-in-Ok-clause-ending : goal.returns-in-Ok-clause-ending
+returns-in-Ok-clause-ending g c = said g (goal.at.returns-in-Ok-clause-ending g c).After-run_alone Ends c.run_alone.ensures.ending
+
+pub returns-in-Ok-clause-never_retracted : goal.returns-in-Ok-clause-never_retracted
+returns-in-Ok-clause-never_retracted g c = said g (goal.at.returns-in-Ok-clause-never_retracted g c).After-run_alone RetractsNothing c.run_alone.ensures.never_retracted
+
+pub returns-in-Ok-clause-cause_of_done : goal.returns-in-Ok-clause-cause_of_done
+returns-in-Ok-clause-cause_of_done g c = said g (goal.at.returns-in-Ok-clause-cause_of_done g c).After-run_alone IsRightlyDone c.run_alone.ensures.cause_of_done
+
+pub returns-in-Ok-clause-cause_of_usage : goal.returns-in-Ok-clause-cause_of_usage
+returns-in-Ok-clause-cause_of_usage g c = said g (goal.at.returns-in-Ok-clause-cause_of_usage g c).After-run_alone IsRightUsage c.run_alone.ensures.cause_of_usage
+
+pub returns-in-Ok-clause-cause_of_plan_limit : goal.returns-in-Ok-clause-cause_of_plan_limit
+returns-in-Ok-clause-cause_of_plan_limit g c = said g (goal.at.returns-in-Ok-clause-cause_of_plan_limit g c).After-run_alone IsRightPlanLimit c.run_alone.ensures.cause_of_plan_limit
+
+pub returns-in-Ok-clause-cause_of_plan_refused : goal.returns-in-Ok-clause-cause_of_plan_refused
+returns-in-Ok-clause-cause_of_plan_refused g c = said g (goal.at.returns-in-Ok-clause-cause_of_plan_refused g c).After-run_alone IsRightFault c.run_alone.ensures.cause_of_plan_refused
+
+pub returns-in-Ok-clause-cause_of_file_count : goal.returns-in-Ok-clause-cause_of_file_count
+returns-in-Ok-clause-cause_of_file_count g c = said g (goal.at.returns-in-Ok-clause-cause_of_file_count g c).After-run_alone IsRightCount c.run_alone.ensures.cause_of_file_count
+
+pub returns-in-Ok-clause-cause_of_unsafe : goal.returns-in-Ok-clause-cause_of_unsafe
+returns-in-Ok-clause-cause_of_unsafe g c = said g (goal.at.returns-in-Ok-clause-cause_of_unsafe g c).After-run_alone IsRightlyUnsafe c.run_alone.ensures.cause_of_unsafe
 
 pub returns-in-Ok-clause-refused : goal.returns-in-Ok-clause-refused
-returns-in-Ok-clause-refused g c =
-    subst (λ (command : Command). AnswersRefusal c.run_alone.result command)
-    (sym (ap (λ (asked : Option Request). command_by (wanted asked) (g.F.Folder.state c.args.folder.now)) c.in-Ok.ensures.ok)) c.run_alone.ensures.refused
+returns-in-Ok-clause-refused g c = said g (goal.at.returns-in-Ok-clause-refused g c).After-run_alone AnswersRefusals c.run_alone.ensures.refused
 
 pub returns-in-Ok-clause-cause_of_open_fault : goal.returns-in-Ok-clause-cause_of_open_fault
-returns-in-Ok-clause-cause_of_open_fault g c =
-    subst (λ (command : Command). (n : ℕ) → c.run_alone.result ≡ OpenFault n → IsUnopened command (g.F.Folder.state c.run_alone.new.folder) n)
-    (sym (ap (λ (asked : Option Request). command_by (wanted asked) (g.F.Folder.state c.args.folder.now)) c.in-Ok.ensures.ok)) c.run_alone.ensures.cause_of_open_fault
+returns-in-Ok-clause-cause_of_open_fault g c = said g (goal.at.returns-in-Ok-clause-cause_of_open_fault g c).After-run_alone IsRightOpenFault c.run_alone.ensures.cause_of_open_fault
 
 pub returns-in-Ok-clause-cause_of_read_fault : goal.returns-in-Ok-clause-cause_of_read_fault
-returns-in-Ok-clause-cause_of_read_fault g c =
-    subst (λ (command : Command). (n : ℕ) → c.run_alone.result ≡ ReadFault n → HasFault command (g.F.Folder.state c.run_alone.new.folder) n)
-    (sym (ap (λ (asked : Option Request). command_by (wanted asked) (g.F.Folder.state c.args.folder.now)) c.in-Ok.ensures.ok)) c.run_alone.ensures.cause_of_read_fault
+returns-in-Ok-clause-cause_of_read_fault g c = said g (goal.at.returns-in-Ok-clause-cause_of_read_fault g c).After-run_alone IsRightReadFault c.run_alone.ensures.cause_of_read_fault
+
+pub returns-in-Ok-clause-cause_of_write_fault : goal.returns-in-Ok-clause-cause_of_write_fault
+returns-in-Ok-clause-cause_of_write_fault g c = said g (goal.at.returns-in-Ok-clause-cause_of_write_fault g c).After-run_alone IsRightWriteFault c.run_alone.ensures.cause_of_write_fault
+
+pub returns-in-Ok-clause-cause_of_limit : goal.returns-in-Ok-clause-cause_of_limit
+returns-in-Ok-clause-cause_of_limit g c = said g (goal.at.returns-in-Ok-clause-cause_of_limit g c).After-run_alone IsRightLimit c.run_alone.ensures.cause_of_limit
 
 pub returns-in-Ok-clause-cause_of_file_limit : goal.returns-in-Ok-clause-cause_of_file_limit
-returns-in-Ok-clause-cause_of_file_limit g c =
-    subst (λ (command : Command). (stream : ℕ) → c.run_alone.result ≡ Limit (File stream) → IsTooLarge command stream)
-    (sym (ap (λ (asked : Option Request). command_by (wanted asked) (g.F.Folder.state c.args.folder.now)) c.in-Ok.ensures.ok)) c.run_alone.ensures.cause_of_file_limit
+returns-in-Ok-clause-cause_of_file_limit g c = said g (goal.at.returns-in-Ok-clause-cause_of_file_limit g c).After-run_alone IsRightFileLimit c.run_alone.ensures.cause_of_file_limit
 
--- ---- other words
+pub returns-in-Ok-clause-completes : goal.returns-in-Ok-clause-completes
+returns-in-Ok-clause-completes g c = said g (goal.at.returns-in-Ok-clause-completes g c).After-run_alone IsCompleted c.run_alone.ensures.completes
 
-pub returns-in-Err-clause-never_retracted : goal.returns-in-Err-clause-never_retracted
-returns-in-Err-clause-never_retracted g c = λ all t.
-    let folder = g.F.Folder.state c.args.folder.now in
-    let command = command_of c.args.words.now folder in
-    let cause = unprepared_words c.from-refusal.result c.in-Err.stop c.args.words.now folder c.from-refusal.ensures (λ is. c.in-Err.ensures.usage (ap Err is)) in
-    never_early c.from-refusal.result command (g.K.Sink.state c.args.out.now) (g.K.Sink.state c.write_refusal.new.out) t (early_lines c.from-refusal.result command folder cause) c.write_refusal.ensures.lines
+-- ---- other words: the line of their status spells no element
+
+pub returns-in-Err-Usage-clause-never_retracted : goal.returns-in-Err-Usage-clause-never_retracted
+returns-in-Err-Usage-clause-never_retracted g c = λ all t.
+    never_early NoWords (call_of c.args.words.now (g.F.Folder.state c.args.folder.now)) (g.K.Sink.state c.args.out.now) (g.K.Sink.state c.write_status.new.out) t tt c.write_status.ensures.line
+
+pub returns-in-Err-NoMemory-clause-never_retracted : goal.returns-in-Err-NoMemory-clause-never_retracted
+returns-in-Err-NoMemory-clause-never_retracted g c = λ all t.
+    never_early PlanMemory (call_of c.args.words.now (g.F.Folder.state c.args.folder.now)) (g.K.Sink.state c.args.out.now) (g.K.Sink.state c.write_status-in-Err-NoMemory.new.out) t tt c.write_status-in-Err-NoMemory.ensures.line

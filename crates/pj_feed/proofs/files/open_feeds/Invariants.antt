@@ -1,4 +1,4 @@
-use Rattle.std.proofs.Common.{◌≡◌, length}
+use Rattle.std.proofs.Common.{◌≡◌, length, take}
 use Rattle.std.specs.Prelude.{vec_capacity}
 use Rattle.pj_io.specs.Folders.{NoneFalls, SameEverywhere}
 use Rattle.pj_plan.specs.Nodes.{streams_in}
@@ -16,5 +16,5 @@ invariant-loop-i g l = record {
   opens : OpensFirst l.i l.names (g.F.Folder.state l.fn.folder) (g.F.Folder.state l.folder);
   last : SameEverywhere (g.F.Folder.state l.fn.folder).last (g.F.Folder.state l.folder).last;
   later : NoneFalls (g.F.Folder.state l.fn.folder).faults (g.F.Folder.state l.folder).faults;
-  others : StayOutside l.names (g.F.Folder.state l.fn.folder) (g.F.Folder.state l.folder);
+  others : StayOutside (take l.i l.names) (g.F.Folder.state l.fn.folder) (g.F.Folder.state l.folder);
 }

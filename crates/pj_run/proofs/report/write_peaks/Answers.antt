@@ -1,18 +1,10 @@
-use Rattle.std.proofs.Common.{◌≡◌, ◌<◌, ◌+◌, ◌++◌, [], ◌∷◌, List, ℕ, map, take, drop, length, get_or, refl, sym, ap, ◌∙◌, subst, arith}
-use Rattle.pj_plan.specs.declared.node.PlanNode.{PlanNode}
+use Rattle.std.proofs.Common.{◌≡◌, ◌<◌, ◌+◌, ◌++◌, [], ◌∷◌, List, ℕ, map, take, drop, length, get_or, refl, ap, ◌∙◌, subst, arith}
 use Rattle.pj_plan.specs.Nodes.{joins_of}
 use Rattle.pj_run.specs.Runs.{peak_report}
 use Rattle.pj_report.specs.Written.{flat, write_cut, Leaves}
 use Rattle.pj_run.proofs.JoinNodes.{join-met, peak-line-is}
 use Rattle.pj_report.proofs.LinesWritten.{stopped_then, written_then, map_more, map_rest}
 use Rattle.pj_run.proofs.report.write_peaks.Goals as goal
-
-pub name-requires : goal.name-requires
-name-requires g c =
-    let are = c.joins-join-items.ensures ∙ ap joins_of c.plan.ensures in
-    let join = get_or c.joins-join-items.result.now c.loop-join.join-index 0 in
-    let met = join-met c.args.core.now c.joins-join-items.result.now c.loop-join.join-index join are c.loop-join-test.true refl in
-    subst (λ (ns : List PlanNode). join < length ns) (sym c.plan-in-loop-join.ensures) met.0
 
 pub peak-requires : goal.peak-requires
 peak-requires g c =

@@ -6,12 +6,9 @@ use Rattle.pj_run.specs.Outcome.{tally_lines}
 use Rattle.pj_report.specs.Report.{stream_lines}
 use Rattle.pj_report.specs.Written.{flat, write_cut, Leaves}
 use Rattle.pj_report.proofs.LinesWritten.{stopped_then, written_then}
-use Rattle.pj_feed.proofs.StreamNodes.{node-met, name-met, met-there}
+use Rattle.pj_feed.proofs.StreamNodes.{name-met, met-there}
 use Rattle.pj_run.proofs.Tallies.{all-taken, tally_more, tally_rest}
 use Rattle.pj_run.proofs.report.write_streams.Goals as goal
-
-pub name-requires : goal.name-requires
-name-requires g c = node-met c.args.plan.now.nodes c.streams-streams.result.now c.loop-i.i _ c.streams-streams.ensures c.loop-i-test.true refl
 
 pub returns-in_err-write_stream-clause-lines : goal.returns-in_err-write_stream-clause-lines
 returns-in_err-write_stream-clause-lines g c = λ told.

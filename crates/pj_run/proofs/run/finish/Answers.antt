@@ -6,13 +6,15 @@ use Rattle.pj_run.specs.Outcome.{report_lines}
 use Rattle.pj_run.proofs.run.finish.Goals as goal
 
 pub returns-in_err-finish-clause-lines : goal.returns-in_err-finish-clause-lines
-returns-in_err-finish-clause-lines g c = λ form outputs is told history stands.
+returns-in_err-finish-clause-lines g c = λ outputs is told history stands.
+    let form = c.args.gathered.now.results.form in
     let report = report_lines c.args.core.now.plan c.args.tallies.now c.args.gathered.now history in
     stopped_first write_cut c.from_residual.result c.in_err-finish.field-0.0 (withheld form outputs) report (withheld form outputs ++ report) (g.K.Sink.state c.args.out.now) (g.K.Sink.state c.finish.new.out)
     (c.in_err-finish.ensures.lines form outputs is told) refl c.from_residual.ensures.1
 
 pub returns-in_err-write_report-clause-lines : goal.returns-in_err-write_report-clause-lines
-returns-in_err-write_report-clause-lines g c = λ form outputs is told history stands.
+returns-in_err-write_report-clause-lines g c = λ outputs is told history stands.
+    let form = c.args.gathered.now.results.form in
     let report = report_lines c.args.core.now.plan c.args.tallies.now c.args.gathered.now history in
     stopped_then write_cut c.from_residual-in_err-write_report.result c.in_err-write_report.field-0.0 (withheld form outputs) report [] (withheld form outputs ++ report) (g.K.Sink.state c.args.out.now) (g.K.Sink.state c.finish.new.out) (g.K.Sink.state c.write_report.new.out)
     (c.in_ok-finish.ensures.lines form outputs is (c.in_err-write_report.ensures.told told)) (c.in_err-write_report.ensures.lines told history stands) (append-nil (withheld form outputs ++ report)) c.from_residual-in_err-write_report.ensures.1
@@ -20,7 +22,8 @@ returns-in_err-write_report-clause-lines g c = λ form outputs is told history s
 -- ---- a flush writes nothing more
 
 pub returns-in_err-flush-clause-lines : goal.returns-in_err-flush-clause-lines
-returns-in_err-flush-clause-lines g c = λ form outputs is told history stands.
+returns-in_err-flush-clause-lines g c = λ outputs is told history stands.
+    let form = c.args.gathered.now.results.form in
     let report = report_lines c.args.core.now.plan c.args.tallies.now c.args.gathered.now history in
     let lines = withheld form outputs ++ report in
     let first = g.K.Sink.state c.finish.new.out in
@@ -32,7 +35,8 @@ returns-in_err-flush-clause-lines g c = λ form outputs is told history stands.
     (append-nil lines) c.from_residual-in_err-flush.ensures.1
 
 pub returns-clause-lines : goal.returns-clause-lines
-returns-clause-lines g c = λ form outputs is told history stands.
+returns-clause-lines g c = λ outputs is told history stands.
+    let form = c.args.gathered.now.results.form in
     let report = report_lines c.args.core.now.plan c.args.tallies.now c.args.gathered.now history in
     let first = g.K.Sink.state c.finish.new.out in
     let second = g.K.Sink.state c.write_report.new.out in

@@ -1,4 +1,4 @@
-use Rattle.std.proofs.Common.{◌≡◌, ◌++◌, length, sym, ap, ◌∙◌, subst, Err, List, ℕ}
+use Rattle.std.proofs.Common.{◌≡◌, ◌++◌, length, sym, ap, ◌∙◌, subst, Err, Ok, List, ℕ}
 use Rattle.pj_core.specs.Plans.{RunPlan}
 use Rattle.pj_plan.specs.Nodes.{streams_in}
 use Rattle.pj_report.specs.Forms.{shown, withheld}
@@ -13,7 +13,7 @@ use Rattle.pj_feed.proofs.Answered.{err_is, if_err}
 use Rattle.pj_run.proofs.Ending.{tallies_count}
 use Rattle.pj_report.proofs.LinesWritten.{first_written, stop_first, stop_then, written_then}
 use Rattle.pj_run.proofs.RunClosing.{closed_others, feeds_cause, report_cut, report_ends, report_cause}
-use Rattle.pj_run.proofs.Tallies.{end_lines, report_is, run_parts}
+use Rattle.pj_run.proofs.Tallies.{end_lines, finished, report_is, run_parts}
 use Rattle.pj_run.proofs.run.run_feeds.Goals as goal
 
 pub close_feeds-closed-requires : goal.close_feeds-closed-requires
@@ -74,7 +74,7 @@ returns-in_err-finish-clause-lines g c = λ told t.
     (stop_then (write_cut why) (shown job.form job.nodes (outs_of job files)) (end_lines job files) before mid after (c.in_ok-gathered.ensures.lines told (c.in_err-finish.ensures.told t))
     (subst (λ (ls : List (List ℕ)). Leaves (write_cut why) (withheld job.form (outputs_of job files) ++ ls) mid after) (report_is job files c.as_slice.result.now gathered outcome)
     (subst (λ (p : RunPlan). Leaves (write_cut why) (withheld job.form (outputs_of job files) ++ report_lines p c.as_slice.result.now gathered (history_of job files)) mid after) (c.run_streams-ran.ensures.plan ∙ c.requires.fresh.fresh.of_plan)
-    (c.in_err-finish.ensures.lines job.form (outputs_of job files) outcome.results t (history_of job files) stands))))))
+    (finished {T = Unit {0}} job.form (outputs_of job files) c.run_streams-ran.new.core c.as_slice.result.now gathered (g.K.Sink.state c.run_streams-ran.new.out) (g.K.Sink.state c.finish.new.out) (Err why) outcome.results (c.in_err-finish.ensures.lines (outputs_of job files)) t (history_of job files) stands))))))
 
 pub returns-in_err-finish-clause-ends : goal.returns-in_err-finish-clause-ends
 returns-in_err-finish-clause-ends g c = λ told t.
@@ -106,7 +106,7 @@ returns-clause-lines g c = λ told t.
     (written_then (shown job.form job.nodes (outs_of job files)) (end_lines job files) before mid after (c.in_ok-gathered.ensures.lines told (c.in_ok-finish.ensures.told t))
     (subst (λ (ls : List (List ℕ)). after ≡ mid ++ flat (withheld job.form (outputs_of job files) ++ ls)) (report_is job files c.as_slice.result.now gathered outcome)
     (subst (λ (p : RunPlan). after ≡ mid ++ flat (withheld job.form (outputs_of job files) ++ report_lines p c.as_slice.result.now gathered (history_of job files))) (c.run_streams-ran.ensures.plan ∙ c.requires.fresh.fresh.of_plan)
-    (c.in_ok-finish.ensures.lines job.form (outputs_of job files) outcome.results t (history_of job files) stands))))
+    (finished {T = Unit {0}} job.form (outputs_of job files) c.run_streams-ran.new.core c.as_slice.result.now gathered (g.K.Sink.state c.run_streams-ran.new.out) (g.K.Sink.state c.finish.new.out) (Ok tt) outcome.results (c.in_ok-finish.ensures.lines (outputs_of job files)) t (history_of job files) stands))))
 
 pub returns-clause-last : goal.returns-clause-last
 returns-clause-last g c = record { news = c.run_streams-ran.new.feeds.feeds.items; same = c.in_ok-gathered.ensures.same; taken = c.in_ok-gathered.ensures.taken; lasts = c.close_feeds-closed.ensures.last }

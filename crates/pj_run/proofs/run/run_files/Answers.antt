@@ -6,9 +6,10 @@ use Rattle.pj_run.specs.Runs.{job_in, run_lines}
 use Rattle.pj_run.specs.Cuts.{run_cut}
 use Rattle.pj_report.specs.Written.{between}
 use Rattle.pj_report.specs.Written.{flat, Leaves}
-use Rattle.pj_run.proofs.FilesRun.{AreAllOpened, all_opened, run_others, run_end, run_cause, read_to_end, still_read, open_end, open_opened}
+use Rattle.pj_run.proofs.FilesRun.{AreAllOpened, all_opened, run_end, run_cause, read_to_end, still_read, open_cause, open_end, open_opened}
 use Rattle.pj_report.proofs.LinesWritten.{none_written}
 use Rattle.pj_feed.proofs.Opening.{new_of}
+use Rattle.pj_feed.proofs.Outside.{close_stays_all, tries_none}
 use Rattle.pj_run.proofs.run.run_files.Goals as goal
 
 pub run_feeds-requires-clause-feeds : goal.run_feeds-requires-clause-feeds
@@ -125,41 +126,54 @@ returns-in-Err-clause-ends g c = λ told t.
     open_end c.in-Err.stop job names old mid after feeds (g.K.Sink.state c.args.out.now).written of c.close_feeds.ensures.last (λ other. c.in-Err.ensures.last (λ e. other (cc e)))
     (λ stream is. c.in-Err.ensures.fault stream (ap Err is))
 
+pub returns-in_default-clause-opened : goal.returns-in_default-clause-opened
+returns-in_default-clause-opened g c = tries_none c.args.names.now (g.F.Folder.state c.args.folder.now)
+
 pub returns-in-Err-clause-opened : goal.returns-in-Err-clause-opened
 returns-in-Err-clause-opened g c =
-    let names = c.args.names.now in
-    let old = g.F.Folder.state c.args.folder.now in
-    let mid = g.F.Folder.state c.open_feeds.new.folder in
-    let after = g.F.Folder.state c.close_feeds.new.folder in
-    let feeds = c.open_feeds.new.feeds.items in
-    open_opened c.in-Err.stop names old mid after feeds c.in-Err.ensures.some_opened (λ stream is. c.in-Err.ensures.fault stream (ap Err is)) c.close_feeds.ensures.still_opened
-
-pub returns-in-Ok-run_feeds-clause-others : goal.returns-in-Ok-run_feeds-clause-others
-returns-in-Ok-run_feeds-clause-others g c =
-    let names = c.args.names.now in
-    let old = g.F.Folder.state c.args.folder.now in
-    let mid = g.F.Folder.state c.open_feeds.new.folder in
-    let after = g.F.Folder.state c.run_feeds.new.folder in
-    let feeds = c.open_feeds.new.feeds.items in
-    let of = subst (λ (ss : List PlanNode). AreFeedsOf 0 ss names old feeds) (ap streams_in c.plan.ensures) c.in-Ok-open_feeds.ensures.feeds in
-    run_others (streams_in c.args.core.now.plan.nodes) names old mid after feeds of c.open_feeds.ensures.others c.run_feeds.ensures.others
-
-pub returns-in-Err-run_feeds-clause-others : goal.returns-in-Err-run_feeds-clause-others
-returns-in-Err-run_feeds-clause-others g c =
-    let names = c.args.names.now in
-    let old = g.F.Folder.state c.args.folder.now in
-    let mid = g.F.Folder.state c.open_feeds.new.folder in
-    let after = g.F.Folder.state c.run_feeds.new.folder in
-    let feeds = c.open_feeds.new.feeds.items in
-    let of = subst (λ (ss : List PlanNode). AreFeedsOf 0 ss names old feeds) (ap streams_in c.plan.ensures) c.in-Ok-open_feeds.ensures.feeds in
-    run_others (streams_in c.args.core.now.plan.nodes) names old mid after feeds of c.open_feeds.ensures.others c.run_feeds.ensures.others
-
-pub returns-in-Err-clause-others : goal.returns-in-Err-clause-others
-returns-in-Err-clause-others g c =
+    let streams = streams_in c.args.core.now.plan.nodes in
     let names = c.args.names.now in
     let old = g.F.Folder.state c.args.folder.now in
     let mid = g.F.Folder.state c.open_feeds.new.folder in
     let after = g.F.Folder.state c.close_feeds.new.folder in
     let feeds = c.open_feeds.new.feeds.items in
     let of = subst (λ (ss : List PlanNode). AreFeedsOf 0 ss names old feeds) (ap streams_in c.plan.ensures) c.in-Err.ensures.feeds in
-    run_others (streams_in c.args.core.now.plan.nodes) names old mid after feeds of c.open_feeds.ensures.others c.close_feeds.ensures.others
+    open_opened c.in-Err.stop streams names old mid after feeds of c.close_feeds.ensures.others c.in-Err.ensures.some_opened (λ stream is. c.in-Err.ensures.fault stream (ap Err is)) c.close_feeds.ensures.still_opened
+
+pub returns-in-Err-clause-causes : goal.returns-in-Err-clause-causes
+returns-in-Err-clause-causes g c =
+    open_cause c.in-Err.stop (job_in c.args.writing c.args.core.now) c.args.names.now (g.F.Folder.state c.args.folder.now) (g.F.Folder.state c.open_feeds.new.folder) (g.F.Folder.state c.close_feeds.new.folder) c.open_feeds.new.feeds.items
+    (g.K.Sink.state c.args.out.now) (g.K.Sink.state c.args.out.now) (λ stream is. c.in-Err.ensures.fault stream (ap Err is)) c.close_feeds.ensures.later
+
+pub returns-in-Ok-run_feeds-clause-others : goal.returns-in-Ok-run_feeds-clause-others
+returns-in-Ok-run_feeds-clause-others g c =
+    let streams = streams_in c.args.core.now.plan.nodes in
+    let names = c.args.names.now in
+    let old = g.F.Folder.state c.args.folder.now in
+    let mid = g.F.Folder.state c.open_feeds.new.folder in
+    let after = g.F.Folder.state c.run_feeds.new.folder in
+    let feeds = c.open_feeds.new.feeds.items in
+    let of = subst (λ (ss : List PlanNode). AreFeedsOf 0 ss names old feeds) (ap streams_in c.plan.ensures) c.in-Ok-open_feeds.ensures.feeds in
+    close_stays_all 0 streams names old mid after feeds of c.run_feeds.ensures.others c.open_feeds.ensures.others
+
+pub returns-in-Err-run_feeds-clause-others : goal.returns-in-Err-run_feeds-clause-others
+returns-in-Err-run_feeds-clause-others g c =
+    let streams = streams_in c.args.core.now.plan.nodes in
+    let names = c.args.names.now in
+    let old = g.F.Folder.state c.args.folder.now in
+    let mid = g.F.Folder.state c.open_feeds.new.folder in
+    let after = g.F.Folder.state c.run_feeds.new.folder in
+    let feeds = c.open_feeds.new.feeds.items in
+    let of = subst (λ (ss : List PlanNode). AreFeedsOf 0 ss names old feeds) (ap streams_in c.plan.ensures) c.in-Ok-open_feeds.ensures.feeds in
+    close_stays_all 0 streams names old mid after feeds of c.run_feeds.ensures.others c.open_feeds.ensures.others
+
+pub returns-in-Err-clause-others : goal.returns-in-Err-clause-others
+returns-in-Err-clause-others g c =
+    let streams = streams_in c.args.core.now.plan.nodes in
+    let names = c.args.names.now in
+    let old = g.F.Folder.state c.args.folder.now in
+    let mid = g.F.Folder.state c.open_feeds.new.folder in
+    let after = g.F.Folder.state c.close_feeds.new.folder in
+    let feeds = c.open_feeds.new.feeds.items in
+    let of = subst (λ (ss : List PlanNode). AreFeedsOf 0 ss names old feeds) (ap streams_in c.plan.ensures) c.in-Err.ensures.feeds in
+    close_stays_all 0 streams names old mid after feeds of c.close_feeds.ensures.others c.open_feeds.ensures.others

@@ -12,15 +12,13 @@ use Rattle.pj_run.specs.Turning.{TurnsEnd, TurnStops, turn_outs}
 use Rattle.pj_run.specs.Cuts.{run_cut, turn_cut}
 use Rattle.pj_report.specs.Written.{between, flat, Leaves, Cut}
 use Rattle.pj_feed.proofs.AllFeeds.{all_same, all_same_then, feeds_long, told_still, files_still, all_taken, all_tallied}
-use Rattle.pj_core.specs.Plans.{RunPlan}
-use Rattle.pj_run.specs.Checking.{HoldsNone}
 use Rattle.pj_run.specs.declared.run.Gathered.{Gathered}
 use Rattle.pj_run.proofs.Carried.{turn_cut_same}
 use Rattle.pj_feed.proofs.Answered.{err_is, if_err}
 use Rattle.pj_run.proofs.Ending.{few_feeds, lines_so_far, feed_cause, turn_ends, turn_cause, given_some, given_none, brings_some, brings_none, same_none}
 use Rattle.pj_report.proofs.LinesWritten.{none_written, written_then}
 use Rattle.pj_report.proofs.Forms.{shown-nil}
-use Rattle.pj_run.proofs.Keeping.{all_kept, keeps_more, keeps_none, there_of}
+use Rattle.pj_run.proofs.Keeping.{all_kept, keeps_more, keeps_none, kept_there}
 use Rattle.pj_run.proofs.Planned.{new_planned}
 use Rattle.pj_run.proofs.Running.{going_begins, going_of, going_next, going_more, going_stops, turn_lines, turn_stopped, may_follow, all_ran, outcome_of, stands_at_end}
 use Rattle.pj_run.proofs.run.run_streams.Goals as goal
@@ -32,15 +30,16 @@ loop-accepted-init g c = (
   omega arith,
   λ t. t,
   λ told t. sym (append-nil _) ∙ ap (λ (ls : List (List ℕ)). (g.K.Sink.state c.args.out.now).written ++ flat ls) (sym (shown-nil c.args.writing.form c.args.core.now.plan.nodes)),
-  keeps_none c.in_ok-accepted.accepted (length (streams_in c.args.core.now.plan.nodes)) (subst (λ (n : ℕ). HoldsNone n c.in_ok-accepted.accepted.lists.items) (ap length c.as_slice.ensures.value ∙ feeds_long 0 (streams_in c.args.core.now.plan.nodes) c.args.feeds.now.feeds.items c.requires.feeds) c.in_ok-accepted.ensures.none),
+  keeps_none c.args.writing.check c.in_ok-accepted.accepted (length (streams_in c.args.core.now.plan.nodes)) _ c.in_ok-accepted.ensures.none c.in_ok-accepted.ensures.asked
+      (ap length c.as_slice.ensures.value ∙ feeds_long 0 (streams_in c.args.core.now.plan.nodes) c.args.feeds.now.feeds.items c.requires.feeds),
   c.in_ok-accepted.ensures.asked,
 )
 
-pub next-requires-clause-few : goal.next-requires-clause-few
-next-requires-clause-few g c = few_feeds (job_in c.args.writing c.args.core.now) c.loop-accepted.feeds.feeds.items c.requires.fresh.sound c.loop-accepted.invariant.1.fed
+pub next_turn-requires-clause-few : goal.next_turn-requires-clause-few
+next_turn-requires-clause-few g c = few_feeds (job_in c.args.writing c.args.core.now) c.loop-accepted.feeds.feeds.items c.requires.fresh.sound c.loop-accepted.invariant.1.fed
 
 pub returns-in_err-next-clause-same : goal.returns-in_err-next-clause-same
-returns-in_err-next-clause-same g c = all_same_then c.args.feeds.now.feeds.items c.loop-accepted.feeds.feeds.items c.next.new.self.feeds.items c.loop-accepted.invariant.1.same c.in_err-next.ensures.same
+returns-in_err-next-clause-same g c = all_same_then c.args.feeds.now.feeds.items c.loop-accepted.feeds.feeds.items c.next_turn.new.feeds.feeds.items c.loop-accepted.invariant.1.same c.in_err-next.ensures.same
 
 pub returns-in_err-next-clause-lines : goal.returns-in_err-next-clause-lines
 returns-in_err-next-clause-lines g c = λ told t.
@@ -51,13 +50,13 @@ returns-in_err-next-clause-lines g c = λ told t.
 pub returns-in_err-next-clause-ends : goal.returns-in_err-next-clause-ends
 returns-in_err-next-clause-ends g c = λ told t.
     if_err _ c.from_residual-in_err-next.result _ c.from_residual-in_err-next.ensures.1
-    (going_stops (job_in c.args.writing c.args.core.now) (new_planned c.args.writing c.args.core.now c.requires.fresh) c.args.feeds.now.feeds.items c.loop-accepted.feeds.feeds.items c.next.new.self.feeds.items c.loop-accepted.feeds.at c.loop-accepted.invariant.0 c.loop-accepted.core c.loop-accepted.results c.in_err-next.field-0.0 _ _ _ _
+    (going_stops (job_in c.args.writing c.args.core.now) (new_planned c.args.writing c.args.core.now c.requires.fresh) c.args.feeds.now.feeds.items c.loop-accepted.feeds.feeds.items c.next_turn.new.feeds.feeds.items c.loop-accepted.feeds.at c.loop-accepted.invariant.0 c.loop-accepted.core c.loop-accepted.results c.in_err-next.field-0.0 _ _ _ _
     c.loop-accepted.invariant.1 c.in_err-next.ensures.same c.in_err-next.ensures.stops told (c.in_err-next.ensures.written.same t ∙ c.loop-accepted.invariant.4 told (c.in_err-next.ensures.written.told t)))
 
 pub returns-in_err-next-clause-causes : goal.returns-in_err-next-clause-causes
 returns-in_err-next-clause-causes g c =
     if_err _ c.from_residual-in_err-next.result _ c.from_residual-in_err-next.ensures.1
-    (feed_cause (job_in c.args.writing c.args.core.now) c.args.feeds.now.feeds.items c.loop-accepted.feeds.feeds.items c.next.new.self.feeds.items c.loop-accepted.feeds.at c.in_err-next.field-0.0 _ _ _ c.in_err-next.ensures.stops c.loop-accepted.invariant.1.same c.loop-accepted.invariant.2)
+    (feed_cause (job_in c.args.writing c.args.core.now) c.args.feeds.now.feeds.items c.loop-accepted.feeds.feeds.items c.next_turn.new.feeds.feeds.items c.loop-accepted.feeds.at c.in_err-next.field-0.0 _ _ _ c.in_err-next.ensures.stops c.loop-accepted.invariant.1.same c.loop-accepted.invariant.2)
 
 -- ---- no room for the lists of rows
 
@@ -79,15 +78,14 @@ pub keep-requires : goal.keep-requires
 keep-requires g c =
     let going = c.loop-accepted.invariant.1 in
     record {
-      there = there_of c.in-Some.next (streams_in c.loop-accepted.core.plan.nodes) c.loop-accepted.accepted.lists.items
-          (going_of (job_in c.args.writing c.args.core.now) c.args.feeds.now.feeds.items c.loop-accepted.feeds.feeds.items c.next.new.self.feeds.items c.loop-accepted.feeds.at c.next.new.self.at c.loop-accepted.invariant.0 c.loop-accepted.core c.loop-accepted.results c.in-Some.next going
+      there = kept_there (job_in c.args.writing c.args.core.now) c.loop-accepted.accepted c.loop-accepted.invariant.0 c.loop-accepted.core c.in-Some.next c.loop-accepted.invariant.5 going.of_plan
+          (going_of (job_in c.args.writing c.args.core.now) c.args.feeds.now.feeds.items c.loop-accepted.feeds.feeds.items c.next_turn.new.feeds.feeds.items c.loop-accepted.feeds.at c.next_turn.new.feeds.at c.loop-accepted.invariant.0 c.loop-accepted.core c.loop-accepted.results c.in-Some.next going
           (λ told streams f. given_some streams c.in_ok-next.field-0 c.in-Some.next _ _ c.in-Some.is (c.in_ok-next.ensures.gives told streams f))
-          (brings_some c.loop-accepted.feeds.feeds.items c.in_ok-next.field-0 c.in-Some.next c.in-Some.is c.in_ok-next.ensures.brings))
-          (c.loop-accepted.invariant.5.many ∙ ap (λ (p : RunPlan). length (streams_in p.nodes)) (sym going.of_plan));
+          (brings_some c.loop-accepted.feeds.feeds.items c.in_ok-next.field-0 c.in-Some.next c.in-Some.is c.in_ok-next.ensures.brings));
     }
 
 pub returns-in_err-keep-clause-same : goal.returns-in_err-keep-clause-same
-returns-in_err-keep-clause-same g c = all_same_then c.args.feeds.now.feeds.items c.loop-accepted.feeds.feeds.items c.next.new.self.feeds.items c.loop-accepted.invariant.1.same c.in_ok-next.ensures.same
+returns-in_err-keep-clause-same g c = all_same_then c.args.feeds.now.feeds.items c.loop-accepted.feeds.feeds.items c.next_turn.new.feeds.feeds.items c.loop-accepted.invariant.1.same c.in_ok-next.ensures.same
 
 pub returns-in_err-keep-clause-lines : goal.returns-in_err-keep-clause-lines
 returns-in_err-keep-clause-lines g c = λ told t.
@@ -105,7 +103,7 @@ returns-in_err-keep-clause-causes g c = if_err _ c.from_residual-in_err-keep.res
 
 pub take_turn-requires-clause-of : goal.take_turn-requires-clause-of
 take_turn-requires-clause-of g c =
-    going_of (job_in c.args.writing c.args.core.now) c.args.feeds.now.feeds.items c.loop-accepted.feeds.feeds.items c.next.new.self.feeds.items c.loop-accepted.feeds.at c.next.new.self.at c.loop-accepted.invariant.0 c.loop-accepted.core c.loop-accepted.results c.in-Some.next c.loop-accepted.invariant.1
+    going_of (job_in c.args.writing c.args.core.now) c.args.feeds.now.feeds.items c.loop-accepted.feeds.feeds.items c.next_turn.new.feeds.feeds.items c.loop-accepted.feeds.at c.next_turn.new.feeds.at c.loop-accepted.invariant.0 c.loop-accepted.core c.loop-accepted.results c.in-Some.next c.loop-accepted.invariant.1
     (λ told streams f. given_some streams c.in_ok-next.field-0 c.in-Some.next _ _ c.in-Some.is (c.in_ok-next.ensures.gives told streams f))
     (brings_some c.loop-accepted.feeds.feeds.items c.in_ok-next.field-0 c.in-Some.next c.in-Some.is c.in_ok-next.ensures.brings)
 
@@ -114,55 +112,54 @@ loop-accepted-preserved g c =
     let job = job_in c.args.writing c.args.core.now in
     let start = c.args.feeds.now.feeds.items in
     let feeds = c.loop-accepted.feeds.feeds.items in
-    let feeds' = c.next.new.self.feeds.items in
+    let feeds' = c.next_turn.new.feeds.feeds.items in
     let history = c.loop-accepted.invariant.0 in
     let core = c.loop-accepted.core in
     let t = turn_in (streams_in core.plan.nodes) c.in-Some.next in
-    let left = feeds_left (streams_in job.nodes) feeds' c.next.new.self.at in (
+    let left = feeds_left (streams_in job.nodes) feeds' c.next_turn.new.feeds.at in (
       history ++ turn_behind core history t,
-      going_more job start feeds feeds' c.loop-accepted.feeds.at c.next.new.self.at history core c.loop-accepted.results c.in-Some.next c.loop-accepted.invariant.1
+      going_more job start feeds feeds' c.loop-accepted.feeds.at c.next_turn.new.feeds.at history core c.loop-accepted.results c.in-Some.next c.loop-accepted.invariant.1
           (λ told streams f. given_some streams c.in_ok-next.field-0 c.in-Some.next _ _ c.in-Some.is (c.in_ok-next.ensures.gives told streams f))
           (new_planned c.args.writing c.args.core.now c.requires.fresh) (c.in_ok-next.ensures.fed (streams_in job.nodes) c.loop-accepted.invariant.1.fed) c.in_ok-next.ensures.same c.take_turn.new.core c.take_turn.new.results c.in_ok-take_turn.ensures.done c.take_turn.ensures.form,
       omega (arith, c.loop-accepted.invariant.2, c.in_ok-next.ensures.written.later, c.in_ok-take_turn.ensures.later),
       λ t'. c.loop-accepted.invariant.3 (c.in_ok-next.ensures.written.told (c.in_ok-take_turn.ensures.told t')),
       λ told t'.
-          let ran = going_next job start feeds feeds' c.loop-accepted.feeds.at c.next.new.self.at history core c.loop-accepted.results c.in-Some.next c.loop-accepted.invariant.1 (λ told streams f. given_some streams c.in_ok-next.field-0 c.in-Some.next _ _ c.in-Some.is (c.in_ok-next.ensures.gives told streams f)) told in
-          written_then (shown job.form job.nodes (handed_out job.trace (run_nodes job) history)) (shown job.form core.plan.nodes (turn_outs core history t)) (g.K.Sink.state c.args.out.now).written (g.K.Sink.state c.next.new.out).written (g.K.Sink.state c.take_turn.new.out).written
+          let ran = going_next job start feeds feeds' c.loop-accepted.feeds.at c.next_turn.new.feeds.at history core c.loop-accepted.results c.in-Some.next c.loop-accepted.invariant.1 (λ told streams f. given_some streams c.in_ok-next.field-0 c.in-Some.next _ _ c.in-Some.is (c.in_ok-next.ensures.gives told streams f)) told in
+          written_then (shown job.form job.nodes (handed_out job.trace (run_nodes job) history)) (shown job.form core.plan.nodes (turn_outs core history t)) (g.K.Sink.state c.args.out.now).written (g.K.Sink.state c.next_turn.new.out).written (g.K.Sink.state c.take_turn.new.out).written
           (c.in_ok-next.ensures.written.same (c.in_ok-take_turn.ensures.told t') ∙ c.loop-accepted.invariant.4 told (c.in_ok-next.ensures.written.told (c.in_ok-take_turn.ensures.told t')))
-          (subst (λ (form : Form). (g.K.Sink.state c.take_turn.new.out).written ≡ (g.K.Sink.state c.next.new.out).written ++ flat (shown form core.plan.nodes (turn_outs core history t))) c.loop-accepted.invariant.1.in_form
+          (subst (λ (form : Form). (g.K.Sink.state c.take_turn.new.out).written ≡ (g.K.Sink.state c.next_turn.new.out).written ++ flat (shown form core.plan.nodes (turn_outs core history t))) c.loop-accepted.invariant.1.in_form
           (c.in_ok-take_turn.ensures.lines t' history ran.stands (may_follow job (files_of start) (new_planned c.args.writing c.args.core.now c.requires.fresh) history core t left c.loop-accepted.results ran)))
           ∙ ap (λ (ls : List (List ℕ)). (g.K.Sink.state c.args.out.now).written ++ flat ls) (turn_lines job (files_of start) (new_planned c.args.writing c.args.core.now c.requires.fresh) history core t left c.loop-accepted.results ran),
       keeps_more c.loop-accepted.accepted c.keep.new.self (length (streams_in job.nodes)) history core c.in-Some.next c.loop-accepted.invariant.5 c.in_ok-keep.ensures.asked c.in_ok-keep.ensures.many c.in_ok-keep.ensures.kept
-          (there_of c.in-Some.next (streams_in core.plan.nodes) c.loop-accepted.accepted.lists.items
-          (going_of job start feeds feeds' c.loop-accepted.feeds.at c.next.new.self.at history core c.loop-accepted.results c.in-Some.next c.loop-accepted.invariant.1
+          (kept_there job c.loop-accepted.accepted history core c.in-Some.next c.loop-accepted.invariant.5 c.loop-accepted.invariant.1.of_plan
+          (going_of job start feeds feeds' c.loop-accepted.feeds.at c.next_turn.new.feeds.at history core c.loop-accepted.results c.in-Some.next c.loop-accepted.invariant.1
           (λ told streams f. given_some streams c.in_ok-next.field-0 c.in-Some.next _ _ c.in-Some.is (c.in_ok-next.ensures.gives told streams f))
-          (brings_some feeds c.in_ok-next.field-0 c.in-Some.next c.in-Some.is c.in_ok-next.ensures.brings))
-          (c.loop-accepted.invariant.5.many ∙ ap (λ (p : RunPlan). length (streams_in p.nodes)) (sym c.loop-accepted.invariant.1.of_plan))),
+          (brings_some feeds c.in_ok-next.field-0 c.in-Some.next c.in-Some.is c.in_ok-next.ensures.brings))),
       c.in_ok-keep.ensures.asked ∙ c.loop-accepted.invariant.6,
     )
 
 pub returns-in_err-take_turn-clause-same : goal.returns-in_err-take_turn-clause-same
-returns-in_err-take_turn-clause-same g c = all_same_then c.args.feeds.now.feeds.items c.loop-accepted.feeds.feeds.items c.next.new.self.feeds.items c.loop-accepted.invariant.1.same c.in_ok-next.ensures.same
+returns-in_err-take_turn-clause-same g c = all_same_then c.args.feeds.now.feeds.items c.loop-accepted.feeds.feeds.items c.next_turn.new.feeds.feeds.items c.loop-accepted.invariant.1.same c.in_ok-next.ensures.same
 
 pub returns-in_err-take_turn-clause-lines : goal.returns-in_err-take_turn-clause-lines
 returns-in_err-take_turn-clause-lines g c = λ told t'.
     let job = job_in c.args.writing c.args.core.now in
     let start = c.args.feeds.now.feeds.items in
     let feeds = c.loop-accepted.feeds.feeds.items in
-    let feeds' = c.next.new.self.feeds.items in
+    let feeds' = c.next_turn.new.feeds.feeds.items in
     let history = c.loop-accepted.invariant.0 in
     let core = c.loop-accepted.core in
     let t = turn_in (streams_in core.plan.nodes) c.in-Some.next in
-    let left = feeds_left (streams_in job.nodes) feeds' c.next.new.self.at in
-    let ran = going_next job start feeds feeds' c.loop-accepted.feeds.at c.next.new.self.at history core c.loop-accepted.results c.in-Some.next c.loop-accepted.invariant.1
+    let left = feeds_left (streams_in job.nodes) feeds' c.next_turn.new.feeds.at in
+    let ran = going_next job start feeds feeds' c.loop-accepted.feeds.at c.next_turn.new.feeds.at history core c.loop-accepted.results c.in-Some.next c.loop-accepted.invariant.1
     (λ told streams f. given_some streams c.in_ok-next.field-0 c.in-Some.next _ _ c.in-Some.is (c.in_ok-next.ensures.gives told streams f))
     told in
     let stop = c.in_err-take_turn.field-0.0 in
     rw (err_is c.from_residual-in_err-take_turn.result _ c.from_residual-in_err-take_turn.ensures.1)
     (subst (λ (cut : Cut). Leaves cut (shown job.form job.nodes (handed_out job.trace (run_nodes job) (history_of job (files_of start)))) (g.K.Sink.state c.args.out.now).written (g.K.Sink.state c.take_turn.new.out).written) (sym (turn_cut_same stop))
-    (turn_stopped job (files_of start) (new_planned c.args.writing c.args.core.now c.requires.fresh) history core t left c.loop-accepted.results ran (turn_cut stop) (g.K.Sink.state c.args.out.now).written (g.K.Sink.state c.next.new.out).written (g.K.Sink.state c.take_turn.new.out).written
+    (turn_stopped job (files_of start) (new_planned c.args.writing c.args.core.now c.requires.fresh) history core t left c.loop-accepted.results ran (turn_cut stop) (g.K.Sink.state c.args.out.now).written (g.K.Sink.state c.next_turn.new.out).written (g.K.Sink.state c.take_turn.new.out).written
     (c.in_ok-next.ensures.written.same (c.in_err-take_turn.ensures.told t') ∙ c.loop-accepted.invariant.4 told (c.in_ok-next.ensures.written.told (c.in_err-take_turn.ensures.told t')))
-    (subst (λ (form : Form). Leaves (turn_cut stop) (shown form core.plan.nodes (turn_outs core history t)) (g.K.Sink.state c.next.new.out).written (g.K.Sink.state c.take_turn.new.out).written) c.loop-accepted.invariant.1.in_form
+    (subst (λ (form : Form). Leaves (turn_cut stop) (shown form core.plan.nodes (turn_outs core history t)) (g.K.Sink.state c.next_turn.new.out).written (g.K.Sink.state c.take_turn.new.out).written) c.loop-accepted.invariant.1.in_form
     (c.in_err-take_turn.ensures.lines t' history ran.stands (may_follow job (files_of start) (new_planned c.args.writing c.args.core.now c.requires.fresh) history core t left c.loop-accepted.results ran)))))
 
 pub returns-in_err-take_turn-clause-ends : goal.returns-in_err-take_turn-clause-ends
@@ -170,18 +167,18 @@ returns-in_err-take_turn-clause-ends g c = λ told t'.
     let job = job_in c.args.writing c.args.core.now in
     let start = c.args.feeds.now.feeds.items in
     let feeds = c.loop-accepted.feeds.feeds.items in
-    let feeds' = c.next.new.self.feeds.items in
+    let feeds' = c.next_turn.new.feeds.feeds.items in
     let history = c.loop-accepted.invariant.0 in
     let core = c.loop-accepted.core in
     let t = turn_in (streams_in core.plan.nodes) c.in-Some.next in
-    let left = feeds_left (streams_in job.nodes) feeds' c.next.new.self.at in
-    let ran = going_next job start feeds feeds' c.loop-accepted.feeds.at c.next.new.self.at history core c.loop-accepted.results c.in-Some.next c.loop-accepted.invariant.1
+    let left = feeds_left (streams_in job.nodes) feeds' c.next_turn.new.feeds.at in
+    let ran = going_next job start feeds feeds' c.loop-accepted.feeds.at c.next_turn.new.feeds.at history core c.loop-accepted.results c.in-Some.next c.loop-accepted.invariant.1
     (λ told streams f. given_some streams c.in_ok-next.field-0 c.in-Some.next _ _ c.in-Some.is (c.in_ok-next.ensures.gives told streams f))
     told in
     if_err (λ stop. TurnsEnd stop job (files_of start) feeds' (g.K.Sink.state c.args.out.now).written (g.K.Sink.state c.take_turn.new.out).written) c.from_residual-in_err-take_turn.result _ c.from_residual-in_err-take_turn.ensures.1
-    (turn_ends job (files_of start) (new_planned c.args.writing c.args.core.now c.requires.fresh) history core t left c.loop-accepted.results ran c.in_err-take_turn.field-0.0 feeds' (g.K.Sink.state c.args.out.now).written (g.K.Sink.state c.next.new.out) (g.K.Sink.state c.take_turn.new.out)
+    (turn_ends job (files_of start) (new_planned c.args.writing c.args.core.now c.requires.fresh) history core t left c.loop-accepted.results ran c.in_err-take_turn.field-0.0 feeds' (g.K.Sink.state c.args.out.now).written (g.K.Sink.state c.next_turn.new.out) (g.K.Sink.state c.take_turn.new.out)
     (c.in_ok-next.ensures.written.same (c.in_err-take_turn.ensures.told t') ∙ c.loop-accepted.invariant.4 told (c.in_ok-next.ensures.written.told (c.in_err-take_turn.ensures.told t'))) t'
-    (subst (λ (form : Form). TurnStops c.in_err-take_turn.field-0.0 form core history t (g.K.Sink.state c.next.new.out) (g.K.Sink.state c.take_turn.new.out)) c.loop-accepted.invariant.1.in_form
+    (subst (λ (form : Form). TurnStops c.in_err-take_turn.field-0.0 form core history t (g.K.Sink.state c.next_turn.new.out) (g.K.Sink.state c.take_turn.new.out)) c.loop-accepted.invariant.1.in_form
     (c.in_err-take_turn.ensures.stops history ran.stands (may_follow job (files_of start) (new_planned c.args.writing c.args.core.now c.requires.fresh) history core t left c.loop-accepted.results ran))))
 
 pub returns-in_err-take_turn-clause-causes : goal.returns-in_err-take_turn-clause-causes
@@ -189,28 +186,28 @@ returns-in_err-take_turn-clause-causes g c =
     let job = job_in c.args.writing c.args.core.now in
     let start = c.args.feeds.now.feeds.items in
     let feeds = c.loop-accepted.feeds.feeds.items in
-    let feeds' = c.next.new.self.feeds.items in
+    let feeds' = c.next_turn.new.feeds.feeds.items in
     let history = c.loop-accepted.invariant.0 in
     let core = c.loop-accepted.core in
     let t = turn_in (streams_in core.plan.nodes) c.in-Some.next in
-    let left = feeds_left (streams_in job.nodes) feeds' c.next.new.self.at in
+    let left = feeds_left (streams_in job.nodes) feeds' c.next_turn.new.feeds.at in
     if_err (λ stop. TurnsCause stop job start feeds' (g.K.Sink.state c.args.out.now) (g.K.Sink.state c.take_turn.new.out)) c.from_residual-in_err-take_turn.result _ c.from_residual-in_err-take_turn.ensures.1
-    (turn_cause c.in_err-take_turn.field-0.0 job start feeds' core history t (g.K.Sink.state c.args.out.now) (g.K.Sink.state c.next.new.out) (g.K.Sink.state c.take_turn.new.out)
+    (turn_cause c.in_err-take_turn.field-0.0 job start feeds' core history t (g.K.Sink.state c.args.out.now) (g.K.Sink.state c.next_turn.new.out) (g.K.Sink.state c.take_turn.new.out)
     (let a = c.loop-accepted.invariant.2 in let b = c.in_ok-next.ensures.written.later in omega (arith, a, b)) (λ is. c.in_err-take_turn.ensures.fault (ap Err is)) (λ why is. c.in_err-take_turn.ensures.cut why (ap Err is))
     (λ told.
-    let ran = going_next job start feeds feeds' c.loop-accepted.feeds.at c.next.new.self.at history core c.loop-accepted.results c.in-Some.next c.loop-accepted.invariant.1
+    let ran = going_next job start feeds feeds' c.loop-accepted.feeds.at c.next_turn.new.feeds.at history core c.loop-accepted.results c.in-Some.next c.loop-accepted.invariant.1
     (λ told streams f. given_some streams c.in_ok-next.field-0 c.in-Some.next _ _ c.in-Some.is (c.in_ok-next.ensures.gives told streams f))
     told in (
       left,
       c.loop-accepted.results,
       (new_planned c.args.writing c.args.core.now c.requires.fresh),
       ran,
-      subst (λ (form : Form). TurnStops c.in_err-take_turn.field-0.0 form core history t (g.K.Sink.state c.next.new.out) (g.K.Sink.state c.take_turn.new.out)) c.loop-accepted.invariant.1.in_form
+      subst (λ (form : Form). TurnStops c.in_err-take_turn.field-0.0 form core history t (g.K.Sink.state c.next_turn.new.out) (g.K.Sink.state c.take_turn.new.out)) c.loop-accepted.invariant.1.in_form
           (c.in_err-take_turn.ensures.stops history ran.stands (may_follow job (files_of start) (new_planned c.args.writing c.args.core.now c.requires.fresh) history core t left c.loop-accepted.results ran)),
     )))
 
 pub returns-clause-same : goal.returns-clause-same
-returns-clause-same g c = all_same_then c.args.feeds.now.feeds.items c.loop-accepted.feeds.feeds.items c.next.new.self.feeds.items c.loop-accepted.invariant.1.same c.in_ok-next.ensures.same
+returns-clause-same g c = all_same_then c.args.feeds.now.feeds.items c.loop-accepted.feeds.feeds.items c.next_turn.new.feeds.feeds.items c.loop-accepted.invariant.1.same c.in_ok-next.ensures.same
 
 pub returns-clause-lines : goal.returns-clause-lines
 returns-clause-lines g c = λ told t.
@@ -233,7 +230,7 @@ returns-clause-outcome g c = λ told.
     let told' = told_still start feeds going.same told in
     let none = given_none (streams_in job.nodes) c.in_ok-next.field-0 _ _ c.in_default.is (c.in_ok-next.ensures.gives told' (streams_in job.nodes) going.fed) in
     let closed = brings_none feeds c.in_ok-next.field-0 c.in_default.is c.in_ok-next.ensures.brings in
-    let same = same_none feeds c.next.new.self.feeds.items c.in_ok-next.field-0 c.in_default.is c.in_ok-next.ensures.nothing in
+    let same = same_none feeds c.next_turn.new.feeds.feeds.items c.in_ok-next.field-0 c.in_default.is c.in_ok-next.ensures.nothing in
     let gathered : Gathered = record { results = c.loop-accepted.results; accepted = c.loop-accepted.accepted } in
     outcome_of job (files_of start) history c.loop-accepted.core _ gathered _ (going.ran told) none
     (ap tallies_in same ∙ (all_tallied 0 (streams_in job.nodes) feeds going.fed closed told' ∙ ap (tallies_of (streams_in job.nodes)) (files_still start feeds going.same told)))
@@ -253,5 +250,5 @@ pub returns-clause-taken : goal.returns-clause-taken
 returns-clause-taken g c =
     let feeds = c.loop-accepted.feeds.feeds.items in
     let closed = brings_none feeds c.in_ok-next.field-0 c.in_default.is c.in_ok-next.ensures.brings in
-    let same = same_none feeds c.next.new.self.feeds.items c.in_ok-next.field-0 c.in_default.is c.in_ok-next.ensures.nothing in
+    let same = same_none feeds c.next_turn.new.feeds.feeds.items c.in_ok-next.field-0 c.in_default.is c.in_ok-next.ensures.nothing in
     subst AreAllTaken (sym same) (all_taken 0 (streams_in c.args.core.now.plan.nodes) feeds c.loop-accepted.invariant.1.fed closed)

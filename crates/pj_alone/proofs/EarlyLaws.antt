@@ -1,0 +1,361 @@
+-- A call that has no plan to run: what is opened and written, and why.
+use Rattle.std.proofs.Common.{◌≡◌, ◌≤◌, ◌<◌, ℕ, zero, suc, true, false, inl, inr, List, [], ◌∷◌, length, take, slice_index_or, Result, Ok, Err, refl, ap, ap₂, sym, ◌∙◌, subst, arith}
+use Rattle.std.proofs.lemmas.Bool.{false≢true}
+use Rattle.pj_io.specs.Causes.{Rose}
+use Rattle.pj_io.specs.States.{FolderState, SinkState}
+use Rattle.pj_plan.specs.declared.fault.PlanFault.{PlanFault}
+use Rattle.pj_plan.specs.declared.node.PlanNode.{PlanNode}
+use Rattle.pj_plan.specs.declared.node.Outline.{Outline}
+use Rattle.pj_plan.specs.Nodes.{streams_of}
+use Rattle.pj_plan_text.specs.PlanRead.{plan_read}
+use Rattle.pj_safety.specs.declared.risk.PlanRisk.{PlanRisk}
+use Rattle.pj_safety.specs.Safety.{IsFirstRisk, IsSafePlan}
+use Rattle.pj_safety.proofs.Risks.{risk_is_alone, risk_is_unsafe}
+use Rattle.pj_report.specs.declared.status.Status.{Status}
+use Rattle.pj_report.specs.declared.status.Status.TheVariants.{Done, Usage, OpenFault, ReadFault, PlanRefused, FileCount, Unsafe, WriteFault, NoMemory, Limit}
+use Rattle.pj_report.specs.declared.status.LimitOf.TheVariants.{Plan, Node, File}
+use Rattle.pj_run.specs.declared.stops.FilesStop.{FilesStop}
+use Rattle.pj_run.specs.declared.stops.FilesStop.TheVariants.{Opening, Run}
+use Rattle.pj_feed.specs.declared.stops.OpeningStop.TheVariants.{Fault, NoMemory as OpeningMemory}
+use Rattle.pj_run.specs.declared.stops.RunStop.TheVariants.{ReadFault as RunFault, TooLarge, Limit as RunLimit, WriteFailed, NoMemory as RunMemory, Cut as RunCut}
+use Rattle.pj_events.specs.declared.events.Stop.TheVariants.{Limit as CoreLimit, NoMemory as CoreMemory}
+use Rattle.pj_alone.specs.declared.stops.FileStop.TheVariants.{OpenFault as NotOpened, ReadFault as NotRead, TooLong, NoMemory as FileMemory}
+use Rattle.pj_alone.specs.declared.stops.PlanStop.{PlanStop}
+use Rattle.pj_alone.specs.declared.stops.PlanStop.TheVariants.{Usage as NoWords, File as PlanFile, Refused, FileCount as OtherCount, Unsafe as Stuck, NoMemory as PlanMemory}
+use Rattle.pj_alone.specs.Calls.{Call, HasToldPlan, operand, file_names, plan_bytes}
+use Rattle.pj_feed.specs.Opened.{OpensFirst, OpensAtMost, StayOutside}
+use Rattle.pj_alone.specs.Refusals.{HasLines, IsRefused, IsRun, Refuses, RefusesBytes, RefusesPlan, RefusesRead, Unprepared}
+use Rattle.pj_alone.specs.Stops.{plan_status, refusal_text}
+use Rattle.pj_run.specs.Stops.{files_status}
+use Rattle.pj_alone.specs.Endings.{at_words, at_plan, at_opening, ending_of, ComesAt, EarlyLeaves, KeepsLast}
+use Rattle.pj_alone.specs.Promises.{Ends}
+use Rattle.pj_alone.specs.Top.{AnswersRefusal, HasFault, IsBuilt, IsPlanOf, IsUnopened}
+use Rattle.pj_report.specs.Report.{status_line}
+use Rattle.pj_report.specs.Written.{Delivered}
+use Rattle.pj_alone.proofs.Refusing.{read_as}
+
+-- ---- how far the call came
+
+none_opened : (names : List (List ℕ)) (folder : FolderState) → OpensFirst 0 names folder folder
+none_opened names folder name = (λ t. inl t, λ t. elim t [ inl was ↦ was | inr none ↦ absurd none ])
+
+all_stay : (names : List (List ℕ)) (folder : FolderState) → StayOutside names folder folder
+all_stay names folder = record { faults = λ name other. refl; last = λ name other. refl }
+
+-- nothing was done, and the status' line was written
+pub ended_at_words : (call : Call) (status : Status) (new : FolderState) (first after : SinkState) → ComesAt status at_words → new ≡ call.folder → EarlyLeaves status call first after → Ends (ending_of call status new first after)
+ended_at_words call status new first after comes same left = (
+  at_words,
+  record {
+    comes = comes;
+    opened_first = subst (OpensFirst 0 call.names call.folder) (sym same) (none_opened call.names call.folder);
+    others_stay = subst (StayOutside (take 0 call.names) call.folder) (sym same) (all_stay (take 0 call.names) call.folder);
+    built = λ past. absurd past;
+    left = left;
+  },
+)
+
+module _ (call : Call) (new : FolderState) (first after : SinkState) (stay : StayOutside (take 1 call.names) call.folder new) where
+  -- the plan's file was opened
+  ended_at_plan : (status : Status) → ComesAt status at_plan → OpensFirst 1 call.names call.folder new → EarlyLeaves status call first after → Ends (ending_of call status new first after)
+  ended_at_plan status comes opened left = (
+    at_plan,
+    record {
+      comes = comes;
+      opened_first = opened;
+      others_stay = stay;
+      built = λ past. absurd past;
+      left = left;
+    },
+  )
+
+  -- it was not
+  ended_before_plan : (status : Status) → ComesAt status (at_opening 0) → OpensFirst 0 call.names call.folder new → EarlyLeaves status call first after
+      → KeepsLast 0 (ending_of call status new first after) → Ends (ending_of call status new first after)
+  ended_before_plan status comes opened left keeps = (
+    at_opening 0,
+    record {
+      comes = comes;
+      opened_first = opened;
+      others_stay = stay;
+      built = λ past. absurd (omega (arith, past));
+      left = (left, keeps);
+    },
+  )
+
+  first_alone : IsRun call → OpensFirst 1 (operand call.names 1 ∷ []) call.folder new → OpensFirst 1 call.names call.folder new
+  first_alone run opened = subst (λ (ns : List (List ℕ)). OpensFirst 1 ns call.folder new) (sym run.named) opened
+
+  -- memory was wanting, before the plan's file was opened or behind
+  memory_ended : (count : ℕ) → count ≤ 1 → OpensFirst count call.names call.folder new → Delivered (status_line [] NoMemory) first after → Ends (ending_of call NoMemory new first after)
+  memory_ended zero most opened line = ended_before_plan NoMemory tt opened line (λ told t n is alone. absurd (cc))
+  memory_ended (suc zero) most opened line = ended_at_plan NoMemory tt opened line
+  memory_ended (suc (suc n)) most opened line = absurd (omega (arith, most))
+
+  pub ended_early : (stop : PlanStop) → OpensAtMost 1 call.names call.folder new → Unprepared stop call new → Delivered (refusal_text stop) first after → Ends (ending_of call (plan_status stop) new first after)
+  ended_early NoWords most u line = ended_at_words call Usage new first after refl u.1 line
+  ended_early (PlanFile NotOpened) most u line = ended_before_plan (OpenFault 1) (0, refl, refl) u.1.0 line (λ told t n is alone. u.1.2 (slice_index_or call.names 0 []))
+  ended_early (PlanFile NotRead) most u line = ended_at_plan (ReadFault 1) (inl (refl, refl)) (first_alone u.0 u.1.0) line
+  ended_early (PlanFile TooLong) most u line = ended_at_plan (Limit Plan) refl (first_alone u.0 u.1.0) line
+  ended_early (PlanFile FileMemory) most u line = memory_ended most.0 most.1 most.2 line
+  ended_early (Refused fault) most u line = ended_at_plan (PlanRefused fault.line fault.why) refl (first_alone u.0 u.1.0) line
+  ended_early (OtherCount want got) most u line = ended_at_plan (FileCount want got) refl (first_alone u.0 u.1.0) line
+  ended_early (Stuck found) most u line =
+      ended_at_plan (Unsafe found.node found.risk) refl (first_alone u.0 u.1.0.0) (u.1.0.1, found.lines, λ told. (u.1.0.3 told).1, u.1.0.2.1, line)
+  ended_early PlanMemory most (inl run) line = memory_ended most.0 most.1 most.2 line
+  ended_early PlanMemory most (inr same) line = ended_at_words call NoMemory new first after tt same line
+
+-- ---- causes
+
+module _ (call : Call) (new : FolderState) where
+  some_operands : IsRun call → 1 ≤ length call.names
+  some_operands run = let e = ap length run.named in omega (arith, e)
+
+  first_fault : IsRun call → Rose (call.folder.faults (operand call.names 1)) (new.faults (operand call.names 1)) → HasFault call new 1
+  first_fault run rose = record { first = omega arith; last = some_operands run; rose = rose; later = λ more. absurd (omega (arith, more)) }
+
+  pub fault_early : (stop : PlanStop) (n : ℕ) → Unprepared stop call new → plan_status stop ≡ ReadFault n → HasFault call new n
+  fault_early NoWords n u e = absurd (cc)
+  fault_early (PlanFile NotOpened) n u e = absurd (cc)
+  fault_early (PlanFile NotRead) n u e = let same : 1 ≡ n = cc e in subst (HasFault call new) same (first_fault u.0 u.1.1)
+  fault_early (PlanFile TooLong) n u e = absurd (cc)
+  fault_early (PlanFile FileMemory) n u e = absurd (cc)
+  fault_early (Refused fault) n u e = absurd (cc)
+  fault_early (OtherCount want got) n u e = absurd (cc)
+  fault_early (Stuck found) n u e = absurd (cc)
+  fault_early PlanMemory n u e = absurd (cc)
+
+  pub unopened_early : (stop : PlanStop) (n : ℕ) → Unprepared stop call new → plan_status stop ≡ OpenFault n → IsUnopened call new n
+  unopened_early NoWords n u e = absurd (cc)
+  unopened_early (PlanFile NotOpened) n u e =
+      let same : 1 ≡ n = cc e in
+      subst (IsUnopened call new) same (record { fault = first_fault u.0 u.1.1; before = 0; number = refl; opened = u.1.0 })
+  unopened_early (PlanFile NotRead) n u e = absurd (cc)
+  unopened_early (PlanFile TooLong) n u e = absurd (cc)
+  unopened_early (PlanFile FileMemory) n u e = absurd (cc)
+  unopened_early (Refused fault) n u e = absurd (cc)
+  unopened_early (OtherCount want got) n u e = absurd (cc)
+  unopened_early (Stuck found) n u e = absurd (cc)
+  unopened_early PlanMemory n u e = absurd (cc)
+
+-- ---- words
+
+-- a result that no words gave is this stop, and no other
+pub usage_alone : {T : Type 0} (result : Result T PlanStop) (stop : PlanStop) → result ≡ Err stop → result ≡ Err NoWords → stop ≡ NoWords
+usage_alone result stop is none = let e : Err stop ≡ Err NoWords = sym is ∙ none in cc e
+
+pub no_words : (stop : PlanStop) (call : Call) (after : FolderState) → Unprepared stop call after → plan_status stop ≡ Usage → call.is_run ≡ false
+no_words NoWords call after u e = u.0
+no_words (PlanFile NotOpened) call after u e = absurd (cc)
+no_words (PlanFile NotRead) call after u e = absurd (cc)
+no_words (PlanFile TooLong) call after u e = absurd (cc)
+no_words (PlanFile FileMemory) call after u e = absurd (cc)
+no_words (Refused fault) call after u e = absurd (cc)
+no_words (OtherCount want got) call after u e = absurd (cc)
+no_words (Stuck found) call after u e = absurd (cc)
+no_words PlanMemory call after u e = absurd (cc)
+
+-- the lines of an unsafe plan spell no element
+pub early_lines : (stop : PlanStop) (call : Call) (after : FolderState) → Unprepared stop call after → HasLines stop
+early_lines NoWords call after u = tt
+early_lines (PlanFile stop) call after u = tt
+early_lines (Refused fault) call after u = tt
+early_lines (OtherCount want got) call after u = tt
+early_lines (Stuck found) call after u = u.1.1
+early_lines PlanMemory call after u = tt
+
+-- ---- what is refused is refused with one status
+
+-- a plan has one first node at a risk alone
+same_risk : (nodes : List PlanNode) (node other : ℕ) (risk own : PlanRisk) → IsFirstRisk nodes node risk → IsFirstRisk nodes other own → Unsafe node risk ≡ Unsafe other own
+same_risk nodes node other risk own f g = let same = risk_is_alone nodes node other risk own f g in ap₂ Unsafe same.0 same.1
+
+module _ (files : ℕ) (plan : Outline) where
+  count_alone : (want got : ℕ) (other : Status) → RefusesPlan (FileCount want got) files plan → RefusesPlan other files plan → FileCount want got ≡ other
+  count_alone want got Done a b = absurd b
+  count_alone want got Usage a b = absurd b
+  count_alone want got (PlanRefused line why) a b = absurd b
+  count_alone want got (FileCount w g) a b = ap₂ FileCount (a.1 ∙ sym b.1) (a.2 ∙ sym b.2)
+  count_alone want got (Unsafe node risk) a b = absurd (a.0 b.0)
+  count_alone want got (OpenFault n) a b = absurd b
+  count_alone want got (ReadFault n) a b = absurd b
+  count_alone want got WriteFault a b = absurd b
+  count_alone want got NoMemory a b = absurd b
+  count_alone want got (Limit what) a b = absurd b
+
+  unsafe_alone : (node : ℕ) (risk : PlanRisk) (other : Status) → RefusesPlan (Unsafe node risk) files plan → RefusesPlan other files plan → Unsafe node risk ≡ other
+  unsafe_alone node risk Done a b = absurd b
+  unsafe_alone node risk Usage a b = absurd b
+  unsafe_alone node risk (PlanRefused line why) a b = absurd b
+  unsafe_alone node risk (FileCount w g) a b = absurd (b.0 a.0)
+  unsafe_alone node risk (Unsafe n own) a b = same_risk plan.nodes node n risk own a.1 b.1
+  unsafe_alone node risk (OpenFault n) a b = absurd b
+  unsafe_alone node risk (ReadFault n) a b = absurd b
+  unsafe_alone node risk WriteFault a b = absurd b
+  unsafe_alone node risk NoMemory a b = absurd b
+  unsafe_alone node risk (Limit what) a b = absurd b
+
+  plan_alone : (one other : Status) → RefusesPlan one files plan → RefusesPlan other files plan → one ≡ other
+  plan_alone Done other a b = absurd a
+  plan_alone Usage other a b = absurd a
+  plan_alone (PlanRefused line why) other a b = absurd a
+  plan_alone (FileCount want got) other a b = count_alone want got other a b
+  plan_alone (Unsafe node risk) other a b = unsafe_alone node risk other a b
+  plan_alone (OpenFault n) other a b = absurd a
+  plan_alone (ReadFault n) other a b = absurd a
+  plan_alone WriteFault other a b = absurd a
+  plan_alone NoMemory other a b = absurd a
+  plan_alone (Limit what) other a b = absurd a
+
+  -- a safe plan of the right number of streams is not refused
+  never_fit : (status : Status) → length (streams_of plan.nodes) ≡ files → IsSafePlan plan.nodes → RefusesPlan status files plan → ⊥
+  never_fit Done count safe a = a
+  never_fit Usage count safe a = a
+  never_fit (PlanRefused line why) count safe a = a
+  never_fit (FileCount want got) count safe a = a.0 count
+  never_fit (Unsafe node risk) count safe a = risk_is_unsafe plan.nodes node risk a.1 safe
+  never_fit (OpenFault n) count safe a = a
+  never_fit (ReadFault n) count safe a = a
+  never_fit WriteFault count safe a = a
+  never_fit NoMemory count safe a = a
+  never_fit (Limit what) count safe a = a
+
+read_alone : (files : ℕ) (result : Result Outline PlanFault) (one other : Status) → RefusesRead one files result → RefusesRead other files result → one ≡ other
+read_alone files (Ok plan) one other a b = plan_alone files plan one other a b
+read_alone files (Err fault) one other a b = a ∙ sym b
+
+bytes_alone : (files : ℕ) (bytes : List ℕ) (one other : Status) → RefusesBytes one files bytes → RefusesBytes other files bytes → one ≡ other
+bytes_alone files bytes one other (inl a) (inl b) = a.1 ∙ sym b.1
+bytes_alone files bytes one other (inl a) (inr b) = absurd (let more = a.0 in let few = b.0 in omega (arith, more, few))
+bytes_alone files bytes one other (inr a) (inl b) = absurd (let few = a.0 in let more = b.0 in omega (arith, more, few))
+bytes_alone files bytes one other (inr a) (inr b) = read_alone files (plan_read bytes) one other a.1 b.1
+
+refused_alone : (call : Call) (one other : Status) → Refuses call one → Refuses call other → one ≡ other
+refused_alone call one other (inl a) (inl b) = a.1 ∙ sym b.1
+refused_alone call one other (inl a) (inr b) = absurd (false≢true (sym a.0 ∙ b.0))
+refused_alone call one other (inr a) (inl b) = absurd (false≢true (sym b.0 ∙ a.0))
+refused_alone call one other (inr a) (inr b) = bytes_alone (length (file_names call)) (plan_bytes call) one other a.1 b.1
+
+-- ---- refusals
+
+-- a refusal of the plan or of the number of files
+abbrev pub IsOfPlan : Status → Type 0
+IsOfPlan Done = ⊥
+IsOfPlan Usage = ⊥
+IsOfPlan (OpenFault n) = ⊥
+IsOfPlan (ReadFault n) = ⊥
+IsOfPlan (PlanRefused line why) = Unit {0}
+IsOfPlan (FileCount want got) = Unit {0}
+IsOfPlan (Unsafe node risk) = Unit {0}
+IsOfPlan WriteFault = ⊥
+IsOfPlan NoMemory = ⊥
+IsOfPlan (Limit Plan) = Unit {0}
+IsOfPlan (Limit (Node node)) = ⊥
+IsOfPlan (Limit (File stream)) = ⊥
+
+-- how it is known that the bytes are refused so
+too_long : (files : ℕ) (bytes : List ℕ) → 1048576 < length bytes → RefusesBytes (Limit Plan) files bytes
+too_long files bytes more = inl (more, refl)
+
+has_fault : (files : ℕ) (bytes : List ℕ) (fault : PlanFault) → (length bytes ≤ 1048576) × (plan_read bytes ≡ Err fault) → RefusesBytes (PlanRefused fault.line fault.why) files bytes
+has_fault files bytes fault read = inr (read.0, subst (RefusesRead (PlanRefused fault.line fault.why) files) (sym read.1) refl)
+
+is_unfit : (status : Status) (files : ℕ) (bytes : List ℕ) (plan : Outline) → RefusesPlan status files plan → (length bytes ≤ 1048576) × (plan_read bytes ≡ Ok plan) → RefusesBytes status files bytes
+is_unfit status files bytes plan refuses read = inr (read.0, subst (RefusesRead status files) (sym read.1) refuses)
+
+-- the status of a call of the right form
+module _ (call : Call) (run : call.is_run ≡ true) where
+  abbrev of_bytes : Status → Type 0
+  of_bytes status = HasToldPlan call → RefusesBytes status (length (file_names call)) (plan_bytes call)
+
+  refused_so : (status other : Status) → of_bytes status → status ≡ other → IsRefused call other
+  refused_so status other is same = subst (IsRefused call) same (run, λ told. inr (run, is told))
+
+  answers_so : (answer : Status) → of_bytes answer → AnswersRefusal answer call
+  answers_so answer is told status refuses = inl (refused_alone call answer status (inr (run, is told)) refuses)
+
+pub refused_early : (stop : PlanStop) (call : Call) (after : FolderState) (status : Status) → Unprepared stop call after → plan_status stop ≡ status → IsOfPlan status → IsRefused call status
+refused_early NoWords call after status u e p = absurd (subst IsOfPlan (sym e) p)
+refused_early (PlanFile NotOpened) call after status u e p = absurd (subst IsOfPlan (sym e) p)
+refused_early (PlanFile NotRead) call after status u e p = absurd (subst IsOfPlan (sym e) p)
+refused_early (PlanFile TooLong) call after status u e p = refused_so call u.0.form (Limit Plan) status (λ told. too_long (length (file_names call)) (plan_bytes call) (u.1.1 told)) e
+refused_early (PlanFile FileMemory) call after status u e p = absurd (subst IsOfPlan (sym e) p)
+refused_early (Refused fault) call after status u e p = refused_so call u.0.form (PlanRefused fault.line fault.why) status (λ told. has_fault (length (file_names call)) (plan_bytes call) fault (u.1.1 told)) e
+refused_early (OtherCount want got) call after status u e p = refused_so call u.0.form (FileCount want got) status (λ told. is_unfit (FileCount want got) (length (file_names call)) (plan_bytes call) u.1.1 u.1.2 (u.1.3 told)) e
+refused_early (Stuck found) call after status u e p =
+    refused_so call u.0.form (Unsafe found.node found.risk) status (λ told. is_unfit (Unsafe found.node found.risk) (length (file_names call)) (plan_bytes call) u.1.0.1 u.1.0.2.0 (u.1.0.3 told)) e
+refused_early PlanMemory call after status u e p = absurd (subst IsOfPlan (sym e) p)
+
+-- a status that a run alone has
+abbrev pub IsOfRun : Status → Type 0
+IsOfRun Done = ⊥
+IsOfRun Usage = ⊥
+IsOfRun (OpenFault n) = ⊥
+IsOfRun (ReadFault n) = ⊥
+IsOfRun (PlanRefused line why) = ⊥
+IsOfRun (FileCount want got) = ⊥
+IsOfRun (Unsafe node risk) = ⊥
+IsOfRun WriteFault = Unit {0}
+IsOfRun NoMemory = ⊥
+IsOfRun (Limit Plan) = ⊥
+IsOfRun (Limit (Node node)) = Unit {0}
+IsOfRun (Limit (File stream)) = Unit {0}
+
+pub run_never : (stop : PlanStop) (status : Status) → plan_status stop ≡ status → IsOfRun status → ⊥
+run_never NoWords status e p = subst IsOfRun (sym e) p
+run_never (PlanFile NotOpened) status e p = subst IsOfRun (sym e) p
+run_never (PlanFile NotRead) status e p = subst IsOfRun (sym e) p
+run_never (PlanFile TooLong) status e p = subst IsOfRun (sym e) p
+run_never (PlanFile FileMemory) status e p = subst IsOfRun (sym e) p
+run_never (Refused fault) status e p = subst IsOfRun (sym e) p
+run_never (OtherCount want got) status e p = subst IsOfRun (sym e) p
+run_never (Stuck found) status e p = subst IsOfRun (sym e) p
+run_never PlanMemory status e p = subst IsOfRun (sym e) p
+
+pub refused_never : (stop : FilesStop) (status : Status) → files_status stop ≡ status → IsOfPlan status → ⊥
+refused_never (Opening (Fault stream)) status e p = subst IsOfPlan (sym e) p
+refused_never (Opening OpeningMemory) status e p = subst IsOfPlan (sym e) p
+refused_never (Run (RunFault stream)) status e p = subst IsOfPlan (sym e) p
+refused_never (Run (TooLarge stream)) status e p = subst IsOfPlan (sym e) p
+refused_never (Run (RunLimit node)) status e p = subst IsOfPlan (sym e) p
+refused_never (Run (RunCut (CoreLimit node))) status e p = subst IsOfPlan (sym e) p
+refused_never (Run (RunCut CoreMemory)) status e p = subst IsOfPlan (sym e) p
+refused_never (Run WriteFailed) status e p = subst IsOfPlan (sym e) p
+refused_never (Run RunMemory) status e p = subst IsOfPlan (sym e) p
+
+pub usage_never : (stop : FilesStop) → files_status stop ≡ Usage → ⊥
+usage_never (Opening (Fault stream)) e = cc
+usage_never (Opening OpeningMemory) e = cc
+usage_never (Run (RunFault stream)) e = cc
+usage_never (Run (TooLarge stream)) e = cc
+usage_never (Run (RunLimit node)) e = cc
+usage_never (Run (RunCut (CoreLimit node))) e = cc
+usage_never (Run (RunCut CoreMemory)) e = cc
+usage_never (Run WriteFailed) e = cc
+usage_never (Run RunMemory) e = cc
+
+pub answers_early : (stop : PlanStop) (call : Call) (after : FolderState) → Unprepared stop call after → AnswersRefusal (plan_status stop) call
+answers_early NoWords call after u = λ told status refuses. inl (refused_alone call Usage status (inl (u.0, refl)) refuses)
+answers_early (PlanFile NotOpened) call after u = λ told status refuses. inr (inr (inl refl))
+answers_early (PlanFile NotRead) call after u = λ told status refuses. inr (inr (inr refl))
+answers_early (PlanFile TooLong) call after u = answers_so call u.0.form (Limit Plan) (λ told. too_long (length (file_names call)) (plan_bytes call) (u.1.1 told))
+answers_early (PlanFile FileMemory) call after u = λ told status refuses. inr (inl refl)
+answers_early (Refused fault) call after u = answers_so call u.0.form (PlanRefused fault.line fault.why) (λ told. has_fault (length (file_names call)) (plan_bytes call) fault (u.1.1 told))
+answers_early (OtherCount want got) call after u = answers_so call u.0.form (FileCount want got) (λ told. is_unfit (FileCount want got) (length (file_names call)) (plan_bytes call) u.1.1 u.1.2 (u.1.3 told))
+answers_early (Stuck found) call after u =
+    answers_so call u.0.form (Unsafe found.node found.risk) (λ told. is_unfit (Unsafe found.node found.risk) (length (file_names call)) (plan_bytes call) u.1.0.1 u.1.0.2.0 (u.1.0.3 told))
+answers_early PlanMemory call after u = λ told status refuses. inr (inl refl)
+
+-- where there is something to run, nothing is refused
+bytes_never : (files : ℕ) (bytes : List ℕ) (status : Status) → IsPlanOf files bytes → RefusesBytes status files bytes → ⊥
+bytes_never files bytes status is (inl long) = let few = is.0 in let more = long.0 in omega (arith, few, more)
+bytes_never files bytes status is (inr read) =
+    let plan = is.1.0 in
+    never_fit files plan status is.1.2 is.1.3 (subst (RefusesRead status files) (read_as bytes plan is.1.1) read.1)
+
+pub refuses_never : (call : Call) (status : Status) → IsBuilt call → HasToldPlan call → Refuses call status → ⊥
+refuses_never call status built told (inl not) = false≢true (sym not.0 ∙ built.form)
+refuses_never call status built told (inr refuses) = bytes_never (length (file_names call)) (plan_bytes call) status (built.plan told) refuses.1
+
+pub answers_built : (call : Call) (answer : Status) → IsBuilt call → AnswersRefusal answer call
+answers_built call answer built told status refuses = absurd (refuses_never call status built told refuses)

@@ -1,0 +1,71 @@
+-- The names of a plan's nodes, and its streams by their numbers.
+use Rattle.std.proofs.Common.{◌≡◌, ◌≤◌, ℕ, zero, suc, Bool, true, false, cond, List, [], ◌∷◌, length, flat_map, get_or, refl, ap, ◌∙◌, inl, inr, arith}
+use Rattle.std.proofs.lemmas.Bool.{and_parts, and_from}
+use Rattle.pj_value.specs.Lists.{In}
+use Rattle.pj_value.proofs.Members.{In-append_left, In-flat_map_from, all_at, all_from}
+use Rattle.pj_plan.specs.declared.node.Node.{Node}
+use Rattle.pj_plan.specs.declared.node.Node.TheVariants.{Stream, Select, Project, Union, Join, Group}
+use Rattle.pj_plan.specs.declared.node.PlanNode.{PlanNode}
+use Rattle.pj_plan.specs.declared.node.Outline.{Outline}
+use Rattle.pj_plan.specs.Names.{is_name, is_column_name, is_word, begins_small, is_spelled}
+use Rattle.pj_plan.specs.Nodes.{is_stream, streams_of, streams_in}
+use Rattle.pj_plan.specs.Canonical.{declaration, node_name, node_statements, statements_of}
+use Rattle.pj_plan.specs.Kept.{IsMadeAgain}
+use Rattle.pj_plan.specs.Sound.{IsSoundPlan}
+use Rattle.pj_run.specs.PlanNames.{HasShortNames, are_short, is_short}
+use Rattle.pj_report.proofs.NodeNames.{past_names}
+use Rattle.pj_alone.specs.Endings.{stream_name}
+use Rattle.pj_feed.proofs.StreamNodes.{count_numbers, few-streams, name-at}
+
+-- ---- streams by their numbers
+
+-- few nodes have few streams
+pub few_numbers : (nodes : List PlanNode) → IsSoundPlan nodes → length (streams_of nodes) ≤ 64
+few_numbers nodes sound = let few = few-streams nodes sound in let count = count_numbers nodes in omega (arith, few, count)
+
+-- the name of a node is that of the stream that it is
+pub named_stream : (nodes : List PlanNode) (s number : ℕ) → suc s ≤ length (streams_of nodes) → number ≡ get_or (streams_of nodes) s number → node_name nodes number ≡ stream_name (streams_in nodes) s
+named_stream nodes s number within is =
+    let count = count_numbers nodes in
+    ap (node_name nodes) is ∙ name-at nodes s number (omega (arith, within, count))
+
+-- there is no stream of this number
+pub unnamed_stream : (nodes : List PlanNode) (s : ℕ) → length (streams_of nodes) ≤ s → [] ≡ stream_name (streams_in nodes) s
+unnamed_stream nodes s past = let e = count_numbers nodes in past_names (streams_in nodes) s (omega (arith, past, e))
+
+-- ---- plain names
+
+plain : (name : List ℕ) → is_name name ≡ true → is_short name ≡ true
+plain name e = (and_parts (begins_small name) (is_short name) (and_parts (is_word name) _ (and_parts (is_column_name name) _ e).0).0).1
+
+plain_of : (nodes : List PlanNode) (x : PlanNode) (node : Node) → is_spelled (declaration nodes x node) ≡ true → is_short x.name ≡ true
+plain_of nodes x (Stream schemes) e = plain x.name (and_parts (is_name x.name) _ e).0
+plain_of nodes x (Select input test) e = plain x.name (and_parts (is_name x.name) _ (and_parts _ _ e).0).0
+plain_of nodes x (Project input columns) e = plain x.name (and_parts (is_name x.name) _ (and_parts _ _ e).0).0
+plain_of nodes x (Union inputs) e = plain x.name (and_parts (is_name x.name) _ e).0
+plain_of nodes x (Join inputs spec) e = plain x.name (and_parts (is_name x.name) _ (and_parts _ _ e).0).0
+plain_of nodes x (Group input spec) e = plain x.name (and_parts (is_name x.name) _ (and_parts _ _ e).0).0
+
+-- the statement that declares a node can be spelled
+declared : (plan : Outline) (node : PlanNode) → IsMadeAgain plan → In node plan.nodes → is_spelled (declaration plan.nodes node node.node) ≡ true
+declared plan node made there =
+    all_at is_spelled (statements_of plan) (declaration plan.nodes node node.node) made.spelled
+    (inr (In-append_left (declaration plan.nodes node node.node) (flat_map (node_statements plan.nodes) plan.nodes) _
+    (In-flat_map_from (node_statements plan.nodes) (declaration plan.nodes node node.node) node plan.nodes there (inl refl))))
+
+-- the names of a plan that is made again by its canonical statements
+pub plain_names : (plan : Outline) → IsMadeAgain plan → HasShortNames plan.nodes
+plain_names plan made = all_from (λ node. is_short node.name) plan.nodes (λ node there. plain_of plan.nodes node node.node (declared plan node made there))
+
+pub name_plain : (nodes : List PlanNode) (n : ℕ) → are_short nodes ≡ true → is_short (node_name nodes n) ≡ true
+name_plain [] n e = refl
+name_plain (node ∷ nodes) zero e = (and_parts (is_short node.name) (are_short nodes) e).0
+name_plain (node ∷ nodes) (suc n) e = name_plain nodes n (and_parts (is_short node.name) (are_short nodes) e).1
+
+pub streams_plain : (nodes : List PlanNode) → are_short nodes ≡ true → are_short (streams_in nodes) ≡ true
+streams_plain [] e = refl
+streams_plain (node ∷ nodes) e = let p = and_parts (is_short node.name) (are_short nodes) e in go (is_stream node.node) p.0 (streams_plain nodes p.1)
+  where
+    go : (b : Bool) → is_short node.name ≡ true → are_short (streams_in nodes) ≡ true → are_short (cond b (node ∷ streams_in nodes) (streams_in nodes)) ≡ true
+    go true one more = and_from (is_short node.name) (are_short (streams_in nodes)) one more
+    go false one more = more

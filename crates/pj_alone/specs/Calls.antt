@@ -1,0 +1,112 @@
+-- What is asked for, over a folder.
+use Rattle.std.specs.Prelude.{ℕ, Bool, true, false, List, [], ◌∷◌, Option, Some, None, IsTrue, slice_index_or}
+use Rattle.pj_io.specs.States.{FolderState}
+use Rattle.pj_plan.specs.declared.node.Outline.{Outline}
+use Rattle.pj_plan.specs.declared.node.PlanNode.{PlanNode}
+use Rattle.pj_report.specs.declared.writer.Form.{Form}
+use Rattle.pj_report.specs.declared.writer.Form.TheVariants.{AsTheyCome, Sorted}
+use Rattle.pj_words.specs.declared.request.Request.{Request}
+use Rattle.pj_words.specs.declared.request.Request.TheVariants.{Run, Replay, Check, Make}
+use Rattle.pj_feed.specs.Named.{AreTold, files_named}
+use Rattle.pj_feed.specs.Opened.{IsReadToEnd}
+use Rattle.pj_run.specs.Jobs.{Job}
+use Rattle.pj_alone.specs.declared.calls.Options.{Options}
+use Rattle.pj_alone.specs.Plans.{plan_of}
+
+-- ---- a call over a folder
+
+-- A call: whether it is a run; the operands, which are the plan's name and those of the streams' files; how it is to be
+-- run; and what the folder tells of itself before the call
+pub record Call : Type 0 where
+  pub is_run : Bool
+  pub names : List (List ℕ)
+  pub options : Options
+  pub folder : FolderState
+
+-- what a request wants: the same without the folder
+pub record Wanted : Type 0 where
+  pub is_run : Bool
+  pub names : List (List ℕ)
+  pub options : Options
+
+abbrev pub form_by : Bool → Form
+form_by true = Sorted
+form_by false = AsTheyCome
+
+abbrev pub run_wanted : List ℕ → List (List ℕ) → Options → Wanted
+run_wanted plan files options = record { is_run = true; names = plan ∷ files; options = options }
+
+-- nothing that there is
+abbrev pub nothing_wanted : Wanted
+nothing_wanted = record { is_run = false; names = []; options = record { trace = false; limit = 0; form = AsTheyCome; check = false } }
+
+-- other requests are not there yet
+abbrev pub wanted : Option Request → Wanted
+wanted None = nothing_wanted
+wanted (Some (Run plan files workers sorted trace check limit)) =
+    run_wanted plan files (record { trace = trace; limit = limit; form = form_by sorted; check = check })
+wanted (Some (Replay plan script files trace limit)) = nothing_wanted
+wanted (Some (Check plan print)) = nothing_wanted
+wanted (Some (Make seed count)) = nothing_wanted
+
+abbrev pub call_by : Wanted → FolderState → Call
+call_by want folder = record { is_run = want.is_run; names = want.names; options = want.options; folder = folder }
+
+-- what a request asks for
+abbrev pub call_for : Request → FolderState → Call
+call_for request folder = call_by (wanted (Some request)) folder
+
+-- ---- operands
+
+-- the operand with this number, counted from 1
+abbrev pub operand : List (List ℕ) → ℕ → List ℕ
+operand names n = slice_index_or ([] ∷ names) n []
+
+-- the operands behind the plan's, the streams'
+abbrev pub behind_first : List (List ℕ) → List (List ℕ)
+behind_first [] = []
+behind_first (name ∷ names) = names
+
+-- the names of the streams' files
+abbrev pub file_names : Call → List (List ℕ)
+file_names call = behind_first call.names
+
+-- the bytes of the plan's file, and those of the streams' files
+abbrev pub plan_bytes : Call → List ℕ
+plan_bytes call = call.folder.contents (operand call.names 1)
+
+abbrev pub stream_files : Call → List (List ℕ)
+stream_files call = files_named (file_names call) call.folder
+
+-- the plan is told
+abbrev pub HasToldPlan : Call → Type 0
+HasToldPlan call = IsTrue (call.folder.told (operand call.names 1))
+
+-- the plan's file was read to its end, where it is told
+abbrev pub HasReadPlan : Call → FolderState → Type 0
+HasReadPlan call after = HasToldPlan call → IsReadToEnd (operand call.names 1) call.folder after
+
+-- plan and files are told
+pub record IsTold (call : Call) : Type 0 where
+  pub plan : HasToldPlan call
+  pub files : AreTold (file_names call) call.folder
+
+-- ---- the job
+
+-- a plan of these nodes that is run with these options
+abbrev pub job_with : Options → List PlanNode → Job
+job_with options nodes = record {
+  nodes = nodes;
+  trace = options.trace;
+  limit = options.limit;
+  form = options.form;
+  check = options.check;
+}
+
+abbrev pub job_if : Call → Option Outline → Option Job
+job_if call None = None
+job_if call (Some plan) = Some (job_with call.options plan.nodes)
+
+-- what the call runs, if the plan's bytes spell a plan
+abbrev pub job_of : Call → Option Job
+job_of call = job_if call (plan_of (plan_bytes call))

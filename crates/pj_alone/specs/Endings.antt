@@ -1,0 +1,223 @@
+-- How a call ended: how far it came, and what it left of the folder and in the sink.
+use Rattle.std.specs.Prelude.{◌≡◌, ◌<◌, ◌≤◌, ◌+◌, ℕ, ◌⊎◌, ⊤, List, [], length, take, Ok, Some, IsTrue, slice_index_or}
+use Rattle.pj_plan.specs.declared.node.Outline.{Outline}
+use Rattle.pj_plan.specs.declared.node.PlanNode.{PlanNode}
+use Rattle.pj_plan.specs.Nodes.{streams_in}
+use Rattle.pj_plan.specs.Canonical.{node_name}
+use Rattle.pj_plan_text.specs.PlanRead.{plan_read}
+use Rattle.pj_judge.specs.Judgments.{AreUnsafeLines}
+use Rattle.pj_safety.specs.declared.risk.PlanRisk.{PlanRisk}
+use Rattle.pj_io.specs.Causes.{Rose}
+use Rattle.pj_io.specs.States.{FolderState, SinkState}
+use Rattle.pj_feed.specs.Named.{IsAlone}
+use Rattle.pj_feed.specs.Opened.{OpensFirst, StayOutside}
+use Rattle.pj_report.specs.declared.status.Status.{Status}
+use Rattle.pj_report.specs.declared.status.Status.TheVariants.{Done, Usage, OpenFault, ReadFault, PlanRefused, FileCount, Unsafe, WriteFault, NoMemory, Limit}
+use Rattle.pj_report.specs.declared.status.LimitOf.{LimitOf}
+use Rattle.pj_report.specs.declared.status.LimitOf.TheVariants.{Plan, Node, File}
+use Rattle.pj_report.specs.Report.{status_line}
+use Rattle.pj_report.specs.Written.{flat, WholeLines, FrontOf, Delivered, holding}
+use Rattle.pj_run.specs.Ends.{EndsBefore, EndsAtBytes, EndsAtLimit, EndsCut, ArrivedOf}
+use Rattle.pj_run.specs.Jobs.{Job}
+use Rattle.pj_run.specs.Runs.{run_lines}
+use Rattle.pj_alone.specs.Calls.{Call, job_of, IsTold, HasToldPlan, operand, file_names, plan_bytes, stream_files}
+use Rattle.pj_alone.specs.Top.{IsBuilt}
+
+-- A call and the status that it answers, what the folder tells of itself behind it, and what the sink told before and tells behind
+pub record Ending : Type 0 where
+  pub call : Call
+  pub status : Status
+  pub after : FolderState
+  pub old : SinkState
+  pub new : SinkState
+
+abbrev pub ending_of : Call → Status → FolderState → SinkState → SinkState → Ending
+ending_of call status after old new = record { call = call; status = status; after = after; old = old; new = new }
+
+-- ---- how far a call came
+
+-- How far a call came
+pub data Stage : Type 0 where
+  -- to what is asked for, which is nothing that there is; or memory was wanting before
+  at_words : Stage
+  -- to the plan, whose file was opened
+  at_plan : Stage
+  -- to the opening of the files: so many operands' were opened, and the next one's was not
+  at_opening : ℕ → Stage
+  -- to the run, all files being open
+  in_run : Stage
+  -- to the end of the run
+  at_end : Stage
+
+-- how many operands' files were opened
+abbrev pub opened_at : Stage → Call → ℕ
+opened_at at_words call = 0
+opened_at at_plan call = 1
+opened_at (at_opening count) call = count
+opened_at in_run call = length call.names
+opened_at at_end call = length call.names
+
+-- how many of them were tried
+abbrev pub tried_at : Stage → Call → ℕ
+tried_at at_words call = 0
+tried_at at_plan call = 1
+tried_at (at_opening count) call = count + 1
+tried_at in_run call = length call.names
+tried_at at_end call = length call.names
+
+-- it came past the plan
+abbrev pub IsPastPlan : Stage → Type 0
+IsPastPlan at_words = ⊥
+IsPastPlan at_plan = ⊥
+IsPastPlan (at_opening count) = 1 ≤ count
+IsPastPlan in_run = ⊤
+IsPastPlan at_end = ⊤
+
+-- it did not come to the end of the run
+abbrev pub IsBeforeEnd : Stage → Type 0
+IsBeforeEnd at_words = ⊤
+IsBeforeEnd at_plan = ⊤
+IsBeforeEnd (at_opening count) = ⊤
+IsBeforeEnd in_run = ⊤
+IsBeforeEnd at_end = ⊥
+
+-- a limit is met so far
+abbrev pub LimitComesAt : LimitOf → Stage → Type 0
+LimitComesAt Plan stage = stage ≡ at_plan
+LimitComesAt (Node node) stage = stage ≡ in_run
+LimitComesAt (File stream) stage = stage ≡ in_run
+
+-- how far a call comes that answers a status; memory may be wanting anywhere
+abbrev pub ComesAt : Status → Stage → Type 0
+ComesAt Done stage = stage ≡ at_end
+ComesAt Usage stage = stage ≡ at_words
+ComesAt (PlanRefused line why) stage = stage ≡ at_plan
+ComesAt (FileCount want got) stage = stage ≡ at_plan
+ComesAt (Unsafe node risk) stage = stage ≡ at_plan
+ComesAt (OpenFault n) stage = (count : ℕ) × (count + 1 ≡ n) × (stage ≡ at_opening count)
+ComesAt (ReadFault n) stage = ((n ≡ 1) × (stage ≡ at_plan)) ⊎ ((1 < n) × (stage ≡ in_run))
+ComesAt WriteFault stage = stage ≡ in_run
+ComesAt NoMemory stage = IsBeforeEnd stage
+ComesAt (Limit what) stage = LimitComesAt what stage
+
+-- ---- names
+
+-- the name of a stream, by its number
+abbrev pub stream_name : List PlanNode → ℕ → List ℕ
+stream_name streams n = node_name streams n
+
+-- the name of what has a limit
+abbrev pub limit_name : List PlanNode → LimitOf → List ℕ
+limit_name nodes Plan = []
+limit_name nodes (Node node) = node_name nodes node
+limit_name nodes (File stream) = stream_name (streams_in nodes) stream
+
+-- the name that the line of a status has, if any
+abbrev pub stop_name : List PlanNode → Status → List ℕ
+stop_name nodes Done = []
+stop_name nodes Usage = []
+stop_name nodes (PlanRefused line why) = []
+stop_name nodes (FileCount want got) = []
+stop_name nodes (Unsafe node risk) = []
+stop_name nodes (OpenFault n) = []
+stop_name nodes (ReadFault n) = []
+stop_name nodes WriteFault = []
+stop_name nodes NoMemory = []
+stop_name nodes (Limit what) = limit_name nodes what
+
+-- ---- what is left in the sink
+
+-- These bytes were written, in all, and then the status' line, or as much of it as was written before the output failed
+abbrev pub Left : List ℕ → List ℕ → SinkState → SinkState → Type 0
+Left bytes line old new = Delivered line (holding old bytes) new
+
+-- the lines of an unsafe plan were written: of its first node at a risk, at this one
+abbrev pub TellsUnsafe : ℕ → PlanRisk → Call → SinkState → SinkState → Type 0
+TellsUnsafe node risk call old new =
+    (plan : Outline) × (lines : List (List ℕ)) × (HasToldPlan call → plan_read (plan_bytes call) ≡ Ok plan)
+    × AreUnsafeLines plan.nodes node risk lines × Delivered (flat lines) old new
+
+-- what is left where a call did not come to its run: the status' line and nothing else
+abbrev pub EarlyLeaves : Status → Call → SinkState → SinkState → Type 0
+EarlyLeaves Done call old new = ⊥
+EarlyLeaves Usage call old new = Delivered (status_line [] Usage) old new
+EarlyLeaves (PlanRefused line why) call old new = Delivered (status_line [] (PlanRefused line why)) old new
+EarlyLeaves (FileCount want got) call old new = Delivered (status_line [] (FileCount want got)) old new
+EarlyLeaves (Unsafe node risk) call old new = TellsUnsafe node risk call old new
+EarlyLeaves (OpenFault n) call old new = Delivered (status_line [] (OpenFault n)) old new
+EarlyLeaves (ReadFault n) call old new = Delivered (status_line [] (ReadFault n)) old new
+EarlyLeaves WriteFault call old new = ⊥
+EarlyLeaves NoMemory call old new = Delivered (status_line [] NoMemory) old new
+EarlyLeaves (Limit what) call old new = Delivered (status_line [] (Limit what)) old new
+
+-- A read of the file of this operand, a stream's, failed: the lines of the outputs were written up to a turn of that stream, and no
+-- line beyond those that were read whole was lost or made up, where no other stream's file has its name
+abbrev pub FaultLeaves : Job → Call → FolderState → ℕ → List ℕ → List ℕ → Type 0
+FaultLeaves job call after n before bytes =
+    (stream : ℕ) × (n ≡ 2 + stream) × (ends : EndsBefore job (stream_files call) stream before bytes)
+    × (IsAlone stream (file_names call) → ArrivedOf job (stream_files call) stream (after.last (operand call.names n)) ends.front)
+
+-- what a limit leaves: the lines of the outputs up to the step that goes beyond it, or up to the turn of the stream whose file is
+-- too large, at which exactly the elements of the lines had arrived that 2 ^ 40 bytes of it end
+abbrev pub LimitLeaves : Job → List (List ℕ) → LimitOf → List ℕ → List ℕ → Type 0
+LimitLeaves job files Plan before bytes = ⊥
+LimitLeaves job files (Node node) before bytes = EndsAtLimit job files node before bytes
+LimitLeaves job files (File stream) before bytes = EndsAtBytes job files stream before bytes
+
+-- the output failed while the lines up to the step that goes beyond a node's limit were written: a front of them was, and no more
+abbrev pub CutAtLimit : LimitOf → Job → Call → SinkState → SinkState → Type 0
+CutAtLimit Plan job call old new = ⊥
+CutAtLimit (File stream) job call old new = ⊥
+CutAtLimit (Node node) job call old new = EndsCut job (stream_files call) node old.written new.written × Rose old.faults new.faults
+
+-- it failed once memory had been wanting: a front of the lines of the whole run was written, and no more
+abbrev pub CutRun : Job → Call → SinkState → SinkState → Type 0
+CutRun job call old new = FrontOf (flat (run_lines job (stream_files call))) old.written new.written × Rose old.faults new.faults
+
+-- What a run that stopped leaves. Where a write failed: a front of the bytes of the whole run; where memory ran out: whole first
+-- lines of the run; where a read failed or a limit was met: exactly the lines of the outputs until then. Behind such lines stands the
+-- status' line; where the output failed once the run had stopped, a front of them was written
+abbrev pub StopLeaves : Status → Job → Call → FolderState → SinkState → SinkState → Type 0
+StopLeaves Done job call after old new = ⊥
+StopLeaves Usage job call after old new = ⊥
+StopLeaves (PlanRefused line why) job call after old new = ⊥
+StopLeaves (FileCount want got) job call after old new = ⊥
+StopLeaves (Unsafe node risk) job call after old new = ⊥
+StopLeaves (OpenFault n) job call after old new = ⊥
+StopLeaves (ReadFault n) job call after old new =
+    (bytes : List ℕ) × FaultLeaves job call after n old.written bytes × Left bytes (status_line [] (ReadFault n)) old new
+StopLeaves WriteFault job call after old new = FrontOf (flat (run_lines job (stream_files call))) old.written new.written
+StopLeaves NoMemory job call after old new =
+    ((bytes : List ℕ) × WholeLines (run_lines job (stream_files call)) old.written bytes × Left bytes (status_line [] NoMemory) old new) ⊎ CutRun job call old new
+StopLeaves (Limit what) job call after old new =
+    ((bytes : List ℕ) × LimitLeaves job (stream_files call) what old.written bytes × Left bytes (status_line (limit_name job.nodes what) (Limit what)) old new)
+    ⊎ CutAtLimit what job call old new
+
+-- where the call and the sink are told: what the run of its job leaves that stopped
+abbrev pub RunLeaves : Ending → Type 0
+RunLeaves e = IsTold e.call → IsTrue e.new.told → (job : Job) × (job_of e.call ≡ Some job) × StopLeaves e.status job e.call e.after e.old e.new
+
+-- where the call and the sink are told: of the name of the operand at this place, whose file could not be opened, none was closed, if
+-- no other operand has it
+abbrev pub KeepsLast : ℕ → Ending → Type 0
+KeepsLast place e =
+    IsTold e.call → IsTrue e.new.told → (n : ℕ) → e.status ≡ OpenFault n → IsAlone place e.call.names
+    → e.after.last (slice_index_or e.call.names place []) ≡ e.call.folder.last (slice_index_or e.call.names place [])
+
+abbrev pub LeavesAt : Stage → Ending → Type 0
+LeavesAt at_words e = EarlyLeaves e.status e.call e.old e.new
+LeavesAt at_plan e = EarlyLeaves e.status e.call e.old e.new
+LeavesAt (at_opening count) e = EarlyLeaves e.status e.call e.old e.new × KeepsLast count e
+LeavesAt in_run e = RunLeaves e
+LeavesAt at_end e = ⊤
+
+-- ---- the ending
+
+-- The call came so far: the files of the first operands were opened, in order and no others; of the names of operands that were not
+-- tried nothing changed; it came past the plan only where there is something to run; and this is what it left
+pub record EndsAt (stage : Stage) (e : Ending) : Type 0 where
+  pub comes : ComesAt e.status stage
+  pub opened_first : OpensFirst (opened_at stage e.call) e.call.names e.call.folder e.after
+  pub others_stay : StayOutside (take (tried_at stage e.call) e.call.names) e.call.folder e.after
+  pub built : IsPastPlan stage → IsBuilt e.call
+  pub left : LeavesAt stage e

@@ -1,0 +1,259 @@
+// What a request asks for: a plan, with a file for each of its streams.
+ghost use Rattle.std.specs.Prelude.{◌≡◌, ◌≤◌, ◌^◌, ◌∷◌, [], false, Some, Err, IsTrue, IfOk, IfErr, OnOk, length, take};
+ghost use Rattle.pj_io.specs.States.{FolderState};
+ghost use Rattle.pj_io.specs.Folders.{NoneFalls, SameElsewhere};
+ghost use Rattle.pj_plan.specs.Nodes.{streams_of};
+ghost use Rattle.pj_plan_text.specs.PlanRead.{plan_read};
+ghost use Rattle.pj_safety.specs.Certificates.{AreCertificates, certificates_of};
+ghost use Rattle.pj_safety.specs.Safety.{IsSafePlan};
+ghost use Rattle.pj_alone.specs.Calls.{call_for, file_names, form_by, operand, plan_bytes, HasReadPlan, HasToldPlan};
+ghost use Rattle.pj_feed.specs.Opened.{OpensFirst, OpensAtMost, IsReadToEnd, StayOutside};
+ghost use Rattle.pj_alone.specs.Plans.{outline_in, plan_of, IsAsked, SpellsPlan};
+ghost use Rattle.pj_alone.specs.Refusals.{BytesRefused, HasLines, IsRun, PlanCause, PlanUnfit, Unprepared, counted_files};
+ghost use Rattle.pj_run.specs.Runs.{IsNewCore};
+ghost use Rattle.pj_words.specs.Request.{IsRequest};
+
+use crate::plan_file::read_file;
+use crate::stops::PlanStop;
+use pj_core::Core;
+use pj_io::Folder;
+use pj_judge::{Judged, judge};
+use pj_plan::{Plan, PlanStop as ReadStop};
+use pj_plan_text::read_plan;
+use pj_report::Form;
+use pj_run::Writing;
+use pj_shape::Cert;
+use pj_value::{Bytes, List, NoMemory};
+use pj_words::Request;
+use std::alloc::Global;
+
+/// What a run is asked for beside its files.
+#[derive(Clone, Copy)]
+pub struct Options {
+    /// Whether the rows that sweeps remove are noted.
+    pub trace: bool,
+    /// How many elements may arrive at a join or a group, from 1 to 2^40.
+    pub limit: u64,
+    /// The form in which results are written.
+    pub form: Form,
+    /// Whether the report has the line of a check.
+    pub check: bool,
+}
+
+/// A core, and what its run is to write.
+#[derive(Drop)]
+pub struct Prepared {
+    pub core: Core,
+    pub writing: Writing,
+}
+
+/// A core of the plan that the request names, if it asks for a run, and the plan is safe and has a stream for each file.
+pub fn prepare<F: Folder>(
+    alloc: Global,
+    request: &Request,
+    folder: &mut F,
+) -> Result<Prepared, PlanStop>
+    requires { IsRequest request.now }
+    ensures fresh { IfOk result (λ ready. IsNewCore ready.core) }
+    ensures safe { IfOk result (λ ready. IsSafePlan ready.core.plan.nodes) }
+    ensures form { OnOk result (IsRun (call_for request.now (F.state folder.old))) }
+    ensures count { IfOk result (λ ready. length (file_names (call_for request.now (F.state folder.old))) ≡ length (streams_of ready.core.plan.nodes)) }
+    ensures asked { IfOk result (IsAsked (call_for request.now (F.state folder.old)).options) }
+    ensures told { (F.state folder.new).told ≡ (F.state folder.old).told }
+    ensures contents { (F.state folder.new).contents ≡ (F.state folder.old).contents }
+    ensures read { HasToldPlan (call_for request.now (F.state folder.old)) → IfOk result (λ ready. SpellsPlan (plan_bytes (call_for request.now (F.state folder.old))) (outline_in ready.core)) }
+    ensures last { OnOk result (HasReadPlan (call_for request.now (F.state folder.old)) (F.state folder.new)) }
+    ensures other_last { OnOk result (SameElsewhere (operand (call_for request.now (F.state folder.old)).names 1) (F.state folder.old).last (F.state folder.new).last) }
+    ensures later { NoneFalls (F.state folder.old).faults (F.state folder.new).faults }
+    ensures some_opened { OpensAtMost 1 (call_for request.now (F.state folder.old)).names (F.state folder.old) (F.state folder.new) }
+    ensures was_opened { OnOk result (OpensFirst 1 (call_for request.now (F.state folder.old)).names (F.state folder.old) (F.state folder.new)) }
+    ensures others { StayOutside (take 1 (call_for request.now (F.state folder.old)).names) (F.state folder.old) (F.state folder.new) }
+    ensures cause { IfErr result (λ stop. Unprepared stop (call_for request.now (F.state folder.old)) (F.state folder.new)) }
+    ensures usage { (call_for request.now (F.state folder.old)).is_run ≡ false → result ≡ Err PlanStop.Usage }
+{
+    match request {
+        Request::Run {
+            plan,
+            files,
+            workers: _,
+            sorted,
+            trace,
+            check,
+            limit,
+        } => {
+            let options = Options {
+                trace: *trace,
+                limit: *limit,
+                form: form_for(*sorted),
+                check: *check,
+            };
+            Ok(prepare_run(alloc, plan.as_slice(), files.len(), options, folder)?)
+        }
+        Request::Replay { .. } => Err(PlanStop::Usage),
+        Request::Check { .. } => Err(PlanStop::Usage),
+        Request::Make { .. } => Err(PlanStop::Usage),
+    }
+}
+
+/// The names of the streams' files that the request has.
+pub fn files_in(request: &Request) -> &[Bytes]
+    ensures { (folder : FolderState) → result.now ≡ file_names (call_for request.now folder) }
+{
+    match request {
+        Request::Run { files, .. } => files.as_slice(),
+        Request::Replay { .. } => &[],
+        Request::Check { .. } => &[],
+        Request::Make { .. } => &[],
+    }
+}
+
+// A core of the plan of this name, if it has so many streams, and what its run is to write.
+fn prepare_run<F: Folder>(
+    alloc: Global,
+    name: &[u8],
+    files: usize,
+    options: Options,
+    folder: &mut F,
+) -> Result<Prepared, PlanStop>
+    requires limit { (1 ≤ options.limit) × (options.limit ≤ 2 ^ 40) }
+    ensures fresh { IfOk result (λ ready. IsNewCore ready.core) }
+    ensures safe { IfOk result (λ ready. IsSafePlan ready.core.plan.nodes) }
+    ensures count { IfOk result (λ ready. files ≡ length (streams_of ready.core.plan.nodes)) }
+    ensures asked { IfOk result (IsAsked options) }
+    ensures told { (F.state folder.new).told ≡ (F.state folder.old).told }
+    ensures contents { (F.state folder.new).contents ≡ (F.state folder.old).contents }
+    ensures read { IsTrue ((F.state folder.old).told name.now) → IfOk result (λ ready. SpellsPlan ((F.state folder.old).contents name.now) (outline_in ready.core)) }
+    ensures last { IsTrue ((F.state folder.old).told name.now) → OnOk result (IsReadToEnd name.now (F.state folder.old) (F.state folder.new)) }
+    ensures other_last { SameElsewhere name.now (F.state folder.old).last (F.state folder.new).last }
+    ensures later { NoneFalls (F.state folder.old).faults (F.state folder.new).faults }
+    ensures some_opened { OpensAtMost 1 (name.now ∷ []) (F.state folder.old) (F.state folder.new) }
+    ensures was_opened { OnOk result (OpensFirst 1 (name.now ∷ []) (F.state folder.old) (F.state folder.new)) }
+    ensures others { StayOutside (name.now ∷ []) (F.state folder.old) (F.state folder.new) }
+    ensures cause { IfErr result (λ stop. PlanCause stop files name.now (F.state folder.old) (F.state folder.new)) }
+{
+    let core = read_plan_for(alloc, name, files, options, folder)?;
+    let writing = Writing {
+        form: options.form,
+        check: options.check,
+    };
+    Ok(Prepared { core, writing })
+}
+
+fn form_for(sorted: bool) -> Form
+    ensures { result ≡ form_by sorted }
+{
+    if sorted {
+        Form::Sorted
+    } else {
+        Form::AsTheyCome
+    }
+}
+
+// A core of the plan of this name, if it has so many streams.
+#[tactic(auto, using(crate::proofs::Refusing::file_cause, crate::proofs::Refusing::bytes_cause, crate::proofs::Refusing::stay_but))]
+fn read_plan_for<F: Folder>(
+    alloc: Global,
+    name: &[u8],
+    files: usize,
+    options: Options,
+    folder: &mut F,
+) -> Result<Core, PlanStop>
+    requires limit { (1 ≤ options.limit) × (options.limit ≤ 2 ^ 40) }
+    ensures fresh { IfOk result (λ core. IsNewCore core) }
+    ensures safe { IfOk result (λ core. IsSafePlan core.plan.nodes) }
+    ensures count { IfOk result (λ core. files ≡ length (streams_of core.plan.nodes)) }
+    ensures trace { IfOk result (λ core. core.plan.trace ≡ options.trace) }
+    ensures limit { IfOk result (λ core. core.limit ≡ options.limit) }
+    ensures told { (F.state folder.new).told ≡ (F.state folder.old).told }
+    ensures contents { (F.state folder.new).contents ≡ (F.state folder.old).contents }
+    ensures read { IsTrue ((F.state folder.old).told name.now) → IfOk result (λ core. SpellsPlan ((F.state folder.old).contents name.now) (outline_in core)) }
+    ensures last { IsTrue ((F.state folder.old).told name.now) → OnOk result (IsReadToEnd name.now (F.state folder.old) (F.state folder.new)) }
+    ensures other_last { SameElsewhere name.now (F.state folder.old).last (F.state folder.new).last }
+    ensures later { NoneFalls (F.state folder.old).faults (F.state folder.new).faults }
+    ensures some_opened { OpensAtMost 1 (name.now ∷ []) (F.state folder.old) (F.state folder.new) }
+    ensures was_opened { OnOk result (OpensFirst 1 (name.now ∷ []) (F.state folder.old) (F.state folder.new)) }
+    ensures others { StayOutside (name.now ∷ []) (F.state folder.old) (F.state folder.new) }
+    ensures cause { IfErr result (λ stop. PlanCause stop files name.now (F.state folder.old) (F.state folder.new)) }
+{
+    let bytes = read_file(alloc, folder, name)?;
+    Ok(core_in(alloc, bytes.as_slice(), files, options)?)
+}
+
+// A core of the plan that the bytes spell, if it has so many streams.
+#[tactic(auto, using(crate::proofs::Refusing::unfit_bytes, crate::proofs::Refusing::spelled))]
+fn core_in(alloc: Global, bytes: &[u8], files: usize, options: Options) -> Result<Core, PlanStop>
+    requires limit { (1 ≤ options.limit) × (options.limit ≤ 2 ^ 40) }
+    ensures fresh { IfOk result (λ core. IsNewCore core) }
+    ensures safe { IfOk result (λ core. IsSafePlan core.plan.nodes) }
+    ensures count { IfOk result (λ core. files ≡ length (streams_of core.plan.nodes)) }
+    ensures trace { IfOk result (λ core. core.plan.trace ≡ options.trace) }
+    ensures limit { IfOk result (λ core. core.limit ≡ options.limit) }
+    ensures read { IfOk result (λ core. plan_of bytes.now ≡ Some (outline_in core)) }
+    ensures cause { IfErr result (λ stop. BytesRefused stop files bytes.now) }
+    ensures lines { IfErr result HasLines }
+{
+    match read_plan(alloc, bytes) {
+        Ok(plan) => Ok(core_for(alloc, plan, files, options)?),
+        Err(ReadStop::Fault(fault)) => Err(PlanStop::Refused { fault }),
+        Err(ReadStop::NoMemory) => Err(PlanStop::NoMemory),
+    }
+}
+
+// A core of the plan, if that has so many streams and is safe.
+fn core_for(alloc: Global, plan: Plan, files: usize, options: Options) -> Result<Core, PlanStop>
+    requires limit { (1 ≤ options.limit) × (options.limit ≤ 2 ^ 40) }
+    ensures fresh { IfOk result (λ core. IsNewCore core) }
+    ensures safe { OnOk result (IsSafePlan plan.nodes) }
+    ensures count { OnOk result (files ≡ length (streams_of plan.nodes)) }
+    ensures same { IfOk result (λ core. outline_in core ≡ plan) }
+    ensures trace { IfOk result (λ core. core.plan.trace ≡ options.trace) }
+    ensures limit { IfOk result (λ core. core.limit ≡ options.limit) }
+    ensures cause { IfErr result (λ stop. PlanUnfit stop files plan) }
+    ensures lines { IfErr result HasLines }
+{
+    let want = stream_count(&plan);
+    if want as usize != files {
+        let got = file_count(files);
+        return Err(PlanStop::FileCount { want, got });
+    }
+    match judge(alloc, &plan)? {
+        Judged::Safe { certs } => Ok(run_core(alloc, plan, certs, options)?),
+        Judged::Unsafe { found } => Err(PlanStop::Unsafe { found }),
+    }
+}
+
+// A core of the plan with the certificates of its joins.
+#[tactic(auto, using(crate::proofs::Refusing::new_core))]
+fn run_core(
+    alloc: Global,
+    plan: Plan,
+    certs: List<List<Cert>>,
+    options: Options,
+) -> Result<Core, NoMemory>
+    requires certs { certs ≡ certificates_of plan.nodes }
+    requires certified { AreCertificates plan.nodes }
+    requires limit { (1 ≤ options.limit) × (options.limit ≤ 2 ^ 40) }
+    ensures fresh { IfOk result (λ core. IsNewCore core) }
+    ensures same { IfOk result (λ core. outline_in core ≡ plan) }
+    ensures trace { IfOk result (λ core. core.plan.trace ≡ options.trace) }
+    ensures limit { IfOk result (λ core. core.limit ≡ options.limit) }
+{
+    let _nodes = plan.nodes();
+    Ok(Core::new(alloc, plan, certs, options.limit, options.trace)?)
+}
+
+// The number of the plan's streams.
+#[tactic(auto, using(crate::proofs::NameLaws::few_numbers))]
+fn stream_count(plan: &Plan) -> u32
+    ensures { result ≡ length (streams_of plan.now.nodes) }
+{
+    let _nodes = plan.nodes();
+    plan.streams().len() as u32
+}
+
+// The number of files, as far as 32 bits hold it.
+fn file_count(files: usize) -> u32
+    ensures { result ≡ counted_files files }
+{
+    files.min(u32::MAX as usize) as u32
+}

@@ -1,0 +1,56 @@
+// Why there is no plan to run.
+ghost use Rattle.std.specs.Prelude.{◌≡◌};
+
+use pj_judge::Unsafe;
+use pj_plan::PlanFault;
+use pj_value::NoMemory;
+
+/// Why the plan's file was not read.
+#[derive(Clone, Copy, Debug, PartialEq, Eq)]
+pub enum FileStop {
+    /// It could not be opened.
+    OpenFault,
+    /// It could not be read.
+    ReadFault,
+    /// It has more bytes than a plan may have.
+    TooLong,
+    /// Memory could not be had.
+    NoMemory,
+}
+
+/// Why there is no plan to run.
+#[derive(Drop)]
+pub enum PlanStop {
+    /// What is asked for is no run.
+    Usage,
+    /// The plan's file was not read.
+    File { stop: FileStop },
+    /// The plan has this fault.
+    Refused { fault: PlanFault },
+    /// The plan wants another number of files than was got.
+    FileCount { want: u32, got: u32 },
+    /// A node of the plan is not safe.
+    Unsafe { found: Unsafe },
+    /// Memory could not be had.
+    NoMemory,
+}
+
+impl From<FileStop> for PlanStop {
+    ghost use Rattle.pj_alone.specs.declared.stops.PlanStop.TheVariants.{File as OfFile};
+
+    ghost from_gives = { λ stop plan. plan ≡ OfFile stop };
+
+    fn from(stop: FileStop) -> PlanStop {
+        PlanStop::File { stop }
+    }
+}
+
+impl From<NoMemory> for PlanStop {
+    ghost use Rattle.pj_alone.specs.declared.stops.PlanStop.TheVariants.{NoMemory as OutOfMemory};
+
+    ghost from_gives = { λ _ stop. stop ≡ OutOfMemory };
+
+    fn from(_: NoMemory) -> PlanStop {
+        PlanStop::NoMemory
+    }
+}

@@ -1,0 +1,20 @@
+-- What the words of a command line ask for, over a folder.
+use Rattle.std.specs.Prelude.{◌≡◌, List, map, Option, Some}
+use Rattle.std.specs.String.{string_bytes}
+use Rattle.std.specs.declared.string.String.{String}
+use Rattle.std.specs.declared.alloc.Global.{Global}
+use Rattle.pj_io.specs.States.{FolderState}
+use Rattle.pj_words.specs.declared.request.Request.{Request}
+use Rattle.pj_words.specs.Request.{request_in}
+use Rattle.pj_alone.specs.Calls.{Call, call_by, wanted}
+
+-- what the words ask for
+abbrev pub asked_in : List (String Global) → Option Request
+asked_in words = request_in (map string_bytes words)
+
+abbrev pub call_of : List (String Global) → FolderState → Call
+call_of words folder = call_by (wanted (asked_in words)) folder
+
+-- the words ask for something
+abbrev pub AsksSomething : List (String Global) → Type 0
+AsksSomething words = (request : Request) × (asked_in words ≡ Some request)

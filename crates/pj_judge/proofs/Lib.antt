@@ -1,0 +1,5 @@
+pub mod Joins
+pub mod Notes
+pub mod Inputs
+pub mod Plans
+pub mod Texts

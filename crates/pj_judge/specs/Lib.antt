@@ -1,0 +1,3 @@
+pub mod Judgments
+pub mod Asked
+pub mod Checks
